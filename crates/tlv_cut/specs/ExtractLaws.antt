@@ -31,7 +31,7 @@ abbrev pub ExtractTextIsInTheInput : Type 0
 ExtractTextIsInTheInput = (framing : Framing) (b : List ℕ) (f : Forest) → IsReading framing b f
     → (n : ℕ) → has_element_at n f ≡ true → IsInInput b n f
 
--- what is written for an input is a front of what is written for a longer one
+-- what is written for an input is a prefix of what is written for a longer one
 abbrev pub ExtractTextGoesOn : Type 0
 ExtractTextGoesOn = ForLongerInputs (λ f g. (n : ℕ) (contents_only : Bool)
     → IsPrefixOf (extract_text n contents_only f) (extract_text n contents_only g))

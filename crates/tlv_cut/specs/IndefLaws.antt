@@ -19,7 +19,7 @@ abbrev pub IndefMakesItsText : Type 0
 IndefMakesItsText = (s : IndefState) (f : Forest)
     → effect_of indef_step s (events f) ≡ record { state = s; put = indef_text f; goes = On }
 
--- what is written for an input is a front of what is written for a longer one
+-- what is written for an input is a prefix of what is written for a longer one
 abbrev pub IndefTextGoesOn : Type 0
 IndefTextGoesOn = ForLongerInputs (λ f g. IsPrefixOf (indef_text f) (indef_text g))
 

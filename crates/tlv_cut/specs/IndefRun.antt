@@ -20,7 +20,7 @@ pub record IsReadBack (padding : Bool) (f : Forest) (octets : List ℕ) : Type 0
   pub same_again : indef_text (indef_reading f) ≡ octets
 
 -- what was written and returned is what the job says, and if the ending is `Done`, what was written is read back
-pub record RunsIndef (padding : Bool) (old new : SourceState) (from to : DrainState)
+pub record RunsIndef (padding : Bool) (old new : SourceState) (old_drain new_drain : DrainState)
     (result : Result Ending DeviceFault) : Type 0 where
-  pub runs : Runs (indef_job padding) old new from to result
+  pub runs : Runs (indef_job padding) old new old_drain new_drain result
   pub read_back : result ≡ Ok Done → IsReadBack padding runs.reading runs.sends.sent

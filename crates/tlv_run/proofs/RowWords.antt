@@ -15,7 +15,7 @@ use Rattle.tlv_show.specs.declared.rules.Rules.{Rules}
 use Rattle.tlv_value.specs.Names.{Table}
 use Rattle.tlv_value.specs.Value.{NameOf, no_names}
 use Rattle.tlv_walk.proofs.GrammarLemmas.Readings.{reading}
-use Rattle.tlv_walk.specs.Ending.{fault}
+use Rattle.tlv_walk.specs.Ending.{fault_ending}
 use Rattle.tlv_walk.specs.declared.ending.Ending.TheVariants.{Done}
 use Rattle.tlv_walk.specs.declared.framing.Framing.{Framing}
 use Rattle.tlv_run.proofs.Results.{result_of}
@@ -86,7 +86,7 @@ noted findings message output = record { output = output; ending = Done; report 
 -- status 2: so many findings, and a fault of this code at this offset, with this message
 abbrev pub faulty : ℕ → FaultCode → ℕ → String → List ℕ → CommandResult
 faulty findings code offset message output =
-    record { output = output; ending = fault code offset; report = record { status = 2; findings = findings; message = codes message } }
+    record { output = output; ending = fault_ending code offset; report = record { status = 2; findings = findings; message = codes message } }
 
 -- ---- names of object identifiers
 

@@ -25,7 +25,7 @@ SettledResultsStay =
     (command : Command) (names : Table) (b c : List ℕ) (made : CommandResult) → AreOctets (b ++ c)
     → (x : IsResultOf command names b made) → IsSettled x → IsResultOf command names (b ++ c) made
 
--- what is written of an input, of no more octets than are read as encodings, goes on from what is written of its front
+-- what is written of an input, of no more octets than are read as encodings, goes on from what is written of a prefix
 abbrev pub OutputsGoOn : Type 0
 OutputsGoOn =
     (command : Command) (names : Table) (b c : List ℕ) (made more : CommandResult) → length (b ++ c) ≤ 2 ^ 40
@@ -43,14 +43,14 @@ SecondIndefIsTheFirst =
 abbrev pub RunsAreResults : Type 0
 RunsAreResults =
     (command : Command) (names : Table) (octets : List ℕ)
-    (old new : SourceState) (from to : DrainState) (report : ReportValue)
+    (old new : SourceState) (old_drain new_drain : DrainState) (report : ReportValue)
     → AreOctets octets → length octets ≤ 2 ^ 40 → old.left ≡ Some octets
     → old.failures < 2 ^ 64 - 1 → new.failures ≡ old.failures
-    → from.failures < 2 ^ 64 - 1 → to.failures ≡ from.failures
-    → RunsAndReports (command_job command names) old new from to report
+    → old_drain.failures < 2 ^ 64 - 1 → new_drain.failures ≡ old_drain.failures
+    → RunsAndReports (command_job command names) old new old_drain new_drain report
     → (made : CommandResult)
     × IsResultOf command names octets made
-    × Appends from.octets to.octets made.output
+    × Appends old_drain.octets new_drain.octets made.output
     × (report ≡ made.report)
 
 -- if no element is asked for, or it is not whole, the status 2 says just that the input is no sound list of encodings

@@ -99,6 +99,6 @@ abbrev pub message_line : List ℕ → List ℕ
 message_line [] = []
 message_line (x ∷ xs) = (x ∷ xs) ++ 10 ∷ []
 
--- a line was written, or a write failed and the drain took a front of it
+-- a line was written, or a write failed and the drain took a prefix of it
 abbrev pub WritesMessage : List ℕ → DrainState → DrainState → Type 0
 WritesMessage line old new = (result : Result ⊤ WriteFault) × Sends old new line result

@@ -5,5 +5,6 @@ pub mod Followed
 pub mod Following
 pub mod Jobs
 pub mod Parts
+pub mod Pauses
 pub mod SoFar
 pub mod Turns

@@ -3,7 +3,7 @@ use Rattle.std.proofs.Common.{◌≡◌, true, false, [], ◌∷◌, Some, refl}
 use Rattle.tlv_head.specs.declared.fault.FaultCode.TheVariants.{Empty, Short, StrayEnd, BadEnd, MissingEnd, ReservedLength, IndefinitePrimitive, LengthTooLarge, Overrun, BadInside}
 use Rattle.tlv_walk.specs.declared.ending.Ending.TheVariants.{Done}
 use Rattle.tlv_walk.specs.declared.framing.Framing.{Framing}
-use Rattle.tlv_walk.specs.Ending.{fault}
+use Rattle.tlv_walk.specs.Ending.{fault_ending}
 use Rattle.tlv_walk.specs.Wrappers.{first_without_wrapper, wrappers}
 use Rattle.tlv_walk.proofs.GrammarLemmas.Readings.{reading}
 use Rattle.tlv_walk.proofs.GrammarLemmas.Endings.{ending}
@@ -18,13 +18,13 @@ padded = record { inside = []; padding = true }
 abbrev wrapping : Framing
 wrapping = record { inside = 0 ∷ 5 ∷ []; padding = false }
 
-nothing : ending plain [] ≡ fault Empty 0
+nothing : ending plain [] ≡ fault_ending Empty 0
 nothing = refl
 
-only-padding : ending padded (0 ∷ 0 ∷ []) ≡ fault Empty 2
+only-padding : ending padded (0 ∷ 0 ∷ []) ≡ fault_ending Empty 2
 only-padding = refl
 
-stray-zero : ending plain (0 ∷ []) ≡ fault StrayEnd 0
+stray-zero : ending plain (0 ∷ []) ≡ fault_ending StrayEnd 0
 stray-zero = refl
 
 empty-sequence : ending plain (48 ∷ 0 ∷ []) ≡ Done
@@ -54,40 +54,40 @@ bits-of-nothing = refl
 bits-without-contents : ending wrapping (3 ∷ 0 ∷ []) ≡ Done
 bits-without-contents = refl
 
-unused-bits : ending wrapping (3 ∷ 1 ∷ 1 ∷ []) ≡ fault BadInside 2
+unused-bits : ending wrapping (3 ∷ 1 ∷ 1 ∷ []) ≡ fault_ending BadInside 2
 unused-bits = refl
 
-bits-cut-off : ending wrapping (3 ∷ 1 ∷ []) ≡ fault Short 2
+bits-cut-off : ending wrapping (3 ∷ 1 ∷ []) ≡ fault_ending Short 2
 bits-cut-off = refl
 
-past-wrapper : ending wrapping (4 ∷ 2 ∷ 5 ∷ 1 ∷ []) ≡ fault Overrun 3
+past-wrapper : ending wrapping (4 ∷ 2 ∷ 5 ∷ 1 ∷ []) ≡ fault_ending Overrun 3
 past-wrapper = refl
 
-zero-in-wrapper : ending wrapping (4 ∷ 1 ∷ 0 ∷ []) ≡ fault StrayEnd 2
+zero-in-wrapper : ending wrapping (4 ∷ 1 ∷ 0 ∷ []) ≡ fault_ending StrayEnd 2
 zero-in-wrapper = refl
 
-zero-in-sequence : ending padded (48 ∷ 2 ∷ 0 ∷ 0 ∷ []) ≡ fault StrayEnd 2
+zero-in-sequence : ending padded (48 ∷ 2 ∷ 0 ∷ 0 ∷ []) ≡ fault_ending StrayEnd 2
 zero-in-sequence = refl
 
-bad-end : ending plain (48 ∷ 128 ∷ 0 ∷ 1 ∷ []) ≡ fault BadEnd 3
+bad-end : ending plain (48 ∷ 128 ∷ 0 ∷ 1 ∷ []) ≡ fault_ending BadEnd 3
 bad-end = refl
 
-missing-end : ending plain (48 ∷ 3 ∷ 48 ∷ 128 ∷ 0 ∷ 0 ∷ []) ≡ fault MissingEnd 5
+missing-end : ending plain (48 ∷ 3 ∷ 48 ∷ 128 ∷ 0 ∷ 0 ∷ []) ≡ fault_ending MissingEnd 5
 missing-end = refl
 
-identifier-cut-off : ending plain (255 ∷ []) ≡ fault Short 1
+identifier-cut-off : ending plain (255 ∷ []) ≡ fault_ending Short 1
 identifier-cut-off = refl
 
-reserved-length : ending plain (4 ∷ 255 ∷ []) ≡ fault ReservedLength 1
+reserved-length : ending plain (4 ∷ 255 ∷ []) ≡ fault_ending ReservedLength 1
 reserved-length = refl
 
-indefinite-primitive : ending plain (4 ∷ 128 ∷ []) ≡ fault IndefinitePrimitive 1
+indefinite-primitive : ending plain (4 ∷ 128 ∷ []) ≡ fault_ending IndefinitePrimitive 1
 indefinite-primitive = refl
 
-length-too-large : ending plain (4 ∷ 134 ∷ 1 ∷ []) ≡ fault LengthTooLarge 2
+length-too-large : ending plain (4 ∷ 134 ∷ 1 ∷ []) ≡ fault_ending LengthTooLarge 2
 length-too-large = refl
 
-past-sequence : ending wrapping (48 ∷ 5 ∷ 4 ∷ 0 ∷ 5 ∷ 3 ∷ 0 ∷ []) ≡ fault Overrun 5
+past-sequence : ending wrapping (48 ∷ 5 ∷ 4 ∷ 0 ∷ 5 ∷ 3 ∷ 0 ∷ []) ≡ fault_ending Overrun 5
 past-sequence = refl
 
 wrapped-twice : ending wrapping (4 ∷ 5 ∷ 4 ∷ 1 ∷ 7 ∷ 4 ∷ 0 ∷ []) ≡ Done

@@ -64,8 +64,8 @@ module _ {S : Type 0} (next : S → EventValue → Effect S) where
   }
 
   -- what it comes to, and the state that it leaves
-  pub record Drives (framing : Framing) (limit : ℕ) (before after : DriveState S) (result : Result Run DeviceFault)
+  pub record Drives (framing : Framing) (limit : ℕ) (old new : DriveState S) (result : Result Run DeviceFault)
       : Type 0 where
-    pub runs : Runs (drive_job framing limit before.follower) before.source after.source before.drain after.drain result
+    pub runs : Runs (drive_job framing limit old.follower) old.source new.source old.drain new.drain result
     pub state : OnOk (drain_result result)
-        (after.follower ≡ (effect_of next before.follower (events runs.reading)).state)
+        (new.follower ≡ (effect_of next old.follower (events runs.reading)).state)

@@ -45,24 +45,24 @@ pub data IsFault (p : Place) (x : ℕ) : Forest → FaultCode → Type 0 where
   -- 8.1.5: 00 where no end-of-contents octets can stand, and no padding
   stray_end : p.indefinite ≡ false → p.padding ≡ false → x ≡ 0 → IsFault p x NoMore StrayEnd
 
-abbrev pub fault : FaultCode → ℕ → Ending
-fault code offset = Fault (record { code = code; offset = offset })
+abbrev pub fault_ending : FaultCode → ℕ → Ending
+fault_ending code offset = Fault (record { code = code; offset = offset })
 
 -- the ending of an input
 pub data IsEnding (framing : Framing) (b : List ℕ) : Ending → Type 0 where
   -- F01: no octet of an element came
   empty : (f : Forest) → IsReading framing b f → spelling f ≡ b → has_element f ≡ false
-      → IsEnding framing b (fault Empty (length b))
+      → IsEnding framing b (fault_ending Empty (length b))
   -- F02: something is open
   short : (f : Forest) → IsReading framing b f → spelling f ≡ b → is_complete f ≡ false
-      → IsEnding framing b (fault Short (length b))
+      → IsEnding framing b (fault_ending Short (length b))
   -- one or more elements, and nothing is open
   done : (f : Forest) → IsReading framing b f → spelling f ≡ b → has_element f ≡ true → is_complete f ≡ true
       → IsEnding framing b Done
   -- the octet after the reading is refused
   refused : (f : Forest) (x : ℕ) (rest : List ℕ) (code : FaultCode) → IsReading framing b f → spelling f ++ x ∷ rest ≡ b
       → IsFault (tip (top_place framing) f).0 x (tip (top_place framing) f).1 code
-      → IsEnding framing b (fault code (length (spelling f)))
+      → IsEnding framing b (fault_ending code (length (spelling f)))
 
 -- a code other than F01 and F02, which alone say that the input ends too early
 abbrev pub IsFinalCode : FaultCode → Type 0

@@ -61,6 +61,10 @@ pub record IsWholeElement (h : HeaderValue) (octets : List ℕ) : Type 0 where
 abbrev pub whole_events : HeaderValue → List ℕ → List EventValue
 whole_events h octets = Begin h ∷ Bytes (contents_in h octets) ∷ End ∷ []
 
+-- what a follower makes of it
+abbrev pub whole_effect : {S : Type 0} → (S → EventValue → Effect S) → S → HeaderValue → List ℕ → Effect S
+whole_effect next s h octets = effect_of next s (whole_events h octets)
+
 -- what is put by a call that may leave its events to others: nothing if it does
 abbrev pub put_if_followed : {E : Type 0} → Result Bool E → List ℕ → List ℕ
 put_if_followed (Ok false) octets = []

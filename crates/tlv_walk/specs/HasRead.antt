@@ -29,20 +29,21 @@ event_value (event.Pad octets) = Pad octets.now
 
 -- after p the octet is refused: the events yielded are those of the reading, which spells p, and reading and
 -- ending are the same whatever follows that octet. No false alarm: no input that begins so is a sound list
-pub record IsRefusedAfter (framing : Framing) (p : List ℕ) (octet : ℕ) (past : List EventValue) (f : Fault)
+pub record IsRefusedAfter (framing : Framing) (p : List ℕ) (octet : ℕ) (yielded : List EventValue) (f : Fault)
     : Type 0 where
   pub reading : Forest
   pub spelled : spelling reading ≡ p
   pub offset : f.offset ≡ length p
-  pub all_events : AreEqualJoined past (events reading)
+  pub all_events : AreEqualJoined yielded (events reading)
   pub stays : (c : List ℕ) → IsReading framing (p ++ octet ∷ c) reading
   pub ends : (c : List ℕ) → IsEnding framing (p ++ octet ∷ c) (ending.Fault f)
   pub never_sound : CannotBecomeSound framing (p ++ octet ∷ [])
 
 -- what a walker stands for that refused an octet: the octets before it, and the events yielded, which are all of their
 -- reading
-pub record StandsRefused (w : WalkerState) (b : List ℕ) (octet : ℕ) (past : List EventValue) (f : Fault) : Type 0 where
-  pub refused : IsRefusedAfter w.framing b octet past f
+pub record StandsRefused (w : WalkerState) (b : List ℕ) (octet : ℕ) (yielded : List EventValue) (f : Fault)
+    : Type 0 where
+  pub refused : IsRefusedAfter w.framing b octet yielded f
   pub phase : w.phase ≡ Refused f
   pub offset : w.offset ≡ length b
   pub depth : length w.stack ≡ open_count refused.reading
@@ -51,8 +52,9 @@ pub record StandsRefused (w : WalkerState) (b : List ℕ) (octet : ℕ) (past : 
 -- what a walker has read: the octets that it took, and their reading. Once it refused an octet, these are the octets
 -- before that one
 pub data HasRead (w : WalkerState) (b : List ℕ) (reading : Forest) : Type 0 where
-  took : (past : List EventValue) (stands : Stands w b past) → stands.reading ≡ reading → HasRead w b reading
-  refused : (x : ℕ) (past : List EventValue) (f : Fault) (stands : StandsRefused w b x past f)
+  took : (yielded : List EventValue) (stands : Stands w b yielded) → stands.reads.reading ≡ reading
+      → HasRead w b reading
+  refused : (x : ℕ) (yielded : List EventValue) (f : Fault) (stands : StandsRefused w b x yielded f)
       → stands.refused.reading ≡ reading → HasRead w b reading
 
 -- of what a walker has read this holds
@@ -60,15 +62,19 @@ abbrev pub IfRead : WalkerState → (List ℕ → Forest → Type 0) → Type 0
 IfRead w P = (b : List ℕ) (f : Forest) → HasRead w b f → P b f
 
 -- a walker refused an octet of these, and yielded these events of the octets before it
-pub record RefusesAt (w : WalkerState) (octets : List ℕ) (past : List EventValue) (f : Fault) : Type 0 where
-  pub front : List ℕ
+pub record RefusesAt (w : WalkerState) (octets : List ℕ) (yielded : List EventValue) (f : Fault) : Type 0 where
+  pub taken : List ℕ
   pub octet : ℕ
-  pub rest : List ℕ
-  pub octets_is : front ++ octet ∷ rest ≡ octets
-  pub stands : StandsRefused w front octet past f
+  pub others : List ℕ
+  pub octets_is : taken ++ octet ∷ others ≡ octets
+  pub stands : StandsRefused w taken octet yielded f
 
 -- where a walker stands that walked over these octets to the end, and yielded these events: after all octets, or at the
 -- octet that it refused
-pub data StandsAtEnd (w : WalkerState) (octets : List ℕ) (past : List EventValue) : Type 0 where
-  took_all : Stands w octets past → IsIdle w → StandsAtEnd w octets past
-  refused_one : (f : Fault) → RefusesAt w octets past f → StandsAtEnd w octets past
+pub data StandsAtEnd (w : WalkerState) (octets : List ℕ) (yielded : List EventValue) : Type 0 where
+  took_all : Stands w octets yielded → IsIdle w → StandsAtEnd w octets yielded
+  refused_one : (f : Fault) → RefusesAt w octets yielded f → StandsAtEnd w octets yielded
+
+-- of whatever input a walker walked over to the end this holds
+abbrev pub IfAtEnd : WalkerState → (List ℕ → Type 0) → Type 0
+IfAtEnd w P = (octets : List ℕ) (yielded : List EventValue) → StandsAtEnd w octets yielded → P octets

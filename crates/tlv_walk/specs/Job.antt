@@ -71,7 +71,8 @@ module _ {A : Type 0} (job : Job A) where
     too_long : job.limit < length given → WantMore (take job.limit given) → ComesTo given f new (Err InputTooLong)
 
   -- a source was read to its end, to a fault or to enough, and what that makes was sent to a drain
-  pub record Runs (old new : SourceState) (from to : DrainState) (result : Result A DeviceFault) : Type 0 where
+  pub record Runs (old new : SourceState) (old_drain new_drain : DrainState) (result : Result A DeviceFault)
+      : Type 0 where
     pub pieces : Pieces old new
     pub failures : new.failures ≡ failures_after (device_result ReadFailed result) old.failures
     -- before the last read there was no reason to stop
@@ -80,5 +81,5 @@ module _ {A : Type 0} (job : Job A) where
     -- no more octets are read as encodings than the limit
     pub reading : Forest
     pub is_reading : IsReading job.framing (take job.limit (octets_given pieces)) reading
-    pub sends : Sends from to (job.text reading) (device_result WriteFailed result)
+    pub sends : Sends old_drain new_drain (job.text reading) (device_result WriteFailed result)
     pub comes : ComesTo (octets_given pieces) reading new result

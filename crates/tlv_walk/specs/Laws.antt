@@ -7,9 +7,9 @@ use Rattle.tlv_walk.specs.Forest.{Forest, spelling}
 use Rattle.tlv_walk.specs.Place.{IsOpen, Place}
 use Rattle.tlv_walk.specs.Reading.{AreOctets, CannotBecomeSound, IsPrefixOf, IsReading}
 use Rattle.tlv_walk.specs.Events.{AreEqualJoined, EventValue, events}
-use Rattle.tlv_walk.specs.Ending.{IsEnding, IsFinalCode, fault}
+use Rattle.tlv_walk.specs.Ending.{IsEnding, IsFinalCode, fault_ending}
 
--- each front of an open forest's spelling is the spelling of an open forest
+-- each prefix of an open forest's spelling is the spelling of an open forest
 abbrev pub FrontsAreOpen : Type 0
 FrontsAreOpen = (p : Place) (f : Forest) (s : List ℕ) → IsOpen p f → IsPrefixOf s (spelling f)
     → (g : Forest) × IsOpen p g × (spelling g ≡ s)
@@ -31,13 +31,13 @@ OctetsHaveOneEnding = (framing : Framing) (b : List ℕ) → AreOctets b
 -- whatever follows an input with a fault other than F01 and F02, the ending and the reading stay
 abbrev pub FaultsAreFinal : Type 0
 FaultsAreFinal = (framing : Framing) (b c : List ℕ) (code : FaultCode) (offset : ℕ) (f : Forest) → IsFinalCode code
-    → IsEnding framing b (fault code offset) → IsReading framing b f
-    → IsEnding framing (b ++ c) (fault code offset) × IsReading framing (b ++ c) f
+    → IsEnding framing b (fault_ending code offset) → IsReading framing b f
+    → IsEnding framing (b ++ c) (fault_ending code offset) × IsReading framing (b ++ c) f
 
 -- whatever follows such an input, it is no sound list
 abbrev pub FaultsAreRight : Type 0
 FaultsAreRight = (framing : Framing) (b : List ℕ) (code : FaultCode) (offset : ℕ) → IsFinalCode code
-    → IsEnding framing b (fault code offset) → CannotBecomeSound framing b
+    → IsEnding framing b (fault_ending code offset) → CannotBecomeSound framing b
 
 -- the events of a longer input are, joined, those of the shorter and then others
 abbrev pub EventsGoOn : Type 0

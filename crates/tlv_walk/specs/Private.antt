@@ -5,4 +5,4 @@ pub mod WalkerState
 pub mod ReadsOn
 pub mod Stack
 pub mod Zipper
-pub mod Steps
+pub mod Yields

@@ -14,10 +14,10 @@ AreOctets b = All (λ x. x < 256) b
 abbrev pub IsPrefixOf : List ℕ → List ℕ → Type 0
 IsPrefixOf p b = (rest : List ℕ) × (p ++ rest ≡ b)
 
--- the reading of an input: the open forest that spells the longest front of it that any open forest spells
+-- the reading of an input: the open forest that spells the longest prefix of it that any open forest spells
 pub record IsReading (framing : Framing) (b : List ℕ) (f : Forest) : Type 0 where
   pub is_open : IsOpen (top_place framing) f
-  pub front : IsPrefixOf (spelling f) b
+  pub is_prefix : IsPrefixOf (spelling f) b
   pub longest : (g : Forest) → IsOpen (top_place framing) g → IsPrefixOf (spelling g) b
       → length (spelling g) ≤ length (spelling f)
 

@@ -1,5 +1,6 @@
 -- What a walker stands for: the octets that it took and the events that it yielded of them.
 use Rattle.std.specs.Prelude.{◌≡◌, ℕ, Bool, false, eqb, if◌then◌else◌, List, [], ◌∷◌, ◌++◌, Option, Some, None}
+use Rattle.tlv_walk.specs.declared.framing.Framing.{Framing}
 use Rattle.tlv_walk.specs.Stack.{Frame}
 use Rattle.tlv_walk.specs.Phase.{Phase}
 use Rattle.tlv_walk.specs.Phase as phase
@@ -9,24 +10,25 @@ use Rattle.tlv_walk.specs.WalkerState.{HasNotRefused, WalkerState}
 use Rattle.tlv_walk.specs.Private.Zipper.{HasPrivateState}
 use Rattle.tlv_walk.specs.Reading.{IsReading}
 
--- 8.1.5: the end of an element that is filled
-abbrev pub frame_closing_event : Frame → EventValue
-frame_closing_event f = if f.wrapper then Leave else Close None
+-- 8.1.5: the event with which a definite element ends once it is filled, by its frame
+abbrev pub filled_end : Frame → EventValue
+filled_end f = if f.wrapper then Leave else Close None
 
+-- whether an element that ends there, if it is definite, is filled at the offset
 abbrev pub is_end : Option ℕ → ℕ → Bool
 is_end None at = false
 is_end (Some e) at = eqb e at
 
--- the ends of the elements that are filled at the offset, innermost first
-abbrev pub closing_events : ℕ → List Frame → List EventValue
-closing_events at [] = []
-closing_events at (f ∷ fs) = if is_end f.end at then frame_closing_event f ∷ closing_events at fs else []
+-- the events with which those elements end that are filled at the offset, innermost first
+abbrev pub filled_ends : ℕ → List Frame → List EventValue
+filled_ends at [] = []
+filled_ends at (f ∷ fs) = if is_end f.end at then filled_end f ∷ filled_ends at fs else []
 
 -- the events that need no further octet
 abbrev pub waiting_events_in : Phase → List Frame → ℕ → List EventValue
-waiting_events_in phase.Between stack at = closing_events at stack
+waiting_events_in phase.Between stack at = filled_ends at stack
 waiting_events_in (phase.InHeader r) stack at = []
-waiting_events_in (phase.InPrimitive left) stack at = if eqb left 0 then End ∷ closing_events at stack else []
+waiting_events_in (phase.InPrimitive left) stack at = if eqb left 0 then End ∷ filled_ends at stack else []
 waiting_events_in phase.InBitString stack at = []
 waiting_events_in phase.InEndOctets stack at = []
 waiting_events_in (phase.Refused fault) stack at = []
@@ -42,11 +44,15 @@ IsIdle w = waiting_events w ≡ []
 abbrev pub CanTake : WalkerState → Type 0
 CanTake w = IsIdle w × HasNotRefused w
 
+-- octets have a reading, and these are its events, however contents and padding are cut
+pub record HasEvents (framing : Framing) (octets : List ℕ) (es : List EventValue) : Type 0 where
+  pub reading : Forest
+  pub is_reading : IsReading framing octets reading
+  pub all_events : AreEqualJoined es (events reading)
+
 -- what a walker stands for that refused no octet: octets, and the events yielded for them. Yielded and waiting
 -- together they are those of the reading
-pub record Stands (w : WalkerState) (b : List ℕ) (past : List EventValue) : Type 0 where
-  pub reading : Forest
-  pub is_reading : IsReading w.framing b reading
-  pub all_events : AreEqualJoined (past ++ waiting_events w) (events reading)
+pub record Stands (w : WalkerState) (b : List ℕ) (yielded : List EventValue) : Type 0 where
+  pub reads : HasEvents w.framing b (yielded ++ waiting_events w)
   -- of use to proofs alone
-  pub private_state : HasPrivateState w b past
+  pub private_state : HasPrivateState w b yielded

@@ -63,6 +63,10 @@ pub record IsWalkerState (w : WalkerState) : Type 0 where
 abbrev pub HasNotRefused : WalkerState → Type 0
 HasNotRefused w = (f : Fault) → w.phase ≢ Refused f
 
+-- if an octet was refused, this holds of the fault
+abbrev pub IfRefused : WalkerState → (Fault → Type 0) → Type 0
+IfRefused w P = (f : Fault) → w.phase ≡ Refused f → P f
+
 -- a phase in which an event was yielded for each octet taken: no header has begun, no end-of-contents octets, and no
 -- octet was refused
 abbrev pub IsAfterEvent : Phase → Type 0

@@ -2,7 +2,7 @@
 ghost use Rattle.std.specs.Prelude.{◌≡◌, true};
 ghost use Rattle.tlv_head.specs.HeaderFields.{IsHeaderSized, header_with};
 ghost use Rattle.tlv_walk.specs.Events.{Bytes, EventValue, Open, Pad};
-ghost use Rattle.tlv_walk.specs.Follow.{Effect, GoesOn, HasEffect, HasEffectOrNone, IsWholeElement, Joins, Rests, effect_of, put_if_followed, whole_events};
+ghost use Rattle.tlv_walk.specs.Follow.{Effect, GoesOn, HasEffect, HasEffectOrNone, IsWholeElement, Joins, Rests, put_if_followed, whole_effect};
 ghost use Rattle.tlv_io.specs.Out.{Puts};
 ghost use Rattle.tlv_walk.specs.HasRead.{event_value};
 
@@ -52,10 +52,9 @@ pub trait Follow {
     ) -> Result<bool, WriteFault>
         requires whole { IsWholeElement header.now octets.now }
         ensures puts { Puts D.state out.old out.new
-            (put_if_followed result
-            (effect_of next self.old (whole_events header.now octets.now)).put) result }
-        ensures state { HasEffectOrNone
-            (effect_of next self.old (whole_events header.now octets.now))
+            (put_if_followed result (whole_effect next self.old header.now octets.now).put)
+            result }
+        ensures state { HasEffectOrNone (whole_effect next self.old header.now octets.now)
             self.old self.new result }
     {
         Ok(false)

@@ -1,6 +1,6 @@
 //! A machine that takes an encoding in pieces, and keeps a frame for each open element that holds
 //! others.
-ghost use Rattle.std.specs.Prelude.{◌≡◌, ℕ, ◌+◌, ◌^◌, ◌≤◌, ◌↔◌, IsTrue, length};
+ghost use Rattle.std.specs.Prelude.{◌≡◌, ◌+◌, ◌^◌, ◌≤◌, ◌↔◌, IsTrue, length};
 
 mod contents;
 mod ends;
@@ -62,19 +62,17 @@ impl Model for Walker {
 }
 
 impl Walker {
-    ghost use Rattle.std.specs.Prelude.{List, [], false};
+    ghost use Rattle.std.specs.Prelude.{[], false};
     ghost use Rattle.tlv_walk.specs.Phase as phases;
-    ghost use Rattle.tlv_walk.specs.WalkerState.{first_without_wrapper_in, new_walker};
-    ghost use Rattle.tlv_walk.specs.Private.WalkerState.{EventWaits, Steps, fault_at};
-    ghost use Rattle.tlv_head.specs.declared.fault.Fault.{Fault as FaultOf};
+    ghost use Rattle.tlv_walk.specs.WalkerState.{IfRefused, first_without_wrapper_in, new_walker};
+    ghost use Rattle.tlv_walk.specs.Private.WalkerState.{CountsStep, EventWaits, fault_at};
     ghost use Rattle.tlv_walk.specs.Ending.{IsEnding, ShowsSoundness};
-    ghost use Rattle.tlv_walk.specs.Events.{EventValue};
     ghost use Rattle.tlv_walk.specs.OpenCount.{open_count};
     ghost use Rattle.tlv_walk.specs.Stands.{CanTake, IsIdle, Stands};
     ghost use Rattle.tlv_walk.specs.Wrappers.{first_without_wrapper};
     ghost use Rattle.tlv_walk.specs.StepsTo.{RefusesAgain, StepsTo};
-    ghost use Rattle.tlv_walk.specs.HasRead.{IfRead, StandsAtEnd};
-    ghost use Rattle.tlv_walk.specs.Private.Steps.{YieldsStep};
+    ghost use Rattle.tlv_walk.specs.HasRead.{IfAtEnd, IfRead};
+    ghost use Rattle.tlv_walk.specs.Private.Yields.{YieldsStep};
 
     /// A walker that has taken nothing.
     pub fn new(framing: &Framing) -> Walker
@@ -153,12 +151,10 @@ impl Walker {
     /// the input is a sound list of encodings. No event may wait ([`Walker::waiting`]).
     pub fn finish(&self) -> Ending
         requires { IsIdle self.now }
-        ensures ending { (o : List ℕ) (past : List EventValue) → StandsAtEnd self.now o past
-            → IsEnding self.now.framing o result }
-        ensures soundness { (o : List ℕ) (past : List EventValue) → StandsAtEnd self.now o past
-            → ShowsSoundness self.now.framing o result }
-        ensures refused { (f : FaultOf) → self.now.phase ≡ phases.Refused f
-            → result ≡ Ending.Fault f }
+        ensures ending { IfAtEnd self.now (λ octets. IsEnding self.now.framing octets result) }
+        ensures soundness { IfAtEnd self.now
+            (λ octets. ShowsSoundness self.now.framing octets result) }
+        ensures refused { IfRefused self.now (λ fault. result ≡ Ending.Fault fault) }
     {
         if let Phase::Refused(fault) = &self.phase {
             return Ending::Fault(*fault);
@@ -209,11 +205,10 @@ impl Walker {
     /// What the next octets are, by what they belong to.
     fn take<'a>(&mut self, piece: &mut &'a [u8]) -> Step<'a>
         requires { self.old.offset + length piece.old.now ≤ 2 ^ 40 }
-        ensures steps { Steps self.old self.new piece.old.now piece.new.now result }
+        ensures steps { CountsStep self.old self.new piece.old.now piece.new.now result }
         ensures yields { YieldsStep self.old self.new piece.old.now piece.new.now result }
-        ensures again { (f : FaultOf) → self.old.phase ≡ phases.Refused f
-            → (result ≡ Step.Fault f)
-            × RefusesAgain self.old self.new piece.old.now piece.new.now f }
+        ensures again { IfRefused self.old (λ fault. (result ≡ Step.Fault fault)
+            × RefusesAgain self.old self.new piece.old.now piece.new.now fault) }
     {
         if let Phase::InPrimitive(left) = self.phase {
             if left == 0 {

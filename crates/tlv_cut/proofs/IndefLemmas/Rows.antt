@@ -5,7 +5,7 @@ use Rattle.tlv_head.specs.declared.fault.FaultCode.TheVariants.{Empty, Short}
 use Rattle.tlv_head.specs.declared.header.Class.TheVariants.{Universal}
 use Rattle.tlv_head.specs.declared.header.Size.TheVariants.{Definite}
 use Rattle.tlv_head.specs.Header.{HeaderValue}
-use Rattle.tlv_walk.specs.Ending.{fault}
+use Rattle.tlv_walk.specs.Ending.{fault_ending}
 use Rattle.tlv_walk.specs.Events.{Open, Close, Enter, Unused, Leave}
 use Rattle.tlv_walk.proofs.GrammarLemmas.Readings.{reading}
 use Rattle.tlv_walk.proofs.GrammarLemmas.Endings.{ending}
@@ -37,7 +37,7 @@ written-again = refl
 a-sequence-cut-off : written false (0x30 ∷ 3 ∷ 2 ∷ 1 ∷ []) ≡ 0x30 ∷ 0x80 ∷ 2 ∷ 1 ∷ []
 a-sequence-cut-off = refl
 
-its-ending : ending (indef_framing false) (0x30 ∷ 3 ∷ 2 ∷ 1 ∷ []) ≡ fault Short 4
+its-ending : ending (indef_framing false) (0x30 ∷ 3 ∷ 2 ∷ 1 ∷ []) ≡ fault_ending Short 4
 its-ending = refl
 
 -- 30 03 02 02 01: the header that is refused is not written
@@ -61,7 +61,7 @@ no-segment = refl
 padding-alone : written true (0 ∷ 0 ∷ 0 ∷ []) ≡ 0 ∷ 0 ∷ 0 ∷ []
 padding-alone = refl
 
-its-fault : ending (indef_framing true) (0 ∷ 0 ∷ 0 ∷ []) ≡ fault Empty 3
+its-fault : ending (indef_framing true) (0 ∷ 0 ∷ 0 ∷ []) ≡ fault_ending Empty 3
 its-fault = refl
 
 -- 30 80 00 00 00 30 02 05 00, with padding

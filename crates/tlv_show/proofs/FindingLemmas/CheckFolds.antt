@@ -200,7 +200,7 @@ module _ (rules : Rules) where
         let n = length-filter is_finding (items rules top_site f) in
         counted-all start (events f)
         ∙ ap (λ (l : List Item). count_up 0 (length l)) put-is
-        ∙ omega (arith, few (top_place framing) top_site f r.is_open, short, n, ap length r.front.1, length-append (spelling f) r.front.0)
+        ∙ omega (arith, few (top_place framing) top_site f r.is_open, short, n, ap length r.is_prefix.1, length-append (spelling f) r.is_prefix.0)
 
     pub count-made : (effect_of check_step start (events f)).state.count ≡ finding_count rules f
     count-made = ap (λ (t : Effect FinderState). t.state.count) (followed-run start (events f)) ∙ count-run

@@ -48,8 +48,8 @@ events-go_on p f g t w v e = forest-goes_on p (length t) f g t refl w v e
 -- the reading of a longer input goes on from that of the shorter
 pub reading-goes_on : (w : Framing) (b c : List ℕ) (f g : Forest) → IsReading w b f → IsReading w (b ++ c) g → (t : List ℕ) × (spelling g ≡ spelling f ++ t)
 reading-goes_on w b c f g r s =
-    let front : spelling f ++ (r.front.0 ++ c) ≡ b ++ c = sym (append_assoc (spelling f) r.front.0 c) ∙ ap (λ (t : List ℕ). t ++ c) r.front.1 in
-    front-of (spelling f) (spelling g) (r.front.0 ++ c) s.front.0 (front ∙ sym s.front.1) (s.longest f r.is_open (r.front.0 ++ c, front))
+    let front : spelling f ++ (r.is_prefix.0 ++ c) ≡ b ++ c = sym (append_assoc (spelling f) r.is_prefix.0 c) ∙ ap (λ (t : List ℕ). t ++ c) r.is_prefix.1 in
+    front-of (spelling f) (spelling g) (r.is_prefix.0 ++ c) s.is_prefix.0 (front ∙ sym s.is_prefix.1) (s.longest f r.is_open (r.is_prefix.0 ++ c, front))
 
 -- the events of a longer input begin, joined, with those of the shorter
 pub events-prefix : (w : Framing) (b c : List ℕ) (f g : Forest) → IsReading w b f → IsReading w (b ++ c) g → (es : List EventValue) × AreEqualJoined (events g) (events f ++ es)

@@ -13,7 +13,7 @@ use Rattle.tlv_walk.specs.Inside.{AreRising, CanName, is_among}
 use Rattle.tlv_walk.specs.WalkerState.{WalkerState, first_without_wrapper_in}
 use Rattle.tlv_walk.specs.Private.WalkerState.{next_wrapper, wrappers_after}
 use Rattle.tlv_walk.specs.Place.{IsOpen, top_place}
-use Rattle.tlv_walk.specs.Stands.{Stands, closing_events, is_end, waiting_events, waiting_events_in}
+use Rattle.tlv_walk.specs.Stands.{Stands, filled_ends, is_end, waiting_events, waiting_events_in}
 use Rattle.tlv_walk.specs.Wrappers.{first_other, first_without_wrapper, wrapper_offsets, wrappers}
 use Rattle.tlv_walk.proofs.EventLemmas.Joined.{apart-from_joined}
 use Rattle.tlv_walk.proofs.EventLemmas.Wrappers.{Rise, enters-apart, enters-append, wrappers-entered, wrappers-rise}
@@ -82,7 +82,7 @@ first-found (n ∷ ns) (at ∷ ats) least low end r q = elim (cases_eq n at) [
 -- ---- of a walker
 
 -- the events that wait enter no wrapper
-ends_enter_none : (at : ℕ) (fs : List Frame) → wrapper_offsets (closing_events at fs) ≡ []
+ends_enter_none : (at : ℕ) (fs : List Frame) → wrapper_offsets (filled_ends at fs) ≡ []
 ends_enter_none at [] = refl
 ends_enter_none at (f ∷ fs) = elim (cases_Bool (is_end f.end at)) [
   | inl e ↦ elim (cases_Bool f.wrapper) [
@@ -108,24 +108,24 @@ enters-joined : (xs ys : List EventValue) → AreEqualJoined xs ys → wrapper_o
 enters-joined xs ys e = sym (enters-apart xs) ∙ ap wrapper_offsets (apart-from_joined xs ys e) ∙ enters-apart ys
 
 -- the wrappers of a forest whose events were yielded
-past_wrappers : (framing : Framing) (past waits : List EventValue) (f : Forest) → IsOpen (top_place framing) f → wrapper_offsets waits ≡ [] → AreEqualJoined (past ++ waits) (events f) → wrapper_offsets past ≡ wrappers f
-past_wrappers framing past waits f v none e =
-    sym (enters-append past waits ∙ ap (λ (l : List ℕ). wrapper_offsets past ++ l) none ∙ append-nil (wrapper_offsets past)) ∙ enters-joined (past ++ waits) (events f) e ∙ sym (wrappers-entered (top_place framing) f v)
+yielded_wrappers : (framing : Framing) (yielded waits : List EventValue) (f : Forest) → IsOpen (top_place framing) f → wrapper_offsets waits ≡ [] → AreEqualJoined (yielded ++ waits) (events f) → wrapper_offsets yielded ≡ wrappers f
+yielded_wrappers framing yielded waits f v none e =
+    sym (enters-append yielded waits ∙ ap (λ (l : List ℕ). wrapper_offsets yielded ++ l) none ∙ append-nil (wrapper_offsets yielded)) ∙ enters-joined (yielded ++ waits) (events f) e ∙ sym (wrappers-entered (top_place framing) f v)
 
 -- the count over the events yielded gives the first named offset that is no wrapper's
-pub past_unused : (framing : Framing) (past waits : List EventValue) (f : Forest) → CanName framing.inside → IsOpen (top_place framing) f → wrapper_offsets waits ≡ [] → AreEqualJoined (past ++ waits) (events f)
-    → slice_get framing.inside (wrappers_after framing.inside 0 (wrapper_offsets past)) ≡ first_without_wrapper framing.inside f
-past_unused framing past waits f named v none e =
-    let same : wrapper_offsets past ≡ wrappers f = past_wrappers framing past waits f v none e in
+pub yielded_unused : (framing : Framing) (yielded waits : List EventValue) (f : Forest) → CanName framing.inside → IsOpen (top_place framing) f → wrapper_offsets waits ≡ [] → AreEqualJoined (yielded ++ waits) (events f)
+    → slice_get framing.inside (wrappers_after framing.inside 0 (wrapper_offsets yielded)) ≡ first_without_wrapper framing.inside f
+yielded_unused framing yielded waits f named v none e =
+    let same : wrapper_offsets yielded ≡ wrappers f = yielded_wrappers framing yielded waits f v none e in
     ap (λ (ats : List ℕ). slice_get framing.inside (wrappers_after framing.inside 0 ats)) same
     ∙ first-found framing.inside (wrappers f) 0 (top_place framing).at _ named.1 (wrappers-rise (top_place framing) f v)
 
-pub stands_unused : (w : WalkerState) (b : List ℕ) (past : List EventValue) → (st : Stands w b past) → first_without_wrapper_in w ≡ first_without_wrapper w.framing.inside st.reading
-stands_unused w b past st =
-    ap (slice_get w.framing.inside) st.private_state.found ∙ past_unused w.framing past (waiting_events w) st.reading st.private_state.named st.is_reading.is_open (waits_enter_none w.phase w.stack w.offset) st.all_events
+pub stands_unused : (w : WalkerState) (b : List ℕ) (yielded : List EventValue) → (st : Stands w b yielded) → first_without_wrapper_in w ≡ first_without_wrapper w.framing.inside st.reads.reading
+stands_unused w b yielded st =
+    ap (slice_get w.framing.inside) st.private_state.found ∙ yielded_unused w.framing yielded (waiting_events w) st.reads.reading st.private_state.named st.reads.is_reading.is_open (waits_enter_none w.phase w.stack w.offset) st.reads.all_events
 
 -- it is the first that no event yielded entered
-pub stands-entered : (w : WalkerState) (b : List ℕ) (past : List EventValue) → Stands w b past → first_without_wrapper_in w ≡ first_other w.framing.inside (wrapper_offsets past)
-stands-entered w b past st =
-    stands_unused w b past st
-    ∙ ap (first_other w.framing.inside) (sym (past_wrappers w.framing past (waiting_events w) st.reading st.is_reading.is_open (waits_enter_none w.phase w.stack w.offset) st.all_events))
+pub stands-entered : (w : WalkerState) (b : List ℕ) (yielded : List EventValue) → Stands w b yielded → first_without_wrapper_in w ≡ first_other w.framing.inside (wrapper_offsets yielded)
+stands-entered w b yielded st =
+    stands_unused w b yielded st
+    ∙ ap (first_other w.framing.inside) (sym (yielded_wrappers w.framing yielded (waiting_events w) st.reads.reading st.reads.is_reading.is_open (waits_enter_none w.phase w.stack w.offset) st.reads.all_events))

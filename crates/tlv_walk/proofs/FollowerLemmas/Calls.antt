@@ -23,24 +23,24 @@ use Rattle.tlv_walk.specs.OneTurn.{CallsDevices, CanGoOn, LastReadWas, TurnState
 gave-same : (m n : ℕ) → gave m ≡ gave n → m ≡ n
 gave-same m n e = ap (λ (l : LastReadValue). elim l [ never ↦ 0 | gave k ↦ k | failed ↦ 0 ]) e
 
-module _ {S : Type 0} (before after : TurnState S) (piece : List ℕ) where
+module _ {S : Type 0} (old new : TurnState S) (piece : List ℕ) where
   -- a read that gave octets, and a result that blames no source for it
-  pub calls_given : (n : ℕ) (result : Result Turn DeviceFault) → ReadsOnce {E = ReadFault} before.source after.source (Ok n) piece
+  pub calls_given : (n : ℕ) (result : Result Turn DeviceFault) → ReadsOnce {E = ReadFault} old.source new.source (Ok n) piece
       → 0 < length piece → LastReadWas (length piece) result (gave n) → source_result result ≡ Ok tt
-      → after.drain.failures ≡ failures_after (drain_result result) before.drain.failures → CallsDevices before after piece result
+      → new.drain.failures ≡ failures_after (drain_result result) old.drain.failures → CallsDevices old new piece result
   calls_given n result r some g s d = record {
-    octets = subst (λ (l : LastReadValue). Consumes before.source.left after.source.left (last_octets l piece)) (sym r.last) r.octets.0;
+    octets = subst (λ (l : LastReadValue). Consumes old.source.left new.source.left (last_octets l piece)) (sym r.last) r.octets.0;
     reads = r.reads;
     last = subst (λ (l : LastReadValue). LastReadWas (length piece) result l) (sym r.last) g;
     at_end = λ e. r.octets.1 (gave-same n 0 (sym r.last ∙ e)) some;
-    failed_reads = r.failures ∙ ap (λ (x : Result ⊤ DeviceFault). failures_after x before.source.failures) (sym s);
+    failed_reads = r.failures ∙ ap (λ (x : Result ⊤ DeviceFault). failures_after x old.source.failures) (sym s);
     failed_writes = d;
   }
 
   -- the same, if all that was made of the octets was written, and a turn returns what comes of it
   pub calls_answered : (n m : ℕ) (v : WalkerState) (why : Pause) (result : Result Turn DeviceFault)
-      → ReadsOnce {E = ReadFault} before.source after.source (Ok n) piece → 0 < length piece → n ≤ length piece
-      → after.drain.failures ≡ before.drain.failures → IsResultOfPause n m v why result → CallsDevices before after piece result
+      → ReadsOnce {E = ReadFault} old.source new.source (Ok n) piece → 0 < length piece → n ≤ length piece
+      → new.drain.failures ≡ old.drain.failures → IsResultOfPause n m v why result → CallsDevices old new piece result
   calls_answered n m v pause.Enough (Ok turn) r some fits d is = calls_given n (Ok turn) r some fits refl d
   calls_answered n m v (pause.Fault f) (Ok turn) r some fits d is = calls_given n (Ok turn) r some fits refl d
   calls_answered n m v pause.UsedUp (Ok turn) r some fits d is = calls_given n (Ok turn) r some fits refl d
@@ -52,9 +52,9 @@ module _ {S : Type 0} (before after : TurnState S) (piece : List ℕ) where
 
   -- how a walk can go on whose turn returns this, after octets within the limit
   pub can_go_on_answered : {D : Type 0} (next : S → EventValue → Effect S) (from to : Out D) (n m limit : ℕ) (walked : List ℕ) (more : List EventValue) (why : Pause) (result : Result Turn DeviceFault)
-      → IsResultOfPause n m after.walker why result
-      → Pauses next (walk_state before.walker before.follower from) (walk_state after.walker after.follower to) walked more (Ok why)
-      → length walked ≡ m → m ≡ min (limit - before.walker.offset) n → before.walker.offset ≤ limit → CanGoOn limit before after result
+      → IsResultOfPause n m new.walker why result
+      → Pauses next (walk_state old.walker old.follower from) (walk_state new.walker new.follower to) walked more (Ok why)
+      → length walked ≡ m → m ≡ min (limit - old.walker.offset) n → old.walker.offset ≤ limit → CanGoOn limit old new result
   can_go_on_answered next from to n m limit walked more pause.UsedUp (Ok Again) is used l fits below =
       (omega (arith, is.0, is.1, used.offset, l, fits, below), omega (arith, is.0, is.1, used.offset, l, fits, below), used.ready)
   can_go_on_answered next from to n m limit walked more why (Ok (Ended run)) is used l fits below = tt

@@ -1,11 +1,10 @@
 -- A walk over all that a source gives, turn by turn.
 use Rattle.std.proofs.Common.{◌≡◌, ◌≢◌, ◌⊎◌, inl, inr, ℕ, ◌≤◌, ◌<◌, Bool, true, false, List, [], ◌∷◌, ◌++◌, length, take, flat_map, refl, sym, ap, ◌∙◌, subst, arith, append-nil}
-use Rattle.std.proofs.lemmas.Bool.{cases_Bool, true≢false}
 use Rattle.std.proofs.lemmas.List.{take_all}
 use Rattle.std.proofs.lemmas.List.Elements.{All-append}
-use Rattle.std.specs.Prelude.{Option, Result, Ok, Err, ⊤}
+use Rattle.std.specs.Prelude.{Result, Ok, Err, ⊤}
 use Rattle.std.specs.Io.KnownBytes.{IsAtEnd}
-use Rattle.tlv_walk.specs.declared.ending.Ending.{Ending}
+use Rattle.tlv_walk.specs.declared.ending.Ending.TheVariants.{Done}
 use Rattle.tlv_walk.specs.declared.follow.Go.{Go}
 use Rattle.tlv_walk.specs.declared.follow.Go.TheVariants as go
 use Rattle.tlv_walk.specs.declared.framing.Framing.{Framing}
@@ -26,23 +25,16 @@ use Rattle.tlv_walk.specs.Job.{ComesTo, EndsWith, Runs, WantMore, drain_result, 
 use Rattle.tlv_io.specs.Out.{Sends}
 use Rattle.tlv_walk.specs.Reading.{AreOctets, IsReading}
 use Rattle.tlv_walk.specs.Stands.{Stands}
-use Rattle.tlv_walk.specs.OneTurn.{EndsBy, EndsIn, FollowsOneRead, LastReadWas, LastReadGaveUpTo, HasEnoughIn, TurnState, TurnsTo, last_octets}
-use Rattle.tlv_walk.specs.Wrappers.{first_other, first_without_wrapper, wrapper_offsets}
+use Rattle.tlv_walk.specs.OneTurn.{EndsIn, FollowsMore, FollowsOneRead, LastReadWas, LastReadGaveUpTo, HasEnoughIn, TurnState, TurnsTo, WalkEnds, at_enough, at_fault, at_input_end, last_octets}
+use Rattle.tlv_walk.specs.Wrappers.{first_other, wrapper_offsets}
 use Rattle.tlv_walk.proofs.FollowerLemmas.Followed.{events_enough, followed-alike, followed-enough, kept-alike}
 use Rattle.tlv_walk.proofs.FollowerLemmas.Following.{made_both, made_put}
 use Rattle.tlv_walk.proofs.FollowerLemmas.Enough.{comes_to, ends_so}
 use Rattle.tlv_io.proofs.Pieces.{GaveLast, gathered_more, pieces_all, together_more}
 use Rattle.tlv_io.proofs.Puts.{sends_ok, sends_then}
-use Rattle.tlv_walk.proofs.FollowerLemmas.Turns.{stands_spelled, stands_past}
+use Rattle.tlv_walk.proofs.FollowerLemmas.Pauses.{stands_spelled, stands_yielded}
+use Rattle.tlv_walk.proofs.FollowerLemmas.Turns.{run_is}
 use Rattle.tlv_walk.proofs.FollowerLemmas.SoFar.{gave_last, gave_none, given_short, given_octets, enters_each, Walking}
-
--- a run with these values
-run_is : (run : Run) (e : Ending) (n : ℕ) (k : Bool) (u : Option ℕ) → run.ending ≡ e → run.octets ≡ n → run.enough ≡ k → run.unused ≡ u → run ≡ record { ending = e; octets = n; enough = k; unused = u }
-run_is run e n k u p q r s =
-    ap (λ (x : Ending). record { ending = x; octets = run.octets; enough = run.enough; unused = run.unused }) p
-    ∙ ap (λ (x : ℕ). record { ending = e; octets = x; enough = run.enough; unused = run.unused }) q
-    ∙ ap (λ (x : Bool). record { ending = e; octets = n; enough = x; unused = run.unused }) r
-    ∙ ap (λ (x : Option ℕ). record { ending = e; octets = n; enough = k; unused = x }) s
 
 module _ {S : Type 0} (next : S → EventValue → Effect S)
     (bytes_join : Joins next Bytes) (bytes_rest : Rests next Bytes) (bytes_go_on : GoesOn next Bytes)
@@ -93,195 +85,202 @@ module _ {S : Type 0} (next : S → EventValue → Effect S)
   enough_enters : (s t : S) (es others : List EventValue) (f : Forest) → FollowsEvents next s t es go.Enough → AreEqualJoined (es ++ others) (events f) → wrapper_offsets es ≡ wrapper_offsets (followed_events next s (events f))
   enough_enters s t es others f m e = ap wrapper_offsets (sym (enough_events s t es others m)) ∙ enters_alike s (es ++ others) (events f) e
 
-  module _ (framing : Framing) (limit : ℕ) (s : S) (old : SourceState) (from : DrainState) (before : TurnState S) (x : Walking next framing s old from before) where
+  module _ (framing : Framing) (limit : ℕ) (s : S) (old : SourceState) (from : DrainState) (now : TurnState S) (x : Walking next framing s old from now) where
     abbrev b : List ℕ
     b = concat x.gathered.pieces
 
-    first_reading : IsReading framing b x.stands.reading
-    first_reading = subst (λ (g : Framing). IsReading g b x.stands.reading) x.same x.stands.is_reading
+    first_reading : IsReading framing b x.stands.reads.reading
+    first_reading = subst (λ (g : Framing). IsReading g b x.stands.reads.reading) x.same x.stands.reads.is_reading
 
-    first_made : MadeAll s before.follower x.stands.reading go.On (effect_of next s x.past).put
+    first_made : MadeAll s now.follower x.stands.reads.reading go.On (effect_of next s x.yielded).put
     first_made =
-        made_all s before.follower x.past x.stands.reading go.On x.made (stands_past before.walker b x.past x.stands.reading x.stands x.idle x.stands.is_reading)
+        made_all s now.follower x.yielded x.stands.reads.reading go.On x.made (stands_yielded now.walker b x.yielded x.stands.reads.reading x.stands x.idle x.stands.reads.is_reading)
 
-    first_spelled : spelling x.stands.reading ≡ b
-    first_spelled = stands_spelled before.walker b x.past x.stands.reading x.stands x.stands.is_reading
+    first_spelled : spelling x.stands.reads.reading ≡ b
+    first_spelled = stands_spelled now.walker b x.yielded x.stands.reads.reading x.stands x.stands.reads.is_reading
 
     -- the octets so far hold neither a fault nor enough
     first_wants : WantMore (drive_job next framing limit s) b
-    first_wants = (x.stands.reading, first_reading, first_spelled, ap had_enough first_made.goes_so)
+    first_wants = (x.stands.reads.reading, first_reading, first_spelled, ap had_enough first_made.goes_so)
 
-    module _ (after : TurnState S) (piece : List ℕ) (result : Result Turn DeviceFault) (read : FollowsOneRead next limit before after piece result)
-        (room : length piece ≡ 4096) (below : before.walker.offset ≤ limit) where
+    module _ (new : TurnState S) (piece : List ℕ) (result : Result Turn DeviceFault) (read : FollowsOneRead next limit now new piece result)
+        (room : length piece ≡ 4096) (below : now.walker.offset ≤ limit) where
       abbrev r : List ℕ
-      r = last_octets after.source.last piece
+      r = last_octets new.source.last piece
 
       few : length r ≤ 4096
-      few = given_short after.source.last piece 4096 (omega (arith, room))
+      few = given_short new.source.last piece 4096 (omega (arith, room))
 
       within : length b ≤ limit
       within = omega (arith, x.stands.private_state.has_state.offset, below)
 
       all_octets : AreOctets (b ++ r)
-      all_octets = All-append (λ x. x < 256) b r x.octets (given_octets after.source.last piece read.octets)
+      all_octets = All-append (λ x. x < 256) b r x.octets (given_octets new.source.last piece read.octets)
 
       -- the octets that were walked over
       abbrev walked : List ℕ
       walked = take limit (b ++ r)
 
-      turned : (answer : Result Turn DeviceFault) → result ≡ answer → TurnsTo next before after limit b x.past r answer
-      turned answer is = subst (λ (k : Result Turn DeviceFault). TurnsTo next before after limit b x.past r k) is (read.turned b x.past x.stands)
+      turned : (answer : Result Turn DeviceFault) → result ≡ answer → TurnsTo next now new limit b x.yielded r answer
+      turned answer is = subst (λ (k : Result Turn DeviceFault). TurnsTo next now new limit b x.yielded r k) is (read.turned b x.yielded x.stands)
 
-      gave_so : (answer : Result Turn DeviceFault) → result ≡ answer → LastReadWas (length piece) answer after.source.last
-      gave_so answer is = subst (λ (k : Result Turn DeviceFault). LastReadWas (length piece) k after.source.last) is read.calls.last
+      gave_so : (answer : Result Turn DeviceFault) → result ≡ answer → LastReadWas (length piece) answer new.source.last
+      gave_so answer is = subst (λ (k : Result Turn DeviceFault). LastReadWas (length piece) k new.source.last) is read.calls.last
 
-      failed_so : (answer : Result Turn DeviceFault) → result ≡ answer → after.source.failures ≡ failures_after (source_result answer) old.failures
+      failed_so : (answer : Result Turn DeviceFault) → result ≡ answer → new.source.failures ≡ failures_after (source_result answer) old.failures
       failed_so answer is =
-          read.calls.failed_reads ∙ ap (λ (k : Result Turn DeviceFault). failures_after (source_result k) before.source.failures) is
+          read.calls.failed_reads ∙ ap (λ (k : Result Turn DeviceFault). failures_after (source_result k) now.source.failures) is
           ∙ ap (failures_after (source_result answer)) x.failures
 
       -- what was sent before and in this turn
-      sent : (more : List EventValue) (result : Result ⊤ DeviceFault) → Sends before.drain after.drain (effect_of next before.follower more).put result
-          → Sends from after.drain (effect_of next s (x.past ++ more)).put result
+      sent : (more : List EventValue) (result : Result ⊤ DeviceFault) → Sends now.drain new.drain (effect_of next now.follower more).put result
+          → Sends from new.drain (effect_of next s (x.yielded ++ more)).put result
       sent more result k =
-          subst (λ (l : List ℕ). Sends from after.drain l result) (made_put next s before.follower x.past more x.made)
-          (sends_then from before.drain after.drain (effect_of next s x.past).put (effect_of next before.follower more).put tt result x.sends k)
+          subst (λ (l : List ℕ). Sends from new.drain l result) (made_put next s now.follower x.yielded more x.made)
+          (sends_then from now.drain new.drain (effect_of next s x.yielded).put (effect_of next now.follower more).put tt result x.sends k)
+
+      -- all events that were followed, and what was sent of them
+      followed : (all : List EventValue) (goes : Go) → FollowsMore next now new x.yielded all goes → FollowsEvents next s new.follower all goes
+      followed all goes k =
+          subst (λ (es : List EventValue). FollowsEvents next s new.follower es goes) k.all_is (made_both next s now.follower new.follower x.yielded k.more goes x.made k.made)
+
+      sent_all : (all : List EventValue) (goes : Go) → FollowsMore next now new x.yielded all goes → Sends {T = ⊤} {E = DeviceFault} from new.drain (effect_of next s all).put (Ok tt)
+      sent_all all goes k = subst (λ (es : List EventValue). Sends {T = ⊤} {E = DeviceFault} from new.drain (effect_of next s es).put (Ok tt)) k.all_is (sent k.more (Ok tt) k.put)
 
       some_octets : (o : List ℕ) → o ≢ [] → 0 < length o
       some_octets [] n = absurd (n refl)
       some_octets (z ∷ o) n = omega arith
 
       -- the walk goes on
-      pub walking_on : result ≡ Ok Again → Walking next framing s old from after
+      pub walking_on : result ≡ Ok Again → Walking next framing s old from new
       walking_on is =
           let y = turned (Ok Again) is in
-          let on = y.stands_on in record {
-            gathered = gathered_more old before.source after.source x.gathered r read.calls.octets read.calls.reads (some_octets r y.some, few);
+          let all : List EventValue = y.stands.all in record {
+            gathered = gathered_more old now.source new.source x.gathered r read.calls.octets read.calls.reads (some_octets r y.some, few);
             octets = subst AreOctets (sym (together_more x.gathered.pieces r)) all_octets;
             failures = failed_so (Ok Again) is;
-            past = x.past ++ on.more;
-            made = made_both next s before.follower after.follower x.past on.more go.On x.made on.made;
-            sends = sent on.more (Ok tt) on.put;
-            same = on.framing ∙ x.same;
-            stands = subst (λ (o : List ℕ). Stands after.walker o (x.past ++ on.more)) (sym (together_more x.gathered.pieces r)) on.stands;
-            idle = on.idle;
+            yielded = all;
+            made = followed all go.On y.stands.follows;
+            sends = sent_all all go.On y.stands.follows;
+            same = y.stands.follows.framing ∙ x.same;
+            stands = subst (λ (o : List ℕ). Stands new.walker o all) (sym (together_more x.gathered.pieces r)) y.stands.stands;
+            idle = y.stands.idle;
           }
 
       -- ---- the walk has ended
 
       abbrev Driven : Result Run DeviceFault → Type 0
-      Driven answer = Drives next framing limit (drive_state s old from) (drive_state after.follower after.source after.drain) answer
+      Driven answer = Drives next framing limit (drive_state s old from) (drive_state new.follower new.source new.drain) answer
 
-      runs_by : (answer : Result Run DeviceFault) (f : Forest) → GaveLast after.source.last r → IsReading framing walked f → (es : List EventValue) → (goes : Go) (k : MadeAll s after.follower f goes (effect_of next s es).put)
-          → source_result answer ≡ source_result result → Sends from after.drain (effect_of next s es).put (drain_result answer) → ComesTo (drive_job next framing limit s) (b ++ r) f after.source answer
-          → Runs (drive_job next framing limit s) old after.source from after.drain answer
+      runs_by : (answer : Result Run DeviceFault) (f : Forest) → GaveLast new.source.last r → IsReading framing walked f → (es : List EventValue) → (goes : Go) (k : MadeAll s new.follower f goes (effect_of next s es).put)
+          → source_result answer ≡ source_result result → Sends from new.drain (effect_of next s es).put (drain_result answer) → ComesTo (drive_job next framing limit s) (b ++ r) f new.source answer
+          → Runs (drive_job next framing limit s) old new.source from new.drain answer
       runs_by answer f last is_reading es goes k same sends comes = record {
-        pieces = pieces_all old before.source after.source x.gathered r read.calls.octets read.calls.reads last few;
+        pieces = pieces_all old now.source new.source x.gathered r read.calls.octets read.calls.reads last few;
         failures =
-            read.calls.failed_reads ∙ ap (λ (k : Result ⊤ DeviceFault). failures_after k before.source.failures) (sym same) ∙ ap (failures_after (source_result answer)) x.failures;
+            read.calls.failed_reads ∙ ap (λ (k : Result ⊤ DeviceFault). failures_after k now.source.failures) (sym same) ∙ ap (failures_after (source_result answer)) x.failures;
         wants_more = first_wants;
         within = within;
         reading = f;
         is_reading = is_reading;
-        sends = subst (λ (l : List ℕ). Sends from after.drain l (drain_result answer)) k.text_is sends;
+        sends = subst (λ (l : List ℕ). Sends from new.drain l (drain_result answer)) k.text_is sends;
         comes = comes;
       }
 
-      is_enough_so : (f : Forest) (goes : Go) (text : List ℕ) → MadeAll s after.follower f goes text → had_enough (effect_of next s (events f)).goes ≡ had_enough goes
+      is_enough_so : (f : Forest) (goes : Go) (text : List ℕ) → MadeAll s new.follower f goes text → had_enough (effect_of next s (events f)).goes ≡ had_enough goes
       is_enough_so f goes text k = ap had_enough k.goes_so
 
-      ended_by : (run : Run) (f : Forest) → (run.enough ≡ true → had_enough (effect_of next s (events f)).goes ≡ true) → LastReadGaveUpTo (length piece) after.source.last → (run.enough ≡ true) ⊎ IsFinalEnding run.ending ⊎ (r ≡ [])
-          → (had_enough (effect_of next s (events f)).goes ≡ true) ⊎ IsFinalEnding run.ending ⊎ ((after.source.last ≡ gave 0) × IsAtEnd after.source.left)
-      ended_by run f e g (inl k) = inl (e k)
-      ended_by run f e g (inr (inl k)) = inr (inl k)
-      ended_by run f e g (inr (inr k)) = let z = gave_none after.source.last piece g k in inr (inr (z, read.calls.at_end z))
-
       -- with a fault or the end of the input
-      ends_without : (run : Run) → result ≡ Ok (Ended run) → run.enough ≡ false → EndsIn next before after walked x.past run
-          → (run.enough ≡ true) ⊎ IsFinalEnding run.ending ⊎ (r ≡ []) → Driven (Ok run)
+      ends_without : (run : Run) → result ≡ Ok (Ended run) → EndsIn next now new walked x.yielded run
+          → IsFinalEnding run.ending ⊎ ((new.source.last ≡ gave 0) × IsAtEnd new.source.left) → Driven (Ok run)
       unfolding runs_by
-      ends_without run is none y ended =
-          let g : LastReadGaveUpTo (length piece) after.source.last = gave_so (Ok (Ended run)) is in
-          let es : List EventValue = x.past ++ y.more in
-          let f : Forest = y.reading in
-          let is_reading : IsReading framing walked f = subst (λ (k : Framing). IsReading k walked f) x.same y.is_reading in
-          let k : MadeAll s after.follower f go.On (effect_of next s es).put = made_all s after.follower es f go.On (made_both next s before.follower after.follower x.past y.more go.On x.made y.made) y.yields in
+      ends_without run is y ended =
+          let g : LastReadGaveUpTo (length piece) new.source.last = gave_so (Ok (Ended run)) is in
+          let es : List EventValue = y.all in
+          let f : Forest = y.reads.reading in
+          let is_reading : IsReading framing walked f = subst (λ (k : Framing). IsReading k walked f) x.same y.reads.is_reading in
+          let made : FollowsEvents next s new.follower es go.On = followed es go.On y.follows in
+          let k : MadeAll s new.follower f go.On (effect_of next s es).put = made_all s new.follower es f go.On made y.reads.all_events in
           let answer : run ≡ run_over framing f (followed_events next s (events f)) (effect_of next s (events f)).goes run.ending =
-          run_is run run.ending (length (spelling f)) false (first_without_wrapper framing.inside f) refl y.spelled none (y.unused ∙ ap (λ (k : Framing). first_without_wrapper k.inside f) x.same)
+          y.run_is ∙ ap (λ (k : Framing). run_over k f es go.On run.ending) x.same
           ∙ ap (λ (g : Go). run_over framing f (followed_events next s (events f)) g run.ending) (sym k.goes_so) in
           let ends : EndsWith framing walked (had_enough (effect_of next s (events f)).goes) run.ending =
           subst (λ (b : Bool). EndsWith framing walked b run.ending) (sym (is_enough_so f go.On (effect_of next s es).put k))
           (subst (λ (k : Framing). EndsWith k walked false run.ending) x.same y.ending) in record {
-            runs = runs_by (Ok run) f (gave_last after.source.last piece g) is_reading es go.On k (ap source_result (sym is)) (sent y.more (Ok tt) y.put) (comes_to (drive_job next framing limit s) (b ++ r) f after.source (Ok run) (
+            runs = runs_by (Ok run) f (gave_last new.source.last piece g) is_reading es go.On k (ap source_result (sym is)) (sent_all es go.On y.follows) (comes_to (drive_job next framing limit s) (b ++ r) f new.source (Ok run) (
               run.ending,
               answer,
               ends_so framing walked (had_enough (effect_of next s (events f)).goes) run.ending
-                  (IsFinalEnding run.ending ⊎ ((after.source.last ≡ gave 0) × IsAtEnd after.source.left)) ends (ended_by run f (λ e. absurd (true≢false (sym e ∙ none))) g ended),
+                  (IsFinalEnding run.ending ⊎ ((new.source.last ≡ gave 0) × IsAtEnd new.source.left)) ends (inr ended),
             ));
             state = k.state;
           }
 
       -- with enough
-      ends_with : (run : Run) → result ≡ Ok (Ended run) → run.enough ≡ true → HasEnoughIn next before after walked x.past run → Driven (Ok run)
+      ends_with : (run : Run) → result ≡ Ok (Ended run) → HasEnoughIn next now new walked x.yielded run → Driven (Ok run)
       unfolding runs_by
-      ends_with run is yes' y =
-          let g : LastReadGaveUpTo (length piece) after.source.last = gave_so (Ok (Ended run)) is in
-          let es : List EventValue = x.past ++ y.more in
-          let f : Forest = y.reading in
-          let is_reading : IsReading framing walked f = subst (λ (k : Framing). IsReading k walked f) x.same y.is_reading in
-          let others : (others : List EventValue) × AreEqualJoined (es ++ others) (events f) = (y.others, y.yields) in
-          let made : FollowsEvents next s after.follower es go.Enough = made_both next s before.follower after.follower x.past y.more go.Enough x.made y.made in
-          let k : MadeAll s after.follower f go.Enough (effect_of next s es).put = made_enough s after.follower es others.0 f made others.1 in
+      ends_with run is y =
+          let g : LastReadGaveUpTo (length piece) new.source.last = gave_so (Ok (Ended run)) is in
+          let es : List EventValue = y.all in
+          let f : Forest = y.reads.reading in
+          let is_reading : IsReading framing walked f = subst (λ (k : Framing). IsReading k walked f) x.same y.reads.is_reading in
+          let others : (others : List EventValue) × AreEqualJoined (es ++ others) (events f) = (y.others, y.reads.all_events) in
+          let made : FollowsEvents next s new.follower es go.Enough = followed es go.Enough y.follows in
+          let k : MadeAll s new.follower f go.Enough (effect_of next s es).put = made_enough s new.follower es others.0 f made others.1 in
+          let ending_is : run.ending ≡ Done = ap (λ (k : Run). k.ending) y.run_is in
           let answer : run ≡ run_over framing f (followed_events next s (events f)) (effect_of next s (events f)).goes run.ending =
           run_is run run.ending (length (flat_map event_octets (followed_events next s (events f)))) true (first_other framing.inside (wrapper_offsets (followed_events next s (events f)))) refl
-          (y.spelled ∙ ap length (enough_octets s after.follower es others.0 f made others.1)) yes'
-          (y.unused ∙ ap (λ (k : Framing). first_other k.inside (wrapper_offsets es)) x.same ∙ ap (first_other framing.inside) (enough_enters s after.follower es others.0 f made others.1))
+          (ap (λ (k : Run). k.octets) y.run_is ∙ ap length (enough_octets s new.follower es others.0 f made others.1)) (ap (λ (k : Run). k.enough) y.run_is)
+          (ap (λ (k : Run). k.unused) y.run_is ∙ ap (λ (k : Framing). first_other k.inside (wrapper_offsets es)) x.same ∙ ap (first_other framing.inside) (enough_enters s new.follower es others.0 f made others.1))
           ∙ ap (λ (g : Go). run_over framing f (followed_events next s (events f)) g run.ending) (sym k.goes_so) in
           let enough : had_enough (effect_of next s (events f)).goes ≡ true = is_enough_so f go.Enough (effect_of next s es).put k in record {
-            runs = runs_by (Ok run) f (gave_last after.source.last piece g) is_reading es go.Enough k (ap source_result (sym is)) (sent y.more (Ok tt) y.put)
-                (comes_to (drive_job next framing limit s) (b ++ r) f after.source (Ok run) (run.ending, answer, inl (enough, y.ending)));
+            runs = runs_by (Ok run) f (gave_last new.source.last piece g) is_reading es go.Enough k (ap source_result (sym is)) (sent_all es go.Enough y.follows)
+                (comes_to (drive_job next framing limit s) (b ++ r) f new.source (Ok run) (run.ending, answer, inl (enough, ending_is)));
             state = k.state;
           }
 
+      -- by why it ends
+      ends_so_far : (run : Run) → result ≡ Ok (Ended run) → WalkEnds next now new limit b x.yielded r run → Driven (Ok run)
+      ends_so_far run is (at_enough y) = ends_with run is y
+      ends_so_far run is (at_fault y final) = ends_without run is y (inl final)
+      ends_so_far run is (at_input_end y none) =
+          let last : new.source.last ≡ gave 0 = gave_none new.source.last piece (gave_so (Ok (Ended run)) is) none in
+          ends_without run is y (inr (last, read.calls.at_end last))
+
       pub drives_ended : (run : Run) → result ≡ Ok (Ended run) → Driven (Ok run)
-      drives_ended run is =
-          let y = turned (Ok (Ended run)) is in
-          elim (cases_Bool run.enough) [
-            | inl e ↦ ends_with run is e (subst (λ (k : Bool). EndsBy next before after k walked x.past run) e y.ends)
-            | inr e ↦ ends_without run is e (subst (λ (k : Bool). EndsBy next before after k walked x.past run) e y.ends) y.last
-          ]
+      drives_ended run is = ends_so_far run is (turned (Ok (Ended run)) is)
 
       drives_read_failed : result ≡ Err ReadFailed → Driven (Err ReadFailed)
       unfolding runs_by
       drives_read_failed is =
           let y = turned (Err ReadFailed) is in
-          let last : after.source.last ≡ failed = gave_so (Err ReadFailed) is in
+          let last : new.source.last ≡ failed = gave_so (Err ReadFailed) is in
           let none : r ≡ [] = ap (λ (l : LastReadValue). last_octets l piece) last in
-          let f : Forest = x.stands.reading in
+          let f : Forest = x.stands.reads.reading in
           let all : b ≡ walked = sym (ap (λ (o : List ℕ). take limit (b ++ o)) none ∙ ap (λ (o : List ℕ). take limit o) (append-nil b) ∙ take_all limit b within) in
-          let k : MadeAll s after.follower f go.On (effect_of next s x.past).put = record { state = y.follower ∙ first_made.state; goes_so = first_made.goes_so; text_is = first_made.text_is } in
-          let put : Sends from after.drain (effect_of next s x.past).put (Ok tt) =
-          sends_ok {T = ⊤} {U = ⊤} {E = DeviceFault} {F = DeviceFault} from after.drain ((effect_of next s x.past).put ++ []) (effect_of next s x.past).put tt tt
-          (sends_then from before.drain after.drain (effect_of next s x.past).put [] tt (Ok tt) x.sends y.put) (append-nil _) in record {
-            runs = runs_by (Err ReadFailed) f (inr (last, none)) (subst (λ (o : List ℕ). IsReading framing o f) all first_reading) x.past go.On k (ap source_result (sym is)) put (read_failed last);
+          let k : MadeAll s new.follower f go.On (effect_of next s x.yielded).put = record { state = y.same.follower ∙ first_made.state; goes_so = first_made.goes_so; text_is = first_made.text_is } in
+          let put : Sends from new.drain (effect_of next s x.yielded).put (Ok tt) =
+          sends_ok {T = ⊤} {U = ⊤} {E = DeviceFault} {F = DeviceFault} from new.drain ((effect_of next s x.yielded).put ++ []) (effect_of next s x.yielded).put tt tt
+          (sends_then from now.drain new.drain (effect_of next s x.yielded).put [] tt (Ok tt) x.sends y.put) (append-nil _) in record {
+            runs = runs_by (Err ReadFailed) f (inr (last, none)) (subst (λ (o : List ℕ). IsReading framing o f) all first_reading) x.yielded go.On k (ap source_result (sym is)) put (read_failed last);
             state = k.state;
           }
 
       drives_write_failed : result ≡ Err WriteFailed → Driven (Err WriteFailed)
       drives_write_failed is =
           let y = turned (Err WriteFailed) is in
-          let g : LastReadGaveUpTo (length piece) after.source.last = gave_so (Err WriteFailed) is in
-          let f : Forest = y.reading in
-          let es : List EventValue = x.past ++ y.more in
-          let same : effect_of next s es ≡ effect_of next s (events f) = alike s es (events f) y.yields in record {
+          let g : LastReadGaveUpTo (length piece) new.source.last = gave_so (Err WriteFailed) is in
+          let f : Forest = y.reads.reading in
+          let es : List EventValue = x.yielded ++ y.more in
+          let same : effect_of next s es ≡ effect_of next s (events f) = alike s es (events f) y.reads.all_events in record {
             runs = record {
-              pieces = pieces_all old before.source after.source x.gathered r read.calls.octets read.calls.reads (gave_last after.source.last piece g) few;
+              pieces = pieces_all old now.source new.source x.gathered r read.calls.octets read.calls.reads (gave_last new.source.last piece g) few;
               failures = failed_so (Err WriteFailed) is;
               wants_more = first_wants;
               within = within;
               reading = f;
-              is_reading = subst (λ (k : Framing). IsReading k walked f) x.same y.is_reading;
-              sends = subst (λ (l : List ℕ). Sends {T = ⊤} {E = DeviceFault} from after.drain l (Err WriteFailed)) (ap (λ (k : Effect S). k.put) same) (sent y.more (Err WriteFailed) y.put);
+              is_reading = subst (λ (k : Framing). IsReading k walked f) x.same y.reads.is_reading;
+              sends = subst (λ (l : List ℕ). Sends {T = ⊤} {E = DeviceFault} from new.drain l (Err WriteFailed)) (ap (λ (k : Effect S). k.put) same) (sent y.more (Err WriteFailed) y.put);
               comes = write_failed;
             };
             state = tt;
@@ -291,16 +290,16 @@ module _ {S : Type 0} (next : S → EventValue → Effect S)
       unfolding runs_by
       drives_long is =
           let y = turned (Err InputTooLong) is in
-          let g : LastReadGaveUpTo (length piece) after.source.last = gave_so (Err InputTooLong) is in
-          let z = y.stands_on in
-          let es : List EventValue = x.past ++ z.more in
-          let f : Forest = z.stands.reading in
-          let is_reading : IsReading framing walked f = subst (λ (k : Framing). IsReading k walked f) (z.framing ∙ x.same) z.stands.is_reading in
-          let k : MadeAll s after.follower f go.On (effect_of next s es).put =
-          made_all s after.follower es f go.On (made_both next s before.follower after.follower x.past z.more go.On x.made z.made) (stands_past after.walker walked es f z.stands z.idle z.stands.is_reading) in
+          let g : LastReadGaveUpTo (length piece) new.source.last = gave_so (Err InputTooLong) is in
+          let z = y.stands in
+          let es : List EventValue = z.all in
+          let f : Forest = z.stands.reads.reading in
+          let is_reading : IsReading framing walked f = subst (λ (k : Framing). IsReading k walked f) (z.follows.framing ∙ x.same) z.stands.reads.is_reading in
+          let k : MadeAll s new.follower f go.On (effect_of next s es).put =
+          made_all s new.follower es f go.On (followed es go.On z.follows) (stands_yielded new.walker walked es f z.stands z.idle z.stands.reads.is_reading) in
           let wants : WantMore (drive_job next framing limit s) walked =
-          (f, is_reading, stands_spelled after.walker walked es f z.stands z.stands.is_reading, is_enough_so f go.On (effect_of next s es).put k) in record {
-            runs = runs_by (Err InputTooLong) f (gave_last after.source.last piece g) is_reading es go.On k (ap source_result (sym is)) (sent z.more (Ok tt) z.put) (too_long y.beyond wants);
+          (f, is_reading, stands_spelled new.walker walked es f z.stands z.stands.reads.is_reading, is_enough_so f go.On (effect_of next s es).put k) in record {
+            runs = runs_by (Err InputTooLong) f (gave_last new.source.last piece g) is_reading es go.On k (ap source_result (sym is)) (sent_all es go.On z.follows) (too_long y.beyond wants);
             state = k.state;
           }
 

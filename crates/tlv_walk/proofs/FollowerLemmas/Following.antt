@@ -1,5 +1,5 @@
 -- What a follower comes to, event by event.
-use Rattle.std.proofs.Common.{◌≡◌, inl, inr, ℕ, ◌+◌, List, [], ◌∷◌, ◌++◌, length, refl, sym, ap, ap₂, ◌∙◌, subst, append_assoc, append-nil}
+use Rattle.std.proofs.Common.{◌≡◌, inl, inr, ℕ, ◌+◌, List, [], ◌∷◌, ◌++◌, length, refl, sym, ap, ap₂, ◌∙◌, subst, arith, append_assoc, append-nil, length-append}
 use Rattle.std.specs.Prelude.{Ok, Err, slice_get}
 use Rattle.tlv_head.specs.declared.fault.Fault.{Fault}
 use Rattle.tlv_io.specs.declared.drain.WriteFault.{WriteFault}
@@ -28,74 +28,74 @@ use Rattle.tlv_walk.proofs.FollowerLemmas.Followed.{events_more, events_one, fol
 use Rattle.tlv_walk.proofs.EventLemmas.Joined.{apart-before, apart-from_joined, joined-from_apart}
 use Rattle.tlv_walk.proofs.EventLemmas.Prefixes.{events-prefix}
 use Rattle.tlv_io.proofs.Puts.{HasPut, puts_as, puts_failed_last, puts_nothing, puts_then_as}
-use Rattle.tlv_walk.proofs.EventLemmas.Unused.{past_unused}
+use Rattle.tlv_walk.proofs.EventLemmas.Unused.{yielded_unused}
 use Rattle.tlv_walk.proofs.WalkerLemmas.HasRead.{never_refused}
 
 -- nothing was walked over
 pub walked_none : (w : WalkerState) (piece : List ℕ) → WalksOver w w piece piece []
 walked_none w piece = record {
   taken = [];
-  piece = refl;
+  piece_is = refl;
   framing = refl;
-  stands = λ b past s. subst (λ (o : List ℕ). Stands w o (past ++ [])) (sym (append-nil b)) (subst (λ (es : List EventValue). Stands w b es) (sym (append-nil past)) s);
+  stands = λ b yielded s. subst (λ (o : List ℕ). Stands w o (yielded ++ [])) (sym (append-nil b)) (subst (λ (es : List EventValue). Stands w b es) (sym (append-nil yielded)) s);
 }
 
 -- one part after another
 pub walked_both : (w u v : WalkerState) (before mid after : List ℕ) (es fs : List EventValue) → WalksOver w u before mid es → WalksOver u v mid after fs → WalksOver w v before after (es ++ fs)
 walked_both w u v before mid after es fs x y = record {
   taken = x.taken ++ y.taken;
-  piece = x.piece ∙ ap (λ (o : List ℕ). x.taken ++ o) y.piece ∙ sym (append_assoc x.taken y.taken after);
+  piece_is = x.piece_is ∙ ap (λ (o : List ℕ). x.taken ++ o) y.piece_is ∙ sym (append_assoc x.taken y.taken after);
   framing = y.framing ∙ x.framing;
-  stands = λ b past s.
-      subst (λ (o : List ℕ). Stands v o (past ++ (es ++ fs))) (append_assoc b x.taken y.taken)
-      (subst (λ (all : List EventValue). Stands v ((b ++ x.taken) ++ y.taken) all) (append_assoc past es fs) (y.stands (b ++ x.taken) (past ++ es) (x.stands b past s)));
+  stands = λ b yielded s.
+      subst (λ (o : List ℕ). Stands v o (yielded ++ (es ++ fs))) (append_assoc b x.taken y.taken)
+      (subst (λ (all : List EventValue). Stands v ((b ++ x.taken) ++ y.taken) all) (append_assoc yielded es fs) (y.stands (b ++ x.taken) (yielded ++ es) (x.stands b yielded s)));
 }
 
 -- an octet is refused after what was walked over
-refused_there : (w u v : WalkerState) (piece mid after : List ℕ) (f : Fault) (more : List EventValue) (x : WalksOver w u piece mid more) (o : List ℕ) (past : List EventValue)
-    → Stands u (o ++ x.taken) (past ++ more) → StepsTo u v mid after (step.Fault f) → WalksTo w v piece more f o past
-refused_there w u v piece mid after f more x o past st (inl r) =
-    let all : (o ++ x.taken) ++ r.taken ≡ o ++ (x.taken ++ r.taken) = append_assoc o x.taken r.taken in
-    let there : StandsRefused v (o ++ (x.taken ++ r.taken)) r.octet (past ++ more) f =
-    subst (λ (l : List ℕ). StandsRefused v l r.octet (past ++ more) f) all (r.stands (o ++ x.taken) (past ++ more) st) in
-    let framing : v.framing ≡ w.framing = r.framing ∙ x.framing in
-    let refused : IsRefusedAfter w.framing (o ++ (x.taken ++ r.taken)) r.octet (past ++ more) f =
-    subst (λ (g : Framing). IsRefusedAfter g (o ++ (x.taken ++ r.taken)) r.octet (past ++ more) f) framing there.refused in record {
-      taken = x.taken ++ r.taken;
+refused_there : (w u v : WalkerState) (piece mid after : List ℕ) (f : Fault) (more : List EventValue) (x : WalksOver w u piece mid more) (o : List ℕ) (yielded : List EventValue)
+    → Stands u (o ++ x.taken) (yielded ++ more) → StepsTo u v mid after (step.Fault f) → WalksTo w v piece more f o yielded
+refused_there w u v piece mid after f more x o yielded st (inl r) =
+    let all : (o ++ x.taken) ++ r.takes.taken ≡ o ++ (x.taken ++ r.takes.taken) = append_assoc o x.taken r.takes.taken in
+    let there : StandsRefused v (o ++ (x.taken ++ r.takes.taken)) r.octet (yielded ++ more) f =
+    subst (λ (l : List ℕ). StandsRefused v l r.octet (yielded ++ more) f) all (r.stands (o ++ x.taken) (yielded ++ more) st) in
+    let framing : v.framing ≡ w.framing = r.takes.framing ∙ x.framing in
+    let refused : IsRefusedAfter w.framing (o ++ (x.taken ++ r.takes.taken)) r.octet (yielded ++ more) f =
+    subst (λ (g : Framing). IsRefusedAfter g (o ++ (x.taken ++ r.takes.taken)) r.octet (yielded ++ more) f) framing there.refused in record {
+      taken = x.taken ++ r.takes.taken;
       octet = r.octet;
-      rest = r.rest;
-      piece = x.piece ∙ ap (λ (l : List ℕ). x.taken ++ l) r.before_is ∙ sym (append_assoc x.taken r.taken (r.octet ∷ r.rest));
+      others = r.others;
+      piece_is = x.piece_is ∙ ap (λ (l : List ℕ). x.taken ++ l) (r.takes.piece_is ∙ ap (λ (l : List ℕ). r.takes.taken ++ l) r.rest_is) ∙ sym (append_assoc x.taken r.takes.taken (r.octet ∷ r.others));
       framing = framing;
       offset = there.offset;
       refused = refused;
       unused =
-          ap₂ (λ (g : Framing) (n : ℕ). slice_get g.inside n) framing (r.wrapper_count ∙ st.private_state.found ∙ ap (λ (g : Framing). wrappers_after g.inside 0 (wrapper_offsets (past ++ more))) x.framing)
-          ∙ past_unused w.framing (past ++ more) [] refused.reading (subst (λ (g : Framing). CanName g.inside) x.framing st.private_state.named) (refused.stays []).is_open refl
-          (subst (λ (es : List EventValue). AreEqualJoined es (events refused.reading)) (sym (append-nil (past ++ more))) refused.all_events);
+          ap₂ (λ (g : Framing) (n : ℕ). slice_get g.inside n) framing (r.wrapper_count ∙ st.private_state.found ∙ ap (λ (g : Framing). wrappers_after g.inside 0 (wrapper_offsets (yielded ++ more))) x.framing)
+          ∙ yielded_unused w.framing (yielded ++ more) [] refused.reading (subst (λ (g : Framing). CanName g.inside) x.framing st.private_state.named) (refused.stays []).is_open refl
+          (subst (λ (es : List EventValue). AreEqualJoined es (events refused.reading)) (sym (append-nil (yielded ++ more))) refused.all_events);
       stands = there;
     }
-refused_there w u v piece mid after f more x o past st (inr r) = absurd (never_refused u (o ++ x.taken) (past ++ more) f st r.refused)
+refused_there w u v piece mid after f more x o yielded st (inr r) = absurd (never_refused u (o ++ x.taken) (yielded ++ more) f st r.refused)
 
 -- what a walker yielded of the front of octets, others follow
-past_front : (w v : WalkerState) (b piece after : List ℕ) (past more : List EventValue) (f : Forest) → WalksOver w v piece after more → Stands w b past → IsReading w.framing (b ++ piece) f
-    → (others : List EventValue) × AreEqualJoined (past ++ (more ++ others)) (events f)
-past_front w v b piece after past more f walked st r =
-    let there : Stands v (b ++ walked.taken) (past ++ more) = walked.stands b past st in
-    let all : b ++ piece ≡ (b ++ walked.taken) ++ after = ap (λ (o : List ℕ). b ++ o) walked.piece ∙ sym (append_assoc b walked.taken after) in
+yielded_prefix : (w v : WalkerState) (b piece after : List ℕ) (yielded more : List EventValue) (f : Forest) → WalksOver w v piece after more → Stands w b yielded → IsReading w.framing (b ++ piece) f
+    → (others : List EventValue) × AreEqualJoined (yielded ++ (more ++ others)) (events f)
+yielded_prefix w v b piece after yielded more f walked st r =
+    let there : Stands v (b ++ walked.taken) (yielded ++ more) = walked.stands b yielded st in
+    let all : b ++ piece ≡ (b ++ walked.taken) ++ after = ap (λ (o : List ℕ). b ++ o) walked.piece_is ∙ sym (append_assoc b walked.taken after) in
     let r' : IsReading v.framing ((b ++ walked.taken) ++ after) f =
     subst (λ (g : Framing). IsReading g ((b ++ walked.taken) ++ after) f) (sym walked.framing) (subst (λ (o : List ℕ). IsReading w.framing o f) all r) in
-    let goes : (es : List EventValue) × AreEqualJoined (events f) (events there.reading ++ es) = events-prefix v.framing (b ++ walked.taken) after there.reading f there.is_reading r' in (
+    let goes : (es : List EventValue) × AreEqualJoined (events f) (events there.reads.reading ++ es) = events-prefix v.framing (b ++ walked.taken) after there.reads.reading f there.reads.is_reading r' in (
       waiting_events v ++ goes.0,
-      joined-from_apart (past ++ (more ++ (waiting_events v ++ goes.0))) (events f)
-          (ap single_octets (sym (append_assoc past more (waiting_events v ++ goes.0)) ∙ sym (append_assoc (past ++ more) (waiting_events v) goes.0))
-          ∙ apart-before ((past ++ more) ++ waiting_events v) (events there.reading) goes.0 (apart-from_joined ((past ++ more) ++ waiting_events v) (events there.reading) there.all_events)
-          ∙ sym (apart-from_joined (events f) (events there.reading ++ goes.0) goes.1)),
+      joined-from_apart (yielded ++ (more ++ (waiting_events v ++ goes.0))) (events f)
+          (ap single_octets (sym (append_assoc yielded more (waiting_events v ++ goes.0)) ∙ sym (append_assoc (yielded ++ more) (waiting_events v) goes.0))
+          ∙ apart-before ((yielded ++ more) ++ waiting_events v) (events there.reads.reading) goes.0 (apart-from_joined ((yielded ++ more) ++ waiting_events v) (events there.reads.reading) there.reads.all_events)
+          ∙ sym (apart-from_joined (events f) (events there.reads.reading ++ goes.0) goes.1)),
     )
 
-pub walked_goes_on : (w v : WalkerState) (piece after : List ℕ) (more : List EventValue) → WalksOver w v piece after more → (b : List ℕ) (past : List EventValue) → Stands w b past → GoesOnIn w.framing (b ++ piece) (past ++ more)
-walked_goes_on w v piece after more walked b past st f r =
-    let o = past_front w v b piece after past more f walked st r in
-    (o.0, subst (λ (es : List EventValue). AreEqualJoined es (events f)) (sym (append_assoc past more o.0)) o.1)
+pub walked_goes_on : (w v : WalkerState) (piece after : List ℕ) (more : List EventValue) → WalksOver w v piece after more → (b : List ℕ) (yielded : List EventValue) → Stands w b yielded → GoesOnIn w.framing (b ++ piece) (yielded ++ more)
+walked_goes_on w v piece after more walked b yielded st f r =
+    let o = yielded_prefix w v b piece after yielded more f walked st r in
+    (o.0, subst (λ (es : List EventValue). AreEqualJoined es (events f)) (sym (append_assoc yielded more o.0)) o.1)
 
 module _ {S : Type 0} (next : S → EventValue → Effect S) where
   -- of no event
@@ -129,11 +129,11 @@ module _ {S : Type 0} (next : S → EventValue → Effect S) where
   one_put s t es e m = ap (λ (f : Effect S). (effect_of next s es).put ++ f.put) (sym (followed-one next t e)) ∙ made_put s t es (e ∷ []) m
 
   module _ {D : Type 0} (state_of : D → DrainState) where
-    -- the front of a piece was followed, and what was made of it was put
-    pub record HasFollowed (before after : WalkState S D) (piece rest : List ℕ) (goes : Go) : Type 0 where
+    -- a prefix of a piece was followed, and what was made of it was put
+    pub record HasFollowed (old new : WalkState S D) (piece rest : List ℕ) (goes : Go) : Type 0 where
       pub more : List EventValue
-      pub follows : Follows next before after piece rest more goes
-      pub puts : HasPut state_of before.out after.out (effect_of next before.follower more).put
+      pub follows : Follows next old new piece rest more goes
+      pub puts : HasPut state_of old.out new.out (effect_of next old.follower more).put
 
     -- a follower that has followed nothing
     pub follows_none : (x : WalkState S D) (piece : List ℕ) → HasFollowed x x piece piece go.On
@@ -199,13 +199,13 @@ module _ {S : Type 0} (next : S → EventValue → Effect S) where
           made = h.follows.made;
           walked = record {
             taken = h.follows.walked.taken ++ mid;
-            piece = h.follows.walked.piece ∙ sym (append-nil (h.follows.walked.taken ++ mid));
-            framing = steps.framing ∙ h.follows.walked.framing;
+            piece_is = h.follows.walked.piece_is ∙ sym (append-nil (h.follows.walked.taken ++ mid));
+            framing = steps.takes.framing ∙ h.follows.walked.framing;
             stands = λ o es st.
                 subst (λ (all : List ℕ). Stands v all (es ++ h.more)) (append_assoc o h.follows.walked.taken mid) (steps.stands (o ++ h.follows.walked.taken) (es ++ h.more) (h.follows.walked.stands o es st));
           };
         };
-        offset = steps.offset ∙ walked;
+        offset = omega (arith, steps.takes.offset, ap length steps.takes.piece_is, ap length steps.none_left, length-append steps.takes.taken after, walked);
         ready = steps.ready;
       };
       puts = same_put x (walk_state v y.follower y.out) h.more pause.UsedUp h.puts;

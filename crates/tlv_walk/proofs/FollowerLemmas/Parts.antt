@@ -17,7 +17,7 @@ use Rattle.tlv_walk.specs.WalkerState.{WalkerState}
 use Rattle.tlv_io.specs.Out.{Puts}
 use Rattle.tlv_walk.specs.Private.FollowsPiece.{FollowsPart, FollowsPiece, GoesOnIn, TakesNone, TakesPart, TakesPartOrNone, WalkState, WalksOver}
 use Rattle.tlv_walk.specs.Private.WalkerState.{CanPass, Passes, header_at}
-use Rattle.tlv_walk.specs.Private.Steps.{YieldsEvents}
+use Rattle.tlv_walk.specs.Private.Yields.{YieldsEvents}
 use Rattle.tlv_walk.proofs.FollowerLemmas.Following.{HasFollowed, made_both, made_put, walked_both, walked_goes_on}
 use Rattle.tlv_walk.proofs.WalkerLemmas.Passing.{passed, yields_primitive}
 use Rattle.tlv_io.proofs.Puts.{puts_as, puts_failed_last, puts_then_as}
@@ -28,7 +28,7 @@ pub walked_primitive : (w : WalkerState) (piece : List ℕ) (p : WholePrimitive)
     → WalksOver w (passed w p 0) piece (drop p.octets piece) (whole_events (header_at p piece) (take p.octets piece))
 walked_primitive w piece p can = stands_all w _ piece (drop p.octets piece) _ (record {
   taken = take p.octets piece;
-  piece = sym (take-append-drop p.octets piece);
+  piece_is = sym (take-append-drop p.octets piece);
   continues = yields_primitive w piece p 0 can;
 })
 
@@ -56,7 +56,7 @@ module _ {S : Type 0} (next : S → EventValue → Effect S) where
         yields = λ o es st.
             let walked : WalksOver x.walker y.walker piece mid h.more = h.follows.walked in
             subst (λ (g : Framing). GoesOnIn g (o ++ piece) (es ++ (h.more ++ p.more))) walked.framing
-            (subst (λ (l : List ℕ). GoesOnIn y.walker.framing l (es ++ (h.more ++ p.more))) (append_assoc o walked.taken mid ∙ ap (λ (l : List ℕ). o ++ l) (sym walked.piece))
+            (subst (λ (l : List ℕ). GoesOnIn y.walker.framing l (es ++ (h.more ++ p.more))) (append_assoc o walked.taken mid ∙ ap (λ (l : List ℕ). o ++ l) (sym walked.piece_is))
             (subst (λ (l : List EventValue). GoesOnIn y.walker.framing ((o ++ walked.taken) ++ mid) l) (append_assoc es h.more p.more) (p.takes.yields (o ++ walked.taken) (es ++ h.more) (walked.stands o es st))));
       };
       puts = puts_failed_last state_of x.out z.out _ e (Err f)

@@ -69,11 +69,11 @@ module _ {S : Type 0} (next : S → EventValue → Effect S) where
     pub gathered : Gathered old now.source
     pub octets : AreOctets (concat gathered.pieces)
     pub failures : now.source.failures ≡ old.failures
-    pub past : List EventValue
-    pub made : FollowsEvents next s now.follower past go.On
-    pub sends : Sends {T = ⊤} {E = DeviceFault} from now.drain (effect_of next s past).put (Ok tt)
+    pub yielded : List EventValue
+    pub made : FollowsEvents next s now.follower yielded go.On
+    pub sends : Sends {T = ⊤} {E = DeviceFault} from now.drain (effect_of next s yielded).put (Ok tt)
     pub same : now.walker.framing ≡ framing
-    pub stands : Stands now.walker (concat gathered.pieces) past
+    pub stands : Stands now.walker (concat gathered.pieces) yielded
     pub idle : IsIdle now.walker
 
   pub walking_none : (framing : Framing) (s : S) (old : SourceState) (from : DrainState) → Stands (new_walker framing) [] []
@@ -82,7 +82,7 @@ module _ {S : Type 0} (next : S → EventValue → Effect S) where
     gathered = gathered_none old;
     octets = All-nil (λ x. x < 256);
     failures = refl;
-    past = [];
+    yielded = [];
     made = made_none next s;
     sends = sends_nothing from tt;
     same = refl;

@@ -1,9 +1,9 @@
 -- What a turn comes to, by why its piece is not followed any further.
-use Rattle.std.proofs.Common.{◌≡◌, inl, inr, ℕ, ◌-◌, ◌≤◌, ◌<◌, min, Bool, true, false, List, [], ◌∷◌, ◌++◌, length, take, flat_map, refl, sym, ap, ◌∙◌, subst, arith, append_assoc, append-nil, length-append}
+use Rattle.std.proofs.Common.{◌≡◌, inl, inr, ℕ, ◌-◌, ◌≤◌, ◌<◌, min, Bool, true, false, List, [], ◌++◌, length, take, flat_map, refl, sym, ap, ◌∙◌, subst, arith, append_assoc, append-nil, length-append}
 use Rattle.std.proofs.lemmas.Bool.{cases_lt}
 use Rattle.std.proofs.lemmas.List.{length-take, take_all}
 use Rattle.std.proofs.Math.Seq.{take-take}
-use Rattle.std.specs.Prelude.{Result, Ok, Err, ⊤}
+use Rattle.std.specs.Prelude.{Option, Result, Ok, Err, ⊤}
 use Rattle.tlv_head.specs.declared.fault.Fault.{Fault}
 use Rattle.tlv_io.specs.declared.drain.WriteFault.{WriteFault}
 use Rattle.tlv_walk.specs.declared.ending.Ending.{Ending}
@@ -23,204 +23,111 @@ use Rattle.tlv_walk.specs.Ending.{IsEnding, IsFinalEnding}
 use Rattle.tlv_walk.specs.Events.{AreEqualJoined, EventValue, events}
 use Rattle.tlv_walk.specs.Follow.{Effect, effect_of}
 use Rattle.tlv_walk.specs.Private.ResultOfPause.{IsResultOfPause, IsRun}
-use Rattle.tlv_walk.specs.Private.FollowsPiece.{Fails, FollowsAndFlushes, FollowsPiece, FollowsToFault, GoesOnIn, FollowsToEnough, Pauses, FollowsAll, WalkState, WalksOver, WalksTo, walk_state}
+use Rattle.tlv_walk.specs.Private.FollowsPiece.{FollowsAndFlushes, FollowsToFault, FollowsToEnough, Pauses, FollowsAll, WalkState, WalksOver, WalksTo, walk_state}
 use Rattle.tlv_walk.specs.Forest.{Forest, spelling}
 use Rattle.tlv_walk.specs.WalkerState.{WalkerState}
-use Rattle.tlv_io.specs.Out.{Puts, Sends, held_octets, drain_of}
-use Rattle.tlv_walk.specs.Place.{top_place}
+use Rattle.tlv_io.specs.Out.{Sends, drain_of}
 use Rattle.tlv_walk.specs.Reading.{AreOctets, IsReading}
-use Rattle.tlv_walk.specs.Stands.{Stands, waiting_events}
+use Rattle.tlv_walk.specs.Stands.{Stands}
 use Rattle.tlv_walk.specs.HasRead.{refused_one, took_all}
-use Rattle.tlv_walk.specs.OneTurn.{EndsBy, EndsIn, HasEnoughIn, StandsOn, TurnState, TurnsTo}
+use Rattle.tlv_walk.specs.OneTurn.{EndsIn, HasEnoughIn, StandsAfter, TurnState, TurnsTo, at_enough, at_fault, at_input_end}
 use Rattle.tlv_walk.specs.Wrappers.{first_other, first_without_wrapper, wrapper_offsets}
 use Rattle.tlv_walk.proofs.GrammarLemmas.Finals.{refused-final}
 use Rattle.tlv_walk.proofs.FollowerLemmas.Followed.{followed-front}
 use Rattle.tlv_walk.proofs.FollowerLemmas.Following.{walked_goes_on}
-use Rattle.tlv_io.proofs.Puts.{puts_failed_last, puts_then_as, sends_err, sends_flushed, sends_ok, sends_puts}
-use Rattle.tlv_walk.proofs.GrammarLemmas.PushSteps.{Spells}
-use Rattle.tlv_walk.proofs.GrammarLemmas.Readings.{reading-longer, reading-unique}
+use Rattle.tlv_io.proofs.Puts.{sends_err, sends_ok}
+use Rattle.tlv_walk.proofs.GrammarLemmas.Readings.{reading-longer}
 use Rattle.tlv_walk.proofs.FollowerLemmas.SoFar.{limit_after}
-use Rattle.tlv_walk.proofs.WalkerLemmas.ZipperReading.{state-reading, state-spells}
-use Rattle.tlv_walk.proofs.WalkerLemmas.EventOctets.{stands-past_octets}
+use Rattle.tlv_walk.proofs.WalkerLemmas.EventOctets.{stands-yielded_octets}
 use Rattle.tlv_walk.proofs.EventLemmas.Unused.{stands-entered, stands_unused}
-use Rattle.tlv_walk.proofs.WalkerLemmas.Zipper.{reading_of}
+use Rattle.tlv_walk.proofs.FollowerLemmas.Pauses.{fault_octets, fault_is_reading, stands_spelled, stands_yielded}
 
--- ---- what a walker stands for
-
--- a walker that stands for octets has read them all
-pub stands_spelled : (v : WalkerState) (b : List ℕ) (past : List EventValue) (f : Forest) → Stands v b past → IsReading v.framing b f → spelling f ≡ b
-stands_spelled v b past f st r =
-    let spells : Spells (top_place v.framing) b (reading_of st.private_state.state) = state-spells v b past st.private_state.state st.private_state.has_state in
-    ap spelling (reading-unique v.framing b f (reading_of st.private_state.state) r (state-reading v b past st.private_state.state st.private_state.has_state)) ∙ spells.spelled
-
--- if nothing waits, all events of the reading were yielded
-pub stands_past : (v : WalkerState) (b : List ℕ) (past : List EventValue) (f : Forest) → Stands v b past → waiting_events v ≡ [] → IsReading v.framing b f → AreEqualJoined past (events f)
-stands_past v b past f st idle r =
-    let all : AreEqualJoined (past ++ waiting_events v) (events st.reading) = st.all_events in
-    subst (λ (es : List EventValue). AreEqualJoined es (events f)) (ap (λ (es : List EventValue). past ++ es) idle ∙ append-nil past)
-    (subst (λ (g : Forest). AreEqualJoined (past ++ waiting_events v) (events g)) (reading-unique v.framing b st.reading f st.is_reading r) all)
-
--- ---- an octet that is refused
-
-fault_octets : (w v : WalkerState) (b piece : List ℕ) (past more : List EventValue) (e : Fault) → (k : WalksTo w v piece more e b past) → (b ++ k.taken) ++ k.octet ∷ k.rest ≡ b ++ piece
-fault_octets w v b piece past more e k = append_assoc b k.taken (k.octet ∷ k.rest) ∙ ap (λ (o : List ℕ). b ++ o) (sym k.piece)
-
-fault_is_reading : (w v : WalkerState) (b piece : List ℕ) (past more : List EventValue) (e : Fault) → (k : WalksTo w v piece more e b past) → IsReading w.framing (b ++ piece) k.refused.reading
-fault_is_reading w v b piece past more e k = subst (λ (o : List ℕ). IsReading w.framing o k.refused.reading) (fault_octets w v b piece past more e k) (k.refused.stays k.rest)
-
-fault_reading : (w v : WalkerState) (b piece : List ℕ) (past more : List EventValue) (e : Fault) (f : Forest) → (k : WalksTo w v piece more e b past) → IsReading w.framing (b ++ piece) f → k.refused.reading ≡ f
-fault_reading w v b piece past more e f k r =
-    reading-unique w.framing (b ++ piece) k.refused.reading f (fault_is_reading w v b piece past more e k) r
-
-module _ {S : Type 0} (next : S → EventValue → Effect S) where
-  -- ---- what was put is flushed, or cannot be
-
-  module _ {D : Type 0} where
-    fault_goes_on : (x y : WalkState S D) (piece : List ℕ) (more : List EventValue) (e : Fault) → FollowsToFault next x y piece more e → (b : List ℕ) (past : List EventValue) → Stands x.walker b past
-        → GoesOnIn x.walker.framing (b ++ piece) (past ++ more)
-    fault_goes_on x y piece more e to b past st f r =
-        let k : WalksTo x.walker y.walker piece more e b past = to.walked b past st in (
-          [],
-          subst (λ (es : List EventValue). AreEqualJoined es (events f)) (sym (append-nil (past ++ more)))
-              (subst (λ (g : Forest). AreEqualJoined (past ++ more) (events g)) (fault_reading x.walker y.walker b piece past more e f k r) k.refused.all_events),
-        )
-
-    pauses_failing : (x y : WalkState S D) (piece : List ℕ) (more : List EventValue) (why : Pause) → Pauses next x y piece more (Ok why) → Fails next x y piece more
-    pauses_failing x y piece more pause.UsedUp k = record { yields = walked_goes_on x.walker y.walker piece [] more k.follows.walked }
-    pauses_failing x y piece more (pause.Fault f) k = record { yields = fault_goes_on x y piece more f k }
-    pauses_failing x y piece more pause.Enough k = record { yields = walked_goes_on x.walker y.walker piece k.rest more k.follows.walked }
-
-    -- the walker and the follower are the same, and so is where the piece is followed no further
-    pauses_same : (x y : WalkState S D) (c : Out D) (piece : List ℕ) (more : List EventValue) (why : Pause) → Pauses next x y piece more (Ok why) → Pauses next x (walk_state y.walker y.follower c) piece more (Ok why)
-    pauses_same x y c piece more pause.UsedUp k = record { follows = record { made = k.follows.made; walked = k.follows.walked }; offset = k.offset; ready = k.ready }
-    pauses_same x y c piece more (pause.Fault f) k = record { made = k.made; walked = k.walked }
-    pauses_same x y c piece more pause.Enough k = record { rest = k.rest; follows = record { made = k.follows.made; walked = k.follows.walked }; after_event = k.after_event }
-
-    module _ (state_of : D → DrainState) (x y : WalkState S D) (c : Out D) (piece : List ℕ) (octets : AreOctets piece) (none : held_octets x.out ≡ []) where
-      -- the piece was followed, and what was put was flushed
-      pub pauses_flushed : (why : Pause) → FollowsPiece next state_of x y piece (Ok why) → Puts {T = ⊤} {E = WriteFault} state_of y.out c [] (Ok tt) → held_octets c ≡ []
-          → FollowsAndFlushes next state_of x (walk_state y.walker y.follower c) piece (Ok why)
-      pauses_flushed why k flushed empty = record {
-        octets = octets;
-        more = k.more;
-        pauses = pauses_same x y c piece k.more why k.pauses;
-        sends = sends_flushed state_of x.out y.out c (drain_of x.out).now (drain_of c).now (effect_of next x.follower k.more).put why tt refl none refl k.puts flushed empty;
-        same_reference = flushed.same_reference ∙ k.puts.same_reference;
-        empty = empty;
-      }
-
-      -- or could not be flushed
-      pub pauses_unflushed : (why : Pause) (e f : WriteFault) → FollowsPiece next state_of x y piece (Ok why) → Puts {T = ⊤} {E = WriteFault} state_of y.out c [] (Err e)
-          → FollowsAndFlushes next state_of x (walk_state y.walker y.follower c) piece (Err f)
-      pauses_unflushed why e f k unflushed =
-          let text : List ℕ = (effect_of next x.follower k.more).put in record {
-            octets = octets;
-            more = k.more;
-            pauses = record { yields = (pauses_failing x y piece k.more why k.pauses).yields };
-            sends = sends_puts state_of x.out c (drain_of x.out).now (drain_of c).now text (Err f) refl none refl
-                (puts_failed_last state_of x.out c text e (Err f) (puts_then_as state_of x.out y.out c text [] text why (Err e) k.puts unflushed (append-nil text)) refl) tt;
-            same_reference = unflushed.same_reference ∙ k.puts.same_reference;
-            empty = tt;
-          }
-
-    -- the drain failed before
-    pub fails_sent : (state_of : D → DrainState) (x y : WalkState S D) (piece : List ℕ) → AreOctets piece → held_octets x.out ≡ [] → (e f : WriteFault) → FollowsPiece next state_of x y piece (Err e)
-        → FollowsAndFlushes next state_of x y piece (Err f)
-    fails_sent state_of x y piece octets none e f k =
-        let text : List ℕ = (effect_of next x.follower k.more).put in record {
-          octets = octets;
-          more = k.more;
-          pauses = k.pauses;
-          sends = sends_puts state_of x.out y.out (drain_of x.out).now (drain_of y.out).now text (Err f) refl none refl (puts_failed_last state_of x.out y.out text e (Err f) k.puts refl) tt;
-          same_reference = k.puts.same_reference;
-          empty = tt;
-        }
+-- a run with these values
+pub run_is : (run : Run) (e : Ending) (n : ℕ) (k : Bool) (u : Option ℕ) → run.ending ≡ e → run.octets ≡ n → run.enough ≡ k → run.unused ≡ u → run ≡ record { ending = e; octets = n; enough = k; unused = u }
+run_is run e n k u p q r s =
+    ap (λ (x : Ending). record { ending = x; octets = run.octets; enough = run.enough; unused = run.unused }) p
+    ∙ ap (λ (x : ℕ). record { ending = e; octets = x; enough = run.enough; unused = run.unused }) q
+    ∙ ap (λ (x : Bool). record { ending = e; octets = n; enough = x; unused = run.unused }) r
+    ∙ ap (λ (x : Option ℕ). record { ending = e; octets = n; enough = k; unused = x }) s
 
 -- ---- what was made of a piece, by why it is not followed any further
 
-module _ {S D : Type 0} (next : S → EventValue → Effect S) (before after : TurnState S) (from to : Out D) (b piece : List ℕ) (past more : List EventValue)
-    (put : Sends {T = ⊤} {E = DeviceFault} before.drain after.drain (effect_of next before.follower more).put (Ok tt)) (st : Stands before.walker b past) where
+module _ {S D : Type 0} (next : S → EventValue → Effect S) (old new : TurnState S) (from to : Out D) (b piece : List ℕ) (yielded more : List EventValue)
+    (put : Sends {T = ⊤} {E = DeviceFault} old.drain new.drain (effect_of next old.follower more).put (Ok tt)) (st : Stands old.walker b yielded) where
   abbrev w : WalkerState
-  w = before.walker
+  w = old.walker
 
   abbrev v : WalkerState
-  v = after.walker
+  v = new.walker
 
   -- the walker and the follower, before and after
   abbrev x : WalkState S D
-  x = walk_state before.walker before.follower from
+  x = walk_state old.walker old.follower from
 
   abbrev y : WalkState S D
-  y = walk_state after.walker after.follower to
+  y = walk_state new.walker new.follower to
 
   -- the piece is used up
-  pub used_up_on : FollowsAll next x y piece more → StandsOn next before after (b ++ piece) past
+  pub used_up_on : FollowsAll next x y piece more → StandsAfter next old new (b ++ piece) yielded
   used_up_on k = record {
-    more = more;
-    made = k.follows.made;
-    put = put;
-    framing = k.follows.walked.framing;
-    stands = subst (λ (o : List ℕ). Stands v (b ++ o) (past ++ more)) (sym (append-nil k.follows.walked.taken) ∙ sym k.follows.walked.piece) (k.follows.walked.stands b past st);
+    all = yielded ++ more;
+    follows = record { more = more; all_is = refl; made = k.follows.made; put = put; framing = k.follows.walked.framing };
+    stands = subst (λ (o : List ℕ). Stands v (b ++ o) (yielded ++ more)) (sym (append-nil k.follows.walked.taken) ∙ sym k.follows.walked.piece_is) (k.follows.walked.stands b yielded st);
     idle = k.ready.0;
   }
 
   -- the follower had enough
   pub enough_ends : FollowsToEnough next x y piece more → (f : Forest) → IsReading w.framing (b ++ piece) f → (run : Run) → IsRun run ending.Done true v
-      → HasEnoughIn next before after (b ++ piece) past run
+      → HasEnoughIn next old new (b ++ piece) yielded run
   enough_ends k f read run is =
       let walked : WalksOver w v piece k.rest more = k.follows.walked in
-      let further = walked_goes_on w v piece k.rest more walked b past st f read in
-      let there : Stands v (b ++ walked.taken) (past ++ more) = walked.stands b past st in
-      let front : flat_map event_octets (past ++ more) ≡ b ++ walked.taken = stands-past_octets v (b ++ walked.taken) (past ++ more) there k.after_event in record {
-        more = more;
-        made = k.follows.made;
-        put = put;
-        reading = f;
-        is_reading = read;
+      let further = walked_goes_on w v piece k.rest more walked b yielded st f read in
+      let there : Stands v (b ++ walked.taken) (yielded ++ more) = walked.stands b yielded st in
+      let front : flat_map event_octets (yielded ++ more) ≡ b ++ walked.taken = stands-yielded_octets v (b ++ walked.taken) (yielded ++ more) there k.after_event in record {
+        all = yielded ++ more;
+        follows = record { more = more; all_is = refl; made = k.follows.made; put = put; framing = walked.framing };
         others = further.0;
-        yields = further.1;
-        ending = is.ending;
-        framing = walked.framing;
-        is_front = (k.rest, ap (λ (o : List ℕ). o ++ k.rest) front ∙ append_assoc b walked.taken k.rest ∙ ap (λ (o : List ℕ). b ++ o) (sym walked.piece));
-        stands = subst (λ (o : List ℕ). Stands v o (past ++ more)) (sym front) there;
-        spelled = is.octets ∙ there.private_state.has_state.offset ∙ ap length (sym front);
-        unused = is.unused ∙ stands-entered v (b ++ walked.taken) (past ++ more) there ∙ ap (λ (g : Framing). first_other g.inside (wrapper_offsets (past ++ more))) walked.framing;
+        reads = record { reading = f; is_reading = read; all_events = further.1 };
+        is_prefix = (k.rest, ap (λ (o : List ℕ). o ++ k.rest) front ∙ append_assoc b walked.taken k.rest ∙ ap (λ (o : List ℕ). b ++ o) (sym walked.piece_is));
+        stands = subst (λ (o : List ℕ). Stands v o (yielded ++ more)) (sym front) there;
+        run_is =
+            run_is run ending.Done (length (flat_map event_octets (yielded ++ more))) true (first_other w.framing.inside (wrapper_offsets (yielded ++ more))) is.ending
+            (is.octets ∙ there.private_state.has_state.offset ∙ ap length (sym front)) is.enough
+            (is.unused ∙ stands-entered v (b ++ walked.taken) (yielded ++ more) there ∙ ap (λ (g : Framing). first_other g.inside (wrapper_offsets (yielded ++ more))) walked.framing);
       }
 
   -- an octet is refused
-  pub fault_ends : (e : Fault) → FollowsToFault next x y piece more e → (run : Run) → IsRun run (ending.Fault e) false v → EndsIn next before after (b ++ piece) past run
+  pub fault_ends : (e : Fault) → FollowsToFault next x y piece more e → (run : Run) → IsRun run (ending.Fault e) false v → EndsIn next old new (b ++ piece) yielded run
   fault_ends e to_fault run is =
-      let k : WalksTo w v piece more e b past = to_fault.walked b past st in record {
-        more = more;
-        made = to_fault.made;
-        put = put;
-        reading = k.refused.reading;
-        is_reading = fault_is_reading w v b piece past more e k;
-        yields = k.refused.all_events;
-        ending = subst (λ (g : Ending). IsEnding w.framing (b ++ piece) g) (sym is.ending) (subst (λ (o : List ℕ). IsEnding w.framing o (ending.Fault e)) (fault_octets w v b piece past more e k) (k.refused.ends k.rest));
-        spelled = is.octets ∙ k.offset ∙ ap length (sym k.refused.spelled);
-        unused = is.unused ∙ k.unused;
-        framing = k.framing;
-        walker = refused_one e (record { front = b ++ k.taken; octet = k.octet; rest = k.rest; octets_is = fault_octets w v b piece past more e k; stands = k.stands });
+      let k : WalksTo w v piece more e b yielded = to_fault.walked b yielded st in record {
+        all = yielded ++ more;
+        follows = record { more = more; all_is = refl; made = to_fault.made; put = put; framing = k.framing };
+        reads = record { reading = k.refused.reading; is_reading = fault_is_reading w v b piece yielded more e k; all_events = k.refused.all_events };
+        ending = subst (λ (g : Ending). IsEnding w.framing (b ++ piece) g) (sym is.ending) (subst (λ (o : List ℕ). IsEnding w.framing o (ending.Fault e)) (fault_octets w v b piece yielded more e k) (k.refused.ends k.others));
+        run_is =
+            run_is run run.ending (length (spelling k.refused.reading)) false (first_without_wrapper w.framing.inside k.refused.reading) refl
+            (is.octets ∙ k.offset ∙ ap length (sym k.refused.spelled)) is.enough (is.unused ∙ k.unused);
+        walker = refused_one e (record { taken = b ++ k.taken; octet = k.octet; others = k.others; octets_is = fault_octets w v b piece yielded more e k; stands = k.stands });
       }
 
 -- the input has ended
-used_up_ends : {S : Type 0} (next : S → EventValue → Effect S) (before after : TurnState S) (o : List ℕ) (past : List EventValue) (run : Run) (e : Ending)
-    → StandsOn next before after o past → IsRun run e false after.walker → IsEnding after.walker.framing o e → EndsIn next before after o past run
-used_up_ends next before after o past run e x is ends =
-    let w : WalkerState = before.walker in
-    let v : WalkerState = after.walker in
-    let r : IsReading w.framing o x.stands.reading = subst (λ (g : Framing). IsReading g o x.stands.reading) x.framing x.stands.is_reading in record {
-      more = x.more;
-      made = x.made;
-      put = x.put;
-      reading = x.stands.reading;
-      is_reading = r;
-      yields = stands_past v o (past ++ x.more) x.stands.reading x.stands x.idle x.stands.is_reading;
-      ending = subst (λ (k : Ending). IsEnding w.framing o k) (sym is.ending) (subst (λ (g : Framing). IsEnding g o e) x.framing ends);
-      spelled = is.octets ∙ x.stands.private_state.has_state.offset ∙ ap length (sym (stands_spelled v o (past ++ x.more) x.stands.reading x.stands x.stands.is_reading));
-      unused = is.unused ∙ stands_unused v o (past ++ x.more) x.stands ∙ ap (λ (g : Framing). first_without_wrapper g.inside x.stands.reading) x.framing;
-      framing = x.framing;
+used_up_ends : {S : Type 0} (next : S → EventValue → Effect S) (old new : TurnState S) (o : List ℕ) (yielded : List EventValue) (run : Run) (e : Ending)
+    → StandsAfter next old new o yielded → IsRun run e false new.walker → IsEnding new.walker.framing o e → EndsIn next old new o yielded run
+used_up_ends next old new o yielded run e x is ends =
+    let w : WalkerState = old.walker in
+    let v : WalkerState = new.walker in
+    let all : List EventValue = x.all in
+    let same : v.framing ≡ w.framing = x.follows.framing in
+    let f : Forest = x.stands.reads.reading in
+    let r : IsReading v.framing o f = x.stands.reads.is_reading in record {
+      all = x.all;
+      follows = x.follows;
+      reads = record { reading = f; is_reading = subst (λ (g : Framing). IsReading g o f) same r; all_events = stands_yielded v o all f x.stands x.idle r };
+      ending = subst (λ (k : Ending). IsEnding w.framing o k) (sym is.ending) (subst (λ (g : Framing). IsEnding g o e) same ends);
+      run_is =
+          run_is run run.ending (length (spelling f)) false (first_without_wrapper w.framing.inside f) refl
+          (is.octets ∙ x.stands.private_state.has_state.offset ∙ ap length (sym (stands_spelled v o all f x.stands r))) is.enough
+          (is.unused ∙ stands_unused v o all x.stands ∙ ap (λ (g : Framing). first_without_wrapper g.inside f) same);
       walker = took_all x.stands x.idle;
     }
 
@@ -233,19 +140,19 @@ taken_within limit at n p = elim (cases_lt (limit - at) n) [
   | inr more ↦ ap (λ (k : ℕ). take k p) (omega (arith, more)) ∙ sym (take_all (limit - at) (take n p) (omega (arith, more, length-take n p)))
 ]
 
-module _ {S D : Type 0} (next : S → EventValue → Effect S) (before after : TurnState S) (from to : Out D) (b : List ℕ) (past : List EventValue) (p piece r : List ℕ) (n m limit : ℕ)
-    (st : Stands before.walker b past) (some : n ≤ length p) (below : before.walker.offset ≤ limit) (is_m : m ≡ min (limit - before.walker.offset) n)
+module _ {S D : Type 0} (next : S → EventValue → Effect S) (old new : TurnState S) (from to : Out D) (b : List ℕ) (yielded : List EventValue) (p piece r : List ℕ) (n m limit : ℕ)
+    (st : Stands old.walker b yielded) (some : n ≤ length p) (below : old.walker.offset ≤ limit) (is_m : m ≡ min (limit - old.walker.offset) n)
     (is_piece : piece ≡ take m p) (is_r : r ≡ take n p) (octets : AreOctets piece) where
   abbrev at : ℕ
-  at = before.walker.offset
+  at = old.walker.offset
 
   -- what is made of these events was handed to the drain
   abbrev Sent : Result Pause WriteFault → List EventValue → Type 0
-  Sent result more = Sends before.drain after.drain (effect_of next before.follower more).put result
+  Sent result more = Sends old.drain new.drain (effect_of next old.follower more).put result
 
   -- the same of a turn
-  sent : (why : Pause) (more : List EventValue) → Sent (Ok why) more → Sends {T = ⊤} {E = DeviceFault} before.drain after.drain (effect_of next before.follower more).put (Ok tt)
-  sent why more q = sends_ok before.drain after.drain (effect_of next before.follower more).put (effect_of next before.follower more).put why tt q refl
+  sent : (why : Pause) (more : List EventValue) → Sent (Ok why) more → Sends {T = ⊤} {E = DeviceFault} old.drain new.drain (effect_of next old.follower more).put (Ok tt)
+  sent why more q = sends_ok old.drain new.drain (effect_of next old.follower more).put (effect_of next old.follower more).put why tt q refl
 
   many : length r ≡ n
   many = ap length is_r ∙ length-take n p ∙ omega (arith, some)
@@ -259,9 +166,9 @@ module _ {S D : Type 0} (next : S → EventValue → Effect S) (before after : T
       ) ∙ limit_after limit b r (omega (arith, st.private_state.has_state.offset, below))
 
   -- the reading of these
-  read : (f : Forest) × IsReading before.walker.framing (b ++ piece) f
+  read : (f : Forest) × IsReading old.walker.framing (b ++ piece) f
   read =
-      reading-longer before.walker.framing st.reading b piece octets st.is_reading (stands_spelled before.walker b past st.reading st st.is_reading)
+      reading-longer old.walker.framing st.reads.reading b piece octets st.reads.is_reading (stands_spelled old.walker b yielded st.reads.reading st st.reads.is_reading)
 
   -- all octets are within the limit
   all_within : (m < n → ⊥) → piece ≡ r
@@ -270,55 +177,49 @@ module _ {S D : Type 0} (next : S → EventValue → Effect S) (before after : T
   -- they were followed so far, and what is made of them handed to the drain
   record Followed (why paused : Pause) : Type 0 where
     more : List EventValue
-    pauses : Pauses next (walk_state before.walker before.follower from) (walk_state after.walker after.follower to) piece more (Ok paused)
+    pauses : Pauses next (walk_state old.walker old.follower from) (walk_state new.walker new.follower to) piece more (Ok paused)
     put : Sent (Ok why) more
 
-  used : (why : Pause) → Followed why pause.UsedUp → StandsOn next before after (b ++ piece) past
-  used why x = used_up_on next before after from to b piece past x.more (sent why x.more x.put) st x.pauses
+  used : (why : Pause) → Followed why pause.UsedUp → StandsAfter next old new (b ++ piece) yielded
+  used why x = used_up_on next old new from to b piece yielded x.more (sent why x.more x.put) st x.pauses
 
-  turns_again : (why : Pause) → Followed why pause.UsedUp → (m < n → ⊥) → (n ≡ 0 → ⊥) → TurnsTo next before after limit b past r (Ok Again)
+  turns_again : (why : Pause) → Followed why pause.UsedUp → (m < n → ⊥) → (n ≡ 0 → ⊥) → TurnsTo next old new limit b yielded r (Ok Again)
   turns_again why x fits some' = record {
     some = λ e. some' (sym many ∙ ap length e);
     within = omega (arith, length-append b r, many, st.private_state.has_state.offset, fits, below, is_m);
-    stands_on = subst (λ (o : List ℕ). StandsOn next before after (b ++ o) past) (all_within fits) (used why x);
+    stands = subst (λ (o : List ℕ). StandsAfter next old new (b ++ o) yielded) (all_within fits) (used why x);
   }
 
-  turns_long : (why : Pause) → Followed why pause.UsedUp → m < n → TurnsTo next before after limit b past r (Err InputTooLong)
+  turns_long : (why : Pause) → Followed why pause.UsedUp → m < n → TurnsTo next old new limit b yielded r (Err InputTooLong)
   turns_long why x more = record {
     beyond = omega (arith, length-append b r, many, st.private_state.has_state.offset, more, below, is_m);
-    stands_on = subst (λ (o : List ℕ). StandsOn next before after o past) reached (used why x);
+    stands = subst (λ (o : List ℕ). StandsAfter next old new o yielded) reached (used why x);
   }
 
-  ends_by : (run : Run) → run.enough ≡ false → EndsIn next before after (b ++ piece) past run → EndsBy next before after run.enough (take limit (b ++ r)) past run
-  ends_by run is x =
-      subst (λ (k : Bool). EndsBy next before after k (take limit (b ++ r)) past run) (sym is) (subst (λ (o : List ℕ). EndsIn next before after o past run) reached x)
+  ends_in : (run : Run) → EndsIn next old new (b ++ piece) yielded run → EndsIn next old new (take limit (b ++ r)) yielded run
+  ends_in run x = subst (λ (o : List ℕ). EndsIn next old new o yielded run) reached x
 
-  turns_end : (run : Run) (e : Ending) (why : Pause) → Followed why pause.UsedUp → (n ≡ 0) → IsRun run e false after.walker
-      → ((o : List ℕ) (es : List EventValue) → Stands after.walker o es → IsEnding after.walker.framing o e) → TurnsTo next before after limit b past r (Ok (Ended run))
+  turns_end : (run : Run) (e : Ending) (why : Pause) → Followed why pause.UsedUp → (n ≡ 0) → IsRun run e false new.walker
+      → ((o : List ℕ) (es : List EventValue) → Stands new.walker o es → IsEnding new.walker.framing o e) → TurnsTo next old new limit b yielded r (Ok (Ended run))
   turns_end run e why x none is ends =
-      let on = used why x in record {
-        ends = ends_by run is.enough (used_up_ends next before after (b ++ piece) past run e on is (ends (b ++ piece) (past ++ on.more) on.stands));
-        last = inr (inr (is_r ∙ ap (λ (k : ℕ). take k p) none));
-      }
+      let on = used why x in
+      at_input_end (ends_in run (used_up_ends next old new (b ++ piece) yielded run e on is (ends (b ++ piece) on.all on.stands)))
+      (is_r ∙ ap (λ (k : ℕ). take k p) none)
 
-  turns_fault : (run : Run) (e : Fault) (why : Pause) → Followed why (pause.Fault e) → IsRun run (ending.Fault e) false after.walker
-      → TurnsTo next before after limit b past r (Ok (Ended run))
+  turns_fault : (run : Run) (e : Fault) (why : Pause) → Followed why (pause.Fault e) → IsRun run (ending.Fault e) false new.walker
+      → TurnsTo next old new limit b yielded r (Ok (Ended run))
   turns_fault run e why x is =
-      let k : WalksTo before.walker after.walker piece x.more e b past = x.pauses.walked b past st in record {
-        ends = ends_by run is.enough (fault_ends next before after from to b piece past x.more (sent why x.more x.put) st e x.pauses run is);
-        last = inr (inl (subst IsFinalEnding (sym is.ending) (refused-final before.walker.framing (b ++ k.taken) k.octet [] e k.refused.offset (k.refused.ends []))));
-      }
+      let k : WalksTo old.walker new.walker piece x.more e b yielded = x.pauses.walked b yielded st in
+      at_fault (ends_in run (fault_ends next old new from to b piece yielded x.more (sent why x.more x.put) st e x.pauses run is))
+      (subst IsFinalEnding (sym is.ending) (refused-final old.walker.framing (b ++ k.taken) k.octet [] e k.refused.offset (k.refused.ends [])))
 
-  turns_enough : (run : Run) (why : Pause) → Followed why pause.Enough → IsRun run ending.Done true after.walker → TurnsTo next before after limit b past r (Ok (Ended run))
-  turns_enough run why x is = record {
-    ends =
-        subst (λ (k : Bool). EndsBy next before after k (take limit (b ++ r)) past run) (sym is.enough)
-        (subst (λ (o : List ℕ). HasEnoughIn next before after o past run) reached (enough_ends next before after from to b piece past x.more (sent why x.more x.put) st x.pauses read.0 read.1 run is));
-    last = inl is.enough;
-  }
+  turns_enough : (run : Run) (why : Pause) → Followed why pause.Enough → IsRun run ending.Done true new.walker → TurnsTo next old new limit b yielded r (Ok (Ended run))
+  turns_enough run why x is =
+      at_enough
+      (subst (λ (o : List ℕ). HasEnoughIn next old new o yielded run) reached (enough_ends next old new from to b piece yielded x.more (sent why x.more x.put) st x.pauses read.0 read.1 run is))
 
   -- by why the piece is not followed any further
-  answered : (why : Pause) (result : Result Turn DeviceFault) → Followed why why → IsResultOfPause n m after.walker why result → TurnsTo next before after limit b past r result
+  answered : (why : Pause) (result : Result Turn DeviceFault) → Followed why why → IsResultOfPause n m new.walker why result → TurnsTo next old new limit b yielded r result
   answered pause.Enough (Ok (Ended run)) x is = turns_enough run pause.Enough x is
   answered (pause.Fault f) (Ok (Ended run)) x is = turns_fault run f (pause.Fault f) x is
   answered pause.UsedUp (Err InputTooLong) x is = turns_long pause.UsedUp x is
@@ -331,27 +232,29 @@ module _ {S D : Type 0} (next : S → EventValue → Effect S) (before after : T
   answered pause.UsedUp (Err ReadFailed) x is = absurd is
   answered pause.UsedUp (Err WriteFailed) x is = absurd is
 
-  module _ (state_of : D → DrainState) (drain_was : before.drain ≡ state_of (drain_of from).now) (drain_is : after.drain ≡ state_of (drain_of to).now) where
+  module _ (state_of : D → DrainState) (drain_was : old.drain ≡ state_of (drain_of from).now) (drain_is : new.drain ≡ state_of (drain_of to).now) where
     abbrev FollowsIn : Result Pause WriteFault → Type 0
-    FollowsIn result = FollowsAndFlushes next state_of (walk_state before.walker before.follower from) (walk_state after.walker after.follower to) piece result
+    FollowsIn result = FollowsAndFlushes next state_of (walk_state old.walker old.follower from) (walk_state new.walker new.follower to) piece result
 
     handed : (result : Result Pause WriteFault) → (x : FollowsIn result) → Sent result x.more
     handed result x =
-        subst (λ (d : DrainState). Sends d after.drain (effect_of next before.follower x.more).put result) (sym drain_was)
-        (subst (λ (d : DrainState). Sends (state_of (drain_of from).now) d (effect_of next before.follower x.more).put result) (sym drain_is) x.sends)
+        subst (λ (d : DrainState). Sends d new.drain (effect_of next old.follower x.more).put result) (sym drain_was)
+        (subst (λ (d : DrainState). Sends (state_of (drain_of from).now) d (effect_of next old.follower x.more).put result) (sym drain_is) x.sends)
 
-    pub turns_answered : (why : Pause) (result : Result Turn DeviceFault) → FollowsIn (Ok why) → IsResultOfPause n m after.walker why result → TurnsTo next before after limit b past r result
+    pub turns_answered : (why : Pause) (result : Result Turn DeviceFault) → FollowsIn (Ok why) → IsResultOfPause n m new.walker why result → TurnsTo next old new limit b yielded r result
     turns_answered why result x is = answered why result (record { more = x.more; pauses = x.pauses; put = handed (Ok why) x }) is
 
-    pub turns_failed : (e : WriteFault) → FollowsIn (Err e) → TurnsTo next before after limit b past r (Err WriteFailed)
+    pub turns_failed : (e : WriteFault) → FollowsIn (Err e) → TurnsTo next old new limit b yielded r (Err WriteFailed)
     turns_failed e x =
-        let o = x.pauses.yields b past st read.0 read.1 in
-        let front = followed-front next before.follower x.more o.0 in record {
+        let o = x.pauses.yields b yielded st read.0 read.1 in
+        let front = followed-front next old.follower x.more o.0 in record {
           more = x.more ++ o.0;
           put =
-              sends_err before.drain after.drain (effect_of next before.follower x.more).put (effect_of next before.follower (x.more ++ o.0)).put e WriteFailed (handed (Err e) x)
+              sends_err old.drain new.drain (effect_of next old.follower x.more).put (effect_of next old.follower (x.more ++ o.0)).put e WriteFailed (handed (Err e) x)
               (record { rest = front.0; is = sym front.1 });
-          reading = read.0;
-          is_reading = subst (λ (o : List ℕ). IsReading before.walker.framing o read.0) reached read.1;
-          yields = subst (λ (es : List EventValue). AreEqualJoined es (events read.0)) (append_assoc past x.more o.0) o.1;
+          reads = record {
+            reading = read.0;
+            is_reading = subst (λ (o : List ℕ). IsReading old.walker.framing o read.0) reached read.1;
+            all_events = subst (λ (es : List EventValue). AreEqualJoined es (events read.0)) (append_assoc yielded x.more o.0) o.1;
+          };
         }

@@ -11,7 +11,7 @@ use Rattle.tlv_walk.specs.declared.framing.Framing.{Framing}
 use Rattle.tlv_walk.specs.Forest.{Forest, has_element, is_complete, spelling}
 use Rattle.tlv_walk.specs.Place.{top_place}
 use Rattle.tlv_walk.specs.Reading.{IsReading, IsSoundList}
-use Rattle.tlv_walk.specs.Ending.{IsEnding, IsFault, done, empty, fault, refused, short, tip}
+use Rattle.tlv_walk.specs.Ending.{IsEnding, IsFault, done, empty, fault_ending, refused, short, tip}
 use Rattle.tlv_walk.proofs.GrammarLemmas.PushSteps.{Spells}
 use Rattle.tlv_walk.proofs.GrammarLemmas.Readings.{Run, Going, Halted, IsHalt, IsRun, halt-longer, halt-longest, is-run, run, run-reading, unique}
 use Rattle.tlv_walk.proofs.GrammarLemmas.Spellings.{front-same}
@@ -20,8 +20,8 @@ use Rattle.tlv_walk.proofs.GrammarLemmas.Faults.{fault-refused, refused-fault}
 
 -- the ending of a run over n octets
 abbrev pub ending_of : ℕ → Run → Ending
-ending_of n (Going f) = cond (has_element f) (cond (is_complete f) Done (fault Short n)) (fault Empty n)
-ending_of n (Halted f code) = fault code (length (spelling f))
+ending_of n (Going f) = cond (has_element f) (cond (is_complete f) Done (fault_ending Short n)) (fault_ending Empty n)
+ending_of n (Halted f code) = fault_ending code (length (spelling f))
 
 -- the ending that pushing gives
 abbrev pub ending : Framing → List ℕ → Ending
@@ -46,7 +46,7 @@ going-ending w f b r =
     ]
 
 -- an octet that is refused gives an ending, whatever follows
-pub halt-ending : (w : Framing) (f : Forest) (code : FaultCode) (b : List ℕ) → (r : IsHalt w f code b) → IsFault (tip (top_place w) f).0 r.octet (tip (top_place w) f).1 code → IsEnding w b (fault code (length (spelling f)))
+pub halt-ending : (w : Framing) (f : Forest) (code : FaultCode) (b : List ℕ) → (r : IsHalt w f code b) → IsFault (tip (top_place w) f).0 r.octet (tip (top_place w) f).1 code → IsEnding w b (fault_ending code (length (spelling f)))
 halt-ending w f code b r k = refused f r.octet r.rest code (run-reading w (Halted f code) b r) r.front k
 
 -- a right run has the ending that it gives
@@ -95,8 +95,8 @@ ending-says w b e (refused f x rest code r s k) = inr (record {
 })
 
 -- after a fault other than F01 and F02 an octet is refused
-pub fault-halt : (w : Framing) (b : List ℕ) (code : FaultCode) (offset : ℕ) → code ≢ Empty → code ≢ Short → IsEnding w b (fault code offset) → IsRefused w b code offset
-fault-halt w b code offset a d e = elim (ending-says w b (fault code offset) e) [
+pub fault-halt : (w : Framing) (b : List ℕ) (code : FaultCode) (offset : ℕ) → code ≢ Empty → code ≢ Short → IsEnding w b (fault_ending code offset) → IsRefused w b code offset
+fault-halt w b code offset a d e = elim (ending-says w b (fault_ending code offset) e) [
   | inl early ↦ elim early [
     | inl z ↦ absurd (a z)
     | inr z ↦ absurd (d z)
@@ -111,7 +111,7 @@ halt-unsound w b f code r s =
     omega (arith, ap length s.octets, ap length r.front, length-append (spelling f) (r.octet ∷ r.rest))
 
 -- no false alarm: after a fault other than F01 and F02 no input that goes on is sound
-pub no-false-alarm : (w : Framing) (b c : List ℕ) (code : FaultCode) (offset : ℕ) → code ≢ Empty → code ≢ Short → IsEnding w b (fault code offset) → IsSoundList w (b ++ c) → ⊥
+pub no-false-alarm : (w : Framing) (b c : List ℕ) (code : FaultCode) (offset : ℕ) → code ≢ Empty → code ≢ Short → IsEnding w b (fault_ending code offset) → IsSoundList w (b ++ c) → ⊥
 no-false-alarm w b c code offset a d e s =
     let r : IsRefused w b code offset = fault-halt w b code offset a d e in
     halt-unsound w (b ++ c) r.forest code (halt-longer w r.forest code b c r.halt) s
@@ -147,6 +147,6 @@ pub refused-reading : (w : Framing) (p : List ℕ) (x : ℕ) (c : List ℕ) (f :
 refused-reading w p x c f g v there e = elim (fault-place w (p ++ x ∷ c) (Fault f) f e refl) [
   | inl end ↦ absurd (omega (arith, end, there, length-append p (x ∷ c)))
   | inr r ↦
-      let same : spelling r.0 ≡ spelling g = front-same (spelling r.0) (spelling g) (r.1.front.0) (x ∷ c) (r.1.front.1 ∙ ap (λ (o : List ℕ). o ++ x ∷ c) (sym v.spelled)) (sym r.2 ∙ there ∙ ap length (sym v.spelled)) in
+      let same : spelling r.0 ≡ spelling g = front-same (spelling r.0) (spelling g) (r.1.is_prefix.0) (x ∷ c) (r.1.is_prefix.1 ∙ ap (λ (o : List ℕ). o ++ x ∷ c) (sym v.spelled)) (sym r.2 ∙ there ∙ ap length (sym v.spelled)) in
       subst (λ (h : Forest). IsReading w (p ++ x ∷ c) h) (unique (top_place w) r.0 g r.1.is_open v.is_open same) r.1
 ]

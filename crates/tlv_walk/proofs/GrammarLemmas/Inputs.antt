@@ -5,7 +5,7 @@ use Rattle.tlv_head.specs.declared.header.Class.TheVariants.{Universal, Applicat
 use Rattle.tlv_head.specs.declared.header.Size.TheVariants.{Definite, Indefinite}
 use Rattle.tlv_walk.specs.declared.ending.Ending.TheVariants.{Done}
 use Rattle.tlv_walk.specs.declared.framing.Framing.{Framing}
-use Rattle.tlv_walk.specs.Ending.{fault}
+use Rattle.tlv_walk.specs.Ending.{fault_ending}
 use Rattle.tlv_walk.specs.Forest.{NoMore, PaddingOctet, Primitive, Holder, OpenHolder, OpenHeader}
 use Rattle.tlv_walk.specs.Wrappers.{first_without_wrapper}
 use Rattle.tlv_walk.proofs.GrammarLemmas.Readings.{reading}
@@ -48,32 +48,32 @@ indefinite-segments = refl
 an-overrun-reading : reading plain (48 ∷ 3 ∷ 2 ∷ 2 ∷ 1 ∷ []) ≡ OpenHolder (record { offset = 0; named = false; class = Universal; constructed = true; number = 16; size = Definite 3; identifier = 48 ∷ []; lengths = 3 ∷ [] }) (OpenHeader (2 ∷ []))
 an-overrun-reading = refl
 
-an-overrun : ending plain (48 ∷ 3 ∷ 2 ∷ 2 ∷ 1 ∷ []) ≡ fault Overrun 3
+an-overrun : ending plain (48 ∷ 3 ∷ 2 ∷ 2 ∷ 1 ∷ []) ≡ fault_ending Overrun 3
 an-overrun = refl
 
-header-cut-off : ending plain (48 ∷ 1 ∷ 2 ∷ []) ≡ fault Short 3
+header-cut-off : ending plain (48 ∷ 1 ∷ 2 ∷ []) ≡ fault_ending Short 3
 header-cut-off = refl
 
-header-past-its-element : ending plain (48 ∷ 1 ∷ 2 ∷ 0 ∷ []) ≡ fault Overrun 3
+header-past-its-element : ending plain (48 ∷ 1 ∷ 2 ∷ 0 ∷ []) ≡ fault_ending Overrun 3
 header-past-its-element = refl
 
-indefinite-cut-off : ending plain (48 ∷ 128 ∷ 2 ∷ 1 ∷ 5 ∷ []) ≡ fault Short 5
+indefinite-cut-off : ending plain (48 ∷ 128 ∷ 2 ∷ 1 ∷ 5 ∷ []) ≡ fault_ending Short 5
 indefinite-cut-off = refl
 
-zeros-in-a-definite-element : ending plain (48 ∷ 2 ∷ 0 ∷ 0 ∷ []) ≡ fault StrayEnd 2
+zeros-in-a-definite-element : ending plain (48 ∷ 2 ∷ 0 ∷ 0 ∷ []) ≡ fault_ending StrayEnd 2
 zeros-in-a-definite-element = refl
 
-second-zero-wrong : ending plain (48 ∷ 128 ∷ 0 ∷ 1 ∷ []) ≡ fault BadEnd 3
+second-zero-wrong : ending plain (48 ∷ 128 ∷ 0 ∷ 1 ∷ []) ≡ fault_ending BadEnd 3
 second-zero-wrong = refl
 
 -- 30 05 30 80 02 01 05: what no octet can repair is F02 at the end of the input, and F05 at one more
-no-room-for-an-end-yet : ending plain (48 ∷ 5 ∷ 48 ∷ 128 ∷ 2 ∷ 1 ∷ 5 ∷ []) ≡ fault Short 7
+no-room-for-an-end-yet : ending plain (48 ∷ 5 ∷ 48 ∷ 128 ∷ 2 ∷ 1 ∷ 5 ∷ []) ≡ fault_ending Short 7
 no-room-for-an-end-yet = refl
 
-no-room-for-an-end : ending plain (48 ∷ 5 ∷ 48 ∷ 128 ∷ 2 ∷ 1 ∷ 5 ∷ 0 ∷ []) ≡ fault MissingEnd 7
+no-room-for-an-end : ending plain (48 ∷ 5 ∷ 48 ∷ 128 ∷ 2 ∷ 1 ∷ 5 ∷ 0 ∷ []) ≡ fault_ending MissingEnd 7
 no-room-for-an-end = refl
 
-no-room-for-the-second-zero : ending plain (48 ∷ 3 ∷ 48 ∷ 128 ∷ 0 ∷ 0 ∷ []) ≡ fault MissingEnd 5
+no-room-for-the-second-zero : ending plain (48 ∷ 3 ∷ 48 ∷ 128 ∷ 0 ∷ 0 ∷ []) ≡ fault_ending MissingEnd 5
 no-room-for-the-second-zero = refl
 
 -- 5f 1f 01 00
@@ -88,17 +88,17 @@ high-form-of-2 = refl
 nine-octets-of-number : reading plain (159 ∷ 129 ∷ 128 ∷ 128 ∷ 128 ∷ 128 ∷ 128 ∷ 128 ∷ 128 ∷ 0 ∷ 0 ∷ []) ≡ Primitive (record { offset = 0; named = false; class = Context; constructed = false; number = 72057594037927936; size = Definite 0; identifier = 159 ∷ 129 ∷ 128 ∷ 128 ∷ 128 ∷ 128 ∷ 128 ∷ 128 ∷ 128 ∷ 0 ∷ []; lengths = 0 ∷ [] }) [] NoMore
 nine-octets-of-number = refl
 
-ten-octets-of-number : ending plain (159 ∷ 129 ∷ 128 ∷ 128 ∷ 128 ∷ 128 ∷ 128 ∷ 128 ∷ 128 ∷ 128 ∷ []) ≡ fault TagTooLong 9
+ten-octets-of-number : ending plain (159 ∷ 129 ∷ 128 ∷ 128 ∷ 128 ∷ 128 ∷ 128 ∷ 128 ∷ 128 ∷ 128 ∷ []) ≡ fault_ending TagTooLong 9
 ten-octets-of-number = refl
 
 long-form-done : ending plain (4 ∷ 129 ∷ 3 ∷ 170 ∷ 187 ∷ 204 ∷ []) ≡ Done
 long-form-done = refl
 
-lengths-reserved : ending plain (4 ∷ 255 ∷ []) ≡ fault ReservedLength 1
+lengths-reserved : ending plain (4 ∷ 255 ∷ []) ≡ fault_ending ReservedLength 1
 lengths-reserved = refl
 
 -- 04 85 and five ff: 2^40 - 1 octets are announced, and none comes
-length-of-2^40 : ending plain (4 ∷ 133 ∷ 255 ∷ 255 ∷ 255 ∷ 255 ∷ 255 ∷ []) ≡ fault Short 7
+length-of-2^40 : ending plain (4 ∷ 133 ∷ 255 ∷ 255 ∷ 255 ∷ 255 ∷ 255 ∷ []) ≡ fault_ending Short 7
 length-of-2^40 = refl
 
 four-deep : ending plain (48 ∷ 128 ∷ 48 ∷ 128 ∷ 48 ∷ 128 ∷ 48 ∷ 128 ∷ 0 ∷ 0 ∷ 0 ∷ 0 ∷ 0 ∷ 0 ∷ 0 ∷ 0 ∷ []) ≡ Done
@@ -107,7 +107,7 @@ four-deep = refl
 two-nulls : ending plain (5 ∷ 0 ∷ 5 ∷ 0 ∷ []) ≡ Done
 two-nulls = refl
 
-zeros-at-the-top : ending plain (5 ∷ 0 ∷ 0 ∷ 0 ∷ []) ≡ fault StrayEnd 2
+zeros-at-the-top : ending plain (5 ∷ 0 ∷ 0 ∷ 0 ∷ []) ≡ fault_ending StrayEnd 2
 zeros-at-the-top = refl
 
 -- 04 05 30 03 02 01 07, named
@@ -122,16 +122,16 @@ octets-not-named = refl
 bits-wrapped : reading naming_first (3 ∷ 4 ∷ 0 ∷ 2 ∷ 1 ∷ 5 ∷ []) ≡ Holder (record { offset = 0; named = true; class = Universal; constructed = false; number = 3; size = Definite 4; identifier = 3 ∷ []; lengths = 4 ∷ [] }) (Primitive (record { offset = 3; named = false; class = Universal; constructed = false; number = 2; size = Definite 1; identifier = 2 ∷ []; lengths = 1 ∷ [] }) (5 ∷ []) NoMore) NoMore
 bits-wrapped = refl
 
-bits-with-unused-bits : ending naming_first (3 ∷ 4 ∷ 1 ∷ 2 ∷ 1 ∷ 5 ∷ []) ≡ fault BadInside 2
+bits-with-unused-bits : ending naming_first (3 ∷ 4 ∷ 1 ∷ 2 ∷ 1 ∷ 5 ∷ []) ≡ fault_ending BadInside 2
 bits-with-unused-bits = refl
 
 no-octets-wrapped : ending naming_first (4 ∷ 0 ∷ []) ≡ Done
 no-octets-wrapped = refl
 
-zeros-wrapped : ending naming_first (4 ∷ 2 ∷ 0 ∷ 0 ∷ []) ≡ fault StrayEnd 2
+zeros-wrapped : ending naming_first (4 ∷ 2 ∷ 0 ∷ 0 ∷ []) ≡ fault_ending StrayEnd 2
 zeros-wrapped = refl
 
-overrun-wrapped : ending naming_first (4 ∷ 3 ∷ 2 ∷ 2 ∷ 5 ∷ []) ≡ fault Overrun 3
+overrun-wrapped : ending naming_first (4 ∷ 3 ∷ 2 ∷ 2 ∷ 5 ∷ []) ≡ fault_ending Overrun 3
 overrun-wrapped = refl
 
 -- 03 00, named: it is no wrapper
@@ -145,14 +145,14 @@ second-name-unused = refl
 nulls-among-padding : reading padded (0 ∷ 0 ∷ 5 ∷ 0 ∷ 0 ∷ 0 ∷ 5 ∷ 0 ∷ 0 ∷ []) ≡ PaddingOctet (PaddingOctet (Primitive (record { offset = 2; named = false; class = Universal; constructed = false; number = 5; size = Definite 0; identifier = 5 ∷ []; lengths = 0 ∷ [] }) [] (PaddingOctet (PaddingOctet (Primitive (record { offset = 6; named = false; class = Universal; constructed = false; number = 5; size = Definite 0; identifier = 5 ∷ []; lengths = 0 ∷ [] }) [] (PaddingOctet NoMore))))))
 nulls-among-padding = refl
 
-padding-not-allowed : ending plain (0 ∷ 0 ∷ 5 ∷ 0 ∷ 0 ∷ 0 ∷ 5 ∷ 0 ∷ 0 ∷ []) ≡ fault StrayEnd 0
+padding-not-allowed : ending plain (0 ∷ 0 ∷ 5 ∷ 0 ∷ 0 ∷ 0 ∷ 5 ∷ 0 ∷ 0 ∷ []) ≡ fault_ending StrayEnd 0
 padding-not-allowed = refl
 
-padding-alone : ending padded (0 ∷ 0 ∷ 0 ∷ []) ≡ fault Empty 3
+padding-alone : ending padded (0 ∷ 0 ∷ 0 ∷ []) ≡ fault_ending Empty 3
 padding-alone = refl
 
-zeros-inside-are-no-padding : ending padded (48 ∷ 2 ∷ 0 ∷ 0 ∷ []) ≡ fault StrayEnd 2
+zeros-inside-are-no-padding : ending padded (48 ∷ 2 ∷ 0 ∷ 0 ∷ []) ≡ fault_ending StrayEnd 2
 zeros-inside-are-no-padding = refl
 
-zeros-wrapped-are-no-padding : ending padded_naming (4 ∷ 2 ∷ 0 ∷ 0 ∷ []) ≡ fault StrayEnd 2
+zeros-wrapped-are-no-padding : ending padded_naming (4 ∷ 2 ∷ 0 ∷ 0 ∷ []) ≡ fault_ending StrayEnd 2
 zeros-wrapped-are-no-padding = refl

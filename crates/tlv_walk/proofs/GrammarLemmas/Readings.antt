@@ -177,10 +177,10 @@ halt-longest w f code b r g v q = elim (cases_lt (length (spelling f)) (length (
 pub run-reading : (w : Framing) (r : Run) (b : List ℕ) → IsRun w r b → IsReading w b (forest_of r)
 run-reading w (Going f) b r = record {
   is_open = r.is_open;
-  front = ([], append-nil (spelling f) ∙ r.spelled);
+  is_prefix = ([], append-nil (spelling f) ∙ r.spelled);
   longest = λ g v q. omega (arith, ap length q.1, ap length r.spelled, length-append (spelling g) q.0);
 }
-run-reading w (Halted f code) b r = record { is_open = r.is_open; front = (r.octet ∷ r.rest, r.front); longest = halt-longest w f code b r }
+run-reading w (Halted f code) b r = record { is_open = r.is_open; is_prefix = (r.octet ∷ r.rest, r.front); longest = halt-longest w f code b r }
 
 -- an input of octets has a reading
 pub is-reading : (w : Framing) (b : List ℕ) → All (λ x. x < 256) b → IsReading w b (reading w b)
@@ -195,9 +195,9 @@ reading-longer w f b xs each r e =
 -- an input has one reading
 pub reading-unique : (w : Framing) (b : List ℕ) (f g : Forest) → IsReading w b f → IsReading w b g → f ≡ g
 reading-unique w b f g r s =
-    let most : length (spelling f) ≤ length (spelling g) = s.longest f r.is_open r.front in
-    let most' : length (spelling g) ≤ length (spelling f) = r.longest g s.is_open s.front in
-    unique (top_place w) f g r.is_open s.is_open (front-same (spelling f) (spelling g) (r.front.0) (s.front.0) (r.front.1 ∙ sym s.front.1) (omega arith))
+    let most : length (spelling f) ≤ length (spelling g) = s.longest f r.is_open r.is_prefix in
+    let most' : length (spelling g) ≤ length (spelling f) = r.longest g s.is_open s.is_prefix in
+    unique (top_place w) f g r.is_open s.is_open (front-same (spelling f) (spelling g) (r.is_prefix.0) (s.is_prefix.0) (r.is_prefix.1 ∙ sym s.is_prefix.1) (omega arith))
 
 -- a run over two pieces
 pub run_from-append : (w : Framing) (r : Run) (xs ys : List ℕ) → run_from w r (xs ++ ys) ≡ run_from w (run_from w r xs) ys

@@ -10,7 +10,7 @@ use Rattle.tlv_walk.specs.declared.framing.Framing.{Framing}
 use Rattle.tlv_walk.specs.Forest.{Forest, NoMore, PaddingOctet, Primitive, Holder, OpenPrimitive, OpenHolder, OpenBitString, OpenHeader, OpenEndOctets, has_element, is_complete, spelling}
 use Rattle.tlv_walk.specs.Place.{top_place}
 use Rattle.tlv_walk.specs.Reading.{CannotBecomeSound, IsReading, IsSoundList}
-use Rattle.tlv_walk.specs.Ending.{IsEnding, IsFault, IsFinalEnding, ShowsSoundness, done, empty, fault, refused, short, tip}
+use Rattle.tlv_walk.specs.Ending.{IsEnding, IsFault, IsFinalEnding, ShowsSoundness, done, empty, fault_ending, refused, short, tip}
 use Rattle.tlv_walk.proofs.GrammarLemmas.Readings.{Halted, IsHalt, halt-longer, reading-unique, run-reading}
 use Rattle.tlv_walk.proofs.GrammarLemmas.Faults.{fault-unique}
 use Rattle.tlv_walk.proofs.GrammarLemmas.Endings.{IsRefused, done-sound, fault-halt, halt-ending, no-false-alarm, sound-done}
@@ -39,14 +39,14 @@ read-apart w b f g x rest r s e d =
 
 -- an octet that is refused is one octet, with one code
 refused-same : (w : Framing) (b : List ℕ) (f g : Forest) (x y : ℕ) (r s : List ℕ) (c d : FaultCode) → IsReading w b f → IsReading w b g → spelling f ++ x ∷ r ≡ b → spelling g ++ y ∷ s ≡ b
-    → IsFault (tip (top_place w) f).0 x (tip (top_place w) f).1 c → IsFault (tip (top_place w) g).0 y (tip (top_place w) g).1 d → fault c (length (spelling f)) ≡ fault d (length (spelling g))
+    → IsFault (tip (top_place w) f).0 x (tip (top_place w) f).1 c → IsFault (tip (top_place w) g).0 y (tip (top_place w) g).1 d → fault_ending c (length (spelling f)) ≡ fault_ending d (length (spelling g))
 refused-same w b f g x y r s c d u v e e' k l =
     let same : f ≡ g = reading-unique w b f g u v in
     let tails : x ∷ r ≡ y ∷ s = append_cancel_left (spelling g) (x ∷ r) (y ∷ s) (rw same at (e ∙ sym e')) in
     let octet : x ≡ y = cc in
     let k' : IsFault (tip (top_place w) g).0 y (tip (top_place w) g).1 c = rw (same, octet) at k in
     let code : c ≡ d = fault-unique w g y c d v.is_open k' l in
-    ap (λ (c : FaultCode). fault c (length (spelling f))) code ∙ ap (λ (f : Forest). fault d (length (spelling f))) same
+    ap (λ (c : FaultCode). fault_ending c (length (spelling f))) code ∙ ap (λ (f : Forest). fault_ending d (length (spelling f))) same
 
 -- an input has one ending
 pub ending-unique : (w : Framing) (b : List ℕ) (e d : Ending) → IsEnding w b e → IsEnding w b d → e ≡ d
@@ -68,14 +68,14 @@ ending-unique w b e d (refused f x rest c r s k) (done g u t m q) = absurd (read
 ending-unique w b e d (refused f x rest c r s k) (refused g y more m u t l) = refused-same w b f g x y rest more c m r u s t k l
 
 -- a fault other than F01 and F02 is final: no continuation changes the reading or the ending
-pub refused-for-good : (w : Framing) (b c : List ℕ) (code : FaultCode) (offset : ℕ) (f : Forest) → code ≢ Empty → code ≢ Short → IsEnding w b (fault code offset) → IsReading w b f
-    → IsReading w (b ++ c) f × IsEnding w (b ++ c) (fault code offset)
+pub refused-for-good : (w : Framing) (b c : List ℕ) (code : FaultCode) (offset : ℕ) (f : Forest) → code ≢ Empty → code ≢ Short → IsEnding w b (fault_ending code offset) → IsReading w b f
+    → IsReading w (b ++ c) f × IsEnding w (b ++ c) (fault_ending code offset)
 refused-for-good w b c code offset f a d e r =
     let k : IsRefused w b code offset = fault-halt w b code offset a d e in
     let longer : IsHalt w k.forest code (b ++ c) = halt-longer w k.forest code b c k.halt in
     let same : k.forest ≡ f = reading-unique w b k.forest f (run-reading w (Halted k.forest code) b k.halt) r in
     let reading : IsReading w (b ++ c) k.forest = run-reading w (Halted k.forest code) (b ++ c) longer in
-    let end : IsEnding w (b ++ c) (fault code (length (spelling k.forest))) = halt-ending w k.forest code (b ++ c) longer k.fault in
+    let end : IsEnding w (b ++ c) (fault_ending code (length (spelling k.forest))) = halt-ending w k.forest code (b ++ c) longer k.fault in
     (rw same at reading, rw (← k.there) at end)
 
 -- whatever follows an ending that is final, no input that goes on is sound

@@ -13,29 +13,29 @@ use Rattle.tlv_walk.specs.Stack.{IsWithin}
 use Rattle.tlv_walk.specs.Private.Stack.{room_to}
 use Rattle.tlv_walk.specs.Private.Zipper.{HasZipper}
 use Rattle.tlv_walk.specs.HasRead.{event_value}
-use Rattle.tlv_walk.specs.Private.Steps.{Continues, RefusesOctet, YieldsEvent, YieldsFault, YieldsStep}
+use Rattle.tlv_walk.specs.Private.Yields.{Continues, RefusesOctet, YieldsEvent, YieldsFault, YieldsStep}
 use Rattle.tlv_walk.proofs.WalkerLemmas.Moves.{continues_both}
 
 module _ (old mid new : WalkerState) (x : ℕ) (first : Continues old mid (x ∷ []) []) (same : mid.framing ≡ old.framing) (kept : mid.stack ≡ old.stack) where
   event_after : (rest after : List ℕ) (e : EventValue) → YieldsEvent mid new rest after e → YieldsEvent old new (x ∷ rest) after e
   event_after rest after e t =
-      record { taken = x ∷ t.taken; piece = ap (λ (o : List ℕ). x ∷ o) t.piece; continues = continues_both old mid new (x ∷ []) t.taken [] (e ∷ []) first t.continues }
+      record { taken = x ∷ t.taken; piece_is = ap (λ (o : List ℕ). x ∷ o) t.piece_is; continues = continues_both old mid new (x ∷ []) t.taken [] (e ∷ []) first t.continues }
 
   refused_after : (rest after : List ℕ) (f : Fault) → RefusesOctet mid rest after f → RefusesOctet old (x ∷ rest) after f
   refused_after rest after f r = record {
     taken = x ∷ r.taken;
     octet = r.octet;
-    rest = r.rest;
-    before_is = ap (λ (o : List ℕ). x ∷ o) r.before_is;
-    after_is = r.after_is;
-    refuses = λ b past s has.
-        let one = first.goes b past s has in
-        let two = r.refuses (b ++ x ∷ []) (past ++ []) one.0 one.1 in
+    others = r.others;
+    piece_is = ap (λ (o : List ℕ). x ∷ o) r.piece_is;
+    rest_is = r.rest_is;
+    refuses = λ b yielded s has.
+        let one = first.goes b yielded s has in
+        let two = r.refuses (b ++ x ∷ []) (yielded ++ []) one.0 one.1 in
         let spelled : (b ++ x ∷ []) ++ r.taken ≡ b ++ x ∷ r.taken = append_assoc b (x ∷ []) r.taken in record {
           walker = two.walker;
           state = two.state;
-          has_state = subst (λ (o : List ℕ). HasZipper two.walker o past two.state) spelled
-              (subst (λ (es : List EventValue). HasZipper two.walker ((b ++ x ∷ []) ++ r.taken) es two.state) (append-nil past) two.has_state);
+          has_state = subst (λ (o : List ℕ). HasZipper two.walker o yielded two.state) spelled
+              (subst (λ (es : List EventValue). HasZipper two.walker ((b ++ x ∷ []) ++ r.taken) es two.state) (append-nil yielded) two.has_state);
           idle = two.idle;
           offset = two.offset;
           ends = λ c. subst (λ (w : Framing). IsEnding w ((b ++ x ∷ r.taken) ++ r.octet ∷ c) (ending.Fault f)) same

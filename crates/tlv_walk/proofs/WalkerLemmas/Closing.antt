@@ -16,10 +16,10 @@ use Rattle.tlv_walk.specs.Place.{Fits, IsEntry, IsOpen, Place, is_indefinite, pl
 use Rattle.tlv_walk.proofs.GrammarLemmas.Lengths.{HasLength}
 use Rattle.tlv_walk.specs.Stack.{Frame, IsFilled, IsInIndefinite, IsInWrapper, IsWithin, bound_of}
 use Rattle.tlv_walk.specs.Private.Stack.{wraps_of, bound_in}
-use Rattle.tlv_walk.specs.Private.Steps.{Continues}
+use Rattle.tlv_walk.specs.Private.Yields.{Continues}
 use Rattle.tlv_walk.specs.Private.Zipper.{AreWhole, Between, HasZipper, InEndOctets, Layer, Tail, Zipper, events_of_layers, events_of_tail, frame_at, frames_of, place_in, place_of, spelling_of_layers, spelling_of_tail}
-use Rattle.tlv_walk.specs.Stands.{frame_closing_event}
-use Rattle.tlv_walk.proofs.WalkerLemmas.Moves.{began, between_tail, closed_here, continues_both, lone_tail, phase_at, tail_state, yields_zero, past_more, with_layers, with_tail}
+use Rattle.tlv_walk.specs.Stands.{filled_end}
+use Rattle.tlv_walk.proofs.WalkerLemmas.Moves.{began, between_tail, closed_here, continues_both, lone_tail, phase_at, tail_state, yields_zero, yielded_more, with_layers, with_tail}
 use Rattle.tlv_walk.proofs.WalkerLemmas.Places.{definite-size, place-offset}
 use Rattle.tlv_walk.proofs.GrammarLemmas.Spellings.{length-opening}
 use Rattle.tlv_walk.proofs.WalkerLemmas.Zipper.{open-followed_by, spelling-followed_by, whole-followed_by}
@@ -36,15 +36,15 @@ spelled_closed ls l here old t b whole e f =
     ∙ regroup (spelling_of_layers ls) (spelling l.before) (opening l.header) (spelling here) old t
     ∙ ap (λ (s : List ℕ). s ++ t) f
 
-regroup_past : (a b c d : List EventValue) (e : EventValue) → a ++ ((b ++ (c ++ (d ++ e ∷ []))) ++ []) ≡ ((a ++ (b ++ c)) ++ (d ++ [])) ++ e ∷ []
-regroup_past a b c d e = simp (append_assoc, append-nil) refl
+regroup_yielded : (a b c d : List EventValue) (e : EventValue) → a ++ ((b ++ (c ++ (d ++ e ∷ []))) ++ []) ≡ ((a ++ (b ++ c)) ++ (d ++ [])) ++ e ∷ []
+regroup_yielded a b c d e = simp (append_assoc, append-nil) refl
 
-past_closed : (past : List EventValue) (ls : List Layer) (l : Layer) (here : Forest) → is_complete l.before ≡ true → AreEqualJoined past (events_of_layers (l ∷ ls) ++ (events here ++ []))
-    → AreEqualJoined (past ++ closing_event l.header here ∷ []) (events_of_layers ls ++ (events (closed_here l here) ++ []))
-past_closed past ls l here whole h =
-    past_more past (events_of_layers (l ∷ ls) ++ (events here ++ [])) (closing_event l.header here ∷ []) (events_of_layers ls ++ (events (closed_here l here) ++ [])) h
+yielded_closed : (yielded : List EventValue) (ls : List Layer) (l : Layer) (here : Forest) → is_complete l.before ≡ true → AreEqualJoined yielded (events_of_layers (l ∷ ls) ++ (events here ++ []))
+    → AreEqualJoined (yielded ++ closing_event l.header here ∷ []) (events_of_layers ls ++ (events (closed_here l here) ++ []))
+yielded_closed yielded ls l here whole h =
+    yielded_more yielded (events_of_layers (l ∷ ls) ++ (events here ++ [])) (closing_event l.header here ∷ []) (events_of_layers ls ++ (events (closed_here l here) ++ [])) h
     (ap single_octets (ap (λ (es : List EventValue). events_of_layers ls ++ (es ++ [])) (events-followed_by l.before (Holder l.header here NoMore) whole)
-    ∙ regroup_past (events_of_layers ls) (events l.before) (opening_events l.header) (events here) (closing_event l.header here)))
+    ∙ regroup_yielded (events_of_layers ls) (events l.before) (opening_events l.header) (events here) (closing_event l.header here)))
 
 closed_whole : (w : WalkerState) (l : Layer) (ls : List Layer) (here : Forest) → AreWhole (place_in w.framing ls) l.before → IsEntry (place_after (place_in w.framing ls) (length (spelling l.before))) true l.header
     → AreWhole (place_in w.framing (l ∷ ls)) here → HasLength l.header.size (contents_length l.header here) → Fits (place_after (place_in w.framing ls) (length (spelling l.before))) (extent l.header here)
@@ -56,22 +56,22 @@ closed_whole w l ls here before entry inside filled fits = record {
 }
 
 -- the state of a walker whose innermost element ends with these octets
-pub close_state : (w v : WalkerState) (b : List ℕ) (past : List EventValue) (l : Layer) (ls : List Layer) (here : Forest) (tail : Tail) (t : List ℕ)
-    → HasZipper w b past (record { layers = l ∷ ls; here = here; tail = tail }) → w.stack ≡ frames_of w.framing (l ∷ ls) → events_of_tail tail ≡ []
+pub close_state : (w v : WalkerState) (b : List ℕ) (yielded : List EventValue) (l : Layer) (ls : List Layer) (here : Forest) (tail : Tail) (t : List ℕ)
+    → HasZipper w b yielded (record { layers = l ∷ ls; here = here; tail = tail }) → w.stack ≡ frames_of w.framing (l ∷ ls) → events_of_tail tail ≡ []
     → spelling_of_tail tail ++ t ≡ end_octets l.header.size → HasLength l.header.size (contents_length l.header here)
     → Fits (place_after (place_in w.framing ls) (length (spelling l.before))) (extent l.header here)
     → v ≡ record w { stack = drop 1 w.stack; phase = phase.Between; offset = w.offset + length t; events = w.events + 1 } → w.has_element ≡ true
-    → HasZipper v (b ++ t) (past ++ closing_event l.header here ∷ []) (record { layers = ls; here = closed_here l here; tail = Between })
-close_state w v b past l ls here tail t has stack quiet ends filled fits is_v element =
-    subst (λ (u : WalkerState). HasZipper u (b ++ t) (past ++ closing_event l.header here ∷ []) (record { layers = ls; here = closed_here l here; tail = Between })) (sym is_v) (record {
+    → HasZipper v (b ++ t) (yielded ++ closing_event l.header here ∷ []) (record { layers = ls; here = closed_here l here; tail = Between })
+close_state w v b yielded l ls here tail t has stack quiet ends filled fits is_v element =
+    subst (λ (u : WalkerState). HasZipper u (b ++ t) (yielded ++ closing_event l.header here ∷ []) (record { layers = ls; here = closed_here l here; tail = Between })) (sym is_v) (record {
       spelled = spelled_closed ls l here (spelling_of_tail tail) t b has.layers.1.whole ends has.spelled;
       offset = omega (arith, has.offset, length-append b t);
       stack = ap (drop 1) stack;
       layers = has.layers.0;
       here = closed_whole w l ls here has.layers.1 has.layers.2 has.here filled fits;
       phase = tt;
-      same_events = past_closed past ls l here has.layers.1.whole
-          (subst (λ (es : List EventValue). AreEqualJoined past (events_of_layers (l ∷ ls) ++ (events here ++ es))) quiet has.same_events);
+      same_events = yielded_closed yielded ls l here has.layers.1.whole
+          (subst (λ (es : List EventValue). AreEqualJoined yielded (events_of_layers (l ∷ ls) ++ (events here ++ es))) quiet has.same_events);
       element = element ∙ sym (began ls l.before (Holder l.header here NoMore) has.layers.1.whole refl);
     })
 
@@ -93,14 +93,14 @@ closes_indefinite h here n k s e =
     ap (λ (c : Bool). if c then Close (end_offset h.size (h.offset + length (opening h) + length (spelling here))) else Leave) k
     ∙ ap (λ (t : Size). Close (end_offset t (h.offset + length (opening h) + length (spelling here)))) s ∙ ap (λ (m : ℕ). Close (Some m)) e
 
-second_from : (w : WalkerState) (b : List ℕ) (past : List EventValue) (s : Zipper) (ls : List Layer) → HasZipper w b past (with_layers s ls InEndOctets) → IsOpen (place_of w.framing (with_layers s ls InEndOctets)) OpenEndOctets
+second_from : (w : WalkerState) (b : List ℕ) (yielded : List EventValue) (s : Zipper) (ls : List Layer) → HasZipper w b yielded (with_layers s ls InEndOctets) → IsOpen (place_of w.framing (with_layers s ls InEndOctets)) OpenEndOctets
     → IsWithin (bound_of w.stack) (w.offset + 1)
-    → (t : Zipper) × HasZipper (record w { stack = drop 1 w.stack; phase = phase.Between; offset = w.offset + 1; events = w.events + 1 }) (b ++ 0 ∷ []) (past ++ Close (Some (w.offset - 1)) ∷ []) t
-second_from w b past s [] has zero room = absurd (true≢false (sym zero.0))
-second_from w b past s (l ∷ ls) has zero room =
+    → (t : Zipper) × HasZipper (record w { stack = drop 1 w.stack; phase = phase.Between; offset = w.offset + 1; events = w.events + 1 }) (b ++ 0 ∷ []) (yielded ++ Close (Some (w.offset - 1)) ∷ []) t
+second_from w b yielded s [] has zero room = absurd (true≢false (sym zero.0))
+second_from w b yielded s (l ∷ ls) has zero room =
     let p : Place = place_after (place_in w.framing ls) (length (spelling l.before)) in
     let size : l.header.size ≡ Indefinite = size_indefinite l.header.size zero.0 in
-    let at : w.offset ≡ (place_of w.framing (with_layers s (l ∷ ls) InEndOctets)).at + 1 = place-offset w b past _ has in
+    let at : w.offset ≡ (place_of w.framing (with_layers s (l ∷ ls) InEndOctets)).at + 1 = place-offset w b yielded _ has in
     let header : l.header.offset ≡ p.at = has.layers.2.header.offset in
     let k : l.header.constructed ≡ true = constructed_indefinite l.header.constructed l.header.size size has.layers.2.header.valid.allowed in
     let ends : end_octets l.header.size ≡ 0 ∷ 0 ∷ [] = ap end_octets size in
@@ -110,8 +110,8 @@ second_from w b past s (l ∷ ls) has zero room =
     let two : length (end_octets l.header.size) ≡ 2 = ap length ends in
     let fits : Fits p (extent l.header s.here) = subst (λ (n : ℕ). IsWithin p.bound n) (omega arith) outer in (
       _,
-      subst (λ (e : EventValue). HasZipper (record w { stack = drop 1 w.stack; phase = phase.Between; offset = w.offset + 1; events = w.events + 1 }) (b ++ 0 ∷ []) (past ++ e ∷ []) (record { layers = ls; here = closed_here l s.here; tail = Between })) event
-          (close_state w _ b past l ls s.here InEndOctets (0 ∷ []) has has.stack refl (sym ends) (length_of l.header Indefinite _ size tt) fits refl (has.element)),
+      subst (λ (e : EventValue). HasZipper (record w { stack = drop 1 w.stack; phase = phase.Between; offset = w.offset + 1; events = w.events + 1 }) (b ++ 0 ∷ []) (yielded ++ e ∷ []) (record { layers = ls; here = closed_here l s.here; tail = Between })) event
+          (close_state w _ b yielded l ls s.here InEndOctets (0 ∷ []) has has.stack refl (sym ends) (length_of l.header Indefinite _ size tt) fits refl (has.element)),
     )
 
 -- the second of the end-of-contents octets
@@ -120,10 +120,10 @@ pub yields_second : (w : WalkerState) → w.phase ≡ phase.InEndOctets → IsWi
 yields_second w e room = record {
   framing = refl;
   found = refl;
-  goes = λ b past s has.
-      let t = lone_tail s.tail _ (phase_at w b past s _ e has) in
-      let has' : HasZipper w b past (with_tail s InEndOctets) = tail_state w b past s _ t has in
-      second_from w b past s s.layers has' (phase_at w b past (with_tail s InEndOctets) _ e has') room;
+  goes = λ b yielded s has.
+      let t = lone_tail s.tail _ (phase_at w b yielded s _ e has) in
+      let has' : HasZipper w b yielded (with_tail s InEndOctets) = tail_state w b yielded s _ t has in
+      second_from w b yielded s s.layers has' (phase_at w b yielded (with_tail s InEndOctets) _ e has') room;
 }
 
 -- the event of the end of an element that is filled has no offset
@@ -135,30 +135,30 @@ closes_definite false s m o e = refl
 head_frame : (f g : Frame) (fs gs : List Frame) → f ∷ fs ≡ g ∷ gs → f ≡ g
 head_frame f g fs gs e = cc
 
-filled_from : (w : WalkerState) (b : List ℕ) (past : List EventValue) (s : Zipper) (ls : List Layer) → HasZipper w b past (with_layers s ls Between) → w.phase ≡ phase.Between
+filled_from : (w : WalkerState) (b : List ℕ) (yielded : List EventValue) (s : Zipper) (ls : List Layer) → HasZipper w b yielded (with_layers s ls Between) → w.phase ≡ phase.Between
     → (f : Frame) (fs : List Frame) → w.stack ≡ f ∷ fs → f.end ≡ Some w.offset
-    → (t : Zipper) × HasZipper (record w { stack = drop 1 w.stack; events = w.events + 1 }) (b ++ []) (past ++ frame_closing_event f ∷ []) t
-filled_from w b past s [] has e f fs is full = absurd (cc (has.stack))
-filled_from w b past s (l ∷ ls) has e f fs is full =
+    → (t : Zipper) × HasZipper (record w { stack = drop 1 w.stack; events = w.events + 1 }) (b ++ []) (yielded ++ filled_end f ∷ []) t
+filled_from w b yielded s [] has e f fs is full = absurd (cc (has.stack))
+filled_from w b yielded s (l ∷ ls) has e f fs is full =
     let p : Place = place_after (place_in w.framing ls) (length (spelling l.before)) in
     let same : f ≡ frame_at p l.header = head_frame f (frame_at p l.header) fs (frames_of w.framing ls) (sym is ∙ has.stack) in
     let size : (n : ℕ) × (l.header.size ≡ Definite n) × (p.at + length (octets_of l.header) + n ≡ w.offset) = definite-size l.header.size _ w.offset (sym (ap (λ (g : Frame). g.end) same) ∙ full) in
-    let at : w.offset ≡ (place_of w.framing (with_layers s (l ∷ ls) Between)).at + 0 = place-offset w b past _ has in
+    let at : w.offset ≡ (place_of w.framing (with_layers s (l ∷ ls) Between)).at + 0 = place-offset w b yielded _ has in
     let long : contents_length l.header s.here ≡ size.0 = omega (arith, size.2, at, length-opening l.header) in
     let none : end_octets l.header.size ≡ [] = ap end_octets size.1 in
     let zero : length (end_octets l.header.size) ≡ 0 = ap length none in
-    let event : closing_event l.header s.here ≡ frame_closing_event f = closes_definite l.header.constructed l.header.size size.0 _ size.1 ∙ ap frame_closing_event (sym same) in
+    let event : closing_event l.header s.here ≡ filled_end f = closes_definite l.header.constructed l.header.size size.0 _ size.1 ∙ ap filled_end (sym same) in
     let entry : Fits p (length (octets_of l.header) + size.0) = subst (λ (t : Size). Fits p (length (octets_of l.header) + announced_length t)) size.1 has.layers.2.fits in
     let fits : Fits p (extent l.header s.here) = subst (λ (n : ℕ). Fits p n) (omega (arith, long, zero, length-opening l.header)) entry in
     let still : w.offset ≡ w.offset + 0 = omega arith in (
       _,
-      subst (λ (t : EventValue). HasZipper (record w { stack = drop 1 w.stack; events = w.events + 1 }) (b ++ []) (past ++ t ∷ []) (record { layers = ls; here = closed_here l s.here; tail = Between })) event
-          (close_state w _ b past l ls s.here Between [] has has.stack refl (sym none) (length_of l.header (Definite size.0) _ size.1 long) fits
+      subst (λ (t : EventValue). HasZipper (record w { stack = drop 1 w.stack; events = w.events + 1 }) (b ++ []) (yielded ++ t ∷ []) (record { layers = ls; here = closed_here l s.here; tail = Between })) event
+          (close_state w _ b yielded l ls s.here Between [] has has.stack refl (sym none) (length_of l.header (Definite size.0) _ size.1 long) fits
           (λ i. record w { stack = drop 1 w.stack; phase = e i; offset = still i; events = w.events + 1 }) has.element),
     )
 
 -- the end of an element enters no wrapper
-ending_enters : (f : Frame) → wrapper_offsets (frame_closing_event f ∷ []) ≡ []
+ending_enters : (f : Frame) → wrapper_offsets (filled_end f ∷ []) ≡ []
 ending_enters f = elim (cases_Bool f.wrapper) [
   | inl e ↦ rw e refl
   | inr e ↦ rw e refl
@@ -166,13 +166,13 @@ ending_enters f = elim (cases_Bool f.wrapper) [
 
 -- the innermost element, which is filled, ends
 pub yields_filled : (w : WalkerState) → w.phase ≡ phase.Between → (f : Frame) (fs : List Frame) → w.stack ≡ f ∷ fs → f.end ≡ Some w.offset
-    → Continues w (record w { stack = drop 1 w.stack; events = w.events + 1 }) [] (frame_closing_event f ∷ [])
+    → Continues w (record w { stack = drop 1 w.stack; events = w.events + 1 }) [] (filled_end f ∷ [])
 yields_filled w e f fs is full = record {
   framing = refl;
   found = ap (wrappers_after w.framing.inside w.wrapper_count) (sym (ending_enters f));
-  goes = λ b past s has.
-      let t = between_tail s.tail _ (phase_at w b past s _ e has) in
-      filled_from w b past s s.layers (tail_state w b past s _ t has) e f fs is full;
+  goes = λ b yielded s has.
+      let t = between_tail s.tail _ (phase_at w b yielded s _ e has) in
+      filled_from w b yielded s s.layers (tail_state w b yielded s _ t has) e f fs is full;
 }
 
 -- a stack of which the innermost frame says so
@@ -185,8 +185,8 @@ innermost : (stack : List Frame) (k : Bool) → wraps_of stack ≡ Some k → Is
 innermost [] k e = absurd (cc)
 innermost (f ∷ fs) k e = record { frame = f; stack_is = refl; wraps = cc }
 
-filled_end : (stack : List Frame) (f : Frame) (fs : List Frame) (at : ℕ) → stack ≡ f ∷ fs → IsFilled stack at → f.end ≡ Some at
-filled_end stack f fs at e full = subst (λ (s : List Frame). IsFilled s at) e full
+frame_filled : (stack : List Frame) (f : Frame) (fs : List Frame) (at : ℕ) → stack ≡ f ∷ fs → IsFilled stack at → f.end ≡ Some at
+frame_filled stack f fs at e full = subst (λ (s : List Frame). IsFilled s at) e full
 
 -- the same, by what the frame says that was popped
 pub yields_popped : (w : WalkerState) (k : Bool) → w.phase ≡ phase.Between → IsFilled w.stack w.offset → wraps_of w.stack ≡ Some k
@@ -194,7 +194,7 @@ pub yields_popped : (w : WalkerState) (k : Bool) → w.phase ≡ phase.Between �
 yields_popped w k e full is =
     let i : IsInnermost w.stack k = innermost w.stack k is in
     subst (λ (x : EventValue). Continues w (record w { stack = drop 1 w.stack; events = w.events + 1 }) [] (x ∷ [])) (ap (λ (b : Bool). if b then Leave else Close None) i.wraps)
-    (yields_filled w e i.frame (drop 1 w.stack) i.stack_is (filled_end w.stack i.frame (drop 1 w.stack) w.offset i.stack_is full))
+    (yields_filled w e i.frame (drop 1 w.stack) i.stack_is (frame_filled w.stack i.frame (drop 1 w.stack) w.offset i.stack_is full))
 
 -- an element that is filled wraps nothing, or says so
 wraps_none : (stack : List Frame) (at : ℕ) → IsFilled stack at → (IsInWrapper stack → ⊥) → wraps_of stack ≡ Some false

@@ -13,25 +13,25 @@ use Rattle.tlv_walk.specs.Private.WalkerState.{after_header}
 use Rattle.tlv_walk.specs.Place.{Fits, IsEntry, IsHeaderAt, IsOpen, Place}
 use Rattle.tlv_walk.specs.Stack.{Frame, IsWithin, bound_of}
 use Rattle.tlv_walk.specs.Private.Zipper.{InBitString, Between, HasZipper, InPrimitive, InEndOctets, InHeader, IsPhaseOf, Layer, Tail, Zipper, events_of_layers, events_of_tail, frame_at, frames_of, place_in, place_of, spelling_of_layers, spelling_of_tail}
-use Rattle.tlv_walk.specs.Private.Steps.{Continues}
-use Rattle.tlv_walk.proofs.WalkerLemmas.Moves.{between_tail, phase_at, spelled_after, tail_state, past_after, with_tail}
+use Rattle.tlv_walk.specs.Private.Yields.{Continues}
+use Rattle.tlv_walk.proofs.WalkerLemmas.Moves.{between_tail, phase_at, spelled_after, tail_state, yielded_after, with_tail}
 use Rattle.tlv_walk.proofs.WalkerLemmas.Places.{place-bound, place-depth, place-inside, place-offset}
 
 -- a walker that stands at a header, or after the octets of one that the reader has
-pub record AtHeader (w : WalkerState) (b : List ℕ) (past : List EventValue) (s : Zipper) (r : HeadReaderState) : Type 0 where
-  pub has : HasZipper w b past s
+pub record AtHeader (w : WalkerState) (b : List ℕ) (yielded : List EventValue) (s : Zipper) (r : HeadReaderState) : Type 0 where
+  pub has : HasZipper w b yielded s
   pub octets : spelling_of_tail s.tail ≡ r.octets
   pub offset : r.offset ≡ (place_of w.framing s).at
   pub named : r.named ≡ is_among r.offset w.framing.inside
   pub quiet : events_of_tail s.tail ≡ []
   pub stack : w.stack ≡ frames_of w.framing s.layers
 
-pub at_new : (w : WalkerState) (b : List ℕ) (past : List EventValue) (s : Zipper) (r : HeadReaderState) → HasZipper w b past s → w.phase ≡ phase.Between → r.octets ≡ [] → r.offset ≡ w.offset
-    → r.named ≡ is_among w.offset w.framing.inside → AtHeader w b past (with_tail s Between) r
-at_new w b past s r has e none at named =
-    let t : s.tail ≡ Between = between_tail s.tail _ (phase_at w b past s _ e has) in
-    let has' : HasZipper w b past (with_tail s Between) = tail_state w b past s _ t has in
-    let place : w.offset ≡ (place_of w.framing (with_tail s Between)).at + 0 = place-offset w b past _ has' in
+pub at_new : (w : WalkerState) (b : List ℕ) (yielded : List EventValue) (s : Zipper) (r : HeadReaderState) → HasZipper w b yielded s → w.phase ≡ phase.Between → r.octets ≡ [] → r.offset ≡ w.offset
+    → r.named ≡ is_among w.offset w.framing.inside → AtHeader w b yielded (with_tail s Between) r
+at_new w b yielded s r has e none at named =
+    let t : s.tail ≡ Between = between_tail s.tail _ (phase_at w b yielded s _ e has) in
+    let has' : HasZipper w b yielded (with_tail s Between) = tail_state w b yielded s _ t has in
+    let place : w.offset ≡ (place_of w.framing (with_tail s Between)).at + 0 = place-offset w b yielded _ has' in
     record {
       has = has';
       octets = sym none;
@@ -48,12 +48,12 @@ front_tail r (InBitString h) p x = absurd x
 front_tail r (InHeader o) p x = (o, refl)
 front_tail r InEndOctets p x = absurd x
 
-pub at_front : (w : WalkerState) (b : List ℕ) (past : List EventValue) (s : Zipper) (r : HeadReaderState) → HasZipper w b past s → w.phase ≡ phase.InHeader r
-    → (o : List ℕ) × AtHeader w b past (with_tail s (InHeader o)) r
-at_front w b past s r has e =
-    let t = front_tail r s.tail _ (phase_at w b past s _ e has) in
-    let has' : HasZipper w b past (with_tail s (InHeader t.0)) = tail_state w b past s _ t.1 has in
-    let at : IsPhaseOf (phase.InHeader r) (InHeader t.0) (place_of w.framing s) = phase_at w b past _ _ e has' in (
+pub at_front : (w : WalkerState) (b : List ℕ) (yielded : List EventValue) (s : Zipper) (r : HeadReaderState) → HasZipper w b yielded s → w.phase ≡ phase.InHeader r
+    → (o : List ℕ) × AtHeader w b yielded (with_tail s (InHeader o)) r
+at_front w b yielded s r has e =
+    let t = front_tail r s.tail _ (phase_at w b yielded s _ e has) in
+    let has' : HasZipper w b yielded (with_tail s (InHeader t.0)) = tail_state w b yielded s _ t.1 has in
+    let at : IsPhaseOf (phase.InHeader r) (InHeader t.0) (place_of w.framing s) = phase_at w b yielded _ _ e has' in (
       t.0,
       record {
         has = has';
@@ -74,58 +74,58 @@ pub record Completed (w : WalkerState) (r : HeadReaderState) (t : List ℕ) (h :
   pub shallow : holds h ≡ true → length w.stack < 128
   pub fits : IsWithin (bound_of w.stack) (h.offset + length (octets_of h) + announced_length h.size)
 
-is_header_at : (w : WalkerState) (b : List ℕ) (past : List EventValue) (s : Zipper) (r : HeadReaderState) (t : List ℕ) (h : HeaderValue) (k : Bool) → AtHeader w b past s r → Completed w r t h → holds h ≡ k
+is_header_at : (w : WalkerState) (b : List ℕ) (yielded : List EventValue) (s : Zipper) (r : HeadReaderState) (t : List ℕ) (h : HeaderValue) (k : Bool) → AtHeader w b yielded s r → Completed w r t h → holds h ≡ k
     → IsHeaderAt (place_of w.framing s) k h
-is_header_at w b past s r t h k at c e = record {
+is_header_at w b yielded s r t h k at c e = record {
   valid = c.valid;
   offset = c.offset ∙ at.offset;
   named = c.named ∙ at.named ∙ ap (λ (n : ℕ). is_among n w.framing.inside) at.offset ∙ ap (λ (ns : List ℕ). is_among (place_of w.framing s).at ns) (sym (place-inside w.framing s.layers));
   form = e;
 }
 
-fits_at : (w : WalkerState) (b : List ℕ) (past : List EventValue) (s : Zipper) (r : HeadReaderState) (t : List ℕ) (h : HeaderValue) → AtHeader w b past s r → Completed w r t h
+fits_at : (w : WalkerState) (b : List ℕ) (yielded : List EventValue) (s : Zipper) (r : HeadReaderState) (t : List ℕ) (h : HeaderValue) → AtHeader w b yielded s r → Completed w r t h
     → Fits (place_of w.framing s) (length (octets_of h) + announced_length h.size)
-fits_at w b past s r t h at c =
+fits_at w b yielded s r t h at c =
     let bound : bound_of w.stack ≡ (place_in w.framing s.layers).bound = ap bound_of at.stack ∙ sym (place-bound w.framing s.layers) in
     let fits : IsWithin (place_in w.framing s.layers).bound (h.offset + length (octets_of h) + announced_length h.size) = subst (λ (x : Option ℕ). IsWithin x (h.offset + length (octets_of h) + announced_length h.size)) bound c.fits in
     subst (λ (n : ℕ). IsWithin (place_in w.framing s.layers).bound n) (omega (arith, c.offset, at.offset)) fits
 
-entry_at : (w : WalkerState) (b : List ℕ) (past : List EventValue) (s : Zipper) (r : HeadReaderState) (t : List ℕ) (h : HeaderValue) → AtHeader w b past s r → Completed w r t h → holds h ≡ true
+entry_at : (w : WalkerState) (b : List ℕ) (yielded : List EventValue) (s : Zipper) (r : HeadReaderState) (t : List ℕ) (h : HeaderValue) → AtHeader w b yielded s r → Completed w r t h → holds h ≡ true
     → IsEntry (place_of w.framing s) true h
-entry_at w b past s r t h at c e = record {
-  header = is_header_at w b past s r t h true at c e;
+entry_at w b yielded s r t h at c e = record {
+  header = is_header_at w b yielded s r t h true at c e;
   depth = λ _. omega (arith, c.shallow e, place-depth w.framing s.layers, ap length at.stack);
-  fits = fits_at w b past s r t h at c;
+  fits = fits_at w b yielded s r t h at c;
 }
 
 -- the events so far, and no open end
-quiet_past : (w : WalkerState) (b : List ℕ) (past : List EventValue) (s : Zipper) (r : HeadReaderState) → AtHeader w b past s r → AreEqualJoined past (events_of_layers s.layers ++ (events s.here ++ []))
-quiet_past w b past s r at = subst (λ (es : List EventValue). AreEqualJoined past (events_of_layers s.layers ++ (events s.here ++ es))) at.quiet at.has.same_events
+quiet_yielded : (w : WalkerState) (b : List ℕ) (yielded : List EventValue) (s : Zipper) (r : HeadReaderState) → AtHeader w b yielded s r → AreEqualJoined yielded (events_of_layers s.layers ++ (events s.here ++ []))
+quiet_yielded w b yielded s r at = subst (λ (es : List EventValue). AreEqualJoined yielded (events_of_layers s.layers ++ (events s.here ++ es))) at.quiet at.has.same_events
 
 -- where the header of a walker ends
-header_end : (w : WalkerState) (b : List ℕ) (past : List EventValue) (s : Zipper) (r : HeadReaderState) (t : List ℕ) (h : HeaderValue) → AtHeader w b past s r → Completed w r t h
+header_end : (w : WalkerState) (b : List ℕ) (yielded : List EventValue) (s : Zipper) (r : HeadReaderState) (t : List ℕ) (h : HeaderValue) → AtHeader w b yielded s r → Completed w r t h
     → h.offset + length (octets_of h) ≡ length (b ++ t)
-header_end w b past s r t h at c =
-    omega (arith, c.offset, at.offset, ap length c.octets, ap length at.octets, length-append r.octets t, length-append b t, at.has.offset, place-offset w b past s at.has)
+header_end w b yielded s r t h at c =
+    omega (arith, c.offset, at.offset, ap length c.octets, ap length at.octets, length-append r.octets t, length-append b t, at.has.offset, place-offset w b yielded s at.has)
 
 -- a primitive begins
-pub primitive_state : (w : WalkerState) (b : List ℕ) (past : List EventValue) (s : Zipper) (r : HeadReaderState) (t : List ℕ) (h : HeaderValue) (n : ℕ) → AtHeader w b past s r → Completed w r t h
+pub primitive_state : (w : WalkerState) (b : List ℕ) (yielded : List EventValue) (s : Zipper) (r : HeadReaderState) (t : List ℕ) (h : HeaderValue) (n : ℕ) → AtHeader w b yielded s r → Completed w r t h
     → holds h ≡ false → h.size ≡ Definite n
-    → HasZipper (after_header w (phase.InPrimitive n) (h.offset + length (octets_of h))) (b ++ t) (past ++ Begin h ∷ []) (with_tail s (InPrimitive h []))
-primitive_state w b past s r t h n at c e size =
+    → HasZipper (after_header w (phase.InPrimitive n) (h.offset + length (octets_of h))) (b ++ t) (yielded ++ Begin h ∷ []) (with_tail s (InPrimitive h []))
+primitive_state w b yielded s r t h n at c e size =
     let zero : n ≡ 0 + n = omega arith in
     record {
       spelled = spelled_after s.layers s.here (spelling_of_tail s.tail) (octets_of h ++ []) t b (append-nil (octets_of h) ∙ (c.octets ∙ ap (λ (o : List ℕ). o ++ t) (sym at.octets))) at.has.spelled;
-      offset = header_end w b past s r t h at c;
+      offset = header_end w b yielded s r t h at c;
       stack = at.stack;
       layers = at.has.layers;
       here = at.has.here;
       phase = record {
-        header = is_header_at w b past s r t h false at c e;
+        header = is_header_at w b yielded s r t h false at c e;
         size = size ∙ ap Definite zero;
-        fits = subst (λ (m : ℕ). Fits (place_of w.framing s) (length (octets_of h) + m)) (ap announced_length size ∙ zero) (fits_at w b past s r t h at c);
+        fits = subst (λ (m : ℕ). Fits (place_of w.framing s) (length (octets_of h) + m)) (ap announced_length size ∙ zero) (fits_at w b yielded s r t h at c);
       };
-      same_events = past_after past s.layers s.here [] (Begin h ∷ Bytes [] ∷ []) (Begin h ∷ []) (quiet_past w b past s r at) refl;
+      same_events = yielded_after yielded s.layers s.here [] (Begin h ∷ Bytes [] ∷ []) (Begin h ∷ []) (quiet_yielded w b yielded s r at) refl;
       element = refl;
     }
 
@@ -134,45 +134,45 @@ layer_spelled : (ls : List Layer) (here : Forest) (h : HeaderValue) (old t b : L
     → spelling_of_layers (record { before = here; header = h } ∷ ls) ++ ([] ++ []) ≡ b ++ t
 layer_spelled ls here h old t b e f = append-nil (spelling_of_layers ls ++ (spelling here ++ opening h)) ∙ spelled_after ls here old (opening h) t b (sym e) f
 
-layer_past : (past : List EventValue) (ls : List Layer) (here : Forest) (h : HeaderValue) (old more : List EventValue) → opening_events h ≡ old ++ more → AreEqualJoined past (events_of_layers ls ++ (events here ++ old))
-    → AreEqualJoined (past ++ more) (events_of_layers (record { before = here; header = h } ∷ ls) ++ ([] ++ []))
-layer_past past ls here h old more e f =
-    subst (λ (es : List EventValue). AreEqualJoined (past ++ more) es) (sym (append-nil (events_of_layers ls ++ (events here ++ opening_events h)))) (past_after past ls here old (opening_events h) more f (ap single_octets e))
+layer_yielded : (yielded : List EventValue) (ls : List Layer) (here : Forest) (h : HeaderValue) (old more : List EventValue) → opening_events h ≡ old ++ more → AreEqualJoined yielded (events_of_layers ls ++ (events here ++ old))
+    → AreEqualJoined (yielded ++ more) (events_of_layers (record { before = here; header = h } ∷ ls) ++ ([] ++ []))
+layer_yielded yielded ls here h old more e f =
+    subst (λ (es : List EventValue). AreEqualJoined (yielded ++ more) es) (sym (append-nil (events_of_layers ls ++ (events here ++ opening_events h)))) (yielded_after yielded ls here old (opening_events h) more f (ap single_octets e))
 
 -- the event that an element which holds others begins with
 abbrev pub opening_event : HeaderValue → EventValue
 opening_event h = if h.constructed then Open h else Enter h
 
 -- an element that holds others begins with the next octet
-pub holding_state : (w : WalkerState) (b : List ℕ) (past : List EventValue) (s : Zipper) (r : HeadReaderState) (t : List ℕ) (h : HeaderValue) (k : ℕ) → AtHeader w b past s r → Completed w r t h
+pub holding_state : (w : WalkerState) (b : List ℕ) (yielded : List EventValue) (s : Zipper) (r : HeadReaderState) (t : List ℕ) (h : HeaderValue) (k : ℕ) → AtHeader w b yielded s r → Completed w r t h
     → holds h ≡ true → lead h ≡ []
-    → HasZipper (record (after_header w phase.Between (h.offset + length (octets_of h))) { stack = frame_at (place_of w.framing s) h ∷ w.stack; wrapper_count = k }) (b ++ t) (past ++ opening_event h ∷ [])
+    → HasZipper (record (after_header w phase.Between (h.offset + length (octets_of h))) { stack = frame_at (place_of w.framing s) h ∷ w.stack; wrapper_count = k }) (b ++ t) (yielded ++ opening_event h ∷ [])
     (record { layers = record { before = s.here; header = h } ∷ s.layers; here = NoMore; tail = Between })
-holding_state w b past s r t h k at c e none = record {
+holding_state w b yielded s r t h k at c e none = record {
   spelled = layer_spelled s.layers s.here h (spelling_of_tail s.tail) t b
       (ap (λ (o : List ℕ). o ++ t) at.octets ∙ (sym c.octets ∙ (sym (append-nil (octets_of h)) ∙ ap (λ (l : List ℕ). octets_of h ++ l) (sym none)))) at.has.spelled;
-  offset = header_end w b past s r t h at c;
+  offset = header_end w b yielded s r t h at c;
   stack = ap (λ (fs : List Frame). frame_at (place_of w.framing s) h ∷ fs) at.stack;
-  layers = (at.has.layers, at.has.here, entry_at w b past s r t h at c e);
+  layers = (at.has.layers, at.has.here, entry_at w b yielded s r t h at c e);
   here = record { is_open = tt; whole = refl };
   phase = tt;
-  same_events = layer_past past s.layers s.here h [] (opening_event h ∷ []) (ap (λ (l : List ℕ). opening_event h ∷ map (λ z. Unused) l) none) (quiet_past w b past s r at);
+  same_events = layer_yielded yielded s.layers s.here h [] (opening_event h ∷ []) (ap (λ (l : List ℕ). opening_event h ∷ map (λ z. Unused) l) none) (quiet_yielded w b yielded s r at);
   element = refl;
 }
 
 -- a wrapping BIT STRING begins
-pub lead_state : (w : WalkerState) (b : List ℕ) (past : List EventValue) (s : Zipper) (r : HeadReaderState) (t : List ℕ) (h : HeaderValue) (k : ℕ) → AtHeader w b past s r → Completed w r t h
+pub lead_state : (w : WalkerState) (b : List ℕ) (yielded : List EventValue) (s : Zipper) (r : HeadReaderState) (t : List ℕ) (h : HeaderValue) (k : ℕ) → AtHeader w b yielded s r → Completed w r t h
     → holds h ≡ true → lead h ≡ 0 ∷ []
-    → HasZipper (record (after_header w phase.InBitString (h.offset + length (octets_of h))) { stack = frame_at (place_of w.framing s) h ∷ w.stack; wrapper_count = k }) (b ++ t) (past ++ Enter h ∷ [])
+    → HasZipper (record (after_header w phase.InBitString (h.offset + length (octets_of h))) { stack = frame_at (place_of w.framing s) h ∷ w.stack; wrapper_count = k }) (b ++ t) (yielded ++ Enter h ∷ [])
     (with_tail s (InBitString h))
-lead_state w b past s r t h k at c e one = record {
+lead_state w b yielded s r t h k at c e one = record {
   spelled = spelled_after s.layers s.here (spelling_of_tail s.tail) (octets_of h) t b (c.octets ∙ ap (λ (o : List ℕ). o ++ t) (sym at.octets)) at.has.spelled;
-  offset = header_end w b past s r t h at c;
+  offset = header_end w b yielded s r t h at c;
   stack = ap (λ (fs : List Frame). frame_at (place_of w.framing s) h ∷ fs) at.stack;
   layers = at.has.layers;
   here = at.has.here;
-  phase = (entry_at w b past s r t h at c e, one);
-  same_events = past_after past s.layers s.here [] (Enter h ∷ []) (Enter h ∷ []) (quiet_past w b past s r at) refl;
+  phase = (entry_at w b yielded s r t h at c e, one);
+  same_events = yielded_after yielded s.layers s.here [] (Enter h ∷ []) (Enter h ∷ []) (quiet_yielded w b yielded s r at) refl;
   element = refl;
 }
 
@@ -191,10 +191,10 @@ lead_primitive : (k n : Bool) → lead_by k n ≡ 0 ∷ [] → k ≡ false
 lead_primitive true n e = absurd (cc)
 lead_primitive false n e = refl
 
-unused_state : (w : WalkerState) (b : List ℕ) (past : List EventValue) (s : Zipper) (h : HeaderValue) → HasZipper w b past (with_tail s (InBitString h)) → IsOpen (place_of w.framing s) (OpenBitString h)
-    → HasZipper (record w { phase = phase.Between; offset = w.offset + 1; events = w.events + 1 }) (b ++ 0 ∷ []) (past ++ Unused ∷ [])
+unused_state : (w : WalkerState) (b : List ℕ) (yielded : List EventValue) (s : Zipper) (h : HeaderValue) → HasZipper w b yielded (with_tail s (InBitString h)) → IsOpen (place_of w.framing s) (OpenBitString h)
+    → HasZipper (record w { phase = phase.Between; offset = w.offset + 1; events = w.events + 1 }) (b ++ 0 ∷ []) (yielded ++ Unused ∷ [])
     (record { layers = record { before = s.here; header = h } ∷ s.layers; here = NoMore; tail = Between })
-unused_state w b past s h has a =
+unused_state w b yielded s h has a =
     let k : h.constructed ≡ false = lead_primitive h.constructed (eqb h.number 3) a.1 in
     record {
       spelled = layer_spelled s.layers s.here h (octets_of h) (0 ∷ []) b (ap (λ (l : List ℕ). octets_of h ++ l) (sym a.1)) has.spelled;
@@ -203,7 +203,7 @@ unused_state w b past s h has a =
       layers = (has.layers, has.here, a.0);
       here = record { is_open = tt; whole = refl };
       phase = tt;
-      same_events = layer_past past s.layers s.here h (Enter h ∷ []) (Unused ∷ [])
+      same_events = layer_yielded yielded s.layers s.here h (Enter h ∷ []) (Unused ∷ [])
           (ap (λ (c : Bool). (if c then Open h else Enter h) ∷ map (λ z. Unused) (lead h)) k ∙ ap (λ (l : List ℕ). Enter h ∷ map (λ z. Unused) l) a.1) has.same_events;
       element = has.element;
     }
@@ -213,22 +213,22 @@ pub yields_unused : (w : WalkerState) → w.phase ≡ phase.InBitString
 yields_unused w e = record {
   framing = refl;
   found = refl;
-  goes = λ b past s has.
-      let t = lead_tail s.tail _ (phase_at w b past s _ e has) in
-      let has' : HasZipper w b past (with_tail s (InBitString t.0)) = tail_state w b past s _ t.1 has in
-      (_, unused_state w b past s t.0 has' (phase_at w b past (with_tail s (InBitString t.0)) _ e has'));
+  goes = λ b yielded s has.
+      let t = lead_tail s.tail _ (phase_at w b yielded s _ e has) in
+      let has' : HasZipper w b yielded (with_tail s (InBitString t.0)) = tail_state w b yielded s _ t.1 has in
+      (_, unused_state w b yielded s t.0 has' (phase_at w b yielded (with_tail s (InBitString t.0)) _ e has'));
 }
 
 -- more octets of a header
-pub front_state : (w : WalkerState) (b : List ℕ) (past : List EventValue) (s : Zipper) (r q : HeadReaderState) (t : List ℕ) → AtHeader w b past s r → q.octets ≡ r.octets ++ t → q.offset ≡ r.offset
+pub front_state : (w : WalkerState) (b : List ℕ) (yielded : List EventValue) (s : Zipper) (r q : HeadReaderState) (t : List ℕ) → AtHeader w b yielded s r → q.octets ≡ r.octets ++ t → q.offset ≡ r.offset
     → q.named ≡ r.named → (q.octets ≡ [] → ⊥) → IsFront q.octets → IsWithin (bound_of w.stack) (q.offset + length q.octets)
-    → HasZipper (record w { phase = phase.InHeader q; offset = q.offset + length q.octets; has_element = true }) (b ++ t) (past ++ []) (with_tail s (InHeader q.octets))
-front_state w b past s r q t at o f n some front fits =
+    → HasZipper (record w { phase = phase.InHeader q; offset = q.offset + length q.octets; has_element = true }) (b ++ t) (yielded ++ []) (with_tail s (InHeader q.octets))
+front_state w b yielded s r q t at o f n some front fits =
     let bound : bound_of w.stack ≡ (place_in w.framing s.layers).bound = ap bound_of at.stack ∙ sym (place-bound w.framing s.layers) in
     let place : q.offset ≡ (place_of w.framing s).at = f ∙ at.offset in
     record {
       spelled = spelled_after s.layers s.here (spelling_of_tail s.tail) q.octets t b (o ∙ ap (λ (x : List ℕ). x ++ t) (sym at.octets)) at.has.spelled;
-      offset = omega (arith, f, at.offset, ap length o, ap length at.octets, length-append r.octets t, length-append b t, at.has.offset, place-offset w b past s at.has);
+      offset = omega (arith, f, at.offset, ap length o, ap length at.octets, length-append r.octets t, length-append b t, at.has.offset, place-offset w b yielded s at.has);
       stack = at.stack;
       layers = at.has.layers;
       here = at.has.here;
@@ -242,6 +242,6 @@ front_state w b past s r q t at o f n some front fits =
           subst (λ (m : ℕ). IsWithin (place_in w.framing s.layers).bound (m + length q.octets)) place (subst (λ (x : Option ℕ). IsWithin x (q.offset + length q.octets)) bound fits),
         ),
       );
-      same_events = past_after past s.layers s.here [] [] [] (quiet_past w b past s r at) refl;
+      same_events = yielded_after yielded s.layers s.here [] [] [] (quiet_yielded w b yielded s r at) refl;
       element = refl;
     }

@@ -127,11 +127,11 @@ octets_tail phase.InEndOctets InEndOctets p i k = absurd k
 octets_tail f t p i k = absurd i
 
 -- a walker that has yielded an event of each octet
-pub stands-past_octets : (w : WalkerState) (b : List ℕ) (past : List EventValue) → Stands w b past → IsAfterEvent w.phase → flat_map event_octets past ≡ b
-stands-past_octets w b past st k =
+pub stands-yielded_octets : (w : WalkerState) (b : List ℕ) (yielded : List EventValue) → Stands w b yielded → IsAfterEvent w.phase → flat_map event_octets yielded ≡ b
+stands-yielded_octets w b yielded st k =
     let s : Zipper = st.private_state.state in
-    let h : HasZipper w b past s = st.private_state.has_state in
-    octets_joined past (events_of_zipper s) h.same_events
+    let h : HasZipper w b yielded s = st.private_state.has_state in
+    octets_joined yielded (events_of_zipper s) h.same_events
     ∙ octets_append (events_of_layers s.layers) (events s.here ++ events_of_tail s.tail)
     ∙ ap (λ (t : List ℕ). t ++ flat_map event_octets (events s.here ++ events_of_tail s.tail)) (octets_layers w.framing s.layers h.layers)
     ∙ ap (λ (t : List ℕ). spelling_of_layers s.layers ++ t) (

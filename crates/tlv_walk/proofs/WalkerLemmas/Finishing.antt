@@ -3,22 +3,22 @@ use Rattle.std.proofs.Common.{◌≡◌, ℕ, true, false, List, [], sym, subst}
 use Rattle.tlv_head.specs.declared.fault.FaultCode.TheVariants.{Empty, Short}
 use Rattle.tlv_walk.specs.declared.ending.Ending.TheVariants as ending
 use Rattle.tlv_walk.specs.Phase as phase
-use Rattle.tlv_walk.specs.Ending.{IsEnding, fault}
+use Rattle.tlv_walk.specs.Ending.{IsEnding, fault_ending}
 use Rattle.tlv_walk.specs.Events.{EventValue}
 use Rattle.tlv_walk.specs.WalkerState.{WalkerState}
 use Rattle.tlv_walk.specs.Private.WalkerState.{EventWaits, fault_at}
 use Rattle.tlv_walk.specs.Stands.{Stands}
 use Rattle.tlv_walk.proofs.WalkerLemmas.ZipperEndings.{state-done, state-empty, state-short}
 
-pub finish_done : (w : WalkerState) (b : List ℕ) (past : List EventValue) → Stands w b past → w.phase ≡ phase.Between → w.stack ≡ [] → w.has_element ≡ true → IsEnding w.framing b ending.Done
-finish_done w b past st e none some = state-done w b past st.private_state.state st.private_state.has_state e none some
+pub finish_done : (w : WalkerState) (b : List ℕ) (yielded : List EventValue) → Stands w b yielded → w.phase ≡ phase.Between → w.stack ≡ [] → w.has_element ≡ true → IsEnding w.framing b ending.Done
+finish_done w b yielded st e none some = state-done w b yielded st.private_state.state st.private_state.has_state e none some
 
-pub finish_empty : (w : WalkerState) (b : List ℕ) (past : List EventValue) → Stands w b past → w.phase ≡ phase.Between → w.stack ≡ [] → w.has_element ≡ false
+pub finish_empty : (w : WalkerState) (b : List ℕ) (yielded : List EventValue) → Stands w b yielded → w.phase ≡ phase.Between → w.stack ≡ [] → w.has_element ≡ false
     → IsEnding w.framing b (ending.Fault (fault_at Empty w.offset))
-finish_empty w b past st e none no_element =
-    subst (λ (n : ℕ). IsEnding w.framing b (fault Empty n)) (sym st.private_state.has_state.offset) (state-empty w b past st.private_state.state st.private_state.has_state e none no_element)
+finish_empty w b yielded st e none no_element =
+    subst (λ (n : ℕ). IsEnding w.framing b (fault_ending Empty n)) (sym st.private_state.has_state.offset) (state-empty w b yielded st.private_state.state st.private_state.has_state e none no_element)
 
-pub finish_short : (w : WalkerState) (b : List ℕ) (past : List EventValue) → Stands w b past → (EventWaits w → ⊥) → (w.phase ≡ phase.Between → w.stack ≡ [] → ⊥)
+pub finish_short : (w : WalkerState) (b : List ℕ) (yielded : List EventValue) → Stands w b yielded → (EventWaits w → ⊥) → (w.phase ≡ phase.Between → w.stack ≡ [] → ⊥)
     → IsEnding w.framing b (ending.Fault (fault_at Short w.offset))
-finish_short w b past st idle inside =
-    subst (λ (n : ℕ). IsEnding w.framing b (fault Short n)) (sym st.private_state.has_state.offset) (state-short w b past st.private_state.state st.private_state.has_state idle inside)
+finish_short w b yielded st idle inside =
+    subst (λ (n : ℕ). IsEnding w.framing b (fault_ending Short n)) (sym st.private_state.has_state.offset) (state-short w b yielded st.private_state.state st.private_state.has_state idle inside)

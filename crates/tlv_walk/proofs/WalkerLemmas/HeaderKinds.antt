@@ -15,11 +15,11 @@ use Rattle.tlv_walk.specs.Events.{Begin, Enter, EventValue, Open}
 use Rattle.tlv_walk.specs.Forest.{NoMore, lead}
 use Rattle.tlv_walk.specs.WalkerState.{WalkerState}
 use Rattle.tlv_walk.specs.Private.Stack.{frame_with}
-use Rattle.tlv_walk.specs.Private.WalkerState.{CanEnter, Enters, after_header, next_wrapper, wrappers_after}
+use Rattle.tlv_walk.specs.Private.WalkerState.{CanEnter, TakesHeader, after_header, next_wrapper, wrappers_after}
 use Rattle.tlv_walk.specs.Wrappers.{wrapper_offsets}
 use Rattle.tlv_walk.specs.Inside.{is_among}
 use Rattle.tlv_walk.specs.Stack.{Frame, IsWithin, bound_of}
-use Rattle.tlv_walk.specs.Private.Steps.{Continues}
+use Rattle.tlv_walk.specs.Private.Yields.{Continues}
 use Rattle.tlv_head.specs.ReadHeader.{BeginsWithFields}
 use Rattle.tlv_head.specs.Refusal.{BeginsWith}
 use Rattle.tlv_walk.specs.Private.Zipper.{Between, HasZipper, InPrimitive, Zipper, frame_at, place_of}
@@ -35,9 +35,9 @@ event_of kind.Wrapper h = Enter h
 event_of kind.Primitive h = Begin h
 
 -- the frame that the walker pushes is that of the place
-frame_there : (w : WalkerState) (b : List ℕ) (past : List EventValue) (s : Zipper) (r : HeadReaderState) (t : List ℕ) (h : HeaderValue) → AtHeader w b past s r → Completed w r t h
+frame_there : (w : WalkerState) (b : List ℕ) (yielded : List EventValue) (s : Zipper) (r : HeadReaderState) (t : List ℕ) (h : HeaderValue) → AtHeader w b yielded s r → Completed w r t h
     → frame_at (place_of w.framing s) h ≡ frame_with (h.offset + length (octets_of h)) (bound_of w.stack) h.size h.constructed
-frame_there w b past s r t h at c =
+frame_there w b yielded s r t h at c =
     ap (λ (n : ℕ). frame_with (n + length (octets_of h)) (place_of w.framing s).bound h.size h.constructed) (sym (c.offset ∙ at.offset))
     ∙ ap (λ (x : Option ℕ). frame_with (h.offset + length (octets_of h)) x h.size h.constructed) (place-bound w.framing s.layers ∙ ap bound_of (sym at.stack))
 
@@ -47,11 +47,11 @@ machine_in_element w h f k =
     record (after_header w f (h.offset + length (octets_of h))) { stack = frame_with (h.offset + length (octets_of h)) (bound_of w.stack) h.size h.constructed ∷ w.stack; wrapper_count = k }
 
 -- the state is that of a walker which pushed the frame
-pushed : (w : WalkerState) (b : List ℕ) (past : List EventValue) (s : Zipper) (r : HeadReaderState) (t : List ℕ) (h : HeaderValue) (f : Phase) (k : ℕ) (e : EventValue) (u : Zipper) → AtHeader w b past s r → Completed w r t h
-    → HasZipper (record (after_header w f (h.offset + length (octets_of h))) { stack = frame_at (place_of w.framing s) h ∷ w.stack; wrapper_count = k }) (b ++ t) (past ++ e ∷ []) u
-    → HasZipper (machine_in_element w h f k) (b ++ t) (past ++ e ∷ []) u
-pushed w b past s r t h f k e u at c has =
-    subst (λ (x : Frame). HasZipper (record (after_header w f (h.offset + length (octets_of h))) { stack = x ∷ w.stack; wrapper_count = k }) (b ++ t) (past ++ e ∷ []) u) (frame_there w b past s r t h at c) has
+pushed : (w : WalkerState) (b : List ℕ) (yielded : List EventValue) (s : Zipper) (r : HeadReaderState) (t : List ℕ) (h : HeaderValue) (f : Phase) (k : ℕ) (e : EventValue) (u : Zipper) → AtHeader w b yielded s r → Completed w r t h
+    → HasZipper (record (after_header w f (h.offset + length (octets_of h))) { stack = frame_at (place_of w.framing s) h ∷ w.stack; wrapper_count = k }) (b ++ t) (yielded ++ e ∷ []) u
+    → HasZipper (machine_in_element w h f k) (b ++ t) (yielded ++ e ∷ []) u
+pushed w b yielded s r t h f k e u at c has =
+    subst (λ (x : Frame). HasZipper (record (after_header w f (h.offset + length (octets_of h))) { stack = x ∷ w.stack; wrapper_count = k }) (b ++ t) (yielded ++ e ∷ []) u) (frame_there w b yielded s r t h at c) has
 
 lead_at : (h : HeaderValue) (k n : Bool) → h.constructed ≡ k → eqb h.number 3 ≡ n → lead h ≡ lead_by k n
 lead_at h k n e f = ap (λ (c : Bool). lead_by c (eqb h.number 3)) e ∙ ap (lead_by k) f
@@ -66,62 +66,62 @@ or-right a b e f = ap (λ (x : Bool). x || b) e ∙ f
 abbrev inside_state : Zipper → HeaderValue → Zipper
 inside_state s h = record { layers = record { before = s.here; header = h } ∷ s.layers; here = NoMore; tail = Between }
 
-constructed_enters : (w : WalkerState) (b : List ℕ) (past : List EventValue) (s : Zipper) (r : HeadReaderState) (t : List ℕ) (h : HeaderValue) → AtHeader w b past s r → Completed w r t h → h.constructed ≡ true
-    → (u : Zipper) × HasZipper (machine_in_element w h phase.Between w.wrapper_count) (b ++ t) (past ++ Open h ∷ []) u
-constructed_enters w b past s r t h at c k =
+constructed_enters : (w : WalkerState) (b : List ℕ) (yielded : List EventValue) (s : Zipper) (r : HeadReaderState) (t : List ℕ) (h : HeaderValue) → AtHeader w b yielded s r → Completed w r t h → h.constructed ≡ true
+    → (u : Zipper) × HasZipper (machine_in_element w h phase.Between w.wrapper_count) (b ++ t) (yielded ++ Open h ∷ []) u
+constructed_enters w b yielded s r t h at c k =
     let none : lead h ≡ [] = lead_at h true (eqb h.number 3) k refl in
-    let has = holding_state w b past s r t h w.wrapper_count at c (or-left h.constructed _ k) none in (
+    let has = holding_state w b yielded s r t h w.wrapper_count at c (or-left h.constructed _ k) none in (
       _,
-      pushed w b past s r t h phase.Between w.wrapper_count (Open h) _ at c
-          (subst (λ (e : EventValue). HasZipper (record (after_header w phase.Between (h.offset + length (octets_of h))) { stack = frame_at (place_of w.framing s) h ∷ w.stack; wrapper_count = w.wrapper_count }) (b ++ t) (past ++ e ∷ []) (inside_state s h))
+      pushed w b yielded s r t h phase.Between w.wrapper_count (Open h) _ at c
+          (subst (λ (e : EventValue). HasZipper (record (after_header w phase.Between (h.offset + length (octets_of h))) { stack = frame_at (place_of w.framing s) h ∷ w.stack; wrapper_count = w.wrapper_count }) (b ++ t) (yielded ++ e ∷ []) (inside_state s h))
           (ap (λ (x : Bool). if x then Open h else Enter h) k) has),
     )
 
-wrapper_enters : (w : WalkerState) (b : List ℕ) (past : List EventValue) (s : Zipper) (r : HeadReaderState) (t : List ℕ) (h : HeaderValue) (n : ℕ) → AtHeader w b past s r → Completed w r t h → h.constructed ≡ false → holds h ≡ true
-    → (bits : Bool) → eqb h.number 3 ≡ bits → (u : Zipper) × HasZipper (machine_in_element w h (if bits then phase.InBitString else phase.Between) n) (b ++ t) (past ++ Enter h ∷ []) u
-wrapper_enters w b past s r t h n at c k hold true bits =
+wrapper_enters : (w : WalkerState) (b : List ℕ) (yielded : List EventValue) (s : Zipper) (r : HeadReaderState) (t : List ℕ) (h : HeaderValue) (n : ℕ) → AtHeader w b yielded s r → Completed w r t h → h.constructed ≡ false → holds h ≡ true
+    → (bits : Bool) → eqb h.number 3 ≡ bits → (u : Zipper) × HasZipper (machine_in_element w h (if bits then phase.InBitString else phase.Between) n) (b ++ t) (yielded ++ Enter h ∷ []) u
+wrapper_enters w b yielded s r t h n at c k hold true bits =
     let one : lead h ≡ 0 ∷ [] = lead_at h false true k bits in
-    (_, pushed w b past s r t h phase.InBitString n (Enter h) _ at c (lead_state w b past s r t h n at c hold one))
-wrapper_enters w b past s r t h n at c k hold false bits =
+    (_, pushed w b yielded s r t h phase.InBitString n (Enter h) _ at c (lead_state w b yielded s r t h n at c hold one))
+wrapper_enters w b yielded s r t h n at c k hold false bits =
     let none : lead h ≡ [] = lead_at h false false k bits in
-    let has = holding_state w b past s r t h n at c hold none in (
+    let has = holding_state w b yielded s r t h n at c hold none in (
       _,
-      pushed w b past s r t h phase.Between n (Enter h) _ at c
-          (subst (λ (e : EventValue). HasZipper (record (after_header w phase.Between (h.offset + length (octets_of h))) { stack = frame_at (place_of w.framing s) h ∷ w.stack; wrapper_count = n }) (b ++ t) (past ++ e ∷ []) (inside_state s h))
+      pushed w b yielded s r t h phase.Between n (Enter h) _ at c
+          (subst (λ (e : EventValue). HasZipper (record (after_header w phase.Between (h.offset + length (octets_of h))) { stack = frame_at (place_of w.framing s) h ∷ w.stack; wrapper_count = n }) (b ++ t) (yielded ++ e ∷ []) (inside_state s h))
           (ap (λ (x : Bool). if x then Open h else Enter h) k) has),
     )
 
-primitive_enters : (w : WalkerState) (b : List ℕ) (past : List EventValue) (s : Zipper) (r : HeadReaderState) (t : List ℕ) (h : HeaderValue) → AtHeader w b past s r → Completed w r t h → holds h ≡ false
-    → (u : Zipper) × HasZipper (after_header w (phase.InPrimitive (announced_length h.size)) (h.offset + length (octets_of h))) (b ++ t) (past ++ Begin h ∷ []) u
-primitive_enters w b past s r t h at c no_hold =
+primitive_enters : (w : WalkerState) (b : List ℕ) (yielded : List EventValue) (s : Zipper) (r : HeadReaderState) (t : List ℕ) (h : HeaderValue) → AtHeader w b yielded s r → Completed w r t h → holds h ≡ false
+    → (u : Zipper) × HasZipper (after_header w (phase.InPrimitive (announced_length h.size)) (h.offset + length (octets_of h))) (b ++ t) (yielded ++ Begin h ∷ []) u
+primitive_enters w b yielded s r t h at c no_hold =
     let size : (n : ℕ) × (h.size ≡ Definite n) = size-definite h c.valid no_hold in (
       _,
-      subst (λ (n : ℕ). HasZipper (after_header w (phase.InPrimitive n) (h.offset + length (octets_of h))) (b ++ t) (past ++ Begin h ∷ []) (with_tail s (InPrimitive h []))) (sym (ap announced_length size.1))
-          (primitive_state w b past s r t h size.0 at c no_hold size.1),
+      subst (λ (n : ℕ). HasZipper (after_header w (phase.InPrimitive n) (h.offset + length (octets_of h))) (b ++ t) (yielded ++ Begin h ∷ []) (with_tail s (InPrimitive h []))) (sym (ap announced_length size.1))
+          (primitive_state w b yielded s r t h size.0 at c no_hold size.1),
     )
 
 -- after a header a walker stands as it says
-pub enters_state : (w v : WalkerState) (b : List ℕ) (past : List EventValue) (s : Zipper) (r : HeadReaderState) (t : List ℕ) (f : HeaderFields) (o : List ℕ) (k : HeaderKind) → AtHeader w b past s r
-    → Completed w r t (header_with f o) → Enters w v f (f.offset + length (octets_of (header_with f o))) k
-    → (u : Zipper) × HasZipper v (b ++ t) (past ++ event_of k (header_with f o) ∷ []) u
-enters_state w v b past s r t f o kind.Primitive at c e =
-    let u = primitive_enters w b past s r t (header_with f o) at c e.0 in
-    (u.0, subst (λ (m : WalkerState). HasZipper m (b ++ t) (past ++ Begin (header_with f o) ∷ []) u.0) (sym e.1) u.1)
-enters_state w v b past s r t f o kind.Constructed at c e =
-    let u = constructed_enters w b past s r t (header_with f o) at c e.0 in
-    (u.0, subst (λ (m : WalkerState). HasZipper m (b ++ t) (past ++ Open (header_with f o) ∷ []) u.0) (sym e.1) u.1)
-enters_state w v b past s r t f o kind.Wrapper at c e =
-    let u = wrapper_enters w b past s r t (header_with f o) (next_wrapper w.framing.inside w.wrapper_count f.offset) at c e.0 (or-right f.constructed _ e.0 e.1) (eqb f.number 3) refl in
-    (u.0, subst (λ (m : WalkerState). HasZipper m (b ++ t) (past ++ Enter (header_with f o) ∷ []) u.0) (sym e.2) u.1)
+pub enters_state : (w v : WalkerState) (b : List ℕ) (yielded : List EventValue) (s : Zipper) (r : HeadReaderState) (t : List ℕ) (f : HeaderFields) (o : List ℕ) (k : HeaderKind) → AtHeader w b yielded s r
+    → Completed w r t (header_with f o) → TakesHeader w v f (f.offset + length (octets_of (header_with f o))) k
+    → (u : Zipper) × HasZipper v (b ++ t) (yielded ++ event_of k (header_with f o) ∷ []) u
+enters_state w v b yielded s r t f o kind.Primitive at c e =
+    let u = primitive_enters w b yielded s r t (header_with f o) at c e.0 in
+    (u.0, subst (λ (m : WalkerState). HasZipper m (b ++ t) (yielded ++ Begin (header_with f o) ∷ []) u.0) (sym e.1) u.1)
+enters_state w v b yielded s r t f o kind.Constructed at c e =
+    let u = constructed_enters w b yielded s r t (header_with f o) at c e.0 in
+    (u.0, subst (λ (m : WalkerState). HasZipper m (b ++ t) (yielded ++ Open (header_with f o) ∷ []) u.0) (sym e.1) u.1)
+enters_state w v b yielded s r t f o kind.Wrapper at c e =
+    let u = wrapper_enters w b yielded s r t (header_with f o) (next_wrapper w.framing.inside w.wrapper_count f.offset) at c e.0 (or-right f.constructed _ e.0 e.1) (eqb f.number 3) refl in
+    (u.0, subst (λ (m : WalkerState). HasZipper m (b ++ t) (yielded ++ Enter (header_with f o) ∷ []) u.0) (sym e.2) u.1)
 
 -- the framing stays
-pub enters_framing : (w v : WalkerState) (f : HeaderFields) (at : ℕ) (k : HeaderKind) → Enters w v f at k → v.framing ≡ w.framing
+pub enters_framing : (w v : WalkerState) (f : HeaderFields) (at : ℕ) (k : HeaderKind) → TakesHeader w v f at k → v.framing ≡ w.framing
 enters_framing w v f at kind.Primitive e = ap (λ (m : WalkerState). m.framing) e.1
 enters_framing w v f at kind.Constructed e = ap (λ (m : WalkerState). m.framing) e.1
 enters_framing w v f at kind.Wrapper e = ap (λ (m : WalkerState). m.framing) e.2
 
 -- a wrapper may be one of the named offsets
-pub enters_found : (w v : WalkerState) (f : HeaderFields) (o : List ℕ) (at : ℕ) (k : HeaderKind) → Enters w v f at k → v.wrapper_count ≡ wrappers_after w.framing.inside w.wrapper_count (wrapper_offsets (event_of k (header_with f o) ∷ []))
+pub enters_found : (w v : WalkerState) (f : HeaderFields) (o : List ℕ) (at : ℕ) (k : HeaderKind) → TakesHeader w v f at k → v.wrapper_count ≡ wrappers_after w.framing.inside w.wrapper_count (wrapper_offsets (event_of k (header_with f o) ∷ []))
 enters_found w v f o at kind.Primitive e = ap (λ (m : WalkerState). m.wrapper_count) e.1
 enters_found w v f o at kind.Constructed e = ap (λ (m : WalkerState). m.wrapper_count) e.1
 enters_found w v f o at kind.Wrapper e = ap (λ (m : WalkerState). m.wrapper_count) e.2
@@ -130,7 +130,7 @@ enters_found w v f o at kind.Wrapper e = ap (λ (m : WalkerState). m.wrapper_cou
 pub fast_enters : (w v : WalkerState) (piece : List ℕ) (named : Bool) (f : HeaderFields) (count : ℕ) (o : List ℕ) (k : HeaderKind) → w.phase ≡ phase.Between
     → BeginsWithFields piece w.offset named f count → o ≡ take count piece → named ≡ is_among w.offset w.framing.inside
     → (holds (header_with f o) ≡ true → length w.stack < 128) → IsWithin (bound_of w.stack) (f.offset + length o + announced_length f.size)
-    → Enters w v f (f.offset + length o) k → Continues w v o (event_of k (header_with f o) ∷ [])
+    → TakesHeader w v f (f.offset + length o) k → Continues w v o (event_of k (header_with f o) ∷ [])
 fast_enters w v piece named f count o k e begins front name shallow fits enter =
     let h : HeaderValue = header_with f o in
     let whole : octets_of h ≡ o = take-append-drop f.id_len o in
@@ -147,9 +147,9 @@ fast_enters w v piece named f count o k e begins front name shallow fits enter =
     record {
       framing = enters_framing w v f (f.offset + length o) k enter;
       found = enters_found w v f o (f.offset + length o) k enter;
-      goes = λ b past s has.
-          enters_state w v b past (with_tail s Between) r o f o k (at_new w b past s r has e refl refl name) completed
-          (subst (λ (x : List ℕ). Enters w v f (f.offset + length x) k) (sym whole) enter);
+      goes = λ b yielded s has.
+          enters_state w v b yielded (with_tail s Between) r o f o k (at_new w b yielded s r has e refl refl name) completed
+          (subst (λ (x : List ℕ). TakesHeader w v f (f.offset + length x) k) (sym whole) enter);
     }
 
 -- such a header may stand there
@@ -170,7 +170,7 @@ fast_may_enter w piece named f count o begins front fewer limit shallow fits =
     }
 
 -- a constructed header begins a constructed element
-pub constructed_kind : (w v : WalkerState) (f : HeaderFields) (at : ℕ) (k : HeaderKind) → f.constructed ≡ true → Enters w v f at k → k ≡ kind.Constructed
+pub constructed_kind : (w v : WalkerState) (f : HeaderFields) (at : ℕ) (k : HeaderKind) → f.constructed ≡ true → TakesHeader w v f at k → k ≡ kind.Constructed
 constructed_kind w v f at kind.Constructed c e = refl
 constructed_kind w v f at kind.Primitive c e =
     absurd (true≢false (sym (ap (λ (k : Bool). k || is_wrapper f.named f.class f.constructed f.number f.size) c) ∙ e.0))

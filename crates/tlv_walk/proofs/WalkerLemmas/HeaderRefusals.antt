@@ -12,7 +12,7 @@ use Rattle.tlv_head.specs.HeadReaderState.{ContentsFit, HeadReaderState}
 use Rattle.tlv_head.specs.Push.{Completes, IsRefusedPush}
 use Rattle.tlv_head.proofs.Front.{header-two}
 use Rattle.tlv_walk.specs.Phase as phase
-use Rattle.tlv_walk.specs.Ending.{IsEnding, IsFault, fault, no_room, overrun, refused_octet, too_deep}
+use Rattle.tlv_walk.specs.Ending.{IsEnding, IsFault, fault_ending, no_room, overrun, refused_octet, too_deep}
 use Rattle.tlv_walk.specs.Forest.{OpenHeader}
 use Rattle.tlv_walk.specs.Events.{EventValue}
 use Rattle.tlv_walk.specs.Inside.{is_among}
@@ -22,7 +22,7 @@ use Rattle.tlv_walk.specs.Private.ReadsOn.{HandsOver}
 use Rattle.tlv_walk.specs.Stack.{Frame, IsWithin, bound_of}
 use Rattle.tlv_walk.specs.Private.Stack.{room_to}
 use Rattle.tlv_walk.specs.Private.Zipper.{HasZipper, InHeader, Zipper, place_of}
-use Rattle.tlv_walk.specs.Private.Steps.{RefusesOctet}
+use Rattle.tlv_walk.specs.Private.Yields.{RefusesOctet}
 use Rattle.tlv_walk.proofs.WalkerLemmas.HeaderSteps.{HasTaken, TakenState, in_header, taken_state}
 use Rattle.tlv_walk.proofs.WalkerLemmas.Moves.{phase_at, with_tail}
 use Rattle.tlv_walk.proofs.WalkerLemmas.Places.{place-bound, place-depth}
@@ -101,11 +101,11 @@ refused_fault p q room depth x code k f = refused_octet (room_there p q room dep
 -- ---- a walker refuses it
 
 -- the reader of a walker inside a header stands where its state says
-reader_there : (w : WalkerState) (b : List ℕ) (past : List EventValue) (s : Zipper) (q : HeadReaderState) (depth : ℕ) → w.phase ≡ phase.InHeader q → HasZipper w b past (with_tail s (InHeader q.octets)) → depth ≡ length w.stack
+reader_there : (w : WalkerState) (b : List ℕ) (yielded : List EventValue) (s : Zipper) (q : HeadReaderState) (depth : ℕ) → w.phase ≡ phase.InHeader q → HasZipper w b yielded (with_tail s (InHeader q.octets)) → depth ≡ length w.stack
     → IsReader (place_of w.framing s) q (room_to (bound_of w.stack) (q.offset + length q.octets)) depth
-reader_there w b past s q depth e has d =
+reader_there w b yielded s q depth e has d =
     let p : Place = place_of w.framing s in
-    let at = phase_at w b past (with_tail s (InHeader q.octets)) (phase.InHeader q) e has in
+    let at = phase_at w b yielded (with_tail s (InHeader q.octets)) (phase.InHeader q) e has in
     let bound : bound_of w.stack ≡ p.bound = ap bound_of has.stack ∙ sym (place-bound w.framing s.layers) in
     record {
       offset = at.1;
@@ -116,34 +116,34 @@ reader_there w b past s q depth e has d =
     }
 
 -- the octet that its reader refuses
-pub refuses_header : (w u : WalkerState) (r q : HeadReaderState) (before after rest : List ℕ) (x depth at : ℕ) (f : Fault) → HandsOver w u r → HasTaken r q before after → after ≡ x ∷ rest
+pub refuses_header : (w u : WalkerState) (r q : HeadReaderState) (piece rest others : List ℕ) (x depth at : ℕ) (f : Fault) → HandsOver w u r → HasTaken r q piece rest → rest ≡ x ∷ others
     → IsWithin (bound_of u.stack) at → q.offset + length q.octets ≡ at → depth ≡ length u.stack
     → (q.octets ≡ [] → room_to (bound_of u.stack) at ≢ Some 0) → IsRefusedPush f.code q x (room_to (bound_of u.stack) at) depth → f.offset ≡ q.offset + length q.octets
-    → RefusesOctet w before after f
-refuses_header w u r q before after rest x depth at f over k e within place deep room refused there =
+    → RefusesOctet w piece rest f
+refuses_header w u r q piece rest others x depth at f over k e within place deep room refused there =
     let some : q.octets ≡ [] → ⊥ = λ none. refused-some f.code q x _ depth refused (room none) none in record {
       taken = k.taken;
       octet = x;
-      rest = rest;
-      before_is = k.piece ∙ ap (λ (l : List ℕ). k.taken ++ l) e;
-      after_is = e;
-      refuses = λ b past s has.
-          let t : TakenState w u q k.taken b past = taken_state w u r q before after over k some (subst (IsWithin (bound_of u.stack)) (sym place) within) b past s has in
-          let has' : HasZipper (in_header w q) (b ++ k.taken) past (with_tail t.state (InHeader q.octets)) =
-          subst (λ (es : List EventValue). HasZipper (in_header w q) (b ++ k.taken) es (with_tail t.state (InHeader q.octets))) (append-nil past) t.has in
+      others = others;
+      piece_is = k.piece_is ∙ ap (λ (l : List ℕ). k.taken ++ l) e;
+      rest_is = e;
+      refuses = λ b yielded s has.
+          let t : TakenState w u q k.taken b yielded = taken_state w u r q piece rest over k some (subst (IsWithin (bound_of u.stack)) (sym place) within) b yielded s has in
+          let has' : HasZipper (in_header w q) (b ++ k.taken) yielded (with_tail t.state (InHeader q.octets)) =
+          subst (λ (es : List EventValue). HasZipper (in_header w q) (b ++ k.taken) es (with_tail t.state (InHeader q.octets))) (append-nil yielded) t.has in
           let same : u.stack ≡ w.stack = ap (λ (m : WalkerState). m.stack) t.same in
           let left : room_to (bound_of u.stack) at ≡ room_to (bound_of w.stack) (q.offset + length q.octets) =
           ap (λ (fs : List Frame). room_to (bound_of fs) at) same ∙ ap (room_to (bound_of w.stack)) (sym place) in
           let faulty : IsFault (place_of w.framing t.state) x (OpenHeader q.octets) f.code =
-          refused_fault _ q _ depth x f.code (reader_there (in_header w q) (b ++ k.taken) past t.state q depth refl has' (deep ∙ ap length same))
+          refused_fault _ q _ depth x f.code (reader_there (in_header w q) (b ++ k.taken) yielded t.state q depth refl has' (deep ∙ ap length same))
           (subst (λ (o : Option ℕ). IsRefusedPush f.code q x o depth) left refused) in record {
             walker = in_header w q;
             state = with_tail t.state (InHeader q.octets);
             has_state = has';
             idle = λ z. z;
             offset = there;
-            ends = λ c. subst (λ (n : ℕ). IsEnding w.framing ((b ++ k.taken) ++ x ∷ c) (fault f.code n)) (sym has'.offset ∙ sym there)
-                (state-fault (in_header w q) (b ++ k.taken) past (with_tail t.state (InHeader q.octets)) x c f.code has' (λ z. z) faulty);
+            ends = λ c. subst (λ (n : ℕ). IsEnding w.framing ((b ++ k.taken) ++ x ∷ c) (fault_ending f.code n)) (sym has'.offset ∙ sym there)
+                (state-fault (in_header w q) (b ++ k.taken) yielded (with_tail t.state (InHeader q.octets)) x c f.code has' (λ z. z) faulty);
             framing = refl;
             stack = refl;
           };

@@ -17,13 +17,13 @@ use Rattle.tlv_walk.specs.Phase as phase
 use Rattle.tlv_walk.specs.Events.{EventValue}
 use Rattle.tlv_walk.specs.declared.framing.Framing.{Framing}
 use Rattle.tlv_walk.specs.WalkerState.{WalkerState}
-use Rattle.tlv_walk.specs.Private.WalkerState.{CanEnter, Enters, wrappers_after}
+use Rattle.tlv_walk.specs.Private.WalkerState.{CanEnter, TakesHeader, wrappers_after}
 use Rattle.tlv_walk.specs.Wrappers.{wrapper_offsets}
 use Rattle.tlv_walk.specs.Private.ReadsOn.{CompletesHeader, HandsOver, YieldsHeader}
 use Rattle.tlv_walk.specs.Stack.{IsWithin, bound_of}
 use Rattle.tlv_walk.specs.Private.Stack.{room_to}
 use Rattle.tlv_walk.specs.Private.Zipper.{Between, HasZipper, InHeader, IsPhaseOf, Zipper, place_of}
-use Rattle.tlv_walk.specs.Private.Steps.{Continues, YieldsEvent}
+use Rattle.tlv_walk.specs.Private.Yields.{Continues, YieldsEvent}
 use Rattle.tlv_walk.proofs.WalkerLemmas.Entering.{AtHeader, Completed, at_front, at_new, front_state}
 use Rattle.tlv_walk.proofs.WalkerLemmas.HeaderKinds.{enters_found, enters_framing, enters_state, event_of}
 use Rattle.tlv_walk.proofs.WalkerLemmas.Moves.{phase_at, with_tail}
@@ -31,31 +31,31 @@ use Rattle.tlv_walk.proofs.WalkerLemmas.Moves.{phase_at, with_tail}
 -- ---- the walker that the reader was taken from
 
 -- it stands at the header of that reader
-pub handed : (w u : WalkerState) (r : HeadReaderState) → HandsOver w u r → (b : List ℕ) (past : List EventValue) (s : Zipper) → HasZipper w b past s
-    → (t : Zipper) × AtHeader w b past t r × (u ≡ record w { phase = phase.Between; has_element = true })
-handed w u r (inl h) b past s has =
-    let a = at_front w b past s r has h.0 in
+pub handed : (w u : WalkerState) (r : HeadReaderState) → HandsOver w u r → (b : List ℕ) (yielded : List EventValue) (s : Zipper) → HasZipper w b yielded s
+    → (t : Zipper) × AtHeader w b yielded t r × (u ≡ record w { phase = phase.Between; has_element = true })
+handed w u r (inl h) b yielded s has =
+    let a = at_front w b yielded s r has h.0 in
     (with_tail s (InHeader a.0), a.1, h.1 ∙ ap (λ (k : Bool). record w { phase = phase.Between; has_element = k }) a.1.has.element)
-handed w u r (inr h) b past s has = (
+handed w u r (inr h) b yielded s has = (
   with_tail s Between,
-  at_new w b past s r has h.0.phase h.0.none h.0.offset h.0.named,
+  at_new w b yielded s r has h.0.phase h.0.none h.0.offset h.0.named,
   h.1 ∙ ap (λ (f : Phase). record w { phase = f; has_element = true }) h.0.phase,
 )
 
 -- the octets that the reader has, if there are any, are the front of a header
-handed_front : (w u : WalkerState) (r : HeadReaderState) → HandsOver w u r → (b : List ℕ) (past : List EventValue) (s : Zipper) → HasZipper w b past s → (r.octets ≡ [] → ⊥) → IsFront r.octets
-handed_front w u r (inl h) b past s has some =
-    let a = at_front w b past s r has h.0 in
-    let at : IsPhaseOf (phase.InHeader r) (InHeader a.0) (place_of w.framing s) = phase_at w b past _ _ h.0 a.1.has in
+handed_front : (w u : WalkerState) (r : HeadReaderState) → HandsOver w u r → (b : List ℕ) (yielded : List EventValue) (s : Zipper) → HasZipper w b yielded s → (r.octets ≡ [] → ⊥) → IsFront r.octets
+handed_front w u r (inl h) b yielded s has some =
+    let a = at_front w b yielded s r has h.0 in
+    let at : IsPhaseOf (phase.InHeader r) (InHeader a.0) (place_of w.framing s) = phase_at w b yielded _ _ h.0 a.1.has in
     subst IsFront (sym at.0) at.3.1
-handed_front w u r (inr h) b past s has some = absurd (some h.0.none)
+handed_front w u r (inr h) b yielded s has some = absurd (some h.0.none)
 
 -- ---- octets that a reader takes
 
--- from r to q, octets were taken from the front of a piece
-pub record HasTaken (r q : HeadReaderState) (before after : List ℕ) : Type 0 where
+-- from r to q, a prefix of a piece was taken
+pub record HasTaken (r q : HeadReaderState) (piece rest : List ℕ) : Type 0 where
   pub taken : List ℕ
-  pub piece : before ≡ taken ++ after
+  pub piece_is : piece ≡ taken ++ rest
   pub octets : q.octets ≡ r.octets ++ taken
   pub offset : q.offset ≡ r.offset
   pub named : q.named ≡ r.named
@@ -63,14 +63,14 @@ pub record HasTaken (r q : HeadReaderState) (before after : List ℕ) : Type 0 w
 
 -- none yet
 pub taken_none : (r : HeadReaderState) (piece : List ℕ) → HasTaken r r piece piece
-taken_none r piece = record { taken = []; piece = refl; octets = sym (append-nil r.octets); offset = refl; named = refl; front = inl refl }
+taken_none r piece = record { taken = []; piece_is = refl; octets = sym (append-nil r.octets); offset = refl; named = refl; front = inl refl }
 
 -- one more
-pub taken_more : (r q p : HeadReaderState) (before after rest : List ℕ) (x : ℕ) → HasTaken r q before after → after ≡ x ∷ rest → IsFront (q.octets ++ x ∷ []) → p ≡ with_octet q x → HasTaken r p before rest
-taken_more r q p before after rest x k e front same =
-    subst (λ (p : HeadReaderState). HasTaken r p before rest) (sym same) (record {
+pub taken_more : (r q p : HeadReaderState) (piece rest others : List ℕ) (x : ℕ) → HasTaken r q piece rest → rest ≡ x ∷ others → IsFront (q.octets ++ x ∷ []) → p ≡ with_octet q x → HasTaken r p piece others
+taken_more r q p piece rest others x k e front same =
+    subst (λ (p : HeadReaderState). HasTaken r p piece others) (sym same) (record {
       taken = k.taken ++ x ∷ [];
-      piece = k.piece ∙ (ap (λ (l : List ℕ). k.taken ++ l) e ∙ sym (append_assoc k.taken (x ∷ []) rest));
+      piece_is = k.piece_is ∙ (ap (λ (l : List ℕ). k.taken ++ l) e ∙ sym (append_assoc k.taken (x ∷ []) others));
       octets = ap (λ (l : List ℕ). l ++ x ∷ []) k.octets ∙ append_assoc r.octets k.taken (x ∷ []);
       offset = k.offset;
       named = k.named;
@@ -82,20 +82,20 @@ abbrev pub in_header : WalkerState → HeadReaderState → WalkerState
 in_header w q = record w { phase = phase.InHeader q; offset = q.offset + length q.octets; has_element = true }
 
 -- the state after them, of the walker that the reader was taken from
-pub record TakenState (w u : WalkerState) (q : HeadReaderState) (t b : List ℕ) (past : List EventValue) : Type 0 where
+pub record TakenState (w u : WalkerState) (q : HeadReaderState) (t b : List ℕ) (yielded : List EventValue) : Type 0 where
   pub state : Zipper
-  pub has : HasZipper (in_header w q) (b ++ t) (past ++ []) (with_tail state (InHeader q.octets))
+  pub has : HasZipper (in_header w q) (b ++ t) (yielded ++ []) (with_tail state (InHeader q.octets))
   pub same : u ≡ record w { phase = phase.Between; has_element = true }
 
-pub taken_state : (w u : WalkerState) (r q : HeadReaderState) (before after : List ℕ) → HandsOver w u r → (k : HasTaken r q before after) → (q.octets ≡ [] → ⊥)
-    → IsWithin (bound_of u.stack) (q.offset + length q.octets) → (b : List ℕ) (past : List EventValue) (s : Zipper) → HasZipper w b past s → TakenState w u q k.taken b past
-taken_state w u r q before after over k some fits b past s has =
-    let h = handed w u r over b past s has in
+pub taken_state : (w u : WalkerState) (r q : HeadReaderState) (piece rest : List ℕ) → HandsOver w u r → (k : HasTaken r q piece rest) → (q.octets ≡ [] → ⊥)
+    → IsWithin (bound_of u.stack) (q.offset + length q.octets) → (b : List ℕ) (yielded : List EventValue) (s : Zipper) → HasZipper w b yielded s → TakenState w u q k.taken b yielded
+taken_state w u r q piece rest over k some fits b yielded s has =
+    let h = handed w u r over b yielded s has in
     let within : IsWithin (bound_of w.stack) (q.offset + length q.octets) = subst (λ (m : WalkerState). IsWithin (bound_of m.stack) (q.offset + length q.octets)) h.2 fits in
-    record { state = h.0; has = front_state w b past h.0 r q k.taken h.1 k.octets k.offset k.named some (front_taken k.front) within; same = h.2 }
+    record { state = h.0; has = front_state w b yielded h.0 r q k.taken h.1 k.octets k.offset k.named some (front_taken k.front) within; same = h.2 }
   where
     front_taken : (q.octets ≡ r.octets) ⊎ IsFront q.octets → IsFront q.octets
-    front_taken (inl e) = subst IsFront (sym e) (handed_front w u r over b past s has (λ none. some (e ∙ none)))
+    front_taken (inl e) = subst IsFront (sym e) (handed_front w u r over b yielded s has (λ none. some (e ∙ none)))
     front_taken (inr f) = f
 
 -- the framing stays
@@ -108,29 +108,29 @@ handed_wrappers w u r (inl h) = ap (λ (m : WalkerState). m.wrapper_count) h.1
 handed_wrappers w u r (inr h) = ap (λ (m : WalkerState). m.wrapper_count) h.1
 
 -- the piece is used up inside a header
-pub yields_unfinished : (w u : WalkerState) (r q : HeadReaderState) (before : List ℕ) (at : ℕ) → HandsOver w u r → HasTaken r q before [] → (q.octets ≡ [] → ⊥) → q.offset + length q.octets ≡ at
-    → IsWithin (bound_of u.stack) at → Continues w (record u { phase = phase.InHeader q; offset = at }) before []
-yields_unfinished w u r q before at over k some e fits = record {
+pub yields_unfinished : (w u : WalkerState) (r q : HeadReaderState) (piece : List ℕ) (at : ℕ) → HandsOver w u r → HasTaken r q piece [] → (q.octets ≡ [] → ⊥) → q.offset + length q.octets ≡ at
+    → IsWithin (bound_of u.stack) at → Continues w (record u { phase = phase.InHeader q; offset = at }) piece []
+yields_unfinished w u r q piece at over k some e fits = record {
   framing = handed_framing w u r over;
   found = handed_wrappers w u r over;
-  goes = λ b past s has.
-      let t : TakenState w u q k.taken b past = taken_state w u r q before [] over k some (subst (IsWithin (bound_of u.stack)) (sym e) fits) b past s has in
+  goes = λ b yielded s has.
+      let t : TakenState w u q k.taken b yielded = taken_state w u r q piece [] over k some (subst (IsWithin (bound_of u.stack)) (sym e) fits) b yielded s has in
       let new : in_header w q ≡ record u { phase = phase.InHeader q; offset = at } =
       ap (λ (n : ℕ). record w { phase = phase.InHeader q; offset = n; has_element = true }) e ∙ ap (λ (m : WalkerState). record m { phase = phase.InHeader q; offset = at }) (sym t.same) in
-      let all : k.taken ≡ before = sym (k.piece ∙ append-nil k.taken) in (
+      let all : k.taken ≡ piece = sym (k.piece_is ∙ append-nil k.taken) in (
         with_tail t.state (InHeader q.octets),
-        subst (λ (m : WalkerState). HasZipper m (b ++ before) (past ++ []) (with_tail t.state (InHeader q.octets))) new
-            (subst (λ (o : List ℕ). HasZipper (in_header w q) (b ++ o) (past ++ []) (with_tail t.state (InHeader q.octets))) all t.has),
+        subst (λ (m : WalkerState). HasZipper m (b ++ piece) (yielded ++ []) (with_tail t.state (InHeader q.octets))) new
+            (subst (λ (o : List ℕ). HasZipper (in_header w q) (b ++ o) (yielded ++ []) (with_tail t.state (InHeader q.octets))) all t.has),
       );
 }
 
 -- ---- a whole header
 
 -- the walker that the reader was taken from enters it too
-enters_without : (w u new : WalkerState) (f : HeaderFields) (at : ℕ) (k : HeaderKind) → u ≡ record w { phase = phase.Between; has_element = true } → Enters u new f at k → Enters w new f at k
-enters_without w u new f at kind.Primitive e enter = subst (λ (m : WalkerState). Enters m new f at kind.Primitive) e enter
-enters_without w u new f at kind.Constructed e enter = subst (λ (m : WalkerState). Enters m new f at kind.Constructed) e enter
-enters_without w u new f at kind.Wrapper e enter = subst (λ (m : WalkerState). Enters m new f at kind.Wrapper) e enter
+enters_without : (w u new : WalkerState) (f : HeaderFields) (at : ℕ) (k : HeaderKind) → u ≡ record w { phase = phase.Between; has_element = true } → TakesHeader u new f at k → TakesHeader w new f at k
+enters_without w u new f at kind.Primitive e enter = subst (λ (m : WalkerState). TakesHeader m new f at kind.Primitive) e enter
+enters_without w u new f at kind.Constructed e enter = subst (λ (m : WalkerState). TakesHeader m new f at kind.Constructed) e enter
+enters_without w u new f at kind.Wrapper e enter = subst (λ (m : WalkerState). TakesHeader m new f at kind.Wrapper) e enter
 
 -- and the header that it completes may stand there
 completed_without : (w u : WalkerState) (r : HeadReaderState) (t : List ℕ) (h : HeaderValue) → u ≡ record w { phase = phase.Between; has_element = true } → CanEnter u h → CompletesHeader r t h → Completed w r t h
@@ -139,20 +139,20 @@ completed_without w u r t h e can makes =
     record { valid = can'.valid; octets = makes.octets; offset = makes.offset; named = makes.named; shallow = can'.shallow; fits = can'.fits }
 
 -- so it yields a header with the fields that were entered
-yields_after : (u new : WalkerState) (f : HeaderFields) (o : List ℕ) (at : ℕ) (k : HeaderKind) → CanEnter u (header_with f o) → at ≡ f.offset + length (octets_of (header_with f o)) → Enters u new f at k
+yields_after : (u new : WalkerState) (f : HeaderFields) (o : List ℕ) (at : ℕ) (k : HeaderKind) → CanEnter u (header_with f o) → at ≡ f.offset + length (octets_of (header_with f o)) → TakesHeader u new f at k
     → YieldsHeader u new (header_with f o) (event_of k (header_with f o))
 yields_after u new f o at k can e does w r t over makes = record {
   framing = enters_framing u new f at k does ∙ handed_framing w u r over;
   found =
       enters_found u new f o at k does
       ∙ ap₂ (λ (g : Framing) (n : ℕ). wrappers_after g.inside n (wrapper_offsets (event_of k (header_with f o) ∷ []))) (handed_framing w u r over) (handed_wrappers w u r over);
-  goes = λ b past s has.
-      let h = handed w u r over b past s has in
-      enters_state w new b past h.0 r t f o k h.1 (completed_without w u r t (header_with f o) h.2 can makes) (subst (λ (n : ℕ). Enters w new f n k) e (enters_without w u new f at k h.2 does));
+  goes = λ b yielded s has.
+      let h = handed w u r over b yielded s has in
+      enters_state w new b yielded h.0 r t f o k h.1 (completed_without w u r t (header_with f o) h.2 can makes) (subst (λ (n : ℕ). TakesHeader w new f n k) e (enters_without w u new f at k h.2 does));
 }
 
 -- the same of a header that has these fields
-pub yields_header : (u new : WalkerState) (f : HeaderFields) (h : HeaderValue) (at : ℕ) (k : HeaderKind) → CanEnter u h → header_with f (octets_of h) ≡ h → at ≡ f.offset + length (octets_of h) → Enters u new f at k
+pub yields_header : (u new : WalkerState) (f : HeaderFields) (h : HeaderValue) (at : ℕ) (k : HeaderKind) → CanEnter u h → header_with f (octets_of h) ≡ h → at ≡ f.offset + length (octets_of h) → TakesHeader u new f at k
     → YieldsHeader u new h (event_of k h)
 yields_header u new f h at k can same e enter =
     subst (λ (g : HeaderValue). YieldsHeader u new g (event_of k g)) same
@@ -199,11 +199,11 @@ whole_enters u q x depth at h fewer place limit deep c f =
     }
 
 -- and the walker yields it
-pub whole_yields : (w u new : WalkerState) (r q : HeadReaderState) (before after rest : List ℕ) (x : ℕ) (h : HeaderValue) (e : EventValue) → HandsOver w u r → HasTaken r q before after → after ≡ x ∷ rest → Completes q x h
-    → YieldsHeader u new h e → YieldsEvent w new before rest e
-whole_yields w u new r q before after rest x h e over k f c yields = record {
+pub whole_yields : (w u new : WalkerState) (r q : HeadReaderState) (piece rest others : List ℕ) (x : ℕ) (h : HeaderValue) (e : EventValue) → HandsOver w u r → HasTaken r q piece rest → rest ≡ x ∷ others → Completes q x h
+    → YieldsHeader u new h e → YieldsEvent w new piece others e
+whole_yields w u new r q piece rest others x h e over k f c yields = record {
   taken = k.taken ++ x ∷ [];
-  piece = k.piece ∙ (ap (λ (l : List ℕ). k.taken ++ l) f ∙ sym (append_assoc k.taken (x ∷ []) rest));
+  piece_is = k.piece_is ∙ (ap (λ (l : List ℕ). k.taken ++ l) f ∙ sym (append_assoc k.taken (x ∷ []) others));
   continues = yields w r (k.taken ++ x ∷ []) over (record {
     offset = c.offset ∙ k.offset;
     named = c.named ∙ k.named;
@@ -215,7 +215,7 @@ whole_yields w u new r q before after rest x h e over k f c yields = record {
 
 -- octets, or a piece that begins with another octet than 00, below the bound
 abbrev pub CanGive : List ℕ → List ℕ → Option ℕ → Type 0
-CanGive octets piece room = (octets ≢ []) ⊎ ((x : ℕ) × (rest : List ℕ) × (piece ≡ x ∷ rest) × (x ≢ 0) × (room ≢ Some 0))
+CanGive octets piece room = (octets ≢ []) ⊎ ((x : ℕ) × (others : List ℕ) × (piece ≡ x ∷ others) × (x ≢ 0) × (room ≢ Some 0))
 
 -- if it has none, there is room
 pub give_room : (octets piece : List ℕ) (room : Option ℕ) → CanGive octets piece room → octets ≡ [] → room ≢ Some 0

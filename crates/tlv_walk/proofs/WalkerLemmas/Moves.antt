@@ -16,7 +16,7 @@ use Rattle.tlv_walk.proofs.EventLemmas.Wrappers.{enters-append}
 use Rattle.tlv_walk.specs.Place.{Fits, IsOpen, Place, is_indefinite, place_after}
 use Rattle.tlv_walk.specs.Stack.{Frame, IsInIndefinite, IsWithin, bound_of}
 use Rattle.tlv_walk.specs.Private.Zipper.{AreWhole, InBitString, Between, HasZipper, InPrimitive, InEndOctets, InHeader, IsContents, IsPhaseOf, Layer, Tail, Zipper, begins_among, events_of_layers, frames_of, place_in, place_of, spelling_of_layers}
-use Rattle.tlv_walk.specs.Private.Steps.{Continues}
+use Rattle.tlv_walk.specs.Private.Yields.{Continues}
 use Rattle.tlv_walk.proofs.EventLemmas.Joined.{apart-before, apart-from_joined, apart-more, joined-from_apart}
 use Rattle.tlv_walk.proofs.GrammarLemmas.Spellings.{append_assoc-3}
 use Rattle.tlv_walk.proofs.WalkerLemmas.Places.{indefinite-size, place-offset}
@@ -24,8 +24,8 @@ use Rattle.tlv_walk.proofs.WalkerLemmas.Zipper.{followed_by, open-followed_by, s
 use Rattle.tlv_walk.proofs.WalkerLemmas.ZipperEvents.{events-followed_by}
 
 -- events yielded one after another
-pub past_more : (past es new es' : List EventValue) → AreEqualJoined past es → single_octets es' ≡ single_octets (es ++ new) → AreEqualJoined (past ++ new) es'
-past_more past es new es' h e = joined-from_apart (past ++ new) es' (apart-before past es new (apart-from_joined past es h) ∙ sym e)
+pub yielded_more : (yielded es new es' : List EventValue) → AreEqualJoined yielded es → single_octets es' ≡ single_octets (es ++ new) → AreEqualJoined (yielded ++ new) es'
+yielded_more yielded es new es' h e = joined-from_apart (yielded ++ new) es' (apart-before yielded es new (apart-from_joined yielded es h) ∙ sym e)
 
 -- wrappers found one after another
 pub found_in-append : (inside : List ℕ) (k : ℕ) (xs ys : List ℕ) → wrappers_after inside k (xs ++ ys) ≡ wrappers_after inside (wrappers_after inside k xs) ys
@@ -43,20 +43,20 @@ pub continues_both : (u v w : WalkerState) (s t : List ℕ) (d e : List EventVal
 continues_both u v w s t d e f g = record {
   framing = g.framing ∙ f.framing;
   found = found_both u v w d e f.framing f.found g.found;
-  goes = λ b past st has.
-      let one = f.goes b past st has in
-      let two = g.goes (b ++ s) (past ++ d) one.0 one.1 in (
+  goes = λ b yielded st has.
+      let one = f.goes b yielded st has in
+      let two = g.goes (b ++ s) (yielded ++ d) one.0 one.1 in (
         two.0,
-        subst (λ (x : List ℕ). HasZipper w x (past ++ (d ++ e)) two.0) (append_assoc b s t)
-            (subst (λ (x : List EventValue). HasZipper w ((b ++ s) ++ t) x two.0) (append_assoc past d e) two.1),
+        subst (λ (x : List ℕ). HasZipper w x (yielded ++ (d ++ e)) two.0) (append_assoc b s t)
+            (subst (λ (x : List EventValue). HasZipper w ((b ++ s) ++ t) x two.0) (append_assoc yielded d e) two.1),
       );
 }
 
 -- the events of a state, if the open end goes on
-pub past_after : (past : List EventValue) (ls : List Layer) (here : Forest) (old new more : List EventValue) → AreEqualJoined past (events_of_layers ls ++ (events here ++ old))
-    → single_octets new ≡ single_octets (old ++ more) → AreEqualJoined (past ++ more) (events_of_layers ls ++ (events here ++ new))
-past_after past ls here old new more h e =
-    past_more past (events_of_layers ls ++ (events here ++ old)) more (events_of_layers ls ++ (events here ++ new)) h
+pub yielded_after : (yielded : List EventValue) (ls : List Layer) (here : Forest) (old new more : List EventValue) → AreEqualJoined yielded (events_of_layers ls ++ (events here ++ old))
+    → single_octets new ≡ single_octets (old ++ more) → AreEqualJoined (yielded ++ more) (events_of_layers ls ++ (events here ++ new))
+yielded_after yielded ls here old new more h e =
+    yielded_more yielded (events_of_layers ls ++ (events here ++ old)) more (events_of_layers ls ++ (events here ++ new)) h
     (apart-more (events_of_layers ls) (events here ++ new) (events here ++ old) more (apart-more (events here) new old more e))
 
 -- its octets likewise
@@ -66,11 +66,11 @@ spelled_after ls here old new t b e f =
     ap (λ (s : List ℕ). spelling_of_layers ls ++ (spelling here ++ s)) e ∙ (sym (append_assoc-3 (spelling_of_layers ls) (spelling here) old t) ∙ ap (λ (s : List ℕ). s ++ t) f)
 
 -- the same, if the open end is whole now
-pub past_whole : (past : List EventValue) (ls : List Layer) (here new : Forest) (old more : List EventValue) → is_complete here ≡ true → AreEqualJoined past (events_of_layers ls ++ (events here ++ old))
-    → single_octets (events new) ≡ single_octets (old ++ more) → AreEqualJoined (past ++ more) (events_of_layers ls ++ (events (followed_by here new) ++ []))
-past_whole past ls here new old more whole h e =
-    subst (λ (es : List EventValue). AreEqualJoined (past ++ more) (events_of_layers ls ++ es)) (sym (append-nil (events (followed_by here new)) ∙ events-followed_by here new whole))
-    (past_after past ls here old (events new) more h e)
+pub yielded_whole : (yielded : List EventValue) (ls : List Layer) (here new : Forest) (old more : List EventValue) → is_complete here ≡ true → AreEqualJoined yielded (events_of_layers ls ++ (events here ++ old))
+    → single_octets (events new) ≡ single_octets (old ++ more) → AreEqualJoined (yielded ++ more) (events_of_layers ls ++ (events (followed_by here new) ++ []))
+yielded_whole yielded ls here new old more whole h e =
+    subst (λ (es : List EventValue). AreEqualJoined (yielded ++ more) (events_of_layers ls ++ es)) (sym (append-nil (events (followed_by here new)) ∙ events-followed_by here new whole))
+    (yielded_after yielded ls here old (events new) more h e)
 
 pub spelled_whole : (ls : List Layer) (here more : Forest) (old t b : List ℕ) → is_complete here ≡ true → spelling more ≡ old ++ t → spelling_of_layers ls ++ (spelling here ++ old) ≡ b
     → spelling_of_layers ls ++ (spelling (followed_by here more) ++ []) ≡ b ++ t
@@ -101,11 +101,11 @@ began (l ∷ ls) here more w e = refl
 abbrev pub with_tail : Zipper → Tail → Zipper
 with_tail s t = record { layers = s.layers; here = s.here; tail = t }
 
-pub tail_state : (w : WalkerState) (b : List ℕ) (past : List EventValue) (s : Zipper) (t : Tail) → s.tail ≡ t → HasZipper w b past s → HasZipper w b past (with_tail s t)
-tail_state w b past s t e has = subst (λ (u : Tail). HasZipper w b past (with_tail s u)) e has
+pub tail_state : (w : WalkerState) (b : List ℕ) (yielded : List EventValue) (s : Zipper) (t : Tail) → s.tail ≡ t → HasZipper w b yielded s → HasZipper w b yielded (with_tail s t)
+tail_state w b yielded s t e has = subst (λ (u : Tail). HasZipper w b yielded (with_tail s u)) e has
 
-pub phase_at : (w : WalkerState) (b : List ℕ) (past : List EventValue) (s : Zipper) (f : Phase) → w.phase ≡ f → HasZipper w b past s → IsPhaseOf f s.tail (place_of w.framing s)
-phase_at w b past s f e has = subst (λ (g : Phase). IsPhaseOf g s.tail (place_of w.framing s)) e has.phase
+pub phase_at : (w : WalkerState) (b : List ℕ) (yielded : List EventValue) (s : Zipper) (f : Phase) → w.phase ≡ f → HasZipper w b yielded s → IsPhaseOf f s.tail (place_of w.framing s)
+phase_at w b yielded s f e has = subst (λ (g : Phase). IsPhaseOf g s.tail (place_of w.framing s)) e has.phase
 
 -- contents of a primitive
 contents_tail : (left : ℕ) (t : Tail) (p : Place) → IsPhaseOf (phase.InPrimitive left) t p → (h : HeaderValue) × (c : List ℕ) × (t ≡ InPrimitive h c)
@@ -115,12 +115,12 @@ contents_tail left (InBitString h) p x = absurd x
 contents_tail left (InHeader o) p x = absurd x
 contents_tail left InEndOctets p x = absurd x
 
-contents_state : (w : WalkerState) (b : List ℕ) (past : List EventValue) (s : Zipper) (h : HeaderValue) (c t : List ℕ) (left : ℕ)
-    → HasZipper w b past (with_tail s (InPrimitive h c)) → w.phase ≡ phase.InPrimitive left → length t ≤ left
-    → HasZipper (record w { phase = phase.InPrimitive (left - length t); offset = w.offset + length t; events = w.events + 1 }) (b ++ t) (past ++ Bytes t ∷ [])
+contents_state : (w : WalkerState) (b : List ℕ) (yielded : List EventValue) (s : Zipper) (h : HeaderValue) (c t : List ℕ) (left : ℕ)
+    → HasZipper w b yielded (with_tail s (InPrimitive h c)) → w.phase ≡ phase.InPrimitive left → length t ≤ left
+    → HasZipper (record w { phase = phase.InPrimitive (left - length t); offset = w.offset + length t; events = w.events + 1 }) (b ++ t) (yielded ++ Bytes t ∷ [])
     (with_tail s (InPrimitive h (c ++ t)))
-contents_state w b past s h c t left has e most =
-    let k : IsContents (place_of w.framing s) h c left = phase_at w b past _ _ e has in
+contents_state w b yielded s h c t left has e most =
+    let k : IsContents (place_of w.framing s) h c left = phase_at w b yielded _ _ e has in
     let same : length c + left ≡ length (c ++ t) + (left - length t) = omega (arith, length-append c t) in
     record {
       spelled = spelled_after s.layers s.here (octets_of h ++ c) _ t b (sym (append_assoc (octets_of h) c t)) has.spelled;
@@ -133,7 +133,7 @@ contents_state w b past s h c t left has e most =
         size = k.size ∙ ap Definite same;
         fits = subst (λ (n : ℕ). Fits (place_of w.framing s) (length (octets_of h) + n)) same k.fits;
       };
-      same_events = past_after past s.layers s.here (Begin h ∷ Bytes c ∷ []) (Begin h ∷ Bytes (c ++ t) ∷ []) (Bytes t ∷ []) has.same_events (bytes_more h c t);
+      same_events = yielded_after yielded s.layers s.here (Begin h ∷ Bytes c ∷ []) (Begin h ∷ Bytes (c ++ t) ∷ []) (Bytes t ∷ []) has.same_events (bytes_more h c t);
       element = has.element;
     }
   where
@@ -146,18 +146,18 @@ yields_contents w left t n e most len =
     subst (λ (m : ℕ). Continues w (record w { phase = phase.InPrimitive (left - m); offset = w.offset + m; events = w.events + 1 }) t (Bytes t ∷ [])) (sym len) (record {
       framing = refl;
       found = refl;
-      goes = λ b past s has.
-          let k = contents_tail left s.tail _ (phase_at w b past s _ e has) in
-          (_, contents_state w b past s k.0 k.1 t left (tail_state w b past s _ k.2 has) e most);
+      goes = λ b yielded s has.
+          let k = contents_tail left s.tail _ (phase_at w b yielded s _ e has) in
+          (_, contents_state w b yielded s k.0 k.1 t left (tail_state w b yielded s _ k.2 has) e most);
     })
 
 -- the end of a primitive
-end_state : (w : WalkerState) (b : List ℕ) (past : List EventValue) (s : Zipper) (h : HeaderValue) (c : List ℕ) → HasZipper w b past (with_tail s (InPrimitive h c)) → w.phase ≡ phase.InPrimitive 0
-    → HasZipper (record w { phase = phase.Between; events = w.events + 1 }) (b ++ []) (past ++ End ∷ [])
+end_state : (w : WalkerState) (b : List ℕ) (yielded : List EventValue) (s : Zipper) (h : HeaderValue) (c : List ℕ) → HasZipper w b yielded (with_tail s (InPrimitive h c)) → w.phase ≡ phase.InPrimitive 0
+    → HasZipper (record w { phase = phase.Between; events = w.events + 1 }) (b ++ []) (yielded ++ End ∷ [])
     (record { layers = s.layers; here = followed_by s.here (Primitive h c NoMore); tail = Between })
-end_state w b past s h c has e =
+end_state w b yielded s h c has e =
     let p : Place = place_of w.framing s in
-    let k : IsContents p h c 0 = phase_at w b past _ _ e has in
+    let k : IsContents p h c 0 = phase_at w b yielded _ _ e has in
     let same : length c + 0 ≡ length c = omega arith in
     record {
       spelled = spelled_whole s.layers s.here (Primitive h c NoMore) (octets_of h ++ c) [] b has.here.whole (ap (λ (x : List ℕ). octets_of h ++ x) (append-nil c) ∙ sym (append-nil (octets_of h ++ c))) has.spelled;
@@ -166,7 +166,7 @@ end_state w b past s h c has e =
       layers = has.layers;
       here = are_whole _ s.here (Primitive h c NoMore) has.here ((record { header = k.header; depth = λ e. absurd (cc (e)); fits = subst (λ (n : ℕ). Fits p (length (octets_of h) + n)) same k.fits }, k.size ∙ ap Definite same), tt) refl;
       phase = tt;
-      same_events = past_whole past s.layers s.here (Primitive h c NoMore) (Begin h ∷ Bytes c ∷ []) (End ∷ []) has.here.whole has.same_events refl;
+      same_events = yielded_whole yielded s.layers s.here (Primitive h c NoMore) (Begin h ∷ Bytes c ∷ []) (End ∷ []) has.here.whole has.same_events refl;
       element = has.element ∙ sym (began s.layers s.here (Primitive h c NoMore) has.here.whole refl);
     }
 
@@ -174,9 +174,9 @@ pub yields_end : (w : WalkerState) → w.phase ≡ phase.InPrimitive 0 → Conti
 yields_end w e = record {
   framing = refl;
   found = refl;
-  goes = λ b past s has.
-      let k = contents_tail 0 s.tail _ (phase_at w b past s _ e has) in
-      (_, end_state w b past s k.0 k.1 (tail_state w b past s _ k.2 has) e);
+  goes = λ b yielded s has.
+      let k = contents_tail 0 s.tail _ (phase_at w b yielded s _ e has) in
+      (_, end_state w b yielded s k.0 k.1 (tail_state w b yielded s _ k.2 has) e);
 }
 
 -- between elements
@@ -203,17 +203,17 @@ abbrev pub closed_here : Layer → Forest → Forest
 closed_here l inside = followed_by l.before (Holder l.header inside NoMore)
 
 -- the first of the end-of-contents octets
-zero_state : (w : WalkerState) (b : List ℕ) (past : List EventValue) (s : Zipper) (l : Layer) (ls : List Layer)
-    → HasZipper w b past (record { layers = l ∷ ls; here = s.here; tail = Between }) → l.header.size ≡ Indefinite → Fits (place_after (place_in w.framing (l ∷ ls)) (length (spelling s.here))) 1
-    → HasZipper (record w { phase = phase.InEndOctets; offset = w.offset + 1 }) (b ++ 0 ∷ []) (past ++ []) (record { layers = l ∷ ls; here = s.here; tail = InEndOctets })
-zero_state w b past s l ls has e f = record {
+zero_state : (w : WalkerState) (b : List ℕ) (yielded : List EventValue) (s : Zipper) (l : Layer) (ls : List Layer)
+    → HasZipper w b yielded (record { layers = l ∷ ls; here = s.here; tail = Between }) → l.header.size ≡ Indefinite → Fits (place_after (place_in w.framing (l ∷ ls)) (length (spelling s.here))) 1
+    → HasZipper (record w { phase = phase.InEndOctets; offset = w.offset + 1 }) (b ++ 0 ∷ []) (yielded ++ []) (record { layers = l ∷ ls; here = s.here; tail = InEndOctets })
+zero_state w b yielded s l ls has e f = record {
   spelled = spelled_after (l ∷ ls) s.here [] (0 ∷ []) (0 ∷ []) b refl has.spelled;
   offset = omega (arith, has.offset, length-append b (0 ∷ []));
   stack = has.stack;
   layers = has.layers;
   here = has.here;
   phase = (ap is_indefinite e, f);
-  same_events = past_after past (l ∷ ls) s.here [] [] [] has.same_events refl;
+  same_events = yielded_after yielded (l ∷ ls) s.here [] [] [] has.same_events refl;
   element = has.element;
 }
 
@@ -222,27 +222,27 @@ pub yields_zero : (w : WalkerState) → w.phase ≡ phase.Between → IsInIndefi
 yields_zero w e i f = record {
   framing = refl;
   found = refl;
-  goes = λ b past s has.
-      let t = between_tail s.tail _ (phase_at w b past s _ e has) in
-      let has' : HasZipper w b past (with_tail s Between) = tail_state w b past s _ t has in
-      zero_from w b past s s.layers refl has' i f;
+  goes = λ b yielded s has.
+      let t = between_tail s.tail _ (phase_at w b yielded s _ e has) in
+      let has' : HasZipper w b yielded (with_tail s Between) = tail_state w b yielded s _ t has in
+      zero_from w b yielded s s.layers refl has' i f;
 }
   where
-    zero_from : (w : WalkerState) (b : List ℕ) (past : List EventValue) (s : Zipper) (ls : List Layer) → s.layers ≡ ls → HasZipper w b past (with_layers s ls Between) → IsInIndefinite w.stack
-        → IsWithin (bound_of w.stack) (w.offset + 1) → (t : Zipper) × HasZipper (record w { phase = phase.InEndOctets; offset = w.offset + 1 }) (b ++ 0 ∷ []) (past ++ []) t
-    zero_from w b past s [] q has i f = absurd (subst IsInIndefinite has.stack i)
-    zero_from w b past s (l ∷ ls) q has i f =
+    zero_from : (w : WalkerState) (b : List ℕ) (yielded : List EventValue) (s : Zipper) (ls : List Layer) → s.layers ≡ ls → HasZipper w b yielded (with_layers s ls Between) → IsInIndefinite w.stack
+        → IsWithin (bound_of w.stack) (w.offset + 1) → (t : Zipper) × HasZipper (record w { phase = phase.InEndOctets; offset = w.offset + 1 }) (b ++ 0 ∷ []) (yielded ++ []) t
+    zero_from w b yielded s [] q has i f = absurd (subst IsInIndefinite has.stack i)
+    zero_from w b yielded s (l ∷ ls) q has i f =
         let inside : IsInIndefinite (frames_of w.framing (l ∷ ls)) = subst IsInIndefinite has.stack i in
         let fits : IsWithin (place_in w.framing (l ∷ ls)).bound (w.offset + 1) = subst (λ (fs : List Frame). IsWithin (bound_of fs) (w.offset + 1)) has.stack f in
-        let at : w.offset ≡ (place_of w.framing (with_layers s (l ∷ ls) Between)).at + 0 = place-offset w b past _ has in (
+        let at : w.offset ≡ (place_of w.framing (with_layers s (l ∷ ls) Between)).at + 0 = place-offset w b yielded _ has in (
           _,
-          zero_state w b past s l ls has (indefinite-size l.header.size _ inside)
+          zero_state w b yielded s l ls has (indefinite-size l.header.size _ inside)
               (subst (λ (n : ℕ). IsWithin (place_in w.framing (l ∷ ls)).bound n) (omega (arith, at)) fits),
         )
 
 -- all contents that are to come, and the end
-counted_state : (w : WalkerState) (n : ℕ) (b : List ℕ) (past : List EventValue) (s : Zipper) → HasZipper w b past s → HasZipper (record w { events = n }) b past s
-counted_state w n b past s has = record {
+counted_state : (w : WalkerState) (n : ℕ) (b : List ℕ) (yielded : List EventValue) (s : Zipper) → HasZipper w b yielded s → HasZipper (record w { events = n }) b yielded s
+counted_state w n b yielded s has = record {
   spelled = has.spelled;
   offset = has.offset;
   stack = has.stack;
@@ -265,7 +265,7 @@ yields_passed w t n e =
     record {
       framing = both.framing;
       found = both.found;
-      goes = λ b past s has.
-          let g = both.goes b past s has in
+      goes = λ b yielded s has.
+          let g = both.goes b yielded s has in
           (g.0, counted_state _ n _ _ g.0 g.1);
     }

@@ -45,9 +45,9 @@ length-stack w ls p (InHeader octets) = omega (arith, length-frames w ls)
 length-stack w ls p InEndOctets = omega (arith, length-frames w ls)
 
 -- the frames of a walker are as many as the open elements of its reading that hold others
-pub state-depth : (w : WalkerState) (b : List ℕ) (past : List EventValue) (s : Zipper) → HasZipper w b past s → (EventWaits w → ⊥) → length w.stack ≡ open_count (reading_of s)
-state-depth w b past s h n =
+pub state-depth : (w : WalkerState) (b : List ℕ) (yielded : List EventValue) (s : Zipper) → HasZipper w b yielded s → (EventWaits w → ⊥) → length w.stack ≡ open_count (reading_of s)
+state-depth w b yielded s h n =
     ap (λ (stack : List Frame). length stack) h.stack
     ∙ length-stack w.framing s.layers (place_of w.framing s) s.tail
-    ∙ sym (ap open_count (state-within w b past s h n) ∙ count-within w.framing s.layers (followed_by s.here (forest_of s.tail)) h.layers
+    ∙ sym (ap open_count (state-within w b yielded s h n) ∙ count-within w.framing s.layers (followed_by s.here (forest_of s.tail)) h.layers
     ∙ ap (λ (k : ℕ). length s.layers + k) (count-after s.here (forest_of s.tail) h.here.whole))

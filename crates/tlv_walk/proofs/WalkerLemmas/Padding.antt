@@ -8,8 +8,8 @@ use Rattle.tlv_walk.specs.Forest.{Forest, NoMore, PaddingOctet, has_element, is_
 use Rattle.tlv_walk.specs.WalkerState.{WalkerState}
 use Rattle.tlv_walk.specs.Place.{IsOpen, Place, place_after}
 use Rattle.tlv_walk.specs.Private.Zipper.{Between, HasZipper, IsPhaseOf, Layer, Zipper, place_in, place_of}
-use Rattle.tlv_walk.specs.Private.Steps.{Continues}
-use Rattle.tlv_walk.proofs.WalkerLemmas.Moves.{are_whole, element-either, between_tail, phase_at, spelled_whole, tail_state, past_whole, with_layers}
+use Rattle.tlv_walk.specs.Private.Yields.{Continues}
+use Rattle.tlv_walk.proofs.WalkerLemmas.Moves.{are_whole, element-either, between_tail, phase_at, spelled_whole, tail_state, yielded_whole, with_layers}
 use Rattle.tlv_walk.proofs.WalkerLemmas.Zipper.{followed_by}
 
 -- octets 00 between encodings
@@ -44,23 +44,23 @@ or-false : (k : Bool) → (k || false) ≡ k
 or-false true = refl
 or-false false = refl
 
-pad_state : (w : WalkerState) (b : List ℕ) (past : List EventValue) (s : Zipper) (t : List ℕ) → HasZipper w b past (with_layers s [] Between) → w.phase ≡ phase.Between → w.framing.padding ≡ true → All (λ x. x ≡ 0) t
-    → HasZipper (record w { offset = w.offset + length t; events = w.events + 1 }) (b ++ t) (past ++ Pad t ∷ []) (record { layers = []; here = followed_by s.here (padding_octets t); tail = Between })
-pad_state w b past s t has e padding zeros = record {
+pad_state : (w : WalkerState) (b : List ℕ) (yielded : List EventValue) (s : Zipper) (t : List ℕ) → HasZipper w b yielded (with_layers s [] Between) → w.phase ≡ phase.Between → w.framing.padding ≡ true → All (λ x. x ≡ 0) t
+    → HasZipper (record w { offset = w.offset + length t; events = w.events + 1 }) (b ++ t) (yielded ++ Pad t ∷ []) (record { layers = []; here = followed_by s.here (padding_octets t); tail = Between })
+pad_state w b yielded s t has e padding zeros = record {
   spelled = spelled_whole [] s.here (padding_octets t) [] t b has.here.whole (spelling-padding_octets t zeros) has.spelled;
   offset = omega (arith, has.offset, length-append b t);
   stack = has.stack;
   layers = tt;
   here = are_whole (place_in w.framing []) s.here (padding_octets t) has.here (open-padding_octets _ t padding refl refl) (whole-padding_octets t);
   phase = subst (λ (f : Phase). IsPhaseOf f Between (place_of w.framing (record { layers = []; here = followed_by s.here (padding_octets t); tail = Between }))) (sym e) tt;
-  same_events = past_whole past [] s.here (padding_octets t) [] (Pad t ∷ []) has.here.whole has.same_events (events-padding_octets t zeros ∙ sym (append-nil (map (λ x. Pad (x ∷ [])) t)));
+  same_events = yielded_whole yielded [] s.here (padding_octets t) [] (Pad t ∷ []) has.here.whole has.same_events (events-padding_octets t zeros ∙ sym (append-nil (map (λ x. Pad (x ∷ [])) t)));
   element = has.element ∙ sym (element-either s.here (padding_octets t) has.here.whole ∙ (ap (λ (k : Bool). has_element s.here || k) (element-padding_octets t) ∙ or-false (has_element s.here)));
 }
 
-pad_from : (w : WalkerState) (b : List ℕ) (past : List EventValue) (s : Zipper) (t : List ℕ) (ls : List Layer) → HasZipper w b past (with_layers s ls Between) → w.phase ≡ phase.Between → w.stack ≡ [] → w.framing.padding ≡ true → All (λ x. x ≡ 0) t
-    → (u : Zipper) × HasZipper (record w { offset = w.offset + length t; events = w.events + 1 }) (b ++ t) (past ++ Pad t ∷ []) u
-pad_from w b past s t [] has e none padding zeros = (_, pad_state w b past s t has e padding zeros)
-pad_from w b past s t (l ∷ ls) has e none padding zeros = absurd (cc (has.stack))
+pad_from : (w : WalkerState) (b : List ℕ) (yielded : List EventValue) (s : Zipper) (t : List ℕ) (ls : List Layer) → HasZipper w b yielded (with_layers s ls Between) → w.phase ≡ phase.Between → w.stack ≡ [] → w.framing.padding ≡ true → All (λ x. x ≡ 0) t
+    → (u : Zipper) × HasZipper (record w { offset = w.offset + length t; events = w.events + 1 }) (b ++ t) (yielded ++ Pad t ∷ []) u
+pad_from w b yielded s t [] has e none padding zeros = (_, pad_state w b yielded s t has e padding zeros)
+pad_from w b yielded s t (l ∷ ls) has e none padding zeros = absurd (cc (has.stack))
 
 pub yields_pad : (w : WalkerState) (t : List ℕ) (n : ℕ) → w.phase ≡ phase.Between → w.stack ≡ [] → w.framing.padding ≡ true → All (λ x. x ≡ 0) t → n ≡ length t
     → Continues w (record w { offset = w.offset + n; events = w.events + 1 }) t (Pad t ∷ [])
@@ -68,7 +68,7 @@ yields_pad w t n e none padding zeros len =
     subst (λ (m : ℕ). Continues w (record w { offset = w.offset + m; events = w.events + 1 }) t (Pad t ∷ [])) (sym len) (record {
       framing = refl;
       found = refl;
-      goes = λ b past s has.
-          let tail = between_tail s.tail _ (phase_at w b past s _ e has) in
-          pad_from w b past s t s.layers (tail_state w b past s _ tail has) e none padding zeros;
+      goes = λ b yielded s has.
+          let tail = between_tail s.tail _ (phase_at w b yielded s _ e has) in
+          pad_from w b yielded s t s.layers (tail_state w b yielded s _ tail has) e none padding zeros;
     })

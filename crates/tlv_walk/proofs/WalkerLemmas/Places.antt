@@ -28,8 +28,8 @@ place-depth w [] = refl
 place-depth w (l ∷ ls) = omega (arith, place-depth w ls)
 
 -- if nothing is open after the whole elements, the walker stands there
-pub place-offset : (w : WalkerState) (b : List ℕ) (past : List EventValue) (s : Zipper) → HasZipper w b past s → w.offset ≡ (place_of w.framing s).at + length (spelling_of_tail s.tail)
-place-offset w b past s has =
+pub place-offset : (w : WalkerState) (b : List ℕ) (yielded : List EventValue) (s : Zipper) → HasZipper w b yielded s → w.offset ≡ (place_of w.framing s).at + length (spelling_of_tail s.tail)
+place-offset w b yielded s has =
     omega (arith, has.offset, ap length has.spelled, place-at w.framing s.layers, length-append (spelling_of_layers s.layers) (spelling s.here ++ spelling_of_tail s.tail), length-append (spelling s.here) (spelling_of_tail s.tail))
 
 pub indefinite-size : (s : Size) (start : ℕ) → bound_in s start None ≡ None → s ≡ Indefinite

@@ -7,14 +7,14 @@ use Rattle.tlv_walk.specs.declared.ending.Ending.TheVariants as ending
 use Rattle.tlv_head.specs.declared.fault.Fault.{Fault}
 use Rattle.tlv_walk.specs.Phase.{Phase}
 use Rattle.tlv_walk.specs.Phase as phase
-use Rattle.tlv_walk.specs.Ending.{IsEnding, IsFault, bad_end, bad_inside, fault, missing_end, no_end, stray_end}
+use Rattle.tlv_walk.specs.Ending.{IsEnding, IsFault, bad_end, bad_inside, fault_ending, missing_end, no_end, stray_end}
 use Rattle.tlv_walk.specs.Events.{EventValue}
 use Rattle.tlv_walk.specs.WalkerState.{WalkerState}
 use Rattle.tlv_walk.specs.Private.WalkerState.{EventWaits, EventWaitsIn, fault_at}
 use Rattle.tlv_walk.specs.Stack.{IsFilled, IsInIndefinite, IsWithin, bound_of}
 use Rattle.tlv_walk.specs.Private.Stack.{room_to, room_in}
 use Rattle.tlv_walk.specs.Private.Zipper.{InBitString, Between, HasZipper, InEndOctets, Layer, Zipper, frames_of, place_in, place_of}
-use Rattle.tlv_walk.specs.Private.Steps.{RefusesOctet}
+use Rattle.tlv_walk.specs.Private.Yields.{RefusesOctet}
 use Rattle.tlv_walk.proofs.WalkerLemmas.Entering.{lead_tail}
 use Rattle.tlv_walk.proofs.WalkerLemmas.Moves.{between_tail, lone_tail, phase_at, tail_state, with_tail}
 use Rattle.tlv_walk.proofs.WalkerLemmas.Places.{place-bound, place-offset}
@@ -45,39 +45,39 @@ refuses_front w piece f h r = subst (λ (o : List ℕ). RefusesOctet w o o f) (s
 
 -- an octet that has a fault in each state of a walker is refused
 pub refuses_here : (w : WalkerState) (x : ℕ) (rest : List ℕ) (code : FaultCode) → (EventWaits w → ⊥)
-    → ((b : List ℕ) (past : List EventValue) (s : Zipper) → HasZipper w b past s → (t : Zipper) × HasZipper w b past t × IsFault (place_of w.framing t) x (forest_of t.tail) code)
+    → ((b : List ℕ) (yielded : List EventValue) (s : Zipper) → HasZipper w b yielded s → (t : Zipper) × HasZipper w b yielded t × IsFault (place_of w.framing t) x (forest_of t.tail) code)
     → RefusesOctet w (x ∷ rest) (x ∷ rest) (fault_at code w.offset)
 refuses_here w x rest code idle faulty = record {
   taken = [];
   octet = x;
-  rest = rest;
-  before_is = refl;
-  after_is = refl;
-  refuses = λ b past s has.
-      let f = faulty b past s has in record {
+  others = rest;
+  piece_is = refl;
+  rest_is = refl;
+  refuses = λ b yielded s has.
+      let f = faulty b yielded s has in record {
         walker = w;
         state = f.0;
-        has_state = subst (λ (o : List ℕ). HasZipper w o past f.0) (sym (append-nil b)) f.1;
+        has_state = subst (λ (o : List ℕ). HasZipper w o yielded f.0) (sym (append-nil b)) f.1;
         idle = idle;
         offset = refl;
         ends = λ c. subst (λ (o : List ℕ). IsEnding w.framing (o ++ x ∷ c) (ending.Fault (fault_at code w.offset))) (sym (append-nil b))
-            (subst (λ (n : ℕ). IsEnding w.framing (b ++ x ∷ c) (fault code n)) (sym f.1.offset) (state-fault w b past f.0 x c code f.1 idle f.2));
+            (subst (λ (n : ℕ). IsEnding w.framing (b ++ x ∷ c) (fault_ending code n)) (sym f.1.offset) (state-fault w b yielded f.0 x c code f.1 idle f.2));
         framing = refl;
         stack = refl;
       };
 }
 
-bound_there : (w : WalkerState) (b : List ℕ) (past : List EventValue) (s : Zipper) → HasZipper w b past s → w.stack ≡ frames_of w.framing s.layers → bound_of w.stack ≡ (place_of w.framing s).bound
-bound_there w b past s has stack = ap bound_of stack ∙ sym (place-bound w.framing s.layers)
+bound_there : (w : WalkerState) (b : List ℕ) (yielded : List EventValue) (s : Zipper) → HasZipper w b yielded s → w.stack ≡ frames_of w.framing s.layers → bound_of w.stack ≡ (place_of w.framing s).bound
+bound_there w b yielded s has stack = ap bound_of stack ∙ sym (place-bound w.framing s.layers)
 
 -- the bound is reached before the end-of-contents octets
 pub refuses_missing : (w : WalkerState) (x : ℕ) (rest : List ℕ) → w.phase ≡ phase.Between → (IsFilled w.stack w.offset → ⊥) → IsInIndefinite w.stack → IsWithin (bound_of w.stack) w.offset → room_in w.stack w.offset ≡ Some 0
     → RefusesOctet w (x ∷ rest) (x ∷ rest) (fault_at MissingEnd w.offset)
-refuses_missing w x rest e unfilled inside within room = refuses_here w x rest MissingEnd (idle_at w phase.Between e unfilled) (λ b past s has.
-    let t = between_tail s.tail _ (phase_at w b past s _ e has) in
-    let has' : HasZipper w b past (with_tail s Between) = tail_state w b past s _ t has in
-    let place : w.offset ≡ (place_of w.framing (with_tail s Between)).at + 0 = place-offset w b past _ has' in
-    let none : room_to (place_of w.framing (with_tail s Between)).bound w.offset ≡ Some 0 = subst (λ (o : Option ℕ). room_to o w.offset ≡ Some 0) (bound_there w b past _ has' has'.stack) room in (
+refuses_missing w x rest e unfilled inside within room = refuses_here w x rest MissingEnd (idle_at w phase.Between e unfilled) (λ b yielded s has.
+    let t = between_tail s.tail _ (phase_at w b yielded s _ e has) in
+    let has' : HasZipper w b yielded (with_tail s Between) = tail_state w b yielded s _ t has in
+    let place : w.offset ≡ (place_of w.framing (with_tail s Between)).at + 0 = place-offset w b yielded _ has' in
+    let none : room_to (place_of w.framing (with_tail s Between)).bound w.offset ≡ Some 0 = subst (λ (o : Option ℕ). room_to o w.offset ≡ Some 0) (bound_there w b yielded _ has' has'.stack) room in (
       with_tail s Between,
       has',
       no_end ((place-indefinite w.framing s.layers).1 (subst IsInIndefinite has'.stack inside)) (left_none _ w.offset _ none (omega (arith, place))),
@@ -97,9 +97,9 @@ not_indefinite false f = refl
 
 pub refuses_stray : (w : WalkerState) (rest : List ℕ) → w.phase ≡ phase.Between → (IsFilled w.stack w.offset → ⊥) → (IsInIndefinite w.stack → ⊥) → (w.framing.padding ≡ true → w.stack ≡ [] → ⊥)
     → RefusesOctet w (0 ∷ rest) (0 ∷ rest) (fault_at StrayEnd w.offset)
-refuses_stray w rest e unfilled outside padding = refuses_here w 0 rest StrayEnd (idle_at w phase.Between e unfilled) (λ b past s has.
-    let t = between_tail s.tail _ (phase_at w b past s _ e has) in
-    let has' : HasZipper w b past (with_tail s Between) = tail_state w b past s _ t has in (
+refuses_stray w rest e unfilled outside padding = refuses_here w 0 rest StrayEnd (idle_at w phase.Between e unfilled) (λ b yielded s has.
+    let t = between_tail s.tail _ (phase_at w b yielded s _ e has) in
+    let has' : HasZipper w b yielded (with_tail s Between) = tail_state w b yielded s _ t has in (
       with_tail s Between,
       has',
       stray_end (not_indefinite _ (λ i. outside (subst IsInIndefinite (sym has'.stack) ((place-indefinite w.framing s.layers).0 i)))) (not_padding w s.layers has'.stack padding) refl,
@@ -114,26 +114,26 @@ refuses_stray_front w piece some zero e unfilled outside padding =
 -- the second of the end-of-contents octets
 pub refuses_second_missing : (w : WalkerState) (x : ℕ) (rest : List ℕ) → w.phase ≡ phase.InEndOctets → IsWithin (bound_of w.stack) w.offset → room_in w.stack w.offset ≡ Some 0
     → RefusesOctet w (x ∷ rest) (x ∷ rest) (fault_at MissingEnd w.offset)
-refuses_second_missing w x rest e within room = refuses_here w x rest MissingEnd (idle_at w phase.InEndOctets e (λ k. k)) (λ b past s has.
-    let t = lone_tail s.tail _ (phase_at w b past s _ e has) in
-    let has' : HasZipper w b past (with_tail s InEndOctets) = tail_state w b past s _ t has in
-    let place : w.offset ≡ (place_of w.framing (with_tail s InEndOctets)).at + 1 = place-offset w b past _ has' in
-    let none : room_to (place_of w.framing (with_tail s InEndOctets)).bound w.offset ≡ Some 0 = subst (λ (o : Option ℕ). room_to o w.offset ≡ Some 0) (bound_there w b past _ has' has'.stack) room in
+refuses_second_missing w x rest e within room = refuses_here w x rest MissingEnd (idle_at w phase.InEndOctets e (λ k. k)) (λ b yielded s has.
+    let t = lone_tail s.tail _ (phase_at w b yielded s _ e has) in
+    let has' : HasZipper w b yielded (with_tail s InEndOctets) = tail_state w b yielded s _ t has in
+    let place : w.offset ≡ (place_of w.framing (with_tail s InEndOctets)).at + 1 = place-offset w b yielded _ has' in
+    let none : room_to (place_of w.framing (with_tail s InEndOctets)).bound w.offset ≡ Some 0 = subst (λ (o : Option ℕ). room_to o w.offset ≡ Some 0) (bound_there w b yielded _ has' has'.stack) room in
     (with_tail s InEndOctets, has', missing_end (left_none _ w.offset _ none (omega (arith, place)))))
 
 pub refuses_second : (w : WalkerState) (x : ℕ) (rest : List ℕ) → w.phase ≡ phase.InEndOctets → (room_in w.stack w.offset ≡ Some 0 → ⊥) → x ≢ 0
     → RefusesOctet w (x ∷ rest) (x ∷ rest) (fault_at BadEnd w.offset)
-refuses_second w x rest e room nonzero = refuses_here w x rest BadEnd (idle_at w phase.InEndOctets e (λ k. k)) (λ b past s has.
-    let t = lone_tail s.tail _ (phase_at w b past s _ e has) in
-    let has' : HasZipper w b past (with_tail s InEndOctets) = tail_state w b past s _ t has in
-    let place : w.offset ≡ (place_of w.framing (with_tail s InEndOctets)).at + 1 = place-offset w b past _ has' in (
+refuses_second w x rest e room nonzero = refuses_here w x rest BadEnd (idle_at w phase.InEndOctets e (λ k. k)) (λ b yielded s has.
+    let t = lone_tail s.tail _ (phase_at w b yielded s _ e has) in
+    let has' : HasZipper w b yielded (with_tail s InEndOctets) = tail_state w b yielded s _ t has in
+    let place : w.offset ≡ (place_of w.framing (with_tail s InEndOctets)).at + 1 = place-offset w b yielded _ has' in (
       with_tail s InEndOctets,
       has',
-      bad_end (left_some _ w.offset _ (λ none. room (subst (λ (o : Option ℕ). room_to o w.offset ≡ Some 0) (sym (bound_there w b past _ has' has'.stack)) none)) (omega (arith, place))) nonzero,
+      bad_end (left_some _ w.offset _ (λ none. room (subst (λ (o : Option ℕ). room_to o w.offset ≡ Some 0) (sym (bound_there w b yielded _ has' has'.stack)) none)) (omega (arith, place))) nonzero,
     ))
 
 -- the first contents octet of a wrapping BIT STRING
 pub refuses_unused : (w : WalkerState) (x : ℕ) (rest : List ℕ) → w.phase ≡ phase.InBitString → x ≢ 0 → RefusesOctet w (x ∷ rest) (x ∷ rest) (fault_at BadInside w.offset)
-refuses_unused w x rest e nonzero = refuses_here w x rest BadInside (idle_at w phase.InBitString e (λ k. k)) (λ b past s has.
-    let t = lead_tail s.tail _ (phase_at w b past s _ e has) in
-    (with_tail s (InBitString t.0), tail_state w b past s _ t.1 has, bad_inside nonzero))
+refuses_unused w x rest e nonzero = refuses_here w x rest BadInside (idle_at w phase.InBitString e (λ k. k)) (λ b yielded s has.
+    let t = lead_tail s.tail _ (phase_at w b yielded s _ e has) in
+    (with_tail s (InBitString t.0), tail_state w b yielded s _ t.1 has, bad_inside nonzero))

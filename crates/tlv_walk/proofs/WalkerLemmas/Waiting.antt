@@ -7,12 +7,12 @@ use Rattle.tlv_walk.specs.Events.{End, EventValue}
 use Rattle.tlv_walk.specs.WalkerState.{WalkerState}
 use Rattle.tlv_walk.specs.Private.WalkerState.{AwaitsOctet, AwaitsOctetIn, EventWaits, EventWaitsIn}
 use Rattle.tlv_walk.specs.Stack.{Frame, IsFilled}
-use Rattle.tlv_walk.specs.Stands.{CanTake, IsIdle, frame_closing_event, closing_events, is_end, waiting_events, waiting_events_in}
+use Rattle.tlv_walk.specs.Stands.{CanTake, IsIdle, filled_end, filled_ends, is_end, waiting_events, waiting_events_in}
 
 -- if nothing waits no events do
-no_endings : (at : ℕ) (fs : List Frame) → (IsFilled fs at → ⊥) → closing_events at fs ≡ []
+no_endings : (at : ℕ) (fs : List Frame) → (IsFilled fs at → ⊥) → filled_ends at fs ≡ []
 no_endings at [] n = refl
-no_endings at (f ∷ fs) n = ap (λ (k : Bool). if k then frame_closing_event f ∷ closing_events at fs else []) (unfilled f.end n)
+no_endings at (f ∷ fs) n = ap (λ (k : Bool). if k then filled_end f ∷ filled_ends at fs else []) (unfilled f.end n)
   where
     unfilled : (e : Option ℕ) → (e ≡ Some at → ⊥) → is_end e at ≡ false
     unfilled None n = refl
@@ -21,7 +21,7 @@ no_endings at (f ∷ fs) n = ap (λ (k : Bool). if k then frame_closing_event f 
 quiet_in : (f : Phase) (stack : List Frame) (at : ℕ) → (EventWaitsIn f stack at → ⊥) → waiting_events_in f stack at ≡ []
 quiet_in phase.Between stack at n = no_endings at stack n
 quiet_in (phase.InHeader r) stack at n = refl
-quiet_in (phase.InPrimitive left) stack at n = ap (λ (k : Bool). if k then End ∷ closing_events at stack else []) (ne_eqb left 0 n)
+quiet_in (phase.InPrimitive left) stack at n = ap (λ (k : Bool). if k then End ∷ filled_ends at stack else []) (ne_eqb left 0 n)
 quiet_in phase.InBitString stack at n = refl
 quiet_in phase.InEndOctets stack at n = refl
 quiet_in (phase.Refused fault) stack at n = refl
@@ -36,9 +36,9 @@ no_more e es false t n = absurd (cc)
 
 loud_in : (f : Phase) (stack : List Frame) (at : ℕ) → EventWaitsIn f stack at → waiting_events_in f stack at ≡ [] → ⊥
 loud_in phase.Between [] at i n = i
-loud_in phase.Between (f ∷ fs) at i n = no_more (frame_closing_event f) (closing_events at fs) (is_end f.end at) (ap (λ (e : Option ℕ). is_end e at) i ∙ eq-eqb at at refl) n
+loud_in phase.Between (f ∷ fs) at i n = no_more (filled_end f) (filled_ends at fs) (is_end f.end at) (ap (λ (e : Option ℕ). is_end e at) i ∙ eq-eqb at at refl) n
 loud_in (phase.InHeader r) stack at i n = i
-loud_in (phase.InPrimitive left) stack at i n = no_more End (closing_events at stack) (eqb left 0) (eq-eqb left 0 i) n
+loud_in (phase.InPrimitive left) stack at i n = no_more End (filled_ends at stack) (eqb left 0) (eq-eqb left 0 i) n
 loud_in phase.InBitString stack at i n = i
 loud_in phase.InEndOctets stack at i n = i
 loud_in (phase.Refused fault) stack at i n = i

@@ -7,7 +7,7 @@ use Rattle.tlv_walk.specs.declared.ending.Ending.TheVariants.{Done}
 use Rattle.tlv_walk.specs.declared.framing.Framing.{Framing}
 use Rattle.tlv_walk.specs.Phase.{Phase}
 use Rattle.tlv_walk.specs.Phase as phase
-use Rattle.tlv_walk.specs.Ending.{IsEnding, IsFault, done, empty, fault, short, tip}
+use Rattle.tlv_walk.specs.Ending.{IsEnding, IsFault, done, empty, fault_ending, short, tip}
 use Rattle.tlv_walk.specs.Events.{EventValue}
 use Rattle.tlv_walk.specs.Forest.{Forest, NoMore, OpenPrimitive, OpenBitString, OpenHeader, OpenEndOctets, has_element, is_complete, spelling}
 use Rattle.tlv_walk.specs.WalkerState.{WalkerState}
@@ -47,9 +47,9 @@ reading-within w ls here phase.InEndOctets InEndOctets at j e n = refl
 reading-within w ls here f t at j e n = absurd j
 
 -- so what a walker with nothing waiting has read is its layers, its whole elements and what is open
-pub state-within : (w : WalkerState) (b : List ℕ) (past : List EventValue) (s : Zipper) → HasZipper w b past s → (EventWaits w → ⊥) → reading_of s ≡ within s.layers (followed_by s.here (forest_of s.tail))
-state-within w b past s h n =
-    reading-within w.framing s.layers s.here w.phase s.tail w.offset h.phase (state-offset w b past s h)
+pub state-within : (w : WalkerState) (b : List ℕ) (yielded : List EventValue) (s : Zipper) → HasZipper w b yielded s → (EventWaits w → ⊥) → reading_of s ≡ within s.layers (followed_by s.here (forest_of s.tail))
+state-within w b yielded s h n =
+    reading-within w.framing s.layers s.here w.phase s.tail w.offset h.phase (state-offset w b yielded s h)
     (λ i. n (subst (λ (stack : List Frame). EventWaitsIn w.phase stack w.offset) (sym h.stack) i))
 
 -- ---- the open end
@@ -63,23 +63,23 @@ tip-tail p (InHeader octets) = refl
 tip-tail p InEndOctets = refl
 
 -- the open end of the reading is that of the state
-pub state-tip : (w : WalkerState) (b : List ℕ) (past : List EventValue) (s : Zipper) → HasZipper w b past s → (EventWaits w → ⊥)
+pub state-tip : (w : WalkerState) (b : List ℕ) (yielded : List EventValue) (s : Zipper) → HasZipper w b yielded s → (EventWaits w → ⊥)
     → tip (top_place w.framing) (reading_of s) ≡ (place_of w.framing s, forest_of s.tail)
-state-tip w b past s h n =
-    ap (λ (f : Forest). tip (top_place w.framing) f) (state-within w b past s h n)
+state-tip w b yielded s h n =
+    ap (λ (f : Forest). tip (top_place w.framing) f) (state-within w b yielded s h n)
     ∙ tip-within w.framing s.layers (followed_by s.here (forest_of s.tail)) h.layers
     ∙ tip-followed_by (place_in w.framing s.layers) s.here (forest_of s.tail) h.here.whole
     ∙ tip-tail (place_of w.framing s) s.tail
 
 -- an octet with a fault of the list at the open end gives the ending, whatever follows
-pub state-fault : (w : WalkerState) (b : List ℕ) (past : List EventValue) (s : Zipper) (x : ℕ) (rest : List ℕ) (code : FaultCode) → HasZipper w b past s → (EventWaits w → ⊥)
-    → IsFault (place_of w.framing s) x (forest_of s.tail) code → IsEnding w.framing (b ++ x ∷ rest) (fault code (length b))
-state-fault w b past s x rest code h n k =
-    let r : Spells (top_place w.framing) b (reading_of s) = state-spells w b past s h in
-    let there : IsFault (tip (top_place w.framing) (reading_of s)).0 x (tip (top_place w.framing) (reading_of s)).1 code = subst (λ (t : Place × Forest). IsFault t.0 x t.1 code) (sym (state-tip w b past s h n)) k in
+pub state-fault : (w : WalkerState) (b : List ℕ) (yielded : List EventValue) (s : Zipper) (x : ℕ) (rest : List ℕ) (code : FaultCode) → HasZipper w b yielded s → (EventWaits w → ⊥)
+    → IsFault (place_of w.framing s) x (forest_of s.tail) code → IsEnding w.framing (b ++ x ∷ rest) (fault_ending code (length b))
+state-fault w b yielded s x rest code h n k =
+    let r : Spells (top_place w.framing) b (reading_of s) = state-spells w b yielded s h in
+    let there : IsFault (tip (top_place w.framing) (reading_of s)).0 x (tip (top_place w.framing) (reading_of s)).1 code = subst (λ (t : Place × Forest). IsFault t.0 x t.1 code) (sym (state-tip w b yielded s h n)) k in
     let halt : IsHalt w.framing (reading_of s) code (b ++ x ∷ rest) =
     record { is_open = r.is_open; octet = x; rest = rest; front = ap (λ (o : List ℕ). o ++ x ∷ rest) r.spelled; refused = fault-refused w.framing (reading_of s) x code r.is_open there } in
-    subst (λ (o : List ℕ). IsEnding w.framing (b ++ x ∷ rest) (fault code (length o))) r.spelled (halt-ending w.framing (reading_of s) code (b ++ x ∷ rest) halt there)
+    subst (λ (o : List ℕ). IsEnding w.framing (b ++ x ∷ rest) (fault_ending code (length o))) r.spelled (halt-ending w.framing (reading_of s) code (b ++ x ∷ rest) halt there)
 
 -- ---- the end of the input
 
@@ -104,11 +104,11 @@ record IsOutermost (w : WalkerState) (b : List ℕ) (s : Zipper) : Type 0 where
   spelled : spelling (reading_of s) ≡ b
 
 -- it is the whole elements there
-state-outermost : (w : WalkerState) (b : List ℕ) (past : List EventValue) (s : Zipper) → HasZipper w b past s → w.phase ≡ phase.Between → w.stack ≡ [] → IsOutermost w b s
-state-outermost w b past s h e none =
+state-outermost : (w : WalkerState) (b : List ℕ) (yielded : List EventValue) (s : Zipper) → HasZipper w b yielded s → w.phase ≡ phase.Between → w.stack ≡ [] → IsOutermost w b s
+state-outermost w b yielded s h e none =
     let j : IsPhaseOf phase.Between s.tail (place_of w.framing s) = subst (λ (f : Phase). IsPhaseOf f s.tail (place_of w.framing s)) e h.phase in
     let empty : stack_of w.framing s.layers (place_of w.framing s) s.tail ≡ [] = sym h.stack ∙ none in
-    let r : Spells (top_place w.framing) b (reading_of s) = state-spells w b past s h in
+    let r : Spells (top_place w.framing) b (reading_of s) = state-spells w b yielded s h in
     record {
       reading = outermost-reading w.framing s.layers s.here s.tail j empty;
       element = sym (outermost-element w.framing s.layers s.here s.tail j empty) ∙ sym h.element;
@@ -116,18 +116,18 @@ state-outermost w b past s h e none =
     }
 
 -- there, after an octet of an element, the input is done
-pub state-done : (w : WalkerState) (b : List ℕ) (past : List EventValue) (s : Zipper) → HasZipper w b past s → w.phase ≡ phase.Between → w.stack ≡ [] → w.has_element ≡ true
+pub state-done : (w : WalkerState) (b : List ℕ) (yielded : List EventValue) (s : Zipper) → HasZipper w b yielded s → w.phase ≡ phase.Between → w.stack ≡ [] → w.has_element ≡ true
     → IsEnding w.framing b Done
-state-done w b past s h e none some =
-    let o : IsOutermost w b s = state-outermost w b past s h e none in
-    done (reading_of s) (state-reading w b past s h) o.spelled (ap has_element o.reading ∙ o.element ∙ some) (ap is_complete o.reading ∙ h.here.whole)
+state-done w b yielded s h e none some =
+    let o : IsOutermost w b s = state-outermost w b yielded s h e none in
+    done (reading_of s) (state-reading w b yielded s h) o.spelled (ap has_element o.reading ∙ o.element ∙ some) (ap is_complete o.reading ∙ h.here.whole)
 
 -- and if no octet of an element came, there is none
-pub state-empty : (w : WalkerState) (b : List ℕ) (past : List EventValue) (s : Zipper) → HasZipper w b past s → w.phase ≡ phase.Between → w.stack ≡ [] → w.has_element ≡ false
-    → IsEnding w.framing b (fault Empty (length b))
-state-empty w b past s h e none no_element =
-    let o : IsOutermost w b s = state-outermost w b past s h e none in
-    empty (reading_of s) (state-reading w b past s h) o.spelled (ap has_element o.reading ∙ o.element ∙ no_element)
+pub state-empty : (w : WalkerState) (b : List ℕ) (yielded : List EventValue) (s : Zipper) → HasZipper w b yielded s → w.phase ≡ phase.Between → w.stack ≡ [] → w.has_element ≡ false
+    → IsEnding w.framing b (fault_ending Empty (length b))
+state-empty w b yielded s h e none no_element =
+    let o : IsOutermost w b s = state-outermost w b yielded s h e none in
+    empty (reading_of s) (state-reading w b yielded s h) o.spelled (ap has_element o.reading ∙ o.element ∙ no_element)
 
 -- elsewhere something is open: an element that holds others, or what is after the whole elements
 open-elsewhere : (w : Framing) (ls : List Layer) (here : Forest) (f : Phase) (t : Tail) → IsPhaseOf f t (later_place w ls here)
@@ -140,11 +140,11 @@ open-elsewhere w ls here phase.InEndOctets InEndOctets j n e = refl
 open-elsewhere w ls here f t j n e = absurd j
 
 -- there the input is too short
-pub state-short : (w : WalkerState) (b : List ℕ) (past : List EventValue) (s : Zipper) → HasZipper w b past s → (EventWaits w → ⊥) → (w.phase ≡ phase.Between → w.stack ≡ [] → ⊥)
-    → IsEnding w.framing b (fault Short (length b))
-state-short w b past s h n outside =
-    let r : Spells (top_place w.framing) b (reading_of s) = state-spells w b past s h in
+pub state-short : (w : WalkerState) (b : List ℕ) (yielded : List EventValue) (s : Zipper) → HasZipper w b yielded s → (EventWaits w → ⊥) → (w.phase ≡ phase.Between → w.stack ≡ [] → ⊥)
+    → IsEnding w.framing b (fault_ending Short (length b))
+state-short w b yielded s h n outside =
+    let r : Spells (top_place w.framing) b (reading_of s) = state-spells w b yielded s h in
     let part : is_complete (within s.layers (followed_by s.here (forest_of s.tail))) ≡ false =
     whole-within w.framing s.layers (followed_by s.here (forest_of s.tail)) h.layers
     (λ e. whole-followed_by s.here (forest_of s.tail) h.here.whole ∙ open-elsewhere w.framing s.layers s.here w.phase s.tail h.phase (λ p q. outside p (h.stack ∙ q)) e) in
-    short (reading_of s) (state-reading w b past s h) r.spelled (ap is_complete (state-within w b past s h n) ∙ part)
+    short (reading_of s) (state-reading w b yielded s h) r.spelled (ap is_complete (state-within w b yielded s h n) ∙ part)

@@ -7,7 +7,7 @@ use Rattle.tlv_head.specs.Header.{HeaderValue}
 use Rattle.tlv_walk.specs.declared.framing.Framing.{Framing}
 use Rattle.tlv_walk.specs.Events.{Begin, Bytes, Close, End, EventValue, Leave, Pad, closing_event, end_offset, events, opening_events}
 use Rattle.tlv_walk.specs.Forest.{Forest, Holder, NoMore, OpenBitString, OpenEndOctets, OpenHeader, OpenHolder, OpenPrimitive, PaddingOctet, Primitive, contents_length, end_octets, is_complete, spelling}
-use Rattle.tlv_walk.specs.Stands.{frame_closing_event, closing_events}
+use Rattle.tlv_walk.specs.Stands.{filled_end, filled_ends}
 use Rattle.tlv_walk.specs.Private.Zipper.{AreLayers, AreWhole, Layer, events_of_layers, frame_at, frames_of, place_in}
 use Rattle.tlv_walk.proofs.WalkerLemmas.ZipperWrappers.{wrappers_layers}
 use Rattle.tlv_walk.specs.Place.{Place, place_after}
@@ -77,7 +77,7 @@ closes-definite true Indefinite at e = absurd (cc)
 closes-definite false s at e = refl
 
 -- the end of an element that is filled is that of its frame
-closes-filled : (p : Place) (h : HeaderValue) (f : Forest) → is_filled h f ≡ true → closing_event h f ≡ frame_closing_event (frame_at p h)
+closes-filled : (p : Place) (h : HeaderValue) (f : Forest) → is_filled h f ≡ true → closing_event h f ≡ filled_end (frame_at p h)
 closes-filled p h f e = let full : IsFull h.size (contents_length h f) = filled-full h f e in closes-definite h.constructed h.size _ full.ends
 
 -- events of layers, of whole elements in the innermost, and of its end
@@ -87,19 +87,19 @@ regroup-end around before start inside ends c d e = rw e (simp append_assoc)
 
 -- their events, after those of the layers, and then the ends of the elements that are filled
 pub events-settled : (w : Framing) (ls : List Layer) (f : Forest) → AreLayers w ls → AreWhole (place_in w ls) f
-    → events (settled ls f) ≡ (events_of_layers ls ++ events f) ++ closing_events (end_in w ls f) (frames_of w ls)
+    → events (settled ls f) ≡ (events_of_layers ls ++ events f) ++ filled_ends (end_in w ls f) (frames_of w ls)
 events-settled w [] f a i = sym (append-nil (events f))
 events-settled w (l ∷ ls) f a i = elim (cases_Bool (is_filled l.header f)) [
   | inl e ↦
       let d : IsEnded w l ls f = filled-ended w l ls f a i e in
-      let r : events (settled ls (followed_by l.before (Holder l.header f NoMore))) ≡ (events_of_layers ls ++ events (followed_by l.before (Holder l.header f NoMore))) ++ closing_events (end_in w ls (followed_by l.before (Holder l.header f NoMore))) (frames_of w ls) =
+      let r : events (settled ls (followed_by l.before (Holder l.header f NoMore))) ≡ (events_of_layers ls ++ events (followed_by l.before (Holder l.header f NoMore))) ++ filled_ends (end_in w ls (followed_by l.before (Holder l.header f NoMore))) (frames_of w ls) =
       events-settled w ls (followed_by l.before (Holder l.header f NoMore)) a.0 d.are_whole in
-      let s : (events_of_layers ls ++ events (followed_by l.before (Holder l.header f NoMore))) ++ closing_events (end_in w ls (followed_by l.before (Holder l.header f NoMore))) (frames_of w ls)
-      ≡ (events_of_layers ls ++ (events l.before ++ (opening_events l.header ++ (events f ++ closing_event l.header f ∷ [])))) ++ closing_events (end_in w (l ∷ ls) f) (frames_of w ls) =
-      ap (λ (t : List EventValue). (events_of_layers ls ++ t) ++ closing_events (end_in w ls (followed_by l.before (Holder l.header f NoMore))) (frames_of w ls)) (events-followed_by l.before (Holder l.header f NoMore) a.1.whole)
-      ∙ ap (λ (n : ℕ). (events_of_layers ls ++ (events l.before ++ (opening_events l.header ++ (events f ++ closing_event l.header f ∷ [])))) ++ closing_events n (frames_of w ls)) d.same_end in
+      let s : (events_of_layers ls ++ events (followed_by l.before (Holder l.header f NoMore))) ++ filled_ends (end_in w ls (followed_by l.before (Holder l.header f NoMore))) (frames_of w ls)
+      ≡ (events_of_layers ls ++ (events l.before ++ (opening_events l.header ++ (events f ++ closing_event l.header f ∷ [])))) ++ filled_ends (end_in w (l ∷ ls) f) (frames_of w ls) =
+      ap (λ (t : List EventValue). (events_of_layers ls ++ t) ++ filled_ends (end_in w ls (followed_by l.before (Holder l.header f NoMore))) (frames_of w ls)) (events-followed_by l.before (Holder l.header f NoMore) a.1.whole)
+      ∙ ap (λ (n : ℕ). (events_of_layers ls ++ (events l.before ++ (opening_events l.header ++ (events f ++ closing_event l.header f ∷ [])))) ++ filled_ends n (frames_of w ls)) d.same_end in
       rw (e, end-filled w l ls f i.whole ∙ e)
-      (r ∙ s ∙ regroup-end (events_of_layers ls) (events l.before) (opening_events l.header) (events f) (closing_events (end_in w (l ∷ ls) f) (frames_of w ls)) _ _ (closes-filled (place_after (place_in w ls) (length (spelling l.before))) l.header f e))
+      (r ∙ s ∙ regroup-end (events_of_layers ls) (events l.before) (opening_events l.header) (events f) (filled_ends (end_in w (l ∷ ls) f) (frames_of w ls)) _ _ (closes-filled (place_after (place_in w ls) (length (spelling l.before))) l.header f e))
   | inr e ↦ rw (e, end-filled w l ls f i.whole ∙ e) (events-within w (l ∷ ls) f a ∙ sym (append-nil _))
 ]
 

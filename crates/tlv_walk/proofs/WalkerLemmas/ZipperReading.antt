@@ -13,7 +13,7 @@ use Rattle.tlv_walk.specs.WalkerState.{WalkerState, new_walker}
 use Rattle.tlv_walk.specs.Private.WalkerState.{wrappers_after}
 use Rattle.tlv_walk.specs.Place.{IsOpen, Place, place_after, top_place}
 use Rattle.tlv_walk.specs.Reading.{IsReading}
-use Rattle.tlv_walk.specs.Stands.{Stands, closing_events, waiting_events, waiting_events_in}
+use Rattle.tlv_walk.specs.Stands.{Stands, filled_ends, waiting_events, waiting_events_in}
 use Rattle.tlv_walk.specs.Private.Zipper.{AreLayers, AreWhole, InBitString, Between, HasZipper, InPrimitive, InEndOctets, InHeader, IsContents, IsPhaseOf, Layer, Tail, Zipper, events_of_layers, events_of_tail, events_of_zipper, frames_of, place_in, place_of, spelling_of_layers, spelling_of_tail, spelling_of_zipper, stack_of}
 use Rattle.tlv_walk.proofs.WalkerLemmas.ZipperWrappers.{wrappers_layers, wrappers_tail, wrappers_zipper}
 use Rattle.tlv_walk.specs.Inside.{CanName}
@@ -71,11 +71,11 @@ whole-spells w ls here g a i j =
 -- they have these events, and then the ends of the elements that are filled
 whole-events : (w : Framing) (ls : List Layer) (here g : Forest) (at : ℕ) → AreLayers w ls → AreWhole (place_in w ls) here → AreWhole (later_place w ls here) g
     → at ≡ (later_place w ls here).at + length (spelling g)
-    → events (settled ls (followed_by here g)) ≡ (events_of_layers ls ++ (events here ++ events g)) ++ closing_events at (frames_of w ls)
+    → events (settled ls (followed_by here g)) ≡ (events_of_layers ls ++ (events here ++ events g)) ++ filled_ends at (frames_of w ls)
 whole-events w ls here g at a i j e =
     events-settled w ls (followed_by here g) a (more-whole w ls here g i j)
-    ∙ ap (λ (t : List EventValue). (events_of_layers ls ++ t) ++ closing_events (end_in w ls (followed_by here g)) (frames_of w ls)) (events-followed_by here g i.whole)
-    ∙ ap (λ (n : ℕ). (events_of_layers ls ++ (events here ++ events g)) ++ closing_events n (frames_of w ls)) (followed_by-end w ls here g i.whole ∙ sym e)
+    ∙ ap (λ (t : List EventValue). (events_of_layers ls ++ t) ++ filled_ends (end_in w ls (followed_by here g)) (frames_of w ls)) (events-followed_by here g i.whole)
+    ∙ ap (λ (n : ℕ). (events_of_layers ls ++ (events here ++ events g)) ++ filled_ends n (frames_of w ls)) (followed_by-end w ls here g i.whole ∙ sym e)
 
 -- and these wrappers
 whole-wrappers : (w : Framing) (ls : List Layer) (here g : Forest) → AreLayers w ls → AreWhole (place_in w ls) here → AreWhole (later_place w ls here) g
@@ -172,7 +172,7 @@ reading-events w ls here (phase.InPrimitive left) (InPrimitive h c) at a i j e =
   | inl z ↦
       let there : at ≡ (later_place w ls here).at + length (octets_of h ++ (c ++ [])) = e ∙ ap (λ (t : List ℕ). (later_place w ls here).at + length (octets_of h ++ t)) (sym (append-nil c)) in
       rw (contents-all _ h c left j z, eq-eqb left 0 z)
-      (contents-end (events_of_layers ls) (events here) (closing_events at (frames_of w ls)) h c ∙ sym (whole-events w ls here (Primitive h c NoMore) at a i (contents-whole _ h c left j z) there))
+      (contents-end (events_of_layers ls) (events here) (filled_ends at (frames_of w ls)) h c ∙ sym (whole-events w ls here (Primitive h c NoMore) at a i (contents-whole _ h c left j z) there))
   | inr n ↦ rw (contents-less _ h c left j n, ne_eqb left 0 n) (open-events w ls here (OpenPrimitive h c) a i)
 ]
 reading-events w ls here (phase.InHeader r) (InHeader octets) at a i j e = open-events w ls here (OpenHeader octets) a i
@@ -183,38 +183,38 @@ reading-events w ls here f t at a i j e = absurd j
 -- ---- of a walker
 
 -- the walker has taken the octets up to the open end, and those of what is open
-pub state-offset : (w : WalkerState) (b : List ℕ) (past : List EventValue) (s : Zipper) → HasZipper w b past s → w.offset ≡ (place_of w.framing s).at + length (spelling_of_tail s.tail)
-state-offset w b past s h =
+pub state-offset : (w : WalkerState) (b : List ℕ) (yielded : List EventValue) (s : Zipper) → HasZipper w b yielded s → w.offset ≡ (place_of w.framing s).at + length (spelling_of_tail s.tail)
+state-offset w b yielded s h =
     omega (arith, h.offset, ap length h.spelled, place-at w.framing s.layers, length-append (spelling_of_layers s.layers) (spelling s.here ++ spelling_of_tail s.tail), length-append (spelling s.here) (spelling_of_tail s.tail))
 
 -- what its state has been read as is open, with the octets taken
-pub state-spells : (w : WalkerState) (b : List ℕ) (past : List EventValue) (s : Zipper) → HasZipper w b past s → Spells (top_place w.framing) b (reading_of s)
-state-spells w b past s h =
+pub state-spells : (w : WalkerState) (b : List ℕ) (yielded : List EventValue) (s : Zipper) → HasZipper w b yielded s → Spells (top_place w.framing) b (reading_of s)
+state-spells w b yielded s h =
     let r : Spells (top_place w.framing) (spelling_of_zipper s) (reading_of s) =
     reading-spells w.framing s.layers s.here s.tail h.layers h.here (phase-tail w.phase s.tail (place_of w.framing s) h.phase) in
     record { is_open = r.is_open; spelled = r.spelled ∙ h.spelled }
 
 -- it is their reading
-pub state-reading : (w : WalkerState) (b : List ℕ) (past : List EventValue) (s : Zipper) → HasZipper w b past s → IsReading w.framing b (reading_of s)
-state-reading w b past s h = run-reading w.framing (Going (reading_of s)) b (state-spells w b past s h)
+pub state-reading : (w : WalkerState) (b : List ℕ) (yielded : List EventValue) (s : Zipper) → HasZipper w b yielded s → IsReading w.framing b (reading_of s)
+state-reading w b yielded s h = run-reading w.framing (Going (reading_of s)) b (state-spells w b yielded s h)
 
 -- what was yielded and what is waiting are its events
-pub state-events : (w : WalkerState) (b : List ℕ) (past : List EventValue) (s : Zipper) → HasZipper w b past s → AreEqualJoined (past ++ waiting_events w) (events (reading_of s))
-state-events w b past s h =
+pub state-events : (w : WalkerState) (b : List ℕ) (yielded : List EventValue) (s : Zipper) → HasZipper w b yielded s → AreEqualJoined (yielded ++ waiting_events w) (events (reading_of s))
+state-events w b yielded s h =
     let all : events_of_zipper s ++ waiting_events w ≡ events (reading_of s) =
     ap (λ (stack : List Frame). events_of_zipper s ++ waiting_events_in w.phase stack w.offset) h.stack
-    ∙ reading-events w.framing s.layers s.here w.phase s.tail w.offset h.layers h.here h.phase (state-offset w b past s h) in
-    joined-from_apart (past ++ waiting_events w) (events (reading_of s))
-    (apart-before past (events_of_zipper s) (waiting_events w) (apart-from_joined past (events_of_zipper s) h.same_events) ∙ ap single_octets all)
+    ∙ reading-events w.framing s.layers s.here w.phase s.tail w.offset h.layers h.here h.phase (state-offset w b yielded s h) in
+    joined-from_apart (yielded ++ waiting_events w) (events (reading_of s))
+    (apart-before yielded (events_of_zipper s) (waiting_events w) (apart-from_joined yielded (events_of_zipper s) h.same_events) ∙ ap single_octets all)
 
 -- its wrappers are those of the state
-pub state-wrappers : (w : WalkerState) (b : List ℕ) (past : List EventValue) (s : Zipper) → HasZipper w b past s → wrappers (reading_of s) ≡ wrappers_zipper s
-state-wrappers w b past s h = reading-wrappers w.framing s.layers s.here s.tail h.layers h.here (phase-tail w.phase s.tail (place_of w.framing s) h.phase)
+pub state-wrappers : (w : WalkerState) (b : List ℕ) (yielded : List EventValue) (s : Zipper) → HasZipper w b yielded s → wrappers (reading_of s) ≡ wrappers_zipper s
+state-wrappers w b yielded s h = reading-wrappers w.framing s.layers s.here s.tail h.layers h.here (phase-tail w.phase s.tail (place_of w.framing s) h.phase)
 
 -- a walker with a state stands for what was yielded and what was taken
-pub stands : (w : WalkerState) (b : List ℕ) (past : List EventValue) (s : Zipper) → HasZipper w b past s → CanName w.framing.inside → w.wrapper_count ≡ wrappers_after w.framing.inside 0 (wrapper_offsets past) → Stands w b past
-stands w b past s h n k =
-    record { reading = reading_of s; is_reading = state-reading w b past s h; all_events = state-events w b past s h; private_state = record { state = s; has_state = h; named = n; found = k } }
+pub stands : (w : WalkerState) (b : List ℕ) (yielded : List EventValue) (s : Zipper) → HasZipper w b yielded s → CanName w.framing.inside → w.wrapper_count ≡ wrappers_after w.framing.inside 0 (wrapper_offsets yielded) → Stands w b yielded
+stands w b yielded s h n k =
+    record { reads = record { reading = reading_of s; is_reading = state-reading w b yielded s h; all_events = state-events w b yielded s h }; private_state = record { state = s; has_state = h; named = n; found = k } }
 
 -- the state of a new walker: nothing is open, and nothing came
 abbrev pub new_state : Zipper

@@ -21,30 +21,31 @@ use Rattle.tlv_walk.specs.HasRead.{IsRefusedAfter, StandsRefused}
 use Rattle.tlv_walk.specs.Wrappers.{first_without_wrapper}
 use Rattle.tlv_walk.specs.FollowsEvents.{FollowsEvents}
 
--- what was walked over: octets from the front of a piece, and the events yielded of them
-pub record WalksOver (old new : WalkerState) (before after : List ℕ) (more : List EventValue) : Type 0 where
+-- what was walked over: a prefix of a piece, and the events yielded of it
+pub record WalksOver (old new : WalkerState) (piece rest : List ℕ) (more : List EventValue) : Type 0 where
   pub taken : List ℕ
-  pub piece : before ≡ taken ++ after
+  pub piece_is : piece ≡ taken ++ rest
   pub framing : new.framing ≡ old.framing
-  pub stands : (b : List ℕ) (past : List EventValue) → Stands old b past → Stands new (b ++ taken) (past ++ more)
+  pub stands : (b : List ℕ) (yielded : List EventValue) → Stands old b yielded
+      → Stands new (b ++ taken) (yielded ++ more)
 
 -- an octet was refused after those that were walked over
-pub record WalksTo (old new : WalkerState) (before : List ℕ) (more : List EventValue) (f : Fault)
-    (b : List ℕ) (past : List EventValue) : Type 0 where
+pub record WalksTo (old new : WalkerState) (piece : List ℕ) (more : List EventValue) (f : Fault)
+    (b : List ℕ) (yielded : List EventValue) : Type 0 where
   pub taken : List ℕ
   pub octet : ℕ
-  pub rest : List ℕ
-  pub piece : before ≡ taken ++ octet ∷ rest
+  pub others : List ℕ
+  pub piece_is : piece ≡ taken ++ octet ∷ others
   pub framing : new.framing ≡ old.framing
   pub offset : new.offset ≡ length (b ++ taken)
-  pub refused : IsRefusedAfter old.framing (b ++ taken) octet (past ++ more) f
+  pub refused : IsRefusedAfter old.framing (b ++ taken) octet (yielded ++ more) f
   pub unused : first_without_wrapper_in new ≡ first_without_wrapper old.framing.inside refused.reading
-  pub stands : StandsRefused new (b ++ taken) octet (past ++ more) f
+  pub stands : StandsRefused new (b ++ taken) octet (yielded ++ more) f
 
 -- the octets yield these events, joined, and then others
 abbrev pub GoesOnIn : Framing → List ℕ → List EventValue → Type 0
-GoesOnIn framing octets past = (f : Forest) → IsReading framing octets f
-    → (others : List EventValue) × AreEqualJoined (past ++ others) (events f)
+GoesOnIn framing octets yielded = (f : Forest) → IsReading framing octets f
+    → (others : List EventValue) × AreEqualJoined (yielded ++ others) (events f)
 
 -- what takes part in following a piece, as it is before that or after it: the walker, the follower's state, and the
 -- `Out` to which it puts
@@ -58,34 +59,34 @@ walk_state walker follower out = record { walker = walker; follower = follower; 
 
 -- here `more` are the events that the walker yielded of a piece, and the follower followed
 
-module _ {S D : Type 0} (next : S → EventValue → Effect S) (before after : WalkState S D) where
-  -- the front of a piece was walked over, its events were followed, and the rest is left
+module _ {S D : Type 0} (next : S → EventValue → Effect S) (old new : WalkState S D) where
+  -- a prefix of a piece was walked over, its events were followed, and the rest is left
   pub record Follows (piece rest : List ℕ) (more : List EventValue) (goes : Go) : Type 0 where
-    pub made : FollowsEvents next before.follower after.follower more goes
-    pub walked : WalksOver before.walker after.walker piece rest more
+    pub made : FollowsEvents next old.follower new.follower more goes
+    pub walked : WalksOver old.walker new.walker piece rest more
 
   -- all of a piece was followed, and the next octet can be taken
   pub record FollowsAll (piece : List ℕ) (more : List EventValue) : Type 0 where
     pub follows : Follows piece [] more go.On
-    pub offset : after.walker.offset ≡ before.walker.offset + length piece
-    pub ready : CanTake after.walker
+    pub offset : new.walker.offset ≡ old.walker.offset + length piece
+    pub ready : CanTake new.walker
 
   -- a piece was followed up to an octet that is refused
   pub record FollowsToFault (piece : List ℕ) (more : List EventValue) (f : Fault) : Type 0 where
-    pub made : FollowsEvents next before.follower after.follower more go.On
-    pub walked : (b : List ℕ) (past : List EventValue) → Stands before.walker b past
-        → WalksTo before.walker after.walker piece more f b past
+    pub made : FollowsEvents next old.follower new.follower more go.On
+    pub walked : (b : List ℕ) (yielded : List EventValue) → Stands old.walker b yielded
+        → WalksTo old.walker new.walker piece more f b yielded
 
   -- a piece was followed up to an event with which the follower had enough
   pub record FollowsToEnough (piece : List ℕ) (more : List EventValue) : Type 0 where
     pub rest : List ℕ
     pub follows : Follows piece rest more go.Enough
-    pub after_event : IsAfterEvent after.walker.phase
+    pub after_event : IsAfterEvent new.walker.phase
 
   -- the drain failed at what is put at these events, or before; the piece yields them, and then others
   pub record Fails (piece : List ℕ) (more : List EventValue) : Type 0 where
-    pub yields : (b : List ℕ) (past : List EventValue) → Stands before.walker b past
-        → GoesOnIn before.walker.framing (b ++ piece) (past ++ more)
+    pub yields : (b : List ℕ) (yielded : List EventValue) → Stands old.walker b yielded
+        → GoesOnIn old.walker.framing (b ++ piece) (yielded ++ more)
 
   -- how far a piece was followed, by why it is not followed any further
   abbrev pub Pauses : List ℕ → List EventValue → Result Pause WriteFault → Type 0
@@ -94,46 +95,46 @@ module _ {S D : Type 0} (next : S → EventValue → Effect S) (before after : W
   Pauses piece more (Ok pause.Enough) = FollowsToEnough piece more
   Pauses piece more (Err e) = Fails piece more
 
-  -- the front of a piece was followed, which has one event or more, and more is wanted
+  -- a prefix of a piece was followed, which has one event or more, and more is wanted
   pub record TakesPart (piece rest : List ℕ) (more : List EventValue) : Type 0 where
     pub follows : Follows piece rest more go.On
-    pub passes : Passes before.walker after.walker piece rest
+    pub passes : Passes old.walker new.walker piece rest
 
   -- nothing of a piece was taken
   pub record TakesNone (piece rest : List ℕ) (more : List EventValue) : Type 0 where
-    pub walker : after.walker ≡ before.walker
-    pub follower : after.follower ≡ before.follower
+    pub walker : new.walker ≡ old.walker
+    pub follower : new.follower ≡ old.follower
     pub all_left : rest ≡ piece
     pub no_event : more ≡ []
 
-  -- by whether the front of a piece was followed
+  -- by whether a prefix of a piece was followed
   abbrev pub TakesPartOrNone : List ℕ → List ℕ → List EventValue → Result Bool WriteFault → Type 0
   TakesPartOrNone piece rest more (Ok true) = TakesPart piece rest more
   TakesPartOrNone piece rest more (Ok false) = TakesNone piece rest more
   TakesPartOrNone piece rest more (Err e) = Fails piece more
 
 module _ {S D : Type 0} (next : S → EventValue → Effect S) (state_of : D → DrainState)
-    (before after : WalkState S D) where
+    (old new : WalkState S D) where
   -- a piece was followed, and what is made of its events was put. `Puts` says of the `Out` that it lends the same
   -- drain, and how many writes failed
   pub record FollowsPiece (piece : List ℕ) (result : Result Pause WriteFault) : Type 0 where
     pub more : List EventValue
-    pub pauses : Pauses next before after piece more result
-    pub puts : Puts state_of before.out after.out (effect_of next before.follower more).put result
+    pub pauses : Pauses next old new piece more result
+    pub puts : Puts state_of old.out new.out (effect_of next old.follower more).put result
 
   -- a piece was followed, and what is made of its events was handed to the drain: if all of it was, the `Out` holds
   -- nothing
   pub record FollowsAndFlushes (piece : List ℕ) (result : Result Pause WriteFault) : Type 0 where
     pub octets : AreOctets piece
     pub more : List EventValue
-    pub pauses : Pauses next before after piece more result
-    pub sends : Sends (state_of (drain_of before.out).now) (state_of (drain_of after.out).now)
-        (effect_of next before.follower more).put result
-    pub same_reference : (drain_of after.out).ghost_name ≡ (drain_of before.out).ghost_name
-    pub empty : OnOk result (held_octets after.out ≡ [])
+    pub pauses : Pauses next old new piece more result
+    pub sends : Sends (state_of (drain_of old.out).now) (state_of (drain_of new.out).now)
+        (effect_of next old.follower more).put result
+    pub same_reference : (drain_of new.out).ghost_name ≡ (drain_of old.out).ghost_name
+    pub empty : OnOk result (held_octets new.out ≡ [])
 
-  -- the front of a piece was followed, and what is made of its events was put; or nothing of it was taken
+  -- a prefix of a piece was followed, and what is made of its events was put; or nothing of it was taken
   pub record FollowsPart (piece rest : List ℕ) (result : Result Bool WriteFault) : Type 0 where
     pub more : List EventValue
-    pub takes : TakesPartOrNone next before after piece rest more result
-    pub puts : Puts state_of before.out after.out (effect_of next before.follower more).put result
+    pub takes : TakesPartOrNone next old new piece rest more result
+    pub puts : Puts state_of old.out new.out (effect_of next old.follower more).put result

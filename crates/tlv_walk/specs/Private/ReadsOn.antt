@@ -7,7 +7,7 @@ use Rattle.tlv_walk.specs.Phase.{Between, InHeader}
 use Rattle.tlv_walk.specs.Events.{EventValue}
 use Rattle.tlv_walk.specs.Inside.{is_among}
 use Rattle.tlv_walk.specs.WalkerState.{WalkerState}
-use Rattle.tlv_walk.specs.Private.Steps.{Continues, YieldsStep}
+use Rattle.tlv_walk.specs.Private.Yields.{Continues, YieldsStep}
 
 -- a reader of the header that begins where the walker stands
 pub record BeginsAt (w : WalkerState) (r : HeadReaderState) : Type 0 where
@@ -16,11 +16,11 @@ pub record BeginsAt (w : WalkerState) (r : HeadReaderState) : Type 0 where
   pub offset : r.offset ≡ w.offset
   pub named : r.named ≡ is_among w.offset w.framing.inside
 
--- the walker w becomes u if its reader r is taken out of it, or if it begins a header with r
+-- what a walker becomes if its reader r is taken out of it, or if it begins a header with r
 abbrev pub HandsOver : WalkerState → WalkerState → HeadReaderState → Type 0
-HandsOver w u r =
-    ((w.phase ≡ InHeader r) × (u ≡ record w { phase = Between }))
-    ⊎ (BeginsAt w r × (u ≡ record w { has_element = true }))
+HandsOver old new r =
+    ((old.phase ≡ InHeader r) × (new ≡ record old { phase = Between }))
+    ⊎ (BeginsAt old r × (new ≡ record old { has_element = true }))
 
 -- the reader's octets and these make the header
 pub record CompletesHeader (r : HeadReaderState) (t : List ℕ) (h : HeaderValue) : Type 0 where
@@ -30,7 +30,7 @@ pub record CompletesHeader (r : HeadReaderState) (t : List ℕ) (h : HeaderValue
 
 -- what the walker yields that became this one with a reader, if a step comes to this
 abbrev pub YieldsFrom : WalkerState → HeadReaderState → WalkerState → List ℕ → List ℕ → Step → Type 0
-YieldsFrom old r new before after result = (w : WalkerState) → HandsOver w old r → YieldsStep w new before after result
+YieldsFrom old r new piece rest result = (w : WalkerState) → HandsOver w old r → YieldsStep w new piece rest result
 
 -- what it yields for a whole header
 abbrev pub YieldsHeader : WalkerState → WalkerState → HeaderValue → EventValue → Type 0

@@ -24,7 +24,7 @@ pub record IsRun (run : Run) (e : Ending) (is_enough : Bool) (v : WalkerState) :
 -- the run of a walker that stands after the last octet of the input
 abbrev pub IsLastRun : Run → WalkerState → Type 0
 IsLastRun run v = (e : Ending) × IsRun run e false v
-    × ((o : List ℕ) (past : List EventValue) → Stands v o past → IsEnding v.framing o e)
+    × ((o : List ℕ) (yielded : List EventValue) → Stands v o yielded → IsEnding v.framing o e)
 
 -- what a turn returns after this pause of a walker, if of so many octets that were read so many were followed
 abbrev pub IsResultOfPause : ℕ → ℕ → WalkerState → Pause → Result Turn DeviceFault → Type 0

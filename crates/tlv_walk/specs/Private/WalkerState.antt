@@ -84,38 +84,38 @@ pub record CanReadOn (w : WalkerState) (r : HeadReaderState) (piece : List ℕ) 
   pub first : (r.octets ≢ []) ⊎ CanBegin w piece
 
 -- so many octets were taken, and one event was yielded
-pub record YieldsOne (old new : WalkerState) (before after : List ℕ) : Type 0 where
-  pub taken : new.offset + length after ≡ old.offset + length before
+pub record YieldsOne (old new : WalkerState) (piece rest : List ℕ) : Type 0 where
+  pub taken : new.offset + length rest ≡ old.offset + length piece
   pub events : new.events ≡ old.events + 1
   pub within : new.events ≤ new.offset
   pub after_event : IsAfterEvent new.phase
 
 -- all octets were taken, and no event was yielded nor waits
-pub record TakesAll (old new : WalkerState) (before after : List ℕ) : Type 0 where
-  pub taken : new.offset ≡ old.offset + length before
-  pub none_left : after ≡ []
+pub record TakesAll (old new : WalkerState) (piece rest : List ℕ) : Type 0 where
+  pub taken : new.offset ≡ old.offset + length piece
+  pub none_left : rest ≡ []
   pub events : new.events ≡ old.events
   pub ready : AwaitsOctet new
 
 -- an octet was refused, and what is open stays open
-pub record Refuses (old new : WalkerState) (before after : List ℕ) (fault : FaultOf) : Type 0 where
-  pub taken : new.offset + length after ≡ old.offset + length before
+pub record Refuses (old new : WalkerState) (piece rest : List ℕ) (fault : FaultOf) : Type 0 where
+  pub taken : new.offset + length rest ≡ old.offset + length piece
   pub events : new.events ≡ old.events
   pub phase : new.phase ≡ Refused fault
   pub framing : new.framing ≡ old.framing
   pub wrapper_count : new.wrapper_count ≡ old.wrapper_count
   pub stack : new.stack ≡ old.stack
 
--- what a step took from the front of a piece
-abbrev pub Steps : WalkerState → WalkerState → List ℕ → List ℕ → Step → Type 0
-Steps old new before after (step.Event e) = YieldsOne old new before after × HasOctets e
-Steps old new before after step.NeedMore = TakesAll old new before after
-Steps old new before after (step.Fault f) = Refuses old new before after f
+-- what a step makes of the offset, the count of events and the phase
+abbrev pub CountsStep : WalkerState → WalkerState → List ℕ → List ℕ → Step → Type 0
+CountsStep old new piece rest (step.Event e) = YieldsOne old new piece rest × HasOctets e
+CountsStep old new piece rest step.NeedMore = TakesAll old new piece rest
+CountsStep old new piece rest (step.Fault f) = Refuses old new piece rest f
 
--- what an event that came at once took from the front of a piece; nothing, if none came
-abbrev pub StepsAtOnce : WalkerState → WalkerState → List ℕ → List ℕ → Option Event → Type 0
-StepsAtOnce old new before after (Some e) = YieldsOne old new before after × HasOctets e
-StepsAtOnce old new before after None = (new ≡ old) × (after ≡ before)
+-- the same of an event that came at once; nothing, if none came
+abbrev pub CountsAtOnce : WalkerState → WalkerState → List ℕ → List ℕ → Option Event → Type 0
+CountsAtOnce old new piece rest (Some e) = YieldsOne old new piece rest × HasOctets e
+CountsAtOnce old new piece rest None = (new ≡ old) × (rest ≡ piece)
 
 -- how many of the named offsets, from the first on, are wrappers' once one was found at this offset
 abbrev pub next_wrapper : List ℕ → ℕ → ℕ → ℕ
@@ -142,16 +142,16 @@ abbrev pub after_header : WalkerState → Phase → ℕ → WalkerState
 after_header w phase at = record w { phase = phase; offset = at; events = w.events + 1; has_element = true }
 
 -- where a walker stands after a header
-abbrev pub Enters : WalkerState → WalkerState → HeaderFields → ℕ → HeaderKind → Type 0
-Enters old new f at kind.Primitive =
+abbrev pub TakesHeader : WalkerState → WalkerState → HeaderFields → ℕ → HeaderKind → Type 0
+TakesHeader old new f at kind.Primitive =
     ((f.constructed || is_wrapper f.named f.class f.constructed f.number f.size) ≡ false)
     × (new ≡ after_header old (InPrimitive (announced_length f.size)) at)
-Enters old new f at kind.Constructed =
+TakesHeader old new f at kind.Constructed =
     (f.constructed ≡ true)
     × (new ≡ record (after_header old Between at) {
       stack = frame_with at (bound_of old.stack) f.size f.constructed ∷ old.stack;
     })
-Enters old new f at kind.Wrapper =
+TakesHeader old new f at kind.Wrapper =
     (f.constructed ≡ false)
     × (is_wrapper f.named f.class f.constructed f.number f.size ≡ true)
     × (new ≡ record (after_header old (if eqb f.number universal.bit_string then InBitString else Between) at) {
@@ -159,7 +159,7 @@ Enters old new f at kind.Wrapper =
       wrapper_count = next_wrapper old.framing.inside old.wrapper_count f.offset;
     })
 
--- a primitive that is not named, lies whole at the front of a piece, and may stand there
+-- a primitive that is not named, with all of which a piece begins, and that may stand there
 pub record CanPass (w : WalkerState) (piece : List ℕ) (p : WholePrimitive) : Type 0 where
   pub phase : w.phase ≡ Between
   pub unnamed : is_among w.offset w.framing.inside ≡ false
@@ -182,9 +182,9 @@ open_event found = option_map (λ f. event.Open (header_with f.0 f.1.now)) found
 abbrev pub close_event : Option (Option ℕ) → Option Event
 close_event found = option_map event.Close found
 
--- some octets were taken from the front of a piece, and some events yielded
-pub record Passes (old new : WalkerState) (before after : List ℕ) : Type 0 where
-  pub taken : new.offset + length after ≡ old.offset + length before
+-- a prefix of a piece was taken, and some events were yielded
+pub record Passes (old new : WalkerState) (piece rest : List ℕ) : Type 0 where
+  pub taken : new.offset + length rest ≡ old.offset + length piece
   pub more : old.events < new.events
   pub within : new.events ≤ new.offset
   pub after_event : IsAfterEvent new.phase

@@ -135,20 +135,20 @@ begins_element layers here (InHeader octets) = true
 begins_element layers here InEndOctets = true
 
 -- the walker has this zipper: octets so far, frames, phase and counts are the zipper's
-pub record HasZipper (w : WalkerState) (b : List ℕ) (past : List EventValue) (s : Zipper) : Type 0 where
+pub record HasZipper (w : WalkerState) (b : List ℕ) (yielded : List EventValue) (s : Zipper) : Type 0 where
   pub spelled : spelling_of_zipper s ≡ b
   pub offset : w.offset ≡ length b
   pub stack : w.stack ≡ stack_of w.framing s.layers (place_of w.framing s) s.tail
   pub layers : AreLayers w.framing s.layers
   pub here : AreWhole (place_in w.framing s.layers) s.here
   pub phase : IsPhaseOf w.phase s.tail (place_of w.framing s)
-  pub same_events : AreEqualJoined past (events_of_zipper s)
+  pub same_events : AreEqualJoined yielded (events_of_zipper s)
   pub element : w.has_element ≡ begins_element s.layers s.here s.tail
 
 -- what proofs keep of a walker that stands for these octets and events: a state that it has, and the wrappers that it
 -- found
-pub record HasPrivateState (w : WalkerState) (b : List ℕ) (past : List EventValue) : Type 0 where
+pub record HasPrivateState (w : WalkerState) (b : List ℕ) (yielded : List EventValue) : Type 0 where
   pub state : Zipper
-  pub has_state : HasZipper w b past state
+  pub has_state : HasZipper w b yielded state
   pub named : CanName w.framing.inside
-  pub found : w.wrapper_count ≡ wrappers_after w.framing.inside 0 (wrapper_offsets past)
+  pub found : w.wrapper_count ≡ wrappers_after w.framing.inside 0 (wrapper_offsets yielded)

@@ -2,9 +2,9 @@
 ghost use Rattle.std.specs.Prelude.{◌≡◌, ◌≢◌, ℕ, ◌+◌, ◌^◌, ◌<◌, ◌≤◌, ◌∷◌, [], All, Some, length, slice_get, take, true};
 ghost use Rattle.tlv_walk.specs.Phase as phases;
 ghost use Rattle.tlv_walk.specs.WalkerState.{HasOctets};
-ghost use Rattle.tlv_walk.specs.Private.WalkerState.{Steps, YieldsAt, YieldsOne};
+ghost use Rattle.tlv_walk.specs.Private.WalkerState.{CountsStep, YieldsAt, YieldsOne};
 ghost use Rattle.tlv_walk.specs.HasRead.{event_value};
-ghost use Rattle.tlv_walk.specs.Private.Steps.{Continues, YieldsEvent, YieldsStep};
+ghost use Rattle.tlv_walk.specs.Private.Yields.{Continues, YieldsEvent, YieldsStep};
 
 use super::{Phase, Walker};
 use crate::{Event, Step};
@@ -70,7 +70,7 @@ impl Walker {
     pub(super) fn unused_octet<'a>(&mut self, piece: &mut &'a [u8]) -> Step<'a>
         requires phase { self.old.phase ≡ phases.InBitString }
         requires limit { self.old.offset + length piece.old.now ≤ 2 ^ 40 }
-        ensures steps { Steps self.old self.new piece.old.now piece.new.now result }
+        ensures steps { CountsStep self.old self.new piece.old.now piece.new.now result }
         ensures yields { YieldsStep self.old self.new piece.old.now piece.new.now result }
     {
         let octets: &'a [u8] = *piece;

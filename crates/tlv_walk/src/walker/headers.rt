@@ -6,11 +6,11 @@ ghost use Rattle.tlv_head.specs.ReadHeader.{BeginsWithFields};
 ghost use Rattle.tlv_walk.specs.Phase as phases;
 ghost use Rattle.tlv_walk.specs.Inside.{is_among};
 ghost use Rattle.tlv_walk.specs.WalkerState.{HasOctets};
-ghost use Rattle.tlv_walk.specs.Private.WalkerState.{CanBegin, CanEnter, CanRead, CanReadOn, Enters, Steps, StepsAtOnce, YieldsAt, next_wrapper};
+ghost use Rattle.tlv_walk.specs.Private.WalkerState.{CanBegin, CanEnter, CanRead, CanReadOn, CountsAtOnce, CountsStep, TakesHeader, YieldsAt, next_wrapper};
 ghost use Rattle.tlv_walk.specs.Private.ReadsOn.{YieldsFrom, YieldsHeader};
 ghost use Rattle.tlv_walk.specs.Stack.{IsWithin, bound_of};
 ghost use Rattle.tlv_walk.specs.HasRead.{event_value};
-ghost use Rattle.tlv_walk.specs.Private.Steps.{YieldsAtOnce, YieldsStep};
+ghost use Rattle.tlv_walk.specs.Private.Yields.{YieldsAtOnce, YieldsStep};
 
 use super::{Phase, Walker};
 use crate::event::HeaderKind;
@@ -24,7 +24,7 @@ impl Walker {
     pub(super) fn header<'a>(&mut self, piece: &mut &'a [u8]) -> Step<'a>
         requires begins { CanBegin self.old piece.old.now }
         requires limit { self.old.offset + length piece.old.now ≤ 2 ^ 40 }
-        ensures steps { Steps self.old self.new piece.old.now piece.new.now result }
+        ensures steps { CountsStep self.old self.new piece.old.now piece.new.now result }
         ensures yields { YieldsStep self.old self.new piece.old.now piece.new.now result }
     {
         let named = self.framing.inside.contains(self.offset);
@@ -49,7 +49,7 @@ impl Walker {
         requires begins { BeginsWithFields piece.old.now self.old.offset
             (is_among self.old.offset self.old.framing.inside) fields.now count }
         requires limit { self.old.offset + length piece.old.now ≤ 2 ^ 40 }
-        ensures steps { StepsAtOnce self.old self.new piece.old.now piece.new.now result }
+        ensures steps { CountsAtOnce self.old self.new piece.old.now piece.new.now result }
         ensures yields { YieldsAtOnce self.old self.new piece.old.now piece.new.now result }
     {
         let octets: &'a [u8] = *piece;
@@ -69,7 +69,7 @@ impl Walker {
     pub(super) fn slow_header<'a>(&mut self, piece: &mut &'a [u8]) -> Step<'a>
         requires begins { CanRead self.old piece.old.now }
         requires limit { self.old.offset + length piece.old.now ≤ 2 ^ 40 }
-        ensures steps { Steps self.old self.new piece.old.now piece.new.now result }
+        ensures steps { CountsStep self.old self.new piece.old.now piece.new.now result }
         ensures yields { YieldsStep self.old self.new piece.old.now piece.new.now result }
     {
         if matches!(self.phase, Phase::InHeader) {
@@ -88,7 +88,7 @@ impl Walker {
         requires read { CanReadOn self.old reader piece.old.now }
         requires some { piece.old.now ≢ [] }
         requires limit { self.old.offset + length piece.old.now ≤ 2 ^ 40 }
-        ensures steps { Steps self.old self.new piece.old.now piece.new.now result }
+        ensures steps { CountsStep self.old self.new piece.old.now piece.new.now result }
         ensures yields { YieldsFrom self.old reader self.new piece.old.now piece.new.now result }
     {
         let mut reader = reader;
@@ -140,7 +140,7 @@ impl Walker {
         requires sized { IsHeaderSized fields.now octets.now }
         requires enter { CanEnter self.old (header_with fields.now octets.now) }
         ensures yields { YieldsAt self.old self.new (fields.now.offset + length octets.now) }
-        ensures enters { Enters self.old self.new fields.now
+        ensures enters { TakesHeader self.old self.new fields.now
             (fields.now.offset + length octets.now) result }
     {
         self.offset = fields.offset + octets.len() as u64;

@@ -2,8 +2,8 @@
 ghost use Rattle.std.specs.Prelude.{◌≡◌, ◌+◌, ◌^◌, ◌≤◌, IfSome, length, take, true};
 ghost use Rattle.tlv_head.specs.HeaderFields.{IsHeaderSized};
 ghost use Rattle.tlv_walk.specs.Follow.{whole_events};
-ghost use Rattle.tlv_walk.specs.Private.WalkerState.{CanPass, Passes, StepsAtOnce, close_event, header_at, open_event};
-ghost use Rattle.tlv_walk.specs.Private.Steps.{YieldsAtOnce, YieldsEvents};
+ghost use Rattle.tlv_walk.specs.Private.WalkerState.{CanPass, CountsAtOnce, Passes, close_event, header_at, open_event};
+ghost use Rattle.tlv_walk.specs.Private.Yields.{YieldsAtOnce, YieldsEvents};
 
 use super::{Phase, Walker};
 use crate::Event;
@@ -91,7 +91,7 @@ impl Walker {
         piece: &mut &'a [u8],
     ) -> Option<(HeaderFields, &'a [u8])>
         requires { self.old.offset + length piece.old.now ≤ 2 ^ 40 }
-        ensures steps { StepsAtOnce self.old self.new piece.old.now piece.new.now
+        ensures steps { CountsAtOnce self.old self.new piece.old.now piece.new.now
             (open_event result) }
         ensures yields { YieldsAtOnce self.old self.new piece.old.now piece.new.now
             (open_event result) }
@@ -128,7 +128,7 @@ impl Walker {
     #[inline(always)]
     pub(crate) fn close<'a>(&mut self, piece: &mut &'a [u8]) -> Option<Option<u64>>
         requires { self.old.offset + length piece.old.now ≤ 2 ^ 40 }
-        ensures steps { StepsAtOnce self.old self.new piece.old.now piece.new.now
+        ensures steps { CountsAtOnce self.old self.new piece.old.now piece.new.now
             (close_event result) }
         ensures yields { YieldsAtOnce self.old self.new piece.old.now piece.new.now
             (close_event result) }
@@ -152,7 +152,7 @@ impl Walker {
     #[inline(always)]
     pub(crate) fn contents_event<'a>(&mut self, piece: &mut &'a [u8]) -> Option<Event<'a>>
         requires { self.old.offset + length piece.old.now ≤ 2 ^ 40 }
-        ensures steps { StepsAtOnce self.old self.new piece.old.now piece.new.now result }
+        ensures steps { CountsAtOnce self.old self.new piece.old.now piece.new.now result }
         ensures yields { YieldsAtOnce self.old self.new piece.old.now piece.new.now result }
     {
         let Phase::InPrimitive(left) = self.phase else {

@@ -15,7 +15,7 @@ returns-in-UsedUp-2 c = rw c.in-UsedUp-2.is (
   (
     _,
     c.run_of-in-UsedUp-2.ensures,
-    λ o past st. c.finish.ensures.ending o past (took_all st (c.requires (search rules)).0),
+    λ o yielded st. c.finish.ensures.ending o yielded (took_all st (c.requires (search rules)).0),
   ),
 )
 

@@ -1,7 +1,7 @@
 use Rattle.std.proofs.Common.{◌≡◌, ℕ, ◌+◌, ◌-◌, List, ◌∷◌, length, take, drop, refl, sym, subst, inl, arith, rules}
 use Rattle.std.proofs.lemmas.Grind.{common_steps}
 use Rattle.tlv_walk.specs.Stack.{IsWithin, bound_of}
-use Rattle.tlv_walk.specs.Private.Steps.{YieldsStep}
+use Rattle.tlv_walk.specs.Private.Yields.{YieldsStep}
 use Rattle.tlv_walk.proofs.WalkerLemmas.AfterFirstZero.{room_more, step_after}
 use Rattle.tlv_walk.proofs.WalkerLemmas.Moves.{yields_zero}
 use Rattle.tlv_walk.proofs.walker.Walker.between.Goals.{else-indefinite-via-then-indefinite+else-eq, else-indefinite-via-else-indefinite}

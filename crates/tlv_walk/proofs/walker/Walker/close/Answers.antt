@@ -5,6 +5,6 @@ use Rattle.tlv_walk.proofs.walker.Walker.close.Goals as goal
 pub returns-clause-yields : goal.returns-clause-yields
 returns-clause-yields c = record {
   taken = [];
-  piece = refl;
+  piece_is = refl;
   continues = rw (← c.self.view_is, c.pop.ensures.rest) (yields_closed _ (search rules) (search rules) (search rules));
 }

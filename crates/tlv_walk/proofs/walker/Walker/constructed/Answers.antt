@@ -2,7 +2,7 @@ use Rattle.std.proofs.Common.{[], ◌∷◌, subst, rules}
 use Rattle.tlv_head.specs.HeaderFields.{header_with}
 use Rattle.tlv_head.specs.ReadHeader.{BeginsWithFields}
 use Rattle.tlv_walk.specs.declared.event.HeaderKind.{HeaderKind}
-use Rattle.tlv_walk.specs.Private.Steps.{Continues}
+use Rattle.tlv_walk.specs.Private.Yields.{Continues}
 use Rattle.tlv_walk.proofs.WalkerLemmas.HeaderKinds.{constructed_kind, event_of, fast_enters}
 use Rattle.tlv_walk.proofs.walker.Walker.constructed.Goals as goal
 
@@ -11,7 +11,7 @@ returns-clause-yields c =
     let named = c.contains-named.result in
     let begins : BeginsWithFields c.args.piece.now.now c.args.self.now.offset named c.in_ok-fields.fields c.in_ok-fields.count = rw (← c.self.view_is) c.in_ok-fields.ensures.begins in record {
       taken = c.split_at.result.0.now;
-      piece = search rules;
+      piece_is = search rules;
       continues = (subst (λ (k : HeaderKind). Continues c.args.self.now c.enter.new.self c.split_at.result.0.now (event_of k (header_with c.in_ok-fields.fields c.split_at.result.0.now) ∷ []))
           (constructed_kind c.args.self.now c.enter.new.self c.in_ok-fields.fields _ c.enter.result (search rules) c.enter.ensures.enters)
           (fast_enters c.args.self.now c.enter.new.self c.args.piece.now.now named c.in_ok-fields.fields c.in_ok-fields.count c.split_at.result.0.now c.enter.result

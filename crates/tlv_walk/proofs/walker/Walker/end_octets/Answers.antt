@@ -6,7 +6,7 @@ use Rattle.tlv_walk.proofs.walker.Walker.end_octets.Goals as goal
 pub returns-clause-yields : goal.returns-clause-yields
 returns-clause-yields c = record {
   taken = 0 ∷ 0 ∷ [];
-  piece = grind (arith, common_steps);
+  piece_is = grind (arith, common_steps);
   continues = rw (← c.self.view_is, c.pop.ensures.rest) (yields_both _ (search rules) (search rules) (search rules));
 }
 

@@ -9,6 +9,6 @@ returns-clause-yields c =
     let can = subst (λ (m : WalkerState). CanPass m c.args.piece.now.now c.args.primitive.now) (sym c.self.view_is) c.requires.can in
     record {
       taken = take c.args.primitive.now.octets c.args.piece.now.now;
-      piece = search rules;
+      piece_is = search rules;
       continues = rw (← c.self.view_is) (yields_primitive _ c.args.piece.now.now c.args.primitive.now _ can);
     }

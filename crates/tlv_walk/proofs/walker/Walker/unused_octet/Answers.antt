@@ -11,6 +11,6 @@ returns-then-octet-ne0-clause-yields c =
 pub returns-clause-yields : goal.returns-clause-yields
 returns-clause-yields c = record {
   taken = 0 ∷ [];
-  piece = grind (arith, common_steps);
+  piece_is = grind (arith, common_steps);
   continues = rw (← c.self.view_is) (yields_unused _ (search rules));
 }

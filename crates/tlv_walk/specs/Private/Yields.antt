@@ -18,25 +18,26 @@ use Rattle.tlv_walk.specs.HasRead.{event_value}
 pub record Continues (old new : WalkerState) (taken : List ℕ) (more : List EventValue) : Type 0 where
   pub framing : new.framing ≡ old.framing
   pub found : new.wrapper_count ≡ wrappers_after old.framing.inside old.wrapper_count (wrapper_offsets more)
-  pub goes : (b : List ℕ) (past : List EventValue) (s : Zipper) → HasZipper old b past s
-      → (t : Zipper) × HasZipper new (b ++ taken) (past ++ more) t
+  pub goes : (b : List ℕ) (yielded : List EventValue) (s : Zipper) → HasZipper old b yielded s
+      → (t : Zipper) × HasZipper new (b ++ taken) (yielded ++ more) t
 
--- octets were taken from the front of a piece, and these events were yielded
-pub record YieldsEvents (old new : WalkerState) (before after : List ℕ) (es : List EventValue) : Type 0 where
+-- a prefix of a piece was taken, and these events were yielded
+pub record YieldsEvents (old new : WalkerState) (piece rest : List ℕ) (es : List EventValue) : Type 0 where
   pub taken : List ℕ
-  pub piece : before ≡ taken ++ after
+  pub piece_is : piece ≡ taken ++ rest
   pub continues : Continues old new taken es
 
 -- the same of one event
 abbrev pub YieldsEvent : WalkerState → WalkerState → List ℕ → List ℕ → EventValue → Type 0
-YieldsEvent old new before after e = YieldsEvents old new before after (e ∷ [])
+YieldsEvent old new piece rest e = YieldsEvents old new piece rest (e ∷ [])
 
 -- after the octets b, of which these events were yielded, an octet is refused, whatever follows it: a walker has a
 -- state of these octets and events, and no event waits
-pub record RefusesAfter (old : WalkerState) (b : List ℕ) (octet : ℕ) (past : List EventValue) (f : Fault) : Type 0 where
+pub record RefusesAfter (old : WalkerState) (b : List ℕ) (octet : ℕ) (yielded : List EventValue) (f : Fault)
+    : Type 0 where
   pub walker : WalkerState
   pub state : Zipper
-  pub has_state : HasZipper walker b past state
+  pub has_state : HasZipper walker b yielded state
   pub idle : EventWaits walker → ⊥
   pub offset : f.offset ≡ walker.offset
   pub ends : (c : List ℕ) → IsEnding old.framing (b ++ octet ∷ c) (ending.Fault f)
@@ -44,26 +45,26 @@ pub record RefusesAfter (old : WalkerState) (b : List ℕ) (octet : ℕ) (past :
   pub stack : walker.stack ≡ old.stack
 
 -- the octet after those that were taken is refused
-pub record RefusesOctet (old : WalkerState) (before after : List ℕ) (f : Fault) : Type 0 where
+pub record RefusesOctet (old : WalkerState) (piece rest : List ℕ) (f : Fault) : Type 0 where
   pub taken : List ℕ
   pub octet : ℕ
-  pub rest : List ℕ
-  pub before_is : before ≡ taken ++ octet ∷ rest
-  pub after_is : after ≡ octet ∷ rest
-  pub refuses : (b : List ℕ) (past : List EventValue) (s : Zipper) → HasZipper old b past s
-      → RefusesAfter old (b ++ taken) octet past f
+  pub others : List ℕ
+  pub piece_is : piece ≡ taken ++ octet ∷ others
+  pub rest_is : rest ≡ octet ∷ others
+  pub refuses : (b : List ℕ) (yielded : List EventValue) (s : Zipper) → HasZipper old b yielded s
+      → RefusesAfter old (b ++ taken) octet yielded f
 
 -- an octet is refused, or was refused before
 abbrev pub YieldsFault : WalkerState → WalkerState → List ℕ → List ℕ → Fault → Type 0
-YieldsFault old new before after f = RefusesOctet old before after f ⊎ RefusesAgain old new before after f
+YieldsFault old new piece rest f = RefusesOctet old piece rest f ⊎ RefusesAgain old new piece rest f
 
 -- what a call yields that may yield an event at once
 abbrev pub YieldsAtOnce : WalkerState → WalkerState → List ℕ → List ℕ → Option Event → Type 0
-YieldsAtOnce old new before after (Some e) = YieldsEvent old new before after (event_value e)
-YieldsAtOnce old new before after None = Unit {0}
+YieldsAtOnce old new piece rest (Some e) = YieldsEvent old new piece rest (event_value e)
+YieldsAtOnce old new piece rest None = Unit {0}
 
 -- what a step yields
 abbrev pub YieldsStep : WalkerState → WalkerState → List ℕ → List ℕ → Step → Type 0
-YieldsStep old new before after (step.Event e) = YieldsEvent old new before after (event_value e)
-YieldsStep old new before after step.NeedMore = Continues old new before []
-YieldsStep old new before after (step.Fault f) = YieldsFault old new before after f
+YieldsStep old new piece rest (step.Event e) = YieldsEvent old new piece rest (event_value e)
+YieldsStep old new piece rest step.NeedMore = Continues old new piece []
+YieldsStep old new piece rest (step.Fault f) = YieldsFault old new piece rest f
