@@ -6,9 +6,9 @@ use Rattle.std.specs.List.{fold, list_all}
 use Rattle.std.specs.Prelude.{Option, None, eqb, Some}
 use Rattle.tlv_head.specs.Header.{HeaderValue, announced_length, is_universal, octets_of, wraps}
 use Rattle.tlv_value.specs.declared.finding.Finding.{Finding}
-use Rattle.tlv_value.specs.ValueCheckState.{value_check_after, has_unused_bits, begins_nonzero, new_value_check, new_check_of, type_number}
+use Rattle.tlv_value.specs.ValueCheckState.{value_check_after, has_unused_bits, begins_nonzero, new_value_check, new_check_of}
 use Rattle.tlv_head.specs.UniversalTypes.{bit_string, octet_string}
-use Rattle.tlv_value.specs.Types.{has_segments, is_a, is_primitive}
+use Rattle.tlv_value.specs.Types.{has_segments, is_a, is_primitive, type_number}
 use Rattle.tlv_value.proofs.CheckLemmas.CheckPieces.{checked-none}
 use Rattle.tlv_walk.specs.Forest.{Forest, NoMore, PaddingOctet, Primitive, Holder, OpenPrimitive, OpenHolder, OpenBitString, OpenHeader, OpenEndOctets, extent, is_complete}
 use Rattle.tlv_walk.specs.Place.{IsOpen, Place, place_after}
