@@ -2,7 +2,6 @@ pub mod BasicFindings
 pub mod CheckFolds
 pub mod CheckLaws
 pub mod ElementItems
-pub mod EndFindings
 pub mod FinderFolds
 pub mod FinderItems
 pub mod FindingsOfHeaders
@@ -10,7 +9,7 @@ pub mod HeaderFindings
 pub mod KeptFrames
 pub mod Lists
 pub mod LongerHeaders
-pub mod SegmentType
+pub mod PlainHeaders
 pub mod SiteWords
 pub mod SitesAfter
 pub mod SomeSpelling

@@ -1,5 +1,5 @@
 -- What is found in an element by the rules of X.690: each finding beside its condition, in the order of the codes.
-use Rattle.std.specs.Prelude.{ℕ, ◌+◌, ◌-◌, ◌%◌, Bool, false, ◌&&◌, ◌||◌, not, ◌==◌, nat_le, nat_lt, if◌then◌else◌, List, [], ◌∷◌, length, slice_index, Some, sum_by}
+use Rattle.std.specs.Prelude.{ℕ, ◌+◌, ◌-◌, ◌%◌, Bool, false, ◌&&◌, ◌||◌, not, ◌==◌, nat_le, nat_lt, if◌then◌else◌, List, [], ◌∷◌, length, slice_index, Some, sum_by, ◌++◌}
 use Rattle.std.specs.List.{list_all}
 use Rattle.tlv_head.specs.Header.{HeaderValue, announced_length}
 use Rattle.tlv_value.specs.declared.finding.Finding.{Finding}
@@ -37,8 +37,31 @@ abbrev pub is_not_full : Before → Bool
 is_not_full (Sibling h first) = h.constructed || not (announced_length h.size == 1000)
 is_not_full _ = false
 
-abbrev pub header_conditions : Site → HeaderValue → List (Bool × Finding)
-header_conditions s h =
+-- what is around an element, as far as the conditions go by it
+pub record Surroundings : Type 0 where
+  -- 8.6.4, 8.7.3: it is a segment: a constructed string holds it. And whether this is a BIT STRING
+  pub in_string : Bool
+  pub in_bit_string : Bool
+  -- 8.6.4: right before this segment of a BIT STRING is one with unused bits
+  pub after_unused_bits : Bool
+  -- 9.2: right before this segment is one that is no primitive of 1000 contents octets
+  pub after_not_full : Bool
+
+abbrev pub surroundings_of : Site → Surroundings
+surroundings_of s = record {
+  in_string = in_string s;
+  in_bit_string = in_bit_string s;
+  after_unused_bits = in_bit_string s && follows_unused_bits s.before;
+  after_not_full = in_string s && is_not_full s.before;
+}
+
+-- 8.6.4, 8.7.3: the type of segments: BIT STRING in a BIT STRING, and OCTET STRING in any other string
+abbrev pub segment_type : Surroundings → ℕ
+segment_type s = if s.in_bit_string then universal.bit_string else universal.octet_string
+
+-- by the rules of all encodings
+abbrev pub basic_conditions : Surroundings → HeaderValue → List (Bool × Finding)
+basic_conditions s h =
     -- 8.1.2.2: a number below 31 is in the single identifier octet
     (has_high_form h && nat_lt h.number 31, B01)
     -- 8.1.2.4.2 c): bits 7 to 1 of the first subsequent octet are not all 0
@@ -50,25 +73,44 @@ header_conditions s h =
     -- 8.9.1, 8.11.1, 8.17, 8.18, 8.24: the encodings of these types are constructed
     ∷ (is_primitive h && is_one_of constructed_types h, B05)
     -- 8.6.4: each segment of a BIT STRING but the last has a multiple of eight bits
-    ∷ (in_bit_string s && follows_unused_bits s.before, B16)
-    -- 8.6.4, 8.7.3: a segment has the tag of BIT STRING in a BIT STRING, and of OCTET STRING in any other string
-    ∷ (in_string s && not (is_a (if in_bit_string s then universal.bit_string else universal.octet_string) h), B17)
+    ∷ (s.after_unused_bits, B16)
+    -- 8.6.4, 8.7.3: a segment has the tag of that type
+    ∷ (s.in_string && not (is_a (segment_type s) h), B17)
+    ∷ []
+
+-- by those of DER, and by those of CER
+abbrev pub length_conditions : HeaderValue → List (Bool × Finding)
+length_conditions h =
     -- 9.1, 10.1: a definite length has the fewest octets: those of the long form are for 128 and more, and do not
     -- begin with 00
-    ∷ (has_long_form h && (nat_lt (announced_length h.size) 128 || first_length h == 0), S01)
+    (has_long_form h && (nat_lt (announced_length h.size) 128 || first_length h == 0), S01)
+    ∷ []
+
+-- by those of DER alone
+abbrev pub der_conditions : HeaderValue → List (Bool × Finding)
+der_conditions h =
     -- 10.1: lengths are definite
-    ∷ (is_indefinite h.size, D01)
+    (is_indefinite h.size, D01)
     -- 10.2: strings are primitive
     ∷ (has_segments h, D02)
+    ∷ []
+
+-- by those of CER alone
+abbrev pub cer_conditions : Surroundings → HeaderValue → List (Bool × Finding)
+cer_conditions s h =
     -- 9.1: the length of a constructed element is indefinite
-    ∷ (h.constructed && not (is_indefinite h.size), C01)
+    (h.constructed && not (is_indefinite h.size), C01)
     -- 9.2: a primitive string has at most 1000 contents octets
     ∷ (is_primitive h && is_string h && nat_lt 1000 (announced_length h.size), C02)
     -- 9.2: segments are primitive
-    ∷ (h.constructed && in_string s, C03)
+    ∷ (h.constructed && s.in_string, C03)
     -- 9.2: each segment but the last has 1000 contents octets
-    ∷ (in_string s && is_not_full s.before, C04)
+    ∷ (s.after_not_full, C04)
     ∷ []
+
+-- all of them, in the order of the codes
+abbrev pub header_conditions : Surroundings → HeaderValue → List (Bool × Finding)
+header_conditions s h = basic_conditions s h ++ length_conditions h ++ der_conditions h ++ cer_conditions s h
 
 -- ---- With the end of an element that holds others
 
@@ -87,10 +129,31 @@ abbrev pub ends_empty : Bool → List HeaderValue → Bool
 ends_empty empty [] = empty
 ends_empty empty (h ∷ hs) = ends_empty (is_primitive h && announced_length h.size == 0) hs
 
-abbrev pub end_conditions : HeaderValue → List HeaderValue → List (Bool × Finding)
-end_conditions h children =
+-- what an element held, as far as the conditions go by it
+pub record Segments : Type 0 where
+  -- 8.6.4, 8.7.3: a constructed string held it: these are segments
+  pub in_string : Bool
+  -- all of them are primitive
+  pub all_primitive : Bool
+  -- how many contents octets the string would have as a primitive
+  pub octets : ℕ
+  -- the last one is a primitive without contents octets
+  pub ends_empty : Bool
+
+-- by the header of the element, and those of what it held
+abbrev pub segments_of : HeaderValue → List HeaderValue → Segments
+segments_of h children = record {
+  in_string = has_segments h;
+  all_primitive = list_all is_primitive children;
+  octets = length_as_primitive h children;
+  ends_empty = ends_empty false children;
+}
+
+-- by the rules of CER
+abbrev pub end_conditions : Segments → List (Bool × Finding)
+end_conditions s =
     -- 9.2: a string of at most 1000 contents octets is primitive
-    (has_segments h && list_all is_primitive children && nat_le (length_as_primitive h children) 1000, C05)
+    (s.in_string && s.all_primitive && nat_le s.octets 1000, C05)
     -- 9.2: the last segment has one contents octet or more
-    ∷ (has_segments h && ends_empty false children, C06)
+    ∷ (s.in_string && s.ends_empty, C06)
     ∷ []

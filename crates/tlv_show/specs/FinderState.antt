@@ -1,21 +1,18 @@
 -- What is kept of elements so that what is found in them can be reported event by event, and what is reported.
 -- No contract of `dump` or `check` names this: `Items` says what they report. It is here for the contracts of the
 -- followers `Dump` and `Check`, which see one event at a time. Laws say that these put just what `Items` says.
-use Rattle.std.specs.Prelude.{ℕ, ◌+◌, ◌-◌, ◌^◌, Bool, true, false, ◌&&◌, ◌||◌, not, ◌==◌, nat_le, nat_lt, if◌then◌else◌, List, [], ◌∷◌, ◌++◌, length, max, min, take, Option, Some, None}
+use Rattle.std.specs.Prelude.{ℕ, ◌+◌, ◌-◌, Bool, true, false, ◌&&◌, ◌||◌, not, ◌==◌, nat_lt, if◌then◌else◌, List, [], ◌∷◌, length, min, take, Option, Some, None}
 use Rattle.std.specs.List.{filter}
 use Rattle.tlv_head.specs.Header.{HeaderValue, announced_length}
 use Rattle.tlv_value.specs.declared.finding.Finding.{Finding}
-use Rattle.tlv_value.specs.declared.finding.Finding.TheVariants.{B01, B02, B03, B04, B05, B16, B17, S01, D01, D02, C01, C02, C03, C04, C05, C06}
-use Rattle.tlv_value.specs.CheckNotes.{finding_if}
 use Rattle.tlv_value.specs.ValueCheckState.{ValueCheckState, value_check_after, findings_in, has_unused_bits, new_value_check}
 use Rattle.tlv_head.specs.UniversalTypes as universal
-use Rattle.tlv_value.specs.Types.{constructed_types, has_segments, is_a, is_one_of, is_primitive, is_string, is_unassigned, primitive_types}
-use Rattle.tlv_walk.specs.Place.{is_indefinite}
+use Rattle.tlv_value.specs.Types.{has_segments, is_a, is_primitive}
 use Rattle.tlv_show.specs.declared.sibling_frame.SiblingFrame.{SiblingFrame}
 use Rattle.tlv_show.specs.declared.rules.Rules.{Rules}
-use Rattle.tlv_show.specs.declared.rules.Rules.TheVariants.{Ber, Der, Cer}
-use Rattle.tlv_show.specs.Conditions.{first_length, has_high_form, has_long_form, leading_bits}
-use Rattle.tlv_show.specs.Found.{is_shown}
+use Rattle.tlv_show.specs.Conditions.{Segments, Surroundings}
+use Rattle.tlv_show.specs.Found.{is_shown, end_findings, header_findings}
+use Rattle.tlv_show.specs.SaturatingSum.{saturating_sum}
 
 -- ---- Frames
 
@@ -68,47 +65,25 @@ frame_after_segment w primitive size unused = record w {
 abbrev pub frame_after : SiblingFrame → Bool → ℕ → Bool → SiblingFrame
 frame_after w primitive size unused = if w.has_segments then frame_after_segment w primitive size unused else w
 
--- ---- Findings, by a frame
+-- ---- What a frame says to the conditions
 
--- 8.6.4, 8.7.3: the type of segments
-abbrev pub segment_type : SiblingFrame → ℕ
-segment_type w = if w.has_bits then universal.bit_string else universal.octet_string
+-- of an element that begins
+abbrev pub surroundings_in : SiblingFrame → Surroundings
+surroundings_in w = record {
+  in_string = w.has_segments;
+  in_bit_string = w.has_segments && w.has_bits;
+  after_unused_bits = w.has_segments && w.has_bits && w.is_unused;
+  after_not_full = w.has_segments && w.is_not_full;
+}
 
-abbrev pub basic_findings_in : SiblingFrame → HeaderValue → List Finding
-basic_findings_in w h =
-    finding_if (has_high_form h && nat_lt h.number 31) B01
-    ++ finding_if (has_high_form h && leading_bits h == 0) B02
-    ++ finding_if (is_unassigned h) B03
-    ++ finding_if (h.constructed && is_one_of primitive_types h) B04
-    ++ finding_if (is_primitive h && is_one_of constructed_types h) B05
-    ++ finding_if (w.has_segments && w.has_bits && w.is_unused) B16
-    ++ finding_if (w.has_segments && not (is_a (segment_type w) h)) B17
-
-abbrev pub length_findings : HeaderValue → List Finding
-length_findings h = finding_if (has_long_form h && (nat_lt (announced_length h.size) 128 || first_length h == 0)) S01
-
-abbrev pub der_findings : HeaderValue → List Finding
-der_findings h = finding_if (is_indefinite h.size) D01 ++ finding_if (has_segments h) D02
-
-abbrev pub cer_findings_in : SiblingFrame → HeaderValue → List Finding
-cer_findings_in w h =
-    finding_if (h.constructed && not (is_indefinite h.size)) C01
-    ++ finding_if (is_primitive h && is_string h && nat_lt 1000 (announced_length h.size)) C02
-    ++ finding_if (h.constructed && w.has_segments) C03
-    ++ finding_if (w.has_segments && w.is_not_full) C04
-
-abbrev pub header_findings_in : Rules → SiblingFrame → HeaderValue → List Finding
-header_findings_in Ber w h = basic_findings_in w h
-header_findings_in Der w h = basic_findings_in w h ++ length_findings h ++ der_findings h
-header_findings_in Cer w h = basic_findings_in w h ++ length_findings h ++ cer_findings_in w h
-
--- with the end of an element that holds others
-abbrev pub end_findings_in : Rules → SiblingFrame → List Finding
-end_findings_in Ber w = []
-end_findings_in Der w = []
-end_findings_in Cer w =
-    finding_if (w.has_segments && w.all_primitive && nat_le ((if w.has_bits then 1 else 0) + w.octets) 1000) C05
-    ++ finding_if (w.has_segments && w.is_empty) C06
+-- of the end of the element whose frame it is. The octets stop at 1001
+abbrev pub segments_in : SiblingFrame → Segments
+segments_in w = record {
+  in_string = w.has_segments;
+  all_primitive = w.all_primitive;
+  octets = (if w.has_bits then 1 else 0) + w.octets;
+  ends_empty = w.is_empty;
+}
 
 -- ---- What contracts see of a `Finder`, and of a `Check`
 
@@ -136,13 +111,10 @@ pub record FinderValue : Type 0 where
   pub at : ℕ
   pub found : List Finding
 
-abbrev pub count_up : ℕ → ℕ → ℕ
-count_up count n = max count (min (count + n) (2 ^ 64 - 1))
-
 -- findings are counted
 abbrev pub with_findings : FinderState → ℕ → ℕ → List Finding → FinderValue
 with_findings s level at found = record {
-  state = record s { count = count_up s.count (length found) };
+  state = record s { count = saturating_sum s.count (length found) };
   level = level;
   at = at;
   found = found;
@@ -162,7 +134,7 @@ finder_inside s h =
 
 abbrev pub finder_open_step : FinderState → HeaderValue → FinderValue
 finder_open_step s h =
-    with_findings (finder_inside s h) (length s.outer) h.offset (header_findings_in s.rules s.frame h)
+    with_findings (finder_inside s h) (length s.outer) h.offset (header_findings s.rules (surroundings_in s.frame) h)
 
 -- a primitive begins
 abbrev pub finder_at_value : FinderState → HeaderValue → FinderState
@@ -170,7 +142,7 @@ finder_at_value s h = record s { value = Some (record { at = h.offset; check = n
 
 abbrev pub finder_begin_step : FinderState → HeaderValue → FinderValue
 finder_begin_step s h =
-    with_findings (finder_at_value s h) (length s.outer) h.offset (header_findings_in s.rules s.frame h)
+    with_findings (finder_at_value s h) (length s.outer) h.offset (header_findings s.rules (surroundings_in s.frame) h)
 
 -- contents octets: no more count than were announced
 abbrev pub open_value_after : Option OpenValue → List ℕ → Option OpenValue
@@ -208,7 +180,7 @@ finder_outside s w outer = record s {
 abbrev pub finder_frame_end_step : FinderState → List SiblingFrame → FinderValue
 finder_frame_end_step s [] = without_findings s
 finder_frame_end_step s (w ∷ outer) =
-    with_findings (finder_outside s w outer) (length outer) s.frame.at (end_findings_in s.rules s.frame)
+    with_findings (finder_outside s w outer) (length outer) s.frame.at (end_findings s.rules (segments_in s.frame))
 
 abbrev pub finder_close_step : FinderState → FinderValue
 finder_close_step s = finder_frame_end_step s s.outer

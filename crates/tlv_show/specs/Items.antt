@@ -1,14 +1,13 @@
 -- What is reported of elements, item by item. The lines of a dump and of a check and the number of findings are those
 -- of the items, so their order is this one.
-use Rattle.std.specs.Prelude.{ℕ, ◌+◌, Bool, if◌then◌else◌, List, [], ◌∷◌, ◌++◌, filter, length, map, None, Option, slice_get}
+use Rattle.std.specs.Prelude.{ℕ, ◌+◌, if◌then◌else◌, List, [], ◌∷◌, ◌++◌, length, map, None, Option, slice_get}
 use Rattle.tlv_head.specs.Header.{HeaderValue, octets_of}
 use Rattle.tlv_value.specs.declared.finding.Finding.{Finding}
-use Rattle.tlv_value.specs.Checks.{contents_conditions, findings_by}
 use Rattle.tlv_walk.specs.Forest.{Forest, PaddingOctet, Primitive, Holder, OpenPrimitive, OpenHolder, OpenBitString, extent}
 use Rattle.tlv_show.specs.declared.rules.Rules.{Rules}
-use Rattle.tlv_show.specs.Conditions.{end_conditions, header_conditions}
+use Rattle.tlv_show.specs.Conditions.{segments_of, surroundings_of}
 use Rattle.tlv_show.specs.EndPlace.{end_place}
-use Rattle.tlv_show.specs.Found.{is_shown}
+use Rattle.tlv_show.specs.Found.{contents_findings, end_findings, header_findings}
 use Rattle.tlv_show.specs.Site.{Padding, Sibling, Site, is_padding, onward, site_of_children}
 
 -- an item, with its level: how many elements hold what it is about
@@ -31,11 +30,11 @@ headers (Primitive h c rest) = h ∷ headers rest
 headers (Holder h children rest) = h ∷ headers rest
 headers _ = []
 
-module _ (rules : Rules) where
-  -- what is found in an element, in order: of these conditions, what the rules show
-  abbrev pub finding_items : Site → HeaderValue → List (Bool × Finding) → List Item
-  finding_items s h conditions = map (FindingAt s.level h.offset) (filter (is_shown rules) (findings_by conditions))
+-- findings in an element, in order
+abbrev pub finding_items : Site → HeaderValue → List Finding → List Item
+finding_items s h findings = map (FindingAt s.level h.offset) findings
 
+module _ (rules : Rules) where
   -- of elements from there on. What is found with the header comes before the element's first line, all else after
   -- its last
   abbrev pub items : Site → Forest → List Item
@@ -44,17 +43,22 @@ module _ (rules : Rules) where
       (if is_padding s.before then [] else PaddingLine s.level s.at ∷ [])
       ++ items (onward s 1 Padding) rest
   items s (Primitive h c rest) =
-      finding_items s h (header_conditions s h)
-      ++ (PrimitiveLines s.level h c ∷ finding_items s h (contents_conditions h c)
+      finding_items s h (header_findings rules (surroundings_of s) h)
+      ++ (PrimitiveLines s.level h c ∷ finding_items s h (contents_findings rules h c)
       ++ items (onward s (length (octets_of h) + length c) (Sibling h (slice_get c 0))) rest)
   items s (Holder h children rest) =
-      finding_items s h (header_conditions s h)
+      finding_items s h (header_findings rules (surroundings_of s) h)
       ++ (OpeningLine s.level h ∷ items (site_of_children s h) children
-      ++ (ClosingLine s.level (end_place h children) ∷ finding_items s h (end_conditions h (headers children))
+      ++ (ClosingLine s.level (end_place h children)
+      ∷ finding_items s h (end_findings rules (segments_of h (headers children)))
       ++ items (onward s (extent h children) (Sibling h None)) rest))
-  items s (OpenPrimitive h c) = finding_items s h (header_conditions s h) ++ OpenPrimitiveLines s.level h c ∷ []
+  items s (OpenPrimitive h c) =
+      finding_items s h (header_findings rules (surroundings_of s) h)
+      ++ OpenPrimitiveLines s.level h c ∷ []
   items s (OpenHolder h children) =
-      finding_items s h (header_conditions s h)
+      finding_items s h (header_findings rules (surroundings_of s) h)
       ++ OpeningLine s.level h ∷ items (site_of_children s h) children
-  items s (OpenBitString h) = finding_items s h (header_conditions s h) ++ OpeningLine s.level h ∷ []
+  items s (OpenBitString h) =
+      finding_items s h (header_findings rules (surroundings_of s) h)
+      ++ OpeningLine s.level h ∷ []
   items s _ = []

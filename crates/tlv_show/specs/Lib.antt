@@ -7,6 +7,7 @@ pub mod Conditions
 pub mod Found
 pub mod Items
 pub mod Texts
+pub mod SaturatingSum
 pub mod FinderState
 pub mod CheckStep
 pub mod DumpStep

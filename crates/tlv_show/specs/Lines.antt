@@ -1,5 +1,5 @@
 -- Parts of the lines of a dump. The lines of all items are in `Texts`.
-use Rattle.std.specs.Prelude.{ℕ, List, ◌++◌, Option, codes, decimal}
+use Rattle.std.specs.Prelude.{ℕ, List, ◌++◌, Option, codes, decimal, Bool, if◌then◌else◌}
 use Rattle.std.specs.Option.{option_map_or}
 use Rattle.tlv_head.specs.declared.header.Size.{Size}
 use Rattle.tlv_head.specs.Header.{HeaderValue, definite_length}
@@ -14,6 +14,10 @@ size_text size = option_map_or decimal (definite_length size) (codes "indef")
 -- a line with these first columns and this text
 abbrev pub text_line : Layout → List ℕ → List ℕ → List ℕ
 text_line layout first text = line layout.pure first layout.level text
+
+-- what is after the tag of an element that holds others: whether it is constructed, or a string that wraps encodings
+abbrev pub opening_word : Bool → List ℕ
+opening_word constructed = if constructed then codes " {" else codes " wraps {"
 
 -- an element that holds others, with a word after its tag
 abbrev pub opening_line : Layout → HeaderValue → List ℕ → List ℕ

@@ -1,5 +1,5 @@
 -- What a dump makes of events.
-use Rattle.std.specs.Prelude.{ℕ, ◌+◌, ◌-◌, ◌^◌, eqb, if◌then◌else◌, Bool, true, false, List, [], ◌∷◌, length, max, min, take, Option, Some, None, codes}
+use Rattle.std.specs.Prelude.{ℕ, ◌+◌, ◌-◌, eqb, if◌then◌else◌, Bool, true, false, List, [], ◌∷◌, length, min, take, Option, Some, None}
 use Rattle.std.specs.FinMap as finite
 use Rattle.tlv_head.specs.Header.{HeaderValue, octets_of}
 use Rattle.tlv_value.specs.declared.layout.Layout.{Layout}
@@ -8,7 +8,8 @@ use Rattle.tlv_value.specs.ValueTextState.{ValueTextState, begin_lines, contents
 use Rattle.tlv_walk.specs.declared.follow.Go.TheVariants.{On}
 use Rattle.tlv_walk.specs.Events.{Begin, Bytes, Close, End, Enter, EventValue, Leave, Open, Pad, Unused}
 use Rattle.tlv_walk.specs.Follow.{Effect, each_octet}
-use Rattle.tlv_show.specs.Lines.{closing_line, opening_line, padding_line}
+use Rattle.tlv_show.specs.Lines.{closing_line, opening_line, padding_line, opening_word}
+use Rattle.tlv_show.specs.SaturatingSum.{saturating_sum}
 
 -- what contracts see of the `Lines` of a dump
 pub record LinesState : Type 0 where
@@ -31,10 +32,6 @@ new_lines layout names = record { layout = layout; names = names; offset = 0; in
 abbrev pub lines_effect : LinesState → List ℕ → Effect LinesState
 lines_effect s octets = record { state = s; put = octets; goes = On }
 
--- an offset so many octets further; it stops at 2^64 - 1
-abbrev pub offset_after : ℕ → ℕ → ℕ
-offset_after offset n = max offset (min (offset + n) (2 ^ 64 - 1))
-
 -- the layout of what an element holds, and of what holds it; the level stops at 255
 abbrev pub inner_layout : Layout → Layout
 inner_layout layout = record layout { level = min (layout.level + 1) 255 }
@@ -44,7 +41,7 @@ outer_layout layout = record layout { level = layout.level - 1 }
 
 -- an element begins, and padding ends
 abbrev pub past_header : LinesState → HeaderValue → LinesState
-past_header s h = record s { offset = offset_after h.offset (length (octets_of h)); in_padding = false }
+past_header s h = record s { offset = saturating_sum h.offset (length (octets_of h)); in_padding = false }
 
 -- an element that holds others begins
 abbrev pub lines_open_step : LinesState → HeaderValue → List ℕ → Effect LinesState
@@ -56,7 +53,7 @@ abbrev pub lines_close_step : LinesState → Option ℕ → Effect LinesState
 lines_close_step s None =
     lines_effect (record s { layout = outer_layout s.layout }) (closing_line (outer_layout s.layout) None)
 lines_close_step s (Some at) =
-    lines_effect (record s { layout = outer_layout s.layout; offset = offset_after at 2 })
+    lines_effect (record s { layout = outer_layout s.layout; offset = saturating_sum at 2 })
     (closing_line (outer_layout s.layout) (Some at))
 
 -- a primitive begins
@@ -77,7 +74,7 @@ value_contents_lines (Some t) octets = contents_lines t (take t.left octets)
 -- a contents octet
 abbrev pub lines_octet_step : LinesState → ℕ → Effect LinesState
 lines_octet_step s x =
-    lines_effect (record s { offset = offset_after s.offset 1; value = value_after s.value (x ∷ []) })
+    lines_effect (record s { offset = saturating_sum s.offset 1; value = value_after s.value (x ∷ []) })
     (value_contents_lines s.value (x ∷ []))
 
 -- a primitive ends, of which all contents octets have come
@@ -91,17 +88,17 @@ lines_end_step s = lines_effect (record s { value = None }) (value_end_lines s.n
 -- an octet of padding: the first of a run has a line
 abbrev pub lines_padding_step : LinesState → ℕ → Effect LinesState
 lines_padding_step s x =
-    lines_effect (record s { offset = offset_after s.offset 1; in_padding = true })
+    lines_effect (record s { offset = saturating_sum s.offset 1; in_padding = true })
     (if s.in_padding then [] else padding_line s.layout s.offset)
 
 -- an event
 abbrev pub lines_step : LinesState → EventValue → Effect LinesState
-lines_step s (Open h) = lines_open_step s h (codes " {")
-lines_step s (Enter h) = lines_open_step s h (codes " wraps {")
+lines_step s (Open h) = lines_open_step s h (opening_word true)
+lines_step s (Enter h) = lines_open_step s h (opening_word false)
 lines_step s (Begin h) = lines_begin_step s h
 lines_step s (Bytes octets) = each_octet lines_octet_step s octets
 lines_step s End = lines_end_step s
 lines_step s (Close at) = lines_close_step s at
 lines_step s Leave = lines_close_step s None
-lines_step s Unused = lines_effect (record s { offset = offset_after s.offset 1 }) []
+lines_step s Unused = lines_effect (record s { offset = saturating_sum s.offset 1 }) []
 lines_step s (Pad octets) = each_octet lines_padding_step s octets

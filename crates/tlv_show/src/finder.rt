@@ -1,8 +1,9 @@
 //! What is found in elements, event by event.
-ghost use Rattle.std.specs.Prelude.{◌≡◌, [], if◌then◌else◌, length};
+ghost use Rattle.std.specs.Prelude.{◌≡◌, [], length};
 ghost use Rattle.tlv_head.specs.Header.{announced_length};
 ghost use Rattle.tlv_walk.specs.HasRead.{event_value};
-ghost use Rattle.tlv_show.specs.FinderState.{end_findings_in, finder_at_value, finder_begin_step, finder_bytes_step, finder_close_step, finder_end_step, finder_inside, finder_open_step, header_findings_in, new_finder, with_findings, without_findings};
+ghost use Rattle.tlv_show.specs.FinderState.{finder_at_value, finder_begin_step, finder_bytes_step, finder_close_step, finder_end_step, finder_inside, finder_open_step, new_finder, segments_in, surroundings_in, with_findings, without_findings};
+ghost use Rattle.tlv_show.specs.Found.{end_findings, header_findings};
 ghost use Rattle.tlv_show.specs.Private.FinderState.{PassesOrStays, ReportsFindings, finder_step, with_state};
 
 use crate::Rules;
@@ -173,7 +174,8 @@ impl Finder {
     fn header(&mut self, header: &Header) -> bool
         ensures { ReportsFindings
             (with_findings self.old.state (length self.old.state.outer) header.now.offset
-            (header_findings_in self.old.state.rules self.old.state.frame header.now))
+            (header_findings self.old.state.rules
+            (surroundings_in self.old.state.frame) header.now))
             self.new result }
     {
         if is_plain(self.rules, self.holders.frame(), header) {
@@ -188,7 +190,8 @@ impl Finder {
     fn look(&mut self, header: &Header)
         ensures { self.new
             ≡ with_findings self.old.state (length self.old.state.outer) header.now.offset
-            (header_findings_in self.old.state.rules self.old.state.frame header.now) }
+            (header_findings self.old.state.rules
+            (surroundings_in self.old.state.frame) header.now) }
     {
         let level = self.holders.level();
         self.last.restart(level, header.offset);
@@ -293,7 +296,7 @@ impl Finder {
     fn look_at_end(&mut self, closed: &SiblingFrame) -> bool
         ensures { ReportsFindings
             (with_findings self.old.state (length self.old.state.outer) closed.now.at
-            (end_findings_in self.old.state.rules closed.now))
+            (end_findings self.old.state.rules (segments_in closed.now)))
             self.new result }
     {
         self.last.restart(self.holders.level(), closed.at);

@@ -1,10 +1,11 @@
 //! What is found with a header, and with the end of an element that holds others.
-ghost use Rattle.std.specs.Prelude.{IsTrue, false, ◌≡◌, ◌<◌, ◌≤◌, ◌+◌, ◌++◌, ◌&&◌, ◌||◌, ◌==◌, if◌then◌else◌, nat_le, nat_lt, length, []};
-ghost use Rattle.tlv_value.specs.CheckNotes.{finding_if};
+ghost use Rattle.std.specs.Prelude.{IsTrue, false, ◌≡◌, ◌<◌, ◌≤◌, ◌+◌, ◌++◌, ◌&&◌, ◌||◌, ◌==◌, nat_le, nat_lt, length, []};
+ghost use Rattle.tlv_value.specs.Checks.{finding_if, findings_by};
 ghost use Rattle.tlv_value.specs.Types.{has_segments};
-ghost use Rattle.tlv_show.specs.Conditions.{has_high_form, leading_bits};
+ghost use Rattle.tlv_show.specs.Conditions.{basic_conditions, cer_conditions, der_conditions, has_high_form, leading_bits, length_conditions};
+ghost use Rattle.tlv_show.specs.FinderState.{segments_in, surroundings_in};
+ghost use Rattle.tlv_show.specs.Found.{end_findings, header_findings};
 ghost use Rattle.tlv_show.specs.Private.UsualTypes.{IsUsual};
-ghost use Rattle.tlv_show.specs.FinderState.{basic_findings_in, cer_findings_in, der_findings, end_findings_in, header_findings_in, length_findings};
 
 use crate::Rules;
 use crate::headers::{
@@ -25,7 +26,7 @@ pub(crate) fn add_header_findings(
     found: &mut ArrayVec<Finding, 16>,
 )
     requires { found.old.items ≡ [] }
-    ensures { found.new.items ≡ header_findings_in rules frame.now header.now }
+    ensures { found.new.items ≡ header_findings rules (surroundings_in frame.now) header.now }
 {
     add_basic_findings(frame, header, found);
     match rules {
@@ -44,7 +45,8 @@ pub(crate) fn add_header_findings(
 /// Whether nothing is found with a header, as far as a short look shows.
 #[inline(always)]
 pub(crate) fn is_plain(rules: Rules, frame: &SiblingFrame, header: &Header) -> bool
-    ensures findings { IsTrue result → header_findings_in rules frame.now header.now ≡ [] }
+    ensures findings { IsTrue result
+        → header_findings rules (surroundings_in frame.now) header.now ≡ [] }
     ensures segments { IsTrue result → (frame.now.has_segments || has_segments header.now) ≡ false }
 {
     is_usual(header) && is_plain_if_usual(rules, frame, header)
@@ -55,7 +57,7 @@ pub(crate) fn is_plain(rules: Rules, frame: &SiblingFrame, header: &Header) -> b
 #[inline(always)]
 pub(crate) fn is_plain_if_usual(rules: Rules, frame: &SiblingFrame, header: &Header) -> bool
     ensures findings { IsTrue result → IsUsual header.now
-        → header_findings_in rules frame.now header.now ≡ [] }
+        → header_findings rules (surroundings_in frame.now) header.now ≡ [] }
     ensures segments { IsTrue result → frame.now.has_segments ≡ false }
 {
     if frame.has_segments || !is_tag_usual(header) {
@@ -121,7 +123,7 @@ pub(crate) fn add_end_findings(
     found: &mut ArrayVec<Finding, 16>,
 )
     requires { found.old.items ≡ [] }
-    ensures { found.new.items ≡ end_findings_in rules frame.now }
+    ensures { found.new.items ≡ end_findings rules (segments_in frame.now) }
 {
     if matches!(rules, Rules::Cer) {
         add_if(
@@ -136,7 +138,7 @@ pub(crate) fn add_end_findings(
 /// Whether a string with the segments of this frame has at most 1000 contents octets as a primitive.
 #[inline(always)]
 fn fits(frame: &SiblingFrame) -> bool
-    ensures { result ≡ nat_le ((if frame.now.has_bits then 1 else 0) + frame.now.octets) 1000 }
+    ensures { result ≡ nat_le (segments_in frame.now).octets 1000 }
 {
     frame.octets <= if frame.has_bits { 999 } else { 1000 }
 }
@@ -157,7 +159,8 @@ fn add_if(there: bool, finding: Finding, found: &mut ArrayVec<Finding, 16>)
 #[inline(always)]
 fn add_basic_findings(frame: &SiblingFrame, header: &Header, found: &mut ArrayVec<Finding, 16>)
     requires { found.old.items ≡ [] }
-    ensures items { found.new.items ≡ basic_findings_in frame.now header.now }
+    ensures items { found.new.items
+        ≡ findings_by (basic_conditions (surroundings_in frame.now) header.now) }
     ensures few { length found.new.items ≤ 7 }
 {
     let is_high = has_high_form(header);
@@ -194,7 +197,8 @@ fn add_basic_findings(frame: &SiblingFrame, header: &Header, found: &mut ArrayVe
 #[inline(always)]
 fn add_length_findings(header: &Header, found: &mut ArrayVec<Finding, 16>)
     requires { length found.old.items ≤ 7 }
-    ensures items { found.new.items ≡ found.old.items ++ length_findings header.now }
+    ensures items { found.new.items
+        ≡ found.old.items ++ findings_by (length_conditions header.now) }
     ensures few { length found.new.items ≤ 8 }
 {
     add_if(is_length_padded(header), Finding::S01, found);
@@ -204,7 +208,7 @@ fn add_length_findings(header: &Header, found: &mut ArrayVec<Finding, 16>)
 #[inline(always)]
 fn add_der_findings(header: &Header, found: &mut ArrayVec<Finding, 16>)
     requires { length found.old.items ≤ 8 }
-    ensures { found.new.items ≡ found.old.items ++ der_findings header.now }
+    ensures { found.new.items ≡ found.old.items ++ findings_by (der_conditions header.now) }
 {
     add_if(is_indefinite(header), Finding::D01, found);
     add_if(header.constructed && is_string(header), Finding::D02, found);
@@ -214,7 +218,8 @@ fn add_der_findings(header: &Header, found: &mut ArrayVec<Finding, 16>)
 #[inline(always)]
 fn add_cer_findings(frame: &SiblingFrame, header: &Header, found: &mut ArrayVec<Finding, 16>)
     requires { length found.old.items ≤ 8 }
-    ensures { found.new.items ≡ found.old.items ++ cer_findings_in frame.now header.now }
+    ensures { found.new.items
+        ≡ found.old.items ++ findings_by (cer_conditions (surroundings_in frame.now) header.now) }
 {
     add_if(
         header.constructed && !is_indefinite(header),

@@ -1,10 +1,8 @@
 //! The frames of the elements that are open, without those of which nothing is to be known.
 ghost use Rattle.std.specs.Prelude.{◌≡◌, ◌||◌, false, length, true};
-ghost use Rattle.tlv_head.specs.Header.{HeaderValue};
 ghost use Rattle.tlv_value.specs.Types.{has_segments};
-ghost use Rattle.tlv_show.specs.FinderState.{frame_after, header_findings_in};
+ghost use Rattle.tlv_show.specs.FinderState.{frame_after, surroundings_in};
 ghost use Rattle.tlv_show.specs.Private.Nesting.{TakesBack, nesting_inside, nesting_outside, new_nesting, segments_left};
-ghost use Rattle.tlv_show.specs.declared.rules.Rules.{Rules};
 
 use crate::headers::is_string;
 use crate::sibling_frame::{KeptFrame, SiblingFrame, frame_of, note_element, top};
@@ -72,8 +70,7 @@ impl Nesting {
     #[inline(always)]
     pub fn frame(&self) -> &SiblingFrame
         ensures segments { result.now.has_segments ≡ self.now.frame.has_segments }
-        ensures findings { (rules : Rules) (h : HeaderValue)
-            → header_findings_in rules result.now h ≡ header_findings_in rules self.now.frame h }
+        ensures around { surroundings_in result.now ≡ surroundings_in self.now.frame }
     {
         &self.frame
     }

@@ -1,4 +1,4 @@
-pub mod CheckNotes
+pub mod NotedFacts
 pub mod CheckPieces
 pub mod CheckWords
 pub mod EachNoted

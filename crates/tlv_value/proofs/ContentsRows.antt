@@ -6,7 +6,7 @@ use Rattle.tlv_value.specs.declared.finding.Finding.TheVariants.{B08, B11, B12, 
 use Rattle.tlv_value.specs.declared.kind.Kind.TheVariants.{Octets, Integer}
 use Rattle.tlv_value.specs.Arcs.{arcs_of, subidentifiers}
 use Rattle.tlv_value.specs.Checks.{findings_on_contents}
-use Rattle.tlv_value.proofs.CheckLemmas.CheckNotes.{with_tag}
+use Rattle.tlv_value.specs.Private.Checks.{universal_header}
 use Rattle.tlv_value.specs.Kind.{kind_of}
 use Rattle.tlv_value.specs.Number.{decimal_of}
 use Rattle.tlv_value.specs.Rows.{rows_of}
@@ -58,23 +58,23 @@ general-without-digits = refl
 general-canonical : has_form canonical_generalized_time_form (codes "19920722132100.3Z") ≡ true
 general-canonical = refl
 
-padded-integer : findings_on_contents (with_tag Universal 2) (0 ∷ 127 ∷ []) ≡ B08 ∷ []
+padded-integer : findings_on_contents (universal_header 2) (0 ∷ 127 ∷ []) ≡ B08 ∷ []
 padded-integer = refl
 
-true-of-one : findings_on_contents (with_tag Universal 1) (1 ∷ []) ≡ S02 ∷ []
+true-of-one : findings_on_contents (universal_header 1) (1 ∷ []) ≡ S02 ∷ []
 true-of-one = refl
 
-unused-set : findings_on_contents (with_tag Universal 3) (5 ∷ 191 ∷ []) ≡ S03 ∷ []
+unused-set : findings_on_contents (universal_header 3) (5 ∷ 191 ∷ []) ≡ S03 ∷ []
 unused-set = refl
 
-no-octet : findings_on_contents (with_tag Universal 3) (3 ∷ []) ≡ B15 ∷ []
+no-octet : findings_on_contents (universal_header 3) (3 ∷ []) ≡ B15 ∷ []
 no-octet = refl
 
-padded-and-unfinished : findings_on_contents (with_tag Universal 13) (5 ∷ 128 ∷ []) ≡ B11 ∷ B12 ∷ []
+padded-and-unfinished : findings_on_contents (universal_header 13) (5 ∷ 128 ∷ []) ≡ B11 ∷ B12 ∷ []
 padded-and-unfinished = refl
 
-month-13 : findings_on_contents (with_tag Universal 23) (codes "9113062345Z") ≡ B19 ∷ []
+month-13 : findings_on_contents (universal_header 23) (codes "9113062345Z") ≡ B19 ∷ []
 month-13 = refl
 
-without-seconds : findings_on_contents (with_tag Universal 23) (codes "9105062345Z") ≡ S04 ∷ []
+without-seconds : findings_on_contents (universal_header 23) (codes "9105062345Z") ≡ S04 ∷ []
 without-seconds = refl

@@ -5,12 +5,12 @@ use Rattle.std.specs.Char.{is_ascii_alphabetic, is_ascii_digit}
 use Rattle.std.specs.List.{list_all, list_any}
 use Rattle.std.specs.Option.{option_map_or}
 use Rattle.std.specs.Str.{is_utf8}
-use Rattle.tlv_head.specs.Header.{HeaderValue, is_universal}
+use Rattle.tlv_head.specs.Header.{HeaderValue}
 use Rattle.tlv_head.specs.UniversalTypes as universal
 use Rattle.tlv_value.specs.declared.finding.Finding.{Finding}
 use Rattle.tlv_value.specs.declared.finding.Finding.TheVariants.{B06, B07, B08, B09, B10, B11, B12, B13, B14, B15, B18, B19, S02, S03, S04}
 use Rattle.tlv_value.specs.Times as times
-use Rattle.tlv_value.specs.Types.{integer_types, is_a, is_one_of, object_types}
+use Rattle.tlv_value.specs.Types.{character_types, integer_types, is_number_of, object_types, time_types, type_number}
 use Rattle.tlv_value.specs.Units.{is_printable}
 
 abbrev pub last_octet : ℕ → List ℕ → ℕ
@@ -57,64 +57,101 @@ allows number octets =
     else if eqb number universal.bmp_string then eqb (length octets % 2) 0
     else option_map_or (λ test. list_all test octets) (octet_test number) true
 
+-- ---- What the conditions go by
+
+-- what is known of contents
+pub record ContentsFacts : Type 0 where
+  -- how many octets there are
+  pub size : ℕ
+  -- the first of them: two, if there are as many, or more
+  pub front : List ℕ
+  -- the last one, or 0
+  pub last : ℕ
+  -- 8.19.2, 8.20.2: whether an octet 80 begins a subidentifier
+  pub is_padded : Bool
+  -- X.680 41: whether the characters are those of the type
+  pub is_allowed : Bool
+  -- the first octets of a time: 64, if there are as many, or more
+  pub time : List ℕ
+
+-- of these contents of the type with this number
+abbrev pub facts_of : ℕ → List ℕ → ContentsFacts
+facts_of number c = record {
+  size = length c;
+  front = c;
+  last = last_octet 0 c;
+  is_padded = is_padded_after 0 c;
+  is_allowed = allows number c;
+  time = c;
+}
+
+-- the first octet. In a BIT STRING it is the number of unused bits
+abbrev pub first : ContentsFacts → ℕ
+first c = slice_index c.front 0
+
+-- 8.6.2.2: the number that the unused bits of the last octet make
+abbrev pub unused_bits_value : ContentsFacts → ℕ
+unused_bits_value c = c.last % 2 ^ first c
+
+-- 8.25: a UTCTime or GeneralizedTime of at most 64 octets: of a longer one the form is not looked at
+abbrev pub is_short_time : ℕ → ContentsFacts → Bool
+is_short_time n c = is_number_of time_types n && nat_le c.size 64
+
+abbrev pub time_form : ℕ → times.Form
+time_form n = if n == universal.utc_time then times.utc_time_form else times.generalized_time_form
+
+abbrev pub canonical_form : ℕ → times.Form
+canonical_form n =
+    if n == universal.utc_time then times.canonical_utc_time_form else times.canonical_generalized_time_form
+
 -- ---- The findings
+
+-- a finding, if it is there
+abbrev pub finding_if : Bool → Finding → List Finding
+finding_if there finding = if there then finding ∷ [] else []
 
 -- findings beside their conditions: those whose conditions hold, in the same order
 abbrev pub findings_by : List (Bool × Finding) → List Finding
-findings_by rows = flat_map (λ row. if row.0 then row.1 ∷ [] else []) rows
+findings_by rows = flat_map (λ row. finding_if row.0 row.1) rows
 
--- the first contents octet. In a BIT STRING it is the number of unused bits
-abbrev pub first : List ℕ → ℕ
-first c = slice_index c 0
-
--- 8.6.2.2: the number that the unused bits of the last octet make
-abbrev pub unused_bits_value : List ℕ → ℕ
-unused_bits_value c = last_octet 0 c % 2 ^ first c
-
--- 8.25: a UTCTime or GeneralizedTime of at most 64 octets: of a longer one the form is not looked at
-abbrev pub is_short_time : HeaderValue → List ℕ → Bool
-is_short_time h c = is_one_of (universal.utc_time ∷ universal.generalized_time ∷ []) h && nat_le (length c) 64
-
-abbrev pub time_form : HeaderValue → times.Form
-time_form h = if is_a universal.utc_time h then times.utc_time_form else times.generalized_time_form
-
-abbrev pub canonical_form : HeaderValue → times.Form
-canonical_form h = if is_a universal.utc_time h then times.canonical_utc_time_form else times.canonical_generalized_time_form
-
--- what may be found on the contents of a primitive with this header
-abbrev pub contents_conditions : HeaderValue → List ℕ → List (Bool × Finding)
-contents_conditions h c =
+-- what may be found on the contents of a primitive of the type with this number
+abbrev pub type_conditions : ℕ → ContentsFacts → List (Bool × Finding)
+type_conditions n c =
     -- 8.2.1: a BOOLEAN has one octet
-    (is_a universal.boolean h && not (length c == 1), B06)
+    (n == universal.boolean && not (c.size == 1), B06)
     -- 8.3.1, 8.4: an INTEGER or ENUMERATED has one octet or more
-    ∷ (is_one_of integer_types h && length c == 0, B07)
+    ∷ (is_number_of integer_types n && c.size == 0, B07)
     -- 8.3.2, 8.4: its first nine bits are not all equal
-    ∷ (is_one_of integer_types h && is_padded_integer c, B08)
+    ∷ (is_number_of integer_types n && is_padded_integer c.front, B08)
     -- 8.8.2: a NULL has no octets
-    ∷ (is_a universal.null h && not (length c == 0), B09)
+    ∷ (n == universal.null && not (c.size == 0), B09)
     -- 8.19.2: an OBJECT IDENTIFIER has one subidentifier or more
-    ∷ (is_a universal.object_identifier h && length c == 0, B10)
+    ∷ (n == universal.object_identifier && c.size == 0, B10)
     -- 8.19.2, 8.20.2: no subidentifier begins with 80
-    ∷ (is_one_of object_types h && is_padded_after 0 c, B11)
+    ∷ (is_number_of object_types n && c.is_padded, B11)
     -- 8.19.2, 8.20.2: bit 8 is clear in the last octet of a subidentifier
-    ∷ (is_one_of object_types h && nat_le 128 (last_octet 0 c), B12)
+    ∷ (is_number_of object_types n && nat_le 128 c.last, B12)
     -- 8.6.2: a BIT STRING has a first octet, the number of unused bits
-    ∷ (is_a universal.bit_string h && length c == 0, B13)
+    ∷ (n == universal.bit_string && c.size == 0, B13)
     -- 8.6.2.2: it is at most 7
-    ∷ (is_a universal.bit_string h && nat_lt 7 (first c), B14)
+    ∷ (n == universal.bit_string && nat_lt 7 (first c), B14)
     -- 8.6.2.3: it is 0 if no other octet follows
-    ∷ (is_a universal.bit_string h && length c == 1 && nat_le 1 (first c) && nat_le (first c) 7, B15)
+    ∷ (n == universal.bit_string && c.size == 1 && nat_le 1 (first c) && nat_le (first c) 7, B15)
     -- X.680 41: a string of characters has those of its type
-    ∷ (is_universal h.class && not (allows h.number c), B18)
+    ∷ (is_number_of character_types n && not c.is_allowed, B18)
     -- X.680 46, 47: a time is of its grammar
-    ∷ (is_short_time h c && not (times.has_form (time_form h) c), B19)
+    ∷ (is_short_time n c && not (times.has_form (time_form n) c.time), B19)
     -- 11.1: TRUE is ff
-    ∷ (is_a universal.boolean h && length c == 1 && not (first c == 0 || first c == 0xff), S02)
+    ∷ (n == universal.boolean && c.size == 1 && not (first c == 0 || first c == 0xff), S02)
     -- 11.2.1: unused bits are 0
-    ∷ (is_a universal.bit_string h && nat_le 2 (length c) && nat_le (first c) 7 && not (unused_bits_value c == 0), S03)
+    ∷ (n == universal.bit_string && nat_le 2 c.size && nat_le (first c) 7 && not (unused_bits_value c == 0), S03)
     -- 11.7, 11.8: a time is in the canonical form
-    ∷ (is_short_time h c && times.has_form (time_form h) c && not (times.has_form (canonical_form h) c), S04)
+    ∷ (is_short_time n c && times.has_form (time_form n) c.time && not (times.has_form (canonical_form n) c.time), S04)
     ∷ []
+
+-- on these contents of a primitive with this header
+abbrev pub contents_conditions : HeaderValue → List ℕ → List (Bool × Finding)
+contents_conditions h c = type_conditions (type_number h) (facts_of (type_number h) c)
 
 -- what is found, by the rules of BER, CER or DER, in order
 abbrev pub findings_on_contents : HeaderValue → List ℕ → List Finding

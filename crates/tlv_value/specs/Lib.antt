@@ -16,7 +16,6 @@ pub mod TextFields
 pub mod Laws
 pub mod Types
 pub mod Checks
-pub mod CheckNotes
 pub mod ValueCheckState
 pub mod CheckFields
 pub mod CheckLaws

@@ -1,5 +1,5 @@
 -- The universal types by their numbers: X.680, table 1.
-use Rattle.std.specs.Prelude.{ℕ, Bool, ◌&&◌, ◌||◌, not, ◌==◌, eqb, nat_le, List, [], ◌∷◌}
+use Rattle.std.specs.Prelude.{ℕ, Bool, ◌&&◌, ◌||◌, not, ◌==◌, eqb, nat_le, if◌then◌else◌, List, [], ◌∷◌}
 use Rattle.std.specs.List.{list_any}
 use Rattle.tlv_head.specs.UniversalTypes as universal
 use Rattle.tlv_head.specs.Header.{HeaderValue, is_universal}
@@ -8,9 +8,17 @@ use Rattle.tlv_head.specs.Header.{HeaderValue, is_universal}
 abbrev pub is_a : ℕ → HeaderValue → Bool
 is_a number h = is_universal h.class && h.number == number
 
+-- the number is that of one of these types
+abbrev pub is_number_of : List ℕ → ℕ → Bool
+is_number_of types number = list_any (eqb number) types
+
 -- the tag is that of one of these types
 abbrev pub is_one_of : List ℕ → HeaderValue → Bool
-is_one_of numbers h = is_universal h.class && list_any (eqb h.number) numbers
+is_one_of types h = is_universal h.class && is_number_of types h.number
+
+-- the universal number of the type; of another class that of OCTET STRING, on whose contents nothing is found
+abbrev pub type_number : HeaderValue → ℕ
+type_number h = if is_universal h.class then h.number else universal.octet_string
 
 -- 8.3, 8.4
 abbrev pub integer_types : List ℕ
@@ -19,6 +27,22 @@ integer_types = universal.integer ∷ universal.enumerated ∷ []
 -- 8.19, 8.20
 abbrev pub object_types : List ℕ
 object_types = universal.object_identifier ∷ universal.relative_oid ∷ []
+
+-- X.680 41: strings whose characters are looked at
+abbrev pub character_types : List ℕ
+character_types =
+    universal.utf8_string
+    ∷ universal.numeric_string
+    ∷ universal.printable_string
+    ∷ universal.ia5_string
+    ∷ universal.visible_string
+    ∷ universal.universal_string
+    ∷ universal.bmp_string
+    ∷ []
+
+-- 8.25
+abbrev pub time_types : List ℕ
+time_types = universal.utc_time ∷ universal.generalized_time ∷ []
 
 -- 8.2.1, 8.3.1, 8.4, 8.5.1, 8.8.1, 8.19.1, 8.20.1: types whose encodings are primitive
 abbrev pub primitive_types : List ℕ

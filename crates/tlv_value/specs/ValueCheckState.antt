@@ -3,12 +3,12 @@ use Rattle.std.specs.List.{list_all}
 use Rattle.std.specs.Prelude.{ℕ, ◌-◌, ◌%◌, Bool, true, false, ◌&&◌, ◌||◌, not, eqb, if◌then◌else◌, List, [], ◌∷◌, ◌++◌, length, take}
 use Rattle.std.specs.Str.{is_utf8}
 use Rattle.tlv_head.specs.UniversalTypes as universal
-use Rattle.tlv_head.specs.Header.{HeaderValue, announced_length, is_universal}
+use Rattle.tlv_head.specs.Header.{HeaderValue, announced_length}
 use Rattle.tlv_value.specs.declared.kind.Kind.TheVariants.{Utf8}
 use Rattle.tlv_value.specs.declared.finding.Finding.{Finding}
-use Rattle.tlv_value.specs.Checks.{allows_octet, is_padded_after, last_octet}
-use Rattle.tlv_value.specs.CheckNotes.{Notes, is_object, universal_findings}
+use Rattle.tlv_value.specs.Checks.{ContentsFacts, allows_octet, findings_by, is_padded_after, last_octet, type_conditions}
 use Rattle.tlv_value.specs.Rows.{full_rows, open_row}
+use Rattle.tlv_value.specs.Types.{is_number_of, object_types, type_number}
 
 abbrev pub all_utf8 : List (List ℕ) → Bool
 all_utf8 [] = true
@@ -32,10 +32,6 @@ pub record ValueCheckState : Type 0 where
   pub row : List ℕ
   -- the first 64 octets of a time
   pub time : List ℕ
-
--- the universal number of the type; of another class that of OCTET STRING, on whose contents nothing is found
-abbrev pub type_number : HeaderValue → ℕ
-type_number h = if is_universal h.class then h.number else universal.octet_string
 
 -- of so many octets
 abbrev pub new_check_of : ℕ → ℕ → ValueCheckState
@@ -85,7 +81,7 @@ with_front s octets = record s { front = take 2 (s.front ++ octets); last = last
 abbrev pub with_each : ValueCheckState → List ℕ → ValueCheckState
 with_each s octets = record s {
   allowed = s.allowed && list_all (allows_octet s.number) octets;
-  padded = if is_object s.number then s.padded || is_padded_after s.last octets else s.padded;
+  padded = if is_number_of object_types s.number then s.padded || is_padded_after s.last octets else s.padded;
   formed = if eqb s.number universal.utf8_string then s.formed && all_utf8 (full_rows Utf8 s.row octets) else s.formed;
   row = if eqb s.number universal.utf8_string then open_row Utf8 s.row octets else s.row;
   last = last_octet s.last octets;
@@ -125,16 +121,17 @@ is_allowed_in s =
     else true)
     && s.allowed
 
-abbrev pub notes_in : ValueCheckState → Notes
-notes_in s = record {
+-- what is known of the contents at their end
+abbrev pub facts_in : ValueCheckState → ContentsFacts
+facts_in s = record {
   size = s.size;
   front = s.front;
-  time = s.time;
   last = s.last;
-  padded = s.padded;
-  allowed = is_allowed_in s;
+  is_padded = s.padded;
+  is_allowed = is_allowed_in s;
+  time = s.time;
 }
 
--- what is found at the end
+-- what is found on them
 abbrev pub findings_in : ValueCheckState → List Finding
-findings_in s = universal_findings s.number (notes_in s)
+findings_in s = findings_by (type_conditions s.number (facts_in s))

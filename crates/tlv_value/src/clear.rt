@@ -1,8 +1,7 @@
 //! A short look at all of the contents of a primitive.
-ghost use Rattle.std.specs.Prelude.{◌≡◌, ◌%◌, ◌^◌, ◌&&◌, ◌||◌, ◌==◌, [], IsTrue, eqb, false, length, nat_le, nat_lt, not, true};
-ghost use Rattle.tlv_value.specs.CheckNotes.{general_time_findings, utc_time_findings};
-ghost use Rattle.tlv_value.specs.Checks.{findings_on_contents, first, is_padded_after, is_padded_integer, last_octet};
-ghost use Rattle.tlv_value.specs.Private.Checks.{findings_of, universal_header};
+ghost use Rattle.std.specs.Prelude.{◌≡◌, ◌%◌, ◌^◌, ◌&&◌, ◌||◌, ◌==◌, [], IsTrue, eqb, false, length, nat_le, nat_lt, not, slice_index, true};
+ghost use Rattle.tlv_value.specs.Checks.{findings_on_contents, is_padded_after, is_padded_integer, last_octet};
+ghost use Rattle.tlv_value.specs.Private.Checks.{findings_of, general_time_findings, universal_header, utc_time_findings};
 ghost use Rattle.tlv_value.specs.Types.{constructed_types, is_one_of, is_unassigned};
 
 use crate::check::{are_allowed, are_set, is_padded, is_well_formed, last_octet};
@@ -63,7 +62,7 @@ fn is_type_clear(number: u64, contents: &[u8]) -> bool
 #[inline(always)]
 fn is_truth(contents: &[u8]) -> bool
     ensures one { IsTrue result → (length contents.now == 1) ≡ true }
-    ensures truth { IsTrue result → (first contents.now == 0 || first contents.now == 255) ≡ true }
+    ensures truth { IsTrue result → (slice_index contents.now 0 == 0 || slice_index contents.now 0 == 255) ≡ true }
 {
     matches!(contents, [0 | 255])
 }
@@ -90,13 +89,13 @@ fn is_shortest(contents: &[u8]) -> bool
 #[inline(always)]
 fn has_clear_bits(contents: &[u8]) -> bool
     ensures some { IsTrue result → (length contents.now == 0) ≡ false }
-    ensures few { IsTrue result → nat_lt 7 (first contents.now) ≡ false }
+    ensures few { IsTrue result → nat_lt 7 (slice_index contents.now 0) ≡ false }
     ensures there { IsTrue result →
-        (length contents.now == 1 && nat_le 1 (first contents.now) && nat_le (first contents.now) 7)
+        (length contents.now == 1 && nat_le 1 (slice_index contents.now 0) && nat_le (slice_index contents.now 0) 7)
         ≡ false }
     ensures zero { IsTrue result →
-        (nat_le 2 (length contents.now) && nat_le (first contents.now) 7
-        && not (last_octet 0 contents.now % 2 ^ first contents.now == 0)) ≡ false }
+        (nat_le 2 (length contents.now) && nat_le (slice_index contents.now 0) 7
+        && not (last_octet 0 contents.now % 2 ^ slice_index contents.now 0 == 0)) ≡ false }
 {
     match contents {
         [0, ..] => true,

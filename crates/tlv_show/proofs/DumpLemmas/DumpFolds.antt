@@ -44,7 +44,7 @@ module _ (options : Options) (names : Table) (octets : List ℕ) (f : Forest) (s
   pub text-made : (effect_of dump_step (new_dump options.rules (top_layout options) names) (events f)).put ≡ (dump_job options names).text f
   text-made =
       (shows_forest (top_layout options) names options.rules (top_place options.framing) None Start top_frame [] f r.is_open (omega (arith, short, ap length r.is_prefix.1, length-append (spelling f) r.is_prefix.0))
-      (record { segments = refl; bits = refl; unused = refl; not_full = refl }, refl, λ e. refl)).text 0
+      (refl, refl, λ e. refl)).text 0
 
   pub count-made : (effect_of dump_step (new_dump options.rules (top_layout options) names) (events f)).state.finder.count ≡ finding_count options.rules f
   count-made =

@@ -2,7 +2,7 @@
 use Rattle.std.proofs.Common.{◌≡◌, ℕ, ◌+◌, ◌-◌, ◌^◌, ◌<◌, ◌≤◌, ◌==◌, Bool, true, false, if◌then◌else◌, List, [], ◌∷◌, ◌++◌, length, refl, sym, subst, not, ap, ap₂, ◌∙◌, arith, append_assoc, append-nil, length-append}
 use Rattle.std.proofs.lemmas.Grind.{flat_map-append}
 use Rattle.std.specs.FinMap as finite
-use Rattle.std.specs.Prelude.{flat_map, Option, Some, None, codes}
+use Rattle.std.specs.Prelude.{flat_map, Option, Some, None}
 use Rattle.tlv_head.specs.Header.{HeaderValue, announced_length, octets_of, wraps}
 use Rattle.tlv_value.specs.declared.finding.Finding.{Finding}
 use Rattle.tlv_value.specs.declared.layout.Layout.{Layout}
@@ -23,12 +23,11 @@ use Rattle.tlv_show.specs.CheckStep.{styled_lines}
 use Rattle.tlv_show.specs.LinesStep.{LinesState}
 use Rattle.tlv_show.specs.DumpStep.{DumpState, dump_step}
 use Rattle.tlv_show.specs.EndPlace.{end_place}
-use Rattle.tlv_show.specs.FinderState.{FinderValue, frame_after, frame_under, header_findings_in}
-use Rattle.tlv_show.specs.Found.{contents_findings, header_findings}
-use Rattle.tlv_show.proofs.FindingLemmas.EndFindings.{end_findings}
+use Rattle.tlv_show.specs.FinderState.{FinderValue, frame_after, frame_under, surroundings_in}
+use Rattle.tlv_show.specs.Found.{contents_findings, header_findings, end_findings}
 use Rattle.tlv_show.specs.Items.{Item, FindingAt, OpeningLine, ClosingLine, PrimitiveLines, OpenPrimitiveLines, PaddingLine, headers, items}
 use Rattle.tlv_show.proofs.FindingLemmas.ElementItems.{findings_at}
-use Rattle.tlv_show.specs.Lines.{closing_line, opening_line, padding_line}
+use Rattle.tlv_show.specs.Lines.{closing_line, opening_line, padding_line, opening_word}
 use Rattle.tlv_show.proofs.DumpLemmas.HolderLine.{holder_line}
 use Rattle.tlv_show.specs.Site.{Before, Padding, Sibling, Site, Start, is_padding, site_of_children}
 use Rattle.tlv_show.proofs.FindingLemmas.SitesAfter.{site_after, site_after_holder, site_after_padding}
@@ -40,6 +39,7 @@ use Rattle.tlv_show.proofs.FindingLemmas.FinderFolds.{at-under, knows-after, kno
 use Rattle.tlv_show.proofs.FindingLemmas.FinderItems.{after_contents, after_end, later_header, after_primitive, closed-find, opened-find, primitive-find, standing}
 use Rattle.tlv_show.proofs.FindingLemmas.HeaderFindings.{Knows, header-same}
 use Rattle.tlv_show.proofs.DumpLemmas.DumpEvents.{pair, is_shown, then_shown, texts, opens-by, closes-by, primitive-by, part-by}
+use Rattle.tlv_show.specs.Conditions.{surroundings_of, segments_of}
 
 -- ---- elements, in this style, with these names and rules
 module _ (style : Layout) (names : Table) (rules : Rules) where
@@ -93,7 +93,7 @@ module _ (style : Layout) (names : Table) (rules : Rules) where
   opened-shown : (p : Place) (holder : Option HeaderValue) (before : Before) (w : SiblingFrame) (outer : List SiblingFrame) (n : ℕ) (h : HeaderValue) → Known p holder before w outer
       → h.offset ≡ p.at → p.depth < 128 → p.at + length (opening h) ≤ 2 ^ 64 - 1
       → effect_of dump_step (start p (is_padding before) w outer n) (opening_events h)
-      ≡ is_shown (start (place_of_children p h) false (frame_under w h) (w ∷ outer) (later_header rules w h n)) (styled_lines (Dump style.pure) (length outer) h.offset (header_findings_in rules w h) ++ holder_line (at_level style names p.depth) h)
+      ≡ is_shown (start (place_of_children p h) false (frame_under w h) (w ∷ outer) (later_header rules w h n)) (styled_lines (Dump style.pure) (length outer) h.offset (header_findings rules (surroundings_in w) h) ++ holder_line (at_level style names p.depth) h)
   opened-shown p holder before w outer n h k there low far =
       opens-by (lines_at style names p.depth p.at (is_padding before)) (standing rules w outer n) h h.constructed (h.number == 3)
       ∙ ap₂ (λ (d : Effect LinesState) (f : FinderValue). is_shown (pair d.state f.state) (texts style f ++ d.put))
@@ -105,10 +105,10 @@ module _ (style : Layout) (names : Table) (rules : Rules) where
       → p.at + (length (octets_of h) + length c) ≤ 2 ^ 64 - 1
       → effect_of dump_step (start p padded w outer n) (Begin h ∷ Bytes c ∷ End ∷ [])
       ≡ is_shown (start (place_after p (length (octets_of h) + length c)) false (after_primitive rules w h c) outer (after_contents rules w h c n))
-      (styled_lines (Dump style.pure) (length outer) h.offset (header_findings_in rules w h) ++ (whole_lines (finite.get names) h (at_level style names p.depth) c ++ styled_lines (Dump style.pure) (length outer) h.offset (contents_findings rules h c)))
+      (styled_lines (Dump style.pure) (length outer) h.offset (header_findings rules (surroundings_in w) h) ++ (whole_lines (finite.get names) h (at_level style names p.depth) c ++ styled_lines (Dump style.pure) (length outer) h.offset (contents_findings rules h c)))
   primitive-shown p padded w outer n h c there size far =
       primitive-by (lines_at style names p.depth p.at padded) (standing rules w outer n) h c
-      ∙ ap₂ (λ (d : Effect LinesState) (f : FinderValue). is_shown (pair d.state f.state) (styled_lines (Dump style.pure) (length outer) h.offset (header_findings_in rules w h) ++ (d.put ++ texts style f)))
+      ∙ ap₂ (λ (d : Effect LinesState) (f : FinderValue). is_shown (pair d.state f.state) (styled_lines (Dump style.pure) (length outer) h.offset (header_findings rules (surroundings_in w) h) ++ (d.put ++ texts style f)))
       (primitive_shown style names p.depth p.at padded h c there size far)
       (primitive-find rules w outer n h c (sym size))
 
@@ -150,8 +150,8 @@ module _ (style : Layout) (names : Table) (rules : Rules) where
       record {
         text = λ n.
             ap (λ (x : Effect DumpState). x.put) (all n)
-            ∙ three (styled_lines (Dump style.pure) (length outer) h.offset (header_findings_in rules w h)) (whole_lines (finite.get names) h (at_level style names p.depth) c) (styled_lines (Dump style.pure) (length outer) h.offset (contents_findings rules h c)) (texts_of others)
-            ∙ found-first (length outer) p.depth h.offset (header_findings_in rules w h) (header_findings rules s h) _ (PrimitiveLines p.depth h c ∷ (findings_at p.depth h.offset (contents_findings rules h c) ++ others)) k.1 (header-same rules w s h k.0)
+            ∙ three (styled_lines (Dump style.pure) (length outer) h.offset (header_findings rules (surroundings_in w) h)) (whole_lines (finite.get names) h (at_level style names p.depth) c) (styled_lines (Dump style.pure) (length outer) h.offset (contents_findings rules h c)) (texts_of others)
+            ∙ found-first (length outer) p.depth h.offset (header_findings rules (surroundings_in w) h) (header_findings rules (surroundings_of s) h) _ (PrimitiveLines p.depth h c ∷ (findings_at p.depth h.offset (contents_findings rules h c) ++ others)) k.1 (header-same rules w s h k.0)
             (ap (λ (l : List ℕ). whole_lines (finite.get names) h (at_level style names p.depth) c ++ l) (found-first (length outer) p.depth h.offset (contents_findings rules h c) (contents_findings rules h c) (texts_of others) others k.1 refl refl));
         stands = λ n e.
             let r = t.stands (after_contents rules w h c n) e in (
@@ -174,8 +174,8 @@ module _ (style : Layout) (names : Table) (rules : Rules) where
       let end : ℕ = p.at + length (opening h) + length (spelling inside) in
       let line : List ℕ = holder_line (at_level style names p.depth) h in
       let close : List ℕ = closing_line (at_level style names p.depth) (end_place h inside) in
-      let first : List ℕ = styled_lines (Dump style.pure) (length outer) h.offset (header_findings_in rules w h) in
-      let last : List ℕ = styled_lines (Dump style.pure) (length outer) h.offset (end_findings rules h (headers inside)) in
+      let first : List ℕ = styled_lines (Dump style.pure) (length outer) h.offset (header_findings rules (surroundings_in w) h) in
+      let last : List ℕ = styled_lines (Dump style.pure) (length outer) h.offset (end_findings rules (segments_of h (headers inside))) in
       let held : List ℕ = texts_of (items rules (site_of_children s h) inside) in
       let closes-shown : (m : ℕ) → effect_of dump_step (pair (lines_at style names (p.depth + 1) end false) (standing rules (noted_all (frame_under w h) inside) (w ∷ outer) m)) (closing_event h inside ∷ [])
       ≡ is_shown (start q false (frame_after w (is_primitive h) (announced_length h.size) false) outer (after_end rules h inside m)) (close ++ last) =
@@ -214,14 +214,14 @@ module _ (style : Layout) (names : Table) (rules : Rules) where
       ap (effect_of dump_step (start p (is_padding before) w outer n)) (sym joined)
       ∙ shown-after p q (is_padding before) w outer n (element n).0 (frame_after w (is_primitive h) (announced_length h.size) false) holder (Sibling h None) es ((first ++ line) ++ (held ++ (close ++ last))) rest refl (element n).1 t in
       let others : List Item = items rules (site_after_holder s h inside) rest in
-      let closing : List Item = ClosingLine p.depth (end_place h inside) ∷ (findings_at p.depth h.offset (end_findings rules h (headers inside)) ++ others) in
+      let closing : List Item = ClosingLine p.depth (end_place h inside) ∷ (findings_at p.depth h.offset (end_findings rules (segments_of h (headers inside))) ++ others) in
       record {
         text = λ n.
             ap (λ (x : Effect DumpState). x.put) (all n)
             ∙ six first line held close last (texts_of others)
-            ∙ found-first (length outer) p.depth h.offset (header_findings_in rules w h) (header_findings rules s h) _ (OpeningLine p.depth h ∷ (items rules (site_of_children s h) inside ++ closing)) k.1 (header-same rules w s h k.0)
+            ∙ found-first (length outer) p.depth h.offset (header_findings rules (surroundings_in w) h) (header_findings rules (surroundings_of s) h) _ (OpeningLine p.depth h ∷ (items rules (site_of_children s h) inside ++ closing)) k.1 (header-same rules w s h k.0)
             (ap (λ (l : List ℕ). line ++ l)
-            (ap (λ (l : List ℕ). held ++ (close ++ l)) (found-first (length outer) p.depth h.offset (end_findings rules h (headers inside)) (end_findings rules h (headers inside)) (texts_of others) others k.1 refl refl)
+            (ap (λ (l : List ℕ). held ++ (close ++ l)) (found-first (length outer) p.depth h.offset (end_findings rules (segments_of h (headers inside))) (end_findings rules (segments_of h (headers inside))) (texts_of others) others k.1 refl refl)
             ∙ sym (split (items rules (site_of_children s h) inside) closing)));
         stands = λ n e.
             let r = t.stands (element n).0 e in (
@@ -240,7 +240,7 @@ module _ (style : Layout) (names : Table) (rules : Rules) where
   shows_forest p holder before w outer (OpenPrimitive h c) v b k = record {
     text = λ n.
         part-by (lines_at style names p.depth p.at (is_padding before)) (standing rules w outer n) h c
-        ∙ found-first (length outer) p.depth h.offset (header_findings_in rules w h) (header_findings rules (site p holder before) h) _ (OpenPrimitiveLines p.depth h c ∷ []) k.1 (header-same rules w (site p holder before) h k.0)
+        ∙ found-first (length outer) p.depth h.offset (header_findings rules (surroundings_in w) h) (header_findings rules (surroundings_of (site p holder before)) h) _ (OpenPrimitiveLines p.depth h c ∷ []) k.1 (header-same rules w (site p holder before) h k.0)
         (part_shown style names p.depth p.at (is_padding before) h c (omega (arith, v.1)) ∙ sym (append-nil (open_lines h (at_level style names p.depth) c)));
     stands = λ n e. absurd (cc (e));
   }
@@ -248,7 +248,7 @@ module _ (style : Layout) (names : Table) (rules : Rules) where
       let s : Site = site p holder before in
       let size = length-append (opening h) (spelling inside) in
       let i = shows_forest (place_of_children p h) (Some h) Start (frame_under w h) (w ∷ outer) inside v.1 (omega (arith, b, size)) (knows-inside w s h, omega (arith, k.1), λ e. absurd (cc (e))) in
-      let first : List ℕ = styled_lines (Dump style.pure) (length outer) h.offset (header_findings_in rules w h) in
+      let first : List ℕ = styled_lines (Dump style.pure) (length outer) h.offset (header_findings rules (surroundings_in w) h) in
       let line : List ℕ = holder_line (at_level style names p.depth) h in
       record {
         text = λ n.
@@ -257,19 +257,19 @@ module _ (style : Layout) (names : Table) (rules : Rules) where
             (opened-shown p holder before w outer n h k v.0.0.header.offset (v.0.0.depth refl) (omega (arith, b, size))))
             ∙ ap (λ (l : List ℕ). (first ++ line) ++ l) (i.text (later_header rules w h n))
             ∙ append_assoc first line (texts_of (items rules (site_of_children s h) inside))
-            ∙ found-first (length outer) p.depth h.offset (header_findings_in rules w h) (header_findings rules s h) _ (OpeningLine p.depth h ∷ items rules (site_of_children s h) inside) k.1 (header-same rules w s h k.0) refl;
+            ∙ found-first (length outer) p.depth h.offset (header_findings rules (surroundings_in w) h) (header_findings rules (surroundings_of s) h) _ (OpeningLine p.depth h ∷ items rules (site_of_children s h) inside) k.1 (header-same rules w s h k.0) refl;
         stands = λ n e. absurd (cc (e));
       }
   shows_forest p holder before w outer (OpenBitString h) v b k = record {
     text = λ n.
-        append_assoc (styled_lines (Dump style.pure) (length outer) h.offset (header_findings_in rules w h)) (opening_line (at_level style names p.depth) h (codes " wraps {")) []
-        ∙ found-first (length outer) p.depth h.offset (header_findings_in rules w h) (header_findings rules (site p holder before) h) _ (OpeningLine p.depth h ∷ []) k.1 (header-same rules w (site p holder before) h k.0)
+        append_assoc (styled_lines (Dump style.pure) (length outer) h.offset (header_findings rules (surroundings_in w) h)) (opening_line (at_level style names p.depth) h (opening_word false)) []
+        ∙ found-first (length outer) p.depth h.offset (header_findings rules (surroundings_in w) h) (header_findings rules (surroundings_of (site p holder before)) h) _ (OpeningLine p.depth h ∷ []) k.1 (header-same rules w (site p holder before) h k.0)
         (ap (λ (l : List ℕ). l ++ []) (sym (awaiting p.depth h h.constructed v.1)));
     stands = λ n e. absurd (cc (e));
   }
     where
       awaiting : (level : ℕ) (h : HeaderValue) (k : Bool) → (if k then [] else lead (record h { constructed = false })) ≡ 0 ∷ []
-          → opening_line (at_level style names level) h (if k then codes " {" else codes " wraps {") ≡ opening_line (at_level style names level) h (codes " wraps {")
+          → opening_line (at_level style names level) h (opening_word k) ≡ opening_line (at_level style names level) h (opening_word false)
       awaiting level h true e = absurd (cc (e))
       awaiting level h false e = refl
   shows_forest p holder before w outer (OpenHeader octets) v b k = record { text = λ n. refl; stands = λ n e. absurd (cc (e)) }

@@ -3,7 +3,7 @@ use Rattle.std.proofs.Common.{◌≡◌, ℕ, ◌+◌, ◌-◌, ◌^◌, ◌≤�
 use Rattle.std.proofs.lemmas.Bool.{true≢false}
 use Rattle.std.proofs.lemmas.Grind.{common_steps}
 use Rattle.std.specs.FinMap as finite
-use Rattle.std.specs.Prelude.{Some, None, codes}
+use Rattle.std.specs.Prelude.{Some, None}
 use Rattle.tlv_head.specs.declared.header.Size.{Size}
 use Rattle.tlv_head.specs.declared.header.Size.TheVariants.{Definite, Indefinite}
 use Rattle.tlv_head.specs.Header.{HeaderValue, announced_length, octets_of}
@@ -19,15 +19,16 @@ use Rattle.tlv_walk.specs.Forest.{Forest, NoMore, PaddingOctet, Primitive, Holde
 use Rattle.tlv_walk.specs.Place.{IsOpen, Place, is_indefinite, place_after}
 use Rattle.tlv_walk.proofs.FollowerLemmas.Followed.{followed-more}
 use Rattle.tlv_walk.proofs.GrammarLemmas.Spellings.{length-opening}
-use Rattle.tlv_show.specs.LinesStep.{LinesState, lines_effect, lines_step, offset_after, past_header}
+use Rattle.tlv_show.specs.LinesStep.{LinesState, lines_effect, lines_step, past_header}
 use Rattle.tlv_show.specs.EndPlace.{end_place}
-use Rattle.tlv_show.specs.Lines.{closing_line, opening_line, padding_line}
+use Rattle.tlv_show.specs.Lines.{closing_line, opening_line, padding_line, opening_word}
 use Rattle.tlv_show.proofs.DumpLemmas.HolderLine.{holder_line}
 use Rattle.tlv_show.proofs.DumpLemmas.Dumped.{after_put, dumped_bytes, rested-new}
 use Rattle.tlv_show.proofs.DumpLemmas.Always.{all_on}
+use Rattle.tlv_show.specs.SaturatingSum.{saturating_sum}
 
 -- offsets do not stop below 2^64
-far : (at n : ℕ) → at + n ≤ 2 ^ 64 - 1 → offset_after at n ≡ at + n
+far : (at n : ℕ) → at + n ≤ 2 ^ 64 - 1 → saturating_sum at n ≡ at + n
 far at n h = omega (arith, h)
 
 -- one list of events and then another
@@ -57,11 +58,11 @@ whole_shown name_of h layout c e =
 -- whatever went before
 pub primitives_shown : (s : LinesState) (h : HeaderValue) (c : List ℕ) → announced_length h.size ≡ length c
     → effect_of lines_step s (Begin h ∷ Bytes c ∷ End ∷ [])
-    ≡ lines_effect (record (past_header s h) { offset = offset_after (past_header s h).offset (length c); value = None }) (whole_lines (finite.get s.names) h s.layout c)
+    ≡ lines_effect (record (past_header s h) { offset = saturating_sum (past_header s h).offset (length c); value = None }) (whole_lines (finite.get s.names) h s.layout c)
 primitives_shown s h c size =
     let t : ValueTextState = new_value_text h s.layout in
     let u : LinesState = record (past_header s h) { value = Some t } in
-    let place_after : LinesState = record (past_header s h) { offset = offset_after (past_header s h).offset (length c); value = None } in
+    let place_after : LinesState = record (past_header s h) { offset = saturating_sum (past_header s h).offset (length c); value = None } in
     let took = take-all (announced_length h.size) c (omega (arith, size)) in
     let none : announced_length h.size - length c ≡ 0 = omega (arith, size) in
     ap (λ (k : Effect LinesState). after_put (begin_lines t) (if_on k.goes k (λ w. effect_of lines_step w (End ∷ [])))) (dumped_bytes u c (λ e. rested-new h s.layout))
@@ -92,7 +93,7 @@ module _ (style : Layout) (names : Table) where
       → effect_of lines_step (standing level at padded) (Begin h ∷ Bytes c ∷ End ∷ []) ≡ lines_effect (standing level (at + (length (octets_of h) + length c)) false) (whole_lines (finite.get names) h (at_level level) c)
   primitive_shown level at padded h c there size far_enough =
       primitives_shown (standing level at padded) h c size
-      ∙ settled level level (offset_after (offset_after h.offset (length (octets_of h))) (length c)) (at + (length (octets_of h) + length c)) false false _ (whole_lines (finite.get names) h (at_level level) c)
+      ∙ settled level level (saturating_sum (saturating_sum h.offset (length (octets_of h))) (length c)) (at + (length (octets_of h) + length c)) false false _ (whole_lines (finite.get names) h (at_level level) c)
       refl (omega (arith, there, far_enough)) refl refl
 
   pub part_shown : (level at : ℕ) (padded : Bool) (h : HeaderValue) (c : List ℕ) → length c ≤ announced_length h.size
@@ -113,16 +114,16 @@ module _ (style : Layout) (names : Table) where
   holder_by : (level at : ℕ) (padded k three : Bool) (h : HeaderValue) → h.offset ≡ at → level + 1 ≤ 255
       → at + (length (octets_of h) + length (lead_by k three)) ≤ 2 ^ 64 - 1
       → effect_of lines_step (standing level at padded) ((if k then Open h else Enter h) ∷ map (λ z. Unused) (lead_by k three))
-      ≡ lines_effect (standing (level + 1) (at + (length (octets_of h) + length (lead_by k three))) false) (opening_line (at_level level) h (if k then codes " {" else codes " wraps {"))
+      ≡ lines_effect (standing (level + 1) (at + (length (octets_of h) + length (lead_by k three))) false) (opening_line (at_level level) h (opening_word k))
   holder_by level at padded true three h there low far_enough =
-      settled (min (level + 1) 255) (level + 1) (offset_after h.offset (length (octets_of h))) (at + (length (octets_of h) + 0)) false false _ (opening_line (at_level level) h (codes " {"))
-      (omega (arith, low)) (omega (arith, there, far_enough)) refl (append-nil (opening_line (at_level level) h (codes " {")))
+      settled (min (level + 1) 255) (level + 1) (saturating_sum h.offset (length (octets_of h))) (at + (length (octets_of h) + 0)) false false _ (opening_line (at_level level) h (opening_word true))
+      (omega (arith, low)) (omega (arith, there, far_enough)) refl (append-nil (opening_line (at_level level) h (opening_word true)))
   holder_by level at padded false true h there low far_enough =
-      settled (min (level + 1) 255) (level + 1) (offset_after (offset_after h.offset (length (octets_of h))) 1) (at + (length (octets_of h) + 1)) false false _ (opening_line (at_level level) h (codes " wraps {"))
-      (omega (arith, low)) (omega (arith, there, far_enough)) refl (append-nil (opening_line (at_level level) h (codes " wraps {")))
+      settled (min (level + 1) 255) (level + 1) (saturating_sum (saturating_sum h.offset (length (octets_of h))) 1) (at + (length (octets_of h) + 1)) false false _ (opening_line (at_level level) h (opening_word false))
+      (omega (arith, low)) (omega (arith, there, far_enough)) refl (append-nil (opening_line (at_level level) h (opening_word false)))
   holder_by level at padded false false h there low far_enough =
-      settled (min (level + 1) 255) (level + 1) (offset_after h.offset (length (octets_of h))) (at + (length (octets_of h) + 0)) false false _ (opening_line (at_level level) h (codes " wraps {"))
-      (omega (arith, low)) (omega (arith, there, far_enough)) refl (append-nil (opening_line (at_level level) h (codes " wraps {")))
+      settled (min (level + 1) 255) (level + 1) (saturating_sum h.offset (length (octets_of h))) (at + (length (octets_of h) + 0)) false false _ (opening_line (at_level level) h (opening_word false))
+      (omega (arith, low)) (omega (arith, there, far_enough)) refl (append-nil (opening_line (at_level level) h (opening_word false)))
 
   pub holder_shown : (level at : ℕ) (padded : Bool) (h : HeaderValue) → h.offset ≡ at → level + 1 ≤ 255 → at + length (opening h) ≤ 2 ^ 64 - 1
       → effect_of lines_step (standing level at padded) (opening_events h) ≡ lines_effect (standing (level + 1) (at + length (opening h)) false) (holder_line (at_level level) h)
@@ -139,7 +140,7 @@ module _ (style : Layout) (names : Table) where
   closer_by level o true (Definite n) allowed far_enough =
       settled (level + 1 - 1) level o (o + 0) false false _ (closing_line (at_level level) None) (omega arith) (omega arith) refl (append-nil (closing_line (at_level (level + 1 - 1)) None) ∙ ap (λ (l : ℕ). closing_line (at_level l) None) (omega arith))
   closer_by level o true Indefinite allowed far_enough =
-      settled (level + 1 - 1) level (offset_after o 2) (o + 2) false false _ (closing_line (at_level level) (Some o)) (omega arith) (omega (arith, far_enough)) refl
+      settled (level + 1 - 1) level (saturating_sum o 2) (o + 2) false false _ (closing_line (at_level level) (Some o)) (omega arith) (omega (arith, far_enough)) refl
       (append-nil (closing_line (at_level (level + 1 - 1)) (Some o)) ∙ ap (λ (l : ℕ). closing_line (at_level l) (Some o)) (omega arith))
   closer_by level o false (Definite n) allowed far_enough =
       settled (level + 1 - 1) level o (o + 0) false false _ (closing_line (at_level level) None) (omega arith) (omega arith) refl (append-nil (closing_line (at_level (level + 1 - 1)) None) ∙ ap (λ (l : ℕ). closing_line (at_level l) None) (omega arith))
@@ -181,4 +182,4 @@ module _ (style : Layout) (names : Table) where
   pub fill_shown : (level at : ℕ) (padded : Bool) → at + 1 ≤ 2 ^ 64 - 1 → effect_of lines_step (standing level at padded) (Pad (0 ∷ []) ∷ []) ≡ lines_effect (standing level (at + 1) true) (if padded then [] else padding_line (at_level level) at)
   fill_shown level at padded far_enough =
       let line = if padded then [] else padding_line (at_level level) at in
-      settled level level (offset_after at 1) (at + 1) true true ((line ++ []) ++ []) line refl (far at 1 far_enough) refl (append-nil (line ++ []) ∙ append-nil line)
+      settled level level (saturating_sum at 1) (at + 1) true true ((line ++ []) ++ []) line refl (far at 1 far_enough) refl (append-nil (line ++ []) ∙ append-nil line)

@@ -8,15 +8,16 @@ use Rattle.tlv_value.specs.declared.layout.Layout.{Layout}
 use Rattle.tlv_value.specs.ValueTextState.{ValueTextState, contents_lines, new_value_text, value_text_after}
 use Rattle.tlv_value.proofs.TextLemmas.Pieces.{after-nothing, new-nothing, pieces-join}
 use Rattle.tlv_walk.specs.Follow.{Effect, each_octet}
-use Rattle.tlv_show.specs.LinesStep.{LinesState, lines_effect, lines_octet_step, lines_padding_step, offset_after, value_after, value_contents_lines}
+use Rattle.tlv_show.specs.LinesStep.{LinesState, lines_effect, lines_octet_step, lines_padding_step, value_after, value_contents_lines}
 use Rattle.tlv_show.specs.Lines.{padding_line}
+use Rattle.tlv_show.specs.SaturatingSum.{saturating_sum}
 
 -- ---- offsets
 
-pub further-more : (o n m : ℕ) → offset_after (offset_after o n) m ≡ offset_after o (n + m)
+pub further-more : (o n m : ℕ) → saturating_sum (saturating_sum o n) m ≡ saturating_sum o (n + m)
 further-more o n m = omega arith
 
-pub further-none : (o : ℕ) → offset_after o 0 ≡ o
+pub further-none : (o : ℕ) → saturating_sum o 0 ≡ o
 further-none o = omega arith
 
 -- ---- contents
@@ -68,17 +69,17 @@ abbrev pub of_bytes : LinesState → ℕ → Option ValueTextState → List ℕ 
 of_bytes s offset value put = lines_effect (record s { offset = offset; value = value }) put
 
 pub dumped_bytes : (s : LinesState) (xs : List ℕ) → (xs ≡ [] → IsRested s.value)
-    → each_octet lines_octet_step s xs ≡ of_bytes s (offset_after s.offset (length xs)) (value_after s.value xs) (value_contents_lines s.value xs)
+    → each_octet lines_octet_step s xs ≡ of_bytes s (saturating_sum s.offset (length xs)) (value_after s.value xs) (value_contents_lines s.value xs)
 dumped_bytes s [] rested =
     let r = rested refl in
     ap (λ (n : ℕ). of_bytes s n s.value []) (sym (further-none s.offset))
-    ∙ ap₂ (λ (v : Option ValueTextState) (put : List ℕ). of_bytes s (offset_after s.offset 0) v put) (sym r.0) (sym r.1)
+    ∙ ap₂ (λ (v : Option ValueTextState) (put : List ℕ). of_bytes s (saturating_sum s.offset 0) v put) (sym r.0) (sym r.1)
 dumped_bytes s (x ∷ xs) rested =
     let j = value-join s.value (x ∷ []) xs in
     ap (after_put (value_contents_lines s.value (x ∷ []))) (dumped_bytes (lines_octet_step s x).state xs (λ e. rested-after s.value x))
     ∙ ap (λ (n : ℕ). of_bytes s n (value_after (value_after s.value (x ∷ [])) xs) (value_contents_lines s.value (x ∷ []) ++ value_contents_lines (value_after s.value (x ∷ [])) xs))
-    (further-more s.offset 1 (length xs) ∙ ap (offset_after s.offset) (omega arith))
-    ∙ ap₂ (λ (v : Option ValueTextState) (put : List ℕ). of_bytes s (offset_after s.offset (length (x ∷ xs))) v put) j.0 (sym j.1)
+    (further-more s.offset 1 (length xs) ∙ ap (saturating_sum s.offset) (omega arith))
+    ∙ ap₂ (λ (v : Option ValueTextState) (put : List ℕ). of_bytes s (saturating_sum s.offset (length (x ∷ xs))) v put) j.0 (sym j.1)
 
 -- ---- padding
 
@@ -87,28 +88,28 @@ abbrev pub padded_at : LinesState → ℕ → Bool → LinesState
 padded_at s offset in_padding = record s { offset = offset; in_padding = in_padding }
 
 -- it had its line
-pub more_pad : (s : LinesState) (offset : ℕ) (xs : List ℕ) → each_octet lines_padding_step (padded_at s offset true) xs ≡ lines_effect (padded_at s (offset_after offset (length xs)) true) []
+pub more_pad : (s : LinesState) (offset : ℕ) (xs : List ℕ) → each_octet lines_padding_step (padded_at s offset true) xs ≡ lines_effect (padded_at s (saturating_sum offset (length xs)) true) []
 more_pad s offset [] = ap (λ (o : ℕ). lines_effect (padded_at s o true) []) (sym (further-none offset))
 more_pad s offset (x ∷ xs) =
-    more_pad s (offset_after offset 1) xs ∙ ap (λ (o : ℕ). lines_effect (padded_at s o true) []) (further-more offset 1 (length xs) ∙ ap (offset_after offset) (omega arith))
+    more_pad s (saturating_sum offset 1) xs ∙ ap (λ (o : ℕ). lines_effect (padded_at s o true) []) (further-more offset 1 (length xs) ∙ ap (saturating_sum offset) (omega arith))
 
 more_by : (s : LinesState) (offset : ℕ) (in_padding : Bool) (xs : List ℕ) → in_padding ≡ true
-    → each_octet lines_padding_step (padded_at s offset in_padding) xs ≡ lines_effect (padded_at s (offset_after offset (length xs)) in_padding) []
+    → each_octet lines_padding_step (padded_at s offset in_padding) xs ≡ lines_effect (padded_at s (saturating_sum offset (length xs)) in_padding) []
 more_by s offset true xs e = more_pad s offset xs
 more_by s offset false xs e = absurd (cc)
 
-pub padded_more : (s : LinesState) (xs : List ℕ) → s.in_padding ≡ true → each_octet lines_padding_step s xs ≡ lines_effect (padded_at s (offset_after s.offset (length xs)) s.in_padding) []
+pub padded_more : (s : LinesState) (xs : List ℕ) → s.in_padding ≡ true → each_octet lines_padding_step s xs ≡ lines_effect (padded_at s (saturating_sum s.offset (length xs)) s.in_padding) []
 padded_more s xs e = more_by s s.offset s.in_padding xs e
 
 -- it has its line with the first octet
 first_by : (s : LinesState) (offset : ℕ) (in_padding : Bool) (xs : List ℕ) → 0 < length xs → in_padding ≡ false
-    → each_octet lines_padding_step (padded_at s offset in_padding) xs ≡ lines_effect (padded_at s (offset_after offset (length xs)) true) (padding_line s.layout offset)
+    → each_octet lines_padding_step (padded_at s offset in_padding) xs ≡ lines_effect (padded_at s (saturating_sum offset (length xs)) true) (padding_line s.layout offset)
 first_by s offset true xs some e = absurd (cc)
 first_by s offset false [] some e = absurd (omega (arith, some))
 first_by s offset false (x ∷ xs) some e =
-    ap (after_put (padding_line s.layout offset)) (more_pad s (offset_after offset 1) xs)
-    ∙ ap (λ (o : ℕ). lines_effect (padded_at s o true) (padding_line s.layout offset ++ [])) (further-more offset 1 (length xs) ∙ ap (offset_after offset) (omega arith))
-    ∙ ap (lines_effect (padded_at s (offset_after offset (length (x ∷ xs))) true)) (append-nil (padding_line s.layout offset))
+    ap (after_put (padding_line s.layout offset)) (more_pad s (saturating_sum offset 1) xs)
+    ∙ ap (λ (o : ℕ). lines_effect (padded_at s o true) (padding_line s.layout offset ++ [])) (further-more offset 1 (length xs) ∙ ap (saturating_sum offset) (omega arith))
+    ∙ ap (lines_effect (padded_at s (saturating_sum offset (length (x ∷ xs))) true)) (append-nil (padding_line s.layout offset))
 
-pub padded_first : (s : LinesState) (xs : List ℕ) → 0 < length xs → s.in_padding ≡ false → each_octet lines_padding_step s xs ≡ lines_effect (padded_at s (offset_after s.offset (length xs)) true) (padding_line s.layout s.offset)
+pub padded_first : (s : LinesState) (xs : List ℕ) → 0 < length xs → s.in_padding ≡ false → each_octet lines_padding_step s xs ≡ lines_effect (padded_at s (saturating_sum s.offset (length xs)) true) (padding_line s.layout s.offset)
 padded_first s xs some e = first_by s s.offset s.in_padding xs some e

@@ -18,12 +18,13 @@ use Rattle.tlv_io.proofs.Puts.{puts_nothing, puts_text}
 use Rattle.tlv_show.specs.declared.sibling_frame.SiblingFrame.{SiblingFrame}
 use Rattle.tlv_show.specs.declared.finding_lines.Style.TheVariants.{Check}
 use Rattle.tlv_show.specs.CheckStep.{check_step, findings_effect, styled_lines}
-use Rattle.tlv_show.specs.FinderState.{FinderState, FinderValue, count_up, finder_begin_step, finder_bytes_step, frame_after, frame_after_segment, header_findings_in}
+use Rattle.tlv_show.specs.FinderState.{FinderState, FinderValue, finder_begin_step, finder_bytes_step, frame_after, frame_after_segment, surroundings_in}
 use Rattle.tlv_show.specs.Private.FinderState.{PassesOrStays, PassesPrimitive, finder_whole_step, with_state}
 use Rattle.tlv_show.specs.Private.UsualTypes.{IsUsual}
-use Rattle.tlv_show.specs.Found.{is_shown}
+use Rattle.tlv_show.specs.Found.{is_shown, header_findings}
 use Rattle.tlv_show.proofs.FindingLemmas.CheckLaws.{each-found}
 use Rattle.tlv_show.proofs.FindingLemmas.FinderItems.{after_primitive, primitive-find, standing}
+use Rattle.tlv_show.specs.SaturatingSum.{saturating_sum}
 
 -- ---- a finder
 
@@ -36,7 +37,7 @@ usual_primitive h primitive form = record {
   segments = ap (λ (b : Bool). b && is_string h) primitive;
 }
 
-none-counted : (n : ℕ) → count_up n 0 ≡ n
+none-counted : (n : ℕ) → saturating_sum n 0 ≡ n
 none-counted n = omega arith
 
 outside : (w : SiblingFrame) (size : ℕ) (unused : Bool) → w.has_segments ≡ false → frame_after w true size unused ≡ w
@@ -47,18 +48,18 @@ abbrev after : FinderState → FinderState
 after s = record s { value = None }
 
 pub passed : (s : FinderState) (h : HeaderValue) (c : List ℕ) → announced_length h.size ≡ length c → s.frame.has_segments ≡ false
-    → header_findings_in s.rules s.frame h ≡ [] → findings_on_contents h c ≡ []
+    → header_findings s.rules (surroundings_in s.frame) h ≡ [] → findings_on_contents h c ≡ []
     → finder_whole_step s h c ≡ record { state = after s; level = length s.outer; at = h.offset; found = [] }
 passed s h c size w header contents =
-    let at : SiblingFrame → ℕ → List Finding → FinderValue = λ (f : SiblingFrame) (n : ℕ) (fs : List Finding). record { state = standing s.rules f s.outer (count_up n (length fs)); level = length s.outer; at = h.offset; found = fs } in
+    let at : SiblingFrame → ℕ → List Finding → FinderValue = λ (f : SiblingFrame) (n : ℕ) (fs : List Finding). record { state = standing s.rules f s.outer (saturating_sum n (length fs)); level = length s.outer; at = h.offset; found = fs } in
     primitive-find s.rules s.frame s.outer s.count h c (sym size)
-    ∙ ap (λ (fs : List Finding). at (after_primitive s.rules s.frame h c) (count_up s.count (length (header_findings_in s.rules s.frame h))) (filter (is_shown s.rules) fs)) contents
-    ∙ ap (λ (fs : List Finding). at (after_primitive s.rules s.frame h c) (count_up s.count (length fs)) []) header
-    ∙ ap (λ (f : SiblingFrame). at f (count_up s.count 0) []) (outside s.frame _ _ w)
-    ∙ ap (λ (n : ℕ). record { state = standing s.rules s.frame s.outer n; level = length s.outer; at = h.offset; found = [] }) (none-counted (count_up s.count 0) ∙ none-counted s.count)
+    ∙ ap (λ (fs : List Finding). at (after_primitive s.rules s.frame h c) (saturating_sum s.count (length (header_findings s.rules (surroundings_in s.frame) h))) (filter (is_shown s.rules) fs)) contents
+    ∙ ap (λ (fs : List Finding). at (after_primitive s.rules s.frame h c) (saturating_sum s.count (length fs)) []) header
+    ∙ ap (λ (f : SiblingFrame). at f (saturating_sum s.count 0) []) (outside s.frame _ _ w)
+    ∙ ap (λ (n : ℕ). record { state = standing s.rules s.frame s.outer n; level = length s.outer; at = h.offset; found = [] }) (none-counted (saturating_sum s.count 0) ∙ none-counted s.count)
 
 pub passes : (old new : FinderValue) (h : HeaderValue) (c : List ℕ) → announced_length h.size ≡ length c → old.state.frame.has_segments ≡ false
-    → header_findings_in old.state.rules old.state.frame h ≡ [] → findings_on_contents h c ≡ []
+    → header_findings old.state.rules (surroundings_in old.state.frame) h ≡ [] → findings_on_contents h c ≡ []
     → new ≡ with_state (after old.state) old → PassesPrimitive old new h c
 passes old new h c size w header contents e =
     let all = passed old.state h c size w header contents in

@@ -8,10 +8,9 @@ use Rattle.tlv_value.specs.Checks.{findings_by, findings_on_contents}
 use Rattle.tlv_walk.specs.Forest.{Forest, NoMore, PaddingOctet, Primitive, Holder, OpenPrimitive, OpenHolder, OpenBitString, OpenHeader, OpenEndOctets}
 use Rattle.tlv_show.specs.declared.rules.Rules.{Rules}
 use Rattle.tlv_show.specs.declared.rules.Rules.TheVariants.{Ber, Der, Cer}
-use Rattle.tlv_show.specs.Conditions.{end_conditions, header_conditions}
+use Rattle.tlv_show.specs.Conditions.{end_conditions, header_conditions, segments_of, surroundings_of}
 use Rattle.tlv_show.specs.EndPlace.{end_place}
-use Rattle.tlv_show.specs.Found.{contents_findings, is_shown}
-use Rattle.tlv_show.proofs.FindingLemmas.EndFindings.{end_findings}
+use Rattle.tlv_show.specs.Found.{contents_findings, is_shown, end_findings}
 use Rattle.tlv_show.specs.Items.{Item, FindingAt, OpeningLine, ClosingLine, PrimitiveLines, OpenPrimitiveLines, PaddingLine, headers, items}
 use Rattle.tlv_show.proofs.FindingLemmas.ElementItems.{findings_at}
 use Rattle.tlv_show.specs.Laws.{BasicFindingsStay, is_basic}
@@ -61,19 +60,19 @@ module _ (rules : Rules) where
   same s NoMore = refl
   same s (PaddingOctet rest) = same-pads (is_padding s.before) s.level s.at _ _ (same (site_after_padding s) rest)
   same s (Primitive h c rest) =
-      same-found s.level h.offset (findings_by (header_conditions s h)) (PrimitiveLines s.level h c ∷ (findings_at s.level h.offset (contents_findings Ber h c) ++ items Ber (site_after s h c) rest))
+      same-found s.level h.offset (findings_by (header_conditions (surroundings_of s) h)) (PrimitiveLines s.level h c ∷ (findings_at s.level h.offset (contents_findings Ber h c) ++ items Ber (site_after s h c) rest))
       (PrimitiveLines s.level h c ∷ (findings_at s.level h.offset (contents_findings rules h c) ++ items rules (site_after s h c) rest))
       (same-found s.level h.offset (findings_on_contents h c) _ _ (same (site_after s h c) rest))
   same s (Holder h inside rest) =
-      let last : Rules → List Item = λ r. ClosingLine s.level (end_place h inside) ∷ (findings_at s.level h.offset (end_findings r h (headers inside)) ++ items r (site_after_holder s h inside) rest) in
-      same-found s.level h.offset (findings_by (header_conditions s h)) (OpeningLine s.level h ∷ (items Ber (site_of_children s h) inside ++ last Ber)) (OpeningLine s.level h ∷ (items rules (site_of_children s h) inside ++ last rules))
+      let last : Rules → List Item = λ r. ClosingLine s.level (end_place h inside) ∷ (findings_at s.level h.offset (end_findings r (segments_of h (headers inside))) ++ items r (site_after_holder s h inside) rest) in
+      same-found s.level h.offset (findings_by (header_conditions (surroundings_of s) h)) (OpeningLine s.level h ∷ (items Ber (site_of_children s h) inside ++ last Ber)) (OpeningLine s.level h ∷ (items rules (site_of_children s h) inside ++ last rules))
       (filter-append _ (items Ber (site_of_children s h) inside) (last Ber)
-      ∙ ap₂ (λ (a b : List Item). a ++ b) (same (site_of_children s h) inside) (same-found s.level h.offset (findings_by (end_conditions h (headers inside))) _ _ (same (site_after_holder s h inside) rest))
+      ∙ ap₂ (λ (a b : List Item). a ++ b) (same (site_of_children s h) inside) (same-found s.level h.offset (findings_by (end_conditions (segments_of h (headers inside)))) _ _ (same (site_after_holder s h inside) rest))
       ∙ sym (filter-append is_basic (items rules (site_of_children s h) inside) (last rules)))
-  same s (OpenPrimitive h c) = same-found s.level h.offset (findings_by (header_conditions s h)) (OpenPrimitiveLines s.level h c ∷ []) (OpenPrimitiveLines s.level h c ∷ []) refl
+  same s (OpenPrimitive h c) = same-found s.level h.offset (findings_by (header_conditions (surroundings_of s) h)) (OpenPrimitiveLines s.level h c ∷ []) (OpenPrimitiveLines s.level h c ∷ []) refl
   same s (OpenHolder h inside) =
-      same-found s.level h.offset (findings_by (header_conditions s h)) (OpeningLine s.level h ∷ items Ber (site_of_children s h) inside) (OpeningLine s.level h ∷ items rules (site_of_children s h) inside) (same (site_of_children s h) inside)
-  same s (OpenBitString h) = same-found s.level h.offset (findings_by (header_conditions s h)) (OpeningLine s.level h ∷ []) (OpeningLine s.level h ∷ []) refl
+      same-found s.level h.offset (findings_by (header_conditions (surroundings_of s) h)) (OpeningLine s.level h ∷ items Ber (site_of_children s h) inside) (OpeningLine s.level h ∷ items rules (site_of_children s h) inside) (same (site_of_children s h) inside)
+  same s (OpenBitString h) = same-found s.level h.offset (findings_by (header_conditions (surroundings_of s) h)) (OpeningLine s.level h ∷ []) (OpeningLine s.level h ∷ []) refl
   same s (OpenHeader octets) = refl
   same s OpenEndOctets = refl
 

@@ -23,12 +23,11 @@ use Rattle.tlv_show.specs.declared.rules.Rules.{Rules}
 use Rattle.tlv_show.specs.declared.finding_lines.Style.TheVariants.{Check}
 use Rattle.tlv_show.specs.CheckJob.{check_job}
 use Rattle.tlv_show.specs.CheckStep.{check_step, styled_lines}
-use Rattle.tlv_show.specs.Conditions.{end_conditions, header_conditions}
+use Rattle.tlv_show.specs.Conditions.{end_conditions, header_conditions, segments_of, surroundings_of}
 use Rattle.tlv_show.specs.EndPlace.{end_place}
-use Rattle.tlv_show.specs.FinderState.{FinderState, FinderValue, OpenValue, count_up, finder_frame_end_step, finder_open_step, finder_value_end_step, frame_under, header_findings_in, new_finder, open_value_after, top_frame}
+use Rattle.tlv_show.specs.FinderState.{FinderState, FinderValue, OpenValue, finder_frame_end_step, finder_open_step, finder_value_end_step, frame_under, new_finder, open_value_after, top_frame, surroundings_in}
 use Rattle.tlv_show.specs.Private.FinderState.{finder_step}
-use Rattle.tlv_show.specs.Found.{contents_findings, header_findings, is_shown}
-use Rattle.tlv_show.proofs.FindingLemmas.EndFindings.{end_findings}
+use Rattle.tlv_show.specs.Found.{contents_findings, header_findings, is_shown, end_findings}
 use Rattle.tlv_show.specs.Items.{Item, FindingAt, OpeningLine, ClosingLine, PrimitiveLines, OpenPrimitiveLines, PaddingLine, headers, items}
 use Rattle.tlv_show.proofs.FindingLemmas.ElementItems.{findings_at}
 use Rattle.tlv_show.specs.Site.{Site, is_padding, site_of_children, top_site}
@@ -37,6 +36,7 @@ use Rattle.tlv_show.specs.Texts.{check_line, finding_count, is_finding}
 use Rattle.tlv_show.proofs.FindingLemmas.CheckLaws.{step-is}
 use Rattle.tlv_show.proofs.FindingLemmas.FinderItems.{Step, finds_forest, found_items, only, run}
 use Rattle.tlv_show.proofs.DumpLemmas.Shows.{Shower}
+use Rattle.tlv_show.specs.SaturatingSum.{saturating_sum}
 
 -- ---- lines
 
@@ -69,30 +69,30 @@ only-written (PaddingLine level offset ∷ l) = only-written l
 
 -- ---- the count
 
-count-none : (n : ℕ) → n ≡ count_up n 0
+count-none : (n : ℕ) → n ≡ saturating_sum n 0
 count-none n = omega arith
 
-count-more : (n m k : ℕ) → count_up (count_up n m) k ≡ count_up n (m + k)
+count-more : (n m k : ℕ) → saturating_sum (saturating_sum n m) k ≡ saturating_sum n (m + k)
 count-more n m k = omega arith
 
 either-count : (a b : FinderState) (k : Bool) → a.count ≡ b.count → (if k then b else a).count ≡ a.count
 either-count a b true e = sym e
 either-count a b false e = refl
 
-by-value : (s : FinderState) (v : Option OpenValue) → (finder_value_end_step s v).state.count ≡ count_up s.count (length (finder_value_end_step s v).found)
+by-value : (s : FinderState) (v : Option OpenValue) → (finder_value_end_step s v).state.count ≡ saturating_sum s.count (length (finder_value_end_step s v).found)
 by-value s None = count-none s.count
 by-value s (Some v) = refl
 
-by-frames : (s : FinderState) (outer : List SiblingFrame) → (finder_frame_end_step s outer).state.count ≡ count_up s.count (length (finder_frame_end_step s outer).found)
+by-frames : (s : FinderState) (outer : List SiblingFrame) → (finder_frame_end_step s outer).state.count ≡ saturating_sum s.count (length (finder_frame_end_step s outer).found)
 by-frames s [] = count-none s.count
 by-frames s (w ∷ outer) = refl
 
-opened-count : (s : FinderState) (h : HeaderValue) → (finder_open_step s h).state.count ≡ count_up s.count (length (finder_open_step s h).found)
+opened-count : (s : FinderState) (h : HeaderValue) → (finder_open_step s h).state.count ≡ saturating_sum s.count (length (finder_open_step s h).found)
 opened-count s h =
-    ap (λ (n : ℕ). count_up n (length (header_findings_in s.rules s.frame h))) (either-count s (record s { frame = frame_under s.frame h; outer = s.frame ∷ s.outer }) (nat_lt (length s.outer) 128) refl)
+    ap (λ (n : ℕ). saturating_sum n (length (header_findings s.rules (surroundings_in s.frame) h))) (either-count s (record s { frame = frame_under s.frame h; outer = s.frame ∷ s.outer }) (nat_lt (length s.outer) 128) refl)
 
 -- an event's findings are counted
-counted-one : (s : FinderState) (e : EventValue) → (finder_step s e).state.count ≡ count_up s.count (length (finder_step s e).found)
+counted-one : (s : FinderState) (e : EventValue) → (finder_step s e).state.count ≡ saturating_sum s.count (length (finder_step s e).found)
 counted-one s (Open h) = opened-count s h
 counted-one s (Begin h) = refl
 counted-one s (Bytes octets) = either-count (record s { value = open_value_after s.value octets }) s (length octets == 0) refl ∙ count-none s.count
@@ -103,14 +103,14 @@ counted-one s Unused = count-none s.count
 counted-one s Leave = by-frames s s.outer
 counted-one s (Pad octets) = count-none s.count
 
-pub counted-all : (s : FinderState) (es : List EventValue) → (run s es).state.count ≡ count_up s.count (length (run s es).put)
+pub counted-all : (s : FinderState) (es : List EventValue) → (run s es).state.count ≡ saturating_sum s.count (length (run s es).put)
 counted-all s [] = count-none s.count
 counted-all s (e ∷ es) =
     let f : FinderValue = finder_step s e in
     counted-all f.state es
-    ∙ ap (λ (n : ℕ). count_up n (length (run f.state es).put)) (counted-one s e)
+    ∙ ap (λ (n : ℕ). saturating_sum n (length (run f.state es).put)) (counted-one s e)
     ∙ count-more s.count (length f.found) (length (run f.state es).put)
-    ∙ ap (count_up s.count) (omega (arith, length-append (found_items f) (run f.state es).put, length-map f.found (FindingAt f.level f.at)))
+    ∙ ap (saturating_sum s.count) (omega (arith, length-append (found_items f) (run f.state es).put, length-map f.found (FindingAt f.level f.at)))
 
 -- ---- no count stops
 
@@ -139,14 +139,14 @@ module _ (rules : Rules) where
   few-pads true level at l = refl
   few-pads false level at l = refl
 
-  few-header : (s : Site) (h : HeaderValue) → length (header_findings rules s h) ≤ 14
-  few-header s h = held-few rules (header_conditions s h)
+  few-header : (s : Site) (h : HeaderValue) → length (header_findings rules (surroundings_of s) h) ≤ 14
+  few-header s h = held-few rules (header_conditions (surroundings_of s) h)
 
   few-contents : (h : HeaderValue) (c : List ℕ) → length (contents_findings rules h c) ≤ 15
   few-contents h c = held-few rules (contents_conditions h c)
 
-  few-end : (h : HeaderValue) (inside : Forest) → length (end_findings rules h (headers inside)) ≤ 2
-  few-end h inside = held-few rules (end_conditions h (headers inside))
+  few-end : (h : HeaderValue) (inside : Forest) → length (end_findings rules (segments_of h (headers inside))) ≤ 2
+  few-end h inside = held-few rules (end_conditions (segments_of h (headers inside)))
 
   -- at most 16 findings for each octet
   pub few : (p : Place) (s : Site) (f : Forest) → IsOpen p f → length (only (items rules s f)) ≤ 16 * length (spelling f)
@@ -157,28 +157,28 @@ module _ (rules : Rules) where
       let r = few (place_after p (length (octets_of h) + length c)) (site_after s h c) rest v.1 in
       let inner : List Item = findings_at s.level h.offset (contents_findings rules h c) ++ items rules (site_after s h c) rest in
       let b = few-at s.level h.offset (contents_findings rules h c) (items rules (site_after s h c) rest) 15 _ (few-contents h c) r in
-      let a = few-at s.level h.offset (header_findings rules s h) (PrimitiveLines s.level h c ∷ inner) 14 _ (few-header s h) b in
+      let a = few-at s.level h.offset (header_findings rules (surroundings_of s) h) (PrimitiveLines s.level h c ∷ inner) 14 _ (few-header s h) b in
       omega (arith, a, header-length h v.0.0.header.valid, length-primitive h c rest)
   few p s (Holder h inside rest) v =
       let i = few (place_of_children p h) (site_of_children s h) inside v.1 in
       let r = few (place_after p (extent h inside)) (site_after_holder s h inside) rest v.2 in
-      let last : List Item = findings_at s.level h.offset (end_findings rules h (headers inside)) ++ items rules (site_after_holder s h inside) rest in
-      let b = few-at s.level h.offset (end_findings rules h (headers inside)) (items rules (site_after_holder s h inside) rest) 2 _ (few-end h inside) r in
+      let last : List Item = findings_at s.level h.offset (end_findings rules (segments_of h (headers inside))) ++ items rules (site_after_holder s h inside) rest in
+      let b = few-at s.level h.offset (end_findings rules (segments_of h (headers inside))) (items rules (site_after_holder s h inside) rest) 2 _ (few-end h inside) r in
       let m = few-both (items rules (site_of_children s h) inside) (ClosingLine s.level (end_place h inside) ∷ last) _ _ i b in
-      let a = few-at s.level h.offset (header_findings rules s h) (OpeningLine s.level h ∷ (items rules (site_of_children s h) inside ++ ClosingLine s.level (end_place h inside) ∷ last)) 14 _ (few-header s h) m in
+      let a = few-at s.level h.offset (header_findings rules (surroundings_of s) h) (OpeningLine s.level h ∷ (items rules (site_of_children s h) inside ++ ClosingLine s.level (end_place h inside) ∷ last)) 14 _ (few-header s h) m in
       omega (arith, a, header-length h v.0.0.header.valid, length-holder h inside rest, length-opening h)
     where
       few-both : (xs ys : List Item) (n m : ℕ) → length (only xs) ≤ n → length (only ys) ≤ m → length (only (xs ++ ys)) ≤ n + m
       few-both xs ys n m e f = omega (arith, e, f, ap length (filter-append is_finding xs ys), length-append (only xs) (only ys))
   few p s (OpenPrimitive h c) v =
-      let a = few-at s.level h.offset (header_findings rules s h) (OpenPrimitiveLines s.level h c ∷ []) 14 0 (few-header s h) (omega arith) in
+      let a = few-at s.level h.offset (header_findings rules (surroundings_of s) h) (OpenPrimitiveLines s.level h c ∷ []) 14 0 (few-header s h) (omega arith) in
       omega (arith, a, header-length h v.0.header.valid, length-append (octets_of h) c)
   few p s (OpenHolder h inside) v =
       let i = few (place_of_children p h) (site_of_children s h) inside v.1 in
-      let a = few-at s.level h.offset (header_findings rules s h) (OpeningLine s.level h ∷ items rules (site_of_children s h) inside) 14 _ (few-header s h) i in
+      let a = few-at s.level h.offset (header_findings rules (surroundings_of s) h) (OpeningLine s.level h ∷ items rules (site_of_children s h) inside) 14 _ (few-header s h) i in
       omega (arith, a, header-length h v.0.0.header.valid, length-append (opening h) (spelling inside), length-opening h)
   few p s (OpenBitString h) v =
-      let a = few-at s.level h.offset (header_findings rules s h) (OpeningLine s.level h ∷ []) 14 0 (few-header s h) (omega arith) in
+      let a = few-at s.level h.offset (header_findings rules (surroundings_of s) h) (OpeningLine s.level h ∷ []) 14 0 (few-header s h) (omega arith) in
       omega (arith, a, header-length h v.0.header.valid)
   few p s (OpenHeader octets) v = omega arith
   few p s OpenEndOctets v = omega arith
@@ -190,7 +190,7 @@ module _ (rules : Rules) where
 
   module _ (framing : Framing) (octets : List ℕ) (f : Forest) (short : length octets ≤ 2 ^ 40) (r : IsReading framing octets f) where
     put-is : (run start (events f)).put ≡ only (items rules top_site f)
-    put-is = (finds_forest rules (top_place framing) top_site top_frame [] f r.is_open (record { segments = refl; bits = refl; unused = refl; not_full = refl }) refl refl (λ e. refl)).put 0
+    put-is = (finds_forest rules (top_place framing) top_site top_frame [] f r.is_open refl refl refl (λ e. refl)).put 0
 
     pub text-made : (effect_of check_step start (events f)).put ≡ (check_job rules framing).text f
     text-made = ap (λ (t : Effect FinderState). t.put) (followed-run start (events f)) ∙ ap (flat_map check_line) put-is ∙ only-written (items rules top_site f)
@@ -199,7 +199,7 @@ module _ (rules : Rules) where
     count-run =
         let n = length-filter is_finding (items rules top_site f) in
         counted-all start (events f)
-        ∙ ap (λ (l : List Item). count_up 0 (length l)) put-is
+        ∙ ap (λ (l : List Item). saturating_sum 0 (length l)) put-is
         ∙ omega (arith, few (top_place framing) top_site f r.is_open, short, n, ap length r.is_prefix.1, length-append (spelling f) r.is_prefix.0)
 
     pub count-made : (effect_of check_step start (events f)).state.count ≡ finding_count rules f

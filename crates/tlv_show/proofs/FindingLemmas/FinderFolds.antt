@@ -1,50 +1,65 @@
 -- A finder reports the findings of the items, event by event.
-use Rattle.std.proofs.Common.{◌≡◌, ℕ, ◌+◌, ◌-◌, ◌&&◌, ◌||◌, ◌==◌, not, Bool, true, false, min, if◌then◌else◌, List, [], ◌∷◌, length, refl, sym, subst, ap, ap₂, ◌∙◌, arith}
+use Rattle.std.proofs.Common.{◌≡◌, ℕ, ◌+◌, ◌-◌, ◌&&◌, ◌||◌, ◌==◌, not, Bool, true, false, min, if◌then◌else◌, List, [], ◌∷◌, length, refl, sym, subst, ap, ap₂, ◌∙◌, arith, nat_le}
 use Rattle.std.proofs.Math.Bool.{and_assoc}
 use Rattle.std.proofs.lemmas.Bool.{eqb-true, true≢false}
 use Rattle.std.specs.List.{fold, list_all}
-use Rattle.std.specs.Prelude.{Option, None, eqb}
+use Rattle.std.specs.Prelude.{Option, None, eqb, Some}
 use Rattle.tlv_head.specs.Header.{HeaderValue, announced_length, is_universal, octets_of, wraps}
 use Rattle.tlv_value.specs.declared.finding.Finding.{Finding}
-use Rattle.tlv_value.specs.ValueCheckState.{value_check_after, has_unused_bits, begins_nonzero, new_value_check, new_check_of, type_number}
+use Rattle.tlv_value.specs.ValueCheckState.{value_check_after, has_unused_bits, begins_nonzero, new_value_check, new_check_of}
 use Rattle.tlv_head.specs.UniversalTypes.{bit_string, octet_string}
-use Rattle.tlv_value.specs.Types.{has_segments, is_a, is_primitive}
+use Rattle.tlv_value.specs.Types.{has_segments, is_a, is_primitive, type_number}
 use Rattle.tlv_value.proofs.CheckLemmas.CheckPieces.{checked-none}
 use Rattle.tlv_walk.specs.Forest.{Forest, NoMore, PaddingOctet, Primitive, Holder, OpenPrimitive, OpenHolder, OpenBitString, OpenHeader, OpenEndOctets, extent, is_complete}
 use Rattle.tlv_walk.specs.Place.{IsOpen, Place, place_after}
 use Rattle.tlv_show.specs.declared.sibling_frame.SiblingFrame.{SiblingFrame}
 use Rattle.tlv_show.specs.declared.rules.Rules.{Rules}
-use Rattle.tlv_show.specs.declared.rules.Rules.TheVariants.{Ber, Der, Cer}
-use Rattle.tlv_show.specs.Conditions.{end_conditions, ends_empty, follows_unused_bits, is_not_full}
-use Rattle.tlv_show.specs.FinderState.{end_findings_in, frame_after, frame_after_segment, frame_of, frame_under, top_frame}
-use Rattle.tlv_show.proofs.FindingLemmas.EndFindings.{end_findings}
+use Rattle.tlv_show.specs.Conditions.{ends_empty, follows_unused_bits, is_not_full, segments_of, Surroundings}
+use Rattle.tlv_show.specs.FinderState.{frame_after, frame_after_segment, frame_of, frame_under, top_frame, segments_in, surroundings_in}
 use Rattle.tlv_show.specs.Items.{headers}
-use Rattle.tlv_show.specs.Site.{Sibling, Site, in_bit_string, in_string, site_of_children}
+use Rattle.tlv_show.specs.Site.{Sibling, Site, in_bit_string, in_string, site_of_children, Before, Padding, Start}
 use Rattle.tlv_show.proofs.FindingLemmas.SitesAfter.{site_after_padding}
 use Rattle.tlv_show.proofs.FindingLemmas.SiteWords.{first_octet, is_held_by}
-use Rattle.tlv_show.proofs.FindingLemmas.HeaderFindings.{Knows, end-by, ends-are, ends_by, filter-held}
+use Rattle.tlv_show.proofs.FindingLemmas.HeaderFindings.{Knows, end-by, ends_by}
+use Rattle.tlv_show.specs.Found.{end_findings}
 
 -- ---- what frames know
 
-never : (k : Bool) → false ≡ (k && false)
-never true = refl
-never false = refl
+abbrev made : Bool → Bool → Bool → Bool → Surroundings
+made a b c d = record { in_string = a; in_bit_string = b; after_unused_bits = c; after_not_full = d }
+
+-- what is around an element, by what holds it, and what is before it
+abbrev around : Option HeaderValue → Before → Surroundings
+around holder before =
+    made (is_held_by has_segments holder)
+    (is_held_by (λ h. has_segments h && is_a bit_string h) holder)
+    (is_held_by (λ h. has_segments h && is_a bit_string h) holder && follows_unused_bits before)
+    (is_held_by has_segments holder && is_not_full before)
+
+no-string : (h : HeaderValue) (before : Before) → has_segments h ≡ false → around (Some h) before ≡ surroundings_in top_frame
+no-string h before e =
+    ap (λ (k : Bool). made k (k && is_a bit_string h) ((k && is_a bit_string h) && follows_unused_bits before) (k && is_not_full before)) e
+
+-- outside of strings
+around-none : (holder : Option HeaderValue) (before : Before) → is_held_by has_segments holder ≡ false
+    → around holder before ≡ surroundings_in top_frame
+around-none None before e = refl
+around-none (Some h) before e = no-string h before e
+
+in-its-own : (k b : Bool) → made k (k && (k && b)) ((k && (k && b)) && false) (k && false) ≡ made k (k && b) ((k && b) && false) (k && false)
+in-its-own true b = refl
+in-its-own false b = refl
 
 pub knows-inside : (w : SiblingFrame) (s : Site) (h : HeaderValue) → Knows (frame_under w h) (site_of_children s h)
 knows-inside w s h = by w.has_segments (has_segments h) refl
   where
     of-string : Knows (frame_of h) (site_of_children s h)
-    of-string = record { segments = refl; bits = refl; unused = never (has_segments h); not_full = never (has_segments h) }
+    of-string = in-its-own (has_segments h) (is_a bit_string h)
 
     by : (outside inside : Bool) → has_segments h ≡ inside → Knows (if outside || inside then frame_of h else top_frame) (site_of_children s h)
     by true inside e = of-string
     by false true e = of-string
-    by false false e = record {
-      segments = sym e;
-      bits = ap (λ (k : Bool). k && is_a bit_string h) (sym e);
-      unused = never (has_segments h);
-      not_full = never (has_segments h);
-    }
+    by false false e = sym (no-string h Start e)
 
 -- after an element
 full-or-not : (k e : Bool) → not (not k && e) ≡ (k || not e)
@@ -69,42 +84,35 @@ unused-of h (x ∷ c) e =
     let t : eqb (type_number h) bit_string ≡ is_a bit_string h = type-is (is_universal h.class) h.number in
     unused-at (is_a bit_string h) (type_number h) (announced_length h.size) x c t ∙ ap (λ (k : Bool). not k && is_a bit_string h && not (x == 0)) (sym e)
 
+made-eq : (a a' b b' c c' d d' : Bool) → a ≡ a' → b ≡ b' → c ≡ c' → d ≡ d' → made a b c d ≡ made a' b' c' d'
+made-eq a a' b b' c c' d d' e f g h = rw (e, f, g, h) refl
+
 pub knows-after : (w : SiblingFrame) (s t : Site) (h : HeaderValue) (first : Option ℕ) (unused : Bool) → Knows w s → t.holder ≡ s.holder → t.before ≡ Sibling h first
     → unused ≡ follows_unused_bits (Sibling h first) → Knows (frame_after w (is_primitive h) (announced_length h.size) unused) t
-knows-after w s t h first unused k e b u =
-    let same : in_string s ≡ in_string t = ap (is_held_by has_segments) (sym e) in
-    let bits : w.has_bits ≡ in_bit_string t = k.bits ∙ ap (is_held_by (λ h. has_segments h && is_a bit_string h)) (sym e) in
-    by-segments same bits w.has_segments refl
+knows-after w s t h first unused k e b u = by-segments w.has_segments refl
   where
-    by-segments : in_string s ≡ in_string t → w.has_bits ≡ in_bit_string t → (b : Bool) → w.has_segments ≡ b
+    same : surroundings_in w ≡ around t.holder s.before
+    same = k ∙ ap (λ (o : Option HeaderValue). around o s.before) (sym e)
+
+    segments : w.has_segments ≡ in_string t
+    segments = ap (λ (x : Surroundings). x.in_string) same
+
+    bits : (w.has_segments && w.has_bits) ≡ in_bit_string t
+    bits = ap (λ (x : Surroundings). x.in_bit_string) same
+
+    by-segments : (b : Bool) → w.has_segments ≡ b
         → Knows (if b then frame_after_segment w (is_primitive h) (announced_length h.size) unused else w) t
-    by-segments same bits true c =
-        let inside : true ≡ in_string t = sym c ∙ k.segments ∙ same in
-        record {
-          segments = k.segments ∙ same;
-          bits = bits;
-          unused = u ∙ ap follows_unused_bits (sym b) ∙ ap (λ (x : Bool). x && follows_unused_bits t.before) inside;
-          not_full = full-or-not h.constructed (announced_length h.size == 1000) ∙ ap is_not_full (sym b) ∙ ap (λ (x : Bool). x && is_not_full t.before) inside;
-        }
-    by-segments same bits false c =
-        let outside : in_string s ≡ false = sym k.segments ∙ c in
-        let still : false ≡ in_string t = sym outside ∙ same in
-        record {
-          segments = k.segments ∙ same;
-          bits = bits;
-          unused = k.unused ∙ ap (λ (x : Bool). x && follows_unused_bits s.before) outside ∙ ap (λ (x : Bool). x && follows_unused_bits t.before) still;
-          not_full = k.not_full ∙ ap (λ (x : Bool). x && is_not_full s.before) outside ∙ ap (λ (x : Bool). x && is_not_full t.before) still;
-        }
+    by-segments true c =
+        made-eq _ _ _ _ _ _ _ _ segments bits
+        (ap₂ (λ (x y : Bool). x && y) bits (u ∙ ap follows_unused_bits (sym b)))
+        (ap₂ (λ (x y : Bool). x && y) segments (full-or-not h.constructed (announced_length h.size == 1000) ∙ ap is_not_full (sym b)))
+    by-segments false c =
+        let none : in_string t ≡ false = sym segments ∙ c in
+        same ∙ around-none t.holder s.before none ∙ sym (around-none t.holder t.before none)
 
 pub knows-padding : (w : SiblingFrame) (s : Site) → Knows w s → s.holder ≡ None → Knows w (site_after_padding s)
 knows-padding w s k e =
-    let none : in_string s ≡ false = ap (is_held_by has_segments) e in
-    record {
-      segments = k.segments;
-      bits = k.bits;
-      unused = k.unused ∙ ap (λ (b : Bool). b && follows_unused_bits s.before) none ∙ ap (λ (b : Bool). b && false) (sym none);
-      not_full = k.not_full ∙ ap (λ (b : Bool). b && is_not_full s.before) none ∙ ap (λ (b : Bool). b && false) (sym none);
-    }
+    k ∙ ap (λ (o : Option HeaderValue). around o s.before) e ∙ sym (ap (λ (o : Option HeaderValue). around o Padding) e)
 
 -- a frame after elements of which none is open
 abbrev pub noted_all : SiblingFrame → Forest → SiblingFrame
@@ -247,61 +255,60 @@ sums-up p w n (OpenBitString h) v e o = absurd (cc (e))
 sums-up p w n (OpenHeader octets) v e o = absurd (cc (e))
 sums-up p w n OpenEndOctets v e o = absurd (cc (e))
 
-segments-summed : (rules : Rules) (p : Place) (h : HeaderValue) (inside : Forest) → IsOpen p inside → is_complete inside ≡ true → end_findings_in rules (segments_noted (frame_of h) inside) ≡ end_findings rules h (headers inside)
+segments-summed : (rules : Rules) (p : Place) (h : HeaderValue) (inside : Forest) → IsOpen p inside → is_complete inside ≡ true → end_findings rules (segments_in (segments_noted (frame_of h) inside)) ≡ end_findings rules (segments_of h (headers inside))
 segments-summed rules p h inside v e =
     let r = sums-up p (frame_of h) 0 inside v e refl in
     let w : SiblingFrame = segments_noted (frame_of h) inside in
     let k : Bool = has_segments h in
     let b : Bool = is_a bit_string h in
-    ends-are rules w
-    ∙ ap₂ (λ (x y : Bool). ends_by rules x y w.all_primitive w.octets w.is_empty) r.segments r.bits
-    ∙ ap₂ (λ (x y : Bool). ends_by rules k (k && b) x w.octets y) r.all r.empty
-    ∙ ap (λ (n : ℕ). ends_by rules k (k && b) (list_all is_primitive (headers inside)) n (ends_empty false (headers inside))) r.octets
-    ∙ end-by rules k b (list_all is_primitive (headers inside)) (ends_empty false (headers inside)) (λ (n : ℕ). added n 0 (headers inside))
-    ∙ sym (filter-held rules (end_conditions h (headers inside)))
+    let all : Bool = list_all is_primitive (headers inside) in
+    let few : Bool → ℕ → Bool = λ bits octets. nat_le ((if bits then 1 else 0) + octets) 1000 in
+    ap₂ (λ (x y : Bool). ends_by rules x w.all_primitive (few y w.octets) w.is_empty) r.segments r.bits
+    ∙ ap₂ (λ (x y : Bool). ends_by rules k x (few (k && b) w.octets) y) r.all r.empty
+    ∙ ap (λ (n : ℕ). ends_by rules k all (few (k && b) n) (ends_empty false (headers inside))) r.octets
+    ∙ end-by rules k b all (ends_empty false (headers inside)) (λ (n : ℕ). added n 0 (headers inside))
 
 -- outside of strings nothing is found with an end
-no-ends : (rules : Rules) (w : SiblingFrame) → w.has_segments ≡ false → end_findings_in rules w ≡ []
-no-ends Ber w e = refl
-no-ends Der w e = refl
-no-ends Cer w e = rw e refl
+no-ends : (rules : Rules) (w : SiblingFrame) → w.has_segments ≡ false → end_findings rules (segments_in w) ≡ []
+no-ends rules w e =
+    ap (λ (k : Bool). ends_by rules k w.all_primitive (nat_le ((if w.has_bits then 1 else 0) + w.octets) 1000) w.is_empty) e
 
 -- what is found with an end, by the frame of what was held
-summed : (rules : Rules) (p : Place) (h : HeaderValue) (inside : Forest) → IsOpen p inside → is_complete inside ≡ true → end_findings_in rules (noted_all (frame_of h) inside) ≡ end_findings rules h (headers inside)
+summed : (rules : Rules) (p : Place) (h : HeaderValue) (inside : Forest) → IsOpen p inside → is_complete inside ≡ true → end_findings rules (segments_in (noted_all (frame_of h) inside)) ≡ end_findings rules (segments_of h (headers inside))
 summed rules p h inside v e = by-segments (has_segments h) refl
   where
-    by-segments : (k : Bool) → has_segments h ≡ k → end_findings_in rules (noted_all (frame_of h) inside) ≡ end_findings rules h (headers inside)
-    by-segments true c = ap (end_findings_in rules) (all-in-string (frame_of h) inside c) ∙ segments-summed rules p h inside v e
+    by-segments : (k : Bool) → has_segments h ≡ k → end_findings rules (segments_in (noted_all (frame_of h) inside)) ≡ end_findings rules (segments_of h (headers inside))
+    by-segments true c = ap (λ (t : SiblingFrame). end_findings rules (segments_in t)) (all-in-string (frame_of h) inside c) ∙ segments-summed rules p h inside v e
     by-segments false c =
         let r = sums-up p (frame_of h) 0 inside v e refl in
-        ap (end_findings_in rules) (all-outside (frame_of h) inside c) ∙ no-ends rules (frame_of h) c
+        ap (λ (t : SiblingFrame). end_findings rules (segments_in t)) (all-outside (frame_of h) inside c) ∙ no-ends rules (frame_of h) c
         ∙ sym (no-ends rules (segments_noted (frame_of h) inside) (r.segments ∙ c)) ∙ segments-summed rules p h inside v e
 
 -- ---- the same if nothing is to be known of what was held
 
 module _ (rules : Rules) (p : Place) (w : SiblingFrame) (h : HeaderValue) (inside : Forest) (v : IsOpen p inside) (whole : is_complete inside ≡ true) where
   -- an element that is no string: nothing is found with its end
-  nothing-ends : has_segments h ≡ false → end_findings rules h (headers inside) ≡ []
-  nothing-ends e = sym (summed rules p h inside v whole) ∙ ap (end_findings_in rules) (all-outside (frame_of h) inside e) ∙ no-ends rules (frame_of h) e
+  nothing-ends : has_segments h ≡ false → end_findings rules (segments_of h (headers inside)) ≡ []
+  nothing-ends e = sym (summed rules p h inside v whole) ∙ ap (λ (t : SiblingFrame). end_findings rules (segments_in t)) (all-outside (frame_of h) inside e) ∙ no-ends rules (frame_of h) e
 
-  pub summed-under : end_findings_in rules (noted_all (frame_under w h) inside) ≡ end_findings rules h (headers inside)
+  pub summed-under : end_findings rules (segments_in (noted_all (frame_under w h) inside)) ≡ end_findings rules (segments_of h (headers inside))
   summed-under = by w.has_segments (has_segments h) refl
     where
-      by : (outside inside_it : Bool) → has_segments h ≡ inside_it → end_findings_in rules (noted_all (if outside || inside_it then frame_of h else top_frame) inside) ≡ end_findings rules h (headers inside)
+      by : (outside inside_it : Bool) → has_segments h ≡ inside_it → end_findings rules (segments_in (noted_all (if outside || inside_it then frame_of h else top_frame) inside)) ≡ end_findings rules (segments_of h (headers inside))
       by true inside_it e = summed rules p h inside v whole
       by false true e = summed rules p h inside v whole
-      by false false e = ap (end_findings_in rules) (all-outside top_frame inside refl) ∙ no-ends rules top_frame refl ∙ sym (nothing-ends e)
+      by false false e = ap (λ (t : SiblingFrame). end_findings rules (segments_in t)) (all-outside top_frame inside refl) ∙ no-ends rules top_frame refl ∙ sym (nothing-ends e)
 
   -- where it begins does not matter if nothing is found
   pub at-under : {T : Type 0} (put : ℕ → List Finding → List T) → ((at : ℕ) → put at [] ≡ [])
-      → put (noted_all (frame_under w h) inside).at (end_findings rules h (headers inside)) ≡ put h.offset (end_findings rules h (headers inside))
+      → put (noted_all (frame_under w h) inside).at (end_findings rules (segments_of h (headers inside))) ≡ put h.offset (end_findings rules (segments_of h (headers inside)))
   at-under put none = by w.has_segments (has_segments h) refl
     where
-      kept : put (noted_all (frame_of h) inside).at (end_findings rules h (headers inside)) ≡ put h.offset (end_findings rules h (headers inside))
-      kept = ap (λ (at : ℕ). put at (end_findings rules h (headers inside))) (stays (frame_of h) inside).at
+      kept : put (noted_all (frame_of h) inside).at (end_findings rules (segments_of h (headers inside))) ≡ put h.offset (end_findings rules (segments_of h (headers inside)))
+      kept = ap (λ (at : ℕ). put at (end_findings rules (segments_of h (headers inside)))) (stays (frame_of h) inside).at
 
       by : (outside inside_it : Bool) → has_segments h ≡ inside_it
-          → put (noted_all (if outside || inside_it then frame_of h else top_frame) inside).at (end_findings rules h (headers inside)) ≡ put h.offset (end_findings rules h (headers inside))
+          → put (noted_all (if outside || inside_it then frame_of h else top_frame) inside).at (end_findings rules (segments_of h (headers inside))) ≡ put h.offset (end_findings rules (segments_of h (headers inside)))
       by true inside_it e = kept
       by false true e = kept
       by false false e =

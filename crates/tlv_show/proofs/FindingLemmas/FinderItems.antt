@@ -16,10 +16,9 @@ use Rattle.tlv_walk.specs.Place.{IsOpen, Place, place_after, place_of_children}
 use Rattle.tlv_show.specs.declared.sibling_frame.SiblingFrame.{SiblingFrame}
 use Rattle.tlv_show.specs.declared.rules.Rules.{Rules}
 use Rattle.tlv_show.specs.EndPlace.{end_place}
-use Rattle.tlv_show.specs.FinderState.{FinderState, FinderValue, contents_findings_in, count_up, finder_begin_step, finder_bytes_step, finder_close_step, finder_end_step, finder_open_step, frame_after, frame_under, header_findings_in}
+use Rattle.tlv_show.specs.FinderState.{FinderState, FinderValue, contents_findings_in, finder_begin_step, finder_bytes_step, finder_close_step, finder_end_step, finder_open_step, frame_after, frame_under, surroundings_in}
 use Rattle.tlv_show.specs.Private.FinderState.{finder_step}
-use Rattle.tlv_show.specs.Found.{contents_findings, header_findings, is_shown}
-use Rattle.tlv_show.proofs.FindingLemmas.EndFindings.{end_findings}
+use Rattle.tlv_show.specs.Found.{contents_findings, header_findings, is_shown, end_findings}
 use Rattle.tlv_show.specs.Items.{Item, FindingAt, OpeningLine, ClosingLine, PrimitiveLines, OpenPrimitiveLines, PaddingLine, headers, items}
 use Rattle.tlv_show.proofs.FindingLemmas.ElementItems.{findings_at}
 use Rattle.tlv_show.specs.Site.{Site, is_padding, site_of_children}
@@ -29,6 +28,8 @@ use Rattle.tlv_show.specs.Texts.{is_finding}
 use Rattle.tlv_show.proofs.FindingLemmas.CheckLaws.{one-or-more}
 use Rattle.tlv_show.proofs.FindingLemmas.FinderFolds.{at-under, knows-after, knows-inside, knows-padding, not-constructed, noted-under, noted_all, summed-under, unused-of}
 use Rattle.tlv_show.proofs.FindingLemmas.HeaderFindings.{Knows, header-same}
+use Rattle.tlv_show.specs.Conditions.{surroundings_of, segments_of}
+use Rattle.tlv_show.specs.SaturatingSum.{saturating_sum}
 
 -- what becomes of a finder, and the items that it reported
 pub record Step : Type 0 where
@@ -89,9 +90,9 @@ only-pads false level at l = refl
 pub primitive-found : (s : FinderState) (h : HeaderValue) (c : List ℕ) → length c ≡ announced_length h.size
     → (u : FinderState) × (u.value ≡ None) × (finder_end_step (finder_bytes_step (finder_begin_step s h).state c) ≡ record { state = u; level = length s.outer; at = h.offset; found = contents_findings s.rules h c })
 primitive-found s h c e =
-    let n = count_up s.count (length (header_findings_in s.rules s.frame h)) in
+    let n = saturating_sum s.count (length (header_findings s.rules (surroundings_in s.frame) h)) in
     let t : ValueCheckState = value_check_after (new_value_check h) c in
-    let site_after : List Finding → FinderState = λ fs. record { rules = s.rules; frame = frame_after s.frame true (announced_length h.size) (has_unused_bits t); outer = s.outer; value = None; count = count_up n (length fs) } in (
+    let site_after : List Finding → FinderState = λ fs. record { rules = s.rules; frame = frame_after s.frame true (announced_length h.size) (has_unused_bits t); outer = s.outer; value = None; count = saturating_sum n (length fs) } in (
       site_after (contents_findings s.rules h c),
       refl,
       ap finder_end_step (took (record s { count = n }) h.offset h c (omega (arith, e)))
@@ -104,13 +105,13 @@ module _ (rules : Rules) where
   standing w outer n = record { rules = rules; frame = w; outer = outer; value = None; count = n }
 
   abbrev pub later_header : SiblingFrame → HeaderValue → ℕ → ℕ
-  later_header w h n = count_up n (length (header_findings_in rules w h))
+  later_header w h n = saturating_sum n (length (header_findings rules (surroundings_in w) h))
 
   -- ---- an element that holds others begins
 
   pub opened-find : (w : SiblingFrame) (outer : List SiblingFrame) (n : ℕ) (h : HeaderValue) → length outer < 128
       → finder_open_step (standing w outer n) h
-      ≡ record { state = standing (frame_under w h) (w ∷ outer) (later_header w h n); level = length outer; at = h.offset; found = header_findings_in rules w h }
+      ≡ record { state = standing (frame_under w h) (w ∷ outer) (later_header w h n); level = length outer; at = h.offset; found = header_findings rules (surroundings_in w) h }
   opened-find w outer n h few =
       let yes : nat_lt (length outer) 128 ≡ true = grind (arith, nat_tests) in
       rw yes refl
@@ -122,7 +123,7 @@ module _ (rules : Rules) where
   opened-by s h false false es = refl
 
   pub opened : (w : SiblingFrame) (outer : List SiblingFrame) (n : ℕ) (h : HeaderValue) (es : List EventValue) → length outer < 128
-      → run (standing w outer n) (opening_events h ++ es) ≡ then_found (findings_at (length outer) h.offset (header_findings_in rules w h)) (run (standing (frame_under w h) (w ∷ outer) (later_header w h n)) es)
+      → run (standing w outer n) (opening_events h ++ es) ≡ then_found (findings_at (length outer) h.offset (header_findings rules (surroundings_in w) h)) (run (standing (frame_under w h) (w ∷ outer) (later_header w h n)) es)
   opened w outer n h es few =
       opened-by (standing w outer n) h h.constructed (h.number == 3) es
       ∙ ap (λ (f : FinderValue). then_found (found_items f) (run f.state es)) (opened-find w outer n h few)
@@ -134,15 +135,15 @@ module _ (rules : Rules) where
   closed-by s at false es = refl
 
   abbrev pub after_end : HeaderValue → Forest → ℕ → ℕ
-  after_end h inside n = count_up n (length (end_findings rules h (headers inside)))
+  after_end h inside n = saturating_sum n (length (end_findings rules (segments_of h (headers inside))))
 
   pub closed : (p : Place) (w : SiblingFrame) (outer : List SiblingFrame) (n : ℕ) (h : HeaderValue) (inside : Forest) (es : List EventValue) → IsOpen p inside → is_complete inside ≡ true
       → run (standing (noted_all (frame_under w h) inside) (w ∷ outer) n) (closing_event h inside ∷ es)
-      ≡ then_found (findings_at (length outer) h.offset (end_findings rules h (headers inside))) (run (standing (frame_after w (is_primitive h) (announced_length h.size) false) outer (after_end h inside n)) es)
+      ≡ then_found (findings_at (length outer) h.offset (end_findings rules (segments_of h (headers inside)))) (run (standing (frame_after w (is_primitive h) (announced_length h.size) false) outer (after_end h inside n)) es)
   closed p w outer n h inside es v whole =
       let f : SiblingFrame = noted_all (frame_under w h) inside in
       closed-by (standing f (w ∷ outer) n) (end_offset h.size (h.offset + length (opening h) + length (spelling inside))) h.constructed es
-      ∙ ap (λ (fs : List Finding). then_found (findings_at (length outer) f.at fs) (run (standing (frame_after w f.is_primitive f.size false) outer (count_up n (length fs))) es)) (summed-under rules p w h inside v whole)
+      ∙ ap (λ (fs : List Finding). then_found (findings_at (length outer) f.at fs) (run (standing (frame_after w f.is_primitive f.size false) outer (saturating_sum n (length fs))) es)) (summed-under rules p w h inside v whole)
       ∙ ap₂ (λ (put : List Item) (t : SiblingFrame). then_found put (run (standing t outer (after_end h inside n)) es)) (at-under rules p w h inside v whole (findings_at (length outer)) (λ at. refl)) (noted-under w h inside)
 
   -- ---- a primitive
@@ -151,34 +152,34 @@ module _ (rules : Rules) where
   after_primitive w h c = frame_after w true (announced_length h.size) (has_unused_bits (value_check_after (new_value_check h) c))
 
   abbrev pub after_contents : SiblingFrame → HeaderValue → List ℕ → ℕ → ℕ
-  after_contents w h c n = count_up (later_header w h n) (length (contents_findings rules h c))
+  after_contents w h c n = saturating_sum (later_header w h n) (length (contents_findings rules h c))
 
   pub primitive : (w : SiblingFrame) (outer : List SiblingFrame) (n : ℕ) (h : HeaderValue) (c : List ℕ) (es : List EventValue) → length c ≡ announced_length h.size
       → run (standing w outer n) (Begin h ∷ Bytes c ∷ End ∷ es)
-      ≡ then_found (findings_at (length outer) h.offset (header_findings_in rules w h))
+      ≡ then_found (findings_at (length outer) h.offset (header_findings rules (surroundings_in w) h))
       (then_found (findings_at (length outer) h.offset (contents_findings rules h c)) (run (standing (after_primitive w h c) outer (after_contents w h c n)) es))
   primitive w outer n h c es e =
-      let put : List Item = findings_at (length outer) h.offset (header_findings_in rules w h) in
+      let put : List Item = findings_at (length outer) h.offset (header_findings rules (surroundings_in w) h) in
       let s : FinderState = standing w outer (later_header w h n) in
       ap (λ (u : FinderState). then_found put (then_found [] (run u (End ∷ es)))) (took s h.offset h c (omega (arith, e)))
-      ∙ ap (λ (fs : List Finding). then_found put (then_found (findings_at (length outer) h.offset fs) (run (standing (after_primitive w h c) outer (count_up (later_header w h n) (length fs))) es))) (ended rules h c e)
+      ∙ ap (λ (fs : List Finding). then_found put (then_found (findings_at (length outer) h.offset fs) (run (standing (after_primitive w h c) outer (saturating_sum (later_header w h n) (length fs))) es))) (ended rules h c e)
 
   -- ---- what a finder makes of each end by itself
 
   pub closed-find : (p : Place) (w : SiblingFrame) (outer : List SiblingFrame) (n : ℕ) (h : HeaderValue) (inside : Forest) → IsOpen p inside → is_complete inside ≡ true
       → finder_close_step (standing (noted_all (frame_under w h) inside) (w ∷ outer) n)
-      ≡ record { state = standing (frame_after w (is_primitive h) (announced_length h.size) false) outer (after_end h inside n); level = length outer; at = (noted_all (frame_under w h) inside).at; found = end_findings rules h (headers inside) }
+      ≡ record { state = standing (frame_after w (is_primitive h) (announced_length h.size) false) outer (after_end h inside n); level = length outer; at = (noted_all (frame_under w h) inside).at; found = end_findings rules (segments_of h (headers inside)) }
   closed-find p w outer n h inside v whole =
       let f : SiblingFrame = noted_all (frame_under w h) inside in
-      ap (λ (gs : List Finding). record { state = standing (frame_after w f.is_primitive f.size false) outer (count_up n (length gs)); level = length outer; at = f.at; found = gs }) (summed-under rules p w h inside v whole)
-      ∙ ap (λ (t : SiblingFrame). record { state = standing t outer (after_end h inside n); level = length outer; at = f.at; found = end_findings rules h (headers inside) }) (noted-under w h inside)
+      ap (λ (gs : List Finding). record { state = standing (frame_after w f.is_primitive f.size false) outer (saturating_sum n (length gs)); level = length outer; at = f.at; found = gs }) (summed-under rules p w h inside v whole)
+      ∙ ap (λ (t : SiblingFrame). record { state = standing t outer (after_end h inside n); level = length outer; at = f.at; found = end_findings rules (segments_of h (headers inside)) }) (noted-under w h inside)
 
   pub primitive-find : (w : SiblingFrame) (outer : List SiblingFrame) (n : ℕ) (h : HeaderValue) (c : List ℕ) → length c ≡ announced_length h.size
       → finder_end_step (finder_bytes_step (finder_begin_step (standing w outer n) h).state c)
       ≡ record { state = standing (after_primitive w h c) outer (after_contents w h c n); level = length outer; at = h.offset; found = contents_findings rules h c }
   primitive-find w outer n h c e =
       ap finder_end_step (took (standing w outer (later_header w h n)) h.offset h c (omega (arith, e)))
-      ∙ ap (λ (fs : List Finding). record { state = standing (after_primitive w h c) outer (count_up (later_header w h n) (length fs)); level = length outer; at = h.offset; found = fs }) (ended rules h c e)
+      ∙ ap (λ (fs : List Finding). record { state = standing (after_primitive w h c) outer (saturating_sum (later_header w h n) (length fs)); level = length outer; at = h.offset; found = fs }) (ended rules h c e)
 
   -- ---- elements
 
@@ -189,11 +190,11 @@ module _ (rules : Rules) where
 
   -- findings with a header, and then other items
   header-items : (s : Site) (w : SiblingFrame) (outer : List SiblingFrame) (h : HeaderValue) (found rest : List Item) → Knows w s → length outer ≡ s.level → found ≡ only rest
-      → findings_at (length outer) h.offset (header_findings_in rules w h) ++ found ≡ only (findings_at s.level h.offset (header_findings rules s h) ++ rest)
+      → findings_at (length outer) h.offset (header_findings rules (surroundings_in w) h) ++ found ≡ only (findings_at s.level h.offset (header_findings rules (surroundings_of s) h) ++ rest)
   header-items s w outer h found rest k l e =
       ap₂ (λ (n : ℕ) (fs : List Finding). findings_at n h.offset fs ++ found) l (header-same rules w s h k)
-      ∙ ap (λ (t : List Item). findings_at s.level h.offset (header_findings rules s h) ++ t) e
-      ∙ sym (only-findings_at s.level h.offset (header_findings rules s h) rest)
+      ∙ ap (λ (t : List Item). findings_at s.level h.offset (header_findings rules (surroundings_of s) h) ++ t) e
+      ∙ sym (only-findings_at s.level h.offset (header_findings rules (surroundings_of s) h) rest)
 
   -- other findings, and then other items
   more-items : (s : Site) (outer : List SiblingFrame) (at : ℕ) (fs : List Finding) (found rest : List Item) → length outer ≡ s.level → found ≡ only rest
@@ -230,12 +231,12 @@ module _ (rules : Rules) where
       let few : length outer < 128 = omega (arith, l, d, (v.0.0.depth refl)) in
       let es : List EventValue = closing_event h inside ∷ events rest in
       let all : (n : ℕ) → (m : ℕ) × (run (standing w outer n) (events (Holder h inside rest))
-      ≡ then_found (findings_at (length outer) h.offset (header_findings_in rules w h)) (then_found (only (items rules (site_of_children s h) inside))
-      (then_found (findings_at (length outer) h.offset (end_findings rules h (headers inside))) (run (standing (frame_after w (is_primitive h) (announced_length h.size) false) outer m) (events rest))))) =
+      ≡ then_found (findings_at (length outer) h.offset (header_findings rules (surroundings_in w) h)) (then_found (only (items rules (site_of_children s h) inside))
+      (then_found (findings_at (length outer) h.offset (end_findings rules (segments_of h (headers inside)))) (run (standing (frame_after w (is_primitive h) (announced_length h.size) false) outer m) (events rest))))) =
       λ n.
       let a : ℕ = later_header w h n in
       let t = i.stands a v.0.1 in
-      let put : List Item = findings_at (length outer) h.offset (header_findings_in rules w h) in (
+      let put : List Item = findings_at (length outer) h.offset (header_findings rules (surroundings_in w) h) in (
         after_end h inside t.0,
         opened w outer n h (events inside ++ es) few
             ∙ ap (then_found put)
@@ -243,14 +244,14 @@ module _ (rules : Rules) where
             ∙ ap₂ (λ (l : List Item) (x : FinderState). then_found l (run x es)) (i.put a) t.1
             ∙ ap (then_found (only (items rules (site_of_children s h) inside))) (closed (place_of_children p h) w outer t.0 h inside (events rest) v.1 v.0.1)),
       ) in
-      let last : List Item = ClosingLine s.level (end_place h inside) ∷ (findings_at s.level h.offset (end_findings rules h (headers inside)) ++ items rules (site_after_holder s h inside) rest) in
+      let last : List Item = ClosingLine s.level (end_place h inside) ∷ (findings_at s.level h.offset (end_findings rules (segments_of h (headers inside))) ++ items rules (site_after_holder s h inside) rest) in
       record {
         put = λ n.
             let a = all n in
             ap (λ (t : Step). t.put) a.1
             ∙ header-items s w outer h _ (OpeningLine s.level h ∷ (items rules (site_of_children s h) inside ++ last)) k l
             (ap (λ (t : List Item). only (items rules (site_of_children s h) inside) ++ t)
-            (more-items s outer h.offset (end_findings rules h (headers inside)) _ (items rules (site_after_holder s h inside) rest) l (r.put a.0))
+            (more-items s outer h.offset (end_findings rules (segments_of h (headers inside))) _ (items rules (site_after_holder s h inside) rest) l (r.put a.0))
             ∙ sym (filter-append is_finding (items rules (site_of_children s h) inside) last));
         stands = λ n e.
             let a = all n in

@@ -1,13 +1,11 @@
 -- The frames that are kept stand for all frames.
-use Rattle.std.proofs.Common.{zero, suc, ◌≡◌, ℕ, ◌+◌, ◌-◌, ◌<◌, ◌≤◌, ◌||◌, Bool, true, false, nat_lt, if◌then◌else◌, List, [], ◌∷◌, length, None, refl, sym, ap, ap₂, subst, ◌∙◌, arith}
+use Rattle.std.proofs.Common.{zero, suc, ◌≡◌, ℕ, ◌+◌, ◌-◌, ◌<◌, ◌≤◌, ◌||◌, Bool, true, false, nat_lt, if◌then◌else◌, List, [], ◌∷◌, length, None, refl, sym, ap, ap₂, subst, ◌∙◌, arith, ◌&&◌}
 use Rattle.std.proofs.lemmas.Bool.Decides.{nat_tests}
 use Rattle.tlv_head.specs.Header.{HeaderValue}
 use Rattle.tlv_value.specs.Types.{has_segments}
 use Rattle.tlv_show.specs.declared.sibling_frame.SiblingFrame.{SiblingFrame}
 use Rattle.tlv_show.specs.declared.sibling_frame.KeptFrame.{KeptFrame}
-use Rattle.tlv_show.specs.declared.rules.Rules.{Rules}
-use Rattle.tlv_show.specs.declared.rules.Rules.TheVariants.{Ber, Der, Cer}
-use Rattle.tlv_show.specs.FinderState.{frame_after, frame_after_segment, frame_of, frame_under, header_findings_in, top_frame}
+use Rattle.tlv_show.specs.FinderState.{frame_after, frame_after_segment, frame_of, frame_under, top_frame, surroundings_in}
 use Rattle.tlv_show.specs.Private.Nesting.{AreKept, IsKept, NestingState, TakesBack, all_frames, all_of, innermost, nesting_around, nesting_inside, nesting_outside, outside, segments_by, segments_left}
 
 -- ---- how many there are
@@ -51,12 +49,16 @@ split : (w : SiblingFrame) (n : ℕ) (outer : List SiblingFrame) → all_of w n 
 split w zero outer = refl
 split w (suc n) outer = refl
 
--- all frames outside of strings say the same of headers
-pub same-findings : (rules : Rules) (w : SiblingFrame) (n : ℕ) (h : HeaderValue) → IsKept w n
-    → header_findings_in rules w h ≡ header_findings_in rules (innermost w n) h
-same-findings Ber w n h kept = grind arith
-same-findings Der w n h kept = grind arith
-same-findings Cer w n h kept = grind arith
+-- all frames outside of strings say the same of what is around an element
+pub around-same : (w : SiblingFrame) (n : ℕ) → IsKept w n → surroundings_in w ≡ surroundings_in (innermost w n)
+around-same w zero kept = refl
+around-same w (suc n) kept =
+    ap (λ (k : Bool). record {
+      in_string = k;
+      in_bit_string = k && w.has_bits;
+      after_unused_bits = k && w.has_bits && w.is_unused;
+      after_not_full = k && w.is_not_full;
+    }) (sym kept)
 
 -- ---- an element begins
 

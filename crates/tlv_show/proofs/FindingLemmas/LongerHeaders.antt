@@ -10,9 +10,8 @@ use Rattle.tlv_head.proofs.Shortest.{identifier-from, lengths-from}
 use Rattle.tlv_head.proofs.ShortestSpelling.{no-shorter_identifier, no-shorter_length, shorter-identifier, shorter-length}
 use Rattle.tlv_show.specs.declared.rules.Rules.{Rules}
 use Rattle.tlv_show.specs.declared.rules.Rules.TheVariants.{Ber, Der, Cer}
-use Rattle.tlv_show.specs.Conditions.{first_length, has_high_form, has_long_form, header_conditions, leading_bits}
+use Rattle.tlv_show.specs.Conditions.{first_length, has_high_form, has_long_form, header_conditions, leading_bits, Surroundings}
 use Rattle.tlv_show.specs.Found.{header_findings}
-use Rattle.tlv_show.specs.Site.{Site}
 use Rattle.tlv_show.specs.Spellings.{LongerIdentifiersAreFound, LongerLengthsAreFound, is_on_identifier, is_on_lengths}
 use Rattle.tlv_show.proofs.FindingLemmas.FindingsOfHeaders.{any_of, found-with_header}
 use Rattle.tlv_show.proofs.FindingLemmas.Spellings.{high-form, long-form}
@@ -32,7 +31,7 @@ from-absurd false none = absurd (none refl)
 abbrev pub longer_identifier : HeaderValue → Bool
 longer_identifier h = (has_high_form h && nat_lt h.number 31) || (has_high_form h && leading_bits h == 0)
 
-on-identifier : (rules : Rules) (s : Site) (h : HeaderValue) → any_of is_on_identifier rules (header_conditions s h) ≡ longer_identifier h
+on-identifier : (rules : Rules) (s : Surroundings) (h : HeaderValue) → any_of is_on_identifier rules (header_conditions s h) ≡ longer_identifier h
 on-identifier Ber s h = ap (λ (b : Bool). (has_high_form h && nat_lt h.number 31) || b) (or-false (has_high_form h && leading_bits h == 0))
 on-identifier Der s h = ap (λ (b : Bool). (has_high_form h && nat_lt h.number 31) || b) (or-false (has_high_form h && leading_bits h == 0))
 on-identifier Cer s h = ap (λ (b : Bool). (has_high_form h && nat_lt h.number 31) || b) (or-false (has_high_form h && leading_bits h == 0))
@@ -71,7 +70,7 @@ identifiers-found rules s h valid nonzero =
 abbrev pub longer_lengths : HeaderValue → Bool
 longer_lengths h = has_long_form h && (nat_lt (announced_length h.size) 128 || first_length h == 0)
 
-on-lengths : (rules : Rules) (s : Site) (h : HeaderValue) → rules ≢ Ber → any_of is_on_lengths rules (header_conditions s h) ≡ longer_lengths h
+on-lengths : (rules : Rules) (s : Surroundings) (h : HeaderValue) → rules ≢ Ber → any_of is_on_lengths rules (header_conditions s h) ≡ longer_lengths h
 on-lengths Ber s h strict = absurd (strict refl)
 on-lengths Der s h strict = or-false (longer_lengths h)
 on-lengths Cer s h strict = or-false (longer_lengths h)

@@ -22,10 +22,9 @@ use Rattle.tlv_walk.proofs.GrammarLemmas.Respelled.{SpelledAt, Spelling, respell
 use Rattle.tlv_walk.proofs.EventLemmas.Wrappers.{AreNamed, Rise, wrappers-named, wrappers-rise}
 use Rattle.tlv_show.specs.declared.rules.Rules.{Rules}
 use Rattle.tlv_show.specs.declared.rules.Rules.TheVariants.{Ber, Der, Cer}
-use Rattle.tlv_show.specs.Conditions.{end_conditions, has_high_form, header_conditions, leading_bits}
+use Rattle.tlv_show.specs.Conditions.{Segments, end_conditions, has_high_form, header_conditions, leading_bits, segments_of, surroundings_of}
 use Rattle.tlv_show.specs.EndPlace.{end_place}
-use Rattle.tlv_show.specs.Found.{contents_findings, header_findings}
-use Rattle.tlv_show.proofs.FindingLemmas.EndFindings.{end_findings}
+use Rattle.tlv_show.specs.Found.{contents_findings, header_findings, end_findings}
 use Rattle.tlv_show.specs.Items.{Item, OpeningLine, ClosingLine, PrimitiveLines, PaddingLine, headers, items}
 use Rattle.tlv_show.proofs.FindingLemmas.ElementItems.{on_contents, on_end, on_header}
 use Rattle.tlv_show.specs.Site.{Site, is_padding, site_of_children, top_site}
@@ -50,7 +49,7 @@ constructed-absent true false e = absurd (cc (e))
 constructed-absent false indefinite e = refl
 
 header-absent : (rules : Rules) (s : Site) (h : HeaderValue) → rules ≢ Ber → IsRegular (form_by rules) h
-    → any_of is_on_spelling rules (header_conditions s h) ≡ false
+    → any_of is_on_spelling rules (header_conditions (surroundings_of s) h) ≡ false
 header-absent Ber s h strict r = absurd (strict refl)
 header-absent Der s h strict r =
     four-absent (has_high_form h && nat_lt h.number 31) (has_high_form h && leading_bits h == 0) (longer_lengths h) (is_indefinite h.size)
@@ -65,10 +64,10 @@ contents-absent Ber h c = refl
 contents-absent Der h c = refl
 contents-absent Cer h c = refl
 
-end-absent : (rules : Rules) (h : HeaderValue) (inside : List HeaderValue) → any_of is_on_spelling rules (end_conditions h inside) ≡ false
-end-absent Ber h inside = refl
-end-absent Der h inside = refl
-end-absent Cer h inside = refl
+end-absent : (rules : Rules) (s : Segments) → any_of is_on_spelling rules (end_conditions s) ≡ false
+end-absent Ber s = refl
+end-absent Der s = refl
+end-absent Cer s = refl
 
 -- ---- items
 
@@ -81,7 +80,7 @@ padding-none false level at = refl
 
 module _ (rules : Rules) (strict : rules ≢ Ber) where
   header-none : (s : Site) (h : HeaderValue) → IsRegular (form_by rules) h → list_any is_item_on_spelling (on_header rules s h) ≡ false
-  header-none s h r = items-found s.level h.offset (header_findings rules s h) ∙ found-with_header is_on_spelling rules s h ∙ header-absent rules s h strict r
+  header-none s h r = items-found s.level h.offset (header_findings rules (surroundings_of s) h) ∙ found-with_header is_on_spelling rules (surroundings_of s) h ∙ header-absent rules s h strict r
 
   contents-none : (s : Site) (h : HeaderValue) (c : List ℕ) → list_any is_item_on_spelling (on_contents rules s h c) ≡ false
   contents-none s h c =
@@ -90,8 +89,8 @@ module _ (rules : Rules) (strict : rules ≢ Ber) where
 
   end-none : (s : Site) (h : HeaderValue) (inside : Forest) → list_any is_item_on_spelling (on_end rules s h inside) ≡ false
   end-none s h inside =
-      items-found s.level h.offset (end_findings rules h (headers inside)) ∙ all-found is_on_spelling rules (end_conditions h (headers inside))
-      ∙ end-absent rules h (headers inside)
+      items-found s.level h.offset (end_findings rules (segments_of h (headers inside))) ∙ all-found is_on_spelling rules (end_conditions (segments_of h (headers inside)))
+      ∙ end-absent rules (segments_of h (headers inside))
 
   none-found : (p : Place) (s : Site) (f : Forest) → IsSound p f → AreRegular (form_by rules) f → list_any is_item_on_spelling (items rules s f) ≡ false
   none-found p s NoMore u r = refl

@@ -23,7 +23,7 @@ use Rattle.tlv_walk.proofs.GrammarLemmas.Endings.{done-sound, sound-reading}
 use Rattle.tlv_walk.proofs.GrammarLemmas.Readings.{reading-unique}
 use Rattle.tlv_show.specs.declared.rules.Rules.{Rules}
 use Rattle.tlv_show.specs.declared.rules.Rules.TheVariants.{Ber, Der, Cer}
-use Rattle.tlv_show.specs.Conditions.{first_length, has_high_form, has_long_form, header_conditions, leading_bits}
+use Rattle.tlv_show.specs.Conditions.{first_length, has_high_form, has_long_form, header_conditions, leading_bits, surroundings_of}
 use Rattle.tlv_show.specs.Found.{header_findings}
 use Rattle.tlv_show.specs.Items.{Item, OpeningLine, ClosingLine, PrimitiveLines, PaddingLine, items}
 use Rattle.tlv_show.proofs.FindingLemmas.ElementItems.{findings_at, on_contents, on_end, on_header}
@@ -40,8 +40,8 @@ items-found level at [] = refl
 items-found level at (f ∷ fs) = ap (λ (b : Bool). is_on_spelling f || b) (items-found level at fs)
 
 absent : (rules : Rules) (s : Site) (h : HeaderValue) → list_any is_item_on_spelling (on_header rules s h) ≡ false
-    → any_of is_on_spelling rules (header_conditions s h) ≡ false
-absent rules s h e = sym (found-with_header is_on_spelling rules s h) ∙ sym (items-found s.level h.offset (header_findings rules s h)) ∙ e
+    → any_of is_on_spelling rules (header_conditions (surroundings_of s) h) ≡ false
+absent rules s h e = sym (found-with_header is_on_spelling rules (surroundings_of s) h) ∙ sym (items-found s.level h.offset (header_findings rules (surroundings_of s) h)) ∙ e
 
 -- of four tests none holds
 none-of_four : (a b c d : Bool) → (a || (b || (c || (d || false)))) ≡ false → (a ≡ false) × (b ≡ false) × (c ≡ false) × (d ≡ false)

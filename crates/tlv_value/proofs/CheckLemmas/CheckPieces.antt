@@ -7,11 +7,11 @@ use Rattle.std.specs.Str.{is_utf8}
 use Rattle.tlv_head.specs.Header.{HeaderValue, announced_length}
 use Rattle.tlv_value.specs.declared.kind.Kind.TheVariants.{Utf8}
 use Rattle.tlv_value.specs.CheckLaws.{ChecksJoin, FindingsEnd}
-use Rattle.tlv_value.specs.ValueCheckState.{ValueCheckState, all_utf8, value_check_after, new_value_check, new_check_of, notes_each, notes_front, notes_in, notes_time, type_number, with_each, with_front, with_notes, with_time}
-use Rattle.tlv_value.specs.Checks.{allows_octet, is_padded_after, last_octet}
-use Rattle.tlv_value.specs.CheckNotes.{is_object, universal_findings}
+use Rattle.tlv_value.specs.ValueCheckState.{ValueCheckState, all_utf8, value_check_after, new_value_check, new_check_of, notes_each, notes_front, facts_in, notes_time, with_each, with_front, with_notes, with_time}
+use Rattle.tlv_value.specs.Checks.{ContentsFacts, allows_octet, findings_by, is_padded_after, last_octet, type_conditions}
+use Rattle.tlv_value.specs.Types.{is_number_of, object_types, type_number}
 use Rattle.tlv_value.specs.Rows.{full_rows, open_row}
-use Rattle.tlv_value.proofs.CheckLemmas.CheckNotes.{noted-same}
+use Rattle.tlv_value.proofs.CheckLemmas.NotedFacts.{noted-same}
 use Rattle.tlv_value.proofs.RowLemmas.OneCut.{rows-join}
 
 last-join : (before : ℕ) (x y : List ℕ) → last_octet (last_octet before x) y ≡ last_octet before (x ++ y)
@@ -103,7 +103,7 @@ join-by false true t s x y =
     (with_each (with_each s x) y).row (with_each s (x ++ y)).row s.time s.time
     l refl (last-join s.last x y)
     (and-assoc s.allowed (list_all (allows_octet s.number) x) (list_all (allows_octet s.number) y) ∙ ap (λ (b : Bool). s.allowed && b) (sym (list_all-append (allows_octet s.number) x y)))
-    (padded-at (is_object s.number) s.padded s.last x y) (formed-at (eqb s.number 12) s.formed s.row x y) (row-at (eqb s.number 12) s.row x y) refl
+    (padded-at (is_number_of object_types s.number) s.padded s.last x y) (formed-at (eqb s.number 12) s.formed s.row x y) (row-at (eqb s.number 12) s.row x y) refl
 join-by false false true s x y =
     let l : s.left - length x - length y ≡ s.left - length (x ++ y) = omega (arith, length-append x y) in
     built-eq s (s.left - length x - length y) (s.left - length (x ++ y)) s.front s.front s.last s.last
@@ -118,7 +118,7 @@ checks-join s x y = join-by (notes_front s.number) (notes_each s.number) (notes_
 
 -- what is noted at the end
 
-noted-left : (f e t : Bool) (s : ValueCheckState) (c : List ℕ) → notes_in (by_kind f e t s c) ≡ notes_in (noted_by f e t s c)
+noted-left : (f e t : Bool) (s : ValueCheckState) (c : List ℕ) → facts_in (by_kind f e t s c) ≡ facts_in (noted_by f e t s c)
 noted-left true e t s c = refl
 noted-left false true t s c = refl
 noted-left false false true s c = refl
@@ -127,10 +127,10 @@ noted-left false false false s c = refl
 pub findings-end : FindingsEnd
 findings-end h octets e =
     let n = type_number h in
-    ap (universal_findings n)
+    ap (λ (c : ContentsFacts). findings_by (type_conditions n c))
     (noted-left (notes_front n) (notes_each n) (notes_time n) (new_value_check h) octets
-    ∙ ap (λ (z : ℕ). notes_in (with_notes (new_check_of n z) octets)) (sym e))
-    ∙ sym (noted-same h octets)
+    ∙ ap (λ (z : ℕ). facts_in (with_notes (new_check_of n z) octets)) (sym e))
+    ∙ sym (noted-same n octets)
 
 -- no octets
 same-in-both : {A : Type 0} (b : Bool) (x : A) → (if b then x else x) ≡ x
@@ -140,8 +140,8 @@ same-in-both false x = refl
 none-by : (f e t : Bool) (n size : ℕ) → by_kind f e t (new_check_of n size) [] ≡ new_check_of n size
 none-by true e t n size = ap (λ (l : ℕ). record (new_check_of n size) { left = l }) (omega arith)
 none-by false true t n size =
-    built-eq (new_check_of n size) (size - 0) size [] [] 0 0 true true (if is_object n then false else false) false (if eqb n 12 then true else true) true (if eqb n 12 then [] else []) [] [] []
-    (omega arith) refl refl refl (same-in-both (is_object n) false) (same-in-both (eqb n 12) true) (same-in-both (eqb n 12) []) refl
+    built-eq (new_check_of n size) (size - 0) size [] [] 0 0 true true (if is_number_of object_types n then false else false) false (if eqb n 12 then true else true) true (if eqb n 12 then [] else []) [] [] []
+    (omega arith) refl refl refl (same-in-both (is_number_of object_types n) false) (same-in-both (eqb n 12) true) (same-in-both (eqb n 12) []) refl
 none-by false false true n size = ap (λ (l : ℕ). record (new_check_of n size) { left = l }) (omega arith)
 none-by false false false n size = ap (λ (l : ℕ). record (new_check_of n size) { left = l }) (omega arith)
 

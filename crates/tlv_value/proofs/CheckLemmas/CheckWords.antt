@@ -2,10 +2,7 @@
 use Rattle.std.specs.List.{list_all}
 use Rattle.std.specs.Prelude.{ℕ, ◌%◌, Bool, true, ◌&&◌, eqb, if◌then◌else◌, List, length}
 use Rattle.std.specs.Str.{is_utf8}
-use Rattle.tlv_value.specs.Checks.{allows_octet, is_padded_after}
-
-abbrev pub is_padded_object : List ℕ → Bool
-is_padded_object octets = is_padded_after 0 octets
+use Rattle.tlv_value.specs.Checks.{allows_octet}
 
 -- UTF8String, BMPString, UniversalString
 abbrev pub allows_all : ℕ → List ℕ → Bool

@@ -3,7 +3,7 @@ use Rattle.std.proofs.Common.{◌≡◌, ℕ, Bool, true, false, List, refl, ari
 use Rattle.std.specs.List.{list_all}
 use Rattle.std.specs.Prelude.{◌&&◌, ◌||◌, eqb}
 use Rattle.std.proofs.lemmas.Bool.Decides.{nat_tests}
-use Rattle.tlv_value.specs.CheckNotes.{is_object}
+use Rattle.tlv_value.specs.Types.{is_number_of, object_types}
 use Rattle.tlv_value.specs.ValueCheckState.{ValueCheckState, all_utf8, notes_each, with_each}
 use Rattle.tlv_value.specs.Checks.{allows_octet, is_padded_after, last_octet}
 use Rattle.tlv_value.specs.declared.kind.Kind.TheVariants.{Utf8}
@@ -18,12 +18,12 @@ pub nothing-noted : (s : ValueCheckState) (octets : List ℕ) → notes_each s.n
 nothing-noted s octets none =
     let all : list_all (allows_octet s.number) octets ≡ true =
     all-other s.number octets (λ e. grind (arith, nat_tests, e, none)) (λ e. grind (arith, nat_tests, e, none)) (λ e. grind (arith, nat_tests, e, none)) (λ e. grind (arith, nat_tests, e, none)) in
-    let object : is_object s.number ≡ false = grind (arith, nat_tests) in
+    let object : is_number_of object_types s.number ≡ false = grind (arith, nat_tests) in
     let text : eqb s.number 12 ≡ false = grind (arith, nat_tests) in
     rw (all, object, text, and-true s.allowed) refl
 
 -- an object identifier
-pub object-noted : (s : ValueCheckState) (octets : List ℕ) → is_object s.number ≡ true
+pub object-noted : (s : ValueCheckState) (octets : List ℕ) → is_number_of object_types s.number ≡ true
     → record s { padded = s.padded || is_padded_after s.last octets; last = last_octet s.last octets } ≡ with_each s octets
 object-noted s octets object =
     let all : list_all (allows_octet s.number) octets ≡ true =
@@ -37,11 +37,11 @@ pub text-noted : (s : ValueCheckState) (octets : List ℕ) → s.number ≡ 12
 text-noted s octets is_text =
     let all : list_all (allows_octet s.number) octets ≡ true =
     all-other s.number octets (λ e. grind (arith, nat_tests, e, is_text)) (λ e. grind (arith, nat_tests, e, is_text)) (λ e. grind (arith, nat_tests, e, is_text)) (λ e. grind (arith, nat_tests, e, is_text)) in
-    let object : is_object s.number ≡ false = grind (arith, nat_tests) in
+    let object : is_number_of object_types s.number ≡ false = grind (arith, nat_tests) in
     let text : eqb s.number 12 ≡ true = grind (arith, nat_tests) in
     rw (all, object, text, and-true s.allowed) refl
 
 -- a string with a test of each octet
-pub characters-noted : (s : ValueCheckState) (octets : List ℕ) → is_object s.number ≡ false → eqb s.number 12 ≡ false
+pub characters-noted : (s : ValueCheckState) (octets : List ℕ) → is_number_of object_types s.number ≡ false → eqb s.number 12 ≡ false
     → record s { allowed = s.allowed && list_all (allows_octet s.number) octets; last = last_octet s.last octets } ≡ with_each s octets
 characters-noted s octets object text = rw (object, text) refl

@@ -6,7 +6,7 @@ use Rattle.std.proofs.lemmas.Bool.{or_cases, leb-true, le-leb}
 use Rattle.std.proofs.lemmas.Bool.Decides.{nat_tests}
 use Rattle.std.proofs.lemmas.List.Folds.{list_any-append}
 use Rattle.tlv_value.specs.Times.{◌then◌, ◌or◌, Form, canonical_fraction, canonical_generalized_time_form, canonical_utc_time_form, day, digits, fraction, generalized_time_form, general_zone, has_form, hour, is_digit, is_rest_empty, mark, maybe, minute, no_octets, one, second, sign, two, utc_time_form}
-use Rattle.tlv_value.specs.CheckNotes.{general_time_findings, time_findings, utc_time_findings}
+use Rattle.tlv_value.specs.Private.Checks.{general_time_findings, time_findings, utc_time_findings}
 
 abbrev is_nil : List ℕ → Bool
 is_nil [] = true

@@ -1,7 +1,10 @@
 //! What is found on contents by what was noted of them.
 ghost use Rattle.std.specs.Prelude.{◌≡◌, ◌<◌, ◌≤◌, ◌%◌, ◌^◌, ◌++◌, [], eqb, length, not};
-ghost use Rattle.tlv_value.specs.CheckNotes.{bits_findings, boolean_findings, finding_if, time_findings};
-ghost use Rattle.tlv_value.specs.ValueCheckState.{findings_in, notes_in};
+ghost use Rattle.tlv_head.specs.UniversalTypes.{bit_string, boolean};
+ghost use Rattle.tlv_value.specs.Checks.{finding_if, findings_by, type_conditions};
+ghost use Rattle.tlv_value.specs.Private.Checks.{time_findings};
+ghost use Rattle.tlv_value.specs.Types.{character_types, is_number_of};
+ghost use Rattle.tlv_value.specs.ValueCheckState.{facts_in, findings_in};
 
 use super::ValueCheck;
 use crate::Finding;
@@ -44,7 +47,10 @@ impl ValueCheck {
                     note_time(general_ok(time), general_canonical(time), &mut found);
                 }
             }
-            _ => note(!self.is_allowed(), Finding::B18, &mut found),
+            number if has_characters(number) => {
+                note(!self.is_allowed(), Finding::B18, &mut found);
+            }
+            _ => {}
         }
         found
     }
@@ -52,7 +58,8 @@ impl ValueCheck {
     /// Notes what is found on the contents of a BOOLEAN.
     fn note_boolean(&self, found: &mut ArrayVec<Finding, 16>)
         requires { found.old.items ≡ [] }
-        ensures { found.new.items ≡ boolean_findings (notes_in self.now) }
+        ensures { found.new.items
+            ≡ findings_by (type_conditions boolean (facts_in self.now)) }
     {
         let first = self.first();
         note(self.size != 1, Finding::B06, found);
@@ -66,7 +73,8 @@ impl ValueCheck {
     /// Notes what is found on the contents of a BIT STRING.
     fn note_bits(&self, found: &mut ArrayVec<Finding, 16>)
         requires { found.old.items ≡ [] }
-        ensures { found.new.items ≡ bits_findings (notes_in self.now) }
+        ensures { found.new.items
+            ≡ findings_by (type_conditions bit_string (facts_in self.now)) }
     {
         let first = self.first();
         note(self.size == 0, Finding::B13, found);
@@ -82,6 +90,22 @@ impl ValueCheck {
             found,
         );
     }
+}
+
+/// Whether the type with this number is a string whose characters are looked at.
+fn has_characters(number: u64) -> bool
+    ensures { result ≡ is_number_of character_types number }
+{
+    matches!(
+        number,
+        universal::UTF8_STRING
+            | universal::NUMERIC_STRING
+            | universal::PRINTABLE_STRING
+            | universal::IA5_STRING
+            | universal::VISIBLE_STRING
+            | universal::UNIVERSAL_STRING
+            | universal::BMP_STRING
+    )
 }
 
 /// Adds a finding, if it is there.

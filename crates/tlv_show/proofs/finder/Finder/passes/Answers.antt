@@ -1,5 +1,7 @@
-use Rattle.std.proofs.Common.{◌∙◌, rules, refl, sym}
+use Rattle.std.proofs.Common.{◌∙◌, rules, refl, sym, ap}
 use Rattle.tlv_show.proofs.DumpLemmas.Passing.{passes, usual_primitive}
+use Rattle.tlv_show.specs.Conditions.{Surroundings}
+use Rattle.tlv_show.specs.Found.{header_findings}
 use Rattle.tlv_show.proofs.finder.Finder.passes.Goals as goal
 
 pub returns : goal.returns
@@ -10,5 +12,6 @@ returns c =
     rw (← c.self.view_is)
     (passes _ _ h c.args.contents.now c.requires
     (sym c.frame-frame.ensures.segments ∙ plain.segments (search rules))
-    (sym (c.frame-frame.ensures.findings c.self.inside.rules h) ∙ plain.findings (search rules) usual)
+    (ap (λ (t : Surroundings). header_findings c.self.inside.rules t h) (sym c.frame-frame.ensures.around)
+    ∙ plain.findings (search rules) usual)
     (c.is_clear.ensures.contents (search rules)) refl)

@@ -3,10 +3,11 @@ use Rattle.std.proofs.lemmas.Result.{on_ok_weaker}
 use Rattle.std.specs.Prelude.{Option}
 use Rattle.tlv_value.specs.ValueTextState.{ValueTextState}
 use Rattle.tlv_walk.specs.Follow.{Effect, each_octet}
-use Rattle.tlv_show.specs.LinesStep.{LinesState, lines_octet_step, offset_after}
+use Rattle.tlv_show.specs.LinesStep.{LinesState, lines_octet_step}
 use Rattle.tlv_show.proofs.DumpLemmas.Dumped.{dumped_bytes}
 use Rattle.tlv_io.proofs.Puts.{puts_text}
 use Rattle.tlv_show.proofs.line_follower.Lines.bytes.Goals as goal
+use Rattle.tlv_show.specs.SaturatingSum.{saturating_sum}
 
 pub returns-clause-state : goal.returns-clause-state
 returns-clause-state g c =
@@ -15,7 +16,7 @@ returns-clause-state g c =
     let some : 0 < length octets = search arith in
     let within : s.offset ≤ 2 ^ 64 - 1 = omega arith in
     let is = ap (λ (s : LinesState). each_octet lines_octet_step s octets) (sym c.self.view_is) ∙ dumped_bytes _ octets (λ e. absurd (omega (arith, some, ap length e))) in
-    let there : c.saturating_add-self-inside.result ≡ offset_after s.offset (length octets) = omega (arith, c.saturating_add-self-inside.ensures, within) in
+    let there : c.saturating_add-self-inside.result ≡ saturating_sum s.offset (length octets) = omega (arith, c.saturating_add-self-inside.ensures, within) in
     on_ok_weaker c.put_bytes.result
     (λ e. ap₂ (λ (o : ℕ) (v : Option ValueTextState). record { layout = s.layout; names = s.names.now; offset = o; in_padding = s.in_padding; value = v }) there e
     ∙ sym (ap (λ (t : Effect LinesState). t.state) is))

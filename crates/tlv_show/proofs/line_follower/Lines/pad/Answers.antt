@@ -1,17 +1,18 @@
 use Rattle.std.proofs.Common.{◌≡◌, ◌-◌, ◌^◌, ◌<◌, ◌≤◌, ℕ, true, length, ap, sym, ◌∙◌, arith}
 use Rattle.std.proofs.lemmas.Result.{on_ok_weaker}
 use Rattle.tlv_walk.specs.Follow.{Effect, each_octet}
-use Rattle.tlv_show.specs.LinesStep.{LinesState, lines_padding_step, offset_after}
+use Rattle.tlv_show.specs.LinesStep.{LinesState, lines_padding_step}
 use Rattle.tlv_show.specs.Private.LinesStep.{if_open}
 use Rattle.tlv_show.proofs.DumpLemmas.Dumped.{padded_first, padded_more}
 use Rattle.tlv_io.proofs.Puts.{puts_nothing, puts_text}
 use Rattle.tlv_show.proofs.line_follower.Lines.pad.Goals as goal
+use Rattle.tlv_show.specs.SaturatingSum.{saturating_sum}
 
 pub returns-then-self-clause-state : goal.returns-then-self-clause-state
 returns-then-self-clause-state g c =
     let s = c.self.inside in
     let within : s.offset ≤ 2 ^ 64 - 1 = omega arith in
-    let there : c.saturating_add-self-inside.result ≡ offset_after s.offset (length c.args.octets.now) = omega (arith, c.saturating_add-self-inside.ensures, within) in
+    let there : c.saturating_add-self-inside.result ≡ saturating_sum s.offset (length c.args.octets.now) = omega (arith, c.saturating_add-self-inside.ensures, within) in
     let is = ap (λ (s : LinesState). each_octet lines_padding_step s c.args.octets.now) (sym c.self.view_is) ∙ padded_more _ c.args.octets.now c.if-self.true in
     ap (λ (o : ℕ). record { layout = s.layout; names = s.names.now; offset = o; in_padding = s.in_padding; value = if_open s.is_open s.value }) there
     ∙ sym (ap (λ (t : Effect LinesState). t.state) is)
@@ -27,7 +28,7 @@ returns-clause-state g c =
     let s = c.self.inside in
     let within : s.offset ≤ 2 ^ 64 - 1 = omega arith in
     let some : 0 < length c.args.octets.now = search arith in
-    let there : c.saturating_add-self-inside.result ≡ offset_after s.offset (length c.args.octets.now) = omega (arith, c.saturating_add-self-inside.ensures, within) in
+    let there : c.saturating_add-self-inside.result ≡ saturating_sum s.offset (length c.args.octets.now) = omega (arith, c.saturating_add-self-inside.ensures, within) in
     let is = ap (λ (s : LinesState). each_octet lines_padding_step s c.args.octets.now) (sym c.self.view_is) ∙ padded_first _ c.args.octets.now some c.if-self.false in
     on_ok_weaker c.put_padding.result
     (λ _. ap (λ (o : ℕ). record { layout = s.layout; names = s.names.now; offset = o; in_padding = true; value = if_open s.is_open s.value }) there
