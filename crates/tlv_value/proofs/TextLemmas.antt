@@ -1,7 +1,6 @@
 pub mod ArcWords
 pub mod Arcs
 pub mod Ends
-pub mod KindValues
 pub mod LineLengths
 pub mod Numbers
 pub mod ObjectLines

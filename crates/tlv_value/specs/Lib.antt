@@ -10,7 +10,7 @@ pub mod OpenRow
 pub mod Units
 pub mod Layout
 pub mod Value
-pub mod KindValues
+pub mod ValueLines
 pub mod ValueTextState
 pub mod TextFields
 pub mod Laws

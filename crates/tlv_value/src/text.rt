@@ -4,7 +4,7 @@ ghost use Rattle.tlv_io.specs.Out.{Puts};
 ghost use Rattle.tlv_value.specs.Kind.{kind_of};
 ghost use Rattle.tlv_value.specs.Private.PrimitiveLines.{new_text_of};
 ghost use Rattle.tlv_value.specs.ValueTextState.{begin_lines, contents_lines, end_lines, new_value_text, value_text_after};
-ghost use Rattle.tlv_value.specs.KindValues.{row_octets};
+ghost use Rattle.tlv_value.specs.Value.{row_octets};
 
 use crate::kind::Kind;
 use crate::primitive::Primitive;

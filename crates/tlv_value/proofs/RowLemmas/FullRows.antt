@@ -16,7 +16,7 @@ use Rattle.tlv_value.specs.Private.Room.{HaveRoom}
 use Rattle.tlv_value.specs.Private.Rows.{full_line, full_lines}
 use Rattle.tlv_value.specs.Rows.{rows_of}
 use Rattle.tlv_value.proofs.RowLemmas.FilledRows.{row_begun, rows_filled}
-use Rattle.tlv_value.specs.ValueTextState.{row_lines}
+use Rattle.tlv_value.specs.ValueLines.{row_lines}
 use Rattle.tlv_value.specs.Value.{row_text, spaced_pairs}
 use Rattle.tlv_value.proofs.TextLemmas.Puts.{row_lines-append}
 use Rattle.tlv_value.proofs.RowLemmas.RowSteps.{keep, turn}

@@ -6,10 +6,10 @@ use Rattle.tlv_value.specs.declared.kind.Kind.{Kind}
 use Rattle.tlv_value.specs.declared.kind.Kind.TheVariants.{Bits}
 use Rattle.tlv_value.specs.Kind.{kind_of}
 use Rattle.tlv_value.specs.Rows.{full_rows}
-use Rattle.tlv_value.specs.ValueTextState.{ValueTextState, contents_lines, line_in, row_lines}
+use Rattle.tlv_value.specs.ValueLines.{row_lines}
+use Rattle.tlv_value.specs.ValueTextState.{ValueTextState, contents_lines, line_in}
 use Rattle.tlv_value.specs.TextFields.{text_state_of}
-use Rattle.tlv_value.specs.KindValues.{long_text, row_octets}
-use Rattle.tlv_value.specs.Value.{is_long}
+use Rattle.tlv_value.specs.Value.{is_long, long_text, row_octets}
 use Rattle.tlv_value.proofs.TextLemmas.Ends.{new-first, rows-first}
 use Rattle.tlv_value.proofs.text.ValueText.bytes.Goals as goal
 
