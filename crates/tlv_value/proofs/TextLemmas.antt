@@ -7,6 +7,7 @@ pub mod ObjectLines
 pub mod Pieces
 pub mod PlainUnits
 pub mod Puts
+pub mod Rests
 pub mod Short
 pub mod Subidentifier
 pub mod Texts

@@ -17,9 +17,12 @@ PiecesJoin =
     → (value_text_after (value_text_after s x) y ≡ value_text_after s (x ++ y))
     × (contents_lines s (x ++ y) ≡ contents_lines s x ++ contents_lines (value_text_after s x) y)
 
--- with the header, the lines of a primitive without contents so far
+-- with the header, the lines of a primitive without contents so far; the state then stands for none
 abbrev pub LinesBegin : Type 0
-LinesBegin = (h : HeaderValue) (layout : Layout) → open_lines h layout [] ≡ begin_lines (new_value_text h layout)
+LinesBegin =
+    (h : HeaderValue) (layout : Layout)
+    → (open_lines h layout [] ≡ begin_lines (new_value_text h layout))
+    × (state_for h layout [] ≡ new_value_text h layout)
 
 -- with more octets, what is new in the lines of the primitive, which is still open
 abbrev pub LinesGoOn : Type 0

@@ -12,6 +12,7 @@ pub mod Layout
 pub mod Value
 pub mod ValueLines
 pub mod ValueTextState
+pub mod PutsRest
 pub mod TextFields
 pub mod Laws
 pub mod Types

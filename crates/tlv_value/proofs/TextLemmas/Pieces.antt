@@ -191,7 +191,10 @@ after-nothing h layout =
     ap (λ (n : ℕ). with_kept s n (rows_state_after s [])) l ∙ ap (with_kept s s.left) (after-nothing_at (kind_in s) s.layout (line_in s) s.size (is_long (kind_in s) s.size) s.kept.wrote_line refl)
 
 pub lines-begin : LinesBegin
-lines-begin h layout = open-lines h layout [] ∙ ap (λ (t : List ℕ). begin_lines (new_value_text h layout) ++ t) (new-nothing h layout) ∙ append-nil (begin_lines (new_value_text h layout))
+lines-begin h layout = (
+  open-lines h layout [] ∙ ap (λ (t : List ℕ). begin_lines (new_value_text h layout) ++ t) (new-nothing h layout) ∙ append-nil (begin_lines (new_value_text h layout)),
+  after-nothing h layout,
+)
 
 pub lines-go_on : LinesGoOn
 lines-go_on h layout octets x =
