@@ -9,13 +9,14 @@ use Rattle.tlv_value.specs.declared.layout.Layout.{Layout}
 use Rattle.tlv_value.specs.declared.primitive.Primitive.{Primitive}
 use Rattle.tlv_value.specs.Kind.{kind_of}
 use Rattle.tlv_value.specs.Laws.{LinesBegin, LinesEnd, LinesGoOn, PiecesJoin}
-use Rattle.tlv_value.specs.Rows.{full_rows, open_row, rows_of}
+use Rattle.tlv_value.specs.Rows.{full_rows, full_rows_in, open_row, open_row_in, rows_of}
 use Rattle.tlv_value.specs.Private.PrimitiveLines.{lines_in_steps, new_text_of, primitive_line, primitive_lines, primitive_of}
 use Rattle.tlv_value.specs.ValueLines.{has_line, open_lines, row_lines, whole_lines}
 use Rattle.tlv_value.specs.ValueTextState.{RowsState, ValueTextState, begin_lines, contents_lines, end_lines, first_rows, first_rows_after, full_row_lines, kind_in, line_in, new_value_text, rows_after, rows_state_after, state_for, value_text_after}
 use Rattle.tlv_value.specs.Value.{NameOf, is_long, long_text, long_value, row_octets, short_value}
 use Rattle.std.proofs.lemmas.Bool.Decides.{nat_tests}
 use Rattle.tlv_value.proofs.TextLemmas.Puts.{row_lines-append}
+use Rattle.tlv_value.proofs.RowLemmas.FilledRows.{rows-filled}
 use Rattle.tlv_value.proofs.RowLemmas.OneCut.{rows-join, rows-parts}
 
 abbrev kept_with : ℕ → List ℕ → RowsState
@@ -171,7 +172,7 @@ open-lines h layout octets =
 
 new-nothing_at : (kind : Kind) (layout : Layout) (line : List ℕ → List ℕ) (size : ℕ) (long wrote_line : Bool) → new_by kind layout line size long wrote_line (begin_kept kind) [] ≡ []
 new-nothing_at kind layout line size false wrote_line = refl
-new-nothing_at kind layout line size true true = refl
+new-nothing_at kind layout line size true true = ap (λ (rows : List (List ℕ)). row_lines kind layout 0 (full_rows_in kind rows)) (rows-filled kind [])
 new-nothing_at kind layout line size true false = refl
 
 pub new-nothing : (h : HeaderValue) (layout : Layout) → contents_lines (new_value_text h layout) [] ≡ []
@@ -181,7 +182,9 @@ new-nothing h layout =
 
 after-nothing_at : (kind : Kind) (layout : Layout) (line : List ℕ → List ℕ) (size : ℕ) (long wrote_line : Bool) → wrote_line ≡ has_line kind [] → kept_by kind layout line size long wrote_line (begin_kept kind) [] ≡ begin_kept kind
 after-nothing_at kind layout line size false wrote_line e = refl
-after-nothing_at kind layout line size true true e = ap (λ (b : Bool). record { wrote_line = b; rows = 0; row = [] }) e
+after-nothing_at kind layout line size true true e =
+    ap (λ (rows : List (List ℕ)). kept_with (0 + length (full_rows_in kind rows)) (open_row_in kind rows)) (rows-filled kind [])
+    ∙ ap (λ (b : Bool). record { wrote_line = b; rows = 0; row = [] }) e
 after-nothing_at kind layout line size true false e = refl
 
 pub after-nothing : (h : HeaderValue) (layout : Layout) → value_text_after (new_value_text h layout) [] ≡ new_value_text h layout

@@ -1,4 +1,4 @@
-use Rattle.std.proofs.Common.{◌≡◌, List, ℕ, [], refl, sym, ap, ◌∙◌}
+use Rattle.std.proofs.Common.{rules, ◌≡◌, List, ℕ, [], refl, sym, ap, ◌∙◌}
 use Rattle.std.specs.Prelude.{Bool, true, false, if◌then◌else◌}
 use Rattle.tlv_io.proofs.Puts.{puts_nothing, puts_text}
 use Rattle.tlv_value.specs.declared.kind.Kind.{Kind}
@@ -33,6 +33,14 @@ returns-then-not-is_long-clause-puts g c =
     ] in
     puts_text state_of _ _ _ _ _ none (puts_nothing state_of _ _)
 
+pub returns-clause-puts : goal.returns-clause-puts
+returns-clause-puts g c = search rules
+
+-- in other words
+
 pub returns-then-not-is_long-clause-whole : goal.returns-then-not-is_long-clause-whole
 returns-then-not-is_long-clause-whole g c h layout e =
     begin-puts g.D.Drain.state _ _ _ h layout c.args.self.now e (returns-then-not-is_long-clause-puts g c)
+
+pub returns-clause-whole : goal.returns-clause-whole
+returns-clause-whole g c h layout e = begin-puts g.D.Drain.state _ _ _ h layout c.args.self.now e (returns-clause-puts g c)
