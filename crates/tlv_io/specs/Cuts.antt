@@ -1,6 +1,7 @@
 -- How octets are cut into rows, as a condition on rows: by how many octets a full row has, and how many want to stand
 -- in one row, from an octet on.
-use Rattle.std.specs.Prelude.{◌≡◌, ◌≢◌, ◌⊎◌, ℕ, ◌+◌, ◌<◌, ◌≤◌, List, [], ◌∷◌, ◌++◌, length, slice_index}
+use Rattle.std.specs.Prelude.{◌≡◌, ◌≢◌, ◌⊎◌, ℕ, ◌+◌, ◌<◌, ◌≤◌, if◌then◌else◌, List, [], ◌∷◌, ◌++◌, length, slice_index}
+use Rattle.std.specs.Int.{is_in_range}
 
 abbrev pub octets_of_rows : List (List ℕ) → List ℕ
 octets_of_rows [] = []
@@ -41,3 +42,11 @@ module _ (size : ℕ) (wanted : ℕ → ℕ) where
   pub record RowsOf (octets : List ℕ) : Type 0 where
     pub rows : List (List ℕ)
     pub is_cut : IsCut octets rows
+
+-- RFC 3629, 4: of how many octets a character of UTF-8 is that begins with this one; 1 if none does
+abbrev pub utf8_length : ℕ → ℕ
+utf8_length x =
+    if is_in_range 0xc2 0xdf x then 2
+    else if is_in_range 0xe0 0xef x then 3
+    else if is_in_range 0xf0 0xf4 x then 4
+    else 1

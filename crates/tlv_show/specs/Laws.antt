@@ -13,7 +13,7 @@ use Rattle.tlv_show.specs.CheckStep.{check_step}
 use Rattle.tlv_show.specs.DumpStep.{new_dump}
 use Rattle.tlv_head.specs.Header.{HeaderValue, announced_length}
 use Rattle.tlv_value.specs.Names.{Table}
-use Rattle.tlv_value.specs.ValueTextState.{whole_lines}
+use Rattle.tlv_value.specs.ValueLines.{whole_lines}
 use Rattle.tlv_walk.specs.Events.{Begin, Bytes, End, events}
 use Rattle.tlv_walk.specs.Follow.{effect_of}
 use Rattle.tlv_walk.specs.Forest.{Forest}

@@ -1,13 +1,13 @@
 pub mod ArcWords
 pub mod Arcs
 pub mod Ends
-pub mod KindValues
 pub mod LineLengths
 pub mod Numbers
 pub mod ObjectLines
 pub mod Pieces
 pub mod PlainUnits
 pub mod Puts
+pub mod Rests
 pub mod Short
 pub mod Subidentifier
 pub mod Texts

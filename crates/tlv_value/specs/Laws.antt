@@ -6,12 +6,9 @@ use Rattle.tlv_value.specs.declared.kind.Kind.{Kind}
 use Rattle.tlv_value.specs.declared.layout.Layout.{Layout}
 use Rattle.tlv_value.specs.Cuts.{character_length, row_size}
 use Rattle.tlv_value.specs.Rows.{rows_of}
-use Rattle.tlv_value.specs.ValueTextState.{ValueTextState, begin_lines, contents_lines, end_lines, new_value_text, open_lines, value_text_after, whole_lines}
+use Rattle.tlv_value.specs.ValueLines.{open_lines, whole_lines}
+use Rattle.tlv_value.specs.ValueTextState.{ValueTextState, begin_lines, contents_lines, end_lines, new_value_text, state_for, value_text_after}
 use Rattle.tlv_value.specs.Value.{NameOf}
-
--- the state that stands for contents of which these octets have come
-abbrev pub state_for : HeaderValue → Layout → List ℕ → ValueTextState
-state_for h layout octets = value_text_after (new_value_text h layout) octets
 
 -- two pieces, one after the other, are as one
 abbrev pub PiecesJoin : Type 0
@@ -20,9 +17,12 @@ PiecesJoin =
     → (value_text_after (value_text_after s x) y ≡ value_text_after s (x ++ y))
     × (contents_lines s (x ++ y) ≡ contents_lines s x ++ contents_lines (value_text_after s x) y)
 
--- with the header, the lines of a primitive without contents so far
+-- with the header, the lines of a primitive without contents so far; the state then stands for none
 abbrev pub LinesBegin : Type 0
-LinesBegin = (h : HeaderValue) (layout : Layout) → open_lines h layout [] ≡ begin_lines (new_value_text h layout)
+LinesBegin =
+    (h : HeaderValue) (layout : Layout)
+    → (open_lines h layout [] ≡ begin_lines (new_value_text h layout))
+    × (state_for h layout [] ≡ new_value_text h layout)
 
 -- with more octets, what is new in the lines of the primitive, which is still open
 abbrev pub LinesGoOn : Type 0

@@ -10,8 +10,9 @@ pub mod OpenRow
 pub mod Units
 pub mod Layout
 pub mod Value
-pub mod KindValues
+pub mod ValueLines
 pub mod ValueTextState
+pub mod PutsRest
 pub mod TextFields
 pub mod Laws
 pub mod Types

@@ -1,5 +1,6 @@
 -- The names file: lines of an object identifier and its name.
 use Rattle.std.specs.Prelude.{ℕ, ◌+◌, ◌-◌, ◌==◌, Bool, false, ◌&&◌, ◌||◌, not, nat_le, nat_lt, if◌then◌else◌, List, [], ◌∷◌, ◌++◌, length, map, flat_map, take, slice_index, Option, Some, None, Result, Ok, Err}
+use Rattle.std.specs.Char.{is_ascii_digit}
 use Rattle.std.specs.List.{list_all, list_any, onto_first, slice_split, before_first, after_first}
 use Rattle.std.specs.Option.{option_map_or, option_or}
 use Rattle.std.specs.Ordering.{nat_cmp}
@@ -8,7 +9,6 @@ use Rattle.std.specs.Str.{bytes_eq}
 use Rattle.std.specs.Coded.{Coded, coded_list, coded_ℕ}
 use Rattle.std.specs.FinMap as finite
 use Rattle.tlv_head.specs.Header.{value_of}
-use Rattle.tlv_value.specs.Times.{is_digit}
 use Rattle.tlv_value.specs.Units.{is_printable}
 use Rattle.tlv_value.specs.declared.names.fault.NamesFault.{NamesFault}
 use Rattle.tlv_value.specs.declared.names.fault.NamesFault.TheVariants.{BadOid, BadName, Repeated, TooLarge}
@@ -55,7 +55,7 @@ decimal_number digits = value_of 10 (map (λ x. x - 48) digits)
 -- digits without a leading zero (48); 0 itself is an arc
 abbrev pub is_arc : List ℕ → Bool
 is_arc part =
-    not (length part == 0) && list_all is_digit part && ((length part == 1) || not (slice_index part 0 == 48))
+    not (length part == 0) && list_all is_ascii_digit part && ((length part == 1) || not (slice_index part 0 == 48))
 
 -- X.660: the first arc is 0, 1 or 2, and below 0 and 1 the second is at most 39
 abbrev pub may_begin : List ℕ → List ℕ → Bool

@@ -1,6 +1,6 @@
 pub mod Arcs
 pub mod Checks
-pub mod KindValues
+pub mod PlainText
 pub mod NamesSteps
 pub mod ObjectLines
 pub mod Plain

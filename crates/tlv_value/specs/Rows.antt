@@ -1,31 +1,19 @@
 -- The rows of long contents.
-use Rattle.std.specs.Prelude.{ℕ, ◌≤◌, Bool, eqb, if◌then◌else◌, List, [], ◌∷◌, ◌++◌, length, refl}
-use Rattle.std.specs.Int.{is_in_range}
-use Rattle.std.proofs.lemmas.Bool.{leb-true}
+use Rattle.std.specs.Prelude.{ℕ, Bool, eqb, if◌then◌else◌, List, [], ◌∷◌, ◌++◌, length}
 use Rattle.tlv_io.specs.Cuts.{RowsOf}
-use Rattle.tlv_io.proofs.CutOf.{cut_of, least-if, most-if}
+use Rattle.tlv_io.proofs.CutOf.{cut_of_characters, cut_of_octets}
 use Rattle.tlv_value.specs.declared.kind.Kind.{Kind}
 use Rattle.tlv_value.specs.declared.kind.Kind.TheVariants.{Utf8}
 use Rattle.tlv_value.specs.Kind.{is_text}
 use Rattle.tlv_value.specs.Cuts.{character_length, row_size}
 
--- any row has room for an octet,
-pub one_fits : (kind : Kind) → 1 ≤ row_size kind
-one_fits kind = least-if (is_text kind) 1 64 16 (leb-true 1 64 refl) (leb-true 1 16 refl)
-
--- and for what wants to stand in one row with it
-pub character_fits : (kind : Kind) (x : ℕ) → character_length kind x ≤ row_size kind
-character_fits Utf8 x =
-    most-if (is_in_range 0xc2 0xdf x) 2 _ 64 (leb-true 2 64 refl)
-    (most-if (is_in_range 0xe0 0xef x) 3 _ 64 (leb-true 3 64 refl)
-    (most-if (is_in_range 0xf0 0xf4 x) 4 1 64 (leb-true 4 64 refl) (leb-true 1 64 refl)))
-character_fits kind x = one_fits kind
-
+-- a cut of any octets, as the type says. That there is one is a lemma: so these two names are from `proofs`, and a
+-- reader need not look there
 abbrev pub cut_of_contents : (kind : Kind) (octets : List ℕ) → RowsOf (row_size kind) (character_length kind) octets
-cut_of_contents kind octets =
-    cut_of (row_size kind) (character_length kind) (one_fits kind) (character_fits kind) octets
+cut_of_contents Utf8 octets = cut_of_characters octets
+cut_of_contents kind octets = cut_of_octets (is_text kind) octets
 
--- the rows of octets: those of a cut. There is one for all octets (`cut_of`), and only one (`laws::rows_have_one_cut`)
+-- the rows of octets: those of that cut, which is the only one (`laws::rows_have_one_cut`)
 abbrev pub rows_of : Kind → List ℕ → List (List ℕ)
 rows_of kind octets = (cut_of_contents kind octets).rows
 

@@ -1,5 +1,6 @@
 -- Times as texts: X.680 46 and 47, X.690 11.7 and 11.8.
 use Rattle.std.specs.Prelude.{ℕ, ◌+◌, ◌-◌, ◌*◌, Bool, true, false, ◌&&◌, nat_le, if◌then◌else◌, List, [], ◌∷◌, ◌++◌, flat_map}
+use Rattle.std.specs.Char.{is_ascii_digit}
 
 -- a form of text, by what may follow a front of it: for some octets, each rest that some front of the form leaves
 abbrev pub Form : Type 0
@@ -36,14 +37,10 @@ one low high (x ∷ xs) = if nat_le low x && nat_le x high then xs ∷ [] else [
 abbrev pub mark : ℕ → Form
 mark x = one x x
 
--- 48 is the digit 0, 57 is 9
-abbrev pub is_digit : ℕ → Bool
-is_digit x = nat_le 48 x && nat_le x 57
-
--- digits, or none
+-- digits, or none: 48 is 0, 57 is 9
 abbrev pub digits : Form
 digits [] = [] ∷ []
-digits (x ∷ xs) = (x ∷ xs) ∷ (if is_digit x then digits xs else [])
+digits (x ∷ xs) = (x ∷ xs) ∷ (if is_ascii_digit x then digits xs else [])
 
 -- the number that two digits stand for
 abbrev pub two_digit_number : ℕ → ℕ → ℕ
@@ -54,7 +51,7 @@ abbrev pub two : ℕ → ℕ → Form
 two low high [] = []
 two low high (x ∷ []) = []
 two low high (x ∷ y ∷ rest) =
-    if is_digit x && is_digit y && nat_le low (two_digit_number x y) && nat_le (two_digit_number x y) high
+    if is_ascii_digit x && is_ascii_digit y && nat_le low (two_digit_number x y) && nat_le (two_digit_number x y) high
     then rest ∷ []
     else []
 

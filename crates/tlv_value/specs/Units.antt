@@ -2,9 +2,9 @@
 use Rattle.std.specs.Prelude.{ℕ, zero, suc, ◌+◌, ◌-◌, ◌*◌, ◌/◌, ◌%◌, ◌&&◌, ◌||◌, Bool, eqb, nat_le, if◌then◌else◌, List, [], ◌∷◌, ◌++◌, length, flat_map, take, slice_index, codes}
 use Rattle.std.specs.Str.{is_utf8}
 use Rattle.hex.specs.Hex.{encode_lower}
+use Rattle.tlv_io.specs.Cuts.{utf8_length}
 use Rattle.tlv_value.specs.declared.kind.Kind.{Kind}
 use Rattle.tlv_value.specs.declared.kind.Kind.TheVariants.{Utf8, Ucs2, Ucs4}
-use Rattle.tlv_value.specs.Cuts.{character_length}
 
 -- 22 is the quotation mark, 5c the reverse solidus
 abbrev pub printable_text : ℕ → List ℕ
@@ -39,7 +39,7 @@ three_octets n = n / 65536 % 256 ∷ n / 256 % 256 ∷ n % 256 ∷ []
 
 -- RFC 3629, 4: the octets of the character that the first octet announces, as far as they are there
 abbrev pub character_octets : List ℕ → List ℕ
-character_octets octets = take (character_length Utf8 (slice_index octets 0)) octets
+character_octets octets = take (utf8_length (slice_index octets 0)) octets
 
 -- how many octets in front make a unit: a character, or an octet that belongs to none
 abbrev pub unit_size : Kind → List ℕ → ℕ

@@ -34,6 +34,18 @@ octets_value octets =
     then record { text = spaced_pairs octets; rows = [] }
     else record { text = []; rows = rows_of Octets octets }
 
+-- ---- Kind by kind. What cannot be read is shown as octets.
+
+-- 8.2.2: FALSE is zero
+abbrev pub boolean_value : List ℕ → Value
+boolean_value (x ∷ []) = value_on_line (if eqb x 0 then codes "FALSE" else codes "TRUE")
+boolean_value octets = octets_value octets
+
+-- 8.3.3, 8.4
+abbrev pub integer_value : List ℕ → Value
+integer_value [] = octets_value []
+integer_value (x ∷ xs) = value_on_line (signed_decimal (signed_sum (bits_of (x ∷ xs))))
+
 abbrev pub bit_count : ℕ → ℕ → List ℕ
 bit_count unused octets = decimal (8 * octets - unused) ++ codes " bits"
 
@@ -41,10 +53,38 @@ bit_count unused octets = decimal (8 * octets - unused) ++ codes " bits"
 abbrev pub is_readable : ℕ → ℕ → Bool
 is_readable unused octets = nat_le unused 7 && (eqb unused 0 || not (eqb octets 0))
 
+-- bits as digits
+abbrev pub digits_of_bits : List ℕ → List ℕ
+digits_of_bits bits = map (λ bit. 48 + bit) bits
+
 -- the bits of octets but for those that are not used, after a space if there are any
 abbrev pub used_digits : ℕ → List ℕ → List ℕ
 used_digits unused [] = []
-used_digits unused octets = 0x20 ∷ map (λ bit. 48 + bit) (take (8 * length octets - unused) (bits_of octets))
+used_digits unused octets = 0x20 ∷ digits_of_bits (take (8 * length octets - unused) (bits_of octets))
+
+-- 8.6.2: the first octet is the number of unused bits in the last one
+abbrev pub bits_value : List ℕ → Value
+bits_value [] = octets_value []
+bits_value (unused ∷ octets) =
+    if is_readable unused (length octets)
+    then value_on_line (bit_count unused (length octets) ++ used_digits unused octets)
+    else octets_value (unused ∷ octets)
+
+-- a name after its object identifier
+abbrev pub name_text : Option (List ℕ) → List ℕ
+name_text name = option_map_or (λ text. codes " (" ++ text ++ codes ")") name []
+
+-- no text has a name: relative object identifiers have none
+abbrev pub no_names : NameOf
+no_names text = None
+
+-- 8.19; 8.20 for one that is relative
+abbrev pub object_value : NameOf → Bool → List ℕ → Value
+object_value name_of relative octets =
+    option_map_or (λ text. value_on_line (text ++ name_text (name_of text)))
+    (dotted_text relative octets) (octets_value octets)
+
+-- ---- Of any kind
 
 -- the longest contents that wait for their last octet, so that they are on the line
 abbrev pub most_on_line : Kind → ℕ
@@ -57,34 +97,33 @@ most_on_line kind = row_size kind
 abbrev pub is_long : Kind → ℕ → Bool
 is_long kind n = nat_lt (most_on_line kind) n
 
--- a name after its object identifier
-abbrev pub name_text : Option (List ℕ) → List ℕ
-name_text name = option_map_or (λ text. codes " (" ++ text ++ codes ")") name []
-
--- the value of contents that are no longer; those that cannot be read are shown as octets
+-- the value of contents that are no longer
 abbrev pub short_value : NameOf → Kind → List ℕ → Value
--- 8.2.2: FALSE is zero
-short_value name_of Boolean (x ∷ []) = value_on_line (if eqb x 0 then codes "FALSE" else codes "TRUE")
--- 8.3.3, 8.4
-short_value name_of Integer (x ∷ xs) = value_on_line (signed_decimal (signed_sum (bits_of (x ∷ xs))))
--- 8.6.2: the first octet is the number of unused bits in the last one
-short_value name_of Bits (unused ∷ octets) =
-    if is_readable unused (length octets)
-    then value_on_line (bit_count unused (length octets) ++ used_digits unused octets)
-    else octets_value (unused ∷ octets)
-short_value name_of Object octets =
-    option_map_or (λ text. value_on_line (text ++ name_text (name_of text)))
-    (dotted_text false octets) (octets_value octets)
-short_value name_of Relative octets = option_map_or value_on_line (dotted_text true octets) (octets_value octets)
+short_value name_of Boolean octets = boolean_value octets
+short_value name_of Integer octets = integer_value octets
+short_value name_of Bits octets = bits_value octets
+short_value name_of Object octets = object_value name_of false octets
+short_value name_of Relative octets = object_value no_names true octets
 short_value name_of kind octets = if is_text kind then value_on_line (quoted_text kind octets) else octets_value octets
 
+-- of long contents: what is on the line of n octets, of which these have come. 8.6.2: of a BIT STRING the number of
+-- bits, if its first octet can be read
+abbrev pub long_text : Kind → ℕ → List ℕ → List ℕ
+long_text Bits n (unused ∷ octets) = if nat_le unused 7 then 0x20 ∷ bit_count unused (n - 1) else []
+long_text kind n octets = []
+
+-- the octets that are in rows: not such a first octet
+abbrev pub row_octets : Kind → List ℕ → List ℕ
+row_octets Bits (unused ∷ octets) = if nat_le unused 7 then octets else unused ∷ octets
+row_octets kind octets = octets
+
 -- the value of long contents of n octets, of which these have come, as far as it is known: whether they are whole says
--- the first argument. 8.6.2: of a BIT STRING the number of bits is on the line, if its first octet can be read
+-- the first argument
 abbrev pub long_value : Bool → Kind → ℕ → List ℕ → Value
-long_value whole Bits n (unused ∷ octets) =
-    if nat_le unused 7 then record { text = 0x20 ∷ bit_count unused (n - 1); rows = known_rows whole Bits octets }
-    else record { text = []; rows = known_rows whole Bits (unused ∷ octets) }
-long_value whole kind n octets = record { text = []; rows = known_rows whole kind octets }
+long_value whole kind n octets = record {
+  text = long_text kind n octets;
+  rows = known_rows whole kind (row_octets kind octets);
+}
 
 -- contents that are whole
 abbrev pub whole_value : NameOf → Kind → List ℕ → Value
@@ -93,10 +132,10 @@ whole_value name_of kind octets =
     then long_value true kind (length octets) octets
     else short_value name_of kind octets
 
--- the text of a row: characters, or pairs of digits with spaces between them
-abbrev pub row_text : Kind → List ℕ → List ℕ
-row_text kind row = if is_text kind then quoted_text kind row else join_by (λ x. encode_lower (x ∷ [])) (codes " ") row
+-- pairs of digits with spaces between them
+abbrev pub joined_pairs : List ℕ → List ℕ
+joined_pairs octets = join_by (λ x. encode_lower (x ∷ [])) (codes " ") octets
 
--- no text has a name
-abbrev pub no_names : NameOf
-no_names text = None
+-- the text of a row: characters, or pairs of digits
+abbrev pub row_text : Kind → List ℕ → List ℕ
+row_text kind row = if is_text kind then quoted_text kind row else joined_pairs row

@@ -8,7 +8,7 @@ pub fn pieces_join()
     ensures { PiecesJoin }
 {}
 
-/// What `begin` writes are the lines of a primitive of which no contents octet has come.
+/// What `begin` writes are the lines of a primitive of which no contents octet has come. The state stands for none.
 pub fn lines_begin()
     ensures { LinesBegin }
 {}

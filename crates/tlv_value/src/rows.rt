@@ -1,7 +1,8 @@
 //! Where a row of long contents ends.
 ghost use Rattle.std.specs.Prelude.{◌≡◌, ◌+◌, ◌<◌, ◌≤◌, false, length, slice_index};
 ghost use Rattle.tlv_value.specs.Cuts.{row_size};
-ghost use Rattle.tlv_value.specs.Private.Room.{HaveRoom, has_room, utf8_length};
+ghost use Rattle.tlv_io.specs.Cuts.{utf8_length};
+ghost use Rattle.tlv_value.specs.Private.Room.{HaveRoom, has_room};
 
 use crate::kind::Kind;
 
@@ -16,7 +17,7 @@ pub(crate) fn row_size(kind: Kind) -> usize
 }
 
 /// How many of the octets in front have room in a row that has so many already.
-pub(crate) fn fitting(kind: Kind, begun: usize, octets: &[u8]) -> usize
+pub(crate) fn fitting_length(kind: Kind, begun: usize, octets: &[u8]) -> usize
     requires { begun ≤ row_size kind }
     ensures within { result ≤ length octets.now }
     ensures bound { begun + result ≤ row_size kind }

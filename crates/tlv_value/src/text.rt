@@ -1,10 +1,13 @@
 //! The lines of a primitive, from its contents in pieces.
-ghost use Rattle.std.specs.Prelude.{◌≡◌, ◌+◌, ◌<◌, ◌≤◌, ◌^◌, ◌∷◌, [], length, OnOk, None, true, false};
+ghost use Rattle.std.specs.Prelude.{◌≡◌, ◌+◌, ◌<◌, ◌≤◌, ◌^◌, ◌++◌, ◌∷◌, [], ℕ, List, length, OnOk, None, true, false};
+ghost use Rattle.tlv_head.specs.Header.{HeaderValue, announced_length};
 ghost use Rattle.tlv_io.specs.Out.{Puts};
 ghost use Rattle.tlv_value.specs.Kind.{kind_of};
 ghost use Rattle.tlv_value.specs.Private.PrimitiveLines.{new_text_of};
-ghost use Rattle.tlv_value.specs.ValueTextState.{begin_lines, contents_lines, end_lines, new_value_text, value_text_after};
-ghost use Rattle.tlv_value.specs.KindValues.{row_octets};
+ghost use Rattle.tlv_value.specs.PutsRest.{PutsRest};
+ghost use Rattle.tlv_value.specs.ValueLines.{open_lines, whole_lines};
+ghost use Rattle.tlv_value.specs.ValueTextState.{begin_lines, contents_lines, end_lines, new_value_text, state_for, value_text_after};
+ghost use Rattle.tlv_value.specs.Value.{row_octets};
 
 use crate::kind::Kind;
 use crate::primitive::Primitive;
@@ -119,14 +122,17 @@ impl ValueText {
         self.left
     }
 
-    /// Writes what is known with the header.
+    /// Writes what is known with the header: the lines of its primitive without contents so far.
     ///
     /// # Errors
     ///
     /// `WriteFault` exactly if the drain's failures rose in the call.
     #[inline(always)]
     pub fn begin<D: Drain>(&self, out: &mut Out<'_, D>) -> Result<(), WriteFault>
-        ensures { Puts D.state out.old out.new (begin_lines self.now) result }
+        ensures puts { Puts D.state out.old out.new (begin_lines self.now) result }
+        ensures whole { (h : HeaderValue) (layout : Layout)
+            → self.now ≡ new_value_text h layout
+            → Puts D.state out.old out.new (open_lines h layout []) result }
     {
         if !self.value.is_long() || !self.has_line {
             return Ok(());
@@ -134,7 +140,8 @@ impl ValueText {
         self.value.put_bare(out)
     }
 
-    /// Writes what is known with more contents octets.
+    /// Writes what is known with more contents octets: after the lines of its primitive with the contents before
+    /// them, the rest of its lines with these too.
     ///
     /// # Errors
     ///
@@ -143,6 +150,10 @@ impl ValueText {
         requires { length octets.now ≤ self.old.left }
         ensures state { OnOk result (self.new ≡ value_text_after self.old octets.now) }
         ensures puts { Puts D.state out.old out.new (contents_lines self.old octets.now) result }
+        ensures whole { (h : HeaderValue) (layout : Layout) (c : List ℕ)
+            → self.old ≡ state_for h layout c
+            → PutsRest D.state out.old out.new
+            (open_lines h layout c) (open_lines h layout (c ++ octets.now)) result }
     {
         self.left -= octets.len() as u64;
         if !self.value.is_long() {
@@ -162,7 +173,8 @@ impl ValueText {
         put_rows(kind, layout, &mut self.row, &mut self.rows, rest, out)
     }
 
-    /// Writes what is known with the last contents octet.
+    /// Writes what is known with the last contents octet: after what was written before it, the rest of the lines
+    /// of the whole primitive.
     ///
     /// # Errors
     ///
@@ -176,6 +188,11 @@ impl ValueText {
         ensures state { self.new ≡ self.old }
         ensures puts { Puts D.state out.old out.new
             (end_lines (N.name_of names.now) self.old) result }
+        ensures whole { (h : HeaderValue) (layout : Layout) (c : List ℕ)
+            → self.old ≡ state_for h layout c
+            → length c ≡ announced_length h.size
+            → PutsRest D.state out.old out.new
+            (open_lines h layout c) (whole_lines (N.name_of names.now) h layout c) result }
     {
         let contents = self.row.as_slice();
         if self.value.is_long() {

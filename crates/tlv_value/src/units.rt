@@ -171,12 +171,12 @@ fn write_escaped_number(held: &mut HeldOctets, octets: &[u8])
     let digits = &mut digits[..2 * octets.len()];
     let _ = hex::encode_to_slice(octets, digits);
     held.add_if_room(b"\\u{");
-    held.add_if_room(significant(digits));
+    held.add_if_room(without_zeros(digits));
     held.add_if_room(b"}");
 }
 
 /// Digits without the zeros in front of them, but for the last.
-fn significant(digits: &[u8]) -> &[u8]
+fn without_zeros(digits: &[u8]) -> &[u8]
     ensures { result.now ≡ without_zeros digits.now }
 {
     let mut rest = digits;

@@ -8,7 +8,7 @@ use Rattle.tlv_value.specs.declared.finding.Finding.{Finding}
 use Rattle.tlv_value.specs.declared.layout.Layout.{Layout}
 use Rattle.tlv_value.specs.ValueCheckState.{value_check_after, has_unused_bits, new_value_check}
 use Rattle.tlv_value.specs.Names.{Table}
-use Rattle.tlv_value.specs.ValueTextState.{open_lines, whole_lines}
+use Rattle.tlv_value.specs.ValueLines.{open_lines, whole_lines}
 use Rattle.tlv_value.specs.Types.{is_primitive}
 use Rattle.tlv_walk.specs.declared.follow.Go.{Go}
 use Rattle.tlv_walk.specs.Events.{Begin, Bytes, End, EventValue, Pad, closing_event, end_offset, events, opening_events}

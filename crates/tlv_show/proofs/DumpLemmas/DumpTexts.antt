@@ -10,7 +10,8 @@ use Rattle.tlv_head.specs.Header.{HeaderValue, announced_length, octets_of}
 use Rattle.tlv_head.specs.Private.Header.{AllowsSize}
 use Rattle.tlv_value.specs.declared.layout.Layout.{Layout}
 use Rattle.tlv_value.specs.Names.{Table}
-use Rattle.tlv_value.specs.ValueTextState.{ValueTextState, begin_lines, contents_lines, end_lines, new_value_text, open_lines, value_text_after, whole_lines}
+use Rattle.tlv_value.specs.ValueLines.{open_lines, whole_lines}
+use Rattle.tlv_value.specs.ValueTextState.{ValueTextState, begin_lines, contents_lines, end_lines, new_value_text, value_text_after}
 use Rattle.tlv_value.specs.Value.{NameOf}
 use Rattle.tlv_value.proofs.TextLemmas.Pieces.{lines-end, open-lines}
 use Rattle.tlv_walk.specs.Events.{Begin, Bytes, Close, End, Enter, EventValue, Leave, Open, Pad, Unused, closing_event, end_offset, opening_events}

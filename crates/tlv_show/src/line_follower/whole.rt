@@ -4,7 +4,7 @@ ghost use Rattle.std.specs.FinMap as finite;
 ghost use Rattle.std.specs.Prelude.{◌≡◌, length};
 ghost use Rattle.tlv_head.specs.Header.{announced_length};
 ghost use Rattle.tlv_io.specs.Out.{Puts};
-ghost use Rattle.tlv_value.specs.ValueTextState.{whole_lines};
+ghost use Rattle.tlv_value.specs.ValueLines.{whole_lines};
 ghost use Rattle.tlv_show.specs.Private.LinesStep.{past_primitive};
 
 use super::Lines;

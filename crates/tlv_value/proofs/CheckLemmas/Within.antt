@@ -5,7 +5,8 @@ use Rattle.std.specs.List.{list_any}
 use Rattle.std.proofs.lemmas.Bool.{or_cases, leb-true, le-leb}
 use Rattle.std.proofs.lemmas.Bool.Decides.{nat_tests}
 use Rattle.std.proofs.lemmas.List.Folds.{list_any-append}
-use Rattle.tlv_value.specs.Times.{◌then◌, ◌or◌, Form, canonical_fraction, canonical_generalized_time_form, canonical_utc_time_form, day, digits, fraction, generalized_time_form, general_zone, has_form, hour, is_digit, is_rest_empty, mark, maybe, minute, no_octets, one, second, sign, two, utc_time_form}
+use Rattle.std.specs.Char.{is_ascii_digit}
+use Rattle.tlv_value.specs.Times.{◌then◌, ◌or◌, Form, canonical_fraction, canonical_generalized_time_form, canonical_utc_time_form, day, digits, fraction, generalized_time_form, general_zone, has_form, hour, is_rest_empty, mark, maybe, minute, no_octets, one, second, sign, two, utc_time_form}
 use Rattle.tlv_value.specs.Private.Checks.{general_time_findings, time_findings, utc_time_findings}
 
 abbrev is_nil : List ℕ → Bool
@@ -117,13 +118,13 @@ within-two low high more le = record { leaves = leave }
     leave test (x ∷ []) h = h
     leave test (x ∷ y ∷ rest) h =
         let n : ℕ = 10 * (x - 48) + (y - 48) in
-        let before : Bool = is_digit x && is_digit y && nat_le low n in
+        let before : Bool = is_ascii_digit x && is_ascii_digit y && nat_le low n in
         if-within test (before && nat_le n high) (before && nat_le n more) (rest ∷ []) (and-last before (nat_le n high) (nat_le n more) (greater n)) h
 
 -- there may be no digits: then all is left
 no-digits : (test : List ℕ → Bool) (octets : List ℕ) → list_any test (octets ∷ []) ≡ true → list_any test (digits octets) ≡ true
 no-digits test [] h = h
-no-digits test (x ∷ xs) h = or-both (test (x ∷ xs)) false (test (x ∷ xs)) (list_any test (if is_digit x then digits xs else [])) (λ e. e) (λ e. absurd cc) h
+no-digits test (x ∷ xs) h = or-both (test (x ∷ xs)) false (test (x ∷ xs)) (list_any test (if is_ascii_digit x then digits xs else [])) (λ e. e) (λ e. absurd cc) h
 
 -- something is left only if the test passes
 there :
@@ -134,7 +135,7 @@ there :
 there p true rests z h = (refl, h)
 there p false rests z h = absurd cc
 
-not-zero : (x : ℕ) → (nat_le 49 x && nat_le x 57) ≡ true → is_digit x ≡ true
+not-zero : (x : ℕ) → (nat_le 49 x && nat_le x 57) ≡ true → is_ascii_digit x ≡ true
 not-zero x h = grind (arith, nat_tests)
 
 -- digits, and one after them that is not 0, are digits
@@ -146,22 +147,22 @@ digit-front :
     (test : List ℕ → Bool) (x : ℕ) (xs : List ℕ)
     → IsMore test xs
     → list_any test ((digits then one 49 57) (x ∷ xs)) ≡ true
-    → (is_digit x ≡ true) × (list_any test (digits xs) ≡ true)
+    → (is_ascii_digit x ≡ true) × (list_any test (digits xs) ≡ true)
 digit-front test x xs more h =
     let first : List (List ℕ) = one 49 57 (x ∷ xs) in
-    let second : List (List ℕ) = flat_map (one 49 57) (if is_digit x then digits xs else []) in
+    let second : List (List ℕ) = flat_map (one 49 57) (if is_ascii_digit x then digits xs else []) in
     go (or_cases (list_any test first) (list_any test second) (sym (list_any-append test first second) ∙ h))
   where
-    go : (list_any test (one 49 57 (x ∷ xs)) ≡ true) ⊎ (list_any test (flat_map (one 49 57) (if is_digit x then digits xs else [])) ≡ true)
-        → (is_digit x ≡ true) × (list_any test (digits xs) ≡ true)
+    go : (list_any test (one 49 57 (x ∷ xs)) ≡ true) ⊎ (list_any test (flat_map (one 49 57) (if is_ascii_digit x then digits xs else [])) ≡ true)
+        → (is_ascii_digit x ≡ true) × (list_any test (digits xs) ≡ true)
     go (inl e) = let t = there (list_any test) (nat_le 49 x && nat_le x 57) (xs ∷ []) refl e in (not-zero x t.0, no-digits test xs t.1)
-    go (inr e) = let t = there (λ (rests : List (List ℕ)). list_any test (flat_map (one 49 57) rests)) (is_digit x) (digits xs) refl e in (t.0, more t.1)
+    go (inr e) = let t = there (λ (rests : List (List ℕ)). list_any test (flat_map (one 49 57) rests)) (is_ascii_digit x) (digits xs) refl e in (t.0, more t.1)
 
 digits-more : (test : List ℕ → Bool) (octets : List ℕ) → IsMore test octets
 digits-more test [] h = absurd cc
 digits-more test (x ∷ xs) h =
     let t = digit-front test x xs (digits-more test xs) h in
-    or-right (test (x ∷ xs)) (list_any test (if is_digit x then digits xs else [])) (rw t.0 t.1)
+    or-right (test (x ∷ xs)) (list_any test (if is_ascii_digit x then digits xs else [])) (rw t.0 t.1)
 
 -- digits of which the last is not 0 are one digit or more
 within-digits : Within (digits then one 49 57) (one 48 57 then digits)

@@ -9,7 +9,7 @@ use Rattle.std.proofs.lemmas.List.{take_all, take_more, take_rest}
 use Rattle.std.proofs.lemmas.List.Splits.{slice_split_first}
 use Rattle.std.specs.List.{onto_first}
 use Rattle.tlv_value.specs.Names.{are_first_arcs, decimal_number, dotted_parts, entry, entry_line, is_arc, is_blank, is_dotted, is_name, lines, may_begin, names_line, no_name, pair_line, without_first_blanks, without_last_blanks, without_outer_blanks, without_return}
-use Rattle.tlv_value.specs.Times.{is_digit}
+use Rattle.std.specs.Char.{is_ascii_digit}
 
 abbrev is_mark : ℕ → ℕ → Bool
 is_mark mark x = x == mark
@@ -105,12 +105,12 @@ pub some_digit : (arc : List ℕ) → is_arc arc ≡ true → 0 < length arc
 some_digit [] h = absurd (cc)
 some_digit (d ∷ ds) h = omega arith
 
-arc-parts : (arc : List ℕ) → is_arc arc ≡ true → (list_all is_digit arc ≡ true) × (((length arc == 1) || not (slice_index arc 0 == 48)) ≡ true)
+arc-parts : (arc : List ℕ) → is_arc arc ≡ true → (list_all is_ascii_digit arc ≡ true) × (((length arc == 1) || not (slice_index arc 0 == 48)) ≡ true)
 arc-parts arc h =
-    let outer = and_parts (not (length arc == 0) && list_all is_digit arc) ((length arc == 1) || not (slice_index arc 0 == 48)) h in
-    ((and_parts (not (length arc == 0)) (list_all is_digit arc) outer.0).1, outer.1)
+    let outer = and_parts (not (length arc == 0) && list_all is_ascii_digit arc) ((length arc == 1) || not (slice_index arc 0 == 48)) h in
+    ((and_parts (not (length arc == 0)) (list_all is_ascii_digit arc) outer.0).1, outer.1)
 
-digit-between : (x : ℕ) → is_digit x ≡ true → (48 ≤ x) × (x ≤ 57)
+digit-between : (x : ℕ) → is_ascii_digit x ≡ true → (48 ≤ x) × (x ≤ 57)
 digit-between x h = let both = and_parts (nat_le 48 x) (nat_le x 57) h in (leb-true 48 x both.0, leb-true x 57 both.1)
 
 record LongArc (d e : ℕ) : Type 0 where
@@ -122,8 +122,8 @@ record LongArc (d e : ℕ) : Type 0 where
 long-arc : (d e : ℕ) (ds : List ℕ) → is_arc (d ∷ e ∷ ds) ≡ true → LongArc d e
 long-arc d e ds h =
     let known = arc-parts (d ∷ e ∷ ds) h in
-    let all = and_parts (is_digit d) (is_digit e && list_all is_digit ds) known.0 in
-    let more = and_parts (is_digit e) (list_all is_digit ds) all.1 in
+    let all = and_parts (is_ascii_digit d) (is_ascii_digit e && list_all is_ascii_digit ds) known.0 in
+    let more = and_parts (is_ascii_digit e) (list_all is_ascii_digit ds) all.1 in
     let one = digit-between d all.0 in
     let two = digit-between e more.0 in
     let low : 49 ≤ d = elim (or_cases (length (d ∷ e ∷ ds) == 1) (not (d == 48)) known.1) [

@@ -15,8 +15,8 @@ use Rattle.tlv_value.specs.Layout.{margin, no_columns, row_line, spaces}
 use Rattle.tlv_value.specs.Private.Room.{HaveRoom}
 use Rattle.tlv_value.specs.Private.Rows.{full_line, full_lines}
 use Rattle.tlv_value.specs.Rows.{rows_of}
-use Rattle.tlv_value.proofs.RowLemmas.FilledRows.{row_begun, rows_filled}
-use Rattle.tlv_value.specs.ValueTextState.{row_lines}
+use Rattle.tlv_value.proofs.RowLemmas.FilledRows.{row_begun, rows-filled, rows_filled}
+use Rattle.tlv_value.specs.ValueLines.{row_lines}
 use Rattle.tlv_value.specs.Value.{row_text, spaced_pairs}
 use Rattle.tlv_value.proofs.TextLemmas.Puts.{row_lines-append}
 use Rattle.tlv_value.proofs.RowLemmas.RowSteps.{keep, turn}
@@ -72,7 +72,8 @@ module _ (kind : Kind) (short : row_size kind ≡ 16) where
       let l : length more < 16 = omega (arith, length-drop (n * 16) octets) in
       let t = rows_first n octets (omega arith) in
       let k = keep kind [] more (room (length more) more (omega (arith, l))) (omega (arith, l, short)) in
-      ap (λ (r : List (List ℕ)). r ++ last_rows (row_begun kind [] octets)) (t.0 ∙ ap (λ (r : List (List ℕ)). first_chunks 16 n octets ++ r) k.0 ∙ append-nil (first_chunks 16 n octets))
+      rows-filled kind octets
+      ∙ ap (λ (r : List (List ℕ)). r ++ last_rows (row_begun kind [] octets)) (t.0 ∙ ap (λ (r : List (List ℕ)). first_chunks 16 n octets ++ r) k.0 ∙ append-nil (first_chunks 16 n octets))
       ∙ ap (λ (r : List ℕ). first_chunks 16 n octets ++ last_rows r) (t.1 ∙ k.1)
 
   module _ (layout : Layout) (endless : layout.limit ≡ None) where

@@ -13,9 +13,9 @@ use Rattle.tlv_value.specs.Cuts.{character_length, row_size}
 use Rattle.tlv_value.specs.Laws.{RowsHaveOneCut}
 use Rattle.tlv_value.specs.OpenRow.{IsOpenRow}
 use Rattle.tlv_value.specs.Private.Room.{HaveRoom}
-use Rattle.tlv_value.proofs.RowLemmas.FilledRows.{row_begun, rows_filled}
-use Rattle.tlv_value.specs.Rows.{cut_of_contents, full_rows, full_rows_in, one_fits, open_row, open_row_in, rows_of}
-use Rattle.tlv_value.proofs.RowLemmas.RowSteps.{IsFilled, begun-open, keep, none-open, open-room, steps-join, turn}
+use Rattle.tlv_value.proofs.RowLemmas.FilledRows.{row_begun, rows-filled, rows_filled}
+use Rattle.tlv_value.specs.Rows.{cut_of_contents, full_rows, full_rows_in, open_row, open_row_in, rows_of}
+use Rattle.tlv_value.proofs.RowLemmas.RowSteps.{IsFilled, begun-open, keep, none-open, one_fits, open-room, steps-join, turn}
 
 last-row : (row : List ℕ) → 1 ≤ length row → last_rows row ≡ row ∷ []
 last-row [] h = absurd (omega arith)
@@ -87,6 +87,7 @@ pub rows-one-cut : RowsHaveOneCut
 rows-one-cut kind octets rows cut =
     let p = rw cut.together at (parts kind rows cut.each cut.full) in
     sym (all-parts kind rows cut.each) ∙ ap₂ (λ (full : List (List ℕ)) (last : List ℕ). full ++ last_rows last) (sym p.0) (sym p.1)
+    ∙ sym (rows-filled kind octets)
 
 -- ---- what is kept between pieces
 

@@ -3,14 +3,23 @@ use Rattle.std.proofs.Common.{◌≡◌, ◌⊎◌, inl, inr, ℕ, zero, suc, �
 use Rattle.std.proofs.lemmas.Bool.Decides.{nat_tests}
 use Rattle.std.proofs.lemmas.List.{take_all}
 use Rattle.std.specs.Prelude.{eqb, if◌then◌else◌}
-use Rattle.tlv_io.proofs.CutOf.{fit-more, room-first}
+use Rattle.tlv_io.proofs.CutOf.{character-fits, fit-more, room-first, row-some}
 use Rattle.tlv_value.specs.declared.kind.Kind.{Kind}
 use Rattle.tlv_value.specs.declared.kind.Kind.TheVariants.{Octets, Boolean, Integer, Bits, Object, Relative, Text, Utf8, Ucs2, Ucs4}
 use Rattle.tlv_value.specs.Cuts.{character_length, row_size}
+use Rattle.tlv_value.specs.Kind.{is_text}
 use Rattle.tlv_value.specs.OpenRow.{IsOpenRow}
 use Rattle.tlv_value.specs.Private.Room.{HaveRoom, has_room}
 use Rattle.tlv_value.proofs.RowLemmas.FilledRows.{row_begun, rows_filled}
-use Rattle.tlv_value.specs.Rows.{character_fits, one_fits}
+
+-- any row has room for an octet,
+pub one_fits : (kind : Kind) → 1 ≤ row_size kind
+one_fits kind = row-some (is_text kind)
+
+-- and for what wants to stand in one row with it
+character_fits : (kind : Kind) (x : ℕ) → character_length kind x ≤ row_size kind
+character_fits Utf8 x = character-fits x
+character_fits kind x = one_fits kind
 
 -- the first octet of a row is not its last
 first-open : (kind : Kind) → eqb 1 (row_size kind) ≡ false

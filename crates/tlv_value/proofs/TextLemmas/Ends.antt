@@ -14,10 +14,10 @@ use Rattle.tlv_value.specs.Private.ObjectLines.{object_lines, rest_of_lines}
 use Rattle.tlv_value.specs.Private.PrimitiveLines.{front_of, primitive_line, primitive_lines}
 use Rattle.tlv_value.specs.declared.primitive.Primitive.{Primitive}
 use Rattle.tlv_value.specs.Rows.{full_rows}
-use Rattle.tlv_value.specs.ValueTextState.{RowsState, ValueTextState, contents_lines, end_lines, line_in, row_lines}
-use Rattle.tlv_value.specs.KindValues.{bits_value, boolean_value, integer_value, kind_value, long_text, row_octets}
-use Rattle.tlv_value.specs.Private.KindValues.{plain_text}
-use Rattle.tlv_value.specs.Value.{NameOf, Value, bit_count, is_long, is_readable, most_on_line, no_names, octets_value, row_text, used_digits, value_on_line}
+use Rattle.tlv_value.specs.ValueLines.{row_lines}
+use Rattle.tlv_value.specs.ValueTextState.{RowsState, ValueTextState, contents_lines, end_lines, line_in}
+use Rattle.tlv_value.specs.Value.{NameOf, Value, bit_count, bits_value, boolean_value, integer_value, is_long, is_readable, long_text, most_on_line, no_names, octets_value, row_octets, row_text, short_value, used_digits, value_on_line}
+use Rattle.tlv_value.specs.Private.PlainText.{plain_text}
 
 -- rows of octets are the same for an object identifier
 object-rows : (layout : Layout) (i : ℕ) (rows : List (List ℕ)) → row_lines Object layout i rows ≡ row_lines Octets layout i rows
@@ -38,31 +38,31 @@ front-line p v = line-front (margin p.layout.pure (columns p.offset (decimal p.s
 
 -- what the line of a primitive begins with, and the rest of its lines
 pub shown-front : (name_of : NameOf) (p : Primitive) (octets : List ℕ)
-    → front_of p ++ (((kind_value name_of p.kind octets).text ++ 10 ∷ []) ++ row_lines p.kind p.layout 0 (kind_value name_of p.kind octets).rows) ≡ primitive_lines name_of p octets
+    → front_of p ++ (((short_value name_of p.kind octets).text ++ 10 ∷ []) ++ row_lines p.kind p.layout 0 (short_value name_of p.kind octets).rows) ≡ primitive_lines name_of p octets
 shown-front name_of p octets =
-    let v : Value = kind_value name_of p.kind octets in
+    let v : Value = short_value name_of p.kind octets in
     line-front (margin p.layout.pure (columns p.offset (decimal p.size)) p.layout.level) (tag_text p.class p.number) v.text (row_lines p.kind p.layout 0 v.rows)
 
 module _ (name_of : NameOf) (layout : Layout) (line : List ℕ → List ℕ) (octets : List ℕ) where
   abbrev shown_by : Kind → List ℕ
-  shown_by kind = line (kind_value name_of kind octets).text ++ row_lines kind layout 0 (kind_value name_of kind octets).rows
+  shown_by kind = line (short_value name_of kind octets).text ++ row_lines kind layout 0 (short_value name_of kind octets).rows
 
-  object_at : (kind : Kind) → kind ≡ Object → line (kind_value name_of Object octets).text ++ row_lines Octets layout 0 (kind_value name_of Object octets).rows ≡ shown_by kind
-  object_at kind e = rw e (ap (λ (t : List ℕ). line (kind_value name_of Object octets).text ++ t) (sym (object-rows layout 0 (kind_value name_of Object octets).rows)))
+  object_at : (kind : Kind) → kind ≡ Object → line (short_value name_of Object octets).text ++ row_lines Octets layout 0 (short_value name_of Object octets).rows ≡ shown_by kind
+  object_at kind e = rw e (ap (λ (t : List ℕ). line (short_value name_of Object octets).text ++ t) (sym (object-rows layout 0 (short_value name_of Object octets).rows)))
 
-  relative_at : (kind : Kind) → kind ≡ Relative → line (kind_value name_of Relative octets).text ++ row_lines Octets layout 0 (kind_value name_of Relative octets).rows ≡ shown_by kind
-  relative_at kind e = rw e (ap (λ (t : List ℕ). line (kind_value name_of Relative octets).text ++ t) (sym (relative-rows layout 0 (kind_value name_of Relative octets).rows)))
+  relative_at : (kind : Kind) → kind ≡ Relative → line (short_value name_of Relative octets).text ++ row_lines Octets layout 0 (short_value name_of Relative octets).rows ≡ shown_by kind
+  relative_at kind e = rw e (ap (λ (t : List ℕ). line (short_value name_of Relative octets).text ++ t) (sym (relative-rows layout 0 (short_value name_of Relative octets).rows)))
 
 pub shown-object : (name_of : NameOf) (p : Primitive) (octets : List ℕ) → p.kind ≡ Object → front_of p ++ object_lines name_of p.layout [] false octets ≡ primitive_lines name_of p octets
-shown-object name_of p octets e = front-line p (kind_value name_of Object octets) ∙ object_at name_of p.layout (primitive_line p) octets p.kind e
+shown-object name_of p octets e = front-line p (short_value name_of Object octets) ∙ object_at name_of p.layout (primitive_line p) octets p.kind e
 
 pub shown-relative : (name_of : NameOf) (p : Primitive) (octets : List ℕ) → p.kind ≡ Relative → front_of p ++ object_lines no_names p.layout [] true octets ≡ primitive_lines name_of p octets
-shown-relative name_of p octets e = front-line p (kind_value name_of Relative octets) ∙ relative_at name_of p.layout (primitive_line p) octets p.kind e
+shown-relative name_of p octets e = front-line p (short_value name_of Relative octets) ∙ relative_at name_of p.layout (primitive_line p) octets p.kind e
 
 -- held values without rows
 
 abbrev IsPlain : NameOf → Kind → List ℕ → Type 0
-IsPlain name_of kind row = ((kind_value name_of kind row).text ≡ plain_text kind row) × ((kind_value name_of kind row).rows ≡ [])
+IsPlain name_of kind row = ((short_value name_of kind row).text ≡ plain_text kind row) × ((short_value name_of kind row).rows ≡ [])
 
 octets-plain : (row : List ℕ) → length row ≤ 16 → (octets_value row).rows ≡ []
 octets-plain row h = let b : nat_le (length row) 16 ≡ true = grind (arith, nat_tests) in rw b refl
@@ -101,7 +101,7 @@ held-plain name_of Ucs2 row o r h = (refl, refl)
 held-plain name_of Ucs4 row o r h = (refl, refl)
 
 plain_at : (name_of : NameOf) (kind : Kind) (layout : Layout) (front row : List ℕ) → IsPlain name_of kind row
-    → front ++ (plain_text kind row ++ 10 ∷ []) ≡ front ++ (((kind_value name_of kind row).text ++ 10 ∷ []) ++ row_lines kind layout 0 (kind_value name_of kind row).rows)
+    → front ++ (plain_text kind row ++ 10 ∷ []) ≡ front ++ (((short_value name_of kind row).text ++ 10 ∷ []) ++ row_lines kind layout 0 (short_value name_of kind row).rows)
 plain_at name_of kind layout front row p = rw (p.0, p.1) (ap (λ (t : List ℕ). front ++ t) (sym (append-nil (plain_text kind row ++ 10 ∷ []))))
 
 pub shown-plain : (name_of : NameOf) (p : Primitive) (octets : List ℕ) → (p.kind ≡ Object → ⊥) → (p.kind ≡ Relative → ⊥) → length octets ≤ most_on_line p.kind
@@ -113,8 +113,8 @@ state_by p left kept = record { offset = p.offset; class = p.class; number = p.n
 
 -- with its end a primitive that is not long has all its lines
 ended_at : (name_of : NameOf) (k kind : Kind) (size : ℕ) (layout : Layout) (line : List ℕ → List ℕ) (rows : List ℕ) (row : List ℕ) → kind ≡ k → is_long kind size ≡ false
-    → (if is_long k size then rows else line (kind_value name_of k row).text ++ row_lines k layout 0 (kind_value name_of k row).rows)
-    ≡ line (kind_value name_of kind row).text ++ row_lines kind layout 0 (kind_value name_of kind row).rows
+    → (if is_long k size then rows else line (short_value name_of k row).text ++ row_lines k layout 0 (short_value name_of k row).rows)
+    ≡ line (short_value name_of kind row).text ++ row_lines kind layout 0 (short_value name_of kind row).rows
 ended_at name_of k kind size layout line rows row e l = rw (← e, l) refl
 
 pub ended-shown : (name_of : NameOf) (p : Primitive) (left : ℕ) (kept : RowsState) → p.kind ≡ kind_of p.class p.number → is_long p.kind p.size ≡ false

@@ -10,7 +10,7 @@ use Rattle.tlv_value.specs.declared.layout.Layout.{Layout}
 use Rattle.tlv_value.specs.Arcs.{dotted_text}
 use Rattle.tlv_value.specs.Private.ObjectLines.{object_lines, octets_lines}
 use Rattle.tlv_value.specs.Rows.{rows_of}
-use Rattle.tlv_value.specs.ValueTextState.{row_lines}
+use Rattle.tlv_value.specs.ValueLines.{row_lines}
 use Rattle.tlv_value.specs.Value.{NameOf, spaced_pairs}
 
 -- a text, if there is one

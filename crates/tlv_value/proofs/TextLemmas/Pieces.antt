@@ -8,15 +8,15 @@ use Rattle.tlv_value.specs.declared.kind.Kind.TheVariants.{Octets, Boolean, Inte
 use Rattle.tlv_value.specs.declared.layout.Layout.{Layout}
 use Rattle.tlv_value.specs.declared.primitive.Primitive.{Primitive}
 use Rattle.tlv_value.specs.Kind.{kind_of}
-use Rattle.tlv_value.specs.Laws.{LinesBegin, LinesEnd, LinesGoOn, PiecesJoin, state_for}
-use Rattle.tlv_value.specs.Rows.{full_rows, open_row, rows_of}
+use Rattle.tlv_value.specs.Laws.{LinesBegin, LinesEnd, LinesGoOn, PiecesJoin}
+use Rattle.tlv_value.specs.Rows.{full_rows, full_rows_in, open_row, open_row_in, rows_of}
 use Rattle.tlv_value.specs.Private.PrimitiveLines.{lines_in_steps, new_text_of, primitive_line, primitive_lines, primitive_of}
-use Rattle.tlv_value.specs.ValueTextState.{RowsState, ValueTextState, begin_lines, contents_lines, end_lines, first_rows, first_rows_after, full_row_lines, has_line, kind_in, line_in, new_value_text, open_lines, row_lines, rows_after, rows_state_after, value_text_after, whole_lines}
-use Rattle.tlv_value.specs.KindValues.{kind_value, long_text, row_octets}
-use Rattle.tlv_value.specs.Value.{NameOf, is_long}
+use Rattle.tlv_value.specs.ValueLines.{has_line, open_lines, row_lines, whole_lines}
+use Rattle.tlv_value.specs.ValueTextState.{RowsState, ValueTextState, begin_lines, contents_lines, end_lines, first_rows, first_rows_after, full_row_lines, kind_in, line_in, new_value_text, rows_after, rows_state_after, state_for, value_text_after}
+use Rattle.tlv_value.specs.Value.{NameOf, is_long, long_text, long_value, row_octets, short_value}
 use Rattle.std.proofs.lemmas.Bool.Decides.{nat_tests}
-use Rattle.tlv_value.proofs.TextLemmas.KindValues.{open-lines-by, whole-lines}
 use Rattle.tlv_value.proofs.TextLemmas.Puts.{row_lines-append}
+use Rattle.tlv_value.proofs.RowLemmas.FilledRows.{rows-filled}
 use Rattle.tlv_value.proofs.RowLemmas.OneCut.{rows-join, rows-parts}
 
 abbrev kept_with : ℕ → List ℕ → RowsState
@@ -27,14 +27,14 @@ kept-eq n m r q e f = ap (λ (j : ℕ). kept_with j r) e ∙ ap (kept_with m) f
 
 module _ (kind : Kind) where
   -- what is kept, and what is written, of two pieces
-  kept-join : (layout : Layout) (k : RowsState) (x y : List ℕ) → rows_after kind layout (rows_after kind layout k x) y ≡ rows_after kind layout k (x ++ y)
-  kept-join layout k x y =
+  kept-join : (k : RowsState) (x y : List ℕ) → rows_after kind (rows_after kind k x) y ≡ rows_after kind k (x ++ y)
+  kept-join k x y =
       let j = rows-join kind k.row x y in
       let n : k.rows + length (full_rows kind k.row x) + length (full_rows kind (open_row kind k.row x) y) ≡ k.rows + length (full_rows kind k.row (x ++ y)) =
       omega (arith, ap length j.0, length-append (full_rows kind k.row x) (full_rows kind (open_row kind k.row x) y)) in
       kept-eq (k.rows + length (full_rows kind k.row x) + length (full_rows kind (open_row kind k.row x) y)) (k.rows + length (full_rows kind k.row (x ++ y))) (open_row kind (open_row kind k.row x) y) (open_row kind k.row (x ++ y)) n (sym j.1)
 
-  new-join : (layout : Layout) (k : RowsState) (x y : List ℕ) → full_row_lines kind layout k (x ++ y) ≡ full_row_lines kind layout k x ++ full_row_lines kind layout (rows_after kind layout k x) y
+  new-join : (layout : Layout) (k : RowsState) (x y : List ℕ) → full_row_lines kind layout k (x ++ y) ≡ full_row_lines kind layout k x ++ full_row_lines kind layout (rows_after kind k x) y
   new-join layout k x y =
       ap (row_lines kind layout k.rows) (rows-join kind k.row x y).0 ∙ row_lines-append kind layout k.rows (full_rows kind k.row x) (full_rows kind (open_row kind k.row x) y)
 
@@ -42,28 +42,28 @@ module _ (kind : Kind) where
 module _ (kind : Kind) (layout : Layout) (line : List ℕ → List ℕ) (size : ℕ) where
   abbrev kept_by : Bool → Bool → RowsState → List ℕ → RowsState
   kept_by long wrote_line k x =
-      if long then (if wrote_line then rows_after kind layout k x else first_rows_after kind layout k x) else record { wrote_line = k.wrote_line; rows = k.rows; row = k.row ++ x }
+      if long then (if wrote_line then rows_after kind k x else first_rows_after kind k x) else record { wrote_line = k.wrote_line; rows = k.rows; row = k.row ++ x }
 
   abbrev first_new : List ℕ → List ℕ
   first_new [] = []
-  first_new (u ∷ x) = line (long_text kind size (u ∷ [])) ++ full_row_lines kind layout (first_rows kind layout u) x
+  first_new (u ∷ x) = line (long_text kind size (u ∷ [])) ++ full_row_lines kind layout (first_rows kind u) x
 
   abbrev new_by : Bool → Bool → RowsState → List ℕ → List ℕ
   new_by long wrote_line k x = if long then (if wrote_line then full_row_lines kind layout k x else first_new x) else []
 
   join-kept : (long wrote_line : Bool) (k : RowsState) (x y : List ℕ) → k.wrote_line ≡ wrote_line → kept_by long (kept_by long wrote_line k x).wrote_line (kept_by long wrote_line k x) y ≡ kept_by long wrote_line k (x ++ y)
   join-kept false wrote_line k x y e = ap (λ (r : List ℕ). record { wrote_line = k.wrote_line; rows = k.rows; row = r }) (append_assoc k.row x y)
-  join-kept true true k x y e = kept-join kind layout k x y
+  join-kept true true k x y e = kept-join kind k x y
   join-kept true false k [] y e = rw e refl
-  join-kept true false k (u ∷ x) y e = kept-join kind layout (first_rows kind layout u) x y
+  join-kept true false k (u ∷ x) y e = kept-join kind (first_rows kind u) x y
 
   join-new : (long wrote_line : Bool) (k : RowsState) (x y : List ℕ) → k.wrote_line ≡ wrote_line → new_by long wrote_line k (x ++ y) ≡ new_by long wrote_line k x ++ new_by long (kept_by long wrote_line k x).wrote_line (kept_by long wrote_line k x) y
   join-new false wrote_line k x y e = refl
   join-new true true k x y e = new-join kind layout k x y
   join-new true false k [] y e = rw e refl
   join-new true false k (u ∷ x) y e =
-      ap (λ (t : List ℕ). line (long_text kind size (u ∷ [])) ++ t) (new-join kind layout (first_rows kind layout u) x y)
-      ∙ sym (append_assoc (line (long_text kind size (u ∷ []))) (full_row_lines kind layout (first_rows kind layout u) x) (full_row_lines kind layout (rows_after kind layout (first_rows kind layout u) x) y))
+      ap (λ (t : List ℕ). line (long_text kind size (u ∷ [])) ++ t) (new-join kind layout (first_rows kind u) x y)
+      ∙ sym (append_assoc (line (long_text kind size (u ∷ []))) (full_row_lines kind layout (first_rows kind u) x) (full_row_lines kind layout (rows_after kind (first_rows kind u) x) y))
 
 abbrev with_kept : ValueTextState → ℕ → RowsState → ValueTextState
 with_kept s left k = record { offset = s.offset; class = s.class; number = s.number; size = s.size; layout = s.layout; left = left; kept = k }
@@ -121,12 +121,12 @@ module _ (layout : Layout) (line : List ℕ → List ℕ) (size : ℕ) where
 
   abbrev whole_at : NameOf → Kind → Bool → List ℕ → List ℕ
   whole_at name_of kind long octets =
-      line (if long then record { text = long_text kind size octets; rows = rows_of kind (row_octets kind octets) } else kind_value name_of kind octets).text
-      ++ row_lines kind layout 0 (if long then record { text = long_text kind size octets; rows = rows_of kind (row_octets kind octets) } else kind_value name_of kind octets).rows
+      line (if long then long_value true kind size octets else short_value name_of kind octets).text
+      ++ row_lines kind layout 0 (if long then long_value true kind size octets else short_value name_of kind octets).rows
 
   abbrev ended_at : NameOf → Kind → Bool → RowsState → List ℕ
   ended_at name_of kind long k =
-      if long then row_lines kind layout k.rows (last_rows k.row) else line (kind_value name_of kind k.row).text ++ row_lines kind layout 0 (kind_value name_of kind k.row).rows
+      if long then row_lines kind layout k.rows (last_rows k.row) else line (short_value name_of kind k.row).text ++ row_lines kind layout 0 (short_value name_of kind k.row).rows
 
   abbrev WholeIsEnded : NameOf → Kind → Bool → List ℕ → Type 0
   WholeIsEnded name_of kind long octets = whole_at name_of kind long octets ≡ open_at kind long octets ++ ended_at name_of kind long (kept_by kind layout line size long (has_line kind []) (begin_kept kind) octets)
@@ -165,15 +165,14 @@ line_for h layout = line_in (new_value_text h layout)
 -- all that is known of a primitive that is still open was written
 pub open-lines : (h : HeaderValue) (layout : Layout) (octets : List ℕ) → open_lines h layout octets ≡ begin_lines (new_value_text h layout) ++ contents_lines (new_value_text h layout) octets
 open-lines h layout octets =
-    open-lines-by h layout octets
-    ∙ open-new layout (line_for h layout) (size_of h.size) (kind_of h.class h.number) (is_long (kind_of h.class h.number) (size_of h.size)) octets
+    open-new layout (line_for h layout) (size_of h.size) (kind_of h.class h.number) (is_long (kind_of h.class h.number) (size_of h.size)) octets
     ∙ ap (λ (t : List ℕ). begin_lines (new_value_text h layout) ++ t) (new_by-new (new_value_text h layout) octets)
 
 -- with no octets a primitive that begins has no lines more, and is kept as it is
 
 new-nothing_at : (kind : Kind) (layout : Layout) (line : List ℕ → List ℕ) (size : ℕ) (long wrote_line : Bool) → new_by kind layout line size long wrote_line (begin_kept kind) [] ≡ []
 new-nothing_at kind layout line size false wrote_line = refl
-new-nothing_at kind layout line size true true = refl
+new-nothing_at kind layout line size true true = ap (λ (rows : List (List ℕ)). row_lines kind layout 0 (full_rows_in kind rows)) (rows-filled kind [])
 new-nothing_at kind layout line size true false = refl
 
 pub new-nothing : (h : HeaderValue) (layout : Layout) → contents_lines (new_value_text h layout) [] ≡ []
@@ -183,7 +182,9 @@ new-nothing h layout =
 
 after-nothing_at : (kind : Kind) (layout : Layout) (line : List ℕ → List ℕ) (size : ℕ) (long wrote_line : Bool) → wrote_line ≡ has_line kind [] → kept_by kind layout line size long wrote_line (begin_kept kind) [] ≡ begin_kept kind
 after-nothing_at kind layout line size false wrote_line e = refl
-after-nothing_at kind layout line size true true e = ap (λ (b : Bool). record { wrote_line = b; rows = 0; row = [] }) e
+after-nothing_at kind layout line size true true e =
+    ap (λ (rows : List (List ℕ)). kept_with (0 + length (full_rows_in kind rows)) (open_row_in kind rows)) (rows-filled kind [])
+    ∙ ap (λ (b : Bool). record { wrote_line = b; rows = 0; row = [] }) e
 after-nothing_at kind layout line size true false e = refl
 
 pub after-nothing : (h : HeaderValue) (layout : Layout) → value_text_after (new_value_text h layout) [] ≡ new_value_text h layout
@@ -193,7 +194,10 @@ after-nothing h layout =
     ap (λ (n : ℕ). with_kept s n (rows_state_after s [])) l ∙ ap (with_kept s s.left) (after-nothing_at (kind_in s) s.layout (line_in s) s.size (is_long (kind_in s) s.size) s.kept.wrote_line refl)
 
 pub lines-begin : LinesBegin
-lines-begin h layout = open-lines h layout [] ∙ ap (λ (t : List ℕ). begin_lines (new_value_text h layout) ++ t) (new-nothing h layout) ∙ append-nil (begin_lines (new_value_text h layout))
+lines-begin h layout = (
+  open-lines h layout [] ∙ ap (λ (t : List ℕ). begin_lines (new_value_text h layout) ++ t) (new-nothing h layout) ∙ append-nil (begin_lines (new_value_text h layout)),
+  after-nothing h layout,
+)
 
 pub lines-go_on : LinesGoOn
 lines-go_on h layout octets x =
@@ -207,15 +211,14 @@ long-some kind n size e h = grind (arith, nat_tests)
 
 abbrev whole_by : Layout → (List ℕ → List ℕ) → NameOf → Kind → ℕ → List ℕ → List ℕ
 whole_by layout line name_of kind n octets =
-    line (if is_long kind n then record { text = long_text kind n octets; rows = rows_of kind (row_octets kind octets) } else kind_value name_of kind octets).text
-    ++ row_lines kind layout 0 (if is_long kind n then record { text = long_text kind n octets; rows = rows_of kind (row_octets kind octets) } else kind_value name_of kind octets).rows
+    line (if is_long kind n then long_value true kind n octets else short_value name_of kind octets).text
+    ++ row_lines kind layout 0 (if is_long kind n then long_value true kind n octets else short_value name_of kind octets).rows
 
 pub lines-end : LinesEnd
 lines-end name_of h layout octets e =
     let kind : Kind = kind_of h.class h.number in
     let w = whole-ended layout (line_for h layout) (size_of h.size) name_of kind (is_long kind (size_of h.size)) octets (long-some kind (length octets) (size_of h.size) e) in
-    whole-lines name_of h layout octets ∙ ap (λ (n : ℕ). whole_by layout (line_for h layout) name_of kind n octets) e ∙ w
-    ∙ ap (λ (t : List ℕ). t ++ end_lines name_of (state_for h layout octets)) (sym (open-lines-by h layout octets))
+    ap (λ (n : ℕ). whole_by layout (line_for h layout) name_of kind n octets) e ∙ w
 
 -- a primitive written with its header, its contents and its end has the lines of the whole
 pub whole-new : (name_of : NameOf) (h : HeaderValue) (layout : Layout) (c : List ℕ) → length c ≡ size_of h.size

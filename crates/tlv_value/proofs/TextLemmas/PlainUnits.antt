@@ -9,7 +9,7 @@ use Rattle.std.specs.Str.{is_utf8}
 use Rattle.tlv_value.specs.declared.kind.Kind.{Kind}
 use Rattle.tlv_value.specs.declared.kind.Kind.TheVariants.{Octets, Boolean, Integer, Bits, Object, Relative, Text, Utf8, Ucs2, Ucs4}
 use Rattle.tlv_value.specs.Private.Plain.{is_ascii, is_plain, octet_text}
-use Rattle.tlv_value.specs.Private.Room.{utf8_length}
+use Rattle.tlv_io.specs.Cuts.{utf8_length}
 use Rattle.tlv_value.specs.Units.{unit_size, unit_text, units}
 use Rattle.tlv_value.proofs.TextLemmas.UnitSteps.{units-step}
 

@@ -5,7 +5,7 @@ use Rattle.tlv_value.specs.declared.kind.Kind.{Kind}
 use Rattle.tlv_value.specs.declared.layout.Layout.{Layout}
 use Rattle.tlv_value.specs.Layout.{row_line}
 use Rattle.tlv_value.specs.Rows.{full_rows, open_row, rows_of}
-use Rattle.tlv_value.specs.ValueTextState.{row_lines}
+use Rattle.tlv_value.specs.ValueLines.{row_lines}
 use Rattle.tlv_value.specs.Value.{row_text}
 use Rattle.tlv_value.proofs.RowLemmas.OneCut.{rows-parts}
 

@@ -4,9 +4,7 @@ use Rattle.std.proofs.Math.Seq.{drop-cons, take-append-add}
 use Rattle.std.proofs.lemmas.List.{length-map, map-append}
 use Rattle.std.specs.Prelude.{true}
 use Rattle.tlv_value.specs.Bits.{bits_of, last_bits}
-use Rattle.tlv_value.specs.KindValues.{bits_value}
-use Rattle.tlv_value.specs.Private.KindValues.{digits_of_bits}
-use Rattle.tlv_value.specs.Value.{bit_count, is_readable, used_digits}
+use Rattle.tlv_value.specs.Value.{bit_count, bits_value, digits_of_bits, is_readable, used_digits}
 use Rattle.tlv_value.proofs.TextLemmas.Numbers.{bits-append, length-bits, length-last_bits}
 
 -- the bits of one octet more

@@ -5,10 +5,10 @@ use Rattle.tlv_head.specs.Tag.{tag_text}
 use Rattle.tlv_value.specs.declared.layout.Layout.{Layout}
 use Rattle.tlv_value.specs.declared.primitive.Primitive.{Primitive}
 use Rattle.tlv_value.specs.Kind.{kind_of}
-use Rattle.tlv_value.specs.KindValues.{kind_value}
+use Rattle.tlv_value.specs.Value.{NameOf, short_value}
 use Rattle.tlv_value.specs.Layout.{columns, margin}
-use Rattle.tlv_value.specs.ValueTextState.{ValueTextState, begin_lines, contents_lines, element_line, end_lines, has_line, row_lines, value_text_after}
-use Rattle.tlv_value.specs.Value.{NameOf}
+use Rattle.tlv_value.specs.ValueLines.{element_line, has_line, row_lines}
+use Rattle.tlv_value.specs.ValueTextState.{ValueTextState, begin_lines, contents_lines, end_lines, value_text_after}
 
 abbrev pub primitive_of : HeaderValue → Layout → Primitive
 primitive_of h layout = record {
@@ -31,8 +31,8 @@ primitive_line p text = element_line p.layout p.offset p.class p.number p.size t
 -- its lines, if its value is on its line
 abbrev pub primitive_lines : NameOf → Primitive → List ℕ → List ℕ
 primitive_lines name_of p octets =
-    primitive_line p (kind_value name_of p.kind octets).text
-    ++ row_lines p.kind p.layout 0 (kind_value name_of p.kind octets).rows
+    primitive_line p (short_value name_of p.kind octets).text
+    ++ row_lines p.kind p.layout 0 (short_value name_of p.kind octets).rows
 
 -- what is kept of it before any octet
 abbrev pub new_text_of : Primitive → ValueTextState

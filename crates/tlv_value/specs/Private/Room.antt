@@ -2,15 +2,11 @@
 use Rattle.std.specs.Prelude.{◌≡◌, ℕ, ◌+◌, ◌<◌, Bool, true, List, slice_index}
 use Rattle.tlv_io.proofs.CutOf.{has_room_by}
 use Rattle.tlv_value.specs.declared.kind.Kind.{Kind}
-use Rattle.tlv_value.specs.declared.kind.Kind.TheVariants.{Utf8}
 use Rattle.tlv_value.specs.Cuts.{character_length, row_size}
 
 -- the octet has room in a row of so many octets
 abbrev pub has_room : Kind → ℕ → ℕ → Bool
 has_room kind octets x = has_room_by (row_size kind) (character_length kind) octets x
-
-abbrev pub utf8_length : ℕ → ℕ
-utf8_length x = character_length Utf8 x
 
 -- the first n of the octets have room after so many others
 abbrev pub HaveRoom : Kind → ℕ → List ℕ → ℕ → Type 0

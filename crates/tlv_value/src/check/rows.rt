@@ -7,7 +7,7 @@ ghost use Rattle.tlv_value.specs.Rows.{full_rows, open_row};
 
 use super::both;
 use crate::kind::Kind;
-use crate::rows::fitting;
+use crate::rows::fitting_length;
 use arrayvec::ArrayVec;
 
 /// Takes octets after the row that has begun. Returns whether the rows that are then full are well-formed.
@@ -20,7 +20,7 @@ pub(super) fn take_rows(row: &mut ArrayVec<u8, 64>, octets: &[u8]) -> bool
     let mut formed = true;
     let mut rest = octets;
     while !rest.is_empty() {
-        let (part, more) = rest.split_at(fitting(Kind::Utf8, row.len(), rest));
+        let (part, more) = rest.split_at(fitting_length(Kind::Utf8, row.len(), rest));
         rest = more;
         if row.len() + part.len() < 64 && rest.is_empty() {
             let _ = row.try_extend_from_slice(part);

@@ -1,8 +1,8 @@
 //! Object identifiers as dotted texts, judged.
 ghost use Rattle.std.specs.Prelude.{◌≡◌, nat_le, true};
+ghost use Rattle.std.specs.Char.{is_ascii_digit};
 ghost use Rattle.std.specs.List.{list_all};
 ghost use Rattle.tlv_value.specs.Names.{are_first_arcs, decimal_number, dotted_parts, is_arc, is_dotted, may_begin};
-ghost use Rattle.tlv_value.specs.Times.{is_digit};
 
 use super::line::{after_mark, end_before};
 
@@ -43,7 +43,7 @@ fn is_arc(part: &[u8]) -> bool
 }
 
 fn are_digits(part: &[u8]) -> bool
-    ensures { result ≡ list_all is_digit part.now }
+    ensures { result ≡ list_all is_ascii_digit part.now }
 {
     for octet in part {
         if *octet < b'0' || *octet > b'9' {

@@ -7,13 +7,13 @@ ghost use Rattle.tlv_value.specs.Layout.{line, no_columns, row_line};
 ghost use Rattle.tlv_value.specs.OpenRow.{IsOpenRow};
 ghost use Rattle.tlv_value.specs.Private.Rows.{full_line, full_lines, row_indent_of};
 ghost use Rattle.tlv_value.specs.Rows.{full_rows, open_row, rows_of};
-ghost use Rattle.tlv_value.specs.ValueTextState.{row_lines};
+ghost use Rattle.tlv_value.specs.ValueLines.{row_lines};
 ghost use Rattle.tlv_value.specs.Value.{row_text};
 
 use crate::Layout;
 use crate::kind::Kind;
 use crate::line::row_indent;
-use crate::rows::{fitting, row_size};
+use crate::rows::{fitting_length, row_size};
 use crate::value::write_row;
 use arrayvec::ArrayVec;
 use tlv_io::{Drain, HeldOctets, Out, WriteFault};
@@ -66,7 +66,7 @@ pub(crate) fn put_rows<D: Drain>(
             put_full_rows(layout, full, out)?;
             continue;
         }
-        let (part, more) = rest.split_at(fitting(kind, begun, rest));
+        let (part, more) = rest.split_at(fitting_length(kind, begun, rest));
         rest = more;
         if begun + part.len() < size && rest.is_empty() {
             let _ = row.try_extend_from_slice(part);

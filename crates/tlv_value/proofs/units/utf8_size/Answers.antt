@@ -2,7 +2,7 @@ use Rattle.std.proofs.Common.{◌≡◌, ℕ, length, take, get_or, ap, sym, ref
 use Rattle.std.specs.Prelude.{true, false, min}
 use Rattle.std.specs.Str.{is_utf8}
 use Rattle.std.proofs.lemmas.List.{take_min}
-use Rattle.tlv_value.specs.Private.Room.{utf8_length}
+use Rattle.tlv_io.specs.Cuts.{utf8_length}
 use Rattle.tlv_value.proofs.TextLemmas.UnitSteps.{is_utf8-same}
 use Rattle.tlv_value.proofs.units.utf8_size.Goals as goal
 

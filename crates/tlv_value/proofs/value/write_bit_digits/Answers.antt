@@ -1,8 +1,7 @@
 use Rattle.std.proofs.Common.{◌≡◌, ℕ, ◌+◌, ◌-◌, ◌++◌, ◌∷◌, [], List, length, take, get_or, sym, ap, ap₂, ◌∙◌, arith, length-append, length-take}
 use Rattle.std.proofs.lemmas.List.{take_all}
 use Rattle.tlv_value.specs.Bits.{bits_of, last_bits}
-use Rattle.tlv_value.specs.Private.KindValues.{digits_of_bits}
-use Rattle.tlv_value.specs.Value.{used_digits}
+use Rattle.tlv_value.specs.Value.{digits_of_bits, used_digits}
 use Rattle.tlv_value.proofs.TextLemmas.Texts.{digits-cut, length-digits, length-octet_digits, used-last}
 use Rattle.tlv_value.proofs.value.write_bit_digits.Goals as goal
 

@@ -1,6 +1,6 @@
 use Rattle.std.proofs.Common.{◌≡◌, ◌++◌, ◌∷◌, take}
 use Rattle.tlv_value.specs.Bits.{bits_of}
-use Rattle.tlv_value.specs.Private.KindValues.{digits_of_bits}
+use Rattle.tlv_value.specs.Value.{digits_of_bits}
 use Rattle.tlv_value.proofs.value.write_bit_digits.Given as goal
 
 abbrev pub invariant-loop-octet : goal.invariant-loop-octet

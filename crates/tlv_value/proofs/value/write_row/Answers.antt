@@ -1,5 +1,5 @@
 use Rattle.std.proofs.Common.{◌∷◌, arith}
-use Rattle.tlv_value.specs.Private.KindValues.{joined_pairs}
+use Rattle.tlv_value.specs.Value.{joined_pairs}
 use Rattle.tlv_value.specs.Units.{quoted_text}
 use Rattle.tlv_value.proofs.TextLemmas.Short.{grown, joined-short, quoted-short}
 use Rattle.tlv_value.proofs.value.write_row.Goals as goal

@@ -1,7 +1,6 @@
 use Rattle.std.proofs.Common.{rules, ◌≤◌, ◌∷◌, length, List, ℕ}
-use Rattle.tlv_value.specs.KindValues.{bits_value, boolean_value, integer_value}
+use Rattle.tlv_value.specs.Value.{bits_value, boolean_value, integer_value, spaced_pairs}
 use Rattle.tlv_value.specs.Units.{quoted_text}
-use Rattle.tlv_value.specs.Value.{spaced_pairs}
 use Rattle.tlv_value.proofs.TextLemmas.Short.{bits-short, boolean-short, grown, integer-short, pairs-short, text-short}
 use Rattle.tlv_value.proofs.value.write_value.Goals as goal
 

@@ -16,7 +16,7 @@ returns-in_err-begin g c =
     let name_of = g.N.NameTable.name_of c.args.names.now in
     let octets : List ℕ = c.args.contents.now in
     let s : ValueTextState = c.of-text.result in
-    puts_failed_in g.D.Drain.state _ _ (begin_lines s) _ _ _ c.in_err-begin.ensures (search rules) (record {
+    puts_failed_in g.D.Drain.state _ _ (begin_lines s) _ _ _ c.in_err-begin.ensures.puts (search rules) (record {
       rest = contents_lines s octets ++ end_lines name_of (value_text_after s octets);
       is = ap (λ (t : ValueTextState). lines_in_steps name_of t octets) c.of-text.ensures;
     })
@@ -26,7 +26,7 @@ returns-in_err-bytes g c =
     let name_of = g.N.NameTable.name_of c.args.names.now in
     let octets : List ℕ = c.args.contents.now in
     let s : ValueTextState = c.of-text.result in
-    let front = puts_then_as g.D.Drain.state _ _ _ (begin_lines s) (contents_lines s octets) (begin_lines s ++ contents_lines s octets) _ _ c.in_ok-begin.ensures c.in_err-bytes.ensures.puts refl in
+    let front = puts_then_as g.D.Drain.state _ _ _ (begin_lines s) (contents_lines s octets) (begin_lines s ++ contents_lines s octets) _ _ c.in_ok-begin.ensures.puts c.in_err-bytes.ensures.puts refl in
     puts_failed_in g.D.Drain.state _ _ (begin_lines s ++ contents_lines s octets) _ _ _ front (search rules) (record {
       rest = end_lines name_of (value_text_after s octets);
       is = append_assoc (begin_lines s) (contents_lines s octets) (end_lines name_of (value_text_after s octets)) ∙ ap (λ (t : ValueTextState). lines_in_steps name_of t octets) c.of-text.ensures;
@@ -39,4 +39,4 @@ returns g c =
     let s : ValueTextState = c.of-text.result in
     let end = puts_text g.D.Drain.state _ _ _ _ _ (ap (end_lines name_of) c.in_ok-bytes.ensures.state) c.end.ensures.puts in
     let rest = puts_then_as g.D.Drain.state _ _ _ (contents_lines s octets) (end_lines name_of (value_text_after s octets)) (contents_lines s octets ++ end_lines name_of (value_text_after s octets)) _ _ c.in_ok-bytes.ensures.puts end refl in
-    puts_then_as g.D.Drain.state _ _ _ _ _ _ _ _ c.in_ok-begin.ensures rest (ap (λ (t : ValueTextState). lines_in_steps name_of t octets) c.of-text.ensures)
+    puts_then_as g.D.Drain.state _ _ _ _ _ _ _ _ c.in_ok-begin.ensures.puts rest (ap (λ (t : ValueTextState). lines_in_steps name_of t octets) c.of-text.ensures)

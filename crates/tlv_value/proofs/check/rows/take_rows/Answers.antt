@@ -24,19 +24,19 @@ returns-then-is_empty-clause-begun c =
     let z : length c.split_at.result.1.now ≡ 0 = eqb-true (length c.split_at.result.1.now) 0 (sym c.if-is_empty.ensures) in
     let t : c.try_extend_from_slice.new.self.items ≡ c.loop-rest.row.items ++ c.split_at.result.0.now = grind (arith, common_steps) in
     rw t
-    (kept-open Utf8 c.len.result c.loop-rest.row.items c.fitting.result c.loop-rest.rest.now c.split_at.result.0.now c.loop-rest.invariant.begun c.len.ensures.value c.split_at.ensures.front c.fitting.ensures.fits
-    (omega arith) c.fitting.ensures.within (omega arith))
+    (kept-open Utf8 c.len.result c.loop-rest.row.items c.fitting_length.result c.loop-rest.rest.now c.split_at.result.0.now c.loop-rest.invariant.begun c.len.ensures.value c.split_at.ensures.front c.fitting_length.ensures.fits
+    (omega arith) c.fitting_length.ensures.within (omega arith))
 
 pub returns-then-is_empty-clause-formed : goal.returns-then-is_empty-clause-formed
 returns-then-is_empty-clause-formed c =
     let z : length c.split_at.result.1.now ≡ 0 = eqb-true (length c.split_at.result.1.now) 0 (sym c.if-is_empty.ensures) in
-    let k = kept Utf8 c.len.result c.loop-rest.row.items c.fitting.result c.loop-rest.rest.now c.split_at.result.0.now c.len.ensures.value c.split_at.ensures.front c.fitting.ensures.fits (omega arith) c.fitting.ensures.within (omega arith) in
+    let k = kept Utf8 c.len.result c.loop-rest.row.items c.fitting_length.result c.loop-rest.rest.now c.split_at.result.0.now c.len.ensures.value c.split_at.ensures.front c.fitting_length.ensures.fits (omega arith) c.fitting_length.ensures.within (omega arith) in
     sym (and-nothing c.loop-rest.formed (rows_filled Utf8 c.loop-rest.row.items c.loop-rest.rest.now) k.0) ∙ c.loop-rest.invariant.formed
 
 pub returns-then-is_empty-clause-row : goal.returns-then-is_empty-clause-row
 returns-then-is_empty-clause-row c =
     let z : length c.split_at.result.1.now ≡ 0 = eqb-true (length c.split_at.result.1.now) 0 (sym c.if-is_empty.ensures) in
-    let k = kept Utf8 c.len.result c.loop-rest.row.items c.fitting.result c.loop-rest.rest.now c.split_at.result.0.now c.len.ensures.value c.split_at.ensures.front c.fitting.ensures.fits (omega arith) c.fitting.ensures.within (omega arith) in
+    let k = kept Utf8 c.len.result c.loop-rest.row.items c.fitting_length.result c.loop-rest.rest.now c.split_at.result.0.now c.len.ensures.value c.split_at.ensures.front c.fitting_length.ensures.fits (omega arith) c.fitting_length.ensures.within (omega arith) in
     let t : c.try_extend_from_slice.new.self.items ≡ c.loop-rest.row.items ++ c.split_at.result.0.now = grind (arith, common_steps) in
     t ∙ sym k.1 ∙ c.loop-rest.invariant.row
 
@@ -46,13 +46,13 @@ loop-rest-preserved c =
     let row : List ℕ = c.loop-rest.row.items in
     let part : List ℕ = c.split_at.result.0.now in
     let more : List ℕ = c.split_at.result.1.now in
-    let m : ℕ = c.fitting.result in
+    let m : ℕ = c.fitting_length.result in
     let claim : (c.len.result + m ≡ row_size Utf8) ⊎ (m < length c.loop-rest.rest.now) = elim c.else-len-part-lt64.branch [
       | else-len-part-lt64-via-then-len-part-lt64+else-is_empty w ↦ inr (grind (arith, nat_tests))
       | else-len-part-lt64-via-else-len-part-lt64 w ↦ inl (omega arith)
     ] in
-    let t = turned Utf8 c.len.result row m c.loop-rest.rest.now part more c.len.ensures.value c.split_at.ensures.front c.split_at.ensures.back c.fitting.ensures.fits c.fitting.ensures.bound
-    c.fitting.ensures.within (omega arith) c.fitting.ensures.next claim in
+    let t = turned Utf8 c.len.result row m c.loop-rest.rest.now part more c.len.ensures.value c.split_at.ensures.front c.split_at.ensures.back c.fitting_length.ensures.fits c.fitting_length.ensures.bound
+    c.fitting_length.ensures.within (omega arith) c.fitting_length.ensures.next claim in
     let none : c.is_full_formed.new.row.items ≡ [] = c.is_full_formed.ensures.row in
     let both : c.both-formed.result ≡ (c.loop-rest.formed && is_utf8 (row ++ part)) = c.both-formed.ensures ∙ ap (λ (b : Bool). c.loop-rest.formed && b) c.is_full_formed.ensures.formed in
     record {

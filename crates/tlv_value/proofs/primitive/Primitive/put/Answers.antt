@@ -1,10 +1,9 @@
 use Rattle.std.proofs.Common.{rules, ◌++◌, ◌∷◌, [], List, ℕ, refl, ap, ◌∙◌, append_assoc}
 use Rattle.tlv_io.proofs.Puts.{puts_failed_in, puts_held, puts_then_as}
-use Rattle.tlv_value.specs.KindValues.{kind_value}
-use Rattle.tlv_value.specs.Private.KindValues.{plain_text}
+use Rattle.tlv_value.specs.Value.{Value, short_value}
+use Rattle.tlv_value.specs.Private.PlainText.{plain_text}
 use Rattle.tlv_value.specs.Private.PrimitiveLines.{front_of}
-use Rattle.tlv_value.specs.ValueTextState.{row_lines}
-use Rattle.tlv_value.specs.Value.{Value}
+use Rattle.tlv_value.specs.ValueLines.{row_lines}
 use Rattle.tlv_value.proofs.TextLemmas.Ends.{shown-front, shown-object, shown-plain, shown-relative}
 use Rattle.tlv_value.proofs.primitive.Primitive.put.Goals as goal
 
@@ -12,7 +11,7 @@ pub returns-in_err-put_front : goal.returns-in_err-put_front
 returns-in_err-put_front g c =
     let p = c.args.self.now in
     let names = g.N.NameTable.name_of c.args.names.now in
-    let v : Value = kind_value names p.kind c.args.contents.now in
+    let v : Value = short_value names p.kind c.args.contents.now in
     puts_failed_in g.D.Drain.state _ _ (front_of p) _ _ _ c.in_err-put_front.ensures.puts (search rules)
     (record { rest = (v.text ++ 10 ∷ []) ++ row_lines p.kind p.layout 0 v.rows; is = shown-front names p c.args.contents.now })
 

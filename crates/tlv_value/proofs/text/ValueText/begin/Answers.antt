@@ -1,4 +1,4 @@
-use Rattle.std.proofs.Common.{◌≡◌, List, ℕ, [], refl, sym, ap, ◌∙◌}
+use Rattle.std.proofs.Common.{rules, ◌≡◌, List, ℕ, [], refl, sym, ap, ◌∙◌}
 use Rattle.std.specs.Prelude.{Bool, true, false, if◌then◌else◌}
 use Rattle.tlv_io.proofs.Puts.{puts_nothing, puts_text}
 use Rattle.tlv_value.specs.declared.kind.Kind.{Kind}
@@ -6,6 +6,7 @@ use Rattle.tlv_value.specs.Kind.{kind_of}
 use Rattle.tlv_value.specs.ValueTextState.{ValueTextState, begin_lines, line_in}
 use Rattle.tlv_value.specs.TextFields.{text_state_of}
 use Rattle.tlv_value.specs.Value.{is_long}
+use Rattle.tlv_value.proofs.TextLemmas.Rests.{begin-puts}
 use Rattle.tlv_value.proofs.text.ValueText.begin.Goals.{then-not-is_long-via-then-not-is_long, then-not-is_long-via-else-not-is_long+then-not-self}
 use Rattle.tlv_value.proofs.text.ValueText.begin.Goals as goal
 
@@ -22,8 +23,8 @@ either false xs = refl
 begun-unlined : (s v : ValueTextState) → s ≡ v → s.kept.wrote_line ≡ false → [] ≡ begin_lines v
 begun-unlined s v same l = either (is_long (kind_of s.class s.number) s.size) [] ∙ ap (λ (b : Bool). if is_long (kind_of s.class s.number) s.size then (if b then line_in s [] else []) else []) (sym l) ∙ ap begin_lines same
 
-pub returns-then-not-is_long : goal.returns-then-not-is_long
-returns-then-not-is_long g c =
+pub returns-then-not-is_long-clause-puts : goal.returns-then-not-is_long-clause-puts
+returns-then-not-is_long-clause-puts g c =
     let t = c.self.inside in
     let state_of = g.D.Drain.state in
     let none : [] ≡ begin_lines c.args.self.now = elim c.then-not-is_long.branch [
@@ -31,3 +32,15 @@ returns-then-not-is_long g c =
       | then-not-is_long-via-else-not-is_long+then-not-self w ↦ begun-unlined (text_state_of t) c.args.self.now c.self.view_is w.if-not-self.true
     ] in
     puts_text state_of _ _ _ _ _ none (puts_nothing state_of _ _)
+
+pub returns-clause-puts : goal.returns-clause-puts
+returns-clause-puts g c = search rules
+
+-- in other words
+
+pub returns-then-not-is_long-clause-whole : goal.returns-then-not-is_long-clause-whole
+returns-then-not-is_long-clause-whole g c h layout e =
+    begin-puts g.D.Drain.state _ _ _ h layout c.args.self.now e (returns-then-not-is_long-clause-puts g c)
+
+pub returns-clause-whole : goal.returns-clause-whole
+returns-clause-whole g c h layout e = begin-puts g.D.Drain.state _ _ _ h layout c.args.self.now e (returns-clause-puts g c)

@@ -6,11 +6,12 @@ use Rattle.tlv_value.specs.declared.kind.Kind.{Kind}
 use Rattle.tlv_value.specs.declared.kind.Kind.TheVariants.{Bits}
 use Rattle.tlv_value.specs.Kind.{kind_of}
 use Rattle.tlv_value.specs.Rows.{full_rows}
-use Rattle.tlv_value.specs.ValueTextState.{ValueTextState, contents_lines, line_in, row_lines}
+use Rattle.tlv_value.specs.ValueLines.{row_lines}
+use Rattle.tlv_value.specs.ValueTextState.{ValueTextState, contents_lines, line_in}
 use Rattle.tlv_value.specs.TextFields.{text_state_of}
-use Rattle.tlv_value.specs.KindValues.{long_text, row_octets}
-use Rattle.tlv_value.specs.Value.{is_long}
+use Rattle.tlv_value.specs.Value.{is_long, long_text, row_octets}
 use Rattle.tlv_value.proofs.TextLemmas.Ends.{new-first, rows-first}
+use Rattle.tlv_value.proofs.TextLemmas.Rests.{bytes-puts}
 use Rattle.tlv_value.proofs.text.ValueText.bytes.Goals as goal
 
 -- the line, and then the rows
@@ -45,3 +46,31 @@ returns-clause-puts g c =
 
 pub returns-then-not-is_long-clause-puts : goal.returns-then-not-is_long-clause-puts
 returns-then-not-is_long-clause-puts g c = grind (arith, common_steps)
+
+pub returns-then-self-clause-puts : goal.returns-then-self-clause-puts
+returns-then-self-clause-puts g c = search rules
+
+pub returns-in_default-clause-puts : goal.returns-in_default-clause-puts
+returns-in_default-clause-puts g c = search rules
+
+-- in other words
+
+pub returns-then-not-is_long-clause-whole : goal.returns-then-not-is_long-clause-whole
+returns-then-not-is_long-clause-whole g c h layout before e =
+    bytes-puts g.D.Drain.state _ _ _ h layout c.args.self.now before c.args.octets.now e (returns-then-not-is_long-clause-puts g c)
+
+pub returns-then-self-clause-whole : goal.returns-then-self-clause-whole
+returns-then-self-clause-whole g c h layout before e =
+    bytes-puts g.D.Drain.state _ _ _ h layout c.args.self.now before c.args.octets.now e (returns-then-self-clause-puts g c)
+
+pub returns-in_default-clause-whole : goal.returns-in_default-clause-whole
+returns-in_default-clause-whole g c h layout before e =
+    bytes-puts g.D.Drain.state _ _ _ h layout c.args.self.now before c.args.octets.now e (returns-in_default-clause-puts g c)
+
+pub returns-in_err-put_bits-clause-whole : goal.returns-in_err-put_bits-clause-whole
+returns-in_err-put_bits-clause-whole g c h layout before e =
+    bytes-puts g.D.Drain.state _ _ _ h layout c.args.self.now before c.args.octets.now e (returns-in_err-put_bits-clause-puts g c)
+
+pub returns-clause-whole : goal.returns-clause-whole
+returns-clause-whole g c h layout before e =
+    bytes-puts g.D.Drain.state _ _ _ h layout c.args.self.now before c.args.octets.now e (returns-clause-puts g c)

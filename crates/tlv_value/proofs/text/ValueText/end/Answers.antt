@@ -1,4 +1,4 @@
-use Rattle.std.proofs.Common.{◌≡◌, ◌∙◌, length, sym, ap, arith}
+use Rattle.std.proofs.Common.{rules, ◌≡◌, ◌∙◌, length, sym, ap, arith}
 use Rattle.std.specs.Prelude.{false}
 use Rattle.tlv_io.proofs.Puts.{puts_text}
 use Rattle.tlv_value.specs.ValueTextState.{ValueTextState, end_lines}
@@ -6,6 +6,7 @@ use Rattle.tlv_value.specs.Value.{is_long}
 use Rattle.tlv_value.specs.Private.PrimitiveLines.{primitive_lines}
 use Rattle.tlv_value.specs.TextFields.{text_state_of}
 use Rattle.tlv_value.proofs.TextLemmas.Ends.{ended-shown, held-most}
+use Rattle.tlv_value.proofs.TextLemmas.Rests.{end-puts}
 use Rattle.tlv_value.proofs.text.ValueText.end.Goals as goal
 
 pub put-requires : goal.put-requires
@@ -24,3 +25,16 @@ returns-clause-puts g c =
     let row : primitive_lines names t.value c.as_slice-contents.result.now ≡ primitive_lines names t.value t.row.items = ap (primitive_lines names t.value) c.as_slice-contents.ensures.value in
     let all = sym (ended-shown names t.value t.left (text_state_of t).kept c.self.invariant.kind l) ∙ ap (end_lines names) c.self.view_is in
     puts_text g.D.Drain.state _ _ _ _ _ (row ∙ all) c.put.ensures
+
+pub returns-then-is_long-clause-puts : goal.returns-then-is_long-clause-puts
+returns-then-is_long-clause-puts g c = search rules
+
+-- in other words
+
+pub returns-clause-whole : goal.returns-clause-whole
+returns-clause-whole g c h layout octets e size =
+    end-puts g.D.Drain.state _ _ _ h layout c.args.self.now (g.N.NameTable.name_of c.args.names.now) octets e size (returns-clause-puts g c)
+
+pub returns-then-is_long-clause-whole : goal.returns-then-is_long-clause-whole
+returns-then-is_long-clause-whole g c h layout octets e size =
+    end-puts g.D.Drain.state _ _ _ h layout c.args.self.now (g.N.NameTable.name_of c.args.names.now) octets e size (returns-then-is_long-clause-puts g c)

@@ -8,7 +8,7 @@ use Rattle.tlv_value.specs.Layout.{row_line}
 use Rattle.tlv_value.specs.Cuts.{row_size}
 use Rattle.tlv_value.proofs.RowLemmas.FilledRows.{rows_filled}
 use Rattle.tlv_value.specs.Private.Rows.{full_lines}
-use Rattle.tlv_value.specs.ValueTextState.{row_lines}
+use Rattle.tlv_value.specs.ValueLines.{row_lines}
 use Rattle.tlv_value.specs.Value.{row_text}
 use Rattle.tlv_value.proofs.RowLemmas.FullRows.{rows_turned}
 use Rattle.tlv_value.proofs.RowLemmas.OneCut.{open-parts}
@@ -21,27 +21,27 @@ returns-then-is_empty-clause-begun g c =
     let z : length c.split_at.result.1.now ≡ 0 = eqb-true (length c.split_at.result.1.now) 0 (sym c.if-is_empty.ensures) in
     let t : c.try_extend_from_slice.new.self.items ≡ c.loop-rest.row.items ++ c.split_at.result.0.now = grind (arith, common_steps) in
     rw t
-    (kept-open c.args.kind c.len-begun.result c.loop-rest.row.items c.fitting.result c.loop-rest.rest.now c.split_at.result.0.now c.loop-rest.invariant.begun c.len-begun.ensures.value c.split_at.ensures.front c.fitting.ensures.fits
-    (omega arith) c.fitting.ensures.within (omega arith))
+    (kept-open c.args.kind c.len-begun.result c.loop-rest.row.items c.fitting_length.result c.loop-rest.rest.now c.split_at.result.0.now c.loop-rest.invariant.begun c.len-begun.ensures.value c.split_at.ensures.front c.fitting_length.ensures.fits
+    (omega arith) c.fitting_length.ensures.within (omega arith))
 
 pub returns-then-is_empty-clause-row : goal.returns-then-is_empty-clause-row
 returns-then-is_empty-clause-row g c =
     let z : length c.split_at.result.1.now ≡ 0 = eqb-true (length c.split_at.result.1.now) 0 (sym c.if-is_empty.ensures) in
-    let k = kept c.args.kind c.len-begun.result c.loop-rest.row.items c.fitting.result c.loop-rest.rest.now c.split_at.result.0.now c.len-begun.ensures.value c.split_at.ensures.front c.fitting.ensures.fits (omega arith) c.fitting.ensures.within (omega arith) in
+    let k = kept c.args.kind c.len-begun.result c.loop-rest.row.items c.fitting_length.result c.loop-rest.rest.now c.split_at.result.0.now c.len-begun.ensures.value c.split_at.ensures.front c.fitting_length.ensures.fits (omega arith) c.fitting_length.ensures.within (omega arith) in
     let t : c.try_extend_from_slice.new.self.items ≡ c.loop-rest.row.items ++ c.split_at.result.0.now = grind (arith, common_steps) in
     t ∙ sym k.1 ∙ c.loop-rest.invariant.row
 
 pub returns-then-is_empty-clause-rows : goal.returns-then-is_empty-clause-rows
 returns-then-is_empty-clause-rows g c =
     let z : length c.split_at.result.1.now ≡ 0 = eqb-true (length c.split_at.result.1.now) 0 (sym c.if-is_empty.ensures) in
-    let k = kept c.args.kind c.len-begun.result c.loop-rest.row.items c.fitting.result c.loop-rest.rest.now c.split_at.result.0.now c.len-begun.ensures.value c.split_at.ensures.front c.fitting.ensures.fits (omega arith) c.fitting.ensures.within (omega arith) in
+    let k = kept c.args.kind c.len-begun.result c.loop-rest.row.items c.fitting_length.result c.loop-rest.rest.now c.split_at.result.0.now c.len-begun.ensures.value c.split_at.ensures.front c.fitting_length.ensures.fits (omega arith) c.fitting_length.ensures.within (omega arith) in
     let i = c.loop-rest.invariant.rows in
     omega (arith, i, ap length k.0)
 
 pub returns-then-is_empty-clause-puts : goal.returns-then-is_empty-clause-puts
 returns-then-is_empty-clause-puts g c =
     let z : length c.split_at.result.1.now ≡ 0 = eqb-true (length c.split_at.result.1.now) 0 (sym c.if-is_empty.ensures) in
-    let k = kept c.args.kind c.len-begun.result c.loop-rest.row.items c.fitting.result c.loop-rest.rest.now c.split_at.result.0.now c.len-begun.ensures.value c.split_at.ensures.front c.fitting.ensures.fits (omega arith) c.fitting.ensures.within (omega arith) in
+    let k = kept c.args.kind c.len-begun.result c.loop-rest.row.items c.fitting_length.result c.loop-rest.rest.now c.split_at.result.0.now c.len-begun.ensures.value c.split_at.ensures.front c.fitting_length.ensures.fits (omega arith) c.fitting_length.ensures.within (omega arith) in
     let i = c.loop-rest.invariant.put in
     puts_as g.D.Drain.state _ _ i.0 _ tt tt i.1 (rw (k.0, append-nil) at i.2)
 
@@ -52,14 +52,14 @@ loop-rest-preserved g c =
     let row : List ℕ = c.loop-rest.row.items in
     let part : List ℕ = c.split_at.result.0.now in
     let more : List ℕ = c.split_at.result.1.now in
-    let m : ℕ = c.fitting.result in
+    let m : ℕ = c.fitting_length.result in
     let claim : (c.len-begun.result + m ≡ row_size kind) ⊎ (m < length c.loop-rest.rest.now) = elim c.else-begun-part.branch [
       | else-begun-part-via-then-begun-part+else-is_empty w ↦ inr (grind (arith, nat_tests))
       | else-begun-part-via-else-begun-part w ↦ inl (omega arith)
     ] in
-    let t = turned kind c.len-begun.result row m c.loop-rest.rest.now part more c.len-begun.ensures.value c.split_at.ensures.front c.split_at.ensures.back c.fitting.ensures.fits c.fitting.ensures.bound
-    c.fitting.ensures.within (omega arith) c.fitting.ensures.next claim in
-    let p = progress kind c.len-begun.result m c.loop-rest.rest.now (omega arith) c.fitting.ensures.next claim in
+    let t = turned kind c.len-begun.result row m c.loop-rest.rest.now part more c.len-begun.ensures.value c.split_at.ensures.front c.split_at.ensures.back c.fitting_length.ensures.fits c.fitting_length.ensures.bound
+    c.fitting_length.ensures.within (omega arith) c.fitting_length.ensures.next claim in
+    let p = progress kind c.len-begun.result m c.loop-rest.rest.now (omega arith) c.fitting_length.ensures.next claim in
     let none : c.put_full.new.row.items ≡ [] = c.put_full.ensures.row in
     let line : List ℕ = row_line c.args.layout c.loop-rest.rows (row_text kind (row ++ part)) in
     record {
@@ -82,13 +82,13 @@ returns-in_err-put_full-clause-puts g c =
     let row : List ℕ = c.loop-rest.row.items in
     let part : List ℕ = c.split_at.result.0.now in
     let more : List ℕ = c.split_at.result.1.now in
-    let m : ℕ = c.fitting.result in
+    let m : ℕ = c.fitting_length.result in
     let claim : (c.len-begun.result + m ≡ row_size kind) ⊎ (m < length c.loop-rest.rest.now) = elim c.else-begun-part.branch [
       | else-begun-part-via-then-begun-part+else-is_empty w ↦ inr (grind (arith, nat_tests))
       | else-begun-part-via-else-begun-part w ↦ inl (omega arith)
     ] in
-    let t = turned kind c.len-begun.result row m c.loop-rest.rest.now part more c.len-begun.ensures.value c.split_at.ensures.front c.split_at.ensures.back c.fitting.ensures.fits c.fitting.ensures.bound
-    c.fitting.ensures.within (omega arith) c.fitting.ensures.next claim in
+    let t = turned kind c.len-begun.result row m c.loop-rest.rest.now part more c.len-begun.ensures.value c.split_at.ensures.front c.split_at.ensures.back c.fitting_length.ensures.fits c.fitting_length.ensures.bound
+    c.fitting_length.ensures.within (omega arith) c.fitting_length.ensures.next claim in
     let line : List ℕ = row_line c.args.layout c.loop-rest.rows (row_text kind (row ++ part)) in
     let rest : List ℕ = row_lines kind c.args.layout (c.loop-rest.rows + 1) (rows_filled kind [] more) in
     puts_failed_in g.D.Drain.state _ _ (i.put.0 ++ line) _ _ _ (puts_then_as g.D.Drain.state _ _ _ i.put.0 line (i.put.0 ++ line) tt _ i.put.1 c.in_err-put_full.ensures.puts refl) (search rules) (record {

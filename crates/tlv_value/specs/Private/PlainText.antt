@@ -1,22 +1,10 @@
--- Texts that values are made of.
-use Rattle.std.specs.Prelude.{ℕ, ◌+◌, List, [], ◌∷◌, map, codes}
-use Rattle.std.specs.List.{join_by}
-use Rattle.hex.specs.Hex.{encode_lower}
+-- The text of a value on its element's line, if an object identifier is shown in hexadecimal.
+use Rattle.std.specs.Prelude.{ℕ, List, ◌∷◌}
 use Rattle.tlv_value.specs.declared.kind.Kind.{Kind}
 use Rattle.tlv_value.specs.declared.kind.Kind.TheVariants.{Boolean, Integer, Bits, Text, Utf8, Ucs2, Ucs4}
 use Rattle.tlv_value.specs.Units.{quoted_text}
-use Rattle.tlv_value.specs.Value.{spaced_pairs}
-use Rattle.tlv_value.specs.KindValues.{boolean_value, integer_value, bits_value}
+use Rattle.tlv_value.specs.Value.{bits_value, boolean_value, integer_value, spaced_pairs}
 
--- bits as digits
-abbrev pub digits_of_bits : List ℕ → List ℕ
-digits_of_bits bits = map (λ bit. 48 + bit) bits
-
-abbrev pub joined_pairs : List ℕ → List ℕ
-joined_pairs octets = join_by (λ x. encode_lower (x ∷ [])) (codes " ") octets
-
--- the text on the line of a held value that is no object identifier, or of an object identifier that is shown in
--- hexadecimal
 abbrev pub plain_text : Kind → List ℕ → List ℕ
 plain_text Boolean octets = (boolean_value octets).text
 plain_text Integer octets = (integer_value octets).text

@@ -1,5 +1,5 @@
 use Rattle.std.proofs.Common.{rules}
-use Rattle.tlv_value.proofs.rows.fitting.Goals as goal
+use Rattle.tlv_value.proofs.rows.fitting_length.Goals as goal
 
 pub loop-i-preserved : goal.loop-i-preserved
 loop-i-preserved c = search rules
