@@ -1,12 +1,13 @@
 -- What a reader carries can become a header.
-use Rattle.std.proofs.Common.{◌≡◌, ◌≢◌, ℕ, suc, zero, Bool, true, false, ◌||◌, ◌+◌, ◌*◌, ◌-◌, ◌<◌, ◌≤◌, inl, inr, List, [], ◌∷◌, ◌++◌, length, Option, refl, ap, sym, ◌∙◌, arith, length-append, append_assoc, lit<, take, drop}
+use Rattle.std.proofs.Common.{◌≡◌, ◌≢◌, ℕ, suc, zero, Bool, true, false, ◌||◌, ◌+◌, ◌*◌, ◌-◌, ◌<◌, ◌≤◌, inl, inr, List, [], ◌∷◌, ◌++◌, length, Option, Some, refl, ap, sym, ◌∙◌, arith, length-append, append_assoc, lit<, take, drop}
 use Rattle.std.proofs.lemmas.Bool.{cases_eq}
 use Rattle.tlv_head.specs.Header.{HeaderValue, IsHeader, is_wrapper}
 use Rattle.tlv_head.specs.HeadReaderState.{ContentsFit, HeadReaderState}
 use Rattle.tlv_head.specs.Refusal.{IsFront}
-use Rattle.tlv_head.specs.Push.{Completes, IsTooDeep, EndsPast}
+use Rattle.tlv_head.specs.Push.{Completes, IsRefusedPush, overrun, too_deep}
 use Rattle.tlv_head.specs.HeaderSoFar.{Carries, CarriesNumber, CarriesIdentifier, CarriesLength, is_done}
 use Rattle.tlv_head.specs.Private.NextOctet.{MakesHeader}
+use Rattle.tlv_head.specs.declared.fault.FaultCode.TheVariants.{TooDeep, Overrun}
 use Rattle.tlv_head.specs.declared.header.Size.{Size}
 use Rattle.tlv_head.specs.declared.header.Size.TheVariants.{Definite}
 use Rattle.tlv_head.specs.declared.next_octet.Identifier.{Identifier}
@@ -55,23 +56,13 @@ made_completes r id size os x m e = record {
   octets = sym m.octets_are ∙ ap (λ s. s ++ x ∷ []) e;
 }
 
-pub made_too_deep : (r : HeadReaderState) (id : Identifier) (size : Size) (os : List ℕ) (x depth : ℕ) → MakesHeader id size (os ++ x ∷ []) → os ≡ r.octets
-    → (id.constructed || is_wrapper r.named id.class id.constructed id.number size) ≡ true → 128 ≤ depth → IsTooDeep r x depth
-made_too_deep r id size os x depth m e c low = record {
-  header = made r.offset r.named id size (os ++ x ∷ []) m;
-  completes = made_completes r id size os x m e;
-  holding = c;
-  deep = low;
-}
+pub made_too_deep : (r : HeadReaderState) (id : Identifier) (size : Size) (os : List ℕ) (x depth : ℕ) (room : Option ℕ) → room ≢ Some 0 → MakesHeader id size (os ++ x ∷ []) → os ≡ r.octets
+    → (id.constructed || is_wrapper r.named id.class id.constructed id.number size) ≡ true → 128 ≤ depth → IsRefusedPush r x room depth TooDeep
+made_too_deep r id size os x depth room n m e c low = too_deep n (made r.offset r.named id size (os ++ x ∷ []) m) (made_completes r id size os x m e) c low
 
-pub made_ends_past : (r : HeadReaderState) (id : Identifier) (size : Size) (os : List ℕ) (x depth : ℕ) (room : Option ℕ) → MakesHeader id size (os ++ x ∷ []) → os ≡ r.octets
-    → ((id.constructed || is_wrapper r.named id.class id.constructed id.number size) ≡ true → depth < 128) → (ContentsFit size room → ⊥) → EndsPast r x room depth
-made_ends_past r id size os x depth room m e c past = record {
-  header = made r.offset r.named id size (os ++ x ∷ []) m;
-  completes = made_completes r id size os x m e;
-  shallow = c;
-  past = past;
-}
+pub made_overrun : (r : HeadReaderState) (id : Identifier) (size : Size) (os : List ℕ) (x depth : ℕ) (room : Option ℕ) → room ≢ Some 0 → MakesHeader id size (os ++ x ∷ []) → os ≡ r.octets
+    → ((id.constructed || is_wrapper r.named id.class id.constructed id.number size) ≡ true → depth < 128) → (ContentsFit size room → ⊥) → IsRefusedPush r x room depth Overrun
+made_overrun r id size os x depth room n m e c past = overrun n (made r.offset r.named id size (os ++ x ∷ []) m) (made_completes r id size os x m e) c past
 
 -- the octets that make a header, cut after its identifier
 pub made_whole : (r : HeadReaderState) (id : Identifier) (size : Size) (os : List ℕ) (x : ℕ) (m : MakesHeader id size (os ++ x ∷ [])) → os ≡ r.octets

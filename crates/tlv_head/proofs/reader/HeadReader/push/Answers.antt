@@ -1,11 +1,12 @@
-use Rattle.std.proofs.Common.{◌+◌, ◌≤◌, length, arith, rules, inr, refl, sym, ap, ◌∙◌, subst}
+use Rattle.std.proofs.Common.{◌+◌, ◌≤◌, length, arith, rules, refl, sym, ap, ◌∙◌, subst}
 use Rattle.std.proofs.lemmas.Bool.{false≢true}
 use Rattle.tlv_head.specs.declared.reader.Head.TheVariants.{Whole}
+use Rattle.tlv_head.specs.declared.fault.FaultCode.TheVariants.{Overrun, TooDeep}
 use Rattle.tlv_head.specs.HeadReaderState.{HeadReaderState}
 use Rattle.tlv_head.specs.Refusal.{IsRefusedOctet}
-use Rattle.tlv_head.specs.Push.{Completes, EndsPast, IsRefusedPush, IsTooDeep, Pushes}
-use Rattle.tlv_head.proofs.Exact.{exact, refused_in, completes_unique, front_not_whole}
-use Rattle.tlv_head.proofs.Unfinished.{length-carried, made_too_deep, made_ends_past, made_whole, unfinished_part}
+use Rattle.tlv_head.specs.Push.{Completes, IsRefusedPush, Pushes, more, refused, refused_octet, whole}
+use Rattle.tlv_head.proofs.Exact.{exact, completes_unique, front_not_whole}
+use Rattle.tlv_head.proofs.Unfinished.{length-carried, made_overrun, made_too_deep, made_whole, unfinished_part}
 use Rattle.tlv_head.proofs.reader.HeadReader.push.Goals as goal
 use Rattle.tlv_head.proofs.reader.HeadReader.push.Goals.{else-depth-ge128-via-then-depth-ge128+else-holds, else-depth-ge128-via-else-depth-ge128}
 
@@ -16,39 +17,38 @@ push-requires c =
 
 pub returns-then-holds : goal.returns-then-holds
 returns-then-holds c =
-    let deep : IsTooDeep c.args.self.now c.args.octet c.args.depth =
-    subst (λ (p : HeadReaderState). IsTooDeep p c.args.octet c.args.depth) c.self.view_is
-    (made_too_deep _ _ _ _ _ _ (c.in-Finished.ensures c.self.inside.raw.items c.self.invariant) refl (sym c.holds.ensures ∙ c.if-holds.true) c.if-depth-ge128.true) in
+    let deep : IsRefusedPush c.args.self.now c.args.octet c.args.room c.args.depth TooDeep =
+    subst (λ (p : HeadReaderState). IsRefusedPush p c.args.octet c.args.room c.args.depth TooDeep) c.self.view_is
+    (made_too_deep _ _ _ _ _ _ _ (search rules) (c.in-Finished.ensures c.self.inside.raw.items c.self.invariant) refl (sym c.holds.ensures ∙ c.if-holds.true) c.if-depth-ge128.true) in
     let a : Pushes c.args.self.now c.args.octet c.args.room c.args.depth c.args.self.now c.refused-then-holds.result =
-    rw c.refused-then-holds.ensures ((search rules, deep), rw (← c.self.view_is) (ap (λ n. c.self.inside.offset + n) c.len.ensures.value), refl) in
+    rw c.refused-then-holds.ensures (refused _ deep (rw (← c.self.view_is) (ap (λ n. c.self.inside.offset + n) c.len.ensures.value)) refl) in
     record { pushes = a; whole = exact _ _ _ _ _ _ a }
 
 pub returns-then-not-fits : goal.returns-then-not-fits
 returns-then-not-fits c =
-    let past : EndsPast c.args.self.now c.args.octet c.args.room c.args.depth =
-    subst (λ (p : HeadReaderState). EndsPast p c.args.octet c.args.room c.args.depth) c.self.view_is
-    (made_ends_past _ _ _ _ _ _ _ (c.in-Finished.ensures c.self.inside.raw.items c.self.invariant) refl
+    let past : IsRefusedPush c.args.self.now c.args.octet c.args.room c.args.depth Overrun =
+    subst (λ (p : HeadReaderState). IsRefusedPush p c.args.octet c.args.room c.args.depth Overrun) c.self.view_is
+    (made_overrun _ _ _ _ _ _ _ (search rules) (c.in-Finished.ensures c.self.inside.raw.items c.self.invariant) refl
     (elim c.else-depth-ge128.branch [ else-depth-ge128-via-then-depth-ge128+else-holds w ↦ λ h. absurd (false≢true (sym w.if-holds.false ∙ w.holds.ensures ∙ h)) | else-depth-ge128-via-else-depth-ge128 w ↦ λ _. w.if-depth-ge128.false ])
     (λ f. absurd (false≢true (sym c.if-not-fits.true ∙ c.fits.ensures.1 f)))) in
     let a : Pushes c.args.self.now c.args.octet c.args.room c.args.depth c.args.self.now c.refused-then-not-fits.result =
-    rw c.refused-then-not-fits.ensures (inr (search rules, past), rw (← c.self.view_is) (ap (λ n. c.self.inside.offset + n) c.len.ensures.value), refl) in
+    rw c.refused-then-not-fits.ensures (refused _ past (rw (← c.self.view_is) (ap (λ n. c.self.inside.offset + n) c.len.ensures.value)) refl) in
     record { pushes = a; whole = exact _ _ _ _ _ _ a }
 
 pub returns-in-Unfinished : goal.returns-in-Unfinished
 returns-in-Unfinished c =
     let p = unfinished_part c.in-Unfinished.part c.self.inside.raw.items c.args.octet (c.in-Unfinished.ensures c.self.inside.raw.items c.self.invariant) in
     rw (← c.self.view_is) (record {
-      pushes = (search rules, p.0, rw (p.1, c.push.ensures.items) refl);
+      pushes = more (search rules) p.0 (rw (p.1, c.push.ensures.items) refl);
       whole = λ h d n f. absurd (front_not_whole _ _ h p.0 d);
     })
 
 pub returns-in-Refused : goal.returns-in-Refused
 returns-in-Refused c =
-    let q : IsRefusedPush c.in-Refused.code c.args.self.now c.args.octet c.args.room c.args.depth =
-    refused_in _ _ _ _ _ (search rules)
-    (subst (λ (p : HeadReaderState). IsRefusedOctet p.octets c.args.octet c.in-Refused.code) c.self.view_is (c.in-Refused.ensures c.self.inside.raw.items c.self.invariant)) in
+    let octet : IsRefusedOctet c.args.self.now.octets c.args.octet c.in-Refused.code =
+    subst (λ (p : HeadReaderState). IsRefusedOctet p.octets c.args.octet c.in-Refused.code) c.self.view_is (c.in-Refused.ensures c.self.inside.raw.items c.self.invariant) in
     let a : Pushes c.args.self.now c.args.octet c.args.room c.args.depth c.args.self.now c.refused-in-Refused.result =
-    rw c.refused-in-Refused.ensures (q, rw (← c.self.view_is) (ap (λ n. c.self.inside.offset + n) c.len.ensures.value), refl) in
+    rw c.refused-in-Refused.ensures (refused _ (refused_octet (search rules) octet) (rw (← c.self.view_is) (ap (λ n. c.self.inside.offset + n) c.len.ensures.value)) refl) in
     record { pushes = a; whole = exact _ _ _ _ _ _ a }
 
 -- the header that is returned
@@ -58,14 +58,13 @@ completes c =
     (made_whole _ _ _ _ _ (c.in-Finished.ensures c.self.inside.raw.items c.self.invariant) refl)
 
 pub returns-else-not-fits-clause-pushes : goal.returns-else-not-fits-clause-pushes
-returns-else-not-fits-clause-pushes c = (
-  completes c,
-  rw (c.with_raw.ensures, c.fields_of-fields.ensures) (record {
-    shallow = elim c.else-depth-ge128.branch [ else-depth-ge128-via-then-depth-ge128+else-holds w ↦ λ h. absurd (false≢true (sym w.if-holds.false ∙ w.holds.ensures ∙ h)) | else-depth-ge128-via-else-depth-ge128 w ↦ λ _. w.if-depth-ge128.false ];
-    within = c.fits.ensures.0 c.if-not-fits.false;
-  }),
-  refl,
-)
+returns-else-not-fits-clause-pushes c =
+    whole _ (completes c)
+    (rw (c.with_raw.ensures, c.fields_of-fields.ensures) (record {
+      shallow = elim c.else-depth-ge128.branch [ else-depth-ge128-via-then-depth-ge128+else-holds w ↦ λ h. absurd (false≢true (sym w.if-holds.false ∙ w.holds.ensures ∙ h)) | else-depth-ge128-via-else-depth-ge128 w ↦ λ _. w.if-depth-ge128.false ];
+      within = c.fits.ensures.0 c.if-not-fits.false;
+    }))
+    refl
 
 pub returns-else-not-fits-clause-whole : goal.returns-else-not-fits-clause-whole
 returns-else-not-fits-clause-whole c = λ h d n f. ap (λ g. Whole g) (completes_unique _ _ _ _ (completes c) d)
