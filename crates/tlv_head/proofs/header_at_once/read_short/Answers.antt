@@ -1,6 +1,6 @@
 use Rattle.std.proofs.Common.{rules}
-use Rattle.tlv_head.proofs.Front.{begins_short}
-use Rattle.tlv_head.proofs.ShortFronts.{no-short_identifier, no-short_length}
+use Rattle.tlv_head.proofs.ReaderLemmas.Front.{begins_short}
+use Rattle.tlv_head.proofs.ReaderLemmas.ShortFronts.{no-short_identifier, no-short_length}
 use Rattle.tlv_head.proofs.header_at_once.read_short.Goals as goal
 
 pub returns-in_err-identifier-clause-begins : goal.returns-in_err-identifier-clause-begins

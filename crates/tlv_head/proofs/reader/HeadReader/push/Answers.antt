@@ -5,8 +5,8 @@ use Rattle.tlv_head.specs.declared.fault.FaultCode.TheVariants.{Overrun, TooDeep
 use Rattle.tlv_head.specs.HeadReaderState.{HeadReaderState}
 use Rattle.tlv_head.specs.Refusal.{IsRefusedOctet}
 use Rattle.tlv_head.specs.Push.{Completes, IsRefusedPush, Pushes, more, refused, refused_octet, whole}
-use Rattle.tlv_head.proofs.Exact.{exact, completes_unique, front_not_whole}
-use Rattle.tlv_head.proofs.Unfinished.{length-carried, made_overrun, made_too_deep, made_whole, unfinished_part}
+use Rattle.tlv_head.proofs.ReaderLemmas.Exact.{exact, completes_unique, front_not_whole}
+use Rattle.tlv_head.proofs.ReaderLemmas.Unfinished.{length-carried, made_overrun, made_too_deep, made_whole, unfinished_part}
 use Rattle.tlv_head.proofs.reader.HeadReader.push.Goals as goal
 use Rattle.tlv_head.proofs.reader.HeadReader.push.Goals.{else-depth-ge128-via-then-depth-ge128+else-holds, else-depth-ge128-via-else-depth-ge128}
 

@@ -9,9 +9,9 @@ use Rattle.tlv_head.specs.Header.{HeaderValue, holds}
 use Rattle.tlv_head.specs.HeadReaderState.{ContentsFit, HeadReaderState}
 use Rattle.tlv_head.specs.Refusal.{IsFront, IsRefusedOctet}
 use Rattle.tlv_head.specs.Push.{Completes, FitsThere, IsRefusedPush, Pushes, more, no_room, overrun, refused, refused_octet, too_deep, whole}
-use Rattle.tlv_head.proofs.Headers.{front-no_header}
-use Rattle.tlv_head.proofs.Refused.{one-refusal, refused-none}
-use Rattle.tlv_head.proofs.Scan.{same-header}
+use Rattle.tlv_head.proofs.GrammarLemmas.Headers.{front-no_header}
+use Rattle.tlv_head.proofs.GrammarLemmas.Refused.{one-refusal, refused-none}
+use Rattle.tlv_head.proofs.GrammarLemmas.Scan.{same-header}
 
 -- an octet completes at most one header
 pub completes_unique : (r : HeadReaderState) (x : ℕ) (g h : HeaderValue) → Completes r x g → Completes r x h → g ≡ h

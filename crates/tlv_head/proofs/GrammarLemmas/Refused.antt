@@ -7,8 +7,8 @@ use Rattle.tlv_head.specs.declared.fault.FaultCode.{FaultCode}
 use Rattle.tlv_head.specs.declared.fault.FaultCode.TheVariants.{TagTooLong, ReservedLength, IndefinitePrimitive, LengthTooLarge}
 use Rattle.tlv_head.specs.Header.{HeaderValue, IsHeader, IsIdentifier, leading_octet, octets_of, with_bit_8}
 use Rattle.tlv_head.specs.Refusal.{CannotBecomeHeader, BeginsWithNoHeader, IsFront, IsRefusedOctet, indefinite_primitive, length_too_large, reserved_length, tag_too_long}
-use Rattle.tlv_head.proofs.Scan.{Scan, Origin, start, Fresh, High, Named, Long, Ready, Stuck, Over, step, scan_from, scan, scan_from-append, scan_from-over, scan-identifier, scan-moved, moved, step-leading, is_more, more-from_front}
-use Rattle.tlv_head.proofs.Headers.{fronts, stuck-none}
+use Rattle.tlv_head.proofs.GrammarLemmas.Scan.{Scan, Origin, start, Fresh, High, Named, Long, Ready, Stuck, Over, step, scan_from, scan, scan_from-append, scan_from-over, scan-identifier, scan-moved, moved, step-leading, is_more, more-from_front}
+use Rattle.tlv_head.proofs.GrammarLemmas.Headers.{fronts, stuck-none}
 
 -- read from this state, a front of the octets is refused at its last octet
 record IsStuckFrom (at : Origin) (s : Scan) (o : List ℕ) : Type 0 where

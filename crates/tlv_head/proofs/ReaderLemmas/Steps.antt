@@ -11,8 +11,8 @@ use Rattle.tlv_head.specs.HeaderSoFar.{CarriesNumber, CarriesIdentifier, Carries
 use Rattle.tlv_head.specs.Private.NextOctet.{MakesHeader}
 use Rattle.tlv_head.specs.declared.header.Size.TheVariants.{Definite}
 use Rattle.tlv_head.specs.declared.next_octet.Identifier.{Identifier}
-use Rattle.tlv_head.proofs.Digits.{value_of-snoc, value_of-lt}
-use Rattle.tlv_head.proofs.Meaning.{allows_definite}
+use Rattle.tlv_head.proofs.NumberLemmas.Digits.{value_of-snoc, value_of-lt}
+use Rattle.tlv_head.proofs.GrammarLemmas.Meaning.{allows_definite}
 
 -- the limit on a length so far, as an octet is added and one fewer is to follow
 small-step : (n x left : ℕ) → 1 ≤ left → n < 256 ^ (5 - left) → x < 256 → (x ≡ 0) ⊎ (left - 1 < 5) → n * 256 + x < 256 ^ (5 - (left - 1))

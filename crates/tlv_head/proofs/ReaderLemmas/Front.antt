@@ -15,8 +15,8 @@ use Rattle.tlv_head.specs.HeaderSoFar.{Carries, is_done}
 use Rattle.tlv_head.specs.Private.NextOctet.{BeginsWithIdentifier, BeginsWithLength, MakesHeader}
 use Rattle.tlv_head.specs.ReadHeader.{BeginsWithFields}
 use Rattle.tlv_head.specs.Refusal.{BeginsWith, IsFront}
-use Rattle.tlv_head.proofs.Scan.{origin_of, scan, Fresh, Ready, no-front, scan-header}
-use Rattle.tlv_head.proofs.Unfinished.{unfinished_number, unfinished_identifier, unfinished_length}
+use Rattle.tlv_head.proofs.GrammarLemmas.Scan.{origin_of, scan, Fresh, Ready, no-front, scan-header}
+use Rattle.tlv_head.proofs.ReaderLemmas.Unfinished.{unfinished_number, unfinished_identifier, unfinished_length}
 
 -- nothing yet, or the front of a header
 abbrev pub IsBegun : List ℕ → Type 0

@@ -5,7 +5,7 @@ use Rattle.std.proofs.lemmas.List.Elements.{All-tail}
 use Rattle.std.proofs.lemmas.Nat.{same_from_place}
 use Rattle.std.proofs.Math.Nat.{pow-le-pow_right}
 use Rattle.tlv_head.specs.Header.{value_of}
-use Rattle.tlv_head.proofs.Digits.{value_of-lt}
+use Rattle.tlv_head.proofs.NumberLemmas.Digits.{value_of-lt}
 
 -- two lists of digits with one length and one value are the same
 pub same-digits : (b : ℕ) (xs ys : List ℕ) → 0 < b → All (λ d. d < b) xs → All (λ d. d < b) ys

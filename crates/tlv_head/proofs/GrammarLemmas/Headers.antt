@@ -7,8 +7,8 @@ use Rattle.tlv_head.specs.Laws.{AreHeaderOctets, IsRefusable}
 use Rattle.tlv_head.specs.Refusal.{CannotBecomeHeader, IsFront, IsRefusedOctet, indefinite_primitive, length_too_large, reserved_length, tag_too_long}
 use Rattle.tlv_head.specs.declared.fault.FaultCode.{FaultCode}
 use Rattle.tlv_head.specs.declared.fault.FaultCode.TheVariants.{StrayEnd, IndefinitePrimitive}
-use Rattle.tlv_head.proofs.Scan.{Scan, Origin, origin_of, start, Fresh, High, Named, Long, Ready, Stuck, Over, leads, class_of, step, scan, scan_from-append, scan_from-past, scan-moved, moved, is_more, more-from_front, no-front, same-header}
-use Rattle.tlv_head.proofs.Meaning.{IsHighState, IsLongState, ReadLogState, reads-step, reads-scan, front-from_more, front-bytes}
+use Rattle.tlv_head.proofs.GrammarLemmas.Scan.{Scan, Origin, origin_of, start, Fresh, High, Named, Long, Ready, Stuck, Over, leads, class_of, step, scan, scan_from-append, scan_from-past, scan-moved, moved, is_more, more-from_front, no-front, same-header}
+use Rattle.tlv_head.proofs.GrammarLemmas.Meaning.{IsHighState, IsLongState, IsStateAfter, reads-step, reads-scan, front-from_more, front-bytes}
 
 -- if two lists are fronts of one list, one of the two is a front of the other
 pub fronts : (a b x y : List ℕ) → a ++ x ≡ b ++ y → ((z : List ℕ) × (a ++ z ≡ b) × (x ≡ z ++ y)) ⊎ ((z : List ℕ) × (b ++ z ≡ a) × (y ≡ z ++ x))
@@ -99,7 +99,7 @@ explains-long at x c k n i m ds o s = ⊎_elim
     (cases_Bool (ltb (length ds + 1) m)))
     (cases_Bool (not (eqb x 0) && ltb (length ds + 5) m))
 
-pub explains : (at : Origin) (x : ℕ) (s : Scan) (o : List ℕ) → is_more s ≡ true → ReadLogState at s o → Explains (step at s x) o x
+pub explains : (at : Origin) (x : ℕ) (s : Scan) (o : List ℕ) → is_more s ≡ true → IsStateAfter at s o → Explains (step at s x) o x
 explains at x Fresh o m r = explains-first at x o r
 explains at x (High c k ds) o m r = explains-high at x c k ds o r
 explains at x (Named c k n i) o m r = explains-named at x c k n i o r.0 r.1
@@ -123,7 +123,7 @@ pub data Next (o : List ℕ) (x : ℕ) : Type 0 where
   completes : (h : HeaderValue) → IsHeader h → octets_of h ≡ o ++ x ∷ [] → Next o x
   refuses : (code : FaultCode) → IsHeadRefusal code o x → CannotBecomeHeader (o ++ x ∷ []) → Next o x
 
-next-from : (o : List ℕ) (x : ℕ) (s : Scan) → scan start (o ++ x ∷ []) ≡ s → ReadLogState start s (o ++ x ∷ []) → Explains s o x → Next o x
+next-from : (o : List ℕ) (x : ℕ) (s : Scan) → scan start (o ++ x ∷ []) ≡ s → IsStateAfter start s (o ++ x ∷ []) → Explains s o x → Next o x
 next-from o x Fresh e r w = absurd (omega (arith, ap length r, length-append o (x ∷ [])))
 next-from o x (High c k ds) e r w = continues (front-from_more start (High c k ds) _ r (λ z. omega (arith, ap length z, length-append o (x ∷ []))) refl)
 next-from o x (Named c k m i) e r w = continues (front-from_more start (Named c k m i) _ r (λ z. omega (arith, ap length z, length-append o (x ∷ []))) refl)
@@ -132,7 +132,7 @@ next-from o x (Ready h) e r w = completes h r.0 (sym r.1)
 next-from o x (Stuck code) e r w = refuses code w (stuck-none start (Stuck code) _ e refl (λ h z. cc))
 next-from o x Over e r w = absurd w
 
-next-more : (o : List ℕ) (x : ℕ) → x < 256 → is_more (scan start o) ≡ true → ReadLogState start (scan start o) o → Next o x
+next-more : (o : List ℕ) (x : ℕ) → x < 256 → is_more (scan start o) ≡ true → IsStateAfter start (scan start o) o → Next o x
 next-more o x h m r = next-from o x (step start (scan start o) x) (scan_from-append start Fresh o (x ∷ [])) (reads-step start x (scan start o) o h r) (explains start x (scan start o) o m r)
 
 pub next : (o : List ℕ) (x : ℕ) → x < 256 → (o ≡ []) ⊎ IsFront o → Next o x

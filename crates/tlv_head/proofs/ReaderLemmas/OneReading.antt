@@ -5,8 +5,8 @@ use Rattle.tlv_head.specs.declared.header.HeaderFields.{HeaderFields}
 use Rattle.tlv_head.specs.HeaderFields.{header_with}
 use Rattle.tlv_head.specs.Header.{HeaderValue, octets_of}
 use Rattle.tlv_head.specs.ReadHeader.{BeginsWithFields}
-use Rattle.tlv_head.proofs.Headers.{one-header}
-use Rattle.tlv_head.proofs.Scan.{origin_of}
+use Rattle.tlv_head.proofs.GrammarLemmas.Headers.{one-header}
+use Rattle.tlv_head.proofs.GrammarLemmas.Scan.{origin_of}
 
 -- the header's identifier has as many octets as the fields say
 identifier-count : (octets : List ℕ) (at : ℕ) (named : Bool) (f : HeaderFields) (n : ℕ) → BeginsWithFields octets at named f n

@@ -15,8 +15,8 @@ use Rattle.tlv_head.specs.declared.next_octet.Part.{Part}
 use Rattle.tlv_head.specs.declared.next_octet.Part.TheVariants.{Start, Number, Length, Digits, Done}
 use Rattle.std.proofs.lemmas.List.{length-map}
 use Rattle.std.proofs.Math.Seq.{drop-append_seam, take-append_seam}
-use Rattle.tlv_head.proofs.Steps.{ends_number, ends_length, more_length}
-use Rattle.tlv_head.proofs.Meaning.{allows_definite}
+use Rattle.tlv_head.proofs.ReaderLemmas.Steps.{ends_number, ends_length, more_length}
+use Rattle.tlv_head.proofs.GrammarLemmas.Meaning.{allows_definite}
 
 pub length-carried : (p : Part) (os : List ℕ) → Carries p os → length os ≤ 136
 length-carried Start os h = rw h (omega arith)

@@ -17,8 +17,8 @@ use Rattle.tlv_head.specs.HeaderSoFar.{Carries, CarriesIdentifier, CarriesNumber
 use Rattle.tlv_head.specs.Private.NextOctet.{BeginsWithIdentifier, BeginsWithNoIdentifier, BeginsWithNoLength, MakesNext}
 use Rattle.tlv_head.specs.ReadHeader.{BeginsWithNoShortHeader}
 use Rattle.tlv_head.specs.Refusal.{IsRefusedOctet, indefinite_primitive, length_too_large, reserved_length, tag_too_long}
-use Rattle.tlv_head.proofs.Scan.{Named, scan, scan-identifier, start}
-use Rattle.tlv_head.proofs.Steps.{ends_number}
+use Rattle.tlv_head.proofs.GrammarLemmas.Scan.{Named, scan, scan-identifier, start}
+use Rattle.tlv_head.proofs.ReaderLemmas.Steps.{ends_number}
 
 -- the first octet says whether the number is in the high form
 forms-apart : (c d : Class) (k j : Bool) (n : ℕ) → n < 31 → leading_octet c k n ≡ leading_octet d j 31 → ⊥

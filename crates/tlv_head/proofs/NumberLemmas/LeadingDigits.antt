@@ -7,7 +7,7 @@ use Rattle.std.specs.Prelude.{slice_index}
 use Rattle.tlv_head.specs.Header.{HeaderValue, IsHeader, IsLength, IsLongForm, announced_length, leading_octet, value_of, with_bit_8}
 use Rattle.tlv_head.specs.declared.header.Size.{Size}
 use Rattle.tlv_head.specs.declared.header.Size.TheVariants.{Definite, Indefinite}
-use Rattle.tlv_head.proofs.Digits.{value_of-lt}
+use Rattle.tlv_head.proofs.NumberLemmas.Digits.{value_of-lt}
 
 -- a first digit is 0 exactly if the value is so small that the others alone could make it
 pub leading-zero : (b x : ℕ) (xs : List ℕ) → 0 < b → All (λ d. d < b) xs → (x == 0) ≡ nat_lt (value_of b (x ∷ xs)) (b ^ length xs)

@@ -11,8 +11,8 @@ use Rattle.tlv_head.specs.Header.{HeaderValue, IsHeader, IsIdentifier, IsLength,
 use Rattle.tlv_head.specs.Private.Header.{AllowsSize}
 use Rattle.tlv_head.specs.Refusal.{IsFront}
 use Rattle.tlv_head.specs.declared.fault.FaultCode.TheVariants.{IndefinitePrimitive}
-use Rattle.tlv_head.proofs.Digits.{value_of-snoc, value_of-zeros}
-use Rattle.tlv_head.proofs.Scan.{Origin, origin_of, start, Scan, Fresh, High, Named, Long, Ready, Stuck, Over, class_of, leads, step, scan_from, scan, head_of, is_more}
+use Rattle.tlv_head.proofs.NumberLemmas.Digits.{value_of-snoc, value_of-zeros}
+use Rattle.tlv_head.proofs.GrammarLemmas.Scan.{Origin, origin_of, start, Scan, Fresh, High, Named, Long, Ready, Stuck, Over, class_of, leads, step, scan_from, scan, head_of, is_more}
 
 -- the high form so far
 pub record IsHighState (c : Class) (k : Bool) (ds o : List ℕ) : Type 0 where
@@ -31,14 +31,14 @@ pub record IsLongState (c : Class) (k : Bool) (n : ℕ) (i : List ℕ) (m : ℕ)
   pub octets : o ≡ i ++ (128 + m) ∷ ds
 
 -- what the octets are, if they lead to this state
-abbrev pub ReadLogState : Origin → Scan → List ℕ → Type 0
-ReadLogState at Fresh o = o ≡ []
-ReadLogState at (High c k ds) o = IsHighState c k ds o
-ReadLogState at (Named c k n i) o = IsIdentifier c k n i × (o ≡ i)
-ReadLogState at (Long c k n i m ds) o = IsLongState c k n i m ds o
-ReadLogState at (Ready h) o = IsHeader h × (o ≡ octets_of h) × (origin_of h ≡ at)
-ReadLogState at (Stuck code) o = Unit {0}
-ReadLogState at Over o = Unit {0}
+abbrev pub IsStateAfter : Origin → Scan → List ℕ → Type 0
+IsStateAfter at Fresh o = o ≡ []
+IsStateAfter at (High c k ds) o = IsHighState c k ds o
+IsStateAfter at (Named c k n i) o = IsIdentifier c k n i × (o ≡ i)
+IsStateAfter at (Long c k n i m ds) o = IsLongState c k n i m ds o
+IsStateAfter at (Ready h) o = IsHeader h × (o ≡ octets_of h) × (origin_of h ≡ at)
+IsStateAfter at (Stuck code) o = Unit {0}
+IsStateAfter at Over o = Unit {0}
 
 bits-class_of : (x : ℕ) → x < 4 → class_bits (class_of x) ≡ x
 bits-class_of zero h = refl
@@ -54,19 +54,19 @@ leading-parts x a false e t = omega (arith, ltb-false 31 (x % 64) t)
 leading-of : (x : ℕ) → x < 256 → leading_octet (class_of (x / 64)) (ltb 31 (x % 64)) (x % 32) ≡ x
 leading-of x h = leading-parts x _ (ltb 31 (x % 64)) (bits-class_of (x / 64) (omega arith)) refl
 
-reads-leads : (at : Origin) (x : ℕ) (c : Class) (k : Bool) (low : ℕ) → low < 32 → leading_octet c k low ≡ x → x ≢ 0 → ReadLogState at (leads x c k low) (x ∷ [])
+reads-leads : (at : Origin) (x : ℕ) (c : Class) (k : Bool) (low : ℕ) → low < 32 → leading_octet c k low ≡ x → x ≢ 0 → IsStateAfter at (leads x c k low) (x ∷ [])
 reads-leads at x c k low h e nz = ⊎_elim
     (λ (last : low ≡ 31). rw (eq-eqb low 31 last) (record { each = All-nil (λ d. d < 128); few = omega arith; octets = rw (← e, last) }))
     (λ (other : low ≡ 31 → ⊥). rw (ne_eqb low 31 other) (inl (record { small = omega arith; octets_are = rw e; nonzero = rw e nz }), refl))
     (cases_eq low 31)
 
-reads-first : (at : Origin) (x : ℕ) → x < 256 → ReadLogState at (step at Fresh x) (x ∷ [])
+reads-first : (at : Origin) (x : ℕ) → x < 256 → IsStateAfter at (step at Fresh x) (x ∷ [])
 reads-first at x h = ⊎_elim
     (λ (z : x ≡ 0). rw (eq-eqb x 0 z) tt)
     (λ (nz : x ≡ 0 → ⊥). rw (ne_eqb x 0 nz) (reads-leads at x (class_of (x / 64)) (ltb 31 (x % 64)) (x % 32) (omega arith) (leading-of x h) nz))
     (cases_eq x 0)
 
-reads-high : (at : Origin) (x : ℕ) (c : Class) (k : Bool) (ds o : List ℕ) → x < 256 → IsHighState c k ds o → ReadLogState at (step at (High c k ds) x) (o ++ x ∷ [])
+reads-high : (at : Origin) (x : ℕ) (c : Class) (k : Bool) (ds o : List ℕ) → x < 256 → IsHighState c k ds o → IsStateAfter at (step at (High c k ds) x) (o ++ x ∷ [])
 reads-high at x c k ds o h s = ⊎_elim
     (λ (small : x < 128). rw (lt-ltb x 128 small)
     (inr (record { digits = ds; last = x; each = s.each; last_digit = small; few = s.few; value = refl; octets_are = refl }), rw s.octets))
@@ -86,11 +86,11 @@ allows_definite true n = refl
 allows_definite false n = refl
 
 reads-indefinite : (at : Origin) (x : ℕ) (c : Class) (k : Bool) (n : ℕ) (i : List ℕ) → IsIdentifier c k n i → x ≡ 128
-    → ReadLogState at (cond k (Ready (head_of at c k n i Indefinite (x ∷ []))) (Stuck IndefinitePrimitive)) (i ++ x ∷ [])
+    → IsStateAfter at (cond k (Ready (head_of at c k n i Indefinite (x ∷ []))) (Stuck IndefinitePrimitive)) (i ++ x ∷ [])
 reads-indefinite at x c true n i id e = (record { identifier = id; lengths = rw e; allowed = refl }, refl, refl)
 reads-indefinite at x c false n i id e = tt
 
-reads-named : (at : Origin) (x : ℕ) (c : Class) (k : Bool) (n : ℕ) (i : List ℕ) → x < 256 → IsIdentifier c k n i → ReadLogState at (step at (Named c k n i) x) (i ++ x ∷ [])
+reads-named : (at : Origin) (x : ℕ) (c : Class) (k : Bool) (n : ℕ) (i : List ℕ) → x < 256 → IsIdentifier c k n i → IsStateAfter at (step at (Named c k n i) x) (i ++ x ∷ [])
 reads-named at x c k n i h id = ⊎_elim
     (λ (small : x < 128). rw (lt-ltb x 128 small)
     (record { identifier = id; lengths = inl (small, refl); allowed = allows_definite k x }, refl, refl))
@@ -139,7 +139,7 @@ long-cases x m ds e = ⊎_elim
     (and_cases _ _ e)
 
 reads-long : (at : Origin) (x : ℕ) (c : Class) (k : Bool) (n : ℕ) (i : List ℕ) (m : ℕ) (ds o : List ℕ) → x < 256 → IsLongState c k n i m ds o
-    → ReadLogState at (step at (Long c k n i m ds) x) (o ++ x ∷ [])
+    → IsStateAfter at (step at (Long c k n i m ds) x) (o ++ x ∷ [])
 reads-long at x c k n i m ds o h s = ⊎_elim
     (λ (bad : (not (eqb x 0) && ltb (length ds + 5) m) ≡ true). rw bad tt)
     (λ (good : (not (eqb x 0) && ltb (length ds + 5) m) ≡ false).
@@ -172,7 +172,7 @@ reads-long at x c k n i m ds o h s = ⊎_elim
     (cases_Bool (not (eqb x 0) && ltb (length ds + 5) m))
 
 -- one more octet
-pub reads-step : (at : Origin) (x : ℕ) (s : Scan) (o : List ℕ) → x < 256 → ReadLogState at s o → ReadLogState at (step at s x) (o ++ x ∷ [])
+pub reads-step : (at : Origin) (x : ℕ) (s : Scan) (o : List ℕ) → x < 256 → IsStateAfter at s o → IsStateAfter at (step at s x) (o ++ x ∷ [])
 reads-step at x Fresh o h r = rw r (reads-first at x h)
 reads-step at x (High c k ds) o h r = reads-high at x c k ds o h r
 reads-step at x (Named c k n i) o h r = rw (r.1) (reads-named at x c k n i h r.0)
@@ -181,14 +181,14 @@ reads-step at x (Ready head) o h r = tt
 reads-step at x (Stuck code) o h r = tt
 reads-step at x Over o h r = tt
 
-reads-scan_from : (at : Origin) (s : Scan) (o xs : List ℕ) → All (λ x. x < 256) xs → ReadLogState at s o → ReadLogState at (scan_from at s xs) (o ++ xs)
+reads-scan_from : (at : Origin) (s : Scan) (o xs : List ℕ) → All (λ x. x < 256) xs → IsStateAfter at s o → IsStateAfter at (scan_from at s xs) (o ++ xs)
 reads-scan_from at s o [] each r = rw (append-nil o) r
 reads-scan_from at s o (x ∷ xs) each r =
     rw (append_assoc o (x ∷ []) xs) at
     (reads-scan_from at (step at s x) (o ++ x ∷ []) xs (All-tail (λ x. x < 256) x xs each) (reads-step at x s o (All-head (λ x. x < 256) x xs each) r))
 
 -- octets are what the state that they lead to says
-pub reads-scan : (at : Origin) (xs : List ℕ) → All (λ x. x < 256) xs → ReadLogState at (scan at xs) xs
+pub reads-scan : (at : Origin) (xs : List ℕ) → All (λ x. x < 256) xs → IsStateAfter at (scan at xs) xs
 reads-scan at xs each = reads-scan_from at Fresh [] xs each refl
 
 -- identifier octets, or the first of them, are the front of a header: its length may be 0
@@ -226,7 +226,7 @@ long-front c k n i m ds o some s =
     }
 
 -- octets after which more are needed are the front of a header
-pub front-from_more : (at : Origin) (s : Scan) (o : List ℕ) → ReadLogState at s o → o ≢ [] → is_more s ≡ true → IsFront o
+pub front-from_more : (at : Origin) (s : Scan) (o : List ℕ) → IsStateAfter at s o → o ≢ [] → is_more s ≡ true → IsFront o
 front-from_more at Fresh o r some e = absurd (some r)
 front-from_more at (High c k ds) o r some e =
     named-front c k _ _ o (0 ∷ []) (inr (record { digits = ds; last = 0; each = r.each; last_digit = omega arith; few = r.few; value = refl; octets_are = refl })) some (rw r.octets)

@@ -12,7 +12,7 @@ use Rattle.tlv_head.specs.Private.Header.{AllowsSize}
 use Rattle.tlv_head.specs.Refusal.{IsFront}
 use Rattle.tlv_head.specs.declared.fault.FaultCode.{FaultCode}
 use Rattle.tlv_head.specs.declared.fault.FaultCode.TheVariants.{StrayEnd, TagTooLong, ReservedLength, IndefinitePrimitive, LengthTooLarge}
-use Rattle.tlv_head.proofs.Digits.{value_of-append-le}
+use Rattle.tlv_head.proofs.NumberLemmas.Digits.{value_of-append-le}
 
 -- where a header begins, and whether that offset is named
 pub record Origin : Type 0 where

@@ -8,7 +8,7 @@ use Rattle.tlv_head.specs.declared.header.Size.{Size}
 use Rattle.tlv_head.specs.declared.header.Size.TheVariants.{Definite, Indefinite}
 use Rattle.tlv_head.specs.Header.{HeaderValue, IsHeader, IsIdentifier, IsLength, announced_length, leading_octet, value_of, with_bit_8}
 use Rattle.tlv_head.specs.Shortest.{HasShorter, HeadersHaveAShortest, IsShortestIdentifier, IsShortestLength}
-use Rattle.tlv_head.proofs.Shortest.{high-first, identifier-le, identifier-same, length-le, length-same, shortest-identifier, shortest-length}
+use Rattle.tlv_head.proofs.ShortestLemmas.Shortest.{high-first, identifier-le, identifier-same, length-le, length-same, shortest-identifier, shortest-length}
 
 -- the same digits without leading zeros, before others
 record Stripped (b : ℕ) (digits tail : List ℕ) : Type 0 where

@@ -9,7 +9,7 @@ use Rattle.tlv_head.specs.declared.header.Size.{Size}
 use Rattle.tlv_head.specs.declared.header.Size.TheVariants.{Definite, Indefinite}
 use Rattle.tlv_head.specs.Header.{HeaderValue, IsHeader, IsHighForm, IsIdentifier, IsLength, announced_length, leading_octet, value_of, with_bit_8}
 use Rattle.tlv_head.specs.Shortest.{HaveOneTag, IsShortestIdentifier, IsShortestLength, ShortestHeadersAreOne, ShortestHeadersAreShortest}
-use Rattle.tlv_head.proofs.OneValue.{fewest-digits, same-digits}
+use Rattle.tlv_head.proofs.NumberLemmas.OneValue.{fewest-digits, same-digits}
 
 -- ---- identifier octets
 
