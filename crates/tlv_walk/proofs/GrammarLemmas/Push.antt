@@ -3,8 +3,7 @@ use Rattle.std.proofs.Common.{◌≡◌, ◌≢◌, inl, inr, ℕ, ◌+◌, ◌<
 use Rattle.std.proofs.lemmas.Bool.{cases_eq, cases_Bool, and_parts, true≢false}
 use Rattle.tlv_head.specs.declared.header.Size.{Size}
 use Rattle.tlv_head.specs.declared.header.Size.TheVariants.{Definite, Indefinite}
-use Rattle.tlv_head.specs.Header.{HeaderValue, IsHeader, announced_length, holds, octets_of, wraps}
-use Rattle.tlv_head.specs.Private.Header.{AllowsSize}
+use Rattle.tlv_head.specs.Header.{AllowsSize, HeaderValue, IsHeader, announced_length, holds, octets_of, wraps}
 use Rattle.tlv_head.specs.Refusal.{IsFront}
 use Rattle.tlv_head.proofs.GrammarLemmas.Scan.{Origin, Scan, Fresh, High, Named, Long, Ready, Stuck, Over, origin_of, step, scan, first-more}
 use Rattle.tlv_head.proofs.GrammarLemmas.Meaning.{IsStateAfter, reads-step, reads-scan, front-from_more, front-bytes}

@@ -14,7 +14,7 @@ returns-in-Finished c =
     let octets = take (i + 1) xs in
     let made : MakesHeader c.in-Finished.identifier c.in-Finished.size octets =
     subst (MakesHeader c.in-Finished.identifier c.in-Finished.size) (sym (take_more xs i 0 (omega arith))) (c.in-Finished.ensures (take i xs) c.loop-i.invariant.carries) in
-    rw c.fields_of.ensures (record {
+    rw c.header_fields.ensures (record {
       within = omega arith;
       sized = made_sized octets _ c.in-Finished.identifier c.in-Finished.size made refl;
       begins = subst (λ s. BeginsWith s c.args.offset c.args.named (header_with (record { offset = c.args.offset; named = c.args.named; class = c.in-Finished.identifier.class; constructed = c.in-Finished.identifier.constructed; number = c.in-Finished.identifier.number; size = c.in-Finished.size; id_len = c.in-Finished.identifier.octets }) octets))

@@ -20,19 +20,19 @@ returns-then-holds c =
     let deep : IsRefusedPush c.args.self.now c.args.octet c.args.room c.args.depth TooDeep =
     subst (λ (p : HeadReaderState). IsRefusedPush p c.args.octet c.args.room c.args.depth TooDeep) c.self.view_is
     (made_too_deep _ _ _ _ _ _ _ (search rules) (c.in-Finished.ensures c.self.inside.raw.items c.self.invariant) refl (sym c.holds.ensures ∙ c.if-holds.true) c.if-depth-ge128.true) in
-    let a : Pushes c.args.self.now c.args.octet c.args.room c.args.depth c.args.self.now c.refused-then-holds.result =
-    rw c.refused-then-holds.ensures (refused _ deep (rw (← c.self.view_is) (ap (λ n. c.self.inside.offset + n) c.len.ensures.value)) refl) in
+    let a : Pushes c.args.self.now c.args.octet c.args.room c.args.depth c.args.self.now c.refusal-then-holds.result =
+    rw c.refusal-then-holds.ensures (refused _ deep (rw (← c.self.view_is) (ap (λ n. c.self.inside.offset + n) c.len.ensures.value)) refl) in
     record { pushes = a; whole = exact _ _ _ _ _ _ a }
 
-pub returns-then-not-fits : goal.returns-then-not-fits
-returns-then-not-fits c =
+pub returns-then-not-contents_fit : goal.returns-then-not-contents_fit
+returns-then-not-contents_fit c =
     let past : IsRefusedPush c.args.self.now c.args.octet c.args.room c.args.depth Overrun =
     subst (λ (p : HeadReaderState). IsRefusedPush p c.args.octet c.args.room c.args.depth Overrun) c.self.view_is
     (made_overrun _ _ _ _ _ _ _ (search rules) (c.in-Finished.ensures c.self.inside.raw.items c.self.invariant) refl
     (elim c.else-depth-ge128.branch [ else-depth-ge128-via-then-depth-ge128+else-holds w ↦ λ h. absurd (false≢true (sym w.if-holds.false ∙ w.holds.ensures ∙ h)) | else-depth-ge128-via-else-depth-ge128 w ↦ λ _. w.if-depth-ge128.false ])
-    (λ f. absurd (false≢true (sym c.if-not-fits.true ∙ c.fits.ensures.1 f)))) in
-    let a : Pushes c.args.self.now c.args.octet c.args.room c.args.depth c.args.self.now c.refused-then-not-fits.result =
-    rw c.refused-then-not-fits.ensures (refused _ past (rw (← c.self.view_is) (ap (λ n. c.self.inside.offset + n) c.len.ensures.value)) refl) in
+    (λ f. absurd (false≢true (sym c.if-not-contents_fit.true ∙ c.contents_fit.ensures.1 f)))) in
+    let a : Pushes c.args.self.now c.args.octet c.args.room c.args.depth c.args.self.now c.refusal-then-not-contents_fit.result =
+    rw c.refusal-then-not-contents_fit.ensures (refused _ past (rw (← c.self.view_is) (ap (λ n. c.self.inside.offset + n) c.len.ensures.value)) refl) in
     record { pushes = a; whole = exact _ _ _ _ _ _ a }
 
 pub returns-in-Unfinished : goal.returns-in-Unfinished
@@ -47,24 +47,24 @@ pub returns-in-Refused : goal.returns-in-Refused
 returns-in-Refused c =
     let octet : IsRefusedOctet c.args.self.now.octets c.args.octet c.in-Refused.code =
     subst (λ (p : HeadReaderState). IsRefusedOctet p.octets c.args.octet c.in-Refused.code) c.self.view_is (c.in-Refused.ensures c.self.inside.raw.items c.self.invariant) in
-    let a : Pushes c.args.self.now c.args.octet c.args.room c.args.depth c.args.self.now c.refused-in-Refused.result =
-    rw c.refused-in-Refused.ensures (refused _ (refused_octet (search rules) octet) (rw (← c.self.view_is) (ap (λ n. c.self.inside.offset + n) c.len.ensures.value)) refl) in
+    let a : Pushes c.args.self.now c.args.octet c.args.room c.args.depth c.args.self.now c.refusal-in-Refused.result =
+    rw c.refusal-in-Refused.ensures (refused _ (refused_octet (search rules) octet) (rw (← c.self.view_is) (ap (λ n. c.self.inside.offset + n) c.len.ensures.value)) refl) in
     record { pushes = a; whole = exact _ _ _ _ _ _ a }
 
 -- the header that is returned
 completes : (c : goal.After-with_raw) → Completes c.args.self.now c.args.octet c.with_raw.result
 completes c =
-    rw (← c.self.view_is, c.with_raw.ensures, c.fields_of-fields.ensures, c.take.ensures.value, c.push-in-Finished.ensures.items)
+    rw (← c.self.view_is, c.with_raw.ensures, c.header_fields-fields.ensures, c.take.ensures.value, c.push-in-Finished.ensures.items)
     (made_whole _ _ _ _ _ (c.in-Finished.ensures c.self.inside.raw.items c.self.invariant) refl)
 
-pub returns-else-not-fits-clause-pushes : goal.returns-else-not-fits-clause-pushes
-returns-else-not-fits-clause-pushes c =
+pub returns-else-not-contents_fit-clause-pushes : goal.returns-else-not-contents_fit-clause-pushes
+returns-else-not-contents_fit-clause-pushes c =
     whole _ (completes c)
-    (rw (c.with_raw.ensures, c.fields_of-fields.ensures) (record {
+    (rw (c.with_raw.ensures, c.header_fields-fields.ensures) (record {
       shallow = elim c.else-depth-ge128.branch [ else-depth-ge128-via-then-depth-ge128+else-holds w ↦ λ h. absurd (false≢true (sym w.if-holds.false ∙ w.holds.ensures ∙ h)) | else-depth-ge128-via-else-depth-ge128 w ↦ λ _. w.if-depth-ge128.false ];
-      within = c.fits.ensures.0 c.if-not-fits.false;
+      within = c.contents_fit.ensures.0 c.if-not-contents_fit.false;
     }))
     refl
 
-pub returns-else-not-fits-clause-whole : goal.returns-else-not-fits-clause-whole
-returns-else-not-fits-clause-whole c = λ h d n f. ap (λ g. Whole g) (completes_unique _ _ _ _ (completes c) d)
+pub returns-else-not-contents_fit-clause-whole : goal.returns-else-not-contents_fit-clause-whole
+returns-else-not-contents_fit-clause-whole c = λ h d n f. ap (λ g. Whole g) (completes_unique _ _ _ _ (completes c) d)
