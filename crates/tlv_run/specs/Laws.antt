@@ -3,11 +3,10 @@ use Rattle.std.specs.Prelude.{◌≡◌, ℕ, ◌^◌, ◌≤◌, Bool, List, �
 use Rattle.std.specs.Io.KnownBytes.{Appends}
 use Rattle.tlv_value.specs.Names.{Table}
 use Rattle.tlv_walk.specs.declared.ending.Ending.TheVariants.{Done}
-use Rattle.tlv_io.specs.Device.{DrainState, SourceState}
 use Rattle.tlv_walk.specs.Reading.{AreOctets, IsPrefixOf, IsSoundList}
 use Rattle.tlv_run.specs.Report.{ReportValue}
 use Rattle.tlv_run.specs.Results.{CommandResult, IsResultOf, IsSettled, command_job}
-use Rattle.tlv_run.specs.Runs.{RunsAndReports}
+use Rattle.tlv_run.specs.Runs.{DeviceStates, RunsAndReports}
 use Rattle.tlv_run.specs.declared.command.Command.{Command}
 use Rattle.tlv_run.specs.declared.command.Command.TheVariants.{Indef}
 
@@ -43,14 +42,14 @@ SecondIndefIsTheFirst =
 abbrev pub RunsAreResults : Type 0
 RunsAreResults =
     (command : Command) (names : Table) (octets : List ℕ)
-    (old new : SourceState) (from to : DrainState) (report : ReportValue)
-    → AreOctets octets → length octets ≤ 2 ^ 40 → old.left ≡ Some octets
-    → old.failures < 2 ^ 64 - 1 → new.failures ≡ old.failures
-    → from.failures < 2 ^ 64 - 1 → to.failures ≡ from.failures
-    → RunsAndReports (command_job command names) old new from to report
+    (before after : DeviceStates) (report : ReportValue)
+    → AreOctets octets → length octets ≤ 2 ^ 40 → before.source.left ≡ Some octets
+    → before.source.failures < 2 ^ 64 - 1 → after.source.failures ≡ before.source.failures
+    → before.drain.failures < 2 ^ 64 - 1 → after.drain.failures ≡ before.drain.failures
+    → RunsAndReports (command_job command names) before after report
     → (made : CommandResult)
     × IsResultOf command names octets made
-    × Appends from.octets to.octets made.output
+    × Appends before.drain.octets after.drain.octets made.output
     × (report ≡ made.report)
 
 -- if no element is asked for, or it is not whole, the status 2 says just that the input is no sound list of encodings

@@ -12,7 +12,7 @@ use super::arcs::is_dotted;
 const MOST_OCTETS: usize = 400;
 
 /// The dotted text and the name on a line, or none if it is blank or a comment. `number` is the line's.
-pub(super) fn entry_of<'a>(
+pub(super) fn entry_or_refusal<'a>(
     line: &'a [u8],
     number: u32,
 ) -> Result<Option<(&'a [u8], &'a [u8])>, NamesFault>
@@ -21,7 +21,7 @@ pub(super) fn entry_of<'a>(
     if line.len() > MOST_OCTETS {
         return Err(NamesFault::TooLarge);
     }
-    let text = trimmed(without_return(line));
+    let text = without_outer_blanks(without_return(line));
     if text.is_empty() || text[0] == b'#' {
         return Ok(None);
     }
@@ -30,7 +30,7 @@ pub(super) fn entry_of<'a>(
     if !is_dotted(dotted) {
         return Err(NamesFault::BadOid(number));
     }
-    let name = without_blanks_in_front(&text[end..]);
+    let name = without_first_blanks(&text[end..]);
     if !is_name(name) {
         return Err(NamesFault::BadName(number));
     }
@@ -91,13 +91,13 @@ fn without_return(line: &[u8]) -> &[u8]
 }
 
 /// Without the spaces and tabs at both ends.
-fn trimmed(text: &[u8]) -> &[u8]
+fn without_outer_blanks(text: &[u8]) -> &[u8]
     ensures { result.now ≡ without_outer_blanks text.now }
 {
-    without_blanks_at_end(without_blanks_in_front(text))
+    without_last_blanks(without_first_blanks(text))
 }
 
-fn without_blanks_in_front(text: &[u8]) -> &[u8]
+fn without_first_blanks(text: &[u8]) -> &[u8]
     ensures { result.now ≡ without_first_blanks text.now }
 {
     for (i, octet) in text.iter().enumerate() {
@@ -108,7 +108,7 @@ fn without_blanks_in_front(text: &[u8]) -> &[u8]
     &[]
 }
 
-fn without_blanks_at_end(text: &[u8]) -> &[u8]
+fn without_last_blanks(text: &[u8]) -> &[u8]
     ensures { result.now ≡ without_last_blanks text.now }
 {
     let mut end = text.len();

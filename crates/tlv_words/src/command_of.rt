@@ -1,9 +1,9 @@
 //! The command that the words of a command line ask for.
 ghost use Rattle.std.specs.Prelude.{◌≡◌, IfErr, IfOk, IfSome, Ok, is_some, true};
 ghost use Rattle.clap.specs.Words.{first_of, subcommand_rows_of};
-ghost use Rattle.tlv_words.specs.Commands.{AreReadAs, IsUsageFaultOf, check_command, dump_command, extract_command};
-ghost use Rattle.tlv_words.specs.Commands.{framing_value, has_flag, indef_command, matched_command};
-ghost use Rattle.tlv_words.specs.Private.Commands.{IsFaultFor, Returns, matched_rows};
+ghost use Rattle.tlv_words.specs.CommandOf.{AreReadAs, IsUsageFaultOf, check_command, dump_command, extract_command};
+ghost use Rattle.tlv_words.specs.CommandOf.{framing_value, has_flag, indef_command, matched_command};
+ghost use Rattle.tlv_words.specs.Private.CommandOf.{IsFaultFor, Returns, matched_rows};
 ghost use Rattle.tlv_words.specs.Private.Values.{text_in};
 
 use crate::parser::tlvdump_parser;

@@ -1,7 +1,7 @@
 use Rattle.std.proofs.Common.{◌≤◌, ◌+◌, length}
 use Rattle.tlv_value.specs.NamesSteps.{texts_in}
 use Rattle.tlv_value.proofs.NamesLemmas.Standing.{Standing}
-use Rattle.tlv_value.proofs.names.table.table_of.Given as goal
+use Rattle.tlv_value.proofs.names.table.names_of.Given as goal
 
 abbrev pub invariant-loop-rest : goal.invariant-loop-rest
 invariant-loop-rest g l = record {

@@ -5,7 +5,7 @@ use Rattle.std.proofs.lemmas.Result.{err_from_is_err_and}
 use Rattle.tlv_value.specs.Names.{names_line}
 use Rattle.tlv_value.specs.NamesSteps.{texts_in}
 use Rattle.tlv_value.proofs.NamesLemmas.Standing.{Standing, start, step, stop, done, next_line}
-use Rattle.tlv_value.proofs.names.table.table_of.Goals as goal
+use Rattle.tlv_value.proofs.names.table.names_of.Goals as goal
 
 pub loop-rest-init : goal.loop-rest-init
 loop-rest-init g c = record { within = omega arith; standing = start c.args.octets.now c.new-table.result c.new-table.ensures.empty }

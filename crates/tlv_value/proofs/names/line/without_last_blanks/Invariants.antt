@@ -1,6 +1,6 @@
 use Rattle.std.proofs.Common.{◌≡◌, ◌≤◌, length, take}
 use Rattle.tlv_value.specs.Names.{without_last_blanks}
-use Rattle.tlv_value.proofs.names.line.without_blanks_at_end.Given as goal
+use Rattle.tlv_value.proofs.names.line.without_last_blanks.Given as goal
 
 abbrev pub invariant-loop-end : goal.invariant-loop-end
 invariant-loop-end l = record {
