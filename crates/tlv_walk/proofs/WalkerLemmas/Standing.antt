@@ -1,5 +1,5 @@
 -- What a step yields, of what a walker stands for.
-use Rattle.std.proofs.Common.{◌≡◌, ◌⊎◌, inl, inr, ℕ, ◌+◌, List, [], ◌∷◌, ◌++◌, length, refl, sym, ap, ◌∙◌, subst, arith, append-nil, length-append}
+use Rattle.std.proofs.Common.{◌≡◌, ◌⊎◌, inl, inr, ℕ, ◌+◌, true, List, [], ◌∷◌, ◌++◌, length, refl, sym, ap, ◌∙◌, subst, arith, append-nil, length-append}
 use Rattle.tlv_head.specs.declared.fault.Fault.{Fault}
 use Rattle.tlv_walk.specs.Stack.{Frame}
 use Rattle.tlv_walk.specs.declared.event.Event.{Event}
@@ -7,7 +7,7 @@ use Rattle.tlv_walk.specs.declared.event.Step.{Step}
 use Rattle.tlv_walk.specs.declared.event.Step.TheVariants as step
 use Rattle.tlv_walk.specs.declared.framing.Framing.{Framing}
 use Rattle.tlv_walk.specs.Events.{AreEqualJoined, EventValue, events}
-use Rattle.tlv_walk.specs.Inside.{CanName}
+use Rattle.tlv_walk.specs.Inside.{can_name}
 use Rattle.tlv_walk.specs.WalkerState.{HasNotRefused, HasOctets, WalkerState}
 use Rattle.tlv_walk.specs.Private.WalkerState.{Refuses, Steps, TakesAll, YieldsOne, wrappers_after}
 use Rattle.tlv_walk.specs.Phase.{Phase, Between, InHeader, InPrimitive, InBitString, InEndOctets, Refused}
@@ -49,7 +49,7 @@ stands_all old new before after es t = let k = t.continues in record {
   piece = t.piece;
   framing = k.framing;
   stands = λ b past st. let u = k.goes b past st.private_state.state st.private_state.has_state in
-      stands new (b ++ t.taken) (past ++ es) u.0 u.1 (subst (λ (f : Framing). CanName f.inside) (sym k.framing) st.private_state.named) (found_on old new past es k.framing st.private_state.found k.found);
+      stands new (b ++ t.taken) (past ++ es) u.0 u.1 (subst (λ (f : Framing). can_name f.inside ≡ true) (sym k.framing) st.private_state.named) (found_on old new past es k.framing st.private_state.found k.found);
 }
 
 -- the reading after which the octet is refused
@@ -79,7 +79,7 @@ refused_walker : (old new : WalkerState) (before after : List ℕ) (f : Fault) �
 refused_walker old new before after f k r b past st =
     let u = r.refuses b past st.private_state.state st.private_state.has_state in
     let framing : new.framing ≡ old.framing = k.framing in
-    let named : CanName new.framing.inside = subst (λ (g : Framing). CanName g.inside) (sym framing) st.private_state.named in
+    let named : can_name new.framing.inside ≡ true = subst (λ (g : Framing). can_name g.inside ≡ true) (sym framing) st.private_state.named in
     let there : IsRefusedAfter new.framing (b ++ r.taken) r.octet past f = refused_reading old new.framing before after f framing r b past st in
     let found : new.wrapper_count ≡ wrappers_after new.framing.inside 0 (wrapper_offsets past) = k.wrapper_count ∙ st.private_state.found ∙ ap (λ (g : Framing). wrappers_after g.inside 0 (wrapper_offsets past)) (sym framing) in
     record {
@@ -118,7 +118,7 @@ uses_up old new before after n k t =
       stands = λ b past st.
           let u = t.goes b past st.private_state.state st.private_state.has_state in
           subst (λ (es : List EventValue). Stands new (b ++ before) es) (append-nil past)
-          (stands new (b ++ before) (past ++ []) u.0 u.1 (subst (λ (f : Framing). CanName f.inside) (sym t.framing) st.private_state.named) (found_on old new past [] t.framing st.private_state.found t.found));
+          (stands new (b ++ before) (past ++ []) u.0 u.1 (subst (λ (f : Framing). can_name f.inside ≡ true) (sym t.framing) st.private_state.named) (found_on old new past [] t.framing st.private_state.found t.found));
       ready = awaits-can_take new k.ready;
       framing = t.framing;
       offset = k.taken;
