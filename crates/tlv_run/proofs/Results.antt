@@ -1,5 +1,6 @@
 -- What jobs, and commands, make of inputs.
-use Rattle.std.proofs.Common.{◌≡◌, inl, inr, ℕ, ◌^◌, ◌≤◌, Bool, true, false, List, ◌++◌, length, refl, sym, ap, ◌∙◌, subst}
+use Rattle.std.proofs.Common.{◌≡◌, inl, inr, ℕ, ◌^◌, ◌≤◌, Bool, true, false, List, ◌++◌, length, refl, sym, ap, ◌∙◌}
+use Rattle.std.proofs.Common.{subst}
 use Rattle.std.proofs.lemmas.Bool.{true≢false}
 use Rattle.tlv_cut.proofs.ExtractLemmas.LongerInputs.{extract_text_goes_on, same_extract_text, same_found, same_whole}
 use Rattle.tlv_cut.proofs.IndefLemmas.LongerInputs.{indef_text_goes_on}

@@ -92,7 +92,7 @@ fn unused_report(unused: Option<u64>, other: Report) -> Report
     ensures { report_value result ≡ unused_report unused (report_value other) }
 {
     match unused {
-        Some(offset) => report_with(1, line_with_number(b"E7 no string to read at offset ", offset)),
+        Some(offset) => report_with(1, number_line(b"E7 no string to read at offset ", offset)),
         None => other,
     }
 }
@@ -103,7 +103,7 @@ fn findings_report(findings: u64) -> Report
     if findings == 0 {
         Report::without_message(0)
     } else {
-        report_with(1, line_with_number(b"findings: ", findings))
+        report_with(1, number_line(b"findings: ", findings))
     }
 }
 
@@ -113,7 +113,7 @@ fn found_report(offset: u64, found: bool) -> Report
     if found {
         Report::without_message(0)
     } else {
-        report_with(1, line_with_number(b"E4 no element at offset ", offset))
+        report_with(1, number_line(b"E4 no element at offset ", offset))
     }
 }
 
@@ -173,7 +173,7 @@ fn message_of(line: &[u8]) -> ArrayVec<u8, 128>
 }
 
 /// A text and a number after it.
-fn line_with_number(line: &[u8], number: u64) -> ArrayVec<u8, 128>
+fn number_line(line: &[u8], number: u64) -> ArrayVec<u8, 128>
     requires { length line.now ≤ 64 }
     ensures text { result.items ≡ line.now ++ decimal number }
     ensures short { length result.items ≤ length line.now + 40 }
@@ -201,7 +201,7 @@ fn line_with(code: &[u8], line: u32, what: &[u8]) -> ArrayVec<u8, 128>
 fn fault_line(fault: Fault) -> ArrayVec<u8, 128>
     ensures { result.items ≡ fault_line fault }
 {
-    let mut message = line_with_number(b"fault at ", fault.offset);
+    let mut message = number_line(b"fault at ", fault.offset);
     let _ = message.try_extend_from_slice(b": ");
     let _ = message.try_extend_from_slice(fault.code.name());
     let _ = message.try_extend_from_slice(b" ");

@@ -1,14 +1,20 @@
 -- Headers by their octets: one way to read them, and what one more octet does to the front of one.
-use Rattle.std.proofs.Common.{◌≡◌, ◌≢◌, ◌⊎◌, inl, inr, ℕ, ◌+◌, ◌-◌, ◌%◌, ◌/◌, ◌<◌, ◌≤◌, Bool, true, false, cond, ◌&&◌, not, eqb, ltb, List, [], ◌∷◌, ◌++◌, length, refl, sym, ap, ◌∙◌, arith, append-nil, length-append, lt-ltb, le-ltb, eq-eqb, ne_eqb, ltb-true, subst, ⊎_elim}
+use Rattle.std.proofs.Common.{◌≡◌, ◌≢◌, ◌⊎◌, inl, inr, ℕ, ◌+◌, ◌-◌, ◌%◌, ◌/◌, ◌<◌, ◌≤◌, Bool, true, false, cond, ◌&&◌}
+use Rattle.std.proofs.Common.{not, eqb, ltb, List, [], ◌∷◌, ◌++◌, length, refl, sym, ap, ◌∙◌, arith, append-nil}
+use Rattle.std.proofs.Common.{length-append, lt-ltb, le-ltb, eq-eqb, ne_eqb, ltb-true, subst, ⊎_elim}
 use Rattle.std.proofs.lemmas.Bool.{cases_lt, cases_eq, cases_Bool, and_parts, not-true, eqb-false}
 use Rattle.tlv_head.specs.declared.header.Class.{Class}
 use Rattle.tlv_head.specs.Header.{HeaderValue, IsHeader, IsIdentifier, octets_of}
 use Rattle.tlv_head.specs.Laws.{AreHeaderOctets, IsRefusable}
-use Rattle.tlv_head.specs.Refusal.{CannotBecomeHeader, IsFront, IsRefusedOctet, indefinite_primitive, length_too_large, reserved_length, tag_too_long}
+use Rattle.tlv_head.specs.Refusal.{CannotBecomeHeader, IsFront, IsRefusedOctet, indefinite_primitive, length_too_large}
+use Rattle.tlv_head.specs.Refusal.{reserved_length, tag_too_long}
 use Rattle.tlv_head.specs.declared.fault.FaultCode.{FaultCode}
 use Rattle.tlv_head.specs.declared.fault.FaultCode.TheVariants.{StrayEnd, IndefinitePrimitive}
-use Rattle.tlv_head.proofs.GrammarLemmas.Scan.{Scan, Origin, origin_of, start, Fresh, High, Named, Long, Ready, Stuck, Over, leads, class_of, step, scan, scan_from-append, scan_from-past, scan-moved, moved, is_more, more-from_front, no-front, same-header}
-use Rattle.tlv_head.proofs.GrammarLemmas.Meaning.{IsHighState, IsLongState, IsStateAfter, reads-step, reads-scan, front-from_more, front-bytes}
+use Rattle.tlv_head.proofs.GrammarLemmas.Scan.{Scan, Origin, origin_of, start, Fresh, High, Named, Long, Ready, Stuck}
+use Rattle.tlv_head.proofs.GrammarLemmas.Scan.{Over, leads, class_of, step, scan, scan_from-append, scan_from-past}
+use Rattle.tlv_head.proofs.GrammarLemmas.Scan.{scan-moved, moved, is_more, more-from_front, no-front, same-header}
+use Rattle.tlv_head.proofs.GrammarLemmas.Meaning.{IsHighState, IsLongState, IsStateAfter, reads-step, reads-scan}
+use Rattle.tlv_head.proofs.GrammarLemmas.Meaning.{front-from_more, front-bytes}
 
 -- if two lists are fronts of one list, one of the two is a front of the other
 pub fronts : (a b x y : List ℕ) → a ++ x ≡ b ++ y → ((z : List ℕ) × (a ++ z ≡ b) × (x ≡ z ++ y)) ⊎ ((z : List ℕ) × (b ++ z ≡ a) × (y ≡ z ++ x))

@@ -1,17 +1,23 @@
 -- What the octets read so far are, by the state that they lead to: nothing, a header, the front of one, or refused.
-use Rattle.std.proofs.Common.{◌≡◌, ◌≢◌, ◌⊎◌, inl, inr, ℕ, zero, suc, if◌then◌else◌, ◌+◌, ◌-◌, ◌*◌, ◌/◌, ◌%◌, ◌^◌, ◌<◌, ◌≤◌, Bool, true, false, cond, ◌&&◌, not, eqb, ltb, List, [], ◌∷◌, ◌++◌, length, map, replicate, All, refl, ap, ◌∙◌, arith, append_assoc, append-nil, lt-ltb, le-ltb, eq-eqb, ne_eqb, ltb-true, ltb-false, eqb-true, ⊎_elim, pow-suc, zero-mul, length-append}
+use Rattle.std.proofs.Common.{◌≡◌, ◌≢◌, ◌⊎◌, inl, inr, ℕ, zero, suc, if◌then◌else◌, ◌+◌, ◌-◌, ◌*◌, ◌/◌, ◌%◌, ◌^◌, ◌<◌}
+use Rattle.std.proofs.Common.{◌≤◌, Bool, true, false, cond, ◌&&◌, not, eqb, ltb, List, [], ◌∷◌, ◌++◌, length, map}
+use Rattle.std.proofs.Common.{replicate, All, refl, ap, ◌∙◌, arith, append_assoc, append-nil, lt-ltb, le-ltb, eq-eqb}
+use Rattle.std.proofs.Common.{ne_eqb, ltb-true, ltb-false, eqb-true, ⊎_elim, pow-suc, zero-mul, length-append}
 use Rattle.std.proofs.lemmas.Bool.{cases_lt, cases_eq, cases_Bool, and_cases, not-false}
-use Rattle.std.proofs.lemmas.List.Elements.{All-head, All-tail, All-push, All-append, All-replicate, All-nil, All-cons, All-map, All-weaker}
+use Rattle.std.proofs.lemmas.List.Elements.{All-head, All-tail, All-push, All-append, All-replicate, All-nil, All-cons}
+use Rattle.std.proofs.lemmas.List.Elements.{All-map, All-weaker}
 use Rattle.std.proofs.lemmas.List.{map_push, length-replicate, get_or_append_left}
 use Rattle.tlv_head.specs.declared.header.Class.{Class}
 use Rattle.tlv_head.specs.declared.header.Class.TheVariants.{Universal, Application, Context, Private}
 use Rattle.tlv_head.specs.declared.header.Size.{Size}
 use Rattle.tlv_head.specs.declared.header.Size.TheVariants.{Definite, Indefinite}
-use Rattle.tlv_head.specs.Header.{AllowsSize, HeaderValue, IsHeader, IsIdentifier, IsLength, class_bits, leading_octet, octets_of, value_of}
+use Rattle.tlv_head.specs.Header.{AllowsSize, HeaderValue, IsHeader, IsIdentifier, IsLength, class_bits, leading_octet}
+use Rattle.tlv_head.specs.Header.{octets_of, value_of}
 use Rattle.tlv_head.specs.Refusal.{IsFront}
 use Rattle.tlv_head.specs.declared.fault.FaultCode.TheVariants.{IndefinitePrimitive}
 use Rattle.tlv_head.proofs.NumberLemmas.Digits.{value_of-snoc, value_of-zeros}
-use Rattle.tlv_head.proofs.GrammarLemmas.Scan.{Origin, origin_of, start, Scan, Fresh, High, Named, Long, Ready, Stuck, Over, class_of, leads, step, scan_from, scan, head_of, is_more}
+use Rattle.tlv_head.proofs.GrammarLemmas.Scan.{Origin, origin_of, start, Scan, Fresh, High, Named, Long, Ready, Stuck}
+use Rattle.tlv_head.proofs.GrammarLemmas.Scan.{Over, class_of, leads, step, scan_from, scan, head_of, is_more}
 
 -- the high form so far
 pub record IsHighState (c : Class) (k : Bool) (ds o : List ℕ) : Type 0 where

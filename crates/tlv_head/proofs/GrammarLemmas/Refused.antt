@@ -1,13 +1,19 @@
 -- Octets that are refused whatever the room and the depth: no header begins with them, and they begin with none.
-use Rattle.std.proofs.Common.{◌≡◌, ◌≢◌, ◌⊎◌, inl, inr, ℕ, ◌+◌, ◌-◌, ◌<◌, ◌≤◌, Bool, true, false, not, ◌&&◌, eqb, ltb, List, [], ◌∷◌, ◌++◌, length, All, refl, sym, ap, ◌∙◌, arith, append_assoc, append-nil, length-append, lt-ltb, le-ltb, ne_eqb, ⊎_elim}
+use Rattle.std.proofs.Common.{◌≡◌, ◌≢◌, ◌⊎◌, inl, inr, ℕ, ◌+◌, ◌-◌, ◌<◌, ◌≤◌, Bool, true, false, not, ◌&&◌, eqb, ltb}
+use Rattle.std.proofs.Common.{List, [], ◌∷◌, ◌++◌, length, All, refl, sym, ap, ◌∙◌, arith, append_assoc, append-nil}
+use Rattle.std.proofs.Common.{length-append, lt-ltb, le-ltb, ne_eqb, ⊎_elim}
 use Rattle.std.proofs.lemmas.Bool.{cases_Bool}
 use Rattle.std.proofs.lemmas.List.Elements.{All-head, All-tail}
 use Rattle.tlv_head.specs.declared.header.Class.{Class}
 use Rattle.tlv_head.specs.declared.fault.FaultCode.{FaultCode}
-use Rattle.tlv_head.specs.declared.fault.FaultCode.TheVariants.{TagTooLong, ReservedLength, IndefinitePrimitive, LengthTooLarge}
+use Rattle.tlv_head.specs.declared.fault.FaultCode.TheVariants.{TagTooLong, ReservedLength, IndefinitePrimitive}
+use Rattle.tlv_head.specs.declared.fault.FaultCode.TheVariants.{LengthTooLarge}
 use Rattle.tlv_head.specs.Header.{HeaderValue, IsHeader, IsIdentifier, leading_octet, octets_of, with_bit_8}
-use Rattle.tlv_head.specs.Refusal.{CannotBecomeHeader, BeginsWithNoHeader, IsFront, IsRefusedOctet, indefinite_primitive, length_too_large, reserved_length, tag_too_long}
-use Rattle.tlv_head.proofs.GrammarLemmas.Scan.{Scan, Origin, start, Fresh, High, Named, Long, Ready, Stuck, Over, step, scan_from, scan, scan_from-append, scan_from-over, scan-identifier, scan-moved, moved, step-leading, is_more, more-from_front}
+use Rattle.tlv_head.specs.Refusal.{CannotBecomeHeader, BeginsWithNoHeader, IsFront, IsRefusedOctet}
+use Rattle.tlv_head.specs.Refusal.{indefinite_primitive, length_too_large, reserved_length, tag_too_long}
+use Rattle.tlv_head.proofs.GrammarLemmas.Scan.{Scan, Origin, start, Fresh, High, Named, Long, Ready, Stuck, Over, step}
+use Rattle.tlv_head.proofs.GrammarLemmas.Scan.{scan_from, scan, scan_from-append, scan_from-over, scan-identifier}
+use Rattle.tlv_head.proofs.GrammarLemmas.Scan.{scan-moved, moved, step-leading, is_more, more-from_front}
 use Rattle.tlv_head.proofs.GrammarLemmas.Headers.{fronts, stuck-none}
 
 -- read from this state, a front of the octets is refused at its last octet

@@ -1,10 +1,12 @@
 -- The first of subsequent identifier octets, and of subsequent length octets, by the value of all of them.
-use Rattle.std.proofs.Common.{◌≡◌, ◌==◌, ℕ, zero, suc, ◌+◌, ◌-◌, ◌*◌, ◌%◌, ◌^◌, ◌<◌, ◌≤◌, inl, inr, nat_lt, List, [], ◌∷◌, ◌++◌, length, All, ap, arith, lit<, length-append}
+use Rattle.std.proofs.Common.{◌≡◌, ◌==◌, ℕ, zero, suc, ◌+◌, ◌-◌, ◌*◌, ◌%◌, ◌^◌, ◌<◌, ◌≤◌, inl, inr, nat_lt, List, []}
+use Rattle.std.proofs.Common.{◌∷◌, ◌++◌, length, All, ap, arith, lit<, length-append}
 use Rattle.std.proofs.lemmas.Bool.Decides.{nat_tests}
 use Rattle.std.proofs.lemmas.List.{length-map}
 use Rattle.std.proofs.lemmas.List.Elements.{All-head, All-nil, All-push, All-tail}
 use Rattle.std.specs.Prelude.{slice_index}
-use Rattle.tlv_head.specs.Header.{HeaderValue, IsHeader, IsLength, IsLongForm, announced_length, leading_octet, value_of, with_bit_8}
+use Rattle.tlv_head.specs.Header.{HeaderValue, IsHeader, IsLength, IsLongForm, announced_length, leading_octet}
+use Rattle.tlv_head.specs.Header.{value_of, with_bit_8}
 use Rattle.tlv_head.specs.declared.header.Size.{Size}
 use Rattle.tlv_head.specs.declared.header.Size.TheVariants.{Definite, Indefinite}
 use Rattle.tlv_head.proofs.NumberLemmas.Digits.{value_of-lt}

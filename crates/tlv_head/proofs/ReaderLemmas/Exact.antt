@@ -1,5 +1,6 @@
 -- The octets, the room and the depth determine what a push returns.
-use Rattle.std.proofs.Common.{◌≡◌, ◌≢◌, ℕ, true, ◌<◌, ◌≤◌, [], ◌∷◌, ◌++◌, Option, Some, IfSome, refl, ap, sym, ◌∙◌, arith, append-nil, subst}
+use Rattle.std.proofs.Common.{◌≡◌, ◌≢◌, ℕ, true, ◌<◌, ◌≤◌, [], ◌∷◌, ◌++◌, Option, Some, IfSome, refl, ap, sym, ◌∙◌}
+use Rattle.std.proofs.Common.{arith, append-nil, subst}
 use Rattle.tlv_head.specs.declared.fault.FaultCode.{FaultCode}
 use Rattle.tlv_head.specs.declared.header.Size.{Size}
 use Rattle.tlv_head.specs.declared.header.Size.TheVariants.{Definite, Indefinite}
@@ -8,7 +9,8 @@ use Rattle.tlv_head.specs.declared.reader.Head.TheVariants.{Whole, Refused}
 use Rattle.tlv_head.specs.Header.{HeaderValue, holds}
 use Rattle.tlv_head.specs.HeadReaderState.{ContentsFit, HeadReaderState}
 use Rattle.tlv_head.specs.Refusal.{IsFront, IsRefusedOctet}
-use Rattle.tlv_head.specs.Push.{Completes, FitsThere, IsRefusedPush, Pushes, more, no_room, overrun, refused, refused_octet, too_deep, whole}
+use Rattle.tlv_head.specs.Push.{Completes, FitsThere, IsRefusedPush, Pushes, more, no_room, overrun, refused}
+use Rattle.tlv_head.specs.Push.{refused_octet, too_deep, whole}
 use Rattle.tlv_head.proofs.GrammarLemmas.Headers.{front-no_header}
 use Rattle.tlv_head.proofs.GrammarLemmas.Refused.{one-refusal, refused-none}
 use Rattle.tlv_head.proofs.GrammarLemmas.Scan.{same-header}

@@ -1,5 +1,7 @@
 -- Octets that begin with no short identifier, or with no short header.
-use Rattle.std.proofs.Common.{◌≡◌, ◌≢◌, inl, inr, ℕ, ◌+◌, ◌-◌, ◌*◌, ◌<◌, ◌≤◌, Bool, true, false, get_or, List, [], ◌∷◌, ◌++◌, length, take, drop, refl, sym, ap, ◌∙◌, subst, arith, lit<, append_assoc, append-nil, length-append, length-drop}
+use Rattle.std.proofs.Common.{◌≡◌, ◌≢◌, inl, inr, ℕ, ◌+◌, ◌-◌, ◌*◌, ◌<◌, ◌≤◌, Bool, true, false, get_or, List, [], ◌∷◌}
+use Rattle.std.proofs.Common.{◌++◌, length, take, drop, refl, sym, ap, ◌∙◌, subst, arith, lit<, append_assoc}
+use Rattle.std.proofs.Common.{append-nil, length-append, length-drop}
 use Rattle.std.proofs.lemmas.List.{length-map, take-append-drop, take_all}
 use Rattle.std.proofs.Math.Seq.{drop-append_seam}
 use Rattle.tlv_head.specs.declared.header.Class.{Class}
@@ -13,9 +15,11 @@ use Rattle.tlv_head.specs.declared.next_octet.Next.{Next}
 use Rattle.tlv_head.specs.declared.next_octet.Next.TheVariants.{Unfinished, Finished, Refused}
 use Rattle.tlv_head.specs.Header.{AllowsSize, IsIdentifier, IsLength, leading_octet, with_bit_8}
 use Rattle.tlv_head.specs.HeaderSoFar.{Carries, CarriesIdentifier, CarriesNumber}
-use Rattle.tlv_head.specs.Private.NextOctet.{BeginsWithIdentifier, BeginsWithNoIdentifier, BeginsWithNoLength, MakesNext}
+use Rattle.tlv_head.specs.Private.NextOctet.{BeginsWithIdentifier, BeginsWithNoIdentifier, BeginsWithNoLength}
+use Rattle.tlv_head.specs.Private.NextOctet.{MakesNext}
 use Rattle.tlv_head.specs.ReadHeader.{BeginsWithNoShortHeader}
-use Rattle.tlv_head.specs.Refusal.{IsRefusedOctet, indefinite_primitive, length_too_large, reserved_length, tag_too_long}
+use Rattle.tlv_head.specs.Refusal.{IsRefusedOctet, indefinite_primitive, length_too_large, reserved_length}
+use Rattle.tlv_head.specs.Refusal.{tag_too_long}
 use Rattle.tlv_head.proofs.GrammarLemmas.Scan.{Named, scan, scan-identifier, start}
 use Rattle.tlv_head.proofs.ReaderLemmas.Steps.{ends_number}
 

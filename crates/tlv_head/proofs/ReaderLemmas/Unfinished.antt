@@ -1,5 +1,7 @@
 -- What a reader carries can become a header.
-use Rattle.std.proofs.Common.{◌≡◌, ◌≢◌, ℕ, suc, zero, Bool, true, false, ◌||◌, ◌+◌, ◌*◌, ◌-◌, ◌<◌, ◌≤◌, inl, inr, List, [], ◌∷◌, ◌++◌, length, Option, Some, refl, ap, sym, ◌∙◌, arith, length-append, append_assoc, lit<, take, drop}
+use Rattle.std.proofs.Common.{◌≡◌, ◌≢◌, ℕ, suc, zero, Bool, true, false, ◌||◌, ◌+◌, ◌*◌, ◌-◌, ◌<◌, ◌≤◌, inl, inr, List}
+use Rattle.std.proofs.Common.{[], ◌∷◌, ◌++◌, length, Option, Some, refl, ap, sym, ◌∙◌, arith, length-append}
+use Rattle.std.proofs.Common.{append_assoc, lit<, take, drop}
 use Rattle.std.proofs.lemmas.Bool.{cases_eq}
 use Rattle.tlv_head.specs.Header.{HeaderValue, IsHeader, is_wrapper}
 use Rattle.tlv_head.specs.HeadReaderState.{ContentsFit, HeadReaderState}

@@ -1,5 +1,6 @@
 -- Headers with one tag and one size: at most one is as short as it can be, and no other is shorter than that one.
-use Rattle.std.proofs.Common.{◌≡◌, ◌≢◌, ℕ, ◌+◌, ◌%◌, ◌<◌, ◌≤◌, inl, inr, Bool, List, [], ◌∷◌, ◌++◌, length, All, sym, ap, ap₂, ◌∙◌, arith, lit<, length-append}
+use Rattle.std.proofs.Common.{◌≡◌, ◌≢◌, ℕ, ◌+◌, ◌%◌, ◌<◌, ◌≤◌, inl, inr, Bool, List, [], ◌∷◌, ◌++◌, length, All, sym}
+use Rattle.std.proofs.Common.{ap, ap₂, ◌∙◌, arith, lit<, length-append}
 use Rattle.std.proofs.lemmas.Bool.{cases_lt}
 use Rattle.std.proofs.lemmas.List.{length-map, same_from_push}
 use Rattle.std.proofs.lemmas.List.Elements.{All-head, All-push}
@@ -7,8 +8,10 @@ use Rattle.std.specs.Prelude.{slice_index}
 use Rattle.tlv_head.specs.declared.header.Class.{Class}
 use Rattle.tlv_head.specs.declared.header.Size.{Size}
 use Rattle.tlv_head.specs.declared.header.Size.TheVariants.{Definite, Indefinite}
-use Rattle.tlv_head.specs.Header.{HeaderValue, IsHeader, IsHighForm, IsIdentifier, IsLength, announced_length, leading_octet, value_of, with_bit_8}
-use Rattle.tlv_head.specs.Shortest.{HaveOneTag, IsShortestIdentifier, IsShortestLength, ShortestHeadersAreOne, ShortestHeadersAreShortest}
+use Rattle.tlv_head.specs.Header.{HeaderValue, IsHeader, IsHighForm, IsIdentifier, IsLength, announced_length}
+use Rattle.tlv_head.specs.Header.{leading_octet, value_of, with_bit_8}
+use Rattle.tlv_head.specs.Shortest.{HaveOneTag, IsShortestIdentifier, IsShortestLength, ShortestHeadersAreOne}
+use Rattle.tlv_head.specs.Shortest.{ShortestHeadersAreShortest}
 use Rattle.tlv_head.proofs.NumberLemmas.OneValue.{fewest-digits, same-digits}
 
 -- ---- identifier octets

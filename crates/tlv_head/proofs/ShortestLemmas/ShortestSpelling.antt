@@ -1,14 +1,17 @@
 -- Each header can be spelled as short as it can be: leading digits 0 are left out.
-use Rattle.std.proofs.Common.{◌≡◌, ◌≢◌, ◌⊎◌, ℕ, zero, suc, ◌+◌, ◌^◌, ◌<◌, ◌≤◌, inl, inr, Bool, List, [], ◌∷◌, ◌++◌, length, All, refl, sym, subst, ap, ◌∙◌, arith, zero-mul, le_refl, append-nil}
+use Rattle.std.proofs.Common.{◌≡◌, ◌≢◌, ◌⊎◌, ℕ, zero, suc, ◌+◌, ◌^◌, ◌<◌, ◌≤◌, inl, inr, Bool, List, [], ◌∷◌, ◌++◌}
+use Rattle.std.proofs.Common.{length, All, refl, sym, subst, ap, ◌∙◌, arith, zero-mul, le_refl, append-nil}
 use Rattle.std.proofs.lemmas.Bool.{cases_lt}
 use Rattle.std.proofs.lemmas.List.Elements.{All-tail}
 use Rattle.std.specs.Prelude.{slice_index}
 use Rattle.tlv_head.specs.declared.header.Class.{Class}
 use Rattle.tlv_head.specs.declared.header.Size.{Size}
 use Rattle.tlv_head.specs.declared.header.Size.TheVariants.{Definite, Indefinite}
-use Rattle.tlv_head.specs.Header.{HeaderValue, IsHeader, IsIdentifier, IsLength, announced_length, leading_octet, value_of, with_bit_8}
+use Rattle.tlv_head.specs.Header.{HeaderValue, IsHeader, IsIdentifier, IsLength, announced_length, leading_octet}
+use Rattle.tlv_head.specs.Header.{value_of, with_bit_8}
 use Rattle.tlv_head.specs.Shortest.{HasShorter, HeadersHaveAShortest, IsShortestIdentifier, IsShortestLength}
-use Rattle.tlv_head.proofs.ShortestLemmas.Shortest.{high-first, identifier-le, identifier-same, length-le, length-same, shortest-identifier, shortest-length}
+use Rattle.tlv_head.proofs.ShortestLemmas.Shortest.{high-first, identifier-le, identifier-same, length-le, length-same}
+use Rattle.tlv_head.proofs.ShortestLemmas.Shortest.{shortest-identifier, shortest-length}
 
 -- the same digits without leading zeros, before others
 record Stripped (b : ℕ) (digits tail : List ℕ) : Type 0 where

@@ -6,9 +6,11 @@ use Rattle.tlv_head.specs.HeadReaderState.{HeadReaderState}
 use Rattle.tlv_head.specs.Refusal.{IsRefusedOctet}
 use Rattle.tlv_head.specs.Push.{Completes, IsRefusedPush, Pushes, more, refused, refused_octet, whole}
 use Rattle.tlv_head.proofs.ReaderLemmas.Exact.{exact, completes_unique, front_not_whole}
-use Rattle.tlv_head.proofs.ReaderLemmas.Unfinished.{length-carried, made_overrun, made_too_deep, made_whole, unfinished_part}
+use Rattle.tlv_head.proofs.ReaderLemmas.Unfinished.{length-carried, made_overrun, made_too_deep, made_whole}
+use Rattle.tlv_head.proofs.ReaderLemmas.Unfinished.{unfinished_part}
 use Rattle.tlv_head.proofs.reader.HeadReader.push.Goals as goal
-use Rattle.tlv_head.proofs.reader.HeadReader.push.Goals.{else-depth-ge128-via-then-depth-ge128+else-holds, else-depth-ge128-via-else-depth-ge128}
+use Rattle.tlv_head.proofs.reader.HeadReader.push.Goals.{else-depth-ge128-via-then-depth-ge128+else-holds}
+use Rattle.tlv_head.proofs.reader.HeadReader.push.Goals.{else-depth-ge128-via-else-depth-ge128}
 
 pub push-requires : goal.push-requires
 push-requires c =

@@ -14,16 +14,18 @@ use Rattle.tlv_walk.proofs.walker.Walker.read_on.Goals as goal
 pub loop-piece-preserved : goal.loop-piece-preserved
 loop-piece-preserved c =
     let first = first_octet c.loop-piece.piece.now c.in-len1-up.len_at_least in
-    elim c.in-More.ensures.pushes [ more some front same ↦ record {
-      same = c.loop-piece.invariant.same;
-      unfinished = ap (λ (r : HeadReaderState). r.done) same;
-      start = ap (λ (r : HeadReaderState). r.offset) same ∙ c.loop-piece.invariant.start;
-      place = pushed_place c.loop-piece.reader _ _ _ same c.loop-piece.invariant.place;
-      taken = omega (arith, ap length first, c.loop-piece.invariant.taken);
-      within = within_next c.bound-bound.result c.loop-piece.offset c.loop-piece.invariant.within (λ e. some (c.room_to.ensures ∙ e));
-      read = taken_more _ _ _ _ _ _ _ c.loop-piece.invariant.read first front same;
-      first = inl (pushed_some c.loop-piece.reader _ _ same);
-    } ]
+    elim c.in-More.ensures.pushes [
+      | more some front same ↦ record {
+        same = c.loop-piece.invariant.same;
+        unfinished = ap (λ (r : HeadReaderState). r.done) same;
+        start = ap (λ (r : HeadReaderState). r.offset) same ∙ c.loop-piece.invariant.start;
+        place = pushed_place c.loop-piece.reader _ _ _ same c.loop-piece.invariant.place;
+        taken = omega (arith, ap length first, c.loop-piece.invariant.taken);
+        within = within_next c.bound-bound.result c.loop-piece.offset c.loop-piece.invariant.within (λ e. some (c.room_to.ensures ∙ e));
+        read = taken_more _ _ _ _ _ _ _ c.loop-piece.invariant.read first front same;
+        first = inl (pushed_some c.loop-piece.reader _ _ same);
+      }
+    ]
 
 pub enter_slowly-requires-clause-enter : goal.enter_slowly-requires-clause-enter
 enter_slowly-requires-clause-enter c =
@@ -31,16 +33,20 @@ enter_slowly-requires-clause-enter c =
     let same = c.self.view_is ∙ sym i.same in
     let room : c.room_to.result ≡ room_to (bound_of c.loop-piece.self.stack) c.loop-piece.offset =
     c.room_to.ensures ∙ ap (λ (b : Option ℕ). room_to b c.loop-piece.offset) (c.bound-bound.ensures ∙ ap (λ (m : WalkerState). bound_of m.stack) same) in
-    elim c.in-Whole.ensures.pushes [ whole header completes there done ↦ whole_enters c.loop-piece.self c.loop-piece.reader _ c.len-depth.result c.loop-piece.offset c.in-Whole.header
-    (subst (λ (m : WalkerState). m.events + length m.stack ≤ c.loop-piece.reader.offset) (sym i.same) (omega (arith, c.requires.read.fewer, i.start))) i.place
-    (omega (arith, c.requires.limit, i.taken, c.in-len1-up.len_at_least)) (c.len-depth.ensures.value ∙ ap (λ (m : WalkerState). length m.stack) same) completes
-    (subst (λ (o : Option ℕ). FitsThere c.in-Whole.header o c.len-depth.result) room there) ]
+    elim c.in-Whole.ensures.pushes [
+      | whole header completes there done ↦ whole_enters c.loop-piece.self c.loop-piece.reader _ c.len-depth.result c.loop-piece.offset c.in-Whole.header
+          (subst (λ (m : WalkerState). m.events + length m.stack ≤ c.loop-piece.reader.offset) (sym i.same) (omega (arith, c.requires.read.fewer, i.start))) i.place
+          (omega (arith, c.requires.limit, i.taken, c.in-len1-up.len_at_least)) (c.len-depth.ensures.value ∙ ap (λ (m : WalkerState). length m.stack) same) completes
+          (subst (λ (o : Option ℕ). FitsThere c.in-Whole.header o c.len-depth.result) room there)
+    ]
 
 pub returns-in-Whole-clause-yields : goal.returns-in-Whole-clause-yields
 returns-in-Whole-clause-yields c = λ w over.
     let over' : HandsOver w c.loop-piece.self c.args.reader = subst (λ (m : WalkerState). HandsOver w m c.args.reader) (sym c.loop-piece.invariant.same) over in
-    elim c.in-Whole.ensures.pushes [ whole header completes there done ↦ whole_yields w c.loop-piece.self c.enter_slowly.new.self c.args.reader c.loop-piece.reader _ c.loop-piece.piece.now _ _ c.in-Whole.header (event_value c.enter_slowly.result) over'
-    c.loop-piece.invariant.read (first_octet c.loop-piece.piece.now c.in-len1-up.len_at_least) completes c.enter_slowly.ensures.enters ]
+    elim c.in-Whole.ensures.pushes [
+      | whole header completes there done ↦ whole_yields w c.loop-piece.self c.enter_slowly.new.self c.args.reader c.loop-piece.reader _ c.loop-piece.piece.now _ _ c.in-Whole.header (event_value c.enter_slowly.result) over'
+          c.loop-piece.invariant.read (first_octet c.loop-piece.piece.now c.in-len1-up.len_at_least) completes c.enter_slowly.ensures.enters
+    ]
 
 pub returns-in-Refused-clause-yields : goal.returns-in-Refused-clause-yields
 returns-in-Refused-clause-yields c = λ w over.
@@ -48,11 +54,13 @@ returns-in-Refused-clause-yields c = λ w over.
     let x : ℕ = get_or c.loop-piece.piece.now 0 0 in
     let bound : c.bound-bound.result ≡ bound_of c.args.self.now.stack = c.bound-bound.ensures ∙ ap (λ (m : WalkerState). bound_of m.stack) c.self.view_is in
     let left : room_to c.bound-bound.result c.loop-piece.offset ≡ room_to (bound_of c.args.self.now.stack) c.loop-piece.offset = ap (λ (b : Option ℕ). room_to b c.loop-piece.offset) bound in
-    elim c.in-Refused.ensures.pushes [ refused fault cause there same ↦ inl (refuses_header w c.args.self.now c.args.reader c.loop-piece.reader c.args.piece.now.now c.loop-piece.piece.now _ x c.len-depth.result c.loop-piece.offset c.in-Refused.fault over i.read
-    (first_octet c.loop-piece.piece.now c.in-len1-up.len_at_least) (subst (λ (b : Option ℕ). IsWithin b c.loop-piece.offset) bound i.within) i.place
-    (c.len-depth.ensures.value ∙ ap (λ (m : WalkerState). length m.stack) c.self.view_is)
-    (λ none e. give_room c.loop-piece.reader.octets c.loop-piece.piece.now (room_to c.bound-bound.result c.loop-piece.offset) i.first none (left ∙ e))
-    (subst (λ (o : Option ℕ). IsRefusedPush c.loop-piece.reader x o c.len-depth.result c.in-Refused.fault.code) (c.room_to.ensures ∙ left) cause) there) ]
+    elim c.in-Refused.ensures.pushes [
+      | refused fault cause there same ↦ inl (refuses_header w c.args.self.now c.args.reader c.loop-piece.reader c.args.piece.now.now c.loop-piece.piece.now _ x c.len-depth.result c.loop-piece.offset c.in-Refused.fault over i.read
+          (first_octet c.loop-piece.piece.now c.in-len1-up.len_at_least) (subst (λ (b : Option ℕ). IsWithin b c.loop-piece.offset) bound i.within) i.place
+          (c.len-depth.ensures.value ∙ ap (λ (m : WalkerState). length m.stack) c.self.view_is)
+          (λ none e. give_room c.loop-piece.reader.octets c.loop-piece.piece.now (room_to c.bound-bound.result c.loop-piece.offset) i.first none (left ∙ e))
+          (subst (λ (o : Option ℕ). IsRefusedPush c.loop-piece.reader x o c.len-depth.result c.in-Refused.fault.code) (c.room_to.ensures ∙ left) cause) there)
+    ]
 
 pub returns-clause-yields : goal.returns-clause-yields
 returns-clause-yields c = λ w over.
