@@ -1,6 +1,6 @@
 -- The octets, the room and the depth determine what a push returns.
-use Rattle.std.proofs.Common.{◌≡◌, ◌≢◌, ℕ, true, ◌<◌, ◌≤◌, [], ◌∷◌, ◌++◌, Option, Some, IfSome, refl, ap, sym, ◌∙◌}
-use Rattle.std.proofs.Common.{arith, append-nil, subst}
+use Rattle.std.proofs.Common.{◌≡◌, ◌≢◌, ℕ, ◌+◌, true, ◌<◌, ◌≤◌, [], ◌∷◌, ◌++◌, Option, Some, IfSome, refl, ap, sym, ◌∙◌}
+use Rattle.std.proofs.Common.{arith, append-nil, length, subst}
 use Rattle.tlv_head.specs.declared.fault.FaultCode.{FaultCode}
 use Rattle.tlv_head.specs.declared.header.Size.{Size}
 use Rattle.tlv_head.specs.declared.header.Size.TheVariants.{Definite, Indefinite}
@@ -27,6 +27,11 @@ front_not_whole r x h f c = front-no_header _ h f c.valid c.octets
 -- an octet that is refused for the octets alone completes no header
 refused_completes_none : (code : FaultCode) (r : HeadReaderState) (x : ℕ) (h : HeaderValue) → IsRefusedOctet r.octets x code → Completes r x h → ⊥
 refused_completes_none code r x h p c = refused-none code r.octets x p h [] c.valid (append-nil (r.octets ++ x ∷ []) ∙ sym c.octets)
+
+-- what is returned if an octet is refused
+pub refuses : (old : HeadReaderState) (x : ℕ) (room : Option ℕ) (depth : ℕ) (code : FaultCode) (offset : ℕ) (r : Head) → r ≡ Refused (record { code = code; offset = offset })
+    → IsRefusedPush old x room depth code → offset ≡ old.offset + length old.octets → Pushes old x room depth old r
+refuses old x room depth code offset r e cause at = subst (Pushes old x room depth old) (sym e) (refused _ cause at refl)
 
 -- if an octet is refused for the depth or the bound, the header that it completes may not stand there
 refused_not_whole : (code : FaultCode) (r : HeadReaderState) (x : ℕ) (room : Option ℕ) (depth : ℕ) (h : HeaderValue) → IsRefusedPush r x room depth code

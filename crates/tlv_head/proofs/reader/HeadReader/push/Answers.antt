@@ -4,8 +4,8 @@ use Rattle.tlv_head.specs.declared.reader.Head.TheVariants.{Whole}
 use Rattle.tlv_head.specs.declared.fault.FaultCode.TheVariants.{Overrun, TooDeep}
 use Rattle.tlv_head.specs.HeadReaderState.{HeadReaderState}
 use Rattle.tlv_head.specs.Refusal.{IsRefusedOctet}
-use Rattle.tlv_head.specs.Push.{Completes, IsRefusedPush, Pushes, more, refused, refused_octet, whole}
-use Rattle.tlv_head.proofs.ReaderLemmas.Exact.{exact, completes_unique, front_not_whole}
+use Rattle.tlv_head.specs.Push.{Completes, IsRefusedPush, Pushes, more, no_room, refused_octet, whole}
+use Rattle.tlv_head.proofs.ReaderLemmas.Exact.{exact, completes_unique, front_not_whole, refuses}
 use Rattle.tlv_head.proofs.ReaderLemmas.Unfinished.{length-carried, made_overrun, made_too_deep, made_whole}
 use Rattle.tlv_head.proofs.ReaderLemmas.Unfinished.{unfinished_part}
 use Rattle.tlv_head.proofs.reader.HeadReader.push.Goals as goal
@@ -17,13 +17,19 @@ push-requires c =
     let b : length c.self.inside.raw.items ≤ 136 = length-carried c.self.inside.part c.self.inside.raw.items c.self.invariant in
     (omega arith, omega arith)
 
+pub returns-then-eq : goal.returns-then-eq
+returns-then-eq c =
+    let a : Pushes c.args.self.now c.args.octet c.args.room c.args.depth c.args.self.now c.refusal.result =
+    refuses _ _ _ _ _ _ _ c.refusal.ensures (no_room (search rules)) (rw (← c.self.view_is) (ap (λ n. c.self.inside.offset + n) c.len.ensures.value)) in
+    record { pushes = a; whole = exact _ _ _ _ _ _ a }
+
 pub returns-then-holds : goal.returns-then-holds
 returns-then-holds c =
     let deep : IsRefusedPush c.args.self.now c.args.octet c.args.room c.args.depth TooDeep =
     subst (λ (p : HeadReaderState). IsRefusedPush p c.args.octet c.args.room c.args.depth TooDeep) c.self.view_is
     (made_too_deep _ _ _ _ _ _ _ (search rules) (c.in-Finished.ensures c.self.inside.raw.items c.self.invariant) refl (sym c.holds.ensures ∙ c.if-holds.true) c.if-depth-ge128.true) in
     let a : Pushes c.args.self.now c.args.octet c.args.room c.args.depth c.args.self.now c.refusal-then-holds.result =
-    rw c.refusal-then-holds.ensures (refused _ deep (rw (← c.self.view_is) (ap (λ n. c.self.inside.offset + n) c.len.ensures.value)) refl) in
+    refuses _ _ _ _ _ _ _ c.refusal-then-holds.ensures deep (rw (← c.self.view_is) (ap (λ n. c.self.inside.offset + n) c.len.ensures.value)) in
     record { pushes = a; whole = exact _ _ _ _ _ _ a }
 
 pub returns-then-not-contents_fit : goal.returns-then-not-contents_fit
@@ -34,7 +40,7 @@ returns-then-not-contents_fit c =
     (elim c.else-depth-ge128.branch [ else-depth-ge128-via-then-depth-ge128+else-holds w ↦ λ h. absurd (false≢true (sym w.if-holds.false ∙ w.holds.ensures ∙ h)) | else-depth-ge128-via-else-depth-ge128 w ↦ λ _. w.if-depth-ge128.false ])
     (λ f. absurd (false≢true (sym c.if-not-contents_fit.true ∙ c.contents_fit.ensures.1 f)))) in
     let a : Pushes c.args.self.now c.args.octet c.args.room c.args.depth c.args.self.now c.refusal-then-not-contents_fit.result =
-    rw c.refusal-then-not-contents_fit.ensures (refused _ past (rw (← c.self.view_is) (ap (λ n. c.self.inside.offset + n) c.len.ensures.value)) refl) in
+    refuses _ _ _ _ _ _ _ c.refusal-then-not-contents_fit.ensures past (rw (← c.self.view_is) (ap (λ n. c.self.inside.offset + n) c.len.ensures.value)) in
     record { pushes = a; whole = exact _ _ _ _ _ _ a }
 
 pub returns-in-Unfinished : goal.returns-in-Unfinished
@@ -50,7 +56,7 @@ returns-in-Refused c =
     let octet : IsRefusedOctet c.args.self.now.octets c.args.octet c.in-Refused.code =
     subst (λ (p : HeadReaderState). IsRefusedOctet p.octets c.args.octet c.in-Refused.code) c.self.view_is (c.in-Refused.ensures c.self.inside.raw.items c.self.invariant) in
     let a : Pushes c.args.self.now c.args.octet c.args.room c.args.depth c.args.self.now c.refusal-in-Refused.result =
-    rw c.refusal-in-Refused.ensures (refused _ (refused_octet (search rules) octet) (rw (← c.self.view_is) (ap (λ n. c.self.inside.offset + n) c.len.ensures.value)) refl) in
+    refuses _ _ _ _ _ _ _ c.refusal-in-Refused.ensures (refused_octet (search rules) octet) (rw (← c.self.view_is) (ap (λ n. c.self.inside.offset + n) c.len.ensures.value)) in
     record { pushes = a; whole = exact _ _ _ _ _ _ a }
 
 -- the header that is returned
