@@ -14,6 +14,7 @@ impl Model for Inside {
 
     ghost Value = { List ℕ };
 
+    ghost use Rattle.std.specs.Prelude.{◌≡◌, true};
     ghost use Rattle.tlv_walk.specs.Inside.{can_name};
 
     ghost view = { λ i. i.offsets.items };

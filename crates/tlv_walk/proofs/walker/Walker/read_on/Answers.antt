@@ -1,4 +1,4 @@
-use Rattle.std.proofs.Common.{◌≡◌, inl, ℕ, ◌+◌, ◌≤◌, get_or, [], length, Option, sym, ap, ◌∙◌, subst, arith, rules}
+use Rattle.std.proofs.Common.{◌≡◌, inl, ℕ, ◌+◌, ◌≤◌, get_or, [], ◌∷◌, length, length-append, Option, sym, ap, ◌∙◌, subst, arith, rules}
 use Rattle.tlv_head.specs.HeadReaderState.{HeadReaderState}
 use Rattle.tlv_head.specs.Push.{FitsThere, IsRefusedPush, more, refused, whole}
 use Rattle.tlv_walk.specs.WalkerState.{WalkerState}
@@ -74,3 +74,21 @@ returns-clause-yields c = λ w over.
 
 pub returns-in-Refused-clause-steps : goal.returns-in-Refused-clause-steps
 returns-in-Refused-clause-steps c = search rules
+
+pub returns-in-Whole-clause-steps : goal.returns-in-Whole-clause-steps
+returns-in-Whole-clause-steps c =
+    let i = c.loop-piece.invariant in
+    let e = c.enter_slowly.ensures in
+    let x : ℕ = get_or c.loop-piece.piece.now 0 0 in
+    let first = first_octet c.loop-piece.piece.now c.in-len1-up.len_at_least in
+    elim c.in-Whole.ensures.pushes [
+      | whole header completes there done ↦ (
+        record {
+          taken = omega (arith, e.yields.offset, completes.offset, ap length completes.octets, length-append c.loop-piece.reader.octets (x ∷ []), i.place, i.taken, ap length first);
+          events = e.yields.events ∙ ap (λ (m : WalkerState). m.events + 1) i.same;
+          within = e.yields.within;
+          after_event = e.yields.after_event;
+        },
+        e.octets,
+      )
+    ]
