@@ -11,7 +11,7 @@ pub record OctetsRunValue : Type 0 where
   pub written : List ℕ
   pub report : ReportValue
 
-abbrev pub octets_run_value : OctetsRun → OctetsRunValue
+abbrev pub octets_run_value : {room : ℕ} → OctetsRun room → OctetsRunValue
 octets_run_value run = record { written = run.written.items; report = report_value run.report }
 
 -- the job, all octets, and whether after them a read fails

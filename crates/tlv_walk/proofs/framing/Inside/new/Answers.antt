@@ -1,4 +1,4 @@
-use Rattle.std.proofs.Common.{◌≡◌, ◌∙◌, ap, arith, length, true}
+use Rattle.std.proofs.Common.{◌≡◌, ◌∙◌, ap, arith, true}
 use Rattle.std.proofs.lemmas.Grind.{common_steps}
 use Rattle.tlv_walk.specs.Inside.{can_name}
 use Rattle.tlv_walk.proofs.EventLemmas.Named.{can-from, cannot-from}
