@@ -1,5 +1,5 @@
 use Rattle.std.proofs.Common.{rules}
-use Rattle.tlv_words.proofs.command_of.dump_command.Goals as goal
+use Rattle.tlv_words.proofs.command_of_call.dump_command.Goals as goal
 
 pub returns-in_default-limit_value : goal.returns-in_default-limit_value
 returns-in_default-limit_value c = search rules

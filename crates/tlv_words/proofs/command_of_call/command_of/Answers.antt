@@ -4,7 +4,7 @@ use Rattle.clap.specs.Faults.{fault_of, is_simple_and_free}
 use Rattle.clap.specs.Words.{App, is_simple, subcommand_of, subcommand_rows_of, takes}
 use Rattle.tlv_words.proofs.CommandLemmas.{requires_subcommand, result_of_found, simple, simple_and_free}
 use Rattle.tlv_words.proofs.CommandLemmas.{usage_fault_of}
-use Rattle.tlv_words.proofs.command_of.command_of.Goals as goal
+use Rattle.tlv_words.proofs.command_of_call.command_of.Goals as goal
 
 pub matched_command-requires : goal.matched_command-requires
 matched_command-requires c =
