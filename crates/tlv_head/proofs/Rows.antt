@@ -1,16 +1,20 @@
 -- The definitions on real octets.
-use Rattle.std.proofs.Common.{◌≡◌, inl, inr, ℕ, ◌+◌, ◌<◌, Bool, true, false, ltb, List, [], ◌∷◌, ◌++◌, length, replicate, All, refl, codes, get_or, arith, lit<, lit≤, ltb-true, length-append, ap}
+use Rattle.std.proofs.Common.{◌≡◌, inl, inr, ℕ, ◌+◌, ◌<◌, Bool, true, false, ltb, List, [], ◌∷◌, ◌++◌, length}
+use Rattle.std.proofs.Common.{replicate, All, refl, codes, get_or, arith, lit<, lit≤, ltb-true, length-append, ap}
 use Rattle.std.proofs.lemmas.Bool.{and_parts}
 use Rattle.std.proofs.lemmas.List.Elements.{All-nil, All-cons}
 use Rattle.std.specs.Fmt.{digits}
 use Rattle.std.specs.List.{list_all}
-use Rattle.tlv_head.specs.declared.fault.FaultCode.TheVariants.{TagTooLong, ReservedLength, IndefinitePrimitive, LengthTooLarge}
+use Rattle.tlv_head.specs.declared.fault.FaultCode.TheVariants.{TagTooLong, ReservedLength, IndefinitePrimitive}
+use Rattle.tlv_head.specs.declared.fault.FaultCode.TheVariants.{LengthTooLarge}
 use Rattle.tlv_head.specs.declared.header.Class.{Class}
 use Rattle.tlv_head.specs.declared.header.Class.TheVariants.{Universal, Application, Context, Private}
 use Rattle.tlv_head.specs.declared.header.Size.{Size}
 use Rattle.tlv_head.specs.declared.header.Size.TheVariants.{Definite, Indefinite}
-use Rattle.tlv_head.specs.Header.{HeaderValue, IsHeader, IsIdentifier, IsLength, spell_indefinite, is_wrapper, octets_of, with_bit_8}
-use Rattle.tlv_head.specs.Refusal.{BeginsWith, IsFront, IsRefusedOctet, tag_too_long, reserved_length, indefinite_primitive, length_too_large}
+use Rattle.tlv_head.specs.Header.{HeaderValue, IsHeader, IsIdentifier, IsLength, spell_indefinite, is_wrapper}
+use Rattle.tlv_head.specs.Header.{octets_of, with_bit_8}
+use Rattle.tlv_head.specs.Refusal.{BeginsWith, IsFront, IsRefusedOctet, tag_too_long, reserved_length}
+use Rattle.tlv_head.specs.Refusal.{indefinite_primitive, length_too_large}
 use Rattle.tlv_head.specs.Tag.{tag_text}
 
 -- digits below a base, by a test

@@ -1,7 +1,9 @@
 -- Codes and texts of the faults.
 use Rattle.std.specs.Prelude.{ℕ, List, codes}
 use Rattle.tlv_head.specs.declared.fault.FaultCode.{FaultCode}
-use Rattle.tlv_head.specs.declared.fault.FaultCode.TheVariants.{Empty, Short, StrayEnd, BadEnd, MissingEnd, TagTooLong, ReservedLength, IndefinitePrimitive, LengthTooLarge, TooDeep, Overrun, BadInside}
+use Rattle.tlv_head.specs.declared.fault.FaultCode.TheVariants.{Empty, Short, StrayEnd, BadEnd, MissingEnd, TagTooLong}
+use Rattle.tlv_head.specs.declared.fault.FaultCode.TheVariants.{ReservedLength, IndefinitePrimitive, LengthTooLarge}
+use Rattle.tlv_head.specs.declared.fault.FaultCode.TheVariants.{TooDeep, Overrun, BadInside}
 
 -- code and text
 abbrev pub fault_wording : FaultCode → List ℕ × List ℕ

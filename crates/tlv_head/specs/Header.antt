@@ -1,5 +1,6 @@
 -- Identifier and length octets of an element: X.690 8.1.2 and 8.1.3.
-use Rattle.std.specs.Prelude.{◌≡◌, ◌≢◌, ◌⊎◌, ℕ, ◌+◌, ◌*◌, ◌^◌, ◌<◌, ◌≤◌, Bool, true, not, ◌&&◌, ◌||◌, eqb, if◌then◌else◌, List, [], ◌∷◌, ◌++◌, length, map, All, Option, Some, None}
+use Rattle.std.specs.Prelude.{◌≡◌, ◌≢◌, ◌⊎◌, ℕ, ◌+◌, ◌*◌, ◌^◌, ◌<◌, ◌≤◌, Bool, true, not, ◌&&◌, ◌||◌, eqb}
+use Rattle.std.specs.Prelude.{if◌then◌else◌, List, [], ◌∷◌, ◌++◌, length, map, All, Option, Some, None}
 use Rattle.std.specs.Option.{is_some, unwrap_or}
 use Rattle.tlv_head.specs.UniversalTypes as universal
 use Rattle.tlv_head.specs.declared.header.Class.{Class}
@@ -84,12 +85,15 @@ abbrev pub definite_length : Size → Option ℕ
 definite_length (Definite n) = Some n
 definite_length Indefinite = None
 
+-- 8.1.3.2 a): a primitive has a definite length
+abbrev pub AllowsSize : Bool → Size → Type 0
+AllowsSize constructed size = (constructed || is_some (definite_length size)) ≡ true
+
 -- 8.1.2, 8.1.3: the fields are those that the octets say
 pub record IsHeader (h : HeaderValue) : Type 0 where
   pub identifier : IsIdentifier h.class h.constructed h.number h.identifier
   pub lengths : IsLength h.size h.lengths
-  -- 8.1.3.2 a): a primitive has a definite length
-  pub allowed : (h.constructed || is_some (definite_length h.size)) ≡ true
+  pub allowed : AllowsSize h.constructed h.size
 
 -- 8.1.3.3: how many contents octets are announced
 abbrev pub announced_length : Size → ℕ

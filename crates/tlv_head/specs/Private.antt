@@ -1,2 +1,1 @@
-pub mod Header
 pub mod NextOctet

@@ -1,5 +1,6 @@
 -- Reading a header, one octet at a time: what `HeadReader` returns.
-use Rattle.std.specs.Prelude.{◌≡◌, ◌≢◌, ◌⊎◌, ℕ, ◌+◌, ◌<◌, ◌≤◌, true, [], ◌∷◌, ◌++◌, length, Option, Some}
+use Rattle.std.specs.Prelude.{◌≡◌, ◌≢◌, ℕ, ◌+◌, ◌<◌, ◌≤◌, true, [], ◌∷◌, ◌++◌, length, Option, Some}
+use Rattle.tlv_head.specs.declared.fault.Fault.{Fault}
 use Rattle.tlv_head.specs.declared.fault.FaultCode.{FaultCode}
 use Rattle.tlv_head.specs.declared.fault.FaultCode.TheVariants.{TooDeep, Overrun}
 use Rattle.tlv_head.specs.declared.reader.Head.{Head}
@@ -21,30 +22,28 @@ pub record FitsThere (h : HeaderValue) (room : Option ℕ) (depth : ℕ) : Type 
   pub shallow : holds h ≡ true → depth < 128
   pub within : ContentsFit h.size room
 
--- F10: the octet completes the header of an element that holds others, inside 128 of them
-pub record IsTooDeep (r : HeadReaderState) (x depth : ℕ) : Type 0 where
-  pub header : HeaderValue
-  pub completes : Completes r x header
-  pub holding : holds header ≡ true
-  pub deep : 128 ≤ depth
+-- why the octet x is refused: a line for each cause. The bound is looked at before the octet
+pub data IsRefusedPush (r : HeadReaderState) (x : ℕ) (room : Option ℕ) (depth : ℕ) : FaultCode → Type 0 where
+  -- F11, 8.1.3.3: the header passes the bound
+  no_room : room ≡ Some 0 → IsRefusedPush r x room depth Overrun
+  -- F06 to F09: no header goes on with that octet
+  refused_octet : {code : FaultCode} → room ≢ Some 0 → IsRefusedOctet r.octets x code
+      → IsRefusedPush r x room depth code
+  -- F10, 8.1.4: it completes the header of an element that holds others, inside 128 of them
+  too_deep : room ≢ Some 0 → (h : HeaderValue) → Completes r x h → holds h ≡ true → 128 ≤ depth
+      → IsRefusedPush r x room depth TooDeep
+  -- F11, 8.1.3.3: it completes the header of contents that end past the bound
+  overrun : room ≢ Some 0 → (h : HeaderValue) → Completes r x h → (holds h ≡ true → depth < 128)
+      → (ContentsFit h.size room → ⊥) → IsRefusedPush r x room depth Overrun
 
--- F11: the octet completes a header whose contents end past the bound
-pub record EndsPast (r : HeadReaderState) (x : ℕ) (room : Option ℕ) (depth : ℕ) : Type 0 where
-  pub header : HeaderValue
-  pub completes : Completes r x header
-  pub shallow : holds header ≡ true → depth < 128
-  pub past : ContentsFit header.size room → ⊥
-
--- why an octet is refused, in order: the bound is reached (F11); what the octets say (F06 to F09); the
--- depth (F10); the bound after the contents (F11)
-abbrev pub IsRefusedPush : FaultCode → HeadReaderState → ℕ → Option ℕ → ℕ → Type 0
-IsRefusedPush Overrun r x room depth = (room ≡ Some 0) ⊎ ((room ≢ Some 0) × EndsPast r x room depth)
-IsRefusedPush TooDeep r x room depth = (room ≢ Some 0) × IsTooDeep r x depth
-IsRefusedPush code r x room depth = (room ≢ Some 0) × IsRefusedOctet r.octets x code
-
--- what `push` returns, and the reader that it leaves
-abbrev pub Pushes : HeadReaderState → ℕ → Option ℕ → ℕ → HeadReaderState → Head → Type 0
-Pushes old x room depth new More = (room ≢ Some 0) × IsFront (old.octets ++ x ∷ []) × (new ≡ with_octet old x)
-Pushes old x room depth new (Whole h) = Completes old x h × FitsThere h room depth × (new.done ≡ true)
-Pushes old x room depth new (Refused f) =
-    IsRefusedPush f.code old x room depth × (f.offset ≡ old.offset + length old.octets) × (new ≡ old)
+-- what `push` returns, and the reader that it leaves: a line for each answer
+pub data Pushes (old : HeadReaderState) (x : ℕ) (room : Option ℕ) (depth : ℕ) (new : HeadReaderState)
+    : Head → Type 0 where
+  -- the octet was taken, and others are to follow
+  more : room ≢ Some 0 → IsFront (old.octets ++ x ∷ []) → new ≡ with_octet old x → Pushes old x room depth new More
+  -- the octet was taken, and completes a header that may stand there
+  whole : (h : HeaderValue) → Completes old x h → FitsThere h room depth → new.done ≡ true
+      → Pushes old x room depth new (Whole h)
+  -- the octet was not taken
+  refused : (f : Fault) → IsRefusedPush old x room depth f.code → f.offset ≡ old.offset + length old.octets
+      → new ≡ old → Pushes old x room depth new (Refused f)

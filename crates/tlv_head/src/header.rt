@@ -103,11 +103,12 @@ impl Model for Header {
 
 impl HeaderFields {
     ghost use Rattle.std.specs.Prelude.{◌≡◌};
-    ghost use Rattle.tlv_head.specs.HeaderFields.{fields_wrap};
+    ghost use Rattle.tlv_head.specs.Header.{is_wrapper};
 
     /// [`Header::wraps`], of the header with these fields.
     pub fn wraps(&self) -> bool
-        ensures { result ≡ fields_wrap self.now }
+        ensures { result ≡ is_wrapper self.now.named self.now.class self.now.constructed
+            self.now.number self.now.size }
     {
         is_wrapper(
             self.named,
@@ -133,7 +134,7 @@ impl Header {
     {
         let mut raw = ArrayVec::new();
         let _ = raw.try_extend_from_slice(octets);
-        let (number_octet, length_octet) = seconds(fields.id_len, octets);
+        let (number_octet, length_octet) = second_octets(fields.id_len, octets);
         Header {
             offset: fields.offset,
             class: fields.class,
@@ -155,7 +156,7 @@ impl Header {
         requires { IsHeaderSized fields.now raw.items }
         ensures { result ≡ header_with fields.now raw.items }
     {
-        let (number_octet, length_octet) = seconds(fields.id_len, raw.as_slice());
+        let (number_octet, length_octet) = second_octets(fields.id_len, raw.as_slice());
         Header {
             offset: fields.offset,
             class: fields.class,
@@ -231,7 +232,7 @@ ghost use Rattle.std.specs.Prelude.{◌≡◌, ◌≤◌, drop, eqb, length, sli
 ghost use Rattle.tlv_head.specs.Header.{announced_length, spell_indefinite, is_wrapper};
 
 /// The second octets of an identifier of so many octets and of the length after it, or 0 if there is none.
-pub(crate) fn seconds(id_len: u8, octets: &[u8]) -> (u8, u8)
+pub(crate) fn second_octets(id_len: u8, octets: &[u8]) -> (u8, u8)
     requires { id_len ≤ length octets.now }
     ensures number { result.0 ≡ slice_index (take id_len octets.now) 1 }
     ensures length { result.1 ≡ slice_index (drop id_len octets.now) 1 }

@@ -2,9 +2,12 @@
 ghost use Rattle.std.specs.Prelude.{◌≤◌, IfSome, MatchOption};
 ghost use Rattle.tlv_head.specs.Refusal.{BeginsWithNoHeader};
 ghost use Rattle.tlv_head.specs.ReadHeader.{BeginsWithFields, BeginsWithNoShortHeader, IsShortHeader};
-ghost use Rattle.tlv_head.specs.Private.NextOctet.{BeginsWithIdentifier, BeginsWithLength, BeginsWithNoIdentifier, BeginsWithNoLength};
+ghost use Rattle.tlv_head.specs.Private.NextOctet.{BeginsWithIdentifier, BeginsWithLength, BeginsWithNoIdentifier};
+ghost use Rattle.tlv_head.specs.Private.NextOctet.{BeginsWithNoLength};
 
-use crate::next_octet::{Identifier, Next, Part, fields_of, leading, next_number, read_octet};
+use crate::next_octet::{
+    Identifier, Next, Part, first_identifier, header_fields, next_number, read_octet,
+};
 use crate::{HeaderFields, Size};
 
 /// The header with which the octets begin, whatever follows it, and how many octets it has. `None`
@@ -24,7 +27,7 @@ pub fn read_header(offset: u64, named: bool, octets: &[u8]) -> Option<(HeaderFie
         match read_octet(part, octets[i]) {
             Next::Unfinished(next) => part = next,
             Next::Finished(identifier, size) => {
-                return Some((fields_of(offset, named, identifier, size), i + 1));
+                return Some((header_fields(offset, named, identifier, size), i + 1));
             }
             Next::Refused(_) => return None,
         }
@@ -44,7 +47,10 @@ pub fn read_short(offset: u64, named: bool, octets: &[u8]) -> Option<(HeaderFiel
     let identifier = short_identifier(octets)?;
     let before = usize::from(identifier.octets);
     let (size, count) = short_length(identifier.constructed, &octets[before..])?;
-    Some((fields_of(offset, named, identifier, size), before + count))
+    Some((
+        header_fields(offset, named, identifier, size),
+        before + count,
+    ))
 }
 
 /// The identifier with which the octets begin, if it has at most three. `None` if they begin with no such identifier
@@ -57,7 +63,7 @@ fn short_identifier(octets: &[u8]) -> Option<Identifier>
     if octets.is_empty() || octets[0] == 0 {
         return None;
     }
-    let high = match leading(octets[0]) {
+    let high = match first_identifier(octets[0]) {
         Part::Length(identifier) => return Some(identifier),
         Part::Number(identifier) => identifier,
         _ => return None,

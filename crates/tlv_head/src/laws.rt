@@ -1,5 +1,7 @@
 //! Laws of the definitions: each is the contract of a function that does nothing.
-ghost use Rattle.tlv_head.specs.Laws.{HeadersAreNoFronts, HeadersHaveOneReading, OctetsBeginOneHeader, OctetsGoOnOrAreRefused, PushesReturnOneHead, RefusalsAreFinal, RefusedInputsBeginWithNone};
+ghost use Rattle.tlv_head.specs.Laws.{HeadersAreNoFronts, HeadersHaveOneReading, OctetsBeginOneHeader};
+ghost use Rattle.tlv_head.specs.Laws.{OctetsGoOnOrAreRefused, PushesReturnOneHead, RefusalsAreFinal};
+ghost use Rattle.tlv_head.specs.Laws.{RefusedInputsBeginWithNone};
 ghost use Rattle.tlv_head.specs.Shortest.{HeadersHaveAShortest, ShortestHeadersAreOne, ShortestHeadersAreShortest};
 
 /// Octets begin with one header at most: two headers that are at one offset and are both fronts of

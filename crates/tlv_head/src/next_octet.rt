@@ -40,8 +40,9 @@ pub(crate) enum Next {
     Refused(FaultCode),
 }
 
+/// The fields of a header with this identifier and this size.
 #[inline(always)]
-pub(crate) fn fields_of(
+pub(crate) fn header_fields(
     offset: u64,
     named: bool,
     identifier: Identifier,
@@ -75,7 +76,7 @@ pub(crate) fn read_octet(part: Part, octet: u8) -> Next
     ensures { (octets : List ℕ) → Carries part octets → MakesNext octets octet result }
 {
     match part {
-        Part::Start => Next::Unfinished(leading(octet)),
+        Part::Start => Next::Unfinished(first_identifier(octet)),
         Part::Number(identifier) => next_number(identifier, octet),
         Part::Length(identifier) => first_length(identifier, octet),
         Part::Digits {
@@ -101,7 +102,7 @@ fn class_of(octet: u8) -> Class
 
 /// The first identifier octet (8.1.2.2, 8.1.2.4.1).
 #[inline(always)]
-pub(crate) fn leading(octet: u8) -> Part
+pub(crate) fn first_identifier(octet: u8) -> Part
     requires { octet ≢ 0 }
     ensures { Carries result (octet ∷ []) }
 {

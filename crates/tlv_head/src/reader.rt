@@ -4,7 +4,7 @@ ghost use Rattle.tlv_head.specs.Header.{is_wrapper};
 ghost use Rattle.tlv_head.specs.HeadReaderState.{ContentsFit};
 
 use crate::header::is_wrapper;
-use crate::next_octet::{Identifier, Next, Part, fields_of, read_octet};
+use crate::next_octet::{Identifier, Next, Part, header_fields, read_octet};
 use crate::{Fault, FaultCode, Header, Size};
 use arrayvec::ArrayVec;
 use std::marker::Model;
@@ -90,10 +90,10 @@ impl HeadReader {
     {
         let offset = self.offset + self.raw.len() as u64;
         if room == Some(0) {
-            return refused(FaultCode::Overrun, offset);
+            return refusal(FaultCode::Overrun, offset);
         }
         match read_octet(self.part, octet) {
-            Next::Refused(code) => refused(code, offset),
+            Next::Refused(code) => refusal(code, offset),
             Next::Unfinished(part) => {
                 self.raw.push(octet);
                 self.part = part;
@@ -101,12 +101,12 @@ impl HeadReader {
             }
             Next::Finished(identifier, size) => {
                 if depth >= 128 && holds(identifier, size, self.named) {
-                    return refused(FaultCode::TooDeep, offset);
+                    return refusal(FaultCode::TooDeep, offset);
                 }
-                if !fits(size, room) {
-                    return refused(FaultCode::Overrun, offset);
+                if !contents_fit(size, room) {
+                    return refusal(FaultCode::Overrun, offset);
                 }
-                let fields = fields_of(self.offset, self.named, identifier, size);
+                let fields = header_fields(self.offset, self.named, identifier, size);
                 self.raw.push(octet);
                 self.part = Part::Done;
                 Head::Whole(Header::with_raw(&fields, self.raw.take()))
@@ -115,7 +115,7 @@ impl HeadReader {
     }
 }
 
-fn refused(code: FaultCode, offset: u64) -> Head
+fn refusal(code: FaultCode, offset: u64) -> Head
     ensures { result ≡ Head.Refused (record { code = code; offset = offset }) }
 {
     Head::Refused(Fault { code, offset })
@@ -137,7 +137,7 @@ fn holds(identifier: Identifier, size: Size, named: bool) -> bool
 }
 
 /// Whether contents of this size end within the room that the header's last octet has.
-fn fits(size: Size, room: Option<u64>) -> bool
+fn contents_fit(size: Size, room: Option<u64>) -> bool
     requires { room ≢ Some 0 }
     ensures { IsTrue result ↔ ContentsFit size room }
 {

@@ -1,8 +1,12 @@
 -- Texts that are written after the octets held.
-use Rattle.std.proofs.Common.{◌≡◌, ℕ, ◌+◌, ◌-◌, ◌*◌, ◌/◌, ◌<◌, ◌≤◌, ◌^◌, List, [], ◌∷◌, ◌++◌, length, take, drop, get_or, decimal, replicate, set, refl, sym, ap, ap₂, ◌∙◌, arith, append_assoc, append-nil, length-append, take-append-drop, suc, zero}
+use Rattle.std.proofs.Common.{◌≡◌, ℕ, ◌+◌, ◌-◌, ◌*◌, ◌/◌, ◌<◌, ◌≤◌, ◌^◌, List, [], ◌∷◌, ◌++◌, length, take, drop}
+use Rattle.std.proofs.Common.{get_or, decimal, replicate, set, refl, sym, ap, ap₂, ◌∙◌, arith, append_assoc, append-nil}
+use Rattle.std.proofs.Common.{length-append, take-append-drop, suc, zero}
 use Rattle.std.proofs.Math.Seq.{drop-append-add, drop-append_seam, take-add, take-append-add, take-append_seam}
 use Rattle.std.proofs.lemmas.Fmt.{length-decimal-le}
-use Rattle.std.proofs.lemmas.List.{drop-drop, length-replicate, length-take-le, replicate-append-replicate, set-append_right, take-append-le, take-replicate, take-take, take_all, take_more, take_more_set}
+use Rattle.std.proofs.lemmas.List.{drop-drop, length-replicate, length-take-le, replicate-append-replicate}
+use Rattle.std.proofs.lemmas.List.{set-append_right, take-append-le, take-replicate, take-take, take_all, take_more}
+use Rattle.std.proofs.lemmas.List.{take_more_set}
 use Rattle.hex.specs.Hex.{encode_lower, lower_digits}
 use Rattle.hex.proofs.HexLemmas.{length-encode_with}
 use Rattle.itoa.proofs.Decimal.{length_one, length_step_wide}

@@ -1,5 +1,6 @@
 -- Puts to an `Out`, and octets sent to a drain, one after another.
-use Rattle.std.proofs.Common.{◌≡◌, ◌≢◌, ◌+◌, ◌<◌, ◌++◌, ◌∷◌, ℕ, List, [], length, take, drop, get_or, flat_map, refl, sym, ap, ◌∙◌, subst, append_assoc, append-nil, arith, take-append-drop}
+use Rattle.std.proofs.Common.{◌≡◌, ◌≢◌, ◌+◌, ◌<◌, ◌++◌, ◌∷◌, ℕ, List, [], length, take, drop, get_or, flat_map, refl}
+use Rattle.std.proofs.Common.{sym, ap, ◌∙◌, subst, append_assoc, append-nil, arith, take-append-drop}
 use Rattle.std.specs.Prelude.{Option, Some, None, Result, Ok, Err, IsErr, OnErr, OnOk, ⊤}
 use mathlib.Core.Bool.{true≢false}
 use Rattle.std.specs.Io.KnownBytes.{Appends, Keeps}

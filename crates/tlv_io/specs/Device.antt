@@ -1,5 +1,6 @@
 -- What sources and drains show of themselves, and what one call makes of that.
-use Rattle.std.specs.Prelude.{◌≡◌, ◌⊎◌, ◌+◌, ◌-◌, ◌^◌, ◌<◌, ◌≤◌, ℕ, List, [], ◌++◌, All, Option, Result, Ok, Err, min, IfOk, length}
+use Rattle.std.specs.Prelude.{◌≡◌, ◌⊎◌, ◌+◌, ◌-◌, ◌^◌, ◌<◌, ◌≤◌, ℕ, List, [], ◌++◌, All, Option, Result, Ok, Err, min}
+use Rattle.std.specs.Prelude.{IfOk, length}
 use Rattle.std.specs.List.{concat}
 use Rattle.std.specs.Io.{ReadsAtMost}
 use Rattle.std.specs.Io.KnownBytes.{Consumes, ReadConsumes, WriteAppends}

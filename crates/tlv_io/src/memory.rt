@@ -103,7 +103,7 @@ pub struct MemDrain<'a> {
 }
 
 impl<'a> MemDrain<'a> {
-    ghost use Rattle.tlv_io.specs.MemDrain.{drain_failures, drain_room, octets_taken, write_limit};
+    ghost use Rattle.tlv_io.specs.MemDrain.{drain_room, mem_drain_state};
 
     /// A drain that fills `room` from the front.
     ///
@@ -111,9 +111,8 @@ impl<'a> MemDrain<'a> {
     pub fn new(room: &'a mut [u8], most: usize) -> MemDrain<'a>
         ensures same_reference { (drain_room result).ghost_name ≡ room.entry.ghost_name }
         ensures room { (drain_room result).now ≡ room.old }
-        ensures empty { octets_taken result ≡ [] }
-        ensures most { write_limit result ≡ max 1 most }
-        ensures failures { drain_failures result ≡ 0 }
+        ensures state { mem_drain_state result
+            ≡ record { taken = []; rest = room.old; most = max 1 most; failures = 0 } }
     {
         MemDrain {
             room,
@@ -125,7 +124,7 @@ impl<'a> MemDrain<'a> {
 
     /// The octets taken, in order: the front of the room.
     pub fn written(&self) -> &[u8]
-        ensures taken { result.now ≡ octets_taken self.now }
+        ensures taken { result.now ≡ (mem_drain_state self.now).taken }
         ensures front { result.now ≡ take (length result.now) (drain_room self.now).now }
     {
         &self.room[..self.used]
@@ -133,28 +132,27 @@ impl<'a> MemDrain<'a> {
 }
 
 impl Drain for MemDrain<'_> {
-    ghost use Rattle.tlv_io.specs.MemDrain.{drain_room, drain_state_of, free_room, octets_taken, write_count, write_limit};
+    ghost use Rattle.tlv_io.specs.MemDrain.{after_write, drain_room, drain_state_of, mem_drain_state, write_count};
 
-    ghost state = { drain_state_of };
+    ghost state = { λ drain. drain_state_of (mem_drain_state drain) };
 
     fn write(&mut self, from: &[u8]) -> Result<usize, WriteFault>
         requires { 0 < length from.now }
 
         // What each drain promises.
-        ensures writes { WritesOnce (drain_state_of self.old)
-            (drain_state_of self.new) result from.now }
+        ensures writes { WritesOnce (drain_state_of (mem_drain_state self.old))
+            (drain_state_of (mem_drain_state self.new)) result from.now }
 
         // How many octets it takes, and when it fails.
-        ensures count { IfOk result (λ n. n ≡ write_count self.old (length from.now)) }
-        ensures fails { IsErr result ↔ (free_room self.old ≡ 0) }
+        ensures count { IfOk result (λ n. n ≡ write_count (mem_drain_state self.old)
+            (length from.now)) }
+        ensures fails { IsErr result ↔ ((mem_drain_state self.old).rest ≡ []) }
 
-        // What stays: the limit, the room, and what is after the octets taken.
-        ensures most { write_limit self.new ≡ write_limit self.old }
+        // What it then has. The room is the same, and after the octets taken it is as it was.
+        ensures state { mem_drain_state self.new
+            ≡ after_write result from.now (mem_drain_state self.old) }
         ensures same_reference { (drain_room self.new).ghost_name
             ≡ (drain_room self.old).ghost_name }
-        ensures size { length (drain_room self.new).now ≡ length (drain_room self.old).now }
-        ensures rest { let used = length (octets_taken self.new) in
-            drop used (drain_room self.new).now ≡ drop used (drain_room self.old).now }
     {
         let used = self.used;
         let free = self.room.len() - used;

@@ -1,6 +1,7 @@
 -- What runs over octets in memory come to if a read fails after the octets, or if there is little room, shown of the
 -- definition: each run for which `RunsOctets` holds wrote the octets of its row, and reported what the row says.
-use Rattle.std.proofs.Common.{◌≡◌, inl, inr, ℕ, ◌<◌, ◌≤◌, Bool, true, false, List, [], ◌∷◌, None, codes, length, take, refl, sym, ap, ◌∙◌, subst, arith, ⊎_elim}
+use Rattle.std.proofs.Common.{◌≡◌, inl, inr, ℕ, ◌<◌, ◌≤◌, Bool, true, false, List, [], ◌∷◌, None, codes, length, take}
+use Rattle.std.proofs.Common.{refl, sym, ap, ◌∙◌, subst, arith, ⊎_elim}
 use Rattle.std.proofs.Math.Dec.{leb, ltb}
 use Rattle.std.proofs.lemmas.Bool.{leb-true, ltb-true}
 use Rattle.std.proofs.lemmas.List.Elements.{All-cons}
@@ -43,7 +44,7 @@ job_of command = command_job command finite.empty
 -- a run over these octets, after which a read fails or the input ends, into so much room: what is written and reported
 abbrev Writes : Command → List ℕ → Bool → ℕ → List ℕ → ReportValue → Type 0
 Writes command b fails room written report =
-    (w : List ℕ) (r : ReportValue) → RunsOctets (job_of command) b fails room w r → (w ≡ written) × (r ≡ report)
+    (w : List ℕ) (r : ReportValue) → RunsOctets (job_of command) b fails room (record { written = w; report = r }) → (w ≡ written) × (r ≡ report)
 
 module _ (command : Command) (b : List ℕ) where
   abbrev job : Job ReportValue
@@ -80,7 +81,7 @@ module _ (command : Command) (b : List ℕ) where
     is-made made y =
         makes_unique job b made (result command b) (subst (λ (o : List ℕ). MakesResult job o made) whole y) (is_result job b are) ∙ row
 
-    output-is : (fails : Bool) (room : ℕ) (w : List ℕ) (r : ReportValue) (x : RunsOctets job b fails room w r) → w ≡ take room m.output
+    output-is : (fails : Bool) (room : ℕ) (w : List ℕ) (r : ReportValue) (x : RunsOctets job b fails room (record { written = w; report = r })) → w ≡ take room m.output
     output-is fails room w r x = x.output ∙ ap (λ (n : CommandResult). take room n.output) (is-made x.made x.is_made)
 
     -- there is less room than the output needs
@@ -91,7 +92,7 @@ module _ (command : Command) (b : List ℕ) where
     )
 
     module _ (room : ℕ) (fits : leb (length m.output) room ≡ true) where
-      report-of : (fails : Bool) (w : List ℕ) (r : ReportValue) (x : RunsOctets job b fails room w r) → IsReport job b fails x.is_made r
+      report-of : (fails : Bool) (w : List ℕ) (r : ReportValue) (x : RunsOctets job b fails room (record { written = w; report = r })) → IsReport job b fails x.is_made r
       report-of fails w r x =
           x.with_room (subst (λ (n : CommandResult). length n.output ≤ room) (sym (is-made x.made x.is_made)) (leb-true (length m.output) room fits))
 

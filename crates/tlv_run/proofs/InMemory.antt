@@ -1,5 +1,6 @@
 -- A job over octets in memory, whatever the reads give of them.
-use Rattle.std.proofs.Common.{◌≡◌, ◌≢◌, inl, inr, ℕ, zero, suc, ◌-◌, ◌<◌, ◌≤◌, slice_index_or, Fits, w8, Bool, true, false, List, [], ◌∷◌, ◌++◌, length, take}
+use Rattle.std.proofs.Common.{◌≡◌, ◌≢◌, inl, inr, ℕ, zero, suc, ◌-◌, ◌<◌, ◌≤◌, slice_index_or, Fits, w8, Bool, true}
+use Rattle.std.proofs.Common.{false, List, [], ◌∷◌, ◌++◌, length, take}
 use Rattle.std.proofs.Common.{refl, sym, ap, ◌∙◌, subst, arith, append_assoc, append-nil, length-append}
 use Rattle.arrayvec.specs.ArrayVec.{ArrayVec}
 use Rattle.std.proofs.lemmas.Bool.{cases_lt, lt-ltb, true≢false}
@@ -20,7 +21,8 @@ use Rattle.tlv_walk.specs.declared.framing.Framing.{Framing}
 use Rattle.tlv_walk.specs.declared.run.DeviceFault.{DeviceFault}
 use Rattle.tlv_walk.specs.declared.run.DeviceFault.TheVariants.{ReadFailed, WriteFailed, InputTooLong}
 use Rattle.std.specs.List.{concat}
-use Rattle.tlv_io.specs.Device.{DrainState, LastReadValue, SourceState, failed, gave, never, new_source, next_count, octets_given}
+use Rattle.tlv_io.specs.Device.{DrainState, LastReadValue, SourceState, failed, gave, never, new_source, next_count}
+use Rattle.tlv_io.specs.Device.{octets_given}
 use Rattle.tlv_walk.specs.Ending.{IsEnding, IsFinalEnding}
 use Rattle.tlv_walk.specs.Forest.{Forest, spelling}
 use Rattle.tlv_walk.specs.Job.{EndsWith, Job, Runs, WantMore}
@@ -28,14 +30,12 @@ use Rattle.tlv_io.specs.MemSource.{MemSourceState}
 use Rattle.tlv_io.specs.Out.{Sends}
 use Rattle.tlv_walk.specs.Reading.{AreOctets, IsPrefixOf, IsReading}
 use Rattle.tlv_run.proofs.Results.{Stays, one_made, settled_stays, stays_for, text_on}
-use Rattle.tlv_run.proofs.JobReports.{report-end}
 use Rattle.tlv_run.specs.declared.command.Command.{Command}
 use Rattle.tlv_run.specs.Private.MemoryDevices.{ending_source_state, failing_source_state, or_failed, room_state}
 use Rattle.tlv_run.specs.Octets.{IsReport, MakesResultOf, RunsOctets, broken, ended, settled, too_long}
-use Rattle.tlv_run.specs.Report.{ReportValue, device_report}
+use Rattle.tlv_run.specs.Report.{ReportValue, device_report, report_at_end}
 use Rattle.tlv_run.specs.Results.{CommandResult, IsSettled, MakesResult, command_job, command_result}
-use Rattle.tlv_run.specs.Runs.{RunsAndReports}
-use Rattle.tlv_run.proofs.ReportAtEnd.{report_at_end}
+use Rattle.tlv_run.specs.Runs.{RunsAndReports, device_states}
 
 -- what a slice holds of numbers that fit an octet
 octets_of : (xs : List ℕ) → ((i : ℕ) → Fits w8 (slice_index_or xs i 0)) → AreOctets xs
@@ -124,9 +124,13 @@ module _ (job : Job ReportValue) (stays : Stays job)
       (ends : new.failures ≡ 0 → new.last ≡ gave 0 → read_fails ≡ false)
       (empty : from.octets ≡ Some []) (unfailed : from.failures ≡ 0)
       (took : to.octets ≡ Some written) (fits : length written ≤ room) (full : to.failures ≡ 1 → length written ≡ room) where
+    -- the run comes to what was written and this report
+    abbrev Comes : ReportValue → Type 0
+    Comes report = RunsOctets job octets read_fails room (record { written = written; report = report })
+
     -- all was written
     whole : (made : CommandResult) (report : ReportValue) → (x : MakesResultOf job octets read_fails made)
-        → written ≡ made.output → IsReport job octets read_fails x report → RunsOctets job octets read_fails room written report
+        → written ≡ made.output → IsReport job octets read_fails x report → Comes report
     whole made report x e s = record {
       made = made;
       is_made = x;
@@ -137,7 +141,7 @@ module _ (job : Job ReportValue) (stays : Stays job)
 
     -- a front was written, which fills the room, and there is more
     short : (made : CommandResult) (rest : List ℕ) → (x : MakesResultOf job octets read_fails made)
-        → made.output ≡ written ++ rest → rest ≢ [] → length written ≡ room → RunsOctets job octets read_fails room written (device_report WriteFailed)
+        → made.output ≡ written ++ rest → rest ≢ [] → length written ≡ room → Comes (device_report WriteFailed)
     short made rest x e more n = record {
       made = made;
       is_made = x;
@@ -153,7 +157,7 @@ module _ (job : Job ReportValue) (stays : Stays job)
     one_failure : next_count 0 ≡ 1
     one_failure = refl
 
-    run_ok : (report : ReportValue) → Runs job old new from to (Ok report) → RunsOctets job octets read_fails room written report
+    run_ok : (report : ReportValue) → Runs job old new from to (Ok report) → Comes report
     run_ok report x =
         let given : List ℕ = octets_given x.pieces in
         let left = left_of old.left new.left octets given known x.pieces.consumed in
@@ -166,7 +170,7 @@ module _ (job : Job ReportValue) (stays : Stays job)
         let sent : written ≡ m.output = all_sent (job.text x.reading) x.sends in
         let front = take_front job.limit given left.0 in
         let is : seen ≡ b ++ front.0 = ap (take job.limit) left.2 ∙ front.1 in
-        let final : IsSettled y → RunsOctets job octets read_fails room written report = λ (z : IsSettled y).
+        let final : IsSettled y → Comes report = λ (z : IsSettled y).
         let z = settled_stays job stays b front.0 m (subst AreOctets is (All-take (λ x. x < 256) job.limit octets all)) y z in
         let z' : (z : MakesResult job seen m) × IsSettled z = subst (λ (o : List ℕ). (z : MakesResult job o m) × IsSettled z) (sym is) z in
         whole m report z'.0 sent (subst (λ (s : ReportValue). IsReport job octets read_fails z'.0 s) same (settled z'.1)) in
@@ -188,13 +192,13 @@ module _ (job : Job ReportValue) (stays : Stays job)
     -- of octets that settle nothing, all of them or too many, all was written
     unsettled_all : (f : Forest) (report : ReportValue) → IsReading job.framing seen f → WantMore job seen → written ≡ job.text f
         → ((made : CommandResult) → (x : MakesResultOf job octets read_fails made) → (IsSettled x → ⊥) → IsReport job octets read_fails x report)
-        → RunsOctets job octets read_fails room written report
+        → Comes report
     unsettled_all f report r s sent says =
         let one = one_made job seen (All-take (λ x. x < 256) job.limit octets all) in
         let same : f ≡ one.1.reading = reading-unique job.framing seen f one.1.reading r one.1.is_reading in
         whole one.0 report one.1 (sent ∙ ap job.text same ∙ sym (ap (λ (m : CommandResult). m.output) one.1.is_made)) (says one.0 one.1 (unsettled seen one.0 one.1 s))
 
-    run_broken : Runs job old new from to (Err ReadFailed) → RunsOctets job octets read_fails room written (device_report ReadFailed)
+    run_broken : Runs job old new from to (Err ReadFailed) → Comes (device_report ReadFailed)
     run_broken x =
         let given : List ℕ = octets_given x.pieces in
         let before : List ℕ = concat x.pieces.pieces in
@@ -212,7 +216,7 @@ module _ (job : Job ReportValue) (stays : Stays job)
         (all_sent (job.text x.reading) x.sends)
         (λ (made : CommandResult) y apart. broken apart after.0 few)
 
-    run_long : Runs job old new from to (Err InputTooLong) → RunsOctets job octets read_fails room written (device_report InputTooLong)
+    run_long : Runs job old new from to (Err InputTooLong) → Comes (device_report InputTooLong)
     run_long x =
         let given : List ℕ = octets_given x.pieces in
         let left = left_of old.left new.left octets given known x.pieces.consumed in
@@ -226,7 +230,7 @@ module _ (job : Job ReportValue) (stays : Stays job)
         (all_sent (job.text x.reading) x.sends)
         (λ (made : CommandResult) y apart. too_long apart more)
 
-    run_short : Runs job old new from to (Err WriteFailed) → RunsOctets job octets read_fails room written (device_report WriteFailed)
+    run_short : Runs job old new from to (Err WriteFailed) → Comes (device_report WriteFailed)
     run_short x =
         let given : List ℕ = octets_given x.pieces in
         let left = left_of old.left new.left octets given known x.pieces.consumed in
@@ -243,14 +247,14 @@ module _ (job : Job ReportValue) (stays : Stays job)
         front_and_rest written x.sends.sent x.sends.left (job.text x.reading) on.0 one.0.output sent x.sends.front text in
         short one.0 (x.sends.left ++ on.0) one.1 output (more_left x.sends.left on.0 x.sends.not_all) (full (x.sends.failures ∙ ap next_count unfailed ∙ one_failure))
 
-    run_in : (result : Result ReportValue DeviceFault) → Runs job old new from to result → RunsOctets job octets read_fails room written (report_at_end result)
+    run_in : (result : Result ReportValue DeviceFault) → Runs job old new from to result → Comes (report_at_end result)
     run_in (Ok report) x = run_ok report x
     run_in (Err ReadFailed) x = run_broken x
     run_in (Err WriteFailed) x = run_short x
     run_in (Err InputTooLong) x = run_long x
 
-    pub runs_octets : (report : ReportValue) → RunsAndReports job old new from to report → RunsOctets job octets read_fails room written report
-    runs_octets report x = subst (RunsOctets job octets read_fails room written) (sym (report-end x)) (run_in x.result x.runs)
+    pub runs_octets : (report : ReportValue) → RunsAndReports job (device_states old from) (device_states new to) report → Comes report
+    runs_octets report x = subst Comes (sym x.report_is) (run_in x.result x.runs)
 
 -- what a room shows that has failed: it is full
 full_room : (room : ℕ) (xs : List ℕ) (failures : ℕ) → (room_state room xs failures).failures ≡ 1 → length xs ≤ room → length xs ≡ room
@@ -283,8 +287,9 @@ module _ (command : Command) (names : Table) (octets : List ℕ) (fit : (i : ℕ
   filled k = ap length kept_is ∙ full_room room kept.items failures k (omega (arith, ap length kept_is, fits))
 
   pub to_end : (old : SourceState) (new : MemSourceState) → old ≡ new_source (Some octets)
-      → RunsAndReports (command_job command names) old (ending_source_state new) from (room_state room kept.items failures) report
-      → RunsOctets (command_job command names) octets false room written.items report
+      → RunsAndReports (command_job command names) (device_states old from)
+      (device_states (ending_source_state new) (room_state room kept.items failures)) report
+      → RunsOctets (command_job command names) octets false room (record { written = written.items; report = report })
   to_end old new e x =
       runs_octets (command_job command names) (stays_for command names) (text_on command names) octets
       (octets_of octets fit) false
@@ -293,9 +298,9 @@ module _ (command : Command) (names : Table) (octets : List ℕ) (fit : (i : ℕ
       (ap (λ (t : DrainState). t.octets) from_is) (ap (λ (t : DrainState). t.failures) from_is) (ap Some (sym kept_is)) fits filled report x
 
   pub until_failure : (old : SourceState) (new : MemSourceState) (failed_reads : ℕ) → old ≡ new_source (Some octets)
-      → RunsAndReports (command_job command names) old (failing_source_state new failed_reads) from
-      (room_state room kept.items failures) report
-      → RunsOctets (command_job command names) octets true room written.items report
+      → RunsAndReports (command_job command names) (device_states old from)
+      (device_states (failing_source_state new failed_reads) (room_state room kept.items failures)) report
+      → RunsOctets (command_job command names) octets true room (record { written = written.items; report = report })
   until_failure old new failed_reads e x =
       runs_octets (command_job command names) (stays_for command names) (text_on command names) octets
       (octets_of octets fit) true

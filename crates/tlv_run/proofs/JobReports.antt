@@ -1,16 +1,15 @@
 -- A job with what is reported of its result runs as the job itself.
 use Rattle.std.proofs.Common.{◌≡◌, ℕ, List, ap}
-use Rattle.std.specs.Prelude.{Result, Ok, Err, MatchResult}
+use Rattle.std.specs.Prelude.{Result, Ok, Err}
 use Rattle.tlv_walk.specs.declared.run.DeviceFault.{DeviceFault}
 use Rattle.tlv_walk.specs.declared.run.DeviceFault.TheVariants.{ReadFailed, WriteFailed, InputTooLong}
 use Rattle.tlv_io.specs.Device.{DrainState, SourceState, octets_given}
 use Rattle.tlv_walk.specs.Job.{Job, Runs, WantMore, read_failed, too_long, write_failed}
 use Rattle.tlv_walk.proofs.FollowerLemmas.Enough.{comes_to, returns}
 use Rattle.tlv_run.specs.Private.Reports.{report_of}
-use Rattle.tlv_run.specs.Report.{ReportValue, device_report}
+use Rattle.tlv_run.specs.Report.{ReportValue}
 use Rattle.tlv_run.specs.Results.{job_with_report}
-use Rattle.tlv_run.specs.Runs.{RunsAndReports}
-use Rattle.tlv_run.proofs.ReportAtEnd.{report_at_end}
+use Rattle.tlv_run.specs.Runs.{RunsAndReports, device_states}
 
 module _ {A : Type 0} (say : A → ReportValue) (job : Job A) where
   wants_too : (b : List ℕ) → WantMore job b → WantMore (job_with_report say job) b
@@ -18,7 +17,7 @@ module _ {A : Type 0} (say : A → ReportValue) (job : Job A) where
 
   module _ (old new : SourceState) (from to : DrainState) where
     runs_too : (result : Result A DeviceFault) → Runs job old new from to result
-        → (report : ReportValue) → report ≡ report_of say result → RunsAndReports (job_with_report say job) old new from to report
+        → (report : ReportValue) → report ≡ report_of say result → RunsAndReports (job_with_report say job) (device_states old from) (device_states new to) report
     runs_too (Ok a) x report e = record {
       result = Ok (say a);
       runs = record {
@@ -82,13 +81,5 @@ module _ {A : Type 0} (say : A → ReportValue) (job : Job A) where
 
   -- as a run of a command shows it
   pub reported_runs : {old new : SourceState} {from to : DrainState} {result : Result A DeviceFault} {report : ReportValue} → Runs job old new from to result → report ≡ report_of say result
-      → RunsAndReports (job_with_report say job) old new from to report
+      → RunsAndReports (job_with_report say job) (device_states old from) (device_states new to) report
   reported_runs {old} {new} {from} {to} {result} {report} x e = runs_too old new from to result x report e
-
--- what is reported in the end
-pub report-end : {job : Job ReportValue} {old new : SourceState} {from to : DrainState} {report : ReportValue} → (x : RunsAndReports job old new from to report) → report ≡ report_at_end x.result
-report-end {report = report} x = by-result x.result x.report_is
-  where
-    by-result : (result : Result ReportValue DeviceFault) → MatchResult result (λ of_input. report ≡ of_input) (λ fault. report ≡ device_report fault) → report ≡ report_at_end result
-    by-result (Ok of_input) e = e
-    by-result (Err fault) e = e

@@ -1,5 +1,6 @@
 -- A run over a source that knows its octets, if neither device fails.
-use Rattle.std.proofs.Common.{◌≡◌, inl, inr, ℕ, ◌-◌, ◌^◌, ◌<◌, ◌≤◌, List, [], ◌++◌, length, take, refl, sym, ap, ◌∙◌, subst, arith, append-nil, length-append}
+use Rattle.std.proofs.Common.{◌≡◌, inl, inr, ℕ, ◌-◌, ◌^◌, ◌<◌, ◌≤◌, List, [], ◌++◌, length, take, refl, sym, ap, ◌∙◌}
+use Rattle.std.proofs.Common.{subst, arith, append-nil, length-append}
 use Rattle.std.proofs.lemmas.List.{take_all}
 use Rattle.std.specs.Prelude.{Some, Result, Ok, Err}
 use Rattle.std.specs.Io.KnownBytes.{Appends}
@@ -13,11 +14,9 @@ use Rattle.tlv_walk.specs.Job.{Job, Runs}
 use Rattle.tlv_walk.specs.Reading.{AreOctets}
 use Rattle.tlv_run.proofs.InMemory.{at_end, left_of}
 use Rattle.tlv_run.proofs.Results.{Stays, limit_is, settled_stays, stays_for}
-use Rattle.tlv_run.proofs.JobReports.{report-end}
 use Rattle.tlv_run.specs.Laws.{RunsAreResults}
-use Rattle.tlv_run.specs.Report.{ReportValue}
+use Rattle.tlv_run.specs.Report.{ReportValue, report_at_end}
 use Rattle.tlv_run.specs.Results.{CommandResult, IsSettled, MakesResult, command_job, command_result}
-use Rattle.tlv_run.proofs.ReportAtEnd.{report_at_end}
 
 -- a count below its end goes on
 goes_up : (n : ℕ) → n < 2 ^ 64 - 1 → next_count n ≡ n → ⊥
@@ -66,7 +65,7 @@ module _ (job : Job ReportValue) (stays : Stays job) (octets : List ℕ) (all : 
 
 pub run_results : RunsAreResults
 unfolding Gives
-run_results command names octets old new from to report all few known old_few quiet from_few took x =
+run_results command names octets before after report all few known old_few quiet from_few took x =
     let job = command_job command names in
-    let y = gives job (stays_for command names) octets all (subst (λ (n : ℕ). length octets ≤ n) (sym (limit_is command names)) few) old new from to known old_few quiet from_few took x.result x.runs in
-    (y.0, y.1, y.2, report-end x ∙ y.3)
+    let y = gives job (stays_for command names) octets all (subst (λ (n : ℕ). length octets ≤ n) (sym (limit_is command names)) few) before.source after.source before.drain after.drain known old_few quiet from_few took x.result x.runs in
+    (y.0, y.1, y.2, x.report_is ∙ y.3)

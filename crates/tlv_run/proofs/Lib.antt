@@ -19,5 +19,4 @@ pub mod JobReports
 pub mod Statuses
 pub mod TimesRows
 pub mod ValuesRows
-pub mod ReportAtEnd
 pub mod CleanReport

@@ -1,5 +1,6 @@
 -- What jobs, and commands, make of inputs.
-use Rattle.std.proofs.Common.{◌≡◌, inl, inr, ℕ, ◌^◌, ◌≤◌, Bool, true, false, List, ◌++◌, length, refl, sym, ap, ◌∙◌, subst}
+use Rattle.std.proofs.Common.{◌≡◌, inl, inr, ℕ, ◌^◌, ◌≤◌, Bool, true, false, List, ◌++◌, length, refl, sym, ap, ◌∙◌}
+use Rattle.std.proofs.Common.{subst}
 use Rattle.std.proofs.lemmas.Bool.{true≢false}
 use Rattle.tlv_cut.proofs.ExtractLemmas.LongerInputs.{extract_text_goes_on, same_extract_text, same_found, same_whole}
 use Rattle.tlv_cut.proofs.IndefLemmas.LongerInputs.{indef_text_goes_on}
@@ -21,7 +22,7 @@ use Rattle.tlv_walk.specs.Forest.{Forest}
 use Rattle.tlv_walk.specs.Job.{EndsWith, Job}
 use Rattle.tlv_walk.specs.Reading.{AreOctets, IsPrefixOf, IsReading}
 use Rattle.tlv_run.specs.Laws.{InputsHaveOneResult, OutputsGoOn, SecondIndefIsTheFirst, SettledResultsStay}
-use Rattle.tlv_run.specs.Report.{ReportValue, report_of_cut, report_of_indef}
+use Rattle.tlv_run.specs.Report.{ReportValue, cut_report, indef_report}
 use Rattle.tlv_run.specs.Results.{CommandResult, IsSettled, MakesResult, command_job, command_result}
 use Rattle.tlv_run.specs.declared.command.Command.{Command}
 use Rattle.tlv_run.specs.declared.command.Command.TheVariants.{Check, Dump, Extract, Indef}
@@ -115,9 +116,9 @@ stays_for (Extract offset contents framing file) names b c f g r s e =
     same_extract_text framing b c f g r s offset contents e in
     let found : has_element_at offset g ≡ has_element_at offset f = same_found framing b c f g r s offset contents e in (
       same_whole framing b c f g r s offset contents e ∙ e,
-      λ (d : Ending). ap (λ (t : List ℕ). made t d (report_of_cut offset (record { ending = d; found = has_element_at offset g }))) text
+      λ (d : Ending). ap (λ (t : List ℕ). made t d (cut_report offset (record { ending = d; found = has_element_at offset g }))) text
           ∙ ap (λ (k : Bool). made (extract_text offset contents f) d
-          (report_of_cut offset (record { ending = d; found = k }))) found,
+          (cut_report offset (record { ending = d; found = k }))) found,
     )
 stays_for (Indef padding file) names b c f g r s e = absurd (true≢false (sym e))
 
@@ -172,6 +173,6 @@ second_indef padding file names b m n x y =
           let end : n.ending ≡ m.ending =
           ending-unique (indef_framing padding) (indef_text x.reading) n.ending ending.Done d' d ∙ sym done in
           y.is_made ∙ ap (λ (e : Ending). command_result job y.reading e) end
-          ∙ ap (λ (o : List ℕ). made o m.ending (report_of_indef m.ending)) (ap indef_text same ∙ again.1)
+          ∙ ap (λ (o : List ℕ). made o m.ending (indef_report m.ending)) (ap indef_text same ∙ again.1)
           ∙ sym x.is_made,
     )

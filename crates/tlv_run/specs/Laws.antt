@@ -3,11 +3,10 @@ use Rattle.std.specs.Prelude.{◌≡◌, ℕ, ◌^◌, ◌≤◌, Bool, List, �
 use Rattle.std.specs.Io.KnownBytes.{Appends}
 use Rattle.tlv_value.specs.Names.{Table}
 use Rattle.tlv_walk.specs.declared.ending.Ending.TheVariants.{Done}
-use Rattle.tlv_io.specs.Device.{DrainState, SourceState}
 use Rattle.tlv_walk.specs.Reading.{AreOctets, IsPrefixOf, IsSoundList}
 use Rattle.tlv_run.specs.Report.{ReportValue}
 use Rattle.tlv_run.specs.Results.{CommandResult, IsResultOf, IsSettled, command_job}
-use Rattle.tlv_run.specs.Runs.{RunsAndReports}
+use Rattle.tlv_run.specs.Runs.{DeviceStates, RunsAndReports}
 use Rattle.tlv_run.specs.declared.command.Command.{Command}
 use Rattle.tlv_run.specs.declared.command.Command.TheVariants.{Indef}
 
@@ -43,14 +42,14 @@ SecondIndefIsTheFirst =
 abbrev pub RunsAreResults : Type 0
 RunsAreResults =
     (command : Command) (names : Table) (octets : List ℕ)
-    (old new : SourceState) (old_drain new_drain : DrainState) (report : ReportValue)
-    → AreOctets octets → length octets ≤ 2 ^ 40 → old.left ≡ Some octets
-    → old.failures < 2 ^ 64 - 1 → new.failures ≡ old.failures
-    → old_drain.failures < 2 ^ 64 - 1 → new_drain.failures ≡ old_drain.failures
-    → RunsAndReports (command_job command names) old new old_drain new_drain report
+    (old new : DeviceStates) (report : ReportValue)
+    → AreOctets octets → length octets ≤ 2 ^ 40 → old.source.left ≡ Some octets
+    → old.source.failures < 2 ^ 64 - 1 → new.source.failures ≡ old.source.failures
+    → old.drain.failures < 2 ^ 64 - 1 → new.drain.failures ≡ old.drain.failures
+    → RunsAndReports (command_job command names) old new report
     → (made : CommandResult)
     × IsResultOf command names octets made
-    × Appends old_drain.octets new_drain.octets made.output
+    × Appends old.drain.octets new.drain.octets made.output
     × (report ≡ made.report)
 
 -- if no element is asked for, or it is not whole, the status 2 says just that the input is no sound list of encodings

@@ -1,4 +1,4 @@
-pub mod Commands
+pub mod CommandFiles
 pub mod Laws
 pub mod Octets
 pub mod Report

@@ -2,8 +2,17 @@
 use Rattle.std.specs.Prelude.{◌≡◌, ℕ, ◌<◌, ◌≤◌, Bool, true, false, List, length, take}
 use Rattle.tlv_walk.specs.declared.run.DeviceFault.TheVariants.{ReadFailed, WriteFailed, InputTooLong}
 use Rattle.tlv_walk.specs.Job.{Job}
-use Rattle.tlv_run.specs.Report.{ReportValue, device_report}
+use Rattle.tlv_run.specs.declared.octets.OctetsRun.{OctetsRun}
+use Rattle.tlv_run.specs.Report.{ReportValue, device_report, report_value}
 use Rattle.tlv_run.specs.Results.{CommandResult, IsSettled, MakesResult}
+
+-- what such a run wrote, and its report
+pub record OctetsRunValue : Type 0 where
+  pub written : List ℕ
+  pub report : ReportValue
+
+abbrev pub octets_run_value : {room : ℕ} → OctetsRun room → OctetsRunValue
+octets_run_value run = record { written = run.written.items; report = report_value run.report }
 
 -- the job, all octets, and whether after them a read fails
 module _ (job : Job ReportValue) (octets : List ℕ) (read_fails : Bool) where
@@ -24,9 +33,9 @@ module _ (job : Job ReportValue) (octets : List ℕ) (read_fails : Bool) where
     too_long : (IsSettled x → ⊥) → job.limit < length octets → IsReport x (device_report InputTooLong)
 
   -- what was written, into so much room, and what is reported
-  pub record RunsOctets (room : ℕ) (written : List ℕ) (report : ReportValue) : Type 0 where
+  pub record RunsOctets (room : ℕ) (run : OctetsRunValue) : Type 0 where
     pub made : CommandResult
     pub is_made : MakesResultOf made
-    pub output : written ≡ take room made.output
-    pub with_room : length made.output ≤ room → IsReport is_made report
-    pub without_room : room < length made.output → report ≡ device_report WriteFailed
+    pub output : run.written ≡ take room made.output
+    pub with_room : length made.output ≤ room → IsReport is_made run.report
+    pub without_room : room < length made.output → run.report ≡ device_report WriteFailed

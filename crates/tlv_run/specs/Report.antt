@@ -1,5 +1,6 @@
 -- What the program says of a run: the exit status, the number of findings, and the message.
-use Rattle.std.specs.Prelude.{◌∷◌, ⊤, ℕ, Bool, ◌==◌, if◌then◌else◌, List, [], ◌++◌, Option, Some, None, Result, codes, decimal}
+use Rattle.std.specs.Prelude.{◌∷◌, ⊤, ℕ, Bool, ◌==◌, if◌then◌else◌, List, [], ◌++◌, Option, Some, None, Result, Ok, Err}
+use Rattle.std.specs.Prelude.{codes, decimal}
 use Rattle.tlv_cut.specs.declared.extract_call.Cut.{Cut}
 use Rattle.tlv_head.specs.declared.fault.Fault.{Fault}
 use Rattle.tlv_head.specs.Fault.{fault_name, fault_text}
@@ -49,8 +50,8 @@ abbrev pub findings_report : ℕ → ReportValue
 findings_report n = if n == 0 then report_with 0 [] else report_with 1 (codes "findings: " ++ decimal n)
 
 -- a dump or a check: the count stays, whatever is reported
-abbrev pub report_of_outcome : Outcome → ReportValue
-report_of_outcome outcome =
+abbrev pub outcome_report : Outcome → ReportValue
+outcome_report outcome =
     let other = unused_report outcome.unused (findings_report outcome.findings) in
     record (ending_report outcome.ending other) { findings = outcome.findings }
 
@@ -61,12 +62,12 @@ found_report offset found =
     else report_with 1 (codes "E4 no element at offset " ++ decimal offset)
 
 -- an extract of the element at this offset
-abbrev pub report_of_cut : ℕ → Cut → ReportValue
-report_of_cut offset cut = ending_report cut.ending (found_report offset cut.found)
+abbrev pub cut_report : ℕ → Cut → ReportValue
+cut_report offset cut = ending_report cut.ending (found_report offset cut.found)
 
 -- a copy that `indef` makes
-abbrev pub report_of_indef : Ending → ReportValue
-report_of_indef e = ending_report e (report_with 0 [])
+abbrev pub indef_report : Ending → ReportValue
+indef_report e = ending_report e (report_with 0 [])
 
 -- ---- devices
 
@@ -74,6 +75,11 @@ abbrev pub device_report : DeviceFault → ReportValue
 device_report ReadFailed = report_with 3 (codes "E1 read failed")
 device_report WriteFailed = report_with 3 (codes "E2 write failed")
 device_report InputTooLong = report_with 3 (codes "E3 input too long")
+
+-- what is reported in the end: of the input, or of the device that failed
+abbrev pub report_at_end : Result ReportValue DeviceFault → ReportValue
+report_at_end (Ok of_input) = of_input
+report_at_end (Err fault) = device_report fault
 
 -- the file to read does not open
 abbrev pub unopened_report : ReportValue

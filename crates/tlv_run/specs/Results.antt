@@ -10,7 +10,7 @@ use Rattle.tlv_walk.specs.Forest.{Forest}
 use Rattle.tlv_walk.specs.Ending.{IsFinalEnding}
 use Rattle.tlv_walk.specs.Job.{EndsWith, Job}
 use Rattle.tlv_walk.specs.Reading.{IsReading}
-use Rattle.tlv_run.specs.Report.{ReportValue, report_of_cut, report_of_indef, report_of_outcome}
+use Rattle.tlv_run.specs.Report.{ReportValue, cut_report, indef_report, outcome_report}
 use Rattle.tlv_run.specs.declared.command.Command.{Command}
 use Rattle.tlv_run.specs.declared.command.Command.TheVariants.{Check, Dump, Extract, Indef}
 
@@ -27,11 +27,11 @@ job_with_report say job = record {
 -- what each command wants of an input: what is written of its elements, when nothing more is wanted, and what is
 -- reported
 abbrev pub command_job : Command → Table → Job ReportValue
-command_job (Dump options names_file file) names = job_with_report report_of_outcome (dump_job options names)
-command_job (Check rules framing file) names = job_with_report report_of_outcome (check_job rules framing)
+command_job (Dump options names_file file) names = job_with_report outcome_report (dump_job options names)
+command_job (Check rules framing file) names = job_with_report outcome_report (check_job rules framing)
 command_job (Extract offset contents framing file) names =
-    job_with_report (report_of_cut offset) (extract_job framing offset contents)
-command_job (Indef padding file) names = job_with_report report_of_indef (indef_job padding)
+    job_with_report (cut_report offset) (extract_job framing offset contents)
+command_job (Indef padding file) names = job_with_report indef_report (indef_job padding)
 
 -- what comes of an input: the octets written, its ending, and what is reported: status, number of findings, message
 pub record CommandResult : Type 0 where

@@ -1,7 +1,7 @@
 //! The commands.
 ghost use Rattle.std.specs.Prelude.{◌≡◌};
 ghost use Rattle.std.specs.Prelude.{option_map};
-ghost use Rattle.tlv_run.specs.Commands.{file_of, names_file_of};
+ghost use Rattle.tlv_run.specs.CommandFiles.{file_of, names_file_of};
 
 use crate::text::Text;
 use tlv_show::{Options, Rules};

@@ -1,6 +1,7 @@
 //! Laws of what commands make of inputs: each is the contract of a function that does nothing.
 
-ghost use Rattle.tlv_run.specs.Laws.{InputsHaveOneResult, OutputsGoOn, RunsAreResults, SecondIndefIsTheFirst, SettledResultsStay, StatusesShowSoundness};
+ghost use Rattle.tlv_run.specs.Laws.{InputsHaveOneResult, OutputsGoOn, RunsAreResults, SecondIndefIsTheFirst};
+ghost use Rattle.tlv_run.specs.Laws.{SettledResultsStay, StatusesShowSoundness};
 
 /// Each input has a result under each command, and only one.
 pub fn one_result()

@@ -14,13 +14,13 @@ pub fn write_message<D: Drain>(report: &Report, drain: &mut D) -> u8
     ensures writes { WritesMessage (message_line report.now.message.items) (D.state drain.old)
         (D.state drain.new) }
 {
-    let line = whole_line(report.message.as_slice());
+    let line = message_line(report.message.as_slice());
     let _ = send(line.as_slice(), drain);
     report.status
 }
 
 /// The message with a line feed after it, if there is one.
-fn whole_line(message: &[u8]) -> ArrayVec<u8, 129>
+fn message_line(message: &[u8]) -> ArrayVec<u8, 129>
     requires { length message.now ≤ 128 }
     ensures { result.items ≡ message_line message.now }
 {

@@ -1,9 +1,9 @@
 //! What is reported of a run: the exit status and the message.
 ghost use Rattle.std.specs.Prelude.{◌≡◌, ◌+◌, ◌++◌, ◌≤◌, [], decimal, length};
-ghost use Rattle.tlv_run.specs.Report.{unopened_report, device_report, ending_report, fault_line, findings_report, found_report};
+ghost use Rattle.tlv_run.specs.Report.{cut_report, device_report, ending_report, fault_line, findings_report};
+ghost use Rattle.tlv_run.specs.Report.{found_report, indef_report, line_with, names_report, outcome_report};
+ghost use Rattle.tlv_run.specs.Report.{report_value, report_with, unopened_report, unused_report};
 ghost use Rattle.tlv_run.specs.Private.Reports.{report_of};
-ghost use Rattle.tlv_run.specs.Report.{line_with, names_report, report_of_cut, report_of_indef, report_of_outcome};
-ghost use Rattle.tlv_run.specs.Report.{report_value, report_with, unused_report};
 
 use arrayvec::ArrayVec;
 use itoa::Buffer;
@@ -32,20 +32,20 @@ impl Report {
         requires { length line.now ≤ 128 }
         ensures { report_value result ≡ report_with status line.now }
     {
-        reporting(status, text(line))
+        report_with(status, message_of(line))
     }
 
     /// A report with this status, without a message and without findings.
     pub fn without_message(status: u8) -> Report
         ensures { report_value result ≡ report_with status [] }
     {
-        reporting(status, ArrayVec::new())
+        report_with(status, ArrayVec::new())
     }
 }
 
 /// The report of a dump or a check: a fault, else an offset without a string, else findings. Their count stays.
 pub(crate) fn outcome_report(came: Result<Outcome, DeviceFault>) -> Report
-    ensures { report_value result ≡ report_of report_of_outcome came }
+    ensures { report_value result ≡ report_of outcome_report came }
 {
     match came {
         Ok(outcome) => {
@@ -60,7 +60,7 @@ pub(crate) fn outcome_report(came: Result<Outcome, DeviceFault>) -> Report
 
 /// The report of an extract of the element at this offset.
 pub(crate) fn cut_report(offset: u64, came: Result<Cut, DeviceFault>) -> Report
-    ensures { report_value result ≡ report_of (report_of_cut offset) came }
+    ensures { report_value result ≡ report_of (cut_report offset) came }
 {
     match came {
         Ok(cut) => ending_report(cut.ending, found_report(offset, cut.found)),
@@ -70,7 +70,7 @@ pub(crate) fn cut_report(offset: u64, came: Result<Cut, DeviceFault>) -> Report
 
 /// The report of an input written with indefinite lengths.
 pub(crate) fn indef_report(came: Result<Ending, DeviceFault>) -> Report
-    ensures { report_value result ≡ report_of report_of_indef came }
+    ensures { report_value result ≡ report_of indef_report came }
 {
     match came {
         Ok(ending) => ending_report(ending, Report::without_message(0)),
@@ -83,7 +83,7 @@ fn ending_report(ending: Ending, other: Report) -> Report
     ensures { report_value result ≡ ending_report ending (report_value other) }
 {
     match ending {
-        Ending::Fault(fault) => reporting(2, fault_line(fault)),
+        Ending::Fault(fault) => report_with(2, fault_line(fault)),
         Ending::Done => other,
     }
 }
@@ -92,7 +92,7 @@ fn unused_report(unused: Option<u64>, other: Report) -> Report
     ensures { report_value result ≡ unused_report unused (report_value other) }
 {
     match unused {
-        Some(offset) => reporting(1, numbered(b"E7 no string to read at offset ", offset)),
+        Some(offset) => report_with(1, number_line(b"E7 no string to read at offset ", offset)),
         None => other,
     }
 }
@@ -103,7 +103,7 @@ fn findings_report(findings: u64) -> Report
     if findings == 0 {
         Report::without_message(0)
     } else {
-        reporting(1, numbered(b"findings: ", findings))
+        report_with(1, number_line(b"findings: ", findings))
     }
 }
 
@@ -113,7 +113,7 @@ fn found_report(offset: u64, found: bool) -> Report
     if found {
         Report::without_message(0)
     } else {
-        reporting(1, numbered(b"E4 no element at offset ", offset))
+        report_with(1, number_line(b"E4 no element at offset ", offset))
     }
 }
 
@@ -140,12 +140,12 @@ pub fn names_report(fault: NamesFault) -> Report
     ensures { report_value result ≡ names_report fault }
 {
     match fault {
-        NamesFault::BadOid(line) => reporting(
+        NamesFault::BadOid(line) => report_with(
             4,
-            of_line(b"N1", line, b": not an object identifier"),
+            line_with(b"N1", line, b": not an object identifier"),
         ),
-        NamesFault::BadName(line) => reporting(4, of_line(b"N2", line, b": no usable name")),
-        NamesFault::Repeated(line) => reporting(4, of_line(b"N3", line, b": repeated")),
+        NamesFault::BadName(line) => report_with(4, line_with(b"N2", line, b": no usable name")),
+        NamesFault::Repeated(line) => report_with(4, line_with(b"N3", line, b": repeated")),
         NamesFault::TooLarge => Report::with_message(4, b"N4 names file too large"),
         NamesFault::ReadFailed => Report::with_message(4, b"N5 names file not read"),
         NamesFault::Memory => Report::with_message(5, b"N6 out of memory"),
@@ -153,7 +153,7 @@ pub fn names_report(fault: NamesFault) -> Report
 }
 
 /// A report without findings.
-fn reporting(status: u8, message: ArrayVec<u8, 128>) -> Report
+fn report_with(status: u8, message: ArrayVec<u8, 128>) -> Report
     ensures { report_value result ≡ report_with status message.items }
 {
     Report {
@@ -163,7 +163,7 @@ fn reporting(status: u8, message: ArrayVec<u8, 128>) -> Report
     }
 }
 
-fn text(line: &[u8]) -> ArrayVec<u8, 128>
+fn message_of(line: &[u8]) -> ArrayVec<u8, 128>
     requires { length line.now ≤ 128 }
     ensures { result.items ≡ line.now }
 {
@@ -173,24 +173,24 @@ fn text(line: &[u8]) -> ArrayVec<u8, 128>
 }
 
 /// A text and a number after it.
-fn numbered(line: &[u8], number: u64) -> ArrayVec<u8, 128>
+fn number_line(line: &[u8], number: u64) -> ArrayVec<u8, 128>
     requires { length line.now ≤ 64 }
     ensures text { result.items ≡ line.now ++ decimal number }
     ensures short { length result.items ≤ length line.now + 40 }
 {
-    let mut message = text(line);
+    let mut message = message_of(line);
     let mut digits = Buffer::new();
     let _ = message.try_extend_from_slice(digits.format(number).as_bytes());
     message
 }
 
 /// A code, the number of a line, and what is wrong with it.
-fn of_line(code: &[u8], line: u32, what: &[u8]) -> ArrayVec<u8, 128>
+fn line_with(code: &[u8], line: u32, what: &[u8]) -> ArrayVec<u8, 128>
     requires code { length code.now ≤ 2 }
     requires what { length what.now ≤ 64 }
     ensures { result.items ≡ line_with code.now line what.now }
 {
-    let mut message = text(code);
+    let mut message = message_of(code);
     let mut digits = Buffer::new();
     let _ = message.try_extend_from_slice(b" line ");
     let _ = message.try_extend_from_slice(digits.format(line).as_bytes());
@@ -201,7 +201,7 @@ fn of_line(code: &[u8], line: u32, what: &[u8]) -> ArrayVec<u8, 128>
 fn fault_line(fault: Fault) -> ArrayVec<u8, 128>
     ensures { result.items ≡ fault_line fault }
 {
-    let mut message = numbered(b"fault at ", fault.offset);
+    let mut message = number_line(b"fault at ", fault.offset);
     let _ = message.try_extend_from_slice(b": ");
     let _ = message.try_extend_from_slice(fault.code.name());
     let _ = message.try_extend_from_slice(b" ");

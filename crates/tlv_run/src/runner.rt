@@ -1,7 +1,7 @@
 //! A run of a command over a source and a drain.
 ghost use Rattle.tlv_run.specs.Report.{report_value};
 ghost use Rattle.tlv_run.specs.Results.{command_job};
-ghost use Rattle.tlv_run.specs.Runs.{RunsAndReports};
+ghost use Rattle.tlv_run.specs.Runs.{RunsAndReports, device_states};
 
 use crate::command::Command;
 use crate::report::{Report, cut_report, indef_report, outcome_report};
@@ -20,8 +20,8 @@ pub fn run<S: Source, D: Drain>(
     drain: &mut D,
 ) -> Report
     ensures { RunsAndReports (command_job command.now names.now)
-        (S.state source.old) (S.state source.new)
-        (D.state drain.old) (D.state drain.new) (report_value result) }
+        (device_states (S.state source.old) (D.state drain.old))
+        (device_states (S.state source.new) (D.state drain.new)) (report_value result) }
 {
     match command {
         Command::Dump { options, .. } => outcome_report(dump(source, drain, options, names)),

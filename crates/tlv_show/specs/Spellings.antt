@@ -10,7 +10,7 @@ use Rattle.tlv_walk.specs.declared.framing.Framing.{Framing}
 use Rattle.tlv_walk.specs.Alike.{AreAlike, HaveNoUniversalZero}
 use Rattle.tlv_walk.specs.Ending.{IsEnding}
 use Rattle.tlv_walk.specs.Forest.{Forest}
-use Rattle.tlv_walk.specs.Inside.{CanName}
+use Rattle.tlv_walk.specs.Inside.{can_name}
 use Rattle.tlv_walk.specs.Reading.{IsReading}
 use Rattle.tlv_walk.specs.Wrappers.{wrappers}
 use Rattle.tlv_show.specs.declared.rules.Rules.{Rules}
@@ -59,7 +59,7 @@ SomeSpelling =
     → (c : List ℕ) × (g : Forest)
     × IsWellSpelled rules (record { inside = wrappers g; padding = framing.padding }) c g
     × AreAlike f g
-    × (CanName framing.inside → CanName (wrappers g))
+    × (can_name framing.inside ≡ true → can_name (wrappers g) ≡ true)
 
 -- a finding on the number of identifier octets, and on that of length octets
 abbrev pub is_on_identifier : Finding → Bool

@@ -15,8 +15,8 @@ use crate::Finding;
 use arrayvec::ArrayVec;
 pub(crate) use characters::are_allowed;
 pub(crate) use findings::are_set;
-use notes::{is_each_noted, is_front_noted, is_time, padded_after};
-pub(crate) use notes::{is_padded, last_octet};
+use notes::{is_each_noted, is_front_noted, is_padded_with, is_time};
+pub(crate) use notes::{is_padded_after, last_octet};
 pub(crate) use rows::is_well_formed;
 use rows::take_rows;
 use std::marker::Model;
@@ -180,7 +180,7 @@ impl ValueCheck {
     {
         match self.number {
             universal::OBJECT_IDENTIFIER | universal::RELATIVE_OID => {
-                self.padded = padded_after(self.padded, self.last, octets);
+                self.padded = is_padded_with(self.padded, self.last, octets);
             }
             universal::UTF8_STRING => {
                 self.formed = both(self.formed, take_rows(&mut self.row, octets));

@@ -4,7 +4,7 @@ ghost use Rattle.tlv_value.specs.Checks.{findings_on_contents, is_padded_after, 
 ghost use Rattle.tlv_value.specs.Private.Checks.{findings_of, general_time_findings, universal_header, utc_time_findings};
 ghost use Rattle.tlv_value.specs.Types.{constructed_types, is_one_of, is_unassigned};
 
-use crate::check::{are_allowed, are_set, is_padded, is_well_formed, last_octet};
+use crate::check::{are_allowed, are_set, is_padded_after, is_well_formed, last_octet};
 use crate::time::{general_canonical, utc_canonical};
 use tlv_head::{Class, Header, universal};
 
@@ -110,7 +110,7 @@ fn are_arcs(contents: &[u8]) -> bool
     ensures begun { IsTrue result → is_padded_after 0 contents.now ≡ false }
     ensures ended { IsTrue result → nat_le 128 (last_octet 0 contents.now) ≡ false }
 {
-    last_octet(0, contents) < 128 && !is_padded(0, contents)
+    last_octet(0, contents) < 128 && !is_padded_after(0, contents)
 }
 
 /// Whether nothing is found on a UTCTime.

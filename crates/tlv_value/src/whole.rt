@@ -83,12 +83,12 @@ fn put_pairs<D: Drain>(
         (rows_of value.now.kind (row_octets value.now.kind contents.now))) result }
 {
     value.put_long(contents, out)?;
-    put_pair_rows(value.layout, octets_in_rows(value.kind, contents), out)
+    put_pair_rows(value.layout, row_octets(value.kind, contents), out)
 }
 
 /// The contents octets that are in rows: of a BIT STRING all but the first, if that can be read.
 #[inline(always)]
-fn octets_in_rows(kind: Kind, contents: &[u8]) -> &[u8]
+fn row_octets(kind: Kind, contents: &[u8]) -> &[u8]
     ensures { result.now ≡ row_octets kind contents.now }
 {
     match contents {

@@ -1,15 +1,15 @@
 -- The offsets that a user may name.
-use Rattle.std.specs.Prelude.{ℕ, ◌+◌, ◌^◌, ◌≤◌, Bool, eqb, List, [], ◌∷◌, length}
+use Rattle.std.specs.Prelude.{ℕ, ◌+◌, ◌^◌, Bool, true, ◌&&◌, eqb, nat_le, List, [], ◌∷◌, length}
 use Rattle.std.specs.List.{list_any}
 
--- each offset is larger than the one before, and at most 2^40
-abbrev pub AreRising : ℕ → List ℕ → Type 0
-AreRising least [] = Unit {0}
-AreRising least (n ∷ ns) = (least ≤ n) × (n ≤ 2 ^ 40) × AreRising (n + 1) ns
+-- each offset is larger than the one before, none is below `least`, and none is above 2^40
+abbrev pub are_rising : ℕ → List ℕ → Bool
+are_rising least [] = true
+are_rising least (n ∷ ns) = nat_le least n && (nat_le n (2 ^ 40) && are_rising (n + 1) ns)
 
 -- at most 16 rising offsets
-abbrev pub CanName : List ℕ → Type 0
-CanName offsets = (length offsets ≤ 16) × AreRising 0 offsets
+abbrev pub can_name : List ℕ → Bool
+can_name offsets = nat_le (length offsets) 16 && are_rising 0 offsets
 
 -- the offset is one of those
 abbrev pub is_among : ℕ → List ℕ → Bool

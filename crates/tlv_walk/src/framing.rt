@@ -14,11 +14,12 @@ impl Model for Inside {
 
     ghost Value = { List ℕ };
 
-    ghost use Rattle.tlv_walk.specs.Inside.{CanName};
+    ghost use Rattle.std.specs.Prelude.{◌≡◌, true};
+    ghost use Rattle.tlv_walk.specs.Inside.{can_name};
 
     ghost view = { λ i. i.offsets.items };
 
-    ghost invariant = { λ i. CanName i.offsets.items };
+    ghost invariant = { λ i. can_name i.offsets.items ≡ true };
 
     ghost inverse = { λ offsets. record { offsets = record { items = offsets } } };
 }
@@ -33,14 +34,14 @@ pub struct Framing {
 }
 
 impl Inside {
-    ghost use Rattle.std.specs.Prelude.{◌≡◌, MatchOption, [], slice_get};
-    ghost use Rattle.tlv_walk.specs.Inside.{CanName, is_among};
+    ghost use Rattle.std.specs.Prelude.{◌≡◌, MatchOption, [], false, slice_get, true};
+    ghost use Rattle.tlv_walk.specs.Inside.{can_name, is_among};
 
     /// The offsets, if there are at most 16, each larger than the one before and at most 2^40;
     /// otherwise nothing. There may be none.
     pub fn new(offsets: &[u64]) -> Option<Inside>
-        ensures { MatchOption result (CanName offsets.now → ⊥)
-            (λ inside. (inside ≡ offsets.now) × CanName offsets.now) }
+        ensures { MatchOption result (can_name offsets.now ≡ false)
+            (λ inside. (inside ≡ offsets.now) × (can_name offsets.now ≡ true)) }
     {
         let mut named = ArrayVec::new();
         let mut least = 0;

@@ -12,8 +12,8 @@ use Rattle.tlv_run.specs.declared.command.Command.{Command}
 use Rattle.tlv_words.specs.declared.usage.UsageFault.{UsageFault}
 use Rattle.tlv_words.specs.declared.usage.UsageFault.TheVariants.{Parser, Value, Memory}
 use Rattle.tlv_words.specs.CommandLine.{tlvdump_app}
-use Rattle.tlv_words.specs.Commands.{AreReadAs, AreRefusedBy, IsUsageFaultOf, matched_command}
-use Rattle.tlv_words.specs.Private.Commands.{Returns, IsFaultFor}
+use Rattle.tlv_words.specs.CommandOf.{AreReadAs, AreRefusedBy, IsUsageFaultOf, matched_command}
+use Rattle.tlv_words.specs.Private.CommandOf.{Returns, IsFaultFor}
 
 pub simple : is_simple tlvdump_app ≡ true
 unfolding clap_on_literals tlvdump_app

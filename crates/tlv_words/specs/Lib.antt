@@ -1,5 +1,5 @@
 pub mod CommandLine
-pub mod Commands
+pub mod CommandOf
 pub mod Usage
 pub mod Values
 pub mod Private

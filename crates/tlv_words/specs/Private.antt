@@ -1,3 +1,3 @@
-pub mod Commands
+pub mod CommandOf
 pub mod Parsers
 pub mod Values

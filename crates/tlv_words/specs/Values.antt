@@ -1,5 +1,5 @@
 -- What the texts of options stand for. `None` is a text that is no value of the option.
-use Rattle.std.specs.Prelude.{ℕ, ◌+◌, ◌==◌, ◌&&◌, Bool, true, List, [], ◌∷◌, Option, Some, None}
+use Rattle.std.specs.Prelude.{ℕ, ◌==◌, ◌&&◌, List, [], ◌∷◌, Option, Some, None}
 use Rattle.std.specs.Prelude.{codes, if◌then◌else◌, length, nat_le, nat_lt, option_and_then}
 use Rattle.std.specs.Prelude.{option_map}
 use Rattle.std.specs.Char.{is_ascii_digit}
@@ -7,6 +7,7 @@ use Rattle.std.specs.List.{list_all, slice_split}
 use Rattle.std.specs.Str.{bytes_eq}
 use Rattle.std.specs.Str.Parse.{digits_value}
 use Rattle.clap.specs.Words.{Text}
+use Rattle.tlv_walk.specs.Inside.{can_name}
 use Rattle.tlv_show.specs.declared.rules.Rules.{Rules}
 use Rattle.tlv_show.specs.declared.rules.Rules.TheVariants.{Ber, Cer, Der}
 
@@ -35,15 +36,6 @@ part_offsets [] = Some []
 part_offsets (part ∷ parts) =
     option_and_then (λ n. option_map (λ ns. n ∷ ns) (part_offsets parts))
     (bounded_number part most_offset)
-
--- each offset is larger than the one before, and none is below `least` or above the largest
-abbrev pub are_rising : ℕ → List ℕ → Bool
-are_rising least [] = true
-are_rising least (n ∷ ns) = nat_le least n && (nat_le n most_offset && are_rising (n + 1) ns)
-
--- at most 16 rising offsets
-abbrev pub can_name : List ℕ → Bool
-can_name offsets = nat_le (length offsets) 16 && are_rising 0 offsets
 
 -- 1 to 16 rising offsets with commas between them
 abbrev pub offset_list : Text → Option (List ℕ)

@@ -1,12 +1,12 @@
 //! The words of `tlvdump`'s command line: the command that they ask for, or why they are refused.
 #![tactic(auto)]
 
-mod commands;
+mod command_of_call;
 mod parser;
 mod usage;
 mod values;
 mod words;
 
-pub use commands::command_of;
+pub use command_of_call::command_of;
 pub use usage::{UsageFault, unprinted_report, usage_report, words_report};
 pub use words::Words;

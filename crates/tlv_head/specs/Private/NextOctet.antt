@@ -2,8 +2,7 @@
 use Rattle.std.specs.Prelude.{◌≡◌, ◌≢◌, ℕ, ◌≤◌, Bool, List, [], ◌∷◌, ◌++◌, length, take}
 use Rattle.tlv_head.specs.declared.header.Class.{Class}
 use Rattle.tlv_head.specs.declared.header.Size.{Size}
-use Rattle.tlv_head.specs.Header.{IsIdentifier, IsLength}
-use Rattle.tlv_head.specs.Private.Header.{AllowsSize}
+use Rattle.tlv_head.specs.Header.{AllowsSize, IsIdentifier, IsLength}
 use Rattle.tlv_head.specs.Refusal.{IsRefusedOctet}
 use Rattle.tlv_head.specs.declared.next_octet.Identifier.{Identifier}
 use Rattle.tlv_head.specs.declared.next_octet.Next.{Next}

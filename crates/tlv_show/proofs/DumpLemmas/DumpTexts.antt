@@ -6,8 +6,7 @@ use Rattle.std.specs.FinMap as finite
 use Rattle.std.specs.Prelude.{Some, None}
 use Rattle.tlv_head.specs.declared.header.Size.{Size}
 use Rattle.tlv_head.specs.declared.header.Size.TheVariants.{Definite, Indefinite}
-use Rattle.tlv_head.specs.Header.{HeaderValue, announced_length, octets_of}
-use Rattle.tlv_head.specs.Private.Header.{AllowsSize}
+use Rattle.tlv_head.specs.Header.{AllowsSize, HeaderValue, announced_length, octets_of}
 use Rattle.tlv_value.specs.declared.layout.Layout.{Layout}
 use Rattle.tlv_value.specs.Names.{Table}
 use Rattle.tlv_value.specs.ValueLines.{open_lines, whole_lines}

@@ -6,8 +6,8 @@ use Rattle.std.proofs.Math.Bool.{and-false, or-false}
 use Rattle.std.specs.List.{list_any}
 use Rattle.tlv_head.specs.Header.{HeaderValue, IsHeader, announced_length}
 use Rattle.tlv_head.specs.Shortest.{IsShortestIdentifier, IsShortestLength}
-use Rattle.tlv_head.proofs.Shortest.{identifier-from, lengths-from}
-use Rattle.tlv_head.proofs.ShortestSpelling.{no-shorter_identifier, no-shorter_length, shorter-identifier, shorter-length}
+use Rattle.tlv_head.proofs.ShortestLemmas.Shortest.{identifier-from, lengths-from}
+use Rattle.tlv_head.proofs.ShortestLemmas.ShortestSpelling.{no-shorter_identifier, no-shorter_length, shorter-identifier, shorter-length}
 use Rattle.tlv_show.specs.declared.rules.Rules.{Rules}
 use Rattle.tlv_show.specs.declared.rules.Rules.TheVariants.{Ber, Der, Cer}
 use Rattle.tlv_show.specs.Conditions.{first_length, has_high_form, has_long_form, header_conditions, leading_bits, Surroundings}

@@ -11,7 +11,8 @@ use Rattle.tlv_value.specs.Checks.{contents_conditions}
 use Rattle.tlv_walk.specs.declared.framing.Framing.{Framing}
 use Rattle.tlv_walk.specs.Alike.{AreAlike, holders, nothing, padding, primitives}
 use Rattle.tlv_walk.specs.Forest.{Forest, NoMore, PaddingOctet, Primitive, Holder, OpenPrimitive, OpenHolder, OpenBitString, OpenHeader, OpenEndOctets, extent, has_element, spelling}
-use Rattle.tlv_walk.specs.Inside.{AreRising, CanName, is_among}
+use Rattle.tlv_walk.specs.Inside.{can_name, is_among}
+use Rattle.tlv_walk.proofs.EventLemmas.Named.{AreRising, can-from, can-to}
 use Rattle.tlv_walk.specs.Place.{IsOpen, Place, is_indefinite, place_after, place_of_children, top_place}
 use Rattle.tlv_walk.specs.Reading.{IsReading, IsSound, IsSoundList}
 use Rattle.tlv_walk.specs.Wrappers.{wrapper_at, wrappers}
@@ -180,8 +181,8 @@ as-many f g (holders h k inside within a b tag held rest) =
     )
 
 can-name : (framing other : Framing) (f g : Forest) → IsOpen (top_place framing) f → IsOpen (top_place other) g → AreAlike f g
-    → length (spelling g) ≤ 2 ^ 40 → CanName framing.inside → CanName (wrappers g)
-can-name framing other f g u v alike few can = (
+    → length (spelling g) ≤ 2 ^ 40 → can_name framing.inside ≡ true → can_name (wrappers g) ≡ true
+can-name framing other f g u v alike few named = let can = can-to framing.inside named in can-from (wrappers g) (
   omega (
     arith,
     can.0,

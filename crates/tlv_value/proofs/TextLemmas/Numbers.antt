@@ -10,7 +10,7 @@ use lib.Signed.{mag}
 use Rattle.std.proofs.lemmas.Bool.{leb-true}
 use Rattle.std.proofs.lemmas.Bool.Decides.{nat_tests}
 use Rattle.tlv_head.specs.Header.{value_of}
-use Rattle.tlv_head.proofs.Digits.{value_of-snoc, value_of-lt}
+use Rattle.tlv_head.proofs.NumberLemmas.Digits.{value_of-snoc, value_of-lt}
 use Rattle.tlv_value.specs.Bits.{last_bits, bits_of}
 use Rattle.tlv_value.specs.Number.{signed_sum, twos_complement}
 

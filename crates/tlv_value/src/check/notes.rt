@@ -53,14 +53,14 @@ pub(crate) fn last_octet(before: u8, octets: &[u8]) -> u8
 }
 
 /// Whether a subidentifier begins with `80`, with these octets too.
-pub(super) fn padded_after(padded: bool, before: u8, octets: &[u8]) -> bool
+pub(super) fn is_padded_with(padded: bool, before: u8, octets: &[u8]) -> bool
     ensures { result ≡ (padded || is_padded_after before octets.now) }
 {
-    padded || is_padded(before, octets)
+    padded || is_padded_after(before, octets)
 }
 
 /// Whether a subidentifier begins with `80`, after this octet.
-pub(crate) fn is_padded(before: u8, octets: &[u8]) -> bool
+pub(crate) fn is_padded_after(before: u8, octets: &[u8]) -> bool
     ensures { result ≡ is_padded_after before octets.now }
 {
     // Most have no octet 80 at all, which is seen for many octets at once. The loop is then left out.

@@ -12,7 +12,7 @@ use super::arcs::is_dotted;
 const MOST_OCTETS: usize = 400;
 
 /// The dotted text and the name on a line, or none if it is blank or a comment. `number` is the line's.
-pub(super) fn entry_of<'a>(
+pub(super) fn entry_or_refusal<'a>(
     line: &'a [u8],
     number: u32,
 ) -> Result<Option<(&'a [u8], &'a [u8])>, NamesFault>

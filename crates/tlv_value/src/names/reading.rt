@@ -3,7 +3,7 @@ ghost use Rattle.tlv_value.specs.NamesReading.{ReadsFrom};
 ghost use Rattle.tlv_value.specs.Private.NamesSteps.{Gives, result_in};
 
 use super::NamesFault;
-use super::table::{Table, table_of};
+use super::table::{Table, names_of};
 use std::alloc::Allocator;
 use tlv_io::Source;
 
@@ -18,7 +18,7 @@ pub(super) fn read_in<A: Allocator + Copy, S: Source>(
     ensures { ReadsFrom (S.state source.old) (S.state source.new) (result_in result) }
 {
     let octets = read_octets(alloc, source)?;
-    table_of(alloc, octets.as_slice())
+    names_of(alloc, octets.as_slice())
 }
 
 /// All octets of the source.

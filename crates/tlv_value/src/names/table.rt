@@ -5,7 +5,7 @@ ghost use Rattle.tlv_value.specs.NamesSteps.{texts_in};
 ghost use Rattle.tlv_value.specs.Private.NamesSteps.{Adds, AddsLine, IsTableOf};
 
 use super::NamesFault;
-use super::line::{after_mark, end_before, entry_of};
+use super::line::{after_mark, end_before, entry_or_refusal};
 use std::alloc::Allocator;
 use std::collections::BTreeMap;
 
@@ -16,7 +16,7 @@ pub(super) type Table<A> = BTreeMap<Vec<u8, A>, Vec<u8, A>, A>;
 const MOST_ENTRIES: usize = 65_536;
 
 /// The table of all lines, or the first refusal.
-pub(super) fn table_of<A: Allocator + Copy>(alloc: A, octets: &[u8]) -> Result<Table<A>, NamesFault>
+pub(super) fn names_of<A: Allocator + Copy>(alloc: A, octets: &[u8]) -> Result<Table<A>, NamesFault>
     requires { length octets.now ≤ 1048576 }
     ensures { IsTableOf octets.now result }
 {
@@ -42,7 +42,7 @@ fn add_line<A: Allocator + Copy>(
     ensures { AddsLine number (names_line line.now) (texts_in table.old)
         (texts_in table.new) result }
 {
-    match entry_of(line, number) {
+    match entry_or_refusal(line, number) {
         Ok(None) => Ok(()),
         Ok(Some((dotted, name))) => add(alloc, table, dotted, name, number),
         Err(fault) => Err(fault),

@@ -9,13 +9,14 @@ use Rattle.tlv_walk.specs.Phase.{Phase}
 use Rattle.tlv_walk.specs.Phase as phase
 use Rattle.tlv_walk.specs.Events.{AreEqualJoined, EventValue, events}
 use Rattle.tlv_walk.specs.Forest.{Forest}
-use Rattle.tlv_walk.specs.Inside.{AreRising, CanName, is_among}
+use Rattle.tlv_walk.specs.Inside.{can_name, is_among}
 use Rattle.tlv_walk.specs.WalkerState.{WalkerState, first_without_wrapper_in}
 use Rattle.tlv_walk.specs.Private.WalkerState.{next_wrapper, wrappers_after}
 use Rattle.tlv_walk.specs.Place.{IsOpen, top_place}
 use Rattle.tlv_walk.specs.Stands.{Stands, filled_ends, is_end, waiting_events, waiting_events_in}
 use Rattle.tlv_walk.specs.Wrappers.{first_other, first_without_wrapper, wrapper_offsets, wrappers}
 use Rattle.tlv_walk.proofs.EventLemmas.Joined.{apart-from_joined}
+use Rattle.tlv_walk.proofs.EventLemmas.Named.{AreRising, can-to}
 use Rattle.tlv_walk.proofs.EventLemmas.Wrappers.{Rise, enters-apart, enters-append, wrappers-entered, wrappers-rise}
 
 -- an offset is not that of another
@@ -113,12 +114,12 @@ yielded_wrappers framing yielded waits f v none e =
     sym (enters-append yielded waits ∙ ap (λ (l : List ℕ). wrapper_offsets yielded ++ l) none ∙ append-nil (wrapper_offsets yielded)) ∙ enters-joined (yielded ++ waits) (events f) e ∙ sym (wrappers-entered (top_place framing) f v)
 
 -- the count over the events yielded gives the first named offset that is no wrapper's
-pub yielded_unused : (framing : Framing) (yielded waits : List EventValue) (f : Forest) → CanName framing.inside → IsOpen (top_place framing) f → wrapper_offsets waits ≡ [] → AreEqualJoined (yielded ++ waits) (events f)
+pub yielded_unused : (framing : Framing) (yielded waits : List EventValue) (f : Forest) → can_name framing.inside ≡ true → IsOpen (top_place framing) f → wrapper_offsets waits ≡ [] → AreEqualJoined (yielded ++ waits) (events f)
     → slice_get framing.inside (wrappers_after framing.inside 0 (wrapper_offsets yielded)) ≡ first_without_wrapper framing.inside f
 yielded_unused framing yielded waits f named v none e =
     let same : wrapper_offsets yielded ≡ wrappers f = yielded_wrappers framing yielded waits f v none e in
     ap (λ (ats : List ℕ). slice_get framing.inside (wrappers_after framing.inside 0 ats)) same
-    ∙ first-found framing.inside (wrappers f) 0 (top_place framing).at _ named.1 (wrappers-rise (top_place framing) f v)
+    ∙ first-found framing.inside (wrappers f) 0 (top_place framing).at _ (can-to framing.inside named).1 (wrappers-rise (top_place framing) f v)
 
 pub stands_unused : (w : WalkerState) (b : List ℕ) (yielded : List EventValue) → (st : Stands w b yielded) → first_without_wrapper_in w ≡ first_without_wrapper w.framing.inside st.reads.reading
 stands_unused w b yielded st =

@@ -3,7 +3,7 @@ use Rattle.std.proofs.Common.{◌≡◌, inl, inr, ℕ, ◌+◌, ◌<◌, ◌≤
 use Rattle.std.proofs.lemmas.Bool.{cases_Bool, true≢false}
 use Rattle.tlv_head.specs.declared.fault.FaultCode.TheVariants.{MissingEnd, Overrun, TooDeep}
 use Rattle.tlv_head.specs.Header.{HeaderValue, announced_length, holds, is_wrapper, octets_of}
-use Rattle.tlv_head.proofs.Scan.{Scan, Fresh, High, Named, Long, Ready, Stuck, Over, scan, step}
+use Rattle.tlv_head.proofs.GrammarLemmas.Scan.{Scan, Fresh, High, Named, Long, Ready, Stuck, Over, scan, step}
 use Rattle.tlv_walk.specs.Forest.{Forest, NoMore, PaddingOctet, Primitive, Holder, OpenPrimitive, OpenHolder, OpenBitString, OpenHeader, OpenEndOctets, extent, lead, opening, spelling}
 use Rattle.tlv_walk.specs.Inside.{is_among}
 use Rattle.tlv_walk.specs.Place.{IsHeaderAt, IsOpen, Place, place_after, place_of_children}

@@ -1,5 +1,5 @@
 -- What a follower comes to, event by event.
-use Rattle.std.proofs.Common.{◌≡◌, inl, inr, ℕ, ◌+◌, List, [], ◌∷◌, ◌++◌, length, refl, sym, ap, ap₂, ◌∙◌, subst, arith, append_assoc, append-nil, length-append}
+use Rattle.std.proofs.Common.{◌≡◌, inl, inr, ℕ, ◌+◌, true, List, [], ◌∷◌, ◌++◌, length, refl, sym, ap, ap₂, ◌∙◌, subst, arith, append_assoc, append-nil, length-append}
 use Rattle.std.specs.Prelude.{Ok, Err, slice_get}
 use Rattle.tlv_head.specs.declared.fault.Fault.{Fault}
 use Rattle.tlv_io.specs.declared.drain.WriteFault.{WriteFault}
@@ -15,7 +15,7 @@ use Rattle.tlv_walk.specs.Follow.{Effect, and_then, effect_of, followed_events}
 use Rattle.tlv_walk.specs.FollowsEvents.{FollowsEvents}
 use Rattle.tlv_walk.specs.Private.FollowsPiece.{Follows, FollowsPiece, GoesOnIn, WalkState, WalksOver, WalksTo, walk_state}
 use Rattle.tlv_walk.specs.Forest.{Forest}
-use Rattle.tlv_walk.specs.Inside.{CanName}
+use Rattle.tlv_walk.specs.Inside.{can_name}
 use Rattle.tlv_walk.specs.WalkerState.{IsAfterEvent, WalkerState}
 use Rattle.tlv_walk.specs.Private.WalkerState.{wrappers_after}
 use Rattle.tlv_io.specs.Out.{Puts}
@@ -70,7 +70,7 @@ refused_there w u v piece mid after f more x o yielded st (inl r) =
       refused = refused;
       unused =
           ap₂ (λ (g : Framing) (n : ℕ). slice_get g.inside n) framing (r.wrapper_count ∙ st.private_state.found ∙ ap (λ (g : Framing). wrappers_after g.inside 0 (wrapper_offsets (yielded ++ more))) x.framing)
-          ∙ yielded_unused w.framing (yielded ++ more) [] refused.reading (subst (λ (g : Framing). CanName g.inside) x.framing st.private_state.named) (refused.stays []).is_open refl
+          ∙ yielded_unused w.framing (yielded ++ more) [] refused.reading (subst (λ (g : Framing). can_name g.inside ≡ true) x.framing st.private_state.named) (refused.stays []).is_open refl
           (subst (λ (es : List EventValue). AreEqualJoined es (events refused.reading)) (sym (append-nil (yielded ++ more))) refused.all_events);
       stands = there;
     }

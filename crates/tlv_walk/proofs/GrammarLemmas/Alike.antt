@@ -4,7 +4,7 @@ use Rattle.tlv_head.specs.declared.header.Size.{Size}
 use Rattle.tlv_head.specs.declared.header.Size.TheVariants.{Definite, Indefinite}
 use Rattle.tlv_head.specs.Header.{HeaderValue, IsHeader, octets_of}
 use Rattle.tlv_head.specs.Shortest.{HaveOneTag, IsShortest}
-use Rattle.tlv_head.proofs.Shortest.{shortest_are_one}
+use Rattle.tlv_head.proofs.ShortestLemmas.Shortest.{shortest_are_one}
 use Rattle.tlv_walk.specs.Alike.{AreAlike, holders, nothing, padding, primitives}
 use Rattle.tlv_walk.specs.Forest.{Forest, Holder, NoMore, OpenBitString, OpenEndOctets, OpenHeader, OpenHolder, OpenPrimitive, PaddingOctet, Primitive, contents_length, end_octets, extent, lead, opening, spelling}
 use Rattle.tlv_walk.specs.Place.{Place, is_indefinite, place_after, place_of_children}

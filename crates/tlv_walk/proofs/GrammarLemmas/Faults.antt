@@ -5,10 +5,10 @@ use Rattle.tlv_head.specs.declared.fault.FaultCode.{FaultCode}
 use Rattle.tlv_head.specs.declared.fault.FaultCode.TheVariants.{StrayEnd}
 use Rattle.tlv_head.specs.Header.{HeaderValue, announced_length, holds, is_wrapper, octets_of}
 use Rattle.tlv_head.specs.Refusal.{IsRefusedOctet}
-use Rattle.tlv_head.proofs.Scan.{Origin, Scan, Fresh, High, Named, Long, Ready, Stuck, Over, moved, step, scan, scan-moved, more-from_front}
-use Rattle.tlv_head.proofs.Meaning.{ReadLogState, reads-step, reads-scan, front-bytes}
-use Rattle.tlv_head.proofs.Headers.{IsHeadRefusal, Explains, explains}
-use Rattle.tlv_head.proofs.Refused.{refused-stuck}
+use Rattle.tlv_head.proofs.GrammarLemmas.Scan.{Origin, Scan, Fresh, High, Named, Long, Ready, Stuck, Over, moved, step, scan, scan-moved, more-from_front}
+use Rattle.tlv_head.proofs.GrammarLemmas.Meaning.{IsStateAfter, reads-step, reads-scan, front-bytes}
+use Rattle.tlv_head.proofs.GrammarLemmas.Headers.{IsHeadRefusal, Explains, explains}
+use Rattle.tlv_head.proofs.GrammarLemmas.Refused.{refused-stuck}
 use Rattle.tlv_walk.specs.declared.framing.Framing.{Framing}
 use Rattle.tlv_walk.specs.Forest.{Forest, NoMore, OpenPrimitive, OpenBitString, OpenHeader, OpenEndOctets}
 use Rattle.tlv_walk.specs.Place.{Fits, IsHeaderAt, IsOpen, Place, top_place}
@@ -97,7 +97,7 @@ complete-blames p o x h room s octets = elim (cases_Bool (holds h && leb 128 p.d
 ]
 
 -- octets of a header, by what they say
-begin-blames : (p : Place) (o : List ℕ) (x : ℕ) (s : Scan) → (o ≡ [] → ⊥) → Fits p (length o + 1) → Explains s o x → ReadLogState (origin p) s (o ++ x ∷ [])
+begin-blames : (p : Place) (o : List ℕ) (x : ℕ) (s : Scan) → (o ≡ [] → ⊥) → Fits p (length o + 1) → Explains s o x → IsStateAfter (origin p) s (o ++ x ∷ [])
     → Blames p (OpenHeader o) x (refusal (begin p (o ++ x ∷ []) s))
 begin-blames p o x Fresh some below w r = tt
 begin-blames p o x (High c k ds) some below w r = tt
@@ -112,7 +112,7 @@ begin-blames p o x Over some below w r = absurd w
 header-blames : (p : Place) (o : List ℕ) (x : ℕ) → x < 256 → IsOpen p (OpenHeader o) → Blames p (OpenHeader o) x (refusal (push p (OpenHeader o) x))
 header-blames p o x h w =
     let at : Origin = origin p in
-    let now : ReadLogState at (scan at o) o = reads-scan at o (front-bytes o w.1) in
+    let now : IsStateAfter at (scan at o) o = reads-scan at o (front-bytes o w.1) in
     elim (cases_Bool (fits p (length o + 1))) [
       | inl f ↦ rw f
           (begin-blames p o x (step at (scan at o) x) w.0 (within-fits p.bound _ f)

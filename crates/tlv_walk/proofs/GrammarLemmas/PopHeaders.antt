@@ -6,7 +6,7 @@ use Rattle.tlv_head.specs.declared.header.Size.{Size}
 use Rattle.tlv_head.specs.declared.header.Size.TheVariants.{Definite, Indefinite}
 use Rattle.tlv_head.specs.Header.{HeaderValue, IsHeader, IsIdentifier, IsLength, announced_length, holds, octets_of}
 use Rattle.tlv_head.specs.Refusal.{IsFront}
-use Rattle.tlv_head.proofs.Scan.{Origin, Scan, Fresh, High, Named, Long, Ready, Stuck, Over, origin_of, scan, scan_from-append, scan-header, is_more, more-from_front}
+use Rattle.tlv_head.proofs.GrammarLemmas.Scan.{Origin, Scan, Fresh, High, Named, Long, Ready, Stuck, Over, origin_of, scan, scan_from-append, scan-header, is_more, more-from_front}
 use Rattle.tlv_walk.specs.Forest.{Forest, NoMore, OpenBitString, OpenHeader, lead, opening, spelling}
 use Rattle.tlv_walk.specs.Place.{Fits, IsEntry, IsHeaderAt, IsOpen, Place}
 use Rattle.tlv_walk.proofs.GrammarLemmas.Bounds.{fits-within, lead-zero, within-le}

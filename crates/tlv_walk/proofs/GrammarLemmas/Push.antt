@@ -3,11 +3,10 @@ use Rattle.std.proofs.Common.{◌≡◌, ◌≢◌, inl, inr, ℕ, ◌+◌, ◌<
 use Rattle.std.proofs.lemmas.Bool.{cases_eq, cases_Bool, and_parts, true≢false}
 use Rattle.tlv_head.specs.declared.header.Size.{Size}
 use Rattle.tlv_head.specs.declared.header.Size.TheVariants.{Definite, Indefinite}
-use Rattle.tlv_head.specs.Header.{HeaderValue, IsHeader, announced_length, holds, octets_of, wraps}
-use Rattle.tlv_head.specs.Private.Header.{AllowsSize}
+use Rattle.tlv_head.specs.Header.{AllowsSize, HeaderValue, IsHeader, announced_length, holds, octets_of, wraps}
 use Rattle.tlv_head.specs.Refusal.{IsFront}
-use Rattle.tlv_head.proofs.Scan.{Origin, Scan, Fresh, High, Named, Long, Ready, Stuck, Over, origin_of, step, scan, first-more}
-use Rattle.tlv_head.proofs.Meaning.{ReadLogState, reads-step, reads-scan, front-from_more, front-bytes}
+use Rattle.tlv_head.proofs.GrammarLemmas.Scan.{Origin, Scan, Fresh, High, Named, Long, Ready, Stuck, Over, origin_of, step, scan, first-more}
+use Rattle.tlv_head.proofs.GrammarLemmas.Meaning.{IsStateAfter, reads-step, reads-scan, front-from_more, front-bytes}
 use Rattle.tlv_walk.specs.Forest.{Forest, Holder, NoMore, OpenBitString, OpenEndOctets, OpenHeader, OpenHolder, OpenPrimitive, PaddingOctet, Primitive, contents_length, end_octets, extent, is_complete, lead, opening, spelling}
 use Rattle.tlv_walk.specs.Place.{Fits, IsEntry, IsHeaderAt, IsOpen, Place, place_after, place_of_children}
 use Rattle.tlv_walk.proofs.GrammarLemmas.Lengths.{LacksOctets}
@@ -141,7 +140,7 @@ front-sound : (p : Place) (o : List ℕ) → o ≢ [] → IsFront o → Fits p (
 front-sound p o some front f = record { is_open = (some, front, f); spelled = refl }
 
 -- octets of a header, by what they say
-begin-sound : (p : Place) (o : List ℕ) (s : Scan) → ReadLogState (origin p) s o → o ≢ [] → Fits p (length o) → IsStep p o (begin p o s)
+begin-sound : (p : Place) (o : List ℕ) (s : Scan) → IsStateAfter (origin p) s o → o ≢ [] → Fits p (length o) → IsStep p o (begin p o s)
 begin-sound p o Fresh r some f = absurd (some r)
 begin-sound p o (High c k ds) r some f = front-sound p o some (front-from_more (origin p) (High c k ds) o r some refl) f
 begin-sound p o (Named c k n i) r some f = front-sound p o some (front-from_more (origin p) (Named c k n i) o r some refl) f

@@ -4,7 +4,7 @@ use Rattle.std.proofs.Common.{◌≡◌, ◌≢◌, not, ℕ, ◌+◌, ◌*◌, 
 use Rattle.tlv_head.specs.declared.header.Size.{Size}
 use Rattle.tlv_head.specs.declared.header.Size.TheVariants.{Definite}
 use Rattle.tlv_head.specs.Header.{HeaderValue, IsHeader, is_wrapper, leading_octet, octets_of}
-use Rattle.tlv_head.proofs.Shortest.{identifier-some, lengths-some}
+use Rattle.tlv_head.proofs.ShortestLemmas.Shortest.{identifier-some, lengths-some}
 use Rattle.tlv_walk.specs.Alike.{AreAlike, HaveNoUniversalZero, holders, nothing, padding, primitives}
 use Rattle.tlv_walk.specs.Forest.{Forest, NoMore, PaddingOctet, Primitive, Holder, OpenPrimitive, OpenHolder, OpenBitString, OpenHeader, OpenEndOctets, end_octets, extent, lead, opening, spelling}
 use Rattle.tlv_walk.specs.Inside.{is_among}

@@ -6,12 +6,11 @@ use Rattle.std.specs.Prelude.{if◌then◌else◌}
 use Rattle.tlv_head.specs.declared.header.Class.{Class}
 use Rattle.tlv_head.specs.declared.header.Size.{Size}
 use Rattle.tlv_head.specs.declared.header.Size.TheVariants.{Definite, Indefinite}
-use Rattle.tlv_head.specs.Header.{HeaderValue, IsHeader, IsIdentifier, announced_length, is_universal, is_wrapper, leading_octet}
-use Rattle.tlv_head.specs.Private.Header.{AllowsSize}
+use Rattle.tlv_head.specs.Header.{AllowsSize, HeaderValue, IsHeader, IsIdentifier, announced_length, is_universal, is_wrapper, leading_octet}
 use Rattle.tlv_head.specs.Shortest.{IsShortest}
-use Rattle.tlv_head.proofs.LengthOctets.{FewLengths, few-lengths}
-use Rattle.tlv_head.proofs.Shortest.{identifier-le, identifier-some}
-use Rattle.tlv_head.proofs.ShortestSpelling.{ShortIdentifier, ShortLength, short-identifier}
+use Rattle.tlv_head.proofs.ShortestLemmas.LengthOctets.{FewLengths, few-lengths}
+use Rattle.tlv_head.proofs.ShortestLemmas.Shortest.{identifier-le, identifier-some}
+use Rattle.tlv_head.proofs.ShortestLemmas.ShortestSpelling.{ShortIdentifier, ShortLength, short-identifier}
 use Rattle.tlv_walk.specs.Forest.{end_octets}
 use Rattle.tlv_walk.specs.Inside.{is_among}
 use Rattle.tlv_walk.specs.Place.{is_indefinite}

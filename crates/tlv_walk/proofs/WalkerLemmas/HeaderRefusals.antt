@@ -2,15 +2,15 @@
 use Rattle.std.proofs.Common.{◌≡◌, ◌≢◌, inl, inr, ℕ, ◌+◌, ◌<◌, ◌≤◌, Bool, true, false, List, [], ◌∷◌, ◌++◌, length, Option, Some, None, refl, sym, ap, ◌∙◌, subst, arith, append-nil, length-append}
 use Rattle.tlv_head.specs.declared.fault.Fault.{Fault}
 use Rattle.tlv_head.specs.declared.fault.FaultCode.{FaultCode}
-use Rattle.tlv_head.specs.declared.fault.FaultCode.TheVariants.{TooDeep, Overrun}
 use Rattle.tlv_head.specs.declared.header.Class.{Class}
 use Rattle.tlv_head.specs.declared.header.Size.{Size}
 use Rattle.tlv_head.specs.declared.header.Size.TheVariants.{Definite, Indefinite}
 use Rattle.tlv_head.specs.Header.{HeaderValue, IsIdentifier, announced_length, holds, octets_of}
 use Rattle.tlv_head.specs.Refusal.{IsRefusedOctet, tag_too_long, reserved_length, indefinite_primitive, length_too_large}
 use Rattle.tlv_head.specs.HeadReaderState.{ContentsFit, HeadReaderState}
+use Rattle.tlv_head.specs.Push as push
 use Rattle.tlv_head.specs.Push.{Completes, IsRefusedPush}
-use Rattle.tlv_head.proofs.Front.{header-two}
+use Rattle.tlv_head.proofs.ReaderLemmas.Front.{header-two}
 use Rattle.tlv_walk.specs.Phase as phase
 use Rattle.tlv_walk.specs.Ending.{IsEnding, IsFault, fault_ending, no_room, overrun, refused_octet, too_deep}
 use Rattle.tlv_walk.specs.Forest.{OpenHeader}
@@ -52,11 +52,11 @@ refused-after o x code (length_too_large c k n i ds left id each octets few many
     omega (arith, ap length (sym e ∙ octets), length-append i ((128 + (length ds + left)) ∷ ds))
 
 -- so a refusal has octets before it, or no room
-pub refused-some : (code : FaultCode) (r : HeadReaderState) (x : ℕ) (room : Option ℕ) (depth : ℕ) → IsRefusedPush code r x room depth → room ≢ Some 0 → r.octets ≡ [] → ⊥
-refused-some Overrun r x room depth (inl none) some e = some none
-refused-some Overrun r x room depth (inr past) some e = completes-two r x past.1.header past.1.completes e
-refused-some TooDeep r x room depth k some e = completes-two r x k.1.header k.1.completes e
-refused-some code r x room depth k some e = refused-after r.octets x code k.1 e
+pub refused-some : (code : FaultCode) (r : HeadReaderState) (x : ℕ) (room : Option ℕ) (depth : ℕ) → IsRefusedPush r x room depth code → room ≢ Some 0 → r.octets ≡ [] → ⊥
+refused-some code r x room depth (push.no_room none) some e = some none
+refused-some code r x room depth (push.refused_octet left octet) some e = refused-after r.octets x code octet e
+refused-some code r x room depth (push.too_deep left h completes holding deep) some e = completes-two r x h completes e
+refused-some code r x room depth (push.overrun left h completes shallow past) some e = completes-two r x h completes e
 
 -- ---- what a reader refuses is a fault there
 
@@ -84,19 +84,18 @@ room_there : (p : Place) (q : HeadReaderState) (room : Option ℕ) (depth : ℕ)
 room_there p q room depth k some = left_some p.bound (p.at + length q.octets) (p.at + (length q.octets + 1)) (λ e. some (k.left ∙ e)) (omega arith)
 
 -- each cause of a reader is a line of the faults
-pub refused_fault : (p : Place) (q : HeadReaderState) (room : Option ℕ) (depth x : ℕ) (code : FaultCode) → IsReader p q room depth → IsRefusedPush code q x room depth → IsFault p x (OpenHeader q.octets) code
-refused_fault p q room depth x Overrun k (inl none) =
+pub refused_fault : (p : Place) (q : HeadReaderState) (room : Option ℕ) (depth x : ℕ) (code : FaultCode) → IsReader p q room depth → IsRefusedPush q x room depth code → IsFault p x (OpenHeader q.octets) code
+refused_fault p q room depth x code k (push.no_room none) =
     no_room (left_none p.bound (p.at + length q.octets) (p.at + (length q.octets + 1)) (sym k.left ∙ none) (omega arith))
-refused_fault p q room depth x Overrun k (inr past) =
-    let h : HeaderValue = past.1.header in
-    overrun (room_there p q room depth k past.0) h (header_there p q room depth x h (holds h) refl k past.1.completes) past.1.completes.octets
-    (λ e. subst (λ (n : ℕ). n < 128) k.depths (past.1.shallow e))
-    (past_bound h.size p.bound (p.at + length q.octets) _ (λ f. past.1.past (subst (ContentsFit h.size) (sym k.left) f))
-    (omega (arith, ap length past.1.completes.octets, length-append q.octets (x ∷ []))))
-refused_fault p q room depth x TooDeep k f =
-    too_deep (room_there p q room depth k f.0) f.1.header (header_there p q room depth x f.1.header true f.1.holding k f.1.completes) f.1.completes.octets
-    (subst (λ (n : ℕ). 128 ≤ n) k.depths f.1.deep)
-refused_fault p q room depth x code k f = refused_octet (room_there p q room depth k f.0) f.1
+refused_fault p q room depth x code k (push.refused_octet left octet) = refused_octet (room_there p q room depth k left) octet
+refused_fault p q room depth x code k (push.too_deep left h completes holding deep) =
+    too_deep (room_there p q room depth k left) h (header_there p q room depth x h true holding k completes) completes.octets
+    (subst (λ (n : ℕ). 128 ≤ n) k.depths deep)
+refused_fault p q room depth x code k (push.overrun left h completes shallow past) =
+    overrun (room_there p q room depth k left) h (header_there p q room depth x h (holds h) refl k completes) completes.octets
+    (λ e. subst (λ (n : ℕ). n < 128) k.depths (shallow e))
+    (past_bound h.size p.bound (p.at + length q.octets) _ (λ f. past (subst (ContentsFit h.size) (sym k.left) f))
+    (omega (arith, ap length completes.octets, length-append q.octets (x ∷ []))))
 
 -- ---- a walker refuses it
 
@@ -118,7 +117,7 @@ reader_there w b yielded s q depth e has d =
 -- the octet that its reader refuses
 pub refuses_header : (w u : WalkerState) (r q : HeadReaderState) (piece rest others : List ℕ) (x depth at : ℕ) (f : Fault) → HandsOver w u r → HasTaken r q piece rest → rest ≡ x ∷ others
     → IsWithin (bound_of u.stack) at → q.offset + length q.octets ≡ at → depth ≡ length u.stack
-    → (q.octets ≡ [] → room_to (bound_of u.stack) at ≢ Some 0) → IsRefusedPush f.code q x (room_to (bound_of u.stack) at) depth → f.offset ≡ q.offset + length q.octets
+    → (q.octets ≡ [] → room_to (bound_of u.stack) at ≢ Some 0) → IsRefusedPush q x (room_to (bound_of u.stack) at) depth f.code → f.offset ≡ q.offset + length q.octets
     → RefusesOctet w piece rest f
 refuses_header w u r q piece rest others x depth at f over k e within place deep room refused there =
     let some : q.octets ≡ [] → ⊥ = λ none. refused-some f.code q x _ depth refused (room none) none in record {
@@ -136,7 +135,7 @@ refuses_header w u r q piece rest others x depth at f over k e within place deep
           ap (λ (fs : List Frame). room_to (bound_of fs) at) same ∙ ap (room_to (bound_of w.stack)) (sym place) in
           let faulty : IsFault (place_of w.framing t.state) x (OpenHeader q.octets) f.code =
           refused_fault _ q _ depth x f.code (reader_there (in_header w q) (b ++ k.taken) yielded t.state q depth refl has' (deep ∙ ap length same))
-          (subst (λ (o : Option ℕ). IsRefusedPush f.code q x o depth) left refused) in record {
+          (subst (λ (o : Option ℕ). IsRefusedPush q x o depth f.code) left refused) in record {
             walker = in_header w q;
             state = with_tail t.state (InHeader q.octets);
             has_state = has';

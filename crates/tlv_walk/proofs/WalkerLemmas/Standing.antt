@@ -1,5 +1,5 @@
 -- What a step yields, of what a walker stands for.
-use Rattle.std.proofs.Common.{◌≡◌, ◌⊎◌, inl, inr, ℕ, ◌+◌, List, [], ◌∷◌, ◌++◌, length, refl, sym, ap, ◌∙◌, subst, arith, append-nil, length-append}
+use Rattle.std.proofs.Common.{◌≡◌, ◌⊎◌, inl, inr, ℕ, ◌+◌, true, List, [], ◌∷◌, ◌++◌, length, refl, sym, ap, ◌∙◌, subst, arith, append-nil, length-append}
 use Rattle.tlv_head.specs.declared.fault.Fault.{Fault}
 use Rattle.tlv_walk.specs.Stack.{Frame}
 use Rattle.tlv_walk.specs.declared.event.Event.{Event}
@@ -7,7 +7,7 @@ use Rattle.tlv_walk.specs.declared.event.Step.{Step}
 use Rattle.tlv_walk.specs.declared.event.Step.TheVariants as step
 use Rattle.tlv_walk.specs.declared.framing.Framing.{Framing}
 use Rattle.tlv_walk.specs.Events.{AreEqualJoined, EventValue, events}
-use Rattle.tlv_walk.specs.Inside.{CanName}
+use Rattle.tlv_walk.specs.Inside.{can_name}
 use Rattle.tlv_walk.specs.WalkerState.{HasNotRefused, HasOctets, WalkerState}
 use Rattle.tlv_walk.specs.Private.WalkerState.{CountsStep, Refuses, TakesAll, YieldsOne, wrappers_after}
 use Rattle.tlv_walk.specs.Phase.{Phase, Between, InHeader, InPrimitive, InBitString, InEndOctets, Refused}
@@ -49,7 +49,7 @@ stands_all old new piece rest es t = let k = t.continues in record {
   piece_is = t.piece_is;
   framing = k.framing;
   stands = λ b yielded st. let u = k.goes b yielded st.private_state.state st.private_state.has_state in
-      stands new (b ++ t.taken) (yielded ++ es) u.0 u.1 (subst (λ (f : Framing). CanName f.inside) (sym k.framing) st.private_state.named) (found_on old new yielded es k.framing st.private_state.found k.found);
+      stands new (b ++ t.taken) (yielded ++ es) u.0 u.1 (subst (λ (f : Framing). can_name f.inside ≡ true) (sym k.framing) st.private_state.named) (found_on old new yielded es k.framing st.private_state.found k.found);
 }
 
 -- the reading after which the octet is refused
@@ -79,7 +79,7 @@ refused_walker : (old new : WalkerState) (piece rest : List ℕ) (f : Fault) →
 refused_walker old new piece rest f k r b yielded st =
     let u = r.refuses b yielded st.private_state.state st.private_state.has_state in
     let framing : new.framing ≡ old.framing = k.framing in
-    let named : CanName new.framing.inside = subst (λ (g : Framing). CanName g.inside) (sym framing) st.private_state.named in
+    let named : can_name new.framing.inside ≡ true = subst (λ (g : Framing). can_name g.inside ≡ true) (sym framing) st.private_state.named in
     let there : IsRefusedAfter new.framing (b ++ r.taken) r.octet yielded f = refused_reading old new.framing piece rest f framing r b yielded st in
     let found : new.wrapper_count ≡ wrappers_after new.framing.inside 0 (wrapper_offsets yielded) = k.wrapper_count ∙ st.private_state.found ∙ ap (λ (g : Framing). wrappers_after g.inside 0 (wrapper_offsets yielded)) (sym framing) in
     record {
@@ -127,7 +127,7 @@ uses_up old new piece rest n k t =
       stands = λ b yielded st.
           let u = t.goes b yielded st.private_state.state st.private_state.has_state in
           subst (λ (es : List EventValue). Stands new (b ++ piece) es) (append-nil yielded)
-          (stands new (b ++ piece) (yielded ++ []) u.0 u.1 (subst (λ (f : Framing). CanName f.inside) (sym t.framing) st.private_state.named) (found_on old new yielded [] t.framing st.private_state.found t.found));
+          (stands new (b ++ piece) (yielded ++ []) u.0 u.1 (subst (λ (f : Framing). can_name f.inside ≡ true) (sym t.framing) st.private_state.named) (found_on old new yielded [] t.framing st.private_state.found t.found));
       ready = awaits-can_take new k.ready;
     }
 

@@ -16,7 +16,7 @@ use Rattle.tlv_walk.specs.Reading.{IsReading}
 use Rattle.tlv_walk.specs.Stands.{Stands, filled_ends, waiting_events, waiting_events_in}
 use Rattle.tlv_walk.specs.Private.Zipper.{AreLayers, AreWhole, InBitString, Between, HasZipper, InPrimitive, InEndOctets, InHeader, IsContents, IsPhaseOf, Layer, Tail, Zipper, events_of_layers, events_of_tail, events_of_zipper, frames_of, place_in, place_of, spelling_of_layers, spelling_of_tail, spelling_of_zipper, stack_of}
 use Rattle.tlv_walk.proofs.WalkerLemmas.ZipperWrappers.{wrappers_layers, wrappers_tail, wrappers_zipper}
-use Rattle.tlv_walk.specs.Inside.{CanName}
+use Rattle.tlv_walk.specs.Inside.{can_name}
 use Rattle.tlv_walk.specs.Wrappers.{wrapper_offsets, wrappers}
 use Rattle.tlv_walk.proofs.EventLemmas.Joined.{apart-before, apart-from_joined, joined-from_apart}
 use Rattle.tlv_walk.proofs.GrammarLemmas.Bounds.{within-le}
@@ -212,7 +212,7 @@ pub state-wrappers : (w : WalkerState) (b : List ℕ) (yielded : List EventValue
 state-wrappers w b yielded s h = reading-wrappers w.framing s.layers s.here s.tail h.layers h.here (phase-tail w.phase s.tail (place_of w.framing s) h.phase)
 
 -- a walker with a state stands for what was yielded and what was taken
-pub stands : (w : WalkerState) (b : List ℕ) (yielded : List EventValue) (s : Zipper) → HasZipper w b yielded s → CanName w.framing.inside → w.wrapper_count ≡ wrappers_after w.framing.inside 0 (wrapper_offsets yielded) → Stands w b yielded
+pub stands : (w : WalkerState) (b : List ℕ) (yielded : List EventValue) (s : Zipper) → HasZipper w b yielded s → can_name w.framing.inside ≡ true → w.wrapper_count ≡ wrappers_after w.framing.inside 0 (wrapper_offsets yielded) → Stands w b yielded
 stands w b yielded s h n k =
     record { reads = record { reading = reading_of s; is_reading = state-reading w b yielded s h; all_events = state-events w b yielded s h }; private_state = record { state = s; has_state = h; named = n; found = k } }
 

@@ -8,7 +8,7 @@ use Rattle.tlv_walk.specs.Phase.{Phase}
 use Rattle.tlv_walk.specs.Phase as phase
 use Rattle.tlv_walk.specs.Events.{AreEqualJoined, Begin, Bytes, Enter, EventValue, events, opening_events}
 use Rattle.tlv_walk.specs.Forest.{Forest, OpenBitString, OpenHeader, OpenEndOctets, has_element, is_complete, opening, spelling}
-use Rattle.tlv_walk.specs.Inside.{CanName, is_among}
+use Rattle.tlv_walk.specs.Inside.{can_name, is_among}
 use Rattle.tlv_walk.specs.WalkerState.{WalkerState}
 use Rattle.tlv_walk.specs.Private.WalkerState.{wrappers_after}
 use Rattle.tlv_walk.specs.Private.Stack.{frame_with}
@@ -150,5 +150,5 @@ pub record HasZipper (w : WalkerState) (b : List ℕ) (yielded : List EventValue
 pub record HasPrivateState (w : WalkerState) (b : List ℕ) (yielded : List EventValue) : Type 0 where
   pub state : Zipper
   pub has_state : HasZipper w b yielded state
-  pub named : CanName w.framing.inside
+  pub named : can_name w.framing.inside ≡ true
   pub found : w.wrapper_count ≡ wrappers_after w.framing.inside 0 (wrapper_offsets yielded)

@@ -3,8 +3,8 @@ use Rattle.std.proofs.lemmas.List.{take-append-drop, take_all, take_more}
 use Rattle.tlv_head.specs.Refusal.{BeginsWith}
 use Rattle.tlv_head.specs.HeaderFields.{header_with}
 use Rattle.tlv_head.specs.Private.NextOctet.{MakesHeader}
-use Rattle.tlv_head.proofs.Front.{around, begun_none, begun_part, made_begins, made_sized}
-use Rattle.tlv_head.proofs.Refused.{refused-with_none}
+use Rattle.tlv_head.proofs.ReaderLemmas.Front.{around, begun_none, begun_part, made_begins, made_sized}
+use Rattle.tlv_head.proofs.GrammarLemmas.Refused.{refused-with_none}
 use Rattle.tlv_head.proofs.header_at_once.read_header.Goals as goal
 
 pub returns-in-Finished : goal.returns-in-Finished
@@ -14,7 +14,7 @@ returns-in-Finished c =
     let octets = take (i + 1) xs in
     let made : MakesHeader c.in-Finished.identifier c.in-Finished.size octets =
     subst (MakesHeader c.in-Finished.identifier c.in-Finished.size) (sym (take_more xs i 0 (omega arith))) (c.in-Finished.ensures (take i xs) c.loop-i.invariant.carries) in
-    rw c.fields_of.ensures (record {
+    rw c.header_fields.ensures (record {
       within = omega arith;
       sized = made_sized octets _ c.in-Finished.identifier c.in-Finished.size made refl;
       begins = subst (λ s. BeginsWith s c.args.offset c.args.named (header_with (record { offset = c.args.offset; named = c.args.named; class = c.in-Finished.identifier.class; constructed = c.in-Finished.identifier.constructed; number = c.in-Finished.identifier.number; size = c.in-Finished.size; id_len = c.in-Finished.identifier.octets }) octets))

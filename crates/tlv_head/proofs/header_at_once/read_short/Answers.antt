@@ -1,6 +1,6 @@
 use Rattle.std.proofs.Common.{rules}
-use Rattle.tlv_head.proofs.Front.{begins_short}
-use Rattle.tlv_head.proofs.ShortFronts.{no-short_identifier, no-short_length}
+use Rattle.tlv_head.proofs.ReaderLemmas.Front.{begins_short}
+use Rattle.tlv_head.proofs.ReaderLemmas.ShortFronts.{no-short_identifier, no-short_length}
 use Rattle.tlv_head.proofs.header_at_once.read_short.Goals as goal
 
 pub returns-in_err-identifier-clause-begins : goal.returns-in_err-identifier-clause-begins
@@ -12,5 +12,5 @@ returns-in_err-size-clause-begins c =
 
 pub returns-clause-begins : goal.returns-clause-begins
 returns-clause-begins c =
-    rw c.fields_of.ensures (begins_short c.args.octets.now c.args.offset c.args.named c.in_ok-identifier.identifier c.in_ok-size.size c.from-before.result c.in_ok-size.count
+    rw c.header_fields.ensures (begins_short c.args.octets.now c.args.offset c.args.named c.in_ok-identifier.identifier c.in_ok-size.size c.from-before.result c.in_ok-size.count
     (search rules) (search rules) (search rules))

@@ -1,11 +1,12 @@
 use Rattle.std.proofs.lemmas.Grind.{common_steps}
 use Rattle.std.proofs.Common.{rules, ◌∷◌, [], get_or, arith}
 use Rattle.tlv_head.specs.HeaderSoFar.{CarriesNumber}
-use Rattle.tlv_head.proofs.ShortFronts.{always-unfinished, goes-on, leads-on, no-other, no-third, still-high, IsUnended}
+use Rattle.tlv_head.proofs.ReaderLemmas.ShortFronts.{always-unfinished, goes-on, leads-on, no-other, no-third}
+use Rattle.tlv_head.proofs.ReaderLemmas.ShortFronts.{still-high, IsUnended}
 use Rattle.tlv_head.proofs.header_at_once.short_identifier.Goals as goal
 
 pub returns-in_default : goal.returns-in_default
-returns-in_default c = absurd (leads-on c.leading.result _ c.leading.ensures c.in_default.not-Length c.in_default.not-Number)
+returns-in_default c = absurd (leads-on c.first_identifier.result _ c.first_identifier.ensures c.in_default.not-Length c.in_default.not-Number)
 
 pub returns-in_default-next_number : goal.returns-in_default-next_number
 returns-in_default-next_number c =

@@ -1,6 +1,6 @@
 use Rattle.std.proofs.Common.{refl}
 use Rattle.tlv_head.specs.Header.{octets_of}
-use Rattle.tlv_head.proofs.Headers.{front-no_header}
+use Rattle.tlv_head.proofs.GrammarLemmas.Headers.{front-no_header}
 use Rattle.tlv_head.proofs.laws.headers_are_no_fronts.Goals as goal
 
 pub returns : goal.returns

@@ -1,4 +1,4 @@
-use Rattle.tlv_head.proofs.Shortest.{shortest_are_shortest}
+use Rattle.tlv_head.proofs.ShortestLemmas.Shortest.{shortest_are_shortest}
 use Rattle.tlv_head.proofs.laws.no_shorter_header.Goals as goal
 
 pub returns : goal.returns

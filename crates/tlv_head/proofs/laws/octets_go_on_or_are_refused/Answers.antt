@@ -1,4 +1,4 @@
-use Rattle.tlv_head.proofs.Headers.{classified, next}
+use Rattle.tlv_head.proofs.GrammarLemmas.Headers.{classified, next}
 use Rattle.tlv_head.proofs.laws.octets_go_on_or_are_refused.Goals as goal
 
 pub returns : goal.returns

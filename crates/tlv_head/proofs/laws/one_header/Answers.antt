@@ -1,6 +1,6 @@
 use Rattle.std.proofs.Common.{◌≡◌, sym, ◌∙◌}
-use Rattle.tlv_head.proofs.Scan.{origin_of}
-use Rattle.tlv_head.proofs.Headers.{one-header}
+use Rattle.tlv_head.proofs.GrammarLemmas.Scan.{origin_of}
+use Rattle.tlv_head.proofs.GrammarLemmas.Headers.{one-header}
 use Rattle.tlv_head.proofs.laws.one_header.Goals as goal
 
 pub returns : goal.returns

@@ -1,4 +1,4 @@
-use Rattle.tlv_head.proofs.OneReading.{one-reading}
+use Rattle.tlv_head.proofs.ReaderLemmas.OneReading.{one-reading}
 use Rattle.tlv_head.proofs.laws.one_reading.Goals as goal
 
 pub returns : goal.returns

@@ -1,4 +1,4 @@
-use Rattle.tlv_head.proofs.ShortestSpelling.{shortest-there}
+use Rattle.tlv_head.proofs.ShortestLemmas.ShortestSpelling.{shortest-there}
 use Rattle.tlv_head.proofs.laws.some_shortest_header.Goals as goal
 
 pub returns : goal.returns

@@ -1,5 +1,5 @@
 use Rattle.std.proofs.Common.{arith, rules}
-use Rattle.tlv_head.proofs.Steps.{all_ones, begins_length, unallowed}
+use Rattle.tlv_head.proofs.ReaderLemmas.Steps.{all_ones, begins_length, unallowed}
 use Rattle.tlv_head.proofs.next_octet.first_length.Goals as goal
 
 pub returns-then-octet-gt128 : goal.returns-then-octet-gt128

@@ -1,5 +1,5 @@
 use Rattle.std.proofs.Common.{arith, ◌<◌, ◌^◌, rules}
-use Rattle.tlv_head.proofs.Steps.{length-lt, more_length, ends_length, too_large}
+use Rattle.tlv_head.proofs.ReaderLemmas.Steps.{length-lt, more_length, ends_length, too_large}
 use Rattle.tlv_head.proofs.next_octet.next_length.Goals as goal
 
 pub overflow_mul-length : goal.overflow_mul-length

@@ -1,6 +1,6 @@
 use Rattle.std.proofs.Common.{arith, ◌<◌, ◌^◌, rules}
 use Rattle.std.proofs.lemmas.Grind.{and_numeral}
-use Rattle.tlv_head.proofs.Steps.{number-lt, more_number, ends_number, ninth_number}
+use Rattle.tlv_head.proofs.ReaderLemmas.Steps.{number-lt, more_number, ends_number, ninth_number}
 use Rattle.tlv_head.proofs.next_octet.next_number.Goals as goal
 
 pub overflow_mul-identifier : goal.overflow_mul-identifier

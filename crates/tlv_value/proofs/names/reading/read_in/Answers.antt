@@ -8,4 +8,4 @@ returns-in_err-octets g c =
     (unread _ _ _ c.in_err-octets.ensures)
 
 pub returns : goal.returns
-returns g c = judged _ _ _ _ c.in_ok-octets.ensures (rw c.as_slice.ensures.value at c.table_of.ensures)
+returns g c = judged _ _ _ _ c.in_ok-octets.ensures (rw c.as_slice.ensures.value at c.names_of.ensures)

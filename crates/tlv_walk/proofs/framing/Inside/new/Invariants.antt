@@ -1,5 +1,5 @@
 use Rattle.std.proofs.Common.{◌≡◌, ◌≤◌, length, take, drop}
-use Rattle.tlv_walk.specs.Inside.{AreRising}
+use Rattle.tlv_walk.proofs.EventLemmas.Named.{AreRising}
 use Rattle.tlv_walk.proofs.framing.Inside.new.Given as goal
 
 abbrev pub invariant-loop-offset : goal.invariant-loop-offset

@@ -1,5 +1,5 @@
 use Rattle.std.proofs.Common.{ℕ, ◌+◌, List, length, ap}
-use Rattle.tlv_head.proofs.FieldsOf.{made_again}
+use Rattle.tlv_head.proofs.ReaderLemmas.FieldsOf.{made_again}
 use Rattle.tlv_walk.specs.declared.event.HeaderKind.TheVariants as kind
 use Rattle.tlv_walk.proofs.WalkerLemmas.HeaderSteps.{yields_header}
 use Rattle.tlv_walk.proofs.walker.Walker.enter_slowly.Goals as goal

@@ -1,6 +1,6 @@
-use Rattle.std.proofs.Common.{◌≡◌, inl, ℕ, ◌+◌, ◌≤◌, get_or, [], length, Option, sym, ap, ◌∙◌, subst, arith, rules}
+use Rattle.std.proofs.Common.{◌≡◌, inl, ℕ, ◌+◌, ◌≤◌, get_or, [], ◌∷◌, length, length-append, Option, sym, ap, ◌∙◌, subst, arith, rules}
 use Rattle.tlv_head.specs.HeadReaderState.{HeadReaderState}
-use Rattle.tlv_head.specs.Push.{FitsThere, IsRefusedPush}
+use Rattle.tlv_head.specs.Push.{FitsThere, IsRefusedPush, more, refused, whole}
 use Rattle.tlv_walk.specs.WalkerState.{WalkerState}
 use Rattle.tlv_walk.specs.Private.ReadsOn.{HandsOver}
 use Rattle.tlv_walk.specs.Stack.{IsWithin, bound_of}
@@ -13,49 +13,54 @@ use Rattle.tlv_walk.proofs.walker.Walker.read_on.Goals as goal
 
 pub loop-piece-preserved : goal.loop-piece-preserved
 loop-piece-preserved c =
-    let a = c.in-More.ensures.pushes in
     let first = first_octet c.loop-piece.piece.now c.in-len1-up.len_at_least in
-    record {
-      same = c.loop-piece.invariant.same;
-      unfinished = ap (λ (r : HeadReaderState). r.done) a.2;
-      start = ap (λ (r : HeadReaderState). r.offset) a.2 ∙ c.loop-piece.invariant.start;
-      place = pushed_place c.loop-piece.reader _ _ _ a.2 c.loop-piece.invariant.place;
-      taken = omega (arith, ap length first, c.loop-piece.invariant.taken);
-      within = within_next c.bound-bound.result c.loop-piece.offset c.loop-piece.invariant.within (λ e. a.0 (c.room_to.ensures ∙ e));
-      read = taken_more _ _ _ _ _ _ _ c.loop-piece.invariant.read first a.1 a.2;
-      first = inl (pushed_some c.loop-piece.reader _ _ a.2);
-    }
+    elim c.in-More.ensures.pushes [
+      | more some front same ↦ record {
+        same = c.loop-piece.invariant.same;
+        unfinished = ap (λ (r : HeadReaderState). r.done) same;
+        start = ap (λ (r : HeadReaderState). r.offset) same ∙ c.loop-piece.invariant.start;
+        place = pushed_place c.loop-piece.reader _ _ _ same c.loop-piece.invariant.place;
+        taken = omega (arith, ap length first, c.loop-piece.invariant.taken);
+        within = within_next c.bound-bound.result c.loop-piece.offset c.loop-piece.invariant.within (λ e. some (c.room_to.ensures ∙ e));
+        read = taken_more _ _ _ _ _ _ _ c.loop-piece.invariant.read first front same;
+        first = inl (pushed_some c.loop-piece.reader _ _ same);
+      }
+    ]
 
 pub enter_slowly-requires-clause-enter : goal.enter_slowly-requires-clause-enter
 enter_slowly-requires-clause-enter c =
-    let a = c.in-Whole.ensures.pushes in
     let i = c.loop-piece.invariant in
     let same = c.self.view_is ∙ sym i.same in
     let room : c.room_to.result ≡ room_to (bound_of c.loop-piece.self.stack) c.loop-piece.offset =
     c.room_to.ensures ∙ ap (λ (b : Option ℕ). room_to b c.loop-piece.offset) (c.bound-bound.ensures ∙ ap (λ (m : WalkerState). bound_of m.stack) same) in
-    whole_enters c.loop-piece.self c.loop-piece.reader _ c.len-depth.result c.loop-piece.offset c.in-Whole.header
-    (subst (λ (m : WalkerState). m.events + length m.stack ≤ c.loop-piece.reader.offset) (sym i.same) (omega (arith, c.requires.read.fewer, i.start))) i.place
-    (omega (arith, c.requires.limit, i.taken, c.in-len1-up.len_at_least)) (c.len-depth.ensures.value ∙ ap (λ (m : WalkerState). length m.stack) same) a.0
-    (subst (λ (o : Option ℕ). FitsThere c.in-Whole.header o c.len-depth.result) room a.1)
+    elim c.in-Whole.ensures.pushes [
+      | whole header completes there done ↦ whole_enters c.loop-piece.self c.loop-piece.reader _ c.len-depth.result c.loop-piece.offset c.in-Whole.header
+          (subst (λ (m : WalkerState). m.events + length m.stack ≤ c.loop-piece.reader.offset) (sym i.same) (omega (arith, c.requires.read.fewer, i.start))) i.place
+          (omega (arith, c.requires.limit, i.taken, c.in-len1-up.len_at_least)) (c.len-depth.ensures.value ∙ ap (λ (m : WalkerState). length m.stack) same) completes
+          (subst (λ (o : Option ℕ). FitsThere c.in-Whole.header o c.len-depth.result) room there)
+    ]
 
 pub returns-in-Whole-clause-yields : goal.returns-in-Whole-clause-yields
 returns-in-Whole-clause-yields c = λ w over.
     let over' : HandsOver w c.loop-piece.self c.args.reader = subst (λ (m : WalkerState). HandsOver w m c.args.reader) (sym c.loop-piece.invariant.same) over in
-    whole_yields w c.loop-piece.self c.enter_slowly.new.self c.args.reader c.loop-piece.reader _ c.loop-piece.piece.now _ _ c.in-Whole.header (event_value c.enter_slowly.result) over'
-    c.loop-piece.invariant.read (first_octet c.loop-piece.piece.now c.in-len1-up.len_at_least) c.in-Whole.ensures.pushes.0 c.enter_slowly.ensures.enters
+    elim c.in-Whole.ensures.pushes [
+      | whole header completes there done ↦ whole_yields w c.loop-piece.self c.enter_slowly.new.self c.args.reader c.loop-piece.reader _ c.loop-piece.piece.now _ _ c.in-Whole.header (event_value c.enter_slowly.result) over'
+          c.loop-piece.invariant.read (first_octet c.loop-piece.piece.now c.in-len1-up.len_at_least) completes c.enter_slowly.ensures.enters
+    ]
 
 pub returns-in-Refused-clause-yields : goal.returns-in-Refused-clause-yields
 returns-in-Refused-clause-yields c = λ w over.
-    let a = c.in-Refused.ensures.pushes in
     let i = c.loop-piece.invariant in
     let x : ℕ = get_or c.loop-piece.piece.now 0 0 in
     let bound : c.bound-bound.result ≡ bound_of c.args.self.now.stack = c.bound-bound.ensures ∙ ap (λ (m : WalkerState). bound_of m.stack) c.self.view_is in
     let left : room_to c.bound-bound.result c.loop-piece.offset ≡ room_to (bound_of c.args.self.now.stack) c.loop-piece.offset = ap (λ (b : Option ℕ). room_to b c.loop-piece.offset) bound in
-    inl (refuses_header w c.args.self.now c.args.reader c.loop-piece.reader c.args.piece.now.now c.loop-piece.piece.now _ x c.len-depth.result c.loop-piece.offset c.in-Refused.fault over i.read
-    (first_octet c.loop-piece.piece.now c.in-len1-up.len_at_least) (subst (λ (b : Option ℕ). IsWithin b c.loop-piece.offset) bound i.within) i.place
-    (c.len-depth.ensures.value ∙ ap (λ (m : WalkerState). length m.stack) c.self.view_is)
-    (λ none e. give_room c.loop-piece.reader.octets c.loop-piece.piece.now (room_to c.bound-bound.result c.loop-piece.offset) i.first none (left ∙ e))
-    (subst (λ (o : Option ℕ). IsRefusedPush c.in-Refused.fault.code c.loop-piece.reader x o c.len-depth.result) (c.room_to.ensures ∙ left) a.0) a.1)
+    elim c.in-Refused.ensures.pushes [
+      | refused fault cause there same ↦ inl (refuses_header w c.args.self.now c.args.reader c.loop-piece.reader c.args.piece.now.now c.loop-piece.piece.now _ x c.len-depth.result c.loop-piece.offset c.in-Refused.fault over i.read
+          (first_octet c.loop-piece.piece.now c.in-len1-up.len_at_least) (subst (λ (b : Option ℕ). IsWithin b c.loop-piece.offset) bound i.within) i.place
+          (c.len-depth.ensures.value ∙ ap (λ (m : WalkerState). length m.stack) c.self.view_is)
+          (λ none e. give_room c.loop-piece.reader.octets c.loop-piece.piece.now (room_to c.bound-bound.result c.loop-piece.offset) i.first none (left ∙ e))
+          (subst (λ (o : Option ℕ). IsRefusedPush c.loop-piece.reader x o c.len-depth.result c.in-Refused.fault.code) (c.room_to.ensures ∙ left) cause) there)
+    ]
 
 pub returns-clause-yields : goal.returns-clause-yields
 returns-clause-yields c = λ w over.
@@ -69,3 +74,21 @@ returns-clause-yields c = λ w over.
 
 pub returns-in-Refused-clause-steps : goal.returns-in-Refused-clause-steps
 returns-in-Refused-clause-steps c = search rules
+
+pub returns-in-Whole-clause-steps : goal.returns-in-Whole-clause-steps
+returns-in-Whole-clause-steps c =
+    let i = c.loop-piece.invariant in
+    let e = c.enter_slowly.ensures in
+    let x : ℕ = get_or c.loop-piece.piece.now 0 0 in
+    let first = first_octet c.loop-piece.piece.now c.in-len1-up.len_at_least in
+    elim c.in-Whole.ensures.pushes [
+      | whole header completes there done ↦ (
+        record {
+          taken = omega (arith, e.yields.offset, completes.offset, ap length completes.octets, length-append c.loop-piece.reader.octets (x ∷ []), i.place, i.taken, ap length first);
+          events = e.yields.events ∙ ap (λ (m : WalkerState). m.events + 1) i.same;
+          within = e.yields.within;
+          after_event = e.yields.after_event;
+        },
+        e.octets,
+      )
+    ]

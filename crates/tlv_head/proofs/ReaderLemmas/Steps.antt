@@ -1,0 +1,168 @@
+-- What each octet makes of what a reader carries.
+use Rattle.std.proofs.Common.{◌≡◌, ◌≢◌, ℕ, suc, Bool, false, ◌+◌, ◌*◌, ◌^◌, ◌-◌, ◌<◌, ◌≤◌, ◌⊎◌, inl, inr, List, [], ◌∷◌}
+use Rattle.std.proofs.Common.{◌++◌, length, refl, sym, arith, length-append, append_assoc, subst, lit<}
+use Rattle.std.proofs.lemmas.Bool.{cases_lt}
+use Rattle.std.proofs.lemmas.List.{length-map, map_push}
+use Rattle.std.proofs.lemmas.List.Elements.{All-nil, All-push}
+use Rattle.std.proofs.Math.Nat.{pow-suc, pow-le-pow_right, one-le-pow}
+use Rattle.tlv_head.specs.Header.{IsIdentifier, value_of}
+use Rattle.tlv_head.specs.Refusal.{IsRefusedOctet, tag_too_long, reserved_length, indefinite_primitive}
+use Rattle.tlv_head.specs.Refusal.{length_too_large}
+use Rattle.tlv_head.specs.declared.fault.FaultCode.TheVariants.{TagTooLong, ReservedLength, IndefinitePrimitive}
+use Rattle.tlv_head.specs.declared.fault.FaultCode.TheVariants.{LengthTooLarge}
+use Rattle.tlv_head.specs.HeaderSoFar.{CarriesNumber, CarriesIdentifier, CarriesLength}
+use Rattle.tlv_head.specs.Private.NextOctet.{MakesHeader}
+use Rattle.tlv_head.specs.declared.header.Size.TheVariants.{Definite}
+use Rattle.tlv_head.specs.declared.next_octet.Identifier.{Identifier}
+use Rattle.tlv_head.proofs.NumberLemmas.Digits.{value_of-snoc, value_of-lt}
+use Rattle.tlv_head.proofs.GrammarLemmas.Meaning.{allows_definite}
+
+-- the limit on a length so far, as an octet is added and one fewer is to follow
+small-step : (n x left : ℕ) → 1 ≤ left → n < 256 ^ (5 - left) → x < 256 → (x ≡ 0) ⊎ (left - 1 < 5) → n * 256 + x < 256 ^ (5 - (left - 1))
+small-step n x left some small below h = elim (cases_lt (left - 1) 5) [
+  | inl k ↦
+      let e : 5 - (left - 1) ≡ suc (5 - left) = omega arith in
+      rw (e, pow-suc 256 (5 - left)) (omega arith)
+  | inr k ↦
+      let e : 5 - (left - 1) ≡ 0 = omega arith in
+      let e2 : 5 - left ≡ 0 = omega arith in
+      let s : n < 256 ^ 0 = subst (λ m. n < 256 ^ m) e2 small in
+      let z : x ≡ 0 = elim h as (λ _. x ≡ 0) [ inl p ↦ p | inr q ↦ omega arith ] in
+      rw e (omega arith)
+]
+
+-- a length so far, of which octets are still to follow, is below 2 ^ 32
+pub length-lt : (n left : ℕ) → 1 ≤ left → n < 256 ^ (5 - left) → n < 2 ^ 32
+length-lt n left some small =
+    let k : 5 - left ≤ 4 = omega arith in
+    let p : 256 ^ (5 - left) ≤ 256 ^ 4 = pow-le-pow_right {n = 256} (lit< tt) k in
+    omega arith
+
+pub number-lt : (id : Identifier) (octets : List ℕ) → CarriesNumber id octets → id.number < 2 ^ 56
+number-lt id octets h =
+    let v : value_of 128 h.digits < 128 ^ length h.digits = value_of-lt 128 h.digits (lit< tt) h.front.each in
+    let p : 128 ^ length h.digits ≤ 128 ^ 8 = pow-le-pow_right {n = 128} (lit< tt) h.few in
+    omega (arith, h.value)
+
+-- one more octet after a front
+front-snoc : (i ds os : List ℕ) (a b x : ℕ) → os ≡ i ++ a ∷ ds → b ≡ a → os ++ x ∷ [] ≡ i ++ (b ∷ (ds ++ x ∷ []))
+front-snoc i ds os a b x e f = rw (e, f) (append_assoc i (a ∷ ds) (x ∷ []))
+
+pub begins_length : (id : Identifier) (octets : List ℕ) (x : ℕ) → CarriesIdentifier id octets → 128 < x → x < 255 → CarriesLength id 0 (x - 128) (octets ++ x ∷ [])
+begins_length id octets x h low high = record {
+  identifier = octets;
+  digits = [];
+  front = record {
+    identified = h.identified;
+    each = All-nil (λ d. d < 256);
+    some = omega arith;
+    few = omega arith;
+    octets_are = (let e : 128 + (0 + (x - 128)) ≡ x = omega arith in rw e refl);
+  };
+  count = h.count;
+  few = h.few;
+  value = refl;
+  small = one-le-pow (5 - (x - 128)) 256 (lit< tt);
+}
+
+pub more_length : (id : Identifier) (n left x r : ℕ) (octets : List ℕ) → CarriesLength id n left octets → r ≡ x → x < 256
+    → (x ≡ 0) ⊎ (left - 1 < 5) → left - 1 ≢ 0 → CarriesLength id (n * 256 + r) (left - 1) (octets ++ x ∷ [])
+more_length id n left x r octets h e below zero_or_few rest =
+    let some : 1 ≤ left = h.front.some in
+    let len : length (h.digits ++ x ∷ []) ≡ length h.digits + 1 = omega (arith, length-append h.digits (x ∷ [])) in
+    let few : length h.digits + left ≤ 126 = h.front.few in
+    record {
+      identifier = h.identifier;
+      digits = h.digits ++ x ∷ [];
+      front = record {
+        identified = h.front.identified;
+        each = All-push (λ d. d < 256) h.digits x h.front.each below;
+        some = omega arith;
+        few = omega arith;
+        octets_are = front-snoc _ _ _ _ _ _ h.front.octets_are (omega arith);
+      };
+      count = h.count;
+      few = h.few;
+      value = rw (e, h.value) (sym (value_of-snoc 256 h.digits x));
+      small = rw e (small-step n x left some h.small below zero_or_few);
+    }
+
+pub ends_length : (id : Identifier) (n left x r : ℕ) (octets : List ℕ) → CarriesLength id n left octets → r ≡ x → x < 256
+    → (x ≡ 0) ⊎ (left - 1 < 5) → left - 1 ≡ 0 → MakesHeader id (Definite (n * 256 + r)) (octets ++ x ∷ [])
+ends_length id n left x r octets h e below zero_or_few rest =
+    let some : 1 ≤ left = h.front.some in
+    let len : length (h.digits ++ x ∷ []) ≡ length h.digits + 1 = omega (arith, length-append h.digits (x ∷ [])) in
+    let few : length h.digits + left ≤ 126 = h.front.few in
+    let one : left ≡ 1 = omega arith in
+    let small : n < 256 ^ (5 - 1) = subst (λ m. n < 256 ^ (5 - m)) one h.small in
+    record {
+      identifier = h.identifier;
+      lengths = (128 + length (h.digits ++ x ∷ [])) ∷ (h.digits ++ x ∷ []);
+      identified = record { identified = h.front.identified; count = h.count; few = h.few };
+      sized = inr (record {
+        digits = h.digits ++ x ∷ [];
+        each = All-push (λ d. d < 256) h.digits x h.front.each below;
+        some = omega arith;
+        few = omega arith;
+        value = rw (e, h.value) (sym (value_of-snoc 256 h.digits x));
+        limit = omega arith;
+        octets_are = refl;
+      });
+      few = omega arith;
+      some = omega arith;
+      allowed = allows_definite id.constructed (n * 256 + r);
+      octets_are = front-snoc _ _ _ _ _ _ h.front.octets_are (omega arith);
+    }
+
+pub more_number : (id : Identifier) (x r : ℕ) (octets : List ℕ) → CarriesNumber id octets → x ≡ 128 + r → r < 128 → id.octets < 9
+    → CarriesNumber (record { class = id.class; constructed = id.constructed; number = id.number * 128 + r; octets = id.octets + 1 }) (octets ++ x ∷ [])
+more_number id x r octets h e below few =
+    let len : length (h.digits ++ r ∷ []) ≡ length h.digits + 1 = omega (arith, length-append h.digits (r ∷ [])) in
+    let count : id.octets ≡ length h.digits + 1 = h.count in
+    record {
+      digits = h.digits ++ r ∷ [];
+      front = record {
+        each = All-push (λ d. d < 128) h.digits r h.front.each below;
+        octets_are = rw (h.front.octets_are, e, map_push (λ d. 128 + d) h.digits r) refl;
+      };
+      count = omega arith;
+      few = omega arith;
+      value = rw h.value (sym (value_of-snoc 128 h.digits r));
+    }
+
+pub ends_number : (id : Identifier) (x r : ℕ) (octets : List ℕ) → CarriesNumber id octets → r ≡ x → x < 128
+    → CarriesIdentifier (record { class = id.class; constructed = id.constructed; number = id.number * 128 + r; octets = id.octets + 1 }) (octets ++ x ∷ [])
+ends_number id x r octets h e below =
+    let count : id.octets ≡ length h.digits + 1 = h.count in
+    let size : length octets ≡ length h.digits + 1 = rw h.front.octets_are (omega (arith, length-map h.digits (λ d. 128 + d))) in
+    let few : length h.digits ≤ 8 = h.few in
+    record {
+      identified = inr (record {
+        digits = h.digits;
+        last = x;
+        each = h.front.each;
+        last_digit = below;
+        few = h.few;
+        value = rw (e, h.value) (sym (value_of-snoc 128 h.digits x));
+        octets_are = rw h.front.octets_are refl;
+      });
+      count = omega (arith, length-append octets (x ∷ []));
+      few = omega (arith, length-append octets (x ∷ []));
+    }
+
+-- a ninth subsequent identifier octet that is not the last
+pub ninth_number : (id : Identifier) (octets : List ℕ) (x : ℕ) → CarriesNumber id octets → 9 ≤ id.octets → 128 ≤ x → IsRefusedOctet octets x TagTooLong
+ninth_number id octets x h many flag = tag_too_long id.class id.constructed h.digits h.front.each (omega (arith, h.few, h.count)) h.front.octets_are flag
+
+-- a first length octet ff
+pub all_ones : (id : Identifier) (octets : List ℕ) (x : ℕ) → CarriesIdentifier id octets → x ≡ 255 → IsRefusedOctet octets x ReservedLength
+all_ones id octets x h e = reserved_length id.class id.constructed id.number h.identified e
+
+-- a first length octet 80 of a primitive
+pub unallowed : (id : Identifier) (octets : List ℕ) (x : ℕ) → CarriesIdentifier id octets → id.constructed ≡ false → x ≡ 128 → IsRefusedOctet octets x IndefinitePrimitive
+unallowed id octets x h form e = indefinite_primitive id.class id.number (subst (λ (k : Bool). IsIdentifier id.class k id.number octets) form h.identified) e
+
+-- a length octet that makes the length too large
+pub too_large : (id : Identifier) (n left : ℕ) (octets : List ℕ) (x : ℕ) → CarriesLength id n left octets → 6 ≤ left → x ≢ 0 → IsRefusedOctet octets x LengthTooLarge
+too_large id n left octets x h many nonzero =
+    length_too_large id.class id.constructed id.number h.identifier h.digits left h.front.identified h.front.each h.front.octets_are h.front.few many nonzero

@@ -1,0 +1,138 @@
+-- What a reader carries can become a header.
+use Rattle.std.proofs.Common.{◌≡◌, ◌≢◌, ℕ, suc, zero, Bool, true, false, ◌||◌, ◌+◌, ◌*◌, ◌-◌, ◌<◌, ◌≤◌, inl, inr, List}
+use Rattle.std.proofs.Common.{[], ◌∷◌, ◌++◌, length, Option, Some, refl, ap, sym, ◌∙◌, arith, length-append}
+use Rattle.std.proofs.Common.{append_assoc, lit<, take, drop}
+use Rattle.std.proofs.lemmas.Bool.{cases_eq}
+use Rattle.tlv_head.specs.Header.{HeaderValue, IsHeader, is_wrapper}
+use Rattle.tlv_head.specs.HeadReaderState.{ContentsFit, HeadReaderState}
+use Rattle.tlv_head.specs.Refusal.{IsFront}
+use Rattle.tlv_head.specs.Push.{Completes, IsRefusedPush, overrun, too_deep}
+use Rattle.tlv_head.specs.HeaderSoFar.{Carries, CarriesNumber, CarriesIdentifier, CarriesLength, is_done}
+use Rattle.tlv_head.specs.Private.NextOctet.{MakesHeader}
+use Rattle.tlv_head.specs.declared.fault.FaultCode.TheVariants.{TooDeep, Overrun}
+use Rattle.tlv_head.specs.declared.header.Size.{Size}
+use Rattle.tlv_head.specs.declared.header.Size.TheVariants.{Definite}
+use Rattle.tlv_head.specs.declared.next_octet.Identifier.{Identifier}
+use Rattle.tlv_head.specs.declared.next_octet.Part.{Part}
+use Rattle.tlv_head.specs.declared.next_octet.Part.TheVariants.{Start, Number, Length, Digits, Done}
+use Rattle.std.proofs.lemmas.List.{length-map}
+use Rattle.std.proofs.Math.Seq.{drop-append_seam, take-append_seam}
+use Rattle.tlv_head.proofs.ReaderLemmas.Steps.{ends_number, ends_length, more_length}
+use Rattle.tlv_head.proofs.GrammarLemmas.Meaning.{allows_definite}
+
+pub length-carried : (p : Part) (os : List ℕ) → Carries p os → length os ≤ 136
+length-carried Start os h = rw h (omega arith)
+length-carried (Number id) os h =
+    let few : length h.digits ≤ 8 = h.few in
+    rw h.front.octets_are (omega (arith, length-map h.digits (λ d. 128 + d)))
+length-carried (Length id) os h = let few : length os ≤ 10 = h.few in omega arith
+length-carried (Digits id n left) os h =
+    let few : length h.identifier ≤ 10 = h.few in
+    let some : 1 ≤ left = h.front.some in
+    let most : length h.digits + left ≤ 126 = h.front.few in
+    rw h.front.octets_are (omega (arith, length-append h.identifier ((128 + (length h.digits + left)) ∷ h.digits)))
+length-carried Done os h = rw h (omega arith)
+
+-- the header that is made
+abbrev pub made : (at : ℕ) (named : Bool) (id : Identifier) (size : Size) (os : List ℕ) → MakesHeader id size os → HeaderValue
+made at named id size os m = record {
+  offset = at;
+  named = named;
+  class = id.class;
+  constructed = id.constructed;
+  number = id.number;
+  size = size;
+  identifier = m.identifier;
+  lengths = m.lengths;
+}
+
+made-valid : (at : ℕ) (named : Bool) (id : Identifier) (size : Size) (os : List ℕ) (m : MakesHeader id size os) → IsHeader (made at named id size os m)
+made-valid at named id size os m = record { identifier = m.identified.identified; lengths = m.sized; allowed = m.allowed }
+
+made_completes : (r : HeadReaderState) (id : Identifier) (size : Size) (os : List ℕ) (x : ℕ) (m : MakesHeader id size (os ++ x ∷ [])) → os ≡ r.octets
+    → Completes r x (made r.offset r.named id size (os ++ x ∷ []) m)
+made_completes r id size os x m e = record {
+  valid = made-valid r.offset r.named id size _ m;
+  offset = refl;
+  named = refl;
+  octets = sym m.octets_are ∙ ap (λ s. s ++ x ∷ []) e;
+}
+
+pub made_too_deep : (r : HeadReaderState) (id : Identifier) (size : Size) (os : List ℕ) (x depth : ℕ) (room : Option ℕ) → room ≢ Some 0 → MakesHeader id size (os ++ x ∷ []) → os ≡ r.octets
+    → (id.constructed || is_wrapper r.named id.class id.constructed id.number size) ≡ true → 128 ≤ depth → IsRefusedPush r x room depth TooDeep
+made_too_deep r id size os x depth room n m e c low = too_deep n (made r.offset r.named id size (os ++ x ∷ []) m) (made_completes r id size os x m e) c low
+
+pub made_overrun : (r : HeadReaderState) (id : Identifier) (size : Size) (os : List ℕ) (x depth : ℕ) (room : Option ℕ) → room ≢ Some 0 → MakesHeader id size (os ++ x ∷ []) → os ≡ r.octets
+    → ((id.constructed || is_wrapper r.named id.class id.constructed id.number size) ≡ true → depth < 128) → (ContentsFit size room → ⊥) → IsRefusedPush r x room depth Overrun
+made_overrun r id size os x depth room n m e c past = overrun n (made r.offset r.named id size (os ++ x ∷ []) m) (made_completes r id size os x m e) c past
+
+-- the octets that make a header, cut after its identifier
+pub made_whole : (r : HeadReaderState) (id : Identifier) (size : Size) (os : List ℕ) (x : ℕ) (m : MakesHeader id size (os ++ x ∷ [])) → os ≡ r.octets
+    → Completes r x (record {
+      offset = r.offset;
+      named = r.named;
+      class = id.class;
+      constructed = id.constructed;
+      number = id.number;
+      size = size;
+      identifier = take id.octets (os ++ x ∷ []);
+      lengths = drop id.octets (os ++ x ∷ []);
+    })
+made_whole r id size os x m e =
+    let count : id.octets ≡ length m.identifier = m.identified.count in
+    rw (m.octets_are, count, take-append_seam m.identifier m.lengths, drop-append_seam m.identifier m.lengths) (made_completes r id size os x m e)
+
+cons≢nil : (x : ℕ) (xs : List ℕ) → x ∷ xs ≢ []
+cons≢nil x xs e = cc
+
+-- octets are the front of a header if they are with a zero after them
+zero_after : (os : List ℕ) → IsFront (os ++ 0 ∷ []) → IsFront os
+zero_after os u = record {
+  header = u.header;
+  more = 0 ∷ u.more;
+  valid = u.valid;
+  proper = cons≢nil 0 u.more;
+  front = sym (append_assoc os (0 ∷ []) u.more) ∙ u.front;
+}
+
+zero_ends : (id : Identifier) (size : Size) (os : List ℕ) → MakesHeader id size (os ++ 0 ∷ []) → IsFront os
+zero_ends id size os m = record {
+  header = made 0 false id size _ m;
+  more = 0 ∷ [];
+  valid = made-valid 0 false id size _ m;
+  proper = cons≢nil 0 [];
+  front = m.octets_are;
+}
+
+pub unfinished_identifier : (id : Identifier) (os : List ℕ) → CarriesIdentifier id os → IsFront os
+unfinished_identifier id os h = zero_ends id (Definite 0) os (record {
+  identifier = os;
+  lengths = 0 ∷ [];
+  identified = h;
+  sized = inl (lit< tt, refl);
+  few = omega arith;
+  some = omega arith;
+  allowed = allows_definite id.constructed 0;
+  octets_are = refl;
+})
+
+pub unfinished_number : (id : Identifier) (os : List ℕ) → CarriesNumber id os → IsFront os
+unfinished_number id os h = zero_after os (unfinished_identifier _ _ (ends_number id 0 0 os h refl (lit< tt)))
+
+pub unfinished_length : (k : ℕ) (id : Identifier) (n left : ℕ) (os : List ℕ) → left ≤ k → CarriesLength id n left os → IsFront os
+unfinished_length zero id n left os below h = let some : 1 ≤ left = h.front.some in absurd (omega arith)
+unfinished_length (suc k) id n left os below h = elim (cases_eq (left - 1) 0) [
+  | inl e ↦ zero_ends id (Definite (n * 256 + 0)) os (ends_length id n left 0 0 os h refl (lit< tt) (inl refl) e)
+  | inr e ↦ zero_after os (unfinished_length k id (n * 256 + 0) (left - 1) _ (omega arith) (more_length id n left 0 0 os h refl (lit< tt) (inl refl) e))
+]
+
+snoc≢nil : (os : List ℕ) (x : ℕ) → os ++ x ∷ [] ≢ []
+snoc≢nil [] x e = cc
+snoc≢nil (y ∷ os) x e = cc
+
+pub unfinished_part : (p : Part) (os : List ℕ) (x : ℕ) → Carries p (os ++ x ∷ []) → IsFront (os ++ x ∷ []) × (is_done p ≡ false)
+unfinished_part Start os x h = absurd (snoc≢nil os x h)
+unfinished_part (Number id) os x h = (unfinished_number id _ h, refl)
+unfinished_part (Length id) os x h = (unfinished_identifier id _ h, refl)
+unfinished_part (Digits id n left) os x h = (unfinished_length left id n left _ (omega arith) h, refl)
+unfinished_part Done os x h = absurd (snoc≢nil os x h)

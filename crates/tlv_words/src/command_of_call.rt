@@ -1,0 +1,181 @@
+//! The command that the words of a command line ask for.
+ghost use Rattle.std.specs.Prelude.{◌≡◌, IfErr, IfOk, IfSome, Ok, is_some, true};
+ghost use Rattle.clap.specs.Words.{first_of, subcommand_rows_of};
+ghost use Rattle.tlv_words.specs.CommandOf.{AreReadAs, IsUsageFaultOf, check_command, dump_command, extract_command};
+ghost use Rattle.tlv_words.specs.CommandOf.{framing_value, has_flag, indef_command, matched_command};
+ghost use Rattle.tlv_words.specs.Private.CommandOf.{IsFaultFor, Returns, matched_rows};
+ghost use Rattle.tlv_words.specs.Private.Values.{text_in};
+
+use crate::parser::tlvdump_parser;
+use crate::usage::UsageFault;
+use crate::values::{inside_value, limit_value, offset_value, rules_value};
+use crate::words::Words;
+use clap::ArgMatches;
+use clap::error::ErrorKind;
+use std::alloc::Global;
+use tlv_run::{Command, Text};
+use tlv_show::{Options, Rules};
+use tlv_walk::Framing;
+
+/// The command that the words ask for.
+///
+/// # Errors
+///
+/// `Parser` if `clap` does not take the words, or they ask for help or for the version. `Value` if it takes them, with
+/// the first option whose text is no value, in the order rules, limit, offset, inside. `Memory` if memory is refused.
+pub fn command_of(alloc: Global, words: &Words) -> Result<Command, UsageFault>
+    ensures ok { IfOk result (λ command. AreReadAs words.now (Ok command)) }
+    ensures err { IfErr result (IsUsageFaultOf words.now) }
+{
+    let Ok(parser) = tlvdump_parser(alloc) else {
+        return Err(UsageFault::Memory);
+    };
+    match parser.try_get_matches_from(words.as_slice()) {
+        Ok(matches) => matched_command(alloc, &matches),
+        Err(error) => Err(usage_fault(error)),
+    }
+}
+
+/// The fault for an error of `clap`.
+fn usage_fault(error: clap::Error) -> UsageFault
+    ensures { IsFaultFor error result }
+{
+    if error.kind() == ErrorKind::OutOfMemory {
+        UsageFault::Memory
+    } else {
+        UsageFault::Parser(error)
+    }
+}
+
+/// The command of the subcommand that `clap` matches.
+fn matched_command(alloc: Global, matches: &ArgMatches<'_>) -> Result<Command, UsageFault>
+    requires { is_some (subcommand_rows_of matches.now) ≡ true }
+    ensures { IfSome (subcommand_rows_of matches.now)
+        (λ found. Returns (matched_command found) result) }
+{
+    let Some((name, found)) = matches.subcommand() else {
+        unreachable!();
+    };
+    match name {
+        "dump" => dump_command(alloc, found),
+        "check" => check_command(alloc, found),
+        "extract" => extract_command(alloc, found),
+        _ => indef_command(alloc, found),
+    }
+}
+
+fn dump_command(alloc: Global, matches: &ArgMatches<'_>) -> Result<Command, UsageFault>
+    ensures { Returns (dump_command (matched_rows matches.now)) result }
+{
+    let Some(rules) = rules_value(Rules::Ber, first_of(matches, "rules")) else {
+        return Err(UsageFault::Value("--rules"));
+    };
+    let Some(limit) = limit_value(first_of(matches, "limit")) else {
+        return Err(UsageFault::Value("--limit"));
+    };
+    let Some(framing) = framing_value(matches) else {
+        return Err(UsageFault::Value("--inside"));
+    };
+    let options = Options {
+        rules,
+        limit,
+        pure: has_flag(matches, "pure"),
+        framing,
+    };
+    let names = owned_text(alloc, matches, "names")?;
+    let file = owned_text(alloc, matches, "file")?;
+    Ok(Command::Dump {
+        options,
+        names,
+        file,
+    })
+}
+
+fn check_command(alloc: Global, matches: &ArgMatches<'_>) -> Result<Command, UsageFault>
+    ensures { Returns (check_command (matched_rows matches.now)) result }
+{
+    let Some(rules) = rules_value(Rules::Der, first_of(matches, "rules")) else {
+        return Err(UsageFault::Value("--rules"));
+    };
+    let Some(framing) = framing_value(matches) else {
+        return Err(UsageFault::Value("--inside"));
+    };
+    let file = owned_text(alloc, matches, "file")?;
+    Ok(Command::Check {
+        rules,
+        framing,
+        file,
+    })
+}
+
+fn extract_command(alloc: Global, matches: &ArgMatches<'_>) -> Result<Command, UsageFault>
+    ensures { Returns (extract_command (matched_rows matches.now)) result }
+{
+    let Some(offset) = offset_value(first_of(matches, "offset")) else {
+        return Err(UsageFault::Value("--offset"));
+    };
+    let Some(framing) = framing_value(matches) else {
+        return Err(UsageFault::Value("--inside"));
+    };
+    let file = owned_text(alloc, matches, "file")?;
+    Ok(Command::Extract {
+        offset,
+        contents: has_flag(matches, "contents"),
+        framing,
+        file,
+    })
+}
+
+fn indef_command(alloc: Global, matches: &ArgMatches<'_>) -> Result<Command, UsageFault>
+    ensures { Returns (indef_command (matched_rows matches.now)) result }
+{
+    let padding = has_flag(matches, "padding");
+    let file = owned_text(alloc, matches, "file")?;
+    Ok(Command::Indef { padding, file })
+}
+
+/// The framing that `--inside` and `--padding` ask for, if the text of `--inside` is a value.
+fn framing_value(matches: &ArgMatches<'_>) -> Option<Framing>
+    ensures { result ≡ framing_value (matched_rows matches.now) }
+{
+    let inside = inside_value(first_of(matches, "inside"))?;
+    Some(Framing {
+        inside,
+        padding: has_flag(matches, "padding"),
+    })
+}
+
+/// The first text of an option, or the file's name.
+fn first_of<'a>(matches: &ArgMatches<'a>, name: &str) -> Option<&'a str>
+    ensures { text_in result ≡ first_of name.now (matched_rows matches.now) }
+{
+    matches.get_str(name)
+}
+
+/// A copy of the first text of an option, or of the file's name.
+fn owned_text(
+    alloc: Global,
+    matches: &ArgMatches<'_>,
+    name: &str,
+) -> Result<Option<Text>, UsageFault>
+    ensures ok { IfOk result (λ text. text ≡ first_of name.now (matched_rows matches.now)) }
+    ensures err { IfErr result (λ fault. fault ≡ UsageFault.Memory) }
+{
+    let Some(text) = first_of(matches, name) else {
+        return Ok(None);
+    };
+    match Text::new(alloc, text) {
+        Ok(text) => Ok(Some(text)),
+        Err(_) => Err(UsageFault::Memory),
+    }
+}
+
+/// Whether the flag was given.
+fn has_flag(matches: &ArgMatches<'_>, name: &str) -> bool
+    ensures { result ≡ has_flag name.now (matched_rows matches.now) }
+{
+    match first_of(matches, name) {
+        Some(text) => text == "true",
+        None => false,
+    }
+}
