@@ -43,14 +43,14 @@ SecondIndefIsTheFirst =
 abbrev pub RunsAreResults : Type 0
 RunsAreResults =
     (command : Command) (names : Table) (octets : List ℕ)
-    (old new : SourceState) (old_drain new_drain : DrainState) (report : ReportValue)
+    (old new : SourceState) (from to : DrainState) (report : ReportValue)
     → AreOctets octets → length octets ≤ 2 ^ 40 → old.left ≡ Some octets
     → old.failures < 2 ^ 64 - 1 → new.failures ≡ old.failures
-    → old_drain.failures < 2 ^ 64 - 1 → new_drain.failures ≡ old_drain.failures
-    → RunsAndReports (command_job command names) old new old_drain new_drain report
+    → from.failures < 2 ^ 64 - 1 → to.failures ≡ from.failures
+    → RunsAndReports (command_job command names) old new from to report
     → (made : CommandResult)
     × IsResultOf command names octets made
-    × Appends old_drain.octets new_drain.octets made.output
+    × Appends from.octets to.octets made.output
     × (report ≡ made.report)
 
 -- if no element is asked for, or it is not whole, the status 2 says just that the input is no sound list of encodings

@@ -7,8 +7,8 @@ use Rattle.tlv_run.specs.Report.{ReportValue, device_report}
 
 -- a job was done over a source and a drain, and this is reported in the end: of the input, or of the device that failed
 pub record RunsAndReports (job : Job ReportValue)
-    (old new : SourceState) (old_drain new_drain : DrainState) (report : ReportValue)
+    (old new : SourceState) (from to : DrainState) (report : ReportValue)
     : Type 0 where
   pub result : Result ReportValue DeviceFault
-  pub runs : Runs job old new old_drain new_drain result
+  pub runs : Runs job old new from to result
   pub report_is : MatchResult result (λ of_input. report ≡ of_input) (λ fault. report ≡ device_report fault)
