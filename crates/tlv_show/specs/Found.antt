@@ -3,11 +3,11 @@ use Rattle.std.specs.Prelude.{ℕ, Bool, List, eqb, slice_index, codes}
 use Rattle.std.specs.List.{filter, list_any}
 use Rattle.tlv_head.specs.Header.{HeaderValue}
 use Rattle.tlv_value.specs.declared.finding.Finding.{Finding}
-use Rattle.tlv_value.specs.Checks.{findings_by, contents_conditions}
+use Rattle.tlv_value.specs.Checks.{contents_conditions, findings_by}
 use Rattle.tlv_value.specs.Finding.{finding_wording}
 use Rattle.tlv_show.specs.declared.rules.Rules.{Rules}
 use Rattle.tlv_show.specs.declared.rules.Rules.TheVariants.{Ber, Der, Cer}
-use Rattle.tlv_show.specs.Conditions.{header_conditions, Segments, Surroundings, end_conditions}
+use Rattle.tlv_show.specs.Conditions.{Segments, Surroundings, end_conditions, header_conditions}
 
 -- the letters of the codes: B is of all encodings, S of those by DER and those by CER, D and C of one of them
 abbrev pub letters : Rules → List ℕ

@@ -15,7 +15,7 @@ use Rattle.tlv_show.specs.FinderState.{surroundings_in}
 use Rattle.tlv_show.specs.Found.{header_findings, is_shown, shown_findings}
 use Rattle.tlv_show.specs.Site.{Site}
 
--- a frame knows a site
+-- a frame says to the conditions what the site says
 abbrev pub Knows : SiblingFrame → Site → Type 0
 Knows w s = surroundings_in w ≡ surroundings_of s
 
