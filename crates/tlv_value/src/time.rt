@@ -10,10 +10,10 @@ ghost use Rattle.tlv_value.specs.Times.{canonical_clock, canonical_fraction, can
 pub fn utc_ok(contents: &[u8]) -> bool
     ensures { result ≡ has_form utc_time_form contents.now }
 {
-    let Some(rest) = to_utc_minute(contents) else {
+    let Some(rest) = after_utc_minute(contents) else {
         return false;
     };
-    match two_digits(rest, 0, 60) {
+    match after_two_digits(rest, 0, 60) {
         Some(after) => is_utc_zone(after) || is_utc_zone(rest),
         None => is_utc_zone(rest),
     }
@@ -23,7 +23,7 @@ pub fn utc_ok(contents: &[u8]) -> bool
 pub fn utc_canonical(contents: &[u8]) -> bool
     ensures { result ≡ has_form canonical_utc_time_form contents.now }
 {
-    match to_canonical_second(contents) {
+    match after_canonical_second(contents) {
         Some(rest) => is_zulu(rest),
         None => false,
     }
@@ -35,10 +35,10 @@ pub fn utc_canonical(contents: &[u8]) -> bool
 pub fn general_ok(contents: &[u8]) -> bool
     ensures { result ≡ has_form generalized_time_form contents.now }
 {
-    let Some(rest) = to_general_hour(contents) else {
+    let Some(rest) = after_general_hour(contents) else {
         return false;
     };
-    match two_digits(rest, 0, 59) {
+    match after_two_digits(rest, 0, 59) {
         Some(after) => is_second_and_tail(after) || is_tail(rest),
         None => is_tail(rest),
     }
@@ -49,10 +49,10 @@ pub fn general_ok(contents: &[u8]) -> bool
 pub fn general_canonical(contents: &[u8]) -> bool
     ensures { result ≡ has_form canonical_generalized_time_form contents.now }
 {
-    let Some(rest) = two_digits(contents, 0, 99) else {
+    let Some(rest) = after_two_digits(contents, 0, 99) else {
         return false;
     };
-    let Some(rest) = to_canonical_second(rest) else {
+    let Some(rest) = after_canonical_second(rest) else {
         return false;
     };
     match after_mark(rest, b'.') {
@@ -61,43 +61,43 @@ pub fn general_canonical(contents: &[u8]) -> bool
     }
 }
 
-/// `YYMMDDhhmm`.
-fn to_utc_minute(octets: &[u8]) -> Option<&[u8]>
+/// What is after `YYMMDDhhmm`.
+fn after_utc_minute(octets: &[u8]) -> Option<&[u8]>
     ensures { option_to_list (option_copied result) ≡ utc_minute octets.now }
 {
-    let rest = two_digits(octets, 0, 99)?;
-    let rest = to_day(rest)?;
-    let rest = two_digits(rest, 0, 24)?;
-    two_digits(rest, 0, 59)
+    let rest = after_two_digits(octets, 0, 99)?;
+    let rest = after_day(rest)?;
+    let rest = after_two_digits(rest, 0, 24)?;
+    after_two_digits(rest, 0, 59)
 }
 
-/// `YYYYMMDDhh`.
-fn to_general_hour(octets: &[u8]) -> Option<&[u8]>
+/// What is after `YYYYMMDDhh`.
+fn after_general_hour(octets: &[u8]) -> Option<&[u8]>
     ensures { option_to_list (option_copied result) ≡ general_hour octets.now }
 {
-    let rest = two_digits(octets, 0, 99)?;
-    let rest = two_digits(rest, 0, 99)?;
-    let rest = to_day(rest)?;
-    two_digits(rest, 0, 24)
+    let rest = after_two_digits(octets, 0, 99)?;
+    let rest = after_two_digits(rest, 0, 99)?;
+    let rest = after_day(rest)?;
+    after_two_digits(rest, 0, 24)
 }
 
-/// `YYMMDDhhmmss`, with an hour of at most 23.
-fn to_canonical_second(octets: &[u8]) -> Option<&[u8]>
+/// What is after `YYMMDDhhmmss`, with an hour of at most 23.
+fn after_canonical_second(octets: &[u8]) -> Option<&[u8]>
     ensures { option_to_list (option_copied result) ≡ canonical_second octets.now }
 {
-    let rest = two_digits(octets, 0, 99)?;
-    let rest = to_day(rest)?;
-    let rest = two_digits(rest, 0, 23)?;
-    let rest = two_digits(rest, 0, 59)?;
-    two_digits(rest, 0, 60)
+    let rest = after_two_digits(octets, 0, 99)?;
+    let rest = after_day(rest)?;
+    let rest = after_two_digits(rest, 0, 23)?;
+    let rest = after_two_digits(rest, 0, 59)?;
+    after_two_digits(rest, 0, 60)
 }
 
-/// `MMDD`.
-fn to_day(octets: &[u8]) -> Option<&[u8]>
+/// What is after `MMDD`.
+fn after_day(octets: &[u8]) -> Option<&[u8]>
     ensures { option_to_list (option_copied result) ≡ day octets.now }
 {
-    let rest = two_digits(octets, 1, 12)?;
-    two_digits(rest, 1, 31)
+    let rest = after_two_digits(octets, 1, 12)?;
+    after_two_digits(rest, 1, 31)
 }
 
 /// `Z`, `+hhmm` or `-hhmm`, and no more.
@@ -122,7 +122,7 @@ fn is_second_and_tail(octets: &[u8]) -> bool
     ensures { result
         ≡ has_form (maybe second then maybe fraction then maybe general_zone) octets.now }
 {
-    match two_digits(octets, 0, 60) {
+    match after_two_digits(octets, 0, 60) {
         Some(after) => is_tail(after) || is_tail(octets),
         None => is_tail(octets),
     }
@@ -184,7 +184,7 @@ fn is_canonical_fraction(octets: &[u8]) -> bool
 fn is_minute(octets: &[u8]) -> bool
     ensures { result ≡ has_form minute octets.now }
 {
-    matches!(two_digits(octets, 0, 59), Some([]))
+    matches!(after_two_digits(octets, 0, 59), Some([]))
 }
 
 /// `Z`, and no more.
@@ -199,7 +199,7 @@ fn after_difference(octets: &[u8]) -> Option<&[u8]>
     ensures { option_to_list (option_copied result) ≡ (sign then hour) octets.now }
 {
     match octets {
-        [b'+' | b'-', rest @ ..] => two_digits(rest, 0, 24),
+        [b'+' | b'-', rest @ ..] => after_two_digits(rest, 0, 24),
         _ => None,
     }
 }
@@ -214,9 +214,9 @@ fn after_mark(octets: &[u8], octet: u8) -> Option<&[u8]>
     }
 }
 
-/// Two digits of a number from `low` to `high`.
+/// What is after two digits of a number from `low` to `high`.
 #[inline(always)]
-fn two_digits(octets: &[u8], low: u8, high: u8) -> Option<&[u8]>
+fn after_two_digits(octets: &[u8], low: u8, high: u8) -> Option<&[u8]>
     ensures { option_to_list (option_copied result) ≡ two low high octets.now }
 {
     let [tens @ b'0'..=b'9', ones @ b'0'..=b'9', rest @ ..] = octets else {

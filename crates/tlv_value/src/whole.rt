@@ -5,9 +5,9 @@ ghost use Rattle.tlv_head.specs.Header.{announced_length};
 ghost use Rattle.tlv_io.specs.Out.{Puts};
 ghost use Rattle.tlv_value.specs.Cuts.{row_size};
 ghost use Rattle.tlv_value.specs.Kind.{kind_of};
-ghost use Rattle.tlv_value.specs.Value.{is_long, long_text, row_octets};
 ghost use Rattle.tlv_value.specs.Private.PrimitiveLines.{lines_in_steps, new_text_of, primitive_line};
 ghost use Rattle.tlv_value.specs.Rows.{rows_of};
+ghost use Rattle.tlv_value.specs.Value.{is_long, long_text, row_octets};
 ghost use Rattle.tlv_value.specs.ValueLines.{row_lines, whole_lines};
 
 use crate::kind::Kind;

@@ -7,8 +7,8 @@ ghost use Rattle.tlv_value.specs.Layout.{line, no_columns, row_line};
 ghost use Rattle.tlv_value.specs.OpenRow.{IsOpenRow};
 ghost use Rattle.tlv_value.specs.Private.Rows.{full_line, full_lines, row_indent_of};
 ghost use Rattle.tlv_value.specs.Rows.{full_rows, open_row, rows_of};
-ghost use Rattle.tlv_value.specs.ValueLines.{row_lines};
 ghost use Rattle.tlv_value.specs.Value.{row_text};
+ghost use Rattle.tlv_value.specs.ValueLines.{row_lines};
 
 use crate::Layout;
 use crate::kind::Kind;
