@@ -33,7 +33,7 @@ use Rattle.tlv_run.proofs.Results.{Stays, one_made, settled_stays, stays_for, te
 use Rattle.tlv_run.specs.declared.command.Command.{Command}
 use Rattle.tlv_run.specs.Private.MemoryDevices.{ending_source_state, failing_source_state, or_failed, room_state}
 use Rattle.tlv_run.specs.Octets.{IsReport, MakesResultOf, RunsOctets, broken, ended, settled, too_long}
-use Rattle.tlv_run.specs.Report.{ReportValue, device_report, report_at_end}
+use Rattle.tlv_run.specs.Report.{ReportValue, device_report, report_of}
 use Rattle.tlv_run.specs.Results.{CommandResult, IsSettled, MakesResult, command_job, command_result}
 use Rattle.tlv_run.specs.Runs.{RunsAndReports, device_states}
 
@@ -247,7 +247,7 @@ module _ (job : Job ReportValue) (stays : Stays job)
         front_and_rest written x.sends.sent x.sends.left (job.text x.reading) on.0 one.0.output sent x.sends.front text in
         short one.0 (x.sends.left ++ on.0) one.1 output (more_left x.sends.left on.0 x.sends.not_all) (full (x.sends.failures ∙ ap next_count unfailed ∙ one_failure))
 
-    run_in : (result : Result ReportValue DeviceFault) → Runs job old new from to result → Comes (report_at_end result)
+    run_in : (result : Result ReportValue DeviceFault) → Runs job old new from to result → Comes (report_of (λ (of_input : ReportValue). of_input) result)
     run_in (Ok report) x = run_ok report x
     run_in (Err ReadFailed) x = run_broken x
     run_in (Err WriteFailed) x = run_short x

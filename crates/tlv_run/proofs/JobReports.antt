@@ -6,8 +6,7 @@ use Rattle.tlv_walk.specs.declared.run.DeviceFault.TheVariants.{ReadFailed, Writ
 use Rattle.tlv_io.specs.Device.{DrainState, SourceState, octets_given}
 use Rattle.tlv_walk.specs.Job.{Job, Runs, WantMore, read_failed, too_long, write_failed}
 use Rattle.tlv_walk.proofs.FollowerLemmas.Enough.{comes_to, returns}
-use Rattle.tlv_run.specs.Private.Reports.{report_of}
-use Rattle.tlv_run.specs.Report.{ReportValue}
+use Rattle.tlv_run.specs.Report.{ReportValue, report_of}
 use Rattle.tlv_run.specs.Results.{job_with_report}
 use Rattle.tlv_run.specs.Runs.{RunsAndReports, device_states}
 

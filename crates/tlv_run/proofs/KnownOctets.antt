@@ -15,7 +15,7 @@ use Rattle.tlv_walk.specs.Reading.{AreOctets}
 use Rattle.tlv_run.proofs.InMemory.{at_end, left_of}
 use Rattle.tlv_run.proofs.Results.{Stays, limit_is, settled_stays, stays_for}
 use Rattle.tlv_run.specs.Laws.{RunsAreResults}
-use Rattle.tlv_run.specs.Report.{ReportValue, report_at_end}
+use Rattle.tlv_run.specs.Report.{ReportValue, report_of}
 use Rattle.tlv_run.specs.Results.{CommandResult, IsSettled, MakesResult, command_job, command_result}
 
 -- a count below its end goes on
@@ -55,7 +55,7 @@ module _ (job : Job ReportValue) (stays : Stays job) (octets : List ℕ) (all : 
       ]
 
   gives : old.failures < 2 ^ 64 - 1 → new.failures ≡ old.failures → from.failures < 2 ^ 64 - 1 → to.failures ≡ from.failures
-      → (result : Result ReportValue DeviceFault) → Runs job old new from to result → Gives (report_at_end result)
+      → (result : Result ReportValue DeviceFault) → Runs job old new from to result → Gives (report_of (λ (of_input : ReportValue). of_input) result)
   gives old_few quiet from_few took (Ok report) x = gives_ok report x
   gives old_few quiet from_few took (Err ReadFailed) x = absurd (goes_up old.failures old_few (sym x.failures ∙ quiet))
   gives old_few quiet from_few took (Err WriteFailed) x = absurd (goes_up from.failures from_few (sym x.sends.failures ∙ took))

@@ -1,2 +1,1 @@
 pub mod MemoryDevices
-pub mod Reports

@@ -76,10 +76,10 @@ device_report ReadFailed = report_with 3 (codes "E1 read failed")
 device_report WriteFailed = report_with 3 (codes "E2 write failed")
 device_report InputTooLong = report_with 3 (codes "E3 input too long")
 
--- what is reported in the end: of the input, or of the device that failed
-abbrev pub report_at_end : Result ReportValue DeviceFault → ReportValue
-report_at_end (Ok of_input) = of_input
-report_at_end (Err fault) = device_report fault
+-- what is reported of a result, or of the device that failed
+abbrev pub report_of : {A : Type 0} → (A → ReportValue) → Result A DeviceFault → ReportValue
+report_of say (Ok a) = say a
+report_of say (Err fault) = device_report fault
 
 -- the file to read does not open
 abbrev pub unopened_report : ReportValue

@@ -3,7 +3,7 @@ use Rattle.std.specs.Prelude.{◌≡◌, Result}
 use Rattle.tlv_io.specs.Device.{DrainState, SourceState}
 use Rattle.tlv_walk.specs.Job.{Job, Runs}
 use Rattle.tlv_walk.specs.declared.run.DeviceFault.{DeviceFault}
-use Rattle.tlv_run.specs.Report.{ReportValue, report_at_end}
+use Rattle.tlv_run.specs.Report.{ReportValue, report_of}
 
 -- the devices of a run, as they are before it or after it: what the source and the drain show of themselves
 pub record DeviceStates : Type 0 where
@@ -17,4 +17,4 @@ device_states source drain = record { source = source; drain = drain }
 pub record RunsAndReports (job : Job ReportValue) (old new : DeviceStates) (report : ReportValue) : Type 0 where
   pub result : Result ReportValue DeviceFault
   pub runs : Runs job old.source new.source old.drain new.drain result
-  pub report_is : report ≡ report_at_end result
+  pub report_is : report ≡ report_of (λ of_input. of_input) result

@@ -2,8 +2,7 @@
 ghost use Rattle.std.specs.Prelude.{◌≡◌, ◌+◌, ◌++◌, ◌≤◌, [], decimal, length};
 ghost use Rattle.tlv_run.specs.Report.{cut_report, device_report, ending_report, fault_line, findings_report};
 ghost use Rattle.tlv_run.specs.Report.{found_report, indef_report, line_with, names_report, outcome_report};
-ghost use Rattle.tlv_run.specs.Report.{report_value, report_with, unopened_report, unused_report};
-ghost use Rattle.tlv_run.specs.Private.Reports.{report_of};
+ghost use Rattle.tlv_run.specs.Report.{report_of, report_value, report_with, unopened_report, unused_report};
 
 use arrayvec::ArrayVec;
 use itoa::Buffer;

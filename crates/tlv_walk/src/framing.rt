@@ -35,7 +35,7 @@ pub struct Framing {
 
 impl Inside {
     ghost use Rattle.std.specs.Prelude.{◌≡◌, MatchOption, [], false, slice_get, true};
-    ghost use Rattle.tlv_walk.specs.Inside.{can_name, is_among};
+    ghost use Rattle.tlv_walk.specs.Inside.{can_name};
 
     /// The offsets, if there are at most 16, each larger than the one before and at most 2^40;
     /// otherwise nothing. There may be none.
@@ -62,22 +62,6 @@ impl Inside {
         Inside {
             offsets: ArrayVec::new(),
         }
-    }
-
-    /// Whether the offset is one of them. Each header asks this, and mostly there are none.
-    #[inline(always)]
-    pub(crate) fn contains(&self, offset: u64) -> bool
-        ensures { result ≡ is_among offset self.now }
-    {
-        !self.offsets.is_empty() && self.has_offset(offset)
-    }
-
-    /// The search for the offset, kept out of the functions that ask for it.
-    #[inline(never)]
-    fn has_offset(&self, offset: u64) -> bool
-        ensures { result ≡ is_among offset self.now }
-    {
-        self.offsets.contains(&offset)
     }
 
     /// The offset at this index, if there is one.
@@ -117,4 +101,23 @@ impl Framing {
             padding: self.padding,
         }
     }
+}
+
+ghost use Rattle.std.specs.Prelude.{◌≡◌};
+ghost use Rattle.tlv_walk.specs.Inside.{is_among};
+
+/// Whether the offset is one of those. Each header asks this, and mostly there are none.
+#[inline(always)]
+pub(crate) fn is_among(offset: u64, inside: &Inside) -> bool
+    ensures { result ≡ is_among offset inside.now }
+{
+    !inside.offsets.is_empty() && is_among_some(offset, inside)
+}
+
+/// The same if there are some. It stands apart, so that the search is out of the functions that ask for it.
+#[inline(never)]
+fn is_among_some(offset: u64, inside: &Inside) -> bool
+    ensures { result ≡ is_among offset inside.now }
+{
+    inside.offsets.contains(&offset)
 }

@@ -14,6 +14,7 @@ ghost use Rattle.tlv_walk.specs.Private.Yields.{YieldsAtOnce, YieldsStep};
 
 use super::{Phase, Walker};
 use crate::event::HeaderKind;
+use crate::framing::is_among;
 use crate::stack::room_to;
 use crate::{Event, Step};
 use std::mem::replace;
@@ -27,7 +28,7 @@ impl Walker {
         ensures steps { CountsStep self.old self.new piece.old.now piece.new.now result }
         ensures yields { YieldsStep self.old self.new piece.old.now piece.new.now result }
     {
-        let named = self.framing.inside.contains(self.offset);
+        let named = is_among(self.offset, &self.framing.inside);
         if let Some((fields, count)) = read_header(self.offset, named, *piece)
             && let Some(event) = self.take_header(&fields, count, piece)
         {
@@ -77,7 +78,7 @@ impl Walker {
             self.phase = Phase::Between;
             return self.read_on(reader, piece);
         }
-        let named = self.framing.inside.contains(self.offset);
+        let named = is_among(self.offset, &self.framing.inside);
         self.has_element = true;
         self.read_on(HeadReader::new(self.offset, named), piece)
     }

@@ -7,6 +7,7 @@ ghost use Rattle.tlv_walk.specs.Private.Yields.{YieldsAtOnce, YieldsEvents};
 
 use super::{Phase, Walker};
 use crate::Event;
+use crate::framing::is_among;
 use tlv_head::{HeaderFields, Size, read_short};
 
 /// A primitive that lies whole at the front of a piece.
@@ -32,7 +33,7 @@ impl Walker {
         };
         if *first & 0x20 != 0
             || !matches!(self.phase, Phase::Between)
-            || self.framing.inside.contains(self.offset)
+            || is_among(self.offset, &self.framing.inside)
         {
             return None;
         }
@@ -108,7 +109,7 @@ impl Walker {
         if *first & 0x20 == 0 {
             return None;
         }
-        let named = self.framing.inside.contains(self.offset);
+        let named = is_among(self.offset, &self.framing.inside);
         let (fields, count) = read_short(self.offset, named, octets)?;
         if !fields.constructed {
             return None;

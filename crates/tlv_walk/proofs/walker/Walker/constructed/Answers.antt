@@ -8,7 +8,7 @@ use Rattle.tlv_walk.proofs.walker.Walker.constructed.Goals as goal
 
 pub returns-clause-yields : goal.returns-clause-yields
 returns-clause-yields c =
-    let named = c.contains-named.result in
+    let named = c.is_among-named.result in
     let begins : BeginsWithFields c.args.piece.now.now c.args.self.now.offset named c.in_ok-fields.fields c.in_ok-fields.count = rw (← c.self.view_is) c.in_ok-fields.ensures.begins in record {
       taken = c.split_at.result.0.now;
       piece_is = search rules;
