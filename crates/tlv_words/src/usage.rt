@@ -31,7 +31,7 @@ pub fn usage_report(fault: &UsageFault) -> Report
         UsageFault::Value(option) => {
             let octets = option.as_bytes();
             let shown = &octets[..64.min(octets.len())];
-            Report::with_message(4, out_of_range(shown).as_slice())
+            Report::with_message(4, range_message(shown).as_slice())
         }
         UsageFault::Memory => Report::with_message(5, b"U3 out of memory"),
     }
@@ -52,7 +52,7 @@ pub fn words_report() -> Report
 }
 
 /// The message of U2, for the option of this name.
-fn out_of_range(option: &[u8]) -> ArrayVec<u8, 128>
+fn range_message(option: &[u8]) -> ArrayVec<u8, 128>
     requires { length option.now ≤ 64 }
     ensures text { result.items ≡ codes "U2 value out of range: " ++ option.now }
     ensures short { length result.items ≤ 128 }
