@@ -62,7 +62,8 @@ fn is_type_clear(number: u64, contents: &[u8]) -> bool
 #[inline(always)]
 fn is_truth(contents: &[u8]) -> bool
     ensures one { IsTrue result → (length contents.now == 1) ≡ true }
-    ensures truth { IsTrue result → (slice_index contents.now 0 == 0 || slice_index contents.now 0 == 255) ≡ true }
+    ensures truth { IsTrue result
+        → (slice_index contents.now 0 == 0 || slice_index contents.now 0 == 255) ≡ true }
 {
     matches!(contents, [0 | 255])
 }
@@ -91,8 +92,8 @@ fn has_clear_bits(contents: &[u8]) -> bool
     ensures some { IsTrue result → (length contents.now == 0) ≡ false }
     ensures few { IsTrue result → nat_lt 7 (slice_index contents.now 0) ≡ false }
     ensures there { IsTrue result →
-        (length contents.now == 1 && nat_le 1 (slice_index contents.now 0) && nat_le (slice_index contents.now 0) 7)
-        ≡ false }
+        (length contents.now == 1 && nat_le 1 (slice_index contents.now 0)
+        && nat_le (slice_index contents.now 0) 7) ≡ false }
     ensures zero { IsTrue result →
         (nat_le 2 (length contents.now) && nat_le (slice_index contents.now 0) 7
         && not (last_octet 0 contents.now % 2 ^ slice_index contents.now 0 == 0)) ≡ false }
