@@ -17,9 +17,9 @@ use Rattle.tlv_walk.specs.Forest.{OpenHeader}
 use Rattle.tlv_walk.specs.Events.{EventValue}
 use Rattle.tlv_walk.specs.Inside.{is_among}
 use Rattle.tlv_walk.specs.WalkerState.{WalkerState}
-use Rattle.tlv_walk.specs.Place.{Fits, IsHeaderAt, Place}
+use Rattle.tlv_walk.specs.Place.{Fits, IsHeaderAt, IsWithin, Place}
 use Rattle.tlv_walk.specs.Private.ReadsOn.{HandsOver}
-use Rattle.tlv_walk.specs.Stack.{Frame, IsWithin, bound_of}
+use Rattle.tlv_walk.specs.Stack.{Frame, bound_of}
 use Rattle.tlv_walk.specs.Private.Stack.{room_to}
 use Rattle.tlv_walk.specs.Private.Zipper.{HasZipper, InHeader, Zipper, place_of}
 use Rattle.tlv_walk.specs.Private.Yields.{RefusesOctet}
