@@ -1,8 +1,7 @@
 -- What the octets that `indef` writes are read as.
 use Rattle.std.specs.Prelude.{ℕ, ◌+◌, length}
-use Rattle.tlv_head.specs.Header.{octets_of}
 use Rattle.tlv_walk.specs.Forest.{Forest, NoMore, PaddingOctet, Primitive, Holder, OpenPrimitive, OpenHolder, OpenBitString}
-use Rattle.tlv_walk.specs.Forest.{OpenEndOctets, OpenHeader, extent, opening}
+use Rattle.tlv_walk.specs.Forest.{OpenEndOctets, OpenHeader, extent, opening, primitive_extent}
 use Rattle.tlv_cut.specs.IndefText.{with_indefinite_lengths}
 
 -- the same elements from the offset n on: each begins where what is before it ends
@@ -11,7 +10,7 @@ with_offsets_from n NoMore = NoMore
 with_offsets_from n (PaddingOctet rest) = PaddingOctet (with_offsets_from (n + 1) rest)
 with_offsets_from n (Primitive h c rest) =
     Primitive (record h { offset = n }) c
-    (with_offsets_from (n + (length (octets_of h) + length c)) rest)
+    (with_offsets_from (n + primitive_extent h c) rest)
 with_offsets_from n (Holder h children rest) =
     Holder (record h { offset = n }) (with_offsets_from (n + length (opening h)) children)
     (with_offsets_from (n + extent h children) rest)

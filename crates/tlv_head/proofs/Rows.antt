@@ -152,7 +152,10 @@ longest-137 = refl
 -- 9f 81 and seven 80, then 80: a ninth subsequent octet that is not the last
 refused-number : IsRefusedOctet (0x9f ∷ 0x81 ∷ 0x80 ∷ 0x80 ∷ 0x80 ∷ 0x80 ∷ 0x80 ∷ 0x80 ∷ 0x80 ∷ []) 0x80 TagTooLong
 refused-number =
-    tag_too_long Context false (1 ∷ 0 ∷ 0 ∷ 0 ∷ 0 ∷ 0 ∷ 0 ∷ 0 ∷ []) (below 128 (1 ∷ 0 ∷ 0 ∷ 0 ∷ 0 ∷ 0 ∷ 0 ∷ 0 ∷ []) refl) refl refl (lit≤ tt)
+    tag_too_long Context false (1 ∷ 0 ∷ 0 ∷ 0 ∷ 0 ∷ 0 ∷ 0 ∷ 0 ∷ []) (record {
+      each = below 128 (1 ∷ 0 ∷ 0 ∷ 0 ∷ 0 ∷ 0 ∷ 0 ∷ 0 ∷ []) refl;
+      octets_are = refl;
+    }) refl (lit≤ tt)
 
 -- 04, then ff
 refused-reserved : IsRefusedOctet (0x04 ∷ []) 0xff ReservedLength
@@ -164,12 +167,23 @@ refused-indefinite = indefinite_primitive Universal 4 octet-string refl
 
 -- 04 86, then 01, which five octets are to follow
 refused-length : IsRefusedOctet (0x04 ∷ 0x86 ∷ []) 0x01 LengthTooLarge
-refused-length = length_too_large Universal false 4 (0x04 ∷ []) [] 6 octet-string (below 256 [] refl) refl (lit≤ tt) (lit≤ tt) (omega arith)
+refused-length = length_too_large Universal false 4 (0x04 ∷ []) [] 6 (record {
+  identified = octet-string;
+  each = below 256 [] refl;
+  some = lit≤ tt;
+  few = lit≤ tt;
+  octets_are = refl;
+}) (lit≤ tt) (omega arith)
 
 -- 04 fe and 120 octets 00, then 01, which five octets are to follow
 refused-padded_length : IsRefusedOctet (0x04 ∷ 0xfe ∷ replicate 120 0x00) 0x01 LengthTooLarge
-refused-padded_length =
-    length_too_large Universal false 4 (0x04 ∷ []) (replicate 120 0) 6 octet-string (below 256 (replicate 120 0) refl) refl (lit≤ tt) (lit≤ tt) (omega arith)
+refused-padded_length = length_too_large Universal false 4 (0x04 ∷ []) (replicate 120 0) 6 (record {
+  identified = octet-string;
+  each = below 256 (replicate 120 0) refl;
+  some = lit≤ tt;
+  few = lit≤ tt;
+  octets_are = refl;
+}) (lit≤ tt) (omega arith)
 
 -- 04 85 01: the same octet where four are to follow: with 00 they make a length of 2^32
 front-length : IsFront (0x04 ∷ 0x85 ∷ 0x01 ∷ [])

@@ -10,7 +10,7 @@ pub record HeadReaderState : Type 0 where
   pub octets : List ℕ
   pub done : Bool
 
--- what a caller sees to, of the next octet x, with `room` octets up to the bound, this one included
+-- what `push` requires of the next octet x, with `room` octets up to the bound, this one included
 pub record CanPush (r : HeadReaderState) (x : ℕ) (room : Option ℕ) (depth : ℕ) : Type 0 where
   pub unfinished : r.done ≡ false
   pub first : r.octets ≡ [] → (x ≢ 0) × (room ≢ Some 0)

@@ -1,7 +1,7 @@
 -- The fields of a header, and its octets.
-use Rattle.std.specs.Prelude.{ℕ, ◌<◌, ◌≤◌, List, length, take, drop}
+use Rattle.std.specs.Prelude.{ℕ, ◌<◌, ◌≤◌, Bool, ◌||◌, List, length, take, drop}
 use Rattle.tlv_head.specs.declared.header.HeaderFields.{HeaderFields}
-use Rattle.tlv_head.specs.Header.{HeaderValue}
+use Rattle.tlv_head.specs.Header.{HeaderValue, is_wrapper}
 
 -- the header with these fields and octets
 abbrev pub header_with : HeaderFields → List ℕ → HeaderValue
@@ -27,6 +27,14 @@ fields_of h = record {
   size = h.size;
   id_len = length h.identifier;
 }
+
+-- an element with these fields wraps encodings
+abbrev pub fields_wrap : HeaderFields → Bool
+fields_wrap f = is_wrapper f.named f.class f.constructed f.number f.size
+
+-- its contents are encodings: it is constructed, or wraps them
+abbrev pub fields_hold : HeaderFields → Bool
+fields_hold f = f.constructed || fields_wrap f
 
 -- by their number the octets may be those of a header with these fields: there are at most 137, and the identifier has
 -- at most ten of them, and not all. They need not say the fields

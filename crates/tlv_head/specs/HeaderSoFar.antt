@@ -1,27 +1,12 @@
 -- What a `HeadReader` carries of the octets so far.
-use Rattle.std.specs.Prelude.{◌≡◌, ℕ, ◌+◌, ◌^◌, ◌-◌, ◌<◌, ◌≤◌, Bool, true, false, List, [], ◌∷◌, ◌++◌, length, All}
-use Rattle.tlv_head.specs.declared.header.Class.{Class}
-use Rattle.tlv_head.specs.Header.{IsIdentifier, leading_octet, value_of, with_bit_8}
+use Rattle.std.specs.Prelude.{◌≡◌, ℕ, ◌+◌, ◌^◌, ◌-◌, ◌<◌, ◌≤◌, Bool, true, false, List, [], length}
+use Rattle.tlv_head.specs.Header.{IsIdentifier, value_of}
+use Rattle.tlv_head.specs.Refusal.{IsLengthFront, IsNumberFront}
 use Rattle.tlv_head.specs.HeadReaderState.{HeadReaderState}
 use Rattle.tlv_head.specs.declared.next_octet.Identifier.{Identifier}
 use Rattle.tlv_head.specs.declared.next_octet.Part.{Part}
 use Rattle.tlv_head.specs.declared.next_octet.Part.TheVariants.{Start, Number, Length, Digits, Done}
 use Rattle.tlv_head.specs.declared.reader.HeadReader.TheInside.{Inside}
-
--- 8.1.2.4.2: the high form so far: digits, each with bit 8 set, after the first octet
-pub record IsNumberFront (class : Class) (constructed : Bool) (digits octets : List ℕ) : Type 0 where
-  pub each : All (λ d. d < 128) digits
-  pub octets_are : octets ≡ leading_octet class constructed 31 ∷ with_bit_8 digits
-
--- 8.1.3.5: identifier octets, the first length octet, and digits, of which so many are still to come
-pub record IsLengthFront
-    (class : Class) (constructed : Bool) (number : ℕ) (identifier digits : List ℕ) (left : ℕ) (octets : List ℕ)
-    : Type 0 where
-  pub identified : IsIdentifier class constructed number identifier
-  pub each : All (λ d. d < 256) digits
-  pub some : 1 ≤ left
-  pub few : length digits + left ≤ 126
-  pub octets_are : octets ≡ identifier ++ (128 + (length digits + left)) ∷ digits
 
 -- the identifier octets so far are in the high form
 pub record CarriesNumber (id : Identifier) (octets : List ℕ) : Type 0 where

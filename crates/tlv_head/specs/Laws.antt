@@ -36,7 +36,7 @@ AreHeaderOctets octets = (h : HeaderValue) × IsHeader h × (octets_of h ≡ oct
 abbrev pub IsRefusable : List ℕ → ℕ → Type 0
 IsRefusable octets x = (code : FaultCode) × IsRefusedOctet octets x code
 
--- after the front of a header an octet makes a longer front or a header, or is refused; so does a first octet other
+-- after a prefix of a header an octet makes a longer prefix or a header, or is refused; so does a first octet other
 -- than 00
 abbrev pub OctetsGoOnOrAreRefused : Type 0
 OctetsGoOnOrAreRefused = (octets : List ℕ) (x : ℕ) → x < 256 → (octets ≡ []) ⊎ IsFront octets → (octets ≡ [] → x ≢ 0)

@@ -32,7 +32,7 @@ pub data IsRefusedPush (r : HeadReaderState) (x : ℕ) (room : Option ℕ) (dept
   -- F10, 8.1.4: it completes the header of an element that holds others, inside 128 of them
   too_deep : room ≢ Some 0 → (h : HeaderValue) → Completes r x h → holds h ≡ true → 128 ≤ depth
       → IsRefusedPush r x room depth TooDeep
-  -- F11, 8.1.3.3: it completes the header of contents that end past the bound
+  -- F11, 8.1.3.3: it completes the header of contents that end beyond the bound
   overrun : room ≢ Some 0 → (h : HeaderValue) → Completes r x h → (holds h ≡ true → depth < 128)
       → (ContentsFit h.size room → ⊥) → IsRefusedPush r x room depth Overrun
 

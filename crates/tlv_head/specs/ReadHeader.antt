@@ -16,7 +16,7 @@ pub record IsShortHeader (f : HeaderFields) (count : ℕ) : Type 0 where
   pub identifier : f.id_len ≤ 3
   pub lengths : count ≤ f.id_len + 3
 
--- no header with at most three identifier octets and three length octets is a front of the octets
+-- no header with at most three identifier octets and three length octets is a prefix of the octets
 abbrev pub BeginsWithNoShortHeader : List ℕ → Type 0
 BeginsWithNoShortHeader octets =
     (h : HeaderValue) (rest : List ℕ) → IsHeader h → octets ≡ octets_of h ++ rest

@@ -1,4 +1,4 @@
--- The front of a header, and the octets that no header has after it: X.690 8.1.2 and 8.1.3.
+-- Prefixes of headers, and the octets that no header has after them: X.690 8.1.2 and 8.1.3.
 use Rattle.std.specs.Prelude.{◌≡◌, ◌≢◌, ℕ, ◌+◌, ◌<◌, ◌≤◌, Bool, false, List, [], ◌∷◌, ◌++◌, length, All}
 use Rattle.tlv_head.specs.declared.header.Class.{Class}
 use Rattle.tlv_head.specs.declared.fault.FaultCode.{FaultCode}
@@ -26,16 +26,30 @@ pub record BeginsWith (input : List ℕ) (at : ℕ) (is_named : Bool) (h : Heade
   pub rest : List ℕ
   pub octets : input ≡ octets_of h ++ rest
 
--- no header is a front of the octets
+-- no header is a prefix of the octets
 abbrev pub BeginsWithNoHeader : List ℕ → Type 0
 BeginsWithNoHeader octets = (h : HeaderValue) (rest : List ℕ) → IsHeader h → octets ≡ octets_of h ++ rest → ⊥
 
--- why the octet x is refused after the front of a header, wherever that is: a line for each cause
+-- 8.1.2.4.2: the high form so far: digits, each with bit 8 set, after the first octet
+pub record IsNumberFront (class : Class) (constructed : Bool) (digits octets : List ℕ) : Type 0 where
+  pub each : All (λ d. d < 128) digits
+  pub octets_are : octets ≡ leading_octet class constructed 31 ∷ with_bit_8 digits
+
+-- 8.1.3.5: identifier octets, the first length octet, and digits, after which so many are still to come
+pub record IsLengthFront
+    (class : Class) (constructed : Bool) (number : ℕ) (identifier digits : List ℕ) (left : ℕ) (octets : List ℕ)
+    : Type 0 where
+  pub identified : IsIdentifier class constructed number identifier
+  pub each : All (λ d. d < 256) digits
+  pub some : 1 ≤ left
+  pub few : length digits + left ≤ 126
+  pub octets_are : octets ≡ identifier ++ (128 + (length digits + left)) ∷ digits
+
+-- why the octet x is refused after a prefix of a header, wherever that is: a line for each cause
 pub data IsRefusedOctet (octets : List ℕ) (x : ℕ) : FaultCode → Type 0 where
   -- F06, 8.1.2.4.2: a ninth subsequent identifier octet with bit 8 set
   tag_too_long : (class : Class) (constructed : Bool) (digits : List ℕ)
-      → All (λ d. d < 128) digits → length digits ≡ 8
-      → octets ≡ leading_octet class constructed 31 ∷ with_bit_8 digits → 128 ≤ x
+      → IsNumberFront class constructed digits octets → length digits ≡ 8 → 128 ≤ x
       → IsRefusedOctet octets x TagTooLong
   -- F07, 8.1.3.5 c): a first length octet ff
   reserved_length : (class : Class) (constructed : Bool) (number : ℕ)
@@ -47,7 +61,5 @@ pub data IsRefusedOctet (octets : List ℕ) (x : ℕ) : FaultCode → Type 0 whe
       → IsRefusedOctet octets x IndefinitePrimitive
   -- F09, 8.1.3.5: a length octet after the first, other than 00, that five or more are to follow
   length_too_large : (class : Class) (constructed : Bool) (number : ℕ) (identifier digits : List ℕ) (left : ℕ)
-      → IsIdentifier class constructed number identifier → All (λ d. d < 256) digits
-      → octets ≡ identifier ++ (128 + (length digits + left)) ∷ digits
-      → length digits + left ≤ 126 → 6 ≤ left → x ≢ 0
+      → IsLengthFront class constructed number identifier digits left octets → 6 ≤ left → x ≢ 0
       → IsRefusedOctet octets x LengthTooLarge

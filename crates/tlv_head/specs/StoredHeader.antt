@@ -1,21 +1,9 @@
 -- What the fields of a `Header` say.
 use Rattle.std.specs.Prelude.{◌≡◌, take, drop, length, slice_index}
-use Rattle.tlv_head.specs.HeaderFields.{IsHeaderSized}
+use Rattle.tlv_head.specs.HeaderFields.{IsHeaderSized, header_with}
 use Rattle.tlv_head.specs.Header.{HeaderValue, octets_of}
 use Rattle.tlv_head.specs.declared.header.Header.TheInside.{Inside}
 use Rattle.tlv_head.specs.declared.header.HeaderFields.{HeaderFields}
-
-abbrev pub header_value_of : Inside → HeaderValue
-header_value_of h = record {
-  offset = h.offset;
-  named = h.named;
-  class = h.class;
-  constructed = h.constructed;
-  number = h.number;
-  size = h.size;
-  identifier = take h.id_len h.raw.items;
-  lengths = drop h.id_len h.raw.items;
-}
 
 -- the header of which contracts see this, as it is stored
 abbrev pub stored_header : HeaderValue → Inside
@@ -43,6 +31,10 @@ fields_in h = record {
   size = h.size;
   id_len = h.id_len;
 }
+
+-- what contracts see
+abbrev pub header_value_of : Inside → HeaderValue
+header_value_of h = header_with (fields_in h) h.raw.items
 
 -- by their number the octets may be those of a header with these fields, and the two that are kept beside them are the
 -- second ones of the identifier and of the length

@@ -103,12 +103,11 @@ impl Model for Header {
 
 impl HeaderFields {
     ghost use Rattle.std.specs.Prelude.{◌≡◌};
-    ghost use Rattle.tlv_head.specs.Header.{is_wrapper};
+    ghost use Rattle.tlv_head.specs.HeaderFields.{fields_wrap};
 
     /// [`Header::wraps`], of the header with these fields.
     pub fn wraps(&self) -> bool
-        ensures { result ≡ is_wrapper self.now.named self.now.class self.now.constructed
-            self.now.number self.now.size }
+        ensures { result ≡ fields_wrap self.now }
     {
         is_wrapper(
             self.named,

@@ -1,11 +1,10 @@
 //! Reads a header, one octet at a time.
-ghost use Rattle.std.specs.Prelude.{◌≡◌, ◌≢◌, ◌↔◌, [], ◌||◌, false, IsTrue, Some};
-ghost use Rattle.tlv_head.specs.Header.{is_wrapper};
+ghost use Rattle.std.specs.Prelude.{◌≡◌, ◌≢◌, ◌↔◌, [], false, IsTrue, Some};
+ghost use Rattle.tlv_head.specs.HeaderFields.{fields_hold};
 ghost use Rattle.tlv_head.specs.HeadReaderState.{ContentsFit};
 
-use crate::header::is_wrapper;
-use crate::next_octet::{Identifier, Next, Part, header_fields, read_octet};
-use crate::{Fault, FaultCode, Header, Size};
+use crate::next_octet::{Next, Part, header_fields, read_octet};
+use crate::{Fault, FaultCode, Header, HeaderFields, Size};
 use arrayvec::ArrayVec;
 use std::marker::Model;
 
@@ -78,7 +77,7 @@ impl HeadReader {
     /// there. [`Head::Refused`] leaves the reader as it was; the refusals are decided in this order:
     /// Overrun if the bound is reached; TagTooLong, ReservedLength, IndefinitePrimitive and
     /// LengthTooLarge by what the octets say; TooDeep at the header of an element that holds others
-    /// inside 128; Overrun at the header of contents that end past the bound.
+    /// inside 128; Overrun at the header of contents that end beyond the bound.
     pub fn push(&mut self, octet: u8, room: Option<u64>, depth: u8) -> Head
         requires { CanPush self.old octet room depth }
         ensures pushes { Pushes self.old octet room depth self.new result }
@@ -100,13 +99,13 @@ impl HeadReader {
                 Head::More
             }
             Next::Finished(identifier, size) => {
-                if depth >= 128 && holds(identifier, size, self.named) {
+                let fields = header_fields(self.offset, self.named, identifier, size);
+                if depth >= 128 && holds(&fields) {
                     return refusal(FaultCode::TooDeep, offset);
                 }
                 if !contents_fit(size, room) {
                     return refusal(FaultCode::Overrun, offset);
                 }
-                let fields = header_fields(self.offset, self.named, identifier, size);
                 self.raw.push(octet);
                 self.part = Part::Done;
                 Head::Whole(Header::with_raw(&fields, self.raw.take()))
@@ -121,19 +120,11 @@ fn refusal(code: FaultCode, offset: u64) -> Head
     Head::Refused(Fault { code, offset })
 }
 
-/// Whether the element holds others: it is constructed, or a string that wraps encodings.
-fn holds(identifier: Identifier, size: Size, named: bool) -> bool
-    ensures { result ≡ (identifier.constructed
-        || is_wrapper named identifier.class identifier.constructed identifier.number size) }
+/// Whether an element with these fields holds others: it is constructed, or a string that wraps encodings.
+fn holds(fields: &HeaderFields) -> bool
+    ensures { result ≡ fields_hold fields.now }
 {
-    identifier.constructed
-        || is_wrapper(
-            named,
-            identifier.class,
-            identifier.constructed,
-            identifier.number,
-            size,
-        )
+    fields.constructed || fields.wraps()
 }
 
 /// Whether contents of this size end within the room that the header's last octet has.

@@ -1,5 +1,5 @@
--- How octets are cut into rows, as a condition on rows: by how many octets a full row has, and how many want to stand
--- in one row, from an octet on.
+-- How octets are cut into rows, as a condition on rows: by how many octets a full row has, and how many are to be kept in
+-- one row, from an octet on.
 use Rattle.std.specs.Prelude.{◌≡◌, ◌≢◌, ◌⊎◌, ℕ, ◌+◌, ◌<◌, ◌≤◌, if◌then◌else◌, List, [], ◌∷◌, ◌++◌, length, slice_index}
 use Rattle.std.specs.Int.{is_in_range}
 
@@ -13,12 +13,15 @@ last_rows [] = []
 last_rows (x ∷ xs) = (x ∷ xs) ∷ []
 
 module _ (size : ℕ) (wanted : ℕ → ℕ) where
-  -- a row has octets, no more than it has room for, and none is split from those that want to stand with it: none of
-  -- its octets wants more than the row has left
+  -- from each octet of a row on, the row has room for those that are to be kept in one row
+  abbrev pub SplitsNone : List ℕ → Type 0
+  SplitsNone row = (i : ℕ) → i < length row → i + wanted (slice_index row i) ≤ size
+
+  -- a row has octets, no more than it has room for, and splits none that are to be kept in one row
   pub record IsRow (row : List ℕ) : Type 0 where
     pub some : row ≢ []
     pub short : length row ≤ size
-    pub whole : (i : ℕ) → i < length row → i + wanted (slice_index row i) ≤ size
+    pub whole : SplitsNone row
 
   abbrev pub AreRows : List (List ℕ) → Type 0
   AreRows [] = Unit {0}

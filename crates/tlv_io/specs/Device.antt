@@ -33,9 +33,13 @@ pub record DrainState : Type 0 where
 abbrev pub new_source : Option (List ℕ) → SourceState
 new_source left = record { left = left; reads = 0; last = never; failures = 0 }
 
--- a count after one more; it stops at 2^64 - 1
+-- a count after so many more; it stops at 2^64 - 1
+abbrev pub count_after : ℕ → ℕ → ℕ
+count_after n more = min (n + more) (2 ^ 64 - 1)
+
+-- a count after one more
 abbrev pub next_count : ℕ → ℕ
-next_count n = min (n + 1) (2 ^ 64 - 1)
+next_count n = count_after n 1
 
 module _ {T E : Type 0} where
   -- how many calls have failed after one with this result
@@ -57,7 +61,7 @@ module _ {E : Type 0} where
     pub last : new.last ≡ last_after result
     pub failures : new.failures ≡ failures_after result old.failures
 
-  -- one write of octets from the front of these: at least one, or it fails
+  -- one write of octets with which these begin: at least one, or it fails
   pub record WritesOnce (old new : DrainState) (result : Result ℕ E) (from : List ℕ) : Type 0 where
     pub octets : WriteAppends old.octets new.octets result from
     pub some : IfOk result (λ n. (0 < n) × (n ≤ length from))
@@ -71,7 +75,7 @@ pub record Pieces (old new : SourceState) : Type 0 where
   pub each : All (λ octets. (0 < length octets) × (length octets ≤ 4096)) pieces
   pub short : length last ≤ 4096
   pub gave_last : (new.last ≡ gave (length last)) ⊎ ((new.last ≡ failed) × (last ≡ []))
-  pub reads : new.reads ≡ min (old.reads + (length pieces + 1)) (2 ^ 64 - 1)
+  pub reads : new.reads ≡ count_after old.reads (length pieces + 1)
   pub consumed : Consumes old.left new.left (concat pieces ++ last)
 
 -- the octets that the reads gave

@@ -1,9 +1,9 @@
 -- What is reported of elements, item by item. The lines of a dump and of a check and the number of findings are those
 -- of the items, so their order is this one.
-use Rattle.std.specs.Prelude.{ℕ, ◌+◌, if◌then◌else◌, List, [], ◌∷◌, ◌++◌, length, map, None, Option, slice_get}
-use Rattle.tlv_head.specs.Header.{HeaderValue, octets_of}
+use Rattle.std.specs.Prelude.{ℕ, ◌+◌, if◌then◌else◌, List, [], ◌∷◌, ◌++◌, map, None, Option, slice_get}
+use Rattle.tlv_head.specs.Header.{HeaderValue}
 use Rattle.tlv_value.specs.declared.finding.Finding.{Finding}
-use Rattle.tlv_walk.specs.Forest.{Forest, PaddingOctet, Primitive, Holder, OpenPrimitive, OpenHolder, OpenBitString, extent}
+use Rattle.tlv_walk.specs.Forest.{Forest, PaddingOctet, Primitive, Holder, OpenPrimitive, OpenHolder, OpenBitString, extent, primitive_extent}
 use Rattle.tlv_show.specs.declared.rules.Rules.{Rules}
 use Rattle.tlv_show.specs.Conditions.{segments_of, surroundings_of}
 use Rattle.tlv_show.specs.EndPlace.{end_place}
@@ -45,7 +45,7 @@ module _ (rules : Rules) where
   items s (Primitive h c rest) =
       finding_items s h (header_findings rules (surroundings_of s) h)
       ++ (PrimitiveLines s.level h c ∷ finding_items s h (contents_findings rules h c)
-      ++ items (onward s (length (octets_of h) + length c) (Sibling h (slice_get c 0))) rest)
+      ++ items (onward s (primitive_extent h c) (Sibling h (slice_get c 0))) rest)
   items s (Holder h children rest) =
       finding_items s h (header_findings rules (surroundings_of s) h)
       ++ (OpeningLine s.level h ∷ items (site_of_children s h) children

@@ -4,7 +4,8 @@ use Rattle.std.proofs.lemmas.Bool.{false_from_ne_true}
 use Rattle.tlv_walk.specs.declared.stack.Frame.{Frame as Kept}
 use Rattle.tlv_walk.specs.declared.stack.FrameKind.{FrameKind}
 use Rattle.tlv_walk.specs.declared.stack.FrameKind.TheVariants.{Input, Definite, Indefinite, Wrapper}
-use Rattle.tlv_walk.specs.Stack.{Frame, IsFilled, IsInIndefinite, IsInWrapper, IsWithin, bound_of}
+use Rattle.tlv_walk.specs.Stack.{Frame, IsFilled, IsInIndefinite, IsInWrapper, bound_of}
+use Rattle.tlv_walk.specs.Place.{IsWithin}
 use Rattle.tlv_walk.specs.Private.Stack.{frame_inside}
 use Rattle.tlv_walk.specs.Private.FrameFields.{AreHolders, HasEnd, bound_from, end_from, frames_from, wraps_from}
 

@@ -1,5 +1,6 @@
 -- What an input comes to.
 use Rattle.std.specs.Prelude.{◌≡◌, ◌≢◌, ◌↔◌, ℕ, ◌+◌, ◌<◌, ◌≤◌, true, false, List, [], ◌∷◌, ◌++◌, length}
+use Rattle.tlv_head.specs.declared.fault.Fault.{Fault as FaultOf}
 use Rattle.tlv_head.specs.declared.fault.FaultCode.{FaultCode}
 use Rattle.tlv_head.specs.declared.fault.FaultCode.TheVariants.{Empty, Short, StrayEnd, BadEnd, MissingEnd, TooDeep, Overrun, BadInside}
 use Rattle.tlv_head.specs.Header.{HeaderValue, announced_length, holds, octets_of}
@@ -7,7 +8,7 @@ use Rattle.tlv_head.specs.Refusal.{IsRefusedOctet}
 use Rattle.tlv_walk.specs.declared.framing.Framing.{Framing}
 use Rattle.tlv_walk.specs.declared.ending.Ending.{Ending}
 use Rattle.tlv_walk.specs.declared.ending.Ending.TheVariants.{Done, Fault}
-use Rattle.tlv_walk.specs.Forest.{Forest, NoMore, PaddingOctet, Primitive, Holder, OpenHolder, OpenBitString, OpenHeader, OpenEndOctets, extent, has_element, is_complete, spelling}
+use Rattle.tlv_walk.specs.Forest.{Forest, NoMore, PaddingOctet, Primitive, Holder, OpenHolder, OpenBitString, OpenHeader, OpenEndOctets, extent, has_element, is_complete, primitive_extent, spelling}
 use Rattle.tlv_walk.specs.Place.{Fits, IsHeaderAt, Place, place_after, place_of_children, top_place}
 use Rattle.tlv_walk.specs.Reading.{CannotBecomeSound, IsReading, IsSoundList}
 
@@ -15,7 +16,7 @@ use Rattle.tlv_walk.specs.Reading.{CannotBecomeSound, IsReading, IsSoundList}
 -- (`NoMore`), or a primitive, a wrapping BIT STRING, a header or end-of-contents octets that lack octets
 abbrev pub tip : Place → Forest → Place × Forest
 tip p (PaddingOctet rest) = tip (place_after p 1) rest
-tip p (Primitive h c rest) = tip (place_after p (length (octets_of h) + length c)) rest
+tip p (Primitive h c rest) = tip (place_after p (primitive_extent h c)) rest
 tip p (Holder h children rest) = tip (place_after p (extent h children)) rest
 tip p (OpenHolder h children) = tip (place_of_children p h) children
 tip p end = (p, end)
@@ -36,7 +37,7 @@ pub data IsFault (p : Place) (x : ℕ) : Forest → FaultCode → Type 0 where
   -- 8.1.4: the header of an element that holds others, inside 128 of them
   too_deep : {o : List ℕ} → Fits p (length o + 1) → (h : HeaderValue) → IsHeaderAt p true h → octets_of h ≡ o ++ x ∷ []
       → 128 ≤ p.depth → IsFault p x (OpenHeader o) TooDeep
-  -- 8.1.3.3: the header of contents that end past the bound
+  -- 8.1.3.3: the header of contents that end beyond the bound
   overrun : {o : List ℕ} → Fits p (length o + 1) → (h : HeaderValue) → IsHeaderAt p (holds h) h
       → octets_of h ≡ o ++ x ∷ [] → (holds h ≡ true → p.depth < 128)
       → (Fits p (length (octets_of h) + announced_length h.size) → ⊥) → IsFault p x (OpenHeader o) Overrun
@@ -45,8 +46,11 @@ pub data IsFault (p : Place) (x : ℕ) : Forest → FaultCode → Type 0 where
   -- 8.1.5: 00 where no end-of-contents octets can stand, and no padding
   stray_end : p.indefinite ≡ false → p.padding ≡ false → x ≡ 0 → IsFault p x NoMore StrayEnd
 
+abbrev pub fault_at : FaultCode → ℕ → FaultOf
+fault_at code offset = record { code = code; offset = offset }
+
 abbrev pub fault_ending : FaultCode → ℕ → Ending
-fault_ending code offset = Fault (record { code = code; offset = offset })
+fault_ending code offset = Fault (fault_at code offset)
 
 -- the ending of an input
 pub data IsEnding (framing : Framing) (b : List ℕ) : Ending → Type 0 where

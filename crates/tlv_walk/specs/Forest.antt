@@ -21,7 +21,7 @@ pub data Forest : Type 0 where
   OpenHolder : (header : HeaderValue) (children : Forest) → Forest
   -- a wrapping BIT STRING without its first contents octet
   OpenBitString : (header : HeaderValue) → Forest
-  -- the front of a header
+  -- a prefix of a header
   OpenHeader : (octets : List ℕ) → Forest
   -- the first of the end-of-contents octets
   OpenEndOctets : Forest
@@ -53,6 +53,10 @@ spelling OpenEndOctets = 0 ∷ []
 -- 8.1.4: the number of contents octets so far of an element that holds others
 abbrev pub contents_length : HeaderValue → Forest → ℕ
 contents_length h children = length (lead h) + length (spelling children)
+
+-- 8.1.1.1: the number of octets of a primitive that has these contents octets
+abbrev pub primitive_extent : HeaderValue → List ℕ → ℕ
+primitive_extent h contents = length (octets_of h) + length contents
 
 -- 8.1.1.1: the number of octets of an element that holds others and has ended
 abbrev pub extent : HeaderValue → Forest → ℕ

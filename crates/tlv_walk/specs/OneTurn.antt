@@ -28,7 +28,7 @@ last_octets never piece = []
 last_octets (gave n) piece = take n piece
 last_octets failed piece = []
 
--- it gave octets, or the end, and no more octets than there was room for
+-- it gave octets, or none at the end, and no more octets than there was room for
 abbrev pub LastReadGaveUpTo : ℕ → LastReadValue → Type 0
 LastReadGaveUpTo room never = ⊥
 LastReadGaveUpTo room (gave n) = n ≤ room
@@ -82,7 +82,7 @@ module _ {S : Type 0} (next : S → EventValue → Effect S) (old new : TurnStat
     pub put : SendsMade more (Ok tt)
     pub framing : new.walker.framing ≡ old.walker.framing
 
-  -- here `yielded` are the events yielded before the turn, of octets with which these begin
+  -- here `yielded` are the events yielded before the turn, of octets with which `octets` begin
 
   -- all events of the octets were followed, the walker stands for them, and no event waits
   pub record StandsAfter (octets : List ℕ) (yielded : List EventValue) : Type 0 where

@@ -7,7 +7,7 @@ use Rattle.tlv_head.specs.Header.{HeaderValue, IsHeader, announced_length, defin
 use Rattle.tlv_head.specs.Refusal.{IsFront}
 use Rattle.tlv_walk.specs.declared.framing.Framing.{Framing}
 use Rattle.tlv_walk.specs.Inside.{is_among}
-use Rattle.tlv_walk.specs.Forest.{Forest, Holder, NoMore, OpenBitString, OpenEndOctets, OpenHeader, OpenHolder, OpenPrimitive, PaddingOctet, Primitive, contents_length, extent, is_complete, lead, opening}
+use Rattle.tlv_walk.specs.Forest.{Forest, Holder, NoMore, OpenBitString, OpenEndOctets, OpenHeader, OpenHolder, OpenPrimitive, PaddingOctet, Primitive, contents_length, extent, is_complete, lead, opening, primitive_extent}
 
 -- where a forest is
 pub record Place : Type 0 where
@@ -43,6 +43,10 @@ place_after p n = record p { at = p.at + n }
 abbrev pub is_indefinite : Size → Bool
 is_indefinite size = is_none (definite_length size)
 
+-- 8.1.3.3: the end of contents that begin at the offset `start`, if their length is definite, or else the bound outside
+abbrev pub bound_in : Size → ℕ → Option ℕ → Option ℕ
+bound_in size start outside = option_map_or (λ n. Some (start + n)) (definite_length size) outside
+
 -- 8.1.4: where the elements stand that an element with this header holds: if its length is definite, the end of its
 -- contents is the bound
 abbrev pub place_of_children : Place → HeaderValue → Place
@@ -51,12 +55,16 @@ place_of_children p h = record p {
   depth = p.depth + 1;
   indefinite = is_indefinite h.size;
   padding = false;
-  bound = option_map_or (λ n. Some (p.at + length (octets_of h) + n)) (definite_length h.size) p.bound;
+  bound = bound_in h.size (p.at + length (octets_of h)) p.bound;
 }
+
+-- the offset does not lie beyond the bound
+abbrev pub IsWithin : Option ℕ → ℕ → Type 0
+IsWithin bound offset = IfSome bound (λ b. offset ≤ b)
 
 -- n octets from there on do not pass the bound
 abbrev pub Fits : Place → ℕ → Type 0
-Fits p n = IfSome p.bound (λ b. p.at + n ≤ b)
+Fits p n = IsWithin p.bound (p.at + n)
 
 -- 8.1.2, 8.1.3: a header is there, of an element that holds others or of one that does not
 pub record IsHeaderAt (p : Place) (holding : Bool) (h : HeaderValue) : Type 0 where
@@ -75,15 +83,15 @@ pub record IsElementAt (p : Place) (holding : Bool) (h : HeaderValue) (n : ℕ) 
 abbrev pub IsEntry : Place → Bool → HeaderValue → Type 0
 IsEntry p holding h = IsElementAt p holding h (length (octets_of h) + announced_length h.size)
 
--- an open forest: each element in it stands by the rules, and no octet and no announced end lies past the bound
+-- an open forest: each element in it stands by the rules, and no octet and no announced end lies beyond the bound
 abbrev pub IsOpen : Place → Forest → Type 0
 IsOpen p NoMore = Unit {0}
 -- an octet 00 between encodings
 IsOpen p (PaddingOctet rest) = ((p.padding ≡ true) × (p.indefinite ≡ false) × Fits p 1) × IsOpen (place_after p 1) rest
 -- 8.1.4: a primitive with all its contents octets
 IsOpen p (Primitive h c rest) =
-    (IsElementAt p false h (length (octets_of h) + length c) × (h.size ≡ Definite (length c)))
-    × IsOpen (place_after p (length (octets_of h) + length c)) rest
+    (IsElementAt p false h (primitive_extent h c) × (h.size ≡ Definite (length c)))
+    × IsOpen (place_after p (primitive_extent h c)) rest
 -- 8.1.4, 8.1.5: an element that holds others and has ended. 8.1.3.3: a definite length is that of the contents
 IsOpen p (Holder h children rest) =
     (IsElementAt p true h (extent h children) × (is_complete children ≡ true)
@@ -99,6 +107,6 @@ IsOpen p (OpenHolder h children) =
     × IsOpen (place_of_children p h) children
 -- 8.6.2.2: a wrapping BIT STRING of which the header alone is there
 IsOpen p (OpenBitString h) = IsEntry p true h × (lead h ≡ 0 ∷ [])
--- the front of a header, or the first of the end-of-contents octets, inside the bound
+-- a prefix of a header, or the first of the end-of-contents octets, inside the bound
 IsOpen p (OpenHeader octets) = (octets ≢ []) × IsFront octets × Fits p (length octets)
 IsOpen p OpenEndOctets = (p.indefinite ≡ true) × Fits p 1

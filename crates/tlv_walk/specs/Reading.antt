@@ -1,9 +1,9 @@
 -- What an input is read as, and which inputs are sound.
-use Rattle.std.specs.Prelude.{◌≡◌, ℕ, ◌+◌, ◌<◌, ◌≤◌, true, false, List, ◌++◌, All, length, IfSome}
+use Rattle.std.specs.Prelude.{◌≡◌, ℕ, ◌<◌, ◌≤◌, true, false, List, ◌++◌, All, length, IfSome}
 use Rattle.tlv_head.specs.declared.header.Size.TheVariants.{Definite}
-use Rattle.tlv_head.specs.Header.{definite_length, octets_of}
+use Rattle.tlv_head.specs.Header.{definite_length}
 use Rattle.tlv_walk.specs.declared.framing.Framing.{Framing}
-use Rattle.tlv_walk.specs.Forest.{Forest, Holder, NoMore, PaddingOctet, Primitive, contents_length, extent, has_element, spelling}
+use Rattle.tlv_walk.specs.Forest.{Forest, Holder, NoMore, PaddingOctet, Primitive, contents_length, extent, has_element, primitive_extent, spelling}
 use Rattle.tlv_walk.specs.Place.{IsHeaderAt, IsOpen, Place, place_after, place_of_children, top_place}
 
 -- octets, each below 256
@@ -28,7 +28,7 @@ IsSound p NoMore = Unit {0}
 IsSound p (PaddingOctet rest) = (p.padding ≡ true) × IsSound (place_after p 1) rest
 IsSound p (Primitive h c rest) =
     IsHeaderAt p false h × (h.size ≡ Definite (length c))
-    × IsSound (place_after p (length (octets_of h) + length c)) rest
+    × IsSound (place_after p (primitive_extent h c)) rest
 IsSound p (Holder h children rest) =
     IsHeaderAt p true h × IfSome (definite_length h.size) (λ n. contents_length h children ≡ n) × (p.depth < 128)
     × IsSound (place_of_children p h) children × IsSound (place_after p (extent h children)) rest

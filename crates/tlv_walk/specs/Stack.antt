@@ -1,5 +1,6 @@
 -- The open elements that hold others, innermost first.
-use Rattle.std.specs.Prelude.{◌≡◌, ℕ, ◌≤◌, Bool, true, List, [], ◌∷◌, Option, Some, None, IfSome}
+use Rattle.std.specs.Prelude.{◌≡◌, ℕ, Bool, true, List, [], ◌∷◌, Option, Some, None}
+use Rattle.tlv_walk.specs.Place.{IsWithin}
 
 -- an open element that holds others
 pub record Frame : Type 0 where
@@ -14,10 +15,6 @@ pub record Frame : Type 0 where
 abbrev pub bound_of : List Frame → Option ℕ
 bound_of [] = None
 bound_of (f ∷ fs) = f.bound
-
--- the offset does not lie past the bound
-abbrev pub IsWithin : Option ℕ → ℕ → Type 0
-IsWithin bound n = IfSome bound (λ b. n ≤ b)
 
 -- the innermost element has the indefinite length
 abbrev pub IsInIndefinite : List Frame → Type 0

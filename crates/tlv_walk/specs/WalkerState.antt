@@ -6,7 +6,8 @@ use Rattle.tlv_walk.specs.declared.event.Event.{Event}
 use Rattle.tlv_walk.specs.declared.event.Event.TheVariants as event
 use Rattle.tlv_walk.specs.declared.framing.Framing.{Framing}
 use Rattle.tlv_walk.specs.Phase.{Phase, Between, InHeader, InPrimitive, InBitString, InEndOctets, Refused}
-use Rattle.tlv_walk.specs.Stack.{Frame, IsInIndefinite, IsInWrapper, IsNested, IsWithin, bound_of}
+use Rattle.tlv_walk.specs.Stack.{Frame, IsInIndefinite, IsInWrapper, IsNested, bound_of}
+use Rattle.tlv_walk.specs.Place.{IsWithin}
 
 pub record WalkerState : Type 0 where
   -- the open elements, innermost first
@@ -39,7 +40,8 @@ pub record IsInHeader (r : HeadReaderState) (at : ℕ) : Type 0 where
   pub some : r.octets ≢ []
   pub place : r.offset + length r.octets ≡ at
 
--- by phase: an open element, a begun header and a lone 00 have octets that no event was yielded for
+-- by phase: an open element, a header that has begun and a first 00 without the second have octets that no event was
+-- yielded for
 abbrev pub IsPhase : Phase → List Frame → ℕ → ℕ → Type 0
 IsPhase Between stack offset events = events + length stack ≤ offset
 IsPhase (InHeader r) stack offset events = IsInHeader r offset × (events + length stack + length r.octets ≤ offset)

@@ -30,7 +30,7 @@ enum Pause {
 /// waits.
 ///
 /// `Again` comes if the octets held neither a fault nor enough for the follower, and were not the
-/// end; else `Ended`. The walker's octets count towards `limit`: of those that go past it none is
+/// end; else `Ended`. The walker's octets count towards `limit`: of those that go beyond it none is
 /// walked over.
 ///
 /// # Errors

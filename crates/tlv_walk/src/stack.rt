@@ -1,7 +1,8 @@
 //! The open elements that hold others.
 ghost use Rattle.std.specs.Prelude.{◌≡◌, ◌≢◌, ◌-◌, ◌^◌, ◌<◌, ◌≤◌, ◌↔◌, ◌∷◌, IfSome, IsTrue, None, [], length, drop, true};
-ghost use Rattle.tlv_walk.specs.Stack.{IsFilled, IsInIndefinite, IsInWrapper, IsWithin, bound_of};
-ghost use Rattle.tlv_walk.specs.Private.Stack.{frame_inside, room_to, wraps_of};
+ghost use Rattle.tlv_walk.specs.Stack.{IsFilled, IsInIndefinite, IsInWrapper, bound_of};
+ghost use Rattle.tlv_walk.specs.Place.{IsWithin};
+ghost use Rattle.tlv_walk.specs.Private.Stack.{frame_inside, room_in, room_to, wraps_of};
 
 use crate::frames::Frames;
 use std::marker::Model;
@@ -174,7 +175,7 @@ impl Stack {
     /// How many octets there are from this offset to the bound.
     pub fn room(&self, offset: u64) -> Option<u64>
         requires { IsWithin (bound_of self.now) offset }
-        ensures { result ≡ room_to (bound_of self.now) offset }
+        ensures { result ≡ room_in self.now offset }
     {
         room_to(self.bound(), offset)
     }

@@ -65,8 +65,8 @@ impl Walker {
     ghost use Rattle.std.specs.Prelude.{[], false};
     ghost use Rattle.tlv_walk.specs.Phase as phases;
     ghost use Rattle.tlv_walk.specs.WalkerState.{IfRefused, first_without_wrapper_in, new_walker};
-    ghost use Rattle.tlv_walk.specs.Private.WalkerState.{CountsStep, EventWaits, fault_at};
-    ghost use Rattle.tlv_walk.specs.Ending.{IsEnding, ShowsSoundness};
+    ghost use Rattle.tlv_walk.specs.Private.WalkerState.{CountsStep, EventWaits};
+    ghost use Rattle.tlv_walk.specs.Ending.{IsEnding, ShowsSoundness, fault_at};
     ghost use Rattle.tlv_walk.specs.OpenCount.{open_count};
     ghost use Rattle.tlv_walk.specs.Stands.{CanTake, IsIdle, Stands};
     ghost use Rattle.tlv_walk.specs.Wrappers.{first_without_wrapper};

@@ -6,8 +6,8 @@ use Rattle.std.proofs.lemmas.Bool.{cases_lt, cases_eq, cases_Bool, and_parts, no
 use Rattle.tlv_head.specs.declared.header.Class.{Class}
 use Rattle.tlv_head.specs.Header.{HeaderValue, IsHeader, IsIdentifier, octets_of}
 use Rattle.tlv_head.specs.Laws.{AreHeaderOctets, IsRefusable}
-use Rattle.tlv_head.specs.Refusal.{CannotBecomeHeader, IsFront, IsRefusedOctet, indefinite_primitive, length_too_large}
-use Rattle.tlv_head.specs.Refusal.{reserved_length, tag_too_long}
+use Rattle.tlv_head.specs.Refusal.{CannotBecomeHeader, IsFront, IsLengthFront, IsRefusedOctet, indefinite_primitive}
+use Rattle.tlv_head.specs.Refusal.{length_too_large, reserved_length, tag_too_long}
 use Rattle.tlv_head.specs.declared.fault.FaultCode.{FaultCode}
 use Rattle.tlv_head.specs.declared.fault.FaultCode.TheVariants.{StrayEnd, IndefinitePrimitive}
 use Rattle.tlv_head.proofs.GrammarLemmas.Scan.{Scan, Origin, origin_of, start, Fresh, High, Named, Long, Ready, Stuck}
@@ -72,7 +72,7 @@ explains-high at x c k ds o s = ⊎_elim
     (λ (large : 128 ≤ x). ⊎_elim
     (λ (room : length ds < 8). rw (le-ltb x 128 large, lt-ltb (length ds) 8 room) tt)
     (λ (full : 8 ≤ length ds). rw (le-ltb x 128 large, le-ltb (length ds) 8 full)
-    (tag_too_long c k ds s.each (omega (arith, s.few)) s.octets large))
+    (tag_too_long c k ds (record { each = s.each; octets_are = s.octets }) (omega (arith, s.few)) large))
     (cases_lt (length ds) 8))
     (cases_lt x 128)
 
@@ -98,7 +98,14 @@ explains-long at x c k n i m ds o s = ⊎_elim
     let parts : (not (eqb x 0) ≡ true) × (ltb (length ds + 5) m ≡ true) = and_parts _ _ bad in
     let many : length ds + 5 < m = ltb-true _ _ parts.1 in
     let total : length ds + (m - length ds) ≡ m = omega arith in
-    rw bad (length_too_large c k n i ds (m - length ds) s.identifier s.each (rw total s.octets) (omega (arith, s.few)) (omega arith) (eqb-false x 0 (not-true _ parts.0))))
+    let front : IsLengthFront c k n i ds (m - length ds) o = record {
+      identified = s.identifier;
+      each = s.each;
+      some = omega arith;
+      few = omega (arith, s.few);
+      octets_are = rw total s.octets;
+    } in
+    rw bad (length_too_large c k n i ds (m - length ds) front (omega arith) (eqb-false x 0 (not-true _ parts.0))))
     (λ (good : (not (eqb x 0) && ltb (length ds + 5) m) ≡ false). ⊎_elim
     (λ (more : ltb (length ds + 1) m ≡ true). rw (good, more) tt)
     (λ (last : ltb (length ds + 1) m ≡ false). rw (good, last) tt)

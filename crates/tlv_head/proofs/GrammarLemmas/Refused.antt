@@ -151,13 +151,13 @@ too_large-stuck at c k n x left i ds o id many few octets nonzero =
 -- the last octet is refused with this code, or one before it is refused
 refused-last : (at : Origin) (code : FaultCode) (o : List ℕ) (x : ℕ) → IsRefusedOctet o x code
     → (scan at (o ++ x ∷ []) ≡ Stuck code) ⊎ ((code ≡ LengthTooLarge) × IsStuckFrom at Fresh o)
-refused-last at code o x (tag_too_long c k ds each eight octets flag) = inl (too_long-stuck at c k ds o x each eight octets flag)
+refused-last at code o x (tag_too_long c k ds front eight flag) = inl (too_long-stuck at c k ds o x front.each eight front.octets_are flag)
 refused-last at code o x (reserved_length c k n i e) = inl (reserved-stuck at c k n o x i e)
 refused-last at code o x (indefinite_primitive c n i e) = inl (primitive-stuck at c n o x i e)
-refused-last at code o x (length_too_large c k n i ds left id each octets few many nonzero) = ⊎_elim
+refused-last at code o x (length_too_large c k n i ds left front many nonzero) = ⊎_elim
     (λ (e : scan at (o ++ x ∷ []) ≡ Stuck LengthTooLarge). inl e)
     (λ (s : IsStuckFrom at Fresh o). inr (refl, s))
-    (too_large-stuck at c k n x left i ds o id many few octets nonzero)
+    (too_large-stuck at c k n x left i ds o front.identified many front.few front.octets_are nonzero)
 
 refused-stuck_from : (code : FaultCode) (o : List ℕ) (x : ℕ) → IsRefusedOctet o x code → IsStuckFrom start Fresh (o ++ x ∷ [])
 refused-stuck_from code o x r = ⊎_elim

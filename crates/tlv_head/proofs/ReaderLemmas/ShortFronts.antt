@@ -113,12 +113,12 @@ unended-length id o x c k n i l h p some e =
 
 -- after the high form so far no octet is refused, if there are at most seven digits
 unrefused : (code : FaultCode) (id : Identifier) (o : List ℕ) (x : ℕ) → CarriesNumber id o → length o ≤ 8 → IsRefusedOctet o x code → ⊥
-unrefused code id o x h few (tag_too_long c k digits each eight octet flag) =
-    let size : length o ≡ length digits + 1 = rw octet (omega (arith, length-map digits (λ d. 128 + d))) in
+unrefused code id o x h few (tag_too_long c k digits front eight flag) =
+    let size : length o ≡ length digits + 1 = rw front.octets_are (omega (arith, length-map digits (λ d. 128 + d))) in
     omega (arith, eight)
 unrefused code id o x h few (reserved_length c k n i all) = unended id o c k n o [] h i (sym (append-nil o))
 unrefused code id o x h few (indefinite_primitive c n i mark) = unended id o c false n o [] h i (sym (append-nil o))
-unrefused code id o x h few (length_too_large c k n i digits left p each octet most many nonzero) = unended id o c k n i _ h p octet
+unrefused code id o x h few (length_too_large c k n i digits left front many nonzero) = unended id o c k n i _ h front.identified front.octets_are
 
 -- so an octet is read, and makes no header
 pub always-unfinished : (r : Next) (id : Identifier) (o : List ℕ) (x : ℕ) → CarriesNumber id o → length o ≤ 8 → MakesNext o x r

@@ -152,7 +152,7 @@ ends_number id x r octets h e below =
 
 -- a ninth subsequent identifier octet that is not the last
 pub ninth_number : (id : Identifier) (octets : List ℕ) (x : ℕ) → CarriesNumber id octets → 9 ≤ id.octets → 128 ≤ x → IsRefusedOctet octets x TagTooLong
-ninth_number id octets x h many flag = tag_too_long id.class id.constructed h.digits h.front.each (omega (arith, h.few, h.count)) h.front.octets_are flag
+ninth_number id octets x h many flag = tag_too_long id.class id.constructed h.digits h.front (omega (arith, h.few, h.count)) flag
 
 -- a first length octet ff
 pub all_ones : (id : Identifier) (octets : List ℕ) (x : ℕ) → CarriesIdentifier id octets → x ≡ 255 → IsRefusedOctet octets x ReservedLength
@@ -165,4 +165,4 @@ unallowed id octets x h form e = indefinite_primitive id.class id.number (subst 
 -- a length octet that makes the length too large
 pub too_large : (id : Identifier) (n left : ℕ) (octets : List ℕ) (x : ℕ) → CarriesLength id n left octets → 6 ≤ left → x ≢ 0 → IsRefusedOctet octets x LengthTooLarge
 too_large id n left octets x h many nonzero =
-    length_too_large id.class id.constructed id.number h.identifier h.digits left h.front.identified h.front.each h.front.octets_are h.front.few many nonzero
+    length_too_large id.class id.constructed id.number h.identifier h.digits left h.front many nonzero

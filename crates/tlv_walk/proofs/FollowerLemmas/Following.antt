@@ -1,6 +1,6 @@
 -- What a follower comes to, event by event.
-use Rattle.std.proofs.Common.{◌≡◌, inl, inr, ℕ, ◌+◌, true, List, [], ◌∷◌, ◌++◌, length, refl, sym, ap, ap₂, ◌∙◌, subst, arith, append_assoc, append-nil, length-append}
-use Rattle.std.specs.Prelude.{Ok, Err, slice_get}
+use Rattle.std.proofs.Common.{◌≡◌, inl, inr, ℕ, ◌+◌, List, [], ◌∷◌, ◌++◌, length, refl, sym, ap, ◌∙◌, subst, arith, append_assoc, append-nil, length-append}
+use Rattle.std.specs.Prelude.{Ok, Err}
 use Rattle.tlv_head.specs.declared.fault.Fault.{Fault}
 use Rattle.tlv_io.specs.declared.drain.WriteFault.{WriteFault}
 use Rattle.tlv_walk.specs.declared.event.Step.TheVariants as step
@@ -15,20 +15,16 @@ use Rattle.tlv_walk.specs.Follow.{Effect, and_then, effect_of, followed_events}
 use Rattle.tlv_walk.specs.FollowsEvents.{FollowsEvents}
 use Rattle.tlv_walk.specs.Private.FollowsPiece.{Follows, FollowsPiece, GoesOnIn, WalkState, WalksOver, WalksTo, walk_state}
 use Rattle.tlv_walk.specs.Forest.{Forest}
-use Rattle.tlv_walk.specs.Inside.{can_name}
 use Rattle.tlv_walk.specs.WalkerState.{IsAfterEvent, WalkerState}
-use Rattle.tlv_walk.specs.Private.WalkerState.{wrappers_after}
 use Rattle.tlv_io.specs.Out.{Puts}
 use Rattle.tlv_walk.specs.Reading.{IsReading}
 use Rattle.tlv_walk.specs.Stands.{Stands, waiting_events}
 use Rattle.tlv_walk.specs.StepsTo.{StepsTo}
-use Rattle.tlv_walk.specs.HasRead.{IsRefusedAfter, StandsRefused}
-use Rattle.tlv_walk.specs.Wrappers.{wrapper_offsets}
+use Rattle.tlv_walk.specs.HasRead.{StandsRefused}
 use Rattle.tlv_walk.proofs.FollowerLemmas.Followed.{events_more, events_one, followed-more, followed-one}
 use Rattle.tlv_walk.proofs.EventLemmas.Joined.{apart-before, apart-from_joined, joined-from_apart}
 use Rattle.tlv_walk.proofs.EventLemmas.Prefixes.{events-prefix}
 use Rattle.tlv_io.proofs.Puts.{HasPut, puts_as, puts_failed_last, puts_nothing, puts_then_as}
-use Rattle.tlv_walk.proofs.EventLemmas.Unused.{yielded_unused}
 use Rattle.tlv_walk.proofs.WalkerLemmas.HasRead.{never_refused}
 
 -- nothing was walked over
@@ -58,20 +54,12 @@ refused_there w u v piece mid after f more x o yielded st (inl r) =
     let all : (o ++ x.taken) ++ r.takes.taken ≡ o ++ (x.taken ++ r.takes.taken) = append_assoc o x.taken r.takes.taken in
     let there : StandsRefused v (o ++ (x.taken ++ r.takes.taken)) r.octet (yielded ++ more) f =
     subst (λ (l : List ℕ). StandsRefused v l r.octet (yielded ++ more) f) all (r.stands (o ++ x.taken) (yielded ++ more) st) in
-    let framing : v.framing ≡ w.framing = r.takes.framing ∙ x.framing in
-    let refused : IsRefusedAfter w.framing (o ++ (x.taken ++ r.takes.taken)) r.octet (yielded ++ more) f =
-    subst (λ (g : Framing). IsRefusedAfter g (o ++ (x.taken ++ r.takes.taken)) r.octet (yielded ++ more) f) framing there.refused in record {
+    record {
       taken = x.taken ++ r.takes.taken;
       octet = r.octet;
       others = r.others;
       piece_is = x.piece_is ∙ ap (λ (l : List ℕ). x.taken ++ l) (r.takes.piece_is ∙ ap (λ (l : List ℕ). r.takes.taken ++ l) r.rest_is) ∙ sym (append_assoc x.taken r.takes.taken (r.octet ∷ r.others));
-      framing = framing;
-      offset = there.offset;
-      refused = refused;
-      unused =
-          ap₂ (λ (g : Framing) (n : ℕ). slice_get g.inside n) framing (r.wrapper_count ∙ st.private_state.found ∙ ap (λ (g : Framing). wrappers_after g.inside 0 (wrapper_offsets (yielded ++ more))) x.framing)
-          ∙ yielded_unused w.framing (yielded ++ more) [] refused.reading (subst (λ (g : Framing). can_name g.inside ≡ true) x.framing st.private_state.named) (refused.stays []).is_open refl
-          (subst (λ (es : List EventValue). AreEqualJoined es (events refused.reading)) (sym (append-nil (yielded ++ more))) refused.all_events);
+      framing = r.takes.framing ∙ x.framing;
       stands = there;
     }
 refused_there w u v piece mid after f more x o yielded st (inr r) = absurd (never_refused u (o ++ x.taken) (yielded ++ more) f st r.refused)

@@ -1,5 +1,5 @@
 -- What a walker stands for once all events were followed, and how what was put of a piece is flushed.
-use Rattle.std.proofs.Common.{◌≡◌, ℕ, ◌-◌, List, [], ◌∷◌, ◌++◌, refl, sym, ap, ◌∙◌, subst, append_assoc, append-nil}
+use Rattle.std.proofs.Common.{◌≡◌, ℕ, List, [], ◌∷◌, ◌++◌, refl, sym, ap, ◌∙◌, subst, append_assoc, append-nil}
 use Rattle.std.specs.Prelude.{Ok, Err, ⊤}
 use Rattle.tlv_head.specs.declared.fault.Fault.{Fault}
 use Rattle.tlv_io.specs.declared.drain.WriteFault.{WriteFault}
@@ -11,7 +11,10 @@ use Rattle.tlv_walk.specs.Events.{AreEqualJoined, EventValue, events}
 use Rattle.tlv_walk.specs.Follow.{Effect, effect_of}
 use Rattle.tlv_walk.specs.Private.FollowsPiece.{Fails, FollowsAndFlushes, FollowsPiece, FollowsToFault, GoesOnIn, Pauses, WalkState, WalksTo, walk_state}
 use Rattle.tlv_walk.specs.Forest.{Forest, spelling}
-use Rattle.tlv_walk.specs.WalkerState.{WalkerState}
+use Rattle.tlv_walk.specs.declared.framing.Framing.{Framing}
+use Rattle.tlv_walk.specs.HasRead.{IsRefusedAfter}
+use Rattle.tlv_walk.specs.WalkerState.{WalkerState, first_without_wrapper_in}
+use Rattle.tlv_walk.specs.Wrappers.{first_without_wrapper}
 use Rattle.tlv_io.specs.Out.{Puts, held_octets, drain_of}
 use Rattle.tlv_walk.specs.Place.{top_place}
 use Rattle.tlv_walk.specs.Reading.{AreOctets, IsReading}
@@ -43,12 +46,23 @@ stands_yielded v b yielded f st idle r =
 pub fault_octets : (w v : WalkerState) (b piece : List ℕ) (yielded more : List EventValue) (e : Fault) → (k : WalksTo w v piece more e b yielded) → (b ++ k.taken) ++ k.octet ∷ k.others ≡ b ++ piece
 fault_octets w v b piece yielded more e k = append_assoc b k.taken (k.octet ∷ k.others) ∙ ap (λ (o : List ℕ). b ++ o) (sym k.piece_is)
 
-pub fault_is_reading : (w v : WalkerState) (b piece : List ℕ) (yielded more : List EventValue) (e : Fault) → (k : WalksTo w v piece more e b yielded) → IsReading w.framing (b ++ piece) k.refused.reading
-fault_is_reading w v b piece yielded more e k = subst (λ (o : List ℕ). IsReading w.framing o k.refused.reading) (fault_octets w v b piece yielded more e k) (k.refused.stays k.others)
+-- the octet is refused by the framing that the walker had before
+pub walked_refused : (w v : WalkerState) (b piece : List ℕ) (yielded more : List EventValue) (e : Fault) → (k : WalksTo w v piece more e b yielded)
+    → (r : IsRefusedAfter w.framing (b ++ k.taken) k.octet (yielded ++ more) e) × (first_without_wrapper_in v ≡ first_without_wrapper w.framing.inside r.reading)
+walked_refused w v b piece yielded more e k =
+    subst (λ (g : Framing). (r : IsRefusedAfter g (b ++ k.taken) k.octet (yielded ++ more) e) × (first_without_wrapper_in v ≡ first_without_wrapper g.inside r.reading))
+    k.framing (k.stands.refused, k.stands.unused)
 
-fault_reading : (w v : WalkerState) (b piece : List ℕ) (yielded more : List EventValue) (e : Fault) (f : Forest) → (k : WalksTo w v piece more e b yielded) → IsReading w.framing (b ++ piece) f → k.refused.reading ≡ f
+pub fault_is_reading : (w v : WalkerState) (b piece : List ℕ) (yielded more : List EventValue) (e : Fault) → (k : WalksTo w v piece more e b yielded)
+    → IsReading w.framing (b ++ piece) (walked_refused w v b piece yielded more e k).0.reading
+fault_is_reading w v b piece yielded more e k =
+    let r : IsRefusedAfter w.framing (b ++ k.taken) k.octet (yielded ++ more) e = (walked_refused w v b piece yielded more e k).0 in
+    subst (λ (o : List ℕ). IsReading w.framing o r.reading) (fault_octets w v b piece yielded more e k) (r.stays k.others)
+
+fault_reading : (w v : WalkerState) (b piece : List ℕ) (yielded more : List EventValue) (e : Fault) (f : Forest) → (k : WalksTo w v piece more e b yielded) → IsReading w.framing (b ++ piece) f
+    → (walked_refused w v b piece yielded more e k).0.reading ≡ f
 fault_reading w v b piece yielded more e f k r =
-    reading-unique w.framing (b ++ piece) k.refused.reading f (fault_is_reading w v b piece yielded more e k) r
+    reading-unique w.framing (b ++ piece) (walked_refused w v b piece yielded more e k).0.reading f (fault_is_reading w v b piece yielded more e k) r
 
 module _ {S : Type 0} (next : S → EventValue → Effect S) where
   -- ---- what was put is flushed, or cannot be
@@ -60,7 +74,8 @@ module _ {S : Type 0} (next : S → EventValue → Effect S) where
         let k : WalksTo x.walker y.walker piece more e b yielded = to.walked b yielded st in (
           [],
           subst (λ (es : List EventValue). AreEqualJoined es (events f)) (sym (append-nil (yielded ++ more)))
-              (subst (λ (g : Forest). AreEqualJoined (yielded ++ more) (events g)) (fault_reading x.walker y.walker b piece yielded more e f k r) k.refused.all_events),
+              (subst (λ (g : Forest). AreEqualJoined (yielded ++ more) (events g)) (fault_reading x.walker y.walker b piece yielded more e f k r)
+              (walked_refused x.walker y.walker b piece yielded more e k).0.all_events),
         )
 
     pauses_failing : (x y : WalkState S D) (piece : List ℕ) (more : List EventValue) (why : Pause) → Pauses next x y piece more (Ok why) → Fails next x y piece more

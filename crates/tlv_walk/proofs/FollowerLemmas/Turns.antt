@@ -40,7 +40,7 @@ use Rattle.tlv_walk.proofs.GrammarLemmas.Readings.{reading-longer}
 use Rattle.tlv_walk.proofs.FollowerLemmas.SoFar.{limit_after}
 use Rattle.tlv_walk.proofs.WalkerLemmas.EventOctets.{stands-yielded_octets}
 use Rattle.tlv_walk.proofs.EventLemmas.Unused.{stands-entered, stands_unused}
-use Rattle.tlv_walk.proofs.FollowerLemmas.Pauses.{fault_octets, fault_is_reading, stands_spelled, stands_yielded}
+use Rattle.tlv_walk.proofs.FollowerLemmas.Pauses.{fault_octets, fault_is_reading, stands_spelled, stands_yielded, walked_refused}
 
 -- a run with these values
 pub run_is : (run : Run) (e : Ending) (n : ℕ) (k : Bool) (u : Option ℕ) → run.ending ≡ e → run.octets ≡ n → run.enough ≡ k → run.unused ≡ u → run ≡ record { ending = e; octets = n; enough = k; unused = u }
@@ -99,14 +99,15 @@ module _ {S D : Type 0} (next : S → EventValue → Effect S) (old new : TurnSt
   -- an octet is refused
   pub fault_ends : (e : Fault) → FollowsToFault next x y piece more e → (run : Run) → IsRun run (ending.Fault e) false v → EndsIn next old new (b ++ piece) yielded run
   fault_ends e to_fault run is =
-      let k : WalksTo w v piece more e b yielded = to_fault.walked b yielded st in record {
+      let k : WalksTo w v piece more e b yielded = to_fault.walked b yielded st in
+      let r = walked_refused w v b piece yielded more e k in record {
         all = yielded ++ more;
         follows = record { more = more; all_is = refl; made = to_fault.made; put = put; framing = k.framing };
-        reads = record { reading = k.refused.reading; is_reading = fault_is_reading w v b piece yielded more e k; all_events = k.refused.all_events };
-        ending = subst (λ (g : Ending). IsEnding w.framing (b ++ piece) g) (sym is.ending) (subst (λ (o : List ℕ). IsEnding w.framing o (ending.Fault e)) (fault_octets w v b piece yielded more e k) (k.refused.ends k.others));
+        reads = record { reading = r.0.reading; is_reading = fault_is_reading w v b piece yielded more e k; all_events = r.0.all_events };
+        ending = subst (λ (g : Ending). IsEnding w.framing (b ++ piece) g) (sym is.ending) (subst (λ (o : List ℕ). IsEnding w.framing o (ending.Fault e)) (fault_octets w v b piece yielded more e k) (r.0.ends k.others));
         run_is =
-            run_is run run.ending (length (spelling k.refused.reading)) false (first_without_wrapper w.framing.inside k.refused.reading) refl
-            (is.octets ∙ k.offset ∙ ap length (sym k.refused.spelled)) is.enough (is.unused ∙ k.unused);
+            run_is run run.ending (length (spelling r.0.reading)) false (first_without_wrapper w.framing.inside r.0.reading) refl
+            (is.octets ∙ k.stands.offset ∙ ap length (sym r.0.spelled)) is.enough (is.unused ∙ r.1);
         walker = refused_one e (record { taken = b ++ k.taken; octet = k.octet; others = k.others; octets_is = fault_octets w v b piece yielded more e k; stands = k.stands });
       }
 
@@ -210,8 +211,9 @@ module _ {S D : Type 0} (next : S → EventValue → Effect S) (old new : TurnSt
       → TurnsTo next old new limit b yielded r (Ok (Ended run))
   turns_fault run e why x is =
       let k : WalksTo old.walker new.walker piece x.more e b yielded = x.pauses.walked b yielded st in
+      let r = (walked_refused old.walker new.walker b piece yielded x.more e k).0 in
       at_fault (ends_in run (fault_ends next old new from to b piece yielded x.more (sent why x.more x.put) st e x.pauses run is))
-      (subst IsFinalEnding (sym is.ending) (refused-final old.walker.framing (b ++ k.taken) k.octet [] e k.refused.offset (k.refused.ends [])))
+      (subst IsFinalEnding (sym is.ending) (refused-final old.walker.framing (b ++ k.taken) k.octet [] e r.offset (r.ends [])))
 
   turns_enough : (run : Run) (why : Pause) → Followed why pause.Enough → IsRun run ending.Done true new.walker → TurnsTo next old new limit b yielded r (Ok (Ended run))
   turns_enough run why x is =

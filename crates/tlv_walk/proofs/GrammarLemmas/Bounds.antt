@@ -8,9 +8,8 @@ use Rattle.tlv_head.specs.declared.header.Size.TheVariants.{Definite, Indefinite
 use Rattle.tlv_head.specs.Header.{HeaderValue, announced_length, holds, is_wrapper, octets_of}
 use Rattle.tlv_walk.specs.Forest.{end_octets, lead}
 use Rattle.tlv_walk.proofs.GrammarLemmas.Spellings.{length-opening}
-use Rattle.tlv_walk.specs.Place.{Fits, Place, is_indefinite, place_of_children}
+use Rattle.tlv_walk.specs.Place.{Fits, Place, bound_in, is_indefinite, place_of_children}
 use Rattle.tlv_walk.proofs.GrammarLemmas.Lengths.{HasLength, LacksOctets}
-use Rattle.tlv_walk.specs.Private.Stack.{bound_in}
 
 -- the offset n is not past the bound
 abbrev pub within : Option ℕ → ℕ → Bool

@@ -6,8 +6,7 @@ use Rattle.tlv_head.specs.declared.header.Size.TheVariants.{Definite, Indefinite
 use Rattle.tlv_head.specs.Header.{HeaderValue, octets_of}
 use Rattle.tlv_walk.specs.declared.framing.Framing.{Framing}
 use Rattle.tlv_walk.specs.Forest.{Forest, Holder, NoMore, contents_length, is_complete, opening, spelling}
-use Rattle.tlv_walk.specs.Place.{Fits, IsOpen, Place, place_after, place_of_children, top_place}
-use Rattle.tlv_walk.specs.Private.Stack.{bound_in}
+use Rattle.tlv_walk.specs.Place.{Fits, IsOpen, Place, bound_in, place_after, place_of_children, top_place}
 use Rattle.tlv_walk.specs.Stack.{IsFilled}
 use Rattle.tlv_walk.specs.Private.Zipper.{AreLayers, AreWhole, Layer, frames_of, place_in, spelling_of_layers}
 use Rattle.tlv_walk.specs.Stands.{is_end}

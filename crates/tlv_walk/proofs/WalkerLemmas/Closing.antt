@@ -11,10 +11,10 @@ use Rattle.tlv_walk.specs.Wrappers.{wrapper_offsets}
 use Rattle.std.proofs.lemmas.Bool.{cases_Bool}
 use Rattle.tlv_walk.specs.WalkerState.{WalkerState}
 use Rattle.tlv_walk.specs.Private.WalkerState.{wrappers_after}
-use Rattle.tlv_walk.specs.Place.{Fits, IsEntry, IsOpen, Place, is_indefinite, place_after}
+use Rattle.tlv_walk.specs.Place.{Fits, IsEntry, IsOpen, IsWithin, Place, bound_in, is_indefinite, place_after}
 use Rattle.tlv_walk.proofs.GrammarLemmas.Lengths.{HasLength}
-use Rattle.tlv_walk.specs.Stack.{Frame, IsFilled, IsInIndefinite, IsInWrapper, IsWithin, bound_of}
-use Rattle.tlv_walk.specs.Private.Stack.{wraps_of, bound_in}
+use Rattle.tlv_walk.specs.Stack.{Frame, IsFilled, IsInIndefinite, IsInWrapper, bound_of}
+use Rattle.tlv_walk.specs.Private.Stack.{wraps_of}
 use Rattle.tlv_walk.specs.Private.Yields.{Continues}
 use Rattle.tlv_walk.specs.Private.Zipper.{AreWhole, Between, HasZipper, InEndOctets, Layer, Tail, Zipper, events_of_layers, events_of_tail, frame_at, frames_of, place_in, place_of, spelling_of_layers, spelling_of_tail}
 use Rattle.tlv_walk.specs.Stands.{filled_end}

@@ -10,8 +10,8 @@ use Rattle.tlv_walk.specs.Forest.{Forest, NoMore, OpenBitString, lead, opening, 
 use Rattle.tlv_walk.specs.Inside.{is_among}
 use Rattle.tlv_walk.specs.WalkerState.{WalkerState}
 use Rattle.tlv_walk.specs.Private.WalkerState.{after_header}
-use Rattle.tlv_walk.specs.Place.{Fits, IsEntry, IsHeaderAt, IsOpen, Place}
-use Rattle.tlv_walk.specs.Stack.{Frame, IsWithin, bound_of}
+use Rattle.tlv_walk.specs.Place.{Fits, IsEntry, IsHeaderAt, IsOpen, IsWithin, Place}
+use Rattle.tlv_walk.specs.Stack.{Frame, bound_of}
 use Rattle.tlv_walk.specs.Private.Zipper.{InBitString, Between, HasZipper, InPrimitive, InEndOctets, InHeader, IsPhaseOf, Layer, Tail, Zipper, events_of_layers, events_of_tail, frame_at, frames_of, place_in, place_of, spelling_of_layers, spelling_of_tail}
 use Rattle.tlv_walk.specs.Private.Yields.{Continues}
 use Rattle.tlv_walk.proofs.WalkerLemmas.Moves.{between_tail, phase_at, spelled_after, tail_state, yielded_after, with_tail}

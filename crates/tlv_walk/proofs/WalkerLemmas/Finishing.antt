@@ -3,10 +3,10 @@ use Rattle.std.proofs.Common.{◌≡◌, ℕ, true, false, List, [], sym, subst}
 use Rattle.tlv_head.specs.declared.fault.FaultCode.TheVariants.{Empty, Short}
 use Rattle.tlv_walk.specs.declared.ending.Ending.TheVariants as ending
 use Rattle.tlv_walk.specs.Phase as phase
-use Rattle.tlv_walk.specs.Ending.{IsEnding, fault_ending}
+use Rattle.tlv_walk.specs.Ending.{IsEnding, fault_at, fault_ending}
 use Rattle.tlv_walk.specs.Events.{EventValue}
 use Rattle.tlv_walk.specs.WalkerState.{WalkerState}
-use Rattle.tlv_walk.specs.Private.WalkerState.{EventWaits, fault_at}
+use Rattle.tlv_walk.specs.Private.WalkerState.{EventWaits}
 use Rattle.tlv_walk.specs.Stands.{Stands}
 use Rattle.tlv_walk.proofs.WalkerLemmas.ZipperEndings.{state-done, state-empty, state-short}
 

@@ -20,7 +20,8 @@ use Rattle.tlv_walk.specs.WalkerState.{WalkerState}
 use Rattle.tlv_walk.specs.Private.WalkerState.{CanEnter, TakesHeader, wrappers_after}
 use Rattle.tlv_walk.specs.Wrappers.{wrapper_offsets}
 use Rattle.tlv_walk.specs.Private.ReadsOn.{CompletesHeader, HandsOver, YieldsHeader}
-use Rattle.tlv_walk.specs.Stack.{IsWithin, bound_of}
+use Rattle.tlv_walk.specs.Stack.{bound_of}
+use Rattle.tlv_walk.specs.Place.{IsWithin}
 use Rattle.tlv_walk.specs.Private.Stack.{room_to}
 use Rattle.tlv_walk.specs.Private.Zipper.{Between, HasZipper, InHeader, IsPhaseOf, Zipper, place_of}
 use Rattle.tlv_walk.specs.Private.Yields.{Continues, YieldsEvent}

@@ -13,8 +13,8 @@ use Rattle.tlv_walk.specs.WalkerState.{WalkerState}
 use Rattle.tlv_walk.specs.Private.WalkerState.{next_wrapper, wrappers_after}
 use Rattle.tlv_walk.specs.Wrappers.{wrapper_offsets}
 use Rattle.tlv_walk.proofs.EventLemmas.Wrappers.{enters-append}
-use Rattle.tlv_walk.specs.Place.{Fits, IsOpen, Place, is_indefinite, place_after}
-use Rattle.tlv_walk.specs.Stack.{Frame, IsInIndefinite, IsWithin, bound_of}
+use Rattle.tlv_walk.specs.Place.{Fits, IsOpen, IsWithin, Place, is_indefinite, place_after}
+use Rattle.tlv_walk.specs.Stack.{Frame, IsInIndefinite, bound_of}
 use Rattle.tlv_walk.specs.Private.Zipper.{AreWhole, InBitString, Between, HasZipper, InPrimitive, InEndOctets, InHeader, IsContents, IsPhaseOf, Layer, Tail, Zipper, begins_among, events_of_layers, frames_of, place_in, place_of, spelling_of_layers}
 use Rattle.tlv_walk.specs.Private.Yields.{Continues}
 use Rattle.tlv_walk.proofs.EventLemmas.Joined.{apart-before, apart-from_joined, apart-more, joined-from_apart}

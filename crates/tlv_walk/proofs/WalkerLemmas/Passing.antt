@@ -15,7 +15,8 @@ use Rattle.tlv_walk.specs.Phase.{Phase}
 use Rattle.tlv_walk.specs.Phase as phase
 use Rattle.tlv_walk.specs.Private.WalkerState.{CanPass, after_header, header_at}
 use Rattle.tlv_walk.specs.Private.Yields.{Continues}
-use Rattle.tlv_walk.specs.Stack.{IsWithin, bound_of}
+use Rattle.tlv_walk.specs.Stack.{bound_of}
+use Rattle.tlv_walk.specs.Place.{IsWithin}
 use Rattle.tlv_walk.proofs.WalkerLemmas.HeaderKinds.{fast_enters}
 use Rattle.tlv_walk.proofs.WalkerLemmas.Moves.{continues_both, yields_passed}
 

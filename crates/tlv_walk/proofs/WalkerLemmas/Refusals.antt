@@ -7,11 +7,12 @@ use Rattle.tlv_walk.specs.declared.ending.Ending.TheVariants as ending
 use Rattle.tlv_head.specs.declared.fault.Fault.{Fault}
 use Rattle.tlv_walk.specs.Phase.{Phase}
 use Rattle.tlv_walk.specs.Phase as phase
-use Rattle.tlv_walk.specs.Ending.{IsEnding, IsFault, bad_end, bad_inside, fault_ending, missing_end, no_end, stray_end}
+use Rattle.tlv_walk.specs.Ending.{IsEnding, IsFault, bad_end, bad_inside, fault_at, fault_ending, missing_end, no_end, stray_end}
 use Rattle.tlv_walk.specs.Events.{EventValue}
 use Rattle.tlv_walk.specs.WalkerState.{WalkerState}
-use Rattle.tlv_walk.specs.Private.WalkerState.{EventWaits, EventWaitsIn, fault_at}
-use Rattle.tlv_walk.specs.Stack.{IsFilled, IsInIndefinite, IsWithin, bound_of}
+use Rattle.tlv_walk.specs.Private.WalkerState.{EventWaits, EventWaitsIn}
+use Rattle.tlv_walk.specs.Stack.{IsFilled, IsInIndefinite, bound_of}
+use Rattle.tlv_walk.specs.Place.{IsWithin}
 use Rattle.tlv_walk.specs.Private.Stack.{room_to, room_in}
 use Rattle.tlv_walk.specs.Private.Zipper.{InBitString, Between, HasZipper, InEndOctets, Layer, Zipper, frames_of, place_in, place_of}
 use Rattle.tlv_walk.specs.Private.Yields.{RefusesOctet}

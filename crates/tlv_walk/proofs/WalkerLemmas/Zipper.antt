@@ -7,9 +7,8 @@ use Rattle.tlv_head.specs.Header.{HeaderValue, announced_length, octets_of}
 use Rattle.tlv_walk.specs.declared.framing.Framing.{Framing}
 use Rattle.tlv_walk.specs.Ending.{tip}
 use Rattle.tlv_walk.specs.Forest.{Forest, Holder, NoMore, OpenBitString, OpenEndOctets, OpenHeader, OpenHolder, OpenPrimitive, PaddingOctet, Primitive, contents_length, end_octets, extent, has_element, is_complete, opening, spelling}
-use Rattle.tlv_walk.specs.Place.{Fits, IsOpen, Place, is_indefinite, place_after, top_place}
+use Rattle.tlv_walk.specs.Place.{Fits, IsOpen, Place, bound_in, is_indefinite, place_after, top_place}
 use Rattle.tlv_walk.proofs.GrammarLemmas.Lengths.{LacksOctets}
-use Rattle.tlv_walk.specs.Private.Stack.{bound_in}
 use Rattle.tlv_walk.specs.Stack.{IsInIndefinite, bound_of}
 use Rattle.tlv_walk.specs.Private.Zipper.{AreLayers, AreWhole, InBitString, Between, InPrimitive, InEndOctets, InHeader, Layer, Tail, Zipper, frames_of, place_in, spelling_of_layers}
 use Rattle.tlv_walk.proofs.GrammarLemmas.Bounds.{fits-inside}

@@ -13,12 +13,11 @@ use Rattle.tlv_walk.specs.declared.one_turn.Pause.TheVariants as pause
 use Rattle.tlv_walk.specs.Events.{AreEqualJoined, EventValue, events}
 use Rattle.tlv_walk.specs.Follow.{Effect, effect_of}
 use Rattle.tlv_walk.specs.Forest.{Forest}
-use Rattle.tlv_walk.specs.WalkerState.{IsAfterEvent, WalkerState, first_without_wrapper_in}
+use Rattle.tlv_walk.specs.WalkerState.{IsAfterEvent, WalkerState}
 use Rattle.tlv_walk.specs.Private.WalkerState.{Passes}
 use Rattle.tlv_walk.specs.Reading.{AreOctets, IsReading}
 use Rattle.tlv_walk.specs.Stands.{CanTake, Stands}
-use Rattle.tlv_walk.specs.HasRead.{IsRefusedAfter, StandsRefused}
-use Rattle.tlv_walk.specs.Wrappers.{first_without_wrapper}
+use Rattle.tlv_walk.specs.HasRead.{StandsRefused}
 use Rattle.tlv_walk.specs.FollowsEvents.{FollowsEvents}
 
 -- what was walked over: a prefix of a piece, and the events yielded of it
@@ -37,9 +36,6 @@ pub record WalksTo (old new : WalkerState) (piece : List ℕ) (more : List Event
   pub others : List ℕ
   pub piece_is : piece ≡ taken ++ octet ∷ others
   pub framing : new.framing ≡ old.framing
-  pub offset : new.offset ≡ length (b ++ taken)
-  pub refused : IsRefusedAfter old.framing (b ++ taken) octet (yielded ++ more) f
-  pub unused : first_without_wrapper_in new ≡ first_without_wrapper old.framing.inside refused.reading
   pub stands : StandsRefused new (b ++ taken) octet (yielded ++ more) f
 
 -- the octets yield these events, joined, and then others

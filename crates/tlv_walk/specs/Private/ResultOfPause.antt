@@ -14,7 +14,7 @@ use Rattle.tlv_walk.specs.Events.{EventValue}
 use Rattle.tlv_walk.specs.WalkerState.{WalkerState, first_without_wrapper_in}
 use Rattle.tlv_walk.specs.Stands.{Stands}
 
--- a run that goes by these values
+-- a run with this ending, and the counts of this walker
 pub record IsRun (run : Run) (e : Ending) (is_enough : Bool) (v : WalkerState) : Type 0 where
   pub ending : run.ending ≡ e
   pub enough : run.enough ≡ is_enough

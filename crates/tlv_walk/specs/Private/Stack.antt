@@ -1,8 +1,8 @@
 -- What the functions of a stack return.
-use Rattle.std.specs.Prelude.{ℕ, ◌+◌, ◌-◌, Bool, not, List, [], ◌∷◌, Option, Some, None}
-use Rattle.std.specs.Option.{option_map_or, option_or}
-use Rattle.tlv_head.specs.Header.{definite_length}
+use Rattle.std.specs.Prelude.{ℕ, ◌-◌, Bool, not, List, [], ◌∷◌, Option, Some, None}
+use Rattle.std.specs.Option.{option_or}
 use Rattle.tlv_head.specs.declared.header.Size.{Size}
+use Rattle.tlv_walk.specs.Place.{bound_in}
 use Rattle.tlv_walk.specs.Stack.{Frame, bound_of}
 
 -- whether the innermost element wraps encodings, if there is one
@@ -21,10 +21,6 @@ room_to (Some b) offset = Some (b - offset)
 
 abbrev pub room_in : List Frame → ℕ → Option ℕ
 room_in stack offset = room_to (bound_of stack) offset
-
--- 8.1.3.3: the end of contents that begin there, or else the bound outside
-abbrev pub bound_in : Size → ℕ → Option ℕ → Option ℕ
-bound_in size start outside = option_map_or (λ n. Some (start + n)) (definite_length size) outside
 
 -- the frame of an element whose contents begin at the offset
 abbrev pub frame_with : ℕ → Option ℕ → Size → Bool → Frame

@@ -1,10 +1,9 @@
 -- What the walker's own functions require and return.
-use Rattle.std.specs.Prelude.{◌≡◌, ◌≢◌, ◌⊎◌, ℕ, ◌+◌, ◌^◌, ◌<◌, ◌≤◌, true, false, ◌||◌, eqb, if◌then◌else◌, slice_get, List, [], ◌∷◌, length, take, Option, Some, None}
+use Rattle.std.specs.Prelude.{◌≡◌, ◌≢◌, ◌⊎◌, ℕ, ◌+◌, ◌^◌, ◌<◌, ◌≤◌, true, false, eqb, if◌then◌else◌, slice_get, List, [], ◌∷◌, length, take, Option, Some, None}
 use Rattle.tlv_head.specs.declared.fault.Fault.{Fault as FaultOf}
-use Rattle.tlv_head.specs.declared.fault.FaultCode.{FaultCode}
-use Rattle.tlv_head.specs.Header.{HeaderValue, IsHeader, announced_length, holds, is_wrapper, octets_of}
+use Rattle.tlv_head.specs.Header.{HeaderValue, IsHeader, announced_length, holds, octets_of}
 use Rattle.tlv_head.specs.HeadReaderState.{HeadReaderState}
-use Rattle.tlv_head.specs.HeaderFields.{header_with}
+use Rattle.tlv_head.specs.HeaderFields.{fields_hold, fields_wrap, header_with}
 use Rattle.tlv_head.specs.ReadHeader.{BeginsWithFields}
 use Rattle.std.specs.Borrow.{Bor}
 use Rattle.std.specs.Option.{option_map, option_map_or}
@@ -19,7 +18,8 @@ use Rattle.tlv_head.specs.declared.header.HeaderFields.{HeaderFields}
 use Rattle.tlv_walk.specs.declared.walker.quick.WholePrimitive.{WholePrimitive}
 use Rattle.tlv_walk.specs.Inside.{is_among}
 use Rattle.tlv_walk.specs.Phase.{Phase, Between, InHeader, InPrimitive, InBitString, InEndOctets, Refused}
-use Rattle.tlv_walk.specs.Stack.{Frame, IsFilled, IsWithin, bound_of}
+use Rattle.tlv_walk.specs.Stack.{Frame, IsFilled, bound_of}
+use Rattle.tlv_walk.specs.Place.{IsWithin}
 use Rattle.tlv_walk.specs.Private.Stack.{frame_with, room_in}
 use Rattle.tlv_walk.specs.WalkerState.{HasOctets, IsAfterEvent, WalkerState}
 
@@ -134,9 +134,6 @@ pub record CanEnter (w : WalkerState) (h : HeaderValue) : Type 0 where
   pub shallow : holds h ≡ true → length w.stack < 128
   pub fits : IsWithin (bound_of w.stack) (h.offset + length (octets_of h) + announced_length h.size)
 
-abbrev pub fault_at : FaultCode → ℕ → FaultOf
-fault_at code offset = record { code = code; offset = offset }
-
 -- after a whole header
 abbrev pub after_header : WalkerState → Phase → ℕ → WalkerState
 after_header w phase at = record w { phase = phase; offset = at; events = w.events + 1; has_element = true }
@@ -144,7 +141,7 @@ after_header w phase at = record w { phase = phase; offset = at; events = w.even
 -- where a walker stands after a header
 abbrev pub TakesHeader : WalkerState → WalkerState → HeaderFields → ℕ → HeaderKind → Type 0
 TakesHeader old new f at kind.Primitive =
-    ((f.constructed || is_wrapper f.named f.class f.constructed f.number f.size) ≡ false)
+    (fields_hold f ≡ false)
     × (new ≡ after_header old (InPrimitive (announced_length f.size)) at)
 TakesHeader old new f at kind.Constructed =
     (f.constructed ≡ true)
@@ -153,7 +150,7 @@ TakesHeader old new f at kind.Constructed =
     })
 TakesHeader old new f at kind.Wrapper =
     (f.constructed ≡ false)
-    × (is_wrapper f.named f.class f.constructed f.number f.size ≡ true)
+    × (fields_wrap f ≡ true)
     × (new ≡ record (after_header old (if eqb f.number universal.bit_string then InBitString else Between) at) {
       stack = frame_with at (bound_of old.stack) f.size f.constructed ∷ old.stack;
       wrapper_count = next_wrapper old.framing.inside old.wrapper_count f.offset;

@@ -27,7 +27,7 @@ pub data Tail : Type 0 where
   InPrimitive : (header : HeaderValue) (contents : List ℕ) → Tail
   -- a wrapping BIT STRING without its first contents octet
   InBitString : (header : HeaderValue) → Tail
-  -- the front of a header
+  -- a prefix of a header
   InHeader : (octets : List ℕ) → Tail
   -- the first of the end-of-contents octets
   InEndOctets : Tail

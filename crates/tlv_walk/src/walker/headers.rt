@@ -1,5 +1,5 @@
 //! How a walker takes headers.
-ghost use Rattle.std.specs.Prelude.{◌≡◌, ◌≢◌, ℕ, ◌+◌, ◌^◌, ◌<◌, ◌≤◌, ◌∷◌, [], IsTrue, Some, length, true};
+ghost use Rattle.std.specs.Prelude.{◌≡◌, ◌≢◌, ◌+◌, ◌^◌, ◌<◌, ◌≤◌, [], IsTrue, Some, length, true};
 ghost use Rattle.tlv_head.specs.HeaderFields.{IsHeaderSized, header_with};
 ghost use Rattle.tlv_head.specs.Header.{announced_length, holds, octets_of};
 ghost use Rattle.tlv_head.specs.ReadHeader.{BeginsWithFields};
@@ -8,7 +8,8 @@ ghost use Rattle.tlv_walk.specs.Inside.{is_among};
 ghost use Rattle.tlv_walk.specs.WalkerState.{HasOctets};
 ghost use Rattle.tlv_walk.specs.Private.WalkerState.{CanBegin, CanEnter, CanRead, CanReadOn, CountsAtOnce, CountsStep, TakesHeader, YieldsAt, next_wrapper};
 ghost use Rattle.tlv_walk.specs.Private.ReadsOn.{YieldsFrom, YieldsHeader};
-ghost use Rattle.tlv_walk.specs.Stack.{IsWithin, bound_of};
+ghost use Rattle.tlv_walk.specs.Stack.{bound_of};
+ghost use Rattle.tlv_walk.specs.Place.{IsWithin};
 ghost use Rattle.tlv_walk.specs.HasRead.{event_value};
 ghost use Rattle.tlv_walk.specs.Private.Yields.{YieldsAtOnce, YieldsStep};
 

@@ -3,7 +3,8 @@ use Rattle.tlv_head.specs.HeadReaderState.{HeadReaderState}
 use Rattle.tlv_head.specs.Push.{FitsThere, IsRefusedPush, more, refused, whole}
 use Rattle.tlv_walk.specs.WalkerState.{WalkerState}
 use Rattle.tlv_walk.specs.Private.ReadsOn.{HandsOver}
-use Rattle.tlv_walk.specs.Stack.{IsWithin, bound_of}
+use Rattle.tlv_walk.specs.Stack.{bound_of}
+use Rattle.tlv_walk.specs.Place.{IsWithin}
 use Rattle.tlv_walk.specs.Private.Stack.{room_to}
 use Rattle.tlv_walk.specs.HasRead.{event_value}
 use Rattle.tlv_walk.specs.WalkerFields.{walker_state_of}
