@@ -11,7 +11,7 @@ use Rattle.tlv_value.specs.Arcs.{dotted_text}
 use Rattle.tlv_value.specs.Bits.{bits_of}
 use Rattle.tlv_value.specs.Cuts.{row_size}
 use Rattle.tlv_value.specs.Kind.{is_text}
-use Rattle.tlv_value.specs.Number.{signed_sum}
+use Rattle.tlv_value.specs.Number.{twos_complement}
 use Rattle.tlv_value.specs.Rows.{known_rows, rows_of}
 use Rattle.tlv_value.specs.Units.{quoted_text}
 
@@ -44,7 +44,7 @@ boolean_value octets = octets_value octets
 -- 8.3.3, 8.4
 abbrev pub integer_value : List ℕ → Value
 integer_value [] = octets_value []
-integer_value (x ∷ xs) = value_on_line (signed_decimal (signed_sum (bits_of (x ∷ xs))))
+integer_value (x ∷ xs) = value_on_line (signed_decimal (twos_complement (x ∷ xs)))
 
 abbrev pub bit_count : ℕ → ℕ → List ℕ
 bit_count unused octets = decimal (8 * octets - unused) ++ codes " bits"

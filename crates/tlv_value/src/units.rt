@@ -2,8 +2,8 @@
 ghost use Rattle.std.specs.List.{list_all};
 ghost use Rattle.std.specs.Prelude.{◌≡◌, ◌+◌, ◌*◌, ◌<◌, ◌≤◌, ◌++◌, false, flat_map, length, slice_index, take, true};
 ghost use Rattle.tlv_io.specs.LineTexts.{AddsIfRoom, HasRoomFor};
-ghost use Rattle.tlv_value.specs.Private.Plain.{ArePlain, IsPart, is_ascii, is_plain, octet_text};
-ghost use Rattle.tlv_value.specs.Units.{escaped_number, escaped_octet, is_printable, printable_text, unit_size, unit_text, units, utf8_number, without_zeros};
+ghost use Rattle.tlv_value.specs.Private.Plain.{ArePlain, IsPart, is_ascii, is_plain};
+ghost use Rattle.tlv_value.specs.Units.{escaped_number, escaped_octet, is_printable, octet_text, printable_text, unit_size, unit_text, units, utf8_number, without_zeros};
 
 use crate::kind::Kind;
 use crate::rows::utf8_length;

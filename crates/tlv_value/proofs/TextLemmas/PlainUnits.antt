@@ -8,9 +8,9 @@ use Rattle.std.specs.List.{list_all}
 use Rattle.std.specs.Str.{is_utf8}
 use Rattle.tlv_value.specs.declared.kind.Kind.{Kind}
 use Rattle.tlv_value.specs.declared.kind.Kind.TheVariants.{Octets, Boolean, Integer, Bits, Object, Relative, Text, Utf8, Ucs2, Ucs4}
-use Rattle.tlv_value.specs.Private.Plain.{is_ascii, is_plain, octet_text}
+use Rattle.tlv_value.specs.Private.Plain.{is_ascii, is_plain}
 use Rattle.tlv_io.specs.Cuts.{utf8_length}
-use Rattle.tlv_value.specs.Units.{unit_size, unit_text, units}
+use Rattle.tlv_value.specs.Units.{octet_text, unit_size, unit_text, units}
 use Rattle.tlv_value.proofs.TextLemmas.UnitSteps.{units-step}
 
 plain-octet : (x : ℕ) → is_plain x ≡ true → octet_text x ≡ x ∷ []

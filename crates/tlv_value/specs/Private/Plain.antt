@@ -3,15 +3,11 @@ use Rattle.std.specs.Prelude.{◌≡◌, ℕ, ◌<◌, Bool, true, false, ◌&&�
 use Rattle.tlv_io.specs.LineTexts.{AddsIfRoom}
 use Rattle.tlv_value.specs.declared.kind.Kind.{Kind}
 use Rattle.tlv_value.specs.declared.kind.Kind.TheVariants.{Octets, Boolean, Integer, Bits, Object, Relative, Text, Utf8, Ucs2, Ucs4}
-use Rattle.tlv_value.specs.Units.{escaped_octet, is_printable, printable_text, unit_text, units}
+use Rattle.tlv_value.specs.Units.{is_printable, unit_text, units}
 
 -- a printable character of ASCII that is neither the quotation mark nor the reverse solidus
 abbrev pub is_plain : ℕ → Bool
 is_plain x = is_printable x && not (eqb x 0x22 || eqb x 0x5c)
-
--- a character of one octet, or an octet that is none
-abbrev pub octet_text : ℕ → List ℕ
-octet_text x = if is_printable x then printable_text x else escaped_octet x
 
 -- a character of ASCII has one octet
 abbrev pub is_ascii : Kind → Bool
