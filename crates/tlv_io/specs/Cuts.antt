@@ -1,5 +1,5 @@
--- How octets are cut into rows, as a condition on rows: by how many octets a full row has, and how many want to stand
--- in one row, from an octet on.
+-- How octets are cut into rows, as a condition on rows: by how many octets a full row has, and how many are to be
+-- kept in one row, from an octet on.
 use Rattle.std.specs.Prelude.{◌≡◌, ◌≢◌, ◌⊎◌, ℕ, ◌+◌, ◌<◌, ◌≤◌, if◌then◌else◌, List, [], ◌∷◌, ◌++◌, length, slice_index}
 use Rattle.std.specs.Int.{is_in_range}
 
@@ -13,8 +13,8 @@ last_rows [] = []
 last_rows (x ∷ xs) = (x ∷ xs) ∷ []
 
 module _ (size : ℕ) (wanted : ℕ → ℕ) where
-  -- a row has octets, no more than it has room for, and none is split from those that want to stand with it: none of
-  -- its octets wants more than the row has left
+  -- a row has octets, no more than it has room for, and none is split from those that are to be kept in one row
+  -- with it: none of its octets needs more than the row has left
   pub record IsRow (row : List ℕ) : Type 0 where
     pub some : row ≢ []
     pub short : length row ≤ size

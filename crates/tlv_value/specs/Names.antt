@@ -119,12 +119,16 @@ entries_of lines = flat_map line_entries lines
 abbrev pub has_entry : List ℕ → List Entry → Bool
 has_entry dotted entries = list_any (λ e. bytes_eq dotted e.0) entries
 
+-- how many names a table has at most
+abbrev pub most_names : ℕ
+most_names = 65536
+
 -- why a line is refused that is below others, if it is; lines are numbered from 1
 abbrev pub refusal : List Line → Line → Option NamesFault
 refusal above no_entry = None
 refusal above (entry dotted name) =
     if has_entry dotted (entries_of above) then Some (Repeated (length above + 1))
-    else (if nat_le 65536 (length (entries_of above)) then Some TooLarge else None)
+    else (if nat_le most_names (length (entries_of above)) then Some TooLarge else None)
 refusal above no_oid = Some (BadOid (length above + 1))
 refusal above no_name = Some (BadName (length above + 1))
 refusal above long_line = Some TooLarge

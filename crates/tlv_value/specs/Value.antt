@@ -9,7 +9,7 @@ use Rattle.tlv_value.specs.declared.kind.Kind.{Kind}
 use Rattle.tlv_value.specs.declared.kind.Kind.TheVariants.{Boolean, Integer, Bits, Object, Octets, Relative}
 use Rattle.tlv_value.specs.Arcs.{dotted_text}
 use Rattle.tlv_value.specs.Bits.{bits_of}
-use Rattle.tlv_value.specs.Cuts.{row_size}
+use Rattle.tlv_value.specs.RowSizes.{row_size}
 use Rattle.tlv_value.specs.Kind.{is_text}
 use Rattle.tlv_value.specs.Number.{twos_complement}
 use Rattle.tlv_value.specs.Rows.{known_rows, rows_of}

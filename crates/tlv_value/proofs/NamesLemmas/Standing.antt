@@ -11,8 +11,8 @@ use Rattle.std.specs.FinMap as finite
 use Rattle.std.specs.FinMap.Entries as entries
 use Rattle.std.proofs.lemmas.Bool.{le-leb, lt-leb}
 use Rattle.std.proofs.lemmas.List.{nil_from_length}
-use Rattle.tlv_value.specs.Names.{Entry, Line, Table, entries_of, entry, first_refusal, has_entry, line_entries, lines, long_line, names_line, names_of, no_entry, no_name, no_oid, refusal}
-use Rattle.tlv_value.specs.NamesSteps.{texts_in}
+use Rattle.tlv_value.specs.Names.{Entry, Line, Table, entries_of, entry, first_refusal, has_entry, line_entries, lines, long_line, most_names, names_line, names_of, no_entry, no_name, no_oid, refusal}
+use Rattle.tlv_value.specs.NamesFields.{texts_in}
 use Rattle.tlv_value.specs.Private.NamesSteps.{AddsLine, IsTableOf}
 use Rattle.tlv_value.specs.declared.names.fault.NamesFault.{NamesFault}
 use Rattle.tlv_value.specs.declared.names.fault.NamesFault.TheVariants.{BadOid, BadName, Repeated, TooLarge, ReadFailed, Memory}
@@ -92,7 +92,7 @@ step octets rest after number es new u no_entry s e a =
     (ap length a.1 ∙ s.size ∙ ap length (sym (append-nil (entries_of s.above))))
 step octets rest after number es new u (entry dotted name) s e a =
     let absent : has_entry dotted es ≡ false = a.0 in
-    let few : nat_le 65536 (length (entries_of s.above)) ≡ false = lt-leb 65536 (length (entries_of s.above)) (omega (arith, a.1, s.size)) in
+    let few : nat_le most_names (length (entries_of s.above)) ≡ false = lt-leb most_names (length (entries_of s.above)) (omega (arith, a.1, s.size)) in
     let none : is_some (find dotted (entries_of s.above)) ≡ false = sym (among-find dotted (entries_of s.above)) ∙ among-above octets rest number es s dotted ∙ absent in
     go-on octets rest after number es new (entry dotted name) s e
     (rw (among-above octets rest number es s dotted, absent, few) refl)
@@ -123,7 +123,7 @@ stop Z T octets rest after number es new (Repeated n) (entry dotted name) s e a 
     refused octets rest after number es (entry dotted name) (Repeated n) s e (rw (among-above octets rest number es s dotted, known, line_number) refl)
 stop Z T octets rest after number es new TooLarge (entry dotted name) s e a =
     let absent : has_entry dotted es ≡ false = a.0 in
-    let many : nat_le 65536 (length (entries_of s.above)) ≡ true = le-leb 65536 (length (entries_of s.above)) (omega (arith, a.1, s.size)) in
+    let many : nat_le most_names (length (entries_of s.above)) ≡ true = le-leb most_names (length (entries_of s.above)) (omega (arith, a.1, s.size)) in
     refused octets rest after number es (entry dotted name) TooLarge s e (rw (among-above octets rest number es s dotted, absent, many) refl)
 stop Z T octets rest after number es new ReadFailed (entry dotted name) s e a = absurd a
 stop Z T octets rest after number es new Memory (entry dotted name) s e a = tt

@@ -1,5 +1,5 @@
--- Characters that are written as they are.
-use Rattle.std.specs.Prelude.{◌≡◌, ℕ, ◌<◌, Bool, true, false, ◌&&◌, ◌||◌, not, eqb, if◌then◌else◌, List, ◌++◌, drop, flat_map, slice_index}
+-- Characters in a row: those written as they are, and what is written of the first ones.
+use Rattle.std.specs.Prelude.{◌≡◌, ℕ, ◌<◌, Bool, true, false, ◌&&◌, ◌||◌, not, eqb, List, ◌++◌, drop, flat_map, slice_index}
 use Rattle.tlv_io.specs.LineTexts.{AddsIfRoom}
 use Rattle.tlv_value.specs.declared.kind.Kind.{Kind}
 use Rattle.tlv_value.specs.declared.kind.Kind.TheVariants.{Octets, Boolean, Integer, Bits, Object, Relative, Text, Utf8, Ucs2, Ucs4}

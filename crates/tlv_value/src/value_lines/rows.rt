@@ -167,7 +167,7 @@ pub(crate) fn put_last<D: Drain>(
     put_row(kind, layout, index, row, out)
 }
 
-/// Puts a row, unless that is past the limit.
+/// Puts a row, unless that is beyond the limit.
 #[inline(always)]
 fn put_row<D: Drain>(
     kind: Kind,
@@ -189,7 +189,7 @@ fn put_row<D: Drain>(
     Ok(())
 }
 
-/// Puts three dots in place of the first row past the limit.
+/// Puts three dots in place of the first row beyond the limit.
 #[inline(never)]
 fn put_dots<D: Drain>(
     layout: Layout,
