@@ -30,17 +30,17 @@ ReadsNames new octets (Err ReadFailed) = (new.last ≡ failed) × (length octets
 ReadsNames new octets (Err Memory) = length octets ≤ names_limit
 
 -- the failures of a source: one more if a read failed
-abbrev pub failures_of : {T : Type 0} → Result T NamesFault → ℕ → ℕ
-failures_of (Ok table) before = before
-failures_of (Err (BadOid n)) before = before
-failures_of (Err (BadName n)) before = before
-failures_of (Err (Repeated n)) before = before
-failures_of (Err TooLarge) before = before
-failures_of (Err ReadFailed) before = next_count before
-failures_of (Err Memory) before = before
+abbrev pub names_failures_after : {T : Type 0} → Result T NamesFault → ℕ → ℕ
+names_failures_after (Ok table) old = old
+names_failures_after (Err (BadOid n)) old = old
+names_failures_after (Err (BadName n)) old = old
+names_failures_after (Err (Repeated n)) old = old
+names_failures_after (Err TooLarge) old = old
+names_failures_after (Err ReadFailed) old = next_count old
+names_failures_after (Err Memory) old = old
 
 -- some octets are read, in pieces, and the result is theirs
 pub record ReadsFrom (old new : SourceState) (result : Result Table NamesFault) : Type 0 where
   pub pieces : Pieces old new
   pub result_is : ReadsNames new (octets_given pieces) result
-  pub failures : new.failures ≡ failures_of result old.failures
+  pub failures : new.failures ≡ names_failures_after result old.failures

@@ -115,8 +115,8 @@ abbrev pub has_unused_bits : ValueCheckState → Bool
 has_unused_bits s = eqb s.number universal.bit_string && begins_nonzero s.front
 
 -- the characters are those of the type
-abbrev pub is_allowed_in : ValueCheckState → Bool
-is_allowed_in s =
+abbrev pub is_allowed : ValueCheckState → Bool
+is_allowed s =
     (if eqb s.number universal.utf8_string then s.formed && is_utf8 s.row
     else if eqb s.number universal.bmp_string then eqb (s.size % 2) 0
     else if eqb s.number universal.universal_string then eqb (s.size % 4) 0
@@ -130,7 +130,7 @@ facts_in s = record {
   front = s.front;
   last = s.last;
   is_padded = s.padded;
-  is_allowed = is_allowed_in s;
+  is_allowed = is_allowed s;
   time = s.time;
 }
 

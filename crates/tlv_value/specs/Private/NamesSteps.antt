@@ -10,7 +10,7 @@ use Rattle.std.specs.BTreeMap.{BTreeMap}
 use Rattle.std.specs.Io.KnownBytes.{IsAtEnd}
 use Rattle.tlv_io.specs.Device.{Pieces, SourceState, failed, gave, octets_given}
 use Rattle.tlv_value.specs.Names.{Entry, Line, Table, entry, has_entry, long_line, most_names, names_of, no_entry, no_name, no_oid}
-use Rattle.tlv_value.specs.NamesReading.{IsTooLong, failures_of, names_limit}
+use Rattle.tlv_value.specs.NamesReading.{IsTooLong, names_failures_after, names_limit}
 use Rattle.tlv_value.specs.declared.names.fault.NamesFault.{NamesFault}
 use Rattle.tlv_value.specs.declared.names.fault.NamesFault.TheVariants.{BadOid, BadName, Repeated, TooLarge, ReadFailed, Memory}
 use Rattle.tlv_value.specs.NamesFields.{texts_in, table_in}
@@ -77,4 +77,4 @@ GivesAll new octets (Err Memory) = length octets ≤ names_limit
 pub record Gives {Z : Type 0} (old new : SourceState) (result : Result (Vec ℕ Z) NamesFault) : Type 0 where
   pub pieces : Pieces old new
   pub gives : GivesAll new (octets_given pieces) result
-  pub failures : new.failures ≡ failures_of result old.failures
+  pub failures : new.failures ≡ names_failures_after result old.failures

@@ -10,21 +10,21 @@ abbrev pub is_plain : ℕ → Bool
 is_plain x = is_printable x && not (eqb x 0x22 || eqb x 0x5c)
 
 -- a character of ASCII has one octet
-abbrev pub is_ascii : Kind → Bool
-is_ascii Octets = false
-is_ascii Boolean = false
-is_ascii Integer = false
-is_ascii Bits = false
-is_ascii Object = false
-is_ascii Relative = false
-is_ascii Text = true
-is_ascii Utf8 = true
-is_ascii Ucs2 = false
-is_ascii Ucs4 = false
+abbrev pub has_ascii : Kind → Bool
+has_ascii Octets = false
+has_ascii Boolean = false
+has_ascii Integer = false
+has_ascii Bits = false
+has_ascii Object = false
+has_ascii Relative = false
+has_ascii Text = true
+has_ascii Utf8 = true
+has_ascii Ucs2 = false
+has_ascii Ucs4 = false
 
 -- the first n of the octets are such characters
 abbrev pub ArePlain : Kind → List ℕ → ℕ → Type 0
-ArePlain kind octets n = (0 < n → is_ascii kind ≡ true) × ((i : ℕ) → i < n → is_plain (slice_index octets i) ≡ true)
+ArePlain kind octets n = (0 < n → has_ascii kind ≡ true) × ((i : ℕ) → i < n → is_plain (slice_index octets i) ≡ true)
 
 -- the first n of the octets were written after what was held, if there is room
 abbrev pub IsPart : Kind → List ℕ → List ℕ → List ℕ → ℕ → Type 0

@@ -6,8 +6,8 @@ use Rattle.tlv_value.specs.Layout.{inner_line}
 use Rattle.tlv_value.specs.Value.{row_text}
 
 -- how many spaces are before a row
-abbrev pub row_indent_of : Layout → ℕ
-row_indent_of layout = (if layout.pure then 0 else 17) + 2 * (layout.level + 1)
+abbrev pub row_indent : Layout → ℕ
+row_indent layout = (if layout.pure then 0 else 17) + 2 * (layout.level + 1)
 
 -- the lines of rows of pairs of digits, if there is no limit to rows
 abbrev pub full_line : Layout → List ℕ → List ℕ

@@ -5,7 +5,7 @@ ghost use Rattle.tlv_io.specs.LineTexts.{HasRoomFor};
 ghost use Rattle.tlv_io.specs.Out.{Puts};
 ghost use Rattle.tlv_value.specs.Layout.{inner_line, row_line};
 ghost use Rattle.tlv_value.specs.OpenRow.{IsOpenRow};
-ghost use Rattle.tlv_value.specs.Private.Rows.{full_line, full_lines, row_indent_of};
+ghost use Rattle.tlv_value.specs.Private.Rows.{full_line, full_lines, row_indent};
 ghost use Rattle.tlv_value.specs.Rows.{full_rows, open_row, rows_of};
 ghost use Rattle.tlv_value.specs.Value.{row_text};
 ghost use Rattle.tlv_value.specs.ValueLines.{row_lines};
@@ -223,7 +223,7 @@ fn write_line(held: &mut HeldOctets, layout: Layout, kind: Kind, row: &[u8])
 /// Adds the line of a full row of pairs of digits.
 #[inline(always)]
 fn write_full_line(held: &mut HeldOctets, layout: Layout, row: &[u8; 16])
-    requires { HasRoomFor held.old (row_indent_of layout + 64) }
+    requires { HasRoomFor held.old (row_indent layout + 64) }
     ensures { held.new ≡ held.old ++ full_line layout row.now }
 {
     // Each pair brings the space before it.
