@@ -32,15 +32,15 @@ abbrev pub is_digit_or_space : ℕ → Bool
 is_digit_or_space x = eqb x 32 || is_ascii_digit x
 
 -- X.680 41.4
-abbrev pub is_printable_string : ℕ → Bool
-is_printable_string x = is_digit_or_space x || is_ascii_alphabetic x || list_any (eqb x) (codes "'()+,-./:=?")
+abbrev pub is_printable_string_octet : ℕ → Bool
+is_printable_string_octet x = is_digit_or_space x || is_ascii_alphabetic x || list_any (eqb x) (codes "'()+,-./:=?")
 
 -- the test that each octet of a string of the type with this number passes: NumericString, PrintableString, IA5String,
 -- VisibleString. Other types have none
 abbrev pub octet_test : ℕ → Option (ℕ → Bool)
 octet_test number =
     if eqb number universal.numeric_string then Some is_digit_or_space
-    else if eqb number universal.printable_string then Some is_printable_string
+    else if eqb number universal.printable_string then Some is_printable_string_octet
     else if eqb number universal.ia5_string then Some (λ x. nat_lt x 128)
     else if eqb number universal.visible_string then Some is_printable
     else None
@@ -86,12 +86,12 @@ facts_of number c = record {
 }
 
 -- the first octet. In a BIT STRING it is the number of unused bits
-abbrev pub first : ContentsFacts → ℕ
-first c = slice_index c.front 0
+abbrev pub first_octet : ContentsFacts → ℕ
+first_octet c = slice_index c.front 0
 
 -- 8.6.2.2: the number that the unused bits of the last octet make
 abbrev pub unused_bits_value : ContentsFacts → ℕ
-unused_bits_value c = c.last % 2 ^ first c
+unused_bits_value c = c.last % 2 ^ first_octet c
 
 -- 8.25: a UTCTime or GeneralizedTime of at most 64 octets: of a longer one the form is not looked at
 abbrev pub is_short_time : ℕ → ContentsFacts → Bool
@@ -134,17 +134,17 @@ type_conditions n c =
     -- 8.6.2: a BIT STRING has a first octet, the number of unused bits
     ∷ (n == universal.bit_string && c.size == 0, B13)
     -- 8.6.2.2: it is at most 7
-    ∷ (n == universal.bit_string && nat_lt 7 (first c), B14)
+    ∷ (n == universal.bit_string && nat_lt 7 (first_octet c), B14)
     -- 8.6.2.3: it is 0 if no other octet follows
-    ∷ (n == universal.bit_string && c.size == 1 && nat_le 1 (first c) && nat_le (first c) 7, B15)
+    ∷ (n == universal.bit_string && c.size == 1 && nat_le 1 (first_octet c) && nat_le (first_octet c) 7, B15)
     -- X.680 41: a string of characters has those of its type
     ∷ (is_number_of character_types n && not c.is_allowed, B18)
     -- X.680 46, 47: a time is of its grammar
     ∷ (is_short_time n c && not (times.has_form (time_form n) c.time), B19)
     -- 11.1: TRUE is ff
-    ∷ (n == universal.boolean && c.size == 1 && not (first c == 0 || first c == 0xff), S02)
+    ∷ (n == universal.boolean && c.size == 1 && not (first_octet c == 0 || first_octet c == 0xff), S02)
     -- 11.2.1: unused bits are 0
-    ∷ (n == universal.bit_string && nat_le 2 c.size && nat_le (first c) 7 && not (unused_bits_value c == 0), S03)
+    ∷ (n == universal.bit_string && nat_le 2 c.size && nat_le (first_octet c) 7 && not (unused_bits_value c == 0), S03)
     -- 11.7, 11.8: a time is in the canonical form
     ∷ (is_short_time n c && times.has_form (time_form n) c.time && not (times.has_form (canonical_form n) c.time), S04)
     ∷ []

@@ -15,6 +15,10 @@ margin pure first level = (if pure then [] else first) ++ spaces (2 * level)
 abbrev pub line : Bool → List ℕ → ℕ → List ℕ → List ℕ
 line pure first level text = margin pure first level ++ text ++ 10 ∷ []
 
+-- a line one level further in, without first columns
+abbrev pub inner_line : Layout → List ℕ → List ℕ
+inner_line layout text = line layout.pure no_columns (layout.level + 1) text
+
 -- a row of this number, from 0 on: above the limit the first row is three dots, and the others have no line
 abbrev pub row_within_limit : Option ℕ → ℕ → List ℕ → Option (List ℕ)
 row_within_limit None i text = Some text
@@ -24,5 +28,4 @@ row_within_limit (Some limit) i text =
     else None
 
 abbrev pub row_line : Layout → ℕ → List ℕ → List ℕ
-row_line layout i text =
-    option_map_or (line layout.pure no_columns (layout.level + 1)) (row_within_limit layout.limit i text) []
+row_line layout i text = option_map_or (inner_line layout) (row_within_limit layout.limit i text) []

@@ -4,7 +4,7 @@ pub mod Bits
 pub mod Number
 pub mod Arcs
 pub mod Times
-pub mod Cuts
+pub mod RowSizes
 pub mod Rows
 pub mod OpenRow
 pub mod Units
@@ -22,5 +22,5 @@ pub mod CheckFields
 pub mod CheckLaws
 pub mod Names
 pub mod NamesReading
-pub mod NamesSteps
+pub mod NamesFields
 pub mod Private

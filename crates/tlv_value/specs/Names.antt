@@ -6,9 +6,9 @@ use Rattle.std.specs.Option.{option_map_or, option_or}
 use Rattle.std.specs.Ordering.{nat_cmp}
 use Rattle.std.specs.Cmp.Lexicographic.{slice_cmp}
 use Rattle.std.specs.Str.{bytes_eq}
+use Rattle.std.specs.Str.Parse.{digits_value}
 use Rattle.std.specs.Coded.{Coded, coded_list, coded_ℕ}
 use Rattle.std.specs.FinMap as finite
-use Rattle.tlv_head.specs.Header.{value_of}
 use Rattle.tlv_value.specs.Units.{is_printable}
 use Rattle.tlv_value.specs.declared.names.fault.NamesFault.{NamesFault}
 use Rattle.tlv_value.specs.declared.names.fault.NamesFault.TheVariants.{BadOid, BadName, Repeated, TooLarge}
@@ -48,10 +48,6 @@ without_last_blanks (x ∷ xs) = if list_all is_blank (x ∷ xs) then [] else x 
 abbrev pub without_outer_blanks : List ℕ → List ℕ
 without_outer_blanks octets = without_last_blanks (without_first_blanks octets)
 
--- the number that decimal digits stand for
-abbrev pub decimal_number : List ℕ → ℕ
-decimal_number digits = value_of 10 (map (λ x. x - 48) digits)
-
 -- digits without a leading zero (48); 0 itself is an arc
 abbrev pub is_arc : List ℕ → Bool
 is_arc part =
@@ -60,7 +56,7 @@ is_arc part =
 -- X.660: the first arc is 0, 1 or 2, and below 0 and 1 the second is at most 39
 abbrev pub may_begin : List ℕ → List ℕ → Bool
 may_begin first second =
-    (decimal_number first == 2) || (nat_lt (decimal_number first) 2 && nat_le (decimal_number second) 39)
+    (digits_value 10 first == 2) || (nat_lt (digits_value 10 first) 2 && nat_le (digits_value 10 second) 39)
 
 abbrev pub are_first_arcs : List (List ℕ) → Bool
 are_first_arcs [] = false
@@ -119,20 +115,24 @@ entries_of lines = flat_map line_entries lines
 abbrev pub has_entry : List ℕ → List Entry → Bool
 has_entry dotted entries = list_any (λ e. bytes_eq dotted e.0) entries
 
+-- how many names a table has at most
+abbrev pub most_names : ℕ
+most_names = 65536
+
 -- why a line is refused that is below others, if it is; lines are numbered from 1
-abbrev pub refusal : List Line → Line → Option NamesFault
-refusal above no_entry = None
-refusal above (entry dotted name) =
+abbrev pub line_refusal : List Line → Line → Option NamesFault
+line_refusal above no_entry = None
+line_refusal above (entry dotted name) =
     if has_entry dotted (entries_of above) then Some (Repeated (length above + 1))
-    else (if nat_le 65536 (length (entries_of above)) then Some TooLarge else None)
-refusal above no_oid = Some (BadOid (length above + 1))
-refusal above no_name = Some (BadName (length above + 1))
-refusal above long_line = Some TooLarge
+    else (if nat_le most_names (length (entries_of above)) then Some TooLarge else None)
+line_refusal above no_oid = Some (BadOid (length above + 1))
+line_refusal above no_name = Some (BadName (length above + 1))
+line_refusal above long_line = Some TooLarge
 
 -- the first refusal among lines that are below others
 abbrev pub first_refusal : List Line → List Line → Option NamesFault
 first_refusal above [] = None
-first_refusal above (line ∷ below) = option_or (refusal above line) (first_refusal (above ++ line ∷ []) below)
+first_refusal above (line ∷ below) = option_or (line_refusal above line) (first_refusal (above ++ line ∷ []) below)
 
 abbrev pub table_of : List Line → Result Table NamesFault
 table_of lines = option_map_or Err (first_refusal [] lines) (Ok (finite.from_entries (entries_of lines)))

@@ -6,14 +6,18 @@ use Rattle.tlv_value.specs.Names.{Table, names_of}
 use Rattle.tlv_value.specs.declared.names.fault.NamesFault.{NamesFault}
 use Rattle.tlv_value.specs.declared.names.fault.NamesFault.TheVariants.{BadOid, BadName, Repeated, TooLarge, ReadFailed, Memory}
 
+-- how many octets a names file has at most
+abbrev pub names_limit : ℕ
+names_limit = 1048576
+
 -- the source has ended, within the limit of octets, and these say the result
 abbrev pub IsWholeFile : SourceState → List ℕ → Result Table NamesFault → Type 0
 IsWholeFile new octets result =
-    (new.last ≡ gave 0) × IsAtEnd new.left × (length octets ≤ 1048576) × (names_of octets ≡ result)
+    (new.last ≡ gave 0) × IsAtEnd new.left × (length octets ≤ names_limit) × (names_of octets ≡ result)
 
--- the last read gave the first octet past the limit
+-- the last read gave the first octet beyond the limit
 abbrev pub IsTooLong : LastReadValue → List ℕ → Type 0
-IsTooLong last octets = (n : ℕ) × (last ≡ gave n) × (1048576 < length octets) × (length octets ≤ 1048576 + n)
+IsTooLong last octets = (n : ℕ) × (last ≡ gave n) × (names_limit < length octets) × (length octets ≤ names_limit + n)
 
 -- the result of reading these octets, by what the last read gave and what is left to read
 abbrev pub ReadsNames : SourceState → List ℕ → Result Table NamesFault → Type 0
@@ -22,21 +26,21 @@ ReadsNames new octets (Err (BadOid n)) = IsWholeFile new octets (Err (BadOid n))
 ReadsNames new octets (Err (BadName n)) = IsWholeFile new octets (Err (BadName n))
 ReadsNames new octets (Err (Repeated n)) = IsWholeFile new octets (Err (Repeated n))
 ReadsNames new octets (Err TooLarge) = IsWholeFile new octets (Err TooLarge) ⊎ IsTooLong new.last octets
-ReadsNames new octets (Err ReadFailed) = (new.last ≡ failed) × (length octets ≤ 1048576)
-ReadsNames new octets (Err Memory) = length octets ≤ 1048576
+ReadsNames new octets (Err ReadFailed) = (new.last ≡ failed) × (length octets ≤ names_limit)
+ReadsNames new octets (Err Memory) = length octets ≤ names_limit
 
 -- the failures of a source: one more if a read failed
-abbrev pub failures_of : {T : Type 0} → Result T NamesFault → ℕ → ℕ
-failures_of (Ok table) before = before
-failures_of (Err (BadOid n)) before = before
-failures_of (Err (BadName n)) before = before
-failures_of (Err (Repeated n)) before = before
-failures_of (Err TooLarge) before = before
-failures_of (Err ReadFailed) before = next_count before
-failures_of (Err Memory) before = before
+abbrev pub names_failures_after : {T : Type 0} → Result T NamesFault → ℕ → ℕ
+names_failures_after (Ok table) old = old
+names_failures_after (Err (BadOid n)) old = old
+names_failures_after (Err (BadName n)) old = old
+names_failures_after (Err (Repeated n)) old = old
+names_failures_after (Err TooLarge) old = old
+names_failures_after (Err ReadFailed) old = next_count old
+names_failures_after (Err Memory) old = old
 
 -- some octets are read, in pieces, and the result is theirs
 pub record ReadsFrom (old new : SourceState) (result : Result Table NamesFault) : Type 0 where
   pub pieces : Pieces old new
   pub result_is : ReadsNames new (octets_given pieces) result
-  pub failures : new.failures ≡ failures_of result old.failures
+  pub failures : new.failures ≡ names_failures_after result old.failures

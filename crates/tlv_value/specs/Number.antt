@@ -8,6 +8,7 @@ abbrev pub signed_sum : List ℕ → ℤ
 signed_sum [] = pos 0
 signed_sum (bit ∷ bits) = pos (value_of 2 bits) -ℤ pos (bit * 2 ^ length bits)
 
+-- 8.3.3: the number that octets are in two's complement, by their bits in order
 abbrev pub twos_complement : List ℕ → ℤ
 twos_complement octets = signed_sum (bits_of octets)
 

@@ -2,7 +2,7 @@
 use Rattle.std.specs.Prelude.{ℕ, ◌<◌, List, length}
 use Rattle.tlv_io.specs.Cuts.{SplitsNone}
 use Rattle.tlv_value.specs.declared.kind.Kind.{Kind}
-use Rattle.tlv_value.specs.Cuts.{character_length, row_size}
+use Rattle.tlv_value.specs.RowSizes.{character_length, row_size}
 
 -- it is not full, and splits no octets that are to be kept in one row
 pub record IsOpenRow (kind : Kind) (row : List ℕ) : Type 0 where

@@ -2,7 +2,7 @@
 use Rattle.std.specs.Prelude.{ℕ, ◌+◌, ◌-◌, ◌*◌, Bool, true, false, ◌&&◌, nat_le, if◌then◌else◌, List, [], ◌∷◌, ◌++◌, flat_map}
 use Rattle.std.specs.Char.{is_ascii_digit}
 
--- a form of text, by what may follow a front of it: for some octets, each rest that some front of the form leaves
+-- a form of text, by what may follow a prefix of it: for some octets, each rest that some prefix of the form leaves
 abbrev pub Form : Type 0
 Form = List ℕ → List (List ℕ)
 

@@ -1,4 +1,4 @@
--- The universal types by their numbers: X.680, table 1.
+-- Which universal types are strings, times, always primitive or always constructed: X.690 8.
 use Rattle.std.specs.Prelude.{ℕ, Bool, ◌&&◌, ◌||◌, not, ◌==◌, eqb, nat_le, if◌then◌else◌, List, [], ◌∷◌}
 use Rattle.std.specs.List.{list_any}
 use Rattle.tlv_head.specs.UniversalTypes as universal

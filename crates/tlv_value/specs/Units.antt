@@ -16,6 +16,10 @@ is_printable x = nat_le 0x20 x && nat_le x 0x7e
 abbrev pub escaped_octet : ℕ → List ℕ
 escaped_octet x = codes "\\x" ++ encode_lower (x ∷ [])
 
+-- of a character of one octet, or of an octet that belongs to none
+abbrev pub octet_text : ℕ → List ℕ
+octet_text x = if is_printable x then printable_text x else escaped_octet x
+
 -- 30 is the digit 0
 abbrev pub without_zeros : List ℕ → List ℕ
 without_zeros [] = []
@@ -65,7 +69,7 @@ unit_text Ucs4 (a ∷ b ∷ c ∷ d ∷ []) =
 unit_text Ucs4 (a ∷ more) = escaped_octet a
 unit_text Utf8 (a ∷ b ∷ more) = escaped_number (three_octets (utf8_number (a ∷ b ∷ more)))
 -- an octet that is a character by itself, or belongs to none
-unit_text kind (a ∷ more) = if is_printable a then printable_text a else escaped_octet a
+unit_text kind (a ∷ more) = octet_text a
 
 -- a row of characters, in quotation marks
 abbrev pub quoted_text : Kind → List ℕ → List ℕ

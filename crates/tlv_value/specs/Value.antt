@@ -9,9 +9,9 @@ use Rattle.tlv_value.specs.declared.kind.Kind.{Kind}
 use Rattle.tlv_value.specs.declared.kind.Kind.TheVariants.{Boolean, Integer, Bits, Object, Octets, Relative}
 use Rattle.tlv_value.specs.Arcs.{dotted_text}
 use Rattle.tlv_value.specs.Bits.{bits_of}
-use Rattle.tlv_value.specs.Cuts.{row_size}
+use Rattle.tlv_value.specs.RowSizes.{row_size}
 use Rattle.tlv_value.specs.Kind.{is_text}
-use Rattle.tlv_value.specs.Number.{signed_sum}
+use Rattle.tlv_value.specs.Number.{twos_complement}
 use Rattle.tlv_value.specs.Rows.{known_rows, rows_of}
 use Rattle.tlv_value.specs.Units.{quoted_text}
 
@@ -44,14 +44,14 @@ boolean_value octets = octets_value octets
 -- 8.3.3, 8.4
 abbrev pub integer_value : List ℕ → Value
 integer_value [] = octets_value []
-integer_value (x ∷ xs) = value_on_line (signed_decimal (signed_sum (bits_of (x ∷ xs))))
+integer_value (x ∷ xs) = value_on_line (signed_decimal (twos_complement (x ∷ xs)))
 
 abbrev pub bit_count : ℕ → ℕ → List ℕ
-bit_count unused octets = decimal (8 * octets - unused) ++ codes " bits"
+bit_count unused_bits octets = decimal (8 * octets - unused_bits) ++ codes " bits"
 
 -- 8.6.2: the number of unused bits is at most 7, and 0 if there is no octet for them
 abbrev pub is_readable : ℕ → ℕ → Bool
-is_readable unused octets = nat_le unused 7 && (eqb unused 0 || not (eqb octets 0))
+is_readable unused_bits octets = nat_le unused_bits 7 && (eqb unused_bits 0 || not (eqb octets 0))
 
 -- bits as digits
 abbrev pub digits_of_bits : List ℕ → List ℕ
@@ -59,16 +59,16 @@ digits_of_bits bits = map (λ bit. 48 + bit) bits
 
 -- the bits of octets but for those that are not used, after a space if there are any
 abbrev pub used_digits : ℕ → List ℕ → List ℕ
-used_digits unused [] = []
-used_digits unused octets = 0x20 ∷ digits_of_bits (take (8 * length octets - unused) (bits_of octets))
+used_digits unused_bits [] = []
+used_digits unused_bits octets = 0x20 ∷ digits_of_bits (take (8 * length octets - unused_bits) (bits_of octets))
 
 -- 8.6.2: the first octet is the number of unused bits in the last one
 abbrev pub bits_value : List ℕ → Value
 bits_value [] = octets_value []
-bits_value (unused ∷ octets) =
-    if is_readable unused (length octets)
-    then value_on_line (bit_count unused (length octets) ++ used_digits unused octets)
-    else octets_value (unused ∷ octets)
+bits_value (unused_bits ∷ octets) =
+    if is_readable unused_bits (length octets)
+    then value_on_line (bit_count unused_bits (length octets) ++ used_digits unused_bits octets)
+    else octets_value (unused_bits ∷ octets)
 
 -- a name after its object identifier
 abbrev pub name_text : Option (List ℕ) → List ℕ
@@ -109,12 +109,12 @@ short_value name_of kind octets = if is_text kind then value_on_line (quoted_tex
 -- of long contents: what is on the line of n octets, of which these have come. 8.6.2: of a BIT STRING the number of
 -- bits, if its first octet can be read
 abbrev pub long_text : Kind → ℕ → List ℕ → List ℕ
-long_text Bits n (unused ∷ octets) = if nat_le unused 7 then 0x20 ∷ bit_count unused (n - 1) else []
+long_text Bits n (unused_bits ∷ octets) = if nat_le unused_bits 7 then 0x20 ∷ bit_count unused_bits (n - 1) else []
 long_text kind n octets = []
 
 -- the octets that are in rows: not such a first octet
 abbrev pub row_octets : Kind → List ℕ → List ℕ
-row_octets Bits (unused ∷ octets) = if nat_le unused 7 then octets else unused ∷ octets
+row_octets Bits (unused_bits ∷ octets) = if nat_le unused_bits 7 then octets else unused_bits ∷ octets
 row_octets kind octets = octets
 
 -- the value of long contents of n octets, of which these have come, as far as it is known: whether they are whole says

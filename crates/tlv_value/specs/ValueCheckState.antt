@@ -8,7 +8,7 @@ use Rattle.tlv_value.specs.declared.kind.Kind.TheVariants.{Utf8}
 use Rattle.tlv_value.specs.declared.finding.Finding.{Finding}
 use Rattle.tlv_value.specs.Checks.{ContentsFacts, allows_octet, findings_by, is_padded_after, last_octet, type_conditions}
 use Rattle.tlv_value.specs.Rows.{full_rows, open_row}
-use Rattle.tlv_value.specs.Types.{is_number_of, object_types, type_number}
+use Rattle.tlv_value.specs.Types.{is_number_of, object_types, time_types, type_number}
 
 abbrev pub all_utf8 : List (List ℕ) → Bool
 all_utf8 [] = true
@@ -54,26 +54,28 @@ new_value_check h = new_check_of (type_number h) (announced_length h.size)
 -- the first octets are looked at, and the last one: BOOLEAN, INTEGER, BIT STRING, ENUMERATED
 abbrev pub notes_front : ℕ → Bool
 notes_front number =
-    eqb number universal.boolean
-    || eqb number universal.integer
-    || eqb number universal.bit_string
-    || eqb number universal.enumerated
+    is_number_of
+    (universal.boolean ∷ universal.integer ∷ universal.bit_string ∷ universal.enumerated ∷ [])
+    number
 
 -- each octet of the type with this number is looked at: object identifiers, UTF8String, and the strings of some
 -- characters
 abbrev pub notes_each : ℕ → Bool
 notes_each number =
-    eqb number universal.object_identifier
-    || eqb number universal.utf8_string
-    || eqb number universal.relative_oid
-    || eqb number universal.numeric_string
-    || eqb number universal.printable_string
-    || eqb number universal.ia5_string
-    || eqb number universal.visible_string
+    is_number_of
+    (universal.object_identifier
+    ∷ universal.utf8_string
+    ∷ universal.relative_oid
+    ∷ universal.numeric_string
+    ∷ universal.printable_string
+    ∷ universal.ia5_string
+    ∷ universal.visible_string
+    ∷ [])
+    number
 
 -- the two times
 abbrev pub notes_time : ℕ → Bool
-notes_time number = eqb number universal.utc_time || eqb number universal.generalized_time
+notes_time number = is_number_of time_types number
 
 abbrev pub with_front : ValueCheckState → List ℕ → ValueCheckState
 with_front s octets = record s { front = take 2 (s.front ++ octets); last = last_octet s.last octets }
@@ -113,8 +115,8 @@ abbrev pub has_unused_bits : ValueCheckState → Bool
 has_unused_bits s = eqb s.number universal.bit_string && begins_nonzero s.front
 
 -- the characters are those of the type
-abbrev pub is_allowed_in : ValueCheckState → Bool
-is_allowed_in s =
+abbrev pub is_allowed : ValueCheckState → Bool
+is_allowed s =
     (if eqb s.number universal.utf8_string then s.formed && is_utf8 s.row
     else if eqb s.number universal.bmp_string then eqb (s.size % 2) 0
     else if eqb s.number universal.universal_string then eqb (s.size % 4) 0
@@ -128,7 +130,7 @@ facts_in s = record {
   front = s.front;
   last = s.last;
   is_padded = s.padded;
-  is_allowed = is_allowed_in s;
+  is_allowed = is_allowed s;
   time = s.time;
 }
 

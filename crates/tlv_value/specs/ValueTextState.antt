@@ -5,6 +5,7 @@ use Rattle.tlv_head.specs.Header.{HeaderValue, announced_length}
 use Rattle.tlv_io.specs.Cuts.{last_rows}
 use Rattle.tlv_value.specs.declared.kind.Kind.{Kind}
 use Rattle.tlv_value.specs.declared.layout.Layout.{Layout}
+use Rattle.tlv_value.specs.declared.primitive.Primitive.{Primitive}
 use Rattle.tlv_value.specs.Kind.{kind_of}
 use Rattle.tlv_value.specs.Rows.{full_rows, open_row}
 use Rattle.tlv_value.specs.ValueLines.{element_line, has_line, kind_by, row_lines}
@@ -28,17 +29,31 @@ pub record ValueTextState : Type 0 where
   pub left : ℕ
   pub kept : RowsState
 
--- before any octet
-abbrev pub new_value_text : HeaderValue → Layout → ValueTextState
-new_value_text h layout = record {
+-- the primitive with this header, in this layout
+abbrev pub primitive_of : HeaderValue → Layout → Primitive
+primitive_of h layout = record {
   offset = h.offset;
   class = h.class;
   number = h.number;
   size = announced_length h.size;
+  kind = kind_by h;
   layout = layout;
-  left = announced_length h.size;
-  kept = record { wrote_line = has_line (kind_by h) []; rows = 0; row = [] };
 }
+
+-- before any octet
+abbrev pub new_text_of : Primitive → ValueTextState
+new_text_of p = record {
+  offset = p.offset;
+  class = p.class;
+  number = p.number;
+  size = p.size;
+  layout = p.layout;
+  left = p.size;
+  kept = record { wrote_line = has_line p.kind []; rows = 0; row = [] };
+}
+
+abbrev pub new_value_text : HeaderValue → Layout → ValueTextState
+new_value_text h layout = new_text_of (primitive_of h layout)
 
 -- of a long value with a line
 abbrev pub rows_after : Kind → RowsState → List ℕ → RowsState

@@ -2,7 +2,7 @@
 ghost use Rattle.std.specs.Prelude.{◌≡◌, ◌+◌, ◌≤◌, ◌&&◌, ℕ, List, length, slice_index};
 ghost use Rattle.tlv_head.specs.Header.{HeaderValue, announced_length};
 ghost use Rattle.tlv_value.specs.Types.{type_number};
-ghost use Rattle.tlv_value.specs.ValueCheckState.{value_check_after, findings_in, has_unused_bits, is_allowed_in, new_value_check, new_check_of, with_each, with_front};
+ghost use Rattle.tlv_value.specs.ValueCheckState.{value_check_after, findings_in, has_unused_bits, is_allowed, new_value_check, new_check_of, with_each, with_front};
 ghost use Rattle.tlv_value.specs.Checks.{findings_on_contents, is_padded_integer};
 
 mod characters;
@@ -15,7 +15,7 @@ use crate::Finding;
 use arrayvec::ArrayVec;
 pub(crate) use characters::are_allowed;
 pub(crate) use findings::are_set;
-use notes::{is_each_noted, is_front_noted, is_padded_with, is_time};
+use notes::{is_padded_with, notes_each, notes_front, notes_time};
 pub(crate) use notes::{is_padded_after, last_octet};
 pub(crate) use rows::is_well_formed;
 use rows::take_rows;
@@ -140,11 +140,11 @@ impl ValueCheck {
         ensures left { self.new.left + length octets.now ≡ self.old.left }
     {
         self.left -= octets.len() as u64;
-        if is_front_noted(self.number) {
+        if notes_front(self.number) {
             self.note_front(octets);
-        } else if is_each_noted(self.number) {
+        } else if notes_each(self.number) {
             self.note_each(octets);
-        } else if is_time(self.number) {
+        } else if notes_time(self.number) {
             extend_time(&mut self.time, octets);
         }
     }
@@ -213,7 +213,7 @@ impl ValueCheck {
 
     /// Whether the first nine bits of a number are all equal (8.3.2).
     #[inline(always)]
-    fn is_number_padded(&self) -> bool
+    fn is_padded_integer(&self) -> bool
         ensures { result ≡ is_padded_integer self.now.front }
     {
         if self.known < 2 {
@@ -229,7 +229,7 @@ impl ValueCheck {
     /// Whether the contents have the characters of their type.
     #[inline(always)]
     fn is_allowed(&self) -> bool
-        ensures { result ≡ is_allowed_in self.now }
+        ensures { result ≡ is_allowed self.now }
     {
         let all = match self.number {
             universal::UTF8_STRING => both(self.formed, is_well_formed(self.row.as_slice())),

@@ -33,8 +33,8 @@ fn is_type_clear(number: u64, contents: &[u8]) -> bool
         universal::INTEGER | universal::ENUMERATED => is_shortest(contents),
         universal::BIT_STRING => has_clear_bits(contents),
         universal::NULL => contents.is_empty(),
-        universal::OBJECT_IDENTIFIER => !contents.is_empty() && are_arcs(contents),
-        universal::RELATIVE_OID => are_arcs(contents),
+        universal::OBJECT_IDENTIFIER => !contents.is_empty() && are_subidentifiers(contents),
+        universal::RELATIVE_OID => are_subidentifiers(contents),
         universal::UTF8_STRING => is_well_formed(contents),
         universal::NUMERIC_STRING => are_allowed(universal::NUMERIC_STRING, contents),
         universal::PRINTABLE_STRING => are_allowed(universal::PRINTABLE_STRING, contents),
@@ -107,7 +107,7 @@ fn has_clear_bits(contents: &[u8]) -> bool
 
 /// Whether each subidentifier begins and ends as it has to (8.19.2, 8.20.2).
 #[inline(always)]
-fn are_arcs(contents: &[u8]) -> bool
+fn are_subidentifiers(contents: &[u8]) -> bool
     ensures begun { IsTrue result → is_padded_after 0 contents.now ≡ false }
     ensures ended { IsTrue result → nat_le 128 (last_octet 0 contents.now) ≡ false }
 {

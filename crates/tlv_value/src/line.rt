@@ -3,7 +3,7 @@ ghost use Rattle.std.specs.Prelude.{◌≡◌, ◌+◌, ◌≤◌, ◌++◌, ◌
 ghost use Rattle.tlv_io.specs.LineTexts.{GrowsBy, HasRoomFor};
 ghost use Rattle.tlv_head.specs.Tag.{tag_text};
 ghost use Rattle.tlv_value.specs.Layout.{columns, margin, no_columns, spaces};
-ghost use Rattle.tlv_value.specs.Private.Rows.{row_indent_of};
+ghost use Rattle.tlv_value.specs.Private.Rows.{row_indent};
 
 use crate::Layout;
 use tlv_head::{Class, padded_name};
@@ -70,7 +70,7 @@ pub fn begin_blank(held: &mut HeldOctets, layout: Layout)
 /// How many spaces are before a row.
 #[inline(always)]
 pub(crate) fn row_indent(layout: Layout) -> usize
-    ensures value { result ≡ row_indent_of layout }
+    ensures value { result ≡ row_indent layout }
     ensures text { spaces result ≡ margin layout.pure no_columns (layout.level + 1) }
     ensures some { 2 ≤ result }
     ensures bound { result ≤ 529 }

@@ -26,7 +26,7 @@ pub struct Names<A: Allocator = Global> {
 
 impl<A: Allocator> Model for Names<A> {
     ghost use Rattle.tlv_value.specs.Names.{Table as NamesTable, table_code};
-    ghost use Rattle.tlv_value.specs.NamesSteps.{names_in};
+    ghost use Rattle.tlv_value.specs.NamesFields.{names_in};
 
     ghost Value = { NamesTable };
 
@@ -56,7 +56,7 @@ impl<A: Allocator> Names<A> {
     /// `ReadFailed` exactly if the source's failures rose in the call, and `TooLarge` once it gave more than
     /// 1,048,576 octets; nothing more is read then. Of the lines the first refusal counts: `TooLarge` for one of more
     /// than 400 octets, with its CR, `BadOid` and `BadName` for its parts, `Repeated` if its dotted text is in
-    /// an earlier line, and `TooLarge` for an entry past the first 65,536. `Memory` at any time, if memory is
+    /// an earlier line, and `TooLarge` for an entry after the first 65,536. `Memory` at any time, if memory is
     /// refused.
     pub fn read<S: Source>(alloc: A, source: &mut S) -> Result<Names<A>, NamesFault>
     where

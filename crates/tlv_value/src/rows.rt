@@ -1,6 +1,6 @@
 //! Where a row of long contents ends.
 ghost use Rattle.std.specs.Prelude.{◌≡◌, ◌+◌, ◌<◌, ◌≤◌, false, length, slice_index};
-ghost use Rattle.tlv_value.specs.Cuts.{row_size};
+ghost use Rattle.tlv_value.specs.RowSizes.{row_size};
 ghost use Rattle.tlv_io.specs.Cuts.{utf8_length};
 ghost use Rattle.tlv_value.specs.Private.Room.{HaveRoom, has_room};
 

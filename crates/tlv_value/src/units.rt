@@ -2,8 +2,8 @@
 ghost use Rattle.std.specs.List.{list_all};
 ghost use Rattle.std.specs.Prelude.{◌≡◌, ◌+◌, ◌*◌, ◌<◌, ◌≤◌, ◌++◌, false, flat_map, length, slice_index, take, true};
 ghost use Rattle.tlv_io.specs.LineTexts.{AddsIfRoom, HasRoomFor};
-ghost use Rattle.tlv_value.specs.Private.Plain.{ArePlain, IsPart, is_ascii, is_plain, octet_text};
-ghost use Rattle.tlv_value.specs.Units.{escaped_number, escaped_octet, is_printable, printable_text, unit_size, unit_text, units, utf8_number, without_zeros};
+ghost use Rattle.tlv_value.specs.Private.Plain.{ArePlain, IsPart, has_ascii, is_plain};
+ghost use Rattle.tlv_value.specs.Units.{escaped_number, escaped_octet, is_printable, octet_text, printable_text, unit_size, unit_text, units, utf8_number, without_zeros};
 
 use crate::kind::Kind;
 use crate::rows::utf8_length;
@@ -204,7 +204,7 @@ fn is_plain(octet: u8) -> bool
 
 /// Whether a character of ASCII has one octet.
 fn has_ascii(kind: Kind) -> bool
-    ensures { result ≡ is_ascii kind }
+    ensures { result ≡ has_ascii kind }
 {
     matches!(kind, Kind::Text | Kind::Utf8)
 }
@@ -226,7 +226,7 @@ fn are_plain(octets: &[u8; ROW]) -> bool
 fn plain_size(kind: Kind, octets: &[u8]) -> usize
     ensures within { result ≤ length octets.now }
     ensures plain { ArePlain kind octets.now result }
-    ensures next { result < length octets.now → is_ascii kind ≡ true
+    ensures next { result < length octets.now → has_ascii kind ≡ true
         → is_plain (slice_index octets.now result) ≡ false }
 {
     if !has_ascii(kind) {

@@ -3,12 +3,13 @@
 ghost use Rattle.std.specs.Prelude.{◌≡◌, ◌++◌, None, length, true};
 ghost use Rattle.tlv_head.specs.Header.{announced_length};
 ghost use Rattle.tlv_io.specs.Out.{Puts};
-ghost use Rattle.tlv_value.specs.Cuts.{row_size};
+ghost use Rattle.tlv_value.specs.RowSizes.{row_size};
 ghost use Rattle.tlv_value.specs.Kind.{kind_of};
-ghost use Rattle.tlv_value.specs.Private.PrimitiveLines.{lines_in_steps, new_text_of, primitive_line};
+ghost use Rattle.tlv_value.specs.Private.PrimitiveLines.{lines_in_steps, primitive_line};
 ghost use Rattle.tlv_value.specs.Rows.{rows_of};
 ghost use Rattle.tlv_value.specs.Value.{is_long, long_text, row_octets};
 ghost use Rattle.tlv_value.specs.ValueLines.{row_lines, whole_lines};
+ghost use Rattle.tlv_value.specs.ValueTextState.{new_text_of};
 
 use crate::kind::Kind;
 use crate::primitive::Primitive;

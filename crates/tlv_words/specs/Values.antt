@@ -1,5 +1,5 @@
 -- What the texts of options stand for. `None` is a text that is no value of the option.
-use Rattle.std.specs.Prelude.{ℕ, ◌==◌, ◌&&◌, List, [], ◌∷◌, Option, Some, None}
+use Rattle.std.specs.Prelude.{ℕ, ◌-◌, ◌^◌, ◌==◌, ◌&&◌, List, [], ◌∷◌, Option, Some, None}
 use Rattle.std.specs.Prelude.{codes, if◌then◌else◌, length, nat_le, nat_lt, option_and_then}
 use Rattle.std.specs.Prelude.{option_map}
 use Rattle.std.specs.Char.{is_ascii_digit}
@@ -20,9 +20,9 @@ bounded_number text most =
     && (list_all is_ascii_digit text && nat_le (digits_value 10 text) most))
     then Some (digits_value 10 text) else None
 
--- the largest offset, in octets: 2^40
+-- the largest offset, in octets
 abbrev pub most_offset : ℕ
-most_offset = 1099511627776
+most_offset = 2 ^ 40
 
 -- ---- lists of offsets
 
@@ -56,7 +56,7 @@ rules_value usual (Some text) =
 -- `--limit`: a number below 2^32; without it there is no limit
 abbrev pub limit_value : Option Text → Option (Option ℕ)
 limit_value None = Some None
-limit_value (Some text) = option_map Some (bounded_number text 4294967295)
+limit_value (Some text) = option_map Some (bounded_number text (2 ^ 32 - 1))
 
 -- `--offset`: an offset, which must be given
 abbrev pub offset_value : Option Text → Option ℕ

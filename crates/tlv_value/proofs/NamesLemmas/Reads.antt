@@ -11,8 +11,8 @@ use Rattle.tlv_value.specs.declared.names.fault.NamesFault.{NamesFault}
 use Rattle.tlv_value.specs.declared.names.fault.NamesFault.TheVariants.{BadOid, BadName, Repeated, TooLarge, ReadFailed, Memory}
 use Rattle.std.specs.BTreeMap.{BTreeMap}
 use Rattle.tlv_value.specs.Names.{Table, names_of}
-use Rattle.tlv_value.specs.NamesReading.{IsWholeFile, ReadsFrom}
-use Rattle.tlv_value.specs.NamesSteps.{table_in}
+use Rattle.tlv_value.specs.NamesReading.{IsWholeFile, ReadsFrom, names_limit}
+use Rattle.tlv_value.specs.NamesFields.{table_in}
 use Rattle.tlv_value.specs.Private.NamesSteps.{Gives, GivesAll, IsTableOf, result_in}
 
 -- the octets that the reads so far gave
@@ -20,12 +20,12 @@ pub record Given (old new : SourceState) (octets : List ℕ) : Type 0 where
   pub gathered : Gathered old new
   pub are : concat gathered.pieces ≡ octets
 
-module _ (old mid new : SourceState) (octets : List ℕ) (x : Given old mid octets) (most : length octets ≤ 1048576) (failures : mid.failures ≡ old.failures) (piece : List ℕ) (room : length piece ≡ 4096) where
+module _ (old mid new : SourceState) (octets : List ℕ) (x : Given old mid octets) (most : length octets ≤ names_limit) (failures : mid.failures ≡ old.failures) (piece : List ℕ) (room : length piece ≡ 4096) where
   -- a read that failed
   pub gives_failed : {Z : Type 0} → (e : ReadFault) → ReadsOnce mid new (Err e) piece → Gives {Z = Z} old new (Err ReadFailed)
   gives_failed e r = record {
     pieces = pieces_all old mid new x.gathered [] (consumes_kept mid.left new.left r.octets) r.reads (inr (r.last, refl)) (omega arith);
-    gives = (r.last, subst (λ (l : List ℕ). length l ≤ 1048576) (sym (append-nil (concat x.gathered.pieces) ∙ x.are)) most);
+    gives = (r.last, subst (λ (l : List ℕ). length l ≤ names_limit) (sym (append-nil (concat x.gathered.pieces) ∙ x.are)) most);
     failures = r.failures ∙ ap next_count failures;
   }
     where
@@ -57,21 +57,21 @@ module _ (old mid new : SourceState) (octets : List ℕ) (x : Given old mid octe
     pub gives_end : {Z : Type 0} → n ≡ 0 → (v : Vec ℕ Z) → v.items ≡ octets → Gives {Z = Z} old new (Ok v)
     gives_end z v is = record {
       pieces = pieces_so;
-      gives = (all_are ∙ ap (λ (k : ℕ). octets ++ take k piece) z ∙ none_taken ∙ sym is, r.last ∙ ap gave z, r.octets.1 z (omega (arith, room)), subst (λ (l : List ℕ). length l ≤ 1048576) (sym is) most);
+      gives = (all_are ∙ ap (λ (k : ℕ). octets ++ take k piece) z ∙ none_taken ∙ sym is, r.last ∙ ap gave z, r.octets.1 z (omega (arith, room)), subst (λ (l : List ℕ). length l ≤ names_limit) (sym is) most);
       failures = same_failures;
     }
       where
         none_taken : octets ++ take 0 piece ≡ octets
         none_taken = append-nil octets
 
-    pub gives_long : {Z : Type 0} → 1048576 - length octets < n → Gives {Z = Z} old new (Err TooLarge)
+    pub gives_long : {Z : Type 0} → names_limit - length octets < n → Gives {Z = Z} old new (Err TooLarge)
     gives_long more = record {
       pieces = pieces_so;
       gives = (n, r.last, omega (arith, more, most, length_all), omega (arith, most, length_all));
       failures = same_failures;
     }
 
-    pub gives_memory : {Z : Type 0} → n ≤ 1048576 - length octets → Gives {Z = Z} old new (Err Memory)
+    pub gives_memory : {Z : Type 0} → n ≤ names_limit - length octets → Gives {Z = Z} old new (Err Memory)
     gives_memory less = record { pieces = pieces_so; gives = omega (arith, less, most, length_all); failures = same_failures }
 
     -- or there are more
@@ -85,7 +85,7 @@ module _ (old mid new : SourceState) (octets : List ℕ) (x : Given old mid octe
 
 -- the octets that were read say the result
 said : {Z : Type 0} (new : SourceState) (octets : List ℕ) (v : Vec ℕ Z) (r : Result Table NamesFault) → GivesAll new octets (Ok v) → names_of v.items ≡ r → IsWholeFile new octets r
-said new octets v r x n = (x.1, x.2, subst (λ (l : List ℕ). length l ≤ 1048576) (sym x.0) x.3, ap names_of x.0 ∙ n)
+said new octets v r x n = (x.1, x.2, subst (λ (l : List ℕ). length l ≤ names_limit) (sym x.0) x.3, ap names_of x.0 ∙ n)
 
 pub judged : {Y Z : Type 0} (old new : SourceState) (v : Vec ℕ Y) (result : Result (BTreeMap (Vec ℕ Z) (Vec ℕ Z)) NamesFault) → Gives old new (Ok v) → IsTableOf v.items result → ReadsFrom old new (result_in result)
 judged old new v (Ok m) x n = record { pieces = x.pieces; result_is = said new (octets_given x.pieces) v (Ok (table_in m)) x.gives n; failures = x.failures }
@@ -94,7 +94,7 @@ judged old new v (Err (BadName k)) x n = record { pieces = x.pieces; result_is =
 judged old new v (Err (Repeated k)) x n = record { pieces = x.pieces; result_is = said new (octets_given x.pieces) v (Err (Repeated k)) x.gives n; failures = x.failures }
 judged old new v (Err TooLarge) x n = record { pieces = x.pieces; result_is = inl (said new (octets_given x.pieces) v (Err TooLarge) x.gives n); failures = x.failures }
 judged old new v (Err ReadFailed) x n = absurd n
-judged old new v (Err Memory) x n = record { pieces = x.pieces; result_is = subst (λ (l : List ℕ). length l ≤ 1048576) (sym x.gives.0) x.gives.3; failures = x.failures }
+judged old new v (Err Memory) x n = record { pieces = x.pieces; result_is = subst (λ (l : List ℕ). length l ≤ names_limit) (sym x.gives.0) x.gives.3; failures = x.failures }
 
 -- the octets could not be read
 pub unread : {Z : Type 0} (old new : SourceState) (e : NamesFault) → Gives {Z = Z} old new (Err e) → ReadsFrom old new (Err e)

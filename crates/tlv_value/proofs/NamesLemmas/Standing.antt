@@ -11,8 +11,8 @@ use Rattle.std.specs.FinMap as finite
 use Rattle.std.specs.FinMap.Entries as entries
 use Rattle.std.proofs.lemmas.Bool.{le-leb, lt-leb}
 use Rattle.std.proofs.lemmas.List.{nil_from_length}
-use Rattle.tlv_value.specs.Names.{Entry, Line, Table, entries_of, entry, first_refusal, has_entry, line_entries, lines, long_line, names_line, names_of, no_entry, no_name, no_oid, refusal}
-use Rattle.tlv_value.specs.NamesSteps.{texts_in}
+use Rattle.tlv_value.specs.Names.{Entry, Line, Table, entries_of, entry, first_refusal, has_entry, line_entries, lines, long_line, most_names, names_line, names_of, no_entry, no_name, no_oid, line_refusal}
+use Rattle.tlv_value.specs.NamesFields.{texts_in}
 use Rattle.tlv_value.specs.Private.NamesSteps.{AddsLine, IsTableOf}
 use Rattle.tlv_value.specs.declared.names.fault.NamesFault.{NamesFault}
 use Rattle.tlv_value.specs.declared.names.fault.NamesFault.TheVariants.{BadOid, BadName, Repeated, TooLarge, ReadFailed, Memory}
@@ -38,10 +38,10 @@ entries-push : (above : List Line) (line : Line) → entries_of (above ++ line �
 entries-push [] line = append-nil (line_entries line)
 entries-push (x ∷ above) line = ap (λ (es : List Entry). line_entries x ++ es) (entries-push above line) ∙ sym (append_assoc (line_entries x) (entries_of above) (line_entries line))
 
-judged-more : (above below : List Line) (line : Line) → refusal above line ≡ None → judged above (line ∷ below) ≡ judged (above ++ line ∷ []) below
+judged-more : (above below : List Line) (line : Line) → line_refusal above line ≡ None → judged above (line ∷ below) ≡ judged (above ++ line ∷ []) below
 judged-more above below line h = rw (h, append_assoc above (line ∷ []) below) refl
 
-judged-refused : (above below : List Line) (line : Line) (fault : NamesFault) → refusal above line ≡ Some fault → judged above (line ∷ below) ≡ Err fault
+judged-refused : (above below : List Line) (line : Line) (fault : NamesFault) → line_refusal above line ≡ Some fault → judged above (line ∷ below) ≡ Err fault
 judged-refused above below line fault h = rw h refl
 
 start-at : (octets : List ℕ) (es : List Entry) → es ≡ [] → Standing octets octets 0 es
@@ -69,7 +69,7 @@ none-from None h = refl
 none-from (Some x) h = absurd (cc)
 
 go-on : (octets rest after : List ℕ) (number : ℕ) (es new : List Entry) (line : Line) (s : Standing octets rest number es)
-    → map names_line (lines rest) ≡ line ∷ map names_line (lines after) → refusal s.above line ≡ None
+    → map names_line (lines rest) ≡ line ∷ map names_line (lines after) → line_refusal s.above line ≡ None
     → ((q : List ℕ) → find q new ≡ find q (entries_of s.above ++ line_entries line)) → length new ≡ length (entries_of s.above ++ line_entries line)
     → Standing octets after (number + 1) new
 go-on octets rest after number es new line s e h f l = record {
@@ -92,7 +92,7 @@ step octets rest after number es new u no_entry s e a =
     (ap length a.1 ∙ s.size ∙ ap length (sym (append-nil (entries_of s.above))))
 step octets rest after number es new u (entry dotted name) s e a =
     let absent : has_entry dotted es ≡ false = a.0 in
-    let few : nat_le 65536 (length (entries_of s.above)) ≡ false = lt-leb 65536 (length (entries_of s.above)) (omega (arith, a.1, s.size)) in
+    let few : nat_le most_names (length (entries_of s.above)) ≡ false = lt-leb most_names (length (entries_of s.above)) (omega (arith, a.1, s.size)) in
     let none : is_some (find dotted (entries_of s.above)) ≡ false = sym (among-find dotted (entries_of s.above)) ∙ among-above octets rest number es s dotted ∙ absent in
     go-on octets rest after number es new (entry dotted name) s e
     (rw (among-above octets rest number es s dotted, absent, few) refl)
@@ -105,7 +105,7 @@ step octets rest after number es new u no_name s e a = absurd (cc)
 step octets rest after number es new u long_line s e a = absurd (cc)
 
 refused : (octets rest after : List ℕ) (number : ℕ) (es : List Entry) (line : Line) (fault : NamesFault) (s : Standing octets rest number es)
-    → map names_line (lines rest) ≡ line ∷ map names_line (lines after) → refusal s.above line ≡ Some fault → names_of octets ≡ Err fault
+    → map names_line (lines rest) ≡ line ∷ map names_line (lines after) → line_refusal s.above line ≡ Some fault → names_of octets ≡ Err fault
 refused octets rest after number es line fault s e h = s.same ∙ ap (judged s.above) e ∙ judged-refused s.above (map names_line (lines after)) line fault h
 
 same-fault : {T : Type 0} (a b : NamesFault) → IsErrOf {T = T} (Err a) b → a ≡ b
@@ -123,7 +123,7 @@ stop Z T octets rest after number es new (Repeated n) (entry dotted name) s e a 
     refused octets rest after number es (entry dotted name) (Repeated n) s e (rw (among-above octets rest number es s dotted, known, line_number) refl)
 stop Z T octets rest after number es new TooLarge (entry dotted name) s e a =
     let absent : has_entry dotted es ≡ false = a.0 in
-    let many : nat_le 65536 (length (entries_of s.above)) ≡ true = le-leb 65536 (length (entries_of s.above)) (omega (arith, a.1, s.size)) in
+    let many : nat_le most_names (length (entries_of s.above)) ≡ true = le-leb most_names (length (entries_of s.above)) (omega (arith, a.1, s.size)) in
     refused octets rest after number es (entry dotted name) TooLarge s e (rw (among-above octets rest number es s dotted, absent, many) refl)
 stop Z T octets rest after number es new ReadFailed (entry dotted name) s e a = absurd a
 stop Z T octets rest after number es new Memory (entry dotted name) s e a = tt

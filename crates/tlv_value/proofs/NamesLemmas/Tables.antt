@@ -13,7 +13,7 @@ use Rattle.std.specs.FinMap.Entries as entries
 use Rattle.std.proofs.lemmas.Map.Text.{is_eq-slice_cmp}
 use Rattle.std.proofs.lemmas.List.{length-map}
 use Rattle.tlv_value.specs.Names.{Entry, has_entry}
-use Rattle.tlv_value.specs.NamesSteps.{texts_in, table_in, names_in}
+use Rattle.tlv_value.specs.NamesFields.{texts_in, table_in, names_in}
 
 abbrev key_cmp : {Z : Type 0} → Vec ℕ Z → Vec ℕ Z → Ordering
 key_cmp x y = slice_cmp nat_cmp x.items y.items

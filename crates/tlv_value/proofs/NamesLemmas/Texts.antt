@@ -1,5 +1,5 @@
 -- Texts of a names file, octet by octet.
-use Rattle.std.proofs.Common.{◌≡◌, ℕ, suc, ◌+◌, ◌-◌, ◌*◌, ◌^◌, ◌<◌, ◌≤◌, ◌==◌, Bool, true, false, ◌&&◌, ◌||◌, not, cond, List, [], ◌∷◌, ◌++◌, length, map, take, drop, get_or, refl, sym, ap, subst, ◌∙◌, arith, inl, inr}
+use Rattle.std.proofs.Common.{◌≡◌, ℕ, suc, ◌+◌, ◌-◌, ◌*◌, ◌^◌, ◌<◌, ◌≤◌, ◌==◌, Bool, true, false, ◌&&◌, ◌||◌, not, cond, List, [], ◌∷◌, ◌++◌, length, take, drop, get_or, refl, sym, ap, subst, ◌∙◌, arith, inl, inr}
 use Rattle.std.specs.Prelude.{nat_le, nat_lt, slice_index}
 use Rattle.std.specs.List.{list_all, position_or_len, before_first, after_first}
 use Rattle.std.specs.List as std_list
@@ -8,8 +8,11 @@ use Rattle.std.proofs.lemmas.Bool.{or_cases, cases_lt, and_parts, and_from, and_
 use Rattle.std.proofs.lemmas.List.{take_all, take_more, take_rest}
 use Rattle.std.proofs.lemmas.List.Splits.{slice_split_first}
 use Rattle.std.specs.List.{onto_first}
-use Rattle.tlv_value.specs.Names.{are_first_arcs, decimal_number, dotted_parts, entry, entry_line, is_arc, is_blank, is_dotted, is_name, lines, may_begin, names_line, no_name, pair_line, without_first_blanks, without_last_blanks, without_outer_blanks, without_return}
+use Rattle.tlv_value.specs.Names.{are_first_arcs, dotted_parts, entry, entry_line, is_arc, is_blank, is_dotted, is_name, lines, may_begin, names_line, no_name, pair_line, without_first_blanks, without_last_blanks, without_outer_blanks, without_return}
 use Rattle.std.specs.Char.{is_ascii_digit}
+use Rattle.std.specs.Str.Parse.{AllDigits, digits_value}
+use Rattle.std.proofs.lemmas.Str.{digit_value_digit}
+use Rattle.std.proofs.lemmas.Str.Parse.{numerals_by_weight, tells_digits}
 
 abbrev is_mark : ℕ → ℕ → Bool
 is_mark mark x = x == mark
@@ -132,9 +135,25 @@ long-arc d e ds h =
     ] in
     record { first_low = low; first_high = one.1; second_low = two.0; second_high = two.1 }
 
+-- the number that digits write, each by its place
+
+abbrev weighed : List ℕ → ℕ
+weighed [] = 0
+weighed (x ∷ xs) = (x - 48) * 10 ^ length xs + weighed xs
+
+all-digits : (ds : List ℕ) → list_all is_ascii_digit ds ≡ true → AllDigits 10 ds
+all-digits [] h = tt
+all-digits (d ∷ ds) h =
+    let both = and_parts (is_ascii_digit d) (list_all is_ascii_digit ds) h in
+    let known = digit-between d both.0 in
+    (omega (arith, digit_value_digit d known, known.1), all-digits ds both.1)
+
+weighed-arc : (arc : List ℕ) → is_arc arc ≡ true → weighed arc ≡ digits_value 10 arc
+weighed-arc arc a = (numerals_by_weight (AllDigits 10) tells_digits weighed (record { empty = refl; more = λ c cs k. refl })).same arc (all-digits arc (arc-parts arc a).0)
+
 -- a number of one, two and more digits
 
-pub forty_of_two : (arc : List ℕ) → is_arc arc ≡ true → length arc ≡ 2 → nat_le (get_or arc 0 0) 51 ≡ nat_le (decimal_number arc) 39
+pub forty_of_two : (arc : List ℕ) → is_arc arc ≡ true → length arc ≡ 2 → nat_le (get_or arc 0 0) 51 ≡ nat_le (digits_value 10 arc) 39
 forty_of_two [] a h = absurd (omega arith)
 forty_of_two (d ∷ []) a h = absurd (omega arith)
 forty_of_two (d ∷ e ∷ []) a h =
@@ -143,9 +162,10 @@ forty_of_two (d ∷ e ∷ []) a h =
     let e_low : 48 ≤ e = known.second_low in
     let e_high : e ≤ 57 = known.second_high in
     elim (cases_lt 51 d) [
-      | inl p ↦ lt-leb d 51 p ∙ sym (lt-leb (decimal_number (d ∷ e ∷ [])) 39 (omega arith))
-      | inr p ↦ le-leb d 51 p ∙ sym (le-leb (decimal_number (d ∷ e ∷ [])) 39 (omega arith))
+      | inl p ↦ lt-leb d 51 p ∙ sym (lt-leb (weighed (d ∷ e ∷ [])) 39 (omega arith))
+      | inr p ↦ le-leb d 51 p ∙ sym (le-leb (weighed (d ∷ e ∷ [])) 39 (omega arith))
     ]
+    ∙ ap (λ (n : ℕ). nat_le n 39) (weighed-arc (d ∷ e ∷ []) a)
 forty_of_two (d ∷ e ∷ f ∷ ds) a h = absurd (omega arith)
 
 large : (d p : ℕ) → 49 ≤ d → 1 ≤ p → 10 ≤ (d - 48) * (10 * p)
@@ -160,36 +180,39 @@ larger d p h q =
     let b : 100 ≤ 10 * (10 * p) = omega arith in
     mul-le-mul a b
 
-pub ten_of_more : (arc : List ℕ) → is_arc arc ≡ true → 1 < length arc → 10 ≤ decimal_number arc
+pub ten_of_more : (arc : List ℕ) → is_arc arc ≡ true → 1 < length arc → 10 ≤ digits_value 10 arc
 ten_of_more [] a h = absurd (omega arith)
 ten_of_more (d ∷ []) a h = absurd (omega arith)
 ten_of_more (d ∷ e ∷ ds) a h =
-    let n = length (map (λ x. x - 48) ds) in
+    let n = length ds in
     let low : 1 ≤ 10 ^ n = one-le-pow n 10 (omega arith) in
     let same : 10 ^ suc n ≡ 10 * 10 ^ n = pow-succ' 10 n in
     let more : 10 ≤ (d - 48) * 10 ^ suc n = rw same (large d (10 ^ n) (long-arc d e ds a).first_low low) in
-    omega (arith, more)
+    let all : 10 ≤ weighed (d ∷ e ∷ ds) = omega (arith, more) in
+    subst (λ (k : ℕ). 10 ≤ k) (weighed-arc (d ∷ e ∷ ds) a) all
 
-pub forty_of_more : (arc : List ℕ) → is_arc arc ≡ true → 2 < length arc → nat_le (decimal_number arc) 39 ≡ false
+pub forty_of_more : (arc : List ℕ) → is_arc arc ≡ true → 2 < length arc → nat_le (digits_value 10 arc) 39 ≡ false
 forty_of_more [] a h = absurd (omega arith)
 forty_of_more (d ∷ []) a h = absurd (omega arith)
 forty_of_more (d ∷ e ∷ []) a h = absurd (omega arith)
 forty_of_more (d ∷ e ∷ f ∷ ds) a h =
-    let n = length (map (λ x. x - 48) ds) in
+    let n = length ds in
     let low : 1 ≤ 10 ^ n = one-le-pow n 10 (omega arith) in
     let same : 10 ^ suc (suc n) ≡ 10 * (10 * 10 ^ n) = pow-succ' 10 (suc n) ∙ ap (λ m. 10 * m) (pow-succ' 10 n) in
     let more : 100 ≤ (d - 48) * 10 ^ suc (suc n) = rw same (larger d (10 ^ n) (long-arc d e (f ∷ ds) a).first_low low) in
-    lt-leb (decimal_number (d ∷ e ∷ f ∷ ds)) 39 (omega (arith, more))
+    ap (λ (k : ℕ). nat_le k 39) (sym (weighed-arc (d ∷ e ∷ f ∷ ds) a)) ∙ lt-leb (weighed (d ∷ e ∷ f ∷ ds)) 39 (omega (arith, more))
 
-pub three_of_one : (arc : List ℕ) → length arc ≤ 1 → 50 < get_or arc 0 0 → 3 ≤ decimal_number arc
-three_of_one [] h g = absurd (omega arith)
-three_of_one (d ∷ []) h g = omega arith
-three_of_one (d ∷ e ∷ ds) h g = absurd (omega arith)
+pub three_of_one : (arc : List ℕ) → is_arc arc ≡ true → length arc ≤ 1 → 50 < get_or arc 0 0 → 3 ≤ digits_value 10 arc
+three_of_one [] a h g = absurd (omega arith)
+three_of_one (d ∷ []) a h g =
+    let all : 3 ≤ weighed (d ∷ []) = omega arith in
+    subst (λ (k : ℕ). 3 ≤ k) (weighed-arc (d ∷ []) a) all
+three_of_one (d ∷ e ∷ ds) a h g = absurd (omega arith)
 
-pub no_first : (first second : List ℕ) → 3 ≤ decimal_number first → may_begin first second ≡ false
+pub no_first : (first second : List ℕ) → 3 ≤ digits_value 10 first → may_begin first second ≡ false
 no_first first second h =
-    let other : (decimal_number first == 2) ≡ false = ne_eqb (decimal_number first) 2 (λ e. omega arith) in
-    let high : nat_lt (decimal_number first) 2 ≡ false = le-ltb (decimal_number first) 2 (omega arith) in
+    let other : (digits_value 10 first == 2) ≡ false = ne_eqb (digits_value 10 first) 2 (λ e. omega arith) in
+    let high : nat_lt (digits_value 10 first) 2 ≡ false = le-ltb (digits_value 10 first) 2 (omega arith) in
     rw (other, high) refl
 
 -- the first part of a text, by where it ends

@@ -5,7 +5,7 @@ use Rattle.tlv_io.specs.Cuts.{last_rows}
 use Rattle.tlv_io.proofs.CutOf.{row_begun_by, rows_filled_by}
 use Rattle.tlv_value.specs.declared.kind.Kind.{Kind}
 use Rattle.tlv_value.specs.declared.kind.Kind.TheVariants.{Utf8}
-use Rattle.tlv_value.specs.Cuts.{character_length, row_size}
+use Rattle.tlv_value.specs.RowSizes.{character_length, row_size}
 use Rattle.tlv_value.specs.Rows.{rows_of}
 
 -- the rows that octets fill after a row that has begun

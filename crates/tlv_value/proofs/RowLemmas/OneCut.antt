@@ -9,7 +9,7 @@ use Rattle.std.specs.Prelude.{eqb, if◌then◌else◌}
 use Rattle.tlv_io.specs.Cuts.{AreFull, AreRows, IsFull, IsRow, last_rows, octets_of_rows}
 use Rattle.tlv_io.proofs.CutOf.{nil-or}
 use Rattle.tlv_value.specs.declared.kind.Kind.{Kind}
-use Rattle.tlv_value.specs.Cuts.{character_length, row_size}
+use Rattle.tlv_value.specs.RowSizes.{character_length, row_size}
 use Rattle.tlv_value.specs.Laws.{RowsHaveOneCut}
 use Rattle.tlv_value.specs.OpenRow.{IsOpenRow}
 use Rattle.tlv_value.specs.Private.Room.{HaveRoom}

@@ -8,9 +8,9 @@ use Rattle.std.specs.List.{list_all}
 use Rattle.std.specs.Str.{is_utf8}
 use Rattle.tlv_value.specs.declared.kind.Kind.{Kind}
 use Rattle.tlv_value.specs.declared.kind.Kind.TheVariants.{Octets, Boolean, Integer, Bits, Object, Relative, Text, Utf8, Ucs2, Ucs4}
-use Rattle.tlv_value.specs.Private.Plain.{is_ascii, is_plain, octet_text}
+use Rattle.tlv_value.specs.Private.Plain.{has_ascii, is_plain}
 use Rattle.tlv_io.specs.Cuts.{utf8_length}
-use Rattle.tlv_value.specs.Units.{unit_size, unit_text, units}
+use Rattle.tlv_value.specs.Units.{octet_text, unit_size, unit_text, units}
 use Rattle.tlv_value.proofs.TextLemmas.UnitSteps.{units-step}
 
 plain-octet : (x : ℕ) → is_plain x ≡ true → octet_text x ≡ x ∷ []
@@ -28,7 +28,7 @@ size-one : (n x : ℕ) (xs : List ℕ) (b : Bool) → n ≡ 1 → 1 ≡ (if b th
 size-one n x xs true e = rw e refl
 size-one n x xs false e = refl
 
-plain-size : (kind : Kind) (x : ℕ) (xs : List ℕ) → is_ascii kind ≡ true → is_plain x ≡ true → 1 ≡ unit_size kind (x ∷ xs)
+plain-size : (kind : Kind) (x : ℕ) (xs : List ℕ) → has_ascii kind ≡ true → is_plain x ≡ true → 1 ≡ unit_size kind (x ∷ xs)
 plain-size Octets x xs a h = refl
 plain-size Boolean x xs a h = refl
 plain-size Integer x xs a h = refl
@@ -40,7 +40,7 @@ plain-size Utf8 x xs a h = size-one (utf8_length x) x xs (is_utf8 (take (utf8_le
 plain-size Ucs2 x xs a h = absurd (cc)
 plain-size Ucs4 x xs a h = absurd (cc)
 
-plain-text : (kind : Kind) (x : ℕ) → is_ascii kind ≡ true → is_plain x ≡ true → unit_text kind (x ∷ []) ≡ x ∷ []
+plain-text : (kind : Kind) (x : ℕ) → has_ascii kind ≡ true → is_plain x ≡ true → unit_text kind (x ∷ []) ≡ x ∷ []
 plain-text Octets x a h = plain-octet x h
 plain-text Boolean x a h = plain-octet x h
 plain-text Integer x a h = plain-octet x h
@@ -53,7 +53,7 @@ plain-text Ucs2 x a h = absurd (cc)
 plain-text Ucs4 x a h = absurd (cc)
 
 -- the first n octets are n units, which are written as they are
-pub plain-units : (kind : Kind) (n : ℕ) (octets : List ℕ) → n ≤ length octets → is_ascii kind ≡ true → ((i : ℕ) → i < n → is_plain (get_or octets i 0) ≡ true)
+pub plain-units : (kind : Kind) (n : ℕ) (octets : List ℕ) → n ≤ length octets → has_ascii kind ≡ true → ((i : ℕ) → i < n → is_plain (get_or octets i 0) ≡ true)
     → flat_map (unit_text kind) (units kind 0 octets) ≡ take n octets ++ flat_map (unit_text kind) (units kind 0 (drop n octets))
 plain-units kind zero [] h a p = refl
 plain-units kind zero (x ∷ xs) h a p = refl
@@ -65,7 +65,7 @@ plain-units kind (suc n) (x ∷ xs) h a p =
     ∙ ap (λ (t : List ℕ). x ∷ t) (plain-units kind n xs (omega arith) a (λ i g. p (suc i) (omega arith)))
 
 -- a row of such characters is written as it is
-pub plain-row : (kind : Kind) (row : List ℕ) → is_ascii kind ≡ true → list_all is_plain row ≡ true → flat_map (unit_text kind) (units kind 0 row) ≡ row
+pub plain-row : (kind : Kind) (row : List ℕ) → has_ascii kind ≡ true → list_all is_plain row ≡ true → flat_map (unit_text kind) (units kind 0 row) ≡ row
 plain-row kind [] a p = refl
 plain-row kind (x ∷ xs) a p =
     let both = and-true (is_plain x) (list_all is_plain xs) p in

@@ -19,8 +19,7 @@ use Rattle.hex.proofs.HexLemmas.{length-encode_with}
 use Rattle.tlv_value.specs.declared.kind.Kind.{Kind}
 use Rattle.tlv_value.specs.declared.kind.Kind.TheVariants.{Octets, Boolean, Integer, Bits, Object, Relative, Text, Utf8, Ucs2, Ucs4}
 use Rattle.tlv_io.specs.Cuts.{utf8_length}
-use Rattle.tlv_value.specs.Private.Plain.{octet_text}
-use Rattle.tlv_value.specs.Units.{escaped_number, escaped_octet, is_printable, printable_text, quoted_text, three_octets, unit_size, unit_text, units, utf8_number, without_zeros}
+use Rattle.tlv_value.specs.Units.{escaped_number, escaped_octet, is_printable, octet_text, printable_text, quoted_text, three_octets, unit_size, unit_text, units, utf8_number, without_zeros}
 use Rattle.tlv_value.specs.Value.{Value, bit_count, bits_value, boolean_value, integer_value, is_readable, joined_pairs, octets_value, spaced_pairs, used_digits, value_on_line}
 
 -- what was added is at most so long

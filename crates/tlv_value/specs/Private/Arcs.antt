@@ -1,10 +1,6 @@
 -- Texts that dotted texts are made of.
-use Rattle.std.specs.Prelude.{ℕ, Bool, true, false, List, ◌∷◌, codes, decimal}
-use Rattle.std.specs.List.{join_by}
-use Rattle.tlv_value.specs.Arcs.{first_arcs}
-
-abbrev pub dotted_arcs : List ℕ → List ℕ
-dotted_arcs arcs = join_by decimal (codes ".") arcs
+use Rattle.std.specs.Prelude.{ℕ, Bool, true, false, List, ◌∷◌, decimal}
+use Rattle.tlv_value.specs.Arcs.{dotted_arcs, first_arcs}
 
 -- the arcs of a subidentifier, as they are in the dotted text
 abbrev pub part_text : Bool → Bool → ℕ → List ℕ

@@ -9,11 +9,11 @@ use Rattle.std.specs.Borrow.{Bor}
 use Rattle.std.specs.BTreeMap.{BTreeMap}
 use Rattle.std.specs.Io.KnownBytes.{IsAtEnd}
 use Rattle.tlv_io.specs.Device.{Pieces, SourceState, failed, gave, octets_given}
-use Rattle.tlv_value.specs.Names.{Entry, Line, Table, entry, has_entry, long_line, names_of, no_entry, no_name, no_oid}
-use Rattle.tlv_value.specs.NamesReading.{IsTooLong, failures_of}
+use Rattle.tlv_value.specs.Names.{Entry, Line, Table, entry, has_entry, long_line, most_names, names_of, no_entry, no_name, no_oid}
+use Rattle.tlv_value.specs.NamesReading.{IsTooLong, names_failures_after, names_limit}
 use Rattle.tlv_value.specs.declared.names.fault.NamesFault.{NamesFault}
 use Rattle.tlv_value.specs.declared.names.fault.NamesFault.TheVariants.{BadOid, BadName, Repeated, TooLarge, ReadFailed, Memory}
-use Rattle.tlv_value.specs.NamesSteps.{texts_in, table_in}
+use Rattle.tlv_value.specs.NamesFields.{texts_in, table_in}
 
 abbrev pub texts_of : Result (Option (Bor (List ℕ) × Bor (List ℕ))) NamesFault → Result (Option Entry) NamesFault
 texts_of (Ok pair) = Ok (option_map (λ p. (p.0.now, p.1.now)) pair)
@@ -31,13 +31,13 @@ entry_or_refusal number long_line = Err TooLarge
 abbrev pub Adds : {T : Type 0} → ℕ → List ℕ → List ℕ → List Entry → List Entry → Result T NamesFault → Type 0
 Adds number dotted name old new (Ok done) =
     (has_entry dotted old ≡ false)
-    × (length old < 65536)
+    × (length old < most_names)
     × (new ≡ finite.put (slice_cmp nat_cmp) dotted name old)
     × (length new ≡ length old + 1)
 Adds number dotted name old new (Err (BadOid n)) = ⊥
 Adds number dotted name old new (Err (BadName n)) = ⊥
 Adds number dotted name old new (Err (Repeated n)) = (has_entry dotted old ≡ true) × (n ≡ number)
-Adds number dotted name old new (Err TooLarge) = (has_entry dotted old ≡ false) × (65536 ≤ length old)
+Adds number dotted name old new (Err TooLarge) = (has_entry dotted old ≡ false) × (most_names ≤ length old)
 Adds number dotted name old new (Err ReadFailed) = ⊥
 Adds number dotted name old new (Err Memory) = Unit {0}
 
@@ -65,16 +65,16 @@ result_in (Err fault) = Err fault
 
 -- all octets of a source, by what its last read gave
 abbrev pub GivesAll : {Z : Type 0} → SourceState → List ℕ → Result (Vec ℕ Z) NamesFault → Type 0
-GivesAll new octets (Ok v) = (octets ≡ v.items) × (new.last ≡ gave 0) × IsAtEnd new.left × (length v.items ≤ 1048576)
+GivesAll new octets (Ok v) = (octets ≡ v.items) × (new.last ≡ gave 0) × IsAtEnd new.left × (length v.items ≤ names_limit)
 GivesAll new octets (Err (BadOid n)) = ⊥
 GivesAll new octets (Err (BadName n)) = ⊥
 GivesAll new octets (Err (Repeated n)) = ⊥
 GivesAll new octets (Err TooLarge) = IsTooLong new.last octets
-GivesAll new octets (Err ReadFailed) = (new.last ≡ failed) × (length octets ≤ 1048576)
-GivesAll new octets (Err Memory) = length octets ≤ 1048576
+GivesAll new octets (Err ReadFailed) = (new.last ≡ failed) × (length octets ≤ names_limit)
+GivesAll new octets (Err Memory) = length octets ≤ names_limit
 
 -- they are read in pieces
 pub record Gives {Z : Type 0} (old new : SourceState) (result : Result (Vec ℕ Z) NamesFault) : Type 0 where
   pub pieces : Pieces old new
   pub gives : GivesAll new (octets_given pieces) result
-  pub failures : new.failures ≡ failures_of result old.failures
+  pub failures : new.failures ≡ names_failures_after result old.failures

@@ -1,34 +1,30 @@
--- Characters that are written as they are.
-use Rattle.std.specs.Prelude.{◌≡◌, ℕ, ◌<◌, Bool, true, false, ◌&&◌, ◌||◌, not, eqb, if◌then◌else◌, List, ◌++◌, drop, flat_map, slice_index}
+-- Characters in a row: those written as they are, and what is written of the first ones.
+use Rattle.std.specs.Prelude.{◌≡◌, ℕ, ◌<◌, Bool, true, false, ◌&&◌, ◌||◌, not, eqb, List, ◌++◌, drop, flat_map, slice_index}
 use Rattle.tlv_io.specs.LineTexts.{AddsIfRoom}
 use Rattle.tlv_value.specs.declared.kind.Kind.{Kind}
 use Rattle.tlv_value.specs.declared.kind.Kind.TheVariants.{Octets, Boolean, Integer, Bits, Object, Relative, Text, Utf8, Ucs2, Ucs4}
-use Rattle.tlv_value.specs.Units.{escaped_octet, is_printable, printable_text, unit_text, units}
+use Rattle.tlv_value.specs.Units.{is_printable, unit_text, units}
 
 -- a printable character of ASCII that is neither the quotation mark nor the reverse solidus
 abbrev pub is_plain : ℕ → Bool
 is_plain x = is_printable x && not (eqb x 0x22 || eqb x 0x5c)
 
--- a character of one octet, or an octet that is none
-abbrev pub octet_text : ℕ → List ℕ
-octet_text x = if is_printable x then printable_text x else escaped_octet x
-
 -- a character of ASCII has one octet
-abbrev pub is_ascii : Kind → Bool
-is_ascii Octets = false
-is_ascii Boolean = false
-is_ascii Integer = false
-is_ascii Bits = false
-is_ascii Object = false
-is_ascii Relative = false
-is_ascii Text = true
-is_ascii Utf8 = true
-is_ascii Ucs2 = false
-is_ascii Ucs4 = false
+abbrev pub has_ascii : Kind → Bool
+has_ascii Octets = false
+has_ascii Boolean = false
+has_ascii Integer = false
+has_ascii Bits = false
+has_ascii Object = false
+has_ascii Relative = false
+has_ascii Text = true
+has_ascii Utf8 = true
+has_ascii Ucs2 = false
+has_ascii Ucs4 = false
 
 -- the first n of the octets are such characters
 abbrev pub ArePlain : Kind → List ℕ → ℕ → Type 0
-ArePlain kind octets n = (0 < n → is_ascii kind ≡ true) × ((i : ℕ) → i < n → is_plain (slice_index octets i) ≡ true)
+ArePlain kind octets n = (0 < n → has_ascii kind ≡ true) × ((i : ℕ) → i < n → is_plain (slice_index octets i) ≡ true)
 
 -- the first n of the octets were written after what was held, if there is room
 abbrev pub IsPart : Kind → List ℕ → List ℕ → List ℕ → ℕ → Type 0

@@ -1,24 +1,11 @@
 -- The lines of a primitive, by what its header says of it.
-use Rattle.std.specs.Prelude.{ℕ, List, [], ◌++◌, decimal}
-use Rattle.tlv_head.specs.Header.{HeaderValue, announced_length}
+use Rattle.std.specs.Prelude.{ℕ, List, ◌++◌, decimal}
 use Rattle.tlv_head.specs.Tag.{tag_text}
-use Rattle.tlv_value.specs.declared.layout.Layout.{Layout}
 use Rattle.tlv_value.specs.declared.primitive.Primitive.{Primitive}
-use Rattle.tlv_value.specs.Kind.{kind_of}
 use Rattle.tlv_value.specs.Value.{NameOf, short_value}
 use Rattle.tlv_value.specs.Layout.{columns, margin}
-use Rattle.tlv_value.specs.ValueLines.{element_line, has_line, row_lines}
-use Rattle.tlv_value.specs.ValueTextState.{ValueTextState, begin_lines, contents_lines, end_lines, value_text_after}
-
-abbrev pub primitive_of : HeaderValue → Layout → Primitive
-primitive_of h layout = record {
-  offset = h.offset;
-  class = h.class;
-  number = h.number;
-  size = announced_length h.size;
-  kind = kind_of h.class h.number;
-  layout = layout;
-}
+use Rattle.tlv_value.specs.ValueLines.{row_lines}
+use Rattle.tlv_value.specs.ValueTextState.{ValueTextState, begin_lines, contents_lines, end_lines, line_in, new_text_of, value_text_after}
 
 -- what its line begins with
 abbrev pub front_of : Primitive → List ℕ
@@ -26,25 +13,13 @@ front_of p = margin p.layout.pure (columns p.offset (decimal p.size)) p.layout.l
 
 -- its line, with this text after its tag
 abbrev pub primitive_line : Primitive → List ℕ → List ℕ
-primitive_line p text = element_line p.layout p.offset p.class p.number p.size text
+primitive_line p text = line_in (new_text_of p) text
 
 -- its lines, if its value is on its line
 abbrev pub primitive_lines : NameOf → Primitive → List ℕ → List ℕ
 primitive_lines name_of p octets =
     primitive_line p (short_value name_of p.kind octets).text
     ++ row_lines p.kind p.layout 0 (short_value name_of p.kind octets).rows
-
--- what is kept of it before any octet
-abbrev pub new_text_of : Primitive → ValueTextState
-new_text_of p = record {
-  offset = p.offset;
-  class = p.class;
-  number = p.number;
-  size = p.size;
-  layout = p.layout;
-  left = p.size;
-  kept = record { wrote_line = has_line p.kind []; rows = 0; row = [] };
-}
 
 -- the lines that are known with the header, with all contents, and with the end
 abbrev pub lines_in_steps : NameOf → ValueTextState → List ℕ → List ℕ

@@ -2,7 +2,7 @@
 use Rattle.std.specs.Prelude.{◌≡◌, ℕ, ◌+◌, ◌<◌, Bool, true, List, slice_index}
 use Rattle.tlv_io.proofs.CutOf.{has_room_by}
 use Rattle.tlv_value.specs.declared.kind.Kind.{Kind}
-use Rattle.tlv_value.specs.Cuts.{character_length, row_size}
+use Rattle.tlv_value.specs.RowSizes.{character_length, row_size}
 
 -- the octet has room in a row of so many octets
 abbrev pub has_room : Kind → ℕ → ℕ → Bool

@@ -2,16 +2,16 @@
 use Rattle.std.specs.Prelude.{ℕ, ◌+◌, ◌*◌, if◌then◌else◌, List, flat_map}
 use Rattle.tlv_value.specs.declared.kind.Kind.TheVariants.{Octets}
 use Rattle.tlv_value.specs.declared.layout.Layout.{Layout}
-use Rattle.tlv_value.specs.Layout.{line, no_columns}
+use Rattle.tlv_value.specs.Layout.{inner_line}
 use Rattle.tlv_value.specs.Value.{row_text}
 
 -- how many spaces are before a row
-abbrev pub row_indent_of : Layout → ℕ
-row_indent_of layout = (if layout.pure then 0 else 17) + 2 * (layout.level + 1)
+abbrev pub row_indent : Layout → ℕ
+row_indent layout = (if layout.pure then 0 else 17) + 2 * (layout.level + 1)
 
 -- the lines of rows of pairs of digits, if there is no limit to rows
 abbrev pub full_line : Layout → List ℕ → List ℕ
-full_line layout row = line layout.pure no_columns (layout.level + 1) (row_text Octets row)
+full_line layout row = inner_line layout (row_text Octets row)
 
 abbrev pub full_lines : Layout → List (List ℕ) → List ℕ
 full_lines layout rows = flat_map (full_line layout) rows

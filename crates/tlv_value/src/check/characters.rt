@@ -1,7 +1,7 @@
 //! Which octets the strings of some characters have.
 ghost use Rattle.std.specs.List.{list_all};
 ghost use Rattle.std.specs.Prelude.{◌≡◌};
-ghost use Rattle.tlv_value.specs.Checks.{allows_octet, is_printable_string};
+ghost use Rattle.tlv_value.specs.Checks.{allows_octet, is_printable_string_octet};
 
 use super::both;
 use tlv_head::universal;
@@ -52,7 +52,7 @@ fn allows_octet(number: u64, octet: u8) -> bool
 {
     match number {
         universal::NUMERIC_STRING => matches!(octet, b' ' | b'0'..=b'9'),
-        universal::PRINTABLE_STRING => is_printable(octet),
+        universal::PRINTABLE_STRING => is_printable_string_octet(octet),
         universal::IA5_STRING => octet < 128,
         universal::VISIBLE_STRING => matches!(octet, 0x20..=0x7e),
         _ => true,
@@ -61,8 +61,8 @@ fn allows_octet(number: u64, octet: u8) -> bool
 
 /// Whether PrintableString has the octet (X.680 41.4).
 #[inline(always)]
-fn is_printable(octet: u8) -> bool
-    ensures { result ≡ is_printable_string octet }
+fn is_printable_string_octet(octet: u8) -> bool
+    ensures { result ≡ is_printable_string_octet octet }
 {
     // A look-up costs less than a comparison with each range of characters.
     PRINTABLE[usize::from(octet)] != b'*'

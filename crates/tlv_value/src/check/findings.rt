@@ -22,7 +22,7 @@ impl ValueCheck {
             universal::BOOLEAN => self.note_boolean(&mut found),
             universal::INTEGER | universal::ENUMERATED => {
                 note(self.size == 0, Finding::B07, &mut found);
-                note(self.is_number_padded(), Finding::B08, &mut found);
+                note(self.is_padded_integer(), Finding::B08, &mut found);
             }
             universal::BIT_STRING => self.note_bits(&mut found),
             universal::NULL => note(self.size != 0, Finding::B09, &mut found),

@@ -8,7 +8,7 @@ use tlv_head::universal;
 /// Whether the first octets of the type with this universal number are looked at, and the last one: BOOLEAN, INTEGER,
 /// BIT STRING, ENUMERATED.
 #[inline(always)]
-pub(super) fn is_front_noted(number: u64) -> bool
+pub(super) fn notes_front(number: u64) -> bool
     ensures { result ≡ notes_front number }
 {
     matches!(
@@ -19,7 +19,7 @@ pub(super) fn is_front_noted(number: u64) -> bool
 
 /// Whether each contents octet of the type with this universal number is looked at.
 #[inline(always)]
-pub(super) fn is_each_noted(number: u64) -> bool
+pub(super) fn notes_each(number: u64) -> bool
     ensures { result ≡ notes_each number }
 {
     matches!(
@@ -36,7 +36,7 @@ pub(super) fn is_each_noted(number: u64) -> bool
 
 /// Whether the type with this universal number is one of the two times.
 #[inline(always)]
-pub(super) fn is_time(number: u64) -> bool
+pub(super) fn notes_time(number: u64) -> bool
     ensures { result ≡ notes_time number }
 {
     matches!(number, universal::UTC_TIME | universal::GENERALIZED_TIME)

@@ -2,7 +2,8 @@
 ghost use Rattle.std.specs.Prelude.{◌≡◌, nat_le, true};
 ghost use Rattle.std.specs.Char.{is_ascii_digit};
 ghost use Rattle.std.specs.List.{list_all};
-ghost use Rattle.tlv_value.specs.Names.{are_first_arcs, decimal_number, dotted_parts, is_arc, is_dotted, may_begin};
+ghost use Rattle.std.specs.Str.Parse.{digits_value};
+ghost use Rattle.tlv_value.specs.Names.{are_first_arcs, dotted_parts, is_arc, is_dotted, may_begin};
 
 use super::line::{after_mark, end_before};
 
@@ -80,7 +81,7 @@ fn may_begin(first: &[u8], second: &[u8]) -> bool
 
 fn is_below_forty(arc: &[u8]) -> bool
     requires { is_arc arc.now ≡ true }
-    ensures { result ≡ nat_le (decimal_number arc.now) 39 }
+    ensures { result ≡ nat_le (digits_value 10 arc.now) 39 }
 {
     match arc.len() {
         1 => true,

@@ -1,7 +1,8 @@
 //! The table of a names file.
 ghost use Rattle.std.specs.Prelude.{◌≡◌, ◌≤◌, length};
 ghost use Rattle.tlv_value.specs.Names.{names_line};
-ghost use Rattle.tlv_value.specs.NamesSteps.{texts_in};
+ghost use Rattle.tlv_value.specs.NamesReading.{names_limit};
+ghost use Rattle.tlv_value.specs.NamesFields.{texts_in};
 ghost use Rattle.tlv_value.specs.Private.NamesSteps.{Adds, AddsLine, IsTableOf};
 
 use super::NamesFault;
@@ -17,7 +18,7 @@ const MOST_ENTRIES: usize = 65_536;
 
 /// The table of all lines, or the first refusal.
 pub(super) fn names_of<A: Allocator + Copy>(alloc: A, octets: &[u8]) -> Result<Table<A>, NamesFault>
-    requires { length octets.now ≤ 1048576 }
+    requires { length octets.now ≤ names_limit }
     ensures { IsTableOf octets.now result }
 {
     let mut table = BTreeMap::new(alloc);

@@ -3,9 +3,9 @@ ghost use Rattle.std.specs.Prelude.{◌≡◌, ◌+◌, ◌<◌, ◌≤◌, ◌^
 ghost use Rattle.tlv_io.specs.Cuts.{last_rows};
 ghost use Rattle.tlv_io.specs.LineTexts.{HasRoomFor};
 ghost use Rattle.tlv_io.specs.Out.{Puts};
-ghost use Rattle.tlv_value.specs.Layout.{line, no_columns, row_line};
+ghost use Rattle.tlv_value.specs.Layout.{inner_line, row_line};
 ghost use Rattle.tlv_value.specs.OpenRow.{IsOpenRow};
-ghost use Rattle.tlv_value.specs.Private.Rows.{full_line, full_lines, row_indent_of};
+ghost use Rattle.tlv_value.specs.Private.Rows.{full_line, full_lines, row_indent};
 ghost use Rattle.tlv_value.specs.Rows.{full_rows, open_row, rows_of};
 ghost use Rattle.tlv_value.specs.Value.{row_text};
 ghost use Rattle.tlv_value.specs.ValueLines.{row_lines};
@@ -167,7 +167,7 @@ pub(crate) fn put_last<D: Drain>(
     put_row(kind, layout, index, row, out)
 }
 
-/// Puts a row, unless that is past the limit.
+/// Puts a row, unless that is beyond the limit.
 #[inline(always)]
 fn put_row<D: Drain>(
     kind: Kind,
@@ -189,7 +189,7 @@ fn put_row<D: Drain>(
     Ok(())
 }
 
-/// Puts three dots in place of the first row past the limit.
+/// Puts three dots in place of the first row beyond the limit.
 #[inline(never)]
 fn put_dots<D: Drain>(
     layout: Layout,
@@ -197,7 +197,7 @@ fn put_dots<D: Drain>(
     out: &mut Out<'_, D>,
 ) -> Result<(), WriteFault>
     ensures { Puts D.state out.old out.new
-        (if is_first then line layout.pure no_columns (layout.level + 1) (codes "...") else [])
+        (if is_first then inner_line layout (codes "...") else [])
         result }
 {
     if !is_first {
@@ -213,8 +213,7 @@ fn put_dots<D: Drain>(
 fn write_line(held: &mut HeldOctets, layout: Layout, kind: Kind, row: &[u8])
     requires room { HasRoomFor held.old 1024 }
     requires short { length row.now ≤ 64 }
-    ensures { held.new
-        ≡ held.old ++ line layout.pure no_columns (layout.level + 1) (row_text kind row.now) }
+    ensures { held.new ≡ held.old ++ inner_line layout (row_text kind row.now) }
 {
     held.spaces(row_indent(layout) - 1);
     write_row(held, kind, row);
@@ -224,7 +223,7 @@ fn write_line(held: &mut HeldOctets, layout: Layout, kind: Kind, row: &[u8])
 /// Adds the line of a full row of pairs of digits.
 #[inline(always)]
 fn write_full_line(held: &mut HeldOctets, layout: Layout, row: &[u8; 16])
-    requires { HasRoomFor held.old (row_indent_of layout + 64) }
+    requires { HasRoomFor held.old (row_indent layout + 64) }
     ensures { held.new ≡ held.old ++ full_line layout row.now }
 {
     // Each pair brings the space before it.
@@ -236,7 +235,7 @@ fn write_full_line(held: &mut HeldOctets, layout: Layout, row: &[u8; 16])
 /// Adds the line of three dots.
 fn write_dots(held: &mut HeldOctets, layout: Layout)
     requires { HasRoomFor held.old 1024 }
-    ensures { held.new ≡ held.old ++ line layout.pure no_columns (layout.level + 1) (codes "...") }
+    ensures { held.new ≡ held.old ++ inner_line layout (codes "...") }
 {
     held.spaces(row_indent(layout));
     held.add(b"...\n");

@@ -1,7 +1,8 @@
 use Rattle.std.proofs.Common.{ap, sym, ◌∙◌}
 use Rattle.tlv_value.specs.declared.primitive.Primitive.{Primitive}
 use Rattle.tlv_value.specs.Value.{is_long}
-use Rattle.tlv_value.specs.Private.PrimitiveLines.{lines_in_steps, new_text_of}
+use Rattle.tlv_value.specs.Private.PrimitiveLines.{lines_in_steps}
+use Rattle.tlv_value.specs.ValueTextState.{new_text_of}
 use Rattle.tlv_value.proofs.TextLemmas.Pieces.{shown-new, whole-new}
 use Rattle.tlv_io.proofs.Puts.{puts_text}
 use Rattle.tlv_value.proofs.whole.put_whole.Goals as goal

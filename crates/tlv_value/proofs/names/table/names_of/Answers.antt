@@ -3,7 +3,7 @@ use Rattle.std.proofs.lemmas.Bool.{eqb-true, eqb-false}
 use Rattle.std.proofs.lemmas.Grind.{common_steps}
 use Rattle.std.proofs.lemmas.Result.{err_from_is_err_and}
 use Rattle.tlv_value.specs.Names.{names_line}
-use Rattle.tlv_value.specs.NamesSteps.{texts_in}
+use Rattle.tlv_value.specs.NamesFields.{texts_in}
 use Rattle.tlv_value.proofs.NamesLemmas.Standing.{Standing, start, step, stop, done, next_line}
 use Rattle.tlv_value.proofs.names.table.names_of.Goals as goal
 

@@ -1,5 +1,5 @@
 use Rattle.std.proofs.Common.{◌≤◌, ◌+◌, length}
-use Rattle.tlv_value.specs.NamesSteps.{texts_in}
+use Rattle.tlv_value.specs.NamesFields.{texts_in}
 use Rattle.tlv_value.proofs.NamesLemmas.Standing.{Standing}
 use Rattle.tlv_value.proofs.names.table.names_of.Given as goal
 

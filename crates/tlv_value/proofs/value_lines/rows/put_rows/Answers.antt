@@ -5,7 +5,7 @@ use Rattle.std.proofs.lemmas.Grind.{common_steps}
 use Rattle.std.proofs.lemmas.List.{nil_from_length}
 use Rattle.tlv_io.proofs.Puts.{puts_as, puts_failed_in, puts_nothing, puts_then_as}
 use Rattle.tlv_value.specs.Layout.{row_line}
-use Rattle.tlv_value.specs.Cuts.{row_size}
+use Rattle.tlv_value.specs.RowSizes.{row_size}
 use Rattle.tlv_value.proofs.RowLemmas.FilledRows.{rows_filled}
 use Rattle.tlv_value.specs.Private.Rows.{full_lines}
 use Rattle.tlv_value.specs.ValueLines.{row_lines}

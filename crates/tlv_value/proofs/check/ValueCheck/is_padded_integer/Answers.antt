@@ -1,5 +1,5 @@
 use Rattle.std.proofs.Common.{rules}
-use Rattle.tlv_value.proofs.check.ValueCheck.is_number_padded.Goals as goal
+use Rattle.tlv_value.proofs.check.ValueCheck.is_padded_integer.Goals as goal
 
 pub returns-in-0 : goal.returns-in-0
 returns-in-0 c = search rules

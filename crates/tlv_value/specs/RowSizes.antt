@@ -9,7 +9,7 @@ use Rattle.tlv_value.specs.Kind.{is_text}
 abbrev pub row_size : Kind → ℕ
 row_size kind = if is_text kind then 64 else 16
 
--- how many octets want to stand in one row, from this one on: those of a character of UTF-8
+-- how many octets are to be kept in one row, from this one on: those of a character of UTF-8
 abbrev pub character_length : Kind → ℕ → ℕ
 character_length Utf8 x = utf8_length x
 character_length _ x = 1
