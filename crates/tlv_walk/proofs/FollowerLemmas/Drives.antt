@@ -21,7 +21,7 @@ use Rattle.tlv_walk.specs.Follow.{Effect, GoesOn, Joins, Rests, effect_of, follo
 use Rattle.tlv_walk.specs.FollowsEvents.{FollowsEvents}
 use Rattle.tlv_walk.specs.Forest.{Forest, spelling}
 use Rattle.tlv_walk.specs.Ending.{IsFinalEnding}
-use Rattle.tlv_walk.specs.Job.{ComesTo, EndsWith, Runs, WantMore, drain_result, read_failed, source_result, too_long, write_failed}
+use Rattle.tlv_walk.specs.Job.{ComesTo, EndsWith, Runs, WantMore, device_states, drain_result, read_failed, source_result, too_long, write_failed}
 use Rattle.tlv_io.specs.Out.{Sends}
 use Rattle.tlv_walk.specs.Reading.{AreOctets, IsReading}
 use Rattle.tlv_walk.specs.Stands.{Stands}
@@ -174,7 +174,7 @@ module _ {S : Type 0} (next : S → EventValue → Effect S)
 
       runs_by : (answer : Result Run DeviceFault) (f : Forest) → GaveLast new.source.last r → IsReading framing walked f → (es : List EventValue) → (goes : Go) (k : MadeAll s new.follower f goes (effect_of next s es).put)
           → source_result answer ≡ source_result result → Sends from new.drain (effect_of next s es).put (drain_result answer) → ComesTo (drive_job next framing limit s) (b ++ r) f new.source answer
-          → Runs (drive_job next framing limit s) old new.source from new.drain answer
+          → Runs (drive_job next framing limit s) (device_states old from) (device_states new.source new.drain) answer
       runs_by answer f last is_reading es goes k same sends comes = record {
         pieces = pieces_all old now.source new.source x.gathered r read.calls.octets read.calls.reads last few;
         failures =
