@@ -1,12 +1,11 @@
 -- What a call of `indef` comes to.
 use Rattle.std.specs.Prelude.{◌≡◌, ℕ, Bool, List, Result, Ok}
-use Rattle.tlv_io.specs.Device.{DrainState, SourceState}
 use Rattle.tlv_walk.specs.declared.ending.Ending.{Ending}
 use Rattle.tlv_walk.specs.declared.ending.Ending.TheVariants.{Done}
 use Rattle.tlv_walk.specs.declared.run.DeviceFault.{DeviceFault}
 use Rattle.tlv_walk.specs.Ending.{IsEnding}
 use Rattle.tlv_walk.specs.Forest.{Forest}
-use Rattle.tlv_walk.specs.Job.{Runs}
+use Rattle.tlv_walk.specs.Job.{DeviceStates, Runs}
 use Rattle.tlv_walk.specs.Reading.{IsReading}
 use Rattle.tlv_cut.specs.IndefJob.{indef_framing, indef_job}
 use Rattle.tlv_cut.specs.IndefReading.{indef_reading}
@@ -20,7 +19,6 @@ pub record IsReadBack (padding : Bool) (f : Forest) (octets : List ℕ) : Type 0
   pub same_again : indef_text (indef_reading f) ≡ octets
 
 -- what was written and returned is what the job says, and if the ending is `Done`, what was written is read back
-pub record RunsIndef (padding : Bool) (old new : SourceState) (old_drain new_drain : DrainState)
-    (result : Result Ending DeviceFault) : Type 0 where
-  pub runs : Runs (indef_job padding) old new old_drain new_drain result
+pub record RunsIndef (padding : Bool) (old new : DeviceStates) (result : Result Ending DeviceFault) : Type 0 where
+  pub runs : Runs (indef_job padding) old new result
   pub read_back : result ≡ Ok Done → IsReadBack padding runs.reading runs.sends.sent

@@ -1,5 +1,5 @@
 //! The call `extract`: it reads a source and writes to a drain.
-ghost use Rattle.tlv_walk.specs.Job.{Runs};
+ghost use Rattle.tlv_walk.specs.Job.{Runs, device_states};
 ghost use Rattle.tlv_cut.specs.ExtractJob.{extract_job};
 
 use crate::Extract;
@@ -38,7 +38,8 @@ pub fn extract<S: Source, D: Drain>(
     framing: &Framing,
 ) -> Result<Cut, DeviceFault>
     ensures { Runs (extract_job framing.now offset contents_only)
-        (S.state source.old) (S.state source.new) (D.state drain.old) (D.state drain.new) result }
+        (device_states (S.state source.old) (D.state drain.old))
+        (device_states (S.state source.new) (D.state drain.new)) result }
 {
     let mut follower = Extract::new(offset, contents_only);
     let run = drive(source, &mut follower, drain, framing)?;

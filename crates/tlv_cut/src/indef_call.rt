@@ -1,4 +1,5 @@
 //! The call `indef`: it reads a source and writes to a drain.
+ghost use Rattle.tlv_walk.specs.Job.{device_states};
 ghost use Rattle.tlv_cut.specs.IndefRun.{RunsIndef};
 
 use crate::Indef;
@@ -27,7 +28,8 @@ pub fn indef<S: Source, D: Drain>(
     padding: bool,
 ) -> Result<Ending, DeviceFault>
     ensures { RunsIndef padding
-        (S.state source.old) (S.state source.new) (D.state drain.old) (D.state drain.new) result }
+        (device_states (S.state source.old) (D.state drain.old))
+        (device_states (S.state source.new) (D.state drain.new)) result }
 {
     let framing = Framing {
         inside: Inside::none(),

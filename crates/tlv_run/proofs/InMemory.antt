@@ -25,7 +25,7 @@ use Rattle.tlv_io.specs.Device.{DrainState, LastReadValue, SourceState, failed, 
 use Rattle.tlv_io.specs.Device.{octets_given}
 use Rattle.tlv_walk.specs.Ending.{IsEnding, IsFinalEnding}
 use Rattle.tlv_walk.specs.Forest.{Forest, spelling}
-use Rattle.tlv_walk.specs.Job.{EndsWith, Job, Runs, WantMore}
+use Rattle.tlv_walk.specs.Job.{EndsWith, Job, Runs, WantMore, device_states}
 use Rattle.tlv_io.specs.MemSource.{MemSourceState}
 use Rattle.tlv_io.specs.Out.{Sends}
 use Rattle.tlv_walk.specs.Reading.{AreOctets, IsPrefixOf, IsReading}
@@ -35,7 +35,7 @@ use Rattle.tlv_run.specs.Private.MemoryDevices.{ending_source_state, failing_sou
 use Rattle.tlv_run.specs.Octets.{IsReport, MakesResultOf, RunsOctets, broken, ended, settled, too_long}
 use Rattle.tlv_run.specs.Report.{ReportValue, device_report, report_of}
 use Rattle.tlv_run.specs.Results.{CommandResult, IsSettled, MakesResult, command_job, command_result}
-use Rattle.tlv_run.specs.Runs.{RunsAndReports, device_states}
+use Rattle.tlv_run.specs.Runs.{RunsAndReports}
 
 -- what a slice holds of numbers that fit an octet
 octets_of : (xs : List ℕ) → ((i : ℕ) → Fits w8 (slice_index_or xs i 0)) → AreOctets xs
@@ -157,7 +157,7 @@ module _ (job : Job ReportValue) (stays : Stays job)
     one_failure : next_count 0 ≡ 1
     one_failure = refl
 
-    run_ok : (report : ReportValue) → Runs job old new from to (Ok report) → Comes report
+    run_ok : (report : ReportValue) → Runs job (device_states old from) (device_states new to) (Ok report) → Comes report
     run_ok report x =
         let given : List ℕ = octets_given x.pieces in
         let left = left_of old.left new.left octets given known x.pieces.consumed in
@@ -198,7 +198,7 @@ module _ (job : Job ReportValue) (stays : Stays job)
         let same : f ≡ one.1.reading = reading-unique job.framing seen f one.1.reading r one.1.is_reading in
         whole one.0 report one.1 (sent ∙ ap job.text same ∙ sym (ap (λ (m : CommandResult). m.output) one.1.is_made)) (says one.0 one.1 (unsettled seen one.0 one.1 s))
 
-    run_broken : Runs job old new from to (Err ReadFailed) → Comes (device_report ReadFailed)
+    run_broken : Runs job (device_states old from) (device_states new to) (Err ReadFailed) → Comes (device_report ReadFailed)
     run_broken x =
         let given : List ℕ = octets_given x.pieces in
         let before : List ℕ = concat x.pieces.pieces in
@@ -216,7 +216,7 @@ module _ (job : Job ReportValue) (stays : Stays job)
         (all_sent (job.text x.reading) x.sends)
         (λ (made : CommandResult) y apart. broken apart after.0 few)
 
-    run_long : Runs job old new from to (Err InputTooLong) → Comes (device_report InputTooLong)
+    run_long : Runs job (device_states old from) (device_states new to) (Err InputTooLong) → Comes (device_report InputTooLong)
     run_long x =
         let given : List ℕ = octets_given x.pieces in
         let left = left_of old.left new.left octets given known x.pieces.consumed in
@@ -230,7 +230,7 @@ module _ (job : Job ReportValue) (stays : Stays job)
         (all_sent (job.text x.reading) x.sends)
         (λ (made : CommandResult) y apart. too_long apart more)
 
-    run_short : Runs job old new from to (Err WriteFailed) → Comes (device_report WriteFailed)
+    run_short : Runs job (device_states old from) (device_states new to) (Err WriteFailed) → Comes (device_report WriteFailed)
     run_short x =
         let given : List ℕ = octets_given x.pieces in
         let left = left_of old.left new.left octets given known x.pieces.consumed in
@@ -247,7 +247,7 @@ module _ (job : Job ReportValue) (stays : Stays job)
         front_and_rest written x.sends.sent x.sends.left (job.text x.reading) on.0 one.0.output sent x.sends.front text in
         short one.0 (x.sends.left ++ on.0) one.1 output (more_left x.sends.left on.0 x.sends.not_all) (full (x.sends.failures ∙ ap next_count unfailed ∙ one_failure))
 
-    run_in : (result : Result ReportValue DeviceFault) → Runs job old new from to result → Comes (report_of (λ (of_input : ReportValue). of_input) result)
+    run_in : (result : Result ReportValue DeviceFault) → Runs job (device_states old from) (device_states new to) result → Comes (report_of (λ (of_input : ReportValue). of_input) result)
     run_in (Ok report) x = run_ok report x
     run_in (Err ReadFailed) x = run_broken x
     run_in (Err WriteFailed) x = run_short x

@@ -3,10 +3,11 @@ use Rattle.std.specs.Prelude.{◌≡◌, ℕ, ◌^◌, ◌≤◌, Bool, List, �
 use Rattle.std.specs.Io.KnownBytes.{Appends}
 use Rattle.tlv_value.specs.Names.{Table}
 use Rattle.tlv_walk.specs.declared.ending.Ending.TheVariants.{Done}
+use Rattle.tlv_walk.specs.Job.{DeviceStates}
 use Rattle.tlv_walk.specs.Reading.{AreOctets, IsPrefixOf, IsSoundList}
 use Rattle.tlv_run.specs.Report.{ReportValue}
 use Rattle.tlv_run.specs.Results.{CommandResult, IsResultOf, IsSettled, command_job}
-use Rattle.tlv_run.specs.Runs.{DeviceStates, RunsAndReports}
+use Rattle.tlv_run.specs.Runs.{RunsAndReports}
 use Rattle.tlv_run.specs.declared.command.Command.{Command}
 use Rattle.tlv_run.specs.declared.command.Command.TheVariants.{Indef}
 

@@ -19,7 +19,7 @@ pub struct OctetsRun<const N: usize> {
 
 /// Runs the command over `octets`, with room for `N` octets of output.
 ///
-/// Read `i`, counted from 0, gives at most `cuts[i]` octets, or one if that is 0, and past the end of
+/// Read `i`, counted from 0, gives at most `cuts[i]` octets, or one if that is 0, and after the end of
 /// `cuts` as many as there is room for. After the octets the input ends, or a read fails. If there is
 /// room for all of the output, it is written, whatever the cuts; else the first `N` octets of it, and
 /// the report is that of a failed write.

@@ -1,7 +1,8 @@
 //! A run of a command over a source and a drain.
+ghost use Rattle.tlv_walk.specs.Job.{device_states};
 ghost use Rattle.tlv_run.specs.Report.{report_value};
 ghost use Rattle.tlv_run.specs.Results.{command_job};
-ghost use Rattle.tlv_run.specs.Runs.{RunsAndReports, device_states};
+ghost use Rattle.tlv_run.specs.Runs.{RunsAndReports};
 
 use crate::command::Command;
 use crate::report::{Report, cut_report, indef_report, outcome_report};

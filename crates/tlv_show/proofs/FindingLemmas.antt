@@ -5,6 +5,7 @@ pub mod ElementItems
 pub mod FinderFolds
 pub mod FinderItems
 pub mod FindingsOfHeaders
+pub mod FramesAround
 pub mod HeaderFindings
 pub mod KeptFrames
 pub mod Lists

@@ -1,21 +1,11 @@
 -- What a check makes of events.
-use Rattle.std.specs.Prelude.{ℕ, List, [], ◌∷◌, None, flat_map}
-use Rattle.tlv_value.specs.declared.finding.Finding.{Finding}
+use Rattle.std.specs.Prelude.{ℕ, [], ◌∷◌}
 use Rattle.tlv_walk.specs.declared.follow.Go.TheVariants.{On}
 use Rattle.tlv_walk.specs.Events.{Begin, Bytes, Close, End, Enter, EventValue, Leave, Open, Pad, Unused}
 use Rattle.tlv_walk.specs.Follow.{Effect, each_octet, no_effect}
-use Rattle.tlv_show.specs.declared.finding_lines.Style.{Style}
-use Rattle.tlv_show.specs.declared.finding_lines.Style.TheVariants.{Check, Dump}
+use Rattle.tlv_show.specs.declared.finding_lines.Style.TheVariants.{Check}
 use Rattle.tlv_show.specs.FinderState.{FinderState, FinderValue, finder_begin_step, finder_bytes_step, finder_close_step, finder_end_step, finder_open_step}
-use Rattle.tlv_show.specs.Texts.{check_finding_line, finding_line}
-
--- a finding in an element at this level and offset, as it is written
-abbrev pub styled_line : Style → ℕ → ℕ → Finding → List ℕ
-styled_line Check level at finding = check_finding_line at finding
-styled_line (Dump pure) level at finding = finding_line (record { level = level; limit = None; pure = pure }) at finding
-
-abbrev pub styled_lines : Style → ℕ → ℕ → List Finding → List ℕ
-styled_lines style level at findings = flat_map (styled_line style level at) findings
+use Rattle.tlv_show.specs.FindingLines.{styled_lines}
 
 -- the findings are put, each with its line
 abbrev pub findings_effect : FinderValue → Effect FinderState

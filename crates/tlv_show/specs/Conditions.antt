@@ -1,4 +1,5 @@
--- What is found in an element by the rules of X.690: each finding beside its condition, in the order of the codes.
+-- What is found with a header, and with an end, by the rules of X.690: each finding beside its condition, in the order
+-- of the codes.
 use Rattle.std.specs.Prelude.{ℕ, ◌+◌, ◌-◌, ◌%◌, Bool, false, ◌&&◌, ◌||◌, not, ◌==◌, nat_le, nat_lt, if◌then◌else◌, List, [], ◌∷◌, ◌++◌, length, slice_index, Some, sum_by}
 use Rattle.std.specs.List.{list_all}
 use Rattle.tlv_head.specs.Header.{HeaderValue, announced_length}

@@ -7,7 +7,7 @@ use Rattle.tlv_walk.specs.Events.{Begin, Bytes, Close, End, Enter, EventValue, L
 use Rattle.tlv_walk.specs.Follow.{Effect, each_octet}
 use Rattle.tlv_show.specs.declared.rules.Rules.{Rules}
 use Rattle.tlv_show.specs.declared.finding_lines.Style.TheVariants.{Dump}
-use Rattle.tlv_show.specs.CheckStep.{styled_lines}
+use Rattle.tlv_show.specs.FindingLines.{styled_lines}
 use Rattle.tlv_show.specs.LinesStep.{LinesState, lines_octet_step, lines_padding_step, lines_step, new_lines}
 use Rattle.tlv_show.specs.FinderState.{FinderState, FinderValue, finder_begin_step, finder_bytes_step, finder_close_step, finder_end_step, finder_open_step, new_finder, without_findings}
 

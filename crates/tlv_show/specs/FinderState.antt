@@ -144,7 +144,7 @@ abbrev pub finder_begin_step : FinderState → HeaderValue → FinderValue
 finder_begin_step s h =
     with_findings (finder_at_value s h) (length s.outer) h.offset (header_findings s.rules (surroundings_in s.frame) h)
 
--- contents octets: no more count than were announced
+-- contents octets: only as many as were announced are counted
 abbrev pub open_value_after : Option OpenValue → List ℕ → Option OpenValue
 open_value_after None octets = None
 open_value_after (Some v) octets = Some (record v { check = value_check_after v.check (take v.check.left octets) })

@@ -4,7 +4,7 @@ use Rattle.std.specs.List.{filter, list_any}
 use Rattle.tlv_head.specs.Header.{HeaderValue}
 use Rattle.tlv_value.specs.declared.finding.Finding.{Finding}
 use Rattle.tlv_value.specs.Checks.{contents_conditions, findings_by}
-use Rattle.tlv_value.specs.Finding.{finding_wording}
+use Rattle.tlv_value.specs.Finding.{finding_code}
 use Rattle.tlv_show.specs.declared.rules.Rules.{Rules}
 use Rattle.tlv_show.specs.declared.rules.Rules.TheVariants.{Ber, Der, Cer}
 use Rattle.tlv_show.specs.Conditions.{Segments, Surroundings, end_conditions, header_conditions}
@@ -16,7 +16,7 @@ letters Der = codes "BSD"
 letters Cer = codes "BSC"
 
 abbrev pub is_shown : Rules → Finding → Bool
-is_shown rules finding = list_any (eqb (slice_index (finding_wording finding).0 0)) (letters rules)
+is_shown rules finding = list_any (eqb (slice_index (finding_code finding) 0)) (letters rules)
 
 -- of what is found by these conditions, what the rules show
 abbrev pub shown_findings : Rules → List (Bool × Finding) → List Finding

@@ -3,10 +3,10 @@
 use Rattle.std.specs.Prelude.{ℕ, ◌+◌, if◌then◌else◌, List, [], ◌∷◌, ◌++◌, map, None, Option, slice_get}
 use Rattle.tlv_head.specs.Header.{HeaderValue}
 use Rattle.tlv_value.specs.declared.finding.Finding.{Finding}
+use Rattle.tlv_walk.specs.Events.{end_place}
 use Rattle.tlv_walk.specs.Forest.{Forest, PaddingOctet, Primitive, Holder, OpenPrimitive, OpenHolder, OpenBitString, extent, primitive_extent}
 use Rattle.tlv_show.specs.declared.rules.Rules.{Rules}
 use Rattle.tlv_show.specs.Conditions.{segments_of, surroundings_of}
-use Rattle.tlv_show.specs.EndPlace.{end_place}
 use Rattle.tlv_show.specs.Found.{contents_findings, end_findings, header_findings}
 use Rattle.tlv_show.specs.Site.{Padding, Sibling, Site, is_padding, onward, site_of_children}
 
@@ -49,7 +49,7 @@ module _ (rules : Rules) where
   items s (Holder h children rest) =
       finding_items s h (header_findings rules (surroundings_of s) h)
       ++ (OpeningLine s.level h ∷ items (site_of_children s h) children
-      ++ (ClosingLine s.level (end_place h children)
+      ++ (ClosingLine s.level (if h.constructed then end_place h children else None)
       ∷ finding_items s h (end_findings rules (segments_of h (headers children)))
       ++ items (onward s (extent h children) (Sibling h None)) rest))
   items s (OpenPrimitive h c) =

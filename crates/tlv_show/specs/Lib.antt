@@ -1,7 +1,6 @@
 pub mod Lines
 pub mod LinesStep
 pub mod DumpJob
-pub mod EndPlace
 pub mod Site
 pub mod Conditions
 pub mod Found
@@ -9,6 +8,7 @@ pub mod Items
 pub mod Texts
 pub mod SaturatingSum
 pub mod FinderState
+pub mod FindingLines
 pub mod CheckStep
 pub mod DumpStep
 pub mod ShowJob

@@ -1,4 +1,4 @@
--- What a dump makes of events.
+-- What the lines of a dump make of events, without those of findings.
 use Rattle.std.specs.Prelude.{ℕ, ◌+◌, ◌-◌, eqb, if◌then◌else◌, Bool, true, false, List, [], ◌∷◌, length, min, take, Option, Some, None}
 use Rattle.std.specs.FinMap as finite
 use Rattle.tlv_head.specs.Header.{HeaderValue, octets_of}
@@ -62,7 +62,7 @@ lines_begin_step s h =
     lines_effect (record (past_header s h) { value = Some (new_value_text h s.layout) })
     (begin_lines (new_value_text h s.layout))
 
--- contents octets: no more count than were announced
+-- contents octets: only as many as were announced are counted
 abbrev pub value_after : Option ValueTextState → List ℕ → Option ValueTextState
 value_after None octets = None
 value_after (Some t) octets = Some (value_text_after t (take t.left octets))

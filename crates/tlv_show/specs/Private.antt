@@ -1,4 +1,4 @@
-pub mod CheckStep
+pub mod FindingLines
 pub mod LinesStep
 pub mod FinderState
 pub mod Nesting

@@ -1,5 +1,5 @@
 //! `check`, over a source and a drain.
-ghost use Rattle.tlv_walk.specs.Job.{Runs};
+ghost use Rattle.tlv_walk.specs.Job.{Runs, device_states};
 ghost use Rattle.tlv_show.specs.CheckJob.{check_job};
 
 use crate::outcome::Outcome;
@@ -13,15 +13,16 @@ use tlv_walk::{DeviceFault, Drain, Framing, Source, drive};
 /// # Errors
 ///
 /// `ReadFailed` exactly if the source's failures rose in the call, and `WriteFailed` exactly if
-/// the drain's did. `InputTooLong` past 2^40 octets.
+/// the drain's did. `InputTooLong` after 2^40 octets.
 pub fn check<S: Source, D: Drain>(
     source: &mut S,
     drain: &mut D,
     rules: Rules,
     framing: &Framing,
 ) -> Result<Outcome, DeviceFault>
-    ensures { Runs (check_job rules framing.now) (S.state source.old) (S.state source.new)
-        (D.state drain.old) (D.state drain.new) result }
+    ensures { Runs (check_job rules framing.now)
+        (device_states (S.state source.old) (D.state drain.old))
+        (device_states (S.state source.new) (D.state drain.new)) result }
 {
     let mut follower = Check::new(rules);
     let run = drive(source, &mut follower, drain, framing)?;

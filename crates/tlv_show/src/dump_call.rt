@@ -1,5 +1,5 @@
 //! `dump`, over a source and a drain.
-ghost use Rattle.tlv_walk.specs.Job.{Runs};
+ghost use Rattle.tlv_walk.specs.Job.{Runs, device_states};
 ghost use Rattle.tlv_show.specs.DumpJob.{dump_job};
 
 use crate::{Dump, Options, Outcome};
@@ -13,15 +13,16 @@ use tlv_walk::{DeviceFault, Drain, Source, drive};
 /// # Errors
 ///
 /// `ReadFailed` exactly if the source's failures rose in the call, and `WriteFailed` exactly if
-/// the drain's did. `InputTooLong` past 2^40 octets.
+/// the drain's did. `InputTooLong` after 2^40 octets.
 pub fn dump<S: Source, D: Drain>(
     source: &mut S,
     drain: &mut D,
     options: &Options,
     names: &Names,
 ) -> Result<Outcome, DeviceFault>
-    ensures { Runs (dump_job options.now names.now) (S.state source.old) (S.state source.new)
-        (D.state drain.old) (D.state drain.new) result }
+    ensures { Runs (dump_job options.now names.now)
+        (device_states (S.state source.old) (D.state drain.old))
+        (device_states (S.state source.new) (D.state drain.new)) result }
 {
     let mut follower = Dump::new(options, names);
     let run = drive(source, &mut follower, drain, &options.framing)?;

@@ -1,5 +1,5 @@
 //! What is found in elements, event by event.
-ghost use Rattle.std.specs.Prelude.{◌≡◌, [], length};
+ghost use Rattle.std.specs.Prelude.{◌≡◌, length};
 ghost use Rattle.tlv_head.specs.Header.{announced_length};
 ghost use Rattle.tlv_walk.specs.HasRead.{event_value};
 ghost use Rattle.tlv_show.specs.FinderState.{finder_at_value, finder_begin_step, finder_bytes_step, finder_close_step, finder_end_step, finder_inside, finder_open_step, new_finder, segments_in, surroundings_in, with_findings, without_findings};
@@ -9,6 +9,7 @@ ghost use Rattle.tlv_show.specs.Private.FinderState.{PassesOrStays, ReportsFindi
 use crate::Rules;
 use crate::contents_findings::add_contents_findings;
 use crate::header_findings::{add_end_findings, add_header_findings, is_plain, is_plain_if_usual};
+use crate::last_findings::LastFindings;
 use crate::nesting::Nesting;
 use crate::sibling_frame::SiblingFrame;
 use arrayvec::ArrayVec;
@@ -34,29 +35,6 @@ pub(crate) struct Finder {
     count: u64,
     /// The findings of the last event. They are kept here so that nothing is moved if nothing is found.
     last: LastFindings,
-}
-
-/// Findings in an element, in order: how many others hold it, and where it begins.
-#[derive(Drop)]
-struct LastFindings {
-    level: u8,
-    at: u64,
-    findings: ArrayVec<Finding, 16>,
-}
-
-impl LastFindings {
-    /// Begins anew, for the element at this level and offset.
-    #[inline(always)]
-    fn restart(&mut self, level: u8, at: u64)
-        ensures level { self.new.level ≡ level }
-        ensures at { self.new.at ≡ at }
-        ensures items { self.new.findings.items ≡ [] }
-    {
-        self.level = level;
-        self.at = at;
-        // `clear` would fill the room with blanks, by a call of memset.
-        self.findings = ArrayVec::new();
-    }
 }
 
 impl Model for Finder {
@@ -247,7 +225,7 @@ impl Finder {
         has_findings
     }
 
-    /// Contents of a primitive go on. Those past the octets that were announced do not count.
+    /// Contents of a primitive go on. Only as many octets as were announced are counted.
     #[inline(always)]
     pub fn bytes(&mut self, octets: &[u8])
         ensures { self.new ≡ with_state (finder_bytes_step self.old.state octets.now) self.old }

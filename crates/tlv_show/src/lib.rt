@@ -12,6 +12,7 @@ mod finding_lines;
 mod header_findings;
 mod headers;
 mod holder_lines;
+mod last_findings;
 pub mod laws;
 mod line_follower;
 mod nesting;

@@ -190,7 +190,7 @@ impl<'n> Lines<'n> {
 ghost use Rattle.tlv_show.specs.LinesStep.{value_after, value_contents_lines, value_end_lines};
 ghost use Rattle.tlv_show.specs.Private.LinesStep.{if_open};
 
-/// Writes the lines that more contents octets of the open primitive make known. Of octets past those that were
+/// Writes the lines that more contents octets of the open primitive make known. Of octets after those that were
 /// announced nothing is written.
 fn put_bytes<D: Drain>(
     is_open: bool,

@@ -11,7 +11,7 @@ use Rattle.tlv_io.specs.Device.{DrainState, SourceState}
 use Rattle.tlv_walk.specs.Events.{Begin, Bytes, Close, Enter, EventValue, Open, Pad, Unused, events}
 use Rattle.tlv_walk.specs.Follow.{Effect, effect_of, followed_events}
 use Rattle.tlv_walk.specs.Forest.{Forest, spelling}
-use Rattle.tlv_walk.specs.Job.{Job, Runs, drain_result}
+use Rattle.tlv_walk.specs.Job.{DeviceStates, Job, Runs, device_states, drain_result}
 use Rattle.tlv_walk.specs.Wrappers.{first_other, first_without_wrapper, wrapper_offsets}
 
 -- whether a follower had enough
@@ -43,14 +43,13 @@ run_over framing f es go.Enough e =
     }
 
 -- what takes part in a walk over all that a source gives, as it is before the walk or after it: the follower's
--- state, and what the source and the drain show of themselves
+-- state and the devices
 pub record DriveState (S : Type 0) : Type 0 where
   pub follower : S
-  pub source : SourceState
-  pub drain : DrainState
+  pub devices : DeviceStates
 
 abbrev pub drive_state : {S : Type 0} → S → SourceState → DrainState → DriveState S
-drive_state follower source drain = record { follower = follower; source = source; drain = drain }
+drive_state follower source drain = record { follower = follower; devices = device_states source drain }
 
 module _ {S : Type 0} (next : S → EventValue → Effect S) where
   -- a walk, followed from this state on
@@ -66,6 +65,6 @@ module _ {S : Type 0} (next : S → EventValue → Effect S) where
   -- what it comes to, and the state that it leaves
   pub record Drives (framing : Framing) (limit : ℕ) (old new : DriveState S) (result : Result Run DeviceFault)
       : Type 0 where
-    pub runs : Runs (drive_job framing limit old.follower) old.source new.source old.drain new.drain result
+    pub runs : Runs (drive_job framing limit old.follower) old.devices new.devices result
     pub state : OnOk (drain_result result)
         (new.follower ≡ (effect_of next old.follower (events runs.reading)).state)

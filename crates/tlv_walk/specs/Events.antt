@@ -27,16 +27,17 @@ abbrev pub end_offset : Size → ℕ → Option ℕ
 end_offset (Definite n) at = None
 end_offset Indefinite at = Some at
 
+-- 8.1.5: where those are with which an element that holds others ends
+abbrev pub end_place : HeaderValue → Forest → Option ℕ
+end_place h children = end_offset h.size (h.offset + length (opening h) + length (spelling children))
+
 -- an element that holds others begins
 abbrev pub opening_events : HeaderValue → List EventValue
 opening_events h = (if h.constructed then Open h else Enter h) ∷ map (λ z. Unused) (lead h)
 
 -- an element that holds others ends
 abbrev pub closing_event : HeaderValue → Forest → EventValue
-closing_event h children =
-    if h.constructed
-    then Close (end_offset h.size (h.offset + length (opening h) + length (spelling children)))
-    else Leave
+closing_event h children = if h.constructed then Close (end_place h children) else Leave
 
 -- an open forest read off in order
 abbrev pub events : Forest → List EventValue

@@ -13,6 +13,14 @@ use Rattle.tlv_walk.specs.Forest.{Forest, spelling}
 use Rattle.tlv_io.specs.Out.{Sends}
 use Rattle.tlv_walk.specs.Reading.{IsReading}
 
+-- the devices of a run, as they are before it or after it: what the source and the drain show of themselves
+pub record DeviceStates : Type 0 where
+  pub source : SourceState
+  pub drain : DrainState
+
+abbrev pub device_states : SourceState → DrainState → DeviceStates
+device_states source drain = record { source = source; drain = drain }
+
 -- what is wanted of an input, said of its reading
 pub record Job (A : Type 0) : Type 0 where
   -- how it is read, and of how many octets
@@ -71,15 +79,14 @@ module _ {A : Type 0} (job : Job A) where
     too_long : job.limit < length given → WantMore (take job.limit given) → ComesTo given f new (Err InputTooLong)
 
   -- a source was read to its end, to a fault or to enough, and what that makes was sent to a drain
-  pub record Runs (old new : SourceState) (old_drain new_drain : DrainState) (result : Result A DeviceFault)
-      : Type 0 where
-    pub pieces : Pieces old new
-    pub failures : new.failures ≡ failures_after (device_result ReadFailed result) old.failures
+  pub record Runs (old new : DeviceStates) (result : Result A DeviceFault) : Type 0 where
+    pub pieces : Pieces old.source new.source
+    pub failures : new.source.failures ≡ failures_after (device_result ReadFailed result) old.source.failures
     -- before the last read there was no reason to stop
     pub wants_more : WantMore (concat pieces.pieces)
     pub within : length (concat pieces.pieces) ≤ job.limit
     -- no more octets are read as encodings than the limit
     pub reading : Forest
     pub is_reading : IsReading job.framing (take job.limit (octets_given pieces)) reading
-    pub sends : Sends old_drain new_drain (job.text reading) (device_result WriteFailed result)
-    pub comes : ComesTo (octets_given pieces) reading new result
+    pub sends : Sends old.drain new.drain (job.text reading) (device_result WriteFailed result)
+    pub comes : ComesTo (octets_given pieces) reading new.source result

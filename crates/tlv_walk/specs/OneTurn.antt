@@ -15,7 +15,7 @@ use Rattle.tlv_walk.specs.Ending.{IsEnding, IsFinalEnding}
 use Rattle.tlv_walk.specs.Events.{EventValue}
 use Rattle.tlv_walk.specs.Follow.{Effect, effect_of}
 use Rattle.tlv_walk.specs.FollowsEvents.{FollowsEvents}
-use Rattle.tlv_walk.specs.Job.{drain_result, source_result}
+use Rattle.tlv_walk.specs.Job.{DeviceStates, device_states, drain_result, source_result}
 use Rattle.tlv_walk.specs.WalkerState.{WalkerState}
 use Rattle.tlv_io.specs.Out.{Sends}
 use Rattle.tlv_walk.specs.Reading.{AreOctets, IsPrefixOf}
@@ -41,27 +41,25 @@ LastReadWas room (Err ReadFailed) last = last ≡ failed
 LastReadWas room (Err WriteFailed) last = LastReadGaveUpTo room last
 LastReadWas room (Err InputTooLong) last = LastReadGaveUpTo room last
 
--- what takes part in a turn, as it is before the turn or after it: the walker, the follower's state, and what the
--- source and the drain show of themselves
+-- what takes part in a turn, as it is before the turn or after it: the walker, the follower's state and the devices
 pub record TurnState (S : Type 0) : Type 0 where
   pub walker : WalkerState
   pub follower : S
-  pub source : SourceState
-  pub drain : DrainState
+  pub devices : DeviceStates
 
 abbrev pub turn_state : {S : Type 0} → WalkerState → S → SourceState → DrainState → TurnState S
 turn_state walker follower source drain =
-    record { walker = walker; follower = follower; source = source; drain = drain }
+    record { walker = walker; follower = follower; devices = device_states source drain }
 
 -- one read, after which the piece is this, and writes
 pub record CallsDevices {S : Type 0} (old new : TurnState S) (piece : List ℕ) (result : Result Turn DeviceFault)
     : Type 0 where
-  pub octets : Consumes old.source.left new.source.left (last_octets new.source.last piece)
-  pub reads : new.source.reads ≡ next_count old.source.reads
-  pub last : LastReadWas (length piece) result new.source.last
-  pub at_end : new.source.last ≡ gave 0 → IsAtEnd new.source.left
-  pub failed_reads : new.source.failures ≡ failures_after (source_result result) old.source.failures
-  pub failed_writes : new.drain.failures ≡ failures_after (drain_result result) old.drain.failures
+  pub octets : Consumes old.devices.source.left new.devices.source.left (last_octets new.devices.source.last piece)
+  pub reads : new.devices.source.reads ≡ next_count old.devices.source.reads
+  pub last : LastReadWas (length piece) result new.devices.source.last
+  pub at_end : new.devices.source.last ≡ gave 0 → IsAtEnd new.devices.source.left
+  pub failed_reads : new.devices.source.failures ≡ failures_after (source_result result) old.devices.source.failures
+  pub failed_writes : new.devices.drain.failures ≡ failures_after (drain_result result) old.devices.drain.failures
 
 -- walker and follower are as they were
 pub record HasNotMoved {S : Type 0} (old new : TurnState S) : Type 0 where
@@ -71,7 +69,7 @@ pub record HasNotMoved {S : Type 0} (old new : TurnState S) : Type 0 where
 module _ {S : Type 0} (next : S → EventValue → Effect S) (old new : TurnState S) where
   -- what is made of these events was handed to the drain, with this result
   abbrev pub SendsMade : List EventValue → Result ⊤ DeviceFault → Type 0
-  SendsMade more result = Sends old.drain new.drain (effect_of next old.follower more).put result
+  SendsMade more result = Sends old.devices.drain new.devices.drain (effect_of next old.follower more).put result
 
   -- more events were followed, so that all these are yielded, and what was made of them was handed to the drain. The
   -- framing stays
@@ -170,5 +168,5 @@ pub record FollowsOneRead {S : Type 0} (next : S → EventValue → Effect S) (l
   pub octets : AreOctets piece
   -- what was made of the octets that the read gave, if the walker stands for those before them
   pub turned : (taken : List ℕ) (yielded : List EventValue) → Stands old.walker taken yielded
-      → TurnsTo next old new limit taken yielded (last_octets new.source.last piece) result
+      → TurnsTo next old new limit taken yielded (last_octets new.devices.source.last piece) result
   pub goes_on : CanGoOn limit old new result

@@ -11,7 +11,7 @@ use tlv_walk::{ReadSource, WriteDrain};
 use tlv_words::{UsageFault, Words, command_of, unprinted_report, usage_report, words_report};
 
 fn main(rt: HostRuntime) -> ExitCode {
-    let report = match started(&rt) {
+    let report = match report_of_run(&rt) {
         Ok(report) => report,
         Err(report) => report,
     };
@@ -21,39 +21,34 @@ fn main(rt: HostRuntime) -> ExitCode {
 
 /// Reads the command, then the names file, then opens the file, and runs the command. The error is the report of what
 /// comes first of them that is refused.
-fn started(rt: &HostRuntime) -> Result<Report, Report> {
-    let command = asked(rt)?;
-    let names = names_of(rt, &command)?;
+fn report_of_run(rt: &HostRuntime) -> Result<Report, Report> {
+    let command = command_asked_for(rt)?;
+    let names = names_asked_for(rt, &command)?;
     match command.file() {
-        None => Ok(run_over(rt, &command, &names, rt.stdin())),
+        None => Ok(run_on(rt, &command, &names, rt.stdin())),
         Some(name) => match File::open(rt, name) {
-            Ok(file) => Ok(run_over(rt, &command, &names, file)),
+            Ok(file) => Ok(run_on(rt, &command, &names, file)),
             Err(_) => Err(unopened_report()),
         },
     }
 }
 
-fn run_over<R: Read + Drop>(
-    rt: &HostRuntime,
-    command: &Command,
-    names: &Names,
-    reader: R,
-) -> Report {
+fn run_on<R: Read + Drop>(rt: &HostRuntime, command: &Command, names: &Names, reader: R) -> Report {
     let mut source = ReadSource::new(reader);
     let mut drain = WriteDrain::new(rt.stdout());
     run(command, names, &mut source, &mut drain)
 }
 
 /// The command that the arguments ask for. What `clap` has to say is printed.
-fn asked(rt: &HostRuntime) -> Result<Command, Report> {
+fn command_asked_for(rt: &HostRuntime) -> Result<Command, Report> {
     let words = words_of(rt)?;
     match command_of(rt.alloc(), &words) {
         Ok(command) => Ok(command),
-        Err(fault) => Err(refusal(rt, &fault)),
+        Err(fault) => Err(report_of_refusal(rt, &fault)),
     }
 }
 
-fn refusal(rt: &HostRuntime, fault: &UsageFault) -> Report {
+fn report_of_refusal(rt: &HostRuntime, fault: &UsageFault) -> Report {
     if let UsageFault::Parser(error) = fault
         && error.print(rt).is_err()
         && !error.use_stderr()
@@ -82,7 +77,7 @@ fn words_of(rt: &HostRuntime) -> Result<Words, Report> {
 }
 
 /// The table of the names file that the command asks for.
-fn names_of(rt: &HostRuntime, command: &Command) -> Result<Names, Report> {
+fn names_asked_for(rt: &HostRuntime, command: &Command) -> Result<Names, Report> {
     let Some(name) = command.names_file() else {
         return Ok(Names::empty());
     };

@@ -10,7 +10,7 @@ use Rattle.tlv_walk.specs.DriveJob.{Drives, drive_state, had_enough}
 use Rattle.tlv_walk.specs.Events.{events}
 use Rattle.tlv_walk.specs.Follow.{followed_events, go_of}
 use Rattle.tlv_walk.specs.Forest.{Forest}
-use Rattle.tlv_walk.specs.Job.{Runs}
+use Rattle.tlv_walk.specs.Job.{Runs, device_states}
 use Rattle.tlv_walk.specs.Place.{top_place}
 use Rattle.tlv_walk.specs.Reading.{IsReading}
 use Rattle.tlv_walk.proofs.FollowerLemmas.Jobs as jobs
@@ -51,7 +51,7 @@ module _ (framing : Framing) (n : ℕ) (only : Bool) (t : ExtractState) (old new
 
   pub extract_ok : (run : Run) (answer : Cut) → answer.ending ≡ run.ending → answer.found ≡ has_found t
       → Drives extract_step framing (2 ^ 40) (drive_state (new_extract n only) old from) (drive_state t new to) (Ok run)
-      → Runs (extract_job framing n only) old new from to (Ok answer)
+      → Runs (extract_job framing n only) (device_states old from) (device_states new to) (Ok answer)
   extract_ok run answer ending found x =
       jobs.runs_ok extract_step (extract_job framing n only)
       (new_extract n only) text enough t old new from to run answer x
@@ -63,6 +63,6 @@ module _ (framing : Framing) (n : ℕ) (only : Bool) (t : ExtractState) (old new
 
   pub extract_err : (e : DeviceFault)
       → Drives extract_step framing (2 ^ 40) (drive_state (new_extract n only) old from) (drive_state t new to) (Err e)
-      → Runs (extract_job framing n only) old new from to (Err e)
+      → Runs (extract_job framing n only) (device_states old from) (device_states new to) (Err e)
   extract_err e x =
       jobs.runs_err extract_step (extract_job framing n only) (new_extract n only) text enough t old new from to e x

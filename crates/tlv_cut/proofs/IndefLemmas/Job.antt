@@ -11,7 +11,7 @@ use Rattle.tlv_walk.specs.DriveJob.{Drives, drive_state, had_enough}
 use Rattle.tlv_walk.specs.Events.{events}
 use Rattle.tlv_walk.specs.Follow.{Effect, effect_of, followed_events}
 use Rattle.tlv_walk.specs.Forest.{Forest}
-use Rattle.tlv_walk.specs.Job.{Runs}
+use Rattle.tlv_walk.specs.Job.{Runs, device_states}
 use Rattle.tlv_walk.specs.Reading.{IsReading}
 use Rattle.tlv_walk.proofs.FollowerLemmas.Enough.{Settled, ends_with, returns}
 use Rattle.tlv_walk.proofs.FollowerLemmas.Jobs as jobs
@@ -34,7 +34,7 @@ module _ (padding : Bool) (s t : IndefState) (old new : SourceState) (from to : 
   goes_on octets f few r = ap (λ (k : Effect IndefState). had_enough k.goes) (followed-indef_step s (events f))
 
   -- if it is done, what it wrote is read back
-  read_back : (e : Ending) (x : Runs (indef_job padding) old new from to (Ok e)) → e ≡ Done → IsReadBack padding x.reading x.sends.sent
+  read_back : (e : Ending) (x : Runs (indef_job padding) (device_states old from) (device_states new to) (Ok e)) → e ≡ Done → IsReadBack padding x.reading x.sends.sent
   read_back e x done =
       let w = indef_framing padding in
       let given : List ℕ = octets_given x.pieces in
@@ -51,7 +51,7 @@ module _ (padding : Bool) (s t : IndefState) (old new : SourceState) (from to : 
       })
 
   runs_ok : (run : Run) → Drives indef_step (indef_framing padding) (2 ^ 40) (drive_state s old from) (drive_state t new to) (Ok run)
-      → Runs (indef_job padding) old new from to (Ok run.ending)
+      → Runs (indef_job padding) (device_states old from) (device_states new to) (Ok run.ending)
   runs_ok run x =
       jobs.runs_ok indef_step (indef_job padding) s text goes_on t old new from to run run.ending x
       (λ octets f e few r state is. ap (λ (k : Run). k.ending) is
@@ -59,13 +59,13 @@ module _ (padding : Bool) (s t : IndefState) (old new : SourceState) (from to : 
       (effect_of indef_step s (events f)).goes e)
 
   pub indef_ok : (run : Run) → Drives indef_step (indef_framing padding) (2 ^ 40) (drive_state s old from) (drive_state t new to) (Ok run)
-      → RunsIndef padding old new from to (Ok run.ending)
+      → RunsIndef padding (device_states old from) (device_states new to) (Ok run.ending)
   indef_ok run x =
-      let runs : Runs (indef_job padding) old new from to (Ok run.ending) = runs_ok run x in
+      let runs : Runs (indef_job padding) (device_states old from) (device_states new to) (Ok run.ending) = runs_ok run x in
       record { runs = runs; read_back = λ is. read_back run.ending runs (cc (is)) }
 
   pub indef_err : (e : DeviceFault) → Drives indef_step (indef_framing padding) (2 ^ 40) (drive_state s old from) (drive_state t new to) (Err e)
-      → RunsIndef padding old new from to (Err e)
+      → RunsIndef padding (device_states old from) (device_states new to) (Err e)
   indef_err e x = record {
     runs = jobs.runs_err indef_step (indef_job padding) s text goes_on t old new from to e x;
     read_back = λ is. absurd (cc (is));

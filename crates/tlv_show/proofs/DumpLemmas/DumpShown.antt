@@ -11,7 +11,7 @@ use Rattle.tlv_value.specs.Names.{Table}
 use Rattle.tlv_value.specs.ValueLines.{open_lines, whole_lines}
 use Rattle.tlv_value.specs.Types.{is_primitive}
 use Rattle.tlv_walk.specs.declared.follow.Go.{Go}
-use Rattle.tlv_walk.specs.Events.{Begin, Bytes, End, EventValue, Pad, closing_event, end_offset, events, opening_events}
+use Rattle.tlv_walk.specs.Events.{Begin, Bytes, End, EventValue, Pad, closing_event, end_offset, end_place, events, opening_events}
 use Rattle.tlv_walk.specs.Follow.{Effect, effect_of}
 use Rattle.tlv_walk.specs.Forest.{Forest, NoMore, PaddingOctet, Primitive, Holder, OpenPrimitive, OpenHolder, OpenBitString, OpenHeader, OpenEndOctets, end_octets, extent, is_complete, lead, opening, spelling}
 use Rattle.tlv_walk.specs.Place.{IsOpen, Place, place_after, place_of_children}
@@ -19,10 +19,9 @@ use Rattle.tlv_walk.proofs.GrammarLemmas.Spellings.{length-holder, length-primit
 use Rattle.tlv_show.specs.declared.sibling_frame.SiblingFrame.{SiblingFrame}
 use Rattle.tlv_show.specs.declared.rules.Rules.{Rules}
 use Rattle.tlv_show.specs.declared.finding_lines.Style.TheVariants.{Dump}
-use Rattle.tlv_show.specs.CheckStep.{styled_lines}
+use Rattle.tlv_show.specs.FindingLines.{styled_lines}
 use Rattle.tlv_show.specs.LinesStep.{LinesState}
 use Rattle.tlv_show.specs.DumpStep.{DumpState, dump_step}
-use Rattle.tlv_show.specs.EndPlace.{end_place}
 use Rattle.tlv_show.specs.FinderState.{FinderValue, frame_after, frame_under, surroundings_in}
 use Rattle.tlv_show.specs.Found.{contents_findings, header_findings, end_findings}
 use Rattle.tlv_show.specs.Items.{Item, FindingAt, OpeningLine, ClosingLine, PrimitiveLines, OpenPrimitiveLines, PaddingLine, headers, items}
@@ -35,7 +34,8 @@ use Rattle.tlv_show.proofs.FindingLemmas.SiteWords.{first_octet}
 use Rattle.tlv_show.specs.Texts.{item_text}
 use Rattle.tlv_show.proofs.DumpLemmas.DumpSteps.{all_on}
 use Rattle.tlv_show.proofs.DumpLemmas.DumpTexts.{at_level, closer_shown, fill_shown, holder_shown, no_padding, later_padded, part_shown, primitive_shown, standing as lines_at}
-use Rattle.tlv_show.proofs.FindingLemmas.FinderFolds.{at-under, knows-after, knows-inside, knows-padding, not-constructed, noted_all, unused-of}
+use Rattle.tlv_show.proofs.FindingLemmas.FinderFolds.{at-under, not-constructed, noted_all}
+use Rattle.tlv_show.proofs.FindingLemmas.FramesAround.{knows-after, knows-inside, knows-padding, unused-of}
 use Rattle.tlv_show.proofs.FindingLemmas.FinderItems.{after_contents, after_end, later_header, after_primitive, closed-find, opened-find, primitive-find, standing}
 use Rattle.tlv_show.proofs.FindingLemmas.HeaderFindings.{Knows, header-same}
 use Rattle.tlv_show.proofs.DumpLemmas.DumpEvents.{pair, is_shown, then_shown, texts, opens-by, closes-by, primitive-by, part-by}
@@ -173,7 +173,7 @@ module _ (style : Layout) (names : Table) (rules : Rules) where
       (knows-after w s (site_after_holder s h inside) h None false k.0 refl refl refl, k.1, k.2) in
       let end : ℕ = p.at + length (opening h) + length (spelling inside) in
       let line : List ℕ = holder_line (at_level style names p.depth) h in
-      let close : List ℕ = closing_line (at_level style names p.depth) (end_place h inside) in
+      let close : List ℕ = closing_line (at_level style names p.depth) (if h.constructed then end_place h inside else None) in
       let first : List ℕ = styled_lines (Dump style.pure) (length outer) h.offset (header_findings rules (surroundings_in w) h) in
       let last : List ℕ = styled_lines (Dump style.pure) (length outer) h.offset (end_findings rules (segments_of h (headers inside))) in
       let held : List ℕ = texts_of (items rules (site_of_children s h) inside) in
@@ -214,7 +214,7 @@ module _ (style : Layout) (names : Table) (rules : Rules) where
       ap (effect_of dump_step (start p (is_padding before) w outer n)) (sym joined)
       ∙ shown-after p q (is_padding before) w outer n (element n).0 (frame_after w (is_primitive h) (announced_length h.size) false) holder (Sibling h None) es ((first ++ line) ++ (held ++ (close ++ last))) rest refl (element n).1 t in
       let others : List Item = items rules (site_after_holder s h inside) rest in
-      let closing : List Item = ClosingLine p.depth (end_place h inside) ∷ (findings_at p.depth h.offset (end_findings rules (segments_of h (headers inside))) ++ others) in
+      let closing : List Item = ClosingLine p.depth (if h.constructed then end_place h inside else None) ∷ (findings_at p.depth h.offset (end_findings rules (segments_of h (headers inside))) ++ others) in
       record {
         text = λ n.
             ap (λ (x : Effect DumpState). x.put) (all n)

@@ -1,5 +1,5 @@
 -- What the lines of a dump come to, element by element.
-use Rattle.std.proofs.Common.{◌≡◌, ℕ, ◌+◌, ◌-◌, ◌^◌, ◌≤◌, ◌&&◌, min, Bool, true, false, eqb, if◌then◌else◌, List, [], ◌∷◌, ◌++◌, length, take, map, refl, sym, ap, ap₂, ◌∙◌, subst, arith, append_assoc, append-nil}
+use Rattle.std.proofs.Common.{◌≡◌, ℕ, ◌+◌, ◌-◌, ◌^◌, ◌≤◌, min, Bool, true, false, eqb, if◌then◌else◌, List, [], ◌∷◌, ◌++◌, length, take, map, refl, sym, ap, ap₂, ◌∙◌, subst, arith, append_assoc, append-nil}
 use Rattle.std.proofs.lemmas.Bool.{true≢false}
 use Rattle.std.proofs.lemmas.Grind.{common_steps}
 use Rattle.std.specs.FinMap as finite
@@ -13,14 +13,13 @@ use Rattle.tlv_value.specs.ValueLines.{open_lines, whole_lines}
 use Rattle.tlv_value.specs.ValueTextState.{ValueTextState, begin_lines, contents_lines, end_lines, new_value_text, value_text_after}
 use Rattle.tlv_value.specs.Value.{NameOf}
 use Rattle.tlv_value.proofs.TextLemmas.Pieces.{lines-end, open-lines}
-use Rattle.tlv_walk.specs.Events.{Begin, Bytes, Close, End, Enter, EventValue, Leave, Open, Pad, Unused, closing_event, end_offset, opening_events}
+use Rattle.tlv_walk.specs.Events.{Begin, Bytes, Close, End, Enter, EventValue, Leave, Open, Pad, Unused, closing_event, end_offset, end_place, opening_events}
 use Rattle.tlv_walk.specs.Follow.{Effect, and_then, effect_of, if_on}
 use Rattle.tlv_walk.specs.Forest.{Forest, NoMore, PaddingOctet, Primitive, Holder, OpenPrimitive, OpenHolder, OpenBitString, OpenHeader, OpenEndOctets, end_octets, extent, lead, opening, spelling}
-use Rattle.tlv_walk.specs.Place.{IsOpen, Place, is_indefinite, place_after}
+use Rattle.tlv_walk.specs.Place.{IsOpen, Place, place_after}
 use Rattle.tlv_walk.proofs.FollowerLemmas.Followed.{followed-more}
 use Rattle.tlv_walk.proofs.GrammarLemmas.Spellings.{length-opening}
 use Rattle.tlv_show.specs.LinesStep.{LinesState, lines_effect, lines_step, past_header}
-use Rattle.tlv_show.specs.EndPlace.{end_place}
 use Rattle.tlv_show.specs.Lines.{closing_line, opening_line, padding_line, opening_word}
 use Rattle.tlv_show.proofs.DumpLemmas.HolderLine.{holder_line}
 use Rattle.tlv_show.proofs.DumpLemmas.Dumped.{after_put, dumped_bytes, rested-new}
@@ -136,7 +135,7 @@ module _ (style : Layout) (names : Table) where
 
   closer_by : (level o : ℕ) (k : Bool) (size : Size) → AllowsSize k size → o + length (end_octets size) ≤ 2 ^ 64 - 1
       → effect_of lines_step (standing (level + 1) o false) ((if k then Close (end_offset size o) else Leave) ∷ [])
-      ≡ lines_effect (standing level (o + length (end_octets size)) false) (closing_line (at_level level) (if k && is_indefinite size then Some o else None))
+      ≡ lines_effect (standing level (o + length (end_octets size)) false) (closing_line (at_level level) (if k then end_offset size o else None))
   closer_by level o true (Definite n) allowed far_enough =
       settled (level + 1 - 1) level o (o + 0) false false _ (closing_line (at_level level) None) (omega arith) (omega arith) refl (append-nil (closing_line (at_level (level + 1 - 1)) None) ∙ ap (λ (l : ℕ). closing_line (at_level l) None) (omega arith))
   closer_by level o true Indefinite allowed far_enough =
@@ -147,10 +146,10 @@ module _ (style : Layout) (names : Table) where
   closer_by level o false Indefinite allowed far_enough = absurd (cc (allowed))
 
   pub closer_shown : (level o : ℕ) (h : HeaderValue) (inside : Forest) → h.offset + length (opening h) + length (spelling inside) ≡ o → AllowsSize h.constructed h.size → o + length (end_octets h.size) ≤ 2 ^ 64 - 1
-      → effect_of lines_step (standing (level + 1) o false) (closing_event h inside ∷ []) ≡ lines_effect (standing level (o + length (end_octets h.size)) false) (closing_line (at_level level) (end_place h inside))
+      → effect_of lines_step (standing (level + 1) o false) (closing_event h inside ∷ []) ≡ lines_effect (standing level (o + length (end_octets h.size)) false) (closing_line (at_level level) (if h.constructed then end_place h inside else None))
   closer_shown level o h inside there allowed far_enough =
       subst (λ (n : ℕ). effect_of lines_step (standing (level + 1) o false) ((if h.constructed then Close (end_offset h.size n) else Leave) ∷ [])
-      ≡ lines_effect (standing level (o + length (end_octets h.size)) false) (closing_line (at_level level) (if h.constructed && is_indefinite h.size then Some n else None)))
+      ≡ lines_effect (standing level (o + length (end_octets h.size)) false) (closing_line (at_level level) (if h.constructed then end_offset h.size n else None)))
       (sym there) (closer_by level o h.constructed h.size allowed far_enough)
 
   -- ---- elements

@@ -17,7 +17,8 @@ use Rattle.tlv_walk.proofs.FollowerLemmas.Followed.{followed-one}
 use Rattle.tlv_io.proofs.Puts.{puts_nothing, puts_text}
 use Rattle.tlv_show.specs.declared.sibling_frame.SiblingFrame.{SiblingFrame}
 use Rattle.tlv_show.specs.declared.finding_lines.Style.TheVariants.{Check}
-use Rattle.tlv_show.specs.CheckStep.{check_step, findings_effect, styled_lines}
+use Rattle.tlv_show.specs.CheckStep.{check_step, findings_effect}
+use Rattle.tlv_show.specs.FindingLines.{styled_lines}
 use Rattle.tlv_show.specs.FinderState.{FinderState, FinderValue, finder_begin_step, finder_bytes_step, frame_after, frame_after_segment, surroundings_in}
 use Rattle.tlv_show.specs.Private.FinderState.{PassesOrStays, PassesPrimitive, finder_whole_step, with_state}
 use Rattle.tlv_show.specs.Private.UsualTypes.{IsUsual}

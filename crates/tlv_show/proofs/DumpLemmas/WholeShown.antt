@@ -14,7 +14,7 @@ use Rattle.tlv_walk.specs.Follow.{Effect, HasEffectOrNone, IsWholeElement, conte
 use Rattle.tlv_io.specs.Out.{Puts}
 use Rattle.tlv_io.proofs.Puts.{HasPut, puts_as, puts_failed_last, puts_text}
 use Rattle.tlv_show.specs.declared.finding_lines.Style.TheVariants.{Dump}
-use Rattle.tlv_show.specs.CheckStep.{styled_lines}
+use Rattle.tlv_show.specs.FindingLines.{styled_lines}
 use Rattle.tlv_show.specs.LinesStep.{LinesState}
 use Rattle.tlv_show.specs.Private.LinesStep.{past_primitive}
 use Rattle.tlv_show.specs.DumpStep.{DumpState, dump_step}

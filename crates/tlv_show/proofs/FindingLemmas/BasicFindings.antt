@@ -2,14 +2,14 @@
 use Rattle.std.proofs.Common.{◌≡◌, ℕ, Bool, true, false, if◌then◌else◌, List, [], ◌∷◌, ◌++◌, refl, sym, ap, ap₂, ◌∙◌}
 use Rattle.std.proofs.lemmas.List.Elements.{filter-append}
 use Rattle.std.specs.List.{filter}
-use Rattle.std.specs.Prelude.{◌||◌, flat_map}
+use Rattle.std.specs.Prelude.{◌||◌, None, flat_map}
 use Rattle.tlv_value.specs.declared.finding.Finding.{Finding}
 use Rattle.tlv_value.specs.Checks.{findings_by, findings_on_contents}
+use Rattle.tlv_walk.specs.Events.{end_place}
 use Rattle.tlv_walk.specs.Forest.{Forest, NoMore, PaddingOctet, Primitive, Holder, OpenPrimitive, OpenHolder, OpenBitString, OpenHeader, OpenEndOctets}
 use Rattle.tlv_show.specs.declared.rules.Rules.{Rules}
 use Rattle.tlv_show.specs.declared.rules.Rules.TheVariants.{Ber, Der, Cer}
 use Rattle.tlv_show.specs.Conditions.{end_conditions, header_conditions, segments_of, surroundings_of}
-use Rattle.tlv_show.specs.EndPlace.{end_place}
 use Rattle.tlv_show.specs.Found.{contents_findings, is_shown, end_findings}
 use Rattle.tlv_show.specs.Items.{Item, FindingAt, OpeningLine, ClosingLine, PrimitiveLines, OpenPrimitiveLines, PaddingLine, headers, items}
 use Rattle.tlv_show.proofs.FindingLemmas.ElementItems.{findings_at}
@@ -64,7 +64,7 @@ module _ (rules : Rules) where
       (PrimitiveLines s.level h c ∷ (findings_at s.level h.offset (contents_findings rules h c) ++ items rules (site_after s h c) rest))
       (same-found s.level h.offset (findings_on_contents h c) _ _ (same (site_after s h c) rest))
   same s (Holder h inside rest) =
-      let last : Rules → List Item = λ r. ClosingLine s.level (end_place h inside) ∷ (findings_at s.level h.offset (end_findings r (segments_of h (headers inside))) ++ items r (site_after_holder s h inside) rest) in
+      let last : Rules → List Item = λ r. ClosingLine s.level (if h.constructed then end_place h inside else None) ∷ (findings_at s.level h.offset (end_findings r (segments_of h (headers inside))) ++ items r (site_after_holder s h inside) rest) in
       same-found s.level h.offset (findings_by (header_conditions (surroundings_of s) h)) (OpeningLine s.level h ∷ (items Ber (site_of_children s h) inside ++ last Ber)) (OpeningLine s.level h ∷ (items rules (site_of_children s h) inside ++ last rules))
       (filter-append _ (items Ber (site_of_children s h) inside) (last Ber)
       ∙ ap₂ (λ (a b : List Item). a ++ b) (same (site_of_children s h) inside) (same-found s.level h.offset (findings_by (end_conditions (segments_of h (headers inside)))) _ _ (same (site_after_holder s h inside) rest))

@@ -11,7 +11,7 @@ use Rattle.tlv_value.specs.declared.finding.Finding.{Finding}
 use Rattle.tlv_value.specs.Checks.{contents_conditions, findings_by}
 use Rattle.tlv_walk.specs.declared.follow.Go.TheVariants as go
 use Rattle.tlv_walk.specs.declared.framing.Framing.{Framing}
-use Rattle.tlv_walk.specs.Events.{Begin, Bytes, Close, End, Enter, EventValue, Leave, Open, Pad, Unused, events}
+use Rattle.tlv_walk.specs.Events.{Begin, Bytes, Close, End, Enter, EventValue, Leave, Open, Pad, Unused, end_place, events}
 use Rattle.tlv_walk.specs.Follow.{Effect, effect_of, if_on}
 use Rattle.tlv_walk.specs.Forest.{Forest, NoMore, PaddingOctet, Primitive, Holder, OpenPrimitive, OpenHolder, OpenBitString, OpenHeader, OpenEndOctets, extent, opening, spelling}
 use Rattle.tlv_walk.specs.Place.{IsOpen, Place, place_after, place_of_children, top_place}
@@ -22,9 +22,9 @@ use Rattle.tlv_show.specs.declared.sibling_frame.SiblingFrame.{SiblingFrame}
 use Rattle.tlv_show.specs.declared.rules.Rules.{Rules}
 use Rattle.tlv_show.specs.declared.finding_lines.Style.TheVariants.{Check}
 use Rattle.tlv_show.specs.CheckJob.{check_job}
-use Rattle.tlv_show.specs.CheckStep.{check_step, styled_lines}
+use Rattle.tlv_show.specs.CheckStep.{check_step}
+use Rattle.tlv_show.specs.FindingLines.{styled_lines}
 use Rattle.tlv_show.specs.Conditions.{end_conditions, header_conditions, segments_of, surroundings_of}
-use Rattle.tlv_show.specs.EndPlace.{end_place}
 use Rattle.tlv_show.specs.FinderState.{FinderState, FinderValue, OpenValue, finder_frame_end_step, finder_open_step, finder_value_end_step, frame_under, new_finder, open_value_after, top_frame, surroundings_in}
 use Rattle.tlv_show.specs.Private.FinderState.{finder_step}
 use Rattle.tlv_show.specs.Found.{contents_findings, header_findings, is_shown, end_findings}
@@ -164,8 +164,8 @@ module _ (rules : Rules) where
       let r = few (place_after p (extent h inside)) (site_after_holder s h inside) rest v.2 in
       let last : List Item = findings_at s.level h.offset (end_findings rules (segments_of h (headers inside))) ++ items rules (site_after_holder s h inside) rest in
       let b = few-at s.level h.offset (end_findings rules (segments_of h (headers inside))) (items rules (site_after_holder s h inside) rest) 2 _ (few-end h inside) r in
-      let m = few-both (items rules (site_of_children s h) inside) (ClosingLine s.level (end_place h inside) ∷ last) _ _ i b in
-      let a = few-at s.level h.offset (header_findings rules (surroundings_of s) h) (OpeningLine s.level h ∷ (items rules (site_of_children s h) inside ++ ClosingLine s.level (end_place h inside) ∷ last)) 14 _ (few-header s h) m in
+      let m = few-both (items rules (site_of_children s h) inside) (ClosingLine s.level (if h.constructed then end_place h inside else None) ∷ last) _ _ i b in
+      let a = few-at s.level h.offset (header_findings rules (surroundings_of s) h) (OpeningLine s.level h ∷ (items rules (site_of_children s h) inside ++ ClosingLine s.level (if h.constructed then end_place h inside else None) ∷ last)) 14 _ (few-header s h) m in
       omega (arith, a, header-length h v.0.0.header.valid, length-holder h inside rest, length-opening h)
     where
       few-both : (xs ys : List Item) (n m : ℕ) → length (only xs) ≤ n → length (only ys) ≤ m → length (only (xs ++ ys)) ≤ n + m

@@ -9,8 +9,9 @@ use Rattle.tlv_walk.specs.Events.{Begin, Bytes, Close, End, Enter, EventValue, L
 use Rattle.tlv_walk.specs.Follow.{Effect, each_octet, no_effect}
 use Rattle.tlv_show.specs.declared.finding_lines.Style.{Style}
 use Rattle.tlv_show.specs.declared.finding_lines.Style.TheVariants.{Check}
-use Rattle.tlv_show.specs.CheckStep.{check_octet_step, check_step, findings_effect, styled_lines}
-use Rattle.tlv_show.specs.Private.CheckStep.{last_finding_lines}
+use Rattle.tlv_show.specs.CheckStep.{check_octet_step, check_step, findings_effect}
+use Rattle.tlv_show.specs.FindingLines.{styled_lines}
+use Rattle.tlv_show.specs.Private.FindingLines.{last_finding_lines}
 use Rattle.tlv_show.specs.FinderState.{FinderState, FinderValue, OpenValue, finder_bytes_step, open_value_after}
 use Rattle.tlv_show.specs.Private.FinderState.{ReportsFindings, finder_step, with_findings_if}
 use Rattle.tlv_show.proofs.DumpLemmas.Dumped.{take-both}

@@ -10,12 +10,11 @@ use Rattle.tlv_value.specs.declared.finding.Finding.{Finding}
 use Rattle.tlv_value.specs.ValueCheckState.{ValueCheckState, value_check_after, findings_in, has_unused_bits, new_value_check}
 use Rattle.tlv_value.specs.Types.{is_primitive}
 use Rattle.tlv_value.proofs.CheckLemmas.CheckPieces.{checked-none, findings-end}
-use Rattle.tlv_walk.specs.Events.{Begin, Bytes, Close, End, Enter, EventValue, Leave, Open, Unused, closing_event, end_offset, events, opening_events}
+use Rattle.tlv_walk.specs.Events.{Begin, Bytes, Close, End, Enter, EventValue, Leave, Open, Unused, closing_event, end_offset, end_place, events, opening_events}
 use Rattle.tlv_walk.specs.Forest.{Forest, NoMore, PaddingOctet, Primitive, Holder, OpenPrimitive, OpenHolder, OpenBitString, OpenHeader, OpenEndOctets, extent, is_complete, opening, spelling}
 use Rattle.tlv_walk.specs.Place.{IsOpen, Place, place_after, place_of_children}
 use Rattle.tlv_show.specs.declared.sibling_frame.SiblingFrame.{SiblingFrame}
 use Rattle.tlv_show.specs.declared.rules.Rules.{Rules}
-use Rattle.tlv_show.specs.EndPlace.{end_place}
 use Rattle.tlv_show.specs.FinderState.{FinderState, FinderValue, contents_findings_in, finder_begin_step, finder_bytes_step, finder_close_step, finder_end_step, finder_open_step, frame_after, frame_under, surroundings_in}
 use Rattle.tlv_show.specs.Private.FinderState.{finder_step}
 use Rattle.tlv_show.specs.Found.{contents_findings, header_findings, is_shown, end_findings}
@@ -26,7 +25,8 @@ use Rattle.tlv_show.proofs.FindingLemmas.SitesAfter.{site_after, site_after_hold
 use Rattle.tlv_show.proofs.FindingLemmas.SiteWords.{first_octet}
 use Rattle.tlv_show.specs.Texts.{is_finding}
 use Rattle.tlv_show.proofs.FindingLemmas.CheckLaws.{one-or-more}
-use Rattle.tlv_show.proofs.FindingLemmas.FinderFolds.{at-under, knows-after, knows-inside, knows-padding, not-constructed, noted-under, noted_all, summed-under, unused-of}
+use Rattle.tlv_show.proofs.FindingLemmas.FinderFolds.{at-under, not-constructed, noted-under, noted_all, summed-under}
+use Rattle.tlv_show.proofs.FindingLemmas.FramesAround.{knows-after, knows-inside, knows-padding, unused-of}
 use Rattle.tlv_show.proofs.FindingLemmas.HeaderFindings.{Knows, header-same}
 use Rattle.tlv_show.specs.Conditions.{surroundings_of, segments_of}
 use Rattle.tlv_show.specs.SaturatingSum.{saturating_sum}
@@ -244,7 +244,7 @@ module _ (rules : Rules) where
             ∙ ap₂ (λ (l : List Item) (x : FinderState). then_found l (run x es)) (i.put a) t.1
             ∙ ap (then_found (only (items rules (site_of_children s h) inside))) (closed (place_of_children p h) w outer t.0 h inside (events rest) v.1 v.0.1)),
       ) in
-      let last : List Item = ClosingLine s.level (end_place h inside) ∷ (findings_at s.level h.offset (end_findings rules (segments_of h (headers inside))) ++ items rules (site_after_holder s h inside) rest) in
+      let last : List Item = ClosingLine s.level (if h.constructed then end_place h inside else None) ∷ (findings_at s.level h.offset (end_findings rules (segments_of h (headers inside))) ++ items rules (site_after_holder s h inside) rest) in
       record {
         put = λ n.
             let a = all n in

@@ -3,7 +3,7 @@ use Rattle.std.proofs.Common.{◌≡◌, ◌+◌, ◌<◌, ◌++◌, ◌∷◌, 
 use Rattle.std.proofs.Math.Seq.{drop-cons}
 use Rattle.tlv_value.specs.declared.finding.Finding.{Finding}
 use Rattle.tlv_show.specs.declared.finding_lines.Style.{Style}
-use Rattle.tlv_show.specs.CheckStep.{styled_line, styled_lines}
+use Rattle.tlv_show.specs.FindingLines.{styled_line, styled_lines}
 
 -- the line of the next finding, and those of the others
 pub next_line : (style : Style) (level at : ℕ) (text line all : List ℕ) (xs : List Finding) (i : ℕ) (d : Finding) → i < length xs → line ≡ styled_line style level at (get_or xs i d)

@@ -5,11 +5,12 @@ use Rattle.std.proofs.lemmas.Bool.{or_from, true≢false}
 use Rattle.std.proofs.lemmas.Bool.Decides.{eqb_tells}
 use Rattle.std.proofs.lemmas.List.Folds.{list_any-append}
 use Rattle.std.specs.List.{list_any}
-use Rattle.std.specs.Prelude.{if◌then◌else◌}
+use Rattle.std.specs.Prelude.{None, if◌then◌else◌}
 use Rattle.tlv_head.specs.Header.{HeaderValue, octets_of}
 use Rattle.tlv_value.specs.Checks.{contents_conditions}
 use Rattle.tlv_walk.specs.declared.framing.Framing.{Framing}
 use Rattle.tlv_walk.specs.Alike.{AreAlike, holders, nothing, padding, primitives}
+use Rattle.tlv_walk.specs.Events.{end_place}
 use Rattle.tlv_walk.specs.Forest.{Forest, NoMore, PaddingOctet, Primitive, Holder, OpenPrimitive, OpenHolder, OpenBitString, OpenHeader, OpenEndOctets, extent, has_element, spelling}
 use Rattle.tlv_walk.specs.Inside.{can_name, is_among}
 use Rattle.tlv_walk.proofs.EventLemmas.Named.{AreRising, can-from, can-to}
@@ -24,7 +25,6 @@ use Rattle.tlv_walk.proofs.EventLemmas.Wrappers.{AreNamed, Rise, wrappers-named,
 use Rattle.tlv_show.specs.declared.rules.Rules.{Rules}
 use Rattle.tlv_show.specs.declared.rules.Rules.TheVariants.{Ber, Der, Cer}
 use Rattle.tlv_show.specs.Conditions.{Segments, end_conditions, has_high_form, header_conditions, leading_bits, segments_of, surroundings_of}
-use Rattle.tlv_show.specs.EndPlace.{end_place}
 use Rattle.tlv_show.specs.Found.{contents_findings, header_findings, end_findings}
 use Rattle.tlv_show.specs.Items.{Item, OpeningLine, ClosingLine, PrimitiveLines, PaddingLine, headers, items}
 use Rattle.tlv_show.proofs.FindingLemmas.ElementItems.{on_contents, on_end, on_header}
@@ -105,8 +105,8 @@ module _ (rules : Rules) (strict : rules ≢ Ber) where
   none-found p s (Holder h inside rest) u r =
       let last : List Item = on_end rules s h inside ++ items rules (site_after_holder s h inside) rest in
       let held : List Item = items rules (site_of_children s h) inside in
-      both-none (on_header rules s h) (OpeningLine s.level h ∷ (held ++ ClosingLine s.level (end_place h inside) ∷ last)) (header-none s h r.0)
-      (both-none held (ClosingLine s.level (end_place h inside) ∷ last) (none-found (place_of_children p h) (site_of_children s h) inside u.3 r.1)
+      both-none (on_header rules s h) (OpeningLine s.level h ∷ (held ++ ClosingLine s.level (if h.constructed then end_place h inside else None) ∷ last)) (header-none s h r.0)
+      (both-none held (ClosingLine s.level (if h.constructed then end_place h inside else None) ∷ last) (none-found (place_of_children p h) (site_of_children s h) inside u.3 r.1)
       (both-none (on_end rules s h inside) (items rules (site_after_holder s h inside) rest) (end-none s h inside)
       (none-found (place_after p (extent h inside)) (site_after_holder s h inside) rest u.4 r.2)))
   none-found p s (OpenPrimitive h c) u r = absurd u

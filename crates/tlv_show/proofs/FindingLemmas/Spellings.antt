@@ -4,7 +4,7 @@ use Rattle.std.proofs.lemmas.Bool.{or_parts}
 use Rattle.std.proofs.lemmas.Bool.Decides.{nat_tests}
 use Rattle.std.proofs.lemmas.List.Folds.{list_any-append}
 use Rattle.std.specs.List.{list_any}
-use Rattle.std.specs.Prelude.{if◌then◌else◌, slice_index}
+use Rattle.std.specs.Prelude.{None, if◌then◌else◌, slice_index}
 use Rattle.tlv_head.specs.declared.header.Size.{Size}
 use Rattle.tlv_head.specs.declared.header.Size.TheVariants.{Definite, Indefinite}
 use Rattle.tlv_head.specs.Header.{AllowsSize, HeaderValue, IsHeader, announced_length, octets_of}
@@ -14,6 +14,7 @@ use Rattle.tlv_value.specs.declared.finding.Finding.{Finding}
 use Rattle.tlv_walk.specs.declared.ending.Ending.TheVariants.{Done}
 use Rattle.tlv_walk.specs.declared.framing.Framing.{Framing}
 use Rattle.tlv_walk.specs.Ending.{IsEnding}
+use Rattle.tlv_walk.specs.Events.{end_place}
 use Rattle.tlv_walk.specs.Forest.{Forest, NoMore, PaddingOctet, Primitive, Holder, OpenPrimitive, OpenHolder, OpenBitString, OpenHeader, OpenEndOctets, extent, spelling}
 use Rattle.tlv_walk.specs.Place.{Place, is_indefinite, place_after, place_of_children, top_place}
 use Rattle.tlv_walk.specs.Reading.{IsReading, IsSound, IsSoundList}
@@ -26,7 +27,6 @@ use Rattle.tlv_show.specs.Conditions.{first_length, has_high_form, has_long_form
 use Rattle.tlv_show.specs.Found.{header_findings}
 use Rattle.tlv_show.specs.Items.{Item, OpeningLine, ClosingLine, PrimitiveLines, PaddingLine, items}
 use Rattle.tlv_show.proofs.FindingLemmas.ElementItems.{findings_at, on_contents, on_end, on_header}
-use Rattle.tlv_show.specs.EndPlace.{end_place}
 use Rattle.tlv_show.specs.Site.{Site, is_padding, site_of_children, top_site}
 use Rattle.tlv_show.proofs.FindingLemmas.SitesAfter.{site_after, site_after_holder, site_after_padding}
 use Rattle.tlv_show.specs.Spellings.{OneSpelling, is_item_on_spelling, is_on_spelling}
@@ -118,9 +118,9 @@ module _ (rules : Rules) (strict : rules ≢ Ber) where
       (regular rules s h strict u.0.valid header.0, all-regular (place_after p (length (octets_of h) + length c)) (site_after s h c) rest u.2 others.1)
   all-regular p s (Holder h inside rest) u e =
       let last : List Item = on_end rules s h inside ++ items rules (site_after_holder s h inside) rest in
-      let held_and_last : List Item = items rules (site_of_children s h) inside ++ ClosingLine s.level (end_place h inside) ∷ last in
+      let held_and_last : List Item = items rules (site_of_children s h) inside ++ ClosingLine s.level (if h.constructed then end_place h inside else None) ∷ last in
       let header = none-in (on_header rules s h) (OpeningLine s.level h ∷ held_and_last) e in
-      let held = none-in (items rules (site_of_children s h) inside) (ClosingLine s.level (end_place h inside) ∷ last) header.1 in
+      let held = none-in (items rules (site_of_children s h) inside) (ClosingLine s.level (if h.constructed then end_place h inside else None) ∷ last) header.1 in
       let others = none-in (on_end rules s h inside) (items rules (site_after_holder s h inside) rest) held.1 in (
         regular rules s h strict u.0.valid header.0,
         all-regular (place_of_children p h) (site_of_children s h) inside u.3 held.0,

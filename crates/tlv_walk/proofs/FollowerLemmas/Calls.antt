@@ -25,22 +25,22 @@ gave-same m n e = ap (λ (l : LastReadValue). elim l [ never ↦ 0 | gave k ↦ 
 
 module _ {S : Type 0} (old new : TurnState S) (piece : List ℕ) where
   -- a read that gave octets, and a result that blames no source for it
-  pub calls_given : (n : ℕ) (result : Result Turn DeviceFault) → ReadsOnce {E = ReadFault} old.source new.source (Ok n) piece
+  pub calls_given : (n : ℕ) (result : Result Turn DeviceFault) → ReadsOnce {E = ReadFault} old.devices.source new.devices.source (Ok n) piece
       → 0 < length piece → LastReadWas (length piece) result (gave n) → source_result result ≡ Ok tt
-      → new.drain.failures ≡ failures_after (drain_result result) old.drain.failures → CallsDevices old new piece result
+      → new.devices.drain.failures ≡ failures_after (drain_result result) old.devices.drain.failures → CallsDevices old new piece result
   calls_given n result r some g s d = record {
-    octets = subst (λ (l : LastReadValue). Consumes old.source.left new.source.left (last_octets l piece)) (sym r.last) r.octets.0;
+    octets = subst (λ (l : LastReadValue). Consumes old.devices.source.left new.devices.source.left (last_octets l piece)) (sym r.last) r.octets.0;
     reads = r.reads;
     last = subst (λ (l : LastReadValue). LastReadWas (length piece) result l) (sym r.last) g;
     at_end = λ e. r.octets.1 (gave-same n 0 (sym r.last ∙ e)) some;
-    failed_reads = r.failures ∙ ap (λ (x : Result ⊤ DeviceFault). failures_after x old.source.failures) (sym s);
+    failed_reads = r.failures ∙ ap (λ (x : Result ⊤ DeviceFault). failures_after x old.devices.source.failures) (sym s);
     failed_writes = d;
   }
 
   -- the same, if all that was made of the octets was written, and a turn returns what comes of it
   pub calls_answered : (n m : ℕ) (v : WalkerState) (why : Pause) (result : Result Turn DeviceFault)
-      → ReadsOnce {E = ReadFault} old.source new.source (Ok n) piece → 0 < length piece → n ≤ length piece
-      → new.drain.failures ≡ old.drain.failures → IsResultOfPause n m v why result → CallsDevices old new piece result
+      → ReadsOnce {E = ReadFault} old.devices.source new.devices.source (Ok n) piece → 0 < length piece → n ≤ length piece
+      → new.devices.drain.failures ≡ old.devices.drain.failures → IsResultOfPause n m v why result → CallsDevices old new piece result
   calls_answered n m v pause.Enough (Ok turn) r some fits d is = calls_given n (Ok turn) r some fits refl d
   calls_answered n m v (pause.Fault f) (Ok turn) r some fits d is = calls_given n (Ok turn) r some fits refl d
   calls_answered n m v pause.UsedUp (Ok turn) r some fits d is = calls_given n (Ok turn) r some fits refl d

@@ -21,7 +21,7 @@ use Rattle.tlv_walk.specs.Follow.{Effect, GoesOn, Joins, Rests, effect_of, follo
 use Rattle.tlv_walk.specs.FollowsEvents.{FollowsEvents}
 use Rattle.tlv_walk.specs.Forest.{Forest, spelling}
 use Rattle.tlv_walk.specs.Ending.{IsFinalEnding}
-use Rattle.tlv_walk.specs.Job.{ComesTo, EndsWith, Runs, WantMore, drain_result, read_failed, source_result, too_long, write_failed}
+use Rattle.tlv_walk.specs.Job.{ComesTo, EndsWith, Runs, WantMore, device_states, drain_result, read_failed, source_result, too_long, write_failed}
 use Rattle.tlv_io.specs.Out.{Sends}
 use Rattle.tlv_walk.specs.Reading.{AreOctets, IsReading}
 use Rattle.tlv_walk.specs.Stands.{Stands}
@@ -106,16 +106,16 @@ module _ {S : Type 0} (next : S → EventValue → Effect S)
     module _ (new : TurnState S) (piece : List ℕ) (result : Result Turn DeviceFault) (read : FollowsOneRead next limit now new piece result)
         (room : length piece ≡ 4096) (below : now.walker.offset ≤ limit) where
       abbrev r : List ℕ
-      r = last_octets new.source.last piece
+      r = last_octets new.devices.source.last piece
 
       few : length r ≤ 4096
-      few = given_short new.source.last piece 4096 (omega (arith, room))
+      few = given_short new.devices.source.last piece 4096 (omega (arith, room))
 
       within : length b ≤ limit
       within = omega (arith, x.stands.private_state.has_state.offset, below)
 
       all_octets : AreOctets (b ++ r)
-      all_octets = All-append (λ x. x < 256) b r x.octets (given_octets new.source.last piece read.octets)
+      all_octets = All-append (λ x. x < 256) b r x.octets (given_octets new.devices.source.last piece read.octets)
 
       -- the octets that were walked over
       abbrev walked : List ℕ
@@ -124,28 +124,28 @@ module _ {S : Type 0} (next : S → EventValue → Effect S)
       turned : (answer : Result Turn DeviceFault) → result ≡ answer → TurnsTo next now new limit b x.yielded r answer
       turned answer is = subst (λ (k : Result Turn DeviceFault). TurnsTo next now new limit b x.yielded r k) is (read.turned b x.yielded x.stands)
 
-      gave_so : (answer : Result Turn DeviceFault) → result ≡ answer → LastReadWas (length piece) answer new.source.last
-      gave_so answer is = subst (λ (k : Result Turn DeviceFault). LastReadWas (length piece) k new.source.last) is read.calls.last
+      gave_so : (answer : Result Turn DeviceFault) → result ≡ answer → LastReadWas (length piece) answer new.devices.source.last
+      gave_so answer is = subst (λ (k : Result Turn DeviceFault). LastReadWas (length piece) k new.devices.source.last) is read.calls.last
 
-      failed_so : (answer : Result Turn DeviceFault) → result ≡ answer → new.source.failures ≡ failures_after (source_result answer) old.failures
+      failed_so : (answer : Result Turn DeviceFault) → result ≡ answer → new.devices.source.failures ≡ failures_after (source_result answer) old.failures
       failed_so answer is =
-          read.calls.failed_reads ∙ ap (λ (k : Result Turn DeviceFault). failures_after (source_result k) now.source.failures) is
+          read.calls.failed_reads ∙ ap (λ (k : Result Turn DeviceFault). failures_after (source_result k) now.devices.source.failures) is
           ∙ ap (failures_after (source_result answer)) x.failures
 
       -- what was sent before and in this turn
-      sent : (more : List EventValue) (result : Result ⊤ DeviceFault) → Sends now.drain new.drain (effect_of next now.follower more).put result
-          → Sends from new.drain (effect_of next s (x.yielded ++ more)).put result
+      sent : (more : List EventValue) (result : Result ⊤ DeviceFault) → Sends now.devices.drain new.devices.drain (effect_of next now.follower more).put result
+          → Sends from new.devices.drain (effect_of next s (x.yielded ++ more)).put result
       sent more result k =
-          subst (λ (l : List ℕ). Sends from new.drain l result) (made_put next s now.follower x.yielded more x.made)
-          (sends_then from now.drain new.drain (effect_of next s x.yielded).put (effect_of next now.follower more).put tt result x.sends k)
+          subst (λ (l : List ℕ). Sends from new.devices.drain l result) (made_put next s now.follower x.yielded more x.made)
+          (sends_then from now.devices.drain new.devices.drain (effect_of next s x.yielded).put (effect_of next now.follower more).put tt result x.sends k)
 
       -- all events that were followed, and what was sent of them
       followed : (all : List EventValue) (goes : Go) → FollowsMore next now new x.yielded all goes → FollowsEvents next s new.follower all goes
       followed all goes k =
           subst (λ (es : List EventValue). FollowsEvents next s new.follower es goes) k.all_is (made_both next s now.follower new.follower x.yielded k.more goes x.made k.made)
 
-      sent_all : (all : List EventValue) (goes : Go) → FollowsMore next now new x.yielded all goes → Sends {T = ⊤} {E = DeviceFault} from new.drain (effect_of next s all).put (Ok tt)
-      sent_all all goes k = subst (λ (es : List EventValue). Sends {T = ⊤} {E = DeviceFault} from new.drain (effect_of next s es).put (Ok tt)) k.all_is (sent k.more (Ok tt) k.put)
+      sent_all : (all : List EventValue) (goes : Go) → FollowsMore next now new x.yielded all goes → Sends {T = ⊤} {E = DeviceFault} from new.devices.drain (effect_of next s all).put (Ok tt)
+      sent_all all goes k = subst (λ (es : List EventValue). Sends {T = ⊤} {E = DeviceFault} from new.devices.drain (effect_of next s es).put (Ok tt)) k.all_is (sent k.more (Ok tt) k.put)
 
       some_octets : (o : List ℕ) → o ≢ [] → 0 < length o
       some_octets [] n = absurd (n refl)
@@ -156,7 +156,7 @@ module _ {S : Type 0} (next : S → EventValue → Effect S)
       walking_on is =
           let y = turned (Ok Again) is in
           let all : List EventValue = y.stands.all in record {
-            gathered = gathered_more old now.source new.source x.gathered r read.calls.octets read.calls.reads (some_octets r y.some, few);
+            gathered = gathered_more old now.devices.source new.devices.source x.gathered r read.calls.octets read.calls.reads (some_octets r y.some, few);
             octets = subst AreOctets (sym (together_more x.gathered.pieces r)) all_octets;
             failures = failed_so (Ok Again) is;
             yielded = all;
@@ -170,20 +170,20 @@ module _ {S : Type 0} (next : S → EventValue → Effect S)
       -- ---- the walk has ended
 
       abbrev Driven : Result Run DeviceFault → Type 0
-      Driven answer = Drives next framing limit (drive_state s old from) (drive_state new.follower new.source new.drain) answer
+      Driven answer = Drives next framing limit (drive_state s old from) (drive_state new.follower new.devices.source new.devices.drain) answer
 
-      runs_by : (answer : Result Run DeviceFault) (f : Forest) → GaveLast new.source.last r → IsReading framing walked f → (es : List EventValue) → (goes : Go) (k : MadeAll s new.follower f goes (effect_of next s es).put)
-          → source_result answer ≡ source_result result → Sends from new.drain (effect_of next s es).put (drain_result answer) → ComesTo (drive_job next framing limit s) (b ++ r) f new.source answer
-          → Runs (drive_job next framing limit s) old new.source from new.drain answer
+      runs_by : (answer : Result Run DeviceFault) (f : Forest) → GaveLast new.devices.source.last r → IsReading framing walked f → (es : List EventValue) → (goes : Go) (k : MadeAll s new.follower f goes (effect_of next s es).put)
+          → source_result answer ≡ source_result result → Sends from new.devices.drain (effect_of next s es).put (drain_result answer) → ComesTo (drive_job next framing limit s) (b ++ r) f new.devices.source answer
+          → Runs (drive_job next framing limit s) (device_states old from) new.devices answer
       runs_by answer f last is_reading es goes k same sends comes = record {
-        pieces = pieces_all old now.source new.source x.gathered r read.calls.octets read.calls.reads last few;
+        pieces = pieces_all old now.devices.source new.devices.source x.gathered r read.calls.octets read.calls.reads last few;
         failures =
-            read.calls.failed_reads ∙ ap (λ (k : Result ⊤ DeviceFault). failures_after k now.source.failures) (sym same) ∙ ap (failures_after (source_result answer)) x.failures;
+            read.calls.failed_reads ∙ ap (λ (k : Result ⊤ DeviceFault). failures_after k now.devices.source.failures) (sym same) ∙ ap (failures_after (source_result answer)) x.failures;
         wants_more = first_wants;
         within = within;
         reading = f;
         is_reading = is_reading;
-        sends = subst (λ (l : List ℕ). Sends from new.drain l (drain_result answer)) k.text_is sends;
+        sends = subst (λ (l : List ℕ). Sends from new.devices.drain l (drain_result answer)) k.text_is sends;
         comes = comes;
       }
 
@@ -192,10 +192,10 @@ module _ {S : Type 0} (next : S → EventValue → Effect S)
 
       -- with a fault or the end of the input
       ends_without : (run : Run) → result ≡ Ok (Ended run) → EndsIn next now new walked x.yielded run
-          → IsFinalEnding run.ending ⊎ ((new.source.last ≡ gave 0) × IsAtEnd new.source.left) → Driven (Ok run)
+          → IsFinalEnding run.ending ⊎ ((new.devices.source.last ≡ gave 0) × IsAtEnd new.devices.source.left) → Driven (Ok run)
       unfolding runs_by
       ends_without run is y ended =
-          let g : LastReadGaveUpTo (length piece) new.source.last = gave_so (Ok (Ended run)) is in
+          let g : LastReadGaveUpTo (length piece) new.devices.source.last = gave_so (Ok (Ended run)) is in
           let es : List EventValue = y.all in
           let f : Forest = y.reads.reading in
           let is_reading : IsReading framing walked f = subst (λ (k : Framing). IsReading k walked f) x.same y.reads.is_reading in
@@ -207,11 +207,11 @@ module _ {S : Type 0} (next : S → EventValue → Effect S)
           let ends : EndsWith framing walked (had_enough (effect_of next s (events f)).goes) run.ending =
           subst (λ (b : Bool). EndsWith framing walked b run.ending) (sym (is_enough_so f go.On (effect_of next s es).put k))
           (subst (λ (k : Framing). EndsWith k walked false run.ending) x.same y.ending) in record {
-            runs = runs_by (Ok run) f (gave_last new.source.last piece g) is_reading es go.On k (ap source_result (sym is)) (sent_all es go.On y.follows) (comes_to (drive_job next framing limit s) (b ++ r) f new.source (Ok run) (
+            runs = runs_by (Ok run) f (gave_last new.devices.source.last piece g) is_reading es go.On k (ap source_result (sym is)) (sent_all es go.On y.follows) (comes_to (drive_job next framing limit s) (b ++ r) f new.devices.source (Ok run) (
               run.ending,
               answer,
               ends_so framing walked (had_enough (effect_of next s (events f)).goes) run.ending
-                  (IsFinalEnding run.ending ⊎ ((new.source.last ≡ gave 0) × IsAtEnd new.source.left)) ends (inr ended),
+                  (IsFinalEnding run.ending ⊎ ((new.devices.source.last ≡ gave 0) × IsAtEnd new.devices.source.left)) ends (inr ended),
             ));
             state = k.state;
           }
@@ -220,7 +220,7 @@ module _ {S : Type 0} (next : S → EventValue → Effect S)
       ends_with : (run : Run) → result ≡ Ok (Ended run) → HasEnoughIn next now new walked x.yielded run → Driven (Ok run)
       unfolding runs_by
       ends_with run is y =
-          let g : LastReadGaveUpTo (length piece) new.source.last = gave_so (Ok (Ended run)) is in
+          let g : LastReadGaveUpTo (length piece) new.devices.source.last = gave_so (Ok (Ended run)) is in
           let es : List EventValue = y.all in
           let f : Forest = y.reads.reading in
           let is_reading : IsReading framing walked f = subst (λ (k : Framing). IsReading k walked f) x.same y.reads.is_reading in
@@ -234,8 +234,8 @@ module _ {S : Type 0} (next : S → EventValue → Effect S)
           (ap (λ (k : Run). k.unused) y.run_is ∙ ap (λ (k : Framing). first_other k.inside (wrapper_offsets es)) x.same ∙ ap (first_other framing.inside) (enough_enters s new.follower es others.0 f made others.1))
           ∙ ap (λ (g : Go). run_over framing f (followed_events next s (events f)) g run.ending) (sym k.goes_so) in
           let enough : had_enough (effect_of next s (events f)).goes ≡ true = is_enough_so f go.Enough (effect_of next s es).put k in record {
-            runs = runs_by (Ok run) f (gave_last new.source.last piece g) is_reading es go.Enough k (ap source_result (sym is)) (sent_all es go.Enough y.follows)
-                (comes_to (drive_job next framing limit s) (b ++ r) f new.source (Ok run) (run.ending, answer, inl (enough, ending_is)));
+            runs = runs_by (Ok run) f (gave_last new.devices.source.last piece g) is_reading es go.Enough k (ap source_result (sym is)) (sent_all es go.Enough y.follows)
+                (comes_to (drive_job next framing limit s) (b ++ r) f new.devices.source (Ok run) (run.ending, answer, inl (enough, ending_is)));
             state = k.state;
           }
 
@@ -244,7 +244,7 @@ module _ {S : Type 0} (next : S → EventValue → Effect S)
       ends_so_far run is (at_enough y) = ends_with run is y
       ends_so_far run is (at_fault y final) = ends_without run is y (inl final)
       ends_so_far run is (at_input_end y none) =
-          let last : new.source.last ≡ gave 0 = gave_none new.source.last piece (gave_so (Ok (Ended run)) is) none in
+          let last : new.devices.source.last ≡ gave 0 = gave_none new.devices.source.last piece (gave_so (Ok (Ended run)) is) none in
           ends_without run is y (inr (last, read.calls.at_end last))
 
       pub drives_ended : (run : Run) → result ≡ Ok (Ended run) → Driven (Ok run)
@@ -254,14 +254,14 @@ module _ {S : Type 0} (next : S → EventValue → Effect S)
       unfolding runs_by
       drives_read_failed is =
           let y = turned (Err ReadFailed) is in
-          let last : new.source.last ≡ failed = gave_so (Err ReadFailed) is in
+          let last : new.devices.source.last ≡ failed = gave_so (Err ReadFailed) is in
           let none : r ≡ [] = ap (λ (l : LastReadValue). last_octets l piece) last in
           let f : Forest = x.stands.reads.reading in
           let all : b ≡ walked = sym (ap (λ (o : List ℕ). take limit (b ++ o)) none ∙ ap (λ (o : List ℕ). take limit o) (append-nil b) ∙ take_all limit b within) in
           let k : MadeAll s new.follower f go.On (effect_of next s x.yielded).put = record { state = y.same.follower ∙ first_made.state; goes_so = first_made.goes_so; text_is = first_made.text_is } in
-          let put : Sends from new.drain (effect_of next s x.yielded).put (Ok tt) =
-          sends_ok {T = ⊤} {U = ⊤} {E = DeviceFault} {F = DeviceFault} from new.drain ((effect_of next s x.yielded).put ++ []) (effect_of next s x.yielded).put tt tt
-          (sends_then from now.drain new.drain (effect_of next s x.yielded).put [] tt (Ok tt) x.sends y.put) (append-nil _) in record {
+          let put : Sends from new.devices.drain (effect_of next s x.yielded).put (Ok tt) =
+          sends_ok {T = ⊤} {U = ⊤} {E = DeviceFault} {F = DeviceFault} from new.devices.drain ((effect_of next s x.yielded).put ++ []) (effect_of next s x.yielded).put tt tt
+          (sends_then from now.devices.drain new.devices.drain (effect_of next s x.yielded).put [] tt (Ok tt) x.sends y.put) (append-nil _) in record {
             runs = runs_by (Err ReadFailed) f (inr (last, none)) (subst (λ (o : List ℕ). IsReading framing o f) all first_reading) x.yielded go.On k (ap source_result (sym is)) put (read_failed last);
             state = k.state;
           }
@@ -269,18 +269,18 @@ module _ {S : Type 0} (next : S → EventValue → Effect S)
       drives_write_failed : result ≡ Err WriteFailed → Driven (Err WriteFailed)
       drives_write_failed is =
           let y = turned (Err WriteFailed) is in
-          let g : LastReadGaveUpTo (length piece) new.source.last = gave_so (Err WriteFailed) is in
+          let g : LastReadGaveUpTo (length piece) new.devices.source.last = gave_so (Err WriteFailed) is in
           let f : Forest = y.reads.reading in
           let es : List EventValue = x.yielded ++ y.more in
           let same : effect_of next s es ≡ effect_of next s (events f) = alike s es (events f) y.reads.all_events in record {
             runs = record {
-              pieces = pieces_all old now.source new.source x.gathered r read.calls.octets read.calls.reads (gave_last new.source.last piece g) few;
+              pieces = pieces_all old now.devices.source new.devices.source x.gathered r read.calls.octets read.calls.reads (gave_last new.devices.source.last piece g) few;
               failures = failed_so (Err WriteFailed) is;
               wants_more = first_wants;
               within = within;
               reading = f;
               is_reading = subst (λ (k : Framing). IsReading k walked f) x.same y.reads.is_reading;
-              sends = subst (λ (l : List ℕ). Sends {T = ⊤} {E = DeviceFault} from new.drain l (Err WriteFailed)) (ap (λ (k : Effect S). k.put) same) (sent y.more (Err WriteFailed) y.put);
+              sends = subst (λ (l : List ℕ). Sends {T = ⊤} {E = DeviceFault} from new.devices.drain l (Err WriteFailed)) (ap (λ (k : Effect S). k.put) same) (sent y.more (Err WriteFailed) y.put);
               comes = write_failed;
             };
             state = tt;
@@ -290,7 +290,7 @@ module _ {S : Type 0} (next : S → EventValue → Effect S)
       unfolding runs_by
       drives_long is =
           let y = turned (Err InputTooLong) is in
-          let g : LastReadGaveUpTo (length piece) new.source.last = gave_so (Err InputTooLong) is in
+          let g : LastReadGaveUpTo (length piece) new.devices.source.last = gave_so (Err InputTooLong) is in
           let z = y.stands in
           let es : List EventValue = z.all in
           let f : Forest = z.stands.reads.reading in
@@ -299,7 +299,7 @@ module _ {S : Type 0} (next : S → EventValue → Effect S)
           made_all s new.follower es f go.On (followed es go.On z.follows) (stands_yielded new.walker walked es f z.stands z.idle z.stands.reads.is_reading) in
           let wants : WantMore (drive_job next framing limit s) walked =
           (f, is_reading, stands_spelled new.walker walked es f z.stands z.stands.reads.is_reading, is_enough_so f go.On (effect_of next s es).put k) in record {
-            runs = runs_by (Err InputTooLong) f (gave_last new.source.last piece g) is_reading es go.On k (ap source_result (sym is)) (sent_all es go.On z.follows) (too_long y.beyond wants);
+            runs = runs_by (Err InputTooLong) f (gave_last new.devices.source.last piece g) is_reading es go.On k (ap source_result (sym is)) (sent_all es go.On z.follows) (too_long y.beyond wants);
             state = k.state;
           }
 

@@ -15,7 +15,7 @@ use Rattle.tlv_walk.specs.DriveJob.{Drives, drive_job, drive_state, had_enough, 
 use Rattle.tlv_walk.specs.Events.{EventValue, events}
 use Rattle.tlv_walk.specs.Follow.{Effect, effect_of, go_of}
 use Rattle.tlv_walk.specs.Forest.{Forest}
-use Rattle.tlv_walk.specs.Job.{Job, Runs, WantMore, read_failed, too_long, write_failed}
+use Rattle.tlv_walk.specs.Job.{Job, Runs, WantMore, device_states, read_failed, too_long, write_failed}
 use Rattle.tlv_walk.proofs.FollowerLemmas.Enough.{EndsSo, Returns, Settled, comes_to, returns}
 use Rattle.tlv_io.specs.Out.{Sends}
 use Rattle.tlv_walk.specs.Reading.{IsReading}
@@ -45,7 +45,7 @@ module _ {S A : Type 0} (next : S → EventValue → Effect S) (job : Job A) (s 
 
   pub runs_ok : (run : Run) (a : A) → Drives next job.framing job.limit (drive_state s old from) (drive_state t new to) (Ok run)
       → ((octets : List ℕ) (f : Forest) (e : Ending) → length octets ≤ job.limit → IsReading job.framing octets f → t ≡ (effect_of next s (events f)).state → run ≡ (drive_job next job.framing job.limit s).returned f e → a ≡ job.returned f e)
-      → Runs job old new from to (Ok a)
+      → Runs job (device_states old from) (device_states new to) (Ok a)
   runs_ok run a x answer =
       let w = x.runs in
       let given : List ℕ = octets_given w.pieces in
@@ -65,7 +65,7 @@ module _ {S A : Type 0} (next : S → EventValue → Effect S) (job : Job A) (s 
         );
       }
 
-  pub runs_err : (e : DeviceFault) → Drives next job.framing job.limit (drive_state s old from) (drive_state t new to) (Err e) → Runs job old new from to (Err e)
+  pub runs_err : (e : DeviceFault) → Drives next job.framing job.limit (drive_state s old from) (drive_state t new to) (Err e) → Runs job (device_states old from) (device_states new to) (Err e)
   runs_err ReadFailed x =
       let w = x.runs in record {
         pieces = w.pieces;

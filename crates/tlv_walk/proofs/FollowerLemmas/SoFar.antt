@@ -66,12 +66,12 @@ enters_each (Pad c ∷ es) = enters_each es
 module _ {S : Type 0} (next : S → EventValue → Effect S) where
   -- the walk so far: the octets given, the events yielded of them, and what was made of these
   pub record Walking (framing : Framing) (s : S) (old : SourceState) (from : DrainState) (now : TurnState S) : Type 0 where
-    pub gathered : Gathered old now.source
+    pub gathered : Gathered old now.devices.source
     pub octets : AreOctets (concat gathered.pieces)
-    pub failures : now.source.failures ≡ old.failures
+    pub failures : now.devices.source.failures ≡ old.failures
     pub yielded : List EventValue
     pub made : FollowsEvents next s now.follower yielded go.On
-    pub sends : Sends {T = ⊤} {E = DeviceFault} from now.drain (effect_of next s yielded).put (Ok tt)
+    pub sends : Sends {T = ⊤} {E = DeviceFault} from now.devices.drain (effect_of next s yielded).put (Ok tt)
     pub same : now.walker.framing ≡ framing
     pub stands : Stands now.walker (concat gathered.pieces) yielded
     pub idle : IsIdle now.walker

@@ -53,7 +53,7 @@ run_is run e n k u p q r s =
 -- ---- what was made of a piece, by why it is not followed any further
 
 module _ {S D : Type 0} (next : S → EventValue → Effect S) (old new : TurnState S) (from to : Out D) (b piece : List ℕ) (yielded more : List EventValue)
-    (put : Sends {T = ⊤} {E = DeviceFault} old.drain new.drain (effect_of next old.follower more).put (Ok tt)) (st : Stands old.walker b yielded) where
+    (put : Sends {T = ⊤} {E = DeviceFault} old.devices.drain new.devices.drain (effect_of next old.follower more).put (Ok tt)) (st : Stands old.walker b yielded) where
   abbrev w : WalkerState
   w = old.walker
 
@@ -149,11 +149,11 @@ module _ {S D : Type 0} (next : S → EventValue → Effect S) (old new : TurnSt
 
   -- what is made of these events was handed to the drain
   abbrev Sent : Result Pause WriteFault → List EventValue → Type 0
-  Sent result more = Sends old.drain new.drain (effect_of next old.follower more).put result
+  Sent result more = Sends old.devices.drain new.devices.drain (effect_of next old.follower more).put result
 
   -- the same of a turn
-  sent : (why : Pause) (more : List EventValue) → Sent (Ok why) more → Sends {T = ⊤} {E = DeviceFault} old.drain new.drain (effect_of next old.follower more).put (Ok tt)
-  sent why more q = sends_ok old.drain new.drain (effect_of next old.follower more).put (effect_of next old.follower more).put why tt q refl
+  sent : (why : Pause) (more : List EventValue) → Sent (Ok why) more → Sends {T = ⊤} {E = DeviceFault} old.devices.drain new.devices.drain (effect_of next old.follower more).put (Ok tt)
+  sent why more q = sends_ok old.devices.drain new.devices.drain (effect_of next old.follower more).put (effect_of next old.follower more).put why tt q refl
 
   many : length r ≡ n
   many = ap length is_r ∙ length-take n p ∙ omega (arith, some)
@@ -234,13 +234,13 @@ module _ {S D : Type 0} (next : S → EventValue → Effect S) (old new : TurnSt
   answered pause.UsedUp (Err ReadFailed) x is = absurd is
   answered pause.UsedUp (Err WriteFailed) x is = absurd is
 
-  module _ (state_of : D → DrainState) (drain_was : old.drain ≡ state_of (drain_of from).now) (drain_is : new.drain ≡ state_of (drain_of to).now) where
+  module _ (state_of : D → DrainState) (drain_was : old.devices.drain ≡ state_of (drain_of from).now) (drain_is : new.devices.drain ≡ state_of (drain_of to).now) where
     abbrev FollowsIn : Result Pause WriteFault → Type 0
     FollowsIn result = FollowsAndFlushes next state_of (walk_state old.walker old.follower from) (walk_state new.walker new.follower to) piece result
 
     handed : (result : Result Pause WriteFault) → (x : FollowsIn result) → Sent result x.more
     handed result x =
-        subst (λ (d : DrainState). Sends d new.drain (effect_of next old.follower x.more).put result) (sym drain_was)
+        subst (λ (d : DrainState). Sends d new.devices.drain (effect_of next old.follower x.more).put result) (sym drain_was)
         (subst (λ (d : DrainState). Sends (state_of (drain_of from).now) d (effect_of next old.follower x.more).put result) (sym drain_is) x.sends)
 
     pub turns_answered : (why : Pause) (result : Result Turn DeviceFault) → FollowsIn (Ok why) → IsResultOfPause n m new.walker why result → TurnsTo next old new limit b yielded r result
@@ -252,7 +252,7 @@ module _ {S D : Type 0} (next : S → EventValue → Effect S) (old new : TurnSt
         let front = followed-front next old.follower x.more o.0 in record {
           more = x.more ++ o.0;
           put =
-              sends_err old.drain new.drain (effect_of next old.follower x.more).put (effect_of next old.follower (x.more ++ o.0)).put e WriteFailed (handed (Err e) x)
+              sends_err old.devices.drain new.devices.drain (effect_of next old.follower x.more).put (effect_of next old.follower (x.more ++ o.0)).put e WriteFailed (handed (Err e) x)
               (record { rest = front.0; is = sym front.1 });
           reads = record {
             reading = read.0;

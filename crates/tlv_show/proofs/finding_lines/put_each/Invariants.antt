@@ -1,6 +1,6 @@
 use Rattle.std.proofs.Common.{◌≡◌, ◌++◌, ℕ, List, drop}
 use Rattle.tlv_io.proofs.Puts.{HasPut}
-use Rattle.tlv_show.specs.CheckStep.{styled_lines}
+use Rattle.tlv_show.specs.FindingLines.{styled_lines}
 use Rattle.tlv_show.proofs.finding_lines.put_each.Given as goal
 
 abbrev pub invariant-loop-finding : goal.invariant-loop-finding

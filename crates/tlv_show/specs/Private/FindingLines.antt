@@ -1,8 +1,8 @@
--- What is written of findings.
+-- The lines of the findings that a finder reports.
 use Rattle.std.specs.Prelude.{ℕ, List}
 use Rattle.tlv_show.specs.declared.finding_lines.Style.{Style}
 use Rattle.tlv_show.specs.FinderState.{FinderValue}
-use Rattle.tlv_show.specs.CheckStep.{styled_lines}
+use Rattle.tlv_show.specs.FindingLines.{styled_lines}
 
 -- the lines of the last findings
 abbrev pub last_finding_lines : Style → FinderValue → List ℕ

@@ -1,0 +1,14 @@
+-- The lines of findings, in a check or in a dump.
+use Rattle.std.specs.Prelude.{ℕ, List, None, flat_map}
+use Rattle.tlv_value.specs.declared.finding.Finding.{Finding}
+use Rattle.tlv_show.specs.declared.finding_lines.Style.{Style}
+use Rattle.tlv_show.specs.declared.finding_lines.Style.TheVariants.{Check, Dump}
+use Rattle.tlv_show.specs.Texts.{check_finding_line, finding_line}
+
+-- a finding in an element at this level and offset, as it is written
+abbrev pub styled_line : Style → ℕ → ℕ → Finding → List ℕ
+styled_line Check level at finding = check_finding_line at finding
+styled_line (Dump pure) level at finding = finding_line (record { level = level; limit = None; pure = pure }) at finding
+
+abbrev pub styled_lines : Style → ℕ → ℕ → List Finding → List ℕ
+styled_lines style level at findings = flat_map (styled_line style level at) findings

@@ -1,0 +1,28 @@
+//! The findings of an event.
+ghost use Rattle.std.specs.Prelude.{◌≡◌, []};
+
+use arrayvec::ArrayVec;
+use tlv_value::Finding;
+
+/// Findings in an element, in order: how many others hold it, and where it begins.
+#[derive(Drop)]
+pub(crate) struct LastFindings {
+    pub level: u8,
+    pub at: u64,
+    pub findings: ArrayVec<Finding, 16>,
+}
+
+impl LastFindings {
+    /// Begins anew, for the element at this level and offset.
+    #[inline(always)]
+    pub fn restart(&mut self, level: u8, at: u64)
+        ensures level { self.new.level ≡ level }
+        ensures at { self.new.at ≡ at }
+        ensures items { self.new.findings.items ≡ [] }
+    {
+        self.level = level;
+        self.at = at;
+        // `clear` would fill the room with blanks, by a call of memset.
+        self.findings = ArrayVec::new();
+    }
+}
