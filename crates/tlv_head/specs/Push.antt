@@ -1,5 +1,5 @@
 -- Reading a header, one octet at a time: what `HeadReader` returns.
-use Rattle.std.specs.Prelude.{◌≡◌, ◌≢◌, ℕ, ◌+◌, ◌<◌, ◌≤◌, true, [], ◌∷◌, ◌++◌, length, Option, Some}
+use Rattle.std.specs.Prelude.{◌≡◌, ◌≢◌, ℕ, ◌+◌, ◌<◌, ◌≤◌, true, List, [], ◌∷◌, ◌++◌, length, Option, Some}
 use Rattle.tlv_head.specs.declared.fault.Fault.{Fault}
 use Rattle.tlv_head.specs.declared.fault.FaultCode.{FaultCode}
 use Rattle.tlv_head.specs.declared.fault.FaultCode.TheVariants.{TooDeep, Overrun}
@@ -9,12 +9,12 @@ use Rattle.tlv_head.specs.Header.{HeaderValue, IsHeader, holds, octets_of}
 use Rattle.tlv_head.specs.HeadReaderState.{ContentsFit, HeadReaderState, with_octet}
 use Rattle.tlv_head.specs.Refusal.{IsFront, IsRefusedOctet}
 
--- the octet completes this header
-pub record Completes (r : HeadReaderState) (x : ℕ) (h : HeaderValue) : Type 0 where
+-- these octets, after those that the reader has, complete this header
+pub record Completes (r : HeadReaderState) (added : List ℕ) (h : HeaderValue) : Type 0 where
   pub valid : IsHeader h
   pub offset : h.offset ≡ r.offset
   pub named : h.named ≡ r.named
-  pub octets : octets_of h ≡ r.octets ++ x ∷ []
+  pub octets : octets_of h ≡ r.octets ++ added
 
 -- a header may stand there: an element that holds others is not inside 128, and the contents announced
 -- end within the bound
@@ -30,10 +30,10 @@ pub data IsRefusedPush (r : HeadReaderState) (x : ℕ) (room : Option ℕ) (dept
   refused_octet : {code : FaultCode} → room ≢ Some 0 → IsRefusedOctet r.octets x code
       → IsRefusedPush r x room depth code
   -- F10, 8.1.4: it completes the header of an element that holds others, inside 128 of them
-  too_deep : room ≢ Some 0 → (h : HeaderValue) → Completes r x h → holds h ≡ true → 128 ≤ depth
+  too_deep : room ≢ Some 0 → (h : HeaderValue) → Completes r (x ∷ []) h → holds h ≡ true → 128 ≤ depth
       → IsRefusedPush r x room depth TooDeep
   -- F11, 8.1.3.3: it completes the header of contents that end beyond the bound
-  overrun : room ≢ Some 0 → (h : HeaderValue) → Completes r x h → (holds h ≡ true → depth < 128)
+  overrun : room ≢ Some 0 → (h : HeaderValue) → Completes r (x ∷ []) h → (holds h ≡ true → depth < 128)
       → (ContentsFit h.size room → ⊥) → IsRefusedPush r x room depth Overrun
 
 -- what `push` returns, and the reader that it leaves: a line for each answer
@@ -42,7 +42,7 @@ pub data Pushes (old : HeadReaderState) (x : ℕ) (room : Option ℕ) (depth : �
   -- the octet was taken, and others are to follow
   more : room ≢ Some 0 → IsFront (old.octets ++ x ∷ []) → new ≡ with_octet old x → Pushes old x room depth new More
   -- the octet was taken, and completes a header that may stand there
-  whole : (h : HeaderValue) → Completes old x h → FitsThere h room depth → new.done ≡ true
+  whole : (h : HeaderValue) → Completes old (x ∷ []) h → FitsThere h room depth → new.done ≡ true
       → Pushes old x room depth new (Whole h)
   -- the octet was not taken
   refused : (f : Fault) → IsRefusedPush old x room depth f.code → f.offset ≡ old.offset + length old.octets

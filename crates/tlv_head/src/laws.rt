@@ -4,13 +4,13 @@ ghost use Rattle.tlv_head.specs.Laws.{OctetsGoOnOrAreRefused, PushesReturnOneHea
 ghost use Rattle.tlv_head.specs.Laws.{RefusedInputsBeginWithNone};
 ghost use Rattle.tlv_head.specs.Shortest.{HeadersHaveAShortest, ShortestHeadersAreOne, ShortestHeadersAreShortest};
 
-/// Octets begin with one header at most: two headers that are at one offset and are both fronts of
-/// one input are the same, and the same octets follow them.
+/// Octets begin with one header at most: two headers that are at one offset and are both prefixes
+/// of one input are the same, and the same octets follow them.
 pub fn one_header()
     ensures { OctetsBeginOneHeader }
 {}
 
-/// No header is a proper front of another, so a header ends by itself.
+/// No header is a proper prefix of another, so a header ends by itself.
 pub fn headers_are_no_fronts()
     ensures { HeadersAreNoFronts }
 {}
@@ -25,8 +25,8 @@ pub fn refused_inputs_begin_with_none()
     ensures { RefusedInputsBeginWithNone }
 {}
 
-/// No octet is refused without a cause: after the front of a header it makes a longer front or a
-/// header, unless it is one that F06 to F09 refuse.
+/// No octet is refused without a cause: after a prefix of a header it makes a longer prefix or
+/// a header, unless it is one that F06 to F09 refuse.
 pub fn octets_go_on_or_are_refused()
     ensures { OctetsGoOnOrAreRefused }
 {}

@@ -1,5 +1,5 @@
 //! Reads a header, one octet at a time.
-ghost use Rattle.std.specs.Prelude.{◌≡◌, ◌≢◌, ◌↔◌, [], false, IsTrue, Some};
+ghost use Rattle.std.specs.Prelude.{◌≡◌, ◌≢◌, ◌↔◌, [], ◌∷◌, false, IsTrue, Some};
 ghost use Rattle.tlv_head.specs.HeaderFields.{fields_hold};
 ghost use Rattle.tlv_head.specs.HeadReaderState.{ContentsFit};
 
@@ -83,7 +83,7 @@ impl HeadReader {
         ensures pushes { Pushes self.old octet room depth self.new result }
 
         // Nothing else is returned for the octet that completes a header that may stand there.
-        ensures whole { (h : HeaderValue) → Completes self.old octet h → room ≢ Some 0
+        ensures whole { (h : HeaderValue) → Completes self.old (octet ∷ []) h → room ≢ Some 0
             → FitsThere h room depth
             → result ≡ Head.Whole h }
     {

@@ -1,5 +1,5 @@
--- How octets are cut into rows, as a condition on rows: by how many octets a full row has, and how many are to be kept in
--- one row, from an octet on.
+-- How octets are cut into rows, as a condition on rows: by how many octets a full row has, and how many are to be kept
+-- in one row, from an octet on.
 use Rattle.std.specs.Prelude.{◌≡◌, ◌≢◌, ◌⊎◌, ℕ, ◌+◌, ◌<◌, ◌≤◌, if◌then◌else◌, List, [], ◌∷◌, ◌++◌, length, slice_index}
 use Rattle.std.specs.Int.{is_in_range}
 

@@ -33,7 +33,7 @@ impl<'a> Model for MemSource<'a> {
 impl<'a> MemSource<'a> {
     /// A source that gives `octets` and then ends.
     ///
-    /// Read `i`, counted from 0, gives at most `cuts[i]` octets, and past the end of `cuts` as many as there is room
+    /// Read `i`, counted from 0, gives at most `cuts[i]` octets, and after the end of `cuts` as many as there is room
     /// for. A cut of 0 counts as 1, so a read gives none only if none are left. Read `fail_at` fails.
     pub fn new(octets: &'a [u8], cuts: &'a [u64], fail_at: Option<u64>) -> MemSource<'a>
         ensures { result ≡ record {

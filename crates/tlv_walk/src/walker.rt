@@ -65,7 +65,7 @@ impl Walker {
     ghost use Rattle.std.specs.Prelude.{[], false};
     ghost use Rattle.tlv_walk.specs.Phase as phases;
     ghost use Rattle.tlv_walk.specs.WalkerState.{IfRefused, first_without_wrapper_in, new_walker};
-    ghost use Rattle.tlv_walk.specs.Private.WalkerState.{CountsStep, EventWaits};
+    ghost use Rattle.tlv_walk.specs.Private.WalkerState.{CountsStep};
     ghost use Rattle.tlv_walk.specs.Ending.{IsEnding, ShowsSoundness, fault_at};
     ghost use Rattle.tlv_walk.specs.OpenCount.{open_count};
     ghost use Rattle.tlv_walk.specs.Stands.{CanTake, IsIdle, Stands};
@@ -132,13 +132,6 @@ impl Walker {
     /// Whether an event is still to come that needs no further octet.
     pub fn waiting(&self) -> bool
         ensures { (result ≡ false) ↔ IsIdle self.now }
-    {
-        self.is_waiting()
-    }
-
-    /// Whether the phase and the stack say that an event waits.
-    fn is_waiting(&self) -> bool
-        ensures { IsTrue result ↔ EventWaits self.now }
     {
         match &self.phase {
             Phase::InPrimitive(left) => *left == 0,

@@ -16,16 +16,16 @@ use Rattle.tlv_head.proofs.GrammarLemmas.Refused.{one-refusal, refused-none}
 use Rattle.tlv_head.proofs.GrammarLemmas.Scan.{same-header}
 
 -- an octet completes at most one header
-pub completes_unique : (r : HeadReaderState) (x : ℕ) (g h : HeaderValue) → Completes r x g → Completes r x h → g ≡ h
+pub completes_unique : (r : HeadReaderState) (x : ℕ) (g h : HeaderValue) → Completes r (x ∷ []) g → Completes r (x ∷ []) h → g ≡ h
 completes_unique r x g h p q =
     same-header g h p.valid q.valid (λ i. record { offset = (p.offset ∙ sym q.offset) i; named = (p.named ∙ sym q.named) i }) (p.octets ∙ sym q.octets)
 
 -- the front of a header is no whole header
-pub front_not_whole : (r : HeadReaderState) (x : ℕ) (h : HeaderValue) → IsFront (r.octets ++ x ∷ []) → Completes r x h → ⊥
+pub front_not_whole : (r : HeadReaderState) (x : ℕ) (h : HeaderValue) → IsFront (r.octets ++ x ∷ []) → Completes r (x ∷ []) h → ⊥
 front_not_whole r x h f c = front-no_header _ h f c.valid c.octets
 
 -- an octet that is refused for the octets alone completes no header
-refused_completes_none : (code : FaultCode) (r : HeadReaderState) (x : ℕ) (h : HeaderValue) → IsRefusedOctet r.octets x code → Completes r x h → ⊥
+refused_completes_none : (code : FaultCode) (r : HeadReaderState) (x : ℕ) (h : HeaderValue) → IsRefusedOctet r.octets x code → Completes r (x ∷ []) h → ⊥
 refused_completes_none code r x h p c = refused-none code r.octets x p h [] c.valid (append-nil (r.octets ++ x ∷ []) ∙ sym c.octets)
 
 -- what is returned if an octet is refused
@@ -35,7 +35,7 @@ refuses old x room depth code offset r e cause at = subst (Pushes old x room dep
 
 -- if an octet is refused for the depth or the bound, the header that it completes may not stand there
 refused_not_whole : (code : FaultCode) (r : HeadReaderState) (x : ℕ) (room : Option ℕ) (depth : ℕ) (h : HeaderValue) → IsRefusedPush r x room depth code
-    → Completes r x h → room ≢ Some 0 → FitsThere h room depth → ⊥
+    → Completes r (x ∷ []) h → room ≢ Some 0 → FitsThere h room depth → ⊥
 refused_not_whole code r x room depth h (no_room z) c n f = n z
 refused_not_whole code r x room depth h (refused_octet m p) c n f = refused_completes_none code r x h p c
 refused_not_whole code r x room depth h (too_deep m g d k deep) c n f =
@@ -45,13 +45,13 @@ refused_not_whole code r x room depth h (too_deep m g d k deep) c n f =
 refused_not_whole code r x room depth h (overrun m g d k past) c n f =
     past (subst (λ (g : HeaderValue). ContentsFit g.size room) (completes_unique r x h g c d) f.within)
 
-pub exact : (old new : HeadReaderState) (x : ℕ) (room : Option ℕ) (depth : ℕ) (r : Head) → Pushes old x room depth new r → (h : HeaderValue) → Completes old x h
+pub exact : (old new : HeadReaderState) (x : ℕ) (room : Option ℕ) (depth : ℕ) (r : Head) → Pushes old x room depth new r → (h : HeaderValue) → Completes old (x ∷ []) h
     → room ≢ Some 0 → FitsThere h room depth → r ≡ Whole h
 exact old new x room depth r (more m front e) h c n f = absurd (front_not_whole old x h front c)
 exact old new x room depth r (whole g d there e) h c n f = ap (λ k. Whole k) (completes_unique old x g h d c)
 exact old new x room depth r (refused fault cause at e) h c n f = absurd (refused_not_whole fault.code old x room depth h cause c n f)
 
-not_deep_and_past : (r : HeadReaderState) (x depth : ℕ) (g h : HeaderValue) → Completes r x g → holds g ≡ true → 128 ≤ depth → Completes r x h → (holds h ≡ true → depth < 128) → ⊥
+not_deep_and_past : (r : HeadReaderState) (x depth : ℕ) (g h : HeaderValue) → Completes r (x ∷ []) g → holds g ≡ true → 128 ≤ depth → Completes r (x ∷ []) h → (holds h ≡ true → depth < 128) → ⊥
 not_deep_and_past r x depth g h c k deep d shallow =
     let s : holds h ≡ true = subst (λ (g : HeaderValue). holds g ≡ true) (completes_unique r x g h c d) k in
     let l : depth < 128 = shallow s in

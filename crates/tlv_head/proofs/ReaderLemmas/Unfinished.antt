@@ -50,7 +50,7 @@ made-valid : (at : ℕ) (named : Bool) (id : Identifier) (size : Size) (os : Lis
 made-valid at named id size os m = record { identifier = m.identified.identified; lengths = m.sized; allowed = m.allowed }
 
 made_completes : (r : HeadReaderState) (id : Identifier) (size : Size) (os : List ℕ) (x : ℕ) (m : MakesHeader id size (os ++ x ∷ [])) → os ≡ r.octets
-    → Completes r x (made r.offset r.named id size (os ++ x ∷ []) m)
+    → Completes r (x ∷ []) (made r.offset r.named id size (os ++ x ∷ []) m)
 made_completes r id size os x m e = record {
   valid = made-valid r.offset r.named id size _ m;
   offset = refl;
@@ -68,7 +68,7 @@ made_overrun r id size os x depth room n m e c past = overrun n (made r.offset r
 
 -- the octets that make a header, cut after its identifier
 pub made_whole : (r : HeadReaderState) (id : Identifier) (size : Size) (os : List ℕ) (x : ℕ) (m : MakesHeader id size (os ++ x ∷ [])) → os ≡ r.octets
-    → Completes r x (record {
+    → Completes r (x ∷ []) (record {
       offset = r.offset;
       named = r.named;
       class = id.class;

@@ -6,7 +6,7 @@ use Rattle.tlv_walk.specs.Phase as phase
 use Rattle.tlv_walk.specs.Ending.{IsEnding, fault_at, fault_ending}
 use Rattle.tlv_walk.specs.Events.{EventValue}
 use Rattle.tlv_walk.specs.WalkerState.{WalkerState}
-use Rattle.tlv_walk.specs.Private.WalkerState.{EventWaits}
+use Rattle.tlv_walk.proofs.WalkerLemmas.Waiting.{EventWaits}
 use Rattle.tlv_walk.specs.Stands.{Stands}
 use Rattle.tlv_walk.proofs.WalkerLemmas.ZipperEndings.{state-done, state-empty, state-short}
 

@@ -37,7 +37,7 @@ identifier-nil class k n o (inl low) e = let z : [] ≡ _ ∷ [] = sym e ∙ low
 identifier-nil class k n o (inr high) e = let z : [] ≡ _ ∷ _ = sym e ∙ high.octets_are in absurd (cc)
 
 -- one octet is no header
-completes-two : (r : HeadReaderState) (x : ℕ) (h : HeaderValue) → Completes r x h → r.octets ≡ [] → ⊥
+completes-two : (r : HeadReaderState) (x : ℕ) (h : HeaderValue) → Completes r (x ∷ []) h → r.octets ≡ [] → ⊥
 completes-two r x h c e =
     let two : 2 ≤ length (octets_of h) = header-two h c.valid in
     let one : octets_of h ≡ x ∷ [] = c.octets ∙ ap (λ (o : List ℕ). o ++ x ∷ []) e in
@@ -76,7 +76,7 @@ pub record IsReader (p : Place) (q : HeadReaderState) (room : Option ℕ) (depth
   pub within : IsWithin p.bound (p.at + length q.octets)
 
 -- a header that its octets make
-header_there : (p : Place) (q : HeadReaderState) (room : Option ℕ) (depth x : ℕ) (h : HeaderValue) (t : Bool) → holds h ≡ t → IsReader p q room depth → Completes q x h → IsHeaderAt p t h
+header_there : (p : Place) (q : HeadReaderState) (room : Option ℕ) (depth x : ℕ) (h : HeaderValue) (t : Bool) → holds h ≡ t → IsReader p q room depth → Completes q (x ∷ []) h → IsHeaderAt p t h
 header_there p q room depth x h t e k c = record { valid = c.valid; offset = c.offset ∙ k.offset; named = c.named ∙ k.named; form = e }
 
 -- there is room
@@ -139,7 +139,7 @@ refuses_header w u r q piece rest others x depth at f over k e within place deep
             walker = in_header w q;
             state = with_tail t.state (InHeader q.octets);
             has_state = has';
-            idle = λ z. z;
+            idle = refl;
             offset = there;
             ends = λ c. subst (λ (n : ℕ). IsEnding w.framing ((b ++ k.taken) ++ x ∷ c) (fault_ending f.code n)) (sym has'.offset ∙ sym there)
                 (state-fault (in_header w q) (b ++ k.taken) yielded (with_tail t.state (InHeader q.octets)) x c f.code has' (λ z. z) faulty);

@@ -19,7 +19,7 @@ use Rattle.tlv_walk.specs.declared.framing.Framing.{Framing}
 use Rattle.tlv_walk.specs.WalkerState.{WalkerState}
 use Rattle.tlv_walk.specs.Private.WalkerState.{CanEnter, TakesHeader, wrappers_after}
 use Rattle.tlv_walk.specs.Wrappers.{wrapper_offsets}
-use Rattle.tlv_walk.specs.Private.ReadsOn.{CompletesHeader, HandsOver, YieldsHeader}
+use Rattle.tlv_walk.specs.Private.ReadsOn.{HandsOver, YieldsHeader}
 use Rattle.tlv_walk.specs.Stack.{bound_of}
 use Rattle.tlv_walk.specs.Place.{IsWithin}
 use Rattle.tlv_walk.specs.Private.Stack.{room_to}
@@ -134,7 +134,7 @@ enters_without w u new f at kind.Constructed e enter = subst (λ (m : WalkerStat
 enters_without w u new f at kind.Wrapper e enter = subst (λ (m : WalkerState). TakesHeader m new f at kind.Wrapper) e enter
 
 -- and the header that it completes may stand there
-completed_without : (w u : WalkerState) (r : HeadReaderState) (t : List ℕ) (h : HeaderValue) → u ≡ record w { phase = phase.Between; has_element = true } → CanEnter u h → CompletesHeader r t h → Completed w r t h
+completed_without : (w u : WalkerState) (r : HeadReaderState) (t : List ℕ) (h : HeaderValue) → u ≡ record w { phase = phase.Between; has_element = true } → CanEnter u h → Completes r t h → Completed w r t h
 completed_without w u r t h e can makes =
     let can' : CanEnter (record w { phase = phase.Between; has_element = true }) h = subst (λ (m : WalkerState). CanEnter m h) e can in
     record { valid = can'.valid; octets = makes.octets; offset = makes.offset; named = makes.named; shallow = can'.shallow; fits = can'.fits }
@@ -188,7 +188,7 @@ within_announced Indefinite (Some m) n h = omega (arith, h)
 
 -- the header that it completes may stand there
 pub whole_enters : (u : WalkerState) (q : HeadReaderState) (x depth at : ℕ) (h : HeaderValue) → u.events + length u.stack ≤ q.offset → q.offset + length q.octets ≡ at → at + 1 ≤ 2 ^ 40 → depth ≡ length u.stack
-    → Completes q x h → FitsThere h (room_to (bound_of u.stack) at) depth → CanEnter u h
+    → Completes q (x ∷ []) h → FitsThere h (room_to (bound_of u.stack) at) depth → CanEnter u h
 whole_enters u q x depth at h fewer place limit deep c f =
     let end : h.offset + length (octets_of h) ≡ at + 1 = omega (arith, c.offset, ap length c.octets, length-append q.octets (x ∷ [])) in
     record {
@@ -200,12 +200,13 @@ whole_enters u q x depth at h fewer place limit deep c f =
     }
 
 -- and the walker yields it
-pub whole_yields : (w u new : WalkerState) (r q : HeadReaderState) (piece rest others : List ℕ) (x : ℕ) (h : HeaderValue) (e : EventValue) → HandsOver w u r → HasTaken r q piece rest → rest ≡ x ∷ others → Completes q x h
+pub whole_yields : (w u new : WalkerState) (r q : HeadReaderState) (piece rest others : List ℕ) (x : ℕ) (h : HeaderValue) (e : EventValue) → HandsOver w u r → HasTaken r q piece rest → rest ≡ x ∷ others → Completes q (x ∷ []) h
     → YieldsHeader u new h e → YieldsEvent w new piece others e
 whole_yields w u new r q piece rest others x h e over k f c yields = record {
   taken = k.taken ++ x ∷ [];
   piece_is = k.piece_is ∙ (ap (λ (l : List ℕ). k.taken ++ l) f ∙ sym (append_assoc k.taken (x ∷ []) others));
   continues = yields w r (k.taken ++ x ∷ []) over (record {
+    valid = c.valid;
     offset = c.offset ∙ k.offset;
     named = c.named ∙ k.named;
     octets = c.octets ∙ (ap (λ (l : List ℕ). l ++ x ∷ []) k.octets ∙ append_assoc r.octets k.taken (x ∷ []));

@@ -6,7 +6,7 @@ use Rattle.tlv_walk.specs.declared.framing.Framing.{Framing}
 use Rattle.tlv_walk.specs.Events.{EventValue}
 use Rattle.tlv_walk.specs.Forest.{Forest, NoMore, PaddingOctet, Primitive, Holder, OpenPrimitive, OpenHolder, OpenBitString, OpenHeader, OpenEndOctets, is_complete}
 use Rattle.tlv_walk.specs.WalkerState.{WalkerState}
-use Rattle.tlv_walk.specs.Private.WalkerState.{EventWaits}
+use Rattle.tlv_walk.proofs.WalkerLemmas.Waiting.{EventWaits}
 use Rattle.tlv_walk.specs.OpenCount.{open_count}
 use Rattle.tlv_walk.specs.Place.{Place}
 use Rattle.tlv_walk.specs.Private.Zipper.{AreLayers, InBitString, Between, HasZipper, InPrimitive, InEndOctets, InHeader, Layer, Tail, Zipper, frames_of, place_of, stack_of}

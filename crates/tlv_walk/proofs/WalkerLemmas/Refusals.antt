@@ -10,7 +10,7 @@ use Rattle.tlv_walk.specs.Phase as phase
 use Rattle.tlv_walk.specs.Ending.{IsEnding, IsFault, bad_end, bad_inside, fault_at, fault_ending, missing_end, no_end, stray_end}
 use Rattle.tlv_walk.specs.Events.{EventValue}
 use Rattle.tlv_walk.specs.WalkerState.{WalkerState}
-use Rattle.tlv_walk.specs.Private.WalkerState.{EventWaits, EventWaitsIn}
+use Rattle.tlv_walk.proofs.WalkerLemmas.Waiting.{EventWaits, EventWaitsIn, quiet}
 use Rattle.tlv_walk.specs.Stack.{IsFilled, IsInIndefinite, bound_of}
 use Rattle.tlv_walk.specs.Place.{IsWithin}
 use Rattle.tlv_walk.specs.Private.Stack.{room_to, room_in}
@@ -59,7 +59,7 @@ refuses_here w x rest code idle faulty = record {
         walker = w;
         state = f.0;
         has_state = subst (λ (o : List ℕ). HasZipper w o yielded f.0) (sym (append-nil b)) f.1;
-        idle = idle;
+        idle = quiet w idle;
         offset = refl;
         ends = λ c. subst (λ (o : List ℕ). IsEnding w.framing (o ++ x ∷ c) (ending.Fault (fault_at code w.offset))) (sym (append-nil b))
             (subst (λ (n : ℕ). IsEnding w.framing (b ++ x ∷ c) (fault_ending code n)) (sym f.1.offset) (state-fault w b yielded f.0 x c code f.1 idle f.2));

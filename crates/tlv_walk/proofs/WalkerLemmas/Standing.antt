@@ -29,7 +29,7 @@ use Rattle.tlv_walk.proofs.GrammarLemmas.Finals.{refused-final}
 use Rattle.tlv_walk.proofs.GrammarLemmas.Unique.{never-sound}
 use Rattle.tlv_walk.proofs.WalkerLemmas.OpenCounts.{state-depth}
 use Rattle.tlv_walk.proofs.EventLemmas.Unused.{yielded_unused}
-use Rattle.tlv_walk.proofs.WalkerLemmas.Waiting.{awaits-can_take, quiet}
+use Rattle.tlv_walk.proofs.WalkerLemmas.Waiting.{awaits-can_take, idle}
 use Rattle.tlv_walk.proofs.GrammarLemmas.PushSteps.{Spells}
 use Rattle.tlv_walk.proofs.WalkerLemmas.ZipperReading.{stands, state-events, state-spells}
 use Rattle.tlv_walk.proofs.WalkerLemmas.Zipper.{reading_of}
@@ -65,7 +65,7 @@ refused_reading old g piece rest f same r b yielded st =
       reading = reading_of u.state;
       spelled = spells.spelled;
       offset = there;
-      all_events = subst (λ (es : List EventValue). AreEqualJoined es (events (reading_of u.state))) (ap (λ (es : List EventValue). yielded ++ es) (quiet u.walker u.idle) ∙ append-nil yielded) all;
+      all_events = subst (λ (es : List EventValue). AreEqualJoined es (events (reading_of u.state))) (ap (λ (es : List EventValue). yielded ++ es) u.idle ∙ append-nil yielded) all;
       stays = λ c. subst (λ (w : Framing). IsReading w ((b ++ r.taken) ++ r.octet ∷ c) (reading_of u.state)) (sym same)
           (refused-reading old.framing (b ++ r.taken) r.octet c f (reading_of u.state) (record { is_open = is_open; spelled = spells.spelled }) there (u.ends c));
       ends = λ c. subst (λ (w : Framing). IsEnding w ((b ++ r.taken) ++ r.octet ∷ c) (ending.Fault f)) (sym same) (u.ends c);
@@ -86,7 +86,7 @@ refused_walker old new piece rest f k r b yielded st =
       refused = there;
       phase = k.phase;
       offset = omega (arith, k.taken, st.private_state.has_state.offset, ap length r.piece_is, ap length r.rest_is, length-append r.taken (r.octet ∷ r.others), length-append b r.taken);
-      depth = ap (λ (fs : List Frame). length fs) (k.stack ∙ sym u.stack) ∙ state-depth u.walker (b ++ r.taken) yielded u.state u.has_state u.idle;
+      depth = ap (λ (fs : List Frame). length fs) (k.stack ∙ sym u.stack) ∙ state-depth u.walker (b ++ r.taken) yielded u.state u.has_state (idle u.walker u.idle);
       unused = ap (slice_get new.framing.inside) found ∙ yielded_unused new.framing yielded [] there.reading named (there.stays []).is_open refl
           (subst (λ (es : List EventValue). AreEqualJoined es (events there.reading)) (sym (append-nil yielded)) there.all_events);
     }

@@ -5,9 +5,21 @@ use Rattle.tlv_walk.specs.Phase.{Phase}
 use Rattle.tlv_walk.specs.Phase as phase
 use Rattle.tlv_walk.specs.Events.{End, EventValue}
 use Rattle.tlv_walk.specs.WalkerState.{WalkerState}
-use Rattle.tlv_walk.specs.Private.WalkerState.{AwaitsOctet, AwaitsOctetIn, EventWaits, EventWaitsIn}
+use Rattle.tlv_walk.specs.Private.WalkerState.{AwaitsOctet, AwaitsOctetIn}
 use Rattle.tlv_walk.specs.Stack.{Frame, IsFilled}
 use Rattle.tlv_walk.specs.Stands.{CanTake, IsIdle, filled_end, filled_ends, is_end, waiting_events, waiting_events_in}
+
+-- an event is to come that needs no further octet: not `IsIdle`, by phase
+abbrev pub EventWaitsIn : Phase → List Frame → ℕ → Type 0
+EventWaitsIn phase.Between stack offset = IsFilled stack offset
+EventWaitsIn (phase.InHeader r) stack offset = ⊥
+EventWaitsIn (phase.InPrimitive left) stack offset = left ≡ 0
+EventWaitsIn phase.InBitString stack offset = ⊥
+EventWaitsIn phase.InEndOctets stack offset = ⊥
+EventWaitsIn (phase.Refused fault) stack offset = ⊥
+
+abbrev pub EventWaits : WalkerState → Type 0
+EventWaits w = EventWaitsIn w.phase w.stack w.offset
 
 -- if nothing waits no events do
 no_endings : (at : ℕ) (fs : List Frame) → (IsFilled fs at → ⊥) → filled_ends at fs ≡ []

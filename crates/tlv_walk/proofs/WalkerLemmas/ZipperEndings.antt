@@ -11,7 +11,7 @@ use Rattle.tlv_walk.specs.Ending.{IsEnding, IsFault, done, empty, fault_ending, 
 use Rattle.tlv_walk.specs.Events.{EventValue}
 use Rattle.tlv_walk.specs.Forest.{Forest, NoMore, OpenPrimitive, OpenBitString, OpenHeader, OpenEndOctets, has_element, is_complete, spelling}
 use Rattle.tlv_walk.specs.WalkerState.{WalkerState}
-use Rattle.tlv_walk.specs.Private.WalkerState.{EventWaits, EventWaitsIn}
+use Rattle.tlv_walk.proofs.WalkerLemmas.Waiting.{EventWaits, EventWaitsIn}
 use Rattle.tlv_walk.specs.Place.{Place, top_place}
 use Rattle.tlv_walk.specs.Private.Zipper.{InBitString, Between, HasZipper, InPrimitive, InEndOctets, InHeader, IsPhaseOf, Layer, Tail, Zipper, begins_element, frames_of, place_in, place_of, spelling_of_tail, stack_of}
 use Rattle.tlv_walk.proofs.GrammarLemmas.Endings.{halt-ending}

@@ -1,7 +1,8 @@
 -- How a walker goes on with a header, octet by octet.
-use Rattle.std.specs.Prelude.{◌≡◌, ◌⊎◌, ℕ, true, List, [], ◌∷◌, ◌++◌}
-use Rattle.tlv_head.specs.Header.{HeaderValue, octets_of}
+use Rattle.std.specs.Prelude.{◌≡◌, ◌⊎◌, ℕ, true, List, [], ◌∷◌}
+use Rattle.tlv_head.specs.Header.{HeaderValue}
 use Rattle.tlv_head.specs.HeadReaderState.{HeadReaderState}
+use Rattle.tlv_head.specs.Push.{Completes}
 use Rattle.tlv_walk.specs.declared.event.Step.{Step}
 use Rattle.tlv_walk.specs.Phase.{Between, InHeader}
 use Rattle.tlv_walk.specs.Events.{EventValue}
@@ -22,12 +23,6 @@ HandsOver old new r =
     ((old.phase ≡ InHeader r) × (new ≡ record old { phase = Between }))
     ⊎ (BeginsAt old r × (new ≡ record old { has_element = true }))
 
--- the reader's octets and these make the header
-pub record CompletesHeader (r : HeadReaderState) (t : List ℕ) (h : HeaderValue) : Type 0 where
-  pub offset : h.offset ≡ r.offset
-  pub named : h.named ≡ r.named
-  pub octets : octets_of h ≡ r.octets ++ t
-
 -- what the walker yields that became this one with a reader, if a step comes to this
 abbrev pub YieldsFrom : WalkerState → HeadReaderState → WalkerState → List ℕ → List ℕ → Step → Type 0
 YieldsFrom old r new piece rest result = (w : WalkerState) → HandsOver w old r → YieldsStep w new piece rest result
@@ -35,4 +30,4 @@ YieldsFrom old r new piece rest result = (w : WalkerState) → HandsOver w old r
 -- what it yields for a whole header
 abbrev pub YieldsHeader : WalkerState → WalkerState → HeaderValue → EventValue → Type 0
 YieldsHeader old new h e = (w : WalkerState) (r : HeadReaderState) (t : List ℕ) → HandsOver w old r
-    → CompletesHeader r t h → Continues w new t (e ∷ [])
+    → Completes r t h → Continues w new t (e ∷ [])

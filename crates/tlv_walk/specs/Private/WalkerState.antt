@@ -23,18 +23,6 @@ use Rattle.tlv_walk.specs.Place.{IsWithin}
 use Rattle.tlv_walk.specs.Private.Stack.{frame_with, room_in}
 use Rattle.tlv_walk.specs.WalkerState.{HasOctets, IsAfterEvent, WalkerState}
 
--- an event is to come that needs no further octet
-abbrev pub EventWaitsIn : Phase → List Frame → ℕ → Type 0
-EventWaitsIn Between stack offset = IsFilled stack offset
-EventWaitsIn (InHeader r) stack offset = ⊥
-EventWaitsIn (InPrimitive left) stack offset = left ≡ 0
-EventWaitsIn InBitString stack offset = ⊥
-EventWaitsIn InEndOctets stack offset = ⊥
-EventWaitsIn (Refused fault) stack offset = ⊥
-
-abbrev pub EventWaits : WalkerState → Type 0
-EventWaits w = EventWaitsIn w.phase w.stack w.offset
-
 -- the same as `CanTake`, by phase: an octet can be taken, for no event waits, and no octet was refused
 abbrev pub AwaitsOctetIn : Phase → List Frame → ℕ → Type 0
 AwaitsOctetIn Between stack offset = IsFilled stack offset → ⊥

@@ -8,9 +8,10 @@ use Rattle.tlv_walk.specs.declared.event.Step.TheVariants as step
 use Rattle.tlv_walk.specs.Ending.{IsEnding}
 use Rattle.tlv_walk.specs.Events.{EventValue}
 use Rattle.tlv_walk.specs.WalkerState.{WalkerState}
-use Rattle.tlv_walk.specs.Private.WalkerState.{EventWaits, wrappers_after}
+use Rattle.tlv_walk.specs.Private.WalkerState.{wrappers_after}
 use Rattle.tlv_walk.specs.Private.Zipper.{HasZipper, Zipper}
 use Rattle.tlv_walk.specs.Wrappers.{wrapper_offsets}
+use Rattle.tlv_walk.specs.Stands.{IsIdle}
 use Rattle.tlv_walk.specs.StepsTo.{RefusesAgain}
 use Rattle.tlv_walk.specs.HasRead.{event_value}
 
@@ -38,7 +39,7 @@ pub record RefusesAfter (old : WalkerState) (b : List ℕ) (octet : ℕ) (yielde
   pub walker : WalkerState
   pub state : Zipper
   pub has_state : HasZipper walker b yielded state
-  pub idle : EventWaits walker → ⊥
+  pub idle : IsIdle walker
   pub offset : f.offset ≡ walker.offset
   pub ends : (c : List ℕ) → IsEnding old.framing (b ++ octet ∷ c) (ending.Fault f)
   pub framing : walker.framing ≡ old.framing

@@ -1,4 +1,4 @@
-use Rattle.std.proofs.Common.{◌≡◌, Bool, ◌+◌, ◌≤◌, length, arith, rules, refl, sym, ap, ◌∙◌, subst}
+use Rattle.std.proofs.Common.{◌≡◌, Bool, [], ◌∷◌, ◌+◌, ◌≤◌, length, arith, rules, refl, sym, ap, ◌∙◌, subst}
 use Rattle.std.proofs.lemmas.Bool.{false≢true}
 use Rattle.tlv_head.specs.declared.reader.Head.TheVariants.{Whole}
 use Rattle.tlv_head.specs.declared.fault.FaultCode.TheVariants.{Overrun, TooDeep}
@@ -66,7 +66,7 @@ returns-in-Refused c =
     record { pushes = a; whole = exact _ _ _ _ _ _ a }
 
 -- the header that is returned
-completes : (c : goal.After-with_raw) → Completes c.args.self.now c.args.octet c.with_raw.result
+completes : (c : goal.After-with_raw) → Completes c.args.self.now (c.args.octet ∷ []) c.with_raw.result
 completes c =
     rw (← c.self.view_is, c.with_raw.ensures, c.header_fields-fields.ensures, c.take.ensures.value, c.push-in-Finished.ensures.items)
     (made_whole _ _ _ _ _ (c.in-Finished.ensures c.self.inside.raw.items c.self.invariant) refl)
