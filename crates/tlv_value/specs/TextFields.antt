@@ -2,24 +2,18 @@
 use Rattle.std.specs.Prelude.{◌≡◌, ◌+◌, ◌≤◌, true, false, length, []}
 use Rattle.tlv_value.specs.declared.kind.Kind.TheVariants.{Bits}
 use Rattle.tlv_value.specs.declared.text.ValueText.TheInside.{Inside}
-use Rattle.tlv_value.specs.Kind.{kind_of}
 use Rattle.tlv_value.specs.OpenRow.{IsOpenRow}
 use Rattle.tlv_value.specs.ValueTextState.{ValueTextState}
 use Rattle.tlv_value.specs.Value.{is_long}
 
 abbrev pub text_state_of : Inside → ValueTextState
 text_state_of t = record {
-  offset = t.value.offset;
-  class = t.value.class;
-  number = t.value.number;
-  size = t.value.size;
-  layout = t.value.layout;
+  value = t.value;
   left = t.left;
   kept = record { wrote_line = t.has_line; rows = t.rows; row = t.row.items };
 }
 
 pub record TextFieldsAgree (t : Inside) : Type 0 where
-  pub kind : t.value.kind ≡ kind_of t.value.class t.value.number
   pub counted : t.rows + length t.row.items + t.left ≤ t.value.size
   -- of a long value the row that has begun
   pub begun : is_long t.value.kind t.value.size ≡ true → IsOpenRow t.value.kind t.row.items

@@ -1,12 +1,10 @@
 -- What is kept of the contents of a primitive between their pieces, and the lines that are known with each piece.
 use Rattle.std.specs.Prelude.{ℕ, ◌+◌, ◌-◌, Bool, true, if◌then◌else◌, List, [], ◌∷◌, ◌++◌, length}
-use Rattle.tlv_head.specs.declared.header.Class.{Class}
 use Rattle.tlv_head.specs.Header.{HeaderValue, announced_length}
 use Rattle.tlv_io.specs.Cuts.{last_rows}
 use Rattle.tlv_value.specs.declared.kind.Kind.{Kind}
 use Rattle.tlv_value.specs.declared.layout.Layout.{Layout}
 use Rattle.tlv_value.specs.declared.primitive.Primitive.{Primitive}
-use Rattle.tlv_value.specs.Kind.{kind_of}
 use Rattle.tlv_value.specs.Rows.{full_rows, open_row}
 use Rattle.tlv_value.specs.ValueLines.{element_line, has_line, kind_by, row_lines}
 use Rattle.tlv_value.specs.Value.{NameOf, Value, is_long, long_text, row_octets, short_value}
@@ -20,11 +18,8 @@ pub record RowsState : Type 0 where
 
 -- what contracts see of a `ValueText`
 pub record ValueTextState : Type 0 where
-  pub offset : ℕ
-  pub class : Class
-  pub number : ℕ
-  pub size : ℕ
-  pub layout : Layout
+  -- what the header says of the primitive, and how its lines are laid out
+  pub value : Primitive
   -- how many octets are still to come
   pub left : ℕ
   pub kept : RowsState
@@ -40,14 +35,14 @@ primitive_of h layout = record {
   layout = layout;
 }
 
+-- its line, with this text after its tag
+abbrev pub primitive_line : Primitive → List ℕ → List ℕ
+primitive_line p text = element_line p.layout p.offset p.class p.number p.size text
+
 -- before any octet
 abbrev pub new_text_of : Primitive → ValueTextState
 new_text_of p = record {
-  offset = p.offset;
-  class = p.class;
-  number = p.number;
-  size = p.size;
-  layout = p.layout;
+  value = p;
   left = p.size;
   kept = record { wrote_line = has_line p.kind []; rows = 0; row = [] };
 }
@@ -70,12 +65,6 @@ full_row_lines kind layout k octets = row_lines kind layout k.rows (full_rows ki
 abbrev pub first_rows : Kind → ℕ → RowsState
 first_rows kind x = record { wrote_line = true; rows = 0; row = row_octets kind (x ∷ []) }
 
-abbrev pub kind_in : ValueTextState → Kind
-kind_in s = kind_of s.class s.number
-
-abbrev pub line_in : ValueTextState → List ℕ → List ℕ
-line_in s text = element_line s.layout s.offset s.class s.number s.size text
-
 abbrev pub first_rows_after : Kind → RowsState → List ℕ → RowsState
 first_rows_after kind k [] = k
 first_rows_after kind k (x ∷ octets) = rows_after kind (first_rows kind x) octets
@@ -83,19 +72,19 @@ first_rows_after kind k (x ∷ octets) = rows_after kind (first_rows kind x) oct
 abbrev pub first_row_lines : ValueTextState → List ℕ → List ℕ
 first_row_lines s [] = []
 first_row_lines s (x ∷ octets) =
-    line_in s (long_text (kind_in s) s.size (x ∷ []))
-    ++ full_row_lines (kind_in s) s.layout (first_rows (kind_in s) x) octets
+    primitive_line s.value (long_text s.value.kind s.value.size (x ∷ []))
+    ++ full_row_lines s.value.kind s.value.layout (first_rows s.value.kind x) octets
 
 -- of a long value
 abbrev pub long_rows_after : ValueTextState → List ℕ → RowsState
 long_rows_after s octets =
     if s.kept.wrote_line
-    then rows_after (kind_in s) s.kept octets
-    else first_rows_after (kind_in s) s.kept octets
+    then rows_after s.value.kind s.kept octets
+    else first_rows_after s.value.kind s.kept octets
 
 abbrev pub rows_state_after : ValueTextState → List ℕ → RowsState
 rows_state_after s octets =
-    if is_long (kind_in s) s.size
+    if is_long s.value.kind s.value.size
     then long_rows_after s octets
     else record s.kept { row = s.kept.row ++ octets }
 
@@ -109,22 +98,26 @@ state_for h layout octets = value_text_after (new_value_text h layout) octets
 
 -- the lines that are known with the header
 abbrev pub begin_lines : ValueTextState → List ℕ
-begin_lines s = if is_long (kind_in s) s.size then (if s.kept.wrote_line then line_in s [] else []) else []
+begin_lines s =
+    if is_long s.value.kind s.value.size
+    then (if s.kept.wrote_line then primitive_line s.value [] else [])
+    else []
 
 -- the lines that are known with more octets
 abbrev pub contents_lines : ValueTextState → List ℕ → List ℕ
 contents_lines s octets =
-    if is_long (kind_in s) s.size
-    then (if s.kept.wrote_line then full_row_lines (kind_in s) s.layout s.kept octets else first_row_lines s octets)
+    if is_long s.value.kind s.value.size
+    then (if s.kept.wrote_line then full_row_lines s.value.kind s.value.layout s.kept octets else first_row_lines s octets)
     else []
 
 -- the value of a primitive of which all contents are kept
 abbrev pub kept_value : NameOf → ValueTextState → Value
-kept_value name_of s = short_value name_of (kind_in s) s.kept.row
+kept_value name_of s = short_value name_of s.value.kind s.kept.row
 
 -- the lines that are known with the end
 abbrev pub end_lines : NameOf → ValueTextState → List ℕ
 end_lines name_of s =
-    if is_long (kind_in s) s.size
-    then row_lines (kind_in s) s.layout s.kept.rows (last_rows s.kept.row)
-    else line_in s (kept_value name_of s).text ++ row_lines (kind_in s) s.layout 0 (kept_value name_of s).rows
+    if is_long s.value.kind s.value.size
+    then row_lines s.value.kind s.value.layout s.kept.rows (last_rows s.kept.row)
+    else primitive_line s.value (kept_value name_of s).text
+    ++ row_lines s.value.kind s.value.layout 0 (kept_value name_of s).rows

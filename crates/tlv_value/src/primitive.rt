@@ -4,9 +4,9 @@ ghost use Rattle.tlv_io.specs.LineTexts.{GrowsBy, HasRoomFor};
 ghost use Rattle.tlv_io.specs.Out.{Puts, held_octets};
 ghost use Rattle.tlv_value.specs.RowSizes.{row_size};
 ghost use Rattle.tlv_value.specs.Private.PlainText.{plain_text};
-ghost use Rattle.tlv_value.specs.Private.PrimitiveLines.{front_of, primitive_line, primitive_lines};
+ghost use Rattle.tlv_value.specs.Private.PrimitiveLines.{front_of, primitive_lines};
 ghost use Rattle.tlv_value.specs.Value.{is_long, long_text, most_on_line};
-ghost use Rattle.tlv_value.specs.ValueTextState.{primitive_of};
+ghost use Rattle.tlv_value.specs.ValueTextState.{primitive_line, primitive_of};
 
 use crate::kind::{Kind, kind_of};
 use crate::line::write_element;

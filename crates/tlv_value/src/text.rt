@@ -2,7 +2,6 @@
 ghost use Rattle.std.specs.Prelude.{◌≡◌, ◌+◌, ◌<◌, ◌≤◌, ◌^◌, ◌++◌, ◌∷◌, [], ℕ, List, length, OnOk, None, true, false};
 ghost use Rattle.tlv_head.specs.Header.{HeaderValue, announced_length};
 ghost use Rattle.tlv_io.specs.Out.{Puts};
-ghost use Rattle.tlv_value.specs.Kind.{kind_of};
 ghost use Rattle.tlv_value.specs.PutsRest.{PutsRest};
 ghost use Rattle.tlv_value.specs.Value.{row_octets};
 ghost use Rattle.tlv_value.specs.ValueLines.{open_lines, whole_lines};
@@ -69,7 +68,6 @@ impl ValueText {
     /// For this primitive, of whose contents no octet has come.
     #[inline(always)]
     pub(crate) fn of(value: Primitive) -> ValueText
-        requires { value.kind ≡ kind_of value.class value.number }
         ensures { result ≡ new_text_of value }
     {
         ValueText {
@@ -84,11 +82,14 @@ impl ValueText {
     /// For no primitive yet: as for an empty one that is of no universal type, at the top.
     pub fn idle() -> ValueText
         ensures { result ≡ record {
-          offset = 0;
-          class = Class.Private;
-          number = 0;
-          size = 0;
-          layout = record { level = 0; limit = None; pure = false };
+          value = record {
+            offset = 0;
+            class = Class.Private;
+            number = 0;
+            size = 0;
+            kind = Kind.Octets;
+            layout = record { level = 0; limit = None; pure = false };
+          };
           left = 0;
           kept = record { wrote_line = true; rows = 0; row = [] };
         } }

@@ -4,12 +4,11 @@ ghost use Rattle.std.specs.Prelude.{◌≡◌, ◌++◌, None, length, true};
 ghost use Rattle.tlv_head.specs.Header.{announced_length};
 ghost use Rattle.tlv_io.specs.Out.{Puts};
 ghost use Rattle.tlv_value.specs.RowSizes.{row_size};
-ghost use Rattle.tlv_value.specs.Kind.{kind_of};
-ghost use Rattle.tlv_value.specs.Private.PrimitiveLines.{lines_in_steps, primitive_line};
+ghost use Rattle.tlv_value.specs.Private.PrimitiveLines.{lines_in_steps};
 ghost use Rattle.tlv_value.specs.Rows.{rows_of};
 ghost use Rattle.tlv_value.specs.Value.{is_long, long_text, row_octets};
 ghost use Rattle.tlv_value.specs.ValueLines.{row_lines, whole_lines};
-ghost use Rattle.tlv_value.specs.ValueTextState.{new_text_of};
+ghost use Rattle.tlv_value.specs.ValueTextState.{new_text_of, primitive_line};
 
 use crate::kind::Kind;
 use crate::primitive::Primitive;
@@ -54,7 +53,6 @@ fn put_long<N: NameTable, D: Drain>(
     names: &N,
     out: &mut Out<'_, D>,
 ) -> Result<(), WriteFault>
-    requires kind { value.now.kind ≡ kind_of value.now.class value.now.number }
     requires long { is_long value.now.kind value.now.size ≡ true }
     requires whole { length contents.now ≡ value.now.size }
     ensures { Puts D.state out.old out.new
@@ -106,8 +104,7 @@ fn put_in_steps<N: NameTable, D: Drain>(
     names: &N,
     out: &mut Out<'_, D>,
 ) -> Result<(), WriteFault>
-    requires kind { value.now.kind ≡ kind_of value.now.class value.now.number }
-    requires whole { length contents.now ≡ value.now.size }
+    requires { length contents.now ≡ value.now.size }
     ensures { Puts D.state out.old out.new
         (lines_in_steps (N.name_of names.now) (new_text_of value.now) contents.now) result }
 {

@@ -4,18 +4,16 @@ use Rattle.std.specs.Prelude.{nat_le, if◌then◌else◌}
 use Rattle.std.proofs.lemmas.Bool.Decides.{nat_tests}
 use Rattle.tlv_head.specs.Tag.{tag_text}
 use Rattle.std.specs.Prelude.{decimal}
-use Rattle.tlv_io.specs.Cuts.{last_rows}
 use Rattle.tlv_value.specs.declared.kind.Kind.{Kind}
 use Rattle.tlv_value.specs.declared.kind.Kind.TheVariants.{Octets, Boolean, Integer, Bits, Object, Relative, Text, Utf8, Ucs2, Ucs4}
 use Rattle.tlv_value.specs.declared.layout.Layout.{Layout}
-use Rattle.tlv_value.specs.Kind.{kind_of}
 use Rattle.tlv_value.specs.Layout.{columns, margin, row_line}
 use Rattle.tlv_value.specs.Private.ObjectLines.{object_lines, rest_of_lines}
-use Rattle.tlv_value.specs.Private.PrimitiveLines.{front_of, primitive_line, primitive_lines}
+use Rattle.tlv_value.specs.Private.PrimitiveLines.{front_of, primitive_lines}
 use Rattle.tlv_value.specs.declared.primitive.Primitive.{Primitive}
 use Rattle.tlv_value.specs.Rows.{full_rows}
 use Rattle.tlv_value.specs.ValueLines.{row_lines}
-use Rattle.tlv_value.specs.ValueTextState.{RowsState, ValueTextState, contents_lines, end_lines, line_in}
+use Rattle.tlv_value.specs.ValueTextState.{RowsState, ValueTextState, contents_lines, end_lines, primitive_line}
 use Rattle.tlv_value.specs.Value.{NameOf, Value, bit_count, bits_value, boolean_value, integer_value, is_long, is_readable, long_text, most_on_line, no_names, octets_value, row_octets, row_text, short_value, used_digits, value_on_line}
 use Rattle.tlv_value.specs.Private.PlainText.{plain_text}
 
@@ -109,18 +107,12 @@ pub shown-plain : (name_of : NameOf) (p : Primitive) (octets : List ℕ) → (p.
 shown-plain name_of p octets o r h = plain_at name_of p.kind p.layout (front_of p) octets (held-plain name_of p.kind octets o r h) ∙ shown-front name_of p octets
 
 abbrev pub state_by : Primitive → ℕ → RowsState → ValueTextState
-state_by p left kept = record { offset = p.offset; class = p.class; number = p.number; size = p.size; layout = p.layout; left = left; kept = kept }
+state_by p left kept = record { value = p; left = left; kept = kept }
 
 -- with its end a primitive that is not long has all its lines
-ended_at : (name_of : NameOf) (k kind : Kind) (size : ℕ) (layout : Layout) (line : List ℕ → List ℕ) (rows : List ℕ) (row : List ℕ) → kind ≡ k → is_long kind size ≡ false
-    → (if is_long k size then rows else line (short_value name_of k row).text ++ row_lines k layout 0 (short_value name_of k row).rows)
-    ≡ line (short_value name_of kind row).text ++ row_lines kind layout 0 (short_value name_of kind row).rows
-ended_at name_of k kind size layout line rows row e l = rw (← e, l) refl
-
-pub ended-shown : (name_of : NameOf) (p : Primitive) (left : ℕ) (kept : RowsState) → p.kind ≡ kind_of p.class p.number → is_long p.kind p.size ≡ false
+pub ended-shown : (name_of : NameOf) (p : Primitive) (left : ℕ) (kept : RowsState) → is_long p.kind p.size ≡ false
     → end_lines name_of (state_by p left kept) ≡ primitive_lines name_of p kept.row
-ended-shown name_of p left kept e l =
-    ended_at name_of (kind_of p.class p.number) p.kind p.size p.layout (primitive_line p) (row_lines (kind_of p.class p.number) p.layout kept.rows (last_rows kept.row)) kept.row e l
+ended-shown name_of p left kept l = rw l refl
 
 -- the first contents octet of a long BIT STRING
 
@@ -129,10 +121,10 @@ new-first_at : (kind : Kind) (wrote_line : Bool) (size : ℕ) (layout : Layout) 
     ≡ line (long_text Bits size (x ∷ [])) ++ row_lines Bits layout 0 (full_rows Bits (row_octets Bits (x ∷ [])) rest)
 new-first_at kind wrote_line size layout line x rest rows_part e u l = rw (l, u, e) refl
 
-pub new-first : (s : ValueTextState) (x : ℕ) (rest : List ℕ) → kind_of s.class s.number ≡ Bits → s.kept.wrote_line ≡ false → is_long (kind_of s.class s.number) s.size ≡ true
-    → contents_lines s (x ∷ rest) ≡ line_in s (long_text Bits s.size (x ∷ [])) ++ row_lines Bits s.layout 0 (full_rows Bits (row_octets Bits (x ∷ [])) rest)
+pub new-first : (s : ValueTextState) (x : ℕ) (rest : List ℕ) → s.value.kind ≡ Bits → s.kept.wrote_line ≡ false → is_long s.value.kind s.value.size ≡ true
+    → contents_lines s (x ∷ rest) ≡ primitive_line s.value (long_text Bits s.value.size (x ∷ [])) ++ row_lines Bits s.value.layout 0 (full_rows Bits (row_octets Bits (x ∷ [])) rest)
 new-first s x rest e u l =
-    new-first_at (kind_of s.class s.number) s.kept.wrote_line s.size s.layout (line_in s) x rest (row_lines (kind_of s.class s.number) s.layout s.kept.rows (full_rows (kind_of s.class s.number) s.kept.row (x ∷ rest))) e u l
+    new-first_at s.value.kind s.kept.wrote_line s.value.size s.value.layout (primitive_line s.value) x rest (row_lines s.value.kind s.value.layout s.kept.rows (full_rows s.value.kind s.kept.row (x ∷ rest))) e u l
 
 -- the rows after it
 pub rows-first : (kind : Kind) (layout : Layout) (n : ℕ) (row begun rest : List ℕ) → kind ≡ Bits → n ≡ 0 → row ≡ begun → row_lines kind layout n (full_rows kind row rest) ≡ row_lines Bits layout 0 (full_rows Bits begun rest)

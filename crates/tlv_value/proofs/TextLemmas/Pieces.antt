@@ -10,9 +10,9 @@ use Rattle.tlv_value.specs.declared.primitive.Primitive.{Primitive}
 use Rattle.tlv_value.specs.Kind.{kind_of}
 use Rattle.tlv_value.specs.Laws.{LinesBegin, LinesEnd, LinesGoOn, PiecesJoin}
 use Rattle.tlv_value.specs.Rows.{full_rows, full_rows_in, open_row, open_row_in, rows_of}
-use Rattle.tlv_value.specs.Private.PrimitiveLines.{lines_in_steps, primitive_line, primitive_lines}
+use Rattle.tlv_value.specs.Private.PrimitiveLines.{lines_in_steps, primitive_lines}
 use Rattle.tlv_value.specs.ValueLines.{has_line, open_lines, row_lines, whole_lines}
-use Rattle.tlv_value.specs.ValueTextState.{RowsState, ValueTextState, begin_lines, contents_lines, end_lines, first_rows, first_rows_after, full_row_lines, kind_in, line_in, new_text_of, new_value_text, primitive_of, rows_after, rows_state_after, state_for, value_text_after}
+use Rattle.tlv_value.specs.ValueTextState.{RowsState, ValueTextState, begin_lines, contents_lines, end_lines, first_rows, first_rows_after, full_row_lines, new_text_of, new_value_text, primitive_line, primitive_of, rows_after, rows_state_after, state_for, value_text_after}
 use Rattle.tlv_value.specs.Value.{NameOf, is_long, long_text, long_value, row_octets, short_value}
 use Rattle.std.proofs.lemmas.Bool.Decides.{nat_tests}
 use Rattle.tlv_value.proofs.TextLemmas.Puts.{row_lines-append}
@@ -66,19 +66,19 @@ module _ (kind : Kind) (layout : Layout) (line : List ℕ → List ℕ) (size : 
       ∙ sym (append_assoc (line (long_text kind size (u ∷ []))) (full_row_lines kind layout (first_rows kind u) x) (full_row_lines kind layout (rows_after kind (first_rows kind u) x) y))
 
 abbrev with_kept : ValueTextState → ℕ → RowsState → ValueTextState
-with_kept s left k = record { offset = s.offset; class = s.class; number = s.number; size = s.size; layout = s.layout; left = left; kept = k }
+with_kept s left k = record { value = s.value; left = left; kept = k }
 
-new_by-new : (s : ValueTextState) (x : List ℕ) → new_by (kind_in s) s.layout (line_in s) s.size (is_long (kind_in s) s.size) s.kept.wrote_line s.kept x ≡ contents_lines s x
+new_by-new : (s : ValueTextState) (x : List ℕ) → new_by s.value.kind s.value.layout (primitive_line s.value) s.value.size (is_long s.value.kind s.value.size) s.kept.wrote_line s.kept x ≡ contents_lines s x
 new_by-new s [] = refl
 new_by-new s (u ∷ x) = refl
 
 pub pieces-join : PiecesJoin
 pieces-join s x y =
     let l : s.left - length x - length y ≡ s.left - length (x ++ y) = omega (arith, length-append x y) in
-    let k = join-kept (kind_in s) s.layout (line_in s) s.size (is_long (kind_in s) s.size) s.kept.wrote_line s.kept x y refl in
-    let t = join-new (kind_in s) s.layout (line_in s) s.size (is_long (kind_in s) s.size) s.kept.wrote_line s.kept x y refl in (
+    let k = join-kept s.value.kind s.value.layout (primitive_line s.value) s.value.size (is_long s.value.kind s.value.size) s.kept.wrote_line s.kept x y refl in
+    let t = join-new s.value.kind s.value.layout (primitive_line s.value) s.value.size (is_long s.value.kind s.value.size) s.kept.wrote_line s.kept x y refl in (
       ap (λ (n : ℕ). with_kept s n (rows_state_after (value_text_after s x) y)) l ∙ ap (with_kept s (s.left - length (x ++ y))) k,
-      sym (new_by-new s (x ++ y)) ∙ t ∙ ap (λ (r : List ℕ). r ++ new_by (kind_in s) s.layout (line_in s) s.size (is_long (kind_in s) s.size) (rows_state_after s x).wrote_line (rows_state_after s x) y) (new_by-new s x)
+      sym (new_by-new s (x ++ y)) ∙ t ∙ ap (λ (r : List ℕ). r ++ new_by s.value.kind s.value.layout (primitive_line s.value) s.value.size (is_long s.value.kind s.value.size) (rows_state_after s x).wrote_line (rows_state_after s x) y) (new_by-new s x)
           ∙ ap (λ (r : List ℕ). contents_lines s x ++ r) (new_by-new (value_text_after s x) y),
     )
 
@@ -160,7 +160,7 @@ module _ (layout : Layout) (line : List ℕ → List ℕ) (size : ℕ) where
       ∙ ap (λ (t : List ℕ). (line (long_text Bits size (u ∷ [])) ++ row_lines Bits layout 0 (full_rows Bits [] (row_octets Bits (u ∷ octets)))) ++ row_lines Bits layout (0 + length (full_rows Bits (row_octets Bits (u ∷ [])) octets)) (last_rows t)) o
 
 abbrev line_for : HeaderValue → Layout → List ℕ → List ℕ
-line_for h layout = line_in (new_value_text h layout)
+line_for h layout = primitive_line (primitive_of h layout)
 
 -- all that is known of a primitive that is still open was written
 pub open-lines : (h : HeaderValue) (layout : Layout) (octets : List ℕ) → open_lines h layout octets ≡ begin_lines (new_value_text h layout) ++ contents_lines (new_value_text h layout) octets
@@ -178,7 +178,7 @@ new-nothing_at kind layout line size true false = refl
 pub new-nothing : (h : HeaderValue) (layout : Layout) → contents_lines (new_value_text h layout) [] ≡ []
 new-nothing h layout =
     let s : ValueTextState = new_value_text h layout in
-    sym (new_by-new s []) ∙ new-nothing_at (kind_in s) s.layout (line_in s) s.size (is_long (kind_in s) s.size) s.kept.wrote_line
+    sym (new_by-new s []) ∙ new-nothing_at s.value.kind s.value.layout (primitive_line s.value) s.value.size (is_long s.value.kind s.value.size) s.kept.wrote_line
 
 after-nothing_at : (kind : Kind) (layout : Layout) (line : List ℕ → List ℕ) (size : ℕ) (long wrote_line : Bool) → wrote_line ≡ has_line kind [] → kept_by kind layout line size long wrote_line (begin_kept kind) [] ≡ begin_kept kind
 after-nothing_at kind layout line size false wrote_line e = refl
@@ -191,7 +191,7 @@ pub after-nothing : (h : HeaderValue) (layout : Layout) → value_text_after (ne
 after-nothing h layout =
     let s : ValueTextState = new_value_text h layout in
     let l : s.left - 0 ≡ s.left = omega arith in
-    ap (λ (n : ℕ). with_kept s n (rows_state_after s [])) l ∙ ap (with_kept s s.left) (after-nothing_at (kind_in s) s.layout (line_in s) s.size (is_long (kind_in s) s.size) s.kept.wrote_line refl)
+    ap (λ (n : ℕ). with_kept s n (rows_state_after s [])) l ∙ ap (with_kept s s.left) (after-nothing_at s.value.kind s.value.layout (primitive_line s.value) s.value.size (is_long s.value.kind s.value.size) s.kept.wrote_line refl)
 
 pub lines-begin : LinesBegin
 lines-begin h layout = (
@@ -230,25 +230,16 @@ whole-new name_of h layout c e =
     ∙ sym (lines-end name_of h layout c e)
 
 -- so has a long one: its line, and its rows
-pub new-long : (name_of : NameOf) (p : Primitive) (c : List ℕ) → p.kind ≡ kind_of p.class p.number → is_long p.kind p.size ≡ true → length c ≡ p.size
+pub new-long : (name_of : NameOf) (p : Primitive) (c : List ℕ) → is_long p.kind p.size ≡ true → length c ≡ p.size
     → primitive_line p (long_text p.kind p.size c) ++ row_lines p.kind p.layout 0 (rows_of p.kind (row_octets p.kind c)) ≡ lines_in_steps name_of (new_text_of p) c
-new-long name_of p c is long e =
-    let kind : Kind = kind_of p.class p.number in
-    let l : is_long kind p.size ≡ true = ap (λ (j : Kind). is_long j p.size) (sym is) ∙ long in
-    let w = whole-ended p.layout (primitive_line p) p.size name_of kind (is_long kind p.size) c (long-some kind (length c) p.size e) in
-    let o = open-new p.layout (primitive_line p) p.size kind (is_long kind p.size) c in
-    ap by-kind is
-    ∙ ap (λ (b : Bool). whole_at p.layout (primitive_line p) p.size name_of kind b c) (sym l)
+new-long name_of p c long e =
+    let s : ValueTextState = new_text_of p in
+    let w = whole-ended p.layout (primitive_line p) p.size name_of p.kind (is_long p.kind p.size) c (long-some p.kind (length c) p.size e) in
+    let o = open-new p.layout (primitive_line p) p.size p.kind (is_long p.kind p.size) c in
+    ap (λ (b : Bool). whole_at p.layout (primitive_line p) p.size name_of p.kind b c) (sym long)
     ∙ w
-    ∙ ap (λ (t : List ℕ). t ++ end_lines name_of (value_text_after (started kind) c)) (o ∙ ap (λ (t : List ℕ). begin_lines (started kind) ++ t) (new_by-new (started kind) c))
-    ∙ append_assoc (begin_lines (started kind)) (contents_lines (started kind) c) (end_lines name_of (value_text_after (started kind) c))
-    ∙ ap (λ (j : Kind). lines_in_steps name_of (started j) c) (sym is)
-  where
-    by-kind : Kind → List ℕ
-    by-kind j = primitive_line p (long_text j p.size c) ++ row_lines j p.layout 0 (rows_of j (row_octets j c))
-
-    started : Kind → ValueTextState
-    started j = record { offset = p.offset; class = p.class; number = p.number; size = p.size; layout = p.layout; left = p.size; kept = begin_kept j }
+    ∙ ap (λ (t : List ℕ). t ++ end_lines name_of (value_text_after s c)) (o ∙ ap (λ (t : List ℕ). begin_lines s ++ t) (new_by-new s c))
+    ∙ append_assoc (begin_lines s) (contents_lines s c) (end_lines name_of (value_text_after s c))
 
 -- one with its value on its line is written with its end
 pub shown-new : (name_of : NameOf) (h : HeaderValue) (layout : Layout) (p : Primitive) (c : List ℕ) → p ≡ primitive_of h layout → is_long (kind_of h.class h.number) (size_of h.size) ≡ false

@@ -5,15 +5,11 @@ use Rattle.tlv_value.specs.declared.primitive.Primitive.{Primitive}
 use Rattle.tlv_value.specs.Value.{NameOf, short_value}
 use Rattle.tlv_value.specs.Layout.{columns, margin}
 use Rattle.tlv_value.specs.ValueLines.{row_lines}
-use Rattle.tlv_value.specs.ValueTextState.{ValueTextState, begin_lines, contents_lines, end_lines, line_in, new_text_of, value_text_after}
+use Rattle.tlv_value.specs.ValueTextState.{ValueTextState, begin_lines, contents_lines, end_lines, primitive_line, value_text_after}
 
 -- what its line begins with
 abbrev pub front_of : Primitive → List ℕ
 front_of p = margin p.layout.pure (columns p.offset (decimal p.size)) p.layout.level ++ tag_text p.class p.number
-
--- its line, with this text after its tag
-abbrev pub primitive_line : Primitive → List ℕ → List ℕ
-primitive_line p text = line_in (new_text_of p) text
 
 -- its lines, if its value is on its line
 abbrev pub primitive_lines : NameOf → Primitive → List ℕ → List ℕ

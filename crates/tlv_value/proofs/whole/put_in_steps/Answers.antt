@@ -5,11 +5,11 @@ use Rattle.tlv_value.specs.Private.PrimitiveLines.{lines_in_steps}
 use Rattle.tlv_value.proofs.whole.put_in_steps.Goals as goal
 
 pub bytes-requires : goal.bytes-requires
-bytes-requires g c = omega (arith, ap (λ (t : ValueTextState). t.left) c.of-text.ensures, c.requires.whole)
+bytes-requires g c = omega (arith, ap (λ (t : ValueTextState). t.left) c.of-text.ensures, c.requires)
 
 pub end-requires : goal.end-requires
 end-requires g c =
-    omega (arith, ap (λ (t : ValueTextState). t.left) c.in_ok-bytes.ensures.state, ap (λ (t : ValueTextState). t.left) c.of-text.ensures, c.requires.whole)
+    omega (arith, ap (λ (t : ValueTextState). t.left) c.in_ok-bytes.ensures.state, ap (λ (t : ValueTextState). t.left) c.of-text.ensures, c.requires)
 
 pub returns-in_err-begin : goal.returns-in_err-begin
 returns-in_err-begin g c =

@@ -1,7 +1,7 @@
 use Rattle.std.proofs.Common.{◌++◌, ◌∙◌, ap, rules, ℕ, List}
 use Rattle.tlv_io.proofs.Puts.{puts_failed, puts_then_as}
 use Rattle.tlv_value.specs.Value.{long_text}
-use Rattle.tlv_value.specs.Private.PrimitiveLines.{primitive_line}
+use Rattle.tlv_value.specs.ValueTextState.{primitive_line}
 use Rattle.tlv_value.specs.Rows.{rows_of}
 use Rattle.tlv_value.specs.ValueLines.{row_lines}
 use Rattle.tlv_value.proofs.RowLemmas.FullRows.{pair_lines}

@@ -1,9 +1,7 @@
 use Rattle.std.proofs.Common.{rules, ◌≡◌, List, ℕ, [], refl, sym, ap, ◌∙◌}
 use Rattle.std.specs.Prelude.{Bool, true, false, if◌then◌else◌}
 use Rattle.tlv_io.proofs.Puts.{puts_nothing, puts_text}
-use Rattle.tlv_value.specs.declared.kind.Kind.{Kind}
-use Rattle.tlv_value.specs.Kind.{kind_of}
-use Rattle.tlv_value.specs.ValueTextState.{ValueTextState, begin_lines, line_in}
+use Rattle.tlv_value.specs.ValueTextState.{ValueTextState, begin_lines, primitive_line}
 use Rattle.tlv_value.specs.TextFields.{text_state_of}
 use Rattle.tlv_value.specs.Value.{is_long}
 use Rattle.tlv_value.proofs.TextLemmas.Rests.{begin-puts}
@@ -11,9 +9,8 @@ use Rattle.tlv_value.proofs.text.ValueText.begin.Goals.{then-not-is_long-via-the
 use Rattle.tlv_value.proofs.text.ValueText.begin.Goals as goal
 
 -- with the header of a value that is not long no line is known
-begun-short : (s v : ValueTextState) (kind : Kind) → s ≡ v → kind ≡ kind_of s.class s.number → is_long kind s.size ≡ false → [] ≡ begin_lines v
-begun-short s v kind same k l =
-    sym (ap (λ (b : Bool). if b then (if s.kept.wrote_line then line_in s [] else []) else []) (ap (λ (j : Kind). is_long j s.size) (sym k) ∙ l)) ∙ ap begin_lines same
+begun-short : (s v : ValueTextState) → s ≡ v → is_long s.value.kind s.value.size ≡ false → [] ≡ begin_lines v
+begun-short s v same l = sym (ap (λ (b : Bool). if b then (if s.kept.wrote_line then primitive_line s.value [] else []) else []) l) ∙ ap begin_lines same
 
 either : (b : Bool) (xs : List ℕ) → xs ≡ (if b then xs else xs)
 either true xs = refl
@@ -21,14 +18,14 @@ either false xs = refl
 
 -- nor is one with that of a value whose line comes later
 begun-unlined : (s v : ValueTextState) → s ≡ v → s.kept.wrote_line ≡ false → [] ≡ begin_lines v
-begun-unlined s v same l = either (is_long (kind_of s.class s.number) s.size) [] ∙ ap (λ (b : Bool). if is_long (kind_of s.class s.number) s.size then (if b then line_in s [] else []) else []) (sym l) ∙ ap begin_lines same
+begun-unlined s v same l = either (is_long s.value.kind s.value.size) [] ∙ ap (λ (b : Bool). if is_long s.value.kind s.value.size then (if b then primitive_line s.value [] else []) else []) (sym l) ∙ ap begin_lines same
 
 pub returns-then-not-is_long-clause-puts : goal.returns-then-not-is_long-clause-puts
 returns-then-not-is_long-clause-puts g c =
     let t = c.self.inside in
     let state_of = g.D.Drain.state in
     let none : [] ≡ begin_lines c.args.self.now = elim c.then-not-is_long.branch [
-      | then-not-is_long-via-then-not-is_long w ↦ begun-short (text_state_of t) c.args.self.now t.value.kind c.self.view_is c.self.invariant.kind (sym c.is_long.ensures ∙ w.if-not-is_long.true)
+      | then-not-is_long-via-then-not-is_long w ↦ begun-short (text_state_of t) c.args.self.now c.self.view_is (sym c.is_long.ensures ∙ w.if-not-is_long.true)
       | then-not-is_long-via-else-not-is_long+then-not-self w ↦ begun-unlined (text_state_of t) c.args.self.now c.self.view_is w.if-not-self.true
     ] in
     puts_text state_of _ _ _ _ _ none (puts_nothing state_of _ _)

@@ -2,12 +2,10 @@ use Rattle.std.proofs.Common.{rules, ◌≡◌, ◌++◌, ◌∷◌, [], List, �
 use Rattle.std.specs.Prelude.{true, false}
 use Rattle.std.proofs.lemmas.Grind.{common_steps}
 use Rattle.tlv_io.proofs.Puts.{puts_failed_in, puts_text, puts_then_as}
-use Rattle.tlv_value.specs.declared.kind.Kind.{Kind}
 use Rattle.tlv_value.specs.declared.kind.Kind.TheVariants.{Bits}
-use Rattle.tlv_value.specs.Kind.{kind_of}
 use Rattle.tlv_value.specs.Rows.{full_rows}
 use Rattle.tlv_value.specs.ValueLines.{row_lines}
-use Rattle.tlv_value.specs.ValueTextState.{ValueTextState, contents_lines, line_in}
+use Rattle.tlv_value.specs.ValueTextState.{ValueTextState, contents_lines, primitive_line}
 use Rattle.tlv_value.specs.TextFields.{text_state_of}
 use Rattle.tlv_value.specs.Value.{is_long, long_text, row_octets}
 use Rattle.tlv_value.proofs.TextLemmas.Ends.{new-first, rows-first}
@@ -15,11 +13,9 @@ use Rattle.tlv_value.proofs.TextLemmas.Rests.{bytes-puts}
 use Rattle.tlv_value.proofs.text.ValueText.bytes.Goals as goal
 
 -- the line, and then the rows
-new-both : (s v : ValueTextState) (kind : Kind) (x : ℕ) (rest octets : List ℕ) → s ≡ v → kind ≡ kind_of s.class s.number → kind ≡ Bits → s.kept.wrote_line ≡ false → is_long kind s.size ≡ true → octets ≡ x ∷ rest
-    → line_in s (long_text Bits s.size (x ∷ [])) ++ row_lines Bits s.layout 0 (full_rows Bits (row_octets Bits (x ∷ [])) rest) ≡ contents_lines v octets
-new-both s v kind x rest octets same k b u l e =
-    let long : is_long (kind_of s.class s.number) s.size ≡ true = ap (λ (j : Kind). is_long j s.size) (sym k) ∙ l in
-    sym (new-first s x rest (sym k ∙ b) u long) ∙ ap (contents_lines s) (sym e) ∙ ap (λ (w : ValueTextState). contents_lines w octets) same
+new-both : (s v : ValueTextState) (x : ℕ) (rest octets : List ℕ) → s ≡ v → s.value.kind ≡ Bits → s.kept.wrote_line ≡ false → is_long s.value.kind s.value.size ≡ true → octets ≡ x ∷ rest
+    → primitive_line s.value (long_text Bits s.value.size (x ∷ [])) ++ row_lines Bits s.value.layout 0 (full_rows Bits (row_octets Bits (x ∷ [])) rest) ≡ contents_lines v octets
+new-both s v x rest octets same b u l e = sym (new-first s x rest b u l) ∙ ap (contents_lines s) (sym e) ∙ ap (λ (w : ValueTextState). contents_lines w octets) same
 
 pub returns-in_err-put_bits-clause-puts : goal.returns-in_err-put_bits-clause-puts
 returns-in_err-put_bits-clause-puts g c =
@@ -28,8 +24,8 @@ returns-in_err-put_bits-clause-puts g c =
     let u = c.self.invariant.unlined l c.if-self.false in
     let x : ℕ = c.in-Some.unused.now in
     let rest : List ℕ = c.in-Some.rest.now in
-    let all = new-both (text_state_of t) c.args.self.now t.value.kind x rest c.args.octets.now c.self.view_is c.self.invariant.kind u.0 c.if-self.false l c.in-Some.ensures.cases.0 in
-    puts_failed_in g.D.Drain.state _ _ (line_in (text_state_of t) (long_text Bits t.value.size (x ∷ []))) _ _ _ c.in_err-put_bits.ensures (search rules)
+    let all = new-both (text_state_of t) c.args.self.now x rest c.args.octets.now c.self.view_is u.0 c.if-self.false l c.in-Some.ensures.cases.0 in
+    puts_failed_in g.D.Drain.state _ _ (primitive_line t.value (long_text Bits t.value.size (x ∷ []))) _ _ _ c.in_err-put_bits.ensures (search rules)
     (record { rest = row_lines Bits t.value.layout 0 (full_rows Bits (row_octets Bits (x ∷ [])) rest); is = all })
 
 pub returns-clause-puts : goal.returns-clause-puts
@@ -39,7 +35,7 @@ returns-clause-puts g c =
     let u = c.self.invariant.unlined l c.if-self.false in
     let x : ℕ = c.in-Some.unused.now in
     let rest : List ℕ = c.in-Some.rest.now in
-    let all = new-both (text_state_of t) c.args.self.now t.value.kind x rest c.args.octets.now c.self.view_is c.self.invariant.kind u.0 c.if-self.false l c.in-Some.ensures.cases.0 in
+    let all = new-both (text_state_of t) c.args.self.now x rest c.args.octets.now c.self.view_is u.0 c.if-self.false l c.in-Some.ensures.cases.0 in
     let same = rows-first t.value.kind t.value.layout t.rows c.begin_row.new.row.items (row_octets Bits (x ∷ [])) rest u.0 u.2 c.begin_row.ensures in
     let state_of = g.D.Drain.state in
     puts_then_as state_of _ _ _ _ _ _ _ _ c.in_ok-put_bits.ensures (puts_text state_of _ _ _ _ _ same c.put_rows-2.ensures.puts) all
