@@ -27,7 +27,7 @@ abbrev pub end_offset : Size → ℕ → Option ℕ
 end_offset (Definite n) at = None
 end_offset Indefinite at = Some at
 
--- 8.1.5: where those are with which an element that holds others ends
+-- 8.1.5: where the end-of-contents octets are of an element that holds others, if it has them
 abbrev pub end_place : HeaderValue → Forest → Option ℕ
 end_place h children = end_offset h.size (h.offset + length (opening h) + length (spelling children))
 
