@@ -1,7 +1,7 @@
 //! The follower of `indef`: it writes indefinite lengths.
 ghost use Rattle.std.specs.Prelude.{◌≡◌};
 ghost use Rattle.tlv_io.specs.Out.{Puts};
-ghost use Rattle.tlv_walk.specs.HasRead.{event_value};
+ghost use Rattle.tlv_walk.specs.HasRead.{event_value_of};
 ghost use Rattle.tlv_cut.specs.IndefStep.{indef_event_text, new_indef};
 
 use std::marker::Model;
@@ -90,7 +90,7 @@ impl Follow for Indef {
 /// its end has end-of-contents octets. All else is put as it is.
 #[inline(always)]
 fn put_event<D: Drain>(event: &Event<'_>, out: &mut Out<'_, D>) -> Result<(), WriteFault>
-    ensures { Puts D.state out.old out.new (indef_event_text (event_value event.now)) result }
+    ensures { Puts D.state out.old out.new (indef_event_text (event_value_of event.now)) result }
 {
     match event {
         Event::Open(header) if header.constructed => out.put(spell_indefinite(header).as_slice()),

@@ -13,7 +13,7 @@ use Rattle.tlv_head.specs.declared.header.Size.{Size}
 use Rattle.tlv_head.specs.declared.header.Size.TheVariants.{Definite, Indefinite}
 use Rattle.tlv_head.specs.Header.{HeaderValue, IsHeader, IsIdentifier, IsLength, spell_indefinite, is_wrapper}
 use Rattle.tlv_head.specs.Header.{octets_of, with_bit_8}
-use Rattle.tlv_head.specs.Refusal.{BeginsWith, IsFront, IsRefusedOctet, tag_too_long, reserved_length}
+use Rattle.tlv_head.specs.Refusal.{BeginsWith, IsHeaderPrefix, IsRefusedOctet, tag_too_long, reserved_length}
 use Rattle.tlv_head.specs.Refusal.{indefinite_primitive, length_too_large}
 use Rattle.tlv_head.specs.Tag.{tag_text}
 
@@ -186,7 +186,7 @@ refused-padded_length = length_too_large Universal false 4 (0x04 ∷ []) (replic
 }) (lit≤ tt) (omega arith)
 
 -- 04 85 01: the same octet where four are to follow: with 00 they make a length of 2^32
-front-length : IsFront (0x04 ∷ 0x85 ∷ 0x01 ∷ [])
+front-length : IsHeaderPrefix (0x04 ∷ 0x85 ∷ 0x01 ∷ [])
 front-length = record {
   header = first Universal false 4 (Definite 4294967296) (0x04 ∷ []) (0x85 ∷ 0x01 ∷ 0x00 ∷ 0x00 ∷ 0x00 ∷ 0x00 ∷ []);
   more = 0x00 ∷ 0x00 ∷ 0x00 ∷ 0x00 ∷ [];
@@ -208,7 +208,7 @@ front-length = record {
 }
 
 -- 1f: with 02 01 it is a header
-front-high_form : IsFront (0x1f ∷ [])
+front-high_form : IsHeaderPrefix (0x1f ∷ [])
 front-high_form = record {
   header = first Universal false 2 (Definite 1) (0x1f ∷ 0x02 ∷ []) (0x01 ∷ []);
   more = 0x02 ∷ 0x01 ∷ [];

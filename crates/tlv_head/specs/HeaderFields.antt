@@ -4,8 +4,8 @@ use Rattle.tlv_head.specs.declared.header.HeaderFields.{HeaderFields}
 use Rattle.tlv_head.specs.Header.{HeaderValue, is_wrapper}
 
 -- the header with these fields and octets
-abbrev pub header_with : HeaderFields → List ℕ → HeaderValue
-header_with f octets = record {
+abbrev pub new_header : HeaderFields → List ℕ → HeaderValue
+new_header f octets = record {
   offset = f.offset;
   named = f.named;
   class = f.class;

@@ -1,7 +1,7 @@
 -- What a `HeadReader` carries of the octets so far.
 use Rattle.std.specs.Prelude.{◌≡◌, ℕ, ◌+◌, ◌^◌, ◌-◌, ◌<◌, ◌≤◌, Bool, true, false, List, [], length}
 use Rattle.tlv_head.specs.Header.{IsIdentifier, value_of}
-use Rattle.tlv_head.specs.Refusal.{IsLengthFront, IsNumberFront}
+use Rattle.tlv_head.specs.Refusal.{IsLengthPrefix, IsNumberPrefix}
 use Rattle.tlv_head.specs.HeadReaderState.{HeadReaderState}
 use Rattle.tlv_head.specs.declared.next_octet.Identifier.{Identifier}
 use Rattle.tlv_head.specs.declared.next_octet.Part.{Part}
@@ -11,7 +11,7 @@ use Rattle.tlv_head.specs.declared.reader.HeadReader.TheInside.{Inside}
 -- the identifier octets so far are in the high form
 pub record CarriesNumber (id : Identifier) (octets : List ℕ) : Type 0 where
   pub digits : List ℕ
-  pub front : IsNumberFront id.class id.constructed digits octets
+  pub front : IsNumberPrefix id.class id.constructed digits octets
   pub count : id.octets ≡ length digits + 1
   pub few : length digits ≤ 8
   pub value : id.number ≡ value_of 128 digits
@@ -26,7 +26,7 @@ pub record CarriesIdentifier (id : Identifier) (octets : List ℕ) : Type 0 wher
 pub record CarriesLength (id : Identifier) (n left : ℕ) (octets : List ℕ) : Type 0 where
   pub identifier : List ℕ
   pub digits : List ℕ
-  pub front : IsLengthFront id.class id.constructed id.number identifier digits left octets
+  pub front : IsLengthPrefix id.class id.constructed id.number identifier digits left octets
   pub count : id.octets ≡ length identifier
   pub few : length identifier ≤ 10
   pub value : n ≡ value_of 256 digits

@@ -7,7 +7,7 @@ use Rattle.tlv_head.specs.HeadReaderState.{HeadReaderState}
 use Rattle.tlv_head.specs.Push.{Pushes}
 use Rattle.tlv_head.specs.declared.header.HeaderFields.{HeaderFields}
 use Rattle.tlv_head.specs.ReadHeader.{BeginsWithFields}
-use Rattle.tlv_head.specs.Refusal.{CannotBecomeHeader, BeginsWith, BeginsWithNoHeader, IsFront, IsRefusedOctet}
+use Rattle.tlv_head.specs.Refusal.{CannotBecomeHeader, BeginsWith, BeginsWithNoHeader, IsHeaderPrefix, IsRefusedOctet}
 
 -- two headers with which an input begins at one offset are the same, and so is what follows them
 abbrev pub OctetsBeginOneHeader : Type 0
@@ -15,8 +15,8 @@ OctetsBeginOneHeader = (input : List ℕ) (offset : ℕ) (named : Bool) (h g : H
     → (p : BeginsWith input offset named h) → (q : BeginsWith input offset named g) → (h ≡ g) × (p.rest ≡ q.rest)
 
 -- no header's octets can be made another header by adding one or more
-abbrev pub HeadersAreNoFronts : Type 0
-HeadersAreNoFronts = (h : HeaderValue) → IsHeader h → IsFront (octets_of h) → ⊥
+abbrev pub HeadersAreNoPrefixes : Type 0
+HeadersAreNoPrefixes = (h : HeaderValue) → IsHeader h → IsHeaderPrefix (octets_of h) → ⊥
 
 -- if an octet is refused with F06 to F09, no header begins with the octets up to it, that one included
 abbrev pub RefusalsAreFinal : Type 0
@@ -39,8 +39,8 @@ IsRefusable octets x = (code : FaultCode) × IsRefusedOctet octets x code
 -- after a prefix of a header an octet makes a longer prefix or a header, or is refused; so does a first octet other
 -- than 00
 abbrev pub OctetsGoOnOrAreRefused : Type 0
-OctetsGoOnOrAreRefused = (octets : List ℕ) (x : ℕ) → x < 256 → (octets ≡ []) ⊎ IsFront octets → (octets ≡ [] → x ≢ 0)
-    → IsFront (octets ++ x ∷ []) ⊎ (AreHeaderOctets (octets ++ x ∷ []) ⊎ IsRefusable octets x)
+OctetsGoOnOrAreRefused = (octets : List ℕ) (x : ℕ) → x < 256 → (octets ≡ []) ⊎ IsHeaderPrefix octets → (octets ≡ [] → x ≢ 0)
+    → IsHeaderPrefix (octets ++ x ∷ []) ⊎ (AreHeaderOctets (octets ++ x ∷ []) ⊎ IsRefusable octets x)
 
 -- what a reader returns is determined by what it stands for, the octet, the room and the depth
 abbrev pub PushesReturnOneHead : Type 0

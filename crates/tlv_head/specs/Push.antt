@@ -7,7 +7,7 @@ use Rattle.tlv_head.specs.declared.reader.Head.{Head}
 use Rattle.tlv_head.specs.declared.reader.Head.TheVariants.{More, Whole, Refused}
 use Rattle.tlv_head.specs.Header.{HeaderValue, IsHeader, holds, octets_of}
 use Rattle.tlv_head.specs.HeadReaderState.{ContentsFit, HeadReaderState, with_octet}
-use Rattle.tlv_head.specs.Refusal.{IsFront, IsRefusedOctet}
+use Rattle.tlv_head.specs.Refusal.{IsHeaderPrefix, IsRefusedOctet}
 
 -- these octets, after those that the reader has, complete this header
 pub record Completes (r : HeadReaderState) (added : List ℕ) (h : HeaderValue) : Type 0 where
@@ -40,7 +40,7 @@ pub data IsRefusedPush (r : HeadReaderState) (x : ℕ) (room : Option ℕ) (dept
 pub data Pushes (old : HeadReaderState) (x : ℕ) (room : Option ℕ) (depth : ℕ) (new : HeadReaderState)
     : Head → Type 0 where
   -- the octet was taken, and others are to follow
-  more : room ≢ Some 0 → IsFront (old.octets ++ x ∷ []) → new ≡ with_octet old x → Pushes old x room depth new More
+  more : room ≢ Some 0 → IsHeaderPrefix (old.octets ++ x ∷ []) → new ≡ with_octet old x → Pushes old x room depth new More
   -- the octet was taken, and completes a header that may stand there
   whole : (h : HeaderValue) → Completes old (x ∷ []) h → FitsThere h room depth → new.done ≡ true
       → Pushes old x room depth new (Whole h)

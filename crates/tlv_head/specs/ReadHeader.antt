@@ -1,7 +1,7 @@
 -- What `read_header` and `read_short` return.
 use Rattle.std.specs.Prelude.{◌≡◌, ℕ, ◌+◌, ◌≤◌, Bool, List, ◌++◌, length, take}
 use Rattle.tlv_head.specs.declared.header.HeaderFields.{HeaderFields}
-use Rattle.tlv_head.specs.HeaderFields.{IsHeaderSized, header_with}
+use Rattle.tlv_head.specs.HeaderFields.{IsHeaderSized, new_header}
 use Rattle.tlv_head.specs.Header.{HeaderValue, IsHeader, octets_of}
 use Rattle.tlv_head.specs.Refusal.{BeginsWith}
 
@@ -9,7 +9,7 @@ use Rattle.tlv_head.specs.Refusal.{BeginsWith}
 pub record BeginsWithFields (octets : List ℕ) (at : ℕ) (is_named : Bool) (f : HeaderFields) (count : ℕ) : Type 0 where
   pub within : count ≤ length octets
   pub sized : IsHeaderSized f (take count octets)
-  pub begins : BeginsWith octets at is_named (header_with f (take count octets))
+  pub begins : BeginsWith octets at is_named (new_header f (take count octets))
 
 -- the header with these fields and so many octets has at most three identifier octets and three length octets
 pub record IsShortHeader (f : HeaderFields) (count : ℕ) : Type 0 where

@@ -7,7 +7,7 @@ use Rattle.tlv_head.specs.declared.fault.FaultCode.TheVariants.{LengthTooLarge}
 use Rattle.tlv_head.specs.Header.{HeaderValue, IsHeader, IsIdentifier, leading_octet, octets_of, with_bit_8}
 
 -- 8.1.2, 8.1.3: octets to which one or more others can be added to make a header
-pub record IsFront (octets : List ℕ) : Type 0 where
+pub record IsHeaderPrefix (octets : List ℕ) : Type 0 where
   pub header : HeaderValue
   pub more : List ℕ
   pub valid : IsHeader header
@@ -31,12 +31,12 @@ abbrev pub BeginsWithNoHeader : List ℕ → Type 0
 BeginsWithNoHeader octets = (h : HeaderValue) (rest : List ℕ) → IsHeader h → octets ≡ octets_of h ++ rest → ⊥
 
 -- 8.1.2.4.2: the high form so far: digits, each with bit 8 set, after the first octet
-pub record IsNumberFront (class : Class) (constructed : Bool) (digits octets : List ℕ) : Type 0 where
+pub record IsNumberPrefix (class : Class) (constructed : Bool) (digits octets : List ℕ) : Type 0 where
   pub each : All (λ d. d < 128) digits
   pub octets_are : octets ≡ leading_octet class constructed 31 ∷ with_bit_8 digits
 
 -- 8.1.3.5: identifier octets, the first length octet, and digits, after which so many are still to come
-pub record IsLengthFront
+pub record IsLengthPrefix
     (class : Class) (constructed : Bool) (number : ℕ) (identifier digits : List ℕ) (left : ℕ) (octets : List ℕ)
     : Type 0 where
   pub identified : IsIdentifier class constructed number identifier
@@ -49,7 +49,7 @@ pub record IsLengthFront
 pub data IsRefusedOctet (octets : List ℕ) (x : ℕ) : FaultCode → Type 0 where
   -- F06, 8.1.2.4.2: a ninth subsequent identifier octet with bit 8 set
   tag_too_long : (class : Class) (constructed : Bool) (digits : List ℕ)
-      → IsNumberFront class constructed digits octets → length digits ≡ 8 → 128 ≤ x
+      → IsNumberPrefix class constructed digits octets → length digits ≡ 8 → 128 ≤ x
       → IsRefusedOctet octets x TagTooLong
   -- F07, 8.1.3.5 c): a first length octet ff
   reserved_length : (class : Class) (constructed : Bool) (number : ℕ)
@@ -61,5 +61,5 @@ pub data IsRefusedOctet (octets : List ℕ) (x : ℕ) : FaultCode → Type 0 whe
       → IsRefusedOctet octets x IndefinitePrimitive
   -- F09, 8.1.3.5: a length octet after the first, other than 00, that five or more are to follow
   length_too_large : (class : Class) (constructed : Bool) (number : ℕ) (identifier digits : List ℕ) (left : ℕ)
-      → IsLengthFront class constructed number identifier digits left octets → 6 ≤ left → x ≢ 0
+      → IsLengthPrefix class constructed number identifier digits left octets → 6 ≤ left → x ≢ 0
       → IsRefusedOctet octets x LengthTooLarge

@@ -1,6 +1,6 @@
 -- What the fields of a `Header` say.
 use Rattle.std.specs.Prelude.{◌≡◌, take, drop, length, slice_index}
-use Rattle.tlv_head.specs.HeaderFields.{IsHeaderSized, header_with}
+use Rattle.tlv_head.specs.HeaderFields.{IsHeaderSized, new_header}
 use Rattle.tlv_head.specs.Header.{HeaderValue, octets_of}
 use Rattle.tlv_head.specs.declared.header.Header.TheInside.{Inside}
 use Rattle.tlv_head.specs.declared.header.HeaderFields.{HeaderFields}
@@ -34,7 +34,7 @@ fields_in h = record {
 
 -- what contracts see
 abbrev pub header_value_of : Inside → HeaderValue
-header_value_of h = header_with (fields_in h) h.raw.items
+header_value_of h = new_header (fields_in h) h.raw.items
 
 -- by their number the octets may be those of a header with these fields, and the two that are kept beside them are the
 -- second ones of the identifier and of the length

@@ -122,14 +122,14 @@ impl HeaderFields {
 impl Header {
     ghost use Rattle.std.specs.Prelude.{◌≤◌, length, slice_index};
     ghost use Rattle.tlv_head.specs.Header.{octets_of, wraps};
-    ghost use Rattle.tlv_head.specs.HeaderFields.{IsHeaderSized, fields_of, header_with};
+    ghost use Rattle.tlv_head.specs.HeaderFields.{IsHeaderSized, fields_of, new_header};
 
     /// The header with these fields and octets: at most 137, of which at most ten, and not all, are the identifier.
     /// That the octets say these fields is for the caller to see to, as [`read_header`](crate::read_header) does.
     #[inline]
     pub fn new(fields: &HeaderFields, octets: &[u8]) -> Header
         requires { IsHeaderSized fields.now octets.now }
-        ensures { result ≡ header_with fields.now octets.now }
+        ensures { result ≡ new_header fields.now octets.now }
     {
         let mut raw = ArrayVec::new();
         let _ = raw.try_extend_from_slice(octets);
@@ -153,7 +153,7 @@ impl Header {
     /// the octets.)
     pub(crate) fn with_raw(fields: &HeaderFields, raw: ArrayVec<u8, 137>) -> Header
         requires { IsHeaderSized fields.now raw.items }
-        ensures { result ≡ header_with fields.now raw.items }
+        ensures { result ≡ new_header fields.now raw.items }
     {
         let (number_octet, length_octet) = second_octets(fields.id_len, raw.as_slice());
         Header {

@@ -1,5 +1,5 @@
 //! Laws of the definitions: each is the contract of a function that does nothing.
-ghost use Rattle.tlv_head.specs.Laws.{HeadersAreNoFronts, HeadersHaveOneReading, OctetsBeginOneHeader};
+ghost use Rattle.tlv_head.specs.Laws.{HeadersAreNoPrefixes, HeadersHaveOneReading, OctetsBeginOneHeader};
 ghost use Rattle.tlv_head.specs.Laws.{OctetsGoOnOrAreRefused, PushesReturnOneHead, RefusalsAreFinal};
 ghost use Rattle.tlv_head.specs.Laws.{RefusedInputsBeginWithNone};
 ghost use Rattle.tlv_head.specs.Shortest.{HeadersHaveAShortest, ShortestHeadersAreOne, ShortestHeadersAreShortest};
@@ -11,8 +11,8 @@ pub fn one_header()
 {}
 
 /// No header is a proper prefix of another, so a header ends by itself.
-pub fn headers_are_no_fronts()
-    ensures { HeadersAreNoFronts }
+pub fn headers_are_no_prefixes()
+    ensures { HeadersAreNoPrefixes }
 {}
 
 /// A refusal with F06 to F09 is final: no octets after the refused one make a header of it.

@@ -62,17 +62,17 @@ abbrev pub HasPut : {D : Type 0} → (D → DrainState) → Out D → Out D → 
 HasPut state_of a b xs = Puts {T = ⊤} {E = WriteFault} state_of a b xs (Ok tt)
 
 -- zs begin with xs
-pub record IsFront (xs zs : List ℕ) : Type 0 where
+pub record IsPrefix (xs zs : List ℕ) : Type 0 where
   pub rest : List ℕ
   pub is : xs ++ rest ≡ zs
 
-pub front_none : (zs : List ℕ) → IsFront [] zs
+pub front_none : (zs : List ℕ) → IsPrefix [] zs
 front_none zs = record { rest = zs; is = refl }
 
-pub front_all : (xs : List ℕ) → IsFront xs xs
+pub front_all : (xs : List ℕ) → IsPrefix xs xs
 front_all xs = record { rest = []; is = append-nil xs }
 
-pub front_first : (xs ys : List ℕ) → IsFront xs (xs ++ ys)
+pub front_first : (xs ys : List ℕ) → IsPrefix xs (xs ++ ys)
 front_first xs ys = record { rest = ys; is = refl }
 
 module _ {D : Type 0} (state_of : D → DrainState) where
@@ -100,7 +100,7 @@ module _ {D : Type 0} (state_of : D → DrainState) where
     puts_then a b c xs ys x r p q = puts_then_as a b c xs ys (xs ++ ys) x r p q refl
 
     -- they could not be put, and others are not
-    pub puts_failed_in : (a b : Out D) (xs zs : List ℕ) (e : E) (r : Result U E) → Puts {T = T} {E = E} state_of a b xs (Err e) → IsErr r → IsFront xs zs → Puts state_of a b zs r
+    pub puts_failed_in : (a b : Out D) (xs zs : List ℕ) (e : E) (r : Result U E) → Puts {T = T} {E = E} state_of a b xs (Err e) → IsErr r → IsPrefix xs zs → Puts state_of a b zs r
     puts_failed_in a b xs zs e (Ok x) p h z = absurd (true≢false (sym h))
     puts_failed_in a b xs zs e (Err f) p h z = record {
       same_reference = p.same_reference;
@@ -216,7 +216,7 @@ module _ {T U E F : Type 0} where
   sends_ok a b xs ys x y p z = record { sent = p.sent; left = p.left; front = p.front ∙ z; took = p.took; all = p.all; not_all = tt; failures = p.failures }
 
   -- a front of the octets is one of more octets
-  pub sends_err : (a b : DrainState) (xs ys : List ℕ) (e : E) (f : F) → Sends {T = T} {E = E} a b xs (Err e) → IsFront xs ys → Sends {T = U} {E = F} a b ys (Err f)
+  pub sends_err : (a b : DrainState) (xs ys : List ℕ) (e : E) (f : F) → Sends {T = T} {E = E} a b xs (Err e) → IsPrefix xs ys → Sends {T = U} {E = F} a b ys (Err f)
   sends_err a b xs ys e f p z = record {
     sent = p.sent;
     left = p.left ++ z.rest;

@@ -16,8 +16,8 @@ pub record MemDrainState : Type 0 where
 abbrev pub drain_room : MemDrain → MutBor (List ℕ)
 drain_room drain = drain.room
 
-abbrev pub mem_drain_state : MemDrain → MemDrainState
-mem_drain_state drain = record {
+abbrev pub mem_drain_state_of : MemDrain → MemDrainState
+mem_drain_state_of drain = record {
   taken = take drain.used drain.room.now;
   rest = drop drain.used drain.room.now;
   most = max 1 drain.most;
@@ -34,6 +34,6 @@ write_count drain count = min count (min drain.most (length drain.rest))
 
 module _ {E : Type 0} where
   -- the drain after a write of these octets with this result
-  abbrev pub after_write : Result ℕ E → List ℕ → MemDrainState → MemDrainState
-  after_write (Ok n) octets old = record old { taken = old.taken ++ take n octets; rest = drop n old.rest }
-  after_write (Err e) octets old = record old { failures = next_count old.failures }
+  abbrev pub mem_drain_after : Result ℕ E → List ℕ → MemDrainState → MemDrainState
+  mem_drain_after (Ok n) octets old = record old { taken = old.taken ++ take n octets; rest = drop n old.rest }
+  mem_drain_after (Err e) octets old = record old { failures = next_count old.failures }

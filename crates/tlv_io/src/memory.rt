@@ -103,7 +103,7 @@ pub struct MemDrain<'a> {
 }
 
 impl<'a> MemDrain<'a> {
-    ghost use Rattle.tlv_io.specs.MemDrain.{drain_room, mem_drain_state};
+    ghost use Rattle.tlv_io.specs.MemDrain.{drain_room, mem_drain_state_of};
 
     /// A drain that fills `room` from the front.
     ///
@@ -111,7 +111,7 @@ impl<'a> MemDrain<'a> {
     pub fn new(room: &'a mut [u8], most: usize) -> MemDrain<'a>
         ensures same_reference { (drain_room result).ghost_name ≡ room.entry.ghost_name }
         ensures room { (drain_room result).now ≡ room.old }
-        ensures state { mem_drain_state result
+        ensures state { mem_drain_state_of result
             ≡ record { taken = []; rest = room.old; most = max 1 most; failures = 0 } }
     {
         MemDrain {
@@ -124,7 +124,7 @@ impl<'a> MemDrain<'a> {
 
     /// The octets taken, in order: the front of the room.
     pub fn written(&self) -> &[u8]
-        ensures taken { result.now ≡ (mem_drain_state self.now).taken }
+        ensures taken { result.now ≡ (mem_drain_state_of self.now).taken }
         ensures front { result.now ≡ take (length result.now) (drain_room self.now).now }
     {
         &self.room[..self.used]
@@ -132,25 +132,25 @@ impl<'a> MemDrain<'a> {
 }
 
 impl Drain for MemDrain<'_> {
-    ghost use Rattle.tlv_io.specs.MemDrain.{after_write, drain_room, drain_state_of, mem_drain_state, write_count};
+    ghost use Rattle.tlv_io.specs.MemDrain.{mem_drain_after, drain_room, drain_state_of, mem_drain_state_of, write_count};
 
-    ghost state = { λ drain. drain_state_of (mem_drain_state drain) };
+    ghost state = { λ drain. drain_state_of (mem_drain_state_of drain) };
 
     fn write(&mut self, from: &[u8]) -> Result<usize, WriteFault>
         requires { 0 < length from.now }
 
         // What each drain promises.
-        ensures writes { WritesOnce (drain_state_of (mem_drain_state self.old))
-            (drain_state_of (mem_drain_state self.new)) result from.now }
+        ensures writes { WritesOnce (drain_state_of (mem_drain_state_of self.old))
+            (drain_state_of (mem_drain_state_of self.new)) result from.now }
 
         // How many octets it takes, and when it fails.
-        ensures count { IfOk result (λ n. n ≡ write_count (mem_drain_state self.old)
+        ensures count { IfOk result (λ n. n ≡ write_count (mem_drain_state_of self.old)
             (length from.now)) }
-        ensures fails { IsErr result ↔ ((mem_drain_state self.old).rest ≡ []) }
+        ensures fails { IsErr result ↔ ((mem_drain_state_of self.old).rest ≡ []) }
 
         // What it then has. The room is the same, and after the octets taken it is as it was.
-        ensures state { mem_drain_state self.new
-            ≡ after_write result from.now (mem_drain_state self.old) }
+        ensures state { mem_drain_state_of self.new
+            ≡ mem_drain_after result from.now (mem_drain_state_of self.old) }
         ensures same_reference { (drain_room self.new).ghost_name
             ≡ (drain_room self.old).ghost_name }
     {

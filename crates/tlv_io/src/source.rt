@@ -2,7 +2,7 @@
 
 ghost use Rattle.std.specs.Prelude.{◌≡◌, ◌<◌, length};
 ghost use Rattle.tlv_io.specs.Device.{ReadsOnce, SourceState, never};
-ghost use Rattle.tlv_io.specs.Private.Device.{after_read};
+ghost use Rattle.tlv_io.specs.Private.Device.{read_log_after};
 
 use std::marker::Model;
 
@@ -75,7 +75,7 @@ impl ReadLog {
     /// Counts a read with this result, and returns the result.
     pub(crate) fn count(&mut self, read: Result<usize, ReadFault>) -> Result<usize, ReadFault>
         ensures same { result ≡ read }
-        ensures log { self.new ≡ after_read read self.old }
+        ensures log { self.new ≡ read_log_after read self.old }
     {
         self.reads = self.reads.saturating_add(1);
         match read {

@@ -9,7 +9,7 @@ use Rattle.std.proofs.lemmas.List.{get_or_default, length-take, nil_from_length,
 use Rattle.std.proofs.Math.Seq.{take-append-add, take-append_seam}
 use Rattle.std.specs.Prelude.{if◌then◌else◌, Option, Some, None, Result, Ok, Err, ⊤}
 use Rattle.std.specs.Io.KnownBytes.{Appends, Consumes, IsAtEnd}
-use Rattle.tlv_value.specs.Names.{Table}
+use Rattle.tlv_value.specs.Names.{NamesTable}
 use Rattle.tlv_walk.proofs.FollowerLemmas.Enough.{Settled, ends_with, returns, settled_by}
 use Rattle.tlv_io.proofs.Pieces.{GaveLast}
 use Rattle.tlv_walk.proofs.GrammarLemmas.Endings.{IsRefused, fault-halt}
@@ -31,7 +31,7 @@ use Rattle.tlv_io.specs.Out.{Sends}
 use Rattle.tlv_walk.specs.Reading.{AreOctets, IsPrefixOf, IsReading}
 use Rattle.tlv_run.proofs.Results.{Stays, one_made, settled_stays, stays_for, text_on}
 use Rattle.tlv_run.specs.declared.command.Command.{Command}
-use Rattle.tlv_run.specs.Private.MemoryDevices.{ending_source_state, failing_source_state, or_failed, room_state}
+use Rattle.tlv_run.specs.Private.MemoryDevices.{ending_source_state, failing_source_state, failing_last_read, room_state}
 use Rattle.tlv_run.specs.Octets.{IsReport, MakesResultOf, RunsOctets, broken, ended, settled, too_long}
 use Rattle.tlv_run.specs.Report.{ReportValue, device_report, report_of}
 use Rattle.tlv_run.specs.Results.{CommandResult, IsSettled, MakesResult, command_job, command_result}
@@ -271,13 +271,13 @@ spent s zero e = absurd (cc (e))
 spent s (suc n) e = refl
 
 -- and it never gave nothing
-gave_some : (l : LastReadValue) → or_failed l ≡ gave 0 → ⊥
+gave_some : (l : LastReadValue) → failing_last_read l ≡ gave 0 → ⊥
 gave_some never e = cc (e)
 gave_some (gave zero) e = cc (e)
 gave_some (gave (suc n)) e = cc (e)
 gave_some failed e = cc (e)
 
-module _ (command : Command) (names : Table) (octets : List ℕ) (fit : (i : ℕ) → Fits w8 (slice_index_or octets i 0)) (room : ℕ)
+module _ (command : Command) (names : NamesTable) (octets : List ℕ) (fit : (i : ℕ) → Fits w8 (slice_index_or octets i 0)) (room : ℕ)
     (written kept : ArrayVec ℕ) (same : written ≡ kept) (fits : length written.items ≤ room) (failures : ℕ)
     (from : DrainState) (from_is : from ≡ record { octets = Some []; failures = 0 }) (report : ReportValue) where
   kept_is : written.items ≡ kept.items

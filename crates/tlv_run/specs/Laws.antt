@@ -1,7 +1,7 @@
 -- Laws of what commands make of inputs.
 use Rattle.std.specs.Prelude.{◌≡◌, ℕ, ◌^◌, ◌≤◌, Bool, List, ◌++◌, length, Option, ◌↔◌, ◌<◌, ◌-◌, Some, false}
 use Rattle.std.specs.Io.KnownBytes.{Appends}
-use Rattle.tlv_value.specs.Names.{Table}
+use Rattle.tlv_value.specs.Names.{NamesTable}
 use Rattle.tlv_walk.specs.declared.ending.Ending.TheVariants.{Done}
 use Rattle.tlv_walk.specs.Job.{DeviceStates}
 use Rattle.tlv_walk.specs.Reading.{AreOctets, IsPrefixOf, IsSoundList}
@@ -14,7 +14,7 @@ use Rattle.tlv_run.specs.declared.command.Command.TheVariants.{Indef}
 -- an input has a result, and no other
 abbrev pub InputsHaveOneResult : Type 0
 InputsHaveOneResult =
-    (command : Command) (names : Table) (b : List ℕ) → AreOctets b
+    (command : Command) (names : NamesTable) (b : List ℕ) → AreOctets b
     → (made : CommandResult)
     × IsResultOf command names b made
     × ((other : CommandResult) → IsResultOf command names b other → other ≡ made)
@@ -22,27 +22,27 @@ InputsHaveOneResult =
 -- at a fault other than F01 and F02, and if `extract` has its whole element, the result stays, whatever follows
 abbrev pub SettledResultsStay : Type 0
 SettledResultsStay =
-    (command : Command) (names : Table) (b c : List ℕ) (made : CommandResult) → AreOctets (b ++ c)
+    (command : Command) (names : NamesTable) (b c : List ℕ) (made : CommandResult) → AreOctets (b ++ c)
     → (x : IsResultOf command names b made) → IsSettled x → IsResultOf command names (b ++ c) made
 
 -- what is written of an input, of no more octets than are read as encodings, goes on from what is written of a prefix
 abbrev pub OutputsGoOn : Type 0
 OutputsGoOn =
-    (command : Command) (names : Table) (b c : List ℕ) (made more : CommandResult) → length (b ++ c) ≤ 2 ^ 40
+    (command : Command) (names : NamesTable) (b c : List ℕ) (made more : CommandResult) → length (b ++ c) ≤ 2 ^ 40
     → IsResultOf command names b made → IsResultOf command names (b ++ c) more
     → IsPrefixOf made.output more.output
 
 -- what `indef` wrote, read again by `indef`, is written unchanged; and if it ended without a fault it does so again
 abbrev pub SecondIndefIsTheFirst : Type 0
 SecondIndefIsTheFirst =
-    (padding : Bool) (file : Option (List ℕ)) (names : Table) (b : List ℕ) (made again : CommandResult)
+    (padding : Bool) (file : Option (List ℕ)) (names : NamesTable) (b : List ℕ) (made again : CommandResult)
     → IsResultOf (Indef padding file) names b made → IsResultOf (Indef padding file) names made.output again
     → (again.output ≡ made.output) × (made.ending ≡ Done → again ≡ made)
 
 -- what a run makes of a source that knows its octets, if neither device failed: the result of these octets
 abbrev pub RunsAreResults : Type 0
 RunsAreResults =
-    (command : Command) (names : Table) (octets : List ℕ)
+    (command : Command) (names : NamesTable) (octets : List ℕ)
     (old new : DeviceStates) (report : ReportValue)
     → AreOctets octets → length octets ≤ 2 ^ 40 → old.source.left ≡ Some octets
     → old.source.failures < 2 ^ 64 - 1 → new.source.failures ≡ old.source.failures
@@ -56,6 +56,6 @@ RunsAreResults =
 -- if no element is asked for, or it is not whole, the status 2 says just that the input is no sound list of encodings
 abbrev pub StatusesShowSoundness : Type 0
 StatusesShowSoundness =
-    (command : Command) (names : Table) (b : List ℕ) (made : CommandResult) (x : IsResultOf command names b made)
+    (command : Command) (names : NamesTable) (b : List ℕ) (made : CommandResult) (x : IsResultOf command names b made)
     → let job = command_job command names in job.is_enough x.reading ≡ false
     → (made.report.status ≡ 2) ↔ (IsSoundList job.framing b → ⊥)

@@ -3,7 +3,7 @@ use Rattle.std.specs.Prelude.{◌≡◌, ℕ, ◌<◌, ◌≤◌, Bool, true, fa
 use Rattle.tlv_walk.specs.declared.run.DeviceFault.TheVariants.{ReadFailed, WriteFailed, InputTooLong}
 use Rattle.tlv_walk.specs.Job.{Job}
 use Rattle.tlv_run.specs.declared.octets.OctetsRun.{OctetsRun}
-use Rattle.tlv_run.specs.Report.{ReportValue, device_report, report_value}
+use Rattle.tlv_run.specs.Report.{ReportValue, device_report, report_value_of}
 use Rattle.tlv_run.specs.Results.{CommandResult, IsSettled, MakesResult}
 
 -- what such a run wrote, and its report
@@ -11,8 +11,8 @@ pub record OctetsRunValue : Type 0 where
   pub written : List ℕ
   pub report : ReportValue
 
-abbrev pub octets_run_value : {room : ℕ} → OctetsRun room → OctetsRunValue
-octets_run_value run = record { written = run.written.items; report = report_value run.report }
+abbrev pub octets_run_value_of : {room : ℕ} → OctetsRun room → OctetsRunValue
+octets_run_value_of run = record { written = run.written.items; report = report_value_of run.report }
 
 -- the job, all octets, and whether after them a read fails
 module _ (job : Job ReportValue) (octets : List ℕ) (read_fails : Bool) where

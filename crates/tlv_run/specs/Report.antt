@@ -22,8 +22,8 @@ pub record ReportValue : Type 0 where
   pub findings : ℕ
   pub message : List ℕ
 
-abbrev pub report_value : Report → ReportValue
-report_value report = record { status = report.status; findings = report.findings; message = report.message.items }
+abbrev pub report_value_of : Report → ReportValue
+report_value_of report = record { status = report.status; findings = report.findings; message = report.message.items }
 
 abbrev pub report_with : ℕ → List ℕ → ReportValue
 report_with status message = record { status = status; findings = 0; message = message }

@@ -1,6 +1,6 @@
 //! A run of a command over octets in memory.
 ghost use Rattle.std.specs.Prelude.{true, false};
-ghost use Rattle.tlv_run.specs.Octets.{RunsOctets, octets_run_value};
+ghost use Rattle.tlv_run.specs.Octets.{RunsOctets, octets_run_value_of};
 ghost use Rattle.tlv_run.specs.Results.{command_job};
 
 use crate::command::Command;
@@ -31,7 +31,7 @@ pub fn run_octets<const N: usize>(
     read_fails: bool,
 ) -> OctetsRun<N>
     ensures { RunsOctets (command_job command.now names.now) octets.now read_fails N
-        (octets_run_value result) }
+        (octets_run_value_of result) }
 {
     if read_fails {
         run_until_failure(command, names, octets, cuts)
@@ -47,7 +47,7 @@ fn run_until_failure<const N: usize>(
     cuts: &[u64],
 ) -> OctetsRun<N>
     ensures { RunsOctets (command_job command.now names.now) octets.now true N
-        (octets_run_value result) }
+        (octets_run_value_of result) }
 {
     let mut room = Room::new();
     let report = run(
@@ -67,7 +67,7 @@ fn run_to_end<const N: usize>(
     cuts: &[u64],
 ) -> OctetsRun<N>
     ensures { RunsOctets (command_job command.now names.now) octets.now false N
-        (octets_run_value result) }
+        (octets_run_value_of result) }
 {
     let mut room = Room::new();
     let report = run(

@@ -2,7 +2,7 @@
 ghost use Rattle.std.specs.Prelude.{◌≡◌, ◌+◌, ◌++◌, ◌≤◌, [], decimal, length};
 ghost use Rattle.tlv_run.specs.Report.{cut_report, device_report, ending_report, fault_line, findings_report};
 ghost use Rattle.tlv_run.specs.Report.{found_report, indef_report, line_with, names_report, outcome_report};
-ghost use Rattle.tlv_run.specs.Report.{report_of, report_value, report_with, unopened_report, unused_report};
+ghost use Rattle.tlv_run.specs.Report.{report_of, report_value_of, report_with, unopened_report, unused_report};
 
 use arrayvec::ArrayVec;
 use itoa::Buffer;
@@ -29,14 +29,14 @@ impl Report {
     /// A report with this status and this message, of at most 128 octets, and without findings.
     pub fn with_message(status: u8, line: &[u8]) -> Report
         requires { length line.now ≤ 128 }
-        ensures { report_value result ≡ report_with status line.now }
+        ensures { report_value_of result ≡ report_with status line.now }
     {
         report_with(status, message_of(line))
     }
 
     /// A report with this status, without a message and without findings.
     pub fn without_message(status: u8) -> Report
-        ensures { report_value result ≡ report_with status [] }
+        ensures { report_value_of result ≡ report_with status [] }
     {
         report_with(status, ArrayVec::new())
     }
@@ -44,7 +44,7 @@ impl Report {
 
 /// The report of a dump or a check: a fault, else an offset without a string, else findings. Their count stays.
 pub(crate) fn outcome_report(came: Result<Outcome, DeviceFault>) -> Report
-    ensures { report_value result ≡ report_of outcome_report came }
+    ensures { report_value_of result ≡ report_of outcome_report came }
 {
     match came {
         Ok(outcome) => {
@@ -59,7 +59,7 @@ pub(crate) fn outcome_report(came: Result<Outcome, DeviceFault>) -> Report
 
 /// The report of an extract of the element at this offset.
 pub(crate) fn cut_report(offset: u64, came: Result<Cut, DeviceFault>) -> Report
-    ensures { report_value result ≡ report_of (cut_report offset) came }
+    ensures { report_value_of result ≡ report_of (cut_report offset) came }
 {
     match came {
         Ok(cut) => ending_report(cut.ending, found_report(offset, cut.found)),
@@ -69,7 +69,7 @@ pub(crate) fn cut_report(offset: u64, came: Result<Cut, DeviceFault>) -> Report
 
 /// The report of an input written with indefinite lengths.
 pub(crate) fn indef_report(came: Result<Ending, DeviceFault>) -> Report
-    ensures { report_value result ≡ report_of indef_report came }
+    ensures { report_value_of result ≡ report_of indef_report came }
 {
     match came {
         Ok(ending) => ending_report(ending, Report::without_message(0)),
@@ -79,7 +79,7 @@ pub(crate) fn indef_report(came: Result<Ending, DeviceFault>) -> Report
 
 /// A fault, or else what there is to say of an input without one.
 fn ending_report(ending: Ending, other: Report) -> Report
-    ensures { report_value result ≡ ending_report ending (report_value other) }
+    ensures { report_value_of result ≡ ending_report ending (report_value_of other) }
 {
     match ending {
         Ending::Fault(fault) => report_with(2, fault_line(fault)),
@@ -88,7 +88,7 @@ fn ending_report(ending: Ending, other: Report) -> Report
 }
 
 fn unused_report(unused: Option<u64>, other: Report) -> Report
-    ensures { report_value result ≡ unused_report unused (report_value other) }
+    ensures { report_value_of result ≡ unused_report unused (report_value_of other) }
 {
     match unused {
         Some(offset) => report_with(1, number_line(b"E7 no string to read at offset ", offset)),
@@ -97,7 +97,7 @@ fn unused_report(unused: Option<u64>, other: Report) -> Report
 }
 
 fn findings_report(findings: u64) -> Report
-    ensures { report_value result ≡ findings_report findings }
+    ensures { report_value_of result ≡ findings_report findings }
 {
     if findings == 0 {
         Report::without_message(0)
@@ -107,7 +107,7 @@ fn findings_report(findings: u64) -> Report
 }
 
 fn found_report(offset: u64, found: bool) -> Report
-    ensures { report_value result ≡ found_report offset found }
+    ensures { report_value_of result ≡ found_report offset found }
 {
     if found {
         Report::without_message(0)
@@ -118,7 +118,7 @@ fn found_report(offset: u64, found: bool) -> Report
 
 /// The report if a device failed, or the input is too long.
 pub fn device_report(fault: DeviceFault) -> Report
-    ensures { report_value result ≡ device_report fault }
+    ensures { report_value_of result ≡ device_report fault }
 {
     match fault {
         DeviceFault::ReadFailed => Report::with_message(3, b"E1 read failed"),
@@ -129,14 +129,14 @@ pub fn device_report(fault: DeviceFault) -> Report
 
 /// The report if the file to read does not open.
 pub fn unopened_report() -> Report
-    ensures { report_value result ≡ unopened_report }
+    ensures { report_value_of result ≡ unopened_report }
 {
     Report::with_message(3, b"E5 cannot open the file")
 }
 
 /// The report if the names file is refused.
 pub fn names_report(fault: NamesFault) -> Report
-    ensures { report_value result ≡ names_report fault }
+    ensures { report_value_of result ≡ names_report fault }
 {
     match fault {
         NamesFault::BadOid(line) => report_with(
@@ -153,7 +153,7 @@ pub fn names_report(fault: NamesFault) -> Report
 
 /// A report without findings.
 fn report_with(status: u8, message: ArrayVec<u8, 128>) -> Report
-    ensures { report_value result ≡ report_with status message.items }
+    ensures { report_value_of result ≡ report_with status message.items }
 {
     Report {
         status,

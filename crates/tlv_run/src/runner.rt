@@ -1,6 +1,6 @@
 //! A run of a command over a source and a drain.
 ghost use Rattle.tlv_walk.specs.Job.{device_states};
-ghost use Rattle.tlv_run.specs.Report.{report_value};
+ghost use Rattle.tlv_run.specs.Report.{report_value_of};
 ghost use Rattle.tlv_run.specs.Results.{command_job};
 ghost use Rattle.tlv_run.specs.Runs.{RunsAndReports};
 
@@ -22,7 +22,7 @@ pub fn run<S: Source, D: Drain>(
 ) -> Report
     ensures { RunsAndReports (command_job command.now names.now)
         (device_states (S.state source.old) (D.state drain.old))
-        (device_states (S.state source.new) (D.state drain.new)) (report_value result) }
+        (device_states (S.state source.new) (D.state drain.new)) (report_value_of result) }
 {
     match command {
         Command::Dump { options, .. } => outcome_report(dump(source, drain, options, names)),

@@ -78,8 +78,8 @@ wrapper = refl
 longer-wrapper : misspelled (naming 0) Der (4 ∷ 129 ∷ 2 ∷ 5 ∷ 0 ∷ []) ≡ true
 longer-wrapper = refl
 
-wrappers-alike : AreAlike (reading (naming 0) (4 ∷ 2 ∷ 5 ∷ 0 ∷ [])) (reading (naming 0) (4 ∷ 129 ∷ 2 ∷ 5 ∷ 0 ∷ []))
-wrappers-alike =
+wrapper_offsets-alike : AreAlike (reading (naming 0) (4 ∷ 2 ∷ 5 ∷ 0 ∷ [])) (reading (naming 0) (4 ∷ 129 ∷ 2 ∷ 5 ∷ 0 ∷ []))
+wrapper_offsets-alike =
     holders _ _ _ _ _ _ (one_tag _ _ refl refl refl) (primitives _ _ [] _ _ (one_tag _ _ refl refl refl) nothing) nothing
 
 -- 05 00 00 00 and 05 81 00 00 00, each with two octets of padding

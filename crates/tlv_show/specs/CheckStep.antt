@@ -4,19 +4,19 @@ use Rattle.tlv_walk.specs.declared.follow.Go.TheVariants.{On}
 use Rattle.tlv_walk.specs.Events.{Begin, Bytes, Close, End, Enter, EventValue, Leave, Open, Pad, Unused}
 use Rattle.tlv_walk.specs.Follow.{Effect, each_octet, no_effect}
 use Rattle.tlv_show.specs.declared.finding_lines.Style.TheVariants.{Check}
-use Rattle.tlv_show.specs.FinderState.{FinderState, FinderValue, finder_begin_step, finder_bytes_step, finder_close_step, finder_end_step, finder_open_step}
+use Rattle.tlv_show.specs.FinderState.{CheckState, FinderState, finder_begin_step, finder_bytes_step, finder_close_step, finder_end_step, finder_open_step}
 use Rattle.tlv_show.specs.FindingLines.{styled_lines}
 
 -- the findings are put, each with its line
-abbrev pub findings_effect : FinderValue → Effect FinderState
+abbrev pub findings_effect : FinderState → Effect CheckState
 findings_effect f = record { state = f.state; put = styled_lines Check f.level f.at f.found; goes = On }
 
 -- a contents octet
-abbrev pub check_octet_step : FinderState → ℕ → Effect FinderState
+abbrev pub check_octet_step : CheckState → ℕ → Effect CheckState
 check_octet_step s x = no_effect (finder_bytes_step s (x ∷ []))
 
 -- an event
-abbrev pub check_step : FinderState → EventValue → Effect FinderState
+abbrev pub check_step : CheckState → EventValue → Effect CheckState
 check_step s (Open h) = findings_effect (finder_open_step s h)
 check_step s (Enter h) = findings_effect (finder_open_step s h)
 check_step s (Begin h) = findings_effect (finder_begin_step s h)

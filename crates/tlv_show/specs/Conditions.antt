@@ -25,8 +25,8 @@ abbrev pub has_long_form : HeaderValue → Bool
 has_long_form h = nat_lt 1 (length h.lengths)
 
 -- the first of them
-abbrev pub first_length : HeaderValue → ℕ
-first_length h = slice_index h.lengths 1
+abbrev pub leading_length_octet : HeaderValue → ℕ
+leading_length_octet h = slice_index h.lengths 1
 
 -- 8.6.2.2: a primitive BIT STRING with unused bits
 abbrev pub follows_unused_bits : Before → Bool
@@ -84,7 +84,7 @@ abbrev pub length_conditions : HeaderValue → List (Bool × Finding)
 length_conditions h =
     -- 9.1, 10.1: a definite length has the fewest octets: those of the long form are for 128 and more, and do not
     -- begin with 00
-    (has_long_form h && (nat_lt (announced_length h.size) 128 || first_length h == 0), S01)
+    (has_long_form h && (nat_lt (announced_length h.size) 128 || leading_length_octet h == 0), S01)
     ∷ []
 
 -- by those of DER alone

@@ -1,7 +1,7 @@
 -- What a dump makes of events: the lines of elements, with those of what is found in them before and after.
 use Rattle.std.specs.Prelude.{ℕ, List, [], ◌∷◌, ◌++◌}
 use Rattle.tlv_value.specs.declared.layout.Layout.{Layout}
-use Rattle.tlv_value.specs.Names.{Table}
+use Rattle.tlv_value.specs.Names.{NamesTable}
 use Rattle.tlv_walk.specs.declared.follow.Go.TheVariants.{On}
 use Rattle.tlv_walk.specs.Events.{Begin, Bytes, Close, End, Enter, EventValue, Leave, Open, Pad, Unused}
 use Rattle.tlv_walk.specs.Follow.{Effect, each_octet}
@@ -9,30 +9,30 @@ use Rattle.tlv_show.specs.declared.rules.Rules.{Rules}
 use Rattle.tlv_show.specs.declared.finding_lines.Style.TheVariants.{Dump}
 use Rattle.tlv_show.specs.FindingLines.{styled_lines}
 use Rattle.tlv_show.specs.LinesStep.{LinesState, lines_octet_step, lines_padding_step, lines_step, new_lines}
-use Rattle.tlv_show.specs.FinderState.{FinderState, FinderValue, finder_begin_step, finder_bytes_step, finder_close_step, finder_end_step, finder_open_step, new_finder, without_findings}
+use Rattle.tlv_show.specs.FinderState.{CheckState, FinderState, finder_begin_step, finder_bytes_step, finder_close_step, finder_end_step, finder_open_step, new_finder, without_findings}
 
 -- what contracts see of a `Dump`
 pub record DumpState : Type 0 where
   pub lines : LinesState
-  pub finder : FinderState
+  pub finder : CheckState
 
 -- a dump of which nothing is written
-abbrev pub new_dump : Rules → Layout → Table → DumpState
+abbrev pub new_dump : Rules → Layout → NamesTable → DumpState
 new_dump rules layout names = record { lines = new_lines layout names; finder = new_finder rules }
 
 -- the lines of what is found
-abbrev pub finding_lines : DumpState → FinderValue → List ℕ
+abbrev pub finding_lines : DumpState → FinderState → List ℕ
 finding_lines s f = styled_lines (Dump s.lines.layout.pure) f.level f.at f.found
 
 -- what is found comes before the lines, or after them
-abbrev pub findings_first : DumpState → FinderValue → Effect LinesState → Effect DumpState
+abbrev pub findings_first : DumpState → FinderState → Effect LinesState → Effect DumpState
 findings_first s f d = record {
   state = record { lines = d.state; finder = f.state };
   put = finding_lines s f ++ d.put;
   goes = On;
 }
 
-abbrev pub findings_last : DumpState → FinderValue → Effect LinesState → Effect DumpState
+abbrev pub findings_last : DumpState → FinderState → Effect LinesState → Effect DumpState
 findings_last s f d = record {
   state = record { lines = d.state; finder = f.state };
   put = d.put ++ finding_lines s f;

@@ -88,31 +88,31 @@ segments_in w = record {
 -- ---- What contracts see of a `Finder`, and of a `Check`
 
 -- the primitive that is open: where it begins, and what is noted of its contents
-pub record OpenValue : Type 0 where
+pub record OpenPrimitiveState : Type 0 where
   pub at : ℕ
   pub check : ValueCheckState
 
-pub record FinderState : Type 0 where
+pub record CheckState : Type 0 where
   pub rules : Rules
   -- the frame of the innermost element that is open, or of the top, and those outside, innermost first
   pub frame : SiblingFrame
   pub outer : List SiblingFrame
-  pub value : Option OpenValue
+  pub value : Option OpenPrimitiveState
   -- how many findings were reported; it stops at 2^64 - 1
   pub count : ℕ
 
-abbrev pub new_finder : Rules → FinderState
+abbrev pub new_finder : Rules → CheckState
 new_finder rules = record { rules = rules; frame = top_frame; outer = []; value = None; count = 0 }
 
 -- it becomes `state`, and these are found in the element that begins at the offset and that so many elements hold
-pub record FinderValue : Type 0 where
-  pub state : FinderState
+pub record FinderState : Type 0 where
+  pub state : CheckState
   pub level : ℕ
   pub at : ℕ
   pub found : List Finding
 
 -- findings are counted
-abbrev pub with_findings : FinderState → ℕ → ℕ → List Finding → FinderValue
+abbrev pub with_findings : CheckState → ℕ → ℕ → List Finding → FinderState
 with_findings s level at found = record {
   state = record s { count = saturating_sum s.count (length found) };
   level = level;
@@ -120,67 +120,67 @@ with_findings s level at found = record {
   found = found;
 }
 
-abbrev pub without_findings : FinderState → FinderValue
+abbrev pub without_findings : CheckState → FinderState
 without_findings s = record { state = s; level = 0; at = 0; found = [] }
 
 -- ---- What it makes of an event
 
 -- an element that holds others begins. Past 128 of them no frame is kept
-abbrev pub finder_inside : FinderState → HeaderValue → FinderState
+abbrev pub finder_inside : CheckState → HeaderValue → CheckState
 finder_inside s h =
     if nat_lt (length s.outer) 128
     then record s { frame = frame_under s.frame h; outer = s.frame ∷ s.outer }
     else s
 
-abbrev pub finder_open_step : FinderState → HeaderValue → FinderValue
+abbrev pub finder_open_step : CheckState → HeaderValue → FinderState
 finder_open_step s h =
     with_findings (finder_inside s h) (length s.outer) h.offset (header_findings s.rules (surroundings_in s.frame) h)
 
 -- a primitive begins
-abbrev pub finder_at_value : FinderState → HeaderValue → FinderState
+abbrev pub finder_at_value : CheckState → HeaderValue → CheckState
 finder_at_value s h = record s { value = Some (record { at = h.offset; check = new_value_check h }) }
 
-abbrev pub finder_begin_step : FinderState → HeaderValue → FinderValue
+abbrev pub finder_begin_step : CheckState → HeaderValue → FinderState
 finder_begin_step s h =
     with_findings (finder_at_value s h) (length s.outer) h.offset (header_findings s.rules (surroundings_in s.frame) h)
 
 -- contents octets: only as many as were announced are counted
-abbrev pub open_value_after : Option OpenValue → List ℕ → Option OpenValue
+abbrev pub open_value_after : Option OpenPrimitiveState → List ℕ → Option OpenPrimitiveState
 open_value_after None octets = None
 open_value_after (Some v) octets = Some (record v { check = value_check_after v.check (take v.check.left octets) })
 
-abbrev pub finder_bytes_step : FinderState → List ℕ → FinderState
+abbrev pub finder_bytes_step : CheckState → List ℕ → CheckState
 finder_bytes_step s octets = if length octets == 0 then s else record s { value = open_value_after s.value octets }
 
 -- a primitive ends, of which all contents octets have come
 abbrev pub contents_findings_in : Rules → ValueCheckState → List Finding
 contents_findings_in rules t = if t.left == 0 then filter (is_shown rules) (findings_in t) else []
 
-abbrev pub finder_after_value : FinderState → OpenValue → FinderState
+abbrev pub finder_after_value : CheckState → OpenPrimitiveState → CheckState
 finder_after_value s v = record s {
   frame = frame_after s.frame true v.check.size (has_unused_bits v.check);
   value = None;
 }
 
-abbrev pub finder_value_end_step : FinderState → Option OpenValue → FinderValue
+abbrev pub finder_value_end_step : CheckState → Option OpenPrimitiveState → FinderState
 finder_value_end_step s None = without_findings s
 finder_value_end_step s (Some v) =
     with_findings (finder_after_value s v) (length s.outer) v.at (contents_findings_in s.rules v.check)
 
-abbrev pub finder_end_step : FinderState → FinderValue
+abbrev pub finder_end_step : CheckState → FinderState
 finder_end_step s = finder_value_end_step s s.value
 
 -- an element that holds others ends, inside this frame and those around it
-abbrev pub finder_outside : FinderState → SiblingFrame → List SiblingFrame → FinderState
+abbrev pub finder_outside : CheckState → SiblingFrame → List SiblingFrame → CheckState
 finder_outside s w outer = record s {
   frame = frame_after w s.frame.is_primitive s.frame.size false;
   outer = outer;
 }
 
-abbrev pub finder_frame_end_step : FinderState → List SiblingFrame → FinderValue
+abbrev pub finder_frame_end_step : CheckState → List SiblingFrame → FinderState
 finder_frame_end_step s [] = without_findings s
 finder_frame_end_step s (w ∷ outer) =
     with_findings (finder_outside s w outer) (length outer) s.frame.at (end_findings s.rules (segments_in s.frame))
 
-abbrev pub finder_close_step : FinderState → FinderValue
+abbrev pub finder_close_step : CheckState → FinderState
 finder_close_step s = finder_frame_end_step s s.outer

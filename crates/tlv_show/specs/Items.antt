@@ -8,7 +8,7 @@ use Rattle.tlv_walk.specs.Forest.{Forest, PaddingOctet, Primitive, Holder, OpenP
 use Rattle.tlv_show.specs.declared.rules.Rules.{Rules}
 use Rattle.tlv_show.specs.Conditions.{segments_of, surroundings_of}
 use Rattle.tlv_show.specs.Found.{contents_findings, end_findings, header_findings}
-use Rattle.tlv_show.specs.Site.{Padding, Sibling, Site, is_padding, onward, site_of_children}
+use Rattle.tlv_show.specs.Site.{Padding, Sibling, Site, is_padding, later_site, site_of_children}
 
 -- an item, with its level: how many elements hold what it is about
 pub data Item : Type 0 where
@@ -41,17 +41,17 @@ module _ (rules : Rules) where
   -- a run of padding has one line
   items s (PaddingOctet rest) =
       (if is_padding s.before then [] else PaddingLine s.level s.at ∷ [])
-      ++ items (onward s 1 Padding) rest
+      ++ items (later_site s 1 Padding) rest
   items s (Primitive h c rest) =
       finding_items s h (header_findings rules (surroundings_of s) h)
       ++ (PrimitiveLines s.level h c ∷ finding_items s h (contents_findings rules h c)
-      ++ items (onward s (primitive_extent h c) (Sibling h (slice_get c 0))) rest)
+      ++ items (later_site s (primitive_extent h c) (Sibling h (slice_get c 0))) rest)
   items s (Holder h children rest) =
       finding_items s h (header_findings rules (surroundings_of s) h)
       ++ (OpeningLine s.level h ∷ items (site_of_children s h) children
       ++ (ClosingLine s.level (if h.constructed then end_place h children else None)
       ∷ finding_items s h (end_findings rules (segments_of h (headers children)))
-      ++ items (onward s (extent h children) (Sibling h None)) rest))
+      ++ items (later_site s (extent h children) (Sibling h None)) rest))
   items s (OpenPrimitive h c) =
       finding_items s h (header_findings rules (surroundings_of s) h)
       ++ OpenPrimitiveLines s.level h c ∷ []

@@ -3,7 +3,7 @@ use Rattle.std.specs.Prelude.{ℕ, ◌+◌, ◌-◌, eqb, if◌then◌else◌, B
 use Rattle.std.specs.FinMap as finite
 use Rattle.tlv_head.specs.Header.{HeaderValue, octets_of}
 use Rattle.tlv_value.specs.declared.layout.Layout.{Layout}
-use Rattle.tlv_value.specs.Names.{Table}
+use Rattle.tlv_value.specs.Names.{NamesTable}
 use Rattle.tlv_value.specs.ValueTextState.{ValueTextState, begin_lines, contents_lines, end_lines, new_value_text, value_text_after}
 use Rattle.tlv_walk.specs.declared.follow.Go.TheVariants.{On}
 use Rattle.tlv_walk.specs.Events.{Begin, Bytes, Close, End, Enter, EventValue, Leave, Open, Pad, Unused}
@@ -16,7 +16,7 @@ pub record LinesState : Type 0 where
   -- how lines are laid out: the level is how many elements are open that hold others
   pub layout : Layout
   -- the names of object identifiers
-  pub names : Table
+  pub names : NamesTable
   -- the offset of the next octet
   pub offset : ℕ
   -- whether the last octets were padding
@@ -25,7 +25,7 @@ pub record LinesState : Type 0 where
   pub value : Option ValueTextState
 
 -- the lines of a dump before its first event
-abbrev pub new_lines : Layout → Table → LinesState
+abbrev pub new_lines : Layout → NamesTable → LinesState
 new_lines layout names = record { layout = layout; names = names; offset = 0; in_padding = false; value = None }
 
 -- it becomes `s`, and these octets are put
@@ -40,13 +40,13 @@ abbrev pub outer_layout : Layout → Layout
 outer_layout layout = record layout { level = layout.level - 1 }
 
 -- an element begins, and padding ends
-abbrev pub past_header : LinesState → HeaderValue → LinesState
-past_header s h = record s { offset = saturating_sum h.offset (length (octets_of h)); in_padding = false }
+abbrev pub lines_after_header : LinesState → HeaderValue → LinesState
+lines_after_header s h = record s { offset = saturating_sum h.offset (length (octets_of h)); in_padding = false }
 
 -- an element that holds others begins
 abbrev pub lines_open_step : LinesState → HeaderValue → List ℕ → Effect LinesState
 lines_open_step s h word =
-    lines_effect (record (past_header s h) { layout = inner_layout s.layout }) (opening_line s.layout h word)
+    lines_effect (record (lines_after_header s h) { layout = inner_layout s.layout }) (opening_line s.layout h word)
 
 -- it ends
 abbrev pub lines_close_step : LinesState → Option ℕ → Effect LinesState
@@ -59,7 +59,7 @@ lines_close_step s (Some at) =
 -- a primitive begins
 abbrev pub lines_begin_step : LinesState → HeaderValue → Effect LinesState
 lines_begin_step s h =
-    lines_effect (record (past_header s h) { value = Some (new_value_text h s.layout) })
+    lines_effect (record (lines_after_header s h) { value = Some (new_value_text h s.layout) })
     (begin_lines (new_value_text h s.layout))
 
 -- contents octets: only as many as were announced are counted
@@ -78,7 +78,7 @@ lines_octet_step s x =
     (value_contents_lines s.value (x ∷ []))
 
 -- a primitive ends, of which all contents octets have come
-abbrev pub value_end_lines : Table → Option ValueTextState → List ℕ
+abbrev pub value_end_lines : NamesTable → Option ValueTextState → List ℕ
 value_end_lines names None = []
 value_end_lines names (Some t) = if eqb t.left 0 then end_lines (finite.get names) t else []
 

@@ -29,8 +29,8 @@ abbrev pub top_site : Site
 top_site = record { at = 0; level = 0; holder = None; before = Start }
 
 -- so many octets on, after this
-abbrev pub onward : Site → ℕ → Before → Site
-onward s octets before = record s { at = s.at + octets; before = before }
+abbrev pub later_site : Site → ℕ → Before → Site
+later_site s octets before = record s { at = s.at + octets; before = before }
 
 -- inside an element that holds others
 abbrev pub site_of_children : Site → HeaderValue → Site

@@ -12,7 +12,7 @@ use Rattle.tlv_walk.specs.Ending.{IsEnding}
 use Rattle.tlv_walk.specs.Forest.{Forest}
 use Rattle.tlv_walk.specs.Inside.{can_name}
 use Rattle.tlv_walk.specs.Reading.{IsReading}
-use Rattle.tlv_walk.specs.Wrappers.{wrappers}
+use Rattle.tlv_walk.specs.Wrappers.{wrapper_offsets}
 use Rattle.tlv_show.specs.declared.rules.Rules.{Rules}
 use Rattle.tlv_show.specs.declared.rules.Rules.TheVariants.{Ber}
 use Rattle.tlv_show.specs.Conditions.{Surroundings}
@@ -57,9 +57,9 @@ SomeSpelling =
     (rules : Rules) (framing : Framing) (b : List ℕ) (f : Forest) → rules ≢ Ber → length b ≤ 2 ^ 38
     → IsEnding framing b Done → IsReading framing b f → HaveNoUniversalZero f
     → (c : List ℕ) × (g : Forest)
-    × IsWellSpelled rules (record { inside = wrappers g; padding = framing.padding }) c g
+    × IsWellSpelled rules (record { inside = wrapper_offsets g; padding = framing.padding }) c g
     × AreAlike f g
-    × (can_name framing.inside ≡ true → can_name (wrappers g) ≡ true)
+    × (can_name framing.inside ≡ true → can_name (wrapper_offsets g) ≡ true)
 
 -- a finding on the number of identifier octets, and on that of length octets
 abbrev pub is_on_identifier : Finding → Bool

@@ -21,9 +21,9 @@ pub struct Check {
 }
 
 impl Model for Check {
-    ghost use Rattle.tlv_show.specs.FinderState.{FinderState};
+    ghost use Rattle.tlv_show.specs.FinderState.{CheckState};
 
-    ghost Value = { FinderState };
+    ghost Value = { CheckState };
 
     ghost view = { λ c. c.finder.state };
 }

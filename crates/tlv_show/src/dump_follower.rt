@@ -3,7 +3,7 @@ ghost use Rattle.std.specs.Prelude.{◌≡◌, ◌≤◌, OnOk, length, refl};
 ghost use Rattle.tlv_walk.proofs.FollowerLemmas.Followed.{each_octet-goes_on, each_octet-joins};
 ghost use Rattle.tlv_walk.specs.Events.{Begin, Bytes, Close, End, Enter};
 ghost use Rattle.tlv_io.specs.Out.{Puts};
-ghost use Rattle.tlv_walk.specs.HasRead.{event_value};
+ghost use Rattle.tlv_walk.specs.HasRead.{event_value_of};
 ghost use Rattle.tlv_show.specs.DumpStep.{dump_octet_step, dump_padding_step, dump_step, findings_first, new_dump};
 ghost use Rattle.tlv_show.specs.FinderState.{finder_open_step};
 ghost use Rattle.tlv_show.specs.LinesStep.{lines_open_step};
@@ -110,9 +110,9 @@ impl Dump<'_> {
         out: &mut Out<'_, D>,
     ) -> Result<(), WriteFault>
         ensures state { OnOk result
-            (self.new ≡ (dump_step self.old (event_value event.now)).state) }
+            (self.new ≡ (dump_step self.old (event_value_of event.now)).state) }
         ensures puts { Puts D.state out.old out.new
-            (dump_step self.old (event_value event.now)).put result }
+            (dump_step self.old (event_value_of event.now)).put result }
     {
         match event {
             Event::Open(header) => self.open(header, b" {", out),

@@ -1,7 +1,7 @@
 //! What is found in elements, event by event.
 ghost use Rattle.std.specs.Prelude.{◌≡◌, length};
 ghost use Rattle.tlv_head.specs.Header.{announced_length};
-ghost use Rattle.tlv_walk.specs.HasRead.{event_value};
+ghost use Rattle.tlv_walk.specs.HasRead.{event_value_of};
 ghost use Rattle.tlv_show.specs.FinderState.{finder_at_value, finder_begin_step, finder_bytes_step, finder_close_step, finder_end_step, finder_inside, finder_open_step, new_finder, segments_in, surroundings_in, with_findings, without_findings};
 ghost use Rattle.tlv_show.specs.Found.{end_findings, header_findings};
 ghost use Rattle.tlv_show.specs.Private.FinderState.{PassesOrStays, ReportsFindings, finder_step, with_state};
@@ -38,10 +38,10 @@ pub(crate) struct Finder {
 }
 
 impl Model for Finder {
-    ghost use Rattle.tlv_show.specs.FinderState.{FinderValue};
+    ghost use Rattle.tlv_show.specs.FinderState.{FinderState};
     ghost use Rattle.tlv_show.specs.Private.FinderState.{open_by};
 
-    ghost Value = { FinderValue };
+    ghost Value = { FinderState };
 
     ghost view = { λ f. record {
       state = record {
@@ -111,7 +111,7 @@ impl Finder {
     #[inline(always)]
     pub fn find(&mut self, event: &Event<'_>) -> bool
         ensures { ReportsFindings
-            (finder_step self.old.state (event_value event.now)) self.new result }
+            (finder_step self.old.state (event_value_of event.now)) self.new result }
     {
         match event {
             Event::Open(header) | Event::Enter(header) => self.open(header),

@@ -4,7 +4,7 @@ ghost use Rattle.tlv_head.specs.Header.{announced_length, is_universal};
 ghost use Rattle.tlv_head.specs.UniversalTypes.{bit_string, octet_string};
 ghost use Rattle.tlv_value.specs.Types.{constructed_types, is_a, is_one_of, is_string, is_unassigned, primitive_types};
 ghost use Rattle.tlv_walk.specs.Place.{is_indefinite};
-ghost use Rattle.tlv_show.specs.Conditions.{first_length, has_high_form, has_long_form};
+ghost use Rattle.tlv_show.specs.Conditions.{leading_length_octet, has_high_form, has_long_form};
 
 use tlv_head::{Class, Header, Size, universal};
 
@@ -20,7 +20,7 @@ pub(crate) fn has_high_form(header: &Header) -> bool
 #[inline(always)]
 pub(crate) fn is_length_padded(header: &Header) -> bool
     ensures { result ≡ (has_long_form header.now
-        && (nat_lt (announced_length header.now.size) 128 || first_length header.now == 0)) }
+        && (nat_lt (announced_length header.now.size) 128 || leading_length_octet header.now == 0)) }
 {
     let is_long = header.raw().len() > usize::from(header.id_len) + 1;
     is_long && (size_of(header) < 128 || header.length_octet() == 0)

@@ -3,7 +3,7 @@ ghost use Rattle.std.specs.Prelude.{◌≡◌, ◌≤◌, ◌-◌, ◌^◌, OnOk
 ghost use Rattle.tlv_walk.specs.Events.{Unused};
 ghost use Rattle.tlv_walk.specs.Follow.{each_octet};
 ghost use Rattle.tlv_io.specs.Out.{Puts};
-ghost use Rattle.tlv_show.specs.LinesStep.{lines_begin_step, lines_close_step, lines_end_step, lines_octet_step, lines_open_step, lines_padding_step, lines_step, new_lines, past_header};
+ghost use Rattle.tlv_show.specs.LinesStep.{lines_begin_step, lines_close_step, lines_end_step, lines_octet_step, lines_open_step, lines_padding_step, lines_step, new_lines, lines_after_header};
 
 mod whole;
 
@@ -83,7 +83,7 @@ impl<'n> Lines<'n> {
     /// An element begins: padding ends, and its contents are after its header.
     #[inline(always)]
     fn enter(&mut self, header: &Header)
-        ensures { self.new ≡ past_header self.old header.now }
+        ensures { self.new ≡ lines_after_header self.old header.now }
     {
         self.offset = header.offset.saturating_add(header.raw().len() as u64);
         self.in_padding = false;

@@ -27,19 +27,19 @@ pub(crate) struct Nesting {
 
 impl Model for Nesting {
     ghost use Rattle.std.specs.Prelude.{◌≤◌, ◌-◌};
-    ghost use Rattle.tlv_show.specs.Private.Nesting.{AreKept, IsKept, NestingState, all_frames, innermost, outside};
+    ghost use Rattle.tlv_show.specs.Private.Nesting.{AreKept, IsKept, NestingState, all_frames, innermost_frame, outer_frames};
 
     ghost Value = { NestingState };
 
     ghost view = { λ n. record {
-      frame = innermost n.frame (n.level - n.floor);
-      outer = outside n.frame (n.level - n.floor) (all_frames n.floor n.outer);
+      frame = innermost_frame n.frame (n.level - n.floor);
+      outer = outer_frames n.frame (n.level - n.floor) (all_frames n.floor n.outer);
     } };
 
     ghost invariant = { λ n. record {
       few : n.level ≤ 128;
       inside : n.floor ≤ n.level;
-      innermost : IsKept n.frame (n.level - n.floor);
+      innermost_frame : IsKept n.frame (n.level - n.floor);
       others : AreKept n.floor n.outer;
     } };
 }

@@ -13,12 +13,12 @@ pub mod Value
 pub mod ValueLines
 pub mod ValueTextState
 pub mod PutsRest
-pub mod TextFields
+pub mod ValueTextFields
 pub mod Laws
 pub mod Types
 pub mod Checks
 pub mod ValueCheckState
-pub mod CheckFields
+pub mod ValueCheckFields
 pub mod CheckLaws
 pub mod Names
 pub mod NamesReading

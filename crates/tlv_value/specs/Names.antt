@@ -14,10 +14,10 @@ use Rattle.tlv_value.specs.declared.names.fault.NamesFault.{NamesFault}
 use Rattle.tlv_value.specs.declared.names.fault.NamesFault.TheVariants.{BadOid, BadName, Repeated, TooLarge}
 
 -- from dotted texts to names
-abbrev pub Table : Type 0
-Table = finite.FinMap (slice_cmp nat_cmp) (List ℕ)
+abbrev pub NamesTable : Type 0
+NamesTable = finite.FinMap (slice_cmp nat_cmp) (List ℕ)
 
-abbrev pub table_code : Coded Table
+abbrev pub table_code : Coded NamesTable
 table_code = finite.code (coded_list coded_ℕ) (coded_list coded_ℕ)
 
 -- a dotted text and its name
@@ -134,9 +134,9 @@ abbrev pub first_refusal : List Line → List Line → Option NamesFault
 first_refusal above [] = None
 first_refusal above (line ∷ below) = option_or (line_refusal above line) (first_refusal (above ++ line ∷ []) below)
 
-abbrev pub table_of : List Line → Result Table NamesFault
+abbrev pub table_of : List Line → Result NamesTable NamesFault
 table_of lines = option_map_or Err (first_refusal [] lines) (Ok (finite.from_entries (entries_of lines)))
 
 -- what the octets of a names file say: the table of all lines, or the first refusal
-abbrev pub names_of : List ℕ → Result Table NamesFault
+abbrev pub names_of : List ℕ → Result NamesTable NamesFault
 names_of octets = table_of (map names_line (lines octets))

@@ -2,7 +2,7 @@
 use Rattle.std.specs.Prelude.{◌≡◌, ℕ, ◌+◌, ◌<◌, ◌≤◌, ◌⊎◌, List, length, Result, Ok, Err}
 use Rattle.std.specs.Io.KnownBytes.{IsAtEnd}
 use Rattle.tlv_io.specs.Device.{LastReadValue, Pieces, SourceState, failed, gave, next_count, octets_given}
-use Rattle.tlv_value.specs.Names.{Table, names_of}
+use Rattle.tlv_value.specs.Names.{NamesTable, names_of}
 use Rattle.tlv_value.specs.declared.names.fault.NamesFault.{NamesFault}
 use Rattle.tlv_value.specs.declared.names.fault.NamesFault.TheVariants.{BadOid, BadName, Repeated, TooLarge, ReadFailed, Memory}
 
@@ -11,7 +11,7 @@ abbrev pub names_limit : ℕ
 names_limit = 1048576
 
 -- the source has ended, within the limit of octets, and these say the result
-abbrev pub IsWholeFile : SourceState → List ℕ → Result Table NamesFault → Type 0
+abbrev pub IsWholeFile : SourceState → List ℕ → Result NamesTable NamesFault → Type 0
 IsWholeFile new octets result =
     (new.last ≡ gave 0) × IsAtEnd new.left × (length octets ≤ names_limit) × (names_of octets ≡ result)
 
@@ -20,7 +20,7 @@ abbrev pub IsTooLong : LastReadValue → List ℕ → Type 0
 IsTooLong last octets = (n : ℕ) × (last ≡ gave n) × (names_limit < length octets) × (length octets ≤ names_limit + n)
 
 -- the result of reading these octets, by what the last read gave and what is left to read
-abbrev pub ReadsNames : SourceState → List ℕ → Result Table NamesFault → Type 0
+abbrev pub ReadsNames : SourceState → List ℕ → Result NamesTable NamesFault → Type 0
 ReadsNames new octets (Ok table) = IsWholeFile new octets (Ok table)
 ReadsNames new octets (Err (BadOid n)) = IsWholeFile new octets (Err (BadOid n))
 ReadsNames new octets (Err (BadName n)) = IsWholeFile new octets (Err (BadName n))
@@ -40,7 +40,7 @@ names_failures_after (Err ReadFailed) old = next_count old
 names_failures_after (Err Memory) old = old
 
 -- some octets are read, in pieces, and the result is theirs
-pub record ReadsFrom (old new : SourceState) (result : Result Table NamesFault) : Type 0 where
+pub record ReadsFrom (old new : SourceState) (result : Result NamesTable NamesFault) : Type 0 where
   pub pieces : Pieces old new
   pub result_is : ReadsNames new (octets_given pieces) result
   pub failures : new.failures ≡ names_failures_after result old.failures

@@ -34,8 +34,8 @@ pub record ValueCheckState : Type 0 where
   pub time : List ℕ
 
 -- of so many octets
-abbrev pub new_check_of : ℕ → ℕ → ValueCheckState
-new_check_of number size = record {
+abbrev pub new_value_check_of : ℕ → ℕ → ValueCheckState
+new_value_check_of number size = record {
   number = number;
   size = size;
   left = size;
@@ -49,7 +49,7 @@ new_check_of number size = record {
 }
 
 abbrev pub new_value_check : HeaderValue → ValueCheckState
-new_value_check h = new_check_of (type_number h) (announced_length h.size)
+new_value_check h = new_value_check_of (type_number h) (announced_length h.size)
 
 -- the first octets are looked at, and the last one: BOOLEAN, INTEGER, BIT STRING, ENUMERATED
 abbrev pub notes_front : ℕ → Bool

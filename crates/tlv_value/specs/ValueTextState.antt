@@ -40,15 +40,15 @@ abbrev pub primitive_line : Primitive → List ℕ → List ℕ
 primitive_line p text = element_line p.layout p.offset p.class p.number p.size text
 
 -- before any octet
-abbrev pub new_text_of : Primitive → ValueTextState
-new_text_of p = record {
+abbrev pub new_value_text_of : Primitive → ValueTextState
+new_value_text_of p = record {
   value = p;
   left = p.size;
   kept = record { wrote_line = has_line p.kind []; rows = 0; row = [] };
 }
 
 abbrev pub new_value_text : HeaderValue → Layout → ValueTextState
-new_value_text h layout = new_text_of (primitive_of h layout)
+new_value_text h layout = new_value_text_of (primitive_of h layout)
 
 -- of a long value with a line
 abbrev pub rows_after : Kind → RowsState → List ℕ → RowsState

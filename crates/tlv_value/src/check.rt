@@ -2,7 +2,7 @@
 ghost use Rattle.std.specs.Prelude.{◌≡◌, ◌+◌, ◌≤◌, ◌&&◌, ℕ, List, length, slice_index};
 ghost use Rattle.tlv_head.specs.Header.{HeaderValue, announced_length};
 ghost use Rattle.tlv_value.specs.Types.{type_number};
-ghost use Rattle.tlv_value.specs.ValueCheckState.{value_check_after, findings_in, has_unused_bits, is_allowed, new_value_check, new_check_of, with_each, with_front};
+ghost use Rattle.tlv_value.specs.ValueCheckState.{value_check_after, findings_in, has_unused_bits, is_allowed, new_value_check, new_value_check_of, with_each, with_front};
 ghost use Rattle.tlv_value.specs.Checks.{findings_on_contents, is_padded_integer};
 
 mod characters;
@@ -54,9 +54,9 @@ impl Model for ValueCheck {
 
     ghost Value = { ValueCheckState };
 
-    ghost use Rattle.tlv_value.specs.CheckFields.{check_state_of, HasOpenRow};
+    ghost use Rattle.tlv_value.specs.ValueCheckFields.{value_check_state_of, HasOpenRow};
 
-    ghost view = { check_state_of };
+    ghost view = { value_check_state_of };
 
     ghost invariant = { HasOpenRow };
 }
@@ -71,7 +71,7 @@ impl ValueCheck {
 
     /// For a primitive of the universal type with this number, with so many contents octets, of which none has come.
     pub fn of_type(number: u64, size: u64) -> ValueCheck
-        ensures { result ≡ new_check_of number size }
+        ensures { result ≡ new_value_check_of number size }
     {
         ValueCheck {
             number,

@@ -25,7 +25,7 @@ pub struct Names<A: Allocator = Global> {
 }
 
 impl<A: Allocator> Model for Names<A> {
-    ghost use Rattle.tlv_value.specs.Names.{Table as NamesTable, table_code};
+    ghost use Rattle.tlv_value.specs.Names.{NamesTable, table_code};
     ghost use Rattle.tlv_value.specs.NamesFields.{names_in};
 
     ghost Value = { NamesTable };

@@ -5,7 +5,7 @@ ghost use Rattle.tlv_io.specs.Out.{Puts};
 ghost use Rattle.tlv_value.specs.PutsRest.{PutsRest};
 ghost use Rattle.tlv_value.specs.Value.{row_octets};
 ghost use Rattle.tlv_value.specs.ValueLines.{open_lines, whole_lines};
-ghost use Rattle.tlv_value.specs.ValueTextState.{begin_lines, contents_lines, end_lines, new_text_of, new_value_text, state_for, value_text_after};
+ghost use Rattle.tlv_value.specs.ValueTextState.{begin_lines, contents_lines, end_lines, new_value_text_of, new_value_text, state_for, value_text_after};
 
 use crate::kind::Kind;
 use crate::primitive::Primitive;
@@ -49,11 +49,11 @@ impl Model for ValueText {
 
     ghost Value = { ValueTextState };
 
-    ghost use Rattle.tlv_value.specs.TextFields.{TextFieldsAgree, text_state_of};
+    ghost use Rattle.tlv_value.specs.ValueTextFields.{ValueTextFieldsAgree, value_text_state_of};
 
-    ghost view = { text_state_of };
+    ghost view = { value_text_state_of };
 
-    ghost invariant = { TextFieldsAgree };
+    ghost invariant = { ValueTextFieldsAgree };
 }
 
 impl ValueText {
@@ -68,7 +68,7 @@ impl ValueText {
     /// For this primitive, of whose contents no octet has come.
     #[inline(always)]
     pub(crate) fn of(value: Primitive) -> ValueText
-        ensures { result ≡ new_text_of value }
+        ensures { result ≡ new_value_text_of value }
     {
         ValueText {
             value,

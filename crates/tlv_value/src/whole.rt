@@ -8,7 +8,7 @@ ghost use Rattle.tlv_value.specs.Private.PrimitiveLines.{lines_in_steps};
 ghost use Rattle.tlv_value.specs.Rows.{rows_of};
 ghost use Rattle.tlv_value.specs.Value.{is_long, long_text, row_octets};
 ghost use Rattle.tlv_value.specs.ValueLines.{row_lines, whole_lines};
-ghost use Rattle.tlv_value.specs.ValueTextState.{new_text_of, primitive_line};
+ghost use Rattle.tlv_value.specs.ValueTextState.{new_value_text_of, primitive_line};
 
 use crate::kind::Kind;
 use crate::primitive::Primitive;
@@ -56,7 +56,7 @@ fn put_long<N: NameTable, D: Drain>(
     requires long { is_long value.now.kind value.now.size ≡ true }
     requires whole { length contents.now ≡ value.now.size }
     ensures { Puts D.state out.old out.new
-        (lines_in_steps (N.name_of names.now) (new_text_of value.now) contents.now) result }
+        (lines_in_steps (N.name_of names.now) (new_value_text_of value.now) contents.now) result }
 {
     if value.has_pairs() {
         put_pairs(value, contents, out)
@@ -106,7 +106,7 @@ fn put_in_steps<N: NameTable, D: Drain>(
 ) -> Result<(), WriteFault>
     requires { length contents.now ≡ value.now.size }
     ensures { Puts D.state out.old out.new
-        (lines_in_steps (N.name_of names.now) (new_text_of value.now) contents.now) result }
+        (lines_in_steps (N.name_of names.now) (new_value_text_of value.now) contents.now) result }
 {
     let mut text = ValueText::of(*value);
     text.begin(out)?;

@@ -4,7 +4,7 @@ use Rattle.tlv_head.specs.declared.fault.FaultCode.TheVariants.{Empty, Short, St
 use Rattle.tlv_walk.specs.declared.ending.Ending.TheVariants.{Done}
 use Rattle.tlv_walk.specs.declared.framing.Framing.{Framing}
 use Rattle.tlv_walk.specs.Ending.{fault_ending}
-use Rattle.tlv_walk.specs.Wrappers.{first_without_wrapper, wrappers}
+use Rattle.tlv_walk.specs.Wrappers.{first_without_wrapper, wrapper_offsets}
 use Rattle.tlv_walk.proofs.GrammarLemmas.Readings.{reading}
 use Rattle.tlv_walk.proofs.GrammarLemmas.Endings.{ending}
 
@@ -39,7 +39,7 @@ padded-sequence = refl
 wrapped-octets : ending wrapping (4 ∷ 2 ∷ 5 ∷ 0 ∷ []) ≡ Done
 wrapped-octets = refl
 
-wrapped-octets-wrapper : wrappers (reading wrapping (4 ∷ 2 ∷ 5 ∷ 0 ∷ [])) ≡ 0 ∷ []
+wrapped-octets-wrapper : wrapper_offsets (reading wrapping (4 ∷ 2 ∷ 5 ∷ 0 ∷ [])) ≡ 0 ∷ []
 wrapped-octets-wrapper = refl
 
 wrapped-octets-other : first_without_wrapper (0 ∷ 5 ∷ []) (reading wrapping (4 ∷ 2 ∷ 5 ∷ 0 ∷ [])) ≡ Some 5
@@ -93,5 +93,5 @@ past-sequence = refl
 wrapped-twice : ending wrapping (4 ∷ 5 ∷ 4 ∷ 1 ∷ 7 ∷ 4 ∷ 0 ∷ []) ≡ Done
 wrapped-twice = refl
 
-wrapped-twice-wrappers : wrappers (reading wrapping (4 ∷ 5 ∷ 4 ∷ 1 ∷ 7 ∷ 4 ∷ 0 ∷ [])) ≡ 0 ∷ 5 ∷ []
+wrapped-twice-wrappers : wrapper_offsets (reading wrapping (4 ∷ 5 ∷ 4 ∷ 1 ∷ 7 ∷ 4 ∷ 0 ∷ [])) ≡ 0 ∷ 5 ∷ []
 wrapped-twice-wrappers = refl

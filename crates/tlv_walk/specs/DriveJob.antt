@@ -12,7 +12,7 @@ use Rattle.tlv_walk.specs.Events.{Begin, Bytes, Close, Enter, EventValue, Open, 
 use Rattle.tlv_walk.specs.Follow.{Effect, effect_of, followed_events}
 use Rattle.tlv_walk.specs.Forest.{Forest, spelling}
 use Rattle.tlv_walk.specs.Job.{DeviceStates, Job, Runs, device_states, drain_result}
-use Rattle.tlv_walk.specs.Wrappers.{first_other, first_without_wrapper, wrapper_offsets}
+use Rattle.tlv_walk.specs.Wrappers.{first_other, first_without_wrapper, entered_offsets}
 
 -- whether a follower had enough
 abbrev pub had_enough : Go → Bool
@@ -39,7 +39,7 @@ run_over framing f es go.Enough e =
       ending = e;
       octets = length (flat_map event_octets es);
       enough = true;
-      unused = first_other framing.inside (wrapper_offsets es);
+      unused = first_other framing.inside (entered_offsets es);
     }
 
 -- what takes part in a walk over all that a source gives, as it is before the walk or after it: the follower's

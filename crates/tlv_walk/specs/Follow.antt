@@ -83,8 +83,8 @@ Joins {S} next part = (s : S) (x y : List ℕ)
     → next s (part (x ++ y)) ≡ and_then (next s (part x)) (λ u. next u (part y))
 
 -- no octets make nothing
-abbrev pub Rests : {S : Type 0} → (S → EventValue → Effect S) → (List ℕ → EventValue) → Type 0
-Rests {S} next part = (s : S) → next s (part []) ≡ no_effect s
+abbrev pub IgnoresNoOctets : {S : Type 0} → (S → EventValue → Effect S) → (List ℕ → EventValue) → Type 0
+IgnoresNoOctets {S} next part = (s : S) → next s (part []) ≡ no_effect s
 
 -- octets are never enough: an end may be
 abbrev pub GoesOn : {S : Type 0} → (S → EventValue → Effect S) → (List ℕ → EventValue) → Type 0

@@ -16,16 +16,16 @@ use Rattle.tlv_walk.specs.Reading.{CannotBecomeSound, IsReading}
 use Rattle.tlv_walk.specs.Wrappers.{first_without_wrapper}
 
 -- an event, apart from where its octets lie in memory
-abbrev pub event_value : Event → EventValue
-event_value (event.Open h) = Open h
-event_value (event.Begin h) = Begin h
-event_value (event.Bytes octets) = Bytes octets.now
-event_value event.End = End
-event_value (event.Close at) = Close at
-event_value (event.Enter h) = Enter h
-event_value event.Unused = Unused
-event_value event.Leave = Leave
-event_value (event.Pad octets) = Pad octets.now
+abbrev pub event_value_of : Event → EventValue
+event_value_of (event.Open h) = Open h
+event_value_of (event.Begin h) = Begin h
+event_value_of (event.Bytes octets) = Bytes octets.now
+event_value_of event.End = End
+event_value_of (event.Close at) = Close at
+event_value_of (event.Enter h) = Enter h
+event_value_of event.Unused = Unused
+event_value_of event.Leave = Leave
+event_value_of (event.Pad octets) = Pad octets.now
 
 -- after p the octet is refused: the events yielded are those of the reading, which spells p, and reading and
 -- ending are the same whatever follows that octet. No false alarm: no input that begins so is a sound list

@@ -10,8 +10,8 @@ use Rattle.tlv_walk.specs.Events.{AreEqualJoined, EventValue, events}
 use Rattle.tlv_walk.specs.Ending.{IsEnding, IsFinalCode, fault_ending}
 
 -- each prefix of an open forest's spelling is the spelling of an open forest
-abbrev pub FrontsAreOpen : Type 0
-FrontsAreOpen = (p : Place) (f : Forest) (s : List ℕ) → IsOpen p f → IsPrefixOf s (spelling f)
+abbrev pub PrefixesAreOpen : Type 0
+PrefixesAreOpen = (p : Place) (f : Forest) (s : List ℕ) → IsOpen p f → IsPrefixOf s (spelling f)
     → (g : Forest) × IsOpen p g × (spelling g ≡ s)
 
 -- open forests that stand at one place and have one spelling are one forest, offsets included

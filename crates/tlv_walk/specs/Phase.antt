@@ -3,16 +3,16 @@ use Rattle.std.specs.Prelude.{ℕ}
 use Rattle.tlv_head.specs.declared.fault.Fault.{Fault}
 use Rattle.tlv_head.specs.HeadReaderState.{HeadReaderState}
 
-pub data Phase : Type 0 where
+pub data PhaseValue : Type 0 where
   -- a new element, or the end of the innermost one
-  Between : Phase
+  Between : PhaseValue
   -- a header that has begun
-  InHeader : (reader : HeadReaderState) → Phase
+  InHeader : (reader : HeadReaderState) → PhaseValue
   -- a primitive's contents, of which so many octets are to follow
-  InPrimitive : (left : ℕ) → Phase
+  InPrimitive : (left : ℕ) → PhaseValue
   -- a wrapping BIT STRING, whose first contents octet is to follow
-  InBitString : Phase
+  InBitString : PhaseValue
   -- the end of an indefinite element, whose first 00 has come
-  InEndOctets : Phase
+  InEndOctets : PhaseValue
   -- nothing: an octet was refused
-  Refused : (fault : Fault) → Phase
+  Refused : (fault : Fault) → PhaseValue

@@ -4,7 +4,7 @@ use Rattle.std.specs.Option.{is_none, option_map_or}
 use Rattle.tlv_head.specs.declared.header.Size.{Size}
 use Rattle.tlv_head.specs.declared.header.Size.TheVariants.{Definite}
 use Rattle.tlv_head.specs.Header.{HeaderValue, IsHeader, announced_length, definite_length, holds, octets_of}
-use Rattle.tlv_head.specs.Refusal.{IsFront}
+use Rattle.tlv_head.specs.Refusal.{IsHeaderPrefix}
 use Rattle.tlv_walk.specs.declared.framing.Framing.{Framing}
 use Rattle.tlv_walk.specs.Inside.{is_among}
 use Rattle.tlv_walk.specs.Forest.{Forest, Holder, NoMore, OpenBitString, OpenEndOctets, OpenHeader, OpenHolder, OpenPrimitive, PaddingOctet, Primitive, contents_length, extent, is_complete, lead, opening, primitive_extent}
@@ -108,5 +108,5 @@ IsOpen p (OpenHolder h children) =
 -- 8.6.2.2: a wrapping BIT STRING of which the header alone is there
 IsOpen p (OpenBitString h) = IsEntry p true h × (lead h ≡ 0 ∷ [])
 -- a prefix of a header, or the first of the end-of-contents octets, inside the bound
-IsOpen p (OpenHeader octets) = (octets ≢ []) × IsFront octets × Fits p (length octets)
+IsOpen p (OpenHeader octets) = (octets ≢ []) × IsHeaderPrefix octets × Fits p (length octets)
 IsOpen p OpenEndOctets = (p.indefinite ≡ true) × Fits p 1

@@ -1,8 +1,8 @@
 -- What a walker stands for: the octets that it took and the events that it yielded of them.
 use Rattle.std.specs.Prelude.{◌≡◌, ℕ, Bool, false, eqb, if◌then◌else◌, List, [], ◌∷◌, ◌++◌, Option, Some, None}
 use Rattle.tlv_walk.specs.declared.framing.Framing.{Framing}
-use Rattle.tlv_walk.specs.Stack.{Frame}
-use Rattle.tlv_walk.specs.Phase.{Phase}
+use Rattle.tlv_walk.specs.Stack.{FrameValue}
+use Rattle.tlv_walk.specs.Phase.{PhaseValue}
 use Rattle.tlv_walk.specs.Phase as phase
 use Rattle.tlv_walk.specs.Events.{AreEqualJoined, Close, End, EventValue, Leave, events}
 use Rattle.tlv_walk.specs.Forest.{Forest}
@@ -11,7 +11,7 @@ use Rattle.tlv_walk.specs.Private.Zipper.{HasPrivateState}
 use Rattle.tlv_walk.specs.Reading.{IsReading}
 
 -- 8.1.5: the event with which a definite element ends once it is filled, by its frame
-abbrev pub filled_end : Frame → EventValue
+abbrev pub filled_end : FrameValue → EventValue
 filled_end f = if f.wrapper then Leave else Close None
 
 -- whether an element that ends there, if it is definite, is filled at the offset
@@ -20,12 +20,12 @@ is_end None at = false
 is_end (Some e) at = eqb e at
 
 -- the events with which those elements end that are filled at the offset, innermost first
-abbrev pub filled_ends : ℕ → List Frame → List EventValue
+abbrev pub filled_ends : ℕ → List FrameValue → List EventValue
 filled_ends at [] = []
 filled_ends at (f ∷ fs) = if is_end f.end at then filled_end f ∷ filled_ends at fs else []
 
 -- the events that need no further octet
-abbrev pub waiting_events_in : Phase → List Frame → ℕ → List EventValue
+abbrev pub waiting_events_in : PhaseValue → List FrameValue → ℕ → List EventValue
 waiting_events_in phase.Between stack at = filled_ends at stack
 waiting_events_in (phase.InHeader r) stack at = []
 waiting_events_in (phase.InPrimitive left) stack at = if eqb left 0 then End ∷ filled_ends at stack else []

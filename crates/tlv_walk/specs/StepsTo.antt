@@ -8,7 +8,7 @@ use Rattle.tlv_walk.specs.Phase.{Refused}
 use Rattle.tlv_walk.specs.Events.{EventValue}
 use Rattle.tlv_walk.specs.WalkerState.{HasNotRefused, HasOctets, IsAfterEvent, WalkerState}
 use Rattle.tlv_walk.specs.Stands.{CanTake, Stands}
-use Rattle.tlv_walk.specs.HasRead.{StandsRefused, event_value}
+use Rattle.tlv_walk.specs.HasRead.{StandsRefused, event_value_of}
 
 -- a walker that had refused no octet took octets with which a piece begins, or none, and yielded these events
 pub record TakesOctets (old new : WalkerState) (piece rest : List ℕ) (more : List EventValue) : Type 0 where
@@ -21,9 +21,9 @@ pub record TakesOctets (old new : WalkerState) (piece rest : List ℕ) (more : L
 
 -- one event: the walker stands for the octets taken and for that event more
 pub record YieldsNext (old new : WalkerState) (piece rest : List ℕ) (e : Event) : Type 0 where
-  pub takes : TakesOctets old new piece rest (event_value e ∷ [])
+  pub takes : TakesOctets old new piece rest (event_value_of e ∷ [])
   pub stands : (b : List ℕ) (yielded : List EventValue) → Stands old b yielded
-      → Stands new (b ++ takes.taken) (yielded ++ event_value e ∷ [])
+      → Stands new (b ++ takes.taken) (yielded ++ event_value_of e ∷ [])
   -- parts of contents and of padding are not empty
   pub has_octets : HasOctets e
   pub fewer : new.events ≤ new.offset

@@ -1,13 +1,13 @@
 -- What the fields of a `Walker` say.
 use Rattle.tlv_head.specs.HeadReaderState.{HeadReaderState}
 use Rattle.tlv_walk.specs.WalkerState.{WalkerState}
-use Rattle.tlv_walk.specs.Phase.{Phase, Between, InHeader, InPrimitive, InBitString, InEndOctets, Refused}
-use Rattle.tlv_walk.specs.declared.walker.Phase.{Phase as Kept}
+use Rattle.tlv_walk.specs.Phase.{PhaseValue, Between, InHeader, InPrimitive, InBitString, InEndOctets, Refused}
+use Rattle.tlv_walk.specs.declared.walker.Phase.{Phase}
 use Rattle.tlv_walk.specs.declared.walker.Phase.TheVariants as kept
 use Rattle.tlv_walk.specs.declared.walker.Walker.TheInside.{Inside}
 
 -- the reader is that of the header that has begun, if one has
-abbrev pub phase_of : Kept → HeadReaderState → Phase
+abbrev pub phase_of : Phase → HeadReaderState → PhaseValue
 phase_of kept.Between reader = Between
 phase_of kept.InHeader reader = InHeader reader
 phase_of (kept.InPrimitive left) reader = InPrimitive left

@@ -5,15 +5,15 @@ use Rattle.tlv_head.specs.HeadReaderState.{HeadReaderState}
 use Rattle.tlv_walk.specs.declared.event.Event.{Event}
 use Rattle.tlv_walk.specs.declared.event.Event.TheVariants as event
 use Rattle.tlv_walk.specs.declared.framing.Framing.{Framing}
-use Rattle.tlv_walk.specs.Phase.{Phase, Between, InHeader, InPrimitive, InBitString, InEndOctets, Refused}
-use Rattle.tlv_walk.specs.Stack.{Frame, IsInIndefinite, IsInWrapper, IsNested, bound_of}
+use Rattle.tlv_walk.specs.Phase.{PhaseValue, Between, InHeader, InPrimitive, InBitString, InEndOctets, Refused}
+use Rattle.tlv_walk.specs.Stack.{FrameValue, IsInIndefinite, IsInWrapper, IsNested, bound_of}
 use Rattle.tlv_walk.specs.Place.{IsWithin}
 
 pub record WalkerState : Type 0 where
   -- the open elements, innermost first
-  pub stack : List Frame
+  pub stack : List FrameValue
   -- what the next octet belongs to
-  pub phase : Phase
+  pub phase : PhaseValue
   -- how many octets were taken, and how many events yielded
   pub offset : ℕ
   pub events : ℕ
@@ -42,7 +42,7 @@ pub record IsInHeader (r : HeadReaderState) (at : ℕ) : Type 0 where
 
 -- by phase: an open element, a header that has begun and a first 00 without the second have octets that no event was
 -- yielded for
-abbrev pub IsPhase : Phase → List Frame → ℕ → ℕ → Type 0
+abbrev pub IsPhase : PhaseValue → List FrameValue → ℕ → ℕ → Type 0
 IsPhase Between stack offset events = events + length stack ≤ offset
 IsPhase (InHeader r) stack offset events = IsInHeader r offset × (events + length stack + length r.octets ≤ offset)
 IsPhase (InPrimitive left) stack offset events =
@@ -71,7 +71,7 @@ IfRefused w P = (f : Fault) → w.phase ≡ Refused f → P f
 
 -- a phase in which an event was yielded for each octet taken: no header has begun, no end-of-contents octets, and no
 -- octet was refused
-abbrev pub IsAfterEvent : Phase → Type 0
+abbrev pub IsAfterEvent : PhaseValue → Type 0
 IsAfterEvent Between = Unit {0}
 IsAfterEvent (InHeader r) = ⊥
 IsAfterEvent (InPrimitive left) = Unit {0}

@@ -11,13 +11,13 @@ abbrev pub wrapper_at : HeaderValue → List ℕ
 wrapper_at h = if h.constructed then [] else h.offset ∷ []
 
 -- the offsets of the wrappers
-abbrev pub wrappers : Forest → List ℕ
-wrappers (PaddingOctet rest) = wrappers rest
-wrappers (Primitive h c rest) = wrappers rest
-wrappers (Holder h children rest) = wrapper_at h ++ (wrappers children ++ wrappers rest)
-wrappers (OpenHolder h children) = wrapper_at h ++ wrappers children
-wrappers (OpenBitString h) = wrapper_at h
-wrappers end = []
+abbrev pub wrapper_offsets : Forest → List ℕ
+wrapper_offsets (PaddingOctet rest) = wrapper_offsets rest
+wrapper_offsets (Primitive h c rest) = wrapper_offsets rest
+wrapper_offsets (Holder h children rest) = wrapper_at h ++ (wrapper_offsets children ++ wrapper_offsets rest)
+wrapper_offsets (OpenHolder h children) = wrapper_at h ++ wrapper_offsets children
+wrapper_offsets (OpenBitString h) = wrapper_at h
+wrapper_offsets end = []
 
 -- the first offset of the list that is not among the others
 abbrev pub first_other : List ℕ → List ℕ → Option ℕ
@@ -25,10 +25,10 @@ first_other ns others = find (λ n. not (is_among n others)) ns
 
 -- the first named offset that is no wrapper's
 abbrev pub first_without_wrapper : List ℕ → Forest → Option ℕ
-first_without_wrapper inside f = first_other inside (wrappers f)
+first_without_wrapper inside f = first_other inside (wrapper_offsets f)
 
 -- the offsets of the wrappers that events enter
-abbrev pub wrapper_offsets : List EventValue → List ℕ
-wrapper_offsets [] = []
-wrapper_offsets (Enter h ∷ es) = h.offset ∷ wrapper_offsets es
-wrapper_offsets (e ∷ es) = wrapper_offsets es
+abbrev pub entered_offsets : List EventValue → List ℕ
+entered_offsets [] = []
+entered_offsets (Enter h ∷ es) = h.offset ∷ entered_offsets es
+entered_offsets (e ∷ es) = entered_offsets es

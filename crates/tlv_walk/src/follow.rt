@@ -1,10 +1,10 @@
 //! What follows a walk.
 ghost use Rattle.std.specs.Prelude.{◌≡◌, true};
-ghost use Rattle.tlv_head.specs.HeaderFields.{IsHeaderSized, header_with};
+ghost use Rattle.tlv_head.specs.HeaderFields.{IsHeaderSized, new_header};
 ghost use Rattle.tlv_walk.specs.Events.{Bytes, EventValue, Open, Pad};
-ghost use Rattle.tlv_walk.specs.Follow.{Effect, GoesOn, HasEffect, HasEffectOrNone, IsWholeElement, Joins, Rests, put_if_followed, whole_effect};
+ghost use Rattle.tlv_walk.specs.Follow.{Effect, GoesOn, HasEffect, HasEffectOrNone, IsWholeElement, Joins, IgnoresNoOctets, put_if_followed, whole_effect};
 ghost use Rattle.tlv_io.specs.Out.{Puts};
-ghost use Rattle.tlv_walk.specs.HasRead.{event_value};
+ghost use Rattle.tlv_walk.specs.HasRead.{event_value_of};
 
 use crate::{Drain, Event, Out, WriteFault};
 use tlv_head::{Header, HeaderFields};
@@ -33,8 +33,8 @@ pub trait Follow {
     /// and what was to be put now.
     fn on<D: Drain>(&mut self, event: &Event<'_>, out: &mut Out<'_, D>) -> Result<Go, WriteFault>
         ensures puts { Puts D.state out.old out.new
-            (next self.old (event_value event.now)).put result }
-        ensures state { HasEffect (next self.old (event_value event.now)) self.new result };
+            (next self.old (event_value_of event.now)).put result }
+        ensures state { HasEffect (next self.old (event_value_of event.now)) self.new result };
 
     /// Follows a primitive of which all octets are at hand, header and contents: its header, its contents and its
     /// end, one after another, and wants more after each. Returns whether it did. It may always leave them to
@@ -76,9 +76,9 @@ pub trait Follow {
         requires sized { IsHeaderSized fields.now octets.now }
         requires constructed { fields.now.constructed ≡ true }
         ensures puts { Puts D.state out.old out.new
-            (next self.old (Open (header_with fields.now octets.now))).put result }
+            (next self.old (Open (new_header fields.now octets.now))).put result }
         ensures state { HasEffect
-            (next self.old (Open (header_with fields.now octets.now))) self.new result }
+            (next self.old (Open (new_header fields.now octets.now))) self.new result }
     {
         self.on(&Event::Open(Header::new(fields, octets)), out)
     }
@@ -87,13 +87,13 @@ pub trait Follow {
     // enough. So it is for padding.
     ghost bytes_join: { Joins next Bytes };
 
-    ghost bytes_rest: { Rests next Bytes };
+    ghost bytes_rest: { IgnoresNoOctets next Bytes };
 
     ghost bytes_go_on: { GoesOn next Bytes };
 
     ghost pad_join: { Joins next Pad };
 
-    ghost pad_rest: { Rests next Pad };
+    ghost pad_rest: { IgnoresNoOctets next Pad };
 
     ghost pad_go_on: { GoesOn next Pad };
 }

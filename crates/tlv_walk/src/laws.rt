@@ -7,15 +7,15 @@ ghost use Rattle.tlv_walk.specs.Ending.{IsEnding};
 ghost use Rattle.tlv_walk.specs.Events.{AreEqualJoined, EventValue, single_octets};
 ghost use Rattle.tlv_walk.specs.Follow.{effect_of};
 ghost use Rattle.tlv_walk.specs.Forest.{Forest, is_complete};
-ghost use Rattle.tlv_walk.specs.Laws.{EventsGoOn, FaultsAreFinal, FaultsAreRight, FrontsAreOpen, OctetsHaveOneEnding, OctetsHaveOneReading, SpellingsAreExact};
+ghost use Rattle.tlv_walk.specs.Laws.{EventsGoOn, FaultsAreFinal, FaultsAreRight, PrefixesAreOpen, OctetsHaveOneEnding, OctetsHaveOneReading, SpellingsAreExact};
 ghost use Rattle.tlv_walk.specs.Place.{IsOpen, top_place};
 ghost use Rattle.tlv_walk.specs.Reading.{IsSound, IsSoundList};
 
 use crate::Follow;
 
 /// Wherever an open forest is cut off, what is left is an open forest.
-pub fn fronts_are_open()
-    ensures { FrontsAreOpen }
+pub fn prefixes_are_open()
+    ensures { PrefixesAreOpen }
 {}
 
 /// Octets can be read in one way only: two open forests that stand at one place and have one spelling

@@ -6,7 +6,7 @@ ghost use Rattle.tlv_walk.specs.Private.FollowsPiece.{FollowsAndFlushes, Follows
 ghost use Rattle.tlv_walk.specs.Private.WalkerState.{CanPass};
 ghost use Rattle.tlv_walk.specs.Stands.{CanTake};
 ghost use Rattle.tlv_io.specs.Out.{Puts, held_octets, drain_of};
-ghost use Rattle.tlv_walk.specs.HasRead.{event_value};
+ghost use Rattle.tlv_walk.specs.HasRead.{event_value_of};
 ghost use Rattle.tlv_walk.specs.OneTurn.{FollowsOneRead, turn_state};
 
 use crate::walker::WholePrimitive;
@@ -249,8 +249,8 @@ fn follow_event<F: Follow, D: Drain>(
     out: &mut Out<'_, D>,
 ) -> Result<Go, WriteFault>
     ensures puts { Puts D.state out.old out.new
-        (F.next follower.old (event_value event.now)).put result }
-    ensures state { HasEffect (F.next follower.old (event_value event.now)) follower.new result }
+        (F.next follower.old (event_value_of event.now)).put result }
+    ensures state { HasEffect (F.next follower.old (event_value_of event.now)) follower.new result }
 {
     follower.on(event, out)
 }

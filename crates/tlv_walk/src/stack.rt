@@ -2,7 +2,7 @@
 ghost use Rattle.std.specs.Prelude.{◌≡◌, ◌≢◌, ◌-◌, ◌^◌, ◌<◌, ◌≤◌, ◌↔◌, ◌∷◌, IfSome, IsTrue, None, [], length, drop, true};
 ghost use Rattle.tlv_walk.specs.Stack.{IsFilled, IsInIndefinite, IsInWrapper, bound_of};
 ghost use Rattle.tlv_walk.specs.Place.{IsWithin};
-ghost use Rattle.tlv_walk.specs.Private.Stack.{frame_inside, room_in, room_to, wraps_of};
+ghost use Rattle.tlv_walk.specs.Private.Stack.{frame_inside, room_in, room_to, innermost_wraps};
 
 use crate::frames::Frames;
 use std::marker::Model;
@@ -43,9 +43,9 @@ pub(crate) struct Stack {
 
 impl Model for Stack {
     ghost use Rattle.std.specs.Prelude.{List};
-    ghost use Rattle.tlv_walk.specs.Stack.{Frame as Seen};
+    ghost use Rattle.tlv_walk.specs.Stack.{FrameValue};
 
-    ghost Value = { List Seen };
+    ghost Value = { List FrameValue };
 
     ghost use Rattle.tlv_walk.specs.Private.FrameFields.{AreHolders, frames_from};
 
@@ -110,7 +110,7 @@ impl Stack {
     /// Closes the innermost element, and returns whether it wraps encodings.
     #[inline(always)]
     pub fn pop(&mut self) -> Option<bool>
-        ensures value { result ≡ wraps_of self.old }
+        ensures value { result ≡ innermost_wraps self.old }
         ensures rest { self.new ≡ drop 1 self.old }
     {
         let wrapper = self.is_in_wrapper();

@@ -1,6 +1,6 @@
 //! Why the words of a command line are refused, and what the program reports then.
 ghost use Rattle.std.specs.Prelude.{◌≡◌, ◌++◌, ◌≤◌, codes, length};
-ghost use Rattle.tlv_run.specs.Report.{report_value};
+ghost use Rattle.tlv_run.specs.Report.{report_value_of};
 ghost use Rattle.tlv_words.specs.Usage.{unprinted_report, usage_report, words_report};
 
 use arrayvec::ArrayVec;
@@ -20,7 +20,7 @@ pub enum UsageFault {
 
 /// The report if the words are refused, or ask for help or for the version. What `clap` has to say is no part of it.
 pub fn usage_report(fault: &UsageFault) -> Report
-    ensures { report_value result ≡ usage_report fault.now }
+    ensures { report_value_of result ≡ usage_report fault.now }
 {
     match fault {
         UsageFault::Parser(error) => Report::without_message(if error.use_stderr() {
@@ -39,14 +39,14 @@ pub fn usage_report(fault: &UsageFault) -> Report
 
 /// The report if help or the version was asked for and could not be written.
 pub fn unprinted_report() -> Report
-    ensures { report_value result ≡ unprinted_report }
+    ensures { report_value_of result ≡ unprinted_report }
 {
     device_report(DeviceFault::WriteFailed)
 }
 
 /// The report if a word of the command line is not UTF-8.
 pub fn words_report() -> Report
-    ensures { report_value result ≡ words_report }
+    ensures { report_value_of result ≡ words_report }
 {
     Report::with_message(4, b"U1 an argument is not UTF-8")
 }

@@ -6,7 +6,7 @@ use Rattle.std.proofs.lemmas.Bool.{cases_lt, cases_eq, cases_Bool, and_parts, no
 use Rattle.tlv_head.specs.declared.header.Class.{Class}
 use Rattle.tlv_head.specs.Header.{HeaderValue, IsHeader, IsIdentifier, octets_of}
 use Rattle.tlv_head.specs.Laws.{AreHeaderOctets, IsRefusable}
-use Rattle.tlv_head.specs.Refusal.{CannotBecomeHeader, IsFront, IsLengthFront, IsRefusedOctet, indefinite_primitive}
+use Rattle.tlv_head.specs.Refusal.{CannotBecomeHeader, IsHeaderPrefix, IsLengthPrefix, IsRefusedOctet, indefinite_primitive}
 use Rattle.tlv_head.specs.Refusal.{length_too_large, reserved_length, tag_too_long}
 use Rattle.tlv_head.specs.declared.fault.FaultCode.{FaultCode}
 use Rattle.tlv_head.specs.declared.fault.FaultCode.TheVariants.{StrayEnd, IndefinitePrimitive}
@@ -98,7 +98,7 @@ explains-long at x c k n i m ds o s = ⊎_elim
     let parts : (not (eqb x 0) ≡ true) × (ltb (length ds + 5) m ≡ true) = and_parts _ _ bad in
     let many : length ds + 5 < m = ltb-true _ _ parts.1 in
     let total : length ds + (m - length ds) ≡ m = omega arith in
-    let front : IsLengthFront c k n i ds (m - length ds) o = record {
+    let front : IsLengthPrefix c k n i ds (m - length ds) o = record {
       identified = s.identifier;
       each = s.each;
       some = omega arith;
@@ -132,7 +132,7 @@ stuck-none at s o e m n h (x ∷ more) v f =
 
 -- one more octet makes the front of a header, or a header, or begins none
 pub data Next (o : List ℕ) (x : ℕ) : Type 0 where
-  continues : IsFront (o ++ x ∷ []) → Next o x
+  continues : IsHeaderPrefix (o ++ x ∷ []) → Next o x
   completes : (h : HeaderValue) → IsHeader h → octets_of h ≡ o ++ x ∷ [] → Next o x
   refuses : (code : FaultCode) → IsHeadRefusal code o x → CannotBecomeHeader (o ++ x ∷ []) → Next o x
 
@@ -148,7 +148,7 @@ next-from o x Over e r w = absurd w
 next-more : (o : List ℕ) (x : ℕ) → x < 256 → is_more (scan start o) ≡ true → IsStateAfter start (scan start o) o → Next o x
 next-more o x h m r = next-from o x (step start (scan start o) x) (scan_from-append start Fresh o (x ∷ [])) (reads-step start x (scan start o) o h r) (explains start x (scan start o) o m r)
 
-pub next : (o : List ℕ) (x : ℕ) → x < 256 → (o ≡ []) ⊎ IsFront o → Next o x
+pub next : (o : List ℕ) (x : ℕ) → x < 256 → (o ≡ []) ⊎ IsHeaderPrefix o → Next o x
 next o x h (inl e) = rw e (next-more [] x h refl refl)
 next o x h (inr f) = next-more o x h (more-from_front start o f) (reads-scan start o (front-bytes o f))
 
@@ -157,11 +157,11 @@ refused-octet StrayEnd o x first r = absurd (first r.0 r.1)
 refused-octet code o x first r = r
 
 -- a first octet other than 00 is refused for the octets alone
-pub classified : (o : List ℕ) (x : ℕ) → (o ≡ [] → x ≢ 0) → Next o x → IsFront (o ++ x ∷ []) ⊎ (AreHeaderOctets (o ++ x ∷ []) ⊎ IsRefusable o x)
+pub classified : (o : List ℕ) (x : ℕ) → (o ≡ [] → x ≢ 0) → Next o x → IsHeaderPrefix (o ++ x ∷ []) ⊎ (AreHeaderOctets (o ++ x ∷ []) ⊎ IsRefusable o x)
 classified o x first (continues f) = inl f
 classified o x first (completes h v e) = inr (inl (h, v, e))
 classified o x first (refuses code r none) = inr (inr (code, refused-octet code o x first r))
 
 -- what can go on is no header
-pub front-no_header : (o : List ℕ) (h : HeaderValue) → IsFront o → IsHeader h → octets_of h ≡ o → ⊥
+pub front-no_header : (o : List ℕ) (h : HeaderValue) → IsHeaderPrefix o → IsHeader h → octets_of h ≡ o → ⊥
 front-no_header o h f v e = no-front h f.header f.more v f.valid f.proper (rw e f.front)

@@ -13,7 +13,7 @@ use Rattle.tlv_head.specs.declared.header.Size.{Size}
 use Rattle.tlv_head.specs.declared.header.Size.TheVariants.{Definite, Indefinite}
 use Rattle.tlv_head.specs.Header.{AllowsSize, HeaderValue, IsHeader, IsIdentifier, IsLength, class_bits, leading_octet}
 use Rattle.tlv_head.specs.Header.{octets_of, value_of}
-use Rattle.tlv_head.specs.Refusal.{IsFront}
+use Rattle.tlv_head.specs.Refusal.{IsHeaderPrefix}
 use Rattle.tlv_head.specs.declared.fault.FaultCode.TheVariants.{IndefinitePrimitive}
 use Rattle.tlv_head.proofs.NumberLemmas.Digits.{value_of-snoc, value_of-zeros}
 use Rattle.tlv_head.proofs.GrammarLemmas.Scan.{Origin, origin_of, start, Scan, Fresh, High, Named, Long, Ready, Stuck}
@@ -197,7 +197,7 @@ pub reads-scan : (at : Origin) (xs : List ℕ) → All (λ x. x < 256) xs → Is
 reads-scan at xs each = reads-scan_from at Fresh [] xs each refl
 
 -- identifier octets, or the first of them, are the front of a header: its length may be 0
-named-front : (c : Class) (k : Bool) (n : ℕ) (i o more : List ℕ) → IsIdentifier c k n i → o ≢ [] → o ++ more ≡ i → IsFront o
+named-front : (c : Class) (k : Bool) (n : ℕ) (i o more : List ℕ) → IsIdentifier c k n i → o ≢ [] → o ++ more ≡ i → IsHeaderPrefix o
 named-front c k n i o more id some e = record {
   header = head_of start c k n i (Definite 0) (0 ∷ []);
   more = more ++ 0 ∷ [];
@@ -207,7 +207,7 @@ named-front c k n i o more id some e = record {
 }
 
 -- octets up to digits of a length are the front of a header: its other digits may be zeros
-long-front : (c : Class) (k : Bool) (n : ℕ) (i : List ℕ) (m : ℕ) (ds o : List ℕ) → o ≢ [] → IsLongState c k n i m ds o → IsFront o
+long-front : (c : Class) (k : Bool) (n : ℕ) (i : List ℕ) (m : ℕ) (ds o : List ℕ) → o ≢ [] → IsLongState c k n i m ds o → IsHeaderPrefix o
 long-front c k n i m ds o some s =
     let total : length (ds ++ replicate (m - length ds) 0) ≡ m = omega (arith, length-append ds (replicate (m - length ds) 0), length-replicate {A = ℕ} (m - length ds) 0, s.short) in
     record {
@@ -231,7 +231,7 @@ long-front c k n i m ds o some s =
     }
 
 -- octets after which more are needed are the front of a header
-pub front-from_more : (at : Origin) (s : Scan) (o : List ℕ) → IsStateAfter at s o → o ≢ [] → is_more s ≡ true → IsFront o
+pub front-from_more : (at : Origin) (s : Scan) (o : List ℕ) → IsStateAfter at s o → o ≢ [] → is_more s ≡ true → IsHeaderPrefix o
 front-from_more at Fresh o r some e = absurd (some r)
 front-from_more at (High c k ds) o r some e =
     named-front c k _ _ o (0 ∷ []) (inr (record { digits = ds; last = 0; each = r.each; last_digit = omega arith; few = r.few; value = refl; octets_are = refl })) some (rw r.octets)
@@ -275,5 +275,5 @@ header-bytes h valid =
 All-front : (xs ys : List ℕ) → All (λ x. x < 256) (xs ++ ys) → All (λ x. x < 256) xs
 All-front xs ys each k d h = rw (get_or_append_left xs ys d k h) at (each k d (omega (arith, length-append xs ys)))
 
-pub front-bytes : (o : List ℕ) → IsFront o → All (λ x. x < 256) o
+pub front-bytes : (o : List ℕ) → IsHeaderPrefix o → All (λ x. x < 256) o
 front-bytes o f = All-front o f.more (rw f.front (header-bytes f.header f.valid))

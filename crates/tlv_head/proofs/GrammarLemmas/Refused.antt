@@ -9,7 +9,7 @@ use Rattle.tlv_head.specs.declared.fault.FaultCode.{FaultCode}
 use Rattle.tlv_head.specs.declared.fault.FaultCode.TheVariants.{TagTooLong, ReservedLength, IndefinitePrimitive}
 use Rattle.tlv_head.specs.declared.fault.FaultCode.TheVariants.{LengthTooLarge}
 use Rattle.tlv_head.specs.Header.{HeaderValue, IsHeader, IsIdentifier, leading_octet, octets_of, with_bit_8}
-use Rattle.tlv_head.specs.Refusal.{CannotBecomeHeader, BeginsWithNoHeader, IsFront, IsRefusedOctet}
+use Rattle.tlv_head.specs.Refusal.{CannotBecomeHeader, BeginsWithNoHeader, IsHeaderPrefix, IsRefusedOctet}
 use Rattle.tlv_head.specs.Refusal.{indefinite_primitive, length_too_large, reserved_length, tag_too_long}
 use Rattle.tlv_head.proofs.GrammarLemmas.Scan.{Scan, Origin, start, Fresh, High, Named, Long, Ready, Stuck, Over, step}
 use Rattle.tlv_head.proofs.GrammarLemmas.Scan.{scan_from, scan, scan_from-append, scan_from-over, scan-identifier}
@@ -185,7 +185,7 @@ stuck-no_more at o r =
     ap is_more split ∙ past-stuck at r.code r.rest
 
 -- after the front of a header an octet is refused with this code
-pub refused-stuck : (at : Origin) (code : FaultCode) (o : List ℕ) (x : ℕ) → IsFront o → IsRefusedOctet o x code → scan at (o ++ x ∷ []) ≡ Stuck code
+pub refused-stuck : (at : Origin) (code : FaultCode) (o : List ℕ) (x : ℕ) → IsHeaderPrefix o → IsRefusedOctet o x code → scan at (o ++ x ∷ []) ≡ Stuck code
 refused-stuck at code o x front r = ⊎_elim
     (λ (e : scan at (o ++ x ∷ []) ≡ Stuck code). e)
     (λ (s : (code ≡ LengthTooLarge) × IsStuckFrom at Fresh o).

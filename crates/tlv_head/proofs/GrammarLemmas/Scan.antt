@@ -12,7 +12,7 @@ use Rattle.tlv_head.specs.declared.header.Size.{Size}
 use Rattle.tlv_head.specs.declared.header.Size.TheVariants.{Definite, Indefinite}
 use Rattle.tlv_head.specs.Header.{AllowsSize, HeaderValue, IsHeader, IsIdentifier, IsLength, class_bits, leading_octet}
 use Rattle.tlv_head.specs.Header.{octets_of, value_of}
-use Rattle.tlv_head.specs.Refusal.{IsFront}
+use Rattle.tlv_head.specs.Refusal.{IsHeaderPrefix}
 use Rattle.tlv_head.specs.declared.fault.FaultCode.{FaultCode}
 use Rattle.tlv_head.specs.declared.fault.FaultCode.TheVariants.{StrayEnd, TagTooLong, ReservedLength}
 use Rattle.tlv_head.specs.declared.fault.FaultCode.TheVariants.{IndefinitePrimitive, LengthTooLarge}
@@ -243,7 +243,7 @@ more-cases at s xs h some r true e = e
 more-cases at s xs h some r false e = absurd (scan_from-past at s xs h e some r)
 
 -- after the front of a header more octets are needed
-pub more-from_front : (at : Origin) (o : List ℕ) → IsFront o → is_more (scan at o) ≡ true
+pub more-from_front : (at : Origin) (o : List ℕ) → IsHeaderPrefix o → is_more (scan at o) ≡ true
 more-from_front at o f =
     let whole : scan at (o ++ f.more) ≡ Ready (moved at f.header) = rw f.front (scan-moved at f.header f.valid) in
     more-cases at (scan at o) f.more (moved at f.header) f.proper (rw (scan_from-append at Fresh o f.more) at whole) (is_more (scan at o)) refl

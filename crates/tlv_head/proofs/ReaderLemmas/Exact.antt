@@ -8,7 +8,7 @@ use Rattle.tlv_head.specs.declared.reader.Head.{Head}
 use Rattle.tlv_head.specs.declared.reader.Head.TheVariants.{Whole, Refused}
 use Rattle.tlv_head.specs.Header.{HeaderValue, holds}
 use Rattle.tlv_head.specs.HeadReaderState.{ContentsFit, HeadReaderState}
-use Rattle.tlv_head.specs.Refusal.{IsFront, IsRefusedOctet}
+use Rattle.tlv_head.specs.Refusal.{IsHeaderPrefix, IsRefusedOctet}
 use Rattle.tlv_head.specs.Push.{Completes, FitsThere, IsRefusedPush, Pushes, more, no_room, overrun, refused}
 use Rattle.tlv_head.specs.Push.{refused_octet, too_deep, whole}
 use Rattle.tlv_head.proofs.GrammarLemmas.Headers.{front-no_header}
@@ -21,7 +21,7 @@ completes_unique r x g h p q =
     same-header g h p.valid q.valid (λ i. record { offset = (p.offset ∙ sym q.offset) i; named = (p.named ∙ sym q.named) i }) (p.octets ∙ sym q.octets)
 
 -- the front of a header is no whole header
-pub front_not_whole : (r : HeadReaderState) (x : ℕ) (h : HeaderValue) → IsFront (r.octets ++ x ∷ []) → Completes r (x ∷ []) h → ⊥
+pub front_not_whole : (r : HeadReaderState) (x : ℕ) (h : HeaderValue) → IsHeaderPrefix (r.octets ++ x ∷ []) → Completes r (x ∷ []) h → ⊥
 front_not_whole r x h f c = front-no_header _ h f c.valid c.octets
 
 -- an octet that is refused for the octets alone completes no header
@@ -76,7 +76,7 @@ one_code c d r x room depth (overrun n h e k l) (refused_octet m q) = absurd (re
 one_code c d r x room depth (overrun n h e k l) (too_deep m g f i j) = absurd (not_deep_and_past r x depth g h f i j e k)
 one_code c d r x room depth (overrun n h e k l) (overrun m g f i j) = refl
 
-refused_no_front : (code : FaultCode) (r : HeadReaderState) (x : ℕ) (room : Option ℕ) (depth : ℕ) → IsRefusedPush r x room depth code → room ≢ Some 0 → IsFront (r.octets ++ x ∷ []) → ⊥
+refused_no_front : (code : FaultCode) (r : HeadReaderState) (x : ℕ) (room : Option ℕ) (depth : ℕ) → IsRefusedPush r x room depth code → room ≢ Some 0 → IsHeaderPrefix (r.octets ++ x ∷ []) → ⊥
 refused_no_front code r x room depth (no_room z) n f = n z
 refused_no_front code r x room depth (refused_octet m p) n f = refused-none code r.octets x p f.header f.more f.valid f.front
 refused_no_front code r x room depth (too_deep m h c k l) n f = front_not_whole r x h f c

@@ -9,20 +9,20 @@ use Rattle.tlv_head.specs.declared.header.Size.{Size}
 use Rattle.tlv_head.specs.declared.header.Size.TheVariants.{Definite, Indefinite}
 use Rattle.tlv_head.specs.declared.header.HeaderFields.{HeaderFields}
 use Rattle.tlv_head.specs.declared.next_octet.Identifier.{Identifier}
-use Rattle.tlv_head.specs.HeaderFields.{IsHeaderSized, header_with}
+use Rattle.tlv_head.specs.HeaderFields.{IsHeaderSized, new_header}
 use Rattle.tlv_head.specs.declared.next_octet.Part.{Part}
 use Rattle.tlv_head.specs.declared.next_octet.Part.TheVariants.{Start, Number, Length, Digits, Done}
 use Rattle.tlv_head.specs.Header.{HeaderValue, IsHeader, IsIdentifier, IsLength, octets_of}
 use Rattle.tlv_head.specs.HeaderSoFar.{Carries, is_done}
 use Rattle.tlv_head.specs.Private.NextOctet.{BeginsWithIdentifier, BeginsWithLength, MakesHeader}
 use Rattle.tlv_head.specs.ReadHeader.{BeginsWithFields}
-use Rattle.tlv_head.specs.Refusal.{BeginsWith, IsFront}
+use Rattle.tlv_head.specs.Refusal.{BeginsWith, IsHeaderPrefix}
 use Rattle.tlv_head.proofs.GrammarLemmas.Scan.{origin_of, scan, Fresh, Ready, no-front, scan-header}
 use Rattle.tlv_head.proofs.ReaderLemmas.Unfinished.{unfinished_number, unfinished_identifier, unfinished_length}
 
 -- nothing yet, or the front of a header
 abbrev pub IsBegun : List ℕ → Type 0
-IsBegun os = (os ≡ []) ⊎ IsFront os
+IsBegun os = (os ≡ []) ⊎ IsHeaderPrefix os
 
 pub begun_part : (p : Part) (os : List ℕ) → Carries p os → is_done p ≡ false → IsBegun os
 begun_part Start os h e = inl h
@@ -80,7 +80,7 @@ made_sized os f id size m e =
     record { identifier = omega (arith, e); few = omega (arith, e); room = omega arith }
 
 pub made_begins : (os rest : List ℕ) (at : ℕ) (named : Bool) (id : Identifier) (size : Size) → MakesHeader id size os
-    → BeginsWith (os ++ rest) at named (header_with (record { offset = at; named = named; class = id.class; constructed = id.constructed; number = id.number; size = size; id_len = id.octets }) os)
+    → BeginsWith (os ++ rest) at named (new_header (record { offset = at; named = named; class = id.class; constructed = id.constructed; number = id.number; size = size; id_len = id.octets }) os)
 made_begins os rest at named id size m =
     let front : take id.octets os ≡ m.identifier = rw (m.octets_are, m.identified.count) (take-append_seam m.identifier m.lengths) in
     let back : drop id.octets os ≡ m.lengths = rw (m.octets_are, m.identified.count) (drop-append_seam m.identifier m.lengths) in
@@ -114,6 +114,6 @@ begins_short os at named id size before count i e l =
     record {
       within = within;
       sized = made_sized (take (before + count) os) _ id size made refl;
-      begins = subst (λ (xs : List ℕ). BeginsWith xs at named (header_with (record { offset = at; named = named; class = id.class; constructed = id.constructed; number = id.number; size = size; id_len = id.octets }) (take (before + count) os)))
+      begins = subst (λ (xs : List ℕ). BeginsWith xs at named (new_header (record { offset = at; named = named; class = id.class; constructed = id.constructed; number = id.number; size = size; id_len = id.octets }) (take (before + count) os)))
           (take-append-drop (before + count) os) (made_begins (take (before + count) os) (drop (before + count) os) at named id size made);
     }

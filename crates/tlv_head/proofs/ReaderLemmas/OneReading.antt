@@ -2,7 +2,7 @@
 use Rattle.std.proofs.Common.{◌≡◌, ℕ, ◌<◌, Bool, List, length, take, ap, sym, ◌∙◌, arith}
 use Rattle.std.proofs.lemmas.List.{length-take-le, take-append-drop}
 use Rattle.tlv_head.specs.declared.header.HeaderFields.{HeaderFields}
-use Rattle.tlv_head.specs.HeaderFields.{header_with}
+use Rattle.tlv_head.specs.HeaderFields.{new_header}
 use Rattle.tlv_head.specs.Header.{HeaderValue, octets_of}
 use Rattle.tlv_head.specs.ReadHeader.{BeginsWithFields}
 use Rattle.tlv_head.proofs.GrammarLemmas.Headers.{one-header}
@@ -16,14 +16,14 @@ identifier-count octets at named f n b =
     length-take-le f.id_len (take n octets) (omega arith)
 
 octets-count : (octets : List ℕ) (at : ℕ) (named : Bool) (f : HeaderFields) (n : ℕ) → BeginsWithFields octets at named f n
-    → length (octets_of (header_with f (take n octets))) ≡ n
+    → length (octets_of (new_header f (take n octets))) ≡ n
 octets-count octets at named f n b = ap length (take-append-drop f.id_len (take n octets)) ∙ length-take-le n octets b.within
 
 pub one-reading : (octets : List ℕ) (offset : ℕ) (named : Bool) (f g : HeaderFields) (m n : ℕ)
     → BeginsWithFields octets offset named f m → BeginsWithFields octets offset named g n → (f ≡ g) × (m ≡ n)
 one-reading octets offset named f g m n p q =
-    let h : HeaderValue = header_with f (take m octets) in
-    let k : HeaderValue = header_with g (take n octets) in
+    let h : HeaderValue = new_header f (take m octets) in
+    let k : HeaderValue = new_header g (take n octets) in
     let origin : origin_of h ≡ origin_of k =
     (λ i. record { offset = (p.begins.offset ∙ sym q.begins.offset) i; named = (p.begins.named ∙ sym q.begins.named) i }) in
     let same : h ≡ k = (one-header h k p.begins.rest q.begins.rest p.begins.valid q.begins.valid origin (sym p.begins.octets ∙ q.begins.octets)).0 in

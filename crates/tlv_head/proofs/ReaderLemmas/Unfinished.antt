@@ -5,7 +5,7 @@ use Rattle.std.proofs.Common.{append_assoc, lit<, take, drop}
 use Rattle.std.proofs.lemmas.Bool.{cases_eq}
 use Rattle.tlv_head.specs.Header.{HeaderValue, IsHeader, is_wrapper}
 use Rattle.tlv_head.specs.HeadReaderState.{ContentsFit, HeadReaderState}
-use Rattle.tlv_head.specs.Refusal.{IsFront}
+use Rattle.tlv_head.specs.Refusal.{IsHeaderPrefix}
 use Rattle.tlv_head.specs.Push.{Completes, IsRefusedPush, overrun, too_deep}
 use Rattle.tlv_head.specs.HeaderSoFar.{Carries, CarriesNumber, CarriesIdentifier, CarriesLength, is_done}
 use Rattle.tlv_head.specs.Private.NextOctet.{MakesHeader}
@@ -86,7 +86,7 @@ cons≢nil : (x : ℕ) (xs : List ℕ) → x ∷ xs ≢ []
 cons≢nil x xs e = cc
 
 -- octets are the front of a header if they are with a zero after them
-zero_after : (os : List ℕ) → IsFront (os ++ 0 ∷ []) → IsFront os
+zero_after : (os : List ℕ) → IsHeaderPrefix (os ++ 0 ∷ []) → IsHeaderPrefix os
 zero_after os u = record {
   header = u.header;
   more = 0 ∷ u.more;
@@ -95,7 +95,7 @@ zero_after os u = record {
   front = sym (append_assoc os (0 ∷ []) u.more) ∙ u.front;
 }
 
-zero_ends : (id : Identifier) (size : Size) (os : List ℕ) → MakesHeader id size (os ++ 0 ∷ []) → IsFront os
+zero_ends : (id : Identifier) (size : Size) (os : List ℕ) → MakesHeader id size (os ++ 0 ∷ []) → IsHeaderPrefix os
 zero_ends id size os m = record {
   header = made 0 false id size _ m;
   more = 0 ∷ [];
@@ -104,7 +104,7 @@ zero_ends id size os m = record {
   front = m.octets_are;
 }
 
-pub unfinished_identifier : (id : Identifier) (os : List ℕ) → CarriesIdentifier id os → IsFront os
+pub unfinished_identifier : (id : Identifier) (os : List ℕ) → CarriesIdentifier id os → IsHeaderPrefix os
 unfinished_identifier id os h = zero_ends id (Definite 0) os (record {
   identifier = os;
   lengths = 0 ∷ [];
@@ -116,10 +116,10 @@ unfinished_identifier id os h = zero_ends id (Definite 0) os (record {
   octets_are = refl;
 })
 
-pub unfinished_number : (id : Identifier) (os : List ℕ) → CarriesNumber id os → IsFront os
+pub unfinished_number : (id : Identifier) (os : List ℕ) → CarriesNumber id os → IsHeaderPrefix os
 unfinished_number id os h = zero_after os (unfinished_identifier _ _ (ends_number id 0 0 os h refl (lit< tt)))
 
-pub unfinished_length : (k : ℕ) (id : Identifier) (n left : ℕ) (os : List ℕ) → left ≤ k → CarriesLength id n left os → IsFront os
+pub unfinished_length : (k : ℕ) (id : Identifier) (n left : ℕ) (os : List ℕ) → left ≤ k → CarriesLength id n left os → IsHeaderPrefix os
 unfinished_length zero id n left os below h = let some : 1 ≤ left = h.front.some in absurd (omega arith)
 unfinished_length (suc k) id n left os below h = elim (cases_eq (left - 1) 0) [
   | inl e ↦ zero_ends id (Definite (n * 256 + 0)) os (ends_length id n left 0 0 os h refl (lit< tt) (inl refl) e)
@@ -130,7 +130,7 @@ snoc≢nil : (os : List ℕ) (x : ℕ) → os ++ x ∷ [] ≢ []
 snoc≢nil [] x e = cc
 snoc≢nil (y ∷ os) x e = cc
 
-pub unfinished_part : (p : Part) (os : List ℕ) (x : ℕ) → Carries p (os ++ x ∷ []) → IsFront (os ++ x ∷ []) × (is_done p ≡ false)
+pub unfinished_part : (p : Part) (os : List ℕ) (x : ℕ) → Carries p (os ++ x ∷ []) → IsHeaderPrefix (os ++ x ∷ []) × (is_done p ≡ false)
 unfinished_part Start os x h = absurd (snoc≢nil os x h)
 unfinished_part (Number id) os x h = (unfinished_number id _ h, refl)
 unfinished_part (Length id) os x h = (unfinished_identifier id _ h, refl)

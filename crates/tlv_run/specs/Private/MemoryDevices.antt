@@ -13,23 +13,23 @@ ending_source_state source = record {
 }
 
 -- if another would give nothing, at its end, such a source fails
-abbrev pub or_failed : LastReadValue → LastReadValue
-or_failed never = never
-or_failed (gave zero) = failed
-or_failed (gave (suc n)) = gave (suc n)
-or_failed failed = failed
+abbrev pub failing_last_read : LastReadValue → LastReadValue
+failing_last_read never = never
+failing_last_read (gave zero) = failed
+failing_last_read (gave (suc n)) = gave (suc n)
+failing_last_read failed = failed
 
 -- once it has failed it has nothing left
-abbrev pub left_until : ℕ → List ℕ → List ℕ
-left_until zero octets = octets
-left_until (suc failures) octets = []
+abbrev pub octets_left : ℕ → List ℕ → List ℕ
+octets_left zero octets = octets
+octets_left (suc failures) octets = []
 
 -- a source that fails after its octets, after so many failures
 abbrev pub failing_source_state : MemSourceState → ℕ → SourceState
 failing_source_state source failures = record {
-  left = Some (left_until failures source.left);
+  left = Some (octets_left failures source.left);
   reads = source.log.reads;
-  last = or_failed source.log.last;
+  last = failing_last_read source.log.last;
   failures = failures;
 }
 

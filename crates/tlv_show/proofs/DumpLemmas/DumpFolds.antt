@@ -1,7 +1,7 @@
 -- A dump shows its text, and counts its findings.
 use Rattle.std.proofs.Common.{◌≡◌, ℕ, ◌^◌, ◌≤◌, List, [], ◌∷◌, length, refl, ap, ◌∙◌, arith, length-append}
 use Rattle.std.specs.Prelude.{None}
-use Rattle.tlv_value.specs.Names.{Table}
+use Rattle.tlv_value.specs.Names.{NamesTable}
 use Rattle.tlv_walk.specs.declared.follow.Go.{Go}
 use Rattle.tlv_walk.specs.Events.{Begin, Bytes, Close, End, Enter, EventValue, Leave, Open, Pad, Unused, events}
 use Rattle.tlv_walk.specs.Follow.{Effect, effect_of, if_on}
@@ -11,7 +11,7 @@ use Rattle.tlv_walk.specs.Reading.{IsReading}
 use Rattle.tlv_show.specs.declared.options.Options.{Options}
 use Rattle.tlv_show.specs.DumpJob.{dump_job, top_layout}
 use Rattle.tlv_show.specs.DumpStep.{DumpState, dump_step, new_dump}
-use Rattle.tlv_show.specs.FinderState.{FinderState, top_frame}
+use Rattle.tlv_show.specs.FinderState.{CheckState, top_frame}
 use Rattle.tlv_show.specs.Private.FinderState.{finder_step}
 use Rattle.tlv_show.specs.Site.{Start}
 use Rattle.tlv_show.specs.Texts.{finding_count}
@@ -38,9 +38,9 @@ finder-run s [] = refl
 finder-run s (e ∷ es) =
     ap (λ (g : Go). (if_on g (dump_step s e) (λ u. effect_of dump_step u es)).state.finder) (one_on s e)
     ∙ finder-run (dump_step s e).state es
-    ∙ ap (λ (u : FinderState). (run u es).state) (finder-by s e)
+    ∙ ap (λ (u : CheckState). (run u es).state) (finder-by s e)
 
-module _ (options : Options) (names : Table) (octets : List ℕ) (f : Forest) (short : length octets ≤ 2 ^ 40) (r : IsReading options.framing octets f) where
+module _ (options : Options) (names : NamesTable) (octets : List ℕ) (f : Forest) (short : length octets ≤ 2 ^ 40) (r : IsReading options.framing octets f) where
   pub text-made : (effect_of dump_step (new_dump options.rules (top_layout options) names) (events f)).put ≡ (dump_job options names).text f
   text-made =
       (shows_forest (top_layout options) names options.rules (top_place options.framing) None Start top_frame [] f r.is_open (omega (arith, short, ap length r.is_prefix.1, length-append (spelling f) r.is_prefix.0))
@@ -48,8 +48,8 @@ module _ (options : Options) (names : Table) (octets : List ℕ) (f : Forest) (s
 
   pub count-made : (effect_of dump_step (new_dump options.rules (top_layout options) names) (events f)).state.finder.count ≡ finding_count options.rules f
   count-made =
-      ap (λ (u : FinderState). u.count) (finder-run (new_dump options.rules (top_layout options) names) (events f)) ∙ count-run options.rules options.framing octets f short r
+      ap (λ (u : CheckState). u.count) (finder-run (new_dump options.rules (top_layout options) names) (events f)) ∙ count-run options.rules options.framing octets f short r
 
-pub dumps : (options : Options) (names : Table)
+pub dumps : (options : Options) (names : NamesTable)
     → Shower dump_step (new_dump options.rules (top_layout options) names) options.framing (dump_job options names).text (finding_count options.rules) (λ (s : DumpState). s.finder.count)
 dumps options names = record { goes_on = all_on; put = λ octets f few r. text-made options names octets f few r; counts = λ octets f few r. count-made options names octets f few r }

@@ -7,7 +7,7 @@ use Rattle.tlv_head.specs.Header.{HeaderValue, announced_length, octets_of, wrap
 use Rattle.tlv_value.specs.declared.finding.Finding.{Finding}
 use Rattle.tlv_value.specs.declared.layout.Layout.{Layout}
 use Rattle.tlv_value.specs.ValueCheckState.{value_check_after, has_unused_bits, new_value_check}
-use Rattle.tlv_value.specs.Names.{Table}
+use Rattle.tlv_value.specs.Names.{NamesTable}
 use Rattle.tlv_value.specs.ValueLines.{open_lines, whole_lines}
 use Rattle.tlv_value.specs.Types.{is_primitive}
 use Rattle.tlv_walk.specs.declared.follow.Go.{Go}
@@ -22,7 +22,7 @@ use Rattle.tlv_show.specs.declared.finding_lines.Style.TheVariants.{Dump}
 use Rattle.tlv_show.specs.FindingLines.{styled_lines}
 use Rattle.tlv_show.specs.LinesStep.{LinesState}
 use Rattle.tlv_show.specs.DumpStep.{DumpState, dump_step}
-use Rattle.tlv_show.specs.FinderState.{FinderValue, frame_after, frame_under, surroundings_in}
+use Rattle.tlv_show.specs.FinderState.{FinderState, frame_after, frame_under, surroundings_in}
 use Rattle.tlv_show.specs.Found.{contents_findings, header_findings, end_findings}
 use Rattle.tlv_show.specs.Items.{Item, FindingAt, OpeningLine, ClosingLine, PrimitiveLines, OpenPrimitiveLines, PaddingLine, headers, items}
 use Rattle.tlv_show.proofs.FindingLemmas.ElementItems.{findings_at}
@@ -42,7 +42,7 @@ use Rattle.tlv_show.proofs.DumpLemmas.DumpEvents.{pair, is_shown, then_shown, te
 use Rattle.tlv_show.specs.Conditions.{surroundings_of, segments_of}
 
 -- ---- elements, in this style, with these names and rules
-module _ (style : Layout) (names : Table) (rules : Rules) where
+module _ (style : Layout) (names : NamesTable) (rules : Rules) where
   abbrev item : Item → List ℕ
   item i = item_text (finite.get names) style i
 
@@ -96,7 +96,7 @@ module _ (style : Layout) (names : Table) (rules : Rules) where
       ≡ is_shown (start (place_of_children p h) false (frame_under w h) (w ∷ outer) (later_header rules w h n)) (styled_lines (Dump style.pure) (length outer) h.offset (header_findings rules (surroundings_in w) h) ++ holder_line (at_level style names p.depth) h)
   opened-shown p holder before w outer n h k there low far =
       opens-by (lines_at style names p.depth p.at (is_padding before)) (standing rules w outer n) h h.constructed (h.number == 3)
-      ∙ ap₂ (λ (d : Effect LinesState) (f : FinderValue). is_shown (pair d.state f.state) (texts style f ++ d.put))
+      ∙ ap₂ (λ (d : Effect LinesState) (f : FinderState). is_shown (pair d.state f.state) (texts style f ++ d.put))
       (holder_shown style names p.depth p.at (is_padding before) h there (omega (arith, low)) far)
       (opened-find rules w outer n h (omega (arith, k.1, low)))
 
@@ -108,7 +108,7 @@ module _ (style : Layout) (names : Table) (rules : Rules) where
       (styled_lines (Dump style.pure) (length outer) h.offset (header_findings rules (surroundings_in w) h) ++ (whole_lines (finite.get names) h (at_level style names p.depth) c ++ styled_lines (Dump style.pure) (length outer) h.offset (contents_findings rules h c)))
   primitive-shown p padded w outer n h c there size far =
       primitive-by (lines_at style names p.depth p.at padded) (standing rules w outer n) h c
-      ∙ ap₂ (λ (d : Effect LinesState) (f : FinderValue). is_shown (pair d.state f.state) (styled_lines (Dump style.pure) (length outer) h.offset (header_findings rules (surroundings_in w) h) ++ (d.put ++ texts style f)))
+      ∙ ap₂ (λ (d : Effect LinesState) (f : FinderState). is_shown (pair d.state f.state) (styled_lines (Dump style.pure) (length outer) h.offset (header_findings rules (surroundings_in w) h) ++ (d.put ++ texts style f)))
       (primitive_shown style names p.depth p.at padded h c there size far)
       (primitive-find rules w outer n h c (sym size))
 
@@ -181,7 +181,7 @@ module _ (style : Layout) (names : Table) (rules : Rules) where
       ≡ is_shown (start q false (frame_after w (is_primitive h) (announced_length h.size) false) outer (after_end rules h inside m)) (close ++ last) =
       λ m.
       closes-by (lines_at style names (p.depth + 1) end false) (standing rules (noted_all (frame_under w h) inside) (w ∷ outer) m) (end_offset h.size (h.offset + length (opening h) + length (spelling inside))) h.constructed
-      ∙ ap₂ (λ (d : Effect LinesState) (f : FinderValue). is_shown (pair d.state f.state) (d.put ++ texts style f))
+      ∙ ap₂ (λ (d : Effect LinesState) (f : FinderState). is_shown (pair d.state f.state) (d.put ++ texts style f))
       (closer_shown style names p.depth end h inside (omega (arith, v.0.0.header.offset)) v.0.0.header.valid.allowed (omega (arith, b, size)))
       (closed-find rules i_place w outer m h inside v.1 v.0.1)
       ∙ ap (λ (l : List ℕ). is_shown (pair (lines_at style names p.depth (end + length (end_octets h.size)) false) (standing rules (frame_after w (is_primitive h) (announced_length h.size) false) outer (after_end rules h inside m))) (close ++ l))

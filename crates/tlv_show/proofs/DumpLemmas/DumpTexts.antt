@@ -8,7 +8,7 @@ use Rattle.tlv_head.specs.declared.header.Size.{Size}
 use Rattle.tlv_head.specs.declared.header.Size.TheVariants.{Definite, Indefinite}
 use Rattle.tlv_head.specs.Header.{AllowsSize, HeaderValue, announced_length, octets_of}
 use Rattle.tlv_value.specs.declared.layout.Layout.{Layout}
-use Rattle.tlv_value.specs.Names.{Table}
+use Rattle.tlv_value.specs.Names.{NamesTable}
 use Rattle.tlv_value.specs.ValueLines.{open_lines, whole_lines}
 use Rattle.tlv_value.specs.ValueTextState.{ValueTextState, begin_lines, contents_lines, end_lines, new_value_text, value_text_after}
 use Rattle.tlv_value.specs.Value.{NameOf}
@@ -19,7 +19,7 @@ use Rattle.tlv_walk.specs.Forest.{Forest, NoMore, PaddingOctet, Primitive, Holde
 use Rattle.tlv_walk.specs.Place.{IsOpen, Place, place_after}
 use Rattle.tlv_walk.proofs.FollowerLemmas.Followed.{followed-more}
 use Rattle.tlv_walk.proofs.GrammarLemmas.Spellings.{length-opening}
-use Rattle.tlv_show.specs.LinesStep.{LinesState, lines_effect, lines_step, past_header}
+use Rattle.tlv_show.specs.LinesStep.{LinesState, lines_effect, lines_step, lines_after_header}
 use Rattle.tlv_show.specs.Lines.{closing_line, opening_line, padding_line, opening_word}
 use Rattle.tlv_show.proofs.DumpLemmas.HolderLine.{holder_line}
 use Rattle.tlv_show.proofs.DumpLemmas.Dumped.{after_put, dumped_bytes, rested-new}
@@ -57,11 +57,11 @@ whole_shown name_of h layout c e =
 -- whatever went before
 pub primitives_shown : (s : LinesState) (h : HeaderValue) (c : List ℕ) → announced_length h.size ≡ length c
     → effect_of lines_step s (Begin h ∷ Bytes c ∷ End ∷ [])
-    ≡ lines_effect (record (past_header s h) { offset = saturating_sum (past_header s h).offset (length c); value = None }) (whole_lines (finite.get s.names) h s.layout c)
+    ≡ lines_effect (record (lines_after_header s h) { offset = saturating_sum (lines_after_header s h).offset (length c); value = None }) (whole_lines (finite.get s.names) h s.layout c)
 primitives_shown s h c size =
     let t : ValueTextState = new_value_text h s.layout in
-    let u : LinesState = record (past_header s h) { value = Some t } in
-    let place_after : LinesState = record (past_header s h) { offset = saturating_sum (past_header s h).offset (length c); value = None } in
+    let u : LinesState = record (lines_after_header s h) { value = Some t } in
+    let place_after : LinesState = record (lines_after_header s h) { offset = saturating_sum (lines_after_header s h).offset (length c); value = None } in
     let took = take-all (announced_length h.size) c (omega (arith, size)) in
     let none : announced_length h.size - length c ≡ 0 = omega (arith, size) in
     ap (λ (k : Effect LinesState). after_put (begin_lines t) (if_on k.goes k (λ w. effect_of lines_step w (End ∷ [])))) (dumped_bytes u c (λ e. rested-new h s.layout))
@@ -70,7 +70,7 @@ primitives_shown s h c size =
     ∙ ap (lines_effect place_after) (whole_shown (finite.get s.names) h s.layout c (sym size))
 
 -- of elements in this style, with these names
-module _ (style : Layout) (names : Table) where
+module _ (style : Layout) (names : NamesTable) where
   abbrev pub at_level : ℕ → Layout
   at_level level = record style { level = level }
 
@@ -86,7 +86,7 @@ module _ (style : Layout) (names : Table) where
   -- ---- a primitive
 
   abbrev begun_in : ℕ → ℕ → Bool → HeaderValue → LinesState
-  begun_in level at padded h = record (past_header (standing level at padded) h) { value = Some (new_value_text h (at_level level)) }
+  begun_in level at padded h = record (lines_after_header (standing level at padded) h) { value = Some (new_value_text h (at_level level)) }
 
   pub primitive_shown : (level at : ℕ) (padded : Bool) (h : HeaderValue) (c : List ℕ) → h.offset ≡ at → announced_length h.size ≡ length c → at + (length (octets_of h) + length c) ≤ 2 ^ 64 - 1
       → effect_of lines_step (standing level at padded) (Begin h ∷ Bytes c ∷ End ∷ []) ≡ lines_effect (standing level (at + (length (octets_of h) + length c)) false) (whole_lines (finite.get names) h (at_level level) c)

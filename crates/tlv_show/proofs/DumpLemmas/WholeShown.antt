@@ -16,9 +16,9 @@ use Rattle.tlv_io.proofs.Puts.{HasPut, puts_as, puts_failed_last, puts_text}
 use Rattle.tlv_show.specs.declared.finding_lines.Style.TheVariants.{Dump}
 use Rattle.tlv_show.specs.FindingLines.{styled_lines}
 use Rattle.tlv_show.specs.LinesStep.{LinesState}
-use Rattle.tlv_show.specs.Private.LinesStep.{past_primitive}
+use Rattle.tlv_show.specs.Private.LinesStep.{lines_after_primitive}
 use Rattle.tlv_show.specs.DumpStep.{DumpState, dump_step}
-use Rattle.tlv_show.specs.FinderState.{FinderState, FinderValue, finder_begin_step}
+use Rattle.tlv_show.specs.FinderState.{CheckState, FinderState, finder_begin_step}
 use Rattle.tlv_show.specs.Private.FinderState.{PassesOrStays, PassesPrimitive, finder_whole_step}
 use Rattle.tlv_show.proofs.DumpLemmas.DumpEvents.{pair, primitive-by, is_shown, texts}
 use Rattle.tlv_show.proofs.DumpLemmas.DumpTexts.{primitives_shown}
@@ -27,13 +27,13 @@ abbrev pub lines_of : DumpState → HeaderValue → List ℕ → List ℕ
 lines_of s h c = whole_lines (finite.get s.lines.names) h s.lines.layout c
 
 abbrev pub after_whole : DumpState → HeaderValue → List ℕ → DumpState
-after_whole s h c = pair (past_primitive s.lines h c) (finder_whole_step s.finder h c).state
+after_whole s h c = pair (lines_after_primitive s.lines h c) (finder_whole_step s.finder h c).state
 
 pub whole_is : (s : DumpState) (h : HeaderValue) (c : List ℕ) → announced_length h.size ≡ length c → (finder_begin_step s.finder h).found ≡ [] → (finder_whole_step s.finder h c).found ≡ []
     → effect_of dump_step s (Begin h ∷ Bytes c ∷ End ∷ []) ≡ is_shown (after_whole s h c) (lines_of s h c)
 whole_is s h c size begins ends =
-    let b : FinderValue = finder_begin_step s.finder h in
-    let f : FinderValue = finder_whole_step s.finder h c in
+    let b : FinderState = finder_begin_step s.finder h in
+    let f : FinderState = finder_whole_step s.finder h c in
     let style = Dump s.lines.layout.pure in
     primitive-by s.lines s.finder h c
     ∙ ap (λ (d : Effect LinesState). is_shown (pair d.state f.state) (texts s.lines.layout b ++ (d.put ++ texts s.lines.layout f))) (primitives_shown s.lines h c size)
@@ -47,11 +47,11 @@ octets_are s h o c same size begins ends =
     ap (λ (l : List ℕ). effect_of dump_step s (Begin h ∷ Bytes l ∷ End ∷ [])) (sym same) ∙ whole_is s h c size begins ends
 
 -- if a finder took the primitive
-took : (old new : FinderValue) (h : HeaderValue) (c : List ℕ) (x : Bool) → x ≡ true → PassesOrStays old new h c x → PassesPrimitive old new h c
+took : (old new : FinderState) (h : HeaderValue) (c : List ℕ) (x : Bool) → x ≡ true → PassesOrStays old new h c x → PassesPrimitive old new h c
 took old new h c true e p = p
 took old new h c false e p = absurd (true≢false (sym e))
 
-module _ (s u : DumpState) (old new : FinderValue) (h : HeaderValue) (o c : List ℕ) (x : Bool) (is : u ≡ s) (finder : u.finder ≡ old.state) (same : c ≡ contents_in h o) (whole : IsWholeElement h o)
+module _ (s u : DumpState) (old new : FinderState) (h : HeaderValue) (o c : List ℕ) (x : Bool) (is : u ≡ s) (finder : u.finder ≡ old.state) (same : c ≡ contents_in h o) (whole : IsWholeElement h o)
     (on : x ≡ true) (passes : PassesOrStays old new h c x) where
   pub made_is : effect_of dump_step s (whole_events h o) ≡ is_shown (after_whole u h c) (lines_of u h c)
   made_is =
@@ -59,10 +59,10 @@ module _ (s u : DumpState) (old new : FinderValue) (h : HeaderValue) (o c : List
       ap (λ (v : DumpState). effect_of dump_step v (whole_events h o)) (sym is)
       ∙ octets_are u h o c same (whole.contents ∙ ap length (sym same)) (rw finder p.begins) (rw finder p.ends)
 
-  pub stands_after : (l : LinesState) → l ≡ past_primitive u.lines h c → pair l new.state ≡ after_whole u h c
+  pub stands_after : (l : LinesState) → l ≡ lines_after_primitive u.lines h c → pair l new.state ≡ after_whole u h c
   stands_after l e =
       let p = took old new h c x on passes in
-      ap₂ pair e (ap (λ (f : FinderValue). f.state) p.state ∙ ap (λ (f : FinderState). (finder_whole_step f h c).state) (sym finder))
+      ap₂ pair e (ap (λ (f : FinderState). f.state) p.state ∙ ap (λ (f : CheckState). (finder_whole_step f h c).state) (sym finder))
 
 -- ---- by a call that may leave them to others
 

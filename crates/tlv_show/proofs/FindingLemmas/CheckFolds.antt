@@ -25,7 +25,7 @@ use Rattle.tlv_show.specs.CheckJob.{check_job}
 use Rattle.tlv_show.specs.CheckStep.{check_step}
 use Rattle.tlv_show.specs.FindingLines.{styled_lines}
 use Rattle.tlv_show.specs.Conditions.{end_conditions, header_conditions, segments_of, surroundings_of}
-use Rattle.tlv_show.specs.FinderState.{FinderState, FinderValue, OpenValue, finder_frame_end_step, finder_open_step, finder_value_end_step, frame_under, new_finder, open_value_after, top_frame, surroundings_in}
+use Rattle.tlv_show.specs.FinderState.{CheckState, FinderState, OpenPrimitiveState, finder_frame_end_step, finder_open_step, finder_value_end_step, frame_under, new_finder, open_value_after, top_frame, surroundings_in}
 use Rattle.tlv_show.specs.Private.FinderState.{finder_step}
 use Rattle.tlv_show.specs.Found.{contents_findings, header_findings, is_shown, end_findings}
 use Rattle.tlv_show.specs.Items.{Item, FindingAt, OpeningLine, ClosingLine, PrimitiveLines, OpenPrimitiveLines, PaddingLine, headers, items}
@@ -45,15 +45,15 @@ written-items level at [] = refl
 written-items level at (f ∷ fs) = ap (λ (l : List ℕ). check_line (FindingAt level at f) ++ l) (written-items level at fs)
 
 -- what a check makes of events: what the finder reports of them, listed
-abbrev pub listed_run : Step → Effect FinderState
+abbrev pub listed_run : Step → Effect CheckState
 listed_run u = record { state = u.state; put = flat_map check_line u.put; goes = go.On }
 
-pub followed-run : (s : FinderState) (es : List EventValue) → effect_of check_step s es ≡ listed_run (run s es)
+pub followed-run : (s : CheckState) (es : List EventValue) → effect_of check_step s es ≡ listed_run (run s es)
 followed-run s [] = refl
 followed-run s (e ∷ es) =
-    let f : FinderValue = finder_step s e in
-    ap (λ (t : Effect FinderState). if_on t.goes t (λ u. effect_of check_step u es)) (step-is s e)
-    ∙ ap (λ (t : Effect FinderState). record t { put = styled_lines Check f.level f.at f.found ++ t.put }) (followed-run f.state es)
+    let f : FinderState = finder_step s e in
+    ap (λ (t : Effect CheckState). if_on t.goes t (λ u. effect_of check_step u es)) (step-is s e)
+    ∙ ap (λ (t : Effect CheckState). record t { put = styled_lines Check f.level f.at f.found ++ t.put }) (followed-run f.state es)
     ∙ ap (λ (l : List ℕ). record { state = (run f.state es).state; put = l; goes = go.On })
     (ap (λ (l : List ℕ). l ++ flat_map check_line (run f.state es).put) (sym (written-items f.level f.at f.found))
     ∙ sym (flat_map-append check_line (found_items f) (run f.state es).put))
@@ -75,24 +75,24 @@ count-none n = omega arith
 count-more : (n m k : ℕ) → saturating_sum (saturating_sum n m) k ≡ saturating_sum n (m + k)
 count-more n m k = omega arith
 
-either-count : (a b : FinderState) (k : Bool) → a.count ≡ b.count → (if k then b else a).count ≡ a.count
+either-count : (a b : CheckState) (k : Bool) → a.count ≡ b.count → (if k then b else a).count ≡ a.count
 either-count a b true e = sym e
 either-count a b false e = refl
 
-by-value : (s : FinderState) (v : Option OpenValue) → (finder_value_end_step s v).state.count ≡ saturating_sum s.count (length (finder_value_end_step s v).found)
+by-value : (s : CheckState) (v : Option OpenPrimitiveState) → (finder_value_end_step s v).state.count ≡ saturating_sum s.count (length (finder_value_end_step s v).found)
 by-value s None = count-none s.count
 by-value s (Some v) = refl
 
-by-frames : (s : FinderState) (outer : List SiblingFrame) → (finder_frame_end_step s outer).state.count ≡ saturating_sum s.count (length (finder_frame_end_step s outer).found)
+by-frames : (s : CheckState) (outer : List SiblingFrame) → (finder_frame_end_step s outer).state.count ≡ saturating_sum s.count (length (finder_frame_end_step s outer).found)
 by-frames s [] = count-none s.count
 by-frames s (w ∷ outer) = refl
 
-opened-count : (s : FinderState) (h : HeaderValue) → (finder_open_step s h).state.count ≡ saturating_sum s.count (length (finder_open_step s h).found)
+opened-count : (s : CheckState) (h : HeaderValue) → (finder_open_step s h).state.count ≡ saturating_sum s.count (length (finder_open_step s h).found)
 opened-count s h =
     ap (λ (n : ℕ). saturating_sum n (length (header_findings s.rules (surroundings_in s.frame) h))) (either-count s (record s { frame = frame_under s.frame h; outer = s.frame ∷ s.outer }) (nat_lt (length s.outer) 128) refl)
 
 -- an event's findings are counted
-counted-one : (s : FinderState) (e : EventValue) → (finder_step s e).state.count ≡ saturating_sum s.count (length (finder_step s e).found)
+counted-one : (s : CheckState) (e : EventValue) → (finder_step s e).state.count ≡ saturating_sum s.count (length (finder_step s e).found)
 counted-one s (Open h) = opened-count s h
 counted-one s (Begin h) = refl
 counted-one s (Bytes octets) = either-count (record s { value = open_value_after s.value octets }) s (length octets == 0) refl ∙ count-none s.count
@@ -103,10 +103,10 @@ counted-one s Unused = count-none s.count
 counted-one s Leave = by-frames s s.outer
 counted-one s (Pad octets) = count-none s.count
 
-pub counted-all : (s : FinderState) (es : List EventValue) → (run s es).state.count ≡ saturating_sum s.count (length (run s es).put)
+pub counted-all : (s : CheckState) (es : List EventValue) → (run s es).state.count ≡ saturating_sum s.count (length (run s es).put)
 counted-all s [] = count-none s.count
 counted-all s (e ∷ es) =
-    let f : FinderValue = finder_step s e in
+    let f : FinderState = finder_step s e in
     counted-all f.state es
     ∙ ap (λ (n : ℕ). saturating_sum n (length (run f.state es).put)) (counted-one s e)
     ∙ count-more s.count (length f.found) (length (run f.state es).put)
@@ -185,7 +185,7 @@ module _ (rules : Rules) where
 
   -- ---- a check
 
-  abbrev start : FinderState
+  abbrev start : CheckState
   start = new_finder rules
 
   module _ (framing : Framing) (octets : List ℕ) (f : Forest) (short : length octets ≤ 2 ^ 40) (r : IsReading framing octets f) where
@@ -193,7 +193,7 @@ module _ (rules : Rules) where
     put-is = (finds_forest rules (top_place framing) top_site top_frame [] f r.is_open refl refl refl (λ e. refl)).put 0
 
     pub text-made : (effect_of check_step start (events f)).put ≡ (check_job rules framing).text f
-    text-made = ap (λ (t : Effect FinderState). t.put) (followed-run start (events f)) ∙ ap (flat_map check_line) put-is ∙ only-written (items rules top_site f)
+    text-made = ap (λ (t : Effect CheckState). t.put) (followed-run start (events f)) ∙ ap (flat_map check_line) put-is ∙ only-written (items rules top_site f)
 
     pub count-run : (run start (events f)).state.count ≡ finding_count rules f
     count-run =
@@ -203,11 +203,11 @@ module _ (rules : Rules) where
         ∙ omega (arith, few (top_place framing) top_site f r.is_open, short, n, ap length r.is_prefix.1, length-append (spelling f) r.is_prefix.0)
 
     pub count-made : (effect_of check_step start (events f)).state.count ≡ finding_count rules f
-    count-made = ap (λ (t : Effect FinderState). t.state.count) (followed-run start (events f)) ∙ count-run
+    count-made = ap (λ (t : Effect CheckState). t.state.count) (followed-run start (events f)) ∙ count-run
 
 -- a check always wants more
-pub all_on : (s : FinderState) (es : List EventValue) → (effect_of check_step s es).goes ≡ go.On
-all_on s es = ap (λ (t : Effect FinderState). t.goes) (followed-run s es)
+pub all_on : (s : CheckState) (es : List EventValue) → (effect_of check_step s es).goes ≡ go.On
+all_on s es = ap (λ (t : Effect CheckState). t.goes) (followed-run s es)
 
-pub checks : (rules : Rules) (framing : Framing) → Shower check_step (new_finder rules) framing (check_job rules framing).text (finding_count rules) (λ (s : FinderState). s.count)
+pub checks : (rules : Rules) (framing : Framing) → Shower check_step (new_finder rules) framing (check_job rules framing).text (finding_count rules) (λ (s : CheckState). s.count)
 checks rules framing = record { goes_on = all_on; put = λ octets f few r. text-made rules framing octets f few r; counts = λ octets f few r. count-made rules framing octets f few r }

@@ -3,7 +3,7 @@ use Rattle.std.proofs.Common.{◌≡◌, ℕ, ◌-◌, ◌&&◌, ◌||◌, ◌==
 use Rattle.std.proofs.lemmas.Bool.{eqb-true}
 use Rattle.std.specs.Prelude.{Option, None, eqb, Some}
 use Rattle.tlv_head.specs.Header.{HeaderValue, announced_length, is_universal}
-use Rattle.tlv_value.specs.ValueCheckState.{value_check_after, has_unused_bits, begins_nonzero, new_value_check, new_check_of}
+use Rattle.tlv_value.specs.ValueCheckState.{value_check_after, has_unused_bits, begins_nonzero, new_value_check, new_value_check_of}
 use Rattle.tlv_head.specs.UniversalTypes.{bit_string, octet_string}
 use Rattle.tlv_value.specs.Types.{has_segments, is_a, is_primitive, type_number}
 use Rattle.tlv_value.proofs.CheckLemmas.CheckPieces.{checked-none}
@@ -56,9 +56,9 @@ full-or-not : (k e : Bool) → not (not k && e) ≡ (k || not e)
 full-or-not true e = refl
 full-or-not false e = refl
 
-unused-at : (k : Bool) (n size x : ℕ) (c : List ℕ) → eqb n bit_string ≡ k → has_unused_bits (value_check_after (new_check_of n size) (x ∷ c)) ≡ (k && not (x == 0))
-unused-at true n size x c e = subst (λ (m : ℕ). has_unused_bits (value_check_after (new_check_of m size) (x ∷ c)) ≡ not (x == 0)) (sym (eqb-true n bit_string e)) refl
-unused-at false n size x c e = ap (λ (k : Bool). k && begins_nonzero (value_check_after (new_check_of n size) (x ∷ c)).front) e
+unused-at : (k : Bool) (n size x : ℕ) (c : List ℕ) → eqb n bit_string ≡ k → has_unused_bits (value_check_after (new_value_check_of n size) (x ∷ c)) ≡ (k && not (x == 0))
+unused-at true n size x c e = subst (λ (m : ℕ). has_unused_bits (value_check_after (new_value_check_of m size) (x ∷ c)) ≡ not (x == 0)) (sym (eqb-true n bit_string e)) refl
+unused-at false n size x c e = ap (λ (k : Bool). k && begins_nonzero (value_check_after (new_value_check_of n size) (x ∷ c)).front) e
 
 type-is : (universal : Bool) (n : ℕ) → eqb (if universal then n else octet_string) bit_string ≡ (universal && n == bit_string)
 type-is true n = refl

@@ -6,15 +6,15 @@ use Rattle.tlv_value.specs.Types.{has_segments}
 use Rattle.tlv_show.specs.declared.sibling_frame.SiblingFrame.{SiblingFrame}
 use Rattle.tlv_show.specs.declared.sibling_frame.KeptFrame.{KeptFrame}
 use Rattle.tlv_show.specs.FinderState.{frame_after, frame_after_segment, frame_of, frame_under, top_frame, surroundings_in}
-use Rattle.tlv_show.specs.Private.Nesting.{AreKept, IsKept, NestingState, TakesBack, all_frames, all_of, innermost, nesting_around, nesting_inside, nesting_outside, outside, segments_by, segments_left}
+use Rattle.tlv_show.specs.Private.Nesting.{AreKept, IsKept, NestingState, TakesBack, all_frames, frames_with, innermost_frame, nesting_around, nesting_inside, nesting_outside, outer_frames, segments_by, segments_left}
 
 -- ---- how many there are
 
-length-all : (w : SiblingFrame) (n : ℕ) (outer : List SiblingFrame) → length (all_of w n outer) ≡ n + length outer + 1
+length-all : (w : SiblingFrame) (n : ℕ) (outer : List SiblingFrame) → length (frames_with w n outer) ≡ n + length outer + 1
 length-all w zero outer = omega arith
 length-all w (suc n) outer = let e = length-all w n outer in omega (arith, e)
 
-pub length-outside : (w : SiblingFrame) (n : ℕ) (outer : List SiblingFrame) → length (outside w n outer) ≡ n + length outer
+pub length-outside : (w : SiblingFrame) (n : ℕ) (outer : List SiblingFrame) → length (outer_frames w n outer) ≡ n + length outer
 length-outside w zero outer = omega arith
 length-outside w (suc n) outer = let e = length-all w n outer in omega (arith, e)
 
@@ -27,7 +27,7 @@ length-others floor (k ∷ outer) (above, kept, others) =
 
 -- the level is their number
 pub one_each : (w : SiblingFrame) (floor level : ℕ) (outer : List KeptFrame) → floor ≤ level → AreKept floor outer
-    → length (outside w (level - floor) (all_frames floor outer)) ≡ level
+    → length (outer_frames w (level - floor) (all_frames floor outer)) ≡ level
 one_each w floor level outer inside others =
     let e = length-outside w (level - floor) (all_frames floor outer) in
     let r = length-others floor outer others in
@@ -40,17 +40,17 @@ fewer-kept floor (k ∷ outer) (above, kept, others) = let r = fewer-kept k.floo
 -- ---- what contracts see of those that are kept
 
 abbrev nest : SiblingFrame → ℕ → List SiblingFrame → NestingState
-nest w n outer = record { frame = innermost w n; outer = outside w n outer }
+nest w n outer = record { frame = innermost_frame w n; outer = outer_frames w n outer }
 
 abbrev seen : SiblingFrame → ℕ → ℕ → List KeptFrame → NestingState
 seen w floor level outer = nest w (level - floor) (all_frames floor outer)
 
-split : (w : SiblingFrame) (n : ℕ) (outer : List SiblingFrame) → all_of w n outer ≡ innermost w n ∷ outside w n outer
+split : (w : SiblingFrame) (n : ℕ) (outer : List SiblingFrame) → frames_with w n outer ≡ innermost_frame w n ∷ outer_frames w n outer
 split w zero outer = refl
 split w (suc n) outer = refl
 
 -- all frames outside of strings say the same of what is around an element
-pub around-same : (w : SiblingFrame) (n : ℕ) → IsKept w n → surroundings_in w ≡ surroundings_in (innermost w n)
+pub around-same : (w : SiblingFrame) (n : ℕ) → IsKept w n → surroundings_in w ≡ surroundings_in (innermost_frame w n)
 around-same w zero kept = refl
 around-same w (suc n) kept =
     ap (λ (k : Bool). record {
@@ -62,30 +62,30 @@ around-same w (suc n) kept =
 
 -- ---- an element begins
 
-entered-is : (w : SiblingFrame) (n : ℕ) (outer : List SiblingFrame) (h : HeaderValue) → length (outside w n outer) < 128
+entered-is : (w : SiblingFrame) (n : ℕ) (outer : List SiblingFrame) (h : HeaderValue) → length (outer_frames w n outer) < 128
     → nesting_inside (nest w n outer) h
-    ≡ record { frame = frame_under (innermost w n) h; outer = innermost w n ∷ outside w n outer }
+    ≡ record { frame = frame_under (innermost_frame w n) h; outer = innermost_frame w n ∷ outer_frames w n outer }
 entered-is w n outer h few =
-    let yes : nat_lt (length (outside w n outer)) 128 ≡ true = grind (arith, nat_tests) in
+    let yes : nat_lt (length (outer_frames w n outer)) 128 ≡ true = grind (arith, nat_tests) in
     rw yes refl
 
 neither : (a b : Bool) → (a || b) ≡ false → (a ≡ false) × (b ≡ false)
 neither true b e = absurd (cc (e))
 neither false b e = (refl, e)
 
-entered-plain : (w : SiblingFrame) (n : ℕ) (outer : List SiblingFrame) (h : HeaderValue) → length (outside w n outer) < 128
+entered-plain : (w : SiblingFrame) (n : ℕ) (outer : List SiblingFrame) (h : HeaderValue) → length (outer_frames w n outer) < 128
     → IsKept w n → (w.has_segments || has_segments h) ≡ false → nest w (suc n) outer ≡ nesting_inside (nest w n outer) h
 entered-plain w n outer h few kept none =
     let e : w.has_segments ≡ false = (neither w.has_segments (has_segments h) none).0 in
     let f : has_segments h ≡ false = (neither w.has_segments (has_segments h) none).1 in
-    ap₂ (λ (a b : Bool). record { frame = if a || b then frame_of h else top_frame; outer = all_of w n outer })
+    ap₂ (λ (a b : Bool). record { frame = if a || b then frame_of h else top_frame; outer = frames_with w n outer })
     (sym (kept ∙ e)) (sym f)
-    ∙ ap (λ (l : List SiblingFrame). record { frame = frame_under (innermost w n) h; outer = l }) (split w n outer)
+    ∙ ap (λ (l : List SiblingFrame). record { frame = frame_under (innermost_frame w n) h; outer = l }) (split w n outer)
     ∙ sym (entered-is w n outer h few)
 
-entered-frame : (w : SiblingFrame) (n : ℕ) (outer : List SiblingFrame) (h : HeaderValue) → length (outside w n outer) < 128
+entered-frame : (w : SiblingFrame) (n : ℕ) (outer : List SiblingFrame) (h : HeaderValue) → length (outer_frames w n outer) < 128
     → IsKept w n → (w.has_segments || has_segments h) ≡ true
-    → nest (frame_of h) 0 (all_of w n outer) ≡ nesting_inside (nest w n outer) h
+    → nest (frame_of h) 0 (frames_with w n outer) ≡ nesting_inside (nest w n outer) h
 entered-frame w n outer h few kept one =
     ap₂ (λ (b : Bool) (l : List SiblingFrame). record { frame = if b then frame_of h else top_frame; outer = l })
     (sym (ap (λ (b : Bool). b || has_segments h) kept ∙ one)) (split w n outer)
@@ -96,7 +96,7 @@ module _
     (inside : floor ≤ level) (kept : IsKept w (level - floor)) (others : AreKept floor outer)
     (h : HeaderValue) (few : level < 128)
   where
-    few-outside : length (outside w (level - floor) (all_frames floor outer)) < 128
+    few-outside : length (outer_frames w (level - floor) (all_frames floor outer)) < 128
     few-outside = let e = one_each w floor level outer inside others in omega (arith, e)
 
     pub enters-plain : (w.has_segments || has_segments h) ≡ false
@@ -115,28 +115,28 @@ module _
 
 -- ---- an element ends
 
-outside-strings : (w : SiblingFrame) (primitive : Bool) (size : ℕ) (unused : Bool) → w.has_segments ≡ false
+outer_frames-strings : (w : SiblingFrame) (primitive : Bool) (size : ℕ) (unused : Bool) → w.has_segments ≡ false
     → frame_after w primitive size unused ≡ w
-outside-strings w primitive size unused e =
+outer_frames-strings w primitive size unused e =
     ap (λ (k : Bool). if k then frame_after_segment w primitive size unused else w) e
 
-one-less : (w : SiblingFrame) (n : ℕ) → IsKept w (suc n) → (innermost w n).has_segments ≡ false
+one-less : (w : SiblingFrame) (n : ℕ) → IsKept w (suc n) → (innermost_frame w n).has_segments ≡ false
 one-less w zero kept = sym kept
 one-less w (suc n) kept = refl
 
 left-plain : (w : SiblingFrame) (n : ℕ) (outer : List SiblingFrame) → IsKept w (suc n)
     → nest w n outer ≡ nesting_outside (nest w (suc n) outer)
 left-plain w n outer kept =
-    ap (λ (v : SiblingFrame). record { frame = v; outer = outside w n outer })
-    (sym (outside-strings (innermost w n) false 0 false (one-less w n kept)))
+    ap (λ (v : SiblingFrame). record { frame = v; outer = outer_frames w n outer })
+    (sym (outer_frames-strings (innermost_frame w n) false 0 false (one-less w n kept)))
     ∙ ap (nesting_around top_frame) (sym (split w n outer))
 
 left-frame : (closed w : SiblingFrame) (n : ℕ) (outer : List SiblingFrame) → IsKept w n
-    → nest (frame_after w closed.is_primitive closed.size false) n outer ≡ nesting_around closed (all_of w n outer)
+    → nest (frame_after w closed.is_primitive closed.size false) n outer ≡ nesting_around closed (frames_with w n outer)
 left-frame closed w zero outer kept = refl
 left-frame closed w (suc n) outer kept =
-    ap (λ (v : SiblingFrame). record { frame = top_frame; outer = all_of v n outer })
-    (outside-strings w closed.is_primitive closed.size false (sym kept))
+    ap (λ (v : SiblingFrame). record { frame = top_frame; outer = frames_with v n outer })
+    (outer_frames-strings w closed.is_primitive closed.size false (sym kept))
 
 left-top : (w : SiblingFrame) (outer : List SiblingFrame) → length outer ≡ 0
     → (record { frame = w; outer = outer } ≡ nesting_around w outer) × (None ≡ segments_by w outer)
@@ -155,7 +155,7 @@ module _ (w : SiblingFrame) (floor level : ℕ) (outer : List KeptFrame) where
       → (seen w floor level outer ≡ nesting_outside (seen w floor level outer))
       × (None ≡ segments_left (seen w floor level outer))
   leaves-top inside others top =
-      left-top (innermost w (level - floor)) (outside w (level - floor) (all_frames floor outer))
+      left-top (innermost_frame w (level - floor)) (outer_frames w (level - floor) (all_frames floor outer))
       (one_each w floor level outer inside others ∙ top)
 
 pub leaves-frame : (w : SiblingFrame) (floor level : ℕ) (outer : List KeptFrame) → AreKept floor outer → floor ≡ level → 0 < level

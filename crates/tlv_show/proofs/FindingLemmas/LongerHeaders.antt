@@ -10,7 +10,7 @@ use Rattle.tlv_head.proofs.ShortestLemmas.Shortest.{identifier-from, lengths-fro
 use Rattle.tlv_head.proofs.ShortestLemmas.ShortestSpelling.{no-shorter_identifier, no-shorter_length, shorter-identifier, shorter-length}
 use Rattle.tlv_show.specs.declared.rules.Rules.{Rules}
 use Rattle.tlv_show.specs.declared.rules.Rules.TheVariants.{Ber, Der, Cer}
-use Rattle.tlv_show.specs.Conditions.{first_length, has_high_form, has_long_form, header_conditions, leading_bits, Surroundings}
+use Rattle.tlv_show.specs.Conditions.{leading_length_octet, has_high_form, has_long_form, header_conditions, leading_bits, Surroundings}
 use Rattle.tlv_show.specs.Found.{header_findings}
 use Rattle.tlv_show.specs.Spellings.{LongerIdentifiersAreFound, LongerLengthsAreFound, is_on_identifier, is_on_lengths}
 use Rattle.tlv_show.proofs.FindingLemmas.FindingsOfHeaders.{any_of, found-with_header}
@@ -68,7 +68,7 @@ identifiers-found rules s h valid nonzero =
 -- ---- length octets
 
 abbrev pub longer_lengths : HeaderValue → Bool
-longer_lengths h = has_long_form h && (nat_lt (announced_length h.size) 128 || first_length h == 0)
+longer_lengths h = has_long_form h && (nat_lt (announced_length h.size) 128 || leading_length_octet h == 0)
 
 on-lengths : (rules : Rules) (s : Surroundings) (h : HeaderValue) → rules ≢ Ber → any_of is_on_lengths rules (header_conditions s h) ≡ longer_lengths h
 on-lengths Ber s h strict = absurd (strict refl)
@@ -80,12 +80,12 @@ longer_lengths-absent h s = elim (cases_lt 1 (length h.lengths)) [
   | inl more ↦
       let large : 128 ≤ announced_length h.size = at-least (announced_length h.size) 128 (λ small. omega (arith, more, s.single small)) in
       let number : nat_lt (announced_length h.size) 128 ≡ false = grind (arith, nat_tests) in
-      let nonzero : first_length h ≢ 0 = s.leading more in
-      let first : (first_length h == 0) ≡ false = grind (arith, nat_tests) in
+      let nonzero : leading_length_octet h ≢ 0 = s.leading more in
+      let first : (leading_length_octet h == 0) ≡ false = grind (arith, nat_tests) in
       ap (λ (b : Bool). has_long_form h && b) (or_from _ _ number first) ∙ and-false (has_long_form h)
   | inr le ↦
       let short : has_long_form h ≡ false = grind (arith, nat_tests) in
-      ap (λ (b : Bool). b && (nat_lt (announced_length h.size) 128 || first_length h == 0)) short
+      ap (λ (b : Bool). b && (nat_lt (announced_length h.size) 128 || leading_length_octet h == 0)) short
 ]
 
 pub lengths-found : LongerLengthsAreFound

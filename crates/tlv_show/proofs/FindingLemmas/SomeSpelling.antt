@@ -16,12 +16,12 @@ use Rattle.tlv_walk.specs.Inside.{can_name, is_among}
 use Rattle.tlv_walk.proofs.EventLemmas.Named.{AreRising, can-from, can-to}
 use Rattle.tlv_walk.specs.Place.{IsOpen, Place, is_indefinite, place_after, place_of_children, top_place}
 use Rattle.tlv_walk.specs.Reading.{IsReading, IsSound, IsSoundList}
-use Rattle.tlv_walk.specs.Wrappers.{wrapper_at, wrappers}
+use Rattle.tlv_walk.specs.Wrappers.{wrapper_at, wrapper_offsets}
 use Rattle.tlv_walk.proofs.GrammarLemmas.Alike.{AreRegular, IsRegular}
 use Rattle.tlv_walk.proofs.GrammarLemmas.Endings.{done-sound, sound-done, sound-reading}
 use Rattle.tlv_walk.proofs.GrammarLemmas.Readings.{reading-unique}
 use Rattle.tlv_walk.proofs.GrammarLemmas.Respelled.{SpelledAt, Spelling, respelled}
-use Rattle.tlv_walk.proofs.EventLemmas.Wrappers.{AreNamed, Rise, wrappers-named, wrappers-rise}
+use Rattle.tlv_walk.proofs.EventLemmas.Wrappers.{AreNamed, Rise, wrapper_offsets-named, wrapper_offsets-rise}
 use Rattle.tlv_show.specs.declared.rules.Rules.{Rules}
 use Rattle.tlv_show.specs.declared.rules.Rules.TheVariants.{Ber, Der, Cer}
 use Rattle.tlv_show.specs.Conditions.{Segments, end_conditions, has_high_form, header_conditions, leading_bits, segments_of, surroundings_of}
@@ -164,7 +164,7 @@ one-name false false m n e = refl
 one-name true false m n e = absurd (cc (e))
 one-name false true m n e = absurd (cc (e))
 
-as-many : (f g : Forest) → AreAlike f g → length (wrappers f) ≡ length (wrappers g)
+as-many : (f g : Forest) → AreAlike f g → length (wrapper_offsets f) ≡ length (wrapper_offsets g)
 as-many f g nothing = refl
 as-many f g (padding a b rest) = as-many a b rest
 as-many f g (primitives h k c a b tag rest) = as-many a b rest
@@ -174,22 +174,22 @@ as-many f g (holders h k inside within a b tag held rest) =
       one-name h.constructed k.constructed h.offset k.offset tag.constructed,
       as-many inside within held,
       as-many a b rest,
-      length-append (wrapper_at h) (wrappers inside ++ wrappers a),
-      length-append (wrappers inside) (wrappers a),
-      length-append (wrapper_at k) (wrappers within ++ wrappers b),
-      length-append (wrappers within) (wrappers b),
+      length-append (wrapper_at h) (wrapper_offsets inside ++ wrapper_offsets a),
+      length-append (wrapper_offsets inside) (wrapper_offsets a),
+      length-append (wrapper_at k) (wrapper_offsets within ++ wrapper_offsets b),
+      length-append (wrapper_offsets within) (wrapper_offsets b),
     )
 
 can-name : (framing other : Framing) (f g : Forest) → IsOpen (top_place framing) f → IsOpen (top_place other) g → AreAlike f g
-    → length (spelling g) ≤ 2 ^ 40 → can_name framing.inside ≡ true → can_name (wrappers g) ≡ true
-can-name framing other f g u v alike few named = let can = can-to framing.inside named in can-from (wrappers g) (
+    → length (spelling g) ≤ 2 ^ 40 → can_name framing.inside ≡ true → can_name (wrapper_offsets g) ≡ true
+can-name framing other f g u v alike few named = let can = can-to framing.inside named in can-from (wrapper_offsets g) (
   omega (
     arith,
     can.0,
     as-many f g alike,
-    fewer framing.inside (wrappers f) 0 0 (0 + length (spelling f)) can.1 (wrappers-rise (top_place framing) f u) (wrappers-named (top_place framing) f u),
+    fewer framing.inside (wrapper_offsets f) 0 0 (0 + length (spelling f)) can.1 (wrapper_offsets-rise (top_place framing) f u) (wrapper_offsets-named (top_place framing) f u),
   ),
-  rising-of 0 (0 + length (spelling g)) (wrappers g) (omega (arith, few)) (wrappers-rise (top_place other) g v),
+  rising-of 0 (0 + length (spelling g)) (wrapper_offsets g) (omega (arith, few)) (wrapper_offsets-rise (top_place other) g v),
 )
 
 -- ---- the law
@@ -215,7 +215,7 @@ some-spelling rules framing b f strict few ending reading low =
     let by_names : Framing = record { inside = chosen.names 0; padding = framing.padding } in
     let at_top : SpelledAt (form_by rules) (top_place by_names) f chosen.octets (chosen.names 0) =
     chosen.there (top_place by_names) (record { padding = refl; depth = refl }) (λ i least most. refl) in
-    let other : Framing = record { inside = wrappers at_top.forest; padding = framing.padding } in
+    let other : Framing = record { inside = wrapper_offsets at_top.forest; padding = framing.padding } in
     let named : by_names ≡ other = ap (λ (names : List ℕ). record { inside = names; padding = framing.padding }) (sym at_top.names_are) in
     let sound : IsSound (top_place other) at_top.forest = subst (λ (k : Framing). IsSound (top_place k) at_top.forest) named at_top.sound in
     let list : IsSoundList other chosen.octets = record {

@@ -2,7 +2,7 @@
 use Rattle.std.specs.Prelude.{ℕ, if◌then◌else◌, Bool, List, length, Option, Some, None}
 use Rattle.tlv_head.specs.Header.{HeaderValue}
 use Rattle.tlv_value.specs.ValueTextState.{ValueTextState}
-use Rattle.tlv_show.specs.LinesStep.{LinesState, past_header}
+use Rattle.tlv_show.specs.LinesStep.{LinesState, lines_after_header}
 use Rattle.tlv_show.specs.SaturatingSum.{saturating_sum}
 
 -- a primitive, if it is open
@@ -10,8 +10,8 @@ abbrev pub if_open : Bool → ValueTextState → Option ValueTextState
 if_open is_open value = if is_open then Some value else None
 
 -- after a primitive with these contents
-abbrev pub past_primitive : LinesState → HeaderValue → List ℕ → LinesState
-past_primitive s h contents = record (past_header s h) {
-  offset = saturating_sum (past_header s h).offset (length contents);
+abbrev pub lines_after_primitive : LinesState → HeaderValue → List ℕ → LinesState
+lines_after_primitive s h contents = record (lines_after_header s h) {
+  offset = saturating_sum (lines_after_header s h).offset (length contents);
   value = None;
 }

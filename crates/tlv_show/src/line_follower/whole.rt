@@ -5,7 +5,7 @@ ghost use Rattle.std.specs.Prelude.{◌≡◌, length};
 ghost use Rattle.tlv_head.specs.Header.{announced_length};
 ghost use Rattle.tlv_io.specs.Out.{Puts};
 ghost use Rattle.tlv_value.specs.ValueLines.{whole_lines};
-ghost use Rattle.tlv_show.specs.Private.LinesStep.{past_primitive};
+ghost use Rattle.tlv_show.specs.Private.LinesStep.{lines_after_primitive};
 
 use super::Lines;
 use tlv_head::Header;
@@ -22,7 +22,7 @@ impl Lines<'_> {
         out: &mut Out<'_, D>,
     ) -> Result<(), WriteFault>
         requires { announced_length header.now.size ≡ length contents.now }
-        ensures state { self.new ≡ past_primitive self.old header.now contents.now }
+        ensures state { self.new ≡ lines_after_primitive self.old header.now contents.now }
         ensures puts { Puts D.state out.old out.new
             (whole_lines (finite.get self.old.names) header.now self.old.layout contents.now)
             result }

@@ -7,7 +7,7 @@ use Rattle.std.specs.Str.{is_utf8}
 use Rattle.tlv_head.specs.Header.{HeaderValue, announced_length}
 use Rattle.tlv_value.specs.declared.kind.Kind.TheVariants.{Utf8}
 use Rattle.tlv_value.specs.CheckLaws.{ChecksJoin, FindingsEnd}
-use Rattle.tlv_value.specs.ValueCheckState.{ValueCheckState, all_utf8, value_check_after, new_value_check, new_check_of, notes_each, notes_front, facts_in, notes_time, with_each, with_front, with_notes, with_time}
+use Rattle.tlv_value.specs.ValueCheckState.{ValueCheckState, all_utf8, value_check_after, new_value_check, new_value_check_of, notes_each, notes_front, facts_in, notes_time, with_each, with_front, with_notes, with_time}
 use Rattle.tlv_value.specs.Checks.{ContentsFacts, allows_octet, findings_by, is_padded_after, last_octet, type_conditions}
 use Rattle.tlv_value.specs.Types.{is_number_of, object_types, type_number}
 use Rattle.tlv_value.specs.Rows.{full_rows, open_row}
@@ -129,7 +129,7 @@ findings-end h octets e =
     let n = type_number h in
     ap (λ (c : ContentsFacts). findings_by (type_conditions n c))
     (noted-left (notes_front n) (notes_each n) (notes_time n) (new_value_check h) octets
-    ∙ ap (λ (z : ℕ). facts_in (with_notes (new_check_of n z) octets)) (sym e))
+    ∙ ap (λ (z : ℕ). facts_in (with_notes (new_value_check_of n z) octets)) (sym e))
     ∙ sym (noted-same n octets)
 
 -- no octets
@@ -137,13 +137,13 @@ same-in-both : {A : Type 0} (b : Bool) (x : A) → (if b then x else x) ≡ x
 same-in-both true x = refl
 same-in-both false x = refl
 
-none-by : (f e t : Bool) (n size : ℕ) → by_kind f e t (new_check_of n size) [] ≡ new_check_of n size
-none-by true e t n size = ap (λ (l : ℕ). record (new_check_of n size) { left = l }) (omega arith)
+none-by : (f e t : Bool) (n size : ℕ) → by_kind f e t (new_value_check_of n size) [] ≡ new_value_check_of n size
+none-by true e t n size = ap (λ (l : ℕ). record (new_value_check_of n size) { left = l }) (omega arith)
 none-by false true t n size =
-    built-eq (new_check_of n size) (size - 0) size [] [] 0 0 true true (if is_number_of object_types n then false else false) false (if eqb n 12 then true else true) true (if eqb n 12 then [] else []) [] [] []
+    built-eq (new_value_check_of n size) (size - 0) size [] [] 0 0 true true (if is_number_of object_types n then false else false) false (if eqb n 12 then true else true) true (if eqb n 12 then [] else []) [] [] []
     (omega arith) refl refl refl (same-in-both (is_number_of object_types n) false) (same-in-both (eqb n 12) true) (same-in-both (eqb n 12) []) refl
-none-by false false true n size = ap (λ (l : ℕ). record (new_check_of n size) { left = l }) (omega arith)
-none-by false false false n size = ap (λ (l : ℕ). record (new_check_of n size) { left = l }) (omega arith)
+none-by false false true n size = ap (λ (l : ℕ). record (new_value_check_of n size) { left = l }) (omega arith)
+none-by false false false n size = ap (λ (l : ℕ). record (new_value_check_of n size) { left = l }) (omega arith)
 
 pub checked-none : (h : HeaderValue) → value_check_after (new_value_check h) [] ≡ new_value_check h
 checked-none h =

@@ -10,7 +10,7 @@ use Rattle.tlv_io.proofs.Pieces.{Gathered, gathered_more, pieces_all, together_m
 use Rattle.tlv_value.specs.declared.names.fault.NamesFault.{NamesFault}
 use Rattle.tlv_value.specs.declared.names.fault.NamesFault.TheVariants.{BadOid, BadName, Repeated, TooLarge, ReadFailed, Memory}
 use Rattle.std.specs.BTreeMap.{BTreeMap}
-use Rattle.tlv_value.specs.Names.{Table, names_of}
+use Rattle.tlv_value.specs.Names.{NamesTable, names_of}
 use Rattle.tlv_value.specs.NamesReading.{IsWholeFile, ReadsFrom, names_limit}
 use Rattle.tlv_value.specs.NamesFields.{table_in}
 use Rattle.tlv_value.specs.Private.NamesSteps.{Gives, GivesAll, IsTableOf, result_in}
@@ -84,7 +84,7 @@ module _ (old mid new : SourceState) (octets : List ℕ) (x : Given old mid octe
 -- ---- what is made of all of them
 
 -- the octets that were read say the result
-said : {Z : Type 0} (new : SourceState) (octets : List ℕ) (v : Vec ℕ Z) (r : Result Table NamesFault) → GivesAll new octets (Ok v) → names_of v.items ≡ r → IsWholeFile new octets r
+said : {Z : Type 0} (new : SourceState) (octets : List ℕ) (v : Vec ℕ Z) (r : Result NamesTable NamesFault) → GivesAll new octets (Ok v) → names_of v.items ≡ r → IsWholeFile new octets r
 said new octets v r x n = (x.1, x.2, subst (λ (l : List ℕ). length l ≤ names_limit) (sym x.0) x.3, ap names_of x.0 ∙ n)
 
 pub judged : {Y Z : Type 0} (old new : SourceState) (v : Vec ℕ Y) (result : Result (BTreeMap (Vec ℕ Z) (Vec ℕ Z)) NamesFault) → Gives old new (Ok v) → IsTableOf v.items result → ReadsFrom old new (result_in result)

@@ -11,7 +11,7 @@ use Rattle.std.specs.FinMap as finite
 use Rattle.std.specs.FinMap.Entries as entries
 use Rattle.std.proofs.lemmas.Bool.{le-leb, lt-leb}
 use Rattle.std.proofs.lemmas.List.{nil_from_length}
-use Rattle.tlv_value.specs.Names.{Entry, Line, Table, entries_of, entry, first_refusal, has_entry, line_entries, lines, long_line, most_names, names_line, names_of, no_entry, no_name, no_oid, line_refusal}
+use Rattle.tlv_value.specs.Names.{Entry, Line, NamesTable, entries_of, entry, first_refusal, has_entry, line_entries, lines, long_line, most_names, names_line, names_of, no_entry, no_name, no_oid, line_refusal}
 use Rattle.tlv_value.specs.NamesFields.{texts_in}
 use Rattle.tlv_value.specs.Private.NamesSteps.{AddsLine, IsTableOf}
 use Rattle.tlv_value.specs.declared.names.fault.NamesFault.{NamesFault}
@@ -23,7 +23,7 @@ abbrev find : List ℕ → List Entry → Option (List ℕ)
 find = finite.find (slice_cmp nat_cmp)
 
 -- the table or refusal of lines that are below others
-abbrev pub judged : List Line → List Line → Result Table NamesFault
+abbrev pub judged : List Line → List Line → Result NamesTable NamesFault
 judged above below = option_map_or Err (first_refusal above below) (Ok (finite.from_entries (entries_of (above ++ below))))
 
 -- so many lines are read, none is refused, and these are their entries

@@ -12,7 +12,7 @@ use Rattle.tlv_value.specs.Laws.{LinesBegin, LinesEnd, LinesGoOn, PiecesJoin}
 use Rattle.tlv_value.specs.Rows.{full_rows, full_rows_in, open_row, open_row_in, rows_of}
 use Rattle.tlv_value.specs.Private.PrimitiveLines.{lines_in_steps, primitive_lines}
 use Rattle.tlv_value.specs.ValueLines.{has_line, open_lines, row_lines, whole_lines}
-use Rattle.tlv_value.specs.ValueTextState.{RowsState, ValueTextState, begin_lines, contents_lines, end_lines, first_rows, first_rows_after, full_row_lines, new_text_of, new_value_text, primitive_line, primitive_of, rows_after, rows_state_after, state_for, value_text_after}
+use Rattle.tlv_value.specs.ValueTextState.{RowsState, ValueTextState, begin_lines, contents_lines, end_lines, first_rows, first_rows_after, full_row_lines, new_value_text_of, new_value_text, primitive_line, primitive_of, rows_after, rows_state_after, state_for, value_text_after}
 use Rattle.tlv_value.specs.Value.{NameOf, is_long, long_text, long_value, row_octets, short_value}
 use Rattle.std.proofs.lemmas.Bool.Decides.{nat_tests}
 use Rattle.tlv_value.proofs.TextLemmas.Puts.{row_lines-append}
@@ -231,9 +231,9 @@ whole-new name_of h layout c e =
 
 -- so has a long one: its line, and its rows
 pub new-long : (name_of : NameOf) (p : Primitive) (c : List ℕ) → is_long p.kind p.size ≡ true → length c ≡ p.size
-    → primitive_line p (long_text p.kind p.size c) ++ row_lines p.kind p.layout 0 (rows_of p.kind (row_octets p.kind c)) ≡ lines_in_steps name_of (new_text_of p) c
+    → primitive_line p (long_text p.kind p.size c) ++ row_lines p.kind p.layout 0 (rows_of p.kind (row_octets p.kind c)) ≡ lines_in_steps name_of (new_value_text_of p) c
 new-long name_of p c long e =
-    let s : ValueTextState = new_text_of p in
+    let s : ValueTextState = new_value_text_of p in
     let w = whole-ended p.layout (primitive_line p) p.size name_of p.kind (is_long p.kind p.size) c (long-some p.kind (length c) p.size e) in
     let o = open-new p.layout (primitive_line p) p.size p.kind (is_long p.kind p.size) c in
     ap (λ (b : Bool). whole_at p.layout (primitive_line p) p.size name_of p.kind b c) (sym long)

@@ -9,7 +9,7 @@ use Rattle.std.specs.Borrow.{Bor}
 use Rattle.std.specs.BTreeMap.{BTreeMap}
 use Rattle.std.specs.Io.KnownBytes.{IsAtEnd}
 use Rattle.tlv_io.specs.Device.{Pieces, SourceState, failed, gave, octets_given}
-use Rattle.tlv_value.specs.Names.{Entry, Line, Table, entry, has_entry, long_line, most_names, names_of, no_entry, no_name, no_oid}
+use Rattle.tlv_value.specs.Names.{Entry, Line, NamesTable, entry, has_entry, long_line, most_names, names_of, no_entry, no_name, no_oid}
 use Rattle.tlv_value.specs.NamesReading.{IsTooLong, names_failures_after, names_limit}
 use Rattle.tlv_value.specs.declared.names.fault.NamesFault.{NamesFault}
 use Rattle.tlv_value.specs.declared.names.fault.NamesFault.TheVariants.{BadOid, BadName, Repeated, TooLarge, ReadFailed, Memory}
@@ -59,7 +59,7 @@ IsTableOf octets (Err TooLarge) = names_of octets ≡ Err TooLarge
 IsTableOf octets (Err ReadFailed) = ⊥
 IsTableOf octets (Err Memory) = Unit {0}
 
-abbrev pub result_in : {Z : Type 0} → Result (BTreeMap (Vec ℕ Z) (Vec ℕ Z)) NamesFault → Result Table NamesFault
+abbrev pub result_in : {Z : Type 0} → Result (BTreeMap (Vec ℕ Z) (Vec ℕ Z)) NamesFault → Result NamesTable NamesFault
 result_in (Ok m) = Ok (table_in m)
 result_in (Err fault) = Err fault
 

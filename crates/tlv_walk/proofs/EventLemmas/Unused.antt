@@ -3,9 +3,9 @@ use Rattle.std.proofs.Common.{◌≡◌, ◌≢◌, inl, inr, ℕ, suc, ◌+◌,
 use Rattle.std.proofs.lemmas.Bool.{cases_Bool, cases_eq}
 use Rattle.std.specs.Prelude.{Option, Some, None, slice_get}
 use Rattle.std.specs.Option.{option_map_or}
-use Rattle.tlv_walk.specs.Stack.{Frame}
+use Rattle.tlv_walk.specs.Stack.{FrameValue}
 use Rattle.tlv_walk.specs.declared.framing.Framing.{Framing}
-use Rattle.tlv_walk.specs.Phase.{Phase}
+use Rattle.tlv_walk.specs.Phase.{PhaseValue}
 use Rattle.tlv_walk.specs.Phase as phase
 use Rattle.tlv_walk.specs.Events.{AreEqualJoined, EventValue, events}
 use Rattle.tlv_walk.specs.Forest.{Forest}
@@ -14,10 +14,10 @@ use Rattle.tlv_walk.specs.WalkerState.{WalkerState, first_without_wrapper_in}
 use Rattle.tlv_walk.specs.Private.WalkerState.{next_wrapper, wrappers_after}
 use Rattle.tlv_walk.specs.Place.{IsOpen, top_place}
 use Rattle.tlv_walk.specs.Stands.{Stands, filled_ends, is_end, waiting_events, waiting_events_in}
-use Rattle.tlv_walk.specs.Wrappers.{first_other, first_without_wrapper, wrapper_offsets, wrappers}
+use Rattle.tlv_walk.specs.Wrappers.{first_other, first_without_wrapper, entered_offsets, wrapper_offsets}
 use Rattle.tlv_walk.proofs.EventLemmas.Joined.{apart-from_joined}
 use Rattle.tlv_walk.proofs.EventLemmas.Named.{AreRising, can-to}
-use Rattle.tlv_walk.proofs.EventLemmas.Wrappers.{Rise, enters-apart, enters-append, wrappers-entered, wrappers-rise}
+use Rattle.tlv_walk.proofs.EventLemmas.Wrappers.{Rise, enters-apart, enters-append, wrapper_offsets-entered, wrapper_offsets-rise}
 
 -- an offset is not that of another
 not_among : (n at : ℕ) (ats : List ℕ) → n ≢ at → is_among n (at ∷ ats) ≡ is_among n ats
@@ -83,7 +83,7 @@ first-found (n ∷ ns) (at ∷ ats) least low end r q = elim (cases_eq n at) [
 -- ---- of a walker
 
 -- the events that wait enter no wrapper
-ends_enter_none : (at : ℕ) (fs : List Frame) → wrapper_offsets (filled_ends at fs) ≡ []
+ends_enter_none : (at : ℕ) (fs : List FrameValue) → entered_offsets (filled_ends at fs) ≡ []
 ends_enter_none at [] = refl
 ends_enter_none at (f ∷ fs) = elim (cases_Bool (is_end f.end at)) [
   | inl e ↦ elim (cases_Bool f.wrapper) [
@@ -93,7 +93,7 @@ ends_enter_none at (f ∷ fs) = elim (cases_Bool (is_end f.end at)) [
   | inr e ↦ rw e refl
 ]
 
-waits_enter_none : (f : Phase) (fs : List Frame) (at : ℕ) → wrapper_offsets (waiting_events_in f fs at) ≡ []
+waits_enter_none : (f : PhaseValue) (fs : List FrameValue) (at : ℕ) → entered_offsets (waiting_events_in f fs at) ≡ []
 waits_enter_none phase.Between fs at = ends_enter_none at fs
 waits_enter_none (phase.InHeader r) fs at = refl
 waits_enter_none (phase.InPrimitive left) fs at = elim (cases_Bool (eqb left 0)) [
@@ -105,28 +105,28 @@ waits_enter_none phase.InEndOctets fs at = refl
 waits_enter_none (phase.Refused fault) fs at = refl
 
 -- events that are equal joined enter the same wrappers
-enters-joined : (xs ys : List EventValue) → AreEqualJoined xs ys → wrapper_offsets xs ≡ wrapper_offsets ys
-enters-joined xs ys e = sym (enters-apart xs) ∙ ap wrapper_offsets (apart-from_joined xs ys e) ∙ enters-apart ys
+enters-joined : (xs ys : List EventValue) → AreEqualJoined xs ys → entered_offsets xs ≡ entered_offsets ys
+enters-joined xs ys e = sym (enters-apart xs) ∙ ap entered_offsets (apart-from_joined xs ys e) ∙ enters-apart ys
 
 -- the wrappers of a forest whose events were yielded
-yielded_wrappers : (framing : Framing) (yielded waits : List EventValue) (f : Forest) → IsOpen (top_place framing) f → wrapper_offsets waits ≡ [] → AreEqualJoined (yielded ++ waits) (events f) → wrapper_offsets yielded ≡ wrappers f
+yielded_wrappers : (framing : Framing) (yielded waits : List EventValue) (f : Forest) → IsOpen (top_place framing) f → entered_offsets waits ≡ [] → AreEqualJoined (yielded ++ waits) (events f) → entered_offsets yielded ≡ wrapper_offsets f
 yielded_wrappers framing yielded waits f v none e =
-    sym (enters-append yielded waits ∙ ap (λ (l : List ℕ). wrapper_offsets yielded ++ l) none ∙ append-nil (wrapper_offsets yielded)) ∙ enters-joined (yielded ++ waits) (events f) e ∙ sym (wrappers-entered (top_place framing) f v)
+    sym (enters-append yielded waits ∙ ap (λ (l : List ℕ). entered_offsets yielded ++ l) none ∙ append-nil (entered_offsets yielded)) ∙ enters-joined (yielded ++ waits) (events f) e ∙ sym (wrapper_offsets-entered (top_place framing) f v)
 
 -- the count over the events yielded gives the first named offset that is no wrapper's
-pub yielded_unused : (framing : Framing) (yielded waits : List EventValue) (f : Forest) → can_name framing.inside ≡ true → IsOpen (top_place framing) f → wrapper_offsets waits ≡ [] → AreEqualJoined (yielded ++ waits) (events f)
-    → slice_get framing.inside (wrappers_after framing.inside 0 (wrapper_offsets yielded)) ≡ first_without_wrapper framing.inside f
+pub yielded_unused : (framing : Framing) (yielded waits : List EventValue) (f : Forest) → can_name framing.inside ≡ true → IsOpen (top_place framing) f → entered_offsets waits ≡ [] → AreEqualJoined (yielded ++ waits) (events f)
+    → slice_get framing.inside (wrappers_after framing.inside 0 (entered_offsets yielded)) ≡ first_without_wrapper framing.inside f
 yielded_unused framing yielded waits f named v none e =
-    let same : wrapper_offsets yielded ≡ wrappers f = yielded_wrappers framing yielded waits f v none e in
+    let same : entered_offsets yielded ≡ wrapper_offsets f = yielded_wrappers framing yielded waits f v none e in
     ap (λ (ats : List ℕ). slice_get framing.inside (wrappers_after framing.inside 0 ats)) same
-    ∙ first-found framing.inside (wrappers f) 0 (top_place framing).at _ (can-to framing.inside named).1 (wrappers-rise (top_place framing) f v)
+    ∙ first-found framing.inside (wrapper_offsets f) 0 (top_place framing).at _ (can-to framing.inside named).1 (wrapper_offsets-rise (top_place framing) f v)
 
 pub stands_unused : (w : WalkerState) (b : List ℕ) (yielded : List EventValue) → (st : Stands w b yielded) → first_without_wrapper_in w ≡ first_without_wrapper w.framing.inside st.reads.reading
 stands_unused w b yielded st =
     ap (slice_get w.framing.inside) st.private_state.found ∙ yielded_unused w.framing yielded (waiting_events w) st.reads.reading st.private_state.named st.reads.is_reading.is_open (waits_enter_none w.phase w.stack w.offset) st.reads.all_events
 
 -- it is the first that no event yielded entered
-pub stands-entered : (w : WalkerState) (b : List ℕ) (yielded : List EventValue) → Stands w b yielded → first_without_wrapper_in w ≡ first_other w.framing.inside (wrapper_offsets yielded)
+pub stands-entered : (w : WalkerState) (b : List ℕ) (yielded : List EventValue) → Stands w b yielded → first_without_wrapper_in w ≡ first_other w.framing.inside (entered_offsets yielded)
 stands-entered w b yielded st =
     stands_unused w b yielded st
     ∙ ap (first_other w.framing.inside) (sym (yielded_wrappers w.framing yielded (waiting_events w) st.reads.reading st.reads.is_reading.is_open (waits_enter_none w.phase w.stack w.offset) st.reads.all_events))

@@ -8,7 +8,7 @@ use Rattle.tlv_walk.specs.Forest.{Forest, NoMore, PaddingOctet, Primitive, Holde
 use Rattle.tlv_walk.specs.Inside.{is_among}
 use Rattle.tlv_walk.specs.Place.{IsHeaderAt, IsOpen, Place, place_after, place_of_children}
 use Rattle.tlv_walk.specs.Events.{Begin, Bytes, Close, End, Enter, EventValue, Leave, Open, Pad, Unused, closing_event, events, opening_events, single_octets}
-use Rattle.tlv_walk.specs.Wrappers.{wrapper_at, wrapper_offsets, wrappers}
+use Rattle.tlv_walk.specs.Wrappers.{wrapper_at, entered_offsets, wrapper_offsets}
 use Rattle.tlv_walk.proofs.GrammarLemmas.Bounds.{fits}
 use Rattle.tlv_walk.proofs.GrammarLemmas.Spellings.{length-holder, length-opening, length-primitive}
 use Rattle.tlv_walk.proofs.GrammarLemmas.PushSteps.{Step, Grown, Ended, Refused, Spells, begin, element_begun, holder_so_far, is_filled, holder_begun, origin, primitive_so_far, push, zero_between}
@@ -17,7 +17,7 @@ use Rattle.tlv_walk.proofs.GrammarLemmas.PopHeaders.{header-length}
 use Rattle.tlv_walk.proofs.EventLemmas.Gains.{closing, gained, push-brings, step_events}
 
 -- of two pieces
-pub enters-append : (xs ys : List EventValue) → wrapper_offsets (xs ++ ys) ≡ wrapper_offsets xs ++ wrapper_offsets ys
+pub enters-append : (xs ys : List EventValue) → entered_offsets (xs ++ ys) ≡ entered_offsets xs ++ entered_offsets ys
 enters-append [] ys = refl
 enters-append (Enter h ∷ es) ys = ap (λ (t : List ℕ). h.offset ∷ t) (enters-append es ys)
 enters-append (Open h ∷ es) ys = enters-append es ys
@@ -30,17 +30,17 @@ enters-append (Leave ∷ es) ys = enters-append es ys
 enters-append (Pad c ∷ es) ys = enters-append es ys
 
 -- contents octets enter none
-enters-bytes : (c : List ℕ) (es : List EventValue) → wrapper_offsets (map (λ x. Bytes (x ∷ [])) c ++ es) ≡ wrapper_offsets es
+enters-bytes : (c : List ℕ) (es : List EventValue) → entered_offsets (map (λ x. Bytes (x ∷ [])) c ++ es) ≡ entered_offsets es
 enters-bytes [] es = refl
 enters-bytes (x ∷ c) es = enters-bytes c es
 
 -- padding enters none
-enters-pad : (c : List ℕ) (es : List EventValue) → wrapper_offsets (map (λ x. Pad (x ∷ [])) c ++ es) ≡ wrapper_offsets es
+enters-pad : (c : List ℕ) (es : List EventValue) → entered_offsets (map (λ x. Pad (x ∷ [])) c ++ es) ≡ entered_offsets es
 enters-pad [] es = refl
 enters-pad (x ∷ c) es = enters-pad c es
 
 -- cutting contents and padding apart changes none
-pub enters-apart : (es : List EventValue) → wrapper_offsets (single_octets es) ≡ wrapper_offsets es
+pub enters-apart : (es : List EventValue) → entered_offsets (single_octets es) ≡ entered_offsets es
 enters-apart [] = refl
 enters-apart (Bytes c ∷ es) = enters-bytes c (single_octets es) ∙ enters-apart es
 enters-apart (Pad c ∷ es) = enters-pad c (single_octets es) ∙ enters-apart es
@@ -53,23 +53,23 @@ enters-apart (Unused ∷ es) = enters-apart es
 enters-apart (Leave ∷ es) = enters-apart es
 
 -- the first contents octet of a BIT STRING enters none
-enters-unused : (l : List ℕ) (es : List EventValue) → wrapper_offsets (map (λ z. Unused) l ++ es) ≡ wrapper_offsets es
+enters-unused : (l : List ℕ) (es : List EventValue) → entered_offsets (map (λ z. Unused) l ++ es) ≡ entered_offsets es
 enters-unused [] es = refl
 enters-unused (x ∷ l) es = enters-unused l es
 
 -- the first event of an element that holds others, by its form
-enters-first : (h : HeaderValue) (constructed : Bool) (es : List EventValue) → wrapper_offsets ((if constructed then Open h else Enter h) ∷ es) ≡ (if constructed then [] else h.offset ∷ []) ++ wrapper_offsets es
+enters-first : (h : HeaderValue) (constructed : Bool) (es : List EventValue) → entered_offsets ((if constructed then Open h else Enter h) ∷ es) ≡ (if constructed then [] else h.offset ∷ []) ++ entered_offsets es
 enters-first h true es = refl
 enters-first h false es = refl
 
 -- the beginning of an element that holds others enters it, if it is a wrapper
-enters-opens : (h : HeaderValue) (es : List EventValue) → wrapper_offsets (opening_events h ++ es) ≡ wrapper_at h ++ wrapper_offsets es
+enters-opens : (h : HeaderValue) (es : List EventValue) → entered_offsets (opening_events h ++ es) ≡ wrapper_at h ++ entered_offsets es
 enters-opens h es =
     enters-first h h.constructed (map (λ z. Unused) (lead h) ++ es)
     ∙ ap (λ (t : List ℕ). wrapper_at h ++ t) (enters-unused (lead h) es)
 
 -- the end of an element that holds others enters none
-enters-closes : (h : HeaderValue) (inside : Forest) (es : List EventValue) → wrapper_offsets (closing_event h inside ∷ es) ≡ wrapper_offsets es
+enters-closes : (h : HeaderValue) (inside : Forest) (es : List EventValue) → entered_offsets (closing_event h inside ∷ es) ≡ entered_offsets es
 enters-closes h inside es = elim (cases_Bool h.constructed) [
   | inl e ↦ rw e
   | inr e ↦ rw e
@@ -83,34 +83,34 @@ waiting-wraps h e = elim (cases_Bool h.constructed) [
 ]
 
 -- the wrappers of an open forest are those that its events enter
-pub wrappers-entered : (p : Place) (f : Forest) → IsOpen p f → wrappers f ≡ wrapper_offsets (events f)
-wrappers-entered p NoMore w = refl
-wrappers-entered p (PaddingOctet rest) w = wrappers-entered (place_after p 1) rest w.1
-wrappers-entered p (Primitive h c rest) w = wrappers-entered (place_after p (length (octets_of h) + length c)) rest w.1
-wrappers-entered p (Holder h inside rest) w = sym
+pub wrapper_offsets-entered : (p : Place) (f : Forest) → IsOpen p f → wrapper_offsets f ≡ entered_offsets (events f)
+wrapper_offsets-entered p NoMore w = refl
+wrapper_offsets-entered p (PaddingOctet rest) w = wrapper_offsets-entered (place_after p 1) rest w.1
+wrapper_offsets-entered p (Primitive h c rest) w = wrapper_offsets-entered (place_after p (length (octets_of h) + length c)) rest w.1
+wrapper_offsets-entered p (Holder h inside rest) w = sym
     (enters-opens h (events inside ++ closing_event h inside ∷ events rest)
     ∙ ap (λ (t : List ℕ). wrapper_at h ++ t)
     (enters-append (events inside) (closing_event h inside ∷ events rest)
-    ∙ (ap (λ (t : List ℕ). t ++ wrapper_offsets (closing_event h inside ∷ events rest)) (sym (wrappers-entered (place_of_children p h) inside w.1))
-    ∙ ap (λ (t : List ℕ). wrappers inside ++ t) (enters-closes h inside (events rest) ∙ sym (wrappers-entered (place_after p (extent h inside)) rest w.2)))))
-wrappers-entered p (OpenPrimitive h c) w = refl
-wrappers-entered p (OpenHolder h inside) w = sym (enters-opens h (events inside) ∙ ap (λ (t : List ℕ). wrapper_at h ++ t) (sym (wrappers-entered (place_of_children p h) inside w.1)))
-wrappers-entered p (OpenBitString h) w = waiting-wraps h w.1
-wrappers-entered p (OpenHeader octets) w = refl
-wrappers-entered p OpenEndOctets w = refl
+    ∙ (ap (λ (t : List ℕ). t ++ entered_offsets (closing_event h inside ∷ events rest)) (sym (wrapper_offsets-entered (place_of_children p h) inside w.1))
+    ∙ ap (λ (t : List ℕ). wrapper_offsets inside ++ t) (enters-closes h inside (events rest) ∙ sym (wrapper_offsets-entered (place_after p (extent h inside)) rest w.2)))))
+wrapper_offsets-entered p (OpenPrimitive h c) w = refl
+wrapper_offsets-entered p (OpenHolder h inside) w = sym (enters-opens h (events inside) ∙ ap (λ (t : List ℕ). wrapper_at h ++ t) (sym (wrapper_offsets-entered (place_of_children p h) inside w.1)))
+wrapper_offsets-entered p (OpenBitString h) w = waiting-wraps h w.1
+wrapper_offsets-entered p (OpenHeader octets) w = refl
+wrapper_offsets-entered p OpenEndOctets w = refl
 
 -- the wrappers of the forest pushed are those before, and then those that the octet enters
-pub push-wrappers : (p : Place) (f g : Forest) (x : ℕ) → x < 256 → IsOpen p f → push p f x ≡ Grown g → wrappers g ≡ wrappers f ++ wrapper_offsets (gained p f x)
+pub push-wrappers : (p : Place) (f g : Forest) (x : ℕ) → x < 256 → IsOpen p f → push p f x ≡ Grown g → wrapper_offsets g ≡ wrapper_offsets f ++ entered_offsets (gained p f x)
 push-wrappers p f g x h w e =
     let sound : Spells p (spelling f ++ x ∷ []) g = rw e at (push-sound p f x h w) in
     let brings : single_octets (events g) ≡ single_octets (events f ++ gained p f x) = rw e at (push-brings p f x w) in
-    wrappers-entered p g sound.is_open
-    ∙ sym (enters-apart (events g)) ∙ ap wrapper_offsets brings ∙ enters-apart (events f ++ gained p f x)
-    ∙ enters-append (events f) (gained p f x) ∙ ap (λ (t : List ℕ). t ++ wrapper_offsets (gained p f x)) (sym (wrappers-entered p f w))
+    wrapper_offsets-entered p g sound.is_open
+    ∙ sym (enters-apart (events g)) ∙ ap entered_offsets brings ∙ enters-apart (events f ++ gained p f x)
+    ∙ enters-append (events f) (gained p f x) ∙ ap (λ (t : List ℕ). t ++ entered_offsets (gained p f x)) (sym (wrapper_offsets-entered p f w))
 
 -- the octet enters no wrapper, or one
 abbrev pub EntersFew : List EventValue → Type 0
-EntersFew es = length (wrapper_offsets es) ≤ 1
+EntersFew es = length (entered_offsets es) ≤ 1
 
 -- an element is one wrapper, or none
 wrapper-few : (h : HeaderValue) → length (wrapper_at h) ≤ 1
@@ -120,7 +120,7 @@ wrapper-few h = elim (cases_Bool h.constructed) [
 ]
 
 -- an end enters none
-closing-none : (h : HeaderValue) (s : Step) → wrapper_offsets (closing h s) ≡ []
+closing-none : (h : HeaderValue) (s : Step) → entered_offsets (closing h s) ≡ []
 closing-none h (Grown g) = elim (cases_Bool (is_filled h g)) [
   | inl e ↦ rw e (enters-closes h g [])
   | inr e ↦ rw e
@@ -131,7 +131,7 @@ closing-none h (Refused code) = refl
 -- an element that holds none yet, by its contents octets
 holder_so_far-few : (h : HeaderValue) → EntersFew (events (holder_so_far h NoMore))
 holder_so_far-few h = elim (cases_Bool (is_filled h NoMore)) [
-  | inl e ↦ rw e (omega (arith, wrapper-few h, ap length (enters-opens h (closing_event h NoMore ∷ [])), length-append (wrapper_at h) (wrapper_offsets (closing_event h NoMore ∷ [])), ap length (enters-closes h NoMore [])))
+  | inl e ↦ rw e (omega (arith, wrapper-few h, ap length (enters-opens h (closing_event h NoMore ∷ [])), length-append (wrapper_at h) (entered_offsets (closing_event h NoMore ∷ [])), ap length (enters-closes h NoMore [])))
   | inr e ↦ rw e (omega (arith, wrapper-few h, ap length (enters-opens h []), length-append {A = ℕ} (wrapper_at h) []))
 ]
 
@@ -193,8 +193,8 @@ gained-few p (OpenPrimitive h c) x = elim (cases_Bool (eqb (length (c ++ x ∷ [
 ]
 gained-few p (OpenHolder h inside) x =
     let es : List EventValue = closing h (push (place_of_children p h) inside x) in
-    let none : length (wrapper_offsets es) ≡ 0 = ap length (closing-none h (push (place_of_children p h) inside x)) in
-    omega (arith, gained-few (place_of_children p h) inside x, ap length (enters-append (gained (place_of_children p h) inside x) es), length-append (wrapper_offsets (gained (place_of_children p h) inside x)) (wrapper_offsets es))
+    let none : length (entered_offsets es) ≡ 0 = ap length (closing-none h (push (place_of_children p h) inside x)) in
+    omega (arith, gained-few (place_of_children p h) inside x, ap length (enters-append (gained (place_of_children p h) inside x) es), length-append (entered_offsets (gained (place_of_children p h) inside x)) (entered_offsets es))
 gained-few p (OpenBitString h) x = elim (cases_Bool (eqb x 0)) [
   | inl e ↦ rw e (omega (arith, ap length (closing-none h (Grown NoMore))))
   | inr e ↦ rw e (omega arith)
@@ -234,29 +234,29 @@ wrapper-rises a b h e l = elim (cases_Bool h.constructed) [
 ]
 
 -- the offsets of the wrappers rise, and are those of octets of the forest
-pub wrappers-rise : (p : Place) (f : Forest) → IsOpen p f → Rise p.at (p.at + length (spelling f)) (wrappers f)
-wrappers-rise p NoMore w = omega arith
-wrappers-rise p (PaddingOctet rest) w = rise-within _ _ _ _ (wrappers rest) (omega arith) (omega arith) (wrappers-rise (place_after p 1) rest w.1)
-wrappers-rise p (Primitive h c rest) w =
-    rise-within _ _ _ _ (wrappers rest) (omega arith) (omega (arith, length-primitive h c rest))
-    (wrappers-rise (place_after p (length (octets_of h) + length c)) rest w.1)
-wrappers-rise p (Holder h inside rest) w =
+pub wrapper_offsets-rise : (p : Place) (f : Forest) → IsOpen p f → Rise p.at (p.at + length (spelling f)) (wrapper_offsets f)
+wrapper_offsets-rise p NoMore w = omega arith
+wrapper_offsets-rise p (PaddingOctet rest) w = rise-within _ _ _ _ (wrapper_offsets rest) (omega arith) (omega arith) (wrapper_offsets-rise (place_after p 1) rest w.1)
+wrapper_offsets-rise p (Primitive h c rest) w =
+    rise-within _ _ _ _ (wrapper_offsets rest) (omega arith) (omega (arith, length-primitive h c rest))
+    (wrapper_offsets-rise (place_after p (length (octets_of h) + length c)) rest w.1)
+wrapper_offsets-rise p (Holder h inside rest) w =
     let two : 2 ≤ length (octets_of h) = header-length h w.0.0.header.valid in
     let size : length (spelling (Holder h inside rest)) ≡ extent h inside + length (spelling rest) = length-holder h inside rest in
-    rise-append p.at (p.at + length (opening h)) _ (wrapper_at h) (wrappers inside ++ wrappers rest)
+    rise-append p.at (p.at + length (opening h)) _ (wrapper_at h) (wrapper_offsets inside ++ wrapper_offsets rest)
     (wrapper-rises p.at (p.at + length (opening h)) h w.0.0.header.offset (omega (arith, length-opening h)))
-    (rise-append (p.at + length (opening h)) (p.at + extent h inside) _ (wrappers inside) (wrappers rest)
-    (rise-within _ _ _ _ (wrappers inside) (omega arith) (omega arith) (wrappers-rise (place_of_children p h) inside w.1))
-    (rise-within _ _ _ _ (wrappers rest) (omega arith) (omega arith) (wrappers-rise (place_after p (extent h inside)) rest w.2)))
-wrappers-rise p (OpenPrimitive h c) w = omega arith
-wrappers-rise p (OpenHolder h inside) w =
+    (rise-append (p.at + length (opening h)) (p.at + extent h inside) _ (wrapper_offsets inside) (wrapper_offsets rest)
+    (rise-within _ _ _ _ (wrapper_offsets inside) (omega arith) (omega arith) (wrapper_offsets-rise (place_of_children p h) inside w.1))
+    (rise-within _ _ _ _ (wrapper_offsets rest) (omega arith) (omega arith) (wrapper_offsets-rise (place_after p (extent h inside)) rest w.2)))
+wrapper_offsets-rise p (OpenPrimitive h c) w = omega arith
+wrapper_offsets-rise p (OpenHolder h inside) w =
     let two : 2 ≤ length (octets_of h) = header-length h w.0.0.header.valid in
-    rise-append p.at (p.at + length (opening h)) _ (wrapper_at h) (wrappers inside)
+    rise-append p.at (p.at + length (opening h)) _ (wrapper_at h) (wrapper_offsets inside)
     (wrapper-rises p.at (p.at + length (opening h)) h w.0.0.header.offset (omega (arith, length-opening h)))
-    (rise-within _ _ _ _ (wrappers inside) (omega arith) (omega (arith, length-append (opening h) (spelling inside))) (wrappers-rise (place_of_children p h) inside w.1))
-wrappers-rise p (OpenBitString h) w = wrapper-rises p.at _ h w.0.header.offset (omega (arith, header-length h w.0.header.valid))
-wrappers-rise p (OpenHeader octets) w = omega arith
-wrappers-rise p OpenEndOctets w = omega arith
+    (rise-within _ _ _ _ (wrapper_offsets inside) (omega arith) (omega (arith, length-append (opening h) (spelling inside))) (wrapper_offsets-rise (place_of_children p h) inside w.1))
+wrapper_offsets-rise p (OpenBitString h) w = wrapper-rises p.at _ h w.0.header.offset (omega (arith, header-length h w.0.header.valid))
+wrapper_offsets-rise p (OpenHeader octets) w = omega arith
+wrapper_offsets-rise p OpenEndOctets w = omega arith
 
 -- each is among the offsets named
 abbrev pub AreNamed : List ℕ → List ℕ → Type 0
@@ -285,16 +285,16 @@ wrapper-named p h header = elim (cases_Bool h.constructed) [
 ]
 
 -- the wrappers of an open forest are among the offsets named
-pub wrappers-named : (p : Place) (f : Forest) → IsOpen p f → AreNamed p.inside (wrappers f)
-wrappers-named p NoMore w = tt
-wrappers-named p (PaddingOctet rest) w = wrappers-named (place_after p 1) rest w.1
-wrappers-named p (Primitive h c rest) w = wrappers-named (place_after p (length (octets_of h) + length c)) rest w.1
-wrappers-named p (Holder h inside rest) w =
-    named-append p.inside (wrapper_at h) (wrappers inside ++ wrappers rest) (wrapper-named p h w.0.0.header)
-    (named-append p.inside (wrappers inside) (wrappers rest) (wrappers-named (place_of_children p h) inside w.1) (wrappers-named (place_after p (extent h inside)) rest w.2))
-wrappers-named p (OpenPrimitive h c) w = tt
-wrappers-named p (OpenHolder h inside) w =
-    named-append p.inside (wrapper_at h) (wrappers inside) (wrapper-named p h w.0.0.header) (wrappers-named (place_of_children p h) inside w.1)
-wrappers-named p (OpenBitString h) w = wrapper-named p h w.0.header
-wrappers-named p (OpenHeader octets) w = tt
-wrappers-named p OpenEndOctets w = tt
+pub wrapper_offsets-named : (p : Place) (f : Forest) → IsOpen p f → AreNamed p.inside (wrapper_offsets f)
+wrapper_offsets-named p NoMore w = tt
+wrapper_offsets-named p (PaddingOctet rest) w = wrapper_offsets-named (place_after p 1) rest w.1
+wrapper_offsets-named p (Primitive h c rest) w = wrapper_offsets-named (place_after p (length (octets_of h) + length c)) rest w.1
+wrapper_offsets-named p (Holder h inside rest) w =
+    named-append p.inside (wrapper_at h) (wrapper_offsets inside ++ wrapper_offsets rest) (wrapper-named p h w.0.0.header)
+    (named-append p.inside (wrapper_offsets inside) (wrapper_offsets rest) (wrapper_offsets-named (place_of_children p h) inside w.1) (wrapper_offsets-named (place_after p (extent h inside)) rest w.2))
+wrapper_offsets-named p (OpenPrimitive h c) w = tt
+wrapper_offsets-named p (OpenHolder h inside) w =
+    named-append p.inside (wrapper_at h) (wrapper_offsets inside) (wrapper-named p h w.0.0.header) (wrapper_offsets-named (place_of_children p h) inside w.1)
+wrapper_offsets-named p (OpenBitString h) w = wrapper-named p h w.0.header
+wrapper_offsets-named p (OpenHeader octets) w = tt
+wrapper_offsets-named p OpenEndOctets w = tt

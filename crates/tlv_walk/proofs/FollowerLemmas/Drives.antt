@@ -17,7 +17,7 @@ use Rattle.std.specs.List.{concat}
 use Rattle.tlv_io.specs.Device.{DrainState, LastReadValue, SourceState, failed, failures_after, gave}
 use Rattle.tlv_walk.specs.DriveJob.{Drives, drive_job, drive_state, event_octets, had_enough, run_over}
 use Rattle.tlv_walk.specs.Events.{AreEqualJoined, Bytes, EventValue, Pad, events}
-use Rattle.tlv_walk.specs.Follow.{Effect, GoesOn, Joins, Rests, effect_of, followed_events}
+use Rattle.tlv_walk.specs.Follow.{Effect, GoesOn, Joins, IgnoresNoOctets, effect_of, followed_events}
 use Rattle.tlv_walk.specs.FollowsEvents.{FollowsEvents}
 use Rattle.tlv_walk.specs.Forest.{Forest, spelling}
 use Rattle.tlv_walk.specs.Ending.{IsFinalEnding}
@@ -26,7 +26,7 @@ use Rattle.tlv_io.specs.Out.{Sends}
 use Rattle.tlv_walk.specs.Reading.{AreOctets, IsReading}
 use Rattle.tlv_walk.specs.Stands.{Stands}
 use Rattle.tlv_walk.specs.OneTurn.{EndsIn, FollowsMore, FollowsOneRead, LastReadWas, LastReadGaveUpTo, HasEnoughIn, TurnState, TurnsTo, WalkEnds, at_enough, at_fault, at_input_end, last_octets}
-use Rattle.tlv_walk.specs.Wrappers.{first_other, wrapper_offsets}
+use Rattle.tlv_walk.specs.Wrappers.{first_other, entered_offsets}
 use Rattle.tlv_walk.proofs.FollowerLemmas.Followed.{events_enough, followed-alike, followed-enough, kept-alike}
 use Rattle.tlv_walk.proofs.FollowerLemmas.Following.{made_both, made_put}
 use Rattle.tlv_walk.proofs.FollowerLemmas.Enough.{comes_to, ends_so}
@@ -37,8 +37,8 @@ use Rattle.tlv_walk.proofs.FollowerLemmas.Turns.{run_is}
 use Rattle.tlv_walk.proofs.FollowerLemmas.SoFar.{gave_last, gave_none, given_short, given_octets, enters_each, Walking}
 
 module _ {S : Type 0} (next : S → EventValue → Effect S)
-    (bytes_join : Joins next Bytes) (bytes_rest : Rests next Bytes) (bytes_go_on : GoesOn next Bytes)
-    (pad_join : Joins next Pad) (pad_rest : Rests next Pad) (pad_go_on : GoesOn next Pad) where
+    (bytes_join : Joins next Bytes) (bytes_rest : IgnoresNoOctets next Bytes) (bytes_go_on : GoesOn next Bytes)
+    (pad_join : Joins next Pad) (pad_rest : IgnoresNoOctets next Pad) (pad_go_on : GoesOn next Pad) where
   alike : (s : S) (es fs : List EventValue) → AreEqualJoined es fs → effect_of next s es ≡ effect_of next s fs
   alike = followed-alike next bytes_join bytes_rest bytes_go_on pad_join pad_rest pad_go_on
 
@@ -46,10 +46,10 @@ module _ {S : Type 0} (next : S → EventValue → Effect S)
   octets_alike s es fs e =
       kept-alike next bytes_join bytes_rest bytes_go_on pad_join pad_rest pad_go_on event_octets (λ x y. refl) refl (λ x y. refl) refl s es fs e
 
-  enters_alike : (s : S) (es fs : List EventValue) → AreEqualJoined es fs → wrapper_offsets (followed_events next s es) ≡ wrapper_offsets (followed_events next s fs)
+  enters_alike : (s : S) (es fs : List EventValue) → AreEqualJoined es fs → entered_offsets (followed_events next s es) ≡ entered_offsets (followed_events next s fs)
   enters_alike s es fs e =
       enters_each (followed_events next s es)
-      ∙ kept-alike next bytes_join bytes_rest bytes_go_on pad_join pad_rest pad_go_on (λ e. wrapper_offsets (e ∷ [])) (λ x y. refl) refl (λ x y. refl) refl s es fs e
+      ∙ kept-alike next bytes_join bytes_rest bytes_go_on pad_join pad_rest pad_go_on (λ e. entered_offsets (e ∷ [])) (λ x y. refl) refl (λ x y. refl) refl s es fs e
       ∙ sym (enters_each (followed_events next s fs))
 
   -- what was made of all events of a forest
@@ -82,8 +82,8 @@ module _ {S : Type 0} (next : S → EventValue → Effect S)
   enough_octets : (s t : S) (es others : List EventValue) (f : Forest) → FollowsEvents next s t es go.Enough → AreEqualJoined (es ++ others) (events f) → flat_map event_octets es ≡ flat_map event_octets (followed_events next s (events f))
   enough_octets s t es others f m e = ap (flat_map event_octets) (sym (enough_events s t es others m)) ∙ octets_alike s (es ++ others) (events f) e
 
-  enough_enters : (s t : S) (es others : List EventValue) (f : Forest) → FollowsEvents next s t es go.Enough → AreEqualJoined (es ++ others) (events f) → wrapper_offsets es ≡ wrapper_offsets (followed_events next s (events f))
-  enough_enters s t es others f m e = ap wrapper_offsets (sym (enough_events s t es others m)) ∙ enters_alike s (es ++ others) (events f) e
+  enough_enters : (s t : S) (es others : List EventValue) (f : Forest) → FollowsEvents next s t es go.Enough → AreEqualJoined (es ++ others) (events f) → entered_offsets es ≡ entered_offsets (followed_events next s (events f))
+  enough_enters s t es others f m e = ap entered_offsets (sym (enough_events s t es others m)) ∙ enters_alike s (es ++ others) (events f) e
 
   module _ (framing : Framing) (limit : ℕ) (s : S) (old : SourceState) (from : DrainState) (now : TurnState S) (x : Walking next framing s old from now) where
     abbrev b : List ℕ
@@ -229,9 +229,9 @@ module _ {S : Type 0} (next : S → EventValue → Effect S)
           let k : MadeAll s new.follower f go.Enough (effect_of next s es).put = made_enough s new.follower es others.0 f made others.1 in
           let ending_is : run.ending ≡ Done = ap (λ (k : Run). k.ending) y.run_is in
           let answer : run ≡ run_over framing f (followed_events next s (events f)) (effect_of next s (events f)).goes run.ending =
-          run_is run run.ending (length (flat_map event_octets (followed_events next s (events f)))) true (first_other framing.inside (wrapper_offsets (followed_events next s (events f)))) refl
+          run_is run run.ending (length (flat_map event_octets (followed_events next s (events f)))) true (first_other framing.inside (entered_offsets (followed_events next s (events f)))) refl
           (ap (λ (k : Run). k.octets) y.run_is ∙ ap length (enough_octets s new.follower es others.0 f made others.1)) (ap (λ (k : Run). k.enough) y.run_is)
-          (ap (λ (k : Run). k.unused) y.run_is ∙ ap (λ (k : Framing). first_other k.inside (wrapper_offsets es)) x.same ∙ ap (first_other framing.inside) (enough_enters s new.follower es others.0 f made others.1))
+          (ap (λ (k : Run). k.unused) y.run_is ∙ ap (λ (k : Framing). first_other k.inside (entered_offsets es)) x.same ∙ ap (first_other framing.inside) (enough_enters s new.follower es others.0 f made others.1))
           ∙ ap (λ (g : Go). run_over framing f (followed_events next s (events f)) g run.ending) (sym k.goes_so) in
           let enough : had_enough (effect_of next s (events f)).goes ≡ true = is_enough_so f go.Enough (effect_of next s es).put k in record {
             runs = runs_by (Ok run) f (gave_last new.devices.source.last piece g) is_reading es go.Enough k (ap source_result (sym is)) (sent_all es go.Enough y.follows)

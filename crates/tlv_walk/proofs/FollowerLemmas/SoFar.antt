@@ -17,7 +17,7 @@ use Rattle.tlv_walk.specs.WalkerState.{new_walker}
 use Rattle.tlv_io.specs.Out.{Sends}
 use Rattle.tlv_walk.specs.Stands.{IsIdle, Stands}
 use Rattle.tlv_walk.specs.OneTurn.{LastReadGaveUpTo, TurnState, last_octets, turn_state}
-use Rattle.tlv_walk.specs.Wrappers.{wrapper_offsets}
+use Rattle.tlv_walk.specs.Wrappers.{entered_offsets}
 use Rattle.tlv_walk.proofs.FollowerLemmas.Following.{made_none}
 use Rattle.tlv_io.proofs.Pieces.{GaveLast, Gathered, gathered_none}
 use Rattle.tlv_io.proofs.Puts.{sends_nothing}
@@ -51,7 +51,7 @@ limit_after limit b r h = sym (take-append-add b r (limit - length b)) ∙ ap (�
 
 -- ---- what is kept of events
 
-pub enters_each : (es : List EventValue) → wrapper_offsets es ≡ flat_map (λ e. wrapper_offsets (e ∷ [])) es
+pub enters_each : (es : List EventValue) → entered_offsets es ≡ flat_map (λ e. entered_offsets (e ∷ [])) es
 enters_each [] = refl
 enters_each (Enter h ∷ es) = ap (λ (l : List ℕ). h.offset ∷ l) (enters_each es)
 enters_each (Open h ∷ es) = enters_each es

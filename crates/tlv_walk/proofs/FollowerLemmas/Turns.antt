@@ -31,7 +31,7 @@ use Rattle.tlv_walk.specs.Reading.{AreOctets, IsReading}
 use Rattle.tlv_walk.specs.Stands.{Stands}
 use Rattle.tlv_walk.specs.HasRead.{refused_one, took_all}
 use Rattle.tlv_walk.specs.OneTurn.{EndsIn, HasEnoughIn, StandsAfter, TurnState, TurnsTo, at_enough, at_fault, at_input_end}
-use Rattle.tlv_walk.specs.Wrappers.{first_other, first_without_wrapper, wrapper_offsets}
+use Rattle.tlv_walk.specs.Wrappers.{first_other, first_without_wrapper, entered_offsets}
 use Rattle.tlv_walk.proofs.GrammarLemmas.Finals.{refused-final}
 use Rattle.tlv_walk.proofs.FollowerLemmas.Followed.{followed-front}
 use Rattle.tlv_walk.proofs.FollowerLemmas.Following.{walked_goes_on}
@@ -91,9 +91,9 @@ module _ {S D : Type 0} (next : S → EventValue → Effect S) (old new : TurnSt
         is_prefix = (k.rest, ap (λ (o : List ℕ). o ++ k.rest) front ∙ append_assoc b walked.taken k.rest ∙ ap (λ (o : List ℕ). b ++ o) (sym walked.piece_is));
         stands = subst (λ (o : List ℕ). Stands v o (yielded ++ more)) (sym front) there;
         run_is =
-            run_is run ending.Done (length (flat_map event_octets (yielded ++ more))) true (first_other w.framing.inside (wrapper_offsets (yielded ++ more))) is.ending
+            run_is run ending.Done (length (flat_map event_octets (yielded ++ more))) true (first_other w.framing.inside (entered_offsets (yielded ++ more))) is.ending
             (is.octets ∙ there.private_state.has_state.offset ∙ ap length (sym front)) is.enough
-            (is.unused ∙ stands-entered v (b ++ walked.taken) (yielded ++ more) there ∙ ap (λ (g : Framing). first_other g.inside (wrapper_offsets (yielded ++ more))) walked.framing);
+            (is.unused ∙ stands-entered v (b ++ walked.taken) (yielded ++ more) there ∙ ap (λ (g : Framing). first_other g.inside (entered_offsets (yielded ++ more))) walked.framing);
       }
 
   -- an octet is refused

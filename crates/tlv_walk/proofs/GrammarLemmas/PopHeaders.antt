@@ -5,7 +5,7 @@ use Rattle.tlv_head.specs.declared.header.Class.{Class}
 use Rattle.tlv_head.specs.declared.header.Size.{Size}
 use Rattle.tlv_head.specs.declared.header.Size.TheVariants.{Definite, Indefinite}
 use Rattle.tlv_head.specs.Header.{HeaderValue, IsHeader, IsIdentifier, IsLength, announced_length, holds, octets_of}
-use Rattle.tlv_head.specs.Refusal.{IsFront}
+use Rattle.tlv_head.specs.Refusal.{IsHeaderPrefix}
 use Rattle.tlv_head.proofs.GrammarLemmas.Scan.{Origin, Scan, Fresh, High, Named, Long, Ready, Stuck, Over, origin_of, scan, scan_from-append, scan-header, is_more, more-from_front}
 use Rattle.tlv_walk.specs.Forest.{Forest, NoMore, OpenBitString, OpenHeader, lead, opening, spelling}
 use Rattle.tlv_walk.specs.Place.{Fits, IsEntry, IsHeaderAt, IsOpen, Place}
@@ -74,7 +74,7 @@ begin-more p o (Stuck code) e = absurd (cc)
 begin-more p o Over e = absurd (cc)
 
 -- an octet that makes a longer front of a header
-pub push-front : (p : Place) (o : List ℕ) (x : ℕ) → IsFront (o ++ x ∷ []) → Fits p (length o + 1) → push p (OpenHeader o) x ≡ Grown (OpenHeader (o ++ x ∷ []))
+pub push-front : (p : Place) (o : List ℕ) (x : ℕ) → IsHeaderPrefix (o ++ x ∷ []) → Fits p (length o + 1) → push p (OpenHeader o) x ≡ Grown (OpenHeader (o ++ x ∷ []))
 push-front p o x front f = push-scan p o x _ f refl ∙ begin-more p (o ++ x ∷ []) _ (more-from_front (origin p) (o ++ x ∷ []) front)
 
 -- a header that may stand there is a forest
@@ -130,7 +130,7 @@ more-nonzero : (at : Origin) (x : ℕ) → is_more (scan at (x ∷ [])) ≡ true
 more-nonzero at x e z = let e' : is_more (scan at (0 ∷ [])) ≡ true = rw z at e in cc
 
 -- the front of a header is popped
-pub front-popped : (p : Place) (o : List ℕ) (x : ℕ) → IsFront (o ++ x ∷ []) → Fits p (length (o ++ x ∷ [])) → Popped p (OpenHeader (o ++ x ∷ []))
+pub front-popped : (p : Place) (o : List ℕ) (x : ℕ) → IsHeaderPrefix (o ++ x ∷ []) → Fits p (length (o ++ x ∷ [])) → Popped p (OpenHeader (o ++ x ∷ []))
 front-popped p [] x front f =
     let nz : x ≢ 0 = more-nonzero (origin p) x (more-from_front (origin p) (x ∷ []) front) in
     record { from = NoMore; last = x; is_open = tt; spelled = refl; pushed = rw (fits-within p.bound (p.at + 1) f, ne_eqb x 0 nz) }

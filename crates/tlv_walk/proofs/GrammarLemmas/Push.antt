@@ -4,7 +4,7 @@ use Rattle.std.proofs.lemmas.Bool.{cases_eq, cases_Bool, and_parts, true≢false
 use Rattle.tlv_head.specs.declared.header.Size.{Size}
 use Rattle.tlv_head.specs.declared.header.Size.TheVariants.{Definite, Indefinite}
 use Rattle.tlv_head.specs.Header.{AllowsSize, HeaderValue, IsHeader, announced_length, holds, octets_of, wraps}
-use Rattle.tlv_head.specs.Refusal.{IsFront}
+use Rattle.tlv_head.specs.Refusal.{IsHeaderPrefix}
 use Rattle.tlv_head.proofs.GrammarLemmas.Scan.{Origin, Scan, Fresh, High, Named, Long, Ready, Stuck, Over, origin_of, step, scan, first-more}
 use Rattle.tlv_head.proofs.GrammarLemmas.Meaning.{IsStateAfter, reads-step, reads-scan, front-from_more, front-bytes}
 use Rattle.tlv_walk.specs.Forest.{Forest, Holder, NoMore, OpenBitString, OpenEndOctets, OpenHeader, OpenHolder, OpenPrimitive, PaddingOctet, Primitive, contents_length, end_octets, extent, is_complete, lead, opening, spelling}
@@ -136,7 +136,7 @@ complete-sound p h valid at =
     ]
 
 -- the front of a header
-front-sound : (p : Place) (o : List ℕ) → o ≢ [] → IsFront o → Fits p (length o) → Spells p o (OpenHeader o)
+front-sound : (p : Place) (o : List ℕ) → o ≢ [] → IsHeaderPrefix o → Fits p (length o) → Spells p o (OpenHeader o)
 front-sound p o some front f = record { is_open = (some, front, f); spelled = refl }
 
 -- octets of a header, by what they say
@@ -154,7 +154,7 @@ pub push≢nil : (o : List ℕ) (x : ℕ) → o ++ x ∷ [] ≢ []
 push≢nil o x e = omega (arith, ap length e, length-append o (x ∷ []))
 
 -- after the front of a header
-front-step : (p : Place) (o : List ℕ) (x : ℕ) → x < 256 → IsFront o → IsStep p (o ++ x ∷ []) (push p (OpenHeader o) x)
+front-step : (p : Place) (o : List ℕ) (x : ℕ) → x < 256 → IsHeaderPrefix o → IsStep p (o ++ x ∷ []) (push p (OpenHeader o) x)
 front-step p o x h front = elim (cases_Bool (fits p (length o + 1))) [
   | inl f ↦ rw f
       (begin-sound p (o ++ x ∷ []) (step (origin p) (scan (origin p) o) x) (reads-step (origin p) x (scan (origin p) o) o h (reads-scan (origin p) o (front-bytes o front))) (push≢nil o x)

@@ -10,7 +10,7 @@ use Rattle.tlv_walk.specs.Forest.{Forest, NoMore, PaddingOctet, Primitive, Holde
 use Rattle.tlv_walk.specs.Inside.{is_among}
 use Rattle.tlv_walk.specs.Place.{Place, place_after, place_of_children}
 use Rattle.tlv_walk.specs.Reading.{IsSound}
-use Rattle.tlv_walk.specs.Wrappers.{wrappers}
+use Rattle.tlv_walk.specs.Wrappers.{wrapper_offsets}
 use Rattle.tlv_walk.proofs.GrammarLemmas.Alike.{AreRegular}
 use Rattle.tlv_walk.proofs.GrammarLemmas.PopHeaders.{header-length}
 use Rattle.tlv_walk.proofs.GrammarLemmas.Spellings.{length-holder, length-opening, length-primitive}
@@ -40,7 +40,7 @@ pub record SpelledAt (form : Bool → Bool) (q : Place) (f : Forest) (octets nam
   pub sound : IsSound q forest
   pub regular : AreRegular form forest
   pub spelled : spelling forest ≡ octets
-  pub names_are : wrappers forest ≡ names
+  pub names_are : wrapper_offsets forest ≡ names
 
 -- one spelling, wherever it stands, and the offsets of its wrappers, by that of its first octet
 pub record Spelling (form : Bool → Bool) (p : Place) (f : Forest) : Type 0 where
@@ -215,7 +215,7 @@ module _ (form : Bool → Bool) (definite : form false ≡ false) where
             agrees j (omega (arith, least)) (omega (arith, most, next_is, total))
             ∙ joint.of_others q.at j (omega (arith, least, next_is))
             ∙ ap (λ (n : ℕ). is_among j (r.names (q.at + n))) (sym next_is)) in
-            let others_are : wrappers t.forest ≡ r.names (q.at + far) = t.names_are ∙ ap (λ (n : ℕ). r.names (q.at + n)) next_is in
+            let others_are : wrapper_offsets t.forest ≡ r.names (q.at + far) = t.names_are ∙ ap (λ (n : ℕ). r.names (q.at + n)) next_is in
             record {
               forest = Holder k i.forest t.forest;
               alike = holders h k inside i.forest rest t.forest (record { class = refl; constructed = is; number = refl }) i.alike t.alike;

@@ -12,7 +12,7 @@ use Rattle.tlv_walk.specs.WalkerState.{WalkerState}
 use Rattle.tlv_walk.specs.Place.{IsWithin}
 use Rattle.tlv_walk.specs.Private.Stack.{room_to}
 use Rattle.tlv_walk.specs.Private.Zipper.{HasZipper}
-use Rattle.tlv_walk.specs.HasRead.{event_value}
+use Rattle.tlv_walk.specs.HasRead.{event_value_of}
 use Rattle.tlv_walk.specs.Private.Yields.{Continues, RefusesOctet, YieldsEvent, YieldsFault, YieldsStep}
 use Rattle.tlv_walk.proofs.WalkerLemmas.Moves.{continues_both}
 
@@ -50,7 +50,7 @@ module _ (old mid new : WalkerState) (x : ℕ) (first : Continues old mid (x ∷
   fault_after rest after f z (inr r) = absurd (cc (z, r.refused))
 
   pub step_after : (rest after : List ℕ) (m : Step) → mid.phase ≡ phase.InEndOctets → YieldsStep mid new rest after m → YieldsStep old new (x ∷ rest) after m
-  step_after rest after (step.Event e) z t = event_after rest after (event_value e) t
+  step_after rest after (step.Event e) z t = event_after rest after (event_value_of e) t
   step_after rest after step.NeedMore z t = continues_both old mid new (x ∷ []) rest [] [] first t
   step_after rest after (step.Fault f) z t = fault_after rest after f z t
 

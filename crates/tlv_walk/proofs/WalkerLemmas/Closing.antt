@@ -7,14 +7,14 @@ use Rattle.tlv_head.specs.Header.{AllowsSize, HeaderValue, announced_length, oct
 use Rattle.tlv_walk.specs.Phase as phase
 use Rattle.tlv_walk.specs.Events.{AreEqualJoined, Close, EventValue, Leave, closing_event, end_offset, events, opening_events, single_octets}
 use Rattle.tlv_walk.specs.Forest.{Forest, Holder, NoMore, OpenEndOctets, contents_length, end_octets, extent, is_complete, opening, spelling}
-use Rattle.tlv_walk.specs.Wrappers.{wrapper_offsets}
+use Rattle.tlv_walk.specs.Wrappers.{entered_offsets}
 use Rattle.std.proofs.lemmas.Bool.{cases_Bool}
 use Rattle.tlv_walk.specs.WalkerState.{WalkerState}
 use Rattle.tlv_walk.specs.Private.WalkerState.{wrappers_after}
 use Rattle.tlv_walk.specs.Place.{Fits, IsEntry, IsOpen, IsWithin, Place, bound_in, is_indefinite, place_after}
 use Rattle.tlv_walk.proofs.GrammarLemmas.Lengths.{HasLength}
-use Rattle.tlv_walk.specs.Stack.{Frame, IsFilled, IsInIndefinite, IsInWrapper, bound_of}
-use Rattle.tlv_walk.specs.Private.Stack.{wraps_of}
+use Rattle.tlv_walk.specs.Stack.{FrameValue, IsFilled, IsInIndefinite, IsInWrapper, bound_of}
+use Rattle.tlv_walk.specs.Private.Stack.{innermost_wraps}
 use Rattle.tlv_walk.specs.Private.Yields.{Continues}
 use Rattle.tlv_walk.specs.Private.Zipper.{AreWhole, Between, HasZipper, InEndOctets, Layer, Tail, Zipper, events_of_layers, events_of_tail, frame_at, frames_of, place_in, place_of, spelling_of_layers, spelling_of_tail}
 use Rattle.tlv_walk.specs.Stands.{filled_end}
@@ -104,7 +104,7 @@ second_from w b yielded s (l ∷ ls) has zero room =
     let k : l.header.constructed ≡ true = constructed_indefinite l.header.constructed l.header.size size has.layers.2.header.valid.allowed in
     let ends : end_octets l.header.size ≡ 0 ∷ 0 ∷ [] = ap end_octets size in
     let event : closing_event l.header s.here ≡ Close (Some (w.offset - 1)) = closes_indefinite l.header s.here (w.offset - 1) k size (omega arith) in
-    let bound : IsWithin (bound_in l.header.size (p.at + length (octets_of l.header)) p.bound) (w.offset + 1) = subst (λ (fs : List Frame). IsWithin (bound_of fs) (w.offset + 1)) has.stack room in
+    let bound : IsWithin (bound_in l.header.size (p.at + length (octets_of l.header)) p.bound) (w.offset + 1) = subst (λ (fs : List FrameValue). IsWithin (bound_of fs) (w.offset + 1)) has.stack room in
     let outer : IsWithin p.bound (w.offset + 1) = subst (λ (t : Size). IsWithin (bound_in t (p.at + length (octets_of l.header)) p.bound) (w.offset + 1)) size bound in
     let two : length (end_octets l.header.size) ≡ 2 = ap length ends in
     let fits : Fits p (extent l.header s.here) = subst (λ (n : ℕ). IsWithin p.bound n) (omega arith) outer in (
@@ -131,17 +131,17 @@ closes_definite true (Definite n) m o e = refl
 closes_definite true Indefinite m o e = absurd (cc)
 closes_definite false s m o e = refl
 
-head_frame : (f g : Frame) (fs gs : List Frame) → f ∷ fs ≡ g ∷ gs → f ≡ g
+head_frame : (f g : FrameValue) (fs gs : List FrameValue) → f ∷ fs ≡ g ∷ gs → f ≡ g
 head_frame f g fs gs e = cc
 
 filled_from : (w : WalkerState) (b : List ℕ) (yielded : List EventValue) (s : Zipper) (ls : List Layer) → HasZipper w b yielded (with_layers s ls Between) → w.phase ≡ phase.Between
-    → (f : Frame) (fs : List Frame) → w.stack ≡ f ∷ fs → f.end ≡ Some w.offset
+    → (f : FrameValue) (fs : List FrameValue) → w.stack ≡ f ∷ fs → f.end ≡ Some w.offset
     → (t : Zipper) × HasZipper (record w { stack = drop 1 w.stack; events = w.events + 1 }) (b ++ []) (yielded ++ filled_end f ∷ []) t
 filled_from w b yielded s [] has e f fs is full = absurd (cc (has.stack))
 filled_from w b yielded s (l ∷ ls) has e f fs is full =
     let p : Place = place_after (place_in w.framing ls) (length (spelling l.before)) in
     let same : f ≡ frame_at p l.header = head_frame f (frame_at p l.header) fs (frames_of w.framing ls) (sym is ∙ has.stack) in
-    let size : (n : ℕ) × (l.header.size ≡ Definite n) × (p.at + length (octets_of l.header) + n ≡ w.offset) = definite-size l.header.size _ w.offset (sym (ap (λ (g : Frame). g.end) same) ∙ full) in
+    let size : (n : ℕ) × (l.header.size ≡ Definite n) × (p.at + length (octets_of l.header) + n ≡ w.offset) = definite-size l.header.size _ w.offset (sym (ap (λ (g : FrameValue). g.end) same) ∙ full) in
     let at : w.offset ≡ (place_of w.framing (with_layers s (l ∷ ls) Between)).at + 0 = place-offset w b yielded _ has in
     let long : contents_length l.header s.here ≡ size.0 = omega (arith, size.2, at, length-opening l.header) in
     let none : end_octets l.header.size ≡ [] = ap end_octets size.1 in
@@ -157,14 +157,14 @@ filled_from w b yielded s (l ∷ ls) has e f fs is full =
     )
 
 -- the end of an element enters no wrapper
-ending_enters : (f : Frame) → wrapper_offsets (filled_end f ∷ []) ≡ []
+ending_enters : (f : FrameValue) → entered_offsets (filled_end f ∷ []) ≡ []
 ending_enters f = elim (cases_Bool f.wrapper) [
   | inl e ↦ rw e refl
   | inr e ↦ rw e refl
 ]
 
 -- the innermost element, which is filled, ends
-pub yields_filled : (w : WalkerState) → w.phase ≡ phase.Between → (f : Frame) (fs : List Frame) → w.stack ≡ f ∷ fs → f.end ≡ Some w.offset
+pub yields_filled : (w : WalkerState) → w.phase ≡ phase.Between → (f : FrameValue) (fs : List FrameValue) → w.stack ≡ f ∷ fs → f.end ≡ Some w.offset
     → Continues w (record w { stack = drop 1 w.stack; events = w.events + 1 }) [] (filled_end f ∷ [])
 yields_filled w e f fs is full = record {
   framing = refl;
@@ -175,20 +175,20 @@ yields_filled w e f fs is full = record {
 }
 
 -- a stack of which the innermost frame says so
-record IsInnermost (stack : List Frame) (k : Bool) : Type 0 where
-  frame : Frame
+record IsInnermost (stack : List FrameValue) (k : Bool) : Type 0 where
+  frame : FrameValue
   stack_is : stack ≡ frame ∷ drop 1 stack
   wraps : frame.wrapper ≡ k
 
-innermost : (stack : List Frame) (k : Bool) → wraps_of stack ≡ Some k → IsInnermost stack k
+innermost : (stack : List FrameValue) (k : Bool) → innermost_wraps stack ≡ Some k → IsInnermost stack k
 innermost [] k e = absurd (cc)
 innermost (f ∷ fs) k e = record { frame = f; stack_is = refl; wraps = cc }
 
-frame_filled : (stack : List Frame) (f : Frame) (fs : List Frame) (at : ℕ) → stack ≡ f ∷ fs → IsFilled stack at → f.end ≡ Some at
-frame_filled stack f fs at e full = subst (λ (s : List Frame). IsFilled s at) e full
+frame_filled : (stack : List FrameValue) (f : FrameValue) (fs : List FrameValue) (at : ℕ) → stack ≡ f ∷ fs → IsFilled stack at → f.end ≡ Some at
+frame_filled stack f fs at e full = subst (λ (s : List FrameValue). IsFilled s at) e full
 
 -- the same, by what the frame says that was popped
-pub yields_popped : (w : WalkerState) (k : Bool) → w.phase ≡ phase.Between → IsFilled w.stack w.offset → wraps_of w.stack ≡ Some k
+pub yields_popped : (w : WalkerState) (k : Bool) → w.phase ≡ phase.Between → IsFilled w.stack w.offset → innermost_wraps w.stack ≡ Some k
     → Continues w (record w { stack = drop 1 w.stack; events = w.events + 1 }) [] ((if k then Leave else Close None) ∷ [])
 yields_popped w k e full is =
     let i : IsInnermost w.stack k = innermost w.stack k is in
@@ -196,7 +196,7 @@ yields_popped w k e full is =
     (yields_filled w e i.frame (drop 1 w.stack) i.stack_is (frame_filled w.stack i.frame (drop 1 w.stack) w.offset i.stack_is full))
 
 -- an element that is filled wraps nothing, or says so
-wraps_none : (stack : List Frame) (at : ℕ) → IsFilled stack at → (IsInWrapper stack → ⊥) → wraps_of stack ≡ Some false
+wraps_none : (stack : List FrameValue) (at : ℕ) → IsFilled stack at → (IsInWrapper stack → ⊥) → innermost_wraps stack ≡ Some false
 wraps_none [] at full n = absurd full
 wraps_none (f ∷ fs) at full n = ap Some (false_from_ne_true f.wrapper n)
 

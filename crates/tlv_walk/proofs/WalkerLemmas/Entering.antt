@@ -3,7 +3,7 @@ use Rattle.std.proofs.Common.{◌≡◌, ℕ, ◌+◌, ◌<◌, Bool, true, fals
 use Rattle.tlv_head.specs.declared.header.Size.TheVariants.{Definite}
 use Rattle.tlv_head.specs.Header.{HeaderValue, IsHeader, announced_length, holds, octets_of}
 use Rattle.tlv_head.specs.HeadReaderState.{HeadReaderState}
-use Rattle.tlv_head.specs.Refusal.{IsFront}
+use Rattle.tlv_head.specs.Refusal.{IsHeaderPrefix}
 use Rattle.tlv_walk.specs.Phase as phase
 use Rattle.tlv_walk.specs.Events.{AreEqualJoined, Begin, Bytes, Enter, EventValue, Open, Unused, events, opening_events, single_octets}
 use Rattle.tlv_walk.specs.Forest.{Forest, NoMore, OpenBitString, lead, opening, spelling}
@@ -11,7 +11,7 @@ use Rattle.tlv_walk.specs.Inside.{is_among}
 use Rattle.tlv_walk.specs.WalkerState.{WalkerState}
 use Rattle.tlv_walk.specs.Private.WalkerState.{after_header}
 use Rattle.tlv_walk.specs.Place.{Fits, IsEntry, IsHeaderAt, IsOpen, IsWithin, Place}
-use Rattle.tlv_walk.specs.Stack.{Frame, bound_of}
+use Rattle.tlv_walk.specs.Stack.{FrameValue, bound_of}
 use Rattle.tlv_walk.specs.Private.Zipper.{InBitString, Between, HasZipper, InPrimitive, InEndOctets, InHeader, IsPhaseOf, Layer, Tail, Zipper, events_of_layers, events_of_tail, frame_at, frames_of, place_in, place_of, spelling_of_layers, spelling_of_tail}
 use Rattle.tlv_walk.specs.Private.Yields.{Continues}
 use Rattle.tlv_walk.proofs.WalkerLemmas.Moves.{between_tail, phase_at, spelled_after, tail_state, yielded_after, with_tail}
@@ -152,7 +152,7 @@ holding_state w b yielded s r t h k at c e none = record {
   spelled = layer_spelled s.layers s.here h (spelling_of_tail s.tail) t b
       (ap (λ (o : List ℕ). o ++ t) at.octets ∙ (sym c.octets ∙ (sym (append-nil (octets_of h)) ∙ ap (λ (l : List ℕ). octets_of h ++ l) (sym none)))) at.has.spelled;
   offset = header_end w b yielded s r t h at c;
-  stack = ap (λ (fs : List Frame). frame_at (place_of w.framing s) h ∷ fs) at.stack;
+  stack = ap (λ (fs : List FrameValue). frame_at (place_of w.framing s) h ∷ fs) at.stack;
   layers = (at.has.layers, at.has.here, entry_at w b yielded s r t h at c e);
   here = record { is_open = tt; whole = refl };
   phase = tt;
@@ -168,7 +168,7 @@ pub lead_state : (w : WalkerState) (b : List ℕ) (yielded : List EventValue) (s
 lead_state w b yielded s r t h k at c e one = record {
   spelled = spelled_after s.layers s.here (spelling_of_tail s.tail) (octets_of h) t b (c.octets ∙ ap (λ (o : List ℕ). o ++ t) (sym at.octets)) at.has.spelled;
   offset = header_end w b yielded s r t h at c;
-  stack = ap (λ (fs : List Frame). frame_at (place_of w.framing s) h ∷ fs) at.stack;
+  stack = ap (λ (fs : List FrameValue). frame_at (place_of w.framing s) h ∷ fs) at.stack;
   layers = at.has.layers;
   here = at.has.here;
   phase = (entry_at w b yielded s r t h at c e, one);
@@ -221,7 +221,7 @@ yields_unused w e = record {
 
 -- more octets of a header
 pub front_state : (w : WalkerState) (b : List ℕ) (yielded : List EventValue) (s : Zipper) (r q : HeadReaderState) (t : List ℕ) → AtHeader w b yielded s r → q.octets ≡ r.octets ++ t → q.offset ≡ r.offset
-    → q.named ≡ r.named → (q.octets ≡ [] → ⊥) → IsFront q.octets → IsWithin (bound_of w.stack) (q.offset + length q.octets)
+    → q.named ≡ r.named → (q.octets ≡ [] → ⊥) → IsHeaderPrefix q.octets → IsWithin (bound_of w.stack) (q.offset + length q.octets)
     → HasZipper (record w { phase = phase.InHeader q; offset = q.offset + length q.octets; has_element = true }) (b ++ t) (yielded ++ []) (with_tail s (InHeader q.octets))
 front_state w b yielded s r q t at o f n some front fits =
     let bound : bound_of w.stack ≡ (place_in w.framing s.layers).bound = ap bound_of at.stack ∙ sym (place-bound w.framing s.layers) in

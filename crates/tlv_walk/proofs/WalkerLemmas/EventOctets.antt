@@ -6,7 +6,7 @@ use Rattle.tlv_head.specs.declared.header.Size.{Size}
 use Rattle.tlv_head.specs.declared.header.Size.TheVariants.{Definite, Indefinite}
 use Rattle.tlv_head.specs.Header.{AllowsSize, HeaderValue, octets_of}
 use Rattle.tlv_walk.specs.declared.framing.Framing.{Framing}
-use Rattle.tlv_walk.specs.Phase.{Phase}
+use Rattle.tlv_walk.specs.Phase.{PhaseValue}
 use Rattle.tlv_walk.specs.Phase as phase
 use Rattle.tlv_walk.specs.DriveJob.{event_octets}
 use Rattle.tlv_walk.specs.Events.{AreEqualJoined, Begin, Bytes, Close, End, Enter, EventValue, Leave, Open, Pad, Unused, closing_event, end_offset, events, opening_events, single_octets}
@@ -117,7 +117,7 @@ octets_layers w (l ∷ ls) a =
     ∙ ap (λ (t : List ℕ). spelling l.before ++ t) (octets_opens l.header)
     )
 
-octets_tail : (f : Phase) (t : Tail) (p : Place) → IsPhaseOf f t p → IsAfterEvent f → flat_map event_octets (events_of_tail t) ≡ spelling_of_tail t
+octets_tail : (f : PhaseValue) (t : Tail) (p : Place) → IsPhaseOf f t p → IsAfterEvent f → flat_map event_octets (events_of_tail t) ≡ spelling_of_tail t
 octets_tail phase.Between Between p i k = refl
 octets_tail (phase.InHeader r) (InHeader octets) p i k = absurd k
 octets_tail (phase.InPrimitive left) (InPrimitive h c) p i k = ap (λ (l : List ℕ). octets_of h ++ l) (append-nil c)

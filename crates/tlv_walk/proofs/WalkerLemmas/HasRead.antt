@@ -8,7 +8,7 @@ use Rattle.tlv_walk.specs.Events.{EventValue}
 use Rattle.tlv_walk.specs.Forest.{Forest}
 use Rattle.tlv_walk.specs.WalkerState.{WalkerState, first_without_wrapper_in}
 use Rattle.tlv_walk.specs.OpenCount.{open_count}
-use Rattle.tlv_walk.specs.Phase.{Phase, Refused}
+use Rattle.tlv_walk.specs.Phase.{PhaseValue, Refused}
 use Rattle.tlv_walk.specs.Place.{Place}
 use Rattle.tlv_walk.specs.Private.Zipper.{IsPhaseOf, Tail, place_of}
 use Rattle.tlv_walk.specs.Stands.{IsIdle, Stands}
@@ -37,7 +37,7 @@ read_unused w b f (refused x yielded g st e) = st.unused ∙ ap (first_without_w
 
 -- a walker that stands for octets was refused none
 pub never_refused : (w : WalkerState) (b : List ℕ) (yielded : List EventValue) (f : Fault) → Stands w b yielded → w.phase ≡ Refused f → ⊥
-never_refused w b yielded f st e = no_phase st.private_state.state.tail (place_of w.framing st.private_state.state) (subst (λ (p : Phase). IsPhaseOf p st.private_state.state.tail (place_of w.framing st.private_state.state)) e st.private_state.has_state.phase)
+never_refused w b yielded f st e = no_phase st.private_state.state.tail (place_of w.framing st.private_state.state) (subst (λ (p : PhaseValue). IsPhaseOf p st.private_state.state.tail (place_of w.framing st.private_state.state)) e st.private_state.has_state.phase)
   where
     no_phase : (t : Tail) (p : Place) → IsPhaseOf (Refused f) t p → ⊥
     no_phase t p h = h

@@ -4,21 +4,21 @@ use Rattle.std.proofs.lemmas.Bool.{true≢false}
 use Rattle.std.proofs.lemmas.List.{take-append-drop}
 use Rattle.tlv_head.specs.declared.header.HeaderFields.{HeaderFields}
 use Rattle.tlv_head.specs.declared.header.Size.TheVariants.{Definite}
-use Rattle.tlv_head.specs.HeaderFields.{header_with}
+use Rattle.tlv_head.specs.HeaderFields.{new_header}
 use Rattle.tlv_head.specs.Header.{HeaderValue, announced_length, holds, is_wrapper, octets_of}
 use Rattle.tlv_head.specs.HeadReaderState.{HeadReaderState}
 use Rattle.tlv_walk.specs.declared.event.HeaderKind.{HeaderKind}
 use Rattle.tlv_walk.specs.declared.event.HeaderKind.TheVariants as kind
-use Rattle.tlv_walk.specs.Phase.{Phase}
+use Rattle.tlv_walk.specs.Phase.{PhaseValue}
 use Rattle.tlv_walk.specs.Phase as phase
 use Rattle.tlv_walk.specs.Events.{Begin, Enter, EventValue, Open}
 use Rattle.tlv_walk.specs.Forest.{NoMore, lead}
 use Rattle.tlv_walk.specs.WalkerState.{WalkerState}
 use Rattle.tlv_walk.specs.Private.Stack.{frame_with}
 use Rattle.tlv_walk.specs.Private.WalkerState.{CanEnter, TakesHeader, after_header, next_wrapper, wrappers_after}
-use Rattle.tlv_walk.specs.Wrappers.{wrapper_offsets}
+use Rattle.tlv_walk.specs.Wrappers.{entered_offsets}
 use Rattle.tlv_walk.specs.Inside.{is_among}
-use Rattle.tlv_walk.specs.Stack.{Frame, bound_of}
+use Rattle.tlv_walk.specs.Stack.{FrameValue, bound_of}
 use Rattle.tlv_walk.specs.Place.{IsWithin}
 use Rattle.tlv_walk.specs.Private.Yields.{Continues}
 use Rattle.tlv_head.specs.ReadHeader.{BeginsWithFields}
@@ -43,16 +43,16 @@ frame_there w b yielded s r t h at c =
     ∙ ap (λ (x : Option ℕ). frame_with (h.offset + length (octets_of h)) x h.size h.constructed) (place-bound w.framing s.layers ∙ ap bound_of (sym at.stack))
 
 -- an element that holds others, with the frame that the walker pushes
-abbrev machine_in_element : WalkerState → HeaderValue → Phase → ℕ → WalkerState
+abbrev machine_in_element : WalkerState → HeaderValue → PhaseValue → ℕ → WalkerState
 machine_in_element w h f k =
     record (after_header w f (h.offset + length (octets_of h))) { stack = frame_with (h.offset + length (octets_of h)) (bound_of w.stack) h.size h.constructed ∷ w.stack; wrapper_count = k }
 
 -- the state is that of a walker which pushed the frame
-pushed : (w : WalkerState) (b : List ℕ) (yielded : List EventValue) (s : Zipper) (r : HeadReaderState) (t : List ℕ) (h : HeaderValue) (f : Phase) (k : ℕ) (e : EventValue) (u : Zipper) → AtHeader w b yielded s r → Completed w r t h
+pushed : (w : WalkerState) (b : List ℕ) (yielded : List EventValue) (s : Zipper) (r : HeadReaderState) (t : List ℕ) (h : HeaderValue) (f : PhaseValue) (k : ℕ) (e : EventValue) (u : Zipper) → AtHeader w b yielded s r → Completed w r t h
     → HasZipper (record (after_header w f (h.offset + length (octets_of h))) { stack = frame_at (place_of w.framing s) h ∷ w.stack; wrapper_count = k }) (b ++ t) (yielded ++ e ∷ []) u
     → HasZipper (machine_in_element w h f k) (b ++ t) (yielded ++ e ∷ []) u
 pushed w b yielded s r t h f k e u at c has =
-    subst (λ (x : Frame). HasZipper (record (after_header w f (h.offset + length (octets_of h))) { stack = x ∷ w.stack; wrapper_count = k }) (b ++ t) (yielded ++ e ∷ []) u) (frame_there w b yielded s r t h at c) has
+    subst (λ (x : FrameValue). HasZipper (record (after_header w f (h.offset + length (octets_of h))) { stack = x ∷ w.stack; wrapper_count = k }) (b ++ t) (yielded ++ e ∷ []) u) (frame_there w b yielded s r t h at c) has
 
 lead_at : (h : HeaderValue) (k n : Bool) → h.constructed ≡ k → eqb h.number 3 ≡ n → lead h ≡ lead_by k n
 lead_at h k n e f = ap (λ (c : Bool). lead_by c (eqb h.number 3)) e ∙ ap (lead_by k) f
@@ -103,17 +103,17 @@ primitive_enters w b yielded s r t h at c no_hold =
 
 -- after a header a walker stands as it says
 pub enters_state : (w v : WalkerState) (b : List ℕ) (yielded : List EventValue) (s : Zipper) (r : HeadReaderState) (t : List ℕ) (f : HeaderFields) (o : List ℕ) (k : HeaderKind) → AtHeader w b yielded s r
-    → Completed w r t (header_with f o) → TakesHeader w v f (f.offset + length (octets_of (header_with f o))) k
-    → (u : Zipper) × HasZipper v (b ++ t) (yielded ++ event_of k (header_with f o) ∷ []) u
+    → Completed w r t (new_header f o) → TakesHeader w v f (f.offset + length (octets_of (new_header f o))) k
+    → (u : Zipper) × HasZipper v (b ++ t) (yielded ++ event_of k (new_header f o) ∷ []) u
 enters_state w v b yielded s r t f o kind.Primitive at c e =
-    let u = primitive_enters w b yielded s r t (header_with f o) at c e.0 in
-    (u.0, subst (λ (m : WalkerState). HasZipper m (b ++ t) (yielded ++ Begin (header_with f o) ∷ []) u.0) (sym e.1) u.1)
+    let u = primitive_enters w b yielded s r t (new_header f o) at c e.0 in
+    (u.0, subst (λ (m : WalkerState). HasZipper m (b ++ t) (yielded ++ Begin (new_header f o) ∷ []) u.0) (sym e.1) u.1)
 enters_state w v b yielded s r t f o kind.Constructed at c e =
-    let u = constructed_enters w b yielded s r t (header_with f o) at c e.0 in
-    (u.0, subst (λ (m : WalkerState). HasZipper m (b ++ t) (yielded ++ Open (header_with f o) ∷ []) u.0) (sym e.1) u.1)
+    let u = constructed_enters w b yielded s r t (new_header f o) at c e.0 in
+    (u.0, subst (λ (m : WalkerState). HasZipper m (b ++ t) (yielded ++ Open (new_header f o) ∷ []) u.0) (sym e.1) u.1)
 enters_state w v b yielded s r t f o kind.Wrapper at c e =
-    let u = wrapper_enters w b yielded s r t (header_with f o) (next_wrapper w.framing.inside w.wrapper_count f.offset) at c e.0 (or-right f.constructed _ e.0 e.1) (eqb f.number 3) refl in
-    (u.0, subst (λ (m : WalkerState). HasZipper m (b ++ t) (yielded ++ Enter (header_with f o) ∷ []) u.0) (sym e.2) u.1)
+    let u = wrapper_enters w b yielded s r t (new_header f o) (next_wrapper w.framing.inside w.wrapper_count f.offset) at c e.0 (or-right f.constructed _ e.0 e.1) (eqb f.number 3) refl in
+    (u.0, subst (λ (m : WalkerState). HasZipper m (b ++ t) (yielded ++ Enter (new_header f o) ∷ []) u.0) (sym e.2) u.1)
 
 -- the framing stays
 pub enters_framing : (w v : WalkerState) (f : HeaderFields) (at : ℕ) (k : HeaderKind) → TakesHeader w v f at k → v.framing ≡ w.framing
@@ -122,7 +122,7 @@ enters_framing w v f at kind.Constructed e = ap (λ (m : WalkerState). m.framing
 enters_framing w v f at kind.Wrapper e = ap (λ (m : WalkerState). m.framing) e.2
 
 -- a wrapper may be one of the named offsets
-pub enters_found : (w v : WalkerState) (f : HeaderFields) (o : List ℕ) (at : ℕ) (k : HeaderKind) → TakesHeader w v f at k → v.wrapper_count ≡ wrappers_after w.framing.inside w.wrapper_count (wrapper_offsets (event_of k (header_with f o) ∷ []))
+pub enters_found : (w v : WalkerState) (f : HeaderFields) (o : List ℕ) (at : ℕ) (k : HeaderKind) → TakesHeader w v f at k → v.wrapper_count ≡ wrappers_after w.framing.inside w.wrapper_count (entered_offsets (event_of k (new_header f o) ∷ []))
 enters_found w v f o at kind.Primitive e = ap (λ (m : WalkerState). m.wrapper_count) e.1
 enters_found w v f o at kind.Constructed e = ap (λ (m : WalkerState). m.wrapper_count) e.1
 enters_found w v f o at kind.Wrapper e = ap (λ (m : WalkerState). m.wrapper_count) e.2
@@ -130,12 +130,12 @@ enters_found w v f o at kind.Wrapper e = ap (λ (m : WalkerState). m.wrapper_cou
 -- octets that begin with a header, at a walker between elements
 pub fast_enters : (w v : WalkerState) (piece : List ℕ) (named : Bool) (f : HeaderFields) (count : ℕ) (o : List ℕ) (k : HeaderKind) → w.phase ≡ phase.Between
     → BeginsWithFields piece w.offset named f count → o ≡ take count piece → named ≡ is_among w.offset w.framing.inside
-    → (holds (header_with f o) ≡ true → length w.stack < 128) → IsWithin (bound_of w.stack) (f.offset + length o + announced_length f.size)
-    → TakesHeader w v f (f.offset + length o) k → Continues w v o (event_of k (header_with f o) ∷ [])
+    → (holds (new_header f o) ≡ true → length w.stack < 128) → IsWithin (bound_of w.stack) (f.offset + length o + announced_length f.size)
+    → TakesHeader w v f (f.offset + length o) k → Continues w v o (event_of k (new_header f o) ∷ [])
 fast_enters w v piece named f count o k e begins front name shallow fits enter =
-    let h : HeaderValue = header_with f o in
+    let h : HeaderValue = new_header f o in
     let whole : octets_of h ≡ o = take-append-drop f.id_len o in
-    let begins' : BeginsWith piece w.offset named h = subst (λ (x : List ℕ). BeginsWith piece w.offset named (header_with f x)) (sym front) begins.begins in
+    let begins' : BeginsWith piece w.offset named h = subst (λ (x : List ℕ). BeginsWith piece w.offset named (new_header f x)) (sym front) begins.begins in
     let r : HeadReaderState = record { offset = w.offset; named = named; octets = []; done = false } in
     let completed : Completed w r o h = record {
       valid = begins'.valid;
@@ -155,12 +155,12 @@ fast_enters w v piece named f count o k e begins front name shallow fits enter =
 
 -- such a header may stand there
 pub fast_may_enter : (w : WalkerState) (piece : List ℕ) (named : Bool) (f : HeaderFields) (count : ℕ) (o : List ℕ) → BeginsWithFields piece w.offset named f count → o ≡ take count piece
-    → w.events + length w.stack ≤ w.offset → w.offset + length piece ≤ 2 ^ 40 → (holds (header_with f o) ≡ true → length w.stack < 128)
-    → IsWithin (bound_of w.stack) (f.offset + length o + announced_length f.size) → CanEnter w (header_with f o)
+    → w.events + length w.stack ≤ w.offset → w.offset + length piece ≤ 2 ^ 40 → (holds (new_header f o) ≡ true → length w.stack < 128)
+    → IsWithin (bound_of w.stack) (f.offset + length o + announced_length f.size) → CanEnter w (new_header f o)
 fast_may_enter w piece named f count o begins front fewer limit shallow fits =
-    let h : HeaderValue = header_with f o in
+    let h : HeaderValue = new_header f o in
     let whole : octets_of h ≡ o = take-append-drop f.id_len o in
-    let begins' : BeginsWith piece w.offset named h = subst (λ (x : List ℕ). BeginsWith piece w.offset named (header_with f x)) (sym front) begins.begins in
+    let begins' : BeginsWith piece w.offset named h = subst (λ (x : List ℕ). BeginsWith piece w.offset named (new_header f x)) (sym front) begins.begins in
     let there : h.offset ≡ w.offset = begins'.offset in
     record {
       valid = begins'.valid;

@@ -19,7 +19,7 @@ use Rattle.tlv_walk.specs.Inside.{is_among}
 use Rattle.tlv_walk.specs.WalkerState.{WalkerState}
 use Rattle.tlv_walk.specs.Place.{Fits, IsHeaderAt, IsWithin, Place}
 use Rattle.tlv_walk.specs.Private.ReadsOn.{HandsOver}
-use Rattle.tlv_walk.specs.Stack.{Frame, bound_of}
+use Rattle.tlv_walk.specs.Stack.{FrameValue, bound_of}
 use Rattle.tlv_walk.specs.Private.Stack.{room_to}
 use Rattle.tlv_walk.specs.Private.Zipper.{HasZipper, InHeader, Zipper, place_of}
 use Rattle.tlv_walk.specs.Private.Yields.{RefusesOctet}
@@ -132,7 +132,7 @@ refuses_header w u r q piece rest others x depth at f over k e within place deep
           subst (λ (es : List EventValue). HasZipper (in_header w q) (b ++ k.taken) es (with_tail t.state (InHeader q.octets))) (append-nil yielded) t.has in
           let same : u.stack ≡ w.stack = ap (λ (m : WalkerState). m.stack) t.same in
           let left : room_to (bound_of u.stack) at ≡ room_to (bound_of w.stack) (q.offset + length q.octets) =
-          ap (λ (fs : List Frame). room_to (bound_of fs) at) same ∙ ap (room_to (bound_of w.stack)) (sym place) in
+          ap (λ (fs : List FrameValue). room_to (bound_of fs) at) same ∙ ap (room_to (bound_of w.stack)) (sym place) in
           let faulty : IsFault (place_of w.framing t.state) x (OpenHeader q.octets) f.code =
           refused_fault _ q _ depth x f.code (reader_there (in_header w q) (b ++ k.taken) yielded t.state q depth refl has' (deep ∙ ap length same))
           (subst (λ (o : Option ℕ). IsRefusedPush q x o depth f.code) left refused) in record {

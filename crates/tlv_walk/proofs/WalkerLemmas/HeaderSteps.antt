@@ -5,20 +5,20 @@ use Rattle.std.proofs.lemmas.List.{take_all}
 use Rattle.tlv_head.specs.declared.header.HeaderFields.{HeaderFields}
 use Rattle.tlv_head.specs.declared.header.Size.{Size}
 use Rattle.tlv_head.specs.declared.header.Size.TheVariants.{Definite, Indefinite}
-use Rattle.tlv_head.specs.HeaderFields.{header_with}
+use Rattle.tlv_head.specs.HeaderFields.{new_header}
 use Rattle.tlv_head.specs.Header.{HeaderValue, announced_length, octets_of}
 use Rattle.tlv_head.specs.HeadReaderState.{ContentsFit, HeadReaderState, with_octet}
 use Rattle.tlv_head.specs.Push.{Completes, FitsThere}
-use Rattle.tlv_head.specs.Refusal.{IsFront}
+use Rattle.tlv_head.specs.Refusal.{IsHeaderPrefix}
 use Rattle.tlv_walk.specs.declared.event.HeaderKind.{HeaderKind}
 use Rattle.tlv_walk.specs.declared.event.HeaderKind.TheVariants as kind
-use Rattle.tlv_walk.specs.Phase.{Phase}
+use Rattle.tlv_walk.specs.Phase.{PhaseValue}
 use Rattle.tlv_walk.specs.Phase as phase
 use Rattle.tlv_walk.specs.Events.{EventValue}
 use Rattle.tlv_walk.specs.declared.framing.Framing.{Framing}
 use Rattle.tlv_walk.specs.WalkerState.{WalkerState}
 use Rattle.tlv_walk.specs.Private.WalkerState.{CanEnter, TakesHeader, wrappers_after}
-use Rattle.tlv_walk.specs.Wrappers.{wrapper_offsets}
+use Rattle.tlv_walk.specs.Wrappers.{entered_offsets}
 use Rattle.tlv_walk.specs.Private.ReadsOn.{HandsOver, YieldsHeader}
 use Rattle.tlv_walk.specs.Stack.{bound_of}
 use Rattle.tlv_walk.specs.Place.{IsWithin}
@@ -40,15 +40,15 @@ handed w u r (inl h) b yielded s has =
 handed w u r (inr h) b yielded s has = (
   with_tail s Between,
   at_new w b yielded s r has h.0.phase h.0.none h.0.offset h.0.named,
-  h.1 ∙ ap (λ (f : Phase). record w { phase = f; has_element = true }) h.0.phase,
+  h.1 ∙ ap (λ (f : PhaseValue). record w { phase = f; has_element = true }) h.0.phase,
 )
 
 -- the octets that the reader has, if there are any, are the front of a header
-handed_front : (w u : WalkerState) (r : HeadReaderState) → HandsOver w u r → (b : List ℕ) (yielded : List EventValue) (s : Zipper) → HasZipper w b yielded s → (r.octets ≡ [] → ⊥) → IsFront r.octets
+handed_front : (w u : WalkerState) (r : HeadReaderState) → HandsOver w u r → (b : List ℕ) (yielded : List EventValue) (s : Zipper) → HasZipper w b yielded s → (r.octets ≡ [] → ⊥) → IsHeaderPrefix r.octets
 handed_front w u r (inl h) b yielded s has some =
     let a = at_front w b yielded s r has h.0 in
     let at : IsPhaseOf (phase.InHeader r) (InHeader a.0) (place_of w.framing s) = phase_at w b yielded _ _ h.0 a.1.has in
-    subst IsFront (sym at.0) at.3.1
+    subst IsHeaderPrefix (sym at.0) at.3.1
 handed_front w u r (inr h) b yielded s has some = absurd (some h.0.none)
 
 -- ---- octets that a reader takes
@@ -60,14 +60,14 @@ pub record HasTaken (r q : HeadReaderState) (piece rest : List ℕ) : Type 0 whe
   pub octets : q.octets ≡ r.octets ++ taken
   pub offset : q.offset ≡ r.offset
   pub named : q.named ≡ r.named
-  pub front : (q.octets ≡ r.octets) ⊎ IsFront q.octets
+  pub front : (q.octets ≡ r.octets) ⊎ IsHeaderPrefix q.octets
 
 -- none yet
 pub taken_none : (r : HeadReaderState) (piece : List ℕ) → HasTaken r r piece piece
 taken_none r piece = record { taken = []; piece_is = refl; octets = sym (append-nil r.octets); offset = refl; named = refl; front = inl refl }
 
 -- one more
-pub taken_more : (r q p : HeadReaderState) (piece rest others : List ℕ) (x : ℕ) → HasTaken r q piece rest → rest ≡ x ∷ others → IsFront (q.octets ++ x ∷ []) → p ≡ with_octet q x → HasTaken r p piece others
+pub taken_more : (r q p : HeadReaderState) (piece rest others : List ℕ) (x : ℕ) → HasTaken r q piece rest → rest ≡ x ∷ others → IsHeaderPrefix (q.octets ++ x ∷ []) → p ≡ with_octet q x → HasTaken r p piece others
 taken_more r q p piece rest others x k e front same =
     subst (λ (p : HeadReaderState). HasTaken r p piece others) (sym same) (record {
       taken = k.taken ++ x ∷ [];
@@ -95,8 +95,8 @@ taken_state w u r q piece rest over k some fits b yielded s has =
     let within : IsWithin (bound_of w.stack) (q.offset + length q.octets) = subst (λ (m : WalkerState). IsWithin (bound_of m.stack) (q.offset + length q.octets)) h.2 fits in
     record { state = h.0; has = front_state w b yielded h.0 r q k.taken h.1 k.octets k.offset k.named some (front_taken k.front) within; same = h.2 }
   where
-    front_taken : (q.octets ≡ r.octets) ⊎ IsFront q.octets → IsFront q.octets
-    front_taken (inl e) = subst IsFront (sym e) (handed_front w u r over b yielded s has (λ none. some (e ∙ none)))
+    front_taken : (q.octets ≡ r.octets) ⊎ IsHeaderPrefix q.octets → IsHeaderPrefix q.octets
+    front_taken (inl e) = subst IsHeaderPrefix (sym e) (handed_front w u r over b yielded s has (λ none. some (e ∙ none)))
     front_taken (inr f) = f
 
 -- the framing stays
@@ -140,20 +140,20 @@ completed_without w u r t h e can makes =
     record { valid = can'.valid; octets = makes.octets; offset = makes.offset; named = makes.named; shallow = can'.shallow; fits = can'.fits }
 
 -- so it yields a header with the fields that were entered
-yields_after : (u new : WalkerState) (f : HeaderFields) (o : List ℕ) (at : ℕ) (k : HeaderKind) → CanEnter u (header_with f o) → at ≡ f.offset + length (octets_of (header_with f o)) → TakesHeader u new f at k
-    → YieldsHeader u new (header_with f o) (event_of k (header_with f o))
+yields_after : (u new : WalkerState) (f : HeaderFields) (o : List ℕ) (at : ℕ) (k : HeaderKind) → CanEnter u (new_header f o) → at ≡ f.offset + length (octets_of (new_header f o)) → TakesHeader u new f at k
+    → YieldsHeader u new (new_header f o) (event_of k (new_header f o))
 yields_after u new f o at k can e does w r t over makes = record {
   framing = enters_framing u new f at k does ∙ handed_framing w u r over;
   found =
       enters_found u new f o at k does
-      ∙ ap₂ (λ (g : Framing) (n : ℕ). wrappers_after g.inside n (wrapper_offsets (event_of k (header_with f o) ∷ []))) (handed_framing w u r over) (handed_wrappers w u r over);
+      ∙ ap₂ (λ (g : Framing) (n : ℕ). wrappers_after g.inside n (entered_offsets (event_of k (new_header f o) ∷ []))) (handed_framing w u r over) (handed_wrappers w u r over);
   goes = λ b yielded s has.
       let h = handed w u r over b yielded s has in
-      enters_state w new b yielded h.0 r t f o k h.1 (completed_without w u r t (header_with f o) h.2 can makes) (subst (λ (n : ℕ). TakesHeader w new f n k) e (enters_without w u new f at k h.2 does));
+      enters_state w new b yielded h.0 r t f o k h.1 (completed_without w u r t (new_header f o) h.2 can makes) (subst (λ (n : ℕ). TakesHeader w new f n k) e (enters_without w u new f at k h.2 does));
 }
 
 -- the same of a header that has these fields
-pub yields_header : (u new : WalkerState) (f : HeaderFields) (h : HeaderValue) (at : ℕ) (k : HeaderKind) → CanEnter u h → header_with f (octets_of h) ≡ h → at ≡ f.offset + length (octets_of h) → TakesHeader u new f at k
+pub yields_header : (u new : WalkerState) (f : HeaderFields) (h : HeaderValue) (at : ℕ) (k : HeaderKind) → CanEnter u h → new_header f (octets_of h) ≡ h → at ≡ f.offset + length (octets_of h) → TakesHeader u new f at k
     → YieldsHeader u new h (event_of k h)
 yields_header u new f h at k can same e enter =
     subst (λ (g : HeaderValue). YieldsHeader u new g (event_of k g)) same

@@ -4,17 +4,17 @@ use Rattle.std.proofs.lemmas.List.{map-append}
 use Rattle.std.proofs.Math.Bool.{or-true}
 use Rattle.tlv_head.specs.declared.header.Size.TheVariants.{Definite, Indefinite}
 use Rattle.tlv_head.specs.Header.{HeaderValue, octets_of}
-use Rattle.tlv_walk.specs.Phase.{Phase}
+use Rattle.tlv_walk.specs.Phase.{PhaseValue}
 use Rattle.tlv_walk.specs.Phase as phase
 use Rattle.tlv_walk.specs.Events.{AreEqualJoined, Begin, Bytes, End, EventValue, events, single_octets}
 use Rattle.tlv_walk.specs.Forest.{Forest, NoMore, PaddingOctet, Primitive, Holder, OpenPrimitive, OpenHolder, OpenBitString, OpenHeader, OpenEndOctets, has_element, is_complete, spelling}
 use Rattle.tlv_walk.specs.declared.framing.Framing.{Framing}
 use Rattle.tlv_walk.specs.WalkerState.{WalkerState}
 use Rattle.tlv_walk.specs.Private.WalkerState.{next_wrapper, wrappers_after}
-use Rattle.tlv_walk.specs.Wrappers.{wrapper_offsets}
+use Rattle.tlv_walk.specs.Wrappers.{entered_offsets}
 use Rattle.tlv_walk.proofs.EventLemmas.Wrappers.{enters-append}
 use Rattle.tlv_walk.specs.Place.{Fits, IsOpen, IsWithin, Place, is_indefinite, place_after}
-use Rattle.tlv_walk.specs.Stack.{Frame, IsInIndefinite, bound_of}
+use Rattle.tlv_walk.specs.Stack.{FrameValue, IsInIndefinite, bound_of}
 use Rattle.tlv_walk.specs.Private.Zipper.{AreWhole, InBitString, Between, HasZipper, InPrimitive, InEndOctets, InHeader, IsContents, IsPhaseOf, Layer, Tail, Zipper, begins_among, events_of_layers, frames_of, place_in, place_of, spelling_of_layers}
 use Rattle.tlv_walk.specs.Private.Yields.{Continues}
 use Rattle.tlv_walk.proofs.EventLemmas.Joined.{apart-before, apart-from_joined, apart-more, joined-from_apart}
@@ -32,12 +32,12 @@ pub found_in-append : (inside : List ℕ) (k : ℕ) (xs ys : List ℕ) → wrapp
 found_in-append inside k [] ys = refl
 found_in-append inside k (x ∷ xs) ys = found_in-append inside (next_wrapper inside k x) xs ys
 
-found_both : (u v w : WalkerState) (d e : List EventValue) → v.framing ≡ u.framing → v.wrapper_count ≡ wrappers_after u.framing.inside u.wrapper_count (wrapper_offsets d) → w.wrapper_count ≡ wrappers_after v.framing.inside v.wrapper_count (wrapper_offsets e)
-    → w.wrapper_count ≡ wrappers_after u.framing.inside u.wrapper_count (wrapper_offsets (d ++ e))
+found_both : (u v w : WalkerState) (d e : List EventValue) → v.framing ≡ u.framing → v.wrapper_count ≡ wrappers_after u.framing.inside u.wrapper_count (entered_offsets d) → w.wrapper_count ≡ wrappers_after v.framing.inside v.wrapper_count (entered_offsets e)
+    → w.wrapper_count ≡ wrappers_after u.framing.inside u.wrapper_count (entered_offsets (d ++ e))
 found_both u v w d e same p q =
     q
-    ∙ ap₂ (λ (f : Framing) (k : ℕ). wrappers_after f.inside k (wrapper_offsets e)) same p
-    ∙ sym (ap (wrappers_after u.framing.inside u.wrapper_count) (enters-append d e) ∙ found_in-append u.framing.inside u.wrapper_count (wrapper_offsets d) (wrapper_offsets e))
+    ∙ ap₂ (λ (f : Framing) (k : ℕ). wrappers_after f.inside k (entered_offsets e)) same p
+    ∙ sym (ap (wrappers_after u.framing.inside u.wrapper_count) (enters-append d e) ∙ found_in-append u.framing.inside u.wrapper_count (entered_offsets d) (entered_offsets e))
 
 pub continues_both : (u v w : WalkerState) (s t : List ℕ) (d e : List EventValue) → Continues u v s d → Continues v w t e → Continues u w (s ++ t) (d ++ e)
 continues_both u v w s t d e f g = record {
@@ -104,8 +104,8 @@ with_tail s t = record { layers = s.layers; here = s.here; tail = t }
 pub tail_state : (w : WalkerState) (b : List ℕ) (yielded : List EventValue) (s : Zipper) (t : Tail) → s.tail ≡ t → HasZipper w b yielded s → HasZipper w b yielded (with_tail s t)
 tail_state w b yielded s t e has = subst (λ (u : Tail). HasZipper w b yielded (with_tail s u)) e has
 
-pub phase_at : (w : WalkerState) (b : List ℕ) (yielded : List EventValue) (s : Zipper) (f : Phase) → w.phase ≡ f → HasZipper w b yielded s → IsPhaseOf f s.tail (place_of w.framing s)
-phase_at w b yielded s f e has = subst (λ (g : Phase). IsPhaseOf g s.tail (place_of w.framing s)) e has.phase
+pub phase_at : (w : WalkerState) (b : List ℕ) (yielded : List EventValue) (s : Zipper) (f : PhaseValue) → w.phase ≡ f → HasZipper w b yielded s → IsPhaseOf f s.tail (place_of w.framing s)
+phase_at w b yielded s f e has = subst (λ (g : PhaseValue). IsPhaseOf g s.tail (place_of w.framing s)) e has.phase
 
 -- contents of a primitive
 contents_tail : (left : ℕ) (t : Tail) (p : Place) → IsPhaseOf (phase.InPrimitive left) t p → (h : HeaderValue) × (c : List ℕ) × (t ≡ InPrimitive h c)
@@ -233,7 +233,7 @@ yields_zero w e i f = record {
     zero_from w b yielded s [] q has i f = absurd (subst IsInIndefinite has.stack i)
     zero_from w b yielded s (l ∷ ls) q has i f =
         let inside : IsInIndefinite (frames_of w.framing (l ∷ ls)) = subst IsInIndefinite has.stack i in
-        let fits : IsWithin (place_in w.framing (l ∷ ls)).bound (w.offset + 1) = subst (λ (fs : List Frame). IsWithin (bound_of fs) (w.offset + 1)) has.stack f in
+        let fits : IsWithin (place_in w.framing (l ∷ ls)).bound (w.offset + 1) = subst (λ (fs : List FrameValue). IsWithin (bound_of fs) (w.offset + 1)) has.stack f in
         let at : w.offset ≡ (place_of w.framing (with_layers s (l ∷ ls) Between)).at + 0 = place-offset w b yielded _ has in (
           _,
           zero_state w b yielded s l ls has (indefinite-size l.header.size _ inside)

@@ -1,7 +1,7 @@
 -- A walker has a frame for each open element that holds others, if no event is waiting.
 use Rattle.std.proofs.Common.{◌≡◌, ℕ, ◌+◌, true, List, [], ◌∷◌, suc, length, refl, sym, ap, ◌∙◌, arith}
 use Rattle.std.proofs.lemmas.Bool.{true≢false}
-use Rattle.tlv_walk.specs.Stack.{Frame}
+use Rattle.tlv_walk.specs.Stack.{FrameValue}
 use Rattle.tlv_walk.specs.declared.framing.Framing.{Framing}
 use Rattle.tlv_walk.specs.Events.{EventValue}
 use Rattle.tlv_walk.specs.Forest.{Forest, NoMore, PaddingOctet, Primitive, Holder, OpenPrimitive, OpenHolder, OpenBitString, OpenHeader, OpenEndOctets, is_complete}
@@ -47,7 +47,7 @@ length-stack w ls p InEndOctets = omega (arith, length-frames w ls)
 -- the frames of a walker are as many as the open elements of its reading that hold others
 pub state-depth : (w : WalkerState) (b : List ℕ) (yielded : List EventValue) (s : Zipper) → HasZipper w b yielded s → (EventWaits w → ⊥) → length w.stack ≡ open_count (reading_of s)
 state-depth w b yielded s h n =
-    ap (λ (stack : List Frame). length stack) h.stack
+    ap (λ (stack : List FrameValue). length stack) h.stack
     ∙ length-stack w.framing s.layers (place_of w.framing s) s.tail
     ∙ sym (ap open_count (state-within w b yielded s h n) ∙ count-within w.framing s.layers (followed_by s.here (forest_of s.tail)) h.layers
     ∙ ap (λ (k : ℕ). length s.layers + k) (count-after s.here (forest_of s.tail) h.here.whole))

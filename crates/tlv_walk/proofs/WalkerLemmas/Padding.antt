@@ -1,7 +1,7 @@
 -- Padding, on a walker's state.
 use Rattle.std.proofs.Common.{◌≡◌, ℕ, ◌+◌, Bool, true, false, ◌||◌, List, [], ◌∷◌, ◌++◌, length, map, All, None, refl, sym, ap, ◌∙◌, subst, arith, append-nil, length-append}
 use Rattle.std.proofs.lemmas.List.Elements.{All-head, All-tail}
-use Rattle.tlv_walk.specs.Phase.{Phase}
+use Rattle.tlv_walk.specs.Phase.{PhaseValue}
 use Rattle.tlv_walk.specs.Phase as phase
 use Rattle.tlv_walk.specs.Events.{EventValue, Pad, events, single_octets}
 use Rattle.tlv_walk.specs.Forest.{Forest, NoMore, PaddingOctet, has_element, is_complete, spelling}
@@ -52,7 +52,7 @@ pad_state w b yielded s t has e padding zeros = record {
   stack = has.stack;
   layers = tt;
   here = are_whole (place_in w.framing []) s.here (padding_octets t) has.here (open-padding_octets _ t padding refl refl) (whole-padding_octets t);
-  phase = subst (λ (f : Phase). IsPhaseOf f Between (place_of w.framing (record { layers = []; here = followed_by s.here (padding_octets t); tail = Between }))) (sym e) tt;
+  phase = subst (λ (f : PhaseValue). IsPhaseOf f Between (place_of w.framing (record { layers = []; here = followed_by s.here (padding_octets t); tail = Between }))) (sym e) tt;
   same_events = yielded_whole yielded [] s.here (padding_octets t) [] (Pad t ∷ []) has.here.whole has.same_events (events-padding_octets t zeros ∙ sym (append-nil (map (λ x. Pad (x ∷ [])) t)));
   element = has.element ∙ sym (element-either s.here (padding_octets t) has.here.whole ∙ (ap (λ (k : Bool). has_element s.here || k) (element-padding_octets t) ∙ or-false (has_element s.here)));
 }

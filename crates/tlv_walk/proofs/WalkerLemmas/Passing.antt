@@ -4,14 +4,14 @@ use Rattle.std.proofs.lemmas.Bool.{true≢false}
 use Rattle.std.proofs.lemmas.List.{length-drop, length-take-le, take-append-drop}
 use Rattle.std.proofs.Math.Seq.{drop-append_seam, take-add}
 use Rattle.tlv_head.specs.declared.header.HeaderFields.{HeaderFields}
-use Rattle.tlv_head.specs.HeaderFields.{header_with}
+use Rattle.tlv_head.specs.HeaderFields.{new_header}
 use Rattle.tlv_head.specs.Header.{announced_length, is_wrapper}
 use Rattle.tlv_walk.specs.declared.event.HeaderKind.TheVariants as kind
 use Rattle.tlv_walk.specs.declared.walker.quick.WholePrimitive.{WholePrimitive}
 use Rattle.tlv_walk.specs.Events.{Begin, Bytes, End}
 use Rattle.tlv_walk.specs.Follow.{IsWholeElement, contents_in, whole_events}
 use Rattle.tlv_walk.specs.WalkerState.{WalkerState}
-use Rattle.tlv_walk.specs.Phase.{Phase}
+use Rattle.tlv_walk.specs.Phase.{PhaseValue}
 use Rattle.tlv_walk.specs.Phase as phase
 use Rattle.tlv_walk.specs.Private.WalkerState.{CanPass, after_header, header_at}
 use Rattle.tlv_walk.specs.Private.Yields.{Continues}
@@ -32,7 +32,7 @@ contents_length : (w : WalkerState) (piece : List ℕ) (p : WholePrimitive) → 
 contents_length w piece p can =
     length-take-le (announced_length p.fields.size) (drop p.header piece) (omega (arith, can.octets, can.within, length-drop p.header piece))
 
-contents_after : (f : HeaderFields) (o c : List ℕ) → contents_in (header_with f o) (o ++ c) ≡ c
+contents_after : (f : HeaderFields) (o c : List ℕ) → contents_in (new_header f o) (o ++ c) ≡ c
 contents_after f o c = ap (λ (l : List ℕ). drop (length l) (o ++ c)) (take-append-drop f.id_len o) ∙ drop-append_seam o c
 
 contents_whole : (w : WalkerState) (piece : List ℕ) (p : WholePrimitive) → CanPass w piece p → contents_in (header_at p piece) (take p.octets piece) ≡ contents_at p piece
@@ -73,11 +73,11 @@ yields_primitive w piece p n can =
     let size : length c ≡ announced_length f.size = contents_length w piece p can in
     let at : ℕ = f.offset + length o in
     let u : WalkerState = after_header w (phase.InPrimitive (announced_length f.size)) at in
-    let v : Phase → ℕ → WalkerState = λ q k. record w { phase = q; offset = k; events = n; has_element = true } in
+    let v : PhaseValue → ℕ → WalkerState = λ q k. record w { phase = q; offset = k; events = n; has_element = true } in
     let end : at + length c ≡ w.offset + p.octets = omega (arith, can.begins.begins.offset, can.octets, length-take-le p.header piece can.begins.within, size) in
     let both : Continues w (v phase.Between (at + length c)) (o ++ c) (Begin (header_at p piece) ∷ Bytes c ∷ End ∷ []) =
     continues_both w u _ o c (Begin (header_at p piece) ∷ []) (Bytes c ∷ End ∷ []) (yields_header w piece p can) (yields_passed u c n (ap phase.InPrimitive (sym size))) in
-    subst (λ (q : Phase). Continues w (v q (w.offset + p.octets)) (take p.octets piece) (whole_events (header_at p piece) (take p.octets piece))) (sym can.phase)
+    subst (λ (q : PhaseValue). Continues w (v q (w.offset + p.octets)) (take p.octets piece) (whole_events (header_at p piece) (take p.octets piece))) (sym can.phase)
     (subst (λ (k : ℕ). Continues w (v phase.Between k) (take p.octets piece) (whole_events (header_at p piece) (take p.octets piece))) end
     (subst (λ (l : List ℕ). Continues w (v phase.Between (at + length c)) (take p.octets piece) (Begin (header_at p piece) ∷ Bytes l ∷ End ∷ [])) (sym (contents_whole w piece p can))
     (subst (λ (l : List ℕ). Continues w (v phase.Between (at + length c)) l (Begin (header_at p piece) ∷ Bytes c ∷ End ∷ [])) (sym (whole_octets w piece p can)) both)))

@@ -5,7 +5,7 @@ use Rattle.tlv_head.specs.declared.fault.FaultCode.{FaultCode}
 use Rattle.tlv_head.specs.declared.fault.FaultCode.TheVariants.{StrayEnd, BadEnd, MissingEnd, BadInside}
 use Rattle.tlv_walk.specs.declared.ending.Ending.TheVariants as ending
 use Rattle.tlv_head.specs.declared.fault.Fault.{Fault}
-use Rattle.tlv_walk.specs.Phase.{Phase}
+use Rattle.tlv_walk.specs.Phase.{PhaseValue}
 use Rattle.tlv_walk.specs.Phase as phase
 use Rattle.tlv_walk.specs.Ending.{IsEnding, IsFault, bad_end, bad_inside, fault_at, fault_ending, missing_end, no_end, stray_end}
 use Rattle.tlv_walk.specs.Events.{EventValue}
@@ -33,8 +33,8 @@ left_some None n m f h = tt
 left_some (Some k) n m f h = let apart : k - n ≡ 0 → ⊥ = λ z. f (ap Some z) in omega arith
 
 -- no event waits in that phase
-pub idle_at : (w : WalkerState) (f : Phase) → w.phase ≡ f → (EventWaitsIn f w.stack w.offset → ⊥) → EventWaits w → ⊥
-idle_at w f e n k = n (subst (λ (g : Phase). EventWaitsIn g w.stack w.offset) e k)
+pub idle_at : (w : WalkerState) (f : PhaseValue) → w.phase ≡ f → (EventWaitsIn f w.stack w.offset → ⊥) → EventWaits w → ⊥
+idle_at w f e n k = n (subst (λ (g : PhaseValue). EventWaitsIn g w.stack w.offset) e k)
 
 -- the octet at the front of a piece
 pub front_octet : (piece : List ℕ) → 1 ≤ length piece → piece ≡ get_or piece 0 0 ∷ drop 1 piece

@@ -1,7 +1,7 @@
 -- What a step yields, of what a walker stands for.
 use Rattle.std.proofs.Common.{◌≡◌, ◌⊎◌, inl, inr, ℕ, ◌+◌, true, List, [], ◌∷◌, ◌++◌, length, refl, sym, ap, ◌∙◌, subst, arith, append-nil, length-append}
 use Rattle.tlv_head.specs.declared.fault.Fault.{Fault}
-use Rattle.tlv_walk.specs.Stack.{Frame}
+use Rattle.tlv_walk.specs.Stack.{FrameValue}
 use Rattle.tlv_walk.specs.declared.event.Event.{Event}
 use Rattle.tlv_walk.specs.declared.event.Step.{Step}
 use Rattle.tlv_walk.specs.declared.event.Step.TheVariants as step
@@ -10,8 +10,8 @@ use Rattle.tlv_walk.specs.Events.{AreEqualJoined, EventValue, events}
 use Rattle.tlv_walk.specs.Inside.{can_name}
 use Rattle.tlv_walk.specs.WalkerState.{HasNotRefused, HasOctets, WalkerState}
 use Rattle.tlv_walk.specs.Private.WalkerState.{CountsStep, Refuses, TakesAll, YieldsOne, wrappers_after}
-use Rattle.tlv_walk.specs.Phase.{Phase, Between, InHeader, InPrimitive, InBitString, InEndOctets, Refused}
-use Rattle.tlv_walk.specs.Wrappers.{wrapper_offsets}
+use Rattle.tlv_walk.specs.Phase.{PhaseValue, Between, InHeader, InPrimitive, InBitString, InEndOctets, Refused}
+use Rattle.tlv_walk.specs.Wrappers.{entered_offsets}
 use Rattle.tlv_walk.proofs.WalkerLemmas.Moves.{found_in-append}
 use Rattle.tlv_walk.proofs.EventLemmas.Wrappers.{enters-append}
 use Rattle.tlv_walk.specs.declared.ending.Ending.TheVariants as ending
@@ -20,7 +20,7 @@ use Rattle.tlv_walk.specs.Reading.{CannotBecomeSound, IsReading}
 use Rattle.tlv_walk.specs.Place.{IsOpen, top_place}
 use Rattle.tlv_walk.specs.Stands.{Stands, waiting_events}
 use Rattle.tlv_walk.specs.StepsTo.{RefusesAgain, RefusesNext, StepsTo, UsesUpPiece, YieldsNext}
-use Rattle.tlv_walk.specs.HasRead.{IsRefusedAfter, StandsRefused, event_value}
+use Rattle.tlv_walk.specs.HasRead.{IsRefusedAfter, StandsRefused, event_value_of}
 use Rattle.tlv_walk.specs.Private.FollowsPiece.{WalksOver}
 use Rattle.tlv_walk.specs.Private.Yields.{Continues, RefusesOctet, YieldsEvent, YieldsEvents, YieldsFault, YieldsStep}
 use Rattle.std.specs.Prelude.{slice_get}
@@ -35,13 +35,13 @@ use Rattle.tlv_walk.proofs.WalkerLemmas.ZipperReading.{stands, state-events, sta
 use Rattle.tlv_walk.proofs.WalkerLemmas.Zipper.{reading_of}
 
 -- the wrappers found are those of the events yielded
-found_on : (old new : WalkerState) (yielded more : List EventValue) → new.framing ≡ old.framing → old.wrapper_count ≡ wrappers_after old.framing.inside 0 (wrapper_offsets yielded) → new.wrapper_count ≡ wrappers_after old.framing.inside old.wrapper_count (wrapper_offsets more)
-    → new.wrapper_count ≡ wrappers_after new.framing.inside 0 (wrapper_offsets (yielded ++ more))
+found_on : (old new : WalkerState) (yielded more : List EventValue) → new.framing ≡ old.framing → old.wrapper_count ≡ wrappers_after old.framing.inside 0 (entered_offsets yielded) → new.wrapper_count ≡ wrappers_after old.framing.inside old.wrapper_count (entered_offsets more)
+    → new.wrapper_count ≡ wrappers_after new.framing.inside 0 (entered_offsets (yielded ++ more))
 found_on old new yielded more same p q =
     q
-    ∙ ap (λ (k : ℕ). wrappers_after old.framing.inside k (wrapper_offsets more)) p
-    ∙ sym (ap (wrappers_after old.framing.inside 0) (enters-append yielded more) ∙ found_in-append old.framing.inside 0 (wrapper_offsets yielded) (wrapper_offsets more))
-    ∙ ap (λ (f : Framing). wrappers_after f.inside 0 (wrapper_offsets (yielded ++ more))) (sym same)
+    ∙ ap (λ (k : ℕ). wrappers_after old.framing.inside k (entered_offsets more)) p
+    ∙ sym (ap (wrappers_after old.framing.inside 0) (enters-append yielded more) ∙ found_in-append old.framing.inside 0 (entered_offsets yielded) (entered_offsets more))
+    ∙ ap (λ (f : Framing). wrappers_after f.inside 0 (entered_offsets (yielded ++ more))) (sym same)
 
 pub stands_all : (old new : WalkerState) (piece rest : List ℕ) (es : List EventValue) → YieldsEvents old new piece rest es → WalksOver old new piece rest es
 stands_all old new piece rest es t = let k = t.continues in record {
@@ -81,12 +81,12 @@ refused_walker old new piece rest f k r b yielded st =
     let framing : new.framing ≡ old.framing = k.framing in
     let named : can_name new.framing.inside ≡ true = subst (λ (g : Framing). can_name g.inside ≡ true) (sym framing) st.private_state.named in
     let there : IsRefusedAfter new.framing (b ++ r.taken) r.octet yielded f = refused_reading old new.framing piece rest f framing r b yielded st in
-    let found : new.wrapper_count ≡ wrappers_after new.framing.inside 0 (wrapper_offsets yielded) = k.wrapper_count ∙ st.private_state.found ∙ ap (λ (g : Framing). wrappers_after g.inside 0 (wrapper_offsets yielded)) (sym framing) in
+    let found : new.wrapper_count ≡ wrappers_after new.framing.inside 0 (entered_offsets yielded) = k.wrapper_count ∙ st.private_state.found ∙ ap (λ (g : Framing). wrappers_after g.inside 0 (entered_offsets yielded)) (sym framing) in
     record {
       refused = there;
       phase = k.phase;
       offset = omega (arith, k.taken, st.private_state.has_state.offset, ap length r.piece_is, ap length r.rest_is, length-append r.taken (r.octet ∷ r.others), length-append b r.taken);
-      depth = ap (λ (fs : List Frame). length fs) (k.stack ∙ sym u.stack) ∙ state-depth u.walker (b ++ r.taken) yielded u.state u.has_state (idle u.walker u.idle);
+      depth = ap (λ (fs : List FrameValue). length fs) (k.stack ∙ sym u.stack) ∙ state-depth u.walker (b ++ r.taken) yielded u.state u.has_state (idle u.walker u.idle);
       unused = ap (slice_get new.framing.inside) found ∙ yielded_unused new.framing yielded [] there.reading named (there.stays []).is_open refl
           (subst (λ (es : List EventValue). AreEqualJoined es (events there.reading)) (sym (append-nil yielded)) there.all_events);
     }
@@ -94,9 +94,9 @@ refused_walker old new piece rest f k r b yielded st =
 -- ---- what a step comes to
 
 -- an event
-reports : (old new : WalkerState) (piece rest : List ℕ) (e : Event) → HasNotRefused old → YieldsOne old new piece rest → HasOctets e → YieldsEvent old new piece rest (event_value e) → YieldsNext old new piece rest e
+reports : (old new : WalkerState) (piece rest : List ℕ) (e : Event) → HasNotRefused old → YieldsOne old new piece rest → HasOctets e → YieldsEvent old new piece rest (event_value_of e) → YieldsNext old new piece rest e
 reports old new piece rest e n k has t =
-    let walked = stands_all old new piece rest (event_value e ∷ []) t in record {
+    let walked = stands_all old new piece rest (event_value_of e ∷ []) t in record {
       takes = record {
         not_refused = n;
         taken = walked.taken;
@@ -152,7 +152,7 @@ refuses_now old new piece rest f n k r = record {
 }
 
 -- an octet was refused before, or none was
-refused_before : (p : Phase) → ((f : Fault) × (p ≡ Refused f)) ⊎ ((f : Fault) → p ≡ Refused f → ⊥)
+refused_before : (p : PhaseValue) → ((f : Fault) × (p ≡ Refused f)) ⊎ ((f : Fault) → p ≡ Refused f → ⊥)
 refused_before Between = inr (λ f e. cc)
 refused_before (InHeader r) = inr (λ f e. cc)
 refused_before (InPrimitive left) = inr (λ f e. cc)
@@ -183,7 +183,7 @@ steps_to old new piece rest s k t again = steps_by old new piece rest s k t agai
 
 -- ---- what is known of a step that yielded an event
 
-pub walked_event : (old new : WalkerState) (piece rest : List ℕ) (e : Event) → YieldsNext old new piece rest e → WalksOver old new piece rest (event_value e ∷ [])
+pub walked_event : (old new : WalkerState) (piece rest : List ℕ) (e : Event) → YieldsNext old new piece rest e → WalksOver old new piece rest (event_value_of e ∷ [])
 walked_event old new piece rest e x = record { taken = x.takes.taken; piece_is = x.takes.piece_is; framing = x.takes.framing; stands = x.stands }
 
 pub event_offset : (old new : WalkerState) (piece rest : List ℕ) (e : Event) → YieldsNext old new piece rest e → new.offset + length rest ≡ old.offset + length piece

@@ -1,16 +1,16 @@
 -- Whether an event waits, by the code's tests and by the list of those that do.
 use Rattle.std.proofs.Common.{◌≡◌, ℕ, Bool, true, false, eqb, if◌then◌else◌, List, [], ◌∷◌, Option, Some, None, refl, ap, ◌∙◌, ne_eqb, eq-eqb, IsTrue, ◌↔◌}
 use Rattle.tlv_head.specs.declared.fault.Fault.{Fault}
-use Rattle.tlv_walk.specs.Phase.{Phase}
+use Rattle.tlv_walk.specs.Phase.{PhaseValue}
 use Rattle.tlv_walk.specs.Phase as phase
 use Rattle.tlv_walk.specs.Events.{End, EventValue}
 use Rattle.tlv_walk.specs.WalkerState.{WalkerState}
 use Rattle.tlv_walk.specs.Private.WalkerState.{AwaitsOctet, AwaitsOctetIn}
-use Rattle.tlv_walk.specs.Stack.{Frame, IsFilled}
+use Rattle.tlv_walk.specs.Stack.{FrameValue, IsFilled}
 use Rattle.tlv_walk.specs.Stands.{CanTake, IsIdle, filled_end, filled_ends, is_end, waiting_events, waiting_events_in}
 
 -- an event is to come that needs no further octet: not `IsIdle`, by phase
-abbrev pub EventWaitsIn : Phase → List Frame → ℕ → Type 0
+abbrev pub EventWaitsIn : PhaseValue → List FrameValue → ℕ → Type 0
 EventWaitsIn phase.Between stack offset = IsFilled stack offset
 EventWaitsIn (phase.InHeader r) stack offset = ⊥
 EventWaitsIn (phase.InPrimitive left) stack offset = left ≡ 0
@@ -22,7 +22,7 @@ abbrev pub EventWaits : WalkerState → Type 0
 EventWaits w = EventWaitsIn w.phase w.stack w.offset
 
 -- if nothing waits no events do
-no_endings : (at : ℕ) (fs : List Frame) → (IsFilled fs at → ⊥) → filled_ends at fs ≡ []
+no_endings : (at : ℕ) (fs : List FrameValue) → (IsFilled fs at → ⊥) → filled_ends at fs ≡ []
 no_endings at [] n = refl
 no_endings at (f ∷ fs) n = ap (λ (k : Bool). if k then filled_end f ∷ filled_ends at fs else []) (unfilled f.end n)
   where
@@ -30,7 +30,7 @@ no_endings at (f ∷ fs) n = ap (λ (k : Bool). if k then filled_end f ∷ fille
     unfilled None n = refl
     unfilled (Some m) n = ne_eqb m at (λ e. n (ap Some e))
 
-quiet_in : (f : Phase) (stack : List Frame) (at : ℕ) → (EventWaitsIn f stack at → ⊥) → waiting_events_in f stack at ≡ []
+quiet_in : (f : PhaseValue) (stack : List FrameValue) (at : ℕ) → (EventWaitsIn f stack at → ⊥) → waiting_events_in f stack at ≡ []
 quiet_in phase.Between stack at n = no_endings at stack n
 quiet_in (phase.InHeader r) stack at n = refl
 quiet_in (phase.InPrimitive left) stack at n = ap (λ (k : Bool). if k then End ∷ filled_ends at stack else []) (ne_eqb left 0 n)
@@ -46,7 +46,7 @@ no_more : (e : EventValue) (es : List EventValue) (k : Bool) → k ≡ true → 
 no_more e es true t n = cc
 no_more e es false t n = absurd (cc)
 
-loud_in : (f : Phase) (stack : List Frame) (at : ℕ) → EventWaitsIn f stack at → waiting_events_in f stack at ≡ [] → ⊥
+loud_in : (f : PhaseValue) (stack : List FrameValue) (at : ℕ) → EventWaitsIn f stack at → waiting_events_in f stack at ≡ [] → ⊥
 loud_in phase.Between [] at i n = i
 loud_in phase.Between (f ∷ fs) at i n = no_more (filled_end f) (filled_ends at fs) (is_end f.end at) (ap (λ (e : Option ℕ). is_end e at) i ∙ eq-eqb at at refl) n
 loud_in (phase.InHeader r) stack at i n = i
@@ -65,7 +65,7 @@ waits w false h = (λ e. quiet w (λ i. cc (h.1 i)), λ n. refl)
 
 -- ---- whether an octet can be taken
 
-awaits_none : (f : Phase) (stack : List Frame) (at : ℕ) → AwaitsOctetIn f stack at → EventWaitsIn f stack at → ⊥
+awaits_none : (f : PhaseValue) (stack : List FrameValue) (at : ℕ) → AwaitsOctetIn f stack at → EventWaitsIn f stack at → ⊥
 awaits_none phase.Between stack at r i = r i
 awaits_none (phase.InPrimitive left) stack at r i = r i
 awaits_none (phase.InHeader p) stack at r i = i
@@ -73,7 +73,7 @@ awaits_none phase.InBitString stack at r i = i
 awaits_none phase.InEndOctets stack at r i = i
 awaits_none (phase.Refused f) stack at r i = i
 
-awaits_unfailed : (p : Phase) (stack : List Frame) (at : ℕ) → AwaitsOctetIn p stack at → (f : Fault) → p ≡ phase.Refused f → ⊥
+awaits_unfailed : (p : PhaseValue) (stack : List FrameValue) (at : ℕ) → AwaitsOctetIn p stack at → (f : Fault) → p ≡ phase.Refused f → ⊥
 awaits_unfailed phase.Between stack at r f e = cc
 awaits_unfailed (phase.InPrimitive left) stack at r f e = cc
 awaits_unfailed (phase.InHeader p) stack at r f e = cc
@@ -81,7 +81,7 @@ awaits_unfailed phase.InBitString stack at r f e = cc
 awaits_unfailed phase.InEndOctets stack at r f e = cc
 awaits_unfailed (phase.Refused g) stack at r f e = r
 
-takes_in : (p : Phase) (stack : List Frame) (at : ℕ) → waiting_events_in p stack at ≡ [] → ((f : Fault) → p ≡ phase.Refused f → ⊥) → AwaitsOctetIn p stack at
+takes_in : (p : PhaseValue) (stack : List FrameValue) (at : ℕ) → waiting_events_in p stack at ≡ [] → ((f : Fault) → p ≡ phase.Refused f → ⊥) → AwaitsOctetIn p stack at
 takes_in phase.Between stack at n u = λ i. loud_in phase.Between stack at i n
 takes_in (phase.InPrimitive left) stack at n u = λ i. loud_in (phase.InPrimitive left) stack at i n
 takes_in (phase.InHeader p) stack at n u = tt

@@ -2,10 +2,10 @@
 use Rattle.std.proofs.Common.{◌≡◌, ℕ, true, false, List, [], ◌∷◌, ◌++◌, ◌+◌, length, refl, sym, ap, ◌∙◌, subst, arith}
 use Rattle.tlv_head.specs.declared.fault.FaultCode.{FaultCode}
 use Rattle.tlv_head.specs.declared.fault.FaultCode.TheVariants.{Empty, Short}
-use Rattle.tlv_walk.specs.Stack.{Frame}
+use Rattle.tlv_walk.specs.Stack.{FrameValue}
 use Rattle.tlv_walk.specs.declared.ending.Ending.TheVariants.{Done}
 use Rattle.tlv_walk.specs.declared.framing.Framing.{Framing}
-use Rattle.tlv_walk.specs.Phase.{Phase}
+use Rattle.tlv_walk.specs.Phase.{PhaseValue}
 use Rattle.tlv_walk.specs.Phase as phase
 use Rattle.tlv_walk.specs.Ending.{IsEnding, IsFault, done, empty, fault_ending, short, tip}
 use Rattle.tlv_walk.specs.Events.{EventValue}
@@ -35,7 +35,7 @@ filled-at : (w : Framing) (ls : List Layer) (here : Forest) (at : ℕ) → at �
 filled-at w ls here at e n f = let there : end_in w ls here ≡ at = omega arith in n (subst (λ (k : ℕ). EventWaitsIn phase.Between (frames_of w ls) k) there f)
 
 -- if nothing is waiting, no element has ended
-reading-within : (w : Framing) (ls : List Layer) (here : Forest) (f : Phase) (t : Tail) (at : ℕ) → IsPhaseOf f t (later_place w ls here)
+reading-within : (w : Framing) (ls : List Layer) (here : Forest) (f : PhaseValue) (t : Tail) (at : ℕ) → IsPhaseOf f t (later_place w ls here)
     → at ≡ (later_place w ls here).at + length (spelling_of_tail t) → (EventWaitsIn f (stack_of w ls (later_place w ls here) t) at → ⊥)
     → reading_in ls here t ≡ within ls (followed_by here (forest_of t))
 reading-within w ls here phase.Between Between at j e n =
@@ -50,7 +50,7 @@ reading-within w ls here f t at j e n = absurd j
 pub state-within : (w : WalkerState) (b : List ℕ) (yielded : List EventValue) (s : Zipper) → HasZipper w b yielded s → (EventWaits w → ⊥) → reading_of s ≡ within s.layers (followed_by s.here (forest_of s.tail))
 state-within w b yielded s h n =
     reading-within w.framing s.layers s.here w.phase s.tail w.offset h.phase (state-offset w b yielded s h)
-    (λ i. n (subst (λ (stack : List Frame). EventWaitsIn w.phase stack w.offset) (sym h.stack) i))
+    (λ i. n (subst (λ (stack : List FrameValue). EventWaitsIn w.phase stack w.offset) (sym h.stack) i))
 
 -- ---- the open end
 
@@ -106,7 +106,7 @@ record IsOutermost (w : WalkerState) (b : List ℕ) (s : Zipper) : Type 0 where
 -- it is the whole elements there
 state-outermost : (w : WalkerState) (b : List ℕ) (yielded : List EventValue) (s : Zipper) → HasZipper w b yielded s → w.phase ≡ phase.Between → w.stack ≡ [] → IsOutermost w b s
 state-outermost w b yielded s h e none =
-    let j : IsPhaseOf phase.Between s.tail (place_of w.framing s) = subst (λ (f : Phase). IsPhaseOf f s.tail (place_of w.framing s)) e h.phase in
+    let j : IsPhaseOf phase.Between s.tail (place_of w.framing s) = subst (λ (f : PhaseValue). IsPhaseOf f s.tail (place_of w.framing s)) e h.phase in
     let empty : stack_of w.framing s.layers (place_of w.framing s) s.tail ≡ [] = sym h.stack ∙ none in
     let r : Spells (top_place w.framing) b (reading_of s) = state-spells w b yielded s h in
     record {
@@ -130,7 +130,7 @@ state-empty w b yielded s h e none no_element =
     empty (reading_of s) (state-reading w b yielded s h) o.spelled (ap has_element o.reading ∙ o.element ∙ no_element)
 
 -- elsewhere something is open: an element that holds others, or what is after the whole elements
-open-elsewhere : (w : Framing) (ls : List Layer) (here : Forest) (f : Phase) (t : Tail) → IsPhaseOf f t (later_place w ls here)
+open-elsewhere : (w : Framing) (ls : List Layer) (here : Forest) (f : PhaseValue) (t : Tail) → IsPhaseOf f t (later_place w ls here)
     → (f ≡ phase.Between → stack_of w ls (later_place w ls here) t ≡ [] → ⊥) → ls ≡ [] → is_complete (forest_of t) ≡ false
 open-elsewhere w ls here phase.Between Between j n e = absurd (n refl (ap (frames_of w) e))
 open-elsewhere w ls here (phase.InHeader r) (InHeader octets) j n e = refl

@@ -3,9 +3,9 @@ use Rattle.std.proofs.Common.{◌≡◌, inl, inr, ℕ, ◌+◌, true, false, eq
 use Rattle.std.proofs.lemmas.Bool.{cases_eq}
 use Rattle.tlv_head.specs.declared.header.Size.TheVariants.{Definite}
 use Rattle.tlv_head.specs.Header.{HeaderValue, announced_length, octets_of}
-use Rattle.tlv_walk.specs.Stack.{Frame}
+use Rattle.tlv_walk.specs.Stack.{FrameValue}
 use Rattle.tlv_walk.specs.declared.framing.Framing.{Framing}
-use Rattle.tlv_walk.specs.Phase.{Phase}
+use Rattle.tlv_walk.specs.Phase.{PhaseValue}
 use Rattle.tlv_walk.specs.Phase as phase
 use Rattle.tlv_walk.specs.Events.{AreEqualJoined, Begin, Bytes, End, EventValue, events, single_octets}
 use Rattle.tlv_walk.specs.Forest.{Forest, NoMore, Primitive, OpenPrimitive, OpenBitString, OpenHeader, OpenEndOctets, is_complete, spelling}
@@ -17,14 +17,14 @@ use Rattle.tlv_walk.specs.Stands.{Stands, filled_ends, waiting_events, waiting_e
 use Rattle.tlv_walk.specs.Private.Zipper.{AreLayers, AreWhole, InBitString, Between, HasZipper, InPrimitive, InEndOctets, InHeader, IsContents, IsPhaseOf, Layer, Tail, Zipper, events_of_layers, events_of_tail, events_of_zipper, frames_of, place_in, place_of, spelling_of_layers, spelling_of_tail, spelling_of_zipper, stack_of}
 use Rattle.tlv_walk.proofs.WalkerLemmas.ZipperWrappers.{wrappers_layers, wrappers_tail, wrappers_zipper}
 use Rattle.tlv_walk.specs.Inside.{can_name}
-use Rattle.tlv_walk.specs.Wrappers.{wrapper_offsets, wrappers}
+use Rattle.tlv_walk.specs.Wrappers.{entered_offsets, wrapper_offsets}
 use Rattle.tlv_walk.proofs.EventLemmas.Joined.{apart-before, apart-from_joined, joined-from_apart}
 use Rattle.tlv_walk.proofs.GrammarLemmas.Bounds.{within-le}
 use Rattle.tlv_walk.proofs.GrammarLemmas.PushSteps.{Spells}
 use Rattle.tlv_walk.proofs.GrammarLemmas.Readings.{Going, run-reading}
 use Rattle.tlv_walk.proofs.GrammarLemmas.Settled.{end_in, settled-spells}
 use Rattle.tlv_walk.proofs.WalkerLemmas.Zipper.{followed_by, open-followed_by, open-within, place-at, reading_in, reading_of, room-if_open, settled, spelling-followed_by, spelling-within, whole-followed_by, within}
-use Rattle.tlv_walk.proofs.WalkerLemmas.ZipperEvents.{events-followed_by, events-settled, events-within, wrappers-followed_by, wrappers-settled, wrappers-within}
+use Rattle.tlv_walk.proofs.WalkerLemmas.ZipperEvents.{events-followed_by, events-settled, events-within, wrapper_offsets-followed_by, wrapper_offsets-settled, wrapper_offsets-within}
 
 -- after the whole elements of the innermost open one
 abbrev pub later_place : Framing → List Layer → Forest → Place
@@ -52,8 +52,8 @@ open-events w ls here g a i =
 
 -- and these wrappers
 open-wrappers : (w : Framing) (ls : List Layer) (here g : Forest) → AreLayers w ls → AreWhole (place_in w ls) here
-    → wrappers (within ls (followed_by here g)) ≡ wrappers_layers ls ++ (wrappers here ++ wrappers g)
-open-wrappers w ls here g a i = wrappers-within w ls (followed_by here g) a ∙ ap (λ (t : List ℕ). wrappers_layers ls ++ t) (wrappers-followed_by here g i.whole)
+    → wrapper_offsets (within ls (followed_by here g)) ≡ wrappers_layers ls ++ (wrapper_offsets here ++ wrapper_offsets g)
+open-wrappers w ls here g a i = wrapper_offsets-within w ls (followed_by here g) a ∙ ap (λ (t : List ℕ). wrappers_layers ls ++ t) (wrapper_offsets-followed_by here g i.whole)
 
 -- ---- whole elements, and then others that are whole
 
@@ -79,9 +79,9 @@ whole-events w ls here g at a i j e =
 
 -- and these wrappers
 whole-wrappers : (w : Framing) (ls : List Layer) (here g : Forest) → AreLayers w ls → AreWhole (place_in w ls) here → AreWhole (later_place w ls here) g
-    → wrappers (settled ls (followed_by here g)) ≡ wrappers_layers ls ++ (wrappers here ++ wrappers g)
+    → wrapper_offsets (settled ls (followed_by here g)) ≡ wrappers_layers ls ++ (wrapper_offsets here ++ wrapper_offsets g)
 whole-wrappers w ls here g a i j =
-    wrappers-settled w ls (followed_by here g) a (more-whole w ls here g i j) ∙ ap (λ (t : List ℕ). wrappers_layers ls ++ t) (wrappers-followed_by here g i.whole)
+    wrapper_offsets-settled w ls (followed_by here g) a (more-whole w ls here g i j) ∙ ap (λ (t : List ℕ). wrappers_layers ls ++ t) (wrapper_offsets-followed_by here g i.whole)
 
 -- ---- a primitive
 
@@ -118,7 +118,7 @@ IsTailAt p (InHeader octets) = IsOpen p (OpenHeader octets)
 IsTailAt p InEndOctets = IsOpen p OpenEndOctets
 
 -- the phase says so
-pub phase-tail : (f : Phase) (t : Tail) (p : Place) → IsPhaseOf f t p → IsTailAt p t
+pub phase-tail : (f : PhaseValue) (t : Tail) (p : Place) → IsPhaseOf f t p → IsTailAt p t
 phase-tail phase.Between Between p i = tt
 phase-tail (phase.InHeader r) (InHeader octets) p i = i.3
 phase-tail (phase.InPrimitive left) (InPrimitive h c) p i = (left, i)
@@ -146,8 +146,8 @@ reading-spells w ls here InEndOctets a i j = open-spells w ls here OpenEndOctets
 
 -- its wrappers are the state's
 reading-wrappers : (w : Framing) (ls : List Layer) (here : Forest) (t : Tail) → AreLayers w ls → AreWhole (place_in w ls) here → IsTailAt (later_place w ls here) t
-    → wrappers (reading_in ls here t) ≡ wrappers_layers ls ++ (wrappers here ++ wrappers_tail t)
-reading-wrappers w ls here Between a i j = wrappers-settled w ls here a i ∙ ap (λ (t : List ℕ). wrappers_layers ls ++ t) (sym (append-nil (wrappers here)))
+    → wrapper_offsets (reading_in ls here t) ≡ wrappers_layers ls ++ (wrapper_offsets here ++ wrappers_tail t)
+reading-wrappers w ls here Between a i j = wrapper_offsets-settled w ls here a i ∙ ap (λ (t : List ℕ). wrappers_layers ls ++ t) (sym (append-nil (wrapper_offsets here)))
 reading-wrappers w ls here (InPrimitive h c) a i j = elim (cases_eq j.0 0) [
   | inl z ↦ rw (contents-all _ h c j.0 j.1 z) (whole-wrappers w ls here (Primitive h c NoMore) a i (contents-whole _ h c j.0 j.1 z))
   | inr n ↦ rw (contents-less _ h c j.0 j.1 n) (open-wrappers w ls here (OpenPrimitive h c) a i)
@@ -162,7 +162,7 @@ contents-end : (around before ends : List EventValue) (h : HeaderValue) (c : Lis
 contents-end around before ends h c = simp append_assoc
 
 -- its events are the state's, and then those waiting
-reading-events : (w : Framing) (ls : List Layer) (here : Forest) (f : Phase) (t : Tail) (at : ℕ) → AreLayers w ls → AreWhole (place_in w ls) here → IsPhaseOf f t (later_place w ls here)
+reading-events : (w : Framing) (ls : List Layer) (here : Forest) (f : PhaseValue) (t : Tail) (at : ℕ) → AreLayers w ls → AreWhole (place_in w ls) here → IsPhaseOf f t (later_place w ls here)
     → at ≡ (later_place w ls here).at + length (spelling_of_tail t)
     → (events_of_layers ls ++ (events here ++ events_of_tail t)) ++ waiting_events_in f (stack_of w ls (later_place w ls here) t) at ≡ events (reading_in ls here t)
 reading-events w ls here phase.Between Between at a i j e =
@@ -202,17 +202,17 @@ state-reading w b yielded s h = run-reading w.framing (Going (reading_of s)) b (
 pub state-events : (w : WalkerState) (b : List ℕ) (yielded : List EventValue) (s : Zipper) → HasZipper w b yielded s → AreEqualJoined (yielded ++ waiting_events w) (events (reading_of s))
 state-events w b yielded s h =
     let all : events_of_zipper s ++ waiting_events w ≡ events (reading_of s) =
-    ap (λ (stack : List Frame). events_of_zipper s ++ waiting_events_in w.phase stack w.offset) h.stack
+    ap (λ (stack : List FrameValue). events_of_zipper s ++ waiting_events_in w.phase stack w.offset) h.stack
     ∙ reading-events w.framing s.layers s.here w.phase s.tail w.offset h.layers h.here h.phase (state-offset w b yielded s h) in
     joined-from_apart (yielded ++ waiting_events w) (events (reading_of s))
     (apart-before yielded (events_of_zipper s) (waiting_events w) (apart-from_joined yielded (events_of_zipper s) h.same_events) ∙ ap single_octets all)
 
 -- its wrappers are those of the state
-pub state-wrappers : (w : WalkerState) (b : List ℕ) (yielded : List EventValue) (s : Zipper) → HasZipper w b yielded s → wrappers (reading_of s) ≡ wrappers_zipper s
+pub state-wrappers : (w : WalkerState) (b : List ℕ) (yielded : List EventValue) (s : Zipper) → HasZipper w b yielded s → wrapper_offsets (reading_of s) ≡ wrappers_zipper s
 state-wrappers w b yielded s h = reading-wrappers w.framing s.layers s.here s.tail h.layers h.here (phase-tail w.phase s.tail (place_of w.framing s) h.phase)
 
 -- a walker with a state stands for what was yielded and what was taken
-pub stands : (w : WalkerState) (b : List ℕ) (yielded : List EventValue) (s : Zipper) → HasZipper w b yielded s → can_name w.framing.inside ≡ true → w.wrapper_count ≡ wrappers_after w.framing.inside 0 (wrapper_offsets yielded) → Stands w b yielded
+pub stands : (w : WalkerState) (b : List ℕ) (yielded : List EventValue) (s : Zipper) → HasZipper w b yielded s → can_name w.framing.inside ≡ true → w.wrapper_count ≡ wrappers_after w.framing.inside 0 (entered_offsets yielded) → Stands w b yielded
 stands w b yielded s h n k =
     record { reads = record { reading = reading_of s; is_reading = state-reading w b yielded s h; all_events = state-events w b yielded s h }; private_state = record { state = s; has_state = h; named = n; found = k } }
 

@@ -1,7 +1,7 @@
 -- What the fields of a `Stack` and of its frames say.
 use Rattle.std.specs.Prelude.{◌≡◌, ◌≢◌, ℕ, ◌-◌, ◌^◌, Bool, true, false, eqb, if◌then◌else◌, List, [], ◌∷◌, Option, Some, None}
-use Rattle.tlv_walk.specs.Stack.{Frame}
-use Rattle.tlv_walk.specs.declared.stack.Frame.{Frame as Kept}
+use Rattle.tlv_walk.specs.Stack.{FrameValue}
+use Rattle.tlv_walk.specs.declared.stack.Frame.{Frame}
 use Rattle.tlv_walk.specs.declared.stack.FrameKind.{FrameKind}
 use Rattle.tlv_walk.specs.declared.stack.FrameKind.TheVariants.{Input, Definite, Indefinite, Wrapper}
 
@@ -23,17 +23,17 @@ wraps_from Definite = false
 wraps_from Indefinite = false
 wraps_from Wrapper = true
 
-abbrev pub frame_from : Kept → Frame
+abbrev pub frame_from : Frame → FrameValue
 frame_from f = record { end = end_from f.kind f.bound; bound = bound_from f.bound; wrapper = wraps_from f.kind }
 
 -- the open elements, innermost first, of the innermost frame and those that hold it: all but the last, which is the
 -- input
-abbrev pub frames_from : Kept → List Kept → List Frame
+abbrev pub frames_from : Frame → List Frame → List FrameValue
 frames_from innermost [] = []
 frames_from innermost (f ∷ fs) = frame_from innermost ∷ frames_from f fs
 
 -- the input has no bound
-abbrev pub IsInput : Kept → Type 0
+abbrev pub IsInput : Frame → Type 0
 IsInput f = (f.kind ≡ Input) × (f.bound ≡ 2 ^ 64 - 1)
 
 -- an element, whose end is known if its length is definite
@@ -44,6 +44,6 @@ HasEnd Indefinite n = Unit {0}
 HasEnd Wrapper n = n ≢ 2 ^ 64 - 1
 
 -- the input holds all the others, which are elements
-abbrev pub AreHolders : Kept → List Kept → Type 0
+abbrev pub AreHolders : Frame → List Frame → Type 0
 AreHolders innermost [] = IsInput innermost
 AreHolders innermost (f ∷ fs) = HasEnd innermost.kind innermost.bound × AreHolders f fs

@@ -3,15 +3,15 @@ use Rattle.std.specs.Prelude.{ℕ, ◌-◌, Bool, not, List, [], ◌∷◌, Opti
 use Rattle.std.specs.Option.{option_or}
 use Rattle.tlv_head.specs.declared.header.Size.{Size}
 use Rattle.tlv_walk.specs.Place.{bound_in}
-use Rattle.tlv_walk.specs.Stack.{Frame, bound_of}
+use Rattle.tlv_walk.specs.Stack.{FrameValue, bound_of}
 
 -- whether the innermost element wraps encodings, if there is one
-abbrev pub wraps_of : List Frame → Option Bool
-wraps_of [] = None
-wraps_of (f ∷ fs) = Some f.wrapper
+abbrev pub innermost_wraps : List FrameValue → Option Bool
+innermost_wraps [] = None
+innermost_wraps (f ∷ fs) = Some f.wrapper
 
 -- the frame of an element that ends there, or is indefinite, inside those that are open
-abbrev pub frame_inside : List Frame → Option ℕ → Bool → Frame
+abbrev pub frame_inside : List FrameValue → Option ℕ → Bool → FrameValue
 frame_inside stack end wrapper = record { end = end; bound = option_or end (bound_of stack); wrapper = wrapper }
 
 -- how many octets there are from an offset to a bound
@@ -19,10 +19,10 @@ abbrev pub room_to : Option ℕ → ℕ → Option ℕ
 room_to None offset = None
 room_to (Some b) offset = Some (b - offset)
 
-abbrev pub room_in : List Frame → ℕ → Option ℕ
+abbrev pub room_in : List FrameValue → ℕ → Option ℕ
 room_in stack offset = room_to (bound_of stack) offset
 
 -- the frame of an element whose contents begin at the offset
-abbrev pub frame_with : ℕ → Option ℕ → Size → Bool → Frame
+abbrev pub frame_with : ℕ → Option ℕ → Size → Bool → FrameValue
 frame_with start outer size constructed =
     record { end = bound_in size start None; bound = bound_in size start outer; wrapper = not constructed }

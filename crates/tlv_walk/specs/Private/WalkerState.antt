@@ -3,7 +3,7 @@ use Rattle.std.specs.Prelude.{◌≡◌, ◌≢◌, ◌⊎◌, ℕ, ◌+◌, ◌
 use Rattle.tlv_head.specs.declared.fault.Fault.{Fault as FaultOf}
 use Rattle.tlv_head.specs.Header.{HeaderValue, IsHeader, announced_length, holds, octets_of}
 use Rattle.tlv_head.specs.HeadReaderState.{HeadReaderState}
-use Rattle.tlv_head.specs.HeaderFields.{fields_hold, fields_wrap, header_with}
+use Rattle.tlv_head.specs.HeaderFields.{fields_hold, fields_wrap, new_header}
 use Rattle.tlv_head.specs.ReadHeader.{BeginsWithFields}
 use Rattle.std.specs.Borrow.{Bor}
 use Rattle.std.specs.Option.{option_map, option_map_or}
@@ -17,14 +17,14 @@ use Rattle.tlv_walk.specs.declared.event.HeaderKind.TheVariants as kind
 use Rattle.tlv_head.specs.declared.header.HeaderFields.{HeaderFields}
 use Rattle.tlv_walk.specs.declared.walker.quick.WholePrimitive.{WholePrimitive}
 use Rattle.tlv_walk.specs.Inside.{is_among}
-use Rattle.tlv_walk.specs.Phase.{Phase, Between, InHeader, InPrimitive, InBitString, InEndOctets, Refused}
-use Rattle.tlv_walk.specs.Stack.{Frame, IsFilled, bound_of}
+use Rattle.tlv_walk.specs.Phase.{PhaseValue, Between, InHeader, InPrimitive, InBitString, InEndOctets, Refused}
+use Rattle.tlv_walk.specs.Stack.{FrameValue, IsFilled, bound_of}
 use Rattle.tlv_walk.specs.Place.{IsWithin}
 use Rattle.tlv_walk.specs.Private.Stack.{frame_with, room_in}
 use Rattle.tlv_walk.specs.WalkerState.{HasOctets, IsAfterEvent, WalkerState}
 
 -- the same as `CanTake`, by phase: an octet can be taken, for no event waits, and no octet was refused
-abbrev pub AwaitsOctetIn : Phase → List Frame → ℕ → Type 0
+abbrev pub AwaitsOctetIn : PhaseValue → List FrameValue → ℕ → Type 0
 AwaitsOctetIn Between stack offset = IsFilled stack offset → ⊥
 AwaitsOctetIn (InHeader r) stack offset = Unit {0}
 AwaitsOctetIn (InPrimitive left) stack offset = left ≢ 0
@@ -52,7 +52,7 @@ pub record CanBegin (w : WalkerState) (piece : List ℕ) : Type 0 where
   pub room : room_in w.stack w.offset ≢ Some 0
 
 -- a header has begun
-abbrev pub HasBegunHeader : Phase → Type 0
+abbrev pub HasBegunHeader : PhaseValue → Type 0
 HasBegunHeader Between = ⊥
 HasBegunHeader (InHeader r) = Unit {0}
 HasBegunHeader (InPrimitive left) = ⊥
@@ -123,7 +123,7 @@ pub record CanEnter (w : WalkerState) (h : HeaderValue) : Type 0 where
   pub fits : IsWithin (bound_of w.stack) (h.offset + length (octets_of h) + announced_length h.size)
 
 -- after a whole header
-abbrev pub after_header : WalkerState → Phase → ℕ → WalkerState
+abbrev pub after_header : WalkerState → PhaseValue → ℕ → WalkerState
 after_header w phase at = record w { phase = phase; offset = at; events = w.events + 1; has_element = true }
 
 -- where a walker stands after a header
@@ -156,11 +156,11 @@ pub record CanPass (w : WalkerState) (piece : List ℕ) (p : WholePrimitive) : T
 
 -- its header
 abbrev pub header_at : WholePrimitive → List ℕ → HeaderValue
-header_at p piece = header_with p.fields (take p.header piece)
+header_at p piece = new_header p.fields (take p.header piece)
 
 -- the event of a constructed header that was taken, if one was
 abbrev pub open_event : Option (HeaderFields × Bor (List ℕ)) → Option Event
-open_event found = option_map (λ f. event.Open (header_with f.0 f.1.now)) found
+open_event found = option_map (λ f. event.Open (new_header f.0 f.1.now)) found
 
 -- the event of the end of a constructed element that was taken, if one was: where its end-of-contents octets are, if it
 -- has any

@@ -10,15 +10,15 @@ use Rattle.tlv_walk.specs.Events.{EventValue}
 use Rattle.tlv_walk.specs.WalkerState.{WalkerState}
 use Rattle.tlv_walk.specs.Private.WalkerState.{wrappers_after}
 use Rattle.tlv_walk.specs.Private.Zipper.{HasZipper, Zipper}
-use Rattle.tlv_walk.specs.Wrappers.{wrapper_offsets}
+use Rattle.tlv_walk.specs.Wrappers.{entered_offsets}
 use Rattle.tlv_walk.specs.Stands.{IsIdle}
 use Rattle.tlv_walk.specs.StepsTo.{RefusesAgain}
-use Rattle.tlv_walk.specs.HasRead.{event_value}
+use Rattle.tlv_walk.specs.HasRead.{event_value_of}
 
 -- from whatever state the walker had, it came to one with these octets and events more
 pub record Continues (old new : WalkerState) (taken : List ℕ) (more : List EventValue) : Type 0 where
   pub framing : new.framing ≡ old.framing
-  pub found : new.wrapper_count ≡ wrappers_after old.framing.inside old.wrapper_count (wrapper_offsets more)
+  pub found : new.wrapper_count ≡ wrappers_after old.framing.inside old.wrapper_count (entered_offsets more)
   pub goes : (b : List ℕ) (yielded : List EventValue) (s : Zipper) → HasZipper old b yielded s
       → (t : Zipper) × HasZipper new (b ++ taken) (yielded ++ more) t
 
@@ -61,11 +61,11 @@ YieldsFault old new piece rest f = RefusesOctet old piece rest f ⊎ RefusesAgai
 
 -- what a call yields that may yield an event at once
 abbrev pub YieldsAtOnce : WalkerState → WalkerState → List ℕ → List ℕ → Option Event → Type 0
-YieldsAtOnce old new piece rest (Some e) = YieldsEvent old new piece rest (event_value e)
+YieldsAtOnce old new piece rest (Some e) = YieldsEvent old new piece rest (event_value_of e)
 YieldsAtOnce old new piece rest None = Unit {0}
 
 -- what a step yields
 abbrev pub YieldsStep : WalkerState → WalkerState → List ℕ → List ℕ → Step → Type 0
-YieldsStep old new piece rest (step.Event e) = YieldsEvent old new piece rest (event_value e)
+YieldsStep old new piece rest (step.Event e) = YieldsEvent old new piece rest (event_value_of e)
 YieldsStep old new piece rest step.NeedMore = Continues old new piece []
 YieldsStep old new piece rest (step.Fault f) = YieldsFault old new piece rest f

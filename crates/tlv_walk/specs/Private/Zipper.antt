@@ -2,9 +2,9 @@
 use Rattle.std.specs.Prelude.{◌≡◌, ℕ, ◌+◌, Bool, true, false, List, [], ◌∷◌, ◌++◌, length}
 use Rattle.tlv_head.specs.declared.header.Size.TheVariants.{Definite}
 use Rattle.tlv_head.specs.Header.{HeaderValue, octets_of}
-use Rattle.tlv_walk.specs.Stack.{Frame}
+use Rattle.tlv_walk.specs.Stack.{FrameValue}
 use Rattle.tlv_walk.specs.declared.framing.Framing.{Framing}
-use Rattle.tlv_walk.specs.Phase.{Phase}
+use Rattle.tlv_walk.specs.Phase.{PhaseValue}
 use Rattle.tlv_walk.specs.Phase as phase
 use Rattle.tlv_walk.specs.Events.{AreEqualJoined, Begin, Bytes, Enter, EventValue, events, opening_events}
 use Rattle.tlv_walk.specs.Forest.{Forest, OpenBitString, OpenHeader, OpenEndOctets, has_element, is_complete, opening, spelling}
@@ -13,7 +13,7 @@ use Rattle.tlv_walk.specs.WalkerState.{WalkerState}
 use Rattle.tlv_walk.specs.Private.WalkerState.{wrappers_after}
 use Rattle.tlv_walk.specs.Private.Stack.{frame_with}
 use Rattle.tlv_walk.specs.Place.{Fits, IsEntry, IsHeaderAt, IsOpen, Place, place_after, place_of_children, top_place}
-use Rattle.tlv_walk.specs.Wrappers.{wrapper_offsets}
+use Rattle.tlv_walk.specs.Wrappers.{entered_offsets}
 
 -- an open element that holds others, and the whole elements before it in the element around it
 pub record Layer : Type 0 where
@@ -67,15 +67,15 @@ pub record IsContents (p : Place) (h : HeaderValue) (c : List ℕ) (left : ℕ) 
   pub fits : Fits p (length (octets_of h) + (length c + left))
 
 -- the frame of an element that is there
-abbrev pub frame_at : Place → HeaderValue → Frame
+abbrev pub frame_at : Place → HeaderValue → FrameValue
 frame_at p h = frame_with (p.at + length (octets_of h)) p.bound h.size h.constructed
 
-abbrev pub frames_of : Framing → List Layer → List Frame
+abbrev pub frames_of : Framing → List Layer → List FrameValue
 frames_of w [] = []
 frames_of w (l ∷ ls) = frame_at (place_after (place_in w ls) (length (spelling l.before))) l.header ∷ frames_of w ls
 
 -- the frames of a state: a wrapping BIT STRING has one before its first contents octet
-abbrev pub stack_of : Framing → List Layer → Place → Tail → List Frame
+abbrev pub stack_of : Framing → List Layer → Place → Tail → List FrameValue
 stack_of w ls p Between = frames_of w ls
 stack_of w ls p (InPrimitive h c) = frames_of w ls
 stack_of w ls p (InBitString h) = frame_at p h ∷ frames_of w ls
@@ -83,7 +83,7 @@ stack_of w ls p (InHeader octets) = frames_of w ls
 stack_of w ls p InEndOctets = frames_of w ls
 
 -- the phase of a walker is what is open there
-abbrev pub IsPhaseOf : Phase → Tail → Place → Type 0
+abbrev pub IsPhaseOf : PhaseValue → Tail → Place → Type 0
 IsPhaseOf phase.Between Between p = Unit {0}
 IsPhaseOf (phase.InHeader r) (InHeader octets) p =
     (r.octets ≡ octets) × (r.offset ≡ p.at) × (r.named ≡ is_among p.at p.inside) × IsOpen p (OpenHeader octets)
@@ -151,4 +151,4 @@ pub record HasPrivateState (w : WalkerState) (b : List ℕ) (yielded : List Even
   pub state : Zipper
   pub has_state : HasZipper w b yielded state
   pub named : can_name w.framing.inside ≡ true
-  pub found : w.wrapper_count ≡ wrappers_after w.framing.inside 0 (wrapper_offsets yielded)
+  pub found : w.wrapper_count ≡ wrappers_after w.framing.inside 0 (entered_offsets yielded)

@@ -3,7 +3,7 @@ ghost use Rattle.std.specs.Prelude.{◌≡◌, ◌≢◌, ℕ, ◌+◌, ◌^◌,
 ghost use Rattle.tlv_walk.specs.Phase as phases;
 ghost use Rattle.tlv_walk.specs.WalkerState.{HasOctets};
 ghost use Rattle.tlv_walk.specs.Private.WalkerState.{CountsStep, YieldsAt, YieldsOne};
-ghost use Rattle.tlv_walk.specs.HasRead.{event_value};
+ghost use Rattle.tlv_walk.specs.HasRead.{event_value_of};
 ghost use Rattle.tlv_walk.specs.Private.Yields.{Continues, YieldsEvent, YieldsStep};
 
 use super::{Phase, Walker};
@@ -19,7 +19,7 @@ impl Walker {
         requires limit { self.old.offset + length piece.old.now ≤ 2 ^ 40 }
         ensures one { YieldsOne self.old self.new piece.old.now piece.new.now }
         ensures event { YieldsEvent self.old self.new piece.old.now piece.new.now
-            (event_value result) }
+            (event_value_of result) }
         ensures octets { HasOctets result }
     {
         let octets: &'a [u8] = *piece;
@@ -37,7 +37,7 @@ impl Walker {
     pub(super) fn end_primitive<'a>(&mut self) -> Event<'a>
         requires { self.old.phase ≡ phases.InPrimitive 0 }
         ensures yields { YieldsAt self.old self.new self.old.offset }
-        ensures event { Continues self.old self.new [] (event_value result ∷ []) }
+        ensures event { Continues self.old self.new [] (event_value_of result ∷ []) }
         ensures octets { HasOctets result }
     {
         self.events += 1;
@@ -54,7 +54,7 @@ impl Walker {
         requires padding { self.old.framing.padding ≡ true }
         ensures one { YieldsOne self.old self.new piece.old.now piece.new.now }
         ensures event { YieldsEvent self.old self.new piece.old.now piece.new.now
-            (event_value result) }
+            (event_value_of result) }
         ensures octets { HasOctets result }
     {
         let octets: &'a [u8] = *piece;

@@ -4,7 +4,7 @@ ghost use Rattle.tlv_walk.specs.Phase as phases;
 ghost use Rattle.tlv_walk.specs.WalkerState.{HasOctets};
 ghost use Rattle.tlv_walk.specs.Private.WalkerState.{CountsAtOnce, CountsStep, YieldsAt, close_event};
 ghost use Rattle.tlv_walk.specs.Stack.{IsFilled};
-ghost use Rattle.tlv_walk.specs.HasRead.{event_value};
+ghost use Rattle.tlv_walk.specs.HasRead.{event_value_of};
 ghost use Rattle.tlv_walk.specs.Private.Yields.{Continues, YieldsAtOnce, YieldsStep};
 
 use super::{Phase, Walker};
@@ -49,7 +49,7 @@ impl Walker {
         requires phase { self.old.phase ≡ phases.Between }
         requires filled { IsFilled self.old.stack self.old.offset }
         ensures yields { YieldsAt self.old self.new self.old.offset }
-        ensures event { Continues self.old self.new [] (event_value result ∷ []) }
+        ensures event { Continues self.old self.new [] (event_value_of result ∷ []) }
         ensures octets { HasOctets result }
     {
         self.events += 1;

@@ -1,6 +1,6 @@
 //! How a walker takes headers.
 ghost use Rattle.std.specs.Prelude.{◌≡◌, ◌≢◌, ◌+◌, ◌^◌, ◌<◌, ◌≤◌, [], IsTrue, Some, length, true};
-ghost use Rattle.tlv_head.specs.HeaderFields.{IsHeaderSized, header_with};
+ghost use Rattle.tlv_head.specs.HeaderFields.{IsHeaderSized, new_header};
 ghost use Rattle.tlv_head.specs.Header.{announced_length, holds, octets_of};
 ghost use Rattle.tlv_head.specs.ReadHeader.{BeginsWithFields};
 ghost use Rattle.tlv_walk.specs.Phase as phases;
@@ -10,7 +10,7 @@ ghost use Rattle.tlv_walk.specs.Private.WalkerState.{CanBegin, CanEnter, CanRead
 ghost use Rattle.tlv_walk.specs.Private.ReadsOn.{YieldsFrom, YieldsHeader};
 ghost use Rattle.tlv_walk.specs.Stack.{bound_of};
 ghost use Rattle.tlv_walk.specs.Place.{IsWithin};
-ghost use Rattle.tlv_walk.specs.HasRead.{event_value};
+ghost use Rattle.tlv_walk.specs.HasRead.{event_value_of};
 ghost use Rattle.tlv_walk.specs.Private.Yields.{YieldsAtOnce, YieldsStep};
 
 use super::{Phase, Walker};
@@ -124,7 +124,7 @@ impl Walker {
         requires phase { self.old.phase ≡ phases.Between }
         requires enter { CanEnter self.old header }
         ensures yields { YieldsAt self.old self.new (header.offset + length (octets_of header)) }
-        ensures enters { YieldsHeader self.old self.new header (event_value result) }
+        ensures enters { YieldsHeader self.old self.new header (event_value_of result) }
         ensures octets { HasOctets result }
     {
         let fields = header.fields();
@@ -140,7 +140,7 @@ impl Walker {
     pub(super) fn enter(&mut self, fields: &HeaderFields, octets: &[u8]) -> HeaderKind
         requires phase { self.old.phase ≡ phases.Between }
         requires sized { IsHeaderSized fields.now octets.now }
-        requires enter { CanEnter self.old (header_with fields.now octets.now) }
+        requires enter { CanEnter self.old (new_header fields.now octets.now) }
         ensures yields { YieldsAt self.old self.new (fields.now.offset + length octets.now) }
         ensures enters { TakesHeader self.old self.new fields.now
             (fields.now.offset + length octets.now) result }
@@ -191,7 +191,7 @@ impl Walker {
         requires place { fields.now.offset ≡ self.now.offset }
         requires limit { fields.now.offset + length octets.now ≤ 2 ^ 40 }
         requires length { announced_length fields.now.size < 2 ^ 40 }
-        ensures shallow { IsTrue result → holds (header_with fields.now octets.now) ≡ true
+        ensures shallow { IsTrue result → holds (new_header fields.now octets.now) ≡ true
             → length self.now.stack < 128 }
         ensures fits { IsTrue result → IsWithin (bound_of self.now.stack)
             (fields.now.offset + length octets.now + announced_length fields.now.size) }

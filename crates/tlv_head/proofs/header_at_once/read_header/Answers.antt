@@ -1,7 +1,7 @@
 use Rattle.std.proofs.Common.{◌+◌, take, drop, sym, ◌∙◌, subst, refl, arith}
 use Rattle.std.proofs.lemmas.List.{take-append-drop, take_all, take_more}
 use Rattle.tlv_head.specs.Refusal.{BeginsWith}
-use Rattle.tlv_head.specs.HeaderFields.{header_with}
+use Rattle.tlv_head.specs.HeaderFields.{new_header}
 use Rattle.tlv_head.specs.Private.NextOctet.{MakesHeader}
 use Rattle.tlv_head.proofs.ReaderLemmas.Front.{around, begun_none, begun_part, made_begins, made_sized}
 use Rattle.tlv_head.proofs.GrammarLemmas.Refused.{refused-with_none}
@@ -17,7 +17,7 @@ returns-in-Finished c =
     rw c.header_fields.ensures (record {
       within = omega arith;
       sized = made_sized octets _ c.in-Finished.identifier c.in-Finished.size made refl;
-      begins = subst (λ s. BeginsWith s c.args.offset c.args.named (header_with (record { offset = c.args.offset; named = c.args.named; class = c.in-Finished.identifier.class; constructed = c.in-Finished.identifier.constructed; number = c.in-Finished.identifier.number; size = c.in-Finished.size; id_len = c.in-Finished.identifier.octets }) octets))
+      begins = subst (λ s. BeginsWith s c.args.offset c.args.named (new_header (record { offset = c.args.offset; named = c.args.named; class = c.in-Finished.identifier.class; constructed = c.in-Finished.identifier.constructed; number = c.in-Finished.identifier.number; size = c.in-Finished.size; id_len = c.in-Finished.identifier.octets }) octets))
           (take-append-drop (i + 1) xs) (made_begins octets (drop (i + 1) xs) c.args.offset c.args.named c.in-Finished.identifier c.in-Finished.size made);
     })
 

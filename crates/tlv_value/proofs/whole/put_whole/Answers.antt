@@ -2,7 +2,7 @@ use Rattle.std.proofs.Common.{ap, sym, ◌∙◌}
 use Rattle.tlv_value.specs.declared.primitive.Primitive.{Primitive}
 use Rattle.tlv_value.specs.Value.{is_long}
 use Rattle.tlv_value.specs.Private.PrimitiveLines.{lines_in_steps}
-use Rattle.tlv_value.specs.ValueTextState.{new_text_of}
+use Rattle.tlv_value.specs.ValueTextState.{new_value_text_of}
 use Rattle.tlv_value.proofs.TextLemmas.Pieces.{shown-new, whole-new}
 use Rattle.tlv_io.proofs.Puts.{puts_text}
 use Rattle.tlv_value.proofs.whole.put_whole.Goals as goal
@@ -10,7 +10,7 @@ use Rattle.tlv_value.proofs.whole.put_whole.Goals as goal
 pub returns-then-is_long : goal.returns-then-is_long
 returns-then-is_long g c =
     let name_of = g.N.NameTable.name_of c.args.names.now in
-    let steps = ap (λ (p : Primitive). lines_in_steps name_of (new_text_of p) c.args.contents.now) c.new-value.ensures in
+    let steps = ap (λ (p : Primitive). lines_in_steps name_of (new_value_text_of p) c.args.contents.now) c.new-value.ensures in
     puts_text g.D.Drain.state _ _ _ _ _ (steps ∙ whole-new name_of c.args.header.now c.args.layout c.args.contents.now (sym c.requires)) c.put_long.ensures
 
 pub returns-else-is_long : goal.returns-else-is_long

@@ -1,5 +1,5 @@
 use Rattle.std.proofs.Common.{rules, sym}
-use Rattle.tlv_walk.specs.HasRead.{event_value}
+use Rattle.tlv_walk.specs.HasRead.{event_value_of}
 use Rattle.tlv_io.proofs.Puts.{puts_failed_last}
 use Rattle.tlv_show.proofs.DumpLemmas.DumpSteps.{one_on}
 use Rattle.tlv_show.proofs.dump_follower.DumpFollow.on.Goals as goal
@@ -8,4 +8,4 @@ pub returns-in_err-write_lines-clause-puts : goal.returns-in_err-write_lines-cla
 returns-in_err-write_lines-clause-puts g c = puts_failed_last g.D.Drain.state _ _ _ _ _ c.in_err-write_lines.ensures.puts (search rules)
 
 pub returns-clause-state : goal.returns-clause-state
-returns-clause-state g c = (c.in_ok-write_lines.ensures.state, sym (one_on c.args.self.now (event_value c.args.event.now)))
+returns-clause-state g c = (c.in_ok-write_lines.ensures.state, sym (one_on c.args.self.now (event_value_of c.args.event.now)))

@@ -2,7 +2,7 @@ use Rattle.std.proofs.Common.{rules, ◌≡◌, List, ℕ, [], refl, sym, ap, �
 use Rattle.std.specs.Prelude.{Bool, true, false, if◌then◌else◌}
 use Rattle.tlv_io.proofs.Puts.{puts_nothing, puts_text}
 use Rattle.tlv_value.specs.ValueTextState.{ValueTextState, begin_lines, primitive_line}
-use Rattle.tlv_value.specs.TextFields.{text_state_of}
+use Rattle.tlv_value.specs.ValueTextFields.{value_text_state_of}
 use Rattle.tlv_value.specs.Value.{is_long}
 use Rattle.tlv_value.proofs.TextLemmas.Rests.{begin-puts}
 use Rattle.tlv_value.proofs.text.ValueText.begin.Goals.{then-not-is_long-via-then-not-is_long, then-not-is_long-via-else-not-is_long+then-not-self}
@@ -25,8 +25,8 @@ returns-then-not-is_long-clause-puts g c =
     let t = c.self.inside in
     let state_of = g.D.Drain.state in
     let none : [] ≡ begin_lines c.args.self.now = elim c.then-not-is_long.branch [
-      | then-not-is_long-via-then-not-is_long w ↦ begun-short (text_state_of t) c.args.self.now c.self.view_is (sym c.is_long.ensures ∙ w.if-not-is_long.true)
-      | then-not-is_long-via-else-not-is_long+then-not-self w ↦ begun-unlined (text_state_of t) c.args.self.now c.self.view_is w.if-not-self.true
+      | then-not-is_long-via-then-not-is_long w ↦ begun-short (value_text_state_of t) c.args.self.now c.self.view_is (sym c.is_long.ensures ∙ w.if-not-is_long.true)
+      | then-not-is_long-via-else-not-is_long+then-not-self w ↦ begun-unlined (value_text_state_of t) c.args.self.now c.self.view_is w.if-not-self.true
     ] in
     puts_text state_of _ _ _ _ _ none (puts_nothing state_of _ _)
 

@@ -6,7 +6,7 @@ use Rattle.tlv_value.specs.declared.kind.Kind.TheVariants.{Bits}
 use Rattle.tlv_value.specs.Rows.{full_rows}
 use Rattle.tlv_value.specs.ValueLines.{row_lines}
 use Rattle.tlv_value.specs.ValueTextState.{ValueTextState, contents_lines, primitive_line}
-use Rattle.tlv_value.specs.TextFields.{text_state_of}
+use Rattle.tlv_value.specs.ValueTextFields.{value_text_state_of}
 use Rattle.tlv_value.specs.Value.{is_long, long_text, row_octets}
 use Rattle.tlv_value.proofs.TextLemmas.Ends.{new-first, rows-first}
 use Rattle.tlv_value.proofs.TextLemmas.Rests.{bytes-puts}
@@ -24,7 +24,7 @@ returns-in_err-put_bits-clause-puts g c =
     let u = c.self.invariant.unlined l c.if-self.false in
     let x : ℕ = c.in-Some.unused.now in
     let rest : List ℕ = c.in-Some.rest.now in
-    let all = new-both (text_state_of t) c.args.self.now x rest c.args.octets.now c.self.view_is u.0 c.if-self.false l c.in-Some.ensures.cases.0 in
+    let all = new-both (value_text_state_of t) c.args.self.now x rest c.args.octets.now c.self.view_is u.0 c.if-self.false l c.in-Some.ensures.cases.0 in
     puts_failed_in g.D.Drain.state _ _ (primitive_line t.value (long_text Bits t.value.size (x ∷ []))) _ _ _ c.in_err-put_bits.ensures (search rules)
     (record { rest = row_lines Bits t.value.layout 0 (full_rows Bits (row_octets Bits (x ∷ [])) rest); is = all })
 
@@ -35,7 +35,7 @@ returns-clause-puts g c =
     let u = c.self.invariant.unlined l c.if-self.false in
     let x : ℕ = c.in-Some.unused.now in
     let rest : List ℕ = c.in-Some.rest.now in
-    let all = new-both (text_state_of t) c.args.self.now x rest c.args.octets.now c.self.view_is u.0 c.if-self.false l c.in-Some.ensures.cases.0 in
+    let all = new-both (value_text_state_of t) c.args.self.now x rest c.args.octets.now c.self.view_is u.0 c.if-self.false l c.in-Some.ensures.cases.0 in
     let same = rows-first t.value.kind t.value.layout t.rows c.begin_row.new.row.items (row_octets Bits (x ∷ [])) rest u.0 u.2 c.begin_row.ensures in
     let state_of = g.D.Drain.state in
     puts_then_as state_of _ _ _ _ _ _ _ _ c.in_ok-put_bits.ensures (puts_text state_of _ _ _ _ _ same c.put_rows-2.ensures.puts) all

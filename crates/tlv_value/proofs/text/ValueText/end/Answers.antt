@@ -4,7 +4,7 @@ use Rattle.tlv_io.proofs.Puts.{puts_text}
 use Rattle.tlv_value.specs.ValueTextState.{ValueTextState, end_lines}
 use Rattle.tlv_value.specs.Value.{is_long}
 use Rattle.tlv_value.specs.Private.PrimitiveLines.{primitive_lines}
-use Rattle.tlv_value.specs.TextFields.{text_state_of}
+use Rattle.tlv_value.specs.ValueTextFields.{value_text_state_of}
 use Rattle.tlv_value.proofs.TextLemmas.Ends.{ended-shown, held-most}
 use Rattle.tlv_value.proofs.TextLemmas.Rests.{end-puts}
 use Rattle.tlv_value.proofs.text.ValueText.end.Goals as goal
@@ -23,7 +23,7 @@ returns-clause-puts g c =
     let names = g.N.NameTable.name_of c.args.names.now in
     let l : is_long t.value.kind t.value.size ≡ false = sym c.is_long.ensures ∙ c.if-is_long.false in
     let row : primitive_lines names t.value c.as_slice-contents.result.now ≡ primitive_lines names t.value t.row.items = ap (primitive_lines names t.value) c.as_slice-contents.ensures.value in
-    let all = sym (ended-shown names t.value t.left (text_state_of t).kept l) ∙ ap (end_lines names) c.self.view_is in
+    let all = sym (ended-shown names t.value t.left (value_text_state_of t).kept l) ∙ ap (end_lines names) c.self.view_is in
     puts_text g.D.Drain.state _ _ _ _ _ (row ∙ all) c.put.ensures
 
 pub returns-then-is_long-clause-puts : goal.returns-then-is_long-clause-puts

@@ -1,5 +1,5 @@
 use Rattle.std.proofs.Common.{[], ◌∷◌, subst, rules}
-use Rattle.tlv_head.specs.HeaderFields.{header_with}
+use Rattle.tlv_head.specs.HeaderFields.{new_header}
 use Rattle.tlv_head.specs.ReadHeader.{BeginsWithFields}
 use Rattle.tlv_walk.specs.declared.event.HeaderKind.{HeaderKind}
 use Rattle.tlv_walk.specs.Private.Yields.{Continues}
@@ -12,7 +12,7 @@ returns-clause-yields c =
     let begins : BeginsWithFields c.args.piece.now.now c.args.self.now.offset named c.in_ok-fields.fields c.in_ok-fields.count = rw (← c.self.view_is) c.in_ok-fields.ensures.begins in record {
       taken = c.split_at.result.0.now;
       piece_is = search rules;
-      continues = (subst (λ (k : HeaderKind). Continues c.args.self.now c.enter.new.self c.split_at.result.0.now (event_of k (header_with c.in_ok-fields.fields c.split_at.result.0.now) ∷ []))
+      continues = (subst (λ (k : HeaderKind). Continues c.args.self.now c.enter.new.self c.split_at.result.0.now (event_of k (new_header c.in_ok-fields.fields c.split_at.result.0.now) ∷ []))
           (constructed_kind c.args.self.now c.enter.new.self c.in_ok-fields.fields _ c.enter.result (search rules) c.enter.ensures.enters)
           (fast_enters c.args.self.now c.enter.new.self c.args.piece.now.now named c.in_ok-fields.fields c.in_ok-fields.count c.split_at.result.0.now c.enter.result
           (search rules) begins c.split_at.ensures.front (search rules) (search rules) (search rules) c.enter.ensures.enters));

@@ -6,7 +6,7 @@ use Rattle.tlv_walk.specs.Private.ReadsOn.{HandsOver}
 use Rattle.tlv_walk.specs.Stack.{bound_of}
 use Rattle.tlv_walk.specs.Place.{IsWithin}
 use Rattle.tlv_walk.specs.Private.Stack.{room_to}
-use Rattle.tlv_walk.specs.HasRead.{event_value}
+use Rattle.tlv_walk.specs.HasRead.{event_value_of}
 use Rattle.tlv_walk.specs.WalkerFields.{walker_state_of}
 use Rattle.tlv_walk.proofs.WalkerLemmas.HeaderRefusals.{refuses_header}
 use Rattle.tlv_walk.proofs.WalkerLemmas.HeaderSteps.{HasTaken, first_octet, give_room, give_some, pushed_place, pushed_some, taken_more, yields_unfinished, used_up, whole_enters, whole_yields, within_next}
@@ -45,7 +45,7 @@ pub returns-in-Whole-clause-yields : goal.returns-in-Whole-clause-yields
 returns-in-Whole-clause-yields c = λ w over.
     let over' : HandsOver w c.loop-piece.self c.args.reader = subst (λ (m : WalkerState). HandsOver w m c.args.reader) (sym c.loop-piece.invariant.same) over in
     elim c.in-Whole.ensures.pushes [
-      | whole header completes there done ↦ whole_yields w c.loop-piece.self c.enter_slowly.new.self c.args.reader c.loop-piece.reader _ c.loop-piece.piece.now _ _ c.in-Whole.header (event_value c.enter_slowly.result) over'
+      | whole header completes there done ↦ whole_yields w c.loop-piece.self c.enter_slowly.new.self c.args.reader c.loop-piece.reader _ c.loop-piece.piece.now _ _ c.in-Whole.header (event_value_of c.enter_slowly.result) over'
           c.loop-piece.invariant.read (first_octet c.loop-piece.piece.now c.in-len1-up.len_at_least) completes c.enter_slowly.ensures.enters
     ]
 

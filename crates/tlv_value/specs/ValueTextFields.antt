@@ -6,14 +6,14 @@ use Rattle.tlv_value.specs.OpenRow.{IsOpenRow}
 use Rattle.tlv_value.specs.ValueTextState.{ValueTextState}
 use Rattle.tlv_value.specs.Value.{is_long}
 
-abbrev pub text_state_of : Inside → ValueTextState
-text_state_of t = record {
+abbrev pub value_text_state_of : Inside → ValueTextState
+value_text_state_of t = record {
   value = t.value;
   left = t.left;
   kept = record { wrote_line = t.has_line; rows = t.rows; row = t.row.items };
 }
 
-pub record TextFieldsAgree (t : Inside) : Type 0 where
+pub record ValueTextFieldsAgree (t : Inside) : Type 0 where
   pub counted : t.rows + length t.row.items + t.left ≤ t.value.size
   -- of a long value the row that has begun
   pub begun : is_long t.value.kind t.value.size ≡ true → IsOpenRow t.value.kind t.row.items

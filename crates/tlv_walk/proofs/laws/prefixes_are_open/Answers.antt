@@ -2,7 +2,7 @@ use Rattle.std.proofs.Common.{sym}
 use Rattle.tlv_walk.specs.Forest.{Forest}
 use Rattle.tlv_walk.proofs.GrammarLemmas.PushSteps.{Spells}
 use Rattle.tlv_walk.proofs.GrammarLemmas.Readings.{prefix}
-use Rattle.tlv_walk.proofs.laws.fronts_are_open.Goals as goal
+use Rattle.tlv_walk.proofs.laws.prefixes_are_open.Goals as goal
 
 pub returns : goal.returns
 returns c = λ p f s w front.

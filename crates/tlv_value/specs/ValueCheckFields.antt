@@ -5,8 +5,8 @@ use Rattle.tlv_value.specs.declared.kind.Kind.TheVariants.{Utf8}
 use Rattle.tlv_value.specs.ValueCheckState.{ValueCheckState}
 use Rattle.tlv_value.specs.OpenRow.{IsOpenRow}
 
-abbrev pub check_state_of : Inside → ValueCheckState
-check_state_of t = record {
+abbrev pub value_check_state_of : Inside → ValueCheckState
+value_check_state_of t = record {
   number = t.number;
   size = t.size;
   left = t.left;
