@@ -8,7 +8,9 @@ ghost use Rattle.tlv_show.specs.Private.FinderState.{PassesOrStays, ReportsFindi
 
 use crate::Rules;
 use crate::contents_findings::add_contents_findings;
-use crate::header_findings::{add_end_findings, add_header_findings, is_plain, is_plain_if_usual};
+use crate::header_findings::{
+    add_end_findings, add_header_findings, has_no_header_findings, has_no_header_findings_if_usual,
+};
 use crate::last_findings::LastFindings;
 use crate::nesting::Nesting;
 use crate::sibling_frame::SiblingFrame;
@@ -138,7 +140,7 @@ impl Finder {
         // The type is asked for once: that it has primitives shows in `is_clear`. The form need not be known to the
         // caller, and costs nothing if the compiler knows it.
         if header.constructed
-            || !is_plain_if_usual(self.rules, frame, header)
+            || !has_no_header_findings_if_usual(self.rules, frame, header)
             || !is_clear(header, contents)
         {
             return false;
@@ -156,7 +158,7 @@ impl Finder {
             (surroundings_in self.old.state.frame) header.now))
             self.new result }
     {
-        if is_plain(self.rules, self.holders.frame(), header) {
+        if has_no_header_findings(self.rules, self.holders.frame(), header) {
             return false;
         }
         self.look(header);
@@ -206,7 +208,7 @@ impl Finder {
         ensures { ReportsFindings (finder_open_step self.old.state header.now) self.new result }
     {
         // Most such elements are no strings, and nothing is found with them.
-        if is_plain(self.rules, self.holders.frame(), header) {
+        if has_no_header_findings(self.rules, self.holders.frame(), header) {
             self.holders.enter_plain(header);
             return false;
         }

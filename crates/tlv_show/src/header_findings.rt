@@ -9,8 +9,8 @@ ghost use Rattle.tlv_show.specs.Private.UsualTypes.{IsUsual};
 
 use crate::Rules;
 use crate::headers::{
-    has_high_form, is_always_constructed, is_always_primitive, is_indefinite, is_length_padded,
-    is_segment, is_string, is_unassigned, is_universal, size_of,
+    announced_length, has_high_form, is_always_constructed, is_always_primitive, is_indefinite,
+    is_length_padded, is_segment, is_string, is_unassigned, is_universal,
 };
 use crate::sibling_frame::SiblingFrame;
 use arrayvec::ArrayVec;
@@ -44,18 +44,22 @@ pub(crate) fn add_header_findings(
 
 /// Whether nothing is found with a header, as far as a short look shows.
 #[inline(always)]
-pub(crate) fn is_plain(rules: Rules, frame: &SiblingFrame, header: &Header) -> bool
+pub(crate) fn has_no_header_findings(rules: Rules, frame: &SiblingFrame, header: &Header) -> bool
     ensures findings { IsTrue result
         → header_findings rules (surroundings_in frame.now) header.now ≡ [] }
     ensures segments { IsTrue result → (frame.now.has_segments || has_segments header.now) ≡ false }
 {
-    is_usual(header) && is_plain_if_usual(rules, frame, header)
+    is_usual(header) && has_no_header_findings_if_usual(rules, frame, header)
 }
 
 /// Whether nothing is found with the header of a usual element, as far as a short look shows. The type is not asked
 /// for: callers look at it first, or with the contents.
 #[inline(always)]
-pub(crate) fn is_plain_if_usual(rules: Rules, frame: &SiblingFrame, header: &Header) -> bool
+pub(crate) fn has_no_header_findings_if_usual(
+    rules: Rules,
+    frame: &SiblingFrame,
+    header: &Header,
+) -> bool
     ensures findings { IsTrue result → IsUsual header.now
         → header_findings rules (surroundings_in frame.now) header.now ≡ [] }
     ensures segments { IsTrue result → frame.now.has_segments ≡ false }
@@ -68,7 +72,7 @@ pub(crate) fn is_plain_if_usual(rules: Rules, frame: &SiblingFrame, header: &Hea
         Rules::Der => !is_indefinite(header) && !is_length_padded(header),
         Rules::Cer => {
             header.constructed == is_indefinite(header)
-                && size_of(header) <= 1000
+                && announced_length(header) <= 1000
                 && !is_length_padded(header)
         }
     }
@@ -227,7 +231,7 @@ fn add_cer_findings(frame: &SiblingFrame, header: &Header, found: &mut ArrayVec<
         found,
     );
     add_if(
-        !header.constructed && is_string(header) && size_of(header) > 1000,
+        !header.constructed && is_string(header) && announced_length(header) > 1000,
         Finding::C02,
         found,
     );

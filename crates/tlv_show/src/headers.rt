@@ -23,12 +23,12 @@ pub(crate) fn is_length_padded(header: &Header) -> bool
         && (nat_lt (announced_length header.now.size) 128 || leading_length_octet header.now == 0)) }
 {
     let is_long = header.raw().len() > usize::from(header.id_len) + 1;
-    is_long && (size_of(header) < 128 || header.length_octet() == 0)
+    is_long && (announced_length(header) < 128 || header.length_octet() == 0)
 }
 
 /// How many contents octets the header announces; none in the indefinite form.
 #[inline(always)]
-pub(crate) fn size_of(header: &Header) -> u64
+pub(crate) fn announced_length(header: &Header) -> u64
     ensures { result ≡ announced_length header.now.size }
 {
     header.size.announced_length()

@@ -5,7 +5,7 @@ ghost use Rattle.tlv_show.specs.FinderState.{frame_after, surroundings_in};
 ghost use Rattle.tlv_show.specs.Private.Nesting.{TakesBack, nesting_inside, nesting_outside, new_nesting, segments_left};
 
 use crate::headers::is_string;
-use crate::sibling_frame::{KeptFrame, SiblingFrame, frame_of, note_element, top};
+use crate::sibling_frame::{KeptFrame, SiblingFrame, frame_of, note_element, top_frame};
 use std::marker::Model;
 use tlv_head::Header;
 use tlv_walk::Frames;
@@ -51,7 +51,7 @@ impl Nesting {
     {
         Nesting {
             level: 0,
-            frame: top(),
+            frame: top_frame(),
             floor: 0,
             outer: Frames::new(),
         }

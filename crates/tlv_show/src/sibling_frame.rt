@@ -2,7 +2,7 @@
 ghost use Rattle.std.specs.Prelude.{◌≡◌};
 ghost use Rattle.tlv_show.specs.FinderState.{frame_after, frame_of, top_frame};
 
-use crate::headers::{is_bit_string, is_string, size_of};
+use crate::headers::{announced_length, is_bit_string, is_string};
 use tlv_head::Header;
 
 /// What is kept of an element that holds others, and of those that it holds so far.
@@ -31,7 +31,7 @@ pub(crate) struct SiblingFrame {
 }
 
 /// The frame of the top.
-pub(crate) fn top() -> SiblingFrame
+pub(crate) fn top_frame() -> SiblingFrame
     ensures { result ≡ top_frame }
 {
     SiblingFrame {
@@ -48,7 +48,7 @@ pub(crate) fn frame_of(header: &Header) -> SiblingFrame
     let has_segments = header.constructed && is_string(header);
     SiblingFrame {
         at: header.offset,
-        size: size_of(header),
+        size: announced_length(header),
         is_primitive: !header.constructed,
         has_segments,
         has_bits: has_segments && is_bit_string(header),

@@ -107,7 +107,9 @@ begin_lines s =
 abbrev pub contents_lines : ValueTextState → List ℕ → List ℕ
 contents_lines s octets =
     if is_long s.value.kind s.value.size
-    then (if s.kept.wrote_line then full_row_lines s.value.kind s.value.layout s.kept octets else first_row_lines s octets)
+    then (if s.kept.wrote_line
+    then full_row_lines s.value.kind s.value.layout s.kept octets
+    else first_row_lines s octets)
     else []
 
 -- the value of a primitive of which all contents are kept

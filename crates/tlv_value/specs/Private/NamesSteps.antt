@@ -65,7 +65,8 @@ result_in (Err fault) = Err fault
 
 -- all octets of a source, by what its last read gave
 abbrev pub GivesAll : {Z : Type 0} → SourceState → List ℕ → Result (Vec ℕ Z) NamesFault → Type 0
-GivesAll new octets (Ok v) = (octets ≡ v.items) × (new.last ≡ gave 0) × IsAtEnd new.left × (length v.items ≤ names_limit)
+GivesAll new octets (Ok v) =
+    (octets ≡ v.items) × (new.last ≡ gave 0) × IsAtEnd new.left × (length v.items ≤ names_limit)
 GivesAll new octets (Err (BadOid n)) = ⊥
 GivesAll new octets (Err (BadName n)) = ⊥
 GivesAll new octets (Err (Repeated n)) = ⊥

@@ -8,7 +8,7 @@ pub returns : goal.returns
 returns c =
     let h = c.args.header.now in
     let usual = usual_primitive h (search rules) (c.is_clear.ensures.form (search rules)) in
-    let plain = c.is_plain_if_usual.ensures in
+    let plain = c.has_no_header_findings_if_usual.ensures in
     rw (← c.self.view_is)
     (passes _ _ h c.args.contents.now c.requires
     (sym c.frame-frame.ensures.segments ∙ plain.segments (search rules))

@@ -1,6 +1,6 @@
 use Rattle.std.proofs.Common.{rules}
 use Rattle.tlv_show.proofs.FindingLemmas.PlainHeaders.{plain-ber}
-use Rattle.tlv_show.proofs.header_findings.is_plain_if_usual.Goals as goal
+use Rattle.tlv_show.proofs.header_findings.has_no_header_findings_if_usual.Goals as goal
 
 pub returns-in-Ber-clause-findings : goal.returns-in-Ber-clause-findings
 returns-in-Ber-clause-findings c shown usual =
