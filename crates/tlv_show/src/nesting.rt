@@ -39,7 +39,7 @@ impl Model for Nesting {
     ghost invariant = { λ n. record {
       few : n.level ≤ 128;
       inside : n.floor ≤ n.level;
-      innermost_frame : IsKept n.frame (n.level - n.floor);
+      innermost : IsKept n.frame (n.level - n.floor);
       others : AreKept n.floor n.outer;
     } };
 }

@@ -10,8 +10,8 @@ returns-then-self-lt128 c =
     let known = c.self.invariant in
     let none : (n.frame.has_segments || has_segments c.args.header.now) ≡ false =
     ap (λ (b : Bool). b || has_segments c.args.header.now)
-    (sym known.innermost_frame ∙ ap (λ (s : NestingState). s.frame.has_segments) c.self.view_is)
+    (sym known.innermost ∙ ap (λ (s : NestingState). s.frame.has_segments) c.self.view_is)
     ∙ c.requires in
     rw (← c.self.view_is)
-    (enters-plain n.frame n.floor n.level n.outer known.inside known.innermost_frame known.others c.args.header.now
+    (enters-plain n.frame n.floor n.level n.outer known.inside known.innermost known.others c.args.header.now
     c.if-self-lt128.true none)
