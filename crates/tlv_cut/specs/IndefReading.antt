@@ -1,6 +1,7 @@
 -- What the octets that `indef` writes are read as.
 use Rattle.std.specs.Prelude.{ℕ, ◌+◌, length}
-use Rattle.tlv_walk.specs.Forest.{Forest, NoMore, PaddingOctet, Primitive, Holder, OpenPrimitive, OpenHolder, OpenBitString}
+use Rattle.tlv_walk.specs.Forest.{Forest, NoMore, PaddingOctet, Primitive, Holder, OpenPrimitive, OpenHolder}
+use Rattle.tlv_walk.specs.Forest.{OpenBitString}
 use Rattle.tlv_walk.specs.Forest.{OpenEndOctets, OpenHeader, extent, opening, primitive_extent}
 use Rattle.tlv_cut.specs.IndefText.{with_indefinite_lengths}
 

@@ -132,7 +132,8 @@ impl<'a> MemDrain<'a> {
 }
 
 impl Drain for MemDrain<'_> {
-    ghost use Rattle.tlv_io.specs.MemDrain.{mem_drain_after, drain_room, drain_state_of, mem_drain_state_of, write_count};
+    ghost use Rattle.tlv_io.specs.MemDrain.{mem_drain_after, drain_room, drain_state_of, mem_drain_state_of};
+    ghost use Rattle.tlv_io.specs.MemDrain.{write_count};
 
     ghost state = { λ drain. drain_state_of (mem_drain_state_of drain) };
 

@@ -9,7 +9,9 @@ use Rattle.tlv_show.specs.declared.rules.Rules.{Rules}
 use Rattle.tlv_show.specs.declared.finding_lines.Style.TheVariants.{Dump}
 use Rattle.tlv_show.specs.FindingLines.{styled_lines}
 use Rattle.tlv_show.specs.LinesStep.{LinesState, lines_octet_step, lines_padding_step, lines_step, new_lines}
-use Rattle.tlv_show.specs.FinderState.{CheckState, FinderState, finder_begin_step, finder_bytes_step, finder_close_step, finder_end_step, finder_open_step, new_finder, without_findings}
+use Rattle.tlv_show.specs.FinderState.{CheckState, FinderState, finder_begin_step, finder_bytes_step}
+use Rattle.tlv_show.specs.FinderState.{finder_close_step, finder_end_step, finder_open_step, new_finder}
+use Rattle.tlv_show.specs.FinderState.{without_findings}
 
 -- what contracts see of a `Dump`
 pub record DumpState : Type 0 where

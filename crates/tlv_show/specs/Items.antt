@@ -4,7 +4,8 @@ use Rattle.std.specs.Prelude.{ℕ, if◌then◌else◌, List, [], ◌∷◌, ◌
 use Rattle.tlv_head.specs.Header.{HeaderValue}
 use Rattle.tlv_value.specs.declared.finding.Finding.{Finding}
 use Rattle.tlv_walk.specs.Events.{end_place}
-use Rattle.tlv_walk.specs.Forest.{Forest, PaddingOctet, Primitive, Holder, OpenPrimitive, OpenHolder, OpenBitString, extent, primitive_extent}
+use Rattle.tlv_walk.specs.Forest.{Forest, PaddingOctet, Primitive, Holder, OpenPrimitive, OpenHolder}
+use Rattle.tlv_walk.specs.Forest.{OpenBitString, extent, primitive_extent}
 use Rattle.tlv_show.specs.declared.rules.Rules.{Rules}
 use Rattle.tlv_show.specs.Conditions.{segments_of, surroundings_of}
 use Rattle.tlv_show.specs.Found.{contents_findings, end_findings, header_findings}

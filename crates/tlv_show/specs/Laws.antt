@@ -2,7 +2,8 @@
 use Rattle.std.specs.Prelude.{◌≡◌, ℕ, ◌^◌, ◌≤◌, List, [], ◌∷◌, ◌++◌, length, None, Bool, false, flat_map}
 use Rattle.std.specs.FinMap as finite
 use Rattle.std.specs.List.{filter}
-use Rattle.tlv_show.specs.Items.{Item, FindingAt, OpeningLine, ClosingLine, PrimitiveLines, OpenPrimitiveLines, PaddingLine, items}
+use Rattle.tlv_show.specs.Items.{Item, FindingAt, OpeningLine, ClosingLine, PrimitiveLines}
+use Rattle.tlv_show.specs.Items.{OpenPrimitiveLines, PaddingLine, items}
 use Rattle.tlv_show.specs.Site.{top_site}
 use Rattle.tlv_show.specs.declared.rules.Rules.TheVariants.{Ber}
 use Rattle.tlv_show.specs.CheckJob.{check_job}

@@ -1,10 +1,12 @@
 -- What the lines of a dump make of events, without those of findings.
-use Rattle.std.specs.Prelude.{ℕ, ◌+◌, ◌-◌, eqb, if◌then◌else◌, Bool, true, false, List, [], ◌∷◌, length, min, take, Option, Some, None}
+use Rattle.std.specs.Prelude.{ℕ, ◌+◌, ◌-◌, eqb, if◌then◌else◌, Bool, true, false, List, [], ◌∷◌, length, min}
+use Rattle.std.specs.Prelude.{take, Option, Some, None}
 use Rattle.std.specs.FinMap as finite
 use Rattle.tlv_head.specs.Header.{HeaderValue, octets_of}
 use Rattle.tlv_value.specs.declared.layout.Layout.{Layout}
 use Rattle.tlv_value.specs.Names.{NamesTable}
-use Rattle.tlv_value.specs.ValueTextState.{ValueTextState, begin_lines, contents_lines, end_lines, new_value_text, value_text_after}
+use Rattle.tlv_value.specs.ValueTextState.{ValueTextState, begin_lines, contents_lines, end_lines}
+use Rattle.tlv_value.specs.ValueTextState.{new_value_text, value_text_after}
 use Rattle.tlv_walk.specs.declared.follow.Go.TheVariants.{On}
 use Rattle.tlv_walk.specs.Events.{Begin, Bytes, Close, End, Enter, EventValue, Leave, Open, Pad, Unused}
 use Rattle.tlv_walk.specs.Follow.{Effect, each_octet}

@@ -2,7 +2,10 @@
 ghost use Rattle.std.specs.Prelude.{◌≡◌, length};
 ghost use Rattle.tlv_head.specs.Header.{announced_length};
 ghost use Rattle.tlv_walk.specs.HasRead.{event_value_of};
-ghost use Rattle.tlv_show.specs.FinderState.{finder_at_value, finder_begin_step, finder_bytes_step, finder_close_step, finder_end_step, finder_inside, finder_open_step, new_finder, segments_in, surroundings_in, with_findings, without_findings};
+ghost use Rattle.tlv_show.specs.FinderState.{finder_at_value, finder_begin_step, finder_bytes_step};
+ghost use Rattle.tlv_show.specs.FinderState.{finder_close_step, finder_end_step, finder_inside};
+ghost use Rattle.tlv_show.specs.FinderState.{finder_open_step, new_finder, segments_in, surroundings_in};
+ghost use Rattle.tlv_show.specs.FinderState.{with_findings, without_findings};
 ghost use Rattle.tlv_show.specs.Found.{end_findings, header_findings};
 ghost use Rattle.tlv_show.specs.Private.FinderState.{PassesOrStays, ReportsFindings, finder_step, with_state};
 

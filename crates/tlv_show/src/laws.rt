@@ -1,6 +1,7 @@
 //! Laws of a dump and of a check: each is the contract of a function that does nothing.
 
-ghost use Rattle.tlv_show.specs.Laws.{BasicFindingsStay, ChecksGoOn, ChecksMakeTexts, DumpsGoOn, DumpsMakeTexts, PrimitivesAreShown};
+ghost use Rattle.tlv_show.specs.Laws.{BasicFindingsStay, ChecksGoOn, ChecksMakeTexts, DumpsGoOn};
+ghost use Rattle.tlv_show.specs.Laws.{DumpsMakeTexts, PrimitivesAreShown};
 ghost use Rattle.tlv_show.specs.Spellings.{LongerIdentifiersAreFound, LongerLengthsAreFound, OneSpelling, SomeSpelling};
 
 /// What a `Dump` makes of the events of a reading is the text of that reading and the number of its findings. It always

@@ -3,7 +3,9 @@ ghost use Rattle.std.specs.Prelude.{◌≡◌, ◌≤◌, ◌-◌, ◌^◌, OnOk
 ghost use Rattle.tlv_walk.specs.Events.{Unused};
 ghost use Rattle.tlv_walk.specs.Follow.{each_octet};
 ghost use Rattle.tlv_io.specs.Out.{Puts};
-ghost use Rattle.tlv_show.specs.LinesStep.{lines_begin_step, lines_close_step, lines_end_step, lines_octet_step, lines_open_step, lines_padding_step, lines_step, new_lines, lines_after_header};
+ghost use Rattle.tlv_show.specs.LinesStep.{lines_begin_step, lines_close_step, lines_end_step};
+ghost use Rattle.tlv_show.specs.LinesStep.{lines_octet_step, lines_open_step, lines_padding_step, lines_step};
+ghost use Rattle.tlv_show.specs.LinesStep.{new_lines, lines_after_header};
 
 mod whole;
 

@@ -2,7 +2,8 @@
 ghost use Rattle.std.specs.Prelude.{◌≡◌, ◌||◌, false, length, true};
 ghost use Rattle.tlv_value.specs.Types.{has_segments};
 ghost use Rattle.tlv_show.specs.FinderState.{frame_after, surroundings_in};
-ghost use Rattle.tlv_show.specs.Private.Nesting.{TakesBack, nesting_inside, nesting_outside, new_nesting, segments_left};
+ghost use Rattle.tlv_show.specs.Private.Nesting.{TakesBack, nesting_inside, nesting_outside, new_nesting};
+ghost use Rattle.tlv_show.specs.Private.Nesting.{segments_left};
 
 use crate::headers::is_string;
 use crate::sibling_frame::{KeptFrame, SiblingFrame, frame_of, note_element, top_frame};
@@ -27,7 +28,8 @@ pub(crate) struct Nesting {
 
 impl Model for Nesting {
     ghost use Rattle.std.specs.Prelude.{◌≤◌, ◌-◌};
-    ghost use Rattle.tlv_show.specs.Private.Nesting.{AreKept, IsKept, NestingState, all_frames, innermost_frame, outer_frames};
+    ghost use Rattle.tlv_show.specs.Private.Nesting.{AreKept, IsKept, NestingState, all_frames};
+    ghost use Rattle.tlv_show.specs.Private.Nesting.{innermost_frame, outer_frames};
 
     ghost Value = { NestingState };
 

@@ -21,7 +21,7 @@ fn front_header(octets: &[u8]) -> Option<Header> {
     header_of(false, octets)
 }
 
-/// What the octets of a header, or a front of one, come to: the first result that is not More.
+/// What the octets of a header, or a prefix of one, come to: the first result that is not More.
 fn read(octets: &[u8], place: Place) -> Head
     requires { place.depth ≤ 128 }
 {
@@ -129,14 +129,14 @@ fn expect_no_short(rt: &impl Abort, octets: &[u8]) {
     expect_of(rt, octets, is_none, "no header is read at once");
 }
 
-/// The same of each front of these octets.
+/// The same of each prefix of these octets.
 fn expect_no_short_fronts(rt: &impl Abort, octets: &[u8]) {
     for i in 0..octets.len() {
         expect_no_short(rt, &octets[..i]);
     }
 }
 
-/// A header of at most three identifier and three length octets is read at once, no longer one is, no front of one, and
+/// A header of at most three identifier and three length octets is read at once, no longer one is, no prefix of one, and
 /// nothing that is refused.
 #[test]
 fn short_headers_are_read_at_once(rt: HostRuntime) {

@@ -1,5 +1,6 @@
 -- Object identifiers: X.690 8.19 and 8.20.
-use Rattle.std.specs.Prelude.{ℕ, ◌-◌, ◌%◌, ◌^◌, Bool, true, false, ◌&&◌, nat_lt, nat_le, if◌then◌else◌, List, [], ◌∷◌, ◌++◌, length, map, slice_index, Option, Some, None, codes, decimal}
+use Rattle.std.specs.Prelude.{ℕ, ◌-◌, ◌%◌, ◌^◌, Bool, true, false, ◌&&◌, nat_lt, nat_le, if◌then◌else◌, List}
+use Rattle.std.specs.Prelude.{[], ◌∷◌, ◌++◌, length, map, slice_index, Option, Some, None, codes, decimal}
 use Rattle.std.specs.List.{join_by, list_all, onto_first}
 use Rattle.tlv_head.specs.Header.{value_of}
 

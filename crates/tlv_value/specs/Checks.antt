@@ -1,6 +1,8 @@
 -- What is found on the contents of a primitive: X.690 8 and 11. The conditions are at the end, with what they speak of
 -- before them.
-use Rattle.std.specs.Prelude.{ℕ, ◌%◌, ◌^◌, Bool, true, false, ◌&&◌, ◌||◌, not, ◌==◌, eqb, nat_le, nat_lt, if◌then◌else◌, List, [], ◌∷◌, flat_map, length, slice_index, Option, Some, None, codes}
+use Rattle.std.specs.Prelude.{ℕ, ◌%◌, ◌^◌, Bool, true, false, ◌&&◌, ◌||◌, not, ◌==◌, eqb, nat_le, nat_lt}
+use Rattle.std.specs.Prelude.{if◌then◌else◌, List, [], ◌∷◌, flat_map, length, slice_index, Option, Some, None}
+use Rattle.std.specs.Prelude.{codes}
 use Rattle.std.specs.Char.{is_ascii_alphabetic, is_ascii_digit}
 use Rattle.std.specs.List.{list_all, list_any}
 use Rattle.std.specs.Option.{option_map_or}
@@ -8,7 +10,8 @@ use Rattle.std.specs.Str.{is_utf8}
 use Rattle.tlv_head.specs.Header.{HeaderValue}
 use Rattle.tlv_head.specs.UniversalTypes as universal
 use Rattle.tlv_value.specs.declared.finding.Finding.{Finding}
-use Rattle.tlv_value.specs.declared.finding.Finding.TheVariants.{B06, B07, B08, B09, B10, B11, B12, B13, B14, B15, B18, B19, S02, S03, S04}
+use Rattle.tlv_value.specs.declared.finding.Finding.TheVariants.{B06, B07, B08, B09, B10, B11, B12, B13, B14}
+use Rattle.tlv_value.specs.declared.finding.Finding.TheVariants.{B15, B18, B19, S02, S03, S04}
 use Rattle.tlv_value.specs.Times as times
 use Rattle.tlv_value.specs.Types.{character_types, integer_types, is_number_of, object_types, time_types, type_number}
 use Rattle.tlv_value.specs.Units.{is_printable}

@@ -1,7 +1,10 @@
 -- The findings: what each is called, and its text.
 use Rattle.std.specs.Prelude.{ℕ, List, codes}
 use Rattle.tlv_value.specs.declared.finding.Finding.{Finding}
-use Rattle.tlv_value.specs.declared.finding.Finding.TheVariants.{B01, B02, B03, B04, B05, B06, B07, B08, B09, B10, B11, B12, B13, B14, B15, B16, B17, B18, B19, S01, S02, S03, S04, D01, D02, C01, C02, C03, C04, C05, C06}
+use Rattle.tlv_value.specs.declared.finding.Finding.TheVariants.{B01, B02, B03, B04, B05, B06, B07, B08, B09}
+use Rattle.tlv_value.specs.declared.finding.Finding.TheVariants.{B10, B11, B12, B13, B14, B15, B16, B17, B18}
+use Rattle.tlv_value.specs.declared.finding.Finding.TheVariants.{B19, S01, S02, S03, S04, D01, D02, C01, C02}
+use Rattle.tlv_value.specs.declared.finding.Finding.TheVariants.{C03, C04, C05, C06}
 
 -- code and text
 abbrev pub finding_wording : Finding → List ℕ × List ℕ

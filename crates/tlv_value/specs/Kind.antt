@@ -6,7 +6,8 @@ use Rattle.tlv_head.specs.UniversalTypes as universal
 use Rattle.tlv_head.specs.declared.header.Class.{Class}
 use Rattle.tlv_head.specs.declared.header.Class.TheVariants.{Universal}
 use Rattle.tlv_value.specs.declared.kind.Kind.{Kind}
-use Rattle.tlv_value.specs.declared.kind.Kind.TheVariants.{Octets, Boolean, Integer, Bits, Object, Relative, Text, Utf8, Ucs2, Ucs4}
+use Rattle.tlv_value.specs.declared.kind.Kind.TheVariants.{Octets, Boolean, Integer, Bits, Object, Relative}
+use Rattle.tlv_value.specs.declared.kind.Kind.TheVariants.{Text, Utf8, Ucs2, Ucs4}
 
 -- the universal types whose contents are read as more than octets
 abbrev pub universal_kinds : List (ℕ × Kind)

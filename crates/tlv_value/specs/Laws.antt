@@ -7,7 +7,8 @@ use Rattle.tlv_value.specs.declared.layout.Layout.{Layout}
 use Rattle.tlv_value.specs.RowSizes.{character_length, row_size}
 use Rattle.tlv_value.specs.Rows.{rows_of}
 use Rattle.tlv_value.specs.ValueLines.{open_lines, whole_lines}
-use Rattle.tlv_value.specs.ValueTextState.{ValueTextState, begin_lines, contents_lines, end_lines, new_value_text, state_for, value_text_after}
+use Rattle.tlv_value.specs.ValueTextState.{ValueTextState, begin_lines, contents_lines, end_lines}
+use Rattle.tlv_value.specs.ValueTextState.{new_value_text, state_for, value_text_after}
 use Rattle.tlv_value.specs.Value.{NameOf}
 
 -- two pieces, one after the other, are as one

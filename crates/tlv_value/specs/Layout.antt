@@ -1,5 +1,6 @@
 -- The lines of a value: what begins them, and what is left out.
-use Rattle.std.specs.Prelude.{ℕ, ◌+◌, ◌*◌, Bool, eqb, nat_lt, if◌then◌else◌, List, [], ◌∷◌, ◌++◌, Option, Some, None, codes}
+use Rattle.std.specs.Prelude.{ℕ, ◌+◌, ◌*◌, Bool, eqb, nat_lt, if◌then◌else◌, List, [], ◌∷◌, ◌++◌, Option}
+use Rattle.std.specs.Prelude.{Some, None, codes}
 use Rattle.std.specs.Option.{option_map_or}
 use Rattle.tlv_value.specs.declared.layout.Layout.{Layout}
 pub use Rattle.tlv_io.specs.LineTexts.{columns, right_aligned, spaces}

@@ -1,5 +1,6 @@
 -- The numbers that INTEGER and ENUMERATED stand for: X.690 8.3 and 8.4.
-use Rattle.std.specs.Prelude.{ℕ, ◌*◌, ◌^◌, ◌&&◌, nat_le, if◌then◌else◌, List, [], ◌∷◌, length, ℤ, pos, ◌-ℤ◌, Option, Some, None}
+use Rattle.std.specs.Prelude.{ℕ, ◌*◌, ◌^◌, ◌&&◌, nat_le, if◌then◌else◌, List, [], ◌∷◌, length, ℤ, pos, ◌-ℤ◌}
+use Rattle.std.specs.Prelude.{Option, Some, None}
 use Rattle.tlv_head.specs.Header.{value_of}
 use Rattle.tlv_value.specs.Bits.{bits_of}
 

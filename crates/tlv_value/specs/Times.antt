@@ -1,5 +1,6 @@
 -- Times as texts: X.680 46 and 47, X.690 11.7 and 11.8.
-use Rattle.std.specs.Prelude.{ℕ, ◌+◌, ◌-◌, ◌*◌, Bool, true, false, ◌&&◌, nat_le, if◌then◌else◌, List, [], ◌∷◌, ◌++◌, flat_map}
+use Rattle.std.specs.Prelude.{ℕ, ◌+◌, ◌-◌, ◌*◌, Bool, true, false, ◌&&◌, nat_le, if◌then◌else◌, List, [], ◌∷◌}
+use Rattle.std.specs.Prelude.{◌++◌, flat_map}
 use Rattle.std.specs.Char.{is_ascii_digit}
 
 -- a form of text, by what may follow a prefix of it: for some octets, each rest that some prefix of the form leaves

@@ -2,7 +2,9 @@
 ghost use Rattle.std.specs.Prelude.{◌≡◌, ◌+◌, ◌≤◌, ◌&&◌, ℕ, List, length, slice_index};
 ghost use Rattle.tlv_head.specs.Header.{HeaderValue, announced_length};
 ghost use Rattle.tlv_value.specs.Types.{type_number};
-ghost use Rattle.tlv_value.specs.ValueCheckState.{value_check_after, findings_in, has_unused_bits, is_allowed, new_value_check, new_value_check_of, with_each, with_front};
+ghost use Rattle.tlv_value.specs.ValueCheckState.{value_check_after, findings_in, has_unused_bits};
+ghost use Rattle.tlv_value.specs.ValueCheckState.{is_allowed, new_value_check, new_value_check_of, with_each};
+ghost use Rattle.tlv_value.specs.ValueCheckState.{with_front};
 ghost use Rattle.tlv_value.specs.Checks.{findings_on_contents, is_padded_integer};
 
 mod characters;

@@ -1,7 +1,9 @@
 //! A short look at all of the contents of a primitive.
-ghost use Rattle.std.specs.Prelude.{◌≡◌, ◌%◌, ◌^◌, ◌&&◌, ◌||◌, ◌==◌, [], IsTrue, eqb, false, length, nat_le, nat_lt, not, slice_index, true};
+ghost use Rattle.std.specs.Prelude.{◌≡◌, ◌%◌, ◌^◌, ◌&&◌, ◌||◌, ◌==◌, [], IsTrue, eqb, false, length, nat_le};
+ghost use Rattle.std.specs.Prelude.{nat_lt, not, slice_index, true};
 ghost use Rattle.tlv_value.specs.Checks.{findings_on_contents, is_padded_after, is_padded_integer, last_octet};
-ghost use Rattle.tlv_value.specs.Private.Checks.{findings_of, general_time_findings, universal_header, utc_time_findings};
+ghost use Rattle.tlv_value.specs.Private.Checks.{findings_of, general_time_findings, universal_header};
+ghost use Rattle.tlv_value.specs.Private.Checks.{utc_time_findings};
 ghost use Rattle.tlv_value.specs.Types.{constructed_types, is_one_of, is_unassigned};
 
 use crate::check::{are_allowed, are_set, is_padded_after, is_well_formed, last_octet};

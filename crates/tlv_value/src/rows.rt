@@ -16,7 +16,7 @@ pub(crate) fn row_size(kind: Kind) -> usize
     }
 }
 
-/// How many of the octets in front have room in a row that has so many already.
+/// How many of the first octets have room in a row that has so many already.
 pub(crate) fn fitting_length(kind: Kind, begun: usize, octets: &[u8]) -> usize
     requires { begun ≤ row_size kind }
     ensures within { result ≤ length octets.now }

@@ -5,7 +5,8 @@ ghost use Rattle.tlv_io.specs.Out.{Puts};
 ghost use Rattle.tlv_value.specs.PutsRest.{PutsRest};
 ghost use Rattle.tlv_value.specs.Value.{row_octets};
 ghost use Rattle.tlv_value.specs.ValueLines.{open_lines, whole_lines};
-ghost use Rattle.tlv_value.specs.ValueTextState.{begin_lines, contents_lines, end_lines, new_value_text_of, new_value_text, state_for, value_text_after};
+ghost use Rattle.tlv_value.specs.ValueTextState.{begin_lines, contents_lines, end_lines, new_value_text_of};
+ghost use Rattle.tlv_value.specs.ValueTextState.{new_value_text, state_for, value_text_after};
 
 use crate::kind::Kind;
 use crate::primitive::Primitive;

@@ -3,7 +3,11 @@
 //! A part of a form is a function that returns what follows the part in front of the octets, or none if they do not
 //! begin with it.
 ghost use Rattle.std.specs.Prelude.{◌≡◌, option_copied, option_to_list};
-ghost use Rattle.tlv_value.specs.Times.{canonical_clock, canonical_fraction, canonical_generalized_time_form, canonical_second, canonical_utc_time_form, day, digits, fraction, general_hour, generalized_time_form, general_zone, has_form, hour, mark, maybe, minute, one, second, sign, two, utc_minute, utc_time_form, utc_zone, ◌or◌, ◌then◌};
+ghost use Rattle.tlv_value.specs.Times.{canonical_clock, canonical_fraction, canonical_generalized_time_form};
+ghost use Rattle.tlv_value.specs.Times.{canonical_second, canonical_utc_time_form, day, digits, fraction};
+ghost use Rattle.tlv_value.specs.Times.{general_hour, generalized_time_form, general_zone, has_form, hour};
+ghost use Rattle.tlv_value.specs.Times.{mark, maybe, minute, one, second, sign, two, utc_minute};
+ghost use Rattle.tlv_value.specs.Times.{utc_time_form, utc_zone, ◌or◌, ◌then◌};
 
 /// Whether the octets are of the grammar of UTCTime: `YYMMDDhhmm`, `ss` or nothing, and `Z`, `+hhmm` or `-hhmm`.
 #[inline(never)]

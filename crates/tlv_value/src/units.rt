@@ -3,7 +3,9 @@ ghost use Rattle.std.specs.List.{list_all};
 ghost use Rattle.std.specs.Prelude.{◌≡◌, ◌+◌, ◌*◌, ◌<◌, ◌≤◌, ◌++◌, false, flat_map, length, slice_index, take, true};
 ghost use Rattle.tlv_io.specs.LineTexts.{AddsIfRoom, HasRoomFor};
 ghost use Rattle.tlv_value.specs.Private.Plain.{ArePlain, IsPart, has_ascii, is_plain};
-ghost use Rattle.tlv_value.specs.Units.{escaped_number, escaped_octet, is_printable, octet_text, printable_text, unit_size, unit_text, units, utf8_number, without_zeros};
+ghost use Rattle.tlv_value.specs.Units.{escaped_number, escaped_octet, is_printable, octet_text};
+ghost use Rattle.tlv_value.specs.Units.{printable_text, unit_size, unit_text, units, utf8_number};
+ghost use Rattle.tlv_value.specs.Units.{without_zeros};
 
 use crate::kind::Kind;
 use crate::rows::utf8_length;
@@ -52,7 +54,7 @@ fn write_units(held: &mut HeldOctets, kind: Kind, row: &[u8])
     }
 }
 
-/// Adds the octets in front that are written as they are, or else a unit. Returns how many octets these are.
+/// Adds the first octets, if they are written as they are, or else a unit. Returns how many octets these are.
 fn write_part(held: &mut HeldOctets, kind: Kind, octets: &[u8]) -> usize
     requires { 1 ≤ length octets.now }
     ensures some { 1 ≤ result }
@@ -222,7 +224,7 @@ fn are_plain(octets: &[u8; ROW]) -> bool
     all
 }
 
-/// How many octets in front are written as they are.
+/// How many of the first octets are written as they are.
 fn plain_size(kind: Kind, octets: &[u8]) -> usize
     ensures within { result ≤ length octets.now }
     ensures plain { ArePlain kind octets.now result }
@@ -240,7 +242,7 @@ fn plain_size(kind: Kind, octets: &[u8]) -> usize
     octets.len()
 }
 
-/// How many octets in front make a unit.
+/// How many of the first octets make a unit.
 fn unit_size(kind: Kind, octets: &[u8]) -> usize
     requires { 1 ≤ length octets.now }
     ensures value { result ≡ unit_size kind octets.now }
@@ -255,7 +257,7 @@ fn unit_size(kind: Kind, octets: &[u8]) -> usize
     }
 }
 
-/// How many octets in front make a unit of UTF8String.
+/// How many of the first octets make a unit of UTF8String.
 fn utf8_size(octets: &[u8]) -> usize
     requires { 1 ≤ length octets.now }
     ensures value { result ≡ unit_size Kind.Utf8 octets.now }

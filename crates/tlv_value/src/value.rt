@@ -5,7 +5,9 @@ ghost use Rattle.tlv_io.specs.LineTexts.{GrowsBy, HasRoomFor};
 ghost use Rattle.tlv_value.specs.Bits.{last_bits};
 ghost use Rattle.tlv_value.specs.Private.PlainText.{plain_text};
 ghost use Rattle.tlv_value.specs.Units.{quoted_text};
-ghost use Rattle.tlv_value.specs.Value.{bit_count, bits_value, boolean_value, digits_of_bits, integer_value, is_long, is_readable, joined_pairs, long_text, most_on_line, row_text, used_digits};
+ghost use Rattle.tlv_value.specs.Value.{bit_count, bits_value, boolean_value, digits_of_bits, integer_value};
+ghost use Rattle.tlv_value.specs.Value.{is_long, is_readable, joined_pairs, long_text, most_on_line};
+ghost use Rattle.tlv_value.specs.Value.{row_text, used_digits};
 
 use crate::decimal::{decimal_of, short_number};
 use crate::kind::Kind;

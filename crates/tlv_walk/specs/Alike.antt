@@ -2,7 +2,8 @@
 use Rattle.std.specs.Prelude.{◌≢◌, List, ℕ}
 use Rattle.tlv_head.specs.Header.{HeaderValue, leading_octet}
 use Rattle.tlv_head.specs.Shortest.{HaveOneTag}
-use Rattle.tlv_walk.specs.Forest.{Forest, NoMore, PaddingOctet, Primitive, Holder, OpenPrimitive, OpenHolder, OpenBitString, OpenHeader, OpenEndOctets}
+use Rattle.tlv_walk.specs.Forest.{Forest, NoMore, PaddingOctet, Primitive, Holder, OpenPrimitive, OpenHolder}
+use Rattle.tlv_walk.specs.Forest.{OpenBitString, OpenHeader, OpenEndOctets}
 
 -- whole elements with the same classes, forms, numbers and contents, one by one: primitives with the same contents
 -- octets, and elements that hold elements alike, with as much padding between them. Offsets, lengths and octets of

@@ -2,13 +2,16 @@
 use Rattle.std.specs.Prelude.{◌≡◌, ◌≢◌, ◌↔◌, ℕ, ◌+◌, ◌<◌, ◌≤◌, true, false, List, [], ◌∷◌, ◌++◌, length}
 use Rattle.tlv_head.specs.declared.fault.Fault.{Fault as FaultOf}
 use Rattle.tlv_head.specs.declared.fault.FaultCode.{FaultCode}
-use Rattle.tlv_head.specs.declared.fault.FaultCode.TheVariants.{Empty, Short, StrayEnd, BadEnd, MissingEnd, TooDeep, Overrun, BadInside}
+use Rattle.tlv_head.specs.declared.fault.FaultCode.TheVariants.{Empty, Short, StrayEnd, BadEnd, MissingEnd}
+use Rattle.tlv_head.specs.declared.fault.FaultCode.TheVariants.{TooDeep, Overrun, BadInside}
 use Rattle.tlv_head.specs.Header.{HeaderValue, announced_length, holds, octets_of}
 use Rattle.tlv_head.specs.Refusal.{IsRefusedOctet}
 use Rattle.tlv_walk.specs.declared.framing.Framing.{Framing}
 use Rattle.tlv_walk.specs.declared.ending.Ending.{Ending}
 use Rattle.tlv_walk.specs.declared.ending.Ending.TheVariants.{Done, Fault}
-use Rattle.tlv_walk.specs.Forest.{Forest, NoMore, PaddingOctet, Primitive, Holder, OpenHolder, OpenBitString, OpenHeader, OpenEndOctets, extent, has_element, is_complete, primitive_extent, spelling}
+use Rattle.tlv_walk.specs.Forest.{Forest, NoMore, PaddingOctet, Primitive, Holder, OpenHolder, OpenBitString}
+use Rattle.tlv_walk.specs.Forest.{OpenHeader, OpenEndOctets, extent, has_element, is_complete}
+use Rattle.tlv_walk.specs.Forest.{primitive_extent, spelling}
 use Rattle.tlv_walk.specs.Place.{Fits, IsHeaderAt, Place, place_after, place_of_children, top_place}
 use Rattle.tlv_walk.specs.Reading.{CannotBecomeSound, IsReading, IsSoundList}
 

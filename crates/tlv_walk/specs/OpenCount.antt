@@ -1,6 +1,7 @@
 -- How many elements that hold others are open.
 use Rattle.std.specs.Prelude.{ℕ, ◌+◌}
-use Rattle.tlv_walk.specs.Forest.{Forest, NoMore, PaddingOctet, Primitive, Holder, OpenPrimitive, OpenHolder, OpenBitString, OpenHeader, OpenEndOctets}
+use Rattle.tlv_walk.specs.Forest.{Forest, NoMore, PaddingOctet, Primitive, Holder, OpenPrimitive, OpenHolder}
+use Rattle.tlv_walk.specs.Forest.{OpenBitString, OpenHeader, OpenEndOctets}
 
 -- 8.1.4: those that have not ended, a wrapping BIT STRING before its first contents octet among them
 abbrev pub open_count : Forest → ℕ

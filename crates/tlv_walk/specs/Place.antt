@@ -1,5 +1,6 @@
 -- Where elements may stand, and what may be open there: X.690 8.1.3, 8.1.4 and 8.1.5.
-use Rattle.std.specs.Prelude.{◌≡◌, ◌≢◌, ℕ, ◌+◌, ◌<◌, ◌≤◌, Bool, true, false, List, [], ◌∷◌, length, Option, Some, None, IfSome}
+use Rattle.std.specs.Prelude.{◌≡◌, ◌≢◌, ℕ, ◌+◌, ◌<◌, ◌≤◌, Bool, true, false, List, [], ◌∷◌, length, Option}
+use Rattle.std.specs.Prelude.{Some, None, IfSome}
 use Rattle.std.specs.Option.{is_none, option_map_or}
 use Rattle.tlv_head.specs.declared.header.Size.{Size}
 use Rattle.tlv_head.specs.declared.header.Size.TheVariants.{Definite}
@@ -7,7 +8,9 @@ use Rattle.tlv_head.specs.Header.{HeaderValue, IsHeader, announced_length, defin
 use Rattle.tlv_head.specs.Refusal.{IsHeaderPrefix}
 use Rattle.tlv_walk.specs.declared.framing.Framing.{Framing}
 use Rattle.tlv_walk.specs.Inside.{is_among}
-use Rattle.tlv_walk.specs.Forest.{Forest, Holder, NoMore, OpenBitString, OpenEndOctets, OpenHeader, OpenHolder, OpenPrimitive, PaddingOctet, Primitive, contents_length, extent, is_complete, lead, opening, primitive_extent}
+use Rattle.tlv_walk.specs.Forest.{Forest, Holder, NoMore, OpenBitString, OpenEndOctets, OpenHeader}
+use Rattle.tlv_walk.specs.Forest.{OpenHolder, OpenPrimitive, PaddingOctet, Primitive, contents_length, extent}
+use Rattle.tlv_walk.specs.Forest.{is_complete, lead, opening, primitive_extent}
 
 -- where a forest is
 pub record Place : Type 0 where

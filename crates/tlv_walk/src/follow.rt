@@ -2,7 +2,8 @@
 ghost use Rattle.std.specs.Prelude.{◌≡◌, true};
 ghost use Rattle.tlv_head.specs.HeaderFields.{IsHeaderSized, new_header};
 ghost use Rattle.tlv_walk.specs.Events.{Bytes, EventValue, Open, Pad};
-ghost use Rattle.tlv_walk.specs.Follow.{Effect, GoesOn, HasEffect, HasEffectOrNone, IsWholeElement, Joins, IgnoresNoOctets, put_if_followed, whole_effect};
+ghost use Rattle.tlv_walk.specs.Follow.{Effect, GoesOn, HasEffect, HasEffectOrNone, IsWholeElement, Joins};
+ghost use Rattle.tlv_walk.specs.Follow.{IgnoresNoOctets, put_if_followed, whole_effect};
 ghost use Rattle.tlv_io.specs.Out.{Puts};
 ghost use Rattle.tlv_walk.specs.HasRead.{event_value_of};
 

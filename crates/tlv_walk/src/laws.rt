@@ -7,7 +7,8 @@ ghost use Rattle.tlv_walk.specs.Ending.{IsEnding};
 ghost use Rattle.tlv_walk.specs.Events.{AreEqualJoined, EventValue, single_octets};
 ghost use Rattle.tlv_walk.specs.Follow.{effect_of};
 ghost use Rattle.tlv_walk.specs.Forest.{Forest, is_complete};
-ghost use Rattle.tlv_walk.specs.Laws.{EventsGoOn, FaultsAreFinal, FaultsAreRight, PrefixesAreOpen, OctetsHaveOneEnding, OctetsHaveOneReading, SpellingsAreExact};
+ghost use Rattle.tlv_walk.specs.Laws.{EventsGoOn, FaultsAreFinal, FaultsAreRight, PrefixesAreOpen};
+ghost use Rattle.tlv_walk.specs.Laws.{OctetsHaveOneEnding, OctetsHaveOneReading, SpellingsAreExact};
 ghost use Rattle.tlv_walk.specs.Place.{IsOpen, top_place};
 ghost use Rattle.tlv_walk.specs.Reading.{IsSound, IsSoundList};
 

@@ -1,5 +1,6 @@
 //! The open elements that hold others.
-ghost use Rattle.std.specs.Prelude.{◌≡◌, ◌≢◌, ◌-◌, ◌^◌, ◌<◌, ◌≤◌, ◌↔◌, ◌∷◌, IfSome, IsTrue, None, [], length, drop, true};
+ghost use Rattle.std.specs.Prelude.{◌≡◌, ◌≢◌, ◌-◌, ◌^◌, ◌<◌, ◌≤◌, ◌↔◌, ◌∷◌, IfSome, IsTrue, None, [], length};
+ghost use Rattle.std.specs.Prelude.{drop, true};
 ghost use Rattle.tlv_walk.specs.Stack.{IsFilled, IsInIndefinite, IsInWrapper, bound_of};
 ghost use Rattle.tlv_walk.specs.Place.{IsWithin};
 ghost use Rattle.tlv_walk.specs.Private.Stack.{frame_inside, room_in, room_to, innermost_wraps};

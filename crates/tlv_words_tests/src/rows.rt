@@ -18,7 +18,7 @@ const ROOM: usize = 50_000;
 pub(crate) enum Way {
     /// Its whole input, in whatever pieces.
     Whole,
-    /// Each front of its input.
+    /// Each prefix of its input.
     Fronts,
     /// Each read fails in turn.
     FailedReads,

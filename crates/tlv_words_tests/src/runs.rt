@@ -1,4 +1,4 @@
-//! Runs of a case over memory: in whatever pieces its octets come, over each front of them, and if a device fails.
+//! Runs of a case over memory: in whatever pieces its octets come, over each prefix of them, and if a device fails.
 use crate::expect::expect_eq;
 use crate::row::{Case, number};
 use crate::{ONES, READ_FAILED, WRITE_FAILED};
@@ -8,7 +8,7 @@ use tlv_run::{Command, Report, run};
 use tlv_value::Names;
 use tlv_walk::{MemDrain, MemSource};
 
-/// The octets of a short input, of which each front is run in whatever pieces.
+/// The octets of a short input, of which each prefix is run in whatever pieces.
 const SHORT: usize = 64;
 
 /// How a source gives its octets, and a drain takes its own.
@@ -135,7 +135,7 @@ fn count_with(case: &Case<'_>, octets: u64) -> Result<Option<u64>, Fail> {
     Ok(Some(count))
 }
 
-/// Expects what was written of so many octets to be what the case says has come with them, and a front of its output.
+/// Expects what was written of so many octets to be what the case says has come with them, and a prefix of its output.
 fn expect_front(
     rt: &impl Abort,
     case: &Case<'_>,
@@ -150,7 +150,7 @@ fn expect_front(
     Ok(())
 }
 
-/// Expects of each front of the input a front of the output; of a short input the same outcome in whatever pieces.
+/// Expects of each prefix of the input a prefix of the output; of a short input the same outcome in whatever pieces.
 pub(crate) fn expect_fronts(
     rt: &impl Abort,
     case: &Case<'_>,

@@ -3,7 +3,9 @@ use Rattle.std.specs.Prelude.{ℕ, ◌≡◌, Bool, true, false, if◌then◌els
 use Rattle.tlv_head.specs.Header.{HeaderValue}
 use Rattle.tlv_value.specs.ValueCheckState.{ValueCheckState}
 use Rattle.tlv_walk.specs.Events.{Begin, Bytes, Close, End, Enter, EventValue, Leave, Open, Pad, Unused}
-use Rattle.tlv_show.specs.FinderState.{OpenPrimitiveState, CheckState, FinderState, without_findings, finder_open_step, finder_begin_step, finder_bytes_step, finder_end_step, finder_close_step}
+use Rattle.tlv_show.specs.FinderState.{OpenPrimitiveState, CheckState, FinderState, without_findings}
+use Rattle.tlv_show.specs.FinderState.{finder_open_step, finder_begin_step, finder_bytes_step}
+use Rattle.tlv_show.specs.FinderState.{finder_end_step, finder_close_step}
 
 -- the primitive that begins at `at`, if one is open
 abbrev pub open_by : Bool → ℕ → ValueCheckState → Option OpenPrimitiveState

@@ -1,7 +1,8 @@
 -- What is asked of the type of an element before more is looked for.
 use Rattle.std.specs.Prelude.{◌≡◌, false, ◌&&◌}
 use Rattle.tlv_head.specs.Header.{HeaderValue}
-use Rattle.tlv_value.specs.Types.{constructed_types, has_segments, is_one_of, is_primitive, is_unassigned, primitive_types}
+use Rattle.tlv_value.specs.Types.{constructed_types, has_segments, is_one_of, is_primitive, is_unassigned}
+use Rattle.tlv_value.specs.Types.{primitive_types}
 
 -- the element is of a type that can have its form, and no constructed string; or of another class
 pub record IsUsual (h : HeaderValue) : Type 0 where

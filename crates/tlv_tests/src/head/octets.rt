@@ -221,7 +221,7 @@ pub(crate) static REFUSALS: [Refusal; 13] = [
         code: FaultCode::TooDeep,
         is_header: true,
     },
-    // Contents that end one octet past the bound.
+    // Contents that end one octet beyond the bound.
     Refusal {
         octets: b"\x04\x02",
         place: Place {

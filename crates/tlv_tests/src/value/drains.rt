@@ -45,7 +45,7 @@ fn failing_call(element: &[u8], letters: usize, drain: &mut MemDrain<'_>) -> Opt
     None
 }
 
-/// Whether the octets are so many letters and the text, or a front of that.
+/// Whether the octets are so many letters and the text, or a prefix of that.
 fn is_front(octets: &[u8], letters: usize, text: &[u8]) -> bool {
     let (before, after) = octets.split_at(letters.min(octets.len()));
     for octet in before {

@@ -97,7 +97,7 @@ pub(super) static BOOLEANS_AND_NULLS: [Row<'static>; 7] = [
     },
 ];
 
-/// OCTET STRINGs, up to a row and past it.
+/// OCTET STRINGs, up to a row and beyond.
 pub(super) static OCTETS: [Row<'static>; 4] = [
     Row {
         element: b"\x04\x81\x03\xaa\xbb\xcc",

@@ -6,7 +6,8 @@ use Rattle.tlv_head.specs.Header.{HeaderValue}
 use Rattle.tlv_value.specs.declared.finding.Finding.{Finding}
 use Rattle.tlv_value.specs.declared.finding.Finding.TheVariants.{B19, S04}
 use Rattle.tlv_value.specs.Checks.{facts_of, finding_if, findings_by, type_conditions}
-use Rattle.tlv_value.specs.Times.{canonical_generalized_time_form, canonical_utc_time_form, generalized_time_form, has_form, utc_time_form}
+use Rattle.tlv_value.specs.Times.{canonical_generalized_time_form, canonical_utc_time_form}
+use Rattle.tlv_value.specs.Times.{generalized_time_form, has_form, utc_time_form}
 
 -- a primitive of the universal type with this number
 abbrev pub universal_header : ℕ → HeaderValue

@@ -1,5 +1,6 @@
 -- What the steps of reading a names file return.
-use Rattle.std.specs.Prelude.{◌≡◌, ℕ, ◌+◌, ◌<◌, ◌≤◌, true, false, List, length, Option, Some, None, Result, Ok, Err, Vec}
+use Rattle.std.specs.Prelude.{◌≡◌, ℕ, ◌+◌, ◌<◌, ◌≤◌, true, false, List, length, Option, Some, None, Result}
+use Rattle.std.specs.Prelude.{Ok, Err, Vec}
 use Rattle.std.specs.Option.{option_map}
 use Rattle.std.specs.Result.{IsOk, IsErrOf}
 use Rattle.std.specs.Ordering.{nat_cmp}
@@ -9,10 +10,12 @@ use Rattle.std.specs.Borrow.{Bor}
 use Rattle.std.specs.BTreeMap.{BTreeMap}
 use Rattle.std.specs.Io.KnownBytes.{IsAtEnd}
 use Rattle.tlv_io.specs.Device.{Pieces, SourceState, failed, gave, octets_given}
-use Rattle.tlv_value.specs.Names.{Entry, Line, NamesTable, entry, has_entry, long_line, most_names, names_of, no_entry, no_name, no_oid}
+use Rattle.tlv_value.specs.Names.{Entry, Line, NamesTable, entry, has_entry, long_line, most_names, names_of}
+use Rattle.tlv_value.specs.Names.{no_entry, no_name, no_oid}
 use Rattle.tlv_value.specs.NamesReading.{IsTooLong, names_failures_after, names_limit}
 use Rattle.tlv_value.specs.declared.names.fault.NamesFault.{NamesFault}
-use Rattle.tlv_value.specs.declared.names.fault.NamesFault.TheVariants.{BadOid, BadName, Repeated, TooLarge, ReadFailed, Memory}
+use Rattle.tlv_value.specs.declared.names.fault.NamesFault.TheVariants.{BadOid, BadName, Repeated, TooLarge}
+use Rattle.tlv_value.specs.declared.names.fault.NamesFault.TheVariants.{ReadFailed, Memory}
 use Rattle.tlv_value.specs.NamesFields.{texts_in, table_in}
 
 abbrev pub texts_of : Result (Option (Bor (List ℕ) × Bor (List ℕ))) NamesFault → Result (Option Entry) NamesFault

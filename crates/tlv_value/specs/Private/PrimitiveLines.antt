@@ -5,7 +5,8 @@ use Rattle.tlv_value.specs.declared.primitive.Primitive.{Primitive}
 use Rattle.tlv_value.specs.Value.{NameOf, short_value}
 use Rattle.tlv_value.specs.Layout.{columns, margin}
 use Rattle.tlv_value.specs.ValueLines.{row_lines}
-use Rattle.tlv_value.specs.ValueTextState.{ValueTextState, begin_lines, contents_lines, end_lines, primitive_line, value_text_after}
+use Rattle.tlv_value.specs.ValueTextState.{ValueTextState, begin_lines, contents_lines, end_lines}
+use Rattle.tlv_value.specs.ValueTextState.{primitive_line, value_text_after}
 
 -- what its line begins with
 abbrev pub front_of : Primitive → List ℕ

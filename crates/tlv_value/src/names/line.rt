@@ -1,7 +1,8 @@
 //! What a line of a names file says.
 ghost use Rattle.std.specs.Prelude.{◌≡◌, ◌==◌, ◌+◌, ◌≤◌, drop, length};
 ghost use Rattle.std.specs.List.{list_all, position_or_len};
-ghost use Rattle.tlv_value.specs.Names.{is_blank, is_name, names_line, without_first_blanks, without_last_blanks, without_outer_blanks, without_return};
+ghost use Rattle.tlv_value.specs.Names.{is_blank, is_name, names_line, without_first_blanks};
+ghost use Rattle.tlv_value.specs.Names.{without_last_blanks, without_outer_blanks, without_return};
 ghost use Rattle.tlv_value.specs.Units.{is_printable};
 ghost use Rattle.tlv_value.specs.Private.NamesSteps.{entry_or_refusal, texts_of};
 

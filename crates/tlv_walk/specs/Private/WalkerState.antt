@@ -1,5 +1,6 @@
 -- What the walker's own functions require and return.
-use Rattle.std.specs.Prelude.{◌≡◌, ◌≢◌, ◌⊎◌, ℕ, ◌+◌, ◌^◌, ◌<◌, ◌≤◌, true, false, eqb, if◌then◌else◌, slice_get, List, [], ◌∷◌, length, take, Option, Some, None}
+use Rattle.std.specs.Prelude.{◌≡◌, ◌≢◌, ◌⊎◌, ℕ, ◌+◌, ◌^◌, ◌<◌, ◌≤◌, true, false, eqb, if◌then◌else◌}
+use Rattle.std.specs.Prelude.{slice_get, List, [], ◌∷◌, length, take, Option, Some, None}
 use Rattle.tlv_head.specs.declared.fault.Fault.{Fault as FaultOf}
 use Rattle.tlv_head.specs.Header.{HeaderValue, IsHeader, announced_length, holds, octets_of}
 use Rattle.tlv_head.specs.HeadReaderState.{HeadReaderState}

@@ -7,7 +7,8 @@ use Rattle.tlv_walk.specs.declared.framing.Framing.{Framing}
 use Rattle.tlv_walk.specs.Phase.{PhaseValue}
 use Rattle.tlv_walk.specs.Phase as phase
 use Rattle.tlv_walk.specs.Events.{AreEqualJoined, Begin, Bytes, Enter, EventValue, events, opening_events}
-use Rattle.tlv_walk.specs.Forest.{Forest, OpenBitString, OpenHeader, OpenEndOctets, has_element, is_complete, opening, spelling}
+use Rattle.tlv_walk.specs.Forest.{Forest, OpenBitString, OpenHeader, OpenEndOctets, has_element, is_complete}
+use Rattle.tlv_walk.specs.Forest.{opening, spelling}
 use Rattle.tlv_walk.specs.Inside.{can_name, is_among}
 use Rattle.tlv_walk.specs.WalkerState.{WalkerState}
 use Rattle.tlv_walk.specs.Private.WalkerState.{wrappers_after}
