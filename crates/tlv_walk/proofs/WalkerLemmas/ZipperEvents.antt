@@ -70,11 +70,11 @@ wrapper_offsets-within w (l ∷ ls) f a =
 -- ---- whole elements in the innermost open one, where each element that is filled ends
 
 -- `closes-filled`, by the fields
-closes-definite : (constructed : Bool) (s : Size) (at : ℕ) → end_octets s ≡ []
-    → (if constructed then Close (end_offset s at) else Leave) ≡ (if not constructed then Leave else Close None)
-closes-definite true (Definite n) at e = refl
-closes-definite true Indefinite at e = absurd (cc)
-closes-definite false s at e = refl
+closes-definite : (constructed : Bool) (s : Size) (offset : ℕ) → end_octets s ≡ []
+    → (if constructed then Close (end_offset s offset) else Leave) ≡ (if not constructed then Leave else Close None)
+closes-definite true (Definite n) offset e = refl
+closes-definite true Indefinite offset e = absurd (cc)
+closes-definite false s offset e = refl
 
 -- the end of an element that is filled is that of its frame
 closes-filled : (p : Place) (h : HeaderValue) (f : Forest) → is_filled h f ≡ true → closing_event h f ≡ filled_end (frame_at p h)

@@ -37,8 +37,8 @@ abbrev pub AwaitsOctet : WalkerState → Type 0
 AwaitsOctet w = AwaitsOctetIn w.phase w.stack w.offset
 
 -- an event was yielded, and the walker stands at this offset
-pub record YieldsAt (old new : WalkerState) (at : ℕ) : Type 0 where
-  pub offset : new.offset ≡ at
+pub record YieldsAt (old new : WalkerState) (offset : ℕ) : Type 0 where
+  pub place : new.offset ≡ offset
   pub events : new.events ≡ old.events + 1
   pub within : new.events ≤ new.offset
   pub after_event : IsAfterEvent new.phase
@@ -108,12 +108,12 @@ CountsAtOnce old new piece rest None = (new ≡ old) × (rest ≡ piece)
 
 -- how many of the named offsets, from the first on, are wrappers' once one was found at this offset
 abbrev pub next_wrapper : List ℕ → ℕ → ℕ → ℕ
-next_wrapper inside k at = option_map_or (λ n. if eqb n at then k + 1 else k) (slice_get inside k) k
+next_wrapper inside k offset = option_map_or (λ n. if eqb n offset then k + 1 else k) (slice_get inside k) k
 
 -- the same, once wrappers were found at these offsets, one after another
 abbrev pub wrappers_after : List ℕ → ℕ → List ℕ → ℕ
 wrappers_after inside k [] = k
-wrappers_after inside k (at ∷ ats) = wrappers_after inside (next_wrapper inside k at) ats
+wrappers_after inside k (offset ∷ offsets) = wrappers_after inside (next_wrapper inside k offset) offsets
 
 -- a header that may stand there, and of which the walker has taken a part at most
 pub record CanEnter (w : WalkerState) (h : HeaderValue) : Type 0 where
@@ -125,23 +125,23 @@ pub record CanEnter (w : WalkerState) (h : HeaderValue) : Type 0 where
 
 -- after a whole header
 abbrev pub after_header : WalkerState → PhaseValue → ℕ → WalkerState
-after_header w phase at = record w { phase = phase; offset = at; events = w.events + 1; has_element = true }
+after_header w phase offset = record w { phase = phase; offset = offset; events = w.events + 1; has_element = true }
 
 -- where a walker stands after a header
 abbrev pub TakesHeader : WalkerState → WalkerState → HeaderFields → ℕ → HeaderKind → Type 0
-TakesHeader old new f at kind.Primitive =
+TakesHeader old new f offset kind.Primitive =
     (fields_hold f ≡ false)
-    × (new ≡ after_header old (InPrimitive (announced_length f.size)) at)
-TakesHeader old new f at kind.Constructed =
+    × (new ≡ after_header old (InPrimitive (announced_length f.size)) offset)
+TakesHeader old new f offset kind.Constructed =
     (f.constructed ≡ true)
-    × (new ≡ record (after_header old Between at) {
-      stack = frame_with at (bound_of old.stack) f.size f.constructed ∷ old.stack;
+    × (new ≡ record (after_header old Between offset) {
+      stack = frame_with offset (bound_of old.stack) f.size f.constructed ∷ old.stack;
     })
-TakesHeader old new f at kind.Wrapper =
+TakesHeader old new f offset kind.Wrapper =
     (f.constructed ≡ false)
     × (fields_wrap f ≡ true)
-    × (new ≡ record (after_header old (if eqb f.number universal.bit_string then InBitString else Between) at) {
-      stack = frame_with at (bound_of old.stack) f.size f.constructed ∷ old.stack;
+    × (new ≡ record (after_header old (if eqb f.number universal.bit_string then InBitString else Between) offset) {
+      stack = frame_with offset (bound_of old.stack) f.size f.constructed ∷ old.stack;
       wrapper_count = next_wrapper old.framing.inside old.wrapper_count f.offset;
     })
 
