@@ -11,7 +11,7 @@ use Rattle.tlv_walk.specs.Events.{AreEqualJoined, EventValue, events}
 use Rattle.tlv_walk.specs.Forest.{Forest}
 use Rattle.tlv_walk.specs.Inside.{can_name, is_among}
 use Rattle.tlv_walk.specs.WalkerState.{WalkerState, first_without_wrapper_in}
-use Rattle.tlv_walk.specs.Private.WalkerState.{next_wrapper, wrappers_after}
+use Rattle.tlv_walk.specs.Private.WrapperCount.{next_wrapper, wrappers_after}
 use Rattle.tlv_walk.specs.Place.{IsOpen, top_place}
 use Rattle.tlv_walk.specs.Stands.{Stands, filled_ends, is_end, waiting_events, waiting_events_in}
 use Rattle.tlv_walk.specs.Wrappers.{first_other, first_without_wrapper, entered_offsets, wrapper_offsets}

@@ -10,7 +10,7 @@ use Rattle.tlv_walk.specs.Forest.{Forest, Holder, NoMore, OpenEndOctets, content
 use Rattle.tlv_walk.specs.Wrappers.{entered_offsets}
 use Rattle.std.proofs.lemmas.Bool.{cases_Bool}
 use Rattle.tlv_walk.specs.WalkerState.{WalkerState}
-use Rattle.tlv_walk.specs.Private.WalkerState.{wrappers_after}
+use Rattle.tlv_walk.specs.Private.WrapperCount.{wrappers_after}
 use Rattle.tlv_walk.specs.Place.{Fits, IsEntry, IsOpen, IsWithin, Place, bound_in, is_indefinite, place_after}
 use Rattle.tlv_walk.proofs.GrammarLemmas.Lengths.{HasLength}
 use Rattle.tlv_walk.specs.Stack.{FrameValue, IsFilled, IsInIndefinite, IsInWrapper, bound_of}
@@ -48,10 +48,10 @@ yielded_closed yielded ls l here whole h =
 closed_whole : (w : WalkerState) (l : Layer) (ls : List Layer) (here : Forest) → AreWhole (place_in w.framing ls) l.before → IsEntry (place_after (place_in w.framing ls) (length (spelling l.before))) true l.header
     → AreWhole (place_in w.framing (l ∷ ls)) here → HasLength l.header.size (contents_length l.header here) → Fits (place_after (place_in w.framing ls) (length (spelling l.before))) (extent l.header here)
     → AreWhole (place_in w.framing ls) (closed_here l here)
-closed_whole w l ls here before entry inside filled fits = record {
-  is_open = open-followed_by (place_in w.framing ls) l.before (Holder l.header here NoMore) before
+closed_whole w l ls here earlier entry inside filled fits = record {
+  is_open = open-followed_by (place_in w.framing ls) l.before (Holder l.header here NoMore) earlier
       ((record { header = entry.header; depth = entry.depth; fits = fits }, inside.whole, filled), inside.is_open, tt);
-  whole = whole-followed_by l.before (Holder l.header here NoMore) before.whole;
+  whole = whole-followed_by l.before (Holder l.header here NoMore) earlier.whole;
 }
 
 -- the state of a walker whose innermost element ends with these octets
@@ -214,13 +214,13 @@ within_less (Some k) m n h w = omega (arith, h, w)
 pub yields_both : (w : WalkerState) → w.phase ≡ phase.Between → IsInIndefinite w.stack → IsWithin (bound_of w.stack) (w.offset + 2)
     → Continues w (record w { stack = drop 1 w.stack; offset = w.offset + 2; events = w.events + 1 }) (0 ∷ 0 ∷ []) (Close (Some w.offset) ∷ [])
 yields_both w e inside fits =
-    let mid : WalkerState = record w { phase = phase.InEndOctets; offset = w.offset + 1 } in
+    let middle : WalkerState = record w { phase = phase.InEndOctets; offset = w.offset + 1 } in
     let room : IsWithin (bound_of w.stack) (w.offset + 1) = within_less (bound_of w.stack) (w.offset + 1) (w.offset + 2) (omega arith) fits in
     let two : w.offset + 1 + 1 ≡ w.offset + 2 = omega arith in
     let one : w.offset + 1 - 1 ≡ w.offset = omega arith in
     let new : WalkerState = record w { stack = drop 1 w.stack; phase = phase.Between; offset = w.offset + 1 + 1; events = w.events + 1 } in
     let both : Continues w new (0 ∷ 0 ∷ []) (Close (Some (w.offset + 1 - 1)) ∷ []) =
-    continues_both w mid new (0 ∷ []) (0 ∷ []) [] (Close (Some (w.offset + 1 - 1)) ∷ []) (yields_zero w e inside room)
-    (yields_second mid refl (subst (IsWithin (bound_of w.stack)) (sym two) fits)) in
+    continues_both w middle new (0 ∷ []) (0 ∷ []) [] (Close (Some (w.offset + 1 - 1)) ∷ []) (yields_zero w e inside room)
+    (yields_second middle refl (subst (IsWithin (bound_of w.stack)) (sym two) fits)) in
     subst (λ (m : WalkerState). Continues w m (0 ∷ 0 ∷ []) (Close (Some w.offset) ∷ [])) (λ i. record w { stack = drop 1 w.stack; phase = sym e i; offset = two i; events = w.events + 1 })
     (subst (λ (n : ℕ). Continues w new (0 ∷ 0 ∷ []) (Close (Some n) ∷ [])) one both)

@@ -15,7 +15,8 @@ use Rattle.tlv_walk.specs.Events.{Begin, Enter, EventValue, Open}
 use Rattle.tlv_walk.specs.Forest.{NoMore, lead}
 use Rattle.tlv_walk.specs.WalkerState.{WalkerState}
 use Rattle.tlv_walk.specs.Private.Stack.{frame_with}
-use Rattle.tlv_walk.specs.Private.WalkerState.{CanEnter, TakesHeader, after_header, next_wrapper, wrappers_after}
+use Rattle.tlv_walk.specs.Private.WalkerState.{CanEnter, TakesHeader, after_header}
+use Rattle.tlv_walk.specs.Private.WrapperCount.{next_wrapper, wrappers_after}
 use Rattle.tlv_walk.specs.Wrappers.{entered_offsets}
 use Rattle.tlv_walk.specs.Inside.{is_among}
 use Rattle.tlv_walk.specs.Stack.{FrameValue, bound_of}

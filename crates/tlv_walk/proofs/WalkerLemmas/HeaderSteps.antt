@@ -17,7 +17,8 @@ use Rattle.tlv_walk.specs.Phase as phase
 use Rattle.tlv_walk.specs.Events.{EventValue}
 use Rattle.tlv_walk.specs.declared.framing.Framing.{Framing}
 use Rattle.tlv_walk.specs.WalkerState.{WalkerState}
-use Rattle.tlv_walk.specs.Private.WalkerState.{CanEnter, TakesHeader, wrappers_after}
+use Rattle.tlv_walk.specs.Private.WalkerState.{CanEnter, TakesHeader}
+use Rattle.tlv_walk.specs.Private.WrapperCount.{wrappers_after}
 use Rattle.tlv_walk.specs.Wrappers.{entered_offsets}
 use Rattle.tlv_walk.specs.Private.ReadsOn.{HandsOver, YieldsHeader}
 use Rattle.tlv_walk.specs.Stack.{bound_of}

@@ -1,13 +1,11 @@
 -- Whether an event waits, by the code's tests and by the list of those that do.
 use Rattle.std.proofs.Common.{◌≡◌, ℕ, Bool, true, false, eqb, if◌then◌else◌, List, [], ◌∷◌, Option, Some, None, refl, ap, ◌∙◌, ne_eqb, eq-eqb, IsTrue, ◌↔◌}
-use Rattle.tlv_head.specs.declared.fault.Fault.{Fault}
 use Rattle.tlv_walk.specs.Phase.{PhaseValue}
 use Rattle.tlv_walk.specs.Phase as phase
 use Rattle.tlv_walk.specs.Events.{End, EventValue}
 use Rattle.tlv_walk.specs.WalkerState.{WalkerState}
-use Rattle.tlv_walk.specs.Private.WalkerState.{AwaitsOctet, AwaitsOctetIn}
 use Rattle.tlv_walk.specs.Stack.{FrameValue, IsFilled}
-use Rattle.tlv_walk.specs.Stands.{CanTake, IsIdle, filled_end, filled_ends, is_end, waiting_events, waiting_events_in}
+use Rattle.tlv_walk.specs.Stands.{IsIdle, filled_end, filled_ends, is_end, waiting_events, waiting_events_in}
 
 -- an event is to come that needs no further octet: not `IsIdle`, by phase
 abbrev pub EventWaitsIn : PhaseValue → List FrameValue → ℕ → Type 0
@@ -62,36 +60,3 @@ idle w n i = loud_in w.phase w.stack w.offset i n
 pub waits : (w : WalkerState) (k : Bool) → IsTrue k ↔ EventWaits w → (k ≡ false) ↔ IsIdle w
 waits w true h = (λ e. absurd (cc (e)), λ n. absurd (idle w n (h.0 refl)))
 waits w false h = (λ e. quiet w (λ i. cc (h.1 i)), λ n. refl)
-
--- ---- whether an octet can be taken
-
-awaits_none : (f : PhaseValue) (stack : List FrameValue) (offset : ℕ) → AwaitsOctetIn f stack offset → EventWaitsIn f stack offset → ⊥
-awaits_none phase.Between stack offset r i = r i
-awaits_none (phase.InPrimitive left) stack offset r i = r i
-awaits_none (phase.InHeader p) stack offset r i = i
-awaits_none phase.InBitString stack offset r i = i
-awaits_none phase.InEndOctets stack offset r i = i
-awaits_none (phase.Refused f) stack offset r i = i
-
-awaits_unfailed : (p : PhaseValue) (stack : List FrameValue) (offset : ℕ) → AwaitsOctetIn p stack offset → (f : Fault) → p ≡ phase.Refused f → ⊥
-awaits_unfailed phase.Between stack offset r f e = cc
-awaits_unfailed (phase.InPrimitive left) stack offset r f e = cc
-awaits_unfailed (phase.InHeader p) stack offset r f e = cc
-awaits_unfailed phase.InBitString stack offset r f e = cc
-awaits_unfailed phase.InEndOctets stack offset r f e = cc
-awaits_unfailed (phase.Refused g) stack offset r f e = r
-
-takes_in : (p : PhaseValue) (stack : List FrameValue) (offset : ℕ) → waiting_events_in p stack offset ≡ [] → ((f : Fault) → p ≡ phase.Refused f → ⊥) → AwaitsOctetIn p stack offset
-takes_in phase.Between stack offset n u = λ i. loud_in phase.Between stack offset i n
-takes_in (phase.InPrimitive left) stack offset n u = λ i. loud_in (phase.InPrimitive left) stack offset i n
-takes_in (phase.InHeader p) stack offset n u = tt
-takes_in phase.InBitString stack offset n u = tt
-takes_in phase.InEndOctets stack offset n u = tt
-takes_in (phase.Refused f) stack offset n u = u f refl
-
--- what the phase says, and what it means
-pub awaits-can_take : (w : WalkerState) → AwaitsOctet w → CanTake w
-awaits-can_take w r = (quiet w (awaits_none w.phase w.stack w.offset r), awaits_unfailed w.phase w.stack w.offset r)
-
-pub can_take-awaits : (w : WalkerState) → CanTake w → AwaitsOctet w
-can_take-awaits w k = takes_in w.phase w.stack w.offset k.0 k.1

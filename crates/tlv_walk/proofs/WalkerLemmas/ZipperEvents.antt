@@ -81,9 +81,9 @@ closes-filled : (p : Place) (h : HeaderValue) (f : Forest) → is_filled h f ≡
 closes-filled p h f e = let full : IsFull h.size (contents_length h f) = filled-full h f e in closes-definite h.constructed h.size _ full.ends
 
 -- events of layers, of whole elements in the innermost, and of its end
-regroup-end : (around before start inside ends : List EventValue) (c d : EventValue) → c ≡ d
-    → (around ++ (before ++ (start ++ (inside ++ c ∷ [])))) ++ ends ≡ ((around ++ (before ++ start)) ++ inside) ++ (d ∷ ends)
-regroup-end around before start inside ends c d e = rw e (simp append_assoc)
+regroup-end : (around earlier start inside ends : List EventValue) (c d : EventValue) → c ≡ d
+    → (around ++ (earlier ++ (start ++ (inside ++ c ∷ [])))) ++ ends ≡ ((around ++ (earlier ++ start)) ++ inside) ++ (d ∷ ends)
+regroup-end around earlier start inside ends c d e = rw e (simp append_assoc)
 
 -- their events, after those of the layers, and then the ends of the elements that are filled
 pub events-settled : (w : Framing) (ls : List Layer) (f : Forest) → AreLayers w ls → AreWhole (place_in w ls) f

@@ -10,7 +10,7 @@ use Rattle.tlv_walk.specs.Phase as phase
 use Rattle.tlv_walk.specs.Events.{AreEqualJoined, Begin, Bytes, End, EventValue, events, single_octets}
 use Rattle.tlv_walk.specs.Forest.{Forest, NoMore, Primitive, OpenPrimitive, OpenBitString, OpenHeader, OpenEndOctets, is_complete, spelling}
 use Rattle.tlv_walk.specs.WalkerState.{WalkerState, new_walker}
-use Rattle.tlv_walk.specs.Private.WalkerState.{wrappers_after}
+use Rattle.tlv_walk.specs.Private.WrapperCount.{wrappers_after}
 use Rattle.tlv_walk.specs.Place.{IsOpen, Place, place_after, top_place}
 use Rattle.tlv_walk.specs.Reading.{IsReading}
 use Rattle.tlv_walk.specs.Stands.{Stands, filled_ends, waiting_events, waiting_events_in}
@@ -157,9 +157,9 @@ reading-wrappers w ls here (InHeader octets) a i j = open-wrappers w ls here (Op
 reading-wrappers w ls here InEndOctets a i j = open-wrappers w ls here OpenEndOctets a i
 
 -- a primitive's end, yielded after what has been yielded of it
-contents-end : (around before ends : List EventValue) (h : HeaderValue) (c : List ℕ)
-    → (around ++ (before ++ (Begin h ∷ Bytes c ∷ []))) ++ (End ∷ ends) ≡ (around ++ (before ++ (Begin h ∷ Bytes c ∷ End ∷ []))) ++ ends
-contents-end around before ends h c = simp append_assoc
+contents-end : (around earlier ends : List EventValue) (h : HeaderValue) (c : List ℕ)
+    → (around ++ (earlier ++ (Begin h ∷ Bytes c ∷ []))) ++ (End ∷ ends) ≡ (around ++ (earlier ++ (Begin h ∷ Bytes c ∷ End ∷ []))) ++ ends
+contents-end around earlier ends h c = simp append_assoc
 
 -- its events are the state's, and then those waiting
 reading-events : (w : Framing) (ls : List Layer) (here : Forest) (f : PhaseValue) (t : Tail) (offset : ℕ) → AreLayers w ls → AreWhole (place_in w ls) here → IsPhaseOf f t (later_place w ls here)
