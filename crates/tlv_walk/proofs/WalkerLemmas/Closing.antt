@@ -19,7 +19,7 @@ use Rattle.tlv_walk.specs.Private.Yields.{Continues}
 use Rattle.tlv_walk.specs.Private.Zipper.{AreWhole, Between, HasZipper, InEndOctets, Layer, Tail, Zipper, events_of_layers, events_of_tail, frame_at, frames_of, place_in, place_of, spelling_of_layers, spelling_of_tail}
 use Rattle.tlv_walk.specs.Stands.{filled_end}
 use Rattle.tlv_walk.proofs.WalkerLemmas.Moves.{began, between_tail, closed_here, continues_both, lone_tail, phase_at, tail_state, yields_zero, yielded_more, with_layers, with_tail}
-use Rattle.tlv_walk.proofs.WalkerLemmas.Places.{definite-size, place-offset}
+use Rattle.tlv_walk.proofs.WalkerLemmas.Places.{definite-size, walker-offset}
 use Rattle.tlv_walk.proofs.GrammarLemmas.Spellings.{length-opening}
 use Rattle.tlv_walk.proofs.WalkerLemmas.Zipper.{open-followed_by, spelling-followed_by, whole-followed_by}
 use Rattle.tlv_walk.proofs.WalkerLemmas.ZipperEvents.{events-followed_by}
@@ -99,7 +99,7 @@ second_from w b yielded s [] has zero room = absurd (true≢false (sym zero.0))
 second_from w b yielded s (l ∷ ls) has zero room =
     let p : Place = place_after (place_in w.framing ls) (length (spelling l.before)) in
     let size : l.header.size ≡ Indefinite = size_indefinite l.header.size zero.0 in
-    let at : w.offset ≡ (place_of w.framing (with_layers s (l ∷ ls) InEndOctets)).offset + 1 = place-offset w b yielded _ has in
+    let at : w.offset ≡ (place_of w.framing (with_layers s (l ∷ ls) InEndOctets)).offset + 1 = walker-offset w b yielded _ has in
     let header : l.header.offset ≡ p.offset = has.layers.2.header.offset in
     let k : l.header.constructed ≡ true = constructed_indefinite l.header.constructed l.header.size size has.layers.2.header.valid.allowed in
     let ends : end_octets l.header.size ≡ 0 ∷ 0 ∷ [] = ap end_octets size in
@@ -142,7 +142,7 @@ filled_from w b yielded s (l ∷ ls) has e f fs is full =
     let p : Place = place_after (place_in w.framing ls) (length (spelling l.before)) in
     let same : f ≡ frame_at p l.header = head_frame f (frame_at p l.header) fs (frames_of w.framing ls) (sym is ∙ has.stack) in
     let size : (n : ℕ) × (l.header.size ≡ Definite n) × (p.offset + length (octets_of l.header) + n ≡ w.offset) = definite-size l.header.size _ w.offset (sym (ap (λ (g : FrameValue). g.end) same) ∙ full) in
-    let at : w.offset ≡ (place_of w.framing (with_layers s (l ∷ ls) Between)).offset + 0 = place-offset w b yielded _ has in
+    let at : w.offset ≡ (place_of w.framing (with_layers s (l ∷ ls) Between)).offset + 0 = walker-offset w b yielded _ has in
     let long : contents_length l.header s.here ≡ size.0 = omega (arith, size.2, at, length-opening l.header) in
     let none : end_octets l.header.size ≡ [] = ap end_octets size.1 in
     let zero : length (end_octets l.header.size) ≡ 0 = ap length none in

@@ -15,7 +15,7 @@ use Rattle.tlv_walk.specs.Stack.{FrameValue, bound_of}
 use Rattle.tlv_walk.specs.Private.Zipper.{InBitString, Between, HasZipper, InPrimitive, InEndOctets, InHeader, IsPhaseOf, Layer, Tail, Zipper, events_of_layers, events_of_tail, frame_at, frames_of, place_in, place_of, spelling_of_layers, spelling_of_tail}
 use Rattle.tlv_walk.specs.Private.Yields.{Continues}
 use Rattle.tlv_walk.proofs.WalkerLemmas.Moves.{between_tail, phase_at, spelled_after, tail_state, yielded_after, with_tail}
-use Rattle.tlv_walk.proofs.WalkerLemmas.Places.{place-bound, place-depth, place-inside, place-offset}
+use Rattle.tlv_walk.proofs.WalkerLemmas.Places.{place-bound, place-depth, place-inside, walker-offset}
 
 -- a walker that stands at a header, or after the octets of one that the reader has
 pub record AtHeader (w : WalkerState) (b : List ℕ) (yielded : List EventValue) (s : Zipper) (r : HeadReaderState) : Type 0 where
@@ -31,7 +31,7 @@ pub at_new : (w : WalkerState) (b : List ℕ) (yielded : List EventValue) (s : Z
 at_new w b yielded s r has e none at named =
     let t : s.tail ≡ Between = between_tail s.tail _ (phase_at w b yielded s _ e has) in
     let has' : HasZipper w b yielded (with_tail s Between) = tail_state w b yielded s _ t has in
-    let place : w.offset ≡ (place_of w.framing (with_tail s Between)).offset + 0 = place-offset w b yielded _ has' in
+    let place : w.offset ≡ (place_of w.framing (with_tail s Between)).offset + 0 = walker-offset w b yielded _ has' in
     record {
       has = has';
       octets = sym none;
@@ -106,7 +106,7 @@ quiet_yielded w b yielded s r at = subst (λ (es : List EventValue). AreEqualJoi
 header_end : (w : WalkerState) (b : List ℕ) (yielded : List EventValue) (s : Zipper) (r : HeadReaderState) (t : List ℕ) (h : HeaderValue) → AtHeader w b yielded s r → Completed w r t h
     → h.offset + length (octets_of h) ≡ length (b ++ t)
 header_end w b yielded s r t h at c =
-    omega (arith, c.offset, at.offset, ap length c.octets, ap length at.octets, length-append r.octets t, length-append b t, at.has.offset, place-offset w b yielded s at.has)
+    omega (arith, c.offset, at.offset, ap length c.octets, ap length at.octets, length-append r.octets t, length-append b t, at.has.offset, walker-offset w b yielded s at.has)
 
 -- a primitive begins
 pub primitive_state : (w : WalkerState) (b : List ℕ) (yielded : List EventValue) (s : Zipper) (r : HeadReaderState) (t : List ℕ) (h : HeaderValue) (n : ℕ) → AtHeader w b yielded s r → Completed w r t h
@@ -228,7 +228,7 @@ front_state w b yielded s r q t at o f n some front fits =
     let place : q.offset ≡ (place_of w.framing s).offset = f ∙ at.offset in
     record {
       spelled = spelled_after s.layers s.here (spelling_of_tail s.tail) q.octets t b (o ∙ ap (λ (x : List ℕ). x ++ t) (sym at.octets)) at.has.spelled;
-      offset = omega (arith, f, at.offset, ap length o, ap length at.octets, length-append r.octets t, length-append b t, at.has.offset, place-offset w b yielded s at.has);
+      offset = omega (arith, f, at.offset, ap length o, ap length at.octets, length-append r.octets t, length-append b t, at.has.offset, walker-offset w b yielded s at.has);
       stack = at.stack;
       layers = at.has.layers;
       here = at.has.here;

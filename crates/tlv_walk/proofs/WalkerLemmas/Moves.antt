@@ -19,7 +19,7 @@ use Rattle.tlv_walk.specs.Private.Zipper.{AreWhole, InBitString, Between, HasZip
 use Rattle.tlv_walk.specs.Private.Yields.{Continues}
 use Rattle.tlv_walk.proofs.EventLemmas.Joined.{apart-before, apart-from_joined, apart-more, joined-from_apart}
 use Rattle.tlv_walk.proofs.GrammarLemmas.Spellings.{append_assoc-3}
-use Rattle.tlv_walk.proofs.WalkerLemmas.Places.{indefinite-size, place-offset}
+use Rattle.tlv_walk.proofs.WalkerLemmas.Places.{indefinite-size, walker-offset}
 use Rattle.tlv_walk.proofs.WalkerLemmas.Zipper.{followed_by, open-followed_by, spelling-followed_by, whole-followed_by}
 use Rattle.tlv_walk.proofs.WalkerLemmas.ZipperEvents.{events-followed_by}
 
@@ -234,7 +234,7 @@ yields_zero w e i f = record {
     zero_from w b yielded s (l ∷ ls) q has i f =
         let inside : IsInIndefinite (frames_of w.framing (l ∷ ls)) = subst IsInIndefinite has.stack i in
         let fits : IsWithin (place_in w.framing (l ∷ ls)).bound (w.offset + 1) = subst (λ (fs : List FrameValue). IsWithin (bound_of fs) (w.offset + 1)) has.stack f in
-        let at : w.offset ≡ (place_of w.framing (with_layers s (l ∷ ls) Between)).offset + 0 = place-offset w b yielded _ has in (
+        let at : w.offset ≡ (place_of w.framing (with_layers s (l ∷ ls) Between)).offset + 0 = walker-offset w b yielded _ has in (
           _,
           zero_state w b yielded s l ls has (indefinite-size l.header.size _ inside)
               (subst (λ (n : ℕ). IsWithin (place_in w.framing (l ∷ ls)).bound n) (omega (arith, at)) fits),

@@ -1,5 +1,5 @@
 -- A walker's state is an open forest, seen from its open end.
-use Rattle.std.proofs.Common.{◌≡◌, ◌↔◌, ℕ, ◌+◌, Bool, true, false, cond, ◌||◌, eqb, List, [], ◌∷◌, ◌++◌, length, None, refl, sym, ap, ◌∙◌, subst, arith, append_assoc, length-append}
+use Rattle.std.proofs.Common.{◌≡◌, ◌↔◌, ℕ, ◌+◌, Bool, true, false, cond, ◌||◌, eqb, List, [], ◌∷◌, ◌++◌, length, None, refl, sym, ap, ◌∙◌, subst, arith, append_assoc}
 use Rattle.std.proofs.lemmas.Bool.{true≢false}
 use Rattle.tlv_head.specs.declared.header.Size.{Size}
 use Rattle.tlv_head.specs.declared.header.Size.TheVariants.{Definite, Indefinite}
@@ -9,7 +9,7 @@ use Rattle.tlv_walk.specs.Ending.{tip}
 use Rattle.tlv_walk.specs.Forest.{Forest, Holder, NoMore, OpenBitString, OpenEndOctets, OpenHeader, OpenHolder, OpenPrimitive, PaddingOctet, Primitive, contents_length, end_octets, extent, has_element, is_complete, opening, spelling}
 use Rattle.tlv_walk.specs.Place.{Fits, IsOpen, Place, bound_in, is_indefinite, place_after, top_place}
 use Rattle.tlv_walk.proofs.GrammarLemmas.Lengths.{LacksOctets}
-use Rattle.tlv_walk.specs.Stack.{IsInIndefinite, bound_of}
+use Rattle.tlv_walk.specs.Stack.{IsInIndefinite}
 use Rattle.tlv_walk.specs.Private.Zipper.{AreLayers, AreWhole, InBitString, Between, InPrimitive, InEndOctets, InHeader, Layer, Tail, Zipper, frames_of, place_in, spelling_of_layers}
 use Rattle.tlv_walk.proofs.GrammarLemmas.Bounds.{fits-inside}
 use Rattle.tlv_walk.proofs.GrammarLemmas.PushSteps.{is_filled}
@@ -165,22 +165,6 @@ tip-whole p f e = ap (λ (g : Forest). tip p g) (sym (followed_by-none f)) ∙ t
 
 -- ---- where the elements in the innermost open element begin
 
--- after the octets of the layers
-pub place-at : (w : Framing) (ls : List Layer) → (place_in w ls).offset ≡ length (spelling_of_layers ls)
-place-at w [] = refl
-place-at w (l ∷ ls) =
-    omega (arith, place-at w ls, length-append (spelling_of_layers ls) (spelling l.before ++ opening l.header), length-append (spelling l.before) (opening l.header))
-
--- in as many elements as there are layers
-pub place-depth : (w : Framing) (ls : List Layer) → (place_in w ls).depth ≡ length ls
-place-depth w [] = refl
-place-depth w (l ∷ ls) = omega (arith, place-depth w ls)
-
--- with the bound of the innermost frame
-pub place-bound : (w : Framing) (ls : List Layer) → (place_in w ls).bound ≡ bound_of (frames_of w ls)
-place-bound w [] = refl
-place-bound w (l ∷ ls) = refl
-
 -- an indefinite length has no end that is known
 indefinite-endless : (s : Size) (start : ℕ) → (is_indefinite s ≡ true) ↔ (bound_in s start None ≡ None)
 indefinite-endless (Definite n) start = (λ e. absurd (cc), λ e. absurd (cc))
@@ -197,11 +181,6 @@ place-padding-top w = refl
 
 pub place-padding-inside : (w : Framing) (l : Layer) (ls : List Layer) → (place_in w (l ∷ ls)).padding ≡ false
 place-padding-inside w l ls = refl
-
--- with the offsets that the user named
-pub place-inside : (w : Framing) (ls : List Layer) → (place_in w ls).inside ≡ w.inside
-place-inside w [] = refl
-place-inside w (l ∷ ls) = place-inside w ls
 
 -- not past the bound
 pub layers-fit : (w : Framing) (ls : List Layer) → AreLayers w ls → Fits (place_in w ls) 0

@@ -19,7 +19,8 @@ use Rattle.tlv_walk.proofs.GrammarLemmas.Faults.{fault-refused}
 use Rattle.tlv_walk.proofs.GrammarLemmas.PushSteps.{Spells}
 use Rattle.tlv_walk.proofs.GrammarLemmas.Readings.{IsHalt}
 use Rattle.tlv_walk.proofs.GrammarLemmas.Settled.{end_in, settled-within}
-use Rattle.tlv_walk.proofs.WalkerLemmas.ZipperReading.{contents-less, later_place, state-offset, state-reading, state-spells}
+use Rattle.tlv_walk.proofs.WalkerLemmas.Places.{walker-offset}
+use Rattle.tlv_walk.proofs.WalkerLemmas.ZipperReading.{contents-less, later_place, state-reading, state-spells}
 use Rattle.tlv_walk.proofs.WalkerLemmas.Zipper.{followed_by, followed_by-none, reading_in, reading_of, tip-followed_by, tip-within, whole-followed_by, whole-within, within}
 
 -- what is open after the whole elements, as a forest: of a primitive, one that lacks contents octets
@@ -49,7 +50,7 @@ reading-within w ls here f t offset j e n = absurd j
 -- so what a walker with nothing waiting has read is its layers, its whole elements and what is open
 pub state-within : (w : WalkerState) (b : List ℕ) (yielded : List EventValue) (s : Zipper) → HasZipper w b yielded s → (EventWaits w → ⊥) → reading_of s ≡ within s.layers (followed_by s.here (forest_of s.tail))
 state-within w b yielded s h n =
-    reading-within w.framing s.layers s.here w.phase s.tail w.offset h.phase (state-offset w b yielded s h)
+    reading-within w.framing s.layers s.here w.phase s.tail w.offset h.phase (walker-offset w b yielded s h)
     (λ i. n (subst (λ (stack : List FrameValue). EventWaitsIn w.phase stack w.offset) (sym h.stack) i))
 
 -- ---- the open end

@@ -23,7 +23,8 @@ use Rattle.tlv_walk.proofs.GrammarLemmas.Bounds.{within-le}
 use Rattle.tlv_walk.proofs.GrammarLemmas.PushSteps.{Spells}
 use Rattle.tlv_walk.proofs.GrammarLemmas.Readings.{Going, run-reading}
 use Rattle.tlv_walk.proofs.GrammarLemmas.Settled.{end_in, settled-spells}
-use Rattle.tlv_walk.proofs.WalkerLemmas.Zipper.{followed_by, open-followed_by, open-within, place-at, reading_in, reading_of, room-if_open, settled, spelling-followed_by, spelling-within, whole-followed_by, within}
+use Rattle.tlv_walk.proofs.WalkerLemmas.Places.{walker-offset}
+use Rattle.tlv_walk.proofs.WalkerLemmas.Zipper.{followed_by, open-followed_by, open-within, reading_in, reading_of, room-if_open, settled, spelling-followed_by, spelling-within, whole-followed_by, within}
 use Rattle.tlv_walk.proofs.WalkerLemmas.ZipperEvents.{events-followed_by, events-settled, events-within, wrapper_offsets-followed_by, wrapper_offsets-settled, wrapper_offsets-within}
 
 -- after the whole elements of the innermost open one
@@ -182,11 +183,6 @@ reading-events w ls here f t offset a i j e = absurd j
 
 -- ---- of a walker
 
--- the walker has taken the octets up to the open end, and those of what is open
-pub state-offset : (w : WalkerState) (b : List ℕ) (yielded : List EventValue) (s : Zipper) → HasZipper w b yielded s → w.offset ≡ (place_of w.framing s).offset + length (spelling_of_tail s.tail)
-state-offset w b yielded s h =
-    omega (arith, h.offset, ap length h.spelled, place-at w.framing s.layers, length-append (spelling_of_layers s.layers) (spelling s.here ++ spelling_of_tail s.tail), length-append (spelling s.here) (spelling_of_tail s.tail))
-
 -- what its state has been read as is open, with the octets taken
 pub state-spells : (w : WalkerState) (b : List ℕ) (yielded : List EventValue) (s : Zipper) → HasZipper w b yielded s → Spells (top_place w.framing) b (reading_of s)
 state-spells w b yielded s h =
@@ -203,7 +199,7 @@ pub state-events : (w : WalkerState) (b : List ℕ) (yielded : List EventValue) 
 state-events w b yielded s h =
     let all : events_of_zipper s ++ waiting_events w ≡ events (reading_of s) =
     ap (λ (stack : List FrameValue). events_of_zipper s ++ waiting_events_in w.phase stack w.offset) h.stack
-    ∙ reading-events w.framing s.layers s.here w.phase s.tail w.offset h.layers h.here h.phase (state-offset w b yielded s h) in
+    ∙ reading-events w.framing s.layers s.here w.phase s.tail w.offset h.layers h.here h.phase (walker-offset w b yielded s h) in
     joined-from_apart (yielded ++ waiting_events w) (events (reading_of s))
     (apart-before yielded (events_of_zipper s) (waiting_events w) (apart-from_joined yielded (events_of_zipper s) h.same_events) ∙ ap single_octets all)
 
