@@ -3,10 +3,10 @@ ghost use Rattle.std.specs.Prelude.{◌≡◌, length};
 ghost use Rattle.tlv_head.specs.Header.{announced_length};
 ghost use Rattle.tlv_walk.specs.HasRead.{event_value_of};
 ghost use Rattle.tlv_show.specs.FinderState.{finder_at_value, finder_begin_step, finder_bytes_step};
-ghost use Rattle.tlv_show.specs.FinderState.{finder_close_step, finder_end_step, finder_inside};
-ghost use Rattle.tlv_show.specs.FinderState.{finder_open_step, new_finder, segments_in, surroundings_in};
-ghost use Rattle.tlv_show.specs.FinderState.{with_findings, without_findings};
-ghost use Rattle.tlv_show.specs.Found.{end_findings, header_findings};
+ghost use Rattle.tlv_show.specs.FinderState.{finder_close_step, finder_end_step, finder_open_step};
+ghost use Rattle.tlv_show.specs.FinderState.{header_findings_in, new_finder, with_findings, without_findings};
+ghost use Rattle.tlv_show.specs.Found.{end_findings};
+ghost use Rattle.tlv_show.specs.NestingState.{segments_in};
 ghost use Rattle.tlv_show.specs.Private.FinderState.{PassesOrStays, ReportsFindings, finder_step, with_state};
 
 use crate::Rules;
@@ -51,8 +51,7 @@ impl Model for Finder {
     ghost view = { λ f. record {
       state = record {
         rules = f.rules;
-        frame = f.holders.frame;
-        outer = f.holders.outer;
+        holders = f.holders;
         value = open_by f.is_open f.at f.check;
         count = f.count;
       };
@@ -156,9 +155,8 @@ impl Finder {
     #[inline(always)]
     fn header(&mut self, header: &Header) -> bool
         ensures { ReportsFindings
-            (with_findings self.old.state (length self.old.state.outer) header.now.offset
-            (header_findings self.old.state.rules
-            (surroundings_in self.old.state.frame) header.now))
+            (with_findings self.old.state (length self.old.state.holders.outer) header.now.offset
+            (header_findings_in self.old.state header.now))
             self.new result }
     {
         if has_no_header_findings(self.rules, self.holders.frame(), header) {
@@ -172,9 +170,8 @@ impl Finder {
     #[inline(always)]
     fn look(&mut self, header: &Header)
         ensures { self.new
-            ≡ with_findings self.old.state (length self.old.state.outer) header.now.offset
-            (header_findings self.old.state.rules
-            (surroundings_in self.old.state.frame) header.now) }
+            ≡ with_findings self.old.state (length self.old.state.holders.outer) header.now.offset
+            (header_findings_in self.old.state header.now) }
     {
         let level = self.holders.level();
         self.last.restart(level, header.offset);
@@ -185,14 +182,6 @@ impl Finder {
             &mut self.last.findings,
         );
         self.count = self.count.saturating_add(self.last.findings.len() as u64);
-    }
-
-    /// Keeps the frame of an element that holds others and begins.
-    #[inline(always)]
-    fn enter(&mut self, header: &Header)
-        ensures { self.new ≡ with_state (finder_inside self.old.state header.now) self.old }
-    {
-        self.holders.enter(header);
     }
 
     /// Keeps where a primitive begins, and that nothing of its contents has come.
@@ -212,11 +201,11 @@ impl Finder {
     {
         // Most such elements are no strings, and nothing is found with them.
         if has_no_header_findings(self.rules, self.holders.frame(), header) {
-            self.holders.enter_plain(header);
+            self.holders.open_without_frame(header);
             return false;
         }
         self.look(header);
-        self.enter(header);
+        self.holders.open(header);
         true
     }
 
@@ -252,7 +241,7 @@ impl Finder {
         let check = &self.check;
         self.is_open = false;
         self.holders
-            .note_primitive(check.size(), check.has_unused_bits());
+            .primitive(check.size(), check.has_unused_bits());
         if check.left() != 0 {
             return false;
         }
@@ -268,7 +257,7 @@ impl Finder {
     pub fn close(&mut self) -> bool
         ensures { ReportsFindings (finder_close_step self.old.state) self.new result }
     {
-        match self.holders.leave() {
+        match self.holders.close() {
             Some(closed) => self.look_at_end(&closed),
             None => false,
         }
@@ -278,7 +267,7 @@ impl Finder {
     #[inline(never)]
     fn look_at_end(&mut self, closed: &SiblingFrame) -> bool
         ensures { ReportsFindings
-            (with_findings self.old.state (length self.old.state.outer) closed.now.at
+            (with_findings self.old.state (length self.old.state.holders.outer) closed.now.at
             (end_findings self.old.state.rules (segments_in closed.now)))
             self.new result }
     {

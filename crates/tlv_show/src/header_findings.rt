@@ -5,7 +5,7 @@ ghost use Rattle.tlv_value.specs.Checks.{finding_if, findings_by};
 ghost use Rattle.tlv_value.specs.Types.{has_segments};
 ghost use Rattle.tlv_show.specs.Conditions.{basic_conditions, cer_conditions, der_conditions, has_high_form};
 ghost use Rattle.tlv_show.specs.Conditions.{leading_bits, length_conditions};
-ghost use Rattle.tlv_show.specs.FinderState.{segments_in, surroundings_in};
+ghost use Rattle.tlv_show.specs.NestingState.{segments_in, surroundings_in};
 ghost use Rattle.tlv_show.specs.Found.{end_findings, header_findings};
 ghost use Rattle.tlv_show.specs.Private.UsualTypes.{IsUsual};
 

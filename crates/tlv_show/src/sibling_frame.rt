@@ -1,6 +1,6 @@
 //! What is kept of the elements that are beside one another.
 ghost use Rattle.std.specs.Prelude.{◌≡◌};
-ghost use Rattle.tlv_show.specs.FinderState.{frame_after, frame_of, top_frame};
+ghost use Rattle.tlv_show.specs.NestingState.{frame_after, frame_of, top_frame};
 
 use crate::headers::{announced_length, is_bit_string, is_string};
 use tlv_head::Header;

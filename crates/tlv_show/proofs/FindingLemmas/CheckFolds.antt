@@ -1,5 +1,5 @@
 -- What a check makes of the events of elements is their findings' lines, and their number.
-use Rattle.std.proofs.Common.{◌≡◌, ℕ, ◌+◌, ◌-◌, ◌*◌, ◌^◌, ◌≤◌, ◌==◌, Bool, true, false, nat_lt, if◌then◌else◌, List, [], ◌∷◌, ◌++◌, length, refl, sym, ap, ◌∙◌, arith, length-append}
+use Rattle.std.proofs.Common.{◌≡◌, ℕ, ◌+◌, ◌-◌, ◌*◌, ◌^◌, ◌≤◌, ◌==◌, Bool, true, false, if◌then◌else◌, List, [], ◌∷◌, ◌++◌, length, refl, sym, ap, ◌∙◌, arith, length-append}
 use Rattle.std.proofs.lemmas.Grind.{flat_map-append}
 use Rattle.std.proofs.lemmas.List.{length-map}
 use Rattle.std.proofs.lemmas.List.Elements.{filter-append}
@@ -25,7 +25,8 @@ use Rattle.tlv_show.specs.CheckJob.{check_job}
 use Rattle.tlv_show.specs.CheckStep.{check_step}
 use Rattle.tlv_show.specs.FindingLines.{styled_lines}
 use Rattle.tlv_show.specs.Conditions.{end_conditions, header_conditions, segments_of, surroundings_of}
-use Rattle.tlv_show.specs.FinderState.{CheckState, FinderState, OpenPrimitiveState, finder_frame_end_step, finder_open_step, finder_value_end_step, frame_under, new_finder, open_value_after, top_frame, surroundings_in}
+use Rattle.tlv_show.specs.FinderState.{CheckState, FinderState, OpenPrimitiveState, finder_frame_end_step, finder_value_end_step, new_finder, open_value_after}
+use Rattle.tlv_show.specs.NestingState.{top_frame}
 use Rattle.tlv_show.specs.Private.FinderState.{finder_step}
 use Rattle.tlv_show.specs.Found.{contents_findings, header_findings, is_shown, end_findings}
 use Rattle.tlv_show.specs.Items.{Item, FindingAt, OpeningLine, ClosingLine, PrimitiveLines, OpenPrimitiveLines, PaddingLine, headers, items}
@@ -87,20 +88,16 @@ by-frames : (s : CheckState) (outer : List SiblingFrame) → (finder_frame_end_s
 by-frames s [] = count-none s.count
 by-frames s (w ∷ outer) = refl
 
-opened-count : (s : CheckState) (h : HeaderValue) → (finder_open_step s h).state.count ≡ saturating_sum s.count (length (finder_open_step s h).found)
-opened-count s h =
-    ap (λ (n : ℕ). saturating_sum n (length (header_findings s.rules (surroundings_in s.frame) h))) (either-count s (record s { frame = frame_under s.frame h; outer = s.frame ∷ s.outer }) (nat_lt (length s.outer) 128) refl)
-
 -- an event's findings are counted
 counted-one : (s : CheckState) (e : EventValue) → (finder_step s e).state.count ≡ saturating_sum s.count (length (finder_step s e).found)
-counted-one s (Open h) = opened-count s h
+counted-one s (Open h) = refl
 counted-one s (Begin h) = refl
 counted-one s (Bytes octets) = either-count (record s { value = open_value_after s.value octets }) s (length octets == 0) refl ∙ count-none s.count
 counted-one s End = by-value s s.value
-counted-one s (Close at) = by-frames s s.outer
-counted-one s (Enter h) = opened-count s h
+counted-one s (Close at) = by-frames s s.holders.outer
+counted-one s (Enter h) = refl
 counted-one s Unused = count-none s.count
-counted-one s Leave = by-frames s s.outer
+counted-one s Leave = by-frames s s.holders.outer
 counted-one s (Pad octets) = count-none s.count
 
 pub counted-all : (s : CheckState) (es : List EventValue) → (run s es).state.count ≡ saturating_sum s.count (length (run s es).put)

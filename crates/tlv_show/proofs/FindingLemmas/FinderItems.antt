@@ -15,7 +15,8 @@ use Rattle.tlv_walk.specs.Forest.{Forest, NoMore, PaddingOctet, Primitive, Holde
 use Rattle.tlv_walk.specs.Place.{IsOpen, Place, place_after, place_of_children}
 use Rattle.tlv_show.specs.declared.sibling_frame.SiblingFrame.{SiblingFrame}
 use Rattle.tlv_show.specs.declared.rules.Rules.{Rules}
-use Rattle.tlv_show.specs.FinderState.{CheckState, FinderState, contents_findings_in, finder_begin_step, finder_bytes_step, finder_close_step, finder_end_step, finder_open_step, frame_after, frame_under, surroundings_in}
+use Rattle.tlv_show.specs.FinderState.{CheckState, FinderState, contents_findings_in, finder_begin_step, finder_bytes_step, finder_close_step, finder_end_step, finder_open_step}
+use Rattle.tlv_show.specs.NestingState.{frame_after, frame_under, nesting_primitive_step, surroundings_in}
 use Rattle.tlv_show.specs.Private.FinderState.{finder_step}
 use Rattle.tlv_show.specs.Found.{contents_findings, header_findings, is_shown, end_findings}
 use Rattle.tlv_show.specs.Items.{Item, FindingAt, OpeningLine, ClosingLine, PrimitiveLines, OpenPrimitiveLines, PaddingLine, headers, items}
@@ -88,21 +89,21 @@ only-pads false level at l = refl
 
 -- what a finder makes of a primitive
 pub primitive-found : (s : CheckState) (h : HeaderValue) (c : List ℕ) → length c ≡ announced_length h.size
-    → (u : CheckState) × (u.value ≡ None) × (finder_end_step (finder_bytes_step (finder_begin_step s h).state c) ≡ record { state = u; level = length s.outer; at = h.offset; found = contents_findings s.rules h c })
+    → (u : CheckState) × (u.value ≡ None) × (finder_end_step (finder_bytes_step (finder_begin_step s h).state c) ≡ record { state = u; level = length s.holders.outer; at = h.offset; found = contents_findings s.rules h c })
 primitive-found s h c e =
-    let n = saturating_sum s.count (length (header_findings s.rules (surroundings_in s.frame) h)) in
+    let n = saturating_sum s.count (length (header_findings s.rules (surroundings_in s.holders.frame) h)) in
     let t : ValueCheckState = value_check_after (new_value_check h) c in
-    let site_after : List Finding → CheckState = λ fs. record { rules = s.rules; frame = frame_after s.frame true (announced_length h.size) (has_unused_bits t); outer = s.outer; value = None; count = saturating_sum n (length fs) } in (
+    let site_after : List Finding → CheckState = λ fs. record { rules = s.rules; holders = nesting_primitive_step s.holders (announced_length h.size) (has_unused_bits t); value = None; count = saturating_sum n (length fs) } in (
       site_after (contents_findings s.rules h c),
       refl,
       ap finder_end_step (took (record s { count = n }) h.offset h c (omega (arith, e)))
-          ∙ ap (λ (fs : List Finding). record { state = site_after fs; level = length s.outer; at = h.offset; found = fs }) (ended s.rules h c e),
+          ∙ ap (λ (fs : List Finding). record { state = site_after fs; level = length s.holders.outer; at = h.offset; found = fs }) (ended s.rules h c e),
     )
 
 module _ (rules : Rules) where
   -- between two elements
   abbrev pub standing : SiblingFrame → List SiblingFrame → ℕ → CheckState
-  standing w outer n = record { rules = rules; frame = w; outer = outer; value = None; count = n }
+  standing w outer n = record { rules = rules; holders = record { frame = w; outer = outer }; value = None; count = n }
 
   abbrev pub later_header : SiblingFrame → HeaderValue → ℕ → ℕ
   later_header w h n = saturating_sum n (length (header_findings rules (surroundings_in w) h))

@@ -7,7 +7,7 @@ use Rattle.tlv_value.specs.Types.{is_a}
 use Rattle.tlv_show.specs.declared.sibling_frame.SiblingFrame.{SiblingFrame}
 use Rattle.tlv_show.specs.declared.rules.Rules.TheVariants.{Ber}
 use Rattle.tlv_show.specs.Conditions.{has_high_form, leading_bits, segment_type}
-use Rattle.tlv_show.specs.FinderState.{surroundings_in}
+use Rattle.tlv_show.specs.NestingState.{surroundings_in}
 use Rattle.tlv_show.specs.Found.{header_findings}
 use Rattle.tlv_show.specs.Private.UsualTypes.{IsUsual}
 use Rattle.tlv_show.proofs.FindingLemmas.HeaderFindings.{basic-found}

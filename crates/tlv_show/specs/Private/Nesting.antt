@@ -1,38 +1,11 @@
 -- The frames that are kept of the elements that are open, and all those that they stand for.
-use Rattle.std.specs.Prelude.{ℕ, zero, suc, ◌≡◌, ◌-◌, ◌<◌, ⊤, nat_lt, if◌then◌else◌, false, List, [], ◌∷◌}
-use Rattle.std.specs.Prelude.{length, Option, Some, None}
-use Rattle.tlv_head.specs.Header.{HeaderValue}
+use Rattle.std.specs.Prelude.{ℕ, zero, suc, ◌≡◌, ◌-◌, ◌<◌, ⊤, if◌then◌else◌, false, List, [], ◌∷◌}
+use Rattle.std.specs.Prelude.{Option, Some, None}
 use Rattle.tlv_show.specs.declared.sibling_frame.SiblingFrame.{SiblingFrame}
 use Rattle.tlv_show.specs.declared.sibling_frame.KeptFrame.{KeptFrame}
-use Rattle.tlv_show.specs.FinderState.{frame_after, frame_under, top_frame}
+use Rattle.tlv_show.specs.NestingState.{NestingState, frame_after, top_frame}
 
--- ---- All frames
-
--- the frame of the innermost element, and those outside, innermost first
-pub record NestingState : Type 0 where
-  pub frame : SiblingFrame
-  pub outer : List SiblingFrame
-
-abbrev pub new_nesting : NestingState
-new_nesting = record { frame = top_frame; outer = [] }
-
--- an element that holds others begins. Past 128 of them no frame is kept
-abbrev pub nesting_inside : NestingState → HeaderValue → NestingState
-nesting_inside s h =
-    if nat_lt (length s.outer) 128
-    then record { frame = frame_under s.frame h; outer = s.frame ∷ s.outer }
-    else s
-
--- it ends
-abbrev pub nesting_around : SiblingFrame → List SiblingFrame → NestingState
-nesting_around closed [] = record { frame = closed; outer = [] }
-nesting_around closed (w ∷ outer) = record {
-  frame = frame_after w closed.is_primitive closed.size false;
-  outer = outer;
-}
-
-abbrev pub nesting_outside : NestingState → NestingState
-nesting_outside s = nesting_around s.frame s.outer
+-- ---- What is left of an element that ends
 
 -- its frame, if what it held were segments
 abbrev pub if_segments : SiblingFrame → Option SiblingFrame
