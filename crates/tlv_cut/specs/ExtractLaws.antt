@@ -71,7 +71,7 @@ ExtractMakesItsText = (framing : Framing) (b : List ℕ) (f : Forest) → IsRead
 -- an element ends
 abbrev pub is_end_event : EventValue → Bool
 is_end_event End = true
-is_end_event (Close at) = true
+is_end_event (Close offset) = true
 is_end_event Leave = true
 is_end_event _ = false
 

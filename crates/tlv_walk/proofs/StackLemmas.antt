@@ -66,12 +66,12 @@ pub in_indefinite : (i : Frame) (fs : List Frame) → AreHolders i fs
 in_indefinite i [] h = ((λ x. absurd x), (λ e. let is_input = h.0 in absurd (cc)))
 in_indefinite i (f ∷ fs) h = (endless_alone i.kind i.bound h.0, λ e. ap (λ (k : FrameKind). end_from k i.bound) e)
 
-end_alone : (h : FrameKind) (n at : ℕ) → HasEnd h n → end_from h n ≡ Some at
-    → (n ≡ at) × ((h ≡ Definite) ⊎ (h ≡ Wrapper))
-end_alone Input n at h e = absurd h
-end_alone Definite n at h e = let s = some_bound n h in (cc, inl refl)
-end_alone Indefinite n at h e = absurd (cc)
-end_alone Wrapper n at h e = let s = some_bound n h in (cc, inr refl)
+end_alone : (h : FrameKind) (n offset : ℕ) → HasEnd h n → end_from h n ≡ Some offset
+    → (n ≡ offset) × ((h ≡ Definite) ⊎ (h ≡ Wrapper))
+end_alone Input n offset h e = absurd h
+end_alone Definite n offset h e = let s = some_bound n h in (cc, inl refl)
+end_alone Indefinite n offset h e = absurd (cc)
+end_alone Wrapper n offset h e = let s = some_bound n h in (cc, inr refl)
 
 ends_there : (h : FrameKind) (n : ℕ) → HasEnd h n → (h ≡ Definite) ⊎ (h ≡ Wrapper) → end_from h n ≡ Some n
 ends_there Input n h k = absurd h
@@ -84,10 +84,10 @@ input_endless : (h : FrameKind) → h ≡ Input → (h ≡ Definite) ⊎ (h ≡ 
 input_endless h is_input (inl e) = cc
 input_endless h is_input (inr e) = cc
 
-pub is_filled : (i : Frame) (fs : List Frame) (at : ℕ) → AreHolders i fs
-    → IsFilled (frames_from i fs) at ↔ ((i.bound ≡ at) × ((i.kind ≡ Definite) ⊎ (i.kind ≡ Wrapper)))
-is_filled i [] at h = ((λ x. absurd x), (λ k. input_endless i.kind h.0 k.1))
-is_filled i (f ∷ fs) at h = (end_alone i.kind i.bound at h.0, λ k. ends_there i.kind i.bound h.0 k.1 ∙ ap Some k.0)
+pub is_filled : (i : Frame) (fs : List Frame) (offset : ℕ) → AreHolders i fs
+    → IsFilled (frames_from i fs) offset ↔ ((i.bound ≡ offset) × ((i.kind ≡ Definite) ⊎ (i.kind ≡ Wrapper)))
+is_filled i [] offset h = ((λ x. absurd x), (λ k. input_endless i.kind h.0 k.1))
+is_filled i (f ∷ fs) offset h = (end_alone i.kind i.bound offset h.0, λ k. ends_there i.kind i.bound h.0 k.1 ∙ ap Some k.0)
 
 -- an element of the indefinite length is opened inside the innermost one
 

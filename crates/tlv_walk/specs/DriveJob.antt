@@ -27,7 +27,7 @@ event_octets (Enter h) = octets_of h
 event_octets (Bytes octets) = octets
 event_octets (Pad octets) = octets
 event_octets Unused = 0 ∷ []
-event_octets (Close (Some at)) = 0 ∷ 0 ∷ []
+event_octets (Close (Some offset)) = 0 ∷ 0 ∷ []
 event_octets e = []
 
 -- the run over a forest of which a follower followed these events: if it had enough, it ends after the last of them

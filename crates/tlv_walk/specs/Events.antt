@@ -25,8 +25,8 @@ pub data EventValue : Type 0 where
 
 -- 8.1.5: the offset of the end-of-contents octets, if there are any
 abbrev pub end_offset : Size → ℕ → Option ℕ
-end_offset (Definite n) at = None
-end_offset Indefinite at = Some at
+end_offset (Definite n) offset = None
+end_offset Indefinite offset = Some offset
 
 -- 8.1.5: where the end-of-contents octets are of an element that holds others, if it has them
 abbrev pub end_place : HeaderValue → Forest → Option ℕ

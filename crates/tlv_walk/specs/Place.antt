@@ -15,8 +15,8 @@ use Rattle.tlv_walk.specs.Forest.{is_complete, lead, opening, primitive_extent}
 -- where a forest is
 pub record Place : Type 0 where
   -- the offset of its first octet
-  pub at : ℕ
-  -- how many elements hold it
+  pub offset : ℕ
+  -- how many elements that hold others are open there
   pub depth : ℕ
   -- the end of the innermost definite element that holds it
   pub bound : Option ℕ
@@ -30,7 +30,7 @@ pub record Place : Type 0 where
 -- the start of the input
 abbrev pub top_place : Framing → Place
 top_place framing = record {
-  at = 0;
+  offset = 0;
   depth = 0;
   bound = None;
   indefinite = false;
@@ -40,7 +40,7 @@ top_place framing = record {
 
 -- n octets on
 abbrev pub place_after : Place → ℕ → Place
-place_after p n = record p { at = p.at + n }
+place_after p n = record p { offset = p.offset + n }
 
 -- 8.1.3.6: the length is indefinite
 abbrev pub is_indefinite : Size → Bool
@@ -54,11 +54,11 @@ bound_in size start outside = option_map_or (λ n. Some (start + n)) (definite_l
 -- contents is the bound
 abbrev pub place_of_children : Place → HeaderValue → Place
 place_of_children p h = record p {
-  at = p.at + length (opening h);
+  offset = p.offset + length (opening h);
   depth = p.depth + 1;
   indefinite = is_indefinite h.size;
   padding = false;
-  bound = bound_in h.size (p.at + length (octets_of h)) p.bound;
+  bound = bound_in h.size (p.offset + length (octets_of h)) p.bound;
 }
 
 -- the offset does not lie beyond the bound
@@ -67,13 +67,13 @@ IsWithin bound offset = IfSome bound (λ b. offset ≤ b)
 
 -- n octets from there on do not pass the bound
 abbrev pub Fits : Place → ℕ → Type 0
-Fits p n = IsWithin p.bound (p.at + n)
+Fits p n = IsWithin p.bound (p.offset + n)
 
 -- 8.1.2, 8.1.3: a header is there, of an element that holds others or of one that does not
 pub record IsHeaderAt (p : Place) (holding : Bool) (h : HeaderValue) : Type 0 where
   pub valid : IsHeader h
-  pub offset : h.offset ≡ p.at
-  pub named : h.named ≡ is_among p.at p.inside
+  pub offset : h.offset ≡ p.offset
+  pub named : h.named ≡ is_among p.offset p.inside
   pub form : holds h ≡ holding
 
 -- 8.1.4: an element is there, in at most 127 others if it holds others, and n octets of it do not pass the bound

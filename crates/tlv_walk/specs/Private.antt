@@ -2,6 +2,7 @@ pub mod ResultOfPause
 pub mod FollowsPiece
 pub mod FrameFields
 pub mod WalkerState
+pub mod WrapperCount
 pub mod ReadsOn
 pub mod Stack
 pub mod Zipper

@@ -16,22 +16,22 @@ filled_end f = if f.wrapper then Leave else Close None
 
 -- whether an element that ends there, if it is definite, is filled at the offset
 abbrev pub is_end : Option ℕ → ℕ → Bool
-is_end None at = false
-is_end (Some e) at = eqb e at
+is_end None offset = false
+is_end (Some e) offset = eqb e offset
 
 -- the events with which those elements end that are filled at the offset, innermost first
 abbrev pub filled_ends : ℕ → List FrameValue → List EventValue
-filled_ends at [] = []
-filled_ends at (f ∷ fs) = if is_end f.end at then filled_end f ∷ filled_ends at fs else []
+filled_ends offset [] = []
+filled_ends offset (f ∷ fs) = if is_end f.end offset then filled_end f ∷ filled_ends offset fs else []
 
 -- the events that need no further octet
 abbrev pub waiting_events_in : PhaseValue → List FrameValue → ℕ → List EventValue
-waiting_events_in phase.Between stack at = filled_ends at stack
-waiting_events_in (phase.InHeader r) stack at = []
-waiting_events_in (phase.InPrimitive left) stack at = if eqb left 0 then End ∷ filled_ends at stack else []
-waiting_events_in phase.InBitString stack at = []
-waiting_events_in phase.InEndOctets stack at = []
-waiting_events_in (phase.Refused fault) stack at = []
+waiting_events_in phase.Between stack offset = filled_ends offset stack
+waiting_events_in (phase.InHeader r) stack offset = []
+waiting_events_in (phase.InPrimitive left) stack offset = if eqb left 0 then End ∷ filled_ends offset stack else []
+waiting_events_in phase.InBitString stack offset = []
+waiting_events_in phase.InEndOctets stack offset = []
+waiting_events_in (phase.Refused fault) stack offset = []
 
 abbrev pub waiting_events : WalkerState → List EventValue
 waiting_events w = waiting_events_in w.phase w.stack w.offset

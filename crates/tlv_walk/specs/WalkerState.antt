@@ -35,10 +35,10 @@ new_walker framing = record {
 }
 
 -- a header's octets so far are before the offset
-pub record IsInHeader (r : HeadReaderState) (at : ℕ) : Type 0 where
+pub record IsInHeader (r : HeadReaderState) (offset : ℕ) : Type 0 where
   pub unfinished : r.done ≡ false
   pub some : r.octets ≢ []
-  pub place : r.offset + length r.octets ≡ at
+  pub place : r.offset + length r.octets ≡ offset
 
 -- by phase: an open element, a header that has begun and a first 00 without the second have octets that no event was
 -- yielded for
@@ -85,7 +85,7 @@ HasOctets (event.Open h) = Unit {0}
 HasOctets (event.Begin h) = Unit {0}
 HasOctets (event.Bytes octets) = octets.now ≢ []
 HasOctets event.End = Unit {0}
-HasOctets (event.Close at) = Unit {0}
+HasOctets (event.Close offset) = Unit {0}
 HasOctets (event.Enter h) = Unit {0}
 HasOctets event.Unused = Unit {0}
 HasOctets event.Leave = Unit {0}

@@ -163,7 +163,7 @@ fn follow<F: Follow, D: Drain>(
             continue;
         }
         let go = match walker.close(&mut rest) {
-            Some(at) => follower.on(&Event::Close(at), out)?,
+            Some(offset) => follower.on(&Event::Close(offset), out)?,
             None => match walker.constructed(&mut rest) {
                 Some((fields, octets)) => follower.open(&fields, octets, out)?,
                 None => match walker.contents_event(&mut rest) {

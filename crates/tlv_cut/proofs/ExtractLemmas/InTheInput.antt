@@ -67,7 +67,7 @@ module _ (n : ℕ) where
     pub front : List ℕ
     pub rest : List ℕ
     pub octets : spelling f ≡ front ++ (octets_so_far e ++ rest)
-    pub place : p.at + length front ≡ n
+    pub place : p.offset + length front ≡ n
     pub header : HeaderValue
     pub valid : IsHeader header
     pub offset : header.offset ≡ n
@@ -91,7 +91,7 @@ module _ (n : ℕ) where
   }
 
   -- it is among elements that come later, or deeper
-  further : (p q : Place) (f g e : Forest) (o t : List ℕ) → spelling f ≡ o ++ (spelling g ++ t) → q.at ≡ p.at + length o
+  further : (p q : Place) (f g e : Forest) (o t : List ℕ) → spelling f ≡ o ++ (spelling g ++ t) → q.offset ≡ p.offset + length o
       → IsFoundIn q g e → IsFoundIn p f e
   further p q f g e o t all at r = record {
     front = o ++ r.front;
@@ -125,7 +125,7 @@ module _ (n : ℕ) where
   none p f e is = absurd (cc (is))
 
   -- it is after an element
-  in_rest : (p q : Place) (f rest e : Forest) (o : List ℕ) → spelling f ≡ o ++ spelling rest → q.at ≡ p.at + length o
+  in_rest : (p q : Place) (f rest e : Forest) (o : List ℕ) → spelling f ≡ o ++ spelling rest → q.offset ≡ p.offset + length o
       → IsFoundIn q rest e → IsFoundIn p f e
   in_rest p q f rest e o all at r =
       further p q f rest e o [] (all ∙ ap (λ (l : List ℕ). o ++ l) (sym (append-nil (spelling rest)))) at r

@@ -81,5 +81,5 @@ enough_comes_at_ends s (Bytes octets) e = on_is_not (sym (each_octet-goes_on ext
 enough_comes_at_ends s Unused e = on_is_not e
 enough_comes_at_ends s (Pad octets) e = on_is_not e
 enough_comes_at_ends s End e = refl
-enough_comes_at_ends s (Close at) e = refl
+enough_comes_at_ends s (Close offset) e = refl
 enough_comes_at_ends s Leave e = refl

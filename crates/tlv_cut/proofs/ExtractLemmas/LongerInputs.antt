@@ -57,7 +57,7 @@ extract_step-found s (Bytes octets) b =
     ap (λ (t : Effect ExtractState). has_found t.state) (all_contents s octets) ∙ b
 extract_step-found s Unused b = b
 extract_step-found s (Close None) b = extract_end_step-found s [] b
-extract_step-found s (Close (Some at)) b = extract_end_step-found s (0 ∷ 0 ∷ []) b
+extract_step-found s (Close (Some offset)) b = extract_end_step-found s (0 ∷ 0 ∷ []) b
 extract_step-found s End b = extract_end_step-found s [] b
 extract_step-found s Leave b = extract_end_step-found s [] b
 extract_step-found s (Pad octets) b = b

@@ -49,10 +49,10 @@ opens_put : (h : HeaderValue) → events_text (opening_events h) ≡ opening_by 
 opens_put h = opens_by h.constructed (eqb h.number 3) h refl
 
 -- and as it ends
-closes_by : (constructed : Bool) (at : Option ℕ)
-    → indef_event_text (if constructed then Close at else Leave) ≡ end_by constructed
-closes_by true at = refl
-closes_by false at = refl
+closes_by : (constructed : Bool) (offset : Option ℕ)
+    → indef_event_text (if constructed then Close offset else Leave) ≡ end_by constructed
+closes_by true offset = refl
+closes_by false offset = refl
 
 closes_put : (h : HeaderValue) (inside : Forest) → indef_event_text (closing_event h inside) ≡ end_by h.constructed
 closes_put h inside =

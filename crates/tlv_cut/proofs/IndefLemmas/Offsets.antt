@@ -13,8 +13,8 @@ use Rattle.tlv_cut.specs.IndefReading.{with_offsets_from}
 
 -- ---- an element that holds others is constructed if no string is read as encodings
 
-pub is_named : (at : ℕ) (names : List ℕ) → names ≡ [] → is_among at names ≡ false
-is_named at names e = ap (λ (l : List ℕ). is_among at l) e
+pub is_named : (offset : ℕ) (names : List ℕ) → names ≡ [] → is_among offset names ≡ false
+is_named offset names e = ap (λ (l : List ℕ). is_among offset l) e
 
 holds_by : (constructed named : Bool) (class : Class) (number : ℕ) (size : Size) → named ≡ false
     → (constructed || is_wrapper named class constructed number size) ≡ true → constructed ≡ true
@@ -24,73 +24,73 @@ holds_by false false class number size e holds = absurd (cc)
 
 pub constructed_at : (p : Place) (h : HeaderValue) → p.inside ≡ [] → IsHeaderAt p true h → h.constructed ≡ true
 constructed_at p h e header =
-    holds_by h.constructed h.named h.class h.number h.size (header.named ∙ is_named p.at p.inside e) header.form
+    holds_by h.constructed h.named h.class h.number h.size (header.named ∙ is_named p.offset p.inside e) header.form
 
 -- ---- the octets do not depend on the offsets
 
-pub spelling-with_offsets_from : (at : ℕ) (f : Forest) → spelling (with_offsets_from at f) ≡ spelling f
-spelling-with_offsets_from at NoMore = refl
-spelling-with_offsets_from at (PaddingOctet rest) = ap (λ (l : List ℕ). 0 ∷ l) (spelling-with_offsets_from (at + 1) rest)
-spelling-with_offsets_from at (Primitive h c rest) =
-    ap (λ (l : List ℕ). octets_of h ++ (c ++ l)) (spelling-with_offsets_from (at + (length (octets_of h) + length c)) rest)
-spelling-with_offsets_from at (Holder h inside rest) =
+pub spelling-with_offsets_from : (offset : ℕ) (f : Forest) → spelling (with_offsets_from offset f) ≡ spelling f
+spelling-with_offsets_from offset NoMore = refl
+spelling-with_offsets_from offset (PaddingOctet rest) = ap (λ (l : List ℕ). 0 ∷ l) (spelling-with_offsets_from (offset + 1) rest)
+spelling-with_offsets_from offset (Primitive h c rest) =
+    ap (λ (l : List ℕ). octets_of h ++ (c ++ l)) (spelling-with_offsets_from (offset + (length (octets_of h) + length c)) rest)
+spelling-with_offsets_from offset (Holder h inside rest) =
     ap₂ (λ (k l : List ℕ). opening h ++ (k ++ (end_octets h.size ++ l)))
-    (spelling-with_offsets_from (at + length (opening h)) inside)
-    (spelling-with_offsets_from (at + extent h inside) rest)
-spelling-with_offsets_from at (OpenPrimitive h c) = refl
-spelling-with_offsets_from at (OpenHolder h inside) =
-    ap (λ (l : List ℕ). opening h ++ l) (spelling-with_offsets_from (at + length (opening h)) inside)
-spelling-with_offsets_from at (OpenBitString h) = refl
-spelling-with_offsets_from at (OpenHeader octets) = refl
-spelling-with_offsets_from at OpenEndOctets = refl
+    (spelling-with_offsets_from (offset + length (opening h)) inside)
+    (spelling-with_offsets_from (offset + extent h inside) rest)
+spelling-with_offsets_from offset (OpenPrimitive h c) = refl
+spelling-with_offsets_from offset (OpenHolder h inside) =
+    ap (λ (l : List ℕ). opening h ++ l) (spelling-with_offsets_from (offset + length (opening h)) inside)
+spelling-with_offsets_from offset (OpenBitString h) = refl
+spelling-with_offsets_from offset (OpenHeader octets) = refl
+spelling-with_offsets_from offset OpenEndOctets = refl
 
 -- ---- elements with indefinite lengths stay as they are
 
 -- at any offset
 abbrev StaysAnywhere : Forest → Type 0
-StaysAnywhere f = (at : ℕ) → with_indefinite_lengths (with_offsets_from at f) ≡ with_offsets_from at f
+StaysAnywhere f = (offset : ℕ) → with_indefinite_lengths (with_offsets_from offset f) ≡ with_offsets_from offset f
 
 holder_stays : (constructed : Bool) (h : HeaderValue) (inside rest : Forest) → h.constructed ≡ constructed
     → StaysAnywhere inside → StaysAnywhere rest
     → StaysAnywhere (if constructed then Holder (indefinite_header h) inside rest else Primitive h
     (lead h ++ spelling inside) rest)
-holder_stays true h inside rest e i r at =
-    let g = record (indefinite_header h) { offset = at } in
-    let inner = with_offsets_from (at + length (opening g)) inside in
-    let others = with_offsets_from (at + extent g inside) rest in
+holder_stays true h inside rest e i r offset =
+    let g = record (indefinite_header h) { offset = offset } in
+    let inner = with_offsets_from (offset + length (opening g)) inside in
+    let others = with_offsets_from (offset + extent g inside) rest in
     ap (λ (k : Bool). if k then Holder g (with_indefinite_lengths inner) (with_indefinite_lengths others) else Primitive g
     (lead g ++ spelling (with_indefinite_lengths inner)) (with_indefinite_lengths others)) e
-    ∙ ap₂ (λ (j k : Forest). Holder g j k) (i (at + length (opening g))) (r (at + extent g inside))
-holder_stays false h inside rest e i r at =
+    ∙ ap₂ (λ (j k : Forest). Holder g j k) (i (offset + length (opening g))) (r (offset + extent g inside))
+holder_stays false h inside rest e i r offset =
     let c = lead h ++ spelling inside in
-    ap (λ (f : Forest). Primitive (record h { offset = at }) c f) (r (at + (length (octets_of h) + length c)))
+    ap (λ (f : Forest). Primitive (record h { offset = offset }) c f) (r (offset + (length (octets_of h) + length c)))
 
 open_holder_stays : (constructed : Bool) (h : HeaderValue) (inside : Forest) → h.constructed ≡ constructed
     → StaysAnywhere inside
     → StaysAnywhere (if constructed then OpenHolder (indefinite_header h) inside else OpenPrimitive h (lead h ++ spelling inside))
-open_holder_stays true h inside e i at =
-    let g = record (indefinite_header h) { offset = at } in
-    let inner = with_offsets_from (at + length (opening g)) inside in
+open_holder_stays true h inside e i offset =
+    let g = record (indefinite_header h) { offset = offset } in
+    let inner = with_offsets_from (offset + length (opening g)) inside in
     ap (λ (k : Bool). if k then OpenHolder g (with_indefinite_lengths inner) else OpenPrimitive g
     (lead g ++ spelling (with_indefinite_lengths inner))) e
-    ∙ ap (λ (f : Forest). OpenHolder g f) (i (at + length (opening g)))
-open_holder_stays false h inside e i at = refl
+    ∙ ap (λ (f : Forest). OpenHolder g f) (i (offset + length (opening g)))
+open_holder_stays false h inside e i offset = refl
 
 stays : (f : Forest) → StaysAnywhere (with_indefinite_lengths f)
-stays NoMore at = refl
-stays (PaddingOctet rest) at = ap (λ (f : Forest). PaddingOctet f) (stays rest (at + 1))
-stays (Primitive h c rest) at =
-    ap (λ (f : Forest). Primitive (record h { offset = at }) c f) (stays rest (at + (length (octets_of h) + length c)))
-stays (Holder h inside rest) at =
+stays NoMore offset = refl
+stays (PaddingOctet rest) offset = ap (λ (f : Forest). PaddingOctet f) (stays rest (offset + 1))
+stays (Primitive h c rest) offset =
+    ap (λ (f : Forest). Primitive (record h { offset = offset }) c f) (stays rest (offset + (length (octets_of h) + length c)))
+stays (Holder h inside rest) offset =
     holder_stays h.constructed h (with_indefinite_lengths inside) (with_indefinite_lengths rest) refl (stays inside)
-    (stays rest) at
-stays (OpenPrimitive h c) at = refl
-stays (OpenHolder h inside) at = open_holder_stays h.constructed h (with_indefinite_lengths inside) refl (stays inside) at
-stays (OpenBitString h) at = refl
-stays (OpenHeader octets) at = refl
-stays OpenEndOctets at = refl
+    (stays rest) offset
+stays (OpenPrimitive h c) offset = refl
+stays (OpenHolder h inside) offset = open_holder_stays h.constructed h (with_indefinite_lengths inside) refl (stays inside) offset
+stays (OpenBitString h) offset = refl
+stays (OpenHeader octets) offset = refl
+stays OpenEndOctets offset = refl
 
 -- the same octets are written again
-pub indef_text-again : (at : ℕ) (f : Forest)
-    → indef_text (with_offsets_from at (with_indefinite_lengths f)) ≡ indef_text f
-indef_text-again at f = ap spelling (stays f at) ∙ spelling-with_offsets_from at (with_indefinite_lengths f)
+pub indef_text-again : (offset : ℕ) (f : Forest)
+    → indef_text (with_offsets_from offset (with_indefinite_lengths f)) ≡ indef_text f
+indef_text-again offset f = ap spelling (stays f offset) ∙ spelling-with_offsets_from offset (with_indefinite_lengths f)

@@ -15,17 +15,17 @@ use Rattle.tlv_cut.proofs.Lead.{lead_by}
 use Rattle.tlv_cut.proofs.IndefLemmas.Offsets.{constructed_at, is_named, spelling-with_offsets_from}
 
 -- elements that have all ended have ended at any offset
-is_whole-with_offsets_from : (at : ℕ) (f : Forest) → is_complete (with_offsets_from at f) ≡ is_complete f
-is_whole-with_offsets_from at NoMore = refl
-is_whole-with_offsets_from at (PaddingOctet rest) = is_whole-with_offsets_from (at + 1) rest
-is_whole-with_offsets_from at (Primitive h c rest) =
-    is_whole-with_offsets_from (at + (length (octets_of h) + length c)) rest
-is_whole-with_offsets_from at (Holder h inside rest) = is_whole-with_offsets_from (at + extent h inside) rest
-is_whole-with_offsets_from at (OpenPrimitive h c) = refl
-is_whole-with_offsets_from at (OpenHolder h inside) = refl
-is_whole-with_offsets_from at (OpenBitString h) = refl
-is_whole-with_offsets_from at (OpenHeader octets) = refl
-is_whole-with_offsets_from at OpenEndOctets = refl
+is_whole-with_offsets_from : (offset : ℕ) (f : Forest) → is_complete (with_offsets_from offset f) ≡ is_complete f
+is_whole-with_offsets_from offset NoMore = refl
+is_whole-with_offsets_from offset (PaddingOctet rest) = is_whole-with_offsets_from (offset + 1) rest
+is_whole-with_offsets_from offset (Primitive h c rest) =
+    is_whole-with_offsets_from (offset + (length (octets_of h) + length c)) rest
+is_whole-with_offsets_from offset (Holder h inside rest) = is_whole-with_offsets_from (offset + extent h inside) rest
+is_whole-with_offsets_from offset (OpenPrimitive h c) = refl
+is_whole-with_offsets_from offset (OpenHolder h inside) = refl
+is_whole-with_offsets_from offset (OpenBitString h) = refl
+is_whole-with_offsets_from offset (OpenHeader octets) = refl
+is_whole-with_offsets_from offset OpenEndOctets = refl
 
 -- and with indefinite lengths
 holder_whole : (constructed : Bool) (h : HeaderValue) (c : List ℕ) (inside rest : Forest) → is_complete rest ≡ true
@@ -46,29 +46,29 @@ is_whole-with_indefinite_lengths (OpenBitString h) e = absurd (cc)
 is_whole-with_indefinite_lengths (OpenHeader octets) e = refl
 is_whole-with_indefinite_lengths OpenEndOctets e = refl
 
-pub whole : (at : ℕ) (f : Forest) → is_complete f ≡ true
-    → is_complete (with_offsets_from at (with_indefinite_lengths f)) ≡ true
-whole at f e = is_whole-with_offsets_from at (with_indefinite_lengths f) ∙ is_whole-with_indefinite_lengths f e
+pub whole : (offset : ℕ) (f : Forest) → is_complete f ≡ true
+    → is_complete (with_offsets_from offset (with_indefinite_lengths f)) ≡ true
+whole offset f e = is_whole-with_offsets_from offset (with_indefinite_lengths f) ∙ is_whole-with_indefinite_lengths f e
 
 -- if there is an element, there is one with indefinite lengths too
-holder_some : (constructed : Bool) (at : ℕ) (h : HeaderValue) (c : List ℕ) (inside rest : Forest)
-    → has_element (with_offsets_from at
+holder_some : (constructed : Bool) (offset : ℕ) (h : HeaderValue) (c : List ℕ) (inside rest : Forest)
+    → has_element (with_offsets_from offset
     (if constructed then Holder (indefinite_header h) inside rest else Primitive h c rest)) ≡ true
-holder_some true at h c inside rest = refl
-holder_some false at h c inside rest = refl
+holder_some true offset h c inside rest = refl
+holder_some false offset h c inside rest = refl
 
-pub some : (at : ℕ) (f : Forest) → is_complete f ≡ true → has_element f ≡ true
-    → has_element (with_offsets_from at (with_indefinite_lengths f)) ≡ true
-some at NoMore w e = e
-some at (PaddingOctet rest) w e = some (at + 1) rest w e
-some at (Primitive h c rest) w e = refl
-some at (Holder h inside rest) w e =
-    holder_some h.constructed at h _ (with_indefinite_lengths inside) (with_indefinite_lengths rest)
-some at (OpenPrimitive h c) w e = absurd (cc)
-some at (OpenHolder h inside) w e = absurd (cc)
-some at (OpenBitString h) w e = absurd (cc)
-some at (OpenHeader octets) w e = absurd (cc)
-some at OpenEndOctets w e = absurd (cc)
+pub some : (offset : ℕ) (f : Forest) → is_complete f ≡ true → has_element f ≡ true
+    → has_element (with_offsets_from offset (with_indefinite_lengths f)) ≡ true
+some offset NoMore w e = e
+some offset (PaddingOctet rest) w e = some (offset + 1) rest w e
+some offset (Primitive h c rest) w e = refl
+some offset (Holder h inside rest) w e =
+    holder_some h.constructed offset h _ (with_indefinite_lengths inside) (with_indefinite_lengths rest)
+some offset (OpenPrimitive h c) w e = absurd (cc)
+some offset (OpenHolder h inside) w e = absurd (cc)
+some offset (OpenBitString h) w e = absurd (cc)
+some offset (OpenHeader octets) w e = absurd (cc)
+some offset OpenEndOctets w e = absurd (cc)
 
 -- the place `q` is as `p`, if no string is read as encodings, but for a bound: at `q` there is none
 pub record IsFree (p q : Place) : Type 0 where
@@ -80,7 +80,7 @@ pub record IsFree (p q : Place) : Type 0 where
   pub definite : p.padding ≡ true → q.indefinite ≡ false
 
 free_fits : (p q : Place) → IsFree p q → (n : ℕ) → Fits q n
-free_fits p q k n = subst (λ (b : Option ℕ). IfSome b (λ b. q.at + n ≤ b)) (sym k.bound) tt
+free_fits p q k n = subst (λ (b : Option ℕ). IfSome b (λ b. q.offset + n ≤ b)) (sym k.bound) tt
 
 free_after : (p q : Place) (m n : ℕ) → IsFree p q → IsFree (place_after p m) (place_after q n)
 free_after p q m n k =
@@ -98,7 +98,7 @@ free_inside p q h g e k = record {
   names = k.names;
   same_names = k.same_names;
   depth = ap (λ (d : ℕ). d + 1) k.depth;
-  bound = ap (λ (s : Size). option_map_or (λ n. Some (q.at + length (octets_of g) + n)) (definite_length s) q.bound) e
+  bound = ap (λ (s : Size). option_map_or (λ n. Some (q.offset + length (octets_of g) + n)) (definite_length s) q.bound) e
       ∙ k.bound;
   padding = λ z. absurd (cc);
   definite = λ z. absurd (cc);
@@ -106,17 +106,17 @@ free_inside p q h g e k = record {
 
 -- the header of a primitive may be there
 primitive_at : (p q : Place) (h : HeaderValue) → IsFree p q → IsHeaderAt p false h
-    → IsHeaderAt q false (record h { offset = q.at })
+    → IsHeaderAt q false (record h { offset = q.offset })
 primitive_at p q h k v = record {
   valid = record { identifier = v.valid.identifier; lengths = v.valid.lengths; allowed = v.valid.allowed };
   offset = refl;
-  named = v.named ∙ is_named p.at p.inside k.names ∙ sym (is_named q.at q.inside k.same_names);
+  named = v.named ∙ is_named p.offset p.inside k.names ∙ sym (is_named q.offset q.inside k.same_names);
   form = v.form;
 }
 
 -- the header of a constructed element, with an indefinite length, may be there
 abbrev heading_at : Place → HeaderValue → HeaderValue
-heading_at q h = record (indefinite_header h) { offset = q.at }
+heading_at q h = record (indefinite_header h) { offset = q.offset }
 
 constructed_header : (p q : Place) (h : HeaderValue) → IsFree p q → IsHeaderAt p true h → IsHeaderAt q true (heading_at q h)
 constructed_header p q h k v =
@@ -129,38 +129,38 @@ constructed_header p q h k v =
             (λ (c : Bool). AllowsSize c Indefinite) (sym constructed) refl;
       };
       offset = refl;
-      named = v.named ∙ is_named p.at p.inside k.names ∙ sym (is_named q.at q.inside k.same_names);
+      named = v.named ∙ is_named p.offset p.inside k.names ∙ sym (is_named q.offset q.inside k.same_names);
       form = ap (λ (c : Bool). c || is_wrapper h.named h.class c h.number Indefinite) constructed;
     }
 
 -- the offsets of what an element holds do not move what follows the element
-follows : (q : Place) (h : HeaderValue) (at : ℕ) (inside rest : Forest)
+follows : (q : Place) (h : HeaderValue) (offset : ℕ) (inside rest : Forest)
     → IsOpen (place_after q (extent (heading_at q h) inside)) rest
-    → IsOpen (place_after q (extent (heading_at q h) (with_offsets_from at inside))) rest
-follows q h at inside rest v =
+    → IsOpen (place_after q (extent (heading_at q h) (with_offsets_from offset inside))) rest
+follows q h offset inside rest v =
     subst (λ (l : List ℕ). IsOpen (place_after q (length (opening (heading_at q h)) + (length l + 2))) rest)
-    (sym (spelling-with_offsets_from at inside)) v
+    (sym (spelling-with_offsets_from offset inside)) v
 
 -- what `with_indefinite_lengths` makes of a constructed element keeps the rules that it keeps with an indefinite length
 made_holder : (q : Place) (h : HeaderValue) (inside rest : Forest) → h.constructed ≡ true
-    → IsOpen q (with_offsets_from q.at
+    → IsOpen q (with_offsets_from q.offset
     (Holder (indefinite_header h) (with_indefinite_lengths inside) (with_indefinite_lengths rest)))
-    → IsOpen q (with_offsets_from q.at (with_indefinite_lengths (Holder h inside rest)))
+    → IsOpen q (with_offsets_from q.offset (with_indefinite_lengths (Holder h inside rest)))
 made_holder q h inside rest e v =
     let one = Holder (indefinite_header h) (with_indefinite_lengths inside) (with_indefinite_lengths rest) in
     let other = Primitive h (lead h ++ spelling (with_indefinite_lengths inside)) (with_indefinite_lengths rest) in
-    subst (λ (k : Bool). IsOpen q (with_offsets_from q.at (if k then one else other))) (sym e) v
+    subst (λ (k : Bool). IsOpen q (with_offsets_from q.offset (if k then one else other))) (sym e) v
 
 made_open_holder : (q : Place) (h : HeaderValue) (inside : Forest) → h.constructed ≡ true
-    → IsOpen q (with_offsets_from q.at (OpenHolder (indefinite_header h) (with_indefinite_lengths inside)))
-    → IsOpen q (with_offsets_from q.at (with_indefinite_lengths (OpenHolder h inside)))
+    → IsOpen q (with_offsets_from q.offset (OpenHolder (indefinite_header h) (with_indefinite_lengths inside)))
+    → IsOpen q (with_offsets_from q.offset (with_indefinite_lengths (OpenHolder h inside)))
 made_open_holder q h inside e v =
     let one = OpenHolder (indefinite_header h) (with_indefinite_lengths inside) in
     let other = OpenPrimitive h (lead h ++ spelling (with_indefinite_lengths inside)) in
-    subst (λ (k : Bool). IsOpen q (with_offsets_from q.at (if k then one else other))) (sym e) v
+    subst (λ (k : Bool). IsOpen q (with_offsets_from q.offset (if k then one else other))) (sym e) v
 
 pub is_open : (p q : Place) (f : Forest) → IsFree p q → IsOpen p f
-    → IsOpen q (with_offsets_from q.at (with_indefinite_lengths f))
+    → IsOpen q (with_offsets_from q.offset (with_indefinite_lengths f))
 is_open p q NoMore k v = tt
 is_open p q (PaddingOctet rest) k v = (
   (k.padding v.0.0, k.definite v.0.0, free_fits p q k 1),
@@ -181,20 +181,20 @@ is_open p q (Primitive h c rest) k v =
     )
 is_open p q (Holder h inside rest) k v =
     let header = heading_at q h in
-    let at = q.at + length (opening header) in
+    let offset = q.offset + length (opening header) in
     let n = extent header (with_indefinite_lengths inside) in
     made_holder q h inside rest (constructed_at p h k.names v.0.0.header) (
       (
         record {
           header = constructed_header p q h k v.0.0.header;
           depth = λ _. subst (λ (d : ℕ). d < 128) (sym k.depth) (v.0.0.depth refl);
-          fits = free_fits p q k (extent header (with_offsets_from at (with_indefinite_lengths inside)));
+          fits = free_fits p q k (extent header (with_offsets_from offset (with_indefinite_lengths inside)));
         },
-        whole at inside v.0.1,
+        whole offset inside v.0.1,
         tt,
       ),
       is_open (place_of_children p h) (place_of_children q header) inside (free_inside p q h header refl k) v.1,
-      follows q h at (with_indefinite_lengths inside) (with_offsets_from (q.at + n) (with_indefinite_lengths rest))
+      follows q h offset (with_indefinite_lengths inside) (with_offsets_from (q.offset + n) (with_indefinite_lengths rest))
           (is_open (place_after p (extent h inside)) (place_after q n) rest (free_after p q (extent h inside) n k) v.2),
     )
 is_open p q (OpenPrimitive h c) k v = (

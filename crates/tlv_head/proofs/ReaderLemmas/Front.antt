@@ -79,24 +79,24 @@ made_sized os f id size m e =
     let all : length os ≡ length m.identifier + length m.lengths = rw m.octets_are (length-append m.identifier m.lengths) in
     record { identifier = omega (arith, e); few = omega (arith, e); room = omega arith }
 
-pub made_begins : (os rest : List ℕ) (at : ℕ) (named : Bool) (id : Identifier) (size : Size) → MakesHeader id size os
-    → BeginsWith (os ++ rest) at named (new_header (record { offset = at; named = named; class = id.class; constructed = id.constructed; number = id.number; size = size; id_len = id.octets }) os)
-made_begins os rest at named id size m =
+pub made_begins : (os rest : List ℕ) (offset : ℕ) (named : Bool) (id : Identifier) (size : Size) → MakesHeader id size os
+    → BeginsWith (os ++ rest) offset named (new_header (record { offset = offset; named = named; class = id.class; constructed = id.constructed; number = id.number; size = size; id_len = id.octets }) os)
+made_begins os rest offset named id size m =
     let front : take id.octets os ≡ m.identifier = rw (m.octets_are, m.identified.count) (take-append_seam m.identifier m.lengths) in
     let back : drop id.octets os ≡ m.lengths = rw (m.octets_are, m.identified.count) (drop-append_seam m.identifier m.lengths) in
     record {
       valid = rw (front, back) (record { identifier = m.identified.identified; lengths = m.sized; allowed = m.allowed });
-      offset = refl;
+      place = refl;
       named = refl;
       rest = rest;
       octets = rw (front, back, m.octets_are) refl;
     }
 
 -- an identifier, and a length after it
-pub begins_short : (os : List ℕ) (at : ℕ) (named : Bool) (id : Identifier) (size : Size) (before count : ℕ) → BeginsWithIdentifier os id → before ≡ id.octets
+pub begins_short : (os : List ℕ) (offset : ℕ) (named : Bool) (id : Identifier) (size : Size) (before count : ℕ) → BeginsWithIdentifier os id → before ≡ id.octets
     → BeginsWithLength (take (length os - before) (drop before os)) id.constructed size count
-    → BeginsWithFields os at named (record { offset = at; named = named; class = id.class; constructed = id.constructed; number = id.number; size = size; id_len = id.octets }) (before + count)
-begins_short os at named id size before count i e l =
+    → BeginsWithFields os offset named (record { offset = offset; named = named; class = id.class; constructed = id.constructed; number = id.number; size = size; id_len = id.octets }) (before + count)
+begins_short os offset named id size before count i e l =
     let rest : take (length os - before) (drop before os) ≡ drop before os = take_all (length os - before) (drop before os) (omega (arith, length-drop before os)) in
     let l' : BeginsWithLength (drop before os) id.constructed size count = subst (λ (xs : List ℕ). BeginsWithLength xs id.constructed size count) rest l in
     let i' : BeginsWithIdentifier os id = i in
@@ -114,6 +114,6 @@ begins_short os at named id size before count i e l =
     record {
       within = within;
       sized = made_sized (take (before + count) os) _ id size made refl;
-      begins = subst (λ (xs : List ℕ). BeginsWith xs at named (new_header (record { offset = at; named = named; class = id.class; constructed = id.constructed; number = id.number; size = size; id_len = id.octets }) (take (before + count) os)))
-          (take-append-drop (before + count) os) (made_begins (take (before + count) os) (drop (before + count) os) at named id size made);
+      begins = subst (λ (xs : List ℕ). BeginsWith xs offset named (new_header (record { offset = offset; named = named; class = id.class; constructed = id.constructed; number = id.number; size = size; id_len = id.octets }) (take (before + count) os)))
+          (take-append-drop (before + count) os) (made_begins (take (before + count) os) (drop (before + count) os) offset named id size made);
     }

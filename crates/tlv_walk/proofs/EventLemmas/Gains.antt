@@ -54,11 +54,11 @@ end_octets-brings true false = tt
 end_octets-brings false b = tt
 
 -- events that a step brings are brought after others
-follow-brings : (f : Forest → Forest) (before old new : List EventValue) (s : Step) → ((g : Forest) → events (f g) ≡ before ++ events g) → Brings (old ++ new) s
-    → Brings ((before ++ old) ++ new) (follow f s)
-follow-brings f before old new (Grown g) split e = ap single_octets (split g) ∙ apart-more before (events g) old new e
-follow-brings f before old new (Ended g) split e = ap single_octets (split g) ∙ apart-more before (events g) old new e
-follow-brings f before old new (Refused code) split e = tt
+follow-brings : (f : Forest → Forest) (earlier yielded more : List EventValue) (s : Step) → ((g : Forest) → events (f g) ≡ earlier ++ events g) → Brings (yielded ++ more) s
+    → Brings ((earlier ++ yielded) ++ more) (follow f s)
+follow-brings f earlier yielded more (Grown g) split e = ap single_octets (split g) ∙ apart-more earlier (events g) yielded more e
+follow-brings f earlier yielded more (Ended g) split e = ap single_octets (split g) ∙ apart-more earlier (events g) yielded more e
+follow-brings f earlier yielded more (Refused code) split e = tt
 
 -- a contents octet of a primitive brings that octet, and the end after the last
 open_primitive-brings : (h : HeaderValue) (c : List ℕ) (x : ℕ) → Brings (events (OpenPrimitive h c) ++ Bytes (x ∷ []) ∷ cond (eqb (length (c ++ x ∷ [])) (announced_length h.size)) (End ∷ []) []) (Grown (primitive_so_far h (c ++ x ∷ [])))
@@ -68,25 +68,25 @@ open_primitive-brings h c x = elim (cases_Bool (eqb (length (c ++ x ∷ [])) (an
 ]
 
 -- an element that holds others ends with its last
-holder-brings : (h : HeaderValue) (old new : List EventValue) (g : Forest) → single_octets (events g) ≡ single_octets (old ++ new)
-    → single_octets (events (Holder h g NoMore)) ≡ single_octets ((opening_events h ++ old) ++ (new ++ closing_event h g ∷ []))
-holder-brings h old new g e =
-    apart-more (opening_events h) (events g ++ closing_event h g ∷ []) old (new ++ closing_event h g ∷ [])
-    (apart-before (events g) (old ++ new) (closing_event h g ∷ []) e ∙ ap single_octets (append_assoc old new (closing_event h g ∷ [])))
+holder-brings : (h : HeaderValue) (yielded more : List EventValue) (g : Forest) → single_octets (events g) ≡ single_octets (yielded ++ more)
+    → single_octets (events (Holder h g NoMore)) ≡ single_octets ((opening_events h ++ yielded) ++ (more ++ closing_event h g ∷ []))
+holder-brings h yielded more g e =
+    apart-more (opening_events h) (events g ++ closing_event h g ∷ []) yielded (more ++ closing_event h g ∷ [])
+    (apart-before (events g) (yielded ++ more) (closing_event h g ∷ []) e ∙ ap single_octets (append_assoc yielded more (closing_event h g ∷ [])))
 
 -- an element that holds others brings what they bring, and its end after the last
-holder_so_far-brings : (h : HeaderValue) (old new : List EventValue) (g : Forest) → single_octets (events g) ≡ single_octets (old ++ new)
-    → single_octets (events (holder_so_far h g)) ≡ single_octets ((opening_events h ++ old) ++ (new ++ closing h (Grown g)))
-holder_so_far-brings h old new g e = elim (cases_Bool (is_filled h g)) [
-  | inl full ↦ rw full (holder-brings h old new g e)
-  | inr less ↦ rw (less, append-nil new) (apart-more (opening_events h) (events g) old new e)
+holder_so_far-brings : (h : HeaderValue) (yielded more : List EventValue) (g : Forest) → single_octets (events g) ≡ single_octets (yielded ++ more)
+    → single_octets (events (holder_so_far h g)) ≡ single_octets ((opening_events h ++ yielded) ++ (more ++ closing h (Grown g)))
+holder_so_far-brings h yielded more g e = elim (cases_Bool (is_filled h g)) [
+  | inl full ↦ rw full (holder-brings h yielded more g e)
+  | inr less ↦ rw (less, append-nil more) (apart-more (opening_events h) (events g) yielded more e)
 ]
 
 -- a step of what an element holds
-settle-brings : (h : HeaderValue) (old new : List EventValue) (s : Step) → Brings (old ++ new) s → Brings ((opening_events h ++ old) ++ (new ++ closing h s)) (settle h s)
-settle-brings h old new (Grown g) e = holder_so_far-brings h old new g e
-settle-brings h old new (Ended g) e = holder-brings h old new g e
-settle-brings h old new (Refused code) e = tt
+settle-brings : (h : HeaderValue) (yielded more : List EventValue) (s : Step) → Brings (yielded ++ more) s → Brings ((opening_events h ++ yielded) ++ (more ++ closing h s)) (settle h s)
+settle-brings h yielded more (Grown g) e = holder_so_far-brings h yielded more g e
+settle-brings h yielded more (Ended g) e = holder-brings h yielded more g e
+settle-brings h yielded more (Refused code) e = tt
 
 -- a wrapping BIT STRING begins with its header and the octet before what it holds
 waiting-opens : (h : HeaderValue) (constructed : Bool) → h.constructed ≡ constructed → lead h ≡ 0 ∷ [] → opening_events h ≡ Enter h ∷ Unused ∷ []
@@ -109,11 +109,11 @@ push-brings p (PaddingOctet rest) x w = follow-brings PaddingOctet (Pad (0 ∷ [
 push-brings p (Primitive h c rest) x w =
     follow-brings (Primitive h c) (Begin h ∷ Bytes c ∷ End ∷ []) (events rest) _ _ (λ g. refl) (push-brings (place_after p (length (octets_of h) + length c)) rest x w.1)
 push-brings p (Holder h inside rest) x w =
-    let before : List EventValue = opening_events h ++ (events inside ++ closing_event h inside ∷ []) in
-    let split : (g : Forest) → events (Holder h inside g) ≡ before ++ events g =
+    let earlier : List EventValue = opening_events h ++ (events inside ++ closing_event h inside ∷ []) in
+    let split : (g : Forest) → events (Holder h inside g) ≡ earlier ++ events g =
     λ g. rw (append_assoc (opening_events h) (events inside ++ closing_event h inside ∷ []) (events g), append_assoc (events inside) (closing_event h inside ∷ []) (events g)) in
-    let brings : Brings ((before ++ events rest) ++ gained p (Holder h inside rest) x) (push p (Holder h inside rest) x) =
-    follow-brings (Holder h inside) before (events rest) _ _ split (push-brings (place_after p (extent h inside)) rest x w.2) in
+    let brings : Brings ((earlier ++ events rest) ++ gained p (Holder h inside rest) x) (push p (Holder h inside rest) x) =
+    follow-brings (Holder h inside) earlier (events rest) _ _ split (push-brings (place_after p (extent h inside)) rest x w.2) in
     subst (λ (es : List EventValue). Brings (es ++ gained p (Holder h inside rest) x) (push p (Holder h inside rest) x)) (sym (split rest)) brings
 push-brings p (OpenPrimitive h c) x w = open_primitive-brings h c x
 push-brings p (OpenHolder h inside) x w = settle-brings h (events inside) _ _ (push-brings (place_of_children p h) inside x w.1)

@@ -11,7 +11,7 @@ use Rattle.tlv_walk.specs.Events.{AreEqualJoined, EventValue, events}
 use Rattle.tlv_walk.specs.Forest.{Forest}
 use Rattle.tlv_walk.specs.Inside.{can_name, is_among}
 use Rattle.tlv_walk.specs.WalkerState.{WalkerState, first_without_wrapper_in}
-use Rattle.tlv_walk.specs.Private.WalkerState.{next_wrapper, wrappers_after}
+use Rattle.tlv_walk.specs.Private.WrapperCount.{next_wrapper, wrappers_after}
 use Rattle.tlv_walk.specs.Place.{IsOpen, top_place}
 use Rattle.tlv_walk.specs.Stands.{Stands, filled_ends, is_end, waiting_events, waiting_events_in}
 use Rattle.tlv_walk.specs.Wrappers.{first_other, first_without_wrapper, entered_offsets, wrapper_offsets}
@@ -20,89 +20,89 @@ use Rattle.tlv_walk.proofs.EventLemmas.Named.{AreRising, can-to}
 use Rattle.tlv_walk.proofs.EventLemmas.Wrappers.{Rise, enters-apart, enters-append, wrapper_offsets-entered, wrapper_offsets-rise}
 
 -- an offset is not that of another
-not_among : (n at : ℕ) (ats : List ℕ) → n ≢ at → is_among n (at ∷ ats) ≡ is_among n ats
-not_among n at ats e = rw (ne_eqb at n (λ z. e (sym z))) refl
+not_among : (n offset : ℕ) (offsets : List ℕ) → n ≢ offset → is_among n (offset ∷ offsets) ≡ is_among n offsets
+not_among n offset offsets e = rw (ne_eqb offset n (λ z. e (sym z))) refl
 
-is_first : (n : ℕ) (ats : List ℕ) → is_among n (n ∷ ats) ≡ true
-is_first n ats = rw (eq-eqb n n refl) refl
+is_first : (n : ℕ) (offsets : List ℕ) → is_among n (n ∷ offsets) ≡ true
+is_first n offsets = rw (eq-eqb n n refl) refl
 
 -- a smaller offset changes nothing for larger ones
-first_other-larger : (least at : ℕ) (ns ats : List ℕ) → at < least → AreRising least ns → first_other ns (at ∷ ats) ≡ first_other ns ats
-first_other-larger least at [] ats h r = refl
-first_other-larger least at (n ∷ ns) ats h r =
-    ap₂ (λ (k : Bool) (o : Option ℕ). if not k then Some n else o) (not_among n at ats (λ e. omega (arith, e, h, r.0))) (first_other-larger (n + 1) at ns ats (omega (arith, h, r.0)) r.2)
+first_other-larger : (least offset : ℕ) (ns offsets : List ℕ) → offset < least → AreRising least ns → first_other ns (offset ∷ offsets) ≡ first_other ns offsets
+first_other-larger least offset [] offsets h r = refl
+first_other-larger least offset (n ∷ ns) offsets h r =
+    ap₂ (λ (k : Bool) (o : Option ℕ). if not k then Some n else o) (not_among n offset offsets (λ e. omega (arith, e, h, r.0))) (first_other-larger (n + 1) offset ns offsets (omega (arith, h, r.0)) r.2)
 
 -- an offset among those that rise is not below the least
-among_rise : (least end n : ℕ) (ats : List ℕ) → Rise least end ats → is_among n ats ≡ true → least ≤ n
+among_rise : (least end n : ℕ) (offsets : List ℕ) → Rise least end offsets → is_among n offsets ≡ true → least ≤ n
 among_rise least end n [] r e = absurd (cc (e))
-among_rise least end n (at ∷ ats) r e = elim (cases_eq n at) [
+among_rise least end n (offset ∷ offsets) r e = elim (cases_eq n offset) [
   | inl same ↦ omega (arith, same, r.0)
-  | inr other ↦ omega (arith, r.0, among_rise (at + 1) end n ats r.1 (sym (not_among n at ats other) ∙ e))
+  | inr other ↦ omega (arith, r.0, among_rise (offset + 1) end n offsets r.1 (sym (not_among n offset offsets other) ∙ e))
 ]
 
 -- counting goes on after the first of the list
-next-after : (n : ℕ) (ns : List ℕ) (k at : ℕ) → next_wrapper (n ∷ ns) (suc k) at ≡ suc (next_wrapper ns k at)
-next-after n ns k at = by (slice_get ns k)
+next-after : (n : ℕ) (ns : List ℕ) (k offset : ℕ) → next_wrapper (n ∷ ns) (suc k) offset ≡ suc (next_wrapper ns k offset)
+next-after n ns k offset = by (slice_get ns k)
   where
-    by : (o : Option ℕ) → option_map_or (λ m. if eqb m at then suc k + 1 else suc k) o (suc k) ≡ suc (option_map_or (λ m. if eqb m at then k + 1 else k) o k)
+    by : (o : Option ℕ) → option_map_or (λ m. if eqb m offset then suc k + 1 else suc k) o (suc k) ≡ suc (option_map_or (λ m. if eqb m offset then k + 1 else k) o k)
     by None = refl
-    by (Some m) = elim (cases_Bool (eqb m at)) [
+    by (Some m) = elim (cases_Bool (eqb m offset)) [
       | inl e ↦ rw e (omega arith)
       | inr e ↦ rw e refl
     ]
 
-found-after : (n : ℕ) (ns : List ℕ) (k : ℕ) (ats : List ℕ) → wrappers_after (n ∷ ns) (suc k) ats ≡ suc (wrappers_after ns k ats)
+found-after : (n : ℕ) (ns : List ℕ) (k : ℕ) (offsets : List ℕ) → wrappers_after (n ∷ ns) (suc k) offsets ≡ suc (wrappers_after ns k offsets)
 found-after n ns k [] = refl
-found-after n ns k (at ∷ ats) = ap (λ (j : ℕ). wrappers_after (n ∷ ns) j ats) (next-after n ns k at) ∙ found-after n ns (next_wrapper ns k at) ats
+found-after n ns k (offset ∷ offsets) = ap (λ (j : ℕ). wrappers_after (n ∷ ns) j offsets) (next-after n ns k offset) ∙ found-after n ns (next_wrapper ns k offset) offsets
 
 none_there : (k : ℕ) → slice_get {X = ℕ} [] k ≡ None
 none_there k = refl
 
 -- the count is the index of the first offset that is not among the others
-first-found : (inside ats : List ℕ) (least low end : ℕ) → AreRising least inside → Rise low end ats → slice_get inside (wrappers_after inside 0 ats) ≡ first_other inside ats
-first-found [] ats least low end r q = none_there (wrappers_after [] 0 ats)
+first-found : (inside offsets : List ℕ) (least low end : ℕ) → AreRising least inside → Rise low end offsets → slice_get inside (wrappers_after inside 0 offsets) ≡ first_other inside offsets
+first-found [] offsets least low end r q = none_there (wrappers_after [] 0 offsets)
 first-found (n ∷ ns) [] least low end r q = refl
-first-found (n ∷ ns) (at ∷ ats) least low end r q = elim (cases_eq n at) [
+first-found (n ∷ ns) (offset ∷ offsets) least low end r q = elim (cases_eq n offset) [
   | inl same ↦
-      ap (λ (k : Bool). slice_get (n ∷ ns) (wrappers_after (n ∷ ns) (if k then 1 else 0) ats)) (eq-eqb n at same)
-      ∙ ap (slice_get (n ∷ ns)) (found-after n ns 0 ats)
-      ∙ first-found ns ats (n + 1) (at + 1) end r.2 q.1
-      ∙ sym (first_other-larger (n + 1) at ns ats (omega (arith, same)) r.2)
-      ∙ ap (λ (k : Bool). if not k then Some n else first_other ns (at ∷ ats)) (sym (ap (λ (m : ℕ). is_among n (m ∷ ats)) (sym same) ∙ is_first n ats))
+      ap (λ (k : Bool). slice_get (n ∷ ns) (wrappers_after (n ∷ ns) (if k then 1 else 0) offsets)) (eq-eqb n offset same)
+      ∙ ap (slice_get (n ∷ ns)) (found-after n ns 0 offsets)
+      ∙ first-found ns offsets (n + 1) (offset + 1) end r.2 q.1
+      ∙ sym (first_other-larger (n + 1) offset ns offsets (omega (arith, same)) r.2)
+      ∙ ap (λ (k : Bool). if not k then Some n else first_other ns (offset ∷ offsets)) (sym (ap (λ (m : ℕ). is_among n (m ∷ offsets)) (sym same) ∙ is_first n offsets))
   | inr other ↦
-      ap (λ (k : Bool). slice_get (n ∷ ns) (wrappers_after (n ∷ ns) (if k then 1 else 0) ats)) (ne_eqb n at other)
-      ∙ first-found (n ∷ ns) ats least (at + 1) end r q.1
-      ∙ elim (cases_Bool (is_among n ats)) [
+      ap (λ (k : Bool). slice_get (n ∷ ns) (wrappers_after (n ∷ ns) (if k then 1 else 0) offsets)) (ne_eqb n offset other)
+      ∙ first-found (n ∷ ns) offsets least (offset + 1) end r q.1
+      ∙ elim (cases_Bool (is_among n offsets)) [
         | inl among ↦
-            let larger : at < n + 1 = omega (arith, among_rise (at + 1) end n ats q.1 among) in
-            ap₂ (λ (k : Bool) (o : Option ℕ). if not k then Some n else o) (sym (not_among n at ats other)) (sym (first_other-larger (n + 1) at ns ats larger r.2))
-        | inr none ↦ rw (not_among n at ats other, none) refl
+            let larger : offset < n + 1 = omega (arith, among_rise (offset + 1) end n offsets q.1 among) in
+            ap₂ (λ (k : Bool) (o : Option ℕ). if not k then Some n else o) (sym (not_among n offset offsets other)) (sym (first_other-larger (n + 1) offset ns offsets larger r.2))
+        | inr none ↦ rw (not_among n offset offsets other, none) refl
       ]
 ]
 
 -- ---- of a walker
 
 -- the events that wait enter no wrapper
-ends_enter_none : (at : ℕ) (fs : List FrameValue) → entered_offsets (filled_ends at fs) ≡ []
-ends_enter_none at [] = refl
-ends_enter_none at (f ∷ fs) = elim (cases_Bool (is_end f.end at)) [
+ends_enter_none : (offset : ℕ) (fs : List FrameValue) → entered_offsets (filled_ends offset fs) ≡ []
+ends_enter_none offset [] = refl
+ends_enter_none offset (f ∷ fs) = elim (cases_Bool (is_end f.end offset)) [
   | inl e ↦ elim (cases_Bool f.wrapper) [
-    | inl k ↦ rw (e, k) (ends_enter_none at fs)
-    | inr k ↦ rw (e, k) (ends_enter_none at fs)
+    | inl k ↦ rw (e, k) (ends_enter_none offset fs)
+    | inr k ↦ rw (e, k) (ends_enter_none offset fs)
   ]
   | inr e ↦ rw e refl
 ]
 
-waits_enter_none : (f : PhaseValue) (fs : List FrameValue) (at : ℕ) → entered_offsets (waiting_events_in f fs at) ≡ []
-waits_enter_none phase.Between fs at = ends_enter_none at fs
-waits_enter_none (phase.InHeader r) fs at = refl
-waits_enter_none (phase.InPrimitive left) fs at = elim (cases_Bool (eqb left 0)) [
-  | inl e ↦ rw e (ends_enter_none at fs)
+waits_enter_none : (f : PhaseValue) (fs : List FrameValue) (offset : ℕ) → entered_offsets (waiting_events_in f fs offset) ≡ []
+waits_enter_none phase.Between fs offset = ends_enter_none offset fs
+waits_enter_none (phase.InHeader r) fs offset = refl
+waits_enter_none (phase.InPrimitive left) fs offset = elim (cases_Bool (eqb left 0)) [
+  | inl e ↦ rw e (ends_enter_none offset fs)
   | inr e ↦ rw e refl
 ]
-waits_enter_none phase.InBitString fs at = refl
-waits_enter_none phase.InEndOctets fs at = refl
-waits_enter_none (phase.Refused fault) fs at = refl
+waits_enter_none phase.InBitString fs offset = refl
+waits_enter_none phase.InEndOctets fs offset = refl
+waits_enter_none (phase.Refused fault) fs offset = refl
 
 -- events that are equal joined enter the same wrappers
 enters-joined : (xs ys : List EventValue) → AreEqualJoined xs ys → entered_offsets xs ≡ entered_offsets ys
@@ -118,8 +118,8 @@ pub yielded_unused : (framing : Framing) (yielded waits : List EventValue) (f : 
     → slice_get framing.inside (wrappers_after framing.inside 0 (entered_offsets yielded)) ≡ first_without_wrapper framing.inside f
 yielded_unused framing yielded waits f named v none e =
     let same : entered_offsets yielded ≡ wrapper_offsets f = yielded_wrappers framing yielded waits f v none e in
-    ap (λ (ats : List ℕ). slice_get framing.inside (wrappers_after framing.inside 0 ats)) same
-    ∙ first-found framing.inside (wrapper_offsets f) 0 (top_place framing).at _ (can-to framing.inside named).1 (wrapper_offsets-rise (top_place framing) f v)
+    ap (λ (offsets : List ℕ). slice_get framing.inside (wrappers_after framing.inside 0 offsets)) same
+    ∙ first-found framing.inside (wrapper_offsets f) 0 (top_place framing).offset _ (can-to framing.inside named).1 (wrapper_offsets-rise (top_place framing) f v)
 
 pub stands_unused : (w : WalkerState) (b : List ℕ) (yielded : List EventValue) → (st : Stands w b yielded) → first_without_wrapper_in w ≡ first_without_wrapper w.framing.inside st.reads.reading
 stands_unused w b yielded st =

@@ -234,7 +234,7 @@ wrapper-rises a b h e l = elim (cases_Bool h.constructed) [
 ]
 
 -- the offsets of the wrappers rise, and are those of octets of the forest
-pub wrapper_offsets-rise : (p : Place) (f : Forest) → IsOpen p f → Rise p.at (p.at + length (spelling f)) (wrapper_offsets f)
+pub wrapper_offsets-rise : (p : Place) (f : Forest) → IsOpen p f → Rise p.offset (p.offset + length (spelling f)) (wrapper_offsets f)
 wrapper_offsets-rise p NoMore w = omega arith
 wrapper_offsets-rise p (PaddingOctet rest) w = rise-within _ _ _ _ (wrapper_offsets rest) (omega arith) (omega arith) (wrapper_offsets-rise (place_after p 1) rest w.1)
 wrapper_offsets-rise p (Primitive h c rest) w =
@@ -243,18 +243,18 @@ wrapper_offsets-rise p (Primitive h c rest) w =
 wrapper_offsets-rise p (Holder h inside rest) w =
     let two : 2 ≤ length (octets_of h) = header-length h w.0.0.header.valid in
     let size : length (spelling (Holder h inside rest)) ≡ extent h inside + length (spelling rest) = length-holder h inside rest in
-    rise-append p.at (p.at + length (opening h)) _ (wrapper_at h) (wrapper_offsets inside ++ wrapper_offsets rest)
-    (wrapper-rises p.at (p.at + length (opening h)) h w.0.0.header.offset (omega (arith, length-opening h)))
-    (rise-append (p.at + length (opening h)) (p.at + extent h inside) _ (wrapper_offsets inside) (wrapper_offsets rest)
+    rise-append p.offset (p.offset + length (opening h)) _ (wrapper_at h) (wrapper_offsets inside ++ wrapper_offsets rest)
+    (wrapper-rises p.offset (p.offset + length (opening h)) h w.0.0.header.offset (omega (arith, length-opening h)))
+    (rise-append (p.offset + length (opening h)) (p.offset + extent h inside) _ (wrapper_offsets inside) (wrapper_offsets rest)
     (rise-within _ _ _ _ (wrapper_offsets inside) (omega arith) (omega arith) (wrapper_offsets-rise (place_of_children p h) inside w.1))
     (rise-within _ _ _ _ (wrapper_offsets rest) (omega arith) (omega arith) (wrapper_offsets-rise (place_after p (extent h inside)) rest w.2)))
 wrapper_offsets-rise p (OpenPrimitive h c) w = omega arith
 wrapper_offsets-rise p (OpenHolder h inside) w =
     let two : 2 ≤ length (octets_of h) = header-length h w.0.0.header.valid in
-    rise-append p.at (p.at + length (opening h)) _ (wrapper_at h) (wrapper_offsets inside)
-    (wrapper-rises p.at (p.at + length (opening h)) h w.0.0.header.offset (omega (arith, length-opening h)))
+    rise-append p.offset (p.offset + length (opening h)) _ (wrapper_at h) (wrapper_offsets inside)
+    (wrapper-rises p.offset (p.offset + length (opening h)) h w.0.0.header.offset (omega (arith, length-opening h)))
     (rise-within _ _ _ _ (wrapper_offsets inside) (omega arith) (omega (arith, length-append (opening h) (spelling inside))) (wrapper_offsets-rise (place_of_children p h) inside w.1))
-wrapper_offsets-rise p (OpenBitString h) w = wrapper-rises p.at _ h w.0.header.offset (omega (arith, header-length h w.0.header.valid))
+wrapper_offsets-rise p (OpenBitString h) w = wrapper-rises p.offset _ h w.0.header.offset (omega (arith, header-length h w.0.header.valid))
 wrapper_offsets-rise p (OpenHeader octets) w = omega arith
 wrapper_offsets-rise p OpenEndOctets w = omega arith
 

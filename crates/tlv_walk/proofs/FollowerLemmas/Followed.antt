@@ -13,9 +13,9 @@ module _ {S : Type 0} where
   -- three in a row
   pub and_then-assoc : (t : Effect S) (f g : S → Effect S) → and_then (and_then t f) g ≡ and_then t (λ u. and_then (f u) g)
   and_then-assoc t f g =
-      let mid = f t.state in
-      let last = g mid.state in
-      ap (λ (l : List ℕ). record last { put = l }) (append_assoc t.put mid.put last.put)
+      let middle = f t.state in
+      let last = g middle.state in
+      ap (λ (l : List ℕ). record last { put = l }) (append_assoc t.put middle.put last.put)
 
   -- nothing after, and nothing before
   pub and_then-stay : (t : Effect S) → t.goes ≡ On → and_then t no_effect ≡ t

@@ -37,10 +37,10 @@ walked_none w piece = record {
 }
 
 -- one part after another
-pub walked_both : (w u v : WalkerState) (before mid after : List ℕ) (es fs : List EventValue) → WalksOver w u before mid es → WalksOver u v mid after fs → WalksOver w v before after (es ++ fs)
-walked_both w u v before mid after es fs x y = record {
+pub walked_both : (w u v : WalkerState) (piece rest left : List ℕ) (es fs : List EventValue) → WalksOver w u piece rest es → WalksOver u v rest left fs → WalksOver w v piece left (es ++ fs)
+walked_both w u v piece rest left es fs x y = record {
   taken = x.taken ++ y.taken;
-  piece_is = x.piece_is ∙ ap (λ (o : List ℕ). x.taken ++ o) y.piece_is ∙ sym (append_assoc x.taken y.taken after);
+  piece_is = x.piece_is ∙ ap (λ (o : List ℕ). x.taken ++ o) y.piece_is ∙ sym (append_assoc x.taken y.taken left);
   framing = y.framing ∙ x.framing;
   stands = λ b yielded s.
       subst (λ (o : List ℕ). Stands v o (yielded ++ (es ++ fs))) (append_assoc b x.taken y.taken)
@@ -48,9 +48,9 @@ walked_both w u v before mid after es fs x y = record {
 }
 
 -- an octet is refused after what was walked over
-refused_there : (w u v : WalkerState) (piece mid after : List ℕ) (f : Fault) (more : List EventValue) (x : WalksOver w u piece mid more) (o : List ℕ) (yielded : List EventValue)
-    → Stands u (o ++ x.taken) (yielded ++ more) → StepsTo u v mid after (step.Fault f) → WalksTo w v piece more f o yielded
-refused_there w u v piece mid after f more x o yielded st (inl r) =
+refused_there : (w u v : WalkerState) (piece rest left : List ℕ) (f : Fault) (more : List EventValue) (x : WalksOver w u piece rest more) (o : List ℕ) (yielded : List EventValue)
+    → Stands u (o ++ x.taken) (yielded ++ more) → StepsTo u v rest left (step.Fault f) → WalksTo w v piece more f o yielded
+refused_there w u v piece rest left f more x o yielded st (inl r) =
     let all : (o ++ x.taken) ++ r.takes.taken ≡ o ++ (x.taken ++ r.takes.taken) = append_assoc o x.taken r.takes.taken in
     let there : StandsRefused v (o ++ (x.taken ++ r.takes.taken)) r.octet (yielded ++ more) f =
     subst (λ (l : List ℕ). StandsRefused v l r.octet (yielded ++ more) f) all (r.stands (o ++ x.taken) (yielded ++ more) st) in
@@ -62,17 +62,17 @@ refused_there w u v piece mid after f more x o yielded st (inl r) =
       framing = r.takes.framing ∙ x.framing;
       stands = there;
     }
-refused_there w u v piece mid after f more x o yielded st (inr r) = absurd (never_refused u (o ++ x.taken) (yielded ++ more) f st r.refused)
+refused_there w u v piece rest left f more x o yielded st (inr r) = absurd (never_refused u (o ++ x.taken) (yielded ++ more) f st r.refused)
 
 -- what a walker yielded of the front of octets, others follow
-yielded_prefix : (w v : WalkerState) (b piece after : List ℕ) (yielded more : List EventValue) (f : Forest) → WalksOver w v piece after more → Stands w b yielded → IsReading w.framing (b ++ piece) f
+yielded_prefix : (w v : WalkerState) (b piece rest : List ℕ) (yielded more : List EventValue) (f : Forest) → WalksOver w v piece rest more → Stands w b yielded → IsReading w.framing (b ++ piece) f
     → (others : List EventValue) × AreEqualJoined (yielded ++ (more ++ others)) (events f)
-yielded_prefix w v b piece after yielded more f walked st r =
+yielded_prefix w v b piece rest yielded more f walked st r =
     let there : Stands v (b ++ walked.taken) (yielded ++ more) = walked.stands b yielded st in
-    let all : b ++ piece ≡ (b ++ walked.taken) ++ after = ap (λ (o : List ℕ). b ++ o) walked.piece_is ∙ sym (append_assoc b walked.taken after) in
-    let r' : IsReading v.framing ((b ++ walked.taken) ++ after) f =
-    subst (λ (g : Framing). IsReading g ((b ++ walked.taken) ++ after) f) (sym walked.framing) (subst (λ (o : List ℕ). IsReading w.framing o f) all r) in
-    let goes : (es : List EventValue) × AreEqualJoined (events f) (events there.reads.reading ++ es) = events-prefix v.framing (b ++ walked.taken) after there.reads.reading f there.reads.is_reading r' in (
+    let all : b ++ piece ≡ (b ++ walked.taken) ++ rest = ap (λ (o : List ℕ). b ++ o) walked.piece_is ∙ sym (append_assoc b walked.taken rest) in
+    let r' : IsReading v.framing ((b ++ walked.taken) ++ rest) f =
+    subst (λ (g : Framing). IsReading g ((b ++ walked.taken) ++ rest) f) (sym walked.framing) (subst (λ (o : List ℕ). IsReading w.framing o f) all r) in
+    let goes : (es : List EventValue) × AreEqualJoined (events f) (events there.reads.reading ++ es) = events-prefix v.framing (b ++ walked.taken) rest there.reads.reading f there.reads.is_reading r' in (
       waiting_events v ++ goes.0,
       joined-from_apart (yielded ++ (more ++ (waiting_events v ++ goes.0))) (events f)
           (ap single_octets (sym (append_assoc yielded more (waiting_events v ++ goes.0)) ∙ sym (append_assoc (yielded ++ more) (waiting_events v) goes.0))
@@ -80,9 +80,9 @@ yielded_prefix w v b piece after yielded more f walked st r =
           ∙ sym (apart-from_joined (events f) (events there.reads.reading ++ goes.0) goes.1)),
     )
 
-pub walked_goes_on : (w v : WalkerState) (piece after : List ℕ) (more : List EventValue) → WalksOver w v piece after more → (b : List ℕ) (yielded : List EventValue) → Stands w b yielded → GoesOnIn w.framing (b ++ piece) (yielded ++ more)
-walked_goes_on w v piece after more walked b yielded st f r =
-    let o = yielded_prefix w v b piece after yielded more f walked st r in
+pub walked_goes_on : (w v : WalkerState) (piece rest : List ℕ) (more : List EventValue) → WalksOver w v piece rest more → (b : List ℕ) (yielded : List EventValue) → Stands w b yielded → GoesOnIn w.framing (b ++ piece) (yielded ++ more)
+walked_goes_on w v piece rest more walked b yielded st f r =
+    let o = yielded_prefix w v b piece rest yielded more f walked st r in
     (o.0, subst (λ (es : List EventValue). AreEqualJoined es (events f)) (sym (append_assoc yielded more o.0)) o.1)
 
 module _ {S : Type 0} (next : S → EventValue → Effect S) where
@@ -132,14 +132,14 @@ module _ {S : Type 0} (next : S → EventValue → Effect S) where
     }
 
     -- it followed one event more
-    pub follows_event : (x y z : WalkState S D) (piece mid after : List ℕ) (e : EventValue) (goes : Go) → HasFollowed x y piece mid go.On → WalksOver y.walker z.walker mid after (e ∷ [])
+    pub follows_event : (x y z : WalkState S D) (piece rest left : List ℕ) (e : EventValue) (goes : Go) → HasFollowed x y piece rest go.On → WalksOver y.walker z.walker rest left (e ∷ [])
         → (z.follower ≡ (next y.follower e).state) × (goes ≡ (next y.follower e).goes) → (g : Go) → Puts {T = Go} {E = WriteFault} state_of y.out z.out (next y.follower e).put (Ok g)
-        → HasFollowed x z piece after goes
-    follows_event x y z piece mid after e goes h walks has g p = record {
+        → HasFollowed x z piece left goes
+    follows_event x y z piece rest left e goes h walks has g p = record {
       more = h.more ++ e ∷ [];
       follows = record {
         made = made_both x.follower y.follower z.follower h.more (e ∷ []) goes h.follows.made (made_event y.follower z.follower e goes has.0 has.1);
-        walked = walked_both x.walker y.walker z.walker piece mid after h.more (e ∷ []) h.follows.walked walks;
+        walked = walked_both x.walker y.walker z.walker piece rest left h.more (e ∷ []) h.follows.walked walks;
       };
       puts = puts_then_as state_of x.out y.out z.out (effect_of next x.follower h.more).put (next y.follower e).put (effect_of next x.follower (h.more ++ e ∷ [])).put tt (Ok tt) h.puts
           (puts_as state_of y.out z.out (next y.follower e).put (next y.follower e).put g tt p refl) (one_put x.follower y.follower h.more e h.follows.made);
@@ -153,60 +153,60 @@ module _ {S : Type 0} (next : S → EventValue → Effect S) where
     -- the follower had enough
     pub pauses_enough : (x y : WalkState S D) (piece rest : List ℕ) (goes : Go) → HasFollowed x y piece rest goes → goes ≡ go.Enough → IsAfterEvent y.walker.phase
         → FollowsPiece next state_of x y piece (Ok pause.Enough)
-    pauses_enough x y piece rest goes h enough after = record {
+    pauses_enough x y piece rest goes h enough after_event = record {
       more = h.more;
       pauses = record {
         rest = rest;
         follows = subst (λ (k : Go). Follows next x y piece rest h.more k) enough h.follows;
-        after_event = after;
+        after_event = after_event;
       };
       puts = same_put x y h.more pause.Enough h.puts;
     }
 
     -- the drain failed at an event
-    pub fails_event : (x y z : WalkState S D) (v : WalkerState) (piece mid after : List ℕ) (e : EventValue) → HasFollowed x y piece mid go.On
-        → WalksOver y.walker v mid after (e ∷ []) → (i j : WriteFault) → Puts {T = Go} {E = WriteFault} state_of y.out z.out (next y.follower e).put (Err i)
+    pub fails_event : (x y z : WalkState S D) (v : WalkerState) (piece rest left : List ℕ) (e : EventValue) → HasFollowed x y piece rest go.On
+        → WalksOver y.walker v rest left (e ∷ []) → (i j : WriteFault) → Puts {T = Go} {E = WriteFault} state_of y.out z.out (next y.follower e).put (Err i)
         → FollowsPiece next state_of x z piece (Err j)
-    fails_event x y z v piece mid after e h walks i j p = record {
+    fails_event x y z v piece rest left e h walks i j p = record {
       more = h.more ++ e ∷ [];
       pauses = record {
-        yields = walked_goes_on x.walker v piece after (h.more ++ e ∷ []) (walked_both x.walker y.walker v piece mid after h.more (e ∷ []) h.follows.walked walks);
+        yields = walked_goes_on x.walker v piece left (h.more ++ e ∷ []) (walked_both x.walker y.walker v piece rest left h.more (e ∷ []) h.follows.walked walks);
       };
       puts = puts_failed_last state_of x.out z.out _ i (Err j)
           (puts_then_as state_of x.out y.out z.out (effect_of next x.follower h.more).put (next y.follower e).put (effect_of next x.follower (h.more ++ e ∷ [])).put tt (Err i) h.puts p (one_put x.follower y.follower h.more e h.follows.made)) refl;
     }
 
     -- the piece is used up
-    pub pauses_used_up : (x y : WalkState S D) (v : WalkerState) (piece mid after : List ℕ) → HasFollowed x y piece mid go.On
-        → StepsTo y.walker v mid after step.NeedMore → y.walker.offset + length mid ≡ x.walker.offset + length piece
+    pub pauses_used_up : (x y : WalkState S D) (v : WalkerState) (piece rest left : List ℕ) → HasFollowed x y piece rest go.On
+        → StepsTo y.walker v rest left step.NeedMore → y.walker.offset + length rest ≡ x.walker.offset + length piece
         → FollowsPiece next state_of x (walk_state v y.follower y.out) piece (Ok pause.UsedUp)
-    pauses_used_up x y v piece mid after h steps walked = record {
+    pauses_used_up x y v piece rest left h steps walked = record {
       more = h.more;
       pauses = record {
         follows = record {
           made = h.follows.made;
           walked = record {
-            taken = h.follows.walked.taken ++ mid;
-            piece_is = h.follows.walked.piece_is ∙ sym (append-nil (h.follows.walked.taken ++ mid));
+            taken = h.follows.walked.taken ++ rest;
+            piece_is = h.follows.walked.piece_is ∙ sym (append-nil (h.follows.walked.taken ++ rest));
             framing = steps.takes.framing ∙ h.follows.walked.framing;
             stands = λ o es st.
-                subst (λ (all : List ℕ). Stands v all (es ++ h.more)) (append_assoc o h.follows.walked.taken mid) (steps.stands (o ++ h.follows.walked.taken) (es ++ h.more) (h.follows.walked.stands o es st));
+                subst (λ (all : List ℕ). Stands v all (es ++ h.more)) (append_assoc o h.follows.walked.taken rest) (steps.stands (o ++ h.follows.walked.taken) (es ++ h.more) (h.follows.walked.stands o es st));
           };
         };
-        offset = omega (arith, steps.takes.offset, ap length steps.takes.piece_is, ap length steps.none_left, length-append steps.takes.taken after, walked);
+        offset = omega (arith, steps.takes.offset, ap length steps.takes.piece_is, ap length steps.none_left, length-append steps.takes.taken left, walked);
         ready = steps.ready;
       };
       puts = same_put x (walk_state v y.follower y.out) h.more pause.UsedUp h.puts;
     }
 
     -- an octet is refused
-    pub pauses_fault : (x y : WalkState S D) (v : WalkerState) (piece mid after : List ℕ) (f : Fault) → HasFollowed x y piece mid go.On
-        → StepsTo y.walker v mid after (step.Fault f) → FollowsPiece next state_of x (walk_state v y.follower y.out) piece (Ok (pause.Fault f))
-    pauses_fault x y v piece mid after f h steps = record {
+    pub pauses_fault : (x y : WalkState S D) (v : WalkerState) (piece rest left : List ℕ) (f : Fault) → HasFollowed x y piece rest go.On
+        → StepsTo y.walker v rest left (step.Fault f) → FollowsPiece next state_of x (walk_state v y.follower y.out) piece (Ok (pause.Fault f))
+    pauses_fault x y v piece rest left f h steps = record {
       more = h.more;
       pauses = record {
         made = h.follows.made;
-        walked = λ o es st. refused_there x.walker y.walker v piece mid after f h.more h.follows.walked o es (h.follows.walked.stands o es st) steps;
+        walked = λ o es st. refused_there x.walker y.walker v piece rest left f h.more h.follows.walked o es (h.follows.walked.stands o es st) steps;
       };
       puts = same_put x (walk_state v y.follower y.out) h.more (pause.Fault f) h.puts;
     }

@@ -48,33 +48,33 @@ module _ {S : Type 0} (next : S → EventValue → Effect S) where
 
   module _ {D : Type 0} (state_of : D → DrainState) where
     -- the drain failed after what was followed
-    pub fails_part : (x y z : WalkState S D) (piece mid after : List ℕ) (e f : WriteFault) → HasFollowed next state_of x y piece mid go.On
-        → FollowsPart next state_of y z mid after (Err e) → FollowsPiece next state_of x z piece (Err f)
-    fails_part x y z piece mid after e f h p = record {
+    pub fails_part : (x y z : WalkState S D) (piece rest left : List ℕ) (e f : WriteFault) → HasFollowed next state_of x y piece rest go.On
+        → FollowsPart next state_of y z rest left (Err e) → FollowsPiece next state_of x z piece (Err f)
+    fails_part x y z piece rest left e f h p = record {
       more = h.more ++ p.more;
       pauses = record {
         yields = λ o es st.
-            let walked : WalksOver x.walker y.walker piece mid h.more = h.follows.walked in
+            let walked : WalksOver x.walker y.walker piece rest h.more = h.follows.walked in
             subst (λ (g : Framing). GoesOnIn g (o ++ piece) (es ++ (h.more ++ p.more))) walked.framing
-            (subst (λ (l : List ℕ). GoesOnIn y.walker.framing l (es ++ (h.more ++ p.more))) (append_assoc o walked.taken mid ∙ ap (λ (l : List ℕ). o ++ l) (sym walked.piece_is))
-            (subst (λ (l : List EventValue). GoesOnIn y.walker.framing ((o ++ walked.taken) ++ mid) l) (append_assoc es h.more p.more) (p.takes.yields (o ++ walked.taken) (es ++ h.more) (walked.stands o es st))));
+            (subst (λ (l : List ℕ). GoesOnIn y.walker.framing l (es ++ (h.more ++ p.more))) (append_assoc o walked.taken rest ∙ ap (λ (l : List ℕ). o ++ l) (sym walked.piece_is))
+            (subst (λ (l : List EventValue). GoesOnIn y.walker.framing ((o ++ walked.taken) ++ rest) l) (append_assoc es h.more p.more) (p.takes.yields (o ++ walked.taken) (es ++ h.more) (walked.stands o es st))));
       };
       puts = puts_failed_last state_of x.out z.out _ e (Err f)
           (puts_then_as state_of x.out y.out z.out (effect_of next x.follower h.more).put (effect_of next y.follower p.more).put (effect_of next x.follower (h.more ++ p.more)).put tt (Err e) h.puts p.puts (made_put next x.follower y.follower h.more p.more h.follows.made)) refl;
     }
 
     -- a primitive that lies whole at the front of a piece was followed
-    pub part_whole : {T : Type 0} (x y : WalkState S D) (before after : List ℕ) (p : WholePrimitive) (h : HeaderValue) (r : T) → h ≡ header_at p before
-        → y.follower ≡ (effect_of next x.follower (whole_events h (take p.octets before))).state → (effect_of next x.follower (whole_events h (take p.octets before))).goes ≡ go.On
-        → Puts {T = T} {E = WriteFault} state_of x.out y.out (effect_of next x.follower (whole_events h (take p.octets before))).put (Ok r)
-        → YieldsEvents x.walker y.walker before after (whole_events (header_at p before) (take p.octets before)) → Passes x.walker y.walker before after
-        → FollowsPart next state_of x y before after (Ok true)
-    part_whole x y before after p h r same state goes put yields passes = let all : List EventValue = whole_events h (take p.octets before) in record {
+    pub part_whole : {T : Type 0} (x y : WalkState S D) (piece rest : List ℕ) (p : WholePrimitive) (h : HeaderValue) (r : T) → h ≡ header_at p piece
+        → y.follower ≡ (effect_of next x.follower (whole_events h (take p.octets piece))).state → (effect_of next x.follower (whole_events h (take p.octets piece))).goes ≡ go.On
+        → Puts {T = T} {E = WriteFault} state_of x.out y.out (effect_of next x.follower (whole_events h (take p.octets piece))).put (Ok r)
+        → YieldsEvents x.walker y.walker piece rest (whole_events (header_at p piece) (take p.octets piece)) → Passes x.walker y.walker piece rest
+        → FollowsPart next state_of x y piece rest (Ok true)
+    part_whole x y piece rest p h r same state goes put yields passes = let all : List EventValue = whole_events h (take p.octets piece) in record {
       more = all;
       takes = record {
         follows = record {
           made = made_all x.follower y.follower all state goes;
-          walked = stands_all x.walker y.walker before after all (subst (λ (g : HeaderValue). YieldsEvents x.walker y.walker before after (whole_events g (take p.octets before))) (sym same) yields);
+          walked = stands_all x.walker y.walker piece rest all (subst (λ (g : HeaderValue). YieldsEvents x.walker y.walker piece rest (whole_events g (take p.octets piece))) (sym same) yields);
         };
         passes = passes;
       };
@@ -82,62 +82,62 @@ module _ {S : Type 0} (next : S → EventValue → Effect S) where
     }
 
     -- the drain failed at it
-    pub part_fails : {T : Type 0} (x y : WalkState S D) (before after : List ℕ) (p : WholePrimitive) (h : HeaderValue) (e f : WriteFault) → CanPass x.walker before p → h ≡ header_at p before
-        → Puts {T = T} {E = WriteFault} state_of x.out y.out (effect_of next x.follower (whole_events h (take p.octets before))).put (Err e)
-        → FollowsPart next state_of x y before after (Err f)
-    part_fails x y before after p h e f can same put = record {
-      more = whole_events h (take p.octets before);
+    pub part_fails : {T : Type 0} (x y : WalkState S D) (piece rest : List ℕ) (p : WholePrimitive) (h : HeaderValue) (e f : WriteFault) → CanPass x.walker piece p → h ≡ header_at p piece
+        → Puts {T = T} {E = WriteFault} state_of x.out y.out (effect_of next x.follower (whole_events h (take p.octets piece))).put (Err e)
+        → FollowsPart next state_of x y piece rest (Err f)
+    part_fails x y piece rest p h e f can same put = record {
+      more = whole_events h (take p.octets piece);
       takes = record {
-        yields = walked_goes_on x.walker (passed x.walker p 0) before (drop p.octets before) (whole_events h (take p.octets before))
-            (subst (λ (g : HeaderValue). WalksOver x.walker (passed x.walker p 0) before (drop p.octets before) (whole_events g (take p.octets before))) (sym same) (walked_primitive x.walker before p can));
+        yields = walked_goes_on x.walker (passed x.walker p 0) piece (drop p.octets piece) (whole_events h (take p.octets piece))
+            (subst (λ (g : HeaderValue). WalksOver x.walker (passed x.walker p 0) piece (drop p.octets piece) (whole_events g (take p.octets piece))) (sym same) (walked_primitive x.walker piece p can));
       };
       puts = puts_failed_last state_of x.out y.out _ e (Err f) put refl;
     }
 
     -- ---- a part after what was followed
 
-    part_some : (y z : WalkState S D) (mid after : List ℕ) (more : List EventValue) (k : Bool) → k ≡ true → TakesPartOrNone next y z mid after more (Ok k) → TakesPart next y z mid after more
-    part_some y z mid after more true e p = p
-    part_some y z mid after more false e p = absurd (true≢false (sym e))
+    part_some : (y z : WalkState S D) (rest left : List ℕ) (more : List EventValue) (k : Bool) → k ≡ true → TakesPartOrNone next y z rest left more (Ok k) → TakesPart next y z rest left more
+    part_some y z rest left more true e p = p
+    part_some y z rest left more false e p = absurd (true≢false (sym e))
 
-    part_none : (y z : WalkState S D) (mid after : List ℕ) (more : List EventValue) (k : Bool) → k ≡ false → TakesPartOrNone next y z mid after more (Ok k) → TakesNone next y z mid after more
-    part_none y z mid after more false e p = p
-    part_none y z mid after more true e p = absurd (true≢false e)
+    part_none : (y z : WalkState S D) (rest left : List ℕ) (more : List EventValue) (k : Bool) → k ≡ false → TakesPartOrNone next y z rest left more (Ok k) → TakesNone next y z rest left more
+    part_none y z rest left more false e p = p
+    part_none y z rest left more true e p = absurd (true≢false e)
 
     -- it was followed
-    pub follows_part : (x y z : WalkState S D) (piece mid after : List ℕ) (k : Bool) → HasFollowed next state_of x y piece mid go.On → k ≡ true
-        → FollowsPart next state_of y z mid after (Ok k) → HasFollowed next state_of x z piece after go.On
-    follows_part x y z piece mid after k h e p =
-        let t : TakesPart next y z mid after p.more = part_some y z mid after p.more k e p.takes in record {
+    pub follows_part : (x y z : WalkState S D) (piece rest left : List ℕ) (k : Bool) → HasFollowed next state_of x y piece rest go.On → k ≡ true
+        → FollowsPart next state_of y z rest left (Ok k) → HasFollowed next state_of x z piece left go.On
+    follows_part x y z piece rest left k h e p =
+        let t : TakesPart next y z rest left p.more = part_some y z rest left p.more k e p.takes in record {
           more = h.more ++ p.more;
           follows = record {
             made = made_both next x.follower y.follower z.follower h.more p.more go.On h.follows.made t.follows.made;
-            walked = walked_both x.walker y.walker z.walker piece mid after h.more p.more h.follows.walked t.follows.walked;
+            walked = walked_both x.walker y.walker z.walker piece rest left h.more p.more h.follows.walked t.follows.walked;
           };
           puts = puts_then_as state_of x.out y.out z.out (effect_of next x.follower h.more).put (effect_of next y.follower p.more).put (effect_of next x.follower (h.more ++ p.more)).put tt (Ok tt) h.puts
               (puts_as state_of y.out z.out (effect_of next y.follower p.more).put (effect_of next y.follower p.more).put k tt p.puts refl) (made_put next x.follower y.follower h.more p.more h.follows.made);
         }
 
-    pub part_passes : (y z : WalkState S D) (mid after : List ℕ) (k : Bool) → k ≡ true → FollowsPart next state_of y z mid after (Ok k) → Passes y.walker z.walker mid after
-    part_passes y z mid after k e p = (part_some y z mid after p.more k e p.takes).passes
+    pub part_passes : (y z : WalkState S D) (rest left : List ℕ) (k : Bool) → k ≡ true → FollowsPart next state_of y z rest left (Ok k) → Passes y.walker z.walker rest left
+    part_passes y z rest left k e p = (part_some y z rest left p.more k e p.takes).passes
 
     -- nothing of it was taken
-    pub follows_left : (x y z : WalkState S D) (piece mid after : List ℕ) (k : Bool) → HasFollowed next state_of x y piece mid go.On → k ≡ false
-        → FollowsPart next state_of y z mid after (Ok k) → HasFollowed next state_of x z piece after go.On
-    follows_left x y z piece mid after k h e p =
-        let n : TakesNone next y z mid after p.more = part_none y z mid after p.more k e p.takes in record {
+    pub follows_left : (x y z : WalkState S D) (piece rest left : List ℕ) (k : Bool) → HasFollowed next state_of x y piece rest go.On → k ≡ false
+        → FollowsPart next state_of y z rest left (Ok k) → HasFollowed next state_of x z piece left go.On
+    follows_left x y z piece rest left k h e p =
+        let n : TakesNone next y z rest left p.more = part_none y z rest left p.more k e p.takes in record {
           more = h.more;
           follows = record {
             made = subst (λ (q : S). FollowsEvents next x.follower q h.more go.On) (sym n.follower) h.follows.made;
             walked =
-                subst (λ (m : WalkerState). WalksOver x.walker m piece after h.more) (sym n.walker)
+                subst (λ (m : WalkerState). WalksOver x.walker m piece left h.more) (sym n.walker)
                 (subst (λ (l : List ℕ). WalksOver x.walker y.walker piece l h.more) (sym n.all_left) h.follows.walked);
           };
           puts = puts_then_as state_of x.out y.out z.out (effect_of next x.follower h.more).put [] (effect_of next x.follower h.more).put tt (Ok tt) h.puts
               (puts_as state_of y.out z.out (effect_of next y.follower p.more).put [] k tt p.puts (ap (λ (es : List EventValue). (effect_of next y.follower es).put) n.no_event)) (append-nil (effect_of next x.follower h.more).put);
         }
 
-    pub left_walked : (y z : WalkState S D) (mid after : List ℕ) (k : Bool) → k ≡ false → FollowsPart next state_of y z mid after (Ok k)
-        → z.walker.offset + length after ≡ y.walker.offset + length mid
-    left_walked y z mid after k e p =
-        let n : TakesNone next y z mid after p.more = part_none y z mid after p.more k e p.takes in ap₂ (λ (m : WalkerState) (o : List ℕ). m.offset + length o) n.walker n.all_left
+    pub left_walked : (y z : WalkState S D) (rest left : List ℕ) (k : Bool) → k ≡ false → FollowsPart next state_of y z rest left (Ok k)
+        → z.walker.offset + length left ≡ y.walker.offset + length rest
+    left_walked y z rest left k e p =
+        let n : TakesNone next y z rest left p.more = part_none y z rest left p.more k e p.takes in ap₂ (λ (m : WalkerState) (o : List ℕ). m.offset + length o) n.walker n.all_left

@@ -135,17 +135,17 @@ used_up_ends next old new o yielded run e x is ends =
 -- ---- what a turn returns
 
 -- of n octets at the front of a piece as many as the limit leaves
-taken_within : (limit at n : ℕ) (p : List ℕ) → take (min (limit - at) n) p ≡ take (limit - at) (take n p)
-taken_within limit at n p = elim (cases_lt (limit - at) n) [
-  | inl less ↦ ap (λ (k : ℕ). take k p) (omega (arith, less)) ∙ sym (take-take (limit - at) n p (omega (arith, less)))
-  | inr more ↦ ap (λ (k : ℕ). take k p) (omega (arith, more)) ∙ sym (take_all (limit - at) (take n p) (omega (arith, more, length-take n p)))
+taken_within : (limit offset n : ℕ) (p : List ℕ) → take (min (limit - offset) n) p ≡ take (limit - offset) (take n p)
+taken_within limit offset n p = elim (cases_lt (limit - offset) n) [
+  | inl less ↦ ap (λ (k : ℕ). take k p) (omega (arith, less)) ∙ sym (take-take (limit - offset) n p (omega (arith, less)))
+  | inr more ↦ ap (λ (k : ℕ). take k p) (omega (arith, more)) ∙ sym (take_all (limit - offset) (take n p) (omega (arith, more, length-take n p)))
 ]
 
 module _ {S D : Type 0} (next : S → EventValue → Effect S) (old new : TurnState S) (from to : Out D) (b : List ℕ) (yielded : List EventValue) (p piece r : List ℕ) (n m limit : ℕ)
     (st : Stands old.walker b yielded) (some : n ≤ length p) (below : old.walker.offset ≤ limit) (is_m : m ≡ min (limit - old.walker.offset) n)
     (is_piece : piece ≡ take m p) (is_r : r ≡ take n p) (octets : AreOctets piece) where
-  abbrev at : ℕ
-  at = old.walker.offset
+  abbrev offset : ℕ
+  offset = old.walker.offset
 
   -- what is made of these events was handed to the drain
   abbrev Sent : Result Pause WriteFault → List EventValue → Type 0
@@ -162,7 +162,7 @@ module _ {S D : Type 0} (next : S → EventValue → Effect S) (old new : TurnSt
   reached : b ++ piece ≡ take limit (b ++ r)
   reached =
       ap (λ (o : List ℕ). b ++ o) (
-      is_piece ∙ ap (λ (k : ℕ). take k p) is_m ∙ taken_within limit at n p ∙ ap (λ (k : ℕ). take (limit - k) (take n p)) st.private_state.has_state.offset
+      is_piece ∙ ap (λ (k : ℕ). take k p) is_m ∙ taken_within limit offset n p ∙ ap (λ (k : ℕ). take (limit - k) (take n p)) st.private_state.has_state.offset
       ∙ ap (λ (o : List ℕ). take (limit - length b) o) (sym is_r)
       ) ∙ limit_after limit b r (omega (arith, st.private_state.has_state.offset, below))
 

@@ -18,7 +18,7 @@ within (Some b) n = leb n b
 
 -- `Fits` as a test
 abbrev pub fits : Place → ℕ → Bool
-fits p n = within p.bound (p.at + n)
+fits p n = within p.bound (p.offset + n)
 
 -- what the test says
 pub within-fits : (b : Option ℕ) (n : ℕ) → within b n ≡ true → IfSome b (λ b. n ≤ b)
@@ -146,4 +146,4 @@ lead-zero h x xs e = lead-cases h.constructed h.number x xs e
 pub fits-inside : (p : Place) (h : HeaderValue) → holds h ≡ true → Fits p (length (octets_of h) + announced_length h.size) → Fits (place_of_children p h) 0
 fits-inside p h e f =
     within-le (place_of_children p h).bound _ _ (omega (arith, length-opening h))
-    (contents-within h.size (p.at + length (octets_of h)) p.bound (length (lead h)) (lead-announced_length h e) (within-le p.bound _ _ (omega arith) f))
+    (contents-within h.size (p.offset + length (octets_of h)) p.bound (length (lead h)) (lead-announced_length h e) (within-le p.bound _ _ (omega arith) f))

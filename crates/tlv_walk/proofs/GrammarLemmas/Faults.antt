@@ -20,12 +20,12 @@ use Rattle.tlv_walk.proofs.GrammarLemmas.Tips.{IsTip, push-tip, refusal, tip-fac
 
 -- what does not fit passes the bound
 too-long : (p : Place) (n : ℕ) → fits p n ≡ false → Fits p n → ⊥
-too-long p n e f = true≢false (sym (fits-within p.bound (p.at + n) f) ∙ e)
+too-long p n e f = true≢false (sym (fits-within p.bound (p.offset + n) f) ∙ e)
 
 -- what passes the bound does not fit
 no-fit : (p : Place) (n : ℕ) → (Fits p n → ⊥) → fits p n ≡ false
 no-fit p n past = elim (cases_Bool (fits p n)) [
-  | inl e ↦ absurd (past (within-fits p.bound (p.at + n) e))
+  | inl e ↦ absurd (past (within-fits p.bound (p.offset + n) e))
   | inr e ↦ e
 ]
 
@@ -49,7 +49,7 @@ between-blames p x room = elim (cases_Bool (fits p 1)) [
   ]
   | inr f ↦ elim (cases_Bool p.indefinite) [
     | inl i ↦ rw f (no_end i (too-long p 1 f))
-    | inr i ↦ absurd (true≢false (sym (fits-within p.bound (p.at + 1) (room i)) ∙ f))
+    | inr i ↦ absurd (true≢false (sym (fits-within p.bound (p.offset + 1) (room i)) ∙ f))
   ]
 ]
 
@@ -151,7 +151,7 @@ not-deep false d f = refl
 pub fault-refusal : (p : Place) (f : Forest) (x : ℕ) (code : FaultCode) → IsTip p f → IsFault p x f code → refusal (push p f x) ≡ Some code
 fault-refusal p f x code t (bad_inside nz) = rw (ne_eqb x 0 nz)
 fault-refusal p f x code t (missing_end a) = rw (no-fit p 2 a)
-fault-refusal p f x code t (bad_end room nz) = rw (fits-within p.bound (p.at + 2) room, ne_eqb x 0 nz)
+fault-refusal p f x code t (bad_end room nz) = rw (fits-within p.bound (p.offset + 2) room, ne_eqb x 0 nz)
 fault-refusal p f x code t (no_room {o = o} a) = rw (no-fit p (length o + 1) a)
 fault-refusal p f x code t (refused_octet {o = o} room r) = stuck-refusal p o x code t room r
 fault-refusal p f x code t (too_deep {o = o} room h s octets deep) =
@@ -162,7 +162,7 @@ fault-refusal p f x code t (overrun {o = o} room h s octets k past) =
     let none : fits p (length (octets_of h) + announced_length h.size) ≡ false = no-fit p _ past in
     ap refusal (read-there p o x h (holds h) room s octets) ∙ rw (test, none)
 fault-refusal p f x code t (no_end i a) = rw (no-fit p 1 a)
-fault-refusal p f x code t (stray_end i d z) = rw (fits-within p.bound (p.at + 1) (t.1 i), eq-eqb x 0 z, i, d)
+fault-refusal p f x code t (stray_end i d z) = rw (fits-within p.bound (p.offset + 1) (t.1 i), eq-eqb x 0 z, i, d)
 
 -- a step with a code is that refusal
 refusal-code : (s : Step) (code : FaultCode) → refusal s ≡ Some code → s ≡ Refused code

@@ -69,7 +69,7 @@ holder_so_far-open h f lacks = elim (cases_Bool (is_complete f)) [
 -- contents before the last octet lack octets
 lacks-before : (p : Place) (h : HeaderValue) (f g : Forest) (x : ℕ) → IsEntry p true h → IsOpen (place_of_children p h) g → spelling g ≡ spelling f ++ x ∷ [] → LacksOctets h.size (contents_length h f)
 lacks-before p h f g x entry w spelled =
-    within-lacks h.size (p.at + length (octets_of h)) p.bound (contents_length h f)
+    within-lacks h.size (p.offset + length (octets_of h)) p.bound (contents_length h f)
     (within-le (place_of_children p h).bound _ _ (omega (arith, ap length spelled, length-append (spelling f) (x ∷ []), length-opening h))
     (reaches (place_of_children p h) g (fits-inside p h entry.header.form entry.fits) w))
 
@@ -108,7 +108,7 @@ record HasFirstEndOctet (p : Place) (f g : Forest) : Type 0 where
 -- whole elements in an element of indefinite length are so
 has-first_end_octet : (p : Place) (f : Forest) → IsOpen p f → is_complete f ≡ true → p.indefinite ≡ true → Fits p (length (spelling f) + 2) → HasFirstEndOctet p f (with_first_end_octet f)
 has-first_end_octet p NoMore w whole i f =
-    record { is_open = (i, within-le p.bound _ _ (omega arith) f); spelled = refl; pushed = rw (fits-within p.bound (p.at + 2) f) }
+    record { is_open = (i, within-le p.bound _ _ (omega arith) f); spelled = refl; pushed = rw (fits-within p.bound (p.offset + 2) f) }
 has-first_end_octet p (PaddingOctet rest) w whole i f = absurd (true≢false (sym i ∙ w.0.1))
 has-first_end_octet p (Primitive h c rest) w whole i f =
     let r : HasFirstEndOctet (place_after p (length (octets_of h) + length c)) rest (with_first_end_octet rest) =
@@ -137,7 +137,7 @@ has-first_end_octet p OpenEndOctets w whole i f = absurd (cc)
 -- an element of indefinite length is popped by the second of its end-of-contents octets
 endless-popped : (p : Place) (h : HeaderValue) (inside : Forest) → is_indefinite h.size ≡ true → IsWholeHolder p h inside → IsOpen (place_of_children p h) inside → Popped p (Holder h inside NoMore)
 endless-popped p h inside i w v =
-    let e : IsEndless h.size (p.at + length (octets_of h)) p.bound (contents_length h inside) = indefinite-endless h.size _ p.bound _ i in
+    let e : IsEndless h.size (p.offset + length (octets_of h)) p.bound (contents_length h inside) = indefinite-endless h.size _ p.bound _ i in
     let two : length (end_octets h.size) ≡ 2 = ap length e.ends in
     let f : Fits (place_of_children p h) (length (spelling inside) + 2) = rw e.bound (within-le p.bound _ _ (omega arith) w.0.fits) in
     let r : HasFirstEndOctet (place_of_children p h) inside (with_first_end_octet inside) = has-first_end_octet (place_of_children p h) inside v w.1 i f in
@@ -175,7 +175,7 @@ holder-popped p h inside w v below = elim (cases_Bool (is_indefinite h.size)) [
 
 -- padding is popped
 padding-popped : (p : Place) → IsOpen p (PaddingOctet NoMore) → Popped p (PaddingOctet NoMore)
-padding-popped p w = record { from = NoMore; last = 0; is_open = tt; spelled = refl; pushed = rw (fits-within p.bound (p.at + 1) w.0.2, w.0.1, w.0.0) }
+padding-popped p w = record { from = NoMore; last = 0; is_open = tt; spelled = refl; pushed = rw (fits-within p.bound (p.offset + 1) w.0.2, w.0.1, w.0.0) }
 
 -- what follows an element is popped: so are both
 followed : (p q : Place) (f : Forest → Forest) (o : List ℕ) (rest : Forest) → (r : Popped q rest) → IsOpen p (f r.from) → ((g : Forest) → spelling (f g) ≡ o ++ spelling g)
@@ -211,4 +211,4 @@ pop p (OpenHeader o) w = inr (elim (back o) [
   | is_nil e ↦ absurd (w.0 e)
   | is_push ys y e ↦ rw e (front-popped p ys y (rw e at w.1) (rw e at w.2))
 ])
-pop p OpenEndOctets w = inr (record { from = NoMore; last = 0; is_open = tt; spelled = refl; pushed = rw (fits-within p.bound (p.at + 1) w.1, w.0) })
+pop p OpenEndOctets w = inr (record { from = NoMore; last = 0; is_open = tt; spelled = refl; pushed = rw (fits-within p.bound (p.offset + 1) w.1, w.0) })

@@ -133,7 +133,7 @@ more-nonzero at x e z = let e' : is_more (scan at (0 ∷ [])) ≡ true = rw z at
 pub front-popped : (p : Place) (o : List ℕ) (x : ℕ) → IsHeaderPrefix (o ++ x ∷ []) → Fits p (length (o ++ x ∷ [])) → Popped p (OpenHeader (o ++ x ∷ []))
 front-popped p [] x front f =
     let nz : x ≢ 0 = more-nonzero (origin p) x (more-from_front (origin p) (x ∷ []) front) in
-    record { from = NoMore; last = x; is_open = tt; spelled = refl; pushed = rw (fits-within p.bound (p.at + 1) f, ne_eqb x 0 nz) }
+    record { from = NoMore; last = x; is_open = tt; spelled = refl; pushed = rw (fits-within p.bound (p.offset + 1) f, ne_eqb x 0 nz) }
 front-popped p (y ∷ o) x front f = record {
   from = OpenHeader (y ∷ o);
   last = x;

@@ -20,7 +20,7 @@ reaches-open_holder : (p : Place) (h : HeaderValue) (inside : Forest) → Fits p
 reaches-open_holder p h inside f g =
     let size : length (opening h ++ spelling inside) ≡ length (octets_of h) + (length (lead h) + length (spelling inside)) = omega (arith, length-append (opening h) (spelling inside), length-opening h) in
     within-le p.bound _ _ (omega arith)
-    (within-outside h.size (p.at + length (octets_of h)) p.bound (length (lead h) + length (spelling inside)) (within-le p.bound _ _ (omega arith) f)
+    (within-outside h.size (p.offset + length (octets_of h)) p.bound (length (lead h) + length (spelling inside)) (within-le p.bound _ _ (omega arith) f)
     (within-le (place_of_children p h).bound _ _ (omega (arith, length-opening h)) g))
 
 -- an open forest ends within the bound
@@ -93,7 +93,7 @@ holder-sound p h g entry w whole full =
 pub unfilled-lacks : (p : Place) (h : HeaderValue) (g : Forest) → is_filled h g ≡ false → is_complete g ≡ true → Fits (place_of_children p h) (length (spelling g)) → LacksOctets h.size (contents_length h g)
 unfilled-lacks p h g e whole there =
     let short : has_length h.size (contents_length h g) ≡ false = rw whole at e in
-    length-lacks h.size (p.at + length (octets_of h)) p.bound _ (within-le (place_of_children p h).bound _ _ (omega (arith, length-opening h)) there) short
+    length-lacks h.size (p.offset + length (octets_of h)) p.bound _ (within-le (place_of_children p h).bound _ _ (omega (arith, length-opening h)) there) short
 
 -- what an element holds is open: so is the element
 pub holder_so_far-sound : (p : Place) (h : HeaderValue) (g : Forest) → IsEntry p true h → IsOpen (place_of_children p h) g → Spells p (opening h ++ spelling g) (holder_so_far h g)
@@ -246,7 +246,7 @@ open_holder-step p h o (Grown g) entry r =
     let e : Spells p (opening h ++ spelling g) (holder_so_far h g) = holder_so_far-sound p h g entry r.is_open in
     record { is_open = e.is_open; spelled = e.spelled ∙ ap (λ (t : List ℕ). opening h ++ t) r.spelled }
 open_holder-step p h o (Ended g) entry r =
-    let e : IsEndless h.size (p.at + length (octets_of h)) p.bound (contents_length h g) = indefinite-endless h.size _ p.bound _ r.indefinite in
+    let e : IsEndless h.size (p.offset + length (octets_of h)) p.bound (contents_length h g) = indefinite-endless h.size _ p.bound _ r.indefinite in
     let two : length (end_octets h.size) ≡ 2 = ap length e.ends in
     record {
       is_open = (

@@ -29,7 +29,7 @@ pub data Step : Type 0 where
 
 -- where a header that begins there begins
 abbrev pub origin : Place → Origin
-origin p = record { offset = p.at; named = is_among p.at p.inside }
+origin p = record { offset = p.offset; named = is_among p.offset p.inside }
 
 -- what an element holds is whole, and as long as was announced
 abbrev pub is_filled : HeaderValue → Forest → Bool

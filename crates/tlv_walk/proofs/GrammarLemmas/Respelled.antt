@@ -23,15 +23,15 @@ pub record IsLike (p q : Place) : Type 0 where
 
 -- no offset in the lists is below where they stand
 abbrev pub ComeAfter : (ℕ → List ℕ) → Type 0
-ComeAfter names = (at i : ℕ) → i < at → is_among i (names at) ≡ false
+ComeAfter names = (offset i : ℕ) → i < offset → is_among i (names offset) ≡ false
 
 -- nor past so many octets from there
 abbrev pub AreWithin : (ℕ → List ℕ) → ℕ → Type 0
-AreWithin names n = (at i : ℕ) → at + n ≤ i → is_among i (names at) ≡ false
+AreWithin names n = (offset i : ℕ) → offset + n ≤ i → is_among i (names offset) ≡ false
 
 -- of the next octets there, these offsets are named and no others
 abbrev pub Agrees : Place → List ℕ → ℕ → Type 0
-Agrees q names n = (i : ℕ) → q.at ≤ i → i < q.at + n → is_among i q.inside ≡ is_among i names
+Agrees q names n = (i : ℕ) → q.offset ≤ i → i < q.offset + n → is_among i q.inside ≡ is_among i names
 
 -- elements alike, at a place, with that spelling, and wrappers at these offsets
 pub record SpelledAt (form : Bool → Bool) (q : Place) (f : Forest) (octets names : List ℕ) : Type 0 where
@@ -49,55 +49,55 @@ pub record Spelling (form : Bool → Bool) (p : Place) (f : Forest) : Type 0 whe
   pub short : length octets ≤ 4 * length (spelling f)
   pub names_after : ComeAfter names
   pub names_within : AreWithin names (length octets)
-  pub there : (q : Place) → IsLike p q → Agrees q (names q.at) (length octets) → SpelledAt form q f octets (names q.at)
+  pub there : (q : Place) → IsLike p q → Agrees q (names q.offset) (length octets) → SpelledAt form q f octets (names q.offset)
 
 -- what is named of an element that holds others and of those after it, by where it stands: what it holds stands `begins` octets
 -- on, and what is after it `far` octets on
 abbrev joined : (constructed : Bool) (inner others : ℕ → List ℕ) (begins far : ℕ) → ℕ → List ℕ
-joined constructed inner others begins far at = own constructed at ++ (inner (at + begins) ++ others (at + far))
+joined constructed inner others begins far offset = own constructed offset ++ (inner (offset + begins) ++ others (offset + far))
 
 -- if it holds `count` octets, and `rest` octets are after it
 record Joins (constructed : Bool) (inner others : ℕ → List ℕ) (begins count far rest : ℕ) : Type 0 where
   pub after : ComeAfter (joined constructed inner others begins far)
   pub within : AreWithin (joined constructed inner others begins far) (far + rest)
-  pub of_own : (at : ℕ) → is_among at (joined constructed inner others begins far at) ≡ not constructed
-  pub of_inner : (at i : ℕ) → at + begins ≤ i → i < at + begins + count
-      → is_among i (joined constructed inner others begins far at) ≡ is_among i (inner (at + begins))
-  pub of_others : (at i : ℕ) → at + far ≤ i → is_among i (joined constructed inner others begins far at) ≡ is_among i (others (at + far))
+  pub of_own : (offset : ℕ) → is_among offset (joined constructed inner others begins far offset) ≡ not constructed
+  pub of_inner : (offset i : ℕ) → offset + begins ≤ i → i < offset + begins + count
+      → is_among i (joined constructed inner others begins far offset) ≡ is_among i (inner (offset + begins))
+  pub of_others : (offset i : ℕ) → offset + far ≤ i → is_among i (joined constructed inner others begins far offset) ≡ is_among i (others (offset + far))
 
 joins : (constructed : Bool) (inner others : ℕ → List ℕ) (begins count far rest : ℕ) → 1 ≤ begins → begins + count ≤ far
     → ComeAfter inner → AreWithin inner count → ComeAfter others → AreWithin others rest → Joins constructed inner others begins count far rest
 joins constructed inner others begins count far rest some on inner_after inner_within others_after others_within = record {
-  after = λ at i less.
-      in-third i (own constructed at) (inner (at + begins)) (others (at + far)) (own-apart constructed at i (λ e. omega (arith, less, e)))
-      (inner_after (at + begins) i (omega (arith, less)))
-      ∙ others_after (at + far) i (omega (arith, less));
-  within = λ at i more.
-      in-third i (own constructed at) (inner (at + begins)) (others (at + far)) (own-apart constructed at i (λ e. omega (arith, more, e, some, on)))
-      (inner_within (at + begins) i (omega (arith, more, on)))
-      ∙ others_within (at + far) i (omega (arith, more));
-  of_own = λ at.
-      in-first at (own constructed at) (inner (at + begins)) (others (at + far)) (inner_after (at + begins) at (omega (arith, some)))
-      (others_after (at + far) at (omega (arith, some, on)))
-      ∙ own-there constructed at;
-  of_inner = λ at i least most.
-      in-second i (own constructed at) (inner (at + begins)) (others (at + far)) (own-apart constructed at i (λ e. omega (arith, least, some, e)))
-      (others_after (at + far) i (omega (arith, most, on)));
-  of_others = λ at i least.
-      in-third i (own constructed at) (inner (at + begins)) (others (at + far)) (own-apart constructed at i (λ e. omega (arith, least, some, on, e)))
-      (inner_within (at + begins) i (omega (arith, least, on)));
+  after = λ offset i less.
+      in-third i (own constructed offset) (inner (offset + begins)) (others (offset + far)) (own-apart constructed offset i (λ e. omega (arith, less, e)))
+      (inner_after (offset + begins) i (omega (arith, less)))
+      ∙ others_after (offset + far) i (omega (arith, less));
+  within = λ offset i more.
+      in-third i (own constructed offset) (inner (offset + begins)) (others (offset + far)) (own-apart constructed offset i (λ e. omega (arith, more, e, some, on)))
+      (inner_within (offset + begins) i (omega (arith, more, on)))
+      ∙ others_within (offset + far) i (omega (arith, more));
+  of_own = λ offset.
+      in-first offset (own constructed offset) (inner (offset + begins)) (others (offset + far)) (inner_after (offset + begins) offset (omega (arith, some)))
+      (others_after (offset + far) offset (omega (arith, some, on)))
+      ∙ own-there constructed offset;
+  of_inner = λ offset i least most.
+      in-second i (own constructed offset) (inner (offset + begins)) (others (offset + far)) (own-apart constructed offset i (λ e. omega (arith, least, some, e)))
+      (others_after (offset + far) i (omega (arith, most, on)));
+  of_others = λ offset i least.
+      in-third i (own constructed offset) (inner (offset + begins)) (others (offset + far)) (own-apart constructed offset i (λ e. omega (arith, least, some, on, e)))
+      (inner_within (offset + begins) i (omega (arith, least, on)));
 }
 
 module _ (form : Bool → Bool) (definite : form false ≡ false) where
   spelling-padding : (p : Place) (rest : Forest) → p.padding ≡ true → Spelling form (place_after p 1) rest → Spelling form p (PaddingOctet rest)
   spelling-padding p rest allowed r = record {
     octets = 0 ∷ r.octets;
-    names = λ at. r.names (at + 1);
+    names = λ offset. r.names (offset + 1);
     short = omega (arith, r.short);
-    names_after = λ at i less. r.names_after (at + 1) i (omega (arith, less));
-    names_within = λ at i more. r.names_within (at + 1) i (omega (arith, more));
+    names_after = λ offset i less. r.names_after (offset + 1) i (omega (arith, less));
+    names_within = λ offset i more. r.names_within (offset + 1) i (omega (arith, more));
     there = λ q like agrees.
-        let t : SpelledAt form (place_after q 1) rest r.octets (r.names (q.at + 1)) =
+        let t : SpelledAt form (place_after q 1) rest r.octets (r.names (q.offset + 1)) =
         r.there (place_after q 1) (record { padding = like.padding; depth = like.depth }) (λ i least most. agrees i (omega (arith, least)) (omega (arith, most))) in
         record {
           forest = PaddingOctet t.forest;
@@ -118,7 +118,7 @@ module _ (form : Bool → Bool) (definite : form false ≡ false) where
       let some : 1 ≤ length header = header-some h false (Definite (length c)) o in
       record {
         octets = header ++ (c ++ r.octets);
-        names = λ at. r.names (at + (length header + length c));
+        names = λ offset. r.names (offset + (length header + length c));
         short =
             let id : 1 ≤ length h.identifier = identifier-some h.class h.constructed h.number h.identifier valid.identifier in
             let len : 1 ≤ length h.lengths = lengths-some h.size h.lengths valid.lengths in
@@ -134,25 +134,25 @@ module _ (form : Bool → Bool) (definite : form false ≡ false) where
               length-append h.identifier h.lengths,
               length-append o.identifier.octets o.lengths.octets,
             );
-        names_after = λ at i less. r.names_after (at + (length header + length c)) i (omega (arith, less));
-        names_within = λ at i more. r.names_within (at + (length header + length c)) i (omega (arith, more, total));
+        names_after = λ offset i less. r.names_after (offset + (length header + length c)) i (omega (arith, less));
+        names_within = λ offset i more. r.names_within (offset + (length header + length c)) i (omega (arith, more, total));
         there = λ q like agrees.
-            let k : HeaderValue = header_of h false false (Definite (length c)) o q.at in
-            let next : ℕ = q.at + (length header + length c) in
+            let k : HeaderValue = header_of h false false (Definite (length c)) o q.offset in
+            let next : ℕ = q.offset + (length header + length c) in
             let t : SpelledAt form (place_after q (length header + length c)) rest r.octets (r.names next) =
             r.there (place_after q (length header + length c)) (record { padding = like.padding; depth = like.depth })
             (λ i least most. agrees i (omega (arith, least)) (omega (arith, most, total))) in
-            let unnamed : is_among q.at q.inside ≡ false =
-            agrees q.at (omega arith) (omega (arith, total, some)) ∙ r.names_after next q.at (omega (arith, some)) in
+            let unnamed : is_among q.offset q.inside ≡ false =
+            agrees q.offset (omega arith) (omega (arith, total, some)) ∙ r.names_after next q.offset (omega (arith, some)) in
             record {
               forest = Primitive k c t.forest;
               alike = primitives h k c rest t.forest (record { class = refl; constructed = primitive; number = refl }) t.alike;
               sound = (
-                record { valid = header-valid h false false (Definite (length c)) o q.at; offset = refl; named = sym unnamed; form = refl },
+                record { valid = header-valid h false false (Definite (length c)) o q.offset; offset = refl; named = sym unnamed; form = refl },
                 refl,
                 t.sound,
               );
-              regular = (record { shortest = header-shortest h false false (Definite (length c)) o q.at; by_form = sym definite }, t.regular);
+              regular = (record { shortest = header-shortest h false false (Definite (length c)) o q.offset; by_form = sym definite }, t.regular);
               spelled = ap (λ (l : List ℕ). header ++ (c ++ l)) t.spelled;
               names_are = t.names_are;
             };
@@ -200,45 +200,45 @@ module _ (form : Bool → Bool) (definite : form false ≡ false) where
               length-append o.identifier.octets o.lengths.octets,
             );
         names_after = joint.after;
-        names_within = λ at i more. joint.within at i (omega (arith, more, total));
+        names_within = λ offset i more. joint.within offset i (omega (arith, more, total));
         there = λ q like agrees.
-            let k : HeaderValue = header_of h (not constructed) constructed size o q.at in
-            let named : is_among q.at q.inside ≡ not constructed =
-            agrees q.at (omega arith) (omega (arith, total, some)) ∙ joint.of_own q.at in
-            let i : SpelledAt form (place_of_children q k) inside held.octets (held.names (q.at + length begins)) =
+            let k : HeaderValue = header_of h (not constructed) constructed size o q.offset in
+            let named : is_among q.offset q.inside ≡ not constructed =
+            agrees q.offset (omega arith) (omega (arith, total, some)) ∙ joint.of_own q.offset in
+            let i : SpelledAt form (place_of_children q k) inside held.octets (held.names (q.offset + length begins)) =
             held.there (place_of_children q k) (record { padding = refl; depth = ap (λ (d : ℕ). d + 1) like.depth })
-            (λ j least most. agrees j (omega (arith, least)) (omega (arith, most, total)) ∙ joint.of_inner q.at j least most) in
+            (λ j least most. agrees j (omega (arith, least)) (omega (arith, most, total)) ∙ joint.of_inner q.offset j least most) in
             let next_is : extent k i.forest ≡ far = ap (λ (l : List ℕ). length begins + (length l + length ends)) i.spelled in
-            let t : SpelledAt form (place_after q (extent k i.forest)) rest r.octets (r.names (q.at + extent k i.forest)) =
+            let t : SpelledAt form (place_after q (extent k i.forest)) rest r.octets (r.names (q.offset + extent k i.forest)) =
             r.there (place_after q (extent k i.forest)) (record { padding = like.padding; depth = like.depth })
             (λ j least most.
             agrees j (omega (arith, least)) (omega (arith, most, next_is, total))
-            ∙ joint.of_others q.at j (omega (arith, least, next_is))
-            ∙ ap (λ (n : ℕ). is_among j (r.names (q.at + n))) (sym next_is)) in
-            let others_are : wrapper_offsets t.forest ≡ r.names (q.at + far) = t.names_are ∙ ap (λ (n : ℕ). r.names (q.at + n)) next_is in
+            ∙ joint.of_others q.offset j (omega (arith, least, next_is))
+            ∙ ap (λ (n : ℕ). is_among j (r.names (q.offset + n))) (sym next_is)) in
+            let others_are : wrapper_offsets t.forest ≡ r.names (q.offset + far) = t.names_are ∙ ap (λ (n : ℕ). r.names (q.offset + n)) next_is in
             record {
               forest = Holder k i.forest t.forest;
               alike = holders h k inside i.forest rest t.forest (record { class = refl; constructed = is; number = refl }) i.alike t.alike;
               sound = (
-                record { valid = header-valid h (not constructed) constructed size o q.at; offset = refl; named = sym named; form = holding.again },
+                record { valid = header-valid h (not constructed) constructed size o q.offset; offset = refl; named = sym named; form = holding.again },
                 size-length (form constructed) m (length first + length (spelling i.forest)) (omega (arith, ap length i.spelled)),
                 omega (arith, like.depth, few),
                 i.sound,
                 t.sound,
               );
-              regular = (record { shortest = header-shortest h (not constructed) constructed size o q.at; by_form = size-form (form constructed) m }, i.regular, t.regular);
+              regular = (record { shortest = header-shortest h (not constructed) constructed size o q.offset; by_form = size-form (form constructed) m }, i.regular, t.regular);
               spelled = ap₂ (λ (x y : List ℕ). begins ++ (x ++ (ends ++ y))) i.spelled t.spelled;
-              names_are = ap₂ (λ (x y : List ℕ). own constructed q.at ++ (x ++ y)) i.names_are others_are;
+              names_are = ap₂ (λ (x y : List ℕ). own constructed q.offset ++ (x ++ y)) i.names_are others_are;
             };
       }
 
   pub respelled : (p : Place) (f : Forest) → length (spelling f) ≤ 2 ^ 38 → IsSound p f → HaveNoUniversalZero f → Spelling form p f
   respelled p NoMore few u low = record {
     octets = [];
-    names = λ at. [];
+    names = λ offset. [];
     short = omega arith;
-    names_after = λ at i less. refl;
-    names_within = λ at i more. refl;
+    names_after = λ offset i less. refl;
+    names_within = λ offset i more. refl;
     there = λ q like agrees. record { forest = NoMore; alike = nothing; sound = tt; regular = tt; spelled = refl; names_are = refl };
   }
   respelled p (PaddingOctet rest) few u low = spelling-padding p rest u.0 (respelled (place_after p 1) rest (omega (arith, few)) u.1 low)

@@ -18,7 +18,7 @@ use Rattle.tlv_walk.proofs.WalkerLemmas.Zipper.{followed_by, open-followed_by, o
 
 -- where the whole elements end that stand there, and before that
 abbrev pub end_in : Framing → List Layer → Forest → ℕ
-end_in w ls f = (place_in w ls).at + length (spelling f)
+end_in w ls f = (place_in w ls).offset + length (spelling f)
 
 -- an element that is filled, and what is before it, are whole elements around it, with the octets of both
 pub record IsEnded (w : Framing) (l : Layer) (ls : List Layer) (f : Forest) : Type 0 where
@@ -85,15 +85,15 @@ end-length Indefinite start m n e = refl
 
 -- so the frame of the innermost open element says whether that is filled
 pub end-filled : (w : Framing) (l : Layer) (ls : List Layer) (f : Forest) → is_complete f ≡ true
-    → is_end (bound_in l.header.size (((place_in w ls).at + length (spelling l.before)) + length (octets_of l.header)) None) (end_in w (l ∷ ls) f) ≡ is_filled l.header f
+    → is_end (bound_in l.header.size (((place_in w ls).offset + length (spelling l.before)) + length (octets_of l.header)) None) (end_in w (l ∷ ls) f) ≡ is_filled l.header f
 end-filled w l ls f whole =
-    end-length l.header.size (((place_in w ls).at + length (spelling l.before)) + length (octets_of l.header)) (contents_length l.header f) (end_in w (l ∷ ls) f) (omega (arith, length-opening l.header))
+    end-length l.header.size (((place_in w ls).offset + length (spelling l.before)) + length (octets_of l.header)) (contents_length l.header f) (end_in w (l ∷ ls) f) (omega (arith, length-opening l.header))
     ∙ ap (λ (k : Bool). k && has_length l.header.size (contents_length l.header f)) (sym whole)
 
 -- a frame that ends there says so
-end-there : (end : Option ℕ) (at : ℕ) → is_end end at ≡ true → end ≡ Some at
-end-there None at e = absurd (cc)
-end-there (Some n) at e = ap Some (eqb-true n at e)
+end-there : (end : Option ℕ) (offset : ℕ) → is_end end offset ≡ true → end ≡ Some offset
+end-there None offset e = absurd (cc)
+end-there (Some n) offset e = ap Some (eqb-true n offset e)
 
 -- if the innermost open element is not filled, no element ends
 pub settled-within : (w : Framing) (ls : List Layer) (f : Forest) → (IsFilled (frames_of w ls) (end_in w ls f) → ⊥) → settled ls f ≡ within ls f

@@ -28,8 +28,8 @@ pub record Octets (h : HeaderValue) (constructed : Bool) (size : Size) : Type 0 
 
 -- the header, named if it is to be that of a wrapper
 abbrev pub header_of : (h : HeaderValue) (named constructed : Bool) (size : Size) → Octets h constructed size → ℕ → HeaderValue
-header_of h named constructed size o at = record {
-  offset = at;
+header_of h named constructed size o offset = record {
+  offset = offset;
   named = named;
   class = h.class;
   constructed = constructed;
@@ -42,11 +42,11 @@ header_of h named constructed size o at = record {
 abbrev pub octets-in : (h : HeaderValue) (constructed : Bool) (size : Size) → Octets h constructed size → List ℕ
 octets-in h constructed size o = o.identifier.octets ++ o.lengths.octets
 
-pub header-valid : (h : HeaderValue) (named constructed : Bool) (size : Size) (o : Octets h constructed size) (at : ℕ) → IsHeader (header_of h named constructed size o at)
-header-valid h named constructed size o at = record { identifier = o.identifier.valid; lengths = o.lengths.valid; allowed = o.allowed }
+pub header-valid : (h : HeaderValue) (named constructed : Bool) (size : Size) (o : Octets h constructed size) (offset : ℕ) → IsHeader (header_of h named constructed size o offset)
+header-valid h named constructed size o offset = record { identifier = o.identifier.valid; lengths = o.lengths.valid; allowed = o.allowed }
 
-pub header-shortest : (h : HeaderValue) (named constructed : Bool) (size : Size) (o : Octets h constructed size) (at : ℕ) → IsShortest (header_of h named constructed size o at)
-header-shortest h named constructed size o at = record { identifier = o.identifier.shortest; lengths = o.lengths.shortest }
+pub header-shortest : (h : HeaderValue) (named constructed : Bool) (size : Size) (o : Octets h constructed size) (offset : ℕ) → IsShortest (header_of h named constructed size o offset)
+header-shortest h named constructed size o offset = record { identifier = o.identifier.shortest; lengths = o.lengths.shortest }
 
 few-octets : (size : Size) (l : ShortLength size) → length l.octets ≤ 6 → length l.octets + length (end_octets size) ≤ 6
 few-octets (Definite n) l few = omega (arith, few)
@@ -114,15 +114,15 @@ lead-short false number = one (eqb number 3) where
 
 -- what is named of an element that holds others
 abbrev pub own : Bool → ℕ → List ℕ
-own constructed at = if constructed then [] else at ∷ []
+own constructed offset = if constructed then [] else offset ∷ []
 
-pub own-there : (constructed : Bool) (at : ℕ) → is_among at (own constructed at) ≡ not constructed
-own-there true at = refl
-own-there false at = ap (λ k. k || false) (eq-eqb at at refl)
+pub own-there : (constructed : Bool) (offset : ℕ) → is_among offset (own constructed offset) ≡ not constructed
+own-there true offset = refl
+own-there false offset = ap (λ k. k || false) (eq-eqb offset offset refl)
 
-pub own-apart : (constructed : Bool) (at i : ℕ) → i ≢ at → is_among i (own constructed at) ≡ false
-own-apart true at i apart = refl
-own-apart false at i apart = ap (λ k. k || false) (ne_eqb at i (λ e. apart (sym e)))
+pub own-apart : (constructed : Bool) (offset i : ℕ) → i ≢ offset → is_among i (own constructed offset) ≡ false
+own-apart true offset i apart = refl
+own-apart false offset i apart = ap (λ k. k || false) (ne_eqb offset i (λ e. apart (sym e)))
 
 is_among-append : (i : ℕ) (xs ys : List ℕ) → is_among i (xs ++ ys) ≡ (is_among i xs || is_among i ys)
 is_among-append i xs ys = list_any-append (λ offset. eqb offset i) xs ys

@@ -25,7 +25,7 @@ sound-whole p OpenEndOctets s = absurd s
 fits-contents : (p : Place) (h : HeaderValue) (inside : Forest) → HasLength h.size (contents_length h inside) → Fits p (extent h inside) → Fits (place_of_children p h) (length (spelling inside))
 fits-contents p h inside same f =
     within-le (place_of_children p h).bound _ _ (omega (arith, length-opening h))
-    (filled-within h.size (p.at + length (octets_of h)) p.bound (contents_length h inside) same
+    (filled-within h.size (p.offset + length (octets_of h)) p.bound (contents_length h inside) same
     (within-le p.bound _ _ (omega (arith, length-opening h)) f))
 
 -- sound elements that end within the bound are an open forest

@@ -60,7 +60,7 @@ room-after p n f g size whole r i w = within-le p.bound _ _ (omega arith) (r i (
 room-inside : (p : Place) (h : HeaderValue) (inside : Forest) → IsOpen p (OpenHolder h inside) → HasRoom (place_of_children p h) inside
 room-inside p h inside e i w =
     within-le (place_of_children p h).bound _ _ (omega (arith, length-opening h))
-    (lacks-within h.size (p.at + length (octets_of h)) p.bound (contents_length h inside) i (e.0.1 w))
+    (lacks-within h.size (p.offset + length (octets_of h)) p.bound (contents_length h inside) i (e.0.1 w))
 
 -- it holds of the tip of an open forest with room
 pub tip-fact : (p : Place) (f : Forest) → Fits p 0 → HasRoom p f → IsOpen p f → IsTip (tip p f).0 (tip p f).1

@@ -16,13 +16,13 @@ use Rattle.tlv_walk.specs.HasRead.{event_value_of}
 use Rattle.tlv_walk.specs.Private.Yields.{Continues, RefusesOctet, YieldsEvent, YieldsFault, YieldsStep}
 use Rattle.tlv_walk.proofs.WalkerLemmas.Moves.{continues_both}
 
-module _ (old mid new : WalkerState) (x : ℕ) (first : Continues old mid (x ∷ []) []) (same : mid.framing ≡ old.framing) (kept : mid.stack ≡ old.stack) where
-  event_after : (rest after : List ℕ) (e : EventValue) → YieldsEvent mid new rest after e → YieldsEvent old new (x ∷ rest) after e
-  event_after rest after e t =
-      record { taken = x ∷ t.taken; piece_is = ap (λ (o : List ℕ). x ∷ o) t.piece_is; continues = continues_both old mid new (x ∷ []) t.taken [] (e ∷ []) first t.continues }
+module _ (old middle new : WalkerState) (x : ℕ) (first : Continues old middle (x ∷ []) []) (same : middle.framing ≡ old.framing) (kept : middle.stack ≡ old.stack) where
+  event_after : (piece rest : List ℕ) (e : EventValue) → YieldsEvent middle new piece rest e → YieldsEvent old new (x ∷ piece) rest e
+  event_after piece rest e t =
+      record { taken = x ∷ t.taken; piece_is = ap (λ (o : List ℕ). x ∷ o) t.piece_is; continues = continues_both old middle new (x ∷ []) t.taken [] (e ∷ []) first t.continues }
 
-  refused_after : (rest after : List ℕ) (f : Fault) → RefusesOctet mid rest after f → RefusesOctet old (x ∷ rest) after f
-  refused_after rest after f r = record {
+  refused_after : (piece rest : List ℕ) (f : Fault) → RefusesOctet middle piece rest f → RefusesOctet old (x ∷ piece) rest f
+  refused_after piece rest f r = record {
     taken = x ∷ r.taken;
     octet = r.octet;
     others = r.others;
@@ -39,20 +39,20 @@ module _ (old mid new : WalkerState) (x : ℕ) (first : Continues old mid (x ∷
           idle = two.idle;
           offset = two.offset;
           ends = λ c. subst (λ (w : Framing). IsEnding w ((b ++ x ∷ r.taken) ++ r.octet ∷ c) (ending.Fault f)) same
-              (subst (λ (o : List ℕ). IsEnding mid.framing (o ++ r.octet ∷ c) (ending.Fault f)) spelled (two.ends c));
+              (subst (λ (o : List ℕ). IsEnding middle.framing (o ++ r.octet ∷ c) (ending.Fault f)) spelled (two.ends c));
           framing = two.framing ∙ same;
           stack = two.stack ∙ kept;
         };
   }
 
-  fault_after : (rest after : List ℕ) (f : Fault) → mid.phase ≡ phase.InEndOctets → YieldsFault mid new rest after f → YieldsFault old new (x ∷ rest) after f
-  fault_after rest after f z (inl r) = inl (refused_after rest after f r)
-  fault_after rest after f z (inr r) = absurd (cc (z, r.refused))
+  fault_after : (piece rest : List ℕ) (f : Fault) → middle.phase ≡ phase.InEndOctets → YieldsFault middle new piece rest f → YieldsFault old new (x ∷ piece) rest f
+  fault_after piece rest f z (inl r) = inl (refused_after piece rest f r)
+  fault_after piece rest f z (inr r) = absurd (cc (z, r.refused))
 
-  pub step_after : (rest after : List ℕ) (m : Step) → mid.phase ≡ phase.InEndOctets → YieldsStep mid new rest after m → YieldsStep old new (x ∷ rest) after m
-  step_after rest after (step.Event e) z t = event_after rest after (event_value_of e) t
-  step_after rest after step.NeedMore z t = continues_both old mid new (x ∷ []) rest [] [] first t
-  step_after rest after (step.Fault f) z t = fault_after rest after f z t
+  pub step_after : (piece rest : List ℕ) (m : Step) → middle.phase ≡ phase.InEndOctets → YieldsStep middle new piece rest m → YieldsStep old new (x ∷ piece) rest m
+  step_after piece rest (step.Event e) z t = event_after piece rest (event_value_of e) t
+  step_after piece rest step.NeedMore z t = continues_both old middle new (x ∷ []) piece [] [] first t
+  step_after piece rest (step.Fault f) z t = fault_after piece rest f z t
 
 -- there is room for an octet before the bound
 pub room_more : (b : Option ℕ) (n : ℕ) → IsWithin b n → (room_to b n ≡ Some 0 → ⊥) → IsWithin b (n + 1)

@@ -10,7 +10,7 @@ use Rattle.tlv_walk.specs.Forest.{Forest, Holder, NoMore, OpenEndOctets, content
 use Rattle.tlv_walk.specs.Wrappers.{entered_offsets}
 use Rattle.std.proofs.lemmas.Bool.{cases_Bool}
 use Rattle.tlv_walk.specs.WalkerState.{WalkerState}
-use Rattle.tlv_walk.specs.Private.WalkerState.{wrappers_after}
+use Rattle.tlv_walk.specs.Private.WrapperCount.{wrappers_after}
 use Rattle.tlv_walk.specs.Place.{Fits, IsEntry, IsOpen, IsWithin, Place, bound_in, is_indefinite, place_after}
 use Rattle.tlv_walk.proofs.GrammarLemmas.Lengths.{HasLength}
 use Rattle.tlv_walk.specs.Stack.{FrameValue, IsFilled, IsInIndefinite, IsInWrapper, bound_of}
@@ -48,10 +48,10 @@ yielded_closed yielded ls l here whole h =
 closed_whole : (w : WalkerState) (l : Layer) (ls : List Layer) (here : Forest) → AreWhole (place_in w.framing ls) l.before → IsEntry (place_after (place_in w.framing ls) (length (spelling l.before))) true l.header
     → AreWhole (place_in w.framing (l ∷ ls)) here → HasLength l.header.size (contents_length l.header here) → Fits (place_after (place_in w.framing ls) (length (spelling l.before))) (extent l.header here)
     → AreWhole (place_in w.framing ls) (closed_here l here)
-closed_whole w l ls here before entry inside filled fits = record {
-  is_open = open-followed_by (place_in w.framing ls) l.before (Holder l.header here NoMore) before
+closed_whole w l ls here earlier entry inside filled fits = record {
+  is_open = open-followed_by (place_in w.framing ls) l.before (Holder l.header here NoMore) earlier
       ((record { header = entry.header; depth = entry.depth; fits = fits }, inside.whole, filled), inside.is_open, tt);
-  whole = whole-followed_by l.before (Holder l.header here NoMore) before.whole;
+  whole = whole-followed_by l.before (Holder l.header here NoMore) earlier.whole;
 }
 
 -- the state of a walker whose innermost element ends with these octets
@@ -99,13 +99,13 @@ second_from w b yielded s [] has zero room = absurd (true≢false (sym zero.0))
 second_from w b yielded s (l ∷ ls) has zero room =
     let p : Place = place_after (place_in w.framing ls) (length (spelling l.before)) in
     let size : l.header.size ≡ Indefinite = size_indefinite l.header.size zero.0 in
-    let at : w.offset ≡ (place_of w.framing (with_layers s (l ∷ ls) InEndOctets)).at + 1 = place-offset w b yielded _ has in
-    let header : l.header.offset ≡ p.at = has.layers.2.header.offset in
+    let at : w.offset ≡ (place_of w.framing (with_layers s (l ∷ ls) InEndOctets)).offset + 1 = place-offset w b yielded _ has in
+    let header : l.header.offset ≡ p.offset = has.layers.2.header.offset in
     let k : l.header.constructed ≡ true = constructed_indefinite l.header.constructed l.header.size size has.layers.2.header.valid.allowed in
     let ends : end_octets l.header.size ≡ 0 ∷ 0 ∷ [] = ap end_octets size in
     let event : closing_event l.header s.here ≡ Close (Some (w.offset - 1)) = closes_indefinite l.header s.here (w.offset - 1) k size (omega arith) in
-    let bound : IsWithin (bound_in l.header.size (p.at + length (octets_of l.header)) p.bound) (w.offset + 1) = subst (λ (fs : List FrameValue). IsWithin (bound_of fs) (w.offset + 1)) has.stack room in
-    let outer : IsWithin p.bound (w.offset + 1) = subst (λ (t : Size). IsWithin (bound_in t (p.at + length (octets_of l.header)) p.bound) (w.offset + 1)) size bound in
+    let bound : IsWithin (bound_in l.header.size (p.offset + length (octets_of l.header)) p.bound) (w.offset + 1) = subst (λ (fs : List FrameValue). IsWithin (bound_of fs) (w.offset + 1)) has.stack room in
+    let outer : IsWithin p.bound (w.offset + 1) = subst (λ (t : Size). IsWithin (bound_in t (p.offset + length (octets_of l.header)) p.bound) (w.offset + 1)) size bound in
     let two : length (end_octets l.header.size) ≡ 2 = ap length ends in
     let fits : Fits p (extent l.header s.here) = subst (λ (n : ℕ). IsWithin p.bound n) (omega arith) outer in (
       _,
@@ -141,8 +141,8 @@ filled_from w b yielded s [] has e f fs is full = absurd (cc (has.stack))
 filled_from w b yielded s (l ∷ ls) has e f fs is full =
     let p : Place = place_after (place_in w.framing ls) (length (spelling l.before)) in
     let same : f ≡ frame_at p l.header = head_frame f (frame_at p l.header) fs (frames_of w.framing ls) (sym is ∙ has.stack) in
-    let size : (n : ℕ) × (l.header.size ≡ Definite n) × (p.at + length (octets_of l.header) + n ≡ w.offset) = definite-size l.header.size _ w.offset (sym (ap (λ (g : FrameValue). g.end) same) ∙ full) in
-    let at : w.offset ≡ (place_of w.framing (with_layers s (l ∷ ls) Between)).at + 0 = place-offset w b yielded _ has in
+    let size : (n : ℕ) × (l.header.size ≡ Definite n) × (p.offset + length (octets_of l.header) + n ≡ w.offset) = definite-size l.header.size _ w.offset (sym (ap (λ (g : FrameValue). g.end) same) ∙ full) in
+    let at : w.offset ≡ (place_of w.framing (with_layers s (l ∷ ls) Between)).offset + 0 = place-offset w b yielded _ has in
     let long : contents_length l.header s.here ≡ size.0 = omega (arith, size.2, at, length-opening l.header) in
     let none : end_octets l.header.size ≡ [] = ap end_octets size.1 in
     let zero : length (end_octets l.header.size) ≡ 0 = ap length none in
@@ -184,8 +184,8 @@ innermost : (stack : List FrameValue) (k : Bool) → innermost_wraps stack ≡ S
 innermost [] k e = absurd (cc)
 innermost (f ∷ fs) k e = record { frame = f; stack_is = refl; wraps = cc }
 
-frame_filled : (stack : List FrameValue) (f : FrameValue) (fs : List FrameValue) (at : ℕ) → stack ≡ f ∷ fs → IsFilled stack at → f.end ≡ Some at
-frame_filled stack f fs at e full = subst (λ (s : List FrameValue). IsFilled s at) e full
+frame_filled : (stack : List FrameValue) (f : FrameValue) (fs : List FrameValue) (offset : ℕ) → stack ≡ f ∷ fs → IsFilled stack offset → f.end ≡ Some offset
+frame_filled stack f fs offset e full = subst (λ (s : List FrameValue). IsFilled s offset) e full
 
 -- the same, by what the frame says that was popped
 pub yields_popped : (w : WalkerState) (k : Bool) → w.phase ≡ phase.Between → IsFilled w.stack w.offset → innermost_wraps w.stack ≡ Some k
@@ -196,9 +196,9 @@ yields_popped w k e full is =
     (yields_filled w e i.frame (drop 1 w.stack) i.stack_is (frame_filled w.stack i.frame (drop 1 w.stack) w.offset i.stack_is full))
 
 -- an element that is filled wraps nothing, or says so
-wraps_none : (stack : List FrameValue) (at : ℕ) → IsFilled stack at → (IsInWrapper stack → ⊥) → innermost_wraps stack ≡ Some false
-wraps_none [] at full n = absurd full
-wraps_none (f ∷ fs) at full n = ap Some (false_from_ne_true f.wrapper n)
+wraps_none : (stack : List FrameValue) (offset : ℕ) → IsFilled stack offset → (IsInWrapper stack → ⊥) → innermost_wraps stack ≡ Some false
+wraps_none [] offset full n = absurd full
+wraps_none (f ∷ fs) offset full n = ap Some (false_from_ne_true f.wrapper n)
 
 -- the same, of an element that wraps nothing
 pub yields_closed : (w : WalkerState) → w.phase ≡ phase.Between → IsFilled w.stack w.offset → (IsInWrapper w.stack → ⊥)
@@ -214,13 +214,13 @@ within_less (Some k) m n h w = omega (arith, h, w)
 pub yields_both : (w : WalkerState) → w.phase ≡ phase.Between → IsInIndefinite w.stack → IsWithin (bound_of w.stack) (w.offset + 2)
     → Continues w (record w { stack = drop 1 w.stack; offset = w.offset + 2; events = w.events + 1 }) (0 ∷ 0 ∷ []) (Close (Some w.offset) ∷ [])
 yields_both w e inside fits =
-    let mid : WalkerState = record w { phase = phase.InEndOctets; offset = w.offset + 1 } in
+    let middle : WalkerState = record w { phase = phase.InEndOctets; offset = w.offset + 1 } in
     let room : IsWithin (bound_of w.stack) (w.offset + 1) = within_less (bound_of w.stack) (w.offset + 1) (w.offset + 2) (omega arith) fits in
     let two : w.offset + 1 + 1 ≡ w.offset + 2 = omega arith in
     let one : w.offset + 1 - 1 ≡ w.offset = omega arith in
     let new : WalkerState = record w { stack = drop 1 w.stack; phase = phase.Between; offset = w.offset + 1 + 1; events = w.events + 1 } in
     let both : Continues w new (0 ∷ 0 ∷ []) (Close (Some (w.offset + 1 - 1)) ∷ []) =
-    continues_both w mid new (0 ∷ []) (0 ∷ []) [] (Close (Some (w.offset + 1 - 1)) ∷ []) (yields_zero w e inside room)
-    (yields_second mid refl (subst (IsWithin (bound_of w.stack)) (sym two) fits)) in
+    continues_both w middle new (0 ∷ []) (0 ∷ []) [] (Close (Some (w.offset + 1 - 1)) ∷ []) (yields_zero w e inside room)
+    (yields_second middle refl (subst (IsWithin (bound_of w.stack)) (sym two) fits)) in
     subst (λ (m : WalkerState). Continues w m (0 ∷ 0 ∷ []) (Close (Some w.offset) ∷ [])) (λ i. record w { stack = drop 1 w.stack; phase = sym e i; offset = two i; events = w.events + 1 })
     (subst (λ (n : ℕ). Continues w new (0 ∷ 0 ∷ []) (Close (Some n) ∷ [])) one both)

@@ -21,7 +21,7 @@ use Rattle.tlv_walk.proofs.WalkerLemmas.Places.{place-bound, place-depth, place-
 pub record AtHeader (w : WalkerState) (b : List ℕ) (yielded : List EventValue) (s : Zipper) (r : HeadReaderState) : Type 0 where
   pub has : HasZipper w b yielded s
   pub octets : spelling_of_tail s.tail ≡ r.octets
-  pub offset : r.offset ≡ (place_of w.framing s).at
+  pub offset : r.offset ≡ (place_of w.framing s).offset
   pub named : r.named ≡ is_among r.offset w.framing.inside
   pub quiet : events_of_tail s.tail ≡ []
   pub stack : w.stack ≡ frames_of w.framing s.layers
@@ -31,7 +31,7 @@ pub at_new : (w : WalkerState) (b : List ℕ) (yielded : List EventValue) (s : Z
 at_new w b yielded s r has e none at named =
     let t : s.tail ≡ Between = between_tail s.tail _ (phase_at w b yielded s _ e has) in
     let has' : HasZipper w b yielded (with_tail s Between) = tail_state w b yielded s _ t has in
-    let place : w.offset ≡ (place_of w.framing (with_tail s Between)).at + 0 = place-offset w b yielded _ has' in
+    let place : w.offset ≡ (place_of w.framing (with_tail s Between)).offset + 0 = place-offset w b yielded _ has' in
     record {
       has = has';
       octets = sym none;
@@ -79,7 +79,7 @@ is_header_at : (w : WalkerState) (b : List ℕ) (yielded : List EventValue) (s :
 is_header_at w b yielded s r t h k at c e = record {
   valid = c.valid;
   offset = c.offset ∙ at.offset;
-  named = c.named ∙ at.named ∙ ap (λ (n : ℕ). is_among n w.framing.inside) at.offset ∙ ap (λ (ns : List ℕ). is_among (place_of w.framing s).at ns) (sym (place-inside w.framing s.layers));
+  named = c.named ∙ at.named ∙ ap (λ (n : ℕ). is_among n w.framing.inside) at.offset ∙ ap (λ (ns : List ℕ). is_among (place_of w.framing s).offset ns) (sym (place-inside w.framing s.layers));
   form = e;
 }
 
@@ -225,7 +225,7 @@ pub front_state : (w : WalkerState) (b : List ℕ) (yielded : List EventValue) (
     → HasZipper (record w { phase = phase.InHeader q; offset = q.offset + length q.octets; has_element = true }) (b ++ t) (yielded ++ []) (with_tail s (InHeader q.octets))
 front_state w b yielded s r q t at o f n some front fits =
     let bound : bound_of w.stack ≡ (place_in w.framing s.layers).bound = ap bound_of at.stack ∙ sym (place-bound w.framing s.layers) in
-    let place : q.offset ≡ (place_of w.framing s).at = f ∙ at.offset in
+    let place : q.offset ≡ (place_of w.framing s).offset = f ∙ at.offset in
     record {
       spelled = spelled_after s.layers s.here (spelling_of_tail s.tail) q.octets t b (o ∙ ap (λ (x : List ℕ). x ++ t) (sym at.octets)) at.has.spelled;
       offset = omega (arith, f, at.offset, ap length o, ap length at.octets, length-append r.octets t, length-append b t, at.has.offset, place-offset w b yielded s at.has);
@@ -235,7 +235,7 @@ front_state w b yielded s r q t at o f n some front fits =
       phase = (
         refl,
         place,
-        n ∙ at.named ∙ ap (λ (m : ℕ). is_among m w.framing.inside) at.offset ∙ ap (λ (ns : List ℕ). is_among (place_of w.framing s).at ns) (sym (place-inside w.framing s.layers)),
+        n ∙ at.named ∙ ap (λ (m : ℕ). is_among m w.framing.inside) at.offset ∙ ap (λ (ns : List ℕ). is_among (place_of w.framing s).offset ns) (sym (place-inside w.framing s.layers)),
         (
           some,
           front,

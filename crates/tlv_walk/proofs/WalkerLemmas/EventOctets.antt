@@ -69,9 +69,9 @@ no_end_octets constructed (Definite n) a e = refl
 no_end_octets true Indefinite a e = absurd (true≢false e)
 no_end_octets false Indefinite a e = absurd (cc (a))
 
-octets_close : (size : Size) (at : ℕ) → event_octets (Close (end_offset size at)) ≡ end_octets size
-octets_close (Definite n) at = refl
-octets_close Indefinite at = refl
+octets_close : (size : Size) (offset : ℕ) → event_octets (Close (end_offset size offset)) ≡ end_octets size
+octets_close (Definite n) offset = refl
+octets_close Indefinite offset = refl
 
 octets_closes : (p : Place) (h : HeaderValue) (inside : Forest) → IsHeaderAt p true h → event_octets (closing_event h inside) ≡ end_octets h.size
 octets_closes p h inside i = elim (cases_Bool h.constructed) [

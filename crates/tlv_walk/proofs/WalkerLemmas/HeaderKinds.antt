@@ -15,7 +15,8 @@ use Rattle.tlv_walk.specs.Events.{Begin, Enter, EventValue, Open}
 use Rattle.tlv_walk.specs.Forest.{NoMore, lead}
 use Rattle.tlv_walk.specs.WalkerState.{WalkerState}
 use Rattle.tlv_walk.specs.Private.Stack.{frame_with}
-use Rattle.tlv_walk.specs.Private.WalkerState.{CanEnter, TakesHeader, after_header, next_wrapper, wrappers_after}
+use Rattle.tlv_walk.specs.Private.WalkerState.{CanEnter, TakesHeader, after_header}
+use Rattle.tlv_walk.specs.Private.WrapperCount.{next_wrapper, wrappers_after}
 use Rattle.tlv_walk.specs.Wrappers.{entered_offsets}
 use Rattle.tlv_walk.specs.Inside.{is_among}
 use Rattle.tlv_walk.specs.Stack.{FrameValue, bound_of}
@@ -116,16 +117,16 @@ enters_state w v b yielded s r t f o kind.Wrapper at c e =
     (u.0, subst (λ (m : WalkerState). HasZipper m (b ++ t) (yielded ++ Enter (new_header f o) ∷ []) u.0) (sym e.2) u.1)
 
 -- the framing stays
-pub enters_framing : (w v : WalkerState) (f : HeaderFields) (at : ℕ) (k : HeaderKind) → TakesHeader w v f at k → v.framing ≡ w.framing
-enters_framing w v f at kind.Primitive e = ap (λ (m : WalkerState). m.framing) e.1
-enters_framing w v f at kind.Constructed e = ap (λ (m : WalkerState). m.framing) e.1
-enters_framing w v f at kind.Wrapper e = ap (λ (m : WalkerState). m.framing) e.2
+pub enters_framing : (w v : WalkerState) (f : HeaderFields) (offset : ℕ) (k : HeaderKind) → TakesHeader w v f offset k → v.framing ≡ w.framing
+enters_framing w v f offset kind.Primitive e = ap (λ (m : WalkerState). m.framing) e.1
+enters_framing w v f offset kind.Constructed e = ap (λ (m : WalkerState). m.framing) e.1
+enters_framing w v f offset kind.Wrapper e = ap (λ (m : WalkerState). m.framing) e.2
 
 -- a wrapper may be one of the named offsets
-pub enters_found : (w v : WalkerState) (f : HeaderFields) (o : List ℕ) (at : ℕ) (k : HeaderKind) → TakesHeader w v f at k → v.wrapper_count ≡ wrappers_after w.framing.inside w.wrapper_count (entered_offsets (event_of k (new_header f o) ∷ []))
-enters_found w v f o at kind.Primitive e = ap (λ (m : WalkerState). m.wrapper_count) e.1
-enters_found w v f o at kind.Constructed e = ap (λ (m : WalkerState). m.wrapper_count) e.1
-enters_found w v f o at kind.Wrapper e = ap (λ (m : WalkerState). m.wrapper_count) e.2
+pub enters_found : (w v : WalkerState) (f : HeaderFields) (o : List ℕ) (offset : ℕ) (k : HeaderKind) → TakesHeader w v f offset k → v.wrapper_count ≡ wrappers_after w.framing.inside w.wrapper_count (entered_offsets (event_of k (new_header f o) ∷ []))
+enters_found w v f o offset kind.Primitive e = ap (λ (m : WalkerState). m.wrapper_count) e.1
+enters_found w v f o offset kind.Constructed e = ap (λ (m : WalkerState). m.wrapper_count) e.1
+enters_found w v f o offset kind.Wrapper e = ap (λ (m : WalkerState). m.wrapper_count) e.2
 
 -- octets that begin with a header, at a walker between elements
 pub fast_enters : (w v : WalkerState) (piece : List ℕ) (named : Bool) (f : HeaderFields) (count : ℕ) (o : List ℕ) (k : HeaderKind) → w.phase ≡ phase.Between
@@ -140,7 +141,7 @@ fast_enters w v piece named f count o k e begins front name shallow fits enter =
     let completed : Completed w r o h = record {
       valid = begins'.valid;
       octets = whole;
-      offset = begins'.offset;
+      offset = begins'.place;
       named = begins'.named;
       shallow = shallow;
       fits = subst (λ (x : List ℕ). IsWithin (bound_of w.stack) (f.offset + length x + announced_length f.size)) (sym whole) fits;
@@ -161,7 +162,7 @@ fast_may_enter w piece named f count o begins front fewer limit shallow fits =
     let h : HeaderValue = new_header f o in
     let whole : octets_of h ≡ o = take-append-drop f.id_len o in
     let begins' : BeginsWith piece w.offset named h = subst (λ (x : List ℕ). BeginsWith piece w.offset named (new_header f x)) (sym front) begins.begins in
-    let there : h.offset ≡ w.offset = begins'.offset in
+    let there : h.offset ≡ w.offset = begins'.place in
     record {
       valid = begins'.valid;
       fewer = omega (arith, there);
@@ -171,8 +172,8 @@ fast_may_enter w piece named f count o begins front fewer limit shallow fits =
     }
 
 -- a constructed header begins a constructed element
-pub constructed_kind : (w v : WalkerState) (f : HeaderFields) (at : ℕ) (k : HeaderKind) → f.constructed ≡ true → TakesHeader w v f at k → k ≡ kind.Constructed
-constructed_kind w v f at kind.Constructed c e = refl
-constructed_kind w v f at kind.Primitive c e =
+pub constructed_kind : (w v : WalkerState) (f : HeaderFields) (offset : ℕ) (k : HeaderKind) → f.constructed ≡ true → TakesHeader w v f offset k → k ≡ kind.Constructed
+constructed_kind w v f offset kind.Constructed c e = refl
+constructed_kind w v f offset kind.Primitive c e =
     absurd (true≢false (sym (ap (λ (k : Bool). k || is_wrapper f.named f.class f.constructed f.number f.size) c) ∙ e.0))
-constructed_kind w v f at kind.Wrapper c e = absurd (true≢false (sym c ∙ e.0))
+constructed_kind w v f offset kind.Wrapper c e = absurd (true≢false (sym c ∙ e.0))

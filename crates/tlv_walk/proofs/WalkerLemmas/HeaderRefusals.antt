@@ -69,11 +69,11 @@ past_bound Indefinite (Some b) n m past h f = past (omega arith)
 
 -- where a reader stands
 pub record IsReader (p : Place) (q : HeadReaderState) (room : Option ℕ) (depth : ℕ) : Type 0 where
-  pub offset : q.offset ≡ p.at
-  pub named : q.named ≡ is_among p.at p.inside
+  pub offset : q.offset ≡ p.offset
+  pub named : q.named ≡ is_among p.offset p.inside
   pub depths : depth ≡ p.depth
-  pub left : room ≡ room_to p.bound (p.at + length q.octets)
-  pub within : IsWithin p.bound (p.at + length q.octets)
+  pub left : room ≡ room_to p.bound (p.offset + length q.octets)
+  pub within : IsWithin p.bound (p.offset + length q.octets)
 
 -- a header that its octets make
 header_there : (p : Place) (q : HeadReaderState) (room : Option ℕ) (depth x : ℕ) (h : HeaderValue) (t : Bool) → holds h ≡ t → IsReader p q room depth → Completes q (x ∷ []) h → IsHeaderAt p t h
@@ -81,12 +81,12 @@ header_there p q room depth x h t e k c = record { valid = c.valid; offset = c.o
 
 -- there is room
 room_there : (p : Place) (q : HeadReaderState) (room : Option ℕ) (depth : ℕ) → IsReader p q room depth → room ≢ Some 0 → Fits p (length q.octets + 1)
-room_there p q room depth k some = left_some p.bound (p.at + length q.octets) (p.at + (length q.octets + 1)) (λ e. some (k.left ∙ e)) (omega arith)
+room_there p q room depth k some = left_some p.bound (p.offset + length q.octets) (p.offset + (length q.octets + 1)) (λ e. some (k.left ∙ e)) (omega arith)
 
 -- each cause of a reader is a line of the faults
 pub refused_fault : (p : Place) (q : HeadReaderState) (room : Option ℕ) (depth x : ℕ) (code : FaultCode) → IsReader p q room depth → IsRefusedPush q x room depth code → IsFault p x (OpenHeader q.octets) code
 refused_fault p q room depth x code k (push.no_room none) =
-    no_room (left_none p.bound (p.at + length q.octets) (p.at + (length q.octets + 1)) (sym k.left ∙ none) (omega arith))
+    no_room (left_none p.bound (p.offset + length q.octets) (p.offset + (length q.octets + 1)) (sym k.left ∙ none) (omega arith))
 refused_fault p q room depth x code k (push.refused_octet left octet) = refused_octet (room_there p q room depth k left) octet
 refused_fault p q room depth x code k (push.too_deep left h completes holding deep) =
     too_deep (room_there p q room depth k left) h (header_there p q room depth x h true holding k completes) completes.octets
@@ -94,7 +94,7 @@ refused_fault p q room depth x code k (push.too_deep left h completes holding de
 refused_fault p q room depth x code k (push.overrun left h completes shallow past) =
     overrun (room_there p q room depth k left) h (header_there p q room depth x h (holds h) refl k completes) completes.octets
     (λ e. subst (λ (n : ℕ). n < 128) k.depths (shallow e))
-    (past_bound h.size p.bound (p.at + length q.octets) _ (λ f. past (subst (ContentsFit h.size) (sym k.left) f))
+    (past_bound h.size p.bound (p.offset + length q.octets) _ (λ f. past (subst (ContentsFit h.size) (sym k.left) f))
     (omega (arith, ap length completes.octets, length-append q.octets (x ∷ []))))
 
 -- ---- a walker refuses it
@@ -115,11 +115,11 @@ reader_there w b yielded s q depth e has d =
     }
 
 -- the octet that its reader refuses
-pub refuses_header : (w u : WalkerState) (r q : HeadReaderState) (piece rest others : List ℕ) (x depth at : ℕ) (f : Fault) → HandsOver w u r → HasTaken r q piece rest → rest ≡ x ∷ others
-    → IsWithin (bound_of u.stack) at → q.offset + length q.octets ≡ at → depth ≡ length u.stack
-    → (q.octets ≡ [] → room_to (bound_of u.stack) at ≢ Some 0) → IsRefusedPush q x (room_to (bound_of u.stack) at) depth f.code → f.offset ≡ q.offset + length q.octets
+pub refuses_header : (w u : WalkerState) (r q : HeadReaderState) (piece rest others : List ℕ) (x depth offset : ℕ) (f : Fault) → HandsOver w u r → HasTaken r q piece rest → rest ≡ x ∷ others
+    → IsWithin (bound_of u.stack) offset → q.offset + length q.octets ≡ offset → depth ≡ length u.stack
+    → (q.octets ≡ [] → room_to (bound_of u.stack) offset ≢ Some 0) → IsRefusedPush q x (room_to (bound_of u.stack) offset) depth f.code → f.offset ≡ q.offset + length q.octets
     → RefusesOctet w piece rest f
-refuses_header w u r q piece rest others x depth at f over k e within place deep room refused there =
+refuses_header w u r q piece rest others x depth offset f over k e within place deep room refused there =
     let some : q.octets ≡ [] → ⊥ = λ none. refused-some f.code q x _ depth refused (room none) none in record {
       taken = k.taken;
       octet = x;
@@ -131,8 +131,8 @@ refuses_header w u r q piece rest others x depth at f over k e within place deep
           let has' : HasZipper (in_header w q) (b ++ k.taken) yielded (with_tail t.state (InHeader q.octets)) =
           subst (λ (es : List EventValue). HasZipper (in_header w q) (b ++ k.taken) es (with_tail t.state (InHeader q.octets))) (append-nil yielded) t.has in
           let same : u.stack ≡ w.stack = ap (λ (m : WalkerState). m.stack) t.same in
-          let left : room_to (bound_of u.stack) at ≡ room_to (bound_of w.stack) (q.offset + length q.octets) =
-          ap (λ (fs : List FrameValue). room_to (bound_of fs) at) same ∙ ap (room_to (bound_of w.stack)) (sym place) in
+          let left : room_to (bound_of u.stack) offset ≡ room_to (bound_of w.stack) (q.offset + length q.octets) =
+          ap (λ (fs : List FrameValue). room_to (bound_of fs) offset) same ∙ ap (room_to (bound_of w.stack)) (sym place) in
           let faulty : IsFault (place_of w.framing t.state) x (OpenHeader q.octets) f.code =
           refused_fault _ q _ depth x f.code (reader_there (in_header w q) (b ++ k.taken) yielded t.state q depth refl has' (deep ∙ ap length same))
           (subst (λ (o : Option ℕ). IsRefusedPush q x o depth f.code) left refused) in record {

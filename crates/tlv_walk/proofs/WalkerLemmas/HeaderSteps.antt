@@ -17,7 +17,8 @@ use Rattle.tlv_walk.specs.Phase as phase
 use Rattle.tlv_walk.specs.Events.{EventValue}
 use Rattle.tlv_walk.specs.declared.framing.Framing.{Framing}
 use Rattle.tlv_walk.specs.WalkerState.{WalkerState}
-use Rattle.tlv_walk.specs.Private.WalkerState.{CanEnter, TakesHeader, wrappers_after}
+use Rattle.tlv_walk.specs.Private.WalkerState.{CanEnter, TakesHeader}
+use Rattle.tlv_walk.specs.Private.WrapperCount.{wrappers_after}
 use Rattle.tlv_walk.specs.Wrappers.{entered_offsets}
 use Rattle.tlv_walk.specs.Private.ReadsOn.{HandsOver, YieldsHeader}
 use Rattle.tlv_walk.specs.Stack.{bound_of}
@@ -109,15 +110,15 @@ handed_wrappers w u r (inl h) = ap (λ (m : WalkerState). m.wrapper_count) h.1
 handed_wrappers w u r (inr h) = ap (λ (m : WalkerState). m.wrapper_count) h.1
 
 -- the piece is used up inside a header
-pub yields_unfinished : (w u : WalkerState) (r q : HeadReaderState) (piece : List ℕ) (at : ℕ) → HandsOver w u r → HasTaken r q piece [] → (q.octets ≡ [] → ⊥) → q.offset + length q.octets ≡ at
-    → IsWithin (bound_of u.stack) at → Continues w (record u { phase = phase.InHeader q; offset = at }) piece []
-yields_unfinished w u r q piece at over k some e fits = record {
+pub yields_unfinished : (w u : WalkerState) (r q : HeadReaderState) (piece : List ℕ) (offset : ℕ) → HandsOver w u r → HasTaken r q piece [] → (q.octets ≡ [] → ⊥) → q.offset + length q.octets ≡ offset
+    → IsWithin (bound_of u.stack) offset → Continues w (record u { phase = phase.InHeader q; offset = offset }) piece []
+yields_unfinished w u r q piece offset over k some e fits = record {
   framing = handed_framing w u r over;
   found = handed_wrappers w u r over;
   goes = λ b yielded s has.
       let t : TakenState w u q k.taken b yielded = taken_state w u r q piece [] over k some (subst (IsWithin (bound_of u.stack)) (sym e) fits) b yielded s has in
-      let new : in_header w q ≡ record u { phase = phase.InHeader q; offset = at } =
-      ap (λ (n : ℕ). record w { phase = phase.InHeader q; offset = n; has_element = true }) e ∙ ap (λ (m : WalkerState). record m { phase = phase.InHeader q; offset = at }) (sym t.same) in
+      let new : in_header w q ≡ record u { phase = phase.InHeader q; offset = offset } =
+      ap (λ (n : ℕ). record w { phase = phase.InHeader q; offset = n; has_element = true }) e ∙ ap (λ (m : WalkerState). record m { phase = phase.InHeader q; offset = offset }) (sym t.same) in
       let all : k.taken ≡ piece = sym (k.piece_is ∙ append-nil k.taken) in (
         with_tail t.state (InHeader q.octets),
         subst (λ (m : WalkerState). HasZipper m (b ++ piece) (yielded ++ []) (with_tail t.state (InHeader q.octets))) new
@@ -128,10 +129,10 @@ yields_unfinished w u r q piece at over k some e fits = record {
 -- ---- a whole header
 
 -- the walker that the reader was taken from enters it too
-enters_without : (w u new : WalkerState) (f : HeaderFields) (at : ℕ) (k : HeaderKind) → u ≡ record w { phase = phase.Between; has_element = true } → TakesHeader u new f at k → TakesHeader w new f at k
-enters_without w u new f at kind.Primitive e enter = subst (λ (m : WalkerState). TakesHeader m new f at kind.Primitive) e enter
-enters_without w u new f at kind.Constructed e enter = subst (λ (m : WalkerState). TakesHeader m new f at kind.Constructed) e enter
-enters_without w u new f at kind.Wrapper e enter = subst (λ (m : WalkerState). TakesHeader m new f at kind.Wrapper) e enter
+enters_without : (w u new : WalkerState) (f : HeaderFields) (offset : ℕ) (k : HeaderKind) → u ≡ record w { phase = phase.Between; has_element = true } → TakesHeader u new f offset k → TakesHeader w new f offset k
+enters_without w u new f offset kind.Primitive e enter = subst (λ (m : WalkerState). TakesHeader m new f offset kind.Primitive) e enter
+enters_without w u new f offset kind.Constructed e enter = subst (λ (m : WalkerState). TakesHeader m new f offset kind.Constructed) e enter
+enters_without w u new f offset kind.Wrapper e enter = subst (λ (m : WalkerState). TakesHeader m new f offset kind.Wrapper) e enter
 
 -- and the header that it completes may stand there
 completed_without : (w u : WalkerState) (r : HeadReaderState) (t : List ℕ) (h : HeaderValue) → u ≡ record w { phase = phase.Between; has_element = true } → CanEnter u h → Completes r t h → Completed w r t h
@@ -140,24 +141,24 @@ completed_without w u r t h e can makes =
     record { valid = can'.valid; octets = makes.octets; offset = makes.offset; named = makes.named; shallow = can'.shallow; fits = can'.fits }
 
 -- so it yields a header with the fields that were entered
-yields_after : (u new : WalkerState) (f : HeaderFields) (o : List ℕ) (at : ℕ) (k : HeaderKind) → CanEnter u (new_header f o) → at ≡ f.offset + length (octets_of (new_header f o)) → TakesHeader u new f at k
+yields_after : (u new : WalkerState) (f : HeaderFields) (o : List ℕ) (offset : ℕ) (k : HeaderKind) → CanEnter u (new_header f o) → offset ≡ f.offset + length (octets_of (new_header f o)) → TakesHeader u new f offset k
     → YieldsHeader u new (new_header f o) (event_of k (new_header f o))
-yields_after u new f o at k can e does w r t over makes = record {
-  framing = enters_framing u new f at k does ∙ handed_framing w u r over;
+yields_after u new f o offset k can e does w r t over makes = record {
+  framing = enters_framing u new f offset k does ∙ handed_framing w u r over;
   found =
-      enters_found u new f o at k does
+      enters_found u new f o offset k does
       ∙ ap₂ (λ (g : Framing) (n : ℕ). wrappers_after g.inside n (entered_offsets (event_of k (new_header f o) ∷ []))) (handed_framing w u r over) (handed_wrappers w u r over);
   goes = λ b yielded s has.
       let h = handed w u r over b yielded s has in
-      enters_state w new b yielded h.0 r t f o k h.1 (completed_without w u r t (new_header f o) h.2 can makes) (subst (λ (n : ℕ). TakesHeader w new f n k) e (enters_without w u new f at k h.2 does));
+      enters_state w new b yielded h.0 r t f o k h.1 (completed_without w u r t (new_header f o) h.2 can makes) (subst (λ (n : ℕ). TakesHeader w new f n k) e (enters_without w u new f offset k h.2 does));
 }
 
 -- the same of a header that has these fields
-pub yields_header : (u new : WalkerState) (f : HeaderFields) (h : HeaderValue) (at : ℕ) (k : HeaderKind) → CanEnter u h → new_header f (octets_of h) ≡ h → at ≡ f.offset + length (octets_of h) → TakesHeader u new f at k
+pub yields_header : (u new : WalkerState) (f : HeaderFields) (h : HeaderValue) (offset : ℕ) (k : HeaderKind) → CanEnter u h → new_header f (octets_of h) ≡ h → offset ≡ f.offset + length (octets_of h) → TakesHeader u new f offset k
     → YieldsHeader u new h (event_of k h)
-yields_header u new f h at k can same e enter =
+yields_header u new f h offset k can same e enter =
     subst (λ (g : HeaderValue). YieldsHeader u new g (event_of k g)) same
-    (yields_after u new f (octets_of h) at k (subst (CanEnter u) (sym same) can) (e ∙ ap (λ (g : HeaderValue). f.offset + length (octets_of g)) (sym same)) enter)
+    (yields_after u new f (octets_of h) offset k (subst (CanEnter u) (sym same) can) (e ∙ ap (λ (g : HeaderValue). f.offset + length (octets_of g)) (sym same)) enter)
 
 -- ---- the octet that a reader is given
 
@@ -187,16 +188,16 @@ within_announced Indefinite None n h = tt
 within_announced Indefinite (Some m) n h = omega (arith, h)
 
 -- the header that it completes may stand there
-pub whole_enters : (u : WalkerState) (q : HeadReaderState) (x depth at : ℕ) (h : HeaderValue) → u.events + length u.stack ≤ q.offset → q.offset + length q.octets ≡ at → at + 1 ≤ 2 ^ 40 → depth ≡ length u.stack
-    → Completes q (x ∷ []) h → FitsThere h (room_to (bound_of u.stack) at) depth → CanEnter u h
-whole_enters u q x depth at h fewer place limit deep c f =
-    let end : h.offset + length (octets_of h) ≡ at + 1 = omega (arith, c.offset, ap length c.octets, length-append q.octets (x ∷ [])) in
+pub whole_enters : (u : WalkerState) (q : HeadReaderState) (x depth offset : ℕ) (h : HeaderValue) → u.events + length u.stack ≤ q.offset → q.offset + length q.octets ≡ offset → offset + 1 ≤ 2 ^ 40 → depth ≡ length u.stack
+    → Completes q (x ∷ []) h → FitsThere h (room_to (bound_of u.stack) offset) depth → CanEnter u h
+whole_enters u q x depth offset h fewer place limit deep c f =
+    let end : h.offset + length (octets_of h) ≡ offset + 1 = omega (arith, c.offset, ap length c.octets, length-append q.octets (x ∷ [])) in
     record {
       valid = c.valid;
       fewer = omega (arith, c.offset);
       limit = omega arith;
       shallow = λ e. subst (λ (n : ℕ). n < 128) deep (f.shallow e);
-      fits = subst (λ (n : ℕ). IsWithin (bound_of u.stack) (n + announced_length h.size)) (sym end) (within_announced h.size (bound_of u.stack) at f.within);
+      fits = subst (λ (n : ℕ). IsWithin (bound_of u.stack) (n + announced_length h.size)) (sym end) (within_announced h.size (bound_of u.stack) offset f.within);
     }
 
 -- and the walker yields it
@@ -230,8 +231,8 @@ give_some octets piece room (inl some) used = some
 give_some octets piece room (inr k) used = let z : [] ≡ k.0 ∷ k.1 = sym used ∙ k.2 in absurd (cc)
 
 -- with another octet
-pub pushed_place : (q p : HeadReaderState) (x at : ℕ) → p ≡ with_octet q x → q.offset + length q.octets ≡ at → p.offset + length p.octets ≡ at + 1
-pushed_place q p x at e place = omega (arith, ap (λ (r : HeadReaderState). r.offset) e, ap (λ (r : HeadReaderState). length r.octets) e, length-append q.octets (x ∷ []))
+pub pushed_place : (q p : HeadReaderState) (x offset : ℕ) → p ≡ with_octet q x → q.offset + length q.octets ≡ offset → p.offset + length p.octets ≡ offset + 1
+pushed_place q p x offset e place = omega (arith, ap (λ (r : HeadReaderState). r.offset) e, ap (λ (r : HeadReaderState). length r.octets) e, length-append q.octets (x ∷ []))
 
 pub pushed_some : (q p : HeadReaderState) (x : ℕ) → p ≡ with_octet q x → p.octets ≢ []
 pushed_some q p x e none = omega (arith, ap (λ (r : HeadReaderState). length r.octets) e, ap length none, length-append q.octets (x ∷ []))

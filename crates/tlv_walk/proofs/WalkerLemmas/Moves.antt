@@ -10,7 +10,7 @@ use Rattle.tlv_walk.specs.Events.{AreEqualJoined, Begin, Bytes, End, EventValue,
 use Rattle.tlv_walk.specs.Forest.{Forest, NoMore, PaddingOctet, Primitive, Holder, OpenPrimitive, OpenHolder, OpenBitString, OpenHeader, OpenEndOctets, has_element, is_complete, spelling}
 use Rattle.tlv_walk.specs.declared.framing.Framing.{Framing}
 use Rattle.tlv_walk.specs.WalkerState.{WalkerState}
-use Rattle.tlv_walk.specs.Private.WalkerState.{next_wrapper, wrappers_after}
+use Rattle.tlv_walk.specs.Private.WrapperCount.{next_wrapper, wrappers_after}
 use Rattle.tlv_walk.specs.Wrappers.{entered_offsets}
 use Rattle.tlv_walk.proofs.EventLemmas.Wrappers.{enters-append}
 use Rattle.tlv_walk.specs.Place.{Fits, IsOpen, IsWithin, Place, is_indefinite, place_after}
@@ -234,7 +234,7 @@ yields_zero w e i f = record {
     zero_from w b yielded s (l ∷ ls) q has i f =
         let inside : IsInIndefinite (frames_of w.framing (l ∷ ls)) = subst IsInIndefinite has.stack i in
         let fits : IsWithin (place_in w.framing (l ∷ ls)).bound (w.offset + 1) = subst (λ (fs : List FrameValue). IsWithin (bound_of fs) (w.offset + 1)) has.stack f in
-        let at : w.offset ≡ (place_of w.framing (with_layers s (l ∷ ls) Between)).at + 0 = place-offset w b yielded _ has in (
+        let at : w.offset ≡ (place_of w.framing (with_layers s (l ∷ ls) Between)).offset + 0 = place-offset w b yielded _ has in (
           _,
           zero_state w b yielded s l ls has (indefinite-size l.header.size _ inside)
               (subst (λ (n : ℕ). IsWithin (place_in w.framing (l ∷ ls)).bound n) (omega (arith, at)) fits),

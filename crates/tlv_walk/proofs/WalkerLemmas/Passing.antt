@@ -60,7 +60,7 @@ yields_header w piece p can =
     let o : List ℕ = take p.header piece in
     let form : (f.constructed || is_wrapper f.named f.class f.constructed f.number f.size) ≡ false =
     ap₂ (λ (c n : Bool). c || is_wrapper n f.class c f.number f.size) can.primitive can.begins.begins.named in
-    let end : w.offset + p.octets ≡ f.offset + length o + announced_length f.size = omega (arith, can.begins.begins.offset, can.octets, length-take-le p.header piece can.begins.within) in
+    let end : w.offset + p.octets ≡ f.offset + length o + announced_length f.size = omega (arith, can.begins.begins.place, can.octets, length-take-le p.header piece can.begins.within) in
     fast_enters w _ piece false f p.header o kind.Primitive can.phase can.begins refl (sym can.unnamed) (λ e. absurd (true≢false (sym e ∙ form)))
     (subst (IsWithin (bound_of w.stack)) end can.fits) (form, refl)
 
@@ -71,13 +71,13 @@ yields_primitive w piece p n can =
     let o : List ℕ = take p.header piece in
     let c : List ℕ = contents_at p piece in
     let size : length c ≡ announced_length f.size = contents_length w piece p can in
-    let at : ℕ = f.offset + length o in
-    let u : WalkerState = after_header w (phase.InPrimitive (announced_length f.size)) at in
+    let offset : ℕ = f.offset + length o in
+    let u : WalkerState = after_header w (phase.InPrimitive (announced_length f.size)) offset in
     let v : PhaseValue → ℕ → WalkerState = λ q k. record w { phase = q; offset = k; events = n; has_element = true } in
-    let end : at + length c ≡ w.offset + p.octets = omega (arith, can.begins.begins.offset, can.octets, length-take-le p.header piece can.begins.within, size) in
-    let both : Continues w (v phase.Between (at + length c)) (o ++ c) (Begin (header_at p piece) ∷ Bytes c ∷ End ∷ []) =
+    let end : offset + length c ≡ w.offset + p.octets = omega (arith, can.begins.begins.place, can.octets, length-take-le p.header piece can.begins.within, size) in
+    let both : Continues w (v phase.Between (offset + length c)) (o ++ c) (Begin (header_at p piece) ∷ Bytes c ∷ End ∷ []) =
     continues_both w u _ o c (Begin (header_at p piece) ∷ []) (Bytes c ∷ End ∷ []) (yields_header w piece p can) (yields_passed u c n (ap phase.InPrimitive (sym size))) in
     subst (λ (q : PhaseValue). Continues w (v q (w.offset + p.octets)) (take p.octets piece) (whole_events (header_at p piece) (take p.octets piece))) (sym can.phase)
     (subst (λ (k : ℕ). Continues w (v phase.Between k) (take p.octets piece) (whole_events (header_at p piece) (take p.octets piece))) end
-    (subst (λ (l : List ℕ). Continues w (v phase.Between (at + length c)) (take p.octets piece) (Begin (header_at p piece) ∷ Bytes l ∷ End ∷ [])) (sym (contents_whole w piece p can))
-    (subst (λ (l : List ℕ). Continues w (v phase.Between (at + length c)) l (Begin (header_at p piece) ∷ Bytes c ∷ End ∷ [])) (sym (whole_octets w piece p can)) both)))
+    (subst (λ (l : List ℕ). Continues w (v phase.Between (offset + length c)) (take p.octets piece) (Begin (header_at p piece) ∷ Bytes l ∷ End ∷ [])) (sym (contents_whole w piece p can))
+    (subst (λ (l : List ℕ). Continues w (v phase.Between (offset + length c)) l (Begin (header_at p piece) ∷ Bytes c ∷ End ∷ [])) (sym (whole_octets w piece p can)) both)))

@@ -10,7 +10,7 @@ use Rattle.tlv_walk.specs.Place.{bound_in}
 use Rattle.tlv_walk.specs.Stack.{bound_of}
 use Rattle.tlv_walk.specs.Private.Zipper.{HasZipper, Layer, Zipper, frames_of, place_in, place_of, spelling_of_layers, spelling_of_tail}
 
-pub place-at : (w : Framing) (ls : List Layer) → (place_in w ls).at ≡ length (spelling_of_layers ls)
+pub place-at : (w : Framing) (ls : List Layer) → (place_in w ls).offset ≡ length (spelling_of_layers ls)
 place-at w [] = refl
 place-at w (l ∷ ls) =
     omega (arith, place-at w ls, length-append (spelling_of_layers ls) (spelling l.before ++ opening l.header), length-append (spelling l.before) (opening l.header))
@@ -28,7 +28,7 @@ place-depth w [] = refl
 place-depth w (l ∷ ls) = omega (arith, place-depth w ls)
 
 -- if nothing is open after the whole elements, the walker stands there
-pub place-offset : (w : WalkerState) (b : List ℕ) (yielded : List EventValue) (s : Zipper) → HasZipper w b yielded s → w.offset ≡ (place_of w.framing s).at + length (spelling_of_tail s.tail)
+pub place-offset : (w : WalkerState) (b : List ℕ) (yielded : List EventValue) (s : Zipper) → HasZipper w b yielded s → w.offset ≡ (place_of w.framing s).offset + length (spelling_of_tail s.tail)
 place-offset w b yielded s has =
     omega (arith, has.offset, ap length has.spelled, place-at w.framing s.layers, length-append (spelling_of_layers s.layers) (spelling s.here ++ spelling_of_tail s.tail), length-append (spelling s.here) (spelling_of_tail s.tail))
 

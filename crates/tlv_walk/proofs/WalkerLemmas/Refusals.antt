@@ -77,7 +77,7 @@ pub refuses_missing : (w : WalkerState) (x : ℕ) (rest : List ℕ) → w.phase 
 refuses_missing w x rest e unfilled inside within room = refuses_here w x rest MissingEnd (idle_at w phase.Between e unfilled) (λ b yielded s has.
     let t = between_tail s.tail _ (phase_at w b yielded s _ e has) in
     let has' : HasZipper w b yielded (with_tail s Between) = tail_state w b yielded s _ t has in
-    let place : w.offset ≡ (place_of w.framing (with_tail s Between)).at + 0 = place-offset w b yielded _ has' in
+    let place : w.offset ≡ (place_of w.framing (with_tail s Between)).offset + 0 = place-offset w b yielded _ has' in
     let none : room_to (place_of w.framing (with_tail s Between)).bound w.offset ≡ Some 0 = subst (λ (o : Option ℕ). room_to o w.offset ≡ Some 0) (bound_there w b yielded _ has' has'.stack) room in (
       with_tail s Between,
       has',
@@ -118,7 +118,7 @@ pub refuses_second_missing : (w : WalkerState) (x : ℕ) (rest : List ℕ) → w
 refuses_second_missing w x rest e within room = refuses_here w x rest MissingEnd (idle_at w phase.InEndOctets e (λ k. k)) (λ b yielded s has.
     let t = lone_tail s.tail _ (phase_at w b yielded s _ e has) in
     let has' : HasZipper w b yielded (with_tail s InEndOctets) = tail_state w b yielded s _ t has in
-    let place : w.offset ≡ (place_of w.framing (with_tail s InEndOctets)).at + 1 = place-offset w b yielded _ has' in
+    let place : w.offset ≡ (place_of w.framing (with_tail s InEndOctets)).offset + 1 = place-offset w b yielded _ has' in
     let none : room_to (place_of w.framing (with_tail s InEndOctets)).bound w.offset ≡ Some 0 = subst (λ (o : Option ℕ). room_to o w.offset ≡ Some 0) (bound_there w b yielded _ has' has'.stack) room in
     (with_tail s InEndOctets, has', missing_end (left_none _ w.offset _ none (omega (arith, place)))))
 
@@ -127,7 +127,7 @@ pub refuses_second : (w : WalkerState) (x : ℕ) (rest : List ℕ) → w.phase �
 refuses_second w x rest e room nonzero = refuses_here w x rest BadEnd (idle_at w phase.InEndOctets e (λ k. k)) (λ b yielded s has.
     let t = lone_tail s.tail _ (phase_at w b yielded s _ e has) in
     let has' : HasZipper w b yielded (with_tail s InEndOctets) = tail_state w b yielded s _ t has in
-    let place : w.offset ≡ (place_of w.framing (with_tail s InEndOctets)).at + 1 = place-offset w b yielded _ has' in (
+    let place : w.offset ≡ (place_of w.framing (with_tail s InEndOctets)).offset + 1 = place-offset w b yielded _ has' in (
       with_tail s InEndOctets,
       has',
       bad_end (left_some _ w.offset _ (λ none. room (subst (λ (o : Option ℕ). room_to o w.offset ≡ Some 0) (sym (bound_there w b yielded _ has' has'.stack)) none)) (omega (arith, place))) nonzero,

@@ -9,7 +9,8 @@ use Rattle.tlv_walk.specs.declared.framing.Framing.{Framing}
 use Rattle.tlv_walk.specs.Events.{AreEqualJoined, EventValue, events}
 use Rattle.tlv_walk.specs.Inside.{can_name}
 use Rattle.tlv_walk.specs.WalkerState.{HasNotRefused, HasOctets, WalkerState}
-use Rattle.tlv_walk.specs.Private.WalkerState.{CountsStep, Refuses, TakesAll, YieldsOne, wrappers_after}
+use Rattle.tlv_walk.specs.Private.WalkerState.{CountsStep, Refuses, TakesAll, YieldsOne}
+use Rattle.tlv_walk.specs.Private.WrapperCount.{wrappers_after}
 use Rattle.tlv_walk.specs.Phase.{PhaseValue, Between, InHeader, InPrimitive, InBitString, InEndOctets, Refused}
 use Rattle.tlv_walk.specs.Wrappers.{entered_offsets}
 use Rattle.tlv_walk.proofs.WalkerLemmas.Moves.{found_in-append}
@@ -29,7 +30,7 @@ use Rattle.tlv_walk.proofs.GrammarLemmas.Finals.{refused-final}
 use Rattle.tlv_walk.proofs.GrammarLemmas.Unique.{never-sound}
 use Rattle.tlv_walk.proofs.WalkerLemmas.OpenCounts.{state-depth}
 use Rattle.tlv_walk.proofs.EventLemmas.Unused.{yielded_unused}
-use Rattle.tlv_walk.proofs.WalkerLemmas.Waiting.{awaits-can_take, idle}
+use Rattle.tlv_walk.proofs.WalkerLemmas.Waiting.{idle}
 use Rattle.tlv_walk.proofs.GrammarLemmas.PushSteps.{Spells}
 use Rattle.tlv_walk.proofs.WalkerLemmas.ZipperReading.{stands, state-events, state-spells}
 use Rattle.tlv_walk.proofs.WalkerLemmas.Zipper.{reading_of}
@@ -128,7 +129,7 @@ uses_up old new piece rest n k t =
           let u = t.goes b yielded st.private_state.state st.private_state.has_state in
           subst (λ (es : List EventValue). Stands new (b ++ piece) es) (append-nil yielded)
           (stands new (b ++ piece) (yielded ++ []) u.0 u.1 (subst (λ (f : Framing). can_name f.inside ≡ true) (sym t.framing) st.private_state.named) (found_on old new yielded [] t.framing st.private_state.found t.found));
-      ready = awaits-can_take new k.ready;
+      ready = k.ready;
     }
 
 -- an octet is refused

@@ -1,13 +1,11 @@
 -- Whether an event waits, by the code's tests and by the list of those that do.
 use Rattle.std.proofs.Common.{◌≡◌, ℕ, Bool, true, false, eqb, if◌then◌else◌, List, [], ◌∷◌, Option, Some, None, refl, ap, ◌∙◌, ne_eqb, eq-eqb, IsTrue, ◌↔◌}
-use Rattle.tlv_head.specs.declared.fault.Fault.{Fault}
 use Rattle.tlv_walk.specs.Phase.{PhaseValue}
 use Rattle.tlv_walk.specs.Phase as phase
 use Rattle.tlv_walk.specs.Events.{End, EventValue}
 use Rattle.tlv_walk.specs.WalkerState.{WalkerState}
-use Rattle.tlv_walk.specs.Private.WalkerState.{AwaitsOctet, AwaitsOctetIn}
 use Rattle.tlv_walk.specs.Stack.{FrameValue, IsFilled}
-use Rattle.tlv_walk.specs.Stands.{CanTake, IsIdle, filled_end, filled_ends, is_end, waiting_events, waiting_events_in}
+use Rattle.tlv_walk.specs.Stands.{IsIdle, filled_end, filled_ends, is_end, waiting_events, waiting_events_in}
 
 -- an event is to come that needs no further octet: not `IsIdle`, by phase
 abbrev pub EventWaitsIn : PhaseValue → List FrameValue → ℕ → Type 0
@@ -22,21 +20,21 @@ abbrev pub EventWaits : WalkerState → Type 0
 EventWaits w = EventWaitsIn w.phase w.stack w.offset
 
 -- if nothing waits no events do
-no_endings : (at : ℕ) (fs : List FrameValue) → (IsFilled fs at → ⊥) → filled_ends at fs ≡ []
-no_endings at [] n = refl
-no_endings at (f ∷ fs) n = ap (λ (k : Bool). if k then filled_end f ∷ filled_ends at fs else []) (unfilled f.end n)
+no_endings : (offset : ℕ) (fs : List FrameValue) → (IsFilled fs offset → ⊥) → filled_ends offset fs ≡ []
+no_endings offset [] n = refl
+no_endings offset (f ∷ fs) n = ap (λ (k : Bool). if k then filled_end f ∷ filled_ends offset fs else []) (unfilled f.end n)
   where
-    unfilled : (e : Option ℕ) → (e ≡ Some at → ⊥) → is_end e at ≡ false
+    unfilled : (e : Option ℕ) → (e ≡ Some offset → ⊥) → is_end e offset ≡ false
     unfilled None n = refl
-    unfilled (Some m) n = ne_eqb m at (λ e. n (ap Some e))
+    unfilled (Some m) n = ne_eqb m offset (λ e. n (ap Some e))
 
-quiet_in : (f : PhaseValue) (stack : List FrameValue) (at : ℕ) → (EventWaitsIn f stack at → ⊥) → waiting_events_in f stack at ≡ []
-quiet_in phase.Between stack at n = no_endings at stack n
-quiet_in (phase.InHeader r) stack at n = refl
-quiet_in (phase.InPrimitive left) stack at n = ap (λ (k : Bool). if k then End ∷ filled_ends at stack else []) (ne_eqb left 0 n)
-quiet_in phase.InBitString stack at n = refl
-quiet_in phase.InEndOctets stack at n = refl
-quiet_in (phase.Refused fault) stack at n = refl
+quiet_in : (f : PhaseValue) (stack : List FrameValue) (offset : ℕ) → (EventWaitsIn f stack offset → ⊥) → waiting_events_in f stack offset ≡ []
+quiet_in phase.Between stack offset n = no_endings offset stack n
+quiet_in (phase.InHeader r) stack offset n = refl
+quiet_in (phase.InPrimitive left) stack offset n = ap (λ (k : Bool). if k then End ∷ filled_ends offset stack else []) (ne_eqb left 0 n)
+quiet_in phase.InBitString stack offset n = refl
+quiet_in phase.InEndOctets stack offset n = refl
+quiet_in (phase.Refused fault) stack offset n = refl
 
 pub quiet : (w : WalkerState) → (EventWaits w → ⊥) → waiting_events w ≡ []
 quiet w n = quiet_in w.phase w.stack w.offset n
@@ -46,14 +44,14 @@ no_more : (e : EventValue) (es : List EventValue) (k : Bool) → k ≡ true → 
 no_more e es true t n = cc
 no_more e es false t n = absurd (cc)
 
-loud_in : (f : PhaseValue) (stack : List FrameValue) (at : ℕ) → EventWaitsIn f stack at → waiting_events_in f stack at ≡ [] → ⊥
-loud_in phase.Between [] at i n = i
-loud_in phase.Between (f ∷ fs) at i n = no_more (filled_end f) (filled_ends at fs) (is_end f.end at) (ap (λ (e : Option ℕ). is_end e at) i ∙ eq-eqb at at refl) n
-loud_in (phase.InHeader r) stack at i n = i
-loud_in (phase.InPrimitive left) stack at i n = no_more End (filled_ends at stack) (eqb left 0) (eq-eqb left 0 i) n
-loud_in phase.InBitString stack at i n = i
-loud_in phase.InEndOctets stack at i n = i
-loud_in (phase.Refused fault) stack at i n = i
+loud_in : (f : PhaseValue) (stack : List FrameValue) (offset : ℕ) → EventWaitsIn f stack offset → waiting_events_in f stack offset ≡ [] → ⊥
+loud_in phase.Between [] offset i n = i
+loud_in phase.Between (f ∷ fs) offset i n = no_more (filled_end f) (filled_ends offset fs) (is_end f.end offset) (ap (λ (e : Option ℕ). is_end e offset) i ∙ eq-eqb offset offset refl) n
+loud_in (phase.InHeader r) stack offset i n = i
+loud_in (phase.InPrimitive left) stack offset i n = no_more End (filled_ends offset stack) (eqb left 0) (eq-eqb left 0 i) n
+loud_in phase.InBitString stack offset i n = i
+loud_in phase.InEndOctets stack offset i n = i
+loud_in (phase.Refused fault) stack offset i n = i
 
 pub idle : (w : WalkerState) → IsIdle w → EventWaits w → ⊥
 idle w n i = loud_in w.phase w.stack w.offset i n
@@ -62,36 +60,3 @@ idle w n i = loud_in w.phase w.stack w.offset i n
 pub waits : (w : WalkerState) (k : Bool) → IsTrue k ↔ EventWaits w → (k ≡ false) ↔ IsIdle w
 waits w true h = (λ e. absurd (cc (e)), λ n. absurd (idle w n (h.0 refl)))
 waits w false h = (λ e. quiet w (λ i. cc (h.1 i)), λ n. refl)
-
--- ---- whether an octet can be taken
-
-awaits_none : (f : PhaseValue) (stack : List FrameValue) (at : ℕ) → AwaitsOctetIn f stack at → EventWaitsIn f stack at → ⊥
-awaits_none phase.Between stack at r i = r i
-awaits_none (phase.InPrimitive left) stack at r i = r i
-awaits_none (phase.InHeader p) stack at r i = i
-awaits_none phase.InBitString stack at r i = i
-awaits_none phase.InEndOctets stack at r i = i
-awaits_none (phase.Refused f) stack at r i = i
-
-awaits_unfailed : (p : PhaseValue) (stack : List FrameValue) (at : ℕ) → AwaitsOctetIn p stack at → (f : Fault) → p ≡ phase.Refused f → ⊥
-awaits_unfailed phase.Between stack at r f e = cc
-awaits_unfailed (phase.InPrimitive left) stack at r f e = cc
-awaits_unfailed (phase.InHeader p) stack at r f e = cc
-awaits_unfailed phase.InBitString stack at r f e = cc
-awaits_unfailed phase.InEndOctets stack at r f e = cc
-awaits_unfailed (phase.Refused g) stack at r f e = r
-
-takes_in : (p : PhaseValue) (stack : List FrameValue) (at : ℕ) → waiting_events_in p stack at ≡ [] → ((f : Fault) → p ≡ phase.Refused f → ⊥) → AwaitsOctetIn p stack at
-takes_in phase.Between stack at n u = λ i. loud_in phase.Between stack at i n
-takes_in (phase.InPrimitive left) stack at n u = λ i. loud_in (phase.InPrimitive left) stack at i n
-takes_in (phase.InHeader p) stack at n u = tt
-takes_in phase.InBitString stack at n u = tt
-takes_in phase.InEndOctets stack at n u = tt
-takes_in (phase.Refused f) stack at n u = u f refl
-
--- what the phase says, and what it means
-pub awaits-can_take : (w : WalkerState) → AwaitsOctet w → CanTake w
-awaits-can_take w r = (quiet w (awaits_none w.phase w.stack w.offset r), awaits_unfailed w.phase w.stack w.offset r)
-
-pub can_take-awaits : (w : WalkerState) → CanTake w → AwaitsOctet w
-can_take-awaits w k = takes_in w.phase w.stack w.offset k.0 k.1

@@ -56,11 +56,11 @@ reading_of s = reading_in s.layers s.here s.tail
 
 -- a place after one that is after another
 after-after : (p : Place) (m n k : ℕ) → m + n ≡ k → place_after (place_after p m) n ≡ place_after p k
-after-after p m n k e = let same : (p.at + m) + n ≡ p.at + k = omega arith in ap (λ (i : ℕ). record p { at = i }) same
+after-after p m n k e = let same : (p.offset + m) + n ≡ p.offset + k = omega arith in ap (λ (i : ℕ). record p { offset = i }) same
 
 -- no octets on
 pub after-none : (p : Place) → place_after p 0 ≡ p
-after-none p = let same : p.at + 0 ≡ p.at = omega arith in ap (λ (i : ℕ). record p { at = i }) same
+after-none p = let same : p.offset + 0 ≡ p.offset = omega arith in ap (λ (i : ℕ). record p { offset = i }) same
 
 -- what is open there is so by either way to the place
 open-after : (p : Place) (m n k : ℕ) (g : Forest) → m + n ≡ k → IsOpen (place_after p k) g → IsOpen (place_after (place_after p m) n) g
@@ -166,7 +166,7 @@ tip-whole p f e = ap (λ (g : Forest). tip p g) (sym (followed_by-none f)) ∙ t
 -- ---- where the elements in the innermost open element begin
 
 -- after the octets of the layers
-pub place-at : (w : Framing) (ls : List Layer) → (place_in w ls).at ≡ length (spelling_of_layers ls)
+pub place-at : (w : Framing) (ls : List Layer) → (place_in w ls).offset ≡ length (spelling_of_layers ls)
 place-at w [] = refl
 place-at w (l ∷ ls) =
     omega (arith, place-at w ls, length-append (spelling_of_layers ls) (spelling l.before ++ opening l.header), length-append (spelling l.before) (opening l.header))

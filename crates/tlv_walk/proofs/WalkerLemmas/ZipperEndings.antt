@@ -31,20 +31,20 @@ forest_of (InHeader octets) = OpenHeader octets
 forest_of InEndOctets = OpenEndOctets
 
 -- the whole elements end at the offset: no element is filled there
-filled-at : (w : Framing) (ls : List Layer) (here : Forest) (at : ℕ) → at ≡ end_in w ls here + 0 → (EventWaitsIn phase.Between (frames_of w ls) at → ⊥) → EventWaitsIn phase.Between (frames_of w ls) (end_in w ls here) → ⊥
-filled-at w ls here at e n f = let there : end_in w ls here ≡ at = omega arith in n (subst (λ (k : ℕ). EventWaitsIn phase.Between (frames_of w ls) k) there f)
+filled-at : (w : Framing) (ls : List Layer) (here : Forest) (offset : ℕ) → offset ≡ end_in w ls here + 0 → (EventWaitsIn phase.Between (frames_of w ls) offset → ⊥) → EventWaitsIn phase.Between (frames_of w ls) (end_in w ls here) → ⊥
+filled-at w ls here offset e n f = let there : end_in w ls here ≡ offset = omega arith in n (subst (λ (k : ℕ). EventWaitsIn phase.Between (frames_of w ls) k) there f)
 
 -- if nothing is waiting, no element has ended
-reading-within : (w : Framing) (ls : List Layer) (here : Forest) (f : PhaseValue) (t : Tail) (at : ℕ) → IsPhaseOf f t (later_place w ls here)
-    → at ≡ (later_place w ls here).at + length (spelling_of_tail t) → (EventWaitsIn f (stack_of w ls (later_place w ls here) t) at → ⊥)
+reading-within : (w : Framing) (ls : List Layer) (here : Forest) (f : PhaseValue) (t : Tail) (offset : ℕ) → IsPhaseOf f t (later_place w ls here)
+    → offset ≡ (later_place w ls here).offset + length (spelling_of_tail t) → (EventWaitsIn f (stack_of w ls (later_place w ls here) t) offset → ⊥)
     → reading_in ls here t ≡ within ls (followed_by here (forest_of t))
-reading-within w ls here phase.Between Between at j e n =
-    settled-within w ls here (filled-at w ls here at e n) ∙ ap (within ls) (sym (followed_by-none here))
-reading-within w ls here (phase.InPrimitive left) (InPrimitive h c) at j e n = rw (contents-less _ h c left j n) refl
-reading-within w ls here (phase.InHeader r) (InHeader octets) at j e n = refl
-reading-within w ls here phase.InBitString (InBitString h) at j e n = refl
-reading-within w ls here phase.InEndOctets InEndOctets at j e n = refl
-reading-within w ls here f t at j e n = absurd j
+reading-within w ls here phase.Between Between offset j e n =
+    settled-within w ls here (filled-at w ls here offset e n) ∙ ap (within ls) (sym (followed_by-none here))
+reading-within w ls here (phase.InPrimitive left) (InPrimitive h c) offset j e n = rw (contents-less _ h c left j n) refl
+reading-within w ls here (phase.InHeader r) (InHeader octets) offset j e n = refl
+reading-within w ls here phase.InBitString (InBitString h) offset j e n = refl
+reading-within w ls here phase.InEndOctets InEndOctets offset j e n = refl
+reading-within w ls here f t offset j e n = absurd j
 
 -- so what a walker with nothing waiting has read is its layers, its whole elements and what is open
 pub state-within : (w : WalkerState) (b : List ℕ) (yielded : List EventValue) (s : Zipper) → HasZipper w b yielded s → (EventWaits w → ⊥) → reading_of s ≡ within s.layers (followed_by s.here (forest_of s.tail))

@@ -70,20 +70,20 @@ wrapper_offsets-within w (l ∷ ls) f a =
 -- ---- whole elements in the innermost open one, where each element that is filled ends
 
 -- `closes-filled`, by the fields
-closes-definite : (constructed : Bool) (s : Size) (at : ℕ) → end_octets s ≡ []
-    → (if constructed then Close (end_offset s at) else Leave) ≡ (if not constructed then Leave else Close None)
-closes-definite true (Definite n) at e = refl
-closes-definite true Indefinite at e = absurd (cc)
-closes-definite false s at e = refl
+closes-definite : (constructed : Bool) (s : Size) (offset : ℕ) → end_octets s ≡ []
+    → (if constructed then Close (end_offset s offset) else Leave) ≡ (if not constructed then Leave else Close None)
+closes-definite true (Definite n) offset e = refl
+closes-definite true Indefinite offset e = absurd (cc)
+closes-definite false s offset e = refl
 
 -- the end of an element that is filled is that of its frame
 closes-filled : (p : Place) (h : HeaderValue) (f : Forest) → is_filled h f ≡ true → closing_event h f ≡ filled_end (frame_at p h)
 closes-filled p h f e = let full : IsFull h.size (contents_length h f) = filled-full h f e in closes-definite h.constructed h.size _ full.ends
 
 -- events of layers, of whole elements in the innermost, and of its end
-regroup-end : (around before start inside ends : List EventValue) (c d : EventValue) → c ≡ d
-    → (around ++ (before ++ (start ++ (inside ++ c ∷ [])))) ++ ends ≡ ((around ++ (before ++ start)) ++ inside) ++ (d ∷ ends)
-regroup-end around before start inside ends c d e = rw e (simp append_assoc)
+regroup-end : (around earlier start inside ends : List EventValue) (c d : EventValue) → c ≡ d
+    → (around ++ (earlier ++ (start ++ (inside ++ c ∷ [])))) ++ ends ≡ ((around ++ (earlier ++ start)) ++ inside) ++ (d ∷ ends)
+regroup-end around earlier start inside ends c d e = rw e (simp append_assoc)
 
 -- their events, after those of the layers, and then the ends of the elements that are filled
 pub events-settled : (w : Framing) (ls : List Layer) (f : Forest) → AreLayers w ls → AreWhole (place_in w ls) f

@@ -10,7 +10,7 @@ use Rattle.tlv_walk.specs.Phase as phase
 use Rattle.tlv_walk.specs.Events.{AreEqualJoined, Begin, Bytes, End, EventValue, events, single_octets}
 use Rattle.tlv_walk.specs.Forest.{Forest, NoMore, Primitive, OpenPrimitive, OpenBitString, OpenHeader, OpenEndOctets, is_complete, spelling}
 use Rattle.tlv_walk.specs.WalkerState.{WalkerState, new_walker}
-use Rattle.tlv_walk.specs.Private.WalkerState.{wrappers_after}
+use Rattle.tlv_walk.specs.Private.WrapperCount.{wrappers_after}
 use Rattle.tlv_walk.specs.Place.{IsOpen, Place, place_after, top_place}
 use Rattle.tlv_walk.specs.Reading.{IsReading}
 use Rattle.tlv_walk.specs.Stands.{Stands, filled_ends, waiting_events, waiting_events_in}
@@ -31,7 +31,7 @@ abbrev pub later_place : Framing → List Layer → Forest → Place
 later_place w ls here = place_after (place_in w ls) (length (spelling here))
 
 -- the place after whole elements is where they end
-pub followed_by-end : (w : Framing) (ls : List Layer) (here g : Forest) → is_complete here ≡ true → end_in w ls (followed_by here g) ≡ (later_place w ls here).at + length (spelling g)
+pub followed_by-end : (w : Framing) (ls : List Layer) (here g : Forest) → is_complete here ≡ true → end_in w ls (followed_by here g) ≡ (later_place w ls here).offset + length (spelling g)
 followed_by-end w ls here g e = omega (arith, ap length (spelling-followed_by here g e), length-append (spelling here) (spelling g))
 
 -- ---- whole elements, and then an open end
@@ -69,10 +69,10 @@ whole-spells w ls here g a i j =
     record { is_open = r.is_open; spelled = r.spelled ∙ ap (λ (t : List ℕ). spelling_of_layers ls ++ t) (spelling-followed_by here g i.whole) }
 
 -- they have these events, and then the ends of the elements that are filled
-whole-events : (w : Framing) (ls : List Layer) (here g : Forest) (at : ℕ) → AreLayers w ls → AreWhole (place_in w ls) here → AreWhole (later_place w ls here) g
-    → at ≡ (later_place w ls here).at + length (spelling g)
-    → events (settled ls (followed_by here g)) ≡ (events_of_layers ls ++ (events here ++ events g)) ++ filled_ends at (frames_of w ls)
-whole-events w ls here g at a i j e =
+whole-events : (w : Framing) (ls : List Layer) (here g : Forest) (offset : ℕ) → AreLayers w ls → AreWhole (place_in w ls) here → AreWhole (later_place w ls here) g
+    → offset ≡ (later_place w ls here).offset + length (spelling g)
+    → events (settled ls (followed_by here g)) ≡ (events_of_layers ls ++ (events here ++ events g)) ++ filled_ends offset (frames_of w ls)
+whole-events w ls here g offset a i j e =
     events-settled w ls (followed_by here g) a (more-whole w ls here g i j)
     ∙ ap (λ (t : List EventValue). (events_of_layers ls ++ t) ++ filled_ends (end_in w ls (followed_by here g)) (frames_of w ls)) (events-followed_by here g i.whole)
     ∙ ap (λ (n : ℕ). (events_of_layers ls ++ (events here ++ events g)) ++ filled_ends n (frames_of w ls)) (followed_by-end w ls here g i.whole ∙ sym e)
@@ -157,33 +157,33 @@ reading-wrappers w ls here (InHeader octets) a i j = open-wrappers w ls here (Op
 reading-wrappers w ls here InEndOctets a i j = open-wrappers w ls here OpenEndOctets a i
 
 -- a primitive's end, yielded after what has been yielded of it
-contents-end : (around before ends : List EventValue) (h : HeaderValue) (c : List ℕ)
-    → (around ++ (before ++ (Begin h ∷ Bytes c ∷ []))) ++ (End ∷ ends) ≡ (around ++ (before ++ (Begin h ∷ Bytes c ∷ End ∷ []))) ++ ends
-contents-end around before ends h c = simp append_assoc
+contents-end : (around earlier ends : List EventValue) (h : HeaderValue) (c : List ℕ)
+    → (around ++ (earlier ++ (Begin h ∷ Bytes c ∷ []))) ++ (End ∷ ends) ≡ (around ++ (earlier ++ (Begin h ∷ Bytes c ∷ End ∷ []))) ++ ends
+contents-end around earlier ends h c = simp append_assoc
 
 -- its events are the state's, and then those waiting
-reading-events : (w : Framing) (ls : List Layer) (here : Forest) (f : PhaseValue) (t : Tail) (at : ℕ) → AreLayers w ls → AreWhole (place_in w ls) here → IsPhaseOf f t (later_place w ls here)
-    → at ≡ (later_place w ls here).at + length (spelling_of_tail t)
-    → (events_of_layers ls ++ (events here ++ events_of_tail t)) ++ waiting_events_in f (stack_of w ls (later_place w ls here) t) at ≡ events (reading_in ls here t)
-reading-events w ls here phase.Between Between at a i j e =
-    let there : at ≡ end_in w ls here = omega arith in
+reading-events : (w : Framing) (ls : List Layer) (here : Forest) (f : PhaseValue) (t : Tail) (offset : ℕ) → AreLayers w ls → AreWhole (place_in w ls) here → IsPhaseOf f t (later_place w ls here)
+    → offset ≡ (later_place w ls here).offset + length (spelling_of_tail t)
+    → (events_of_layers ls ++ (events here ++ events_of_tail t)) ++ waiting_events_in f (stack_of w ls (later_place w ls here) t) offset ≡ events (reading_in ls here t)
+reading-events w ls here phase.Between Between offset a i j e =
+    let there : offset ≡ end_in w ls here = omega arith in
     rw (append-nil (events here), there) (sym (events-settled w ls here a i))
-reading-events w ls here (phase.InPrimitive left) (InPrimitive h c) at a i j e = elim (cases_eq left 0) [
+reading-events w ls here (phase.InPrimitive left) (InPrimitive h c) offset a i j e = elim (cases_eq left 0) [
   | inl z ↦
-      let there : at ≡ (later_place w ls here).at + length (octets_of h ++ (c ++ [])) = e ∙ ap (λ (t : List ℕ). (later_place w ls here).at + length (octets_of h ++ t)) (sym (append-nil c)) in
+      let there : offset ≡ (later_place w ls here).offset + length (octets_of h ++ (c ++ [])) = e ∙ ap (λ (t : List ℕ). (later_place w ls here).offset + length (octets_of h ++ t)) (sym (append-nil c)) in
       rw (contents-all _ h c left j z, eq-eqb left 0 z)
-      (contents-end (events_of_layers ls) (events here) (filled_ends at (frames_of w ls)) h c ∙ sym (whole-events w ls here (Primitive h c NoMore) at a i (contents-whole _ h c left j z) there))
+      (contents-end (events_of_layers ls) (events here) (filled_ends offset (frames_of w ls)) h c ∙ sym (whole-events w ls here (Primitive h c NoMore) offset a i (contents-whole _ h c left j z) there))
   | inr n ↦ rw (contents-less _ h c left j n, ne_eqb left 0 n) (open-events w ls here (OpenPrimitive h c) a i)
 ]
-reading-events w ls here (phase.InHeader r) (InHeader octets) at a i j e = open-events w ls here (OpenHeader octets) a i
-reading-events w ls here phase.InBitString (InBitString h) at a i j e = open-events w ls here (OpenBitString h) a i
-reading-events w ls here phase.InEndOctets InEndOctets at a i j e = open-events w ls here OpenEndOctets a i
-reading-events w ls here f t at a i j e = absurd j
+reading-events w ls here (phase.InHeader r) (InHeader octets) offset a i j e = open-events w ls here (OpenHeader octets) a i
+reading-events w ls here phase.InBitString (InBitString h) offset a i j e = open-events w ls here (OpenBitString h) a i
+reading-events w ls here phase.InEndOctets InEndOctets offset a i j e = open-events w ls here OpenEndOctets a i
+reading-events w ls here f t offset a i j e = absurd j
 
 -- ---- of a walker
 
 -- the walker has taken the octets up to the open end, and those of what is open
-pub state-offset : (w : WalkerState) (b : List ℕ) (yielded : List EventValue) (s : Zipper) → HasZipper w b yielded s → w.offset ≡ (place_of w.framing s).at + length (spelling_of_tail s.tail)
+pub state-offset : (w : WalkerState) (b : List ℕ) (yielded : List EventValue) (s : Zipper) → HasZipper w b yielded s → w.offset ≡ (place_of w.framing s).offset + length (spelling_of_tail s.tail)
 state-offset w b yielded s h =
     omega (arith, h.offset, ap length h.spelled, place-at w.framing s.layers, length-append (spelling_of_layers s.layers) (spelling s.here ++ spelling_of_tail s.tail), length-append (spelling s.here) (spelling_of_tail s.tail))
 

@@ -1,13 +1,13 @@
 -- What the walker's own functions require and return.
 use Rattle.std.specs.Prelude.{◌≡◌, ◌≢◌, ◌⊎◌, ℕ, ◌+◌, ◌^◌, ◌<◌, ◌≤◌, true, false, eqb, if◌then◌else◌}
-use Rattle.std.specs.Prelude.{slice_get, List, [], ◌∷◌, length, take, Option, Some, None}
+use Rattle.std.specs.Prelude.{List, [], ◌∷◌, length, take, Option, Some, None}
 use Rattle.tlv_head.specs.declared.fault.Fault.{Fault as FaultOf}
 use Rattle.tlv_head.specs.Header.{HeaderValue, IsHeader, announced_length, holds, octets_of}
 use Rattle.tlv_head.specs.HeadReaderState.{HeadReaderState}
 use Rattle.tlv_head.specs.HeaderFields.{fields_hold, fields_wrap, new_header}
 use Rattle.tlv_head.specs.ReadHeader.{BeginsWithFields}
 use Rattle.std.specs.Borrow.{Bor}
-use Rattle.std.specs.Option.{option_map, option_map_or}
+use Rattle.std.specs.Option.{option_map}
 use Rattle.tlv_head.specs.UniversalTypes as universal
 use Rattle.tlv_walk.specs.declared.event.Event.{Event}
 use Rattle.tlv_walk.specs.declared.event.Event.TheVariants as event
@@ -19,26 +19,16 @@ use Rattle.tlv_head.specs.declared.header.HeaderFields.{HeaderFields}
 use Rattle.tlv_walk.specs.declared.walker.quick.WholePrimitive.{WholePrimitive}
 use Rattle.tlv_walk.specs.Inside.{is_among}
 use Rattle.tlv_walk.specs.Phase.{PhaseValue, Between, InHeader, InPrimitive, InBitString, InEndOctets, Refused}
-use Rattle.tlv_walk.specs.Stack.{FrameValue, IsFilled, bound_of}
+use Rattle.tlv_walk.specs.Stack.{bound_of}
 use Rattle.tlv_walk.specs.Place.{IsWithin}
 use Rattle.tlv_walk.specs.Private.Stack.{frame_with, room_in}
+use Rattle.tlv_walk.specs.Private.WrapperCount.{next_wrapper}
+use Rattle.tlv_walk.specs.Stands.{CanTake}
 use Rattle.tlv_walk.specs.WalkerState.{HasOctets, IsAfterEvent, WalkerState}
 
--- the same as `CanTake`, by phase: an octet can be taken, for no event waits, and no octet was refused
-abbrev pub AwaitsOctetIn : PhaseValue → List FrameValue → ℕ → Type 0
-AwaitsOctetIn Between stack offset = IsFilled stack offset → ⊥
-AwaitsOctetIn (InHeader r) stack offset = Unit {0}
-AwaitsOctetIn (InPrimitive left) stack offset = left ≢ 0
-AwaitsOctetIn InBitString stack offset = Unit {0}
-AwaitsOctetIn InEndOctets stack offset = Unit {0}
-AwaitsOctetIn (Refused fault) stack offset = ⊥
-
-abbrev pub AwaitsOctet : WalkerState → Type 0
-AwaitsOctet w = AwaitsOctetIn w.phase w.stack w.offset
-
 -- an event was yielded, and the walker stands at this offset
-pub record YieldsAt (old new : WalkerState) (at : ℕ) : Type 0 where
-  pub offset : new.offset ≡ at
+pub record YieldsAt (old new : WalkerState) (offset : ℕ) : Type 0 where
+  pub place : new.offset ≡ offset
   pub events : new.events ≡ old.events + 1
   pub within : new.events ≤ new.offset
   pub after_event : IsAfterEvent new.phase
@@ -84,7 +74,7 @@ pub record TakesAll (old new : WalkerState) (piece rest : List ℕ) : Type 0 whe
   pub taken : new.offset ≡ old.offset + length piece
   pub none_left : rest ≡ []
   pub events : new.events ≡ old.events
-  pub ready : AwaitsOctet new
+  pub ready : CanTake new
 
 -- an octet was refused, and what is open stays open
 pub record Refuses (old new : WalkerState) (piece rest : List ℕ) (fault : FaultOf) : Type 0 where
@@ -106,15 +96,6 @@ abbrev pub CountsAtOnce : WalkerState → WalkerState → List ℕ → List ℕ 
 CountsAtOnce old new piece rest (Some e) = YieldsOne old new piece rest × HasOctets e
 CountsAtOnce old new piece rest None = (new ≡ old) × (rest ≡ piece)
 
--- how many of the named offsets, from the first on, are wrappers' once one was found at this offset
-abbrev pub next_wrapper : List ℕ → ℕ → ℕ → ℕ
-next_wrapper inside k at = option_map_or (λ n. if eqb n at then k + 1 else k) (slice_get inside k) k
-
--- the same, once wrappers were found at these offsets, one after another
-abbrev pub wrappers_after : List ℕ → ℕ → List ℕ → ℕ
-wrappers_after inside k [] = k
-wrappers_after inside k (at ∷ ats) = wrappers_after inside (next_wrapper inside k at) ats
-
 -- a header that may stand there, and of which the walker has taken a part at most
 pub record CanEnter (w : WalkerState) (h : HeaderValue) : Type 0 where
   pub valid : IsHeader h
@@ -125,23 +106,23 @@ pub record CanEnter (w : WalkerState) (h : HeaderValue) : Type 0 where
 
 -- after a whole header
 abbrev pub after_header : WalkerState → PhaseValue → ℕ → WalkerState
-after_header w phase at = record w { phase = phase; offset = at; events = w.events + 1; has_element = true }
+after_header w phase offset = record w { phase = phase; offset = offset; events = w.events + 1; has_element = true }
 
 -- where a walker stands after a header
 abbrev pub TakesHeader : WalkerState → WalkerState → HeaderFields → ℕ → HeaderKind → Type 0
-TakesHeader old new f at kind.Primitive =
+TakesHeader old new f offset kind.Primitive =
     (fields_hold f ≡ false)
-    × (new ≡ after_header old (InPrimitive (announced_length f.size)) at)
-TakesHeader old new f at kind.Constructed =
+    × (new ≡ after_header old (InPrimitive (announced_length f.size)) offset)
+TakesHeader old new f offset kind.Constructed =
     (f.constructed ≡ true)
-    × (new ≡ record (after_header old Between at) {
-      stack = frame_with at (bound_of old.stack) f.size f.constructed ∷ old.stack;
+    × (new ≡ record (after_header old Between offset) {
+      stack = frame_with offset (bound_of old.stack) f.size f.constructed ∷ old.stack;
     })
-TakesHeader old new f at kind.Wrapper =
+TakesHeader old new f offset kind.Wrapper =
     (f.constructed ≡ false)
     × (fields_wrap f ≡ true)
-    × (new ≡ record (after_header old (if eqb f.number universal.bit_string then InBitString else Between) at) {
-      stack = frame_with at (bound_of old.stack) f.size f.constructed ∷ old.stack;
+    × (new ≡ record (after_header old (if eqb f.number universal.bit_string then InBitString else Between) offset) {
+      stack = frame_with offset (bound_of old.stack) f.size f.constructed ∷ old.stack;
       wrapper_count = next_wrapper old.framing.inside old.wrapper_count f.offset;
     })
 

@@ -11,7 +11,7 @@ use Rattle.tlv_walk.specs.Forest.{Forest, OpenBitString, OpenHeader, OpenEndOcte
 use Rattle.tlv_walk.specs.Forest.{opening, spelling}
 use Rattle.tlv_walk.specs.Inside.{can_name, is_among}
 use Rattle.tlv_walk.specs.WalkerState.{WalkerState}
-use Rattle.tlv_walk.specs.Private.WalkerState.{wrappers_after}
+use Rattle.tlv_walk.specs.Private.WrapperCount.{wrappers_after}
 use Rattle.tlv_walk.specs.Private.Stack.{frame_with}
 use Rattle.tlv_walk.specs.Place.{Fits, IsEntry, IsHeaderAt, IsOpen, Place, place_after, place_of_children, top_place}
 use Rattle.tlv_walk.specs.Wrappers.{entered_offsets}
@@ -69,7 +69,7 @@ pub record IsContents (p : Place) (h : HeaderValue) (c : List ℕ) (left : ℕ) 
 
 -- the frame of an element that is there
 abbrev pub frame_at : Place → HeaderValue → FrameValue
-frame_at p h = frame_with (p.at + length (octets_of h)) p.bound h.size h.constructed
+frame_at p h = frame_with (p.offset + length (octets_of h)) p.bound h.size h.constructed
 
 abbrev pub frames_of : Framing → List Layer → List FrameValue
 frames_of w [] = []
@@ -87,7 +87,7 @@ stack_of w ls p InEndOctets = frames_of w ls
 abbrev pub IsPhaseOf : PhaseValue → Tail → Place → Type 0
 IsPhaseOf phase.Between Between p = Unit {0}
 IsPhaseOf (phase.InHeader r) (InHeader octets) p =
-    (r.octets ≡ octets) × (r.offset ≡ p.at) × (r.named ≡ is_among p.at p.inside) × IsOpen p (OpenHeader octets)
+    (r.octets ≡ octets) × (r.offset ≡ p.offset) × (r.named ≡ is_among p.offset p.inside) × IsOpen p (OpenHeader octets)
 IsPhaseOf (phase.InPrimitive left) (InPrimitive h c) p = IsContents p h c left
 IsPhaseOf phase.InBitString (InBitString h) p = IsOpen p (OpenBitString h)
 IsPhaseOf phase.InEndOctets InEndOctets p = IsOpen p OpenEndOctets

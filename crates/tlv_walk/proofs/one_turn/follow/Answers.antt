@@ -19,11 +19,11 @@ unmoved : (v w : WalkerState) (xs ys : List ℕ) → v ≡ w → xs ≡ ys → v
 unmoved v w xs ys e f = ap₂ (λ (m : WalkerState) (o : List ℕ). m.offset + length o) e f
 
 -- so the next step is the first
-unmoved_event : (v w u : WalkerState) (xs ys after : List ℕ) (e : EventValue) → v ≡ w → xs ≡ ys → WalksOver v u xs after (e ∷ []) → WalksOver w u ys after (e ∷ [])
-unmoved_event v w u xs ys after e p q t = subst (λ (o : List ℕ). WalksOver w u o after (e ∷ [])) q (subst (λ (m : WalkerState). WalksOver m u xs after (e ∷ [])) p t)
+unmoved_event : (v w u : WalkerState) (xs ys rest : List ℕ) (e : EventValue) → v ≡ w → xs ≡ ys → WalksOver v u xs rest (e ∷ []) → WalksOver w u ys rest (e ∷ [])
+unmoved_event v w u xs ys rest e p q t = subst (λ (o : List ℕ). WalksOver w u o rest (e ∷ [])) q (subst (λ (m : WalkerState). WalksOver m u xs rest (e ∷ [])) p t)
 
-unmoved_step : (v w u : WalkerState) (xs ys after : List ℕ) (s : Step) → v ≡ w → xs ≡ ys → StepsTo v u xs after s → StepsTo w u ys after s
-unmoved_step v w u xs ys after s p q t = subst (λ (o : List ℕ). StepsTo w u o after s) q (subst (λ (m : WalkerState). StepsTo m u xs after s) p t)
+unmoved_step : (v w u : WalkerState) (xs ys rest : List ℕ) (s : Step) → v ≡ w → xs ≡ ys → StepsTo v u xs rest s → StepsTo w u ys rest s
+unmoved_step v w u xs ys rest s p q t = subst (λ (o : List ℕ). StepsTo w u o rest s) q (subst (λ (m : WalkerState). StepsTo m u xs rest s) p t)
 
 not_enough : (g : Go) → (g ≡ go.Enough → ⊥) → g ≡ go.On
 not_enough go.On n = refl

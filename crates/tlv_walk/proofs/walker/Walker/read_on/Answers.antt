@@ -85,7 +85,7 @@ returns-in-Whole-clause-steps c =
     elim c.in-Whole.ensures.pushes [
       | whole header completes there done ↦ (
         record {
-          taken = omega (arith, e.yields.offset, completes.offset, ap length completes.octets, length-append c.loop-piece.reader.octets (x ∷ []), i.place, i.taken, ap length first);
+          taken = omega (arith, e.yields.place, completes.offset, ap length completes.octets, length-append c.loop-piece.reader.octets (x ∷ []), i.place, i.taken, ap length first);
           events = e.yields.events ∙ ap (λ (m : WalkerState). m.events + 1) i.same;
           within = e.yields.within;
           after_event = e.yields.after_event;
