@@ -18,7 +18,7 @@ use Rattle.tlv_show.specs.SaturatingSum.{saturating_sum}
 
 -- the primitive that is open: where it begins, and what is noted of its contents
 pub record OpenPrimitiveState : Type 0 where
-  pub at : ℕ
+  pub offset : ℕ
   pub check : ValueCheckState
 
 pub record CheckState : Type 0 where
@@ -37,20 +37,20 @@ new_finder rules = record { rules = rules; holders = new_nesting; value = None; 
 pub record FinderState : Type 0 where
   pub state : CheckState
   pub level : ℕ
-  pub at : ℕ
+  pub offset : ℕ
   pub found : List Finding
 
 -- findings are counted
 abbrev pub with_findings : CheckState → ℕ → ℕ → List Finding → FinderState
-with_findings s level at found = record {
+with_findings s level offset found = record {
   state = record s { count = saturating_sum s.count (length found) };
   level = level;
-  at = at;
+  offset = offset;
   found = found;
 }
 
 abbrev pub without_findings : CheckState → FinderState
-without_findings s = record { state = s; level = 0; at = 0; found = [] }
+without_findings s = record { state = s; level = 0; offset = 0; found = [] }
 
 -- ---- What it makes of an event
 
@@ -66,7 +66,7 @@ finder_open_step s h =
 
 -- a primitive begins
 abbrev pub finder_at_value : CheckState → HeaderValue → CheckState
-finder_at_value s h = record s { value = Some (record { at = h.offset; check = new_value_check h }) }
+finder_at_value s h = record s { value = Some (record { offset = h.offset; check = new_value_check h }) }
 
 abbrev pub finder_begin_step : CheckState → HeaderValue → FinderState
 finder_begin_step s h =
@@ -93,7 +93,7 @@ finder_after_value s v = record s {
 abbrev pub finder_value_end_step : CheckState → Option OpenPrimitiveState → FinderState
 finder_value_end_step s None = without_findings s
 finder_value_end_step s (Some v) =
-    with_findings (finder_after_value s v) (length s.holders.outer) v.at (contents_findings_in s.rules v.check)
+    with_findings (finder_after_value s v) (length s.holders.outer) v.offset (contents_findings_in s.rules v.check)
 
 abbrev pub finder_end_step : CheckState → FinderState
 finder_end_step s = finder_value_end_step s s.value
@@ -102,7 +102,7 @@ finder_end_step s = finder_value_end_step s s.value
 abbrev pub finder_frame_end_step : CheckState → List SiblingFrame → FinderState
 finder_frame_end_step s [] = without_findings s
 finder_frame_end_step s (w ∷ outer) =
-    with_findings (record s { holders = nesting_close_step s.holders }) (length outer) s.holders.frame.at
+    with_findings (record s { holders = nesting_close_step s.holders }) (length outer) s.holders.frame.offset
     (end_findings s.rules (segments_in s.holders.frame))
 
 abbrev pub finder_close_step : CheckState → FinderState

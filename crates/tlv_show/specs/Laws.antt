@@ -88,7 +88,7 @@ ChecksMakeTexts =
 
 -- a finding of BER
 abbrev pub is_basic : Item → Bool
-is_basic (FindingAt level at finding) = is_shown Ber finding
+is_basic (FindingAt level offset finding) = is_shown Ber finding
 is_basic (OpeningLine level h) = false
 is_basic (ClosingLine level offset) = false
 is_basic (PrimitiveLines level h c) = false

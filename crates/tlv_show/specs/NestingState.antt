@@ -12,31 +12,31 @@ use Rattle.tlv_show.specs.Conditions.{Segments, Surroundings}
 -- at the top, where no element holds others
 abbrev pub top_frame : SiblingFrame
 top_frame = record {
-  at = 0;
+  offset = 0;
   size = 0;
   is_primitive = false;
   has_segments = false;
   has_bits = false;
-  is_unused = false;
-  is_not_full = false;
+  last_has_unused_bits = false;
+  last_is_not_full = false;
   all_primitive = true;
   octets = 0;
-  is_empty = false;
+  ends_empty = false;
 }
 
 -- inside an element that holds others
 abbrev pub frame_of : HeaderValue → SiblingFrame
 frame_of h = record {
-  at = h.offset;
+  offset = h.offset;
   size = announced_length h.size;
   is_primitive = is_primitive h;
   has_segments = has_segments h;
   has_bits = has_segments h && is_a universal.bit_string h;
-  is_unused = false;
-  is_not_full = false;
+  last_has_unused_bits = false;
+  last_is_not_full = false;
   all_primitive = true;
   octets = 0;
-  is_empty = false;
+  ends_empty = false;
 }
 
 -- inside an element that others hold. Of one that is no string and is in none nothing is to be known
@@ -47,11 +47,11 @@ frame_under w h = if w.has_segments || has_segments h then frame_of h else top_f
 -- unused
 abbrev pub frame_after_segment : SiblingFrame → Bool → ℕ → Bool → SiblingFrame
 frame_after_segment w primitive size unused = record w {
-  is_unused = unused;
-  is_not_full = not (primitive && size == 1000);
+  last_has_unused_bits = unused;
+  last_is_not_full = not (primitive && size == 1000);
   all_primitive = w.all_primitive && primitive;
   octets = min (w.octets + (size - (if w.has_bits then 1 else 0))) 1001;
-  is_empty = primitive && size == 0;
+  ends_empty = primitive && size == 0;
 }
 
 -- after an element more: outside of strings nothing is asked of it
@@ -65,8 +65,8 @@ abbrev pub surroundings_in : SiblingFrame → Surroundings
 surroundings_in w = record {
   in_string = w.has_segments;
   in_bit_string = w.has_segments && w.has_bits;
-  after_unused_bits = w.has_segments && w.has_bits && w.is_unused;
-  after_not_full = w.has_segments && w.is_not_full;
+  after_unused_bits = w.has_segments && w.has_bits && w.last_has_unused_bits;
+  after_not_full = w.has_segments && w.last_is_not_full;
 }
 
 -- of the end of the element whose frame it is. The octets stop at 1001
@@ -75,7 +75,7 @@ segments_in w = record {
   in_string = w.has_segments;
   all_primitive = w.all_primitive;
   octets = (if w.has_bits then 1 else 0) + w.octets;
-  ends_empty = w.is_empty;
+  ends_empty = w.ends_empty;
 }
 
 -- ---- All frames

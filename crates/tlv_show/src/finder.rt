@@ -31,7 +31,7 @@ pub(crate) struct Finder {
     /// What must be known of the open elements that hold others.
     holders: Nesting,
     /// Where the primitive begins that is open.
-    at: u64,
+    offset: u64,
     is_open: bool,
     /// What is noted of the primitive that is open, or of the last one. It is used again for the next primitive, so its
     /// room is not filled anew each time.
@@ -52,11 +52,11 @@ impl Model for Finder {
       state = record {
         rules = f.rules;
         holders = f.holders;
-        value = open_by f.is_open f.at f.check;
+        value = open_by f.is_open f.offset f.check;
         count = f.count;
       };
       level = f.last.level;
-      at = f.last.at;
+      offset = f.last.offset;
       found = f.last.findings.items;
     } };
 }
@@ -69,13 +69,13 @@ impl Finder {
         Finder {
             rules,
             holders: Nesting::new(),
-            at: 0,
+            offset: 0,
             is_open: false,
             check: ValueCheck::of_type(0, 0),
             count: 0,
             last: LastFindings {
                 level: 0,
-                at: 0,
+                offset: 0,
                 findings: ArrayVec::new(),
             },
         }
@@ -104,10 +104,10 @@ impl Finder {
     }
 
     /// Where the element with these findings begins.
-    pub fn at(&self) -> u64
-        ensures { result ≡ self.now.at }
+    pub fn offset(&self) -> u64
+        ensures { result ≡ self.now.offset }
     {
-        self.last.at
+        self.last.offset
     }
 
     /// Takes an event. Returns whether there may be findings; if not, it has none, and what the events before it left
@@ -189,7 +189,7 @@ impl Finder {
     fn enter_value(&mut self, header: &Header)
         ensures { self.new ≡ with_state (finder_at_value self.old.state header.now) self.old }
     {
-        self.at = header.offset;
+        self.offset = header.offset;
         self.is_open = true;
         self.check.restart(header);
     }
@@ -246,7 +246,7 @@ impl Finder {
             return false;
         }
         let level = self.holders.level();
-        self.last.restart(level, self.at);
+        self.last.restart(level, self.offset);
         add_contents_findings(self.rules, check, &mut self.last.findings);
         self.count = self.count.saturating_add(self.last.findings.len() as u64);
         true
@@ -267,11 +267,11 @@ impl Finder {
     #[inline(never)]
     fn look_at_end(&mut self, closed: &SiblingFrame) -> bool
         ensures { ReportsFindings
-            (with_findings self.old.state (length self.old.state.holders.outer) closed.now.at
+            (with_findings self.old.state (length self.old.state.holders.outer) closed.now.offset
             (end_findings self.old.state.rules (segments_in closed.now)))
             self.new result }
     {
-        self.last.restart(self.holders.level(), closed.at);
+        self.last.restart(self.holders.level(), closed.offset);
         add_end_findings(self.rules, closed, &mut self.last.findings);
         self.count = self.count.saturating_add(self.last.findings.len() as u64);
         true

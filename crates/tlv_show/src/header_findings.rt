@@ -137,7 +137,7 @@ pub(crate) fn add_end_findings(
             Finding::C05,
             found,
         );
-        add_if(frame.has_segments && frame.is_empty, Finding::C06, found);
+        add_if(frame.has_segments && frame.ends_empty, Finding::C06, found);
     }
 }
 
@@ -188,7 +188,7 @@ fn add_basic_findings(frame: &SiblingFrame, header: &Header, found: &mut ArrayVe
         found,
     );
     add_if(
-        frame.has_segments && frame.has_bits && frame.is_unused,
+        frame.has_segments && frame.has_bits && frame.last_has_unused_bits,
         Finding::B16,
         found,
     );
@@ -242,5 +242,9 @@ fn add_cer_findings(frame: &SiblingFrame, header: &Header, found: &mut ArrayVec<
         Finding::C03,
         found,
     );
-    add_if(frame.has_segments && frame.is_not_full, Finding::C04, found);
+    add_if(
+        frame.has_segments && frame.last_is_not_full,
+        Finding::C04,
+        found,
+    );
 }

@@ -20,18 +20,18 @@ segments_left s = segments_by s.frame s.outer
 
 -- ---- Those that are kept
 
--- if elements without a frame are open inside `w`, each of them has that of the top
+-- if so many elements without a frame are open inside `w`, each of them has that of the top
 abbrev pub innermost_frame : SiblingFrame → ℕ → SiblingFrame
 innermost_frame w zero = w
-innermost_frame w (suc plain) = top_frame
+innermost_frame w (suc without_frame) = top_frame
 
 abbrev pub frames_with : SiblingFrame → ℕ → List SiblingFrame → List SiblingFrame
 frames_with w zero outer = w ∷ outer
-frames_with w (suc plain) outer = top_frame ∷ frames_with w plain outer
+frames_with w (suc without_frame) outer = top_frame ∷ frames_with w without_frame outer
 
 abbrev pub outer_frames : SiblingFrame → ℕ → List SiblingFrame → List SiblingFrame
 outer_frames w zero outer = outer
-outer_frames w (suc plain) outer = frames_with w plain outer
+outer_frames w (suc without_frame) outer = frames_with w without_frame outer
 
 -- those outside of an element that has a frame, by its floor. It is itself at the level `floor - 1`; outside of it,
 -- from the floor of `k` on, elements without a frame are open
@@ -41,7 +41,7 @@ all_frames floor (k ∷ outer) = frames_with k.frame (floor - 1 - k.floor) (all_
 
 -- a string counts no elements without a frame
 abbrev pub IsKept : SiblingFrame → ℕ → Type 0
-IsKept w plain = (innermost_frame w plain).has_segments ≡ w.has_segments
+IsKept w without_frame = (innermost_frame w without_frame).has_segments ≡ w.has_segments
 
 -- each floor is above the one outside of it, and that of the top is 0
 abbrev pub AreKept : ℕ → List KeptFrame → Type 0
