@@ -10,7 +10,7 @@ pub mod HeaderFindings
 pub mod KeptFrames
 pub mod Lists
 pub mod LongerHeaders
-pub mod PlainHeaders
+pub mod UsualHeaders
 pub mod SiteWords
 pub mod SitesAfter
 pub mod SomeSpelling

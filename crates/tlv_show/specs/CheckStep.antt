@@ -10,7 +10,7 @@ use Rattle.tlv_show.specs.FindingLines.{styled_lines}
 
 -- the findings are put, each with its line
 abbrev pub findings_effect : FinderState → Effect CheckState
-findings_effect f = record { state = f.state; put = styled_lines Check f.level f.at f.found; goes = On }
+findings_effect f = record { state = f.state; put = styled_lines Check f.level f.offset f.found; goes = On }
 
 -- a contents octet
 abbrev pub check_octet_step : CheckState → ℕ → Effect CheckState
@@ -23,7 +23,7 @@ check_step s (Enter h) = findings_effect (finder_open_step s h)
 check_step s (Begin h) = findings_effect (finder_begin_step s h)
 check_step s (Bytes octets) = each_octet check_octet_step s octets
 check_step s End = findings_effect (finder_end_step s)
-check_step s (Close at) = findings_effect (finder_close_step s)
+check_step s (Close offset) = findings_effect (finder_close_step s)
 check_step s Leave = findings_effect (finder_close_step s)
 check_step s Unused = no_effect s
 check_step s (Pad octets) = no_effect s

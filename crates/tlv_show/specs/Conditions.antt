@@ -31,6 +31,11 @@ has_long_form h = nat_lt 1 (length h.lengths)
 abbrev pub leading_length_octet : HeaderValue → ℕ
 leading_length_octet h = slice_index h.lengths 1
 
+-- 9.1, 10.1: it does not have the fewest octets: those of the long form are for 128 and more, and do not begin with 00
+abbrev pub is_length_padded : HeaderValue → Bool
+is_length_padded h =
+    has_long_form h && (nat_lt (announced_length h.size) 128 || leading_length_octet h == 0)
+
 -- 8.6.2.2: a primitive BIT STRING with unused bits
 abbrev pub follows_unused_bits : Before → Bool
 follows_unused_bits (Sibling h (Some x)) = is_primitive h && is_a universal.bit_string h && not (x == 0)
@@ -85,9 +90,8 @@ basic_conditions s h =
 -- by those of DER, and by those of CER
 abbrev pub length_conditions : HeaderValue → List (Bool × Finding)
 length_conditions h =
-    -- 9.1, 10.1: a definite length has the fewest octets: those of the long form are for 128 and more, and do not
-    -- begin with 00
-    (has_long_form h && (nat_lt (announced_length h.size) 128 || leading_length_octet h == 0), S01)
+    -- 9.1, 10.1: a definite length has the fewest octets
+    (is_length_padded h, S01)
     ∷ []
 
 -- by those of DER alone

@@ -24,7 +24,7 @@ new_dump rules layout names = record { lines = new_lines layout names; finder = 
 
 -- the lines of what is found
 abbrev pub finding_lines : DumpState → FinderState → List ℕ
-finding_lines s f = styled_lines (Dump s.lines.layout.pure) f.level f.at f.found
+finding_lines s f = styled_lines (Dump s.lines.layout.pure) f.level f.offset f.found
 
 -- what is found comes before the lines, or after them
 abbrev pub findings_first : DumpState → FinderState → Effect LinesState → Effect DumpState
@@ -59,7 +59,7 @@ dump_step s (Enter h) = findings_first s (finder_open_step s.finder h) (lines_st
 dump_step s (Begin h) = findings_first s (finder_begin_step s.finder h) (lines_step s.lines (Begin h))
 dump_step s (Bytes octets) = each_octet dump_octet_step s octets
 dump_step s End = findings_last s (finder_end_step s.finder) (lines_step s.lines End)
-dump_step s (Close at) = findings_last s (finder_close_step s.finder) (lines_step s.lines (Close at))
+dump_step s (Close offset) = findings_last s (finder_close_step s.finder) (lines_step s.lines (Close offset))
 dump_step s Leave = findings_last s (finder_close_step s.finder) (lines_step s.lines Leave)
 dump_step s Unused = findings_last s (without_findings s.finder) (lines_step s.lines Unused)
 dump_step s (Pad octets) = each_octet dump_padding_step s octets

@@ -7,8 +7,9 @@ use Rattle.tlv_show.specs.Texts.{check_finding_line, finding_line}
 
 -- a finding in an element at this level and offset, as it is written
 abbrev pub styled_line : Style → ℕ → ℕ → Finding → List ℕ
-styled_line Check level at finding = check_finding_line at finding
-styled_line (Dump pure) level at finding = finding_line (record { level = level; limit = None; pure = pure }) at finding
+styled_line Check level offset finding = check_finding_line offset finding
+styled_line (Dump pure) level offset finding =
+    finding_line (record { level = level; limit = None; pure = pure }) offset finding
 
 abbrev pub styled_lines : Style → ℕ → ℕ → List Finding → List ℕ
-styled_lines style level at findings = flat_map (styled_line style level at) findings
+styled_lines style level offset findings = flat_map (styled_line style level offset) findings

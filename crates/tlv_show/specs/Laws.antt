@@ -46,7 +46,8 @@ ChecksGoOn =
 -- the lines of what is found on the contents of a primitive
 abbrev pub contents_finding_lines : DumpState → HeaderValue → List ℕ → List ℕ
 contents_finding_lines s h c =
-    styled_lines (Dump s.lines.layout.pure) (length s.finder.outer) h.offset (contents_findings s.finder.rules h c)
+    styled_lines (Dump s.lines.layout.pure) (length s.finder.holders.outer) h.offset
+    (contents_findings s.finder.rules h c)
 
 -- a primitive with as many contents octets as its header announces has the lines of its whole contents, between those
 -- of what is found with its header and on its contents. Nothing of it is kept
@@ -87,7 +88,7 @@ ChecksMakeTexts =
 
 -- a finding of BER
 abbrev pub is_basic : Item → Bool
-is_basic (FindingAt level at finding) = is_shown Ber finding
+is_basic (FindingAt level offset finding) = is_shown Ber finding
 is_basic (OpeningLine level h) = false
 is_basic (ClosingLine level offset) = false
 is_basic (PrimitiveLines level h c) = false

@@ -7,6 +7,7 @@ pub mod Found
 pub mod Items
 pub mod Texts
 pub mod SaturatingSum
+pub mod NestingState
 pub mod FinderState
 pub mod FindingLines
 pub mod CheckStep

@@ -27,7 +27,7 @@ opening_line layout h word =
 -- its end, with the offset of its end-of-contents octets, if it has them
 abbrev pub closing_line : Layout → Option ℕ → List ℕ
 closing_line layout offset =
-    text_line layout (option_map_or (λ at. columns at (codes "end")) offset no_columns) (codes "}")
+    text_line layout (option_map_or (λ offset. columns offset (codes "end")) offset no_columns) (codes "}")
 
 abbrev pub padding_line : Layout → ℕ → List ℕ
-padding_line layout at = text_line layout (columns at (codes "pad")) (codes "padding")
+padding_line layout offset = text_line layout (columns offset (codes "pad")) (codes "padding")

@@ -54,9 +54,9 @@ lines_open_step s h word =
 abbrev pub lines_close_step : LinesState → Option ℕ → Effect LinesState
 lines_close_step s None =
     lines_effect (record s { layout = outer_layout s.layout }) (closing_line (outer_layout s.layout) None)
-lines_close_step s (Some at) =
-    lines_effect (record s { layout = outer_layout s.layout; offset = saturating_sum at 2 })
-    (closing_line (outer_layout s.layout) (Some at))
+lines_close_step s (Some offset) =
+    lines_effect (record s { layout = outer_layout s.layout; offset = saturating_sum offset 2 })
+    (closing_line (outer_layout s.layout) (Some offset))
 
 -- a primitive begins
 abbrev pub lines_begin_step : LinesState → HeaderValue → Effect LinesState
@@ -100,7 +100,7 @@ lines_step s (Enter h) = lines_open_step s h (opening_word false)
 lines_step s (Begin h) = lines_begin_step s h
 lines_step s (Bytes octets) = each_octet lines_octet_step s octets
 lines_step s End = lines_end_step s
-lines_step s (Close at) = lines_close_step s at
+lines_step s (Close offset) = lines_close_step s offset
 lines_step s Leave = lines_close_step s None
 lines_step s Unused = lines_effect (record s { offset = saturating_sum s.offset 1 }) []
 lines_step s (Pad octets) = each_octet lines_padding_step s octets

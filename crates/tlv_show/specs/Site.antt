@@ -17,7 +17,7 @@ pub data Before : Type 0 where
 
 pub record Site : Type 0 where
   -- the offset of its first octet
-  pub at : ℕ
+  pub offset : ℕ
   -- how many elements hold it
   pub level : ℕ
   -- the innermost of these
@@ -26,15 +26,20 @@ pub record Site : Type 0 where
 
 -- the start of the input
 abbrev pub top_site : Site
-top_site = record { at = 0; level = 0; holder = None; before = Start }
+top_site = record { offset = 0; level = 0; holder = None; before = Start }
 
 -- so many octets on, after this
 abbrev pub later_site : Site → ℕ → Before → Site
-later_site s octets before = record s { at = s.at + octets; before = before }
+later_site s octets before = record s { offset = s.offset + octets; before = before }
 
 -- inside an element that holds others
 abbrev pub site_of_children : Site → HeaderValue → Site
-site_of_children s h = record { at = s.at + length (opening h); level = s.level + 1; holder = Some h; before = Start }
+site_of_children s h = record {
+  offset = s.offset + length (opening h);
+  level = s.level + 1;
+  holder = Some h;
+  before = Start;
+}
 
 abbrev pub is_padding : Before → Bool
 is_padding Padding = true

@@ -30,7 +30,7 @@ is_on_spelling C01 = true
 is_on_spelling finding = false
 
 abbrev pub is_item_on_spelling : Item → Bool
-is_item_on_spelling (FindingAt level at finding) = is_on_spelling finding
+is_item_on_spelling (FindingAt level offset finding) = is_on_spelling finding
 is_item_on_spelling _ = false
 
 -- such a finding is among those of the elements

@@ -120,7 +120,7 @@ impl Dump<'_> {
             Event::Begin(header) => self.begin(header, out),
             Event::Bytes(octets) => self.bytes(octets, out),
             Event::End => self.end(out),
-            Event::Close(at) => self.close(*at, out),
+            Event::Close(offset) => self.close(*offset, out),
             Event::Leave => self.close(None, out),
             Event::Unused => {
                 self.lines.unused();
@@ -202,14 +202,18 @@ impl Dump<'_> {
         put_findings(has_findings, style, &self.finder, out)
     }
 
-    /// An element that holds others ends: `at` is where its end-of-contents octets are.
+    /// An element that holds others ends: `offset` is where its end-of-contents octets are.
     #[inline]
-    fn close<D: Drain>(&mut self, at: Option<u64>, out: &mut Out<'_, D>) -> Result<(), WriteFault>
-        ensures state { OnOk result (self.new ≡ (dump_step self.old (Close at)).state) }
-        ensures puts { Puts D.state out.old out.new (dump_step self.old (Close at)).put result }
+    fn close<D: Drain>(
+        &mut self,
+        offset: Option<u64>,
+        out: &mut Out<'_, D>,
+    ) -> Result<(), WriteFault>
+        ensures state { OnOk result (self.new ≡ (dump_step self.old (Close offset)).state) }
+        ensures puts { Puts D.state out.old out.new (dump_step self.old (Close offset)).put result }
     {
         let has_findings = self.finder.close();
-        self.lines.close(at, out)?;
+        self.lines.close(offset, out)?;
         let style = self.lines.style();
         put_findings(has_findings, style, &self.finder, out)
     }

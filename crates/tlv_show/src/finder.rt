@@ -3,10 +3,10 @@ ghost use Rattle.std.specs.Prelude.{◌≡◌, length};
 ghost use Rattle.tlv_head.specs.Header.{announced_length};
 ghost use Rattle.tlv_walk.specs.HasRead.{event_value_of};
 ghost use Rattle.tlv_show.specs.FinderState.{finder_at_value, finder_begin_step, finder_bytes_step};
-ghost use Rattle.tlv_show.specs.FinderState.{finder_close_step, finder_end_step, finder_inside};
-ghost use Rattle.tlv_show.specs.FinderState.{finder_open_step, new_finder, segments_in, surroundings_in};
-ghost use Rattle.tlv_show.specs.FinderState.{with_findings, without_findings};
-ghost use Rattle.tlv_show.specs.Found.{end_findings, header_findings};
+ghost use Rattle.tlv_show.specs.FinderState.{finder_close_step, finder_end_step, finder_open_step};
+ghost use Rattle.tlv_show.specs.FinderState.{header_findings_in, new_finder, with_findings, without_findings};
+ghost use Rattle.tlv_show.specs.Found.{end_findings};
+ghost use Rattle.tlv_show.specs.NestingState.{segments_in};
 ghost use Rattle.tlv_show.specs.Private.FinderState.{PassesOrStays, ReportsFindings, finder_step, with_state};
 
 use crate::Rules;
@@ -31,7 +31,7 @@ pub(crate) struct Finder {
     /// What must be known of the open elements that hold others.
     holders: Nesting,
     /// Where the primitive begins that is open.
-    at: u64,
+    offset: u64,
     is_open: bool,
     /// What is noted of the primitive that is open, or of the last one. It is used again for the next primitive, so its
     /// room is not filled anew each time.
@@ -51,13 +51,12 @@ impl Model for Finder {
     ghost view = { λ f. record {
       state = record {
         rules = f.rules;
-        frame = f.holders.frame;
-        outer = f.holders.outer;
-        value = open_by f.is_open f.at f.check;
+        holders = f.holders;
+        value = open_by f.is_open f.offset f.check;
         count = f.count;
       };
       level = f.last.level;
-      at = f.last.at;
+      offset = f.last.offset;
       found = f.last.findings.items;
     } };
 }
@@ -70,13 +69,13 @@ impl Finder {
         Finder {
             rules,
             holders: Nesting::new(),
-            at: 0,
+            offset: 0,
             is_open: false,
             check: ValueCheck::of_type(0, 0),
             count: 0,
             last: LastFindings {
                 level: 0,
-                at: 0,
+                offset: 0,
                 findings: ArrayVec::new(),
             },
         }
@@ -105,10 +104,10 @@ impl Finder {
     }
 
     /// Where the element with these findings begins.
-    pub fn at(&self) -> u64
-        ensures { result ≡ self.now.at }
+    pub fn offset(&self) -> u64
+        ensures { result ≡ self.now.offset }
     {
-        self.last.at
+        self.last.offset
     }
 
     /// Takes an event. Returns whether there may be findings; if not, it has none, and what the events before it left
@@ -156,9 +155,8 @@ impl Finder {
     #[inline(always)]
     fn header(&mut self, header: &Header) -> bool
         ensures { ReportsFindings
-            (with_findings self.old.state (length self.old.state.outer) header.now.offset
-            (header_findings self.old.state.rules
-            (surroundings_in self.old.state.frame) header.now))
+            (with_findings self.old.state (length self.old.state.holders.outer) header.now.offset
+            (header_findings_in self.old.state header.now))
             self.new result }
     {
         if has_no_header_findings(self.rules, self.holders.frame(), header) {
@@ -172,9 +170,8 @@ impl Finder {
     #[inline(always)]
     fn look(&mut self, header: &Header)
         ensures { self.new
-            ≡ with_findings self.old.state (length self.old.state.outer) header.now.offset
-            (header_findings self.old.state.rules
-            (surroundings_in self.old.state.frame) header.now) }
+            ≡ with_findings self.old.state (length self.old.state.holders.outer) header.now.offset
+            (header_findings_in self.old.state header.now) }
     {
         let level = self.holders.level();
         self.last.restart(level, header.offset);
@@ -187,20 +184,12 @@ impl Finder {
         self.count = self.count.saturating_add(self.last.findings.len() as u64);
     }
 
-    /// Keeps the frame of an element that holds others and begins.
-    #[inline(always)]
-    fn enter(&mut self, header: &Header)
-        ensures { self.new ≡ with_state (finder_inside self.old.state header.now) self.old }
-    {
-        self.holders.enter(header);
-    }
-
     /// Keeps where a primitive begins, and that nothing of its contents has come.
     #[inline(always)]
     fn enter_value(&mut self, header: &Header)
         ensures { self.new ≡ with_state (finder_at_value self.old.state header.now) self.old }
     {
-        self.at = header.offset;
+        self.offset = header.offset;
         self.is_open = true;
         self.check.restart(header);
     }
@@ -212,11 +201,11 @@ impl Finder {
     {
         // Most such elements are no strings, and nothing is found with them.
         if has_no_header_findings(self.rules, self.holders.frame(), header) {
-            self.holders.enter_plain(header);
+            self.holders.open_without_frame(header);
             return false;
         }
         self.look(header);
-        self.enter(header);
+        self.holders.open(header);
         true
     }
 
@@ -252,12 +241,12 @@ impl Finder {
         let check = &self.check;
         self.is_open = false;
         self.holders
-            .note_primitive(check.size(), check.has_unused_bits());
+            .primitive(check.size(), check.has_unused_bits());
         if check.left() != 0 {
             return false;
         }
         let level = self.holders.level();
-        self.last.restart(level, self.at);
+        self.last.restart(level, self.offset);
         add_contents_findings(self.rules, check, &mut self.last.findings);
         self.count = self.count.saturating_add(self.last.findings.len() as u64);
         true
@@ -268,7 +257,7 @@ impl Finder {
     pub fn close(&mut self) -> bool
         ensures { ReportsFindings (finder_close_step self.old.state) self.new result }
     {
-        match self.holders.leave() {
+        match self.holders.close() {
             Some(closed) => self.look_at_end(&closed),
             None => false,
         }
@@ -278,11 +267,11 @@ impl Finder {
     #[inline(never)]
     fn look_at_end(&mut self, closed: &SiblingFrame) -> bool
         ensures { ReportsFindings
-            (with_findings self.old.state (length self.old.state.outer) closed.now.at
+            (with_findings self.old.state (length self.old.state.holders.outer) closed.now.offset
             (end_findings self.old.state.rules (segments_in closed.now)))
             self.new result }
     {
-        self.last.restart(self.holders.level(), closed.at);
+        self.last.restart(self.holders.level(), closed.offset);
         add_end_findings(self.rules, closed, &mut self.last.findings);
         self.count = self.count.saturating_add(self.last.findings.len() as u64);
         true

@@ -34,7 +34,12 @@ pub(crate) fn put_findings<D: Drain>(
     if !has_findings {
         return Ok(());
     }
-    put_each(style, (finder.level(), finder.at()), finder.findings(), out)
+    put_each(
+        style,
+        (finder.level(), finder.offset()),
+        finder.findings(),
+        out,
+    )
 }
 
 /// Puts a line for each of these findings in the element at this level and offset.
@@ -70,44 +75,44 @@ fn put_finding<D: Drain>(
 }
 
 /// Adds the line of a finding in an element at this level and offset.
-fn write_finding(held: &mut HeldOctets, style: Style, level: u8, at: u64, finding: Finding)
+fn write_finding(held: &mut HeldOctets, style: Style, level: u8, offset: u64, finding: Finding)
     requires { HasRoomFor held.old 1024 }
-    ensures { held.new ≡ held.old ++ styled_line style level at finding }
+    ensures { held.new ≡ held.old ++ styled_line style level offset finding }
 {
     match style {
-        Style::Check => write_listed(held, at, finding),
+        Style::Check => write_listed(held, offset, finding),
         Style::Dump(pure) => {
             let layout = Layout {
                 level,
                 limit: None,
                 pure,
             };
-            write_between(held, layout, at, finding);
+            write_between(held, layout, offset, finding);
         }
     }
 }
 
 /// Adds the line of a finding in a check.
-fn write_listed(held: &mut HeldOctets, at: u64, finding: Finding)
+fn write_listed(held: &mut HeldOctets, offset: u64, finding: Finding)
     requires { HasRoomFor held.old 1024 }
-    ensures { held.new ≡ held.old ++ check_finding_line at finding }
+    ensures { held.new ≡ held.old ++ check_finding_line offset finding }
 {
     let (wording, count) = finding.padded_wording();
-    held.number(at);
+    held.number(offset);
     held.add(b" ");
     held.add_front(wording, count);
     held.add(b"\n");
 }
 
 /// Adds the line of a finding in a dump; none if first columns are left out.
-fn write_between(held: &mut HeldOctets, layout: Layout, at: u64, finding: Finding)
+fn write_between(held: &mut HeldOctets, layout: Layout, offset: u64, finding: Finding)
     requires { HasRoomFor held.old 1024 }
-    ensures { held.new ≡ held.old ++ finding_line layout at finding }
+    ensures { held.new ≡ held.old ++ finding_line layout offset finding }
 {
     if layout.pure {
         return;
     }
-    begin_word(held, layout, at, &padded(finding.code()));
+    begin_word(held, layout, offset, &padded(finding.code()));
     held.add(finding.text());
     held.add(b"\n");
 }

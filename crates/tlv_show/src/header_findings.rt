@@ -5,7 +5,7 @@ ghost use Rattle.tlv_value.specs.Checks.{finding_if, findings_by};
 ghost use Rattle.tlv_value.specs.Types.{has_segments};
 ghost use Rattle.tlv_show.specs.Conditions.{basic_conditions, cer_conditions, der_conditions, has_high_form};
 ghost use Rattle.tlv_show.specs.Conditions.{leading_bits, length_conditions};
-ghost use Rattle.tlv_show.specs.FinderState.{segments_in, surroundings_in};
+ghost use Rattle.tlv_show.specs.NestingState.{segments_in, surroundings_in};
 ghost use Rattle.tlv_show.specs.Found.{end_findings, header_findings};
 ghost use Rattle.tlv_show.specs.Private.UsualTypes.{IsUsual};
 
@@ -137,7 +137,7 @@ pub(crate) fn add_end_findings(
             Finding::C05,
             found,
         );
-        add_if(frame.has_segments && frame.is_empty, Finding::C06, found);
+        add_if(frame.has_segments && frame.ends_empty, Finding::C06, found);
     }
 }
 
@@ -188,7 +188,7 @@ fn add_basic_findings(frame: &SiblingFrame, header: &Header, found: &mut ArrayVe
         found,
     );
     add_if(
-        frame.has_segments && frame.has_bits && frame.is_unused,
+        frame.has_segments && frame.has_bits && frame.last_has_unused_bits,
         Finding::B16,
         found,
     );
@@ -242,5 +242,9 @@ fn add_cer_findings(frame: &SiblingFrame, header: &Header, found: &mut ArrayVec<
         Finding::C03,
         found,
     );
-    add_if(frame.has_segments && frame.is_not_full, Finding::C04, found);
+    add_if(
+        frame.has_segments && frame.last_is_not_full,
+        Finding::C04,
+        found,
+    );
 }

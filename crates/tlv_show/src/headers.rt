@@ -1,10 +1,10 @@
 //! What a header says of its element.
-ghost use Rattle.std.specs.Prelude.{◌≡◌, ◌&&◌, ◌||◌, ◌==◌, if◌then◌else◌, nat_lt};
+ghost use Rattle.std.specs.Prelude.{◌≡◌, if◌then◌else◌};
 ghost use Rattle.tlv_head.specs.Header.{announced_length, is_universal};
 ghost use Rattle.tlv_head.specs.UniversalTypes.{bit_string, octet_string};
 ghost use Rattle.tlv_value.specs.Types.{constructed_types, is_a, is_one_of, is_string, is_unassigned, primitive_types};
 ghost use Rattle.tlv_walk.specs.Place.{is_indefinite};
-ghost use Rattle.tlv_show.specs.Conditions.{leading_length_octet, has_high_form, has_long_form};
+ghost use Rattle.tlv_show.specs.Conditions.{has_high_form, has_long_form, is_length_padded};
 
 use tlv_head::{Class, Header, Size, universal};
 
@@ -16,14 +16,20 @@ pub(crate) fn has_high_form(header: &Header) -> bool
     header.id_len > 1
 }
 
+/// Whether the length is in the long form (8.1.3.5).
+#[inline(always)]
+fn has_long_form(header: &Header) -> bool
+    ensures { result ≡ has_long_form header.now }
+{
+    header.raw().len() > usize::from(header.id_len) + 1
+}
+
 /// Whether fewer length octets would do (9.1, 10.1).
 #[inline(always)]
 pub(crate) fn is_length_padded(header: &Header) -> bool
-    ensures { result ≡ (has_long_form header.now
-        && (nat_lt (announced_length header.now.size) 128 || leading_length_octet header.now == 0)) }
+    ensures { result ≡ is_length_padded header.now }
 {
-    let is_long = header.raw().len() > usize::from(header.id_len) + 1;
-    is_long && (announced_length(header) < 128 || header.length_octet() == 0)
+    has_long_form(header) && (announced_length(header) < 128 || header.length_octet() == 0)
 }
 
 /// How many contents octets the header announces; none in the indefinite form.

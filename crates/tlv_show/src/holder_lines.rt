@@ -30,26 +30,26 @@ pub(crate) fn put_opening<D: Drain>(
 #[inline(always)]
 pub(crate) fn put_closing<D: Drain>(
     layout: Layout,
-    at: Option<u64>,
+    offset: Option<u64>,
     out: &mut Out<'_, D>,
 ) -> Result<(), WriteFault>
-    ensures { Puts D.state out.old out.new (closing_line layout at) result }
+    ensures { Puts D.state out.old out.new (closing_line layout offset) result }
 {
     out.make_room()?;
-    write_closing(&mut out.held, layout, at);
+    write_closing(&mut out.held, layout, offset);
     Ok(())
 }
 
 /// Puts the line of a run of padding.
 pub(crate) fn put_padding<D: Drain>(
     layout: Layout,
-    at: u64,
+    offset: u64,
     out: &mut Out<'_, D>,
 ) -> Result<(), WriteFault>
-    ensures { Puts D.state out.old out.new (padding_line layout at) result }
+    ensures { Puts D.state out.old out.new (padding_line layout offset) result }
 {
     out.make_room()?;
-    write_padding(&mut out.held, layout, at);
+    write_padding(&mut out.held, layout, offset);
     Ok(())
 }
 
@@ -82,34 +82,34 @@ fn begin_opening(held: &mut HeldOctets, layout: Layout, offset: u64, size: Size)
 
 /// Adds the line of the end of an element that holds others.
 #[inline(always)]
-fn write_closing(held: &mut HeldOctets, layout: Layout, at: Option<u64>)
+fn write_closing(held: &mut HeldOctets, layout: Layout, offset: Option<u64>)
     requires { HasRoomFor held.old 1024 }
-    ensures { held.new ≡ held.old ++ closing_line layout at }
+    ensures { held.new ≡ held.old ++ closing_line layout offset }
 {
-    begin_closing(held, layout, at);
+    begin_closing(held, layout, offset);
     held.add(b"}\n");
 }
 
 /// Begins a line with an offset and the word for an end, or without an offset.
 #[inline(always)]
-fn begin_closing(held: &mut HeldOctets, layout: Layout, at: Option<u64>)
+fn begin_closing(held: &mut HeldOctets, layout: Layout, offset: Option<u64>)
     requires { HasRoomFor held.old 592 }
     ensures text { held.new
         ≡ held.old ++ margin layout.pure
-        (option_map_or (λ at. columns at (codes "end")) at no_columns) layout.level }
+        (option_map_or (λ offset. columns offset (codes "end")) offset no_columns) layout.level }
     ensures bound { GrowsBy 553 held.old held.new }
 {
-    match at {
-        Some(at) => begin_word(held, layout, at, b"   end"),
+    match offset {
+        Some(offset) => begin_word(held, layout, offset, b"   end"),
         None => begin_blank(held, layout),
     }
 }
 
 /// Adds the line of a run of padding.
-fn write_padding(held: &mut HeldOctets, layout: Layout, at: u64)
+fn write_padding(held: &mut HeldOctets, layout: Layout, offset: u64)
     requires { HasRoomFor held.old 1024 }
-    ensures { held.new ≡ held.old ++ padding_line layout at }
+    ensures { held.new ≡ held.old ++ padding_line layout offset }
 {
-    begin_word(held, layout, at, b"   pad");
+    begin_word(held, layout, offset, b"   pad");
     held.add(b"padding\n");
 }

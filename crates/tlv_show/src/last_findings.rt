@@ -8,20 +8,20 @@ use tlv_value::Finding;
 #[derive(Drop)]
 pub(crate) struct LastFindings {
     pub level: u8,
-    pub at: u64,
+    pub offset: u64,
     pub findings: ArrayVec<Finding, 16>,
 }
 
 impl LastFindings {
     /// Begins anew, for the element at this level and offset.
     #[inline(always)]
-    pub fn restart(&mut self, level: u8, at: u64)
+    pub fn restart(&mut self, level: u8, offset: u64)
         ensures level { self.new.level ≡ level }
-        ensures at { self.new.at ≡ at }
+        ensures offset { self.new.offset ≡ offset }
         ensures items { self.new.findings.items ≡ [] }
     {
         self.level = level;
-        self.at = at;
+        self.offset = offset;
         // `clear` would fill the room with blanks, by a call of memset.
         self.findings = ArrayVec::new();
     }

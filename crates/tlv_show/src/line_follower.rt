@@ -111,20 +111,20 @@ impl<'n> Lines<'n> {
         Ok(())
     }
 
-    /// An element that holds others ends: `at` is where its end-of-contents octets are.
+    /// An element that holds others ends: `offset` is where its end-of-contents octets are.
     pub fn close<D: Drain>(
         &mut self,
-        at: Option<u64>,
+        offset: Option<u64>,
         out: &mut Out<'_, D>,
     ) -> Result<(), WriteFault>
-        ensures state { OnOk result (self.new ≡ (lines_close_step self.old at).state) }
-        ensures puts { Puts D.state out.old out.new (lines_close_step self.old at).put result }
+        ensures state { OnOk result (self.new ≡ (lines_close_step self.old offset).state) }
+        ensures puts { Puts D.state out.old out.new (lines_close_step self.old offset).put result }
     {
         self.layout.level = self.layout.level.saturating_sub(1);
-        if let Some(at) = at {
-            self.offset = at.saturating_add(2);
+        if let Some(offset) = offset {
+            self.offset = offset.saturating_add(2);
         }
-        put_closing(self.layout, at, out)
+        put_closing(self.layout, offset, out)
     }
 
     /// A primitive begins.

@@ -1,9 +1,9 @@
 //! The frames of the elements that are open, without those of which nothing is to be known.
 ghost use Rattle.std.specs.Prelude.{◌≡◌, ◌||◌, false, length, true};
 ghost use Rattle.tlv_value.specs.Types.{has_segments};
-ghost use Rattle.tlv_show.specs.FinderState.{frame_after, surroundings_in};
-ghost use Rattle.tlv_show.specs.Private.Nesting.{TakesBack, nesting_inside, nesting_outside, new_nesting};
-ghost use Rattle.tlv_show.specs.Private.Nesting.{segments_left};
+ghost use Rattle.tlv_show.specs.NestingState.{nesting_close_step, nesting_open_step, nesting_primitive_step};
+ghost use Rattle.tlv_show.specs.NestingState.{new_nesting, surroundings_in};
+ghost use Rattle.tlv_show.specs.Private.Nesting.{TakesBack, segments_left};
 
 use crate::headers::is_string;
 use crate::sibling_frame::{KeptFrame, SiblingFrame, frame_of, note_element, top_frame};
@@ -28,8 +28,8 @@ pub(crate) struct Nesting {
 
 impl Model for Nesting {
     ghost use Rattle.std.specs.Prelude.{◌≤◌, ◌-◌};
-    ghost use Rattle.tlv_show.specs.Private.Nesting.{AreKept, IsKept, NestingState, all_frames};
-    ghost use Rattle.tlv_show.specs.Private.Nesting.{innermost_frame, outer_frames};
+    ghost use Rattle.tlv_show.specs.NestingState.{NestingState};
+    ghost use Rattle.tlv_show.specs.Private.Nesting.{AreKept, IsKept, all_frames, innermost_frame, outer_frames};
 
     ghost Value = { NestingState };
 
@@ -80,11 +80,11 @@ impl Nesting {
     /// An element that holds others begins.
     #[tactic(auto, using(crate::proofs::FindingLemmas::KeptFrames::one_each))]
     #[inline(always)]
-    pub fn enter(&mut self, header: &Header)
-        ensures { self.new ≡ nesting_inside self.old header.now }
+    pub fn open(&mut self, header: &Header)
+        ensures { self.new ≡ nesting_open_step self.old header.now }
     {
         if !has_frame(&self.frame, header) {
-            return self.enter_plain(header);
+            return self.open_without_frame(header);
         }
         if self.level == 128 {
             return;
@@ -101,9 +101,9 @@ impl Nesting {
     /// An element that holds others begins, which is no string and is in none.
     #[tactic(auto, using(crate::proofs::FindingLemmas::KeptFrames::one_each))]
     #[inline(always)]
-    pub fn enter_plain(&mut self, header: &Header)
+    pub fn open_without_frame(&mut self, header: &Header)
         requires { (self.old.frame.has_segments || has_segments header.now) ≡ false }
-        ensures { self.new ≡ nesting_inside self.old header.now }
+        ensures { self.new ≡ nesting_open_step self.old header.now }
     {
         if self.level < 128 {
             self.level += 1;
@@ -112,17 +112,16 @@ impl Nesting {
 
     /// A primitive ends: how many contents octets it announces, and whether bits of it are unused.
     #[inline(always)]
-    pub fn note_primitive(&mut self, size: u64, is_unused: bool)
-        ensures { self.new
-            ≡ record self.old { frame = frame_after self.old.frame true size is_unused } }
+    pub fn primitive(&mut self, size: u64, has_unused_bits: bool)
+        ensures { self.new ≡ nesting_primitive_step self.old size has_unused_bits }
     {
-        note_element(&mut self.frame, true, size, is_unused);
+        note_element(&mut self.frame, true, size, has_unused_bits);
     }
 
     /// An element that holds others ends. Returns its frame, if what it held were segments.
     #[inline(always)]
-    pub fn leave(&mut self) -> Option<SiblingFrame>
-        ensures nest { self.new ≡ nesting_outside self.old }
+    pub fn close(&mut self) -> Option<SiblingFrame>
+        ensures nest { self.new ≡ nesting_close_step self.old }
         ensures segments { result ≡ segments_left self.old }
     {
         if self.level > self.floor {

@@ -1,6 +1,6 @@
 //! What is kept of the elements that are beside one another.
 ghost use Rattle.std.specs.Prelude.{◌≡◌};
-ghost use Rattle.tlv_show.specs.FinderState.{frame_after, frame_of, top_frame};
+ghost use Rattle.tlv_show.specs.NestingState.{frame_after, frame_of, top_frame};
 
 use crate::headers::{announced_length, is_bit_string, is_string};
 use tlv_head::Header;
@@ -9,7 +9,7 @@ use tlv_head::Header;
 #[derive(Clone, Copy, Default)]
 pub(crate) struct SiblingFrame {
     /// Where the holder begins.
-    pub at: u64,
+    pub offset: u64,
     /// How many contents octets its header announces.
     pub size: u64,
     /// Whether it is primitive: a string that wraps encodings.
@@ -19,15 +19,15 @@ pub(crate) struct SiblingFrame {
     /// Whether it is a constructed BIT STRING.
     pub has_bits: bool,
     /// Whether the last segment so far has unused bits.
-    pub is_unused: bool,
+    pub last_has_unused_bits: bool,
     /// Whether the last segment so far is no primitive of 1000 contents octets.
-    pub is_not_full: bool,
+    pub last_is_not_full: bool,
     /// Whether all that it holds so far is primitive.
     pub all_primitive: bool,
     /// How many octets of the value the segments have so far. It stops at 1001.
     pub octets: u64,
     /// Whether the last that it holds is a primitive without contents octets.
-    pub is_empty: bool,
+    pub ends_empty: bool,
 }
 
 /// The frame of the top.
@@ -47,7 +47,7 @@ pub(crate) fn frame_of(header: &Header) -> SiblingFrame
 {
     let has_segments = header.constructed && is_string(header);
     SiblingFrame {
-        at: header.offset,
+        offset: header.offset,
         size: announced_length(header),
         is_primitive: !header.constructed,
         has_segments,
@@ -60,18 +60,23 @@ pub(crate) fn frame_of(header: &Header) -> SiblingFrame
 /// Keeps what must be known of an element in a string: whether it is primitive, how many contents octets it announces,
 /// and whether bits of it are unused. Nothing is asked of the others.
 #[inline(always)]
-pub(crate) fn note_element(frame: &mut SiblingFrame, is_primitive: bool, size: u64, is_unused: bool)
-    ensures { frame.new ≡ frame_after frame.old is_primitive size is_unused }
+pub(crate) fn note_element(
+    frame: &mut SiblingFrame,
+    is_primitive: bool,
+    size: u64,
+    has_unused_bits: bool,
+)
+    ensures { frame.new ≡ frame_after frame.old is_primitive size has_unused_bits }
 {
     if !frame.has_segments {
         return;
     }
     let octets = size.saturating_sub(u64::from(frame.has_bits));
-    frame.is_unused = is_unused;
-    frame.is_not_full = !(is_primitive && size == 1000);
+    frame.last_has_unused_bits = has_unused_bits;
+    frame.last_is_not_full = !(is_primitive && size == 1000);
     frame.all_primitive = frame.all_primitive && is_primitive;
     frame.octets = frame.octets.saturating_add(octets).min(1001);
-    frame.is_empty = is_primitive && size == 0;
+    frame.ends_empty = is_primitive && size == 0;
 }
 
 /// A frame, and its floor: how many elements hold what stands directly in its element.

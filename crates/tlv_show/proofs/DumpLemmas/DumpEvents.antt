@@ -37,7 +37,7 @@ then_shown s t put xs ys e = shown-more s xs ys ∙ ap (λ (k : Effect DumpState
 
 -- the lines of what is found, as a dump in this layout puts them
 abbrev pub texts : Layout → FinderState → List ℕ
-texts layout f = styled_lines (Dump layout.pure) f.level f.at f.found
+texts layout f = styled_lines (Dump layout.pure) f.level f.offset f.found
 
 -- ---- an element that holds others
 
@@ -52,13 +52,13 @@ opens-by l s h false false = ap (is_shown _) (append_assoc (texts l.layout (find
 again : (a b : List ℕ) → (a ++ b) ++ [] ≡ (a ++ []) ++ b
 again a b = append-nil (a ++ b) ∙ ap (λ (x : List ℕ). x ++ b) (sym (append-nil a))
 
-pub closes-by : (l : LinesState) (s : CheckState) (at : Option ℕ) (k : Bool)
-    → effect_of dump_step (pair l s) ((if k then Close at else Leave) ∷ [])
-    ≡ (let d = effect_of lines_step l ((if k then Close at else Leave) ∷ []) in
+pub closes-by : (l : LinesState) (s : CheckState) (offset : Option ℕ) (k : Bool)
+    → effect_of dump_step (pair l s) ((if k then Close offset else Leave) ∷ [])
+    ≡ (let d = effect_of lines_step l ((if k then Close offset else Leave) ∷ []) in
     is_shown (pair d.state (finder_close_step s).state) (d.put ++ texts l.layout (finder_close_step s)))
 closes-by l s None true = ap (is_shown _) (again (lines_step l (Close None)).put (texts l.layout (finder_close_step s)))
-closes-by l s (Some at) true = ap (is_shown _) (again (lines_step l (Close (Some at))).put (texts l.layout (finder_close_step s)))
-closes-by l s at false = ap (is_shown _) (again (lines_step l Leave).put (texts l.layout (finder_close_step s)))
+closes-by l s (Some offset) true = ap (is_shown _) (again (lines_step l (Close (Some offset))).put (texts l.layout (finder_close_step s)))
+closes-by l s offset false = ap (is_shown _) (again (lines_step l Leave).put (texts l.layout (finder_close_step s)))
 
 -- ---- a primitive
 

@@ -11,7 +11,8 @@ use Rattle.tlv_walk.specs.Reading.{IsReading}
 use Rattle.tlv_show.specs.declared.options.Options.{Options}
 use Rattle.tlv_show.specs.DumpJob.{dump_job, top_layout}
 use Rattle.tlv_show.specs.DumpStep.{DumpState, dump_step, new_dump}
-use Rattle.tlv_show.specs.FinderState.{CheckState, top_frame}
+use Rattle.tlv_show.specs.FinderState.{CheckState}
+use Rattle.tlv_show.specs.NestingState.{top_frame}
 use Rattle.tlv_show.specs.Private.FinderState.{finder_step}
 use Rattle.tlv_show.specs.Site.{Start}
 use Rattle.tlv_show.specs.Texts.{finding_count}
@@ -27,7 +28,7 @@ finder-by s (Open h) = refl
 finder-by s (Begin h) = refl
 finder-by s (Bytes octets) = ap (λ (t : Effect DumpState). t.state.finder) (each-shown s octets)
 finder-by s End = refl
-finder-by s (Close at) = refl
+finder-by s (Close offset) = refl
 finder-by s (Enter h) = refl
 finder-by s Unused = refl
 finder-by s Leave = refl

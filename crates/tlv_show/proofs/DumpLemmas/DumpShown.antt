@@ -22,7 +22,8 @@ use Rattle.tlv_show.specs.declared.finding_lines.Style.TheVariants.{Dump}
 use Rattle.tlv_show.specs.FindingLines.{styled_lines}
 use Rattle.tlv_show.specs.LinesStep.{LinesState}
 use Rattle.tlv_show.specs.DumpStep.{DumpState, dump_step}
-use Rattle.tlv_show.specs.FinderState.{FinderState, frame_after, frame_under, surroundings_in}
+use Rattle.tlv_show.specs.FinderState.{FinderState}
+use Rattle.tlv_show.specs.NestingState.{frame_after, frame_under, surroundings_in}
 use Rattle.tlv_show.specs.Found.{contents_findings, header_findings, end_findings}
 use Rattle.tlv_show.specs.Items.{Item, FindingAt, OpeningLine, ClosingLine, PrimitiveLines, OpenPrimitiveLines, PaddingLine, headers, items}
 use Rattle.tlv_show.proofs.FindingLemmas.ElementItems.{findings_at}
@@ -34,7 +35,7 @@ use Rattle.tlv_show.proofs.FindingLemmas.SiteWords.{first_octet}
 use Rattle.tlv_show.specs.Texts.{item_text}
 use Rattle.tlv_show.proofs.DumpLemmas.DumpSteps.{all_on}
 use Rattle.tlv_show.proofs.DumpLemmas.DumpTexts.{at_level, closer_shown, fill_shown, holder_shown, no_padding, later_padded, part_shown, primitive_shown, standing as lines_at}
-use Rattle.tlv_show.proofs.FindingLemmas.FinderFolds.{at-under, not-constructed, noted_all}
+use Rattle.tlv_show.proofs.FindingLemmas.FinderFolds.{offset-under, not-constructed, noted_all}
 use Rattle.tlv_show.proofs.FindingLemmas.FramesAround.{knows-after, knows-inside, knows-padding, unused-of}
 use Rattle.tlv_show.proofs.FindingLemmas.FinderItems.{after_contents, after_end, later_header, after_primitive, closed-find, opened-find, primitive-find, standing}
 use Rattle.tlv_show.proofs.FindingLemmas.HeaderFindings.{Knows, header-same}
@@ -50,31 +51,31 @@ module _ (style : Layout) (names : NamesTable) (rules : Rules) where
   texts_of l = flat_map item l
 
   abbrev site : Place → Option HeaderValue → Before → Site
-  site p holder before = record { at = p.at; level = p.depth; holder = holder; before = before }
+  site p holder before = record { offset = p.offset; level = p.depth; holder = holder; before = before }
 
-  lines_of : (level at : ℕ) (fs : List Finding) → styled_lines (Dump style.pure) level at fs ≡ texts_of (findings_at level at fs)
-  lines_of level at [] = refl
-  lines_of level at (f ∷ fs) = ap (λ (l : List ℕ). item (FindingAt level at f) ++ l) (lines_of level at fs)
+  lines_of : (level offset : ℕ) (fs : List Finding) → styled_lines (Dump style.pure) level offset fs ≡ texts_of (findings_at level offset fs)
+  lines_of level offset [] = refl
+  lines_of level offset (f ∷ fs) = ap (λ (l : List ℕ). item (FindingAt level offset f) ++ l) (lines_of level offset fs)
 
   split : (xs ys : List Item) → texts_of (xs ++ ys) ≡ texts_of xs ++ texts_of ys
   split xs ys = flat_map-append item xs ys
 
   -- findings, and then other lines
-  found-first : (n level at : ℕ) (gs fs : List Finding) (more : List ℕ) (rest : List Item) → n ≡ level → gs ≡ fs → more ≡ texts_of rest
-      → styled_lines (Dump style.pure) n at gs ++ more ≡ texts_of (findings_at level at fs ++ rest)
-  found-first n level at gs fs more rest e f g =
-      ap₂ (λ (k : ℕ) (hs : List Finding). styled_lines (Dump style.pure) k at hs ++ more) e f
-      ∙ ap₂ (λ (a b : List ℕ). a ++ b) (lines_of level at fs) g
-      ∙ sym (split (findings_at level at fs) rest)
+  found-first : (n level offset : ℕ) (gs fs : List Finding) (more : List ℕ) (rest : List Item) → n ≡ level → gs ≡ fs → more ≡ texts_of rest
+      → styled_lines (Dump style.pure) n offset gs ++ more ≡ texts_of (findings_at level offset fs ++ rest)
+  found-first n level offset gs fs more rest e f g =
+      ap₂ (λ (k : ℕ) (hs : List Finding). styled_lines (Dump style.pure) k offset hs ++ more) e f
+      ∙ ap₂ (λ (a b : List ℕ). a ++ b) (lines_of level offset fs) g
+      ∙ sym (split (findings_at level offset fs) rest)
 
   abbrev start : Place → Bool → SiblingFrame → List SiblingFrame → ℕ → DumpState
-  start p padded w outer n = pair (lines_at style names p.depth p.at padded) (standing rules w outer n)
+  start p padded w outer n = pair (lines_at style names p.depth p.offset padded) (standing rules w outer n)
 
   pub record IsShown (p : Place) (holder : Option HeaderValue) (before : Before) (w : SiblingFrame) (outer : List SiblingFrame) (f : Forest) : Type 0 where
     pub text : (n : ℕ) → (effect_of dump_step (start p (is_padding before) w outer n) (events f)).put ≡ texts_of (items rules (site p holder before) f)
     pub stands : (n : ℕ) → is_complete f ≡ true → (m : ℕ)
         × ((effect_of dump_step (start p (is_padding before) w outer n) (events f)).state
-        ≡ pair (lines_at style names p.depth (p.at + length (spelling f)) (later_padded style names (is_padding before) f)) (standing rules (noted_all w f) outer m))
+        ≡ pair (lines_at style names p.depth (p.offset + length (spelling f)) (later_padded style names (is_padding before) f)) (standing rules (noted_all w f) outer m))
 
   -- elements after what was shown
   shown-after : (p q : Place) (padded : Bool) (w : SiblingFrame) (outer : List SiblingFrame) (n m : ℕ) (v : SiblingFrame) (holder : Option HeaderValue) (before : Before) (es : List EventValue) (put : List ℕ) (rest : Forest)
@@ -91,50 +92,50 @@ module _ (style : Layout) (names : NamesTable) (rules : Rules) where
 
   -- an element that holds others begins
   opened-shown : (p : Place) (holder : Option HeaderValue) (before : Before) (w : SiblingFrame) (outer : List SiblingFrame) (n : ℕ) (h : HeaderValue) → Known p holder before w outer
-      → h.offset ≡ p.at → p.depth < 128 → p.at + length (opening h) ≤ 2 ^ 64 - 1
+      → h.offset ≡ p.offset → p.depth < 128 → p.offset + length (opening h) ≤ 2 ^ 64 - 1
       → effect_of dump_step (start p (is_padding before) w outer n) (opening_events h)
       ≡ is_shown (start (place_of_children p h) false (frame_under w h) (w ∷ outer) (later_header rules w h n)) (styled_lines (Dump style.pure) (length outer) h.offset (header_findings rules (surroundings_in w) h) ++ holder_line (at_level style names p.depth) h)
   opened-shown p holder before w outer n h k there low far =
-      opens-by (lines_at style names p.depth p.at (is_padding before)) (standing rules w outer n) h h.constructed (h.number == 3)
+      opens-by (lines_at style names p.depth p.offset (is_padding before)) (standing rules w outer n) h h.constructed (h.number == 3)
       ∙ ap₂ (λ (d : Effect LinesState) (f : FinderState). is_shown (pair d.state f.state) (texts style f ++ d.put))
-      (holder_shown style names p.depth p.at (is_padding before) h there (omega (arith, low)) far)
+      (holder_shown style names p.depth p.offset (is_padding before) h there (omega (arith, low)) far)
       (opened-find rules w outer n h (omega (arith, k.1, low)))
 
   -- a primitive
-  primitive-shown : (p : Place) (padded : Bool) (w : SiblingFrame) (outer : List SiblingFrame) (n : ℕ) (h : HeaderValue) (c : List ℕ) → h.offset ≡ p.at → announced_length h.size ≡ length c
-      → p.at + (length (octets_of h) + length c) ≤ 2 ^ 64 - 1
+  primitive-shown : (p : Place) (padded : Bool) (w : SiblingFrame) (outer : List SiblingFrame) (n : ℕ) (h : HeaderValue) (c : List ℕ) → h.offset ≡ p.offset → announced_length h.size ≡ length c
+      → p.offset + (length (octets_of h) + length c) ≤ 2 ^ 64 - 1
       → effect_of dump_step (start p padded w outer n) (Begin h ∷ Bytes c ∷ End ∷ [])
       ≡ is_shown (start (place_after p (length (octets_of h) + length c)) false (after_primitive rules w h c) outer (after_contents rules w h c n))
       (styled_lines (Dump style.pure) (length outer) h.offset (header_findings rules (surroundings_in w) h) ++ (whole_lines (finite.get names) h (at_level style names p.depth) c ++ styled_lines (Dump style.pure) (length outer) h.offset (contents_findings rules h c)))
   primitive-shown p padded w outer n h c there size far =
-      primitive-by (lines_at style names p.depth p.at padded) (standing rules w outer n) h c
+      primitive-by (lines_at style names p.depth p.offset padded) (standing rules w outer n) h c
       ∙ ap₂ (λ (d : Effect LinesState) (f : FinderState). is_shown (pair d.state f.state) (styled_lines (Dump style.pure) (length outer) h.offset (header_findings rules (surroundings_in w) h) ++ (d.put ++ texts style f)))
-      (primitive_shown style names p.depth p.at padded h c there size far)
+      (primitive_shown style names p.depth p.offset padded h c there size far)
       (primitive-find rules w outer n h c (sym size))
 
-  pub shows_forest : (p : Place) (holder : Option HeaderValue) (before : Before) (w : SiblingFrame) (outer : List SiblingFrame) (f : Forest) → IsOpen p f → p.at + length (spelling f) ≤ 2 ^ 64 - 1 → Known p holder before w outer
+  pub shows_forest : (p : Place) (holder : Option HeaderValue) (before : Before) (w : SiblingFrame) (outer : List SiblingFrame) (f : Forest) → IsOpen p f → p.offset + length (spelling f) ≤ 2 ^ 64 - 1 → Known p holder before w outer
       → IsShown p holder before w outer f
   shows_forest p holder before w outer NoMore v b k = record {
     text = λ n. refl;
-    stands = λ n e. (n, ap (λ (at : ℕ). pair (lines_at style names p.depth at (is_padding before)) (standing rules w outer n)) (omega arith));
+    stands = λ n e. (n, ap (λ (offset : ℕ). pair (lines_at style names p.depth offset (is_padding before)) (standing rules w outer n)) (omega arith));
   }
   shows_forest p holder before w outer (PaddingOctet rest) v b k =
       let s : Site = site p holder before in
       let t = shows_forest (place_after p 1) holder Padding w outer rest v.1 (omega (arith, b)) (knows-padding w s k.0 (k.2 v.0.0), k.1, k.2) in
-      let one : (n : ℕ) → effect_of dump_step (start p (is_padding before) w outer n) (Pad (0 ∷ []) ∷ []) ≡ is_shown (start (place_after p 1) true w outer n) (if is_padding before then [] else padding_line (at_level style names p.depth) p.at) =
-      λ n. ap (λ (d : Effect LinesState). is_shown (pair d.state (standing rules w outer n)) d.put) (fill_shown style names p.depth p.at (is_padding before) (omega (arith, b))) in
-      let all = λ (n : ℕ). shown-after p (place_after p 1) (is_padding before) w outer n n w holder Padding (Pad (0 ∷ []) ∷ []) (if is_padding before then [] else padding_line (at_level style names p.depth) p.at) rest refl (one n) t in
+      let one : (n : ℕ) → effect_of dump_step (start p (is_padding before) w outer n) (Pad (0 ∷ []) ∷ []) ≡ is_shown (start (place_after p 1) true w outer n) (if is_padding before then [] else padding_line (at_level style names p.depth) p.offset) =
+      λ n. ap (λ (d : Effect LinesState). is_shown (pair d.state (standing rules w outer n)) d.put) (fill_shown style names p.depth p.offset (is_padding before) (omega (arith, b))) in
+      let all = λ (n : ℕ). shown-after p (place_after p 1) (is_padding before) w outer n n w holder Padding (Pad (0 ∷ []) ∷ []) (if is_padding before then [] else padding_line (at_level style names p.depth) p.offset) rest refl (one n) t in
       record {
-        text = λ n. ap (λ (x : Effect DumpState). x.put) (all n) ∙ pads (is_padding before) p.depth p.at (items rules (site_after_padding s) rest);
+        text = λ n. ap (λ (x : Effect DumpState). x.put) (all n) ∙ pads (is_padding before) p.depth p.offset (items rules (site_after_padding s) rest);
         stands = λ n e.
             let r = t.stands n e in
-            (r.0, ap (λ (x : Effect DumpState). x.state) (all n) ∙ r.1 ∙ ap (λ (at : ℕ). pair (lines_at style names p.depth at (later_padded style names true rest)) (standing rules (noted_all w rest) outer r.0)) (omega arith));
+            (r.0, ap (λ (x : Effect DumpState). x.state) (all n) ∙ r.1 ∙ ap (λ (offset : ℕ). pair (lines_at style names p.depth offset (later_padded style names true rest)) (standing rules (noted_all w rest) outer r.0)) (omega arith));
       }
     where
-      pads : (k : Bool) (level at : ℕ) (l : List Item)
-          → (if k then [] else padding_line (at_level style names level) at) ++ texts_of l ≡ texts_of ((if k then [] else PaddingLine level at ∷ []) ++ l)
-      pads true level at l = refl
-      pads false level at l = refl
+      pads : (k : Bool) (level offset : ℕ) (l : List Item)
+          → (if k then [] else padding_line (at_level style names level) offset) ++ texts_of l ≡ texts_of ((if k then [] else PaddingLine level offset ∷ []) ++ l)
+      pads true level offset l = refl
+      pads false level offset l = refl
   shows_forest p holder before w outer (Primitive h c rest) v b k =
       let s : Site = site p holder before in
       let q : Place = place_after p (length (octets_of h) + length c) in
@@ -157,7 +158,7 @@ module _ (style : Layout) (names : NamesTable) (rules : Rules) where
             let r = t.stands (after_contents rules w h c n) e in (
               r.0,
               ap (λ (x : Effect DumpState). x.state) (all n) ∙ r.1
-                  ∙ ap (λ (at : ℕ). pair (lines_at style names p.depth at (later_padded style names false rest)) (standing rules (noted_all (after_primitive rules w h c) rest) outer r.0)) (omega (arith, length-primitive h c rest)),
+                  ∙ ap (λ (offset : ℕ). pair (lines_at style names p.depth offset (later_padded style names false rest)) (standing rules (noted_all (after_primitive rules w h c) rest) outer r.0)) (omega (arith, length-primitive h c rest)),
             );
       }
     where
@@ -171,7 +172,7 @@ module _ (style : Layout) (names : NamesTable) (rules : Rules) where
       let i = shows_forest i_place (Some h) Start (frame_under w h) (w ∷ outer) inside v.1 (omega (arith, b, size)) (knows-inside w s h, omega (arith, k.1), λ e. absurd (cc (e))) in
       let t = shows_forest q holder (Sibling h None) (frame_after w (is_primitive h) (announced_length h.size) false) outer rest v.2 (omega (arith, b, size))
       (knows-after w s (site_after_holder s h inside) h None false k.0 refl refl refl, k.1, k.2) in
-      let end : ℕ = p.at + length (opening h) + length (spelling inside) in
+      let end : ℕ = p.offset + length (opening h) + length (spelling inside) in
       let line : List ℕ = holder_line (at_level style names p.depth) h in
       let close : List ℕ = closing_line (at_level style names p.depth) (if h.constructed then end_place h inside else None) in
       let first : List ℕ = styled_lines (Dump style.pure) (length outer) h.offset (header_findings rules (surroundings_in w) h) in
@@ -185,8 +186,8 @@ module _ (style : Layout) (names : NamesTable) (rules : Rules) where
       (closer_shown style names p.depth end h inside (omega (arith, v.0.0.header.offset)) v.0.0.header.valid.allowed (omega (arith, b, size)))
       (closed-find rules i_place w outer m h inside v.1 v.0.1)
       ∙ ap (λ (l : List ℕ). is_shown (pair (lines_at style names p.depth (end + length (end_octets h.size)) false) (standing rules (frame_after w (is_primitive h) (announced_length h.size) false) outer (after_end rules h inside m))) (close ++ l))
-      (at-under rules i_place w h inside v.1 v.0.1 (styled_lines (Dump style.pure) (length outer)) (λ at. refl))
-      ∙ ap (λ (at : ℕ). is_shown (pair (lines_at style names p.depth at false) (standing rules (frame_after w (is_primitive h) (announced_length h.size) false) outer (after_end rules h inside m))) (close ++ last)) (omega arith) in
+      (offset-under rules i_place w h inside v.1 v.0.1 (styled_lines (Dump style.pure) (length outer)) (λ offset. refl))
+      ∙ ap (λ (offset : ℕ). is_shown (pair (lines_at style names p.depth offset false) (standing rules (frame_after w (is_primitive h) (announced_length h.size) false) outer (after_end rules h inside m))) (close ++ last)) (omega arith) in
       let held-shown : (m : ℕ) → (r : ℕ) × (effect_of dump_step (start i_place false (frame_under w h) (w ∷ outer) m) (events inside)
       ≡ is_shown (pair (lines_at style names (p.depth + 1) end false) (standing rules (noted_all (frame_under w h) inside) (w ∷ outer) r)) held) =
       λ m.
@@ -227,7 +228,7 @@ module _ (style : Layout) (names : NamesTable) (rules : Rules) where
             let r = t.stands (element n).0 e in (
               r.0,
               ap (λ (x : Effect DumpState). x.state) (all n) ∙ r.1
-                  ∙ ap (λ (at : ℕ). pair (lines_at style names p.depth at (later_padded style names false rest)) (standing rules (noted_all (frame_after w (is_primitive h) (announced_length h.size) false) rest) outer r.0)) (omega (arith, size)),
+                  ∙ ap (λ (offset : ℕ). pair (lines_at style names p.depth offset (later_padded style names false rest)) (standing rules (noted_all (frame_after w (is_primitive h) (announced_length h.size) false) rest) outer r.0)) (omega (arith, size)),
             );
       }
     where
@@ -239,9 +240,9 @@ module _ (style : Layout) (names : NamesTable) (rules : Rules) where
           ap (λ (g : Go). record { state = (effect_of dump_step s es).state; put = (effect_of dump_step s es).put; goes = g }) (all_on s es) ∙ ap₂ (λ (u : DumpState) (l : List ℕ). is_shown u l) e f
   shows_forest p holder before w outer (OpenPrimitive h c) v b k = record {
     text = λ n.
-        part-by (lines_at style names p.depth p.at (is_padding before)) (standing rules w outer n) h c
+        part-by (lines_at style names p.depth p.offset (is_padding before)) (standing rules w outer n) h c
         ∙ found-first (length outer) p.depth h.offset (header_findings rules (surroundings_in w) h) (header_findings rules (surroundings_of (site p holder before)) h) _ (OpenPrimitiveLines p.depth h c ∷ []) k.1 (header-same rules w (site p holder before) h k.0)
-        (part_shown style names p.depth p.at (is_padding before) h c (omega (arith, v.1)) ∙ sym (append-nil (open_lines h (at_level style names p.depth) c)));
+        (part_shown style names p.depth p.offset (is_padding before) h c (omega (arith, v.1)) ∙ sym (append-nil (open_lines h (at_level style names p.depth) c)));
     stands = λ n e. absurd (cc (e));
   }
   shows_forest p holder before w outer (OpenHolder h inside) v b k =

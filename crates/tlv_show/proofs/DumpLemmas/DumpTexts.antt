@@ -27,8 +27,8 @@ use Rattle.tlv_show.proofs.DumpLemmas.Always.{all_on}
 use Rattle.tlv_show.specs.SaturatingSum.{saturating_sum}
 
 -- offsets do not stop below 2^64
-far : (at n : ℕ) → at + n ≤ 2 ^ 64 - 1 → saturating_sum at n ≡ at + n
-far at n h = omega (arith, h)
+far : (offset n : ℕ) → offset + n ≤ 2 ^ 64 - 1 → saturating_sum offset n ≡ offset + n
+far offset n h = omega (arith, h)
 
 -- one list of events and then another
 both : (s : LinesState) (xs ys : List EventValue) → effect_of lines_step s (xs ++ ys) ≡ and_then (effect_of lines_step s xs) (λ u. effect_of lines_step u ys)
@@ -76,7 +76,7 @@ module _ (style : Layout) (names : NamesTable) where
 
   -- a dump between two elements
   abbrev pub standing : ℕ → ℕ → Bool → LinesState
-  standing level at padded = record { layout = at_level level; names = names; offset = at; in_padding = padded; value = None }
+  standing level offset padded = record { layout = at_level level; names = names; offset = offset; in_padding = padded; value = None }
 
   -- a state between two elements, and what was put
   settled : (l m o n : ℕ) (k j : Bool) (put put' : List ℕ) → l ≡ m → o ≡ n → k ≡ j → put ≡ put' → lines_effect (standing l o k) put ≡ lines_effect (standing m n j) put'
@@ -86,20 +86,20 @@ module _ (style : Layout) (names : NamesTable) where
   -- ---- a primitive
 
   abbrev begun_in : ℕ → ℕ → Bool → HeaderValue → LinesState
-  begun_in level at padded h = record (lines_after_header (standing level at padded) h) { value = Some (new_value_text h (at_level level)) }
+  begun_in level offset padded h = record (lines_after_header (standing level offset padded) h) { value = Some (new_value_text h (at_level level)) }
 
-  pub primitive_shown : (level at : ℕ) (padded : Bool) (h : HeaderValue) (c : List ℕ) → h.offset ≡ at → announced_length h.size ≡ length c → at + (length (octets_of h) + length c) ≤ 2 ^ 64 - 1
-      → effect_of lines_step (standing level at padded) (Begin h ∷ Bytes c ∷ End ∷ []) ≡ lines_effect (standing level (at + (length (octets_of h) + length c)) false) (whole_lines (finite.get names) h (at_level level) c)
-  primitive_shown level at padded h c there size far_enough =
-      primitives_shown (standing level at padded) h c size
-      ∙ settled level level (saturating_sum (saturating_sum h.offset (length (octets_of h))) (length c)) (at + (length (octets_of h) + length c)) false false _ (whole_lines (finite.get names) h (at_level level) c)
+  pub primitive_shown : (level offset : ℕ) (padded : Bool) (h : HeaderValue) (c : List ℕ) → h.offset ≡ offset → announced_length h.size ≡ length c → offset + (length (octets_of h) + length c) ≤ 2 ^ 64 - 1
+      → effect_of lines_step (standing level offset padded) (Begin h ∷ Bytes c ∷ End ∷ []) ≡ lines_effect (standing level (offset + (length (octets_of h) + length c)) false) (whole_lines (finite.get names) h (at_level level) c)
+  primitive_shown level offset padded h c there size far_enough =
+      primitives_shown (standing level offset padded) h c size
+      ∙ settled level level (saturating_sum (saturating_sum h.offset (length (octets_of h))) (length c)) (offset + (length (octets_of h) + length c)) false false _ (whole_lines (finite.get names) h (at_level level) c)
       refl (omega (arith, there, far_enough)) refl refl
 
-  pub part_shown : (level at : ℕ) (padded : Bool) (h : HeaderValue) (c : List ℕ) → length c ≤ announced_length h.size
-      → (effect_of lines_step (standing level at padded) (Begin h ∷ Bytes c ∷ [])).put ≡ open_lines h (at_level level) c
-  part_shown level at padded h c size =
+  pub part_shown : (level offset : ℕ) (padded : Bool) (h : HeaderValue) (c : List ℕ) → length c ≤ announced_length h.size
+      → (effect_of lines_step (standing level offset padded) (Begin h ∷ Bytes c ∷ [])).put ≡ open_lines h (at_level level) c
+  part_shown level offset padded h c size =
       let t : ValueTextState = new_value_text h (at_level level) in
-      ap (λ (k : Effect LinesState). (after_put (begin_lines t) (if_on k.goes k (λ w. effect_of lines_step w []))).put) (dumped_bytes (begun_in level at padded h) c (λ e. rested-new h (at_level level)))
+      ap (λ (k : Effect LinesState). (after_put (begin_lines t) (if_on k.goes k (λ w. effect_of lines_step w []))).put) (dumped_bytes (begun_in level offset padded h) c (λ e. rested-new h (at_level level)))
       ∙ ap (λ (l : List ℕ). begin_lines t ++ (contents_lines t l ++ [])) (take-all (announced_length h.size) c size)
       ∙ ap (λ (l : List ℕ). begin_lines t ++ l) (append-nil (contents_lines t c))
       ∙ sym (open-lines h (at_level level) c)
@@ -110,25 +110,25 @@ module _ (style : Layout) (names : NamesTable) where
   abbrev lead_by : Bool → Bool → List ℕ
   lead_by k three = if k then [] else (if three then 0 ∷ [] else [])
 
-  holder_by : (level at : ℕ) (padded k three : Bool) (h : HeaderValue) → h.offset ≡ at → level + 1 ≤ 255
-      → at + (length (octets_of h) + length (lead_by k three)) ≤ 2 ^ 64 - 1
-      → effect_of lines_step (standing level at padded) ((if k then Open h else Enter h) ∷ map (λ z. Unused) (lead_by k three))
-      ≡ lines_effect (standing (level + 1) (at + (length (octets_of h) + length (lead_by k three))) false) (opening_line (at_level level) h (opening_word k))
-  holder_by level at padded true three h there low far_enough =
-      settled (min (level + 1) 255) (level + 1) (saturating_sum h.offset (length (octets_of h))) (at + (length (octets_of h) + 0)) false false _ (opening_line (at_level level) h (opening_word true))
+  holder_by : (level offset : ℕ) (padded k three : Bool) (h : HeaderValue) → h.offset ≡ offset → level + 1 ≤ 255
+      → offset + (length (octets_of h) + length (lead_by k three)) ≤ 2 ^ 64 - 1
+      → effect_of lines_step (standing level offset padded) ((if k then Open h else Enter h) ∷ map (λ z. Unused) (lead_by k three))
+      ≡ lines_effect (standing (level + 1) (offset + (length (octets_of h) + length (lead_by k three))) false) (opening_line (at_level level) h (opening_word k))
+  holder_by level offset padded true three h there low far_enough =
+      settled (min (level + 1) 255) (level + 1) (saturating_sum h.offset (length (octets_of h))) (offset + (length (octets_of h) + 0)) false false _ (opening_line (at_level level) h (opening_word true))
       (omega (arith, low)) (omega (arith, there, far_enough)) refl (append-nil (opening_line (at_level level) h (opening_word true)))
-  holder_by level at padded false true h there low far_enough =
-      settled (min (level + 1) 255) (level + 1) (saturating_sum (saturating_sum h.offset (length (octets_of h))) 1) (at + (length (octets_of h) + 1)) false false _ (opening_line (at_level level) h (opening_word false))
+  holder_by level offset padded false true h there low far_enough =
+      settled (min (level + 1) 255) (level + 1) (saturating_sum (saturating_sum h.offset (length (octets_of h))) 1) (offset + (length (octets_of h) + 1)) false false _ (opening_line (at_level level) h (opening_word false))
       (omega (arith, low)) (omega (arith, there, far_enough)) refl (append-nil (opening_line (at_level level) h (opening_word false)))
-  holder_by level at padded false false h there low far_enough =
-      settled (min (level + 1) 255) (level + 1) (saturating_sum h.offset (length (octets_of h))) (at + (length (octets_of h) + 0)) false false _ (opening_line (at_level level) h (opening_word false))
+  holder_by level offset padded false false h there low far_enough =
+      settled (min (level + 1) 255) (level + 1) (saturating_sum h.offset (length (octets_of h))) (offset + (length (octets_of h) + 0)) false false _ (opening_line (at_level level) h (opening_word false))
       (omega (arith, low)) (omega (arith, there, far_enough)) refl (append-nil (opening_line (at_level level) h (opening_word false)))
 
-  pub holder_shown : (level at : ℕ) (padded : Bool) (h : HeaderValue) → h.offset ≡ at → level + 1 ≤ 255 → at + length (opening h) ≤ 2 ^ 64 - 1
-      → effect_of lines_step (standing level at padded) (opening_events h) ≡ lines_effect (standing (level + 1) (at + length (opening h)) false) (holder_line (at_level level) h)
-  holder_shown level at padded h there low far_enough =
-      holder_by level at padded h.constructed (eqb h.number 3) h there low (omega (arith, far_enough, length-opening h))
-      ∙ settled (level + 1) (level + 1) (at + (length (octets_of h) + length (lead h))) (at + length (opening h)) false false (holder_line (at_level level) h) (holder_line (at_level level) h)
+  pub holder_shown : (level offset : ℕ) (padded : Bool) (h : HeaderValue) → h.offset ≡ offset → level + 1 ≤ 255 → offset + length (opening h) ≤ 2 ^ 64 - 1
+      → effect_of lines_step (standing level offset padded) (opening_events h) ≡ lines_effect (standing (level + 1) (offset + length (opening h)) false) (holder_line (at_level level) h)
+  holder_shown level offset padded h there low far_enough =
+      holder_by level offset padded h.constructed (eqb h.number 3) h there low (omega (arith, far_enough, length-opening h))
+      ∙ settled (level + 1) (level + 1) (offset + (length (octets_of h) + length (lead h))) (offset + length (opening h)) false false (holder_line (at_level level) h) (holder_line (at_level level) h)
       refl (omega (arith, length-opening h)) refl refl
 
   -- ---- and ends
@@ -178,7 +178,7 @@ module _ (style : Layout) (names : NamesTable) where
   no_padding p (OpenHeader octets) e v = refl
   no_padding p OpenEndOctets e v = refl
 
-  pub fill_shown : (level at : ℕ) (padded : Bool) → at + 1 ≤ 2 ^ 64 - 1 → effect_of lines_step (standing level at padded) (Pad (0 ∷ []) ∷ []) ≡ lines_effect (standing level (at + 1) true) (if padded then [] else padding_line (at_level level) at)
-  fill_shown level at padded far_enough =
-      let line = if padded then [] else padding_line (at_level level) at in
-      settled level level (saturating_sum at 1) (at + 1) true true ((line ++ []) ++ []) line refl (far at 1 far_enough) refl (append-nil (line ++ []) ∙ append-nil line)
+  pub fill_shown : (level offset : ℕ) (padded : Bool) → offset + 1 ≤ 2 ^ 64 - 1 → effect_of lines_step (standing level offset padded) (Pad (0 ∷ []) ∷ []) ≡ lines_effect (standing level (offset + 1) true) (if padded then [] else padding_line (at_level level) offset)
+  fill_shown level offset padded far_enough =
+      let line = if padded then [] else padding_line (at_level level) offset in
+      settled level level (saturating_sum offset 1) (offset + 1) true true ((line ++ []) ++ []) line refl (far offset 1 far_enough) refl (append-nil (line ++ []) ∙ append-nil line)

@@ -19,7 +19,8 @@ use Rattle.tlv_show.specs.declared.sibling_frame.SiblingFrame.{SiblingFrame}
 use Rattle.tlv_show.specs.declared.finding_lines.Style.TheVariants.{Check}
 use Rattle.tlv_show.specs.CheckStep.{check_step, findings_effect}
 use Rattle.tlv_show.specs.FindingLines.{styled_lines}
-use Rattle.tlv_show.specs.FinderState.{CheckState, FinderState, finder_begin_step, finder_bytes_step, frame_after, frame_after_segment, surroundings_in}
+use Rattle.tlv_show.specs.FinderState.{CheckState, FinderState, finder_begin_step, finder_bytes_step}
+use Rattle.tlv_show.specs.NestingState.{frame_after, frame_after_segment, surroundings_in}
 use Rattle.tlv_show.specs.Private.FinderState.{PassesOrStays, PassesPrimitive, finder_whole_step, with_state}
 use Rattle.tlv_show.specs.Private.UsualTypes.{IsUsual}
 use Rattle.tlv_show.specs.Found.{is_shown, header_findings}
@@ -45,23 +46,23 @@ outside : (w : SiblingFrame) (size : ℕ) (unused : Bool) → w.has_segments ≡
 outside w size unused e = ap (λ (b : Bool). if b then frame_after_segment w true size unused else w) e
 
 -- after a primitive with which nothing is found, outside of strings
-abbrev after : CheckState → CheckState
-after s = record s { value = None }
+abbrev without_value : CheckState → CheckState
+without_value s = record s { value = None }
 
-pub passed : (s : CheckState) (h : HeaderValue) (c : List ℕ) → announced_length h.size ≡ length c → s.frame.has_segments ≡ false
-    → header_findings s.rules (surroundings_in s.frame) h ≡ [] → findings_on_contents h c ≡ []
-    → finder_whole_step s h c ≡ record { state = after s; level = length s.outer; at = h.offset; found = [] }
+pub passed : (s : CheckState) (h : HeaderValue) (c : List ℕ) → announced_length h.size ≡ length c → s.holders.frame.has_segments ≡ false
+    → header_findings s.rules (surroundings_in s.holders.frame) h ≡ [] → findings_on_contents h c ≡ []
+    → finder_whole_step s h c ≡ record { state = without_value s; level = length s.holders.outer; offset = h.offset; found = [] }
 passed s h c size w header contents =
-    let at : SiblingFrame → ℕ → List Finding → FinderState = λ (f : SiblingFrame) (n : ℕ) (fs : List Finding). record { state = standing s.rules f s.outer (saturating_sum n (length fs)); level = length s.outer; at = h.offset; found = fs } in
-    primitive-find s.rules s.frame s.outer s.count h c (sym size)
-    ∙ ap (λ (fs : List Finding). at (after_primitive s.rules s.frame h c) (saturating_sum s.count (length (header_findings s.rules (surroundings_in s.frame) h))) (filter (is_shown s.rules) fs)) contents
-    ∙ ap (λ (fs : List Finding). at (after_primitive s.rules s.frame h c) (saturating_sum s.count (length fs)) []) header
-    ∙ ap (λ (f : SiblingFrame). at f (saturating_sum s.count 0) []) (outside s.frame _ _ w)
-    ∙ ap (λ (n : ℕ). record { state = standing s.rules s.frame s.outer n; level = length s.outer; at = h.offset; found = [] }) (none-counted (saturating_sum s.count 0) ∙ none-counted s.count)
+    let made : SiblingFrame → ℕ → List Finding → FinderState = λ (f : SiblingFrame) (n : ℕ) (fs : List Finding). record { state = standing s.rules f s.holders.outer (saturating_sum n (length fs)); level = length s.holders.outer; offset = h.offset; found = fs } in
+    primitive-find s.rules s.holders.frame s.holders.outer s.count h c (sym size)
+    ∙ ap (λ (fs : List Finding). made (after_primitive s.rules s.holders.frame h c) (saturating_sum s.count (length (header_findings s.rules (surroundings_in s.holders.frame) h))) (filter (is_shown s.rules) fs)) contents
+    ∙ ap (λ (fs : List Finding). made (after_primitive s.rules s.holders.frame h c) (saturating_sum s.count (length fs)) []) header
+    ∙ ap (λ (f : SiblingFrame). made f (saturating_sum s.count 0) []) (outside s.holders.frame _ _ w)
+    ∙ ap (λ (n : ℕ). record { state = standing s.rules s.holders.frame s.holders.outer n; level = length s.holders.outer; offset = h.offset; found = [] }) (none-counted (saturating_sum s.count 0) ∙ none-counted s.count)
 
-pub passes : (old new : FinderState) (h : HeaderValue) (c : List ℕ) → announced_length h.size ≡ length c → old.state.frame.has_segments ≡ false
-    → header_findings old.state.rules (surroundings_in old.state.frame) h ≡ [] → findings_on_contents h c ≡ []
-    → new ≡ with_state (after old.state) old → PassesPrimitive old new h c
+pub passes : (old new : FinderState) (h : HeaderValue) (c : List ℕ) → announced_length h.size ≡ length c → old.state.holders.frame.has_segments ≡ false
+    → header_findings old.state.rules (surroundings_in old.state.holders.frame) h ≡ [] → findings_on_contents h c ≡ []
+    → new ≡ with_state (without_value old.state) old → PassesPrimitive old new h c
 passes old new h c size w header contents e =
     let all = passed old.state h c size w header contents in
     record {
@@ -73,7 +74,7 @@ passes old new h c size w header contents e =
 -- ---- a check
 
 lists-none : (f : FinderState) → f.found ≡ [] → findings_effect f ≡ no_effect f.state
-lists-none f e = ap (λ (l : List Finding). record { state = f.state; put = styled_lines Check f.level f.at l; goes = go.On }) e
+lists-none f e = ap (λ (l : List Finding). record { state = f.state; put = styled_lines Check f.level f.offset l; goes = go.On }) e
 
 whole-checked : (s : CheckState) (h : HeaderValue) (o : List ℕ) → (finder_begin_step s h).found ≡ [] → (finder_whole_step s h (contents_in h o)).found ≡ []
     → effect_of check_step s (whole_events h o) ≡ no_effect (finder_whole_step s h (contents_in h o)).state

@@ -37,7 +37,7 @@ whole_is s h c size begins ends =
     let style = Dump s.lines.layout.pure in
     primitive-by s.lines s.finder h c
     ∙ ap (λ (d : Effect LinesState). is_shown (pair d.state f.state) (texts s.lines.layout b ++ (d.put ++ texts s.lines.layout f))) (primitives_shown s.lines h c size)
-    ∙ ap₂ (λ (k l : List Finding). is_shown (after_whole s h c) (styled_lines style b.level b.at k ++ (lines_of s h c ++ styled_lines style f.level f.at l))) begins ends
+    ∙ ap₂ (λ (k l : List Finding). is_shown (after_whole s h c) (styled_lines style b.level b.offset k ++ (lines_of s h c ++ styled_lines style f.level f.offset l))) begins ends
     ∙ ap (is_shown (after_whole s h c)) (append-nil (lines_of s h c))
 
 -- the events of its octets

@@ -35,30 +35,30 @@ module _ (rules : Rules) where
   basic l = filter is_basic l
 
   -- findings, and then other items
-  basic-found : (level at : ℕ) (fs : List Finding) (rest : List Item) → basic (findings_at level at (filter (is_shown rules) fs) ++ rest) ≡ findings_at level at (filter (is_shown Ber) fs) ++ basic rest
-  basic-found level at [] rest = refl
-  basic-found level at (x ∷ fs) rest = by-tests (is_shown Ber x) (is_shown rules x) refl refl (still-shown rules x) (basic-found level at fs rest)
+  basic-found : (level offset : ℕ) (fs : List Finding) (rest : List Item) → basic (findings_at level offset (filter (is_shown rules) fs) ++ rest) ≡ findings_at level offset (filter (is_shown Ber) fs) ++ basic rest
+  basic-found level offset [] rest = refl
+  basic-found level offset (x ∷ fs) rest = by-tests (is_shown Ber x) (is_shown rules x) refl refl (still-shown rules x) (basic-found level offset fs rest)
     where
       by-tests : (b r : Bool) → is_shown Ber x ≡ b → is_shown rules x ≡ r → (is_shown Ber x ≡ true → is_shown rules x ≡ true)
-          → basic (findings_at level at (filter (is_shown rules) fs) ++ rest) ≡ findings_at level at (filter (is_shown Ber) fs) ++ basic rest
-          → basic (findings_at level at (filter (is_shown rules) (x ∷ fs)) ++ rest) ≡ findings_at level at (filter (is_shown Ber) (x ∷ fs)) ++ basic rest
-      by-tests true true e f g h = rw (f, e) (ap (λ (l : List Item). FindingAt level at x ∷ l) h)
+          → basic (findings_at level offset (filter (is_shown rules) fs) ++ rest) ≡ findings_at level offset (filter (is_shown Ber) fs) ++ basic rest
+          → basic (findings_at level offset (filter (is_shown rules) (x ∷ fs)) ++ rest) ≡ findings_at level offset (filter (is_shown Ber) (x ∷ fs)) ++ basic rest
+      by-tests true true e f g h = rw (f, e) (ap (λ (l : List Item). FindingAt level offset x ∷ l) h)
       by-tests true false e f g h = absurd (cc (e, f, g e))
       by-tests false true e f g h = rw (f, e) h
       by-tests false false e f g h = rw (f, e) h
 
-  same-found : (level at : ℕ) (fs : List Finding) (xs ys : List Item) → only xs ≡ basic ys
-      → only (findings_at level at (filter (is_shown Ber) fs) ++ xs) ≡ basic (findings_at level at (filter (is_shown rules) fs) ++ ys)
-  same-found level at fs xs ys e =
-      only-findings_at level at (filter (is_shown Ber) fs) xs ∙ ap (λ (l : List Item). findings_at level at (filter (is_shown Ber) fs) ++ l) e ∙ sym (basic-found level at fs ys)
+  same-found : (level offset : ℕ) (fs : List Finding) (xs ys : List Item) → only xs ≡ basic ys
+      → only (findings_at level offset (filter (is_shown Ber) fs) ++ xs) ≡ basic (findings_at level offset (filter (is_shown rules) fs) ++ ys)
+  same-found level offset fs xs ys e =
+      only-findings_at level offset (filter (is_shown Ber) fs) xs ∙ ap (λ (l : List Item). findings_at level offset (filter (is_shown Ber) fs) ++ l) e ∙ sym (basic-found level offset fs ys)
 
-  same-pads : (k : Bool) (level at : ℕ) (xs ys : List Item) → only xs ≡ basic ys → only ((if k then [] else PaddingLine level at ∷ []) ++ xs) ≡ basic ((if k then [] else PaddingLine level at ∷ []) ++ ys)
-  same-pads true level at xs ys e = e
-  same-pads false level at xs ys e = e
+  same-pads : (k : Bool) (level offset : ℕ) (xs ys : List Item) → only xs ≡ basic ys → only ((if k then [] else PaddingLine level offset ∷ []) ++ xs) ≡ basic ((if k then [] else PaddingLine level offset ∷ []) ++ ys)
+  same-pads true level offset xs ys e = e
+  same-pads false level offset xs ys e = e
 
   same : (s : Site) (f : Forest) → only (items Ber s f) ≡ basic (items rules s f)
   same s NoMore = refl
-  same s (PaddingOctet rest) = same-pads (is_padding s.before) s.level s.at _ _ (same (site_after_padding s) rest)
+  same s (PaddingOctet rest) = same-pads (is_padding s.before) s.level s.offset _ _ (same (site_after_padding s) rest)
   same s (Primitive h c rest) =
       same-found s.level h.offset (findings_by (header_conditions (surroundings_of s) h)) (PrimitiveLines s.level h c ∷ (findings_at s.level h.offset (contents_findings Ber h c) ++ items Ber (site_after s h c) rest))
       (PrimitiveLines s.level h c ∷ (findings_at s.level h.offset (contents_findings rules h c) ++ items rules (site_after s h c) rest))

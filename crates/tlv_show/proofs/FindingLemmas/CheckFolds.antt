@@ -1,5 +1,5 @@
 -- What a check makes of the events of elements is their findings' lines, and their number.
-use Rattle.std.proofs.Common.{◌≡◌, ℕ, ◌+◌, ◌-◌, ◌*◌, ◌^◌, ◌≤◌, ◌==◌, Bool, true, false, nat_lt, if◌then◌else◌, List, [], ◌∷◌, ◌++◌, length, refl, sym, ap, ◌∙◌, arith, length-append}
+use Rattle.std.proofs.Common.{◌≡◌, ℕ, ◌+◌, ◌-◌, ◌*◌, ◌^◌, ◌≤◌, ◌==◌, Bool, true, false, if◌then◌else◌, List, [], ◌∷◌, ◌++◌, length, refl, sym, ap, ◌∙◌, arith, length-append}
 use Rattle.std.proofs.lemmas.Grind.{flat_map-append}
 use Rattle.std.proofs.lemmas.List.{length-map}
 use Rattle.std.proofs.lemmas.List.Elements.{filter-append}
@@ -25,7 +25,8 @@ use Rattle.tlv_show.specs.CheckJob.{check_job}
 use Rattle.tlv_show.specs.CheckStep.{check_step}
 use Rattle.tlv_show.specs.FindingLines.{styled_lines}
 use Rattle.tlv_show.specs.Conditions.{end_conditions, header_conditions, segments_of, surroundings_of}
-use Rattle.tlv_show.specs.FinderState.{CheckState, FinderState, OpenPrimitiveState, finder_frame_end_step, finder_open_step, finder_value_end_step, frame_under, new_finder, open_value_after, top_frame, surroundings_in}
+use Rattle.tlv_show.specs.FinderState.{CheckState, FinderState, OpenPrimitiveState, finder_frame_end_step, finder_value_end_step, new_finder, open_value_after}
+use Rattle.tlv_show.specs.NestingState.{top_frame}
 use Rattle.tlv_show.specs.Private.FinderState.{finder_step}
 use Rattle.tlv_show.specs.Found.{contents_findings, header_findings, is_shown, end_findings}
 use Rattle.tlv_show.specs.Items.{Item, FindingAt, OpeningLine, ClosingLine, PrimitiveLines, OpenPrimitiveLines, PaddingLine, headers, items}
@@ -40,9 +41,9 @@ use Rattle.tlv_show.specs.SaturatingSum.{saturating_sum}
 
 -- ---- lines
 
-written-items : (level at : ℕ) (fs : List Finding) → flat_map check_line (findings_at level at fs) ≡ styled_lines Check level at fs
-written-items level at [] = refl
-written-items level at (f ∷ fs) = ap (λ (l : List ℕ). check_line (FindingAt level at f) ++ l) (written-items level at fs)
+written-items : (level offset : ℕ) (fs : List Finding) → flat_map check_line (findings_at level offset fs) ≡ styled_lines Check level offset fs
+written-items level offset [] = refl
+written-items level offset (f ∷ fs) = ap (λ (l : List ℕ). check_line (FindingAt level offset f) ++ l) (written-items level offset fs)
 
 -- what a check makes of events: what the finder reports of them, listed
 abbrev pub listed_run : Step → Effect CheckState
@@ -53,14 +54,14 @@ followed-run s [] = refl
 followed-run s (e ∷ es) =
     let f : FinderState = finder_step s e in
     ap (λ (t : Effect CheckState). if_on t.goes t (λ u. effect_of check_step u es)) (step-is s e)
-    ∙ ap (λ (t : Effect CheckState). record t { put = styled_lines Check f.level f.at f.found ++ t.put }) (followed-run f.state es)
+    ∙ ap (λ (t : Effect CheckState). record t { put = styled_lines Check f.level f.offset f.found ++ t.put }) (followed-run f.state es)
     ∙ ap (λ (l : List ℕ). record { state = (run f.state es).state; put = l; goes = go.On })
-    (ap (λ (l : List ℕ). l ++ flat_map check_line (run f.state es).put) (sym (written-items f.level f.at f.found))
+    (ap (λ (l : List ℕ). l ++ flat_map check_line (run f.state es).put) (sym (written-items f.level f.offset f.found))
     ∙ sym (flat_map-append check_line (found_items f) (run f.state es).put))
 
 pub only-written : (l : List Item) → flat_map check_line (only l) ≡ flat_map check_line l
 only-written [] = refl
-only-written (FindingAt level at finding ∷ l) = ap (λ (t : List ℕ). check_line (FindingAt level at finding) ++ t) (only-written l)
+only-written (FindingAt level offset finding ∷ l) = ap (λ (t : List ℕ). check_line (FindingAt level offset finding) ++ t) (only-written l)
 only-written (OpeningLine level h ∷ l) = only-written l
 only-written (ClosingLine level offset ∷ l) = only-written l
 only-written (PrimitiveLines level h c ∷ l) = only-written l
@@ -87,20 +88,16 @@ by-frames : (s : CheckState) (outer : List SiblingFrame) → (finder_frame_end_s
 by-frames s [] = count-none s.count
 by-frames s (w ∷ outer) = refl
 
-opened-count : (s : CheckState) (h : HeaderValue) → (finder_open_step s h).state.count ≡ saturating_sum s.count (length (finder_open_step s h).found)
-opened-count s h =
-    ap (λ (n : ℕ). saturating_sum n (length (header_findings s.rules (surroundings_in s.frame) h))) (either-count s (record s { frame = frame_under s.frame h; outer = s.frame ∷ s.outer }) (nat_lt (length s.outer) 128) refl)
-
 -- an event's findings are counted
 counted-one : (s : CheckState) (e : EventValue) → (finder_step s e).state.count ≡ saturating_sum s.count (length (finder_step s e).found)
-counted-one s (Open h) = opened-count s h
+counted-one s (Open h) = refl
 counted-one s (Begin h) = refl
 counted-one s (Bytes octets) = either-count (record s { value = open_value_after s.value octets }) s (length octets == 0) refl ∙ count-none s.count
 counted-one s End = by-value s s.value
-counted-one s (Close at) = by-frames s s.outer
-counted-one s (Enter h) = opened-count s h
+counted-one s (Close offset) = by-frames s s.holders.outer
+counted-one s (Enter h) = refl
 counted-one s Unused = count-none s.count
-counted-one s Leave = by-frames s s.outer
+counted-one s Leave = by-frames s s.holders.outer
 counted-one s (Pad octets) = count-none s.count
 
 pub counted-all : (s : CheckState) (es : List EventValue) → (run s es).state.count ≡ saturating_sum s.count (length (run s es).put)
@@ -110,7 +107,7 @@ counted-all s (e ∷ es) =
     counted-all f.state es
     ∙ ap (λ (n : ℕ). saturating_sum n (length (run f.state es).put)) (counted-one s e)
     ∙ count-more s.count (length f.found) (length (run f.state es).put)
-    ∙ ap (saturating_sum s.count) (omega (arith, length-append (found_items f) (run f.state es).put, length-map f.found (FindingAt f.level f.at)))
+    ∙ ap (saturating_sum s.count) (omega (arith, length-append (found_items f) (run f.state es).put, length-map f.found (FindingAt f.level f.offset)))
 
 -- ---- no count stops
 
@@ -128,16 +125,16 @@ held-few rules (row ∷ rows) = let e = one-few row.0 (held-few rules rows) in o
     one-few false e = omega (arith, e)
 
 module _ (rules : Rules) where
-  few-at : (level at : ℕ) (fs : List Finding) (rest : List Item) (n m : ℕ) → length fs ≤ n → length (only rest) ≤ m → length (only (findings_at level at fs ++ rest)) ≤ n + m
-  few-at level at [] rest n m e f = omega (arith, e, f)
-  few-at level at (x ∷ fs) rest n m e f = let g = few-after (few-at level at fs rest (n - 1) m (omega (arith, e)) f) in omega (arith, g)
+  few-at : (level offset : ℕ) (fs : List Finding) (rest : List Item) (n m : ℕ) → length fs ≤ n → length (only rest) ≤ m → length (only (findings_at level offset fs ++ rest)) ≤ n + m
+  few-at level offset [] rest n m e f = omega (arith, e, f)
+  few-at level offset (x ∷ fs) rest n m e f = let g = few-after (few-at level offset fs rest (n - 1) m (omega (arith, e)) f) in omega (arith, g)
     where
-      few-after : length (only (findings_at level at fs ++ rest)) ≤ n - 1 + m → length (only (findings_at level at fs ++ rest)) + 1 ≤ n + m
+      few-after : length (only (findings_at level offset fs ++ rest)) ≤ n - 1 + m → length (only (findings_at level offset fs ++ rest)) + 1 ≤ n + m
       few-after g = omega (arith, g, e)
 
-  few-pads : (k : Bool) (level at : ℕ) (l : List Item) → length (only ((if k then [] else PaddingLine level at ∷ []) ++ l)) ≡ length (only l)
-  few-pads true level at l = refl
-  few-pads false level at l = refl
+  few-pads : (k : Bool) (level offset : ℕ) (l : List Item) → length (only ((if k then [] else PaddingLine level offset ∷ []) ++ l)) ≡ length (only l)
+  few-pads true level offset l = refl
+  few-pads false level offset l = refl
 
   few-header : (s : Site) (h : HeaderValue) → length (header_findings rules (surroundings_of s) h) ≤ 14
   few-header s h = held-few rules (header_conditions (surroundings_of s) h)
@@ -152,7 +149,7 @@ module _ (rules : Rules) where
   pub few : (p : Place) (s : Site) (f : Forest) → IsOpen p f → length (only (items rules s f)) ≤ 16 * length (spelling f)
   few p s NoMore v = omega arith
   few p s (PaddingOctet rest) v =
-      omega (arith, few-pads (is_padding s.before) s.level s.at (items rules (site_after_padding s) rest), few (place_after p 1) (site_after_padding s) rest v.1)
+      omega (arith, few-pads (is_padding s.before) s.level s.offset (items rules (site_after_padding s) rest), few (place_after p 1) (site_after_padding s) rest v.1)
   few p s (Primitive h c rest) v =
       let r = few (place_after p (length (octets_of h) + length c)) (site_after s h c) rest v.1 in
       let inner : List Item = findings_at s.level h.offset (contents_findings rules h c) ++ items rules (site_after s h c) rest in

@@ -43,7 +43,7 @@ step-is s (Open h) = refl
 step-is s (Begin h) = refl
 step-is s (Bytes octets) = each-found s octets
 step-is s End = refl
-step-is s (Close at) = refl
+step-is s (Close offset) = refl
 step-is s (Enter h) = refl
 step-is s Unused = refl
 step-is s Leave = refl
@@ -52,7 +52,7 @@ step-is s (Pad octets) = refl
 -- what was reported, if anything was, is all that there is
 pub last-same : (style : Style) (f v : FinderState) (has_findings : Bool) → ReportsFindings f v has_findings → last_finding_lines style (with_findings_if has_findings v) ≡ last_finding_lines style f
 last-same style f v true e = ap (last_finding_lines style) e
-last-same style f v false e = sym (ap (styled_lines style f.level f.at) e.1)
+last-same style f v false e = sym (ap (styled_lines style f.level f.offset) e.1)
 
 pub last-state : (f v : FinderState) (has_findings : Bool) → ReportsFindings f v has_findings → v.state ≡ f.state
 last-state f v true e = ap (λ (u : FinderState). u.state) e

@@ -10,7 +10,7 @@ use Rattle.tlv_show.specs.Items.{Item, headers, FindingAt}
 use Rattle.tlv_show.specs.Conditions.{surroundings_of, segments_of}
 
 abbrev pub findings_at : ℕ → ℕ → List Finding → List Item
-findings_at level at findings = map (FindingAt level at) findings
+findings_at level offset findings = map (FindingAt level offset) findings
 
 module _ (rules : Rules) where
   abbrev pub on_header : Site → HeaderValue → List Item

@@ -13,7 +13,7 @@ use Rattle.tlv_walk.specs.Place.{IsOpen, Place, place_after}
 use Rattle.tlv_show.specs.declared.sibling_frame.SiblingFrame.{SiblingFrame}
 use Rattle.tlv_show.specs.declared.rules.Rules.{Rules}
 use Rattle.tlv_show.specs.Conditions.{ends_empty, segments_of}
-use Rattle.tlv_show.specs.FinderState.{frame_after, frame_after_segment, frame_of, frame_under, top_frame, segments_in}
+use Rattle.tlv_show.specs.NestingState.{frame_after, frame_after_segment, frame_of, frame_under, top_frame, segments_in}
 use Rattle.tlv_show.specs.Items.{headers}
 use Rattle.tlv_show.proofs.FindingLemmas.HeaderFindings.{end-by, ends_by}
 use Rattle.tlv_show.specs.Found.{end_findings}
@@ -75,7 +75,7 @@ all-outside w OpenEndOctets e = refl
 
 -- what a frame says of the holder
 pub record Stays (w t : SiblingFrame) : Type 0 where
-  pub at : t.at ≡ w.at
+  pub offset : t.offset ≡ w.offset
   pub size : t.size ≡ w.size
   pub primitive : t.is_primitive ≡ w.is_primitive
 
@@ -83,22 +83,22 @@ stays-noted : (w : SiblingFrame) (primitive : Bool) (size : ℕ) (unused : Bool)
 stays-noted w primitive size unused = by w.has_segments
   where
     by : (k : Bool) → Stays w (if k then frame_after_segment w primitive size unused else w)
-    by true = record { at = refl; size = refl; primitive = refl }
-    by false = record { at = refl; size = refl; primitive = refl }
+    by true = record { offset = refl; size = refl; primitive = refl }
+    by false = record { offset = refl; size = refl; primitive = refl }
 
 stays-then : {u w t : SiblingFrame} → Stays u w → Stays w t → Stays u t
-stays-then a b = record { at = b.at ∙ a.at; size = b.size ∙ a.size; primitive = b.primitive ∙ a.primitive }
+stays-then a b = record { offset = b.offset ∙ a.offset; size = b.size ∙ a.size; primitive = b.primitive ∙ a.primitive }
 
 stays : (w : SiblingFrame) (f : Forest) → Stays w (noted_all w f)
-stays w NoMore = record { at = refl; size = refl; primitive = refl }
+stays w NoMore = record { offset = refl; size = refl; primitive = refl }
 stays w (PaddingOctet rest) = stays w rest
 stays w (Primitive h c rest) = stays-then (stays-noted w true (announced_length h.size) (has_unused_bits (value_check_after (new_value_check h) c))) (stays (frame_after w true (announced_length h.size) (has_unused_bits (value_check_after (new_value_check h) c))) rest)
 stays w (Holder h inside rest) = stays-then (stays-noted w (is_primitive h) (announced_length h.size) false) (stays (frame_after w (is_primitive h) (announced_length h.size) false) rest)
-stays w (OpenPrimitive h c) = record { at = refl; size = refl; primitive = refl }
-stays w (OpenHolder h inside) = record { at = refl; size = refl; primitive = refl }
-stays w (OpenBitString h) = record { at = refl; size = refl; primitive = refl }
-stays w (OpenHeader octets) = record { at = refl; size = refl; primitive = refl }
-stays w OpenEndOctets = record { at = refl; size = refl; primitive = refl }
+stays w (OpenPrimitive h c) = record { offset = refl; size = refl; primitive = refl }
+stays w (OpenHolder h inside) = record { offset = refl; size = refl; primitive = refl }
+stays w (OpenBitString h) = record { offset = refl; size = refl; primitive = refl }
+stays w (OpenHeader octets) = record { offset = refl; size = refl; primitive = refl }
+stays w OpenEndOctets = record { offset = refl; size = refl; primitive = refl }
 
 -- a primitive that holds nothing is not constructed
 pub not-constructed : (k wraps : Bool) → (k || wraps) ≡ false → k ≡ false
@@ -116,7 +116,7 @@ record SumsUp (w : SiblingFrame) (n : ℕ) (f : Forest) : Type 0 where
   pub bits : (segments_noted w f).has_bits ≡ w.has_bits
   pub all : (segments_noted w f).all_primitive ≡ (w.all_primitive && list_all is_primitive (headers f))
   pub octets : (segments_noted w f).octets ≡ min (added (bit_of w.has_bits) n (headers f)) 1001
-  pub empty : (segments_noted w f).is_empty ≡ ends_empty w.is_empty (headers f)
+  pub empty : (segments_noted w f).ends_empty ≡ ends_empty w.ends_empty (headers f)
 
 and-true : (a : Bool) → a ≡ (a && true)
 and-true true = refl
@@ -167,7 +167,7 @@ segments-summed rules p h inside v e =
     let b : Bool = is_a bit_string h in
     let all : Bool = list_all is_primitive (headers inside) in
     let few : Bool → ℕ → Bool = λ bits octets. nat_le ((if bits then 1 else 0) + octets) 1000 in
-    ap₂ (λ (x y : Bool). ends_by rules x w.all_primitive (few y w.octets) w.is_empty) r.segments r.bits
+    ap₂ (λ (x y : Bool). ends_by rules x w.all_primitive (few y w.octets) w.ends_empty) r.segments r.bits
     ∙ ap₂ (λ (x y : Bool). ends_by rules k x (few (k && b) w.octets) y) r.all r.empty
     ∙ ap (λ (n : ℕ). ends_by rules k all (few (k && b) n) (ends_empty false (headers inside))) r.octets
     ∙ end-by rules k b all (ends_empty false (headers inside)) (λ (n : ℕ). added n 0 (headers inside))
@@ -175,7 +175,7 @@ segments-summed rules p h inside v e =
 -- outside of strings nothing is found with an end
 no-ends : (rules : Rules) (w : SiblingFrame) → w.has_segments ≡ false → end_findings rules (segments_in w) ≡ []
 no-ends rules w e =
-    ap (λ (k : Bool). ends_by rules k w.all_primitive (nat_le ((if w.has_bits then 1 else 0) + w.octets) 1000) w.is_empty) e
+    ap (λ (k : Bool). ends_by rules k w.all_primitive (nat_le ((if w.has_bits then 1 else 0) + w.octets) 1000) w.ends_empty) e
 
 -- what is found with an end, by the frame of what was held
 summed : (rules : Rules) (p : Place) (h : HeaderValue) (inside : Forest) → IsOpen p inside → is_complete inside ≡ true → end_findings rules (segments_in (noted_all (frame_of h) inside)) ≡ end_findings rules (segments_of h (headers inside))
@@ -204,20 +204,20 @@ module _ (rules : Rules) (p : Place) (w : SiblingFrame) (h : HeaderValue) (insid
       by false false e = ap (λ (t : SiblingFrame). end_findings rules (segments_in t)) (all-outside top_frame inside refl) ∙ no-ends rules top_frame refl ∙ sym (nothing-ends e)
 
   -- where it begins does not matter if nothing is found
-  pub at-under : {T : Type 0} (put : ℕ → List Finding → List T) → ((at : ℕ) → put at [] ≡ [])
-      → put (noted_all (frame_under w h) inside).at (end_findings rules (segments_of h (headers inside))) ≡ put h.offset (end_findings rules (segments_of h (headers inside)))
-  at-under put none = by w.has_segments (has_segments h) refl
+  pub offset-under : {T : Type 0} (put : ℕ → List Finding → List T) → ((offset : ℕ) → put offset [] ≡ [])
+      → put (noted_all (frame_under w h) inside).offset (end_findings rules (segments_of h (headers inside))) ≡ put h.offset (end_findings rules (segments_of h (headers inside)))
+  offset-under put none = by w.has_segments (has_segments h) refl
     where
-      kept : put (noted_all (frame_of h) inside).at (end_findings rules (segments_of h (headers inside))) ≡ put h.offset (end_findings rules (segments_of h (headers inside)))
-      kept = ap (λ (at : ℕ). put at (end_findings rules (segments_of h (headers inside)))) (stays (frame_of h) inside).at
+      kept : put (noted_all (frame_of h) inside).offset (end_findings rules (segments_of h (headers inside))) ≡ put h.offset (end_findings rules (segments_of h (headers inside)))
+      kept = ap (λ (offset : ℕ). put offset (end_findings rules (segments_of h (headers inside)))) (stays (frame_of h) inside).offset
 
       by : (outside inside_it : Bool) → has_segments h ≡ inside_it
-          → put (noted_all (if outside || inside_it then frame_of h else top_frame) inside).at (end_findings rules (segments_of h (headers inside))) ≡ put h.offset (end_findings rules (segments_of h (headers inside)))
+          → put (noted_all (if outside || inside_it then frame_of h else top_frame) inside).offset (end_findings rules (segments_of h (headers inside))) ≡ put h.offset (end_findings rules (segments_of h (headers inside)))
       by true inside_it e = kept
       by false true e = kept
       by false false e =
-          let at : ℕ = (noted_all top_frame inside).at in
-          ap (put at) (nothing-ends e) ∙ none at ∙ sym (ap (put h.offset) (nothing-ends e) ∙ none h.offset)
+          let offset : ℕ = (noted_all top_frame inside).offset in
+          ap (put offset) (nothing-ends e) ∙ none offset ∙ sym (ap (put h.offset) (nothing-ends e) ∙ none h.offset)
 
 -- the holder of an element asks for its form and size only if it is a string
 pub noted-under : (w : SiblingFrame) (h : HeaderValue) (inside : Forest) → frame_after w (noted_all (frame_under w h) inside).is_primitive (noted_all (frame_under w h) inside).size false ≡ frame_after w (is_primitive h) (announced_length h.size) false

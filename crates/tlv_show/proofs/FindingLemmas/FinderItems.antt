@@ -15,7 +15,8 @@ use Rattle.tlv_walk.specs.Forest.{Forest, NoMore, PaddingOctet, Primitive, Holde
 use Rattle.tlv_walk.specs.Place.{IsOpen, Place, place_after, place_of_children}
 use Rattle.tlv_show.specs.declared.sibling_frame.SiblingFrame.{SiblingFrame}
 use Rattle.tlv_show.specs.declared.rules.Rules.{Rules}
-use Rattle.tlv_show.specs.FinderState.{CheckState, FinderState, contents_findings_in, finder_begin_step, finder_bytes_step, finder_close_step, finder_end_step, finder_open_step, frame_after, frame_under, surroundings_in}
+use Rattle.tlv_show.specs.FinderState.{CheckState, FinderState, contents_findings_in, finder_begin_step, finder_bytes_step, finder_close_step, finder_end_step, finder_open_step}
+use Rattle.tlv_show.specs.NestingState.{frame_after, frame_under, nesting_primitive_step, surroundings_in}
 use Rattle.tlv_show.specs.Private.FinderState.{finder_step}
 use Rattle.tlv_show.specs.Found.{contents_findings, header_findings, is_shown, end_findings}
 use Rattle.tlv_show.specs.Items.{Item, FindingAt, OpeningLine, ClosingLine, PrimitiveLines, OpenPrimitiveLines, PaddingLine, headers, items}
@@ -25,7 +26,7 @@ use Rattle.tlv_show.proofs.FindingLemmas.SitesAfter.{site_after, site_after_hold
 use Rattle.tlv_show.proofs.FindingLemmas.SiteWords.{first_octet}
 use Rattle.tlv_show.specs.Texts.{is_finding}
 use Rattle.tlv_show.proofs.FindingLemmas.CheckLaws.{one-or-more}
-use Rattle.tlv_show.proofs.FindingLemmas.FinderFolds.{at-under, not-constructed, noted-under, noted_all, summed-under}
+use Rattle.tlv_show.proofs.FindingLemmas.FinderFolds.{offset-under, not-constructed, noted-under, noted_all, summed-under}
 use Rattle.tlv_show.proofs.FindingLemmas.FramesAround.{knows-after, knows-inside, knows-padding, unused-of}
 use Rattle.tlv_show.proofs.FindingLemmas.HeaderFindings.{Knows, header-same}
 use Rattle.tlv_show.specs.Conditions.{surroundings_of, segments_of}
@@ -37,7 +38,7 @@ pub record Step : Type 0 where
   pub put : List Item
 
 abbrev pub found_items : FinderState → List Item
-found_items f = findings_at f.level f.at f.found
+found_items f = findings_at f.level f.offset f.found
 
 abbrev pub then_found : List Item → Step → Step
 then_found put u = record { state = u.state; put = put ++ u.put }
@@ -61,11 +62,11 @@ take-all n c h = grind (arith, common_steps)
 
 -- all contents octets of a primitive
 abbrev with_check : CheckState → ℕ → ValueCheckState → CheckState
-with_check s at t = record s { value = Some (record { at = at; check = t }) }
+with_check s offset t = record s { value = Some (record { offset = offset; check = t }) }
 
-took : (s : CheckState) (at : ℕ) (h : HeaderValue) (c : List ℕ) → length c ≤ announced_length h.size → finder_bytes_step (with_check s at (new_value_check h)) c ≡ with_check s at (value_check_after (new_value_check h) c)
-took s at h [] e = ap (with_check s at) (sym (checked-none h))
-took s at h (x ∷ c) e = rw (one-or-more x c) (ap (λ (l : List ℕ). with_check s at (value_check_after (new_value_check h) l)) (take-all (announced_length h.size) (x ∷ c) e))
+took : (s : CheckState) (offset : ℕ) (h : HeaderValue) (c : List ℕ) → length c ≤ announced_length h.size → finder_bytes_step (with_check s offset (new_value_check h)) c ≡ with_check s offset (value_check_after (new_value_check h) c)
+took s offset h [] e = ap (with_check s offset) (sym (checked-none h))
+took s offset h (x ∷ c) e = rw (one-or-more x c) (ap (λ (l : List ℕ). with_check s offset (value_check_after (new_value_check h) l)) (take-all (announced_length h.size) (x ∷ c) e))
 
 -- what is found at their end
 ended : (rules : Rules) (h : HeaderValue) (c : List ℕ) → length c ≡ announced_length h.size → contents_findings_in rules (value_check_after (new_value_check h) c) ≡ contents_findings rules h c
@@ -78,31 +79,31 @@ ended rules h c e =
 abbrev pub only : List Item → List Item
 only l = filter is_finding l
 
-pub only-findings_at : (level at : ℕ) (fs : List Finding) (rest : List Item) → only (findings_at level at fs ++ rest) ≡ findings_at level at fs ++ only rest
-only-findings_at level at [] rest = refl
-only-findings_at level at (f ∷ fs) rest = ap (λ (l : List Item). FindingAt level at f ∷ l) (only-findings_at level at fs rest)
+pub only-findings_at : (level offset : ℕ) (fs : List Finding) (rest : List Item) → only (findings_at level offset fs ++ rest) ≡ findings_at level offset fs ++ only rest
+only-findings_at level offset [] rest = refl
+only-findings_at level offset (f ∷ fs) rest = ap (λ (l : List Item). FindingAt level offset f ∷ l) (only-findings_at level offset fs rest)
 
-only-pads : (k : Bool) (level at : ℕ) (l : List Item) → only ((if k then [] else PaddingLine level at ∷ []) ++ l) ≡ only l
-only-pads true level at l = refl
-only-pads false level at l = refl
+only-pads : (k : Bool) (level offset : ℕ) (l : List Item) → only ((if k then [] else PaddingLine level offset ∷ []) ++ l) ≡ only l
+only-pads true level offset l = refl
+only-pads false level offset l = refl
 
 -- what a finder makes of a primitive
 pub primitive-found : (s : CheckState) (h : HeaderValue) (c : List ℕ) → length c ≡ announced_length h.size
-    → (u : CheckState) × (u.value ≡ None) × (finder_end_step (finder_bytes_step (finder_begin_step s h).state c) ≡ record { state = u; level = length s.outer; at = h.offset; found = contents_findings s.rules h c })
+    → (u : CheckState) × (u.value ≡ None) × (finder_end_step (finder_bytes_step (finder_begin_step s h).state c) ≡ record { state = u; level = length s.holders.outer; offset = h.offset; found = contents_findings s.rules h c })
 primitive-found s h c e =
-    let n = saturating_sum s.count (length (header_findings s.rules (surroundings_in s.frame) h)) in
+    let n = saturating_sum s.count (length (header_findings s.rules (surroundings_in s.holders.frame) h)) in
     let t : ValueCheckState = value_check_after (new_value_check h) c in
-    let site_after : List Finding → CheckState = λ fs. record { rules = s.rules; frame = frame_after s.frame true (announced_length h.size) (has_unused_bits t); outer = s.outer; value = None; count = saturating_sum n (length fs) } in (
+    let site_after : List Finding → CheckState = λ fs. record { rules = s.rules; holders = nesting_primitive_step s.holders (announced_length h.size) (has_unused_bits t); value = None; count = saturating_sum n (length fs) } in (
       site_after (contents_findings s.rules h c),
       refl,
       ap finder_end_step (took (record s { count = n }) h.offset h c (omega (arith, e)))
-          ∙ ap (λ (fs : List Finding). record { state = site_after fs; level = length s.outer; at = h.offset; found = fs }) (ended s.rules h c e),
+          ∙ ap (λ (fs : List Finding). record { state = site_after fs; level = length s.holders.outer; offset = h.offset; found = fs }) (ended s.rules h c e),
     )
 
 module _ (rules : Rules) where
   -- between two elements
   abbrev pub standing : SiblingFrame → List SiblingFrame → ℕ → CheckState
-  standing w outer n = record { rules = rules; frame = w; outer = outer; value = None; count = n }
+  standing w outer n = record { rules = rules; holders = record { frame = w; outer = outer }; value = None; count = n }
 
   abbrev pub later_header : SiblingFrame → HeaderValue → ℕ → ℕ
   later_header w h n = saturating_sum n (length (header_findings rules (surroundings_in w) h))
@@ -111,7 +112,7 @@ module _ (rules : Rules) where
 
   pub opened-find : (w : SiblingFrame) (outer : List SiblingFrame) (n : ℕ) (h : HeaderValue) → length outer < 128
       → finder_open_step (standing w outer n) h
-      ≡ record { state = standing (frame_under w h) (w ∷ outer) (later_header w h n); level = length outer; at = h.offset; found = header_findings rules (surroundings_in w) h }
+      ≡ record { state = standing (frame_under w h) (w ∷ outer) (later_header w h n); level = length outer; offset = h.offset; found = header_findings rules (surroundings_in w) h }
   opened-find w outer n h few =
       let yes : nat_lt (length outer) 128 ≡ true = grind (arith, nat_tests) in
       rw yes refl
@@ -130,9 +131,9 @@ module _ (rules : Rules) where
 
   -- ---- and ends
 
-  closed-by : (s : CheckState) (at : Option ℕ) (k : Bool) (es : List EventValue) → run s ((if k then Close at else Leave) ∷ es) ≡ then_found (found_items (finder_close_step s)) (run (finder_close_step s).state es)
-  closed-by s at true es = refl
-  closed-by s at false es = refl
+  closed-by : (s : CheckState) (offset : Option ℕ) (k : Bool) (es : List EventValue) → run s ((if k then Close offset else Leave) ∷ es) ≡ then_found (found_items (finder_close_step s)) (run (finder_close_step s).state es)
+  closed-by s offset true es = refl
+  closed-by s offset false es = refl
 
   abbrev pub after_end : HeaderValue → Forest → ℕ → ℕ
   after_end h inside n = saturating_sum n (length (end_findings rules (segments_of h (headers inside))))
@@ -143,8 +144,8 @@ module _ (rules : Rules) where
   closed p w outer n h inside es v whole =
       let f : SiblingFrame = noted_all (frame_under w h) inside in
       closed-by (standing f (w ∷ outer) n) (end_offset h.size (h.offset + length (opening h) + length (spelling inside))) h.constructed es
-      ∙ ap (λ (fs : List Finding). then_found (findings_at (length outer) f.at fs) (run (standing (frame_after w f.is_primitive f.size false) outer (saturating_sum n (length fs))) es)) (summed-under rules p w h inside v whole)
-      ∙ ap₂ (λ (put : List Item) (t : SiblingFrame). then_found put (run (standing t outer (after_end h inside n)) es)) (at-under rules p w h inside v whole (findings_at (length outer)) (λ at. refl)) (noted-under w h inside)
+      ∙ ap (λ (fs : List Finding). then_found (findings_at (length outer) f.offset fs) (run (standing (frame_after w f.is_primitive f.size false) outer (saturating_sum n (length fs))) es)) (summed-under rules p w h inside v whole)
+      ∙ ap₂ (λ (put : List Item) (t : SiblingFrame). then_found put (run (standing t outer (after_end h inside n)) es)) (offset-under rules p w h inside v whole (findings_at (length outer)) (λ offset. refl)) (noted-under w h inside)
 
   -- ---- a primitive
 
@@ -168,18 +169,18 @@ module _ (rules : Rules) where
 
   pub closed-find : (p : Place) (w : SiblingFrame) (outer : List SiblingFrame) (n : ℕ) (h : HeaderValue) (inside : Forest) → IsOpen p inside → is_complete inside ≡ true
       → finder_close_step (standing (noted_all (frame_under w h) inside) (w ∷ outer) n)
-      ≡ record { state = standing (frame_after w (is_primitive h) (announced_length h.size) false) outer (after_end h inside n); level = length outer; at = (noted_all (frame_under w h) inside).at; found = end_findings rules (segments_of h (headers inside)) }
+      ≡ record { state = standing (frame_after w (is_primitive h) (announced_length h.size) false) outer (after_end h inside n); level = length outer; offset = (noted_all (frame_under w h) inside).offset; found = end_findings rules (segments_of h (headers inside)) }
   closed-find p w outer n h inside v whole =
       let f : SiblingFrame = noted_all (frame_under w h) inside in
-      ap (λ (gs : List Finding). record { state = standing (frame_after w f.is_primitive f.size false) outer (saturating_sum n (length gs)); level = length outer; at = f.at; found = gs }) (summed-under rules p w h inside v whole)
-      ∙ ap (λ (t : SiblingFrame). record { state = standing t outer (after_end h inside n); level = length outer; at = f.at; found = end_findings rules (segments_of h (headers inside)) }) (noted-under w h inside)
+      ap (λ (gs : List Finding). record { state = standing (frame_after w f.is_primitive f.size false) outer (saturating_sum n (length gs)); level = length outer; offset = f.offset; found = gs }) (summed-under rules p w h inside v whole)
+      ∙ ap (λ (t : SiblingFrame). record { state = standing t outer (after_end h inside n); level = length outer; offset = f.offset; found = end_findings rules (segments_of h (headers inside)) }) (noted-under w h inside)
 
   pub primitive-find : (w : SiblingFrame) (outer : List SiblingFrame) (n : ℕ) (h : HeaderValue) (c : List ℕ) → length c ≡ announced_length h.size
       → finder_end_step (finder_bytes_step (finder_begin_step (standing w outer n) h).state c)
-      ≡ record { state = standing (after_primitive w h c) outer (after_contents w h c n); level = length outer; at = h.offset; found = contents_findings rules h c }
+      ≡ record { state = standing (after_primitive w h c) outer (after_contents w h c n); level = length outer; offset = h.offset; found = contents_findings rules h c }
   primitive-find w outer n h c e =
       ap finder_end_step (took (standing w outer (later_header w h n)) h.offset h c (omega (arith, e)))
-      ∙ ap (λ (fs : List Finding). record { state = standing (after_primitive w h c) outer (saturating_sum (later_header w h n) (length fs)); level = length outer; at = h.offset; found = fs }) (ended rules h c e)
+      ∙ ap (λ (fs : List Finding). record { state = standing (after_primitive w h c) outer (saturating_sum (later_header w h n) (length fs)); level = length outer; offset = h.offset; found = fs }) (ended rules h c e)
 
   -- ---- elements
 
@@ -197,17 +198,17 @@ module _ (rules : Rules) where
       ∙ sym (only-findings_at s.level h.offset (header_findings rules (surroundings_of s) h) rest)
 
   -- other findings, and then other items
-  more-items : (s : Site) (outer : List SiblingFrame) (at : ℕ) (fs : List Finding) (found rest : List Item) → length outer ≡ s.level → found ≡ only rest
-      → findings_at (length outer) at fs ++ found ≡ only (findings_at s.level at fs ++ rest)
-  more-items s outer at fs found rest l e =
-      ap₂ (λ (n : ℕ) (t : List Item). findings_at n at fs ++ t) l e ∙ sym (only-findings_at s.level at fs rest)
+  more-items : (s : Site) (outer : List SiblingFrame) (offset : ℕ) (fs : List Finding) (found rest : List Item) → length outer ≡ s.level → found ≡ only rest
+      → findings_at (length outer) offset fs ++ found ≡ only (findings_at s.level offset fs ++ rest)
+  more-items s outer offset fs found rest l e =
+      ap₂ (λ (n : ℕ) (t : List Item). findings_at n offset fs ++ t) l e ∙ sym (only-findings_at s.level offset fs rest)
 
   pub finds_forest : (p : Place) (s : Site) (w : SiblingFrame) (outer : List SiblingFrame) (f : Forest) → IsOpen p f → Knows w s → length outer ≡ s.level → s.level ≡ p.depth → (p.padding ≡ true → s.holder ≡ None)
       → IsFoundAs s w outer f
   finds_forest p s w outer NoMore v k l d free = record { put = λ n. refl; stands = λ n e. (n, refl) }
   finds_forest p s w outer (PaddingOctet rest) v k l d free =
       let r = finds_forest (place_after p 1) (site_after_padding s) w outer rest v.1 (knows-padding w s k (free v.0.0)) l d free in
-      record { put = λ n. r.put n ∙ sym (only-pads (is_padding s.before) s.level s.at (items rules (site_after_padding s) rest)); stands = r.stands }
+      record { put = λ n. r.put n ∙ sym (only-pads (is_padding s.before) s.level s.offset (items rules (site_after_padding s) rest)); stands = r.stands }
   finds_forest p s w outer (Primitive h c rest) v k l d free =
       let size : length c ≡ announced_length h.size = sym (ap announced_length v.0.1) in
       let form : h.constructed ≡ false = not-constructed h.constructed (wraps h) v.0.0.header.form in

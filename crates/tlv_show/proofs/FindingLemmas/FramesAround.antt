@@ -9,7 +9,7 @@ use Rattle.tlv_value.specs.Types.{has_segments, is_a, is_primitive, type_number}
 use Rattle.tlv_value.proofs.CheckLemmas.CheckPieces.{checked-none}
 use Rattle.tlv_show.specs.declared.sibling_frame.SiblingFrame.{SiblingFrame}
 use Rattle.tlv_show.specs.Conditions.{follows_unused_bits, is_not_full, Surroundings}
-use Rattle.tlv_show.specs.FinderState.{frame_after, frame_after_segment, frame_of, frame_under, top_frame, surroundings_in}
+use Rattle.tlv_show.specs.NestingState.{frame_after, frame_after_segment, frame_of, frame_under, top_frame, surroundings_in}
 use Rattle.tlv_show.specs.Site.{Sibling, Site, in_bit_string, in_string, site_of_children, Before, Padding, Start}
 use Rattle.tlv_show.proofs.FindingLemmas.SitesAfter.{site_after_padding}
 use Rattle.tlv_show.proofs.FindingLemmas.SiteWords.{first_octet, is_held_by}

@@ -11,7 +11,7 @@ use Rattle.tlv_show.specs.declared.sibling_frame.SiblingFrame.{SiblingFrame}
 use Rattle.tlv_show.specs.declared.rules.Rules.{Rules}
 use Rattle.tlv_show.specs.declared.rules.Rules.TheVariants.{Ber, Der, Cer}
 use Rattle.tlv_show.specs.Conditions.{header_conditions, Surroundings, basic_conditions, cer_conditions, der_conditions, length_conditions, surroundings_of}
-use Rattle.tlv_show.specs.FinderState.{surroundings_in}
+use Rattle.tlv_show.specs.NestingState.{surroundings_in}
 use Rattle.tlv_show.specs.Found.{header_findings, is_shown, shown_findings}
 use Rattle.tlv_show.specs.Site.{Site}
 

@@ -5,8 +5,8 @@ use Rattle.tlv_head.specs.Header.{HeaderValue}
 use Rattle.tlv_value.specs.Types.{has_segments}
 use Rattle.tlv_show.specs.declared.sibling_frame.SiblingFrame.{SiblingFrame}
 use Rattle.tlv_show.specs.declared.sibling_frame.KeptFrame.{KeptFrame}
-use Rattle.tlv_show.specs.FinderState.{frame_after, frame_after_segment, frame_of, frame_under, top_frame, surroundings_in}
-use Rattle.tlv_show.specs.Private.Nesting.{AreKept, IsKept, NestingState, TakesBack, all_frames, frames_with, innermost_frame, nesting_around, nesting_inside, nesting_outside, outer_frames, segments_by, segments_left}
+use Rattle.tlv_show.specs.NestingState.{NestingState, frame_after, frame_after_segment, frame_of, frame_under, nesting_around, nesting_close_step, nesting_open_step, surroundings_in, top_frame}
+use Rattle.tlv_show.specs.Private.Nesting.{AreKept, IsKept, TakesBack, all_frames, frames_with, innermost_frame, outer_frames, segments_by, segments_left}
 
 -- ---- how many there are
 
@@ -56,16 +56,16 @@ around-same w (suc n) kept =
     ap (λ (k : Bool). record {
       in_string = k;
       in_bit_string = k && w.has_bits;
-      after_unused_bits = k && w.has_bits && w.is_unused;
-      after_not_full = k && w.is_not_full;
+      after_unused_bits = k && w.has_bits && w.last_has_unused_bits;
+      after_not_full = k && w.last_is_not_full;
     }) (sym kept)
 
 -- ---- an element begins
 
-entered-is : (w : SiblingFrame) (n : ℕ) (outer : List SiblingFrame) (h : HeaderValue) → length (outer_frames w n outer) < 128
-    → nesting_inside (nest w n outer) h
+opened-is : (w : SiblingFrame) (n : ℕ) (outer : List SiblingFrame) (h : HeaderValue) → length (outer_frames w n outer) < 128
+    → nesting_open_step (nest w n outer) h
     ≡ record { frame = frame_under (innermost_frame w n) h; outer = innermost_frame w n ∷ outer_frames w n outer }
-entered-is w n outer h few =
+opened-is w n outer h few =
     let yes : nat_lt (length (outer_frames w n outer)) 128 ≡ true = grind (arith, nat_tests) in
     rw yes refl
 
@@ -73,23 +73,23 @@ neither : (a b : Bool) → (a || b) ≡ false → (a ≡ false) × (b ≡ false)
 neither true b e = absurd (cc (e))
 neither false b e = (refl, e)
 
-entered-plain : (w : SiblingFrame) (n : ℕ) (outer : List SiblingFrame) (h : HeaderValue) → length (outer_frames w n outer) < 128
-    → IsKept w n → (w.has_segments || has_segments h) ≡ false → nest w (suc n) outer ≡ nesting_inside (nest w n outer) h
-entered-plain w n outer h few kept none =
+opened-without_frame : (w : SiblingFrame) (n : ℕ) (outer : List SiblingFrame) (h : HeaderValue) → length (outer_frames w n outer) < 128
+    → IsKept w n → (w.has_segments || has_segments h) ≡ false → nest w (suc n) outer ≡ nesting_open_step (nest w n outer) h
+opened-without_frame w n outer h few kept none =
     let e : w.has_segments ≡ false = (neither w.has_segments (has_segments h) none).0 in
     let f : has_segments h ≡ false = (neither w.has_segments (has_segments h) none).1 in
     ap₂ (λ (a b : Bool). record { frame = if a || b then frame_of h else top_frame; outer = frames_with w n outer })
     (sym (kept ∙ e)) (sym f)
     ∙ ap (λ (l : List SiblingFrame). record { frame = frame_under (innermost_frame w n) h; outer = l }) (split w n outer)
-    ∙ sym (entered-is w n outer h few)
+    ∙ sym (opened-is w n outer h few)
 
-entered-frame : (w : SiblingFrame) (n : ℕ) (outer : List SiblingFrame) (h : HeaderValue) → length (outer_frames w n outer) < 128
+opened-frame : (w : SiblingFrame) (n : ℕ) (outer : List SiblingFrame) (h : HeaderValue) → length (outer_frames w n outer) < 128
     → IsKept w n → (w.has_segments || has_segments h) ≡ true
-    → nest (frame_of h) 0 (frames_with w n outer) ≡ nesting_inside (nest w n outer) h
-entered-frame w n outer h few kept one =
+    → nest (frame_of h) 0 (frames_with w n outer) ≡ nesting_open_step (nest w n outer) h
+opened-frame w n outer h few kept one =
     ap₂ (λ (b : Bool) (l : List SiblingFrame). record { frame = if b then frame_of h else top_frame; outer = l })
     (sym (ap (λ (b : Bool). b || has_segments h) kept ∙ one)) (split w n outer)
-    ∙ sym (entered-is w n outer h few)
+    ∙ sym (opened-is w n outer h few)
 
 module _
     (w : SiblingFrame) (floor level : ℕ) (outer : List KeptFrame)
@@ -99,19 +99,19 @@ module _
     few-outside : length (outer_frames w (level - floor) (all_frames floor outer)) < 128
     few-outside = let e = one_each w floor level outer inside others in omega (arith, e)
 
-    pub enters-plain : (w.has_segments || has_segments h) ≡ false
-        → seen w floor (level + 1) outer ≡ nesting_inside (seen w floor level outer) h
-    enters-plain none =
+    pub opens-without_frame : (w.has_segments || has_segments h) ≡ false
+        → seen w floor (level + 1) outer ≡ nesting_open_step (seen w floor level outer) h
+    opens-without_frame none =
         let one_more : level + 1 - floor ≡ suc (level - floor) = omega arith in
-        rw one_more (entered-plain w (level - floor) (all_frames floor outer) h few-outside kept none)
+        rw one_more (opened-without_frame w (level - floor) (all_frames floor outer) h few-outside kept none)
 
-    pub enters-frame : (w.has_segments || has_segments h) ≡ true
+    pub opens-frame : (w.has_segments || has_segments h) ≡ true
         → seen (frame_of h) (level + 1) (level + 1) (record { frame = w; floor = floor } ∷ outer)
-        ≡ nesting_inside (seen w floor level outer) h
-    enters-frame one =
+        ≡ nesting_open_step (seen w floor level outer) h
+    opens-frame one =
         let none_inside : level + 1 - (level + 1) ≡ 0 = omega arith in
         let as_before : level + 1 - 1 ≡ level = omega arith in
-        rw (none_inside, as_before) (entered-frame w (level - floor) (all_frames floor outer) h few-outside kept one)
+        rw (none_inside, as_before) (opened-frame w (level - floor) (all_frames floor outer) h few-outside kept one)
 
 -- ---- an element ends
 
@@ -124,47 +124,47 @@ one-less : (w : SiblingFrame) (n : ℕ) → IsKept w (suc n) → (innermost_fram
 one-less w zero kept = sym kept
 one-less w (suc n) kept = refl
 
-left-plain : (w : SiblingFrame) (n : ℕ) (outer : List SiblingFrame) → IsKept w (suc n)
-    → nest w n outer ≡ nesting_outside (nest w (suc n) outer)
-left-plain w n outer kept =
+closed-without_frame : (w : SiblingFrame) (n : ℕ) (outer : List SiblingFrame) → IsKept w (suc n)
+    → nest w n outer ≡ nesting_close_step (nest w (suc n) outer)
+closed-without_frame w n outer kept =
     ap (λ (v : SiblingFrame). record { frame = v; outer = outer_frames w n outer })
     (sym (outer_frames-strings (innermost_frame w n) false 0 false (one-less w n kept)))
     ∙ ap (nesting_around top_frame) (sym (split w n outer))
 
-left-frame : (closed w : SiblingFrame) (n : ℕ) (outer : List SiblingFrame) → IsKept w n
+closed-frame : (closed w : SiblingFrame) (n : ℕ) (outer : List SiblingFrame) → IsKept w n
     → nest (frame_after w closed.is_primitive closed.size false) n outer ≡ nesting_around closed (frames_with w n outer)
-left-frame closed w zero outer kept = refl
-left-frame closed w (suc n) outer kept =
+closed-frame closed w zero outer kept = refl
+closed-frame closed w (suc n) outer kept =
     ap (λ (v : SiblingFrame). record { frame = top_frame; outer = frames_with v n outer })
     (outer_frames-strings w closed.is_primitive closed.size false (sym kept))
 
-left-top : (w : SiblingFrame) (outer : List SiblingFrame) → length outer ≡ 0
+closed-top : (w : SiblingFrame) (outer : List SiblingFrame) → length outer ≡ 0
     → (record { frame = w; outer = outer } ≡ nesting_around w outer) × (None ≡ segments_by w outer)
-left-top w [] none = (refl, refl)
-left-top w (v ∷ outer) none = absurd (omega arith)
+closed-top w [] none = (refl, refl)
+closed-top w (v ∷ outer) none = absurd (omega arith)
 
 module _ (w : SiblingFrame) (floor level : ℕ) (outer : List KeptFrame) where
-  pub leaves-plain : IsKept w (level - floor) → floor < level
-      → seen w floor (level - 1) outer ≡ nesting_outside (seen w floor level outer)
-  leaves-plain kept above =
+  pub closes-without_frame : IsKept w (level - floor) → floor < level
+      → seen w floor (level - 1) outer ≡ nesting_close_step (seen w floor level outer)
+  closes-without_frame kept above =
       let one_more : level - floor ≡ suc (level - 1 - floor) = omega arith in
       let same : IsKept w (suc (level - 1 - floor)) = subst (IsKept w) one_more kept in
-      rw one_more (left-plain w (level - 1 - floor) (all_frames floor outer) same)
+      rw one_more (closed-without_frame w (level - 1 - floor) (all_frames floor outer) same)
 
-  pub leaves-top : floor ≤ level → AreKept floor outer → level ≡ 0
-      → (seen w floor level outer ≡ nesting_outside (seen w floor level outer))
+  pub closes-top : floor ≤ level → AreKept floor outer → level ≡ 0
+      → (seen w floor level outer ≡ nesting_close_step (seen w floor level outer))
       × (None ≡ segments_left (seen w floor level outer))
-  leaves-top inside others top =
-      left-top (innermost_frame w (level - floor)) (outer_frames w (level - floor) (all_frames floor outer))
+  closes-top inside others top =
+      closed-top (innermost_frame w (level - floor)) (outer_frames w (level - floor) (all_frames floor outer))
       (one_each w floor level outer inside others ∙ top)
 
-pub leaves-frame : (w : SiblingFrame) (floor level : ℕ) (outer : List KeptFrame) → AreKept floor outer → floor ≡ level → 0 < level
+pub closes-frame : (w : SiblingFrame) (floor level : ℕ) (outer : List KeptFrame) → AreKept floor outer → floor ≡ level → 0 < level
     → (v : SiblingFrame) (lower : ℕ) (rest : List KeptFrame) → TakesBack w outer v lower rest
-    → seen v lower (level - 1) rest ≡ nesting_outside (seen w floor level outer)
-leaves-frame w floor level [] none at_floor any v lower rest back = absurd (omega arith)
-leaves-frame w floor level (k ∷ outer) (above, kept, others) at_floor any v lower rest back =
+    → seen v lower (level - 1) rest ≡ nesting_close_step (seen w floor level outer)
+closes-frame w floor level [] none at_floor any v lower rest back = absurd (omega arith)
+closes-frame w floor level (k ∷ outer) (above, kept, others) at_floor any v lower rest back =
     let none_inside : level - level ≡ 0 = omega arith in
     let same : IsKept k.frame (level - 1 - k.floor) =
     subst (λ (n : ℕ). IsKept k.frame (n - 1 - k.floor)) at_floor kept in
     rw (back.frame, back.level, back.others, at_floor, none_inside)
-    (left-frame w k.frame (level - 1 - k.floor) (all_frames k.floor outer) same)
+    (closed-frame w k.frame (level - 1 - k.floor) (all_frames k.floor outer) same)

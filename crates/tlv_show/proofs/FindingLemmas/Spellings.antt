@@ -34,9 +34,9 @@ use Rattle.tlv_show.proofs.FindingLemmas.FindingsOfHeaders.{any_of, found-with_h
 
 -- ---- conditions whose findings are not reported
 
-pub items-found : (level at : ℕ) (fs : List Finding) → list_any is_item_on_spelling (findings_at level at fs) ≡ list_any is_on_spelling fs
-items-found level at [] = refl
-items-found level at (f ∷ fs) = ap (λ (b : Bool). is_on_spelling f || b) (items-found level at fs)
+pub items-found : (level offset : ℕ) (fs : List Finding) → list_any is_item_on_spelling (findings_at level offset fs) ≡ list_any is_on_spelling fs
+items-found level offset [] = refl
+items-found level offset (f ∷ fs) = ap (λ (b : Bool). is_on_spelling f || b) (items-found level offset fs)
 
 absent : (rules : Rules) (s : Site) (h : HeaderValue) → list_any is_item_on_spelling (on_header rules s h) ≡ false
     → any_of is_on_spelling rules (header_conditions (surroundings_of s) h) ≡ false
@@ -111,7 +111,7 @@ module _ (rules : Rules) (strict : rules ≢ Ber) where
   all-regular p s NoMore u e = tt
   all-regular p s (PaddingOctet rest) u e =
       all-regular (place_after p 1) (site_after_padding s) rest u.1
-      (none-in (if is_padding s.before then [] else PaddingLine s.level s.at ∷ []) (items rules (site_after_padding s) rest) e).1
+      (none-in (if is_padding s.before then [] else PaddingLine s.level s.offset ∷ []) (items rules (site_after_padding s) rest) e).1
   all-regular p s (Primitive h c rest) u e =
       let header = none-in (on_header rules s h) (PrimitiveLines s.level h c ∷ (on_contents rules s h c ++ items rules (site_after s h c) rest)) e in
       let others = none-in (on_contents rules s h c) (items rules (site_after s h c) rest) header.1 in

@@ -7,9 +7,9 @@ use Rattle.tlv_show.specs.FinderState.{OpenPrimitiveState, CheckState, FinderSta
 use Rattle.tlv_show.specs.FinderState.{finder_open_step, finder_begin_step, finder_bytes_step}
 use Rattle.tlv_show.specs.FinderState.{finder_end_step, finder_close_step}
 
--- the primitive that begins at `at`, if one is open
+-- the primitive that begins at `offset`, if one is open
 abbrev pub open_by : Bool → ℕ → ValueCheckState → Option OpenPrimitiveState
-open_by is_open at check = if is_open then Some (record { at = at; check = check }) else None
+open_by is_open offset check = if is_open then Some (record { offset = offset; check = check }) else None
 
 -- the state alone changes
 abbrev pub with_state : CheckState → FinderState → FinderState
@@ -30,7 +30,7 @@ finder_step s (Open h) = finder_open_step s h
 finder_step s (Begin h) = finder_begin_step s h
 finder_step s (Bytes octets) = without_findings (finder_bytes_step s octets)
 finder_step s End = finder_end_step s
-finder_step s (Close at) = finder_close_step s
+finder_step s (Close offset) = finder_close_step s
 finder_step s (Enter h) = finder_open_step s h
 finder_step s Unused = without_findings s
 finder_step s Leave = finder_close_step s

@@ -6,4 +6,4 @@ use Rattle.tlv_show.specs.FindingLines.{styled_lines}
 
 -- the lines of the last findings
 abbrev pub last_finding_lines : Style → FinderState → List ℕ
-last_finding_lines style f = styled_lines style f.level f.at f.found
+last_finding_lines style f = styled_lines style f.level f.offset f.found

@@ -1,38 +1,11 @@
 -- The frames that are kept of the elements that are open, and all those that they stand for.
-use Rattle.std.specs.Prelude.{ℕ, zero, suc, ◌≡◌, ◌-◌, ◌<◌, ⊤, nat_lt, if◌then◌else◌, false, List, [], ◌∷◌}
-use Rattle.std.specs.Prelude.{length, Option, Some, None}
-use Rattle.tlv_head.specs.Header.{HeaderValue}
+use Rattle.std.specs.Prelude.{ℕ, zero, suc, ◌≡◌, ◌-◌, ◌<◌, ⊤, if◌then◌else◌, false, List, [], ◌∷◌}
+use Rattle.std.specs.Prelude.{Option, Some, None}
 use Rattle.tlv_show.specs.declared.sibling_frame.SiblingFrame.{SiblingFrame}
 use Rattle.tlv_show.specs.declared.sibling_frame.KeptFrame.{KeptFrame}
-use Rattle.tlv_show.specs.FinderState.{frame_after, frame_under, top_frame}
+use Rattle.tlv_show.specs.NestingState.{NestingState, frame_after, top_frame}
 
--- ---- All frames
-
--- the frame of the innermost element, and those outside, innermost first
-pub record NestingState : Type 0 where
-  pub frame : SiblingFrame
-  pub outer : List SiblingFrame
-
-abbrev pub new_nesting : NestingState
-new_nesting = record { frame = top_frame; outer = [] }
-
--- an element that holds others begins. Past 128 of them no frame is kept
-abbrev pub nesting_inside : NestingState → HeaderValue → NestingState
-nesting_inside s h =
-    if nat_lt (length s.outer) 128
-    then record { frame = frame_under s.frame h; outer = s.frame ∷ s.outer }
-    else s
-
--- it ends
-abbrev pub nesting_around : SiblingFrame → List SiblingFrame → NestingState
-nesting_around closed [] = record { frame = closed; outer = [] }
-nesting_around closed (w ∷ outer) = record {
-  frame = frame_after w closed.is_primitive closed.size false;
-  outer = outer;
-}
-
-abbrev pub nesting_outside : NestingState → NestingState
-nesting_outside s = nesting_around s.frame s.outer
+-- ---- What is left of an element that ends
 
 -- its frame, if what it held were segments
 abbrev pub if_segments : SiblingFrame → Option SiblingFrame
@@ -47,18 +20,18 @@ segments_left s = segments_by s.frame s.outer
 
 -- ---- Those that are kept
 
--- if elements without a frame are open inside `w`, each of them has that of the top
+-- if so many elements without a frame are open inside `w`, each of them has that of the top
 abbrev pub innermost_frame : SiblingFrame → ℕ → SiblingFrame
 innermost_frame w zero = w
-innermost_frame w (suc plain) = top_frame
+innermost_frame w (suc without_frame) = top_frame
 
 abbrev pub frames_with : SiblingFrame → ℕ → List SiblingFrame → List SiblingFrame
 frames_with w zero outer = w ∷ outer
-frames_with w (suc plain) outer = top_frame ∷ frames_with w plain outer
+frames_with w (suc without_frame) outer = top_frame ∷ frames_with w without_frame outer
 
 abbrev pub outer_frames : SiblingFrame → ℕ → List SiblingFrame → List SiblingFrame
 outer_frames w zero outer = outer
-outer_frames w (suc plain) outer = frames_with w plain outer
+outer_frames w (suc without_frame) outer = frames_with w without_frame outer
 
 -- those outside of an element that has a frame, by its floor. It is itself at the level `floor - 1`; outside of it,
 -- from the floor of `k` on, elements without a frame are open
@@ -68,7 +41,7 @@ all_frames floor (k ∷ outer) = frames_with k.frame (floor - 1 - k.floor) (all_
 
 -- a string counts no elements without a frame
 abbrev pub IsKept : SiblingFrame → ℕ → Type 0
-IsKept w plain = (innermost_frame w plain).has_segments ≡ w.has_segments
+IsKept w without_frame = (innermost_frame w without_frame).has_segments ≡ w.has_segments
 
 -- each floor is above the one outside of it, and that of the top is 0
 abbrev pub AreKept : ℕ → List KeptFrame → Type 0

@@ -2,7 +2,7 @@ use Rattle.std.proofs.Common.{◌∙◌, ◌++◌, List, ap, sym}
 use Rattle.tlv_value.specs.declared.finding.Finding.{Finding}
 use Rattle.tlv_value.specs.Checks.{findings_by}
 use Rattle.tlv_show.specs.Conditions.{cer_conditions, der_conditions, length_conditions}
-use Rattle.tlv_show.specs.FinderState.{surroundings_in}
+use Rattle.tlv_show.specs.NestingState.{surroundings_in}
 use Rattle.tlv_show.proofs.FindingLemmas.HeaderFindings.{basic-found, cer-found, der-found}
 use Rattle.tlv_show.proofs.header_findings.add_header_findings.Goals as goal
 

@@ -8,10 +8,10 @@ pub returns : goal.returns
 returns c =
     let h = c.args.header.now in
     let usual = usual_primitive h (search rules) (c.is_clear.ensures.form (search rules)) in
-    let plain = c.has_no_header_findings_if_usual.ensures in
+    let nothing = c.has_no_header_findings_if_usual.ensures in
     rw (← c.self.view_is)
     (passes _ _ h c.args.contents.now c.requires
-    (sym c.frame-frame.ensures.segments ∙ plain.segments (search rules))
+    (sym c.frame-frame.ensures.segments ∙ nothing.segments (search rules))
     (ap (λ (t : Surroundings). header_findings c.self.inside.rules t h) (sym c.frame-frame.ensures.around)
-    ∙ plain.findings (search rules) usual)
+    ∙ nothing.findings (search rules) usual)
     (c.is_clear.ensures.contents (search rules)) refl)

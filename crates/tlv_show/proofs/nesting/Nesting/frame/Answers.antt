@@ -1,6 +1,5 @@
 use Rattle.std.proofs.Common.{◌-◌, ◌∙◌, ap}
-use Rattle.tlv_show.specs.FinderState.{surroundings_in}
-use Rattle.tlv_show.specs.Private.Nesting.{NestingState}
+use Rattle.tlv_show.specs.NestingState.{NestingState, surroundings_in}
 use Rattle.tlv_show.proofs.FindingLemmas.KeptFrames.{around-same}
 use Rattle.tlv_show.proofs.nesting.Nesting.frame.Goals as goal
 

@@ -1,8 +1,8 @@
 use Rattle.std.proofs.Common.{◌≡◌, ◌∙◌, Bool, false, ◌||◌, sym, ap}
 use Rattle.tlv_value.specs.Types.{has_segments}
-use Rattle.tlv_show.specs.Private.Nesting.{NestingState}
-use Rattle.tlv_show.proofs.FindingLemmas.KeptFrames.{enters-plain}
-use Rattle.tlv_show.proofs.nesting.Nesting.enter_plain.Goals as goal
+use Rattle.tlv_show.specs.NestingState.{NestingState}
+use Rattle.tlv_show.proofs.FindingLemmas.KeptFrames.{opens-without_frame}
+use Rattle.tlv_show.proofs.nesting.Nesting.open_without_frame.Goals as goal
 
 pub returns-then-self-lt128 : goal.returns-then-self-lt128
 returns-then-self-lt128 c =
@@ -13,5 +13,5 @@ returns-then-self-lt128 c =
     (sym known.innermost ∙ ap (λ (s : NestingState). s.frame.has_segments) c.self.view_is)
     ∙ c.requires in
     rw (← c.self.view_is)
-    (enters-plain n.frame n.floor n.level n.outer known.inside known.innermost known.others c.args.header.now
+    (opens-without_frame n.frame n.floor n.level n.outer known.inside known.innermost known.others c.args.header.now
     c.if-self-lt128.true none)

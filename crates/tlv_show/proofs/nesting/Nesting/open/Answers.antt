@@ -1,6 +1,6 @@
 use Rattle.std.proofs.Common.{◌∙◌, sym, arith}
-use Rattle.tlv_show.proofs.FindingLemmas.KeptFrames.{enters-frame, fewer-kept}
-use Rattle.tlv_show.proofs.nesting.Nesting.enter.Goals as goal
+use Rattle.tlv_show.proofs.FindingLemmas.KeptFrames.{opens-frame, fewer-kept}
+use Rattle.tlv_show.proofs.nesting.Nesting.open.Goals as goal
 
 pub push-requires : goal.push-requires
 push-requires c = omega (arith, fewer-kept c.self.inside.floor c.self.inside.outer c.self.invariant.others)
@@ -10,5 +10,5 @@ returns c =
     let n = c.self.inside in
     let known = c.self.invariant in
     rw (← c.self.view_is, c.frame_of-self-inside.ensures, c.push.ensures)
-    (enters-frame n.frame n.floor n.level n.outer known.inside known.innermost known.others c.args.header.now
+    (opens-frame n.frame n.floor n.level n.outer known.inside known.innermost known.others c.args.header.now
     (omega arith) (sym c.has_frame.ensures ∙ c.if-not-has_frame.false))

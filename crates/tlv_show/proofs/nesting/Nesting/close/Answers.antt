@@ -1,29 +1,29 @@
 use Rattle.std.proofs.Common.{arith}
-use Rattle.tlv_show.proofs.FindingLemmas.KeptFrames.{leaves-frame, leaves-plain, leaves-top}
-use Rattle.tlv_show.proofs.nesting.Nesting.leave.Goals as goal
+use Rattle.tlv_show.proofs.FindingLemmas.KeptFrames.{closes-frame, closes-without_frame, closes-top}
+use Rattle.tlv_show.proofs.nesting.Nesting.close.Goals as goal
 
 pub returns-then-self-clause-nest : goal.returns-then-self-clause-nest
 returns-then-self-clause-nest c =
     let n = c.self.inside in
-    rw (← c.self.view_is) (leaves-plain n.frame n.floor n.level n.outer c.self.invariant.innermost c.if-self.true)
+    rw (← c.self.view_is) (closes-without_frame n.frame n.floor n.level n.outer c.self.invariant.innermost c.if-self.true)
 
 pub returns-then-self-eq0-clause-nest : goal.returns-then-self-eq0-clause-nest
 returns-then-self-eq0-clause-nest c =
     let n = c.self.inside in
     let known = c.self.invariant in
     rw (← c.self.view_is)
-    (leaves-top n.frame n.floor n.level n.outer known.inside known.others c.if-self-eq0.true).0
+    (closes-top n.frame n.floor n.level n.outer known.inside known.others c.if-self-eq0.true).0
 
 pub returns-then-self-eq0-clause-segments : goal.returns-then-self-eq0-clause-segments
 returns-then-self-eq0-clause-segments c =
     let n = c.self.inside in
     let known = c.self.invariant in
     rw (← c.self.view_is)
-    (leaves-top n.frame n.floor n.level n.outer known.inside known.others c.if-self-eq0.true).1
+    (closes-top n.frame n.floor n.level n.outer known.inside known.others c.if-self-eq0.true).1
 
 pub returns-clause-nest : goal.returns-clause-nest
 returns-clause-nest c =
     let n = c.self.inside in
     rw (← c.self.view_is)
-    (leaves-frame n.frame n.floor n.level n.outer c.self.invariant.others (omega arith) (omega arith)
+    (closes-frame n.frame n.floor n.level n.outer c.self.invariant.others (omega arith) (omega arith)
     c.take_back.new.frame c.take_back.new.floor c.take_back.new.outer c.take_back.ensures)

@@ -1,0 +1,112 @@
+-- What is kept of the elements that hold others and are open: of each a frame, which says what it held so far.
+use Rattle.std.specs.Prelude.{ℕ, ◌+◌, ◌-◌, Bool, true, false, ◌&&◌, ◌||◌, not, ◌==◌, nat_lt, if◌then◌else◌}
+use Rattle.std.specs.Prelude.{List, [], ◌∷◌, length, min}
+use Rattle.tlv_head.specs.Header.{HeaderValue, announced_length}
+use Rattle.tlv_head.specs.UniversalTypes as universal
+use Rattle.tlv_value.specs.Types.{has_segments, is_a, is_primitive}
+use Rattle.tlv_show.specs.declared.sibling_frame.SiblingFrame.{SiblingFrame}
+use Rattle.tlv_show.specs.Conditions.{Segments, Surroundings}
+
+-- ---- One frame
+
+-- at the top, where no element holds others
+abbrev pub top_frame : SiblingFrame
+top_frame = record {
+  offset = 0;
+  size = 0;
+  is_primitive = false;
+  has_segments = false;
+  has_bits = false;
+  last_has_unused_bits = false;
+  last_is_not_full = false;
+  all_primitive = true;
+  octets = 0;
+  ends_empty = false;
+}
+
+-- inside an element that holds others
+abbrev pub frame_of : HeaderValue → SiblingFrame
+frame_of h = record {
+  offset = h.offset;
+  size = announced_length h.size;
+  is_primitive = is_primitive h;
+  has_segments = has_segments h;
+  has_bits = has_segments h && is_a universal.bit_string h;
+  last_has_unused_bits = false;
+  last_is_not_full = false;
+  all_primitive = true;
+  octets = 0;
+  ends_empty = false;
+}
+
+-- inside an element that others hold. Of one that is no string and is in none nothing is to be known
+abbrev pub frame_under : SiblingFrame → HeaderValue → SiblingFrame
+frame_under w h = if w.has_segments || has_segments h then frame_of h else top_frame
+
+-- after a segment more: whether it is primitive, how many contents octets it announces, and whether bits of it are
+-- unused
+abbrev pub frame_after_segment : SiblingFrame → Bool → ℕ → Bool → SiblingFrame
+frame_after_segment w primitive size unused = record w {
+  last_has_unused_bits = unused;
+  last_is_not_full = not (primitive && size == 1000);
+  all_primitive = w.all_primitive && primitive;
+  octets = min (w.octets + (size - (if w.has_bits then 1 else 0))) 1001;
+  ends_empty = primitive && size == 0;
+}
+
+-- after an element more: outside of strings nothing is asked of it
+abbrev pub frame_after : SiblingFrame → Bool → ℕ → Bool → SiblingFrame
+frame_after w primitive size unused = if w.has_segments then frame_after_segment w primitive size unused else w
+
+-- ---- What a frame says to the conditions
+
+-- of an element that begins
+abbrev pub surroundings_in : SiblingFrame → Surroundings
+surroundings_in w = record {
+  in_string = w.has_segments;
+  in_bit_string = w.has_segments && w.has_bits;
+  after_unused_bits = w.has_segments && w.has_bits && w.last_has_unused_bits;
+  after_not_full = w.has_segments && w.last_is_not_full;
+}
+
+-- of the end of the element whose frame it is. The octets stop at 1001
+abbrev pub segments_in : SiblingFrame → Segments
+segments_in w = record {
+  in_string = w.has_segments;
+  all_primitive = w.all_primitive;
+  octets = (if w.has_bits then 1 else 0) + w.octets;
+  ends_empty = w.ends_empty;
+}
+
+-- ---- All frames
+
+-- the frame of the innermost element that holds others and is open, or of the top, and those outside, innermost first
+pub record NestingState : Type 0 where
+  pub frame : SiblingFrame
+  pub outer : List SiblingFrame
+
+-- at the top
+abbrev pub new_nesting : NestingState
+new_nesting = record { frame = top_frame; outer = [] }
+
+-- an element that holds others begins. Past 128 of them no frame is kept
+abbrev pub nesting_open_step : NestingState → HeaderValue → NestingState
+nesting_open_step n h =
+    if nat_lt (length n.outer) 128
+    then record { frame = frame_under n.frame h; outer = n.frame ∷ n.outer }
+    else n
+
+-- a primitive ends: how many contents octets it announces, and whether bits of it are unused
+abbrev pub nesting_primitive_step : NestingState → ℕ → Bool → NestingState
+nesting_primitive_step n size unused = record n { frame = frame_after n.frame true size unused }
+
+-- an element that holds others ends, inside the frames around it
+abbrev pub nesting_around : SiblingFrame → List SiblingFrame → NestingState
+nesting_around closed [] = record { frame = closed; outer = [] }
+nesting_around closed (w ∷ outer) = record {
+  frame = frame_after w closed.is_primitive closed.size false;
+  outer = outer;
+}
+
+abbrev pub nesting_close_step : NestingState → NestingState
+nesting_close_step n = nesting_around n.frame n.outer
