@@ -1,4 +1,4 @@
--- What the octets in front of a reader begin with.
+-- What octets begin with that are read at once.
 use Rattle.std.proofs.Common.{◌≡◌, ◌⊎◌, inl, inr, ℕ, ◌+◌, ◌-◌, ◌<◌, ◌≤◌, Bool, false, get_or, List, [], ◌∷◌, ◌++◌}
 use Rattle.std.proofs.Common.{length, take, drop, refl, sym, ap, ◌∙◌, subst, arith, append_assoc, length-append}
 use Rattle.std.proofs.Common.{length-drop, length-take}
@@ -17,10 +17,10 @@ use Rattle.tlv_head.specs.HeaderSoFar.{Carries, is_done}
 use Rattle.tlv_head.specs.Private.NextOctet.{BeginsWithIdentifier, BeginsWithLength, MakesHeader}
 use Rattle.tlv_head.specs.ReadHeader.{BeginsWithFields}
 use Rattle.tlv_head.specs.Refusal.{BeginsWith, IsHeaderPrefix}
-use Rattle.tlv_head.proofs.GrammarLemmas.Scan.{origin_of, scan, Fresh, Ready, no-front, scan-header}
+use Rattle.tlv_head.proofs.GrammarLemmas.Scan.{origin_of, scan, Fresh, Ready, no-prefix, scan-header}
 use Rattle.tlv_head.proofs.ReaderLemmas.Unfinished.{unfinished_number, unfinished_identifier, unfinished_length}
 
--- nothing yet, or the front of a header
+-- nothing yet, or a prefix of a header
 abbrev pub IsBegun : List ℕ → Type 0
 IsBegun os = (os ≡ []) ⊎ IsHeaderPrefix os
 
@@ -31,9 +31,9 @@ begun_part (Length id) os h e = inr (unfinished_identifier id os h)
 begun_part (Digits id n left) os h e = inr (unfinished_length left id n left os (omega arith) h)
 begun_part Done os h e = absurd (cc)
 
-front_nil : (a b : List ℕ) → a ++ b ≡ [] → a ≡ []
-front_nil [] b e = refl
-front_nil (x ∷ a) b e = absurd (cc)
+prefix_nil : (a b : List ℕ) → a ++ b ≡ [] → a ≡ []
+prefix_nil [] b e = refl
+prefix_nil (x ∷ a) b e = absurd (cc)
 
 rest_nil : (a b : List ℕ) → a ++ b ≡ [] → b ≡ []
 rest_nil [] b e = e
@@ -45,12 +45,12 @@ header-some h v e =
     let fresh : Fresh ≡ Ready h = rw e at ready in
     cc
 
--- no header is a front of octets that have only begun one
+-- no header is a prefix of octets that have only begun one
 pub begun_none : (os : List ℕ) → IsBegun os → (h : HeaderValue) (rest : List ℕ) → IsHeader h → octets_of h ++ rest ≡ os → ⊥
-begun_none os (inl none) h rest v e = header-some h v (front_nil (octets_of h) rest (e ∙ none))
+begun_none os (inl none) h rest v e = header-some h v (prefix_nil (octets_of h) rest (e ∙ none))
 begun_none os (inr f) h rest v e =
-    no-front h f.header (rest ++ f.more) v f.valid (λ z. f.proper (rest_nil rest f.more z))
-    (sym (append_assoc (octets_of h) rest f.more) ∙ (ap (λ s. s ++ f.more) e ∙ f.front))
+    no-prefix h f.header (rest ++ f.more) v f.valid (λ z. f.proper (rest_nil rest f.more z))
+    (sym (append_assoc (octets_of h) rest f.more) ∙ (ap (λ s. s ++ f.more) e ∙ f.prefix))
 
 -- the octet at a place, with what is before and after it
 pub around : (xs : List ℕ) (i : ℕ) → i < length xs → xs ≡ (take i xs ++ get_or xs i 0 ∷ []) ++ drop (i + 1) xs
@@ -82,38 +82,38 @@ made_sized os f id size m e =
 pub made_begins : (os rest : List ℕ) (at : ℕ) (named : Bool) (id : Identifier) (size : Size) → MakesHeader id size os
     → BeginsWith (os ++ rest) at named (new_header (record { offset = at; named = named; class = id.class; constructed = id.constructed; number = id.number; size = size; id_len = id.octets }) os)
 made_begins os rest at named id size m =
-    let front : take id.octets os ≡ m.identifier = rw (m.octets_are, m.identified.count) (take-append_seam m.identifier m.lengths) in
+    let prefix : take id.octets os ≡ m.identifier = rw (m.octets_are, m.identified.count) (take-append_seam m.identifier m.lengths) in
     let back : drop id.octets os ≡ m.lengths = rw (m.octets_are, m.identified.count) (drop-append_seam m.identifier m.lengths) in
     record {
-      valid = rw (front, back) (record { identifier = m.identified.identified; lengths = m.sized; allowed = m.allowed });
+      valid = rw (prefix, back) (record { identifier = m.identified.identified; lengths = m.sized; allowed = m.allowed });
       offset = refl;
       named = refl;
       rest = rest;
-      octets = rw (front, back, m.octets_are) refl;
+      octets = rw (prefix, back, m.octets_are) refl;
     }
 
 -- an identifier, and a length after it
-pub begins_short : (os : List ℕ) (at : ℕ) (named : Bool) (id : Identifier) (size : Size) (before count : ℕ) → BeginsWithIdentifier os id → before ≡ id.octets
-    → BeginsWithLength (take (length os - before) (drop before os)) id.constructed size count
-    → BeginsWithFields os at named (record { offset = at; named = named; class = id.class; constructed = id.constructed; number = id.number; size = size; id_len = id.octets }) (before + count)
-begins_short os at named id size before count i e l =
-    let rest : take (length os - before) (drop before os) ≡ drop before os = take_all (length os - before) (drop before os) (omega (arith, length-drop before os)) in
-    let l' : BeginsWithLength (drop before os) id.constructed size count = subst (λ (xs : List ℕ). BeginsWithLength xs id.constructed size count) rest l in
+pub begins_short : (os : List ℕ) (at : ℕ) (named : Bool) (id : Identifier) (size : Size) (id_len count : ℕ) → BeginsWithIdentifier os id → id_len ≡ id.octets
+    → BeginsWithLength (take (length os - id_len) (drop id_len os)) id.constructed size count
+    → BeginsWithFields os at named (record { offset = at; named = named; class = id.class; constructed = id.constructed; number = id.number; size = size; id_len = id.octets }) (id_len + count)
+begins_short os at named id size id_len count i e l =
+    let rest : take (length os - id_len) (drop id_len os) ≡ drop id_len os = take_all (length os - id_len) (drop id_len os) (omega (arith, length-drop id_len os)) in
+    let l' : BeginsWithLength (drop id_len os) id.constructed size count = subst (λ (xs : List ℕ). BeginsWithLength xs id.constructed size count) rest l in
     let i' : BeginsWithIdentifier os id = i in
-    let within : before + count ≤ length os = omega (arith, i'.within, l'.within, length-drop before os) in
-    let made : MakesHeader id size (take (before + count) os) = record {
-      identifier = take before os;
-      lengths = take count (drop before os);
+    let within : id_len + count ≤ length os = omega (arith, i'.within, l'.within, length-drop id_len os) in
+    let made : MakesHeader id size (take (id_len + count) os) = record {
+      identifier = take id_len os;
+      lengths = take count (drop id_len os);
       identified = rw e i'.carried;
       sized = l'.sized;
-      few = omega (arith, l'.few, length-take count (drop before os));
-      some = omega (arith, l'.some, l'.within, length-take count (drop before os));
+      few = omega (arith, l'.few, length-take count (drop id_len os));
+      some = omega (arith, l'.some, l'.within, length-take count (drop id_len os));
       allowed = l'.allowed;
-      octets_are = take-add before count os;
+      octets_are = take-add id_len count os;
     } in
     record {
       within = within;
-      sized = made_sized (take (before + count) os) _ id size made refl;
-      begins = subst (λ (xs : List ℕ). BeginsWith xs at named (new_header (record { offset = at; named = named; class = id.class; constructed = id.constructed; number = id.number; size = size; id_len = id.octets }) (take (before + count) os)))
-          (take-append-drop (before + count) os) (made_begins (take (before + count) os) (drop (before + count) os) at named id size made);
+      sized = made_sized (take (id_len + count) os) _ id size made refl;
+      begins = subst (λ (xs : List ℕ). BeginsWith xs at named (new_header (record { offset = at; named = named; class = id.class; constructed = id.constructed; number = id.number; size = size; id_len = id.octets }) (take (id_len + count) os)))
+          (take-append-drop (id_len + count) os) (made_begins (take (id_len + count) os) (drop (id_len + count) os) at named id size made);
     }

@@ -71,14 +71,14 @@ one-form c d k j n m i o p q e =
     let both : Named c k n i ≡ Named d j m o = sym left ∙ (ap (scan start) e ∙ right) in
     cc
 
--- of two fronts the shorter is a front of the other
-within-front : (o i x y : List ℕ) → length i ≤ length o → o ++ x ≡ i ++ y → (z : List ℕ) × (o ≡ i ++ z)
-within-front o [] x y h e = (o, refl)
-within-front [] (b ∷ i) x y h e = absurd (omega arith)
-within-front (a ∷ o) (b ∷ i) x y h e =
+-- of two prefixes the shorter is a prefix of the other
+within-prefix : (o i x y : List ℕ) → length i ≤ length o → o ++ x ≡ i ++ y → (z : List ℕ) × (o ≡ i ++ z)
+within-prefix o [] x y h e = (o, refl)
+within-prefix [] (b ∷ i) x y h e = absurd (omega arith)
+within-prefix (a ∷ o) (b ∷ i) x y h e =
     let same : a ≡ b = cc in
     let rest : o ++ x ≡ i ++ y = cc in
-    let r = within-front o i x y (omega arith) rest in
+    let r = within-prefix o i x y (omega arith) rest in
     (r.0, ap (λ (t : List ℕ). a ∷ t) r.1 ∙ ap (λ (u : ℕ). u ∷ (i ++ r.0)) same)
 
 -- there are length octets, and identifier octets
@@ -95,7 +95,7 @@ snoc≢nil : (os : List ℕ) (x : ℕ) → os ++ x ∷ [] ≢ []
 snoc≢nil [] x e = cc
 snoc≢nil (y ∷ os) x e = cc
 
--- a high form that has not ended has no identifier as its front
+-- a high form that has not ended has no identifier as a prefix
 unended : (id : Identifier) (o : List ℕ) (c : Class) (k : Bool) (n : ℕ) (i z : List ℕ) → CarriesNumber id o → IsIdentifier c k n i → o ≡ i ++ z → ⊥
 unended id o c k n i z h p e =
     let ended : CarriesIdentifier (record { class = id.class; constructed = id.constructed; number = id.number * 128 + 0; octets = id.octets + 1 }) (o ++ 0 ∷ []) =
@@ -104,21 +104,21 @@ unended id o c k n i z h p e =
     let same : o ++ 0 ∷ [] ≡ i = one-identifier _ c _ k _ n (o ++ 0 ∷ []) i [] (z ++ 0 ∷ []) ended.identified p whole in
     omega (arith, ap length same, length-append o (0 ∷ []), ap length e, length-append i z)
 
--- nor is one a front of it and another octet, if octets are left for a length
+-- nor is one a prefix of it and another octet, if octets are left for a length
 unended-length : (id : Identifier) (o : List ℕ) (x : ℕ) (c : Class) (k : Bool) (n : ℕ) (i l : List ℕ) → CarriesNumber id o → IsIdentifier c k n i → 1 ≤ length l
     → o ++ x ∷ [] ≡ i ++ l → ⊥
 unended-length id o x c k n i l h p some e =
-    let r = within-front o i (x ∷ []) l (omega (arith, ap length e, length-append o (x ∷ []), length-append i l)) e in
+    let r = within-prefix o i (x ∷ []) l (omega (arith, ap length e, length-append o (x ∷ []), length-append i l)) e in
     unended id o c k n i r.0 h p r.1
 
 -- after the high form so far no octet is refused, if there are at most seven digits
 unrefused : (code : FaultCode) (id : Identifier) (o : List ℕ) (x : ℕ) → CarriesNumber id o → length o ≤ 8 → IsRefusedOctet o x code → ⊥
-unrefused code id o x h few (tag_too_long c k digits front eight flag) =
-    let size : length o ≡ length digits + 1 = rw front.octets_are (omega (arith, length-map digits (λ d. 128 + d))) in
+unrefused code id o x h few (tag_too_long c k digits prefix eight flag) =
+    let size : length o ≡ length digits + 1 = rw prefix.octets_are (omega (arith, length-map digits (λ d. 128 + d))) in
     omega (arith, eight)
 unrefused code id o x h few (reserved_length c k n i all) = unended id o c k n o [] h i (sym (append-nil o))
 unrefused code id o x h few (indefinite_primitive c n i mark) = unended id o c false n o [] h i (sym (append-nil o))
-unrefused code id o x h few (length_too_large c k n i digits left front many nonzero) = unended id o c k n i _ h front.identified front.octets_are
+unrefused code id o x h few (length_too_large c k n i digits left prefix many nonzero) = unended id o c k n i _ h prefix.identified prefix.octets_are
 
 -- so an octet is read, and makes no header
 pub always-unfinished : (r : Next) (id : Identifier) (o : List ℕ) (x : ℕ) → CarriesNumber id o → length o ≤ 8 → MakesNext o x r
@@ -147,7 +147,7 @@ carried-on Start id o x h f not = absurd (snoc≢nil o x f)
 carried-on (Number d) id o x h f not = (d, refl, f)
 carried-on (Length d) id o x h f not = absurd (not d refl)
 carried-on (Digits d n left) id o x h f not =
-    absurd (unended-length id o x d.class d.constructed d.number f.identifier _ h f.front.identified (omega arith) f.front.octets_are)
+    absurd (unended-length id o x d.class d.constructed d.number f.identifier _ h f.prefix.identified (omega arith) f.prefix.octets_are)
 carried-on Done id o x h f not = absurd (snoc≢nil o x f)
 
 pub goes-on : (r : Next) (p : Part) (id : Identifier) (o : List ℕ) (x : ℕ) → CarriesNumber id o → MakesNext o x r → r ≡ Unfinished p
@@ -164,17 +164,17 @@ leads-on Start x h not nor = let none : x ∷ [] ≡ [] = h in cc
 leads-on (Number d) x h not nor = nor d refl
 leads-on (Length d) x h not nor = not d refl
 leads-on (Digits d n left) x h not nor =
-    some-identifier d.class d.constructed d.number h.identifier h.front.identified (short_front h.identifier _ _ x h.front.octets_are)
+    some-identifier d.class d.constructed d.number h.identifier h.prefix.identified (short_prefix h.identifier _ _ x h.prefix.octets_are)
   where
-    short_front : (i : List ℕ) (y : ℕ) (l : List ℕ) (x : ℕ) → x ∷ [] ≡ i ++ y ∷ l → i ≡ []
-    short_front [] y l x e = refl
-    short_front (a ∷ i) y l x e = absurd (omega (arith, ap length e, length-append i (y ∷ l)))
+    short_prefix : (i : List ℕ) (y : ℕ) (l : List ℕ) (x : ℕ) → x ∷ [] ≡ i ++ y ∷ l → i ≡ []
+    short_prefix [] y l x e = refl
+    short_prefix (a ∷ i) y l x e = absurd (omega (arith, ap length e, length-append i (y ∷ l)))
 leads-on Done x h not nor = let none : x ∷ [] ≡ [] = h in cc
 
 -- octets that begin with the high form so far begin with no identifier that ends within it
 none-after : (id : Identifier) (o more : List ℕ) (c : Class) (k : Bool) (n : ℕ) (i rest : List ℕ) → CarriesNumber id o → IsIdentifier c k n i
     → length i ≤ length o → o ++ more ≡ i ++ rest → ⊥
-none-after id o more c k n i rest h p few e = let r = within-front o i more rest few e in unended id o c k n i r.0 h p r.1
+none-after id o more c k n i rest h p few e = let r = within-prefix o i more rest few e in unended id o c k n i r.0 h p r.1
 
 -- the high form has not ended with the third octet
 pub no-third : (xs : List ℕ) (id : Identifier) → CarriesNumber id (get_or xs 0 0 ∷ get_or xs 1 0 ∷ get_or xs 2 0 ∷ []) → 3 ≤ length xs → BeginsWithNoIdentifier xs
@@ -187,22 +187,22 @@ no-third (x ∷ y ∷ z ∷ xs) id h some = λ c k n i rest p few more e. none-a
 pub no-short_identifier : (os : List ℕ) → BeginsWithNoIdentifier os → BeginsWithNoShortHeader os
 no-short_identifier os none = λ h rest v e few less.
     none h.class h.constructed h.number h.identifier (h.lengths ++ rest) v.identifier few
-    (λ z. some-length h.size h.lengths v.lengths (front-nil h.lengths rest z)) (e ∙ append_assoc h.identifier h.lengths rest)
+    (λ z. some-length h.size h.lengths v.lengths (prefix-nil h.lengths rest z)) (e ∙ append_assoc h.identifier h.lengths rest)
   where
-    front-nil : (a b : List ℕ) → a ++ b ≡ [] → a ≡ []
-    front-nil [] b e = refl
-    front-nil (x ∷ a) b e = absurd (cc)
+    prefix-nil : (a b : List ℕ) → a ++ b ≡ [] → a ≡ []
+    prefix-nil [] b e = refl
+    prefix-nil (x ∷ a) b e = absurd (cc)
 
 -- and then a length that its form may have
-pub no-short_length : (os : List ℕ) (id : Identifier) (before : ℕ) → BeginsWithIdentifier os id → before ≡ id.octets
-    → BeginsWithNoLength (take (length os - before) (drop before os)) id.constructed → BeginsWithNoShortHeader os
-no-short_length os id before b at none = λ h rest v e few less.
+pub no-short_length : (os : List ℕ) (id : Identifier) (id_len : ℕ) → BeginsWithIdentifier os id → id_len ≡ id.octets
+    → BeginsWithNoLength (take (length os - id_len) (drop id_len os)) id.constructed → BeginsWithNoShortHeader os
+no-short_length os id id_len b at none = λ h rest v e few less.
     let cut : os ≡ h.identifier ++ (h.lengths ++ rest) = e ∙ append_assoc h.identifier h.lengths rest in
-    let front : take id.octets os ≡ h.identifier =
+    let prefix : take id.octets os ≡ h.identifier =
     one-identifier _ h.class _ h.constructed _ h.number (take id.octets os) h.identifier (drop id.octets os) (h.lengths ++ rest) b.carried.identified v.identifier
     (take-append-drop id.octets os ∙ cut) in
-    let form : id.constructed ≡ h.constructed = one-form _ h.class _ h.constructed _ h.number (take id.octets os) h.identifier b.carried.identified v.identifier front in
-    let count : before ≡ length h.identifier = at ∙ (b.carried.count ∙ ap length front) in
-    let back : drop before os ≡ h.lengths ++ rest = rw (cut, count) (drop-append_seam h.identifier (h.lengths ++ rest)) in
-    let all : take (length os - before) (drop before os) ≡ drop before os = take_all (length os - before) (drop before os) (omega (arith, length-drop before os)) in
+    let form : id.constructed ≡ h.constructed = one-form _ h.class _ h.constructed _ h.number (take id.octets os) h.identifier b.carried.identified v.identifier prefix in
+    let count : id_len ≡ length h.identifier = at ∙ (b.carried.count ∙ ap length prefix) in
+    let back : drop id_len os ≡ h.lengths ++ rest = rw (cut, count) (drop-append_seam h.identifier (h.lengths ++ rest)) in
+    let all : take (length os - id_len) (drop id_len os) ≡ drop id_len os = take_all (length os - id_len) (drop id_len os) (omega (arith, length-drop id_len os)) in
     none h.size h.lengths rest v.lengths (subst (λ (k : Bool). AllowsSize k h.size) (sym form) v.allowed) less (all ∙ back)
