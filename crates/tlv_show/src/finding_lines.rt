@@ -95,7 +95,7 @@ fn write_listed(held: &mut HeldOctets, at: u64, finding: Finding)
     let (wording, count) = finding.padded_wording();
     held.number(at);
     held.add(b" ");
-    held.add_front(wording, count);
+    held.add_prefix(wording, count);
     held.add(b"\n");
 }
 

@@ -114,7 +114,7 @@ fn write_universal(held: &mut HeldOctets, number: u64)
     ensures bound { GrowsBy 40 held.old held.new }
 {
     match padded_name(number) {
-        Some((name, size)) => held.add_front(name, size),
+        Some((name, size)) => held.add_prefix(name, size),
         None => write_bracketed(held, b"[UNIVERSAL                      ", 11, number),
     }
 }
@@ -128,7 +128,7 @@ fn write_bracketed(held: &mut HeldOctets, front: &[u8; 32], count: usize, number
     ensures text { held.new ≡ held.old ++ (take count front.now ++ decimal number ++ 93 ∷ []) }
     ensures bound { GrowsBy 40 held.old held.new }
 {
-    held.add_front(front, count);
+    held.add_prefix(front, count);
     held.number(number);
     held.add(b"]");
 }

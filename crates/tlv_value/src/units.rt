@@ -25,7 +25,7 @@ pub(crate) fn write_characters(held: &mut HeldOctets, kind: Kind, row: &[u8])
     if has_ascii(kind) {
         let block = block_of(row);
         if are_plain(&block) {
-            return held.add_front(&block, row.len());
+            return held.add_prefix(&block, row.len());
         }
     }
     write_units(held, kind, row);

@@ -1,4 +1,4 @@
-//! Texts that are written to the front of octets.
+//! Texts that are written over the first of some octets.
 ghost use Rattle.std.specs.Prelude.{◌≡◌, ◌+◌, ◌*◌, ◌≤◌, length, take};
 ghost use Rattle.tlv_io.specs.LineTexts.{spaced_pairs, spaces};
 

@@ -10,7 +10,7 @@ returns-then-are_plain c =
     let row = c.args.row.now in
     let plain : list_all is_plain row ≡ true = ap (list_all is_plain) (sym c.block_of-block.ensures)
     ∙ plain-front (length row) _ (sym c.are_plain.ensures ∙ c.if-are_plain.true) in
-    c.add_front.ensures
+    c.add_prefix.ensures
     ∙ ap (λ (l : List ℕ). c.args.held.now ++ l)
     (c.block_of-block.ensures ∙ sym (plain-row c.args.kind row (sym c.has_ascii.ensures ∙ c.if-has_ascii.true) plain))
 
