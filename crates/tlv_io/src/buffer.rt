@@ -6,7 +6,7 @@ mod numbers;
 mod texts;
 
 use std::marker::Model;
-use texts::{fill_spaces, write_pairs, write_row};
+use texts::{fill_spaces, write_spaced_pairs, write_spaced_row};
 
 /// As many octets as are held at most.
 pub(crate) const CAPACITY: usize = 4096;
@@ -127,7 +127,7 @@ impl HeldOctets {
         ensures { self.new ≡ self.old ++ spaced_pairs octets.now }
     {
         let len = self.len();
-        write_pairs(octets, &mut self.octets[len..]);
+        write_spaced_pairs(octets, &mut self.octets[len..]);
         self.len = len + 3 * octets.len();
     }
 
@@ -138,7 +138,7 @@ impl HeldOctets {
         ensures { self.new ≡ self.old ++ spaced_pairs octets.now }
     {
         let len = self.len();
-        write_row(octets, &mut self.octets[len..]);
+        write_spaced_row(octets, &mut self.octets[len..]);
         self.len = len + 48;
     }
 
