@@ -1,7 +1,7 @@
 pub mod Steps
 pub mod Unfinished
-pub mod Front
+pub mod Prefix
 pub mod Exact
 pub mod OneReading
-pub mod ShortFronts
+pub mod ShortPrefixes
 pub mod FieldsOf

@@ -186,8 +186,8 @@ refused-padded_length = length_too_large Universal false 4 (0x04 ∷ []) (replic
 }) (lit≤ tt) (omega arith)
 
 -- 04 85 01: the same octet where four are to follow: with 00 they make a length of 2^32
-front-length : IsHeaderPrefix (0x04 ∷ 0x85 ∷ 0x01 ∷ [])
-front-length = record {
+prefix-length : IsHeaderPrefix (0x04 ∷ 0x85 ∷ 0x01 ∷ [])
+prefix-length = record {
   header = first Universal false 4 (Definite 4294967296) (0x04 ∷ []) (0x85 ∷ 0x01 ∷ 0x00 ∷ 0x00 ∷ 0x00 ∷ 0x00 ∷ []);
   more = 0x00 ∷ 0x00 ∷ 0x00 ∷ 0x00 ∷ [];
   valid = record {
@@ -204,17 +204,17 @@ front-length = record {
     allowed = refl;
   };
   proper = λ e. cc;
-  front = refl;
+  prefix = refl;
 }
 
 -- 1f: with 02 01 it is a header
-front-high_form : IsHeaderPrefix (0x1f ∷ [])
-front-high_form = record {
+prefix-high_form : IsHeaderPrefix (0x1f ∷ [])
+prefix-high_form = record {
   header = first Universal false 2 (Definite 1) (0x1f ∷ 0x02 ∷ []) (0x01 ∷ []);
   more = 0x02 ∷ 0x01 ∷ [];
   valid = high-integer_header;
   proper = λ e. cc;
-  front = refl;
+  prefix = refl;
 }
 
 -- 30 80 00 00: a header and two octets

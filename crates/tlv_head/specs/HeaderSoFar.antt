@@ -11,7 +11,7 @@ use Rattle.tlv_head.specs.declared.reader.HeadReader.TheInside.{Inside}
 -- the identifier octets so far are in the high form
 pub record CarriesNumber (id : Identifier) (octets : List ℕ) : Type 0 where
   pub digits : List ℕ
-  pub front : IsNumberPrefix id.class id.constructed digits octets
+  pub prefix : IsNumberPrefix id.class id.constructed digits octets
   pub count : id.octets ≡ length digits + 1
   pub few : length digits ≤ 8
   pub value : id.number ≡ value_of 128 digits
@@ -26,7 +26,7 @@ pub record CarriesIdentifier (id : Identifier) (octets : List ℕ) : Type 0 wher
 pub record CarriesLength (id : Identifier) (n left : ℕ) (octets : List ℕ) : Type 0 where
   pub identifier : List ℕ
   pub digits : List ℕ
-  pub front : IsLengthPrefix id.class id.constructed id.number identifier digits left octets
+  pub prefix : IsLengthPrefix id.class id.constructed id.number identifier digits left octets
   pub count : id.octets ≡ length identifier
   pub few : length identifier ≤ 10
   pub value : n ≡ value_of 256 digits

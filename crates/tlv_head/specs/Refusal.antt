@@ -12,7 +12,7 @@ pub record IsHeaderPrefix (octets : List ℕ) : Type 0 where
   pub more : List ℕ
   pub valid : IsHeader header
   pub proper : more ≢ []
-  pub front : octets ++ more ≡ octets_of header
+  pub prefix : octets ++ more ≡ octets_of header
 
 -- octets with which no header begins
 abbrev pub CannotBecomeHeader : List ℕ → Type 0

@@ -45,11 +45,11 @@ pub fn read_short(offset: u64, named: bool, octets: &[u8]) -> Option<(HeaderFiel
     ensures short { IfSome result (λ found. IsShortHeader found.0 found.1) }
 {
     let identifier = short_identifier(octets)?;
-    let before = usize::from(identifier.octets);
-    let (size, count) = short_length(identifier.constructed, &octets[before..])?;
+    let id_len = usize::from(identifier.octets);
+    let (size, count) = short_length(identifier.constructed, &octets[id_len..])?;
     Some((
         header_fields(offset, named, identifier, size),
-        before + count,
+        id_len + count,
     ))
 }
 

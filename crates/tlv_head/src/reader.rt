@@ -100,7 +100,7 @@ impl HeadReader {
             }
             Next::Finished(identifier, size) => {
                 let fields = header_fields(self.offset, self.named, identifier, size);
-                if depth >= 128 && holds(&fields) {
+                if depth >= 128 && fields_hold(&fields) {
                     return refusal(FaultCode::TooDeep, offset);
                 }
                 if !contents_fit(size, room) {
@@ -121,7 +121,7 @@ fn refusal(code: FaultCode, offset: u64) -> Head
 }
 
 /// Whether an element with these fields holds others: it is constructed, or a string that wraps encodings.
-fn holds(fields: &HeaderFields) -> bool
+fn fields_hold(fields: &HeaderFields) -> bool
     ensures { result ≡ fields_hold fields.now }
 {
     fields.constructed || fields.wraps()

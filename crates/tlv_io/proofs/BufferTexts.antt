@@ -29,20 +29,20 @@ held_up_to octets held len count is size within = ap (λ (n : ℕ). take n octet
 
 -- ---- a text after the octets that stay
 
--- the rest was lent, and a text was written to its front
+-- the rest was lent, and a text was written to its first places
 pub part_written : (old part text : List ℕ) (at n : ℕ) → at ≤ length old → take n part ≡ text → take (at + n) (take at old ++ part) ≡ take at old ++ text
 part_written old part text at n within e =
     let size : length (take at old) ≡ at = length-take-le at old within in
     ap (λ (k : ℕ). take (k + n) (take at old ++ part)) (sym size) ∙ take-append-add (take at old) part n ∙ ap (λ (l : List ℕ). take at old ++ l) e
 
 -- of which more was lent than the text takes
-pub front_written : (old part tail text : List ℕ) (at n : ℕ) → at ≤ length old → n ≤ length part → take n part ≡ text → take (at + n) (take at old ++ (part ++ tail)) ≡ take at old ++ text
-front_written old part tail text at n within long e = part_written old (part ++ tail) text at n within (take-append-le n part tail long ∙ e)
+pub prefix_written : (old part tail text : List ℕ) (at n : ℕ) → at ≤ length old → n ≤ length part → take n part ≡ text → take (at + n) (take at old ++ (part ++ tail)) ≡ take at old ++ text
+prefix_written old part tail text at n within long e = part_written old (part ++ tail) text at n within (take-append-le n part tail long ∙ e)
 
 -- a text was written after what stays
-pub text_written : (new front text rest : List ℕ) (start n : ℕ) → take start new ≡ front → drop start new ≡ text ++ rest → n ≡ start + length text → take n new ≡ front ++ text
-text_written new front text rest start n kept written e =
-    ap (λ (k : ℕ). take k new) e ∙ take-add start (length text) new ∙ ap₂ (λ (k l : List ℕ). k ++ take (length text) l) kept written ∙ ap (λ (l : List ℕ). front ++ l) (take-append_seam text rest)
+pub text_written : (new prefix text rest : List ℕ) (start n : ℕ) → take start new ≡ prefix → drop start new ≡ text ++ rest → n ≡ start + length text → take n new ≡ prefix ++ text
+text_written new prefix text rest start n kept written e =
+    ap (λ (k : ℕ). take k new) e ∙ take-add start (length text) new ∙ ap₂ (λ (k l : List ℕ). k ++ take (length text) l) kept written ∙ ap (λ (l : List ℕ). prefix ++ l) (take-append_seam text rest)
 
 -- spaces were written to so many places, and then a text to their right end
 pub right_written : (old new tail text rest pad : List ℕ) (at start places : ℕ) → at ≤ length old → length text ≤ places → start + length text ≡ at + places → pad ≡ spaces places
@@ -52,8 +52,8 @@ right_written old new tail text rest pad at start places within short e is kept 
     let from : start ≡ at + left = omega (arith, e, short) in
     let size : length pad ≡ places = ap length is ∙ length-replicate places 32 in
     let blank : take left (pad ++ tail) ≡ spaces left = take-append-le left pad tail (omega (arith, size)) ∙ ap (take left) is ∙ take-replicate left places 32 (omega arith) in
-    let front : take start new ≡ take at old ++ spaces left = kept ∙ ap (λ (k : ℕ). take k (take at old ++ (pad ++ tail))) from ∙ part_written old (pad ++ tail) (spaces left) at left within blank in
-    text_written new (take at old ++ spaces left) text rest start (at + places) front written (sym e) ∙ append_assoc (take at old) (spaces left) text
+    let taken : take start new ≡ take at old ++ spaces left = kept ∙ ap (λ (k : ℕ). take k (take at old ++ (pad ++ tail))) from ∙ part_written old (pad ++ tail) (spaces left) at left within blank in
+    text_written new (take at old ++ spaces left) text rest start (at + places) taken written (sym e) ∙ append_assoc (take at old) (spaces left) text
 
 -- a long text stands as it is
 pub right_long : (places : ℕ) (text : List ℕ) → places ≤ length text → right_aligned places text ≡ text
@@ -62,8 +62,8 @@ right_long places text long = let none : places - length text ≡ 0 = omega (ari
 -- ---- spaces
 
 -- 32 of them hold as many as are wanted
-pub spaces_front : (count : ℕ) (pad tail : List ℕ) → pad ≡ replicate 32 32 → count ≤ 32 → take count (pad ++ tail) ≡ spaces count
-spaces_front count pad tail e few =
+pub spaces_prefix : (count : ℕ) (pad tail : List ℕ) → pad ≡ replicate 32 32 → count ≤ 32 → take count (pad ++ tail) ≡ spaces count
+spaces_prefix count pad tail e few =
     ap (λ (l : List ℕ). take count (l ++ tail)) e
     ∙ take-append-le count (replicate 32 32) tail (omega (arith, length-replicate {A = ℕ} 32 32, few))
     ∙ take-replicate count 32 32 few
@@ -72,7 +72,7 @@ spaces_front count pad tail e few =
 pub spaces_step : (to pad tail : List ℕ) (done : ℕ) → done ≤ length to → pad ≡ replicate 32 32 → take done to ≡ spaces done → take (done + 32) (take done to ++ (pad ++ tail)) ≡ spaces (done + 32)
 spaces_step to pad tail done within e is =
     let more : List ℕ = replicate 32 32 in
-    part_written to (pad ++ tail) more done 32 within (spaces_front 32 pad tail e (omega arith))
+    part_written to (pad ++ tail) more done 32 within (spaces_prefix 32 pad tail e (omega arith))
     ∙ ap (λ (l : List ℕ). l ++ more) is
     ∙ replicate-append-replicate done 32 32
 
@@ -83,21 +83,21 @@ spaces_of_more count done to more e = sym (take-take count done to more) ∙ ap 
 -- ---- the first columns of a line
 
 -- a text was written to the right end of so many spaces
-pub right_end : (old new front text tail : List ℕ) (start places : ℕ) → old ≡ front ++ (spaces places ++ tail) → length text ≤ places → start + length text ≡ length front + places
-    → take start new ≡ take start old → drop start new ≡ text ++ drop (length front + places) old → new ≡ front ++ (right_aligned places text ++ tail)
-right_end old new front text tail start places is short e kept written =
+pub right_end : (old new prefix text tail : List ℕ) (start places : ℕ) → old ≡ prefix ++ (spaces places ++ tail) → length text ≤ places → start + length text ≡ length prefix + places
+    → take start new ≡ take start old → drop start new ≡ text ++ drop (length prefix + places) old → new ≡ prefix ++ (right_aligned places text ++ tail)
+right_end old new prefix text tail start places is short e kept written =
     let left : ℕ = places - length text in
-    let from : start ≡ length front + left = omega (arith, e, short) in
+    let from : start ≡ length prefix + left = omega (arith, e, short) in
     let size : length (spaces places) ≡ places = length-replicate places 32 in
     let blank : take left (spaces places ++ tail) ≡ spaces left = take-append-le left (spaces places) tail (omega (arith, size)) ∙ take-replicate left places 32 (omega arith) in
-    let before : take start old ≡ front ++ spaces left =
-    ap (take start) is ∙ ap (λ (k : ℕ). take k (front ++ (spaces places ++ tail))) from ∙ take-append-add front (spaces places ++ tail) left ∙ ap (λ (l : List ℕ). front ++ l) blank in
-    let after : drop (length front + places) old ≡ tail =
-    ap (drop (length front + places)) is ∙ drop-append-add front (spaces places ++ tail) places ∙ ap (λ (k : ℕ). drop k (spaces places ++ tail)) (sym size) ∙ drop-append_seam (spaces places) tail in
+    let taken : take start old ≡ prefix ++ spaces left =
+    ap (take start) is ∙ ap (λ (k : ℕ). take k (prefix ++ (spaces places ++ tail))) from ∙ take-append-add prefix (spaces places ++ tail) left ∙ ap (λ (l : List ℕ). prefix ++ l) blank in
+    let dropped : drop (length prefix + places) old ≡ tail =
+    ap (drop (length prefix + places)) is ∙ drop-append-add prefix (spaces places ++ tail) places ∙ ap (λ (k : ℕ). drop k (spaces places ++ tail)) (sym size) ∙ drop-append_seam (spaces places) tail in
     sym (take-append-drop start new)
-    ∙ ap₂ (λ (k l : List ℕ). k ++ l) (kept ∙ before) (written ∙ ap (λ (l : List ℕ). text ++ l) after)
-    ∙ append_assoc front (spaces left) (text ++ tail)
-    ∙ ap (λ (l : List ℕ). front ++ l) (sym (append_assoc (spaces left) text tail))
+    ∙ ap₂ (λ (k l : List ℕ). k ++ l) (kept ∙ taken) (written ∙ ap (λ (l : List ℕ). text ++ l) dropped)
+    ∙ append_assoc prefix (spaces left) (text ++ tail)
+    ∙ ap (λ (l : List ℕ). prefix ++ l) (sym (append_assoc (spaces left) text tail))
 
 -- a text that is not too long takes so many places
 right-size : (places : ℕ) (text : List ℕ) → length text ≤ places → length (right_aligned places text) ≡ places
@@ -109,39 +109,39 @@ right-short places n few fits =
     omega (arith, length-append (spaces (places - length (decimal n))) (decimal n), length-replicate {A = ℕ} (places - length (decimal n)) 32, length-decimal-le 20 n (omega arith) (omega arith) fits)
 
 -- a colon was written to spaces
-blank_columns : (front tail : List ℕ) (at : ℕ) → length front ≡ at → set (front ++ (spaces 17 ++ tail)) (at + 15) 58 ≡ front ++ (spaces 15 ++ 58 ∷ 32 ∷ tail)
-blank_columns front tail at size =
-    set-append_right front (spaces 17 ++ tail) at (at + 15) 58 size (omega arith)
-    ∙ let place : at + 15 - at ≡ 15 = omega arith in ap (λ (n : ℕ). front ++ set (spaces 17 ++ tail) n 58) place
+blank_columns : (prefix tail : List ℕ) (at : ℕ) → length prefix ≡ at → set (prefix ++ (spaces 17 ++ tail)) (at + 15) 58 ≡ prefix ++ (spaces 15 ++ 58 ∷ 32 ∷ tail)
+blank_columns prefix tail at size =
+    set-append_right prefix (spaces 17 ++ tail) at (at + 15) 58 size (omega arith)
+    ∙ let place : at + 15 - at ≡ 15 = omega arith in ap (λ (n : ℕ). prefix ++ set (spaces 17 ++ tail) n 58) place
 
 module _ (old first tail : List ℕ) (at : ℕ) (within : at ≤ length old) (short : length first ≤ 8) where
   -- what stands before the second column
-  abbrev pub front_column : List ℕ
-  front_column = take at old ++ (right_aligned 8 first ++ 32 ∷ [])
+  abbrev pub first_column : List ℕ
+  first_column = take at old ++ (right_aligned 8 first ++ 32 ∷ [])
 
   -- and both columns
   abbrev pub columns_of : List ℕ → List ℕ
   columns_of second = right_aligned 8 first ++ 32 ∷ [] ++ second ++ 58 ∷ 32 ∷ []
 
-  pub front-size : length front_column ≡ at + 9
-  front-size = omega (arith, length-append (take at old) (right_aligned 8 first ++ 32 ∷ []), length-take-le at old within, length-append (right_aligned 8 first) (32 ∷ []), right-size 8 first short)
+  pub first_column-size : length first_column ≡ at + 9
+  first_column-size = omega (arith, length-append (take at old) (right_aligned 8 first ++ 32 ∷ []), length-take-le at old within, length-append (right_aligned 8 first) (32 ∷ []), right-size 8 first short)
 
   -- spaces and a colon stand there, and an offset was written to them
-  pub offset_written : (pad mid : List ℕ) (start : ℕ) → pad ≡ spaces 17 → start + length first ≡ at + 8
-      → take start mid ≡ take start (set (take at old ++ (pad ++ tail)) (at + 15) 58) → drop start mid ≡ first ++ drop (at + 8) (set (take at old ++ (pad ++ tail)) (at + 15) 58)
-      → mid ≡ front_column ++ (spaces 6 ++ 58 ∷ 32 ∷ tail)
-  offset_written pad mid start blank e kept written =
+  pub offset_written : (pad middle : List ℕ) (start : ℕ) → pad ≡ spaces 17 → start + length first ≡ at + 8
+      → take start middle ≡ take start (set (take at old ++ (pad ++ tail)) (at + 15) 58) → drop start middle ≡ first ++ drop (at + 8) (set (take at old ++ (pad ++ tail)) (at + 15) 58)
+      → middle ≡ first_column ++ (spaces 6 ++ 58 ∷ 32 ∷ tail)
+  offset_written pad middle start blank e kept written =
       let size : length (take at old) ≡ at = length-take-le at old within in
       let there : List ℕ = set (take at old ++ (pad ++ tail)) (at + 15) 58 in
       let more : List ℕ = 32 ∷ (spaces 6 ++ 58 ∷ 32 ∷ tail) in
       let is = ap (λ (l : List ℕ). set (take at old ++ (l ++ tail)) (at + 15) 58) blank ∙ blank_columns (take at old) tail at size in
-      right_end there mid (take at old) first more start 8 is short (omega (arith, e, size)) kept
+      right_end there middle (take at old) first more start 8 is short (omega (arith, e, size)) kept
       (written ∙ ap (λ (n : ℕ). first ++ drop (n + 8) there) (sym size))
       ∙ ap (λ (l : List ℕ). take at old ++ l) (sym (append_assoc (right_aligned 8 first) (32 ∷ []) (spaces 6 ++ 58 ∷ 32 ∷ tail)))
       ∙ sym (append_assoc (take at old) (right_aligned 8 first ++ 32 ∷ []) (spaces 6 ++ 58 ∷ 32 ∷ tail))
 
   -- both columns are there
-  pub columns_there : (new second : List ℕ) → length second ≡ 6 → new ≡ front_column ++ (second ++ 58 ∷ 32 ∷ tail)
+  pub columns_there : (new second : List ℕ) → length second ≡ 6 → new ≡ first_column ++ (second ++ 58 ∷ 32 ∷ tail)
       → take (at + 17) new ≡ take at old ++ columns_of second
   columns_there new second six is =
       let whole : List ℕ = take at old ++ columns_of second in
@@ -152,23 +152,23 @@ module _ (old first tail : List ℕ) (at : ℕ) (within : at ≤ length old) (sh
       ap₂ take (sym all) same ∙ take-append_seam whole tail
 
   -- a size was written after the offset
-  pub size_written : (mid new text : List ℕ) (start : ℕ) → mid ≡ front_column ++ (spaces 6 ++ 58 ∷ 32 ∷ tail) → length text ≤ 6 → start + length text ≡ at + 15
-      → take start new ≡ take start mid → drop start new ≡ text ++ drop (at + 15) mid
+  pub size_written : (middle new text : List ℕ) (start : ℕ) → middle ≡ first_column ++ (spaces 6 ++ 58 ∷ 32 ∷ tail) → length text ≤ 6 → start + length text ≡ at + 15
+      → take start new ≡ take start middle → drop start new ≡ text ++ drop (at + 15) middle
       → take (at + 17) new ≡ take at old ++ columns_of (right_aligned 6 text)
-  size_written mid new text start is few e kept written =
+  size_written middle new text start is few e kept written =
       columns_there new (right_aligned 6 text) (right-size 6 text few)
-      (right_end mid new front_column text (58 ∷ 32 ∷ tail) start 6 is few (omega (arith, e, front-size)) kept (written ∙ ap (λ (n : ℕ). text ++ drop n mid) (omega (arith, front-size))))
+      (right_end middle new first_column text (58 ∷ 32 ∷ tail) start 6 is few (omega (arith, e, first_column-size)) kept (written ∙ ap (λ (n : ℕ). text ++ drop n middle) (omega (arith, first_column-size))))
 
   -- a word was written after the offset
-  pub word_written : (mid there word : List ℕ) → mid ≡ front_column ++ (spaces 6 ++ 58 ∷ 32 ∷ tail) → length word ≡ 6 → there ≡ word
-      → take (at + 17) (take (at + 9) mid ++ (there ++ drop (at + 15 - (at + 9)) (drop (at + 9) mid))) ≡ take at old ++ columns_of (right_aligned 6 word)
-  word_written mid there word is six same =
-      let after : List ℕ = spaces 6 ++ 58 ∷ 32 ∷ tail in
-      let front : take (at + 9) mid ≡ front_column = ap₂ take (sym front-size) is ∙ take-append_seam front_column after in
-      let back : drop (at + 15 - (at + 9)) (drop (at + 9) mid) ≡ 58 ∷ 32 ∷ tail =
-      drop-drop (at + 15 - (at + 9)) (at + 9) mid ∙ ap₂ (λ (n : ℕ) (l : List ℕ). drop n l) (omega (arith, front-size)) is ∙ drop-append-add front_column after 6 in
-      let t = ap₂ (λ (k l : List ℕ). k ++ l) front (ap₂ (λ (k l : List ℕ). k ++ l) same back) in
-      columns_there (take (at + 9) mid ++ (there ++ drop (at + 15 - (at + 9)) (drop (at + 9) mid))) word six t
+  pub word_written : (middle there word : List ℕ) → middle ≡ first_column ++ (spaces 6 ++ 58 ∷ 32 ∷ tail) → length word ≡ 6 → there ≡ word
+      → take (at + 17) (take (at + 9) middle ++ (there ++ drop (at + 15 - (at + 9)) (drop (at + 9) middle))) ≡ take at old ++ columns_of (right_aligned 6 word)
+  word_written middle there word is six same =
+      let rest : List ℕ = spaces 6 ++ 58 ∷ 32 ∷ tail in
+      let taken : take (at + 9) middle ≡ first_column = ap₂ take (sym first_column-size) is ∙ take-append_seam first_column rest in
+      let dropped : drop (at + 15 - (at + 9)) (drop (at + 9) middle) ≡ 58 ∷ 32 ∷ tail =
+      drop-drop (at + 15 - (at + 9)) (at + 9) middle ∙ ap₂ (λ (n : ℕ) (l : List ℕ). drop n l) (omega (arith, first_column-size)) is ∙ drop-append-add first_column rest 6 in
+      let t = ap₂ (λ (k l : List ℕ). k ++ l) taken (ap₂ (λ (k l : List ℕ). k ++ l) same dropped) in
+      columns_there (take (at + 9) middle ++ (there ++ drop (at + 15 - (at + 9)) (drop (at + 9) middle))) word six t
       ∙ ap (λ (l : List ℕ). take at old ++ columns_of l) (sym (right_long 6 word (omega (arith, six))))
 
 -- ---- how many digits a number has
@@ -220,20 +220,20 @@ pub row_step : (octets to new pair rest : List ℕ) (i : ℕ) → i < 16 → len
     → pair ≡ encode_lower (get_or octets i 0 ∷ []) → new ≡ take (3 * i + 1) to ++ (pair ++ drop (3 * i + 3 - (3 * i + 1)) (drop (3 * i + 1) to))
     → new ≡ spaced_pairs (take (i + 1) octets) ++ (spaces (48 - 3 * (i + 1)) ++ rest)
 row_step octets to new pair rest i few whole is p e =
-    let before : List ℕ = spaced_pairs (take i octets) in
-    let after : List ℕ = spaces (48 - 3 * (i + 1)) ++ rest in
-    let size : length before ≡ 3 * i = pairs-size (take i octets) ∙ ap (λ (n : ℕ). 3 * n) (length-take-le i octets (omega arith)) in
+    let prefix : List ℕ = spaced_pairs (take i octets) in
+    let tail : List ℕ = spaces (48 - 3 * (i + 1)) ++ rest in
+    let size : length prefix ≡ 3 * i = pairs-size (take i octets) ∙ ap (λ (n : ℕ). 3 * n) (length-take-le i octets (omega arith)) in
     let three : 48 - 3 * i ≡ suc (suc (suc (48 - 3 * (i + 1)))) = omega (arith, few) in
-    let t : to ≡ before ++ (32 ∷ 32 ∷ 32 ∷ after) = is ∙ ap (λ (n : ℕ). before ++ (spaces n ++ rest)) three in
-    let front : take (3 * i + 1) to ≡ before ++ 32 ∷ [] = ap₂ (λ (n : ℕ) (l : List ℕ). take (n + 1) l) (sym size) t ∙ take-append-add before (32 ∷ 32 ∷ 32 ∷ after) 1 in
-    let back : drop (3 * i + 3 - (3 * i + 1)) (drop (3 * i + 1) to) ≡ after =
-    drop-drop (3 * i + 3 - (3 * i + 1)) (3 * i + 1) to ∙ ap₂ (λ (n : ℕ) (l : List ℕ). drop n l) (omega (arith, size)) t ∙ drop-append-add before (32 ∷ 32 ∷ 32 ∷ after) 3 in
+    let t : to ≡ prefix ++ (32 ∷ 32 ∷ 32 ∷ tail) = is ∙ ap (λ (n : ℕ). prefix ++ (spaces n ++ rest)) three in
+    let taken : take (3 * i + 1) to ≡ prefix ++ 32 ∷ [] = ap₂ (λ (n : ℕ) (l : List ℕ). take (n + 1) l) (sym size) t ∙ take-append-add prefix (32 ∷ 32 ∷ 32 ∷ tail) 1 in
+    let dropped : drop (3 * i + 3 - (3 * i + 1)) (drop (3 * i + 1) to) ≡ tail =
+    drop-drop (3 * i + 3 - (3 * i + 1)) (3 * i + 1) to ∙ ap₂ (λ (n : ℕ) (l : List ℕ). drop n l) (omega (arith, size)) t ∙ drop-append-add prefix (32 ∷ 32 ∷ 32 ∷ tail) 3 in
     e
-    ∙ ap₂ (λ (k l : List ℕ). k ++ (pair ++ l)) front back
-    ∙ ap (λ (l : List ℕ). (before ++ 32 ∷ []) ++ (l ++ after)) p
-    ∙ append_assoc before (32 ∷ []) (encode_lower (get_or octets i 0 ∷ []) ++ after)
-    ∙ sym (append_assoc before (32 ∷ encode_lower (get_or octets i 0 ∷ [])) after)
-    ∙ ap (λ (l : List ℕ). l ++ after) (sym (pairs-more octets i (omega arith)))
+    ∙ ap₂ (λ (k l : List ℕ). k ++ (pair ++ l)) taken dropped
+    ∙ ap (λ (l : List ℕ). (prefix ++ 32 ∷ []) ++ (l ++ tail)) p
+    ∙ append_assoc prefix (32 ∷ []) (encode_lower (get_or octets i 0 ∷ []) ++ tail)
+    ∙ sym (append_assoc prefix (32 ∷ encode_lower (get_or octets i 0 ∷ [])) tail)
+    ∙ ap (λ (l : List ℕ). l ++ tail) (sym (pairs-more octets i (omega arith)))
 
 -- all 16
 pub row_whole : (octets to rest : List ℕ) (i : ℕ) → i ≡ 16 → length octets ≡ 16 → to ≡ spaced_pairs (take i octets) ++ (spaces (48 - 3 * i) ++ rest) → take 48 to ≡ spaced_pairs octets
@@ -247,14 +247,14 @@ row_whole octets to rest i last whole is =
 pub pairs_step : (octets to pair tail : List ℕ) (i : ℕ) → i < length octets → 3 * i + 3 ≤ length to → take (3 * i) to ≡ spaced_pairs (take i octets) → pair ≡ encode_lower (get_or octets i 0 ∷ [])
     → take (3 * (i + 1)) (take (3 * i + 1) (set to (3 * i) 32) ++ (pair ++ tail)) ≡ spaced_pairs (take (i + 1) octets)
 pairs_step octets to pair tail i more within t e =
-    let before : List ℕ = spaced_pairs (take i octets) in
-    let front : take (3 * i + 1) (set to (3 * i) 32) ≡ before ++ 32 ∷ [] = take_more_set to (3 * i) 32 (omega (arith, within)) ∙ ap (λ (l : List ℕ). l ++ 32 ∷ []) t in
-    let size : length (take (3 * i + 1) (set to (3 * i) 32)) ≡ 3 * i + 1 = ap length front ∙ length-append before (32 ∷ []) ∙ ap (λ (l : List ℕ). length l + 1) (sym t) ∙ ap (λ (n : ℕ). n + 1) (length-take-le (3 * i) to (omega (arith, within))) in
+    let prefix : List ℕ = spaced_pairs (take i octets) in
+    let taken : take (3 * i + 1) (set to (3 * i) 32) ≡ prefix ++ 32 ∷ [] = take_more_set to (3 * i) 32 (omega (arith, within)) ∙ ap (λ (l : List ℕ). l ++ 32 ∷ []) t in
+    let size : length (take (3 * i + 1) (set to (3 * i) 32)) ≡ 3 * i + 1 = ap length taken ∙ length-append prefix (32 ∷ []) ∙ ap (λ (l : List ℕ). length l + 1) (sym t) ∙ ap (λ (n : ℕ). n + 1) (length-take-le (3 * i) to (omega (arith, within))) in
     let two : length pair ≡ 2 = ap length e ∙ length-encode_with lower_digits (get_or octets i 0 ∷ []) in
     let whole : 3 * (i + 1) ≡ length (take (3 * i + 1) (set to (3 * i) 32)) + length pair = omega (arith, size, two) in
     ap (λ (n : ℕ). take n (take (3 * i + 1) (set to (3 * i) 32) ++ (pair ++ tail))) whole
     ∙ take-append-add (take (3 * i + 1) (set to (3 * i) 32)) (pair ++ tail) (length pair)
-    ∙ ap₂ (λ (k l : List ℕ). k ++ l) front (take-append_seam pair tail)
-    ∙ append_assoc before (32 ∷ []) pair
-    ∙ ap (λ (l : List ℕ). before ++ 32 ∷ l) e
+    ∙ ap₂ (λ (k l : List ℕ). k ++ l) taken (take-append_seam pair tail)
+    ∙ append_assoc prefix (32 ∷ []) pair
+    ∙ ap (λ (l : List ℕ). prefix ++ 32 ∷ l) e
     ∙ sym (pairs-more octets i more)

@@ -44,9 +44,9 @@ pub record Gathered (old new : SourceState) : Type 0 where
 abbrev pub gathered_none : (old : SourceState) → Gathered old old
 gathered_none old = record { pieces = []; each = All-nil IsPiece; reads = refl; consumed = Consumes-nil old.left }
 
-module _ (old mid new : SourceState) (x : Gathered old mid) (r : List ℕ) (consumed : Consumes mid.left new.left r) (read : new.reads ≡ next_count mid.reads) where
+module _ (old middle new : SourceState) (x : Gathered old middle) (r : List ℕ) (consumed : Consumes middle.left new.left r) (read : new.reads ≡ next_count middle.reads) where
   pub all_consumed : Consumes old.left new.left (concat x.pieces ++ r)
-  all_consumed = Consumes-trans old.left mid.left new.left (concat x.pieces) r x.consumed consumed
+  all_consumed = Consumes-trans old.left middle.left new.left (concat x.pieces) r x.consumed consumed
 
   -- one read more
   abbrev pub gathered_more : IsPiece r → Gathered old new

@@ -44,8 +44,8 @@ next_count n = count_after n 1
 module _ {T E : Type 0} where
   -- how many calls have failed after one with this result
   abbrev pub failures_after : Result T E → ℕ → ℕ
-  failures_after (Ok x) before = before
-  failures_after (Err e) before = next_count before
+  failures_after (Ok x) old = old
+  failures_after (Err e) old = next_count old
 
 module _ {E : Type 0} where
   -- what a read with this result gave

@@ -4,8 +4,8 @@ use Rattle.std.specs.Borrow.{MutBor}
 use Rattle.tlv_io.specs.Device.{DrainState, next_count}
 use Rattle.tlv_io.specs.declared.memory.MemDrain.{MemDrain}
 
--- what a drain over memory has taken, which is at the front of its room, the rest of the room, how many octets one
--- write takes at most, and how many writes failed
+-- what a drain over memory has taken, which is a prefix of its room; the rest of the room; how many octets one write
+-- takes at most; and how many writes failed
 pub record MemDrainState : Type 0 where
   pub taken : List ℕ
   pub rest : List ℕ

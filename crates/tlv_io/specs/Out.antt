@@ -19,7 +19,7 @@ module _ {T E : Type 0} where
   pub record Sends (old new : DrainState) (octets : List ℕ) (result : Result T E) : Type 0 where
     pub sent : List ℕ
     pub left : List ℕ
-    pub front : sent ++ left ≡ octets
+    pub prefix : sent ++ left ≡ octets
     pub took : Appends old.octets new.octets sent
     pub all : OnOk result (left ≡ [])
     pub not_all : OnErr result (left ≢ [])
@@ -33,7 +33,7 @@ module _ {T E : Type 0} where
     pub same_reference : (drain_of new).ghost_name ≡ (drain_of old).ghost_name
     pub sent : List ℕ
     pub left : List ℕ
-    pub front : sent ++ left ≡ held_octets old ++ octets
+    pub prefix : sent ++ left ≡ held_octets old ++ octets
     pub took : Appends (state_of (drain_of old).now).octets (state_of (drain_of new).now).octets sent
     pub held : OnOk result (held_octets new ≡ left)
     pub lost : OnErr result (left ≢ [])

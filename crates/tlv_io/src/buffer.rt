@@ -6,7 +6,7 @@ mod numbers;
 mod texts;
 
 use std::marker::Model;
-use texts::{fill_spaces, write_pairs, write_row};
+use texts::{fill_spaces, write_spaced_pairs, write_spaced_row};
 
 /// As many octets as are held at most.
 pub(crate) const CAPACITY: usize = 4096;
@@ -88,7 +88,7 @@ impl HeldOctets {
 
     /// Adds the first of these octets. There is room for all, so that they can be copied at once.
     #[inline(always)]
-    pub fn add_front<const N: usize>(&mut self, octets: &[u8; N], count: usize)
+    pub fn add_prefix<const N: usize>(&mut self, octets: &[u8; N], count: usize)
         requires few { count ≤ N }
         requires room { HasRoomFor self.old N }
         ensures { self.new ≡ self.old ++ take count octets.now }
@@ -127,7 +127,7 @@ impl HeldOctets {
         ensures { self.new ≡ self.old ++ spaced_pairs octets.now }
     {
         let len = self.len();
-        write_pairs(octets, &mut self.octets[len..]);
+        write_spaced_pairs(octets, &mut self.octets[len..]);
         self.len = len + 3 * octets.len();
     }
 
@@ -138,7 +138,7 @@ impl HeldOctets {
         ensures { self.new ≡ self.old ++ spaced_pairs octets.now }
     {
         let len = self.len();
-        write_row(octets, &mut self.octets[len..]);
+        write_spaced_row(octets, &mut self.octets[len..]);
         self.len = len + 48;
     }
 

@@ -12,7 +12,7 @@ pub trait Drain {
     /// What it shows of itself: its octets and its failures.
     ghost state: { Self → DrainState };
 
-    /// Takes octets from the front of `from`, which holds at least one. Returns how many: one or more.
+    /// Takes a prefix of `from`, which holds at least one octet. Returns how many octets it took: one or more.
     ///
     /// # Errors
     ///

@@ -75,8 +75,8 @@ impl Source for MemSource<'_> {
             return self.log.count(Err(ReadFault));
         }
         let count = cut_count(self.cuts, read, to.len()).min(self.octets.len());
-        let (front, rest) = self.octets.split_at(count);
-        to[..count].copy_from_slice(front);
+        let (piece, rest) = self.octets.split_at(count);
+        to[..count].copy_from_slice(piece);
         self.octets = rest;
         self.log.count(Ok(count))
     }
@@ -105,7 +105,7 @@ pub struct MemDrain<'a> {
 impl<'a> MemDrain<'a> {
     ghost use Rattle.tlv_io.specs.MemDrain.{drain_room, mem_drain_state_of};
 
-    /// A drain that fills `room` from the front.
+    /// A drain that fills `room` from its first octet on.
     ///
     /// A write takes as many octets as fit, at most `most`, where 0 counts as 1. It fails where no room is left.
     pub fn new(room: &'a mut [u8], most: usize) -> MemDrain<'a>
@@ -122,10 +122,10 @@ impl<'a> MemDrain<'a> {
         }
     }
 
-    /// The octets taken, in order: the front of the room.
+    /// The octets taken, in order: a prefix of the room.
     pub fn written(&self) -> &[u8]
         ensures taken { result.now ≡ (mem_drain_state_of self.now).taken }
-        ensures front { result.now ≡ take (length result.now) (drain_room self.now).now }
+        ensures prefix { result.now ≡ take (length result.now) (drain_room self.now).now }
     {
         &self.room[..self.used]
     }

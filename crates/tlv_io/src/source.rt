@@ -15,7 +15,7 @@ pub trait Source {
     /// What it shows of itself: its octets, its reads and its failures.
     ghost state: { Self → SourceState };
 
-    /// Reads octets into the front of `to`, which has room for at least one. Returns how many; 0 is the end.
+    /// Reads octets into the first places of `to`, which has room for at least one. Returns how many; 0 is the end.
     ///
     /// # Errors
     ///

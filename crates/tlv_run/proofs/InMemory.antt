@@ -13,7 +13,8 @@ use Rattle.tlv_value.specs.Names.{NamesTable}
 use Rattle.tlv_walk.proofs.FollowerLemmas.Enough.{Settled, ends_with, returns, settled_by}
 use Rattle.tlv_io.proofs.Pieces.{GaveLast}
 use Rattle.tlv_walk.proofs.GrammarLemmas.Endings.{IsRefused, fault-halt}
-use Rattle.tlv_io.proofs.Puts.{more_left, sends_appends}
+use Rattle.tlv_io.proofs.Puts.{more_left}
+use Rattle.tlv_io.proofs.Sends.{sends_appends}
 use Rattle.tlv_walk.proofs.GrammarLemmas.Readings.{halt-longest, reading-unique}
 use Rattle.tlv_walk.specs.declared.ending.Ending.{Ending}
 use Rattle.tlv_walk.specs.declared.ending.Ending.TheVariants as ending
@@ -244,7 +245,7 @@ module _ (job : Job ReportValue) (stays : Stays job)
         let sent : written ≡ x.sends.sent = taken_of from.octets to.octets written x.sends.sent empty took x.sends.took in
         let text : job.text x.reading ++ on.0 ≡ one.0.output = on.1 ∙ sym (ap (λ (m : CommandResult). m.output) one.1.is_made) in
         let output : one.0.output ≡ written ++ (x.sends.left ++ on.0) =
-        front_and_rest written x.sends.sent x.sends.left (job.text x.reading) on.0 one.0.output sent x.sends.front text in
+        front_and_rest written x.sends.sent x.sends.left (job.text x.reading) on.0 one.0.output sent x.sends.prefix text in
         short one.0 (x.sends.left ++ on.0) one.1 output (more_left x.sends.left on.0 x.sends.not_all) (full (x.sends.failures ∙ ap next_count unfailed ∙ one_failure))
 
     run_in : (result : Result ReportValue DeviceFault) → Runs job (device_states old from) (device_states new to) result → Comes (report_of (λ (of_input : ReportValue). of_input) result)

@@ -33,7 +33,7 @@ fn message_line(message: &[u8]) -> ArrayVec<u8, 129>
 }
 
 /// Hands the octets to the drain.
-#[tactic(auto, using(tlv_io::proofs::Puts::sends))]
+#[tactic(auto, using(tlv_io::proofs::Sends::sends))]
 fn send<D: Drain>(octets: &[u8], drain: &mut D) -> Result<(), WriteFault>
     ensures { Sends (D.state drain.old) (D.state drain.new) octets.now result }
 {

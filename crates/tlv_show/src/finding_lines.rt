@@ -100,7 +100,7 @@ fn write_listed(held: &mut HeldOctets, offset: u64, finding: Finding)
     let (wording, count) = finding.padded_wording();
     held.number(offset);
     held.add(b" ");
-    held.add_front(wording, count);
+    held.add_prefix(wording, count);
     held.add(b"\n");
 }
 

@@ -5,7 +5,7 @@ pub mod LineLengths
 pub mod Numbers
 pub mod ObjectLines
 pub mod Pieces
-pub mod PlainUnits
+pub mod UnescapedUnits
 pub mod Puts
 pub mod Rests
 pub mod Short

@@ -41,14 +41,14 @@ code_size C06 = refl
 
 module _ (whole code text : List ℕ) (count : ℕ)
     (size : length code ≡ 3) (few : 4 ≤ count) (e : take count whole ≡ code ++ 32 ∷ text) where
-  pub code_in_front : take 3 whole ≡ code
-  code_in_front = sym (take-take 3 count whole (omega arith)) ∙ ap (take 3) e ∙ take_at code (32 ∷ text) 3 size
+  pub code_is_prefix : take 3 whole ≡ code
+  code_is_prefix = sym (take-take 3 count whole (omega arith)) ∙ ap (take 3) e ∙ take_at code (32 ∷ text) 3 size
 
   pub text_at_end : take (count - 4) (drop 4 whole) ≡ text
   text_at_end =
-      let front : length code + 1 ≡ 4 = omega arith in
+      let code_end : length code + 1 ≡ 4 = omega arith in
       sym (drop-take 4 (count - 4) whole)
       ∙ ap (λ (n : ℕ). drop 4 (take n whole)) (omega arith)
       ∙ ap (drop 4) e
-      ∙ ap (λ (n : ℕ). drop n (code ++ 32 ∷ text)) (sym front)
+      ∙ ap (λ (n : ℕ). drop n (code ++ 32 ∷ text)) (sym code_end)
       ∙ drop-append-add code (32 ∷ text) 1

@@ -35,8 +35,8 @@ abbrev pub dotted_arcs : List ℕ → List ℕ
 dotted_arcs arcs = join_by decimal (codes ".") arcs
 
 -- the arcs of 1 to 64 octets
-abbrev pub dotted_text : Bool → List ℕ → Option (List ℕ)
-dotted_text relative octets =
+abbrev pub dotted_of : Bool → List ℕ → Option (List ℕ)
+dotted_of relative octets =
     if is_finished octets && nat_le (length octets) 64 && list_all (λ v. nat_lt v (2 ^ 128)) (subidentifiers octets)
     then Some (dotted_arcs (arcs_of relative (subidentifiers octets)))
     else None

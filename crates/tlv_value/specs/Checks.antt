@@ -17,8 +17,8 @@ use Rattle.tlv_value.specs.Types.{character_types, integer_types, is_number_of, 
 use Rattle.tlv_value.specs.Units.{is_printable}
 
 abbrev pub last_octet : ℕ → List ℕ → ℕ
-last_octet before [] = before
-last_octet before (x ∷ xs) = last_octet x xs
+last_octet previous [] = previous
+last_octet previous (x ∷ xs) = last_octet x xs
 
 -- 8.3.2: the first nine bits are all equal
 abbrev pub is_padded_integer : List ℕ → Bool
@@ -28,8 +28,8 @@ is_padded_integer octets = false
 -- 8.19.2, 8.20.2: an octet 80 that begins a subidentifier: it is after an octet with bit 8 clear. The first octet
 -- begins one too: the octet before it is taken to be 0
 abbrev pub is_padded_after : ℕ → List ℕ → Bool
-is_padded_after before [] = false
-is_padded_after before (x ∷ xs) = (nat_lt before 128 && eqb x 128) || is_padded_after x xs
+is_padded_after previous [] = false
+is_padded_after previous (x ∷ xs) = (nat_lt previous 128 && eqb x 128) || is_padded_after x xs
 
 abbrev pub is_digit_or_space : ℕ → Bool
 is_digit_or_space x = eqb x 32 || is_ascii_digit x
@@ -67,7 +67,7 @@ pub record ContentsFacts : Type 0 where
   -- how many octets there are
   pub size : ℕ
   -- the first of them: two, if there are as many, or more
-  pub front : List ℕ
+  pub first_octets : List ℕ
   -- the last one, or 0
   pub last : ℕ
   -- 8.19.2, 8.20.2: whether an octet 80 begins a subidentifier
@@ -81,7 +81,7 @@ pub record ContentsFacts : Type 0 where
 abbrev pub facts_of : ℕ → List ℕ → ContentsFacts
 facts_of number c = record {
   size = length c;
-  front = c;
+  first_octets = c;
   last = last_octet 0 c;
   is_padded = is_padded_after 0 c;
   is_allowed = allows number c;
@@ -90,7 +90,7 @@ facts_of number c = record {
 
 -- the first octet. In a BIT STRING it is the number of unused bits
 abbrev pub first_octet : ContentsFacts → ℕ
-first_octet c = slice_index c.front 0
+first_octet c = slice_index c.first_octets 0
 
 -- 8.6.2.2: the number that the unused bits of the last octet make
 abbrev pub unused_bits_value : ContentsFacts → ℕ
@@ -125,7 +125,7 @@ type_conditions n c =
     -- 8.3.1, 8.4: an INTEGER or ENUMERATED has one octet or more
     ∷ (is_number_of integer_types n && c.size == 0, B07)
     -- 8.3.2, 8.4: its first nine bits are not all equal
-    ∷ (is_number_of integer_types n && is_padded_integer c.front, B08)
+    ∷ (is_number_of integer_types n && is_padded_integer c.first_octets, B08)
     -- 8.8.2: a NULL has no octets
     ∷ (n == universal.null && not (c.size == 0), B09)
     -- 8.19.2: an OBJECT IDENTIFIER has one subidentifier or more

@@ -1,9 +1,9 @@
 pub mod Arcs
 pub mod Checks
-pub mod PlainText
+pub mod UndottedText
 pub mod NamesSteps
 pub mod ObjectLines
-pub mod Plain
+pub mod Unescaped
 pub mod Room
 pub mod Rows
 pub mod PrimitiveLines

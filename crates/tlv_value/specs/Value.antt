@@ -9,7 +9,7 @@ use Rattle.hex.specs.Hex.{encode_lower}
 pub use Rattle.tlv_io.specs.LineTexts.{spaced_pairs}
 use Rattle.tlv_value.specs.declared.kind.Kind.{Kind}
 use Rattle.tlv_value.specs.declared.kind.Kind.TheVariants.{Boolean, Integer, Bits, Object, Octets, Relative}
-use Rattle.tlv_value.specs.Arcs.{dotted_text}
+use Rattle.tlv_value.specs.Arcs.{dotted_of}
 use Rattle.tlv_value.specs.Bits.{bits_of}
 use Rattle.tlv_value.specs.RowSizes.{row_size}
 use Rattle.tlv_value.specs.Kind.{is_text}
@@ -84,7 +84,7 @@ no_names text = None
 abbrev pub object_value : NameOf → Bool → List ℕ → Value
 object_value name_of relative octets =
     option_map_or (λ text. value_on_line (text ++ name_text (name_of text)))
-    (dotted_text relative octets) (octets_value octets)
+    (dotted_of relative octets) (octets_value octets)
 
 -- ---- Of any kind
 

@@ -24,7 +24,7 @@ pub record ValueCheckState : Type 0 where
   -- how many octets are still to come
   pub left : ℕ
   -- the first two octets, and the last one, if the type asks for them
-  pub front : List ℕ
+  pub first_octets : List ℕ
   pub last : ℕ
   -- whether each octet is one of its type, and whether a subidentifier is padded
   pub allowed : Bool
@@ -41,7 +41,7 @@ new_value_check_of number size = record {
   number = number;
   size = size;
   left = size;
-  front = [];
+  first_octets = [];
   last = 0;
   allowed = true;
   padded = false;
@@ -54,8 +54,8 @@ abbrev pub new_value_check : HeaderValue → ValueCheckState
 new_value_check h = new_value_check_of (type_number h) (announced_length h.size)
 
 -- the first octets are looked at, and the last one: BOOLEAN, INTEGER, BIT STRING, ENUMERATED
-abbrev pub notes_front : ℕ → Bool
-notes_front number =
+abbrev pub notes_first : ℕ → Bool
+notes_first number =
     is_number_of
     (universal.boolean ∷ universal.integer ∷ universal.bit_string ∷ universal.enumerated ∷ [])
     number
@@ -79,33 +79,38 @@ notes_each number =
 abbrev pub notes_time : ℕ → Bool
 notes_time number = is_number_of time_types number
 
-abbrev pub with_front : ValueCheckState → List ℕ → ValueCheckState
-with_front s octets = record s { front = take 2 (s.front ++ octets); last = last_octet s.last octets }
+-- whether a subidentifier begins with 80, with these octets too
+abbrev pub is_padded_with : Bool → ℕ → List ℕ → Bool
+is_padded_with padded previous octets = padded || is_padded_after previous octets
 
-abbrev pub with_each : ValueCheckState → List ℕ → ValueCheckState
-with_each s octets = record s {
+-- the state with what is noted of more octets: the first ones and the last, what must be known of each, or the time
+abbrev pub note_first : ValueCheckState → List ℕ → ValueCheckState
+note_first s octets = record s { first_octets = take 2 (s.first_octets ++ octets); last = last_octet s.last octets }
+
+abbrev pub note_each : ValueCheckState → List ℕ → ValueCheckState
+note_each s octets = record s {
   allowed = s.allowed && list_all (allows_octet s.number) octets;
-  padded = if is_number_of object_types s.number then s.padded || is_padded_after s.last octets else s.padded;
+  padded = if is_number_of object_types s.number then is_padded_with s.padded s.last octets else s.padded;
   formed = if eqb s.number universal.utf8_string then s.formed && all_utf8 (full_rows Utf8 s.row octets) else s.formed;
   row = if eqb s.number universal.utf8_string then open_row Utf8 s.row octets else s.row;
   last = last_octet s.last octets;
 }
 
-abbrev pub with_time : ValueCheckState → List ℕ → ValueCheckState
-with_time s octets = record s { time = take 64 (s.time ++ octets) }
+abbrev pub note_time : ValueCheckState → List ℕ → ValueCheckState
+note_time s octets = record s { time = take 64 (s.time ++ octets) }
 
--- what is noted of more octets
-abbrev pub with_notes : ValueCheckState → List ℕ → ValueCheckState
-with_notes s octets =
-    if notes_front s.number then with_front s octets
-    else if notes_each s.number then with_each s octets
-    else if notes_time s.number then with_time s octets
+-- the same, by what the type asks for
+abbrev pub note_octets : ValueCheckState → List ℕ → ValueCheckState
+note_octets s octets =
+    if notes_first s.number then note_first s octets
+    else if notes_each s.number then note_each s octets
+    else if notes_time s.number then note_time s octets
     else s
 
 -- the state after more octets
 abbrev pub value_check_after : ValueCheckState → List ℕ → ValueCheckState
 value_check_after s octets =
-    record (with_notes s octets) { number = s.number; size = s.size; left = s.left - length octets }
+    record (note_octets s octets) { number = s.number; size = s.size; left = s.left - length octets }
 
 -- there is a first octet, and it is not 0
 abbrev pub begins_nonzero : List ℕ → Bool
@@ -114,7 +119,7 @@ begins_nonzero (x ∷ octets) = not (eqb x 0)
 
 -- 8.6.2.2: it is a BIT STRING whose first contents octet is not 0
 abbrev pub has_unused_bits : ValueCheckState → Bool
-has_unused_bits s = eqb s.number universal.bit_string && begins_nonzero s.front
+has_unused_bits s = eqb s.number universal.bit_string && begins_nonzero s.first_octets
 
 -- the characters are those of the type
 abbrev pub is_allowed : ValueCheckState → Bool
@@ -129,7 +134,7 @@ is_allowed s =
 abbrev pub facts_in : ValueCheckState → ContentsFacts
 facts_in s = record {
   size = s.size;
-  front = s.front;
+  first_octets = s.first_octets;
   last = s.last;
   is_padded = s.padded;
   is_allowed = is_allowed s;

@@ -25,8 +25,8 @@ pub record ValueTextState : Type 0 where
   pub kept : RowsState
 
 -- the primitive with this header, in this layout
-abbrev pub primitive_of : HeaderValue → Layout → Primitive
-primitive_of h layout = record {
+abbrev pub new_primitive : HeaderValue → Layout → Primitive
+new_primitive h layout = record {
   offset = h.offset;
   class = h.class;
   number = h.number;
@@ -48,7 +48,7 @@ new_value_text_of p = record {
 }
 
 abbrev pub new_value_text : HeaderValue → Layout → ValueTextState
-new_value_text h layout = new_value_text_of (primitive_of h layout)
+new_value_text h layout = new_value_text_of (new_primitive h layout)
 
 -- of a long value with a line
 abbrev pub rows_after : Kind → RowsState → List ℕ → RowsState

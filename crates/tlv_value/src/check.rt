@@ -3,8 +3,8 @@ ghost use Rattle.std.specs.Prelude.{◌≡◌, ◌+◌, ◌≤◌, ◌&&◌, ℕ
 ghost use Rattle.tlv_head.specs.Header.{HeaderValue, announced_length};
 ghost use Rattle.tlv_value.specs.Types.{type_number};
 ghost use Rattle.tlv_value.specs.ValueCheckState.{value_check_after, findings_in, has_unused_bits};
-ghost use Rattle.tlv_value.specs.ValueCheckState.{is_allowed, new_value_check, new_value_check_of, with_each};
-ghost use Rattle.tlv_value.specs.ValueCheckState.{with_front};
+ghost use Rattle.tlv_value.specs.ValueCheckState.{is_allowed, new_value_check, new_value_check_of, note_each};
+ghost use Rattle.tlv_value.specs.ValueCheckState.{note_first};
 ghost use Rattle.tlv_value.specs.Checks.{findings_on_contents, is_padded_integer};
 
 mod characters;
@@ -17,12 +17,12 @@ use crate::Finding;
 use arrayvec::ArrayVec;
 pub(crate) use characters::are_allowed;
 pub(crate) use findings::are_set;
-use notes::{is_padded_with, notes_each, notes_front, notes_time};
+use notes::{is_padded_with, notes_each, notes_first, notes_time};
 pub(crate) use notes::{is_padded_after, last_octet};
-pub(crate) use rows::is_well_formed;
+pub(crate) use rows::is_utf8;
 use rows::take_rows;
 use std::marker::Model;
-use times::extend_time;
+use times::note_time;
 use tlv_head::{Class, Header, universal};
 
 /// Finds what is wrong with the contents of a primitive, in whatever pieces they come.
@@ -142,19 +142,19 @@ impl ValueCheck {
         ensures left { self.new.left + length octets.now ≡ self.old.left }
     {
         self.left -= octets.len() as u64;
-        if notes_front(self.number) {
-            self.note_front(octets);
+        if notes_first(self.number) {
+            self.note_first(octets);
         } else if notes_each(self.number) {
             self.note_each(octets);
         } else if notes_time(self.number) {
-            extend_time(&mut self.time, octets);
+            note_time(&mut self.time, octets);
         }
     }
 
     /// Notes the first two of the octets, and the last one.
     #[inline(always)]
-    fn note_front(&mut self, octets: &[u8])
-        ensures { self.new ≡ with_front self.old octets.now }
+    fn note_first(&mut self, octets: &[u8])
+        ensures { self.new ≡ note_first self.old octets.now }
     {
         match octets {
             [] => {}
@@ -178,7 +178,7 @@ impl ValueCheck {
     /// Notes what must be known of each of the octets.
     #[inline(always)]
     fn note_each(&mut self, octets: &[u8])
-        ensures { self.new ≡ with_each self.old octets.now }
+        ensures { self.new ≡ note_each self.old octets.now }
     {
         match self.number {
             universal::OBJECT_IDENTIFIER | universal::RELATIVE_OID => {
@@ -202,13 +202,13 @@ impl ValueCheck {
             → length c ≡ announced_length h.size
             → result.items ≡ findings_on_contents h c }
     {
-        self.found()
+        self.findings()
     }
 
     /// The first octet, if the type asks for it; 0 before the first.
     #[inline(always)]
-    fn first(&self) -> u8
-        ensures { result ≡ slice_index self.now.front 0 }
+    fn first_octet(&self) -> u8
+        ensures { result ≡ slice_index self.now.first_octets 0 }
     {
         if self.known == 0 { 0 } else { self.first }
     }
@@ -216,7 +216,7 @@ impl ValueCheck {
     /// Whether the first nine bits of a number are all equal (8.3.2).
     #[inline(always)]
     fn is_padded_integer(&self) -> bool
-        ensures { result ≡ is_padded_integer self.now.front }
+        ensures { result ≡ is_padded_integer self.now.first_octets }
     {
         if self.known < 2 {
             return false;
@@ -234,7 +234,7 @@ impl ValueCheck {
         ensures { result ≡ is_allowed self.now }
     {
         let all = match self.number {
-            universal::UTF8_STRING => both(self.formed, is_well_formed(self.row.as_slice())),
+            universal::UTF8_STRING => both(self.formed, is_utf8(self.row.as_slice())),
             universal::BMP_STRING => self.size % 2 == 0,
             universal::UNIVERSAL_STRING => self.size % 4 == 0,
             _ => true,

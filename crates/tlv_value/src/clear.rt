@@ -6,7 +6,7 @@ ghost use Rattle.tlv_value.specs.Private.Checks.{findings_of, general_time_findi
 ghost use Rattle.tlv_value.specs.Private.Checks.{utc_time_findings};
 ghost use Rattle.tlv_value.specs.Types.{constructed_types, is_one_of, is_unassigned};
 
-use crate::check::{are_allowed, are_set, is_padded_after, is_well_formed, last_octet};
+use crate::check::{are_allowed, are_set, is_padded_after, is_utf8, last_octet};
 use crate::time::{general_canonical, utc_canonical};
 use tlv_head::{Class, Header, universal};
 
@@ -37,7 +37,7 @@ fn is_type_clear(number: u64, contents: &[u8]) -> bool
         universal::NULL => contents.is_empty(),
         universal::OBJECT_IDENTIFIER => !contents.is_empty() && are_subidentifiers(contents),
         universal::RELATIVE_OID => are_subidentifiers(contents),
-        universal::UTF8_STRING => is_well_formed(contents),
+        universal::UTF8_STRING => is_utf8(contents),
         universal::NUMERIC_STRING => are_allowed(universal::NUMERIC_STRING, contents),
         universal::PRINTABLE_STRING => are_allowed(universal::PRINTABLE_STRING, contents),
         universal::IA5_STRING => are_allowed(universal::IA5_STRING, contents),

@@ -4,7 +4,7 @@ ghost use Rattle.tlv_value.specs.Number.{decimal_of};
 
 /// The number that up to eight octets stand for, in two's complement. None if there are no octets.
 #[inline(always)]
-pub(crate) fn short_number(contents: &[u8]) -> Option<i64>
+pub(crate) fn short_decimal_of(contents: &[u8]) -> Option<i64>
     requires { length contents.now ≤ 8 }
     ensures { result ≡ decimal_of contents.now }
 {

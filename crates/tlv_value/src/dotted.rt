@@ -1,8 +1,8 @@
 //! Object identifiers as dotted texts.
 ghost use Rattle.std.specs.Prelude.{◌≡◌, ◌<◌, ◌≤◌, ◌^◌, ◌++◌, ◌∷◌, [], if◌then◌else◌, is_some, length, true, unwrap_or};
 ghost use Rattle.tlv_io.specs.LineTexts.{GrowsBy, HasRoomFor};
-ghost use Rattle.tlv_value.specs.Arcs.{dotted_arcs, dotted_text, first_arcs, is_finished};
-ghost use Rattle.tlv_value.specs.Private.Arcs.{part_text};
+ghost use Rattle.tlv_value.specs.Arcs.{dotted_arcs, dotted_of, first_arcs, is_finished};
+ghost use Rattle.tlv_value.specs.Private.Arcs.{arcs_text};
 
 use arrayvec::ArrayVec;
 use tlv_io::HeldOctets;
@@ -13,8 +13,8 @@ use tlv_io::HeldOctets;
 /// Returns whether there is such a text. There is none, and `to` is empty, if the contents are empty, end inside
 /// a subidentifier, have more than 64 octets, or have a subidentifier of 2^128 or more.
 pub fn dotted_of(contents: &[u8], relative: bool, to: &mut ArrayVec<u8, 320>) -> bool
-    ensures exists { result ≡ is_some (dotted_text relative contents.now) }
-    ensures text { to.new.items ≡ unwrap_or (dotted_text relative contents.now) [] }
+    ensures exists { result ≡ is_some (dotted_of relative contents.now) }
+    ensures text { to.new.items ≡ unwrap_or (dotted_of relative contents.now) [] }
 {
     to.clear();
     let mut held = HeldOctets::new();
@@ -30,9 +30,9 @@ pub fn dotted_of(contents: &[u8], relative: bool, to: &mut ArrayVec<u8, 320>) ->
 pub(crate) fn write_dotted(held: &mut HeldOctets, contents: &[u8], relative: bool) -> bool
     requires short { length contents.now ≤ 64 }
     requires room { HasRoomFor held.old 320 }
-    ensures exists { result ≡ is_some (dotted_text relative contents.now) }
+    ensures exists { result ≡ is_some (dotted_of relative contents.now) }
     ensures text { held.new
-        ≡ (if result then held.old ++ 32 ∷ unwrap_or (dotted_text relative contents.now) []
+        ≡ (if result then held.old ++ 32 ∷ unwrap_or (dotted_of relative contents.now) []
         else held.old) }
     ensures bound { GrowsBy 259 held.old held.new }
 {
@@ -69,8 +69,8 @@ fn write_short(held: &mut HeldOctets, contents: &[u8], relative: bool)
     requires finished { is_finished contents.now ≡ true }
     requires short { length contents.now ≤ 9 }
     requires room { HasRoomFor held.old 320 }
-    ensures exists { is_some (dotted_text relative contents.now) ≡ true }
-    ensures text { held.new ≡ held.old ++ 32 ∷ unwrap_or (dotted_text relative contents.now) [] }
+    ensures exists { is_some (dotted_of relative contents.now) ≡ true }
+    ensures text { held.new ≡ held.old ++ 32 ∷ unwrap_or (dotted_of relative contents.now) [] }
     ensures bound { GrowsBy 259 held.old held.new }
 {
     held.add(b" ");
@@ -97,7 +97,7 @@ fn is_finished(contents: &[u8]) -> bool
 #[inline(always)]
 fn write_arcs(held: &mut HeldOctets, number: u128, first: bool, relative: bool)
     requires { HasRoomFor held.old 42 }
-    ensures { held.new ≡ held.old ++ part_text first relative number }
+    ensures { held.new ≡ held.old ++ arcs_text first relative number }
 {
     if !first {
         held.add(b".");

@@ -114,7 +114,7 @@ fn write_universal(held: &mut HeldOctets, number: u64)
     ensures bound { GrowsBy 40 held.old held.new }
 {
     match padded_name(number) {
-        Some((name, size)) => held.add_front(name, size),
+        Some((name, size)) => held.add_prefix(name, size),
         None => write_bracketed(held, b"[UNIVERSAL                      ", 11, number),
     }
 }
@@ -122,13 +122,13 @@ fn write_universal(held: &mut HeldOctets, number: u64)
 /// Adds the text of a tag that has no name: what begins it, the number and a bracket. What begins it
 /// is the first of 32 octets, so that no copy depends on how many they are.
 #[inline]
-fn write_bracketed(held: &mut HeldOctets, front: &[u8; 32], count: usize, number: u64)
+fn write_bracketed(held: &mut HeldOctets, prefix: &[u8; 32], count: usize, number: u64)
     requires short { count ≤ 16 }
     requires room { HasRoomFor held.old 40 }
-    ensures text { held.new ≡ held.old ++ (take count front.now ++ decimal number ++ 93 ∷ []) }
+    ensures text { held.new ≡ held.old ++ (take count prefix.now ++ decimal number ++ 93 ∷ []) }
     ensures bound { GrowsBy 40 held.old held.new }
 {
-    held.add_front(front, count);
+    held.add_prefix(prefix, count);
     held.number(number);
     held.add(b"]");
 }

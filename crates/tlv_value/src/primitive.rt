@@ -3,15 +3,15 @@ ghost use Rattle.std.specs.Prelude.{◌≡◌, ◌<◌, ◌≤◌, ◌++◌, ◌
 ghost use Rattle.tlv_io.specs.LineTexts.{GrowsBy, HasRoomFor};
 ghost use Rattle.tlv_io.specs.Out.{Puts, held_octets};
 ghost use Rattle.tlv_value.specs.RowSizes.{row_size};
-ghost use Rattle.tlv_value.specs.Private.PlainText.{plain_text};
-ghost use Rattle.tlv_value.specs.Private.PrimitiveLines.{front_of, primitive_lines};
+ghost use Rattle.tlv_value.specs.Private.UndottedText.{undotted_text};
+ghost use Rattle.tlv_value.specs.Private.PrimitiveLines.{line_prefix, primitive_lines};
 ghost use Rattle.tlv_value.specs.Value.{is_long, long_text, most_on_line};
-ghost use Rattle.tlv_value.specs.ValueTextState.{primitive_line, primitive_of};
+ghost use Rattle.tlv_value.specs.ValueTextState.{primitive_line, new_primitive};
 
 use crate::kind::{Kind, kind_of};
 use crate::line::write_element;
 use crate::rows::row_size;
-use crate::value::{write_long_bits, write_long_value, write_value};
+use crate::value::{write_long_bits, write_long_value, write_undotted};
 use crate::value_lines::{put_object, put_relative};
 use crate::{Layout, NameTable};
 use tlv_head::{Class, Header};
@@ -33,7 +33,7 @@ impl Primitive {
     /// The primitive with this header.
     #[inline(always)]
     pub fn new(header: &Header, layout: Layout) -> Primitive
-        ensures { result ≡ primitive_of header.now layout }
+        ensures { result ≡ new_primitive header.now layout }
     {
         Primitive {
             offset: header.offset,
@@ -69,9 +69,9 @@ impl Primitive {
 
     /// Begins its line, up to its tag text.
     #[inline(always)]
-    fn write(&self, held: &mut HeldOctets)
+    fn write_prefix(&self, held: &mut HeldOctets)
         requires { HasRoomFor held.old 640 }
-        ensures text { held.new ≡ held.old ++ front_of self.now }
+        ensures text { held.new ≡ held.old ++ line_prefix self.now }
         ensures bound { GrowsBy 593 held.old held.new }
     {
         write_element(
@@ -90,7 +90,7 @@ impl Primitive {
         requires { HasRoomFor held.old 1024 }
         ensures { held.new ≡ held.old ++ primitive_line self.now [] }
     {
-        self.write(held);
+        self.write_prefix(held);
         held.add(b"\n");
     }
 
@@ -102,7 +102,7 @@ impl Primitive {
             ≡ held.old
             ++ primitive_line self.now (long_text Kind.Bits self.now.size (unused ∷ [])) }
     {
-        self.write(held);
+        self.write_prefix(held);
         write_long_bits(held, self.size, unused);
         held.add(b"\n");
     }
@@ -116,7 +116,7 @@ impl Primitive {
             ≡ held.old
             ++ primitive_line self.now (long_text self.now.kind self.now.size contents.now) }
     {
-        self.write(held);
+        self.write_prefix(held);
         write_long_value(held, self.kind, self.size, contents);
         held.add(b"\n");
     }
@@ -160,12 +160,12 @@ impl Primitive {
 
     /// Begins its line where an `Out` holds it, up to its tag text, and leaves room for the rest.
     #[inline(always)]
-    fn put_front<D: Drain>(&self, out: &mut Out<'_, D>) -> Result<(), WriteFault>
-        ensures puts { Puts D.state out.old out.new (front_of self.now) result }
+    fn put_prefix<D: Drain>(&self, out: &mut Out<'_, D>) -> Result<(), WriteFault>
+        ensures puts { Puts D.state out.old out.new (line_prefix self.now) result }
         ensures room { OnOk result (HasRoomFor (held_octets out.new) 400) }
     {
         out.make_room()?;
-        self.write(&mut out.held);
+        self.write_prefix(&mut out.held);
         Ok(())
     }
 
@@ -181,12 +181,12 @@ impl Primitive {
         ensures { Puts D.state out.old out.new
             (primitive_lines (N.name_of names.now) self.now contents.now) result }
     {
-        self.put_front(out)?;
+        self.put_prefix(out)?;
         match self.kind {
             Kind::Object => put_object(self.layout, contents, names, out),
             Kind::Relative => put_relative(self.layout, contents, out),
             _ => {
-                write_value(&mut out.held, self.kind, contents);
+                write_undotted(&mut out.held, self.kind, contents);
                 out.held.add(b"\n");
                 Ok(())
             }

@@ -2,7 +2,7 @@
 ghost use Rattle.std.specs.List.{list_all};
 ghost use Rattle.std.specs.Prelude.{◌≡◌, ◌+◌, ◌*◌, ◌<◌, ◌≤◌, ◌++◌, false, flat_map, length, slice_index, take, true};
 ghost use Rattle.tlv_io.specs.LineTexts.{AddsIfRoom, HasRoomFor};
-ghost use Rattle.tlv_value.specs.Private.Plain.{ArePlain, IsPart, has_ascii, is_plain};
+ghost use Rattle.tlv_value.specs.Private.Unescaped.{AreUnescaped, IsPart, has_ascii, is_unescaped};
 ghost use Rattle.tlv_value.specs.Units.{escaped_number, escaped_octet, is_printable, octet_text};
 ghost use Rattle.tlv_value.specs.Units.{printable_text, unit_size, unit_text, units, utf8_number};
 ghost use Rattle.tlv_value.specs.Units.{without_zeros};
@@ -24,8 +24,8 @@ pub(crate) fn write_characters(held: &mut HeldOctets, kind: Kind, row: &[u8])
     // by how many octets there are.
     if has_ascii(kind) {
         let block = block_of(row);
-        if are_plain(&block) {
-            return held.add_front(&block, row.len());
+        if are_unescaped(&block) {
+            return held.add_prefix(&block, row.len());
         }
     }
     write_units(held, kind, row);
@@ -61,10 +61,10 @@ fn write_part(held: &mut HeldOctets, kind: Kind, octets: &[u8]) -> usize
     ensures within { result ≤ length octets.now }
     ensures text { IsPart kind octets.now held.old held.new result }
 {
-    let plain = plain_size(kind, octets);
-    if plain > 0 {
-        held.add_if_room(&octets[..plain]);
-        return plain;
+    let unescaped = unescaped_size(kind, octets);
+    if unescaped > 0 {
+        held.add_if_room(&octets[..unescaped]);
+        return unescaped;
     }
     let size = unit_size(kind, octets);
     write_unit(held, kind, &octets[..size]);
@@ -198,8 +198,8 @@ fn is_printable(octet: u8) -> bool
 }
 
 /// Whether the octet is written as it is: it is printable, and neither the quotation mark nor the reverse solidus.
-fn is_plain(octet: u8) -> bool
-    ensures { result ≡ is_plain octet }
+fn is_unescaped(octet: u8) -> bool
+    ensures { result ≡ is_unescaped octet }
 {
     matches!(octet, 0x20..=0x7e) && octet != b'"' && octet != b'\\'
 }
@@ -213,29 +213,29 @@ fn has_ascii(kind: Kind) -> bool
 
 /// Whether all of the octets are written as they are.
 #[inline(always)]
-fn are_plain(octets: &[u8; ROW]) -> bool
-    ensures { result ≡ list_all is_plain octets.now }
+fn are_unescaped(octets: &[u8; ROW]) -> bool
+    ensures { result ≡ list_all is_unescaped octets.now }
 {
     // There is no way out of the loop, so that many octets are looked at in one go.
     let mut all = true;
     for octet in octets {
-        all &= is_plain(*octet);
+        all &= is_unescaped(*octet);
     }
     all
 }
 
 /// How many of the first octets are written as they are.
-fn plain_size(kind: Kind, octets: &[u8]) -> usize
+fn unescaped_size(kind: Kind, octets: &[u8]) -> usize
     ensures within { result ≤ length octets.now }
-    ensures plain { ArePlain kind octets.now result }
+    ensures unescaped { AreUnescaped kind octets.now result }
     ensures next { result < length octets.now → has_ascii kind ≡ true
-        → is_plain (slice_index octets.now result) ≡ false }
+        → is_unescaped (slice_index octets.now result) ≡ false }
 {
     if !has_ascii(kind) {
         return 0;
     }
     for i in 0..octets.len() {
-        if !is_plain(octets[i]) {
+        if !is_unescaped(octets[i]) {
             return i;
         }
     }
@@ -252,13 +252,13 @@ fn unit_size(kind: Kind, octets: &[u8]) -> usize
     match kind {
         Kind::Ucs2 if octets.len() >= 2 => 2,
         Kind::Ucs4 if octets.len() >= 4 => 4,
-        Kind::Utf8 => utf8_size(octets),
+        Kind::Utf8 => utf8_unit_size(octets),
         _ => 1,
     }
 }
 
 /// How many of the first octets make a unit of UTF8String.
-fn utf8_size(octets: &[u8]) -> usize
+fn utf8_unit_size(octets: &[u8]) -> usize
     requires { 1 ≤ length octets.now }
     ensures value { result ≡ unit_size Kind.Utf8 octets.now }
     ensures some { 1 ≤ result }

@@ -3,13 +3,13 @@ ghost use Rattle.std.specs.Prelude.{◌≡◌, ◌-◌, ◌*◌, ◌<◌, ◌≤
 ghost use Rattle.std.specs.Fmt.{signed_decimal};
 ghost use Rattle.tlv_io.specs.LineTexts.{GrowsBy, HasRoomFor};
 ghost use Rattle.tlv_value.specs.Bits.{last_bits};
-ghost use Rattle.tlv_value.specs.Private.PlainText.{plain_text};
+ghost use Rattle.tlv_value.specs.Private.UndottedText.{undotted_text};
 ghost use Rattle.tlv_value.specs.Units.{quoted_text};
 ghost use Rattle.tlv_value.specs.Value.{bit_count, bits_value, boolean_value, digits_of_bits, integer_value};
 ghost use Rattle.tlv_value.specs.Value.{is_long, is_readable, joined_pairs, long_text, most_on_line};
 ghost use Rattle.tlv_value.specs.Value.{row_text, used_digits};
 
-use crate::decimal::{decimal_of, short_number};
+use crate::decimal::{decimal_of, short_decimal_of};
 use crate::kind::Kind;
 use crate::units::write_characters;
 use tlv_io::HeldOctets;
@@ -25,13 +25,13 @@ pub(crate) fn write_row(held: &mut HeldOctets, kind: Kind, row: &[u8])
     ensures bound { GrowsBy 323 held.old held.new }
 {
     match kind {
-        Kind::Text | Kind::Utf8 | Kind::Ucs2 | Kind::Ucs4 => write_text(held, kind, row),
-        _ => write_pairs(held, row),
+        Kind::Text | Kind::Utf8 | Kind::Ucs2 | Kind::Ucs4 => write_quoted(held, kind, row),
+        _ => write_joined_pairs(held, row),
     }
 }
 
 /// Adds pairs of digits after a space, and with spaces between them.
-fn write_pairs(held: &mut HeldOctets, octets: &[u8])
+fn write_joined_pairs(held: &mut HeldOctets, octets: &[u8])
     requires short { length octets.now ≤ 64 }
     requires room { HasRoomFor held.old 192 }
     ensures { held.new ≡ held.old ++ 32 ∷ joined_pairs octets.now }
@@ -46,24 +46,24 @@ fn write_pairs(held: &mut HeldOctets, octets: &[u8])
 
 /// Adds a held value with a space before it, if there is one. An object identifier is shown in hexadecimal.
 #[inline(always)]
-pub(crate) fn write_value(held: &mut HeldOctets, kind: Kind, contents: &[u8])
+pub(crate) fn write_undotted(held: &mut HeldOctets, kind: Kind, contents: &[u8])
     requires short { length contents.now ≤ most_on_line kind }
     requires room { HasRoomFor held.old 400 }
-    ensures text { held.new ≡ held.old ++ plain_text kind contents.now }
+    ensures text { held.new ≡ held.old ++ undotted_text kind contents.now }
     ensures bound { GrowsBy 330 held.old held.new }
 {
     match kind {
         Kind::Boolean => write_boolean(held, contents),
         Kind::Integer => write_integer(held, contents),
         Kind::Bits => write_bits(held, contents),
-        Kind::Text | Kind::Utf8 | Kind::Ucs2 | Kind::Ucs4 => write_text(held, kind, contents),
+        Kind::Text | Kind::Utf8 | Kind::Ucs2 | Kind::Ucs4 => write_quoted(held, kind, contents),
         Kind::Octets | Kind::Object | Kind::Relative => held.spaced_pairs(contents),
     }
 }
 
 /// Adds a row of characters after a space, in quotation marks.
 #[inline(never)]
-fn write_text(held: &mut HeldOctets, kind: Kind, row: &[u8])
+fn write_quoted(held: &mut HeldOctets, kind: Kind, row: &[u8])
     requires short { length row.now ≤ 64 }
     requires room { HasRoomFor held.old 400 }
     ensures { held.new ≡ held.old ++ 32 ∷ quoted_text kind row.now }
@@ -95,9 +95,9 @@ fn write_integer(held: &mut HeldOctets, contents: &[u8])
 {
     if contents.len() > 8 {
         write_wide_integer(held, contents);
-    } else if let Some(number) = short_number(contents) {
+    } else if let Some(number) = short_decimal_of(contents) {
         // A space and a sign, and of both what there is: no branch asks for the sign.
-        held.add_front(SIGN, 1 + usize::from(number < 0));
+        held.add_prefix(SIGN, 1 + usize::from(number < 0));
         held.number(number.unsigned_abs());
     }
 }
@@ -136,7 +136,7 @@ fn write_bits(held: &mut HeldOctets, contents: &[u8])
     match contents {
         [unused, octets @ ..] if is_readable(*unused, octets.len()) => {
             write_bit_count(held, *unused, octets.len() as u64);
-            write_bit_digits(held, *unused, octets);
+            write_used_digits(held, *unused, octets);
         }
         _ => held.spaced_pairs(contents),
     }
@@ -181,20 +181,20 @@ fn write_bit_count(held: &mut HeldOctets, unused: u8, octets: u64)
 }
 
 /// Adds the bits of octets, without those that are not used, after a space if there are any.
-fn write_bit_digits(held: &mut HeldOctets, unused: u8, octets: &[u8])
+fn write_used_digits(held: &mut HeldOctets, unused: u8, octets: &[u8])
     requires unused { unused ≤ 7 }
     requires short { length octets.now ≤ 8 }
     requires room { HasRoomFor held.old 65 }
     ensures { held.new ≡ held.old ++ used_digits unused octets.now }
 {
-    let Some((last, front)) = octets.split_last() else {
+    let Some((last, prefix)) = octets.split_last() else {
         return;
     };
     held.add(b" ");
-    for octet in front {
-        held.add(&octet_digits(*octet));
+    for octet in prefix {
+        held.add(&digits_of_octet(*octet));
     }
-    held.add(&octet_digits(*last));
+    held.add(&digits_of_octet(*last));
     held.truncate(held.len() - usize::from(unused));
 }
 
@@ -206,7 +206,7 @@ fn is_readable(unused: u8, octets: usize) -> bool
 }
 
 /// The bits of an octet as digits, the most significant first.
-fn octet_digits(octet: u8) -> [u8; 8]
+fn digits_of_octet(octet: u8) -> [u8; 8]
     ensures { result ≡ digits_of_bits (last_bits 8 octet) }
 {
     [

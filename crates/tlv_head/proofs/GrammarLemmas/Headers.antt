@@ -1,4 +1,4 @@
--- Headers by their octets: one way to read them, and what one more octet does to the front of one.
+-- Headers by their octets: one way to read them, and what one more octet does to a prefix of one.
 use Rattle.std.proofs.Common.{◌≡◌, ◌≢◌, ◌⊎◌, inl, inr, ℕ, ◌+◌, ◌-◌, ◌%◌, ◌/◌, ◌<◌, ◌≤◌, Bool, true, false, cond, ◌&&◌}
 use Rattle.std.proofs.Common.{not, eqb, ltb, List, [], ◌∷◌, ◌++◌, length, refl, sym, ap, ◌∙◌, arith, append-nil}
 use Rattle.std.proofs.Common.{length-append, lt-ltb, le-ltb, eq-eqb, ne_eqb, ltb-true, subst, ⊎_elim}
@@ -12,20 +12,20 @@ use Rattle.tlv_head.specs.declared.fault.FaultCode.{FaultCode}
 use Rattle.tlv_head.specs.declared.fault.FaultCode.TheVariants.{StrayEnd, IndefinitePrimitive}
 use Rattle.tlv_head.proofs.GrammarLemmas.Scan.{Scan, Origin, origin_of, start, Fresh, High, Named, Long, Ready, Stuck}
 use Rattle.tlv_head.proofs.GrammarLemmas.Scan.{Over, leads, class_of, step, scan, scan_from-append, scan_from-past}
-use Rattle.tlv_head.proofs.GrammarLemmas.Scan.{scan-moved, moved, is_more, more-from_front, no-front, same-header}
+use Rattle.tlv_head.proofs.GrammarLemmas.Scan.{scan-moved, moved, is_more, more-from_prefix, no-prefix, same-header}
 use Rattle.tlv_head.proofs.GrammarLemmas.Meaning.{IsHighState, IsLongState, IsStateAfter, reads-step, reads-scan}
-use Rattle.tlv_head.proofs.GrammarLemmas.Meaning.{front-from_more, front-bytes}
+use Rattle.tlv_head.proofs.GrammarLemmas.Meaning.{prefix-from_more, prefix-bytes}
 
--- if two lists are fronts of one list, one of the two is a front of the other
-pub fronts : (a b x y : List ℕ) → a ++ x ≡ b ++ y → ((z : List ℕ) × (a ++ z ≡ b) × (x ≡ z ++ y)) ⊎ ((z : List ℕ) × (b ++ z ≡ a) × (y ≡ z ++ x))
-fronts [] b x y e = inl (b, refl, e)
-fronts (c ∷ a) [] x y e = inr (c ∷ a, refl, sym e)
-fronts (c ∷ a) (d ∷ b) x y e =
+-- if two lists are prefixes of one list, one of the two is a prefix of the other
+pub prefixes : (a b x y : List ℕ) → a ++ x ≡ b ++ y → ((z : List ℕ) × (a ++ z ≡ b) × (x ≡ z ++ y)) ⊎ ((z : List ℕ) × (b ++ z ≡ a) × (y ≡ z ++ x))
+prefixes [] b x y e = inl (b, refl, e)
+prefixes (c ∷ a) [] x y e = inr (c ∷ a, refl, sym e)
+prefixes (c ∷ a) (d ∷ b) x y e =
     let same : c ≡ d = cc in
     ⊎_elim
     (λ (r : (z : List ℕ) × (a ++ z ≡ b) × (x ≡ z ++ y)). inl (r.0, ap (λ (t : List ℕ). c ∷ t) r.1 ∙ ap (λ (u : ℕ). u ∷ b) same, r.2))
     (λ (r : (z : List ℕ) × (b ++ z ≡ a) × (y ≡ z ++ x)). inr (r.0, ap (λ (t : List ℕ). d ∷ t) r.1 ∙ ap (λ (u : ℕ). u ∷ a) (sym same), r.2))
-    (fronts a b x y (cc))
+    (prefixes a b x y (cc))
 
 -- octets that begin with a header begin with no other
 pub one-header : (h g : HeaderValue) (x y : List ℕ) → IsHeader h → IsHeader g → origin_of h ≡ origin_of g → octets_of h ++ x ≡ octets_of g ++ y → (h ≡ g) × (x ≡ y)
@@ -33,13 +33,13 @@ one-header h g x y vh vg o e = ⊎_elim
     (λ (r : (z : List ℕ) × (octets_of h ++ z ≡ octets_of g) × (x ≡ z ++ y)). forward h g x y r.0 vh vg o r.1 r.2)
     (λ (r : (z : List ℕ) × (octets_of g ++ z ≡ octets_of h) × (y ≡ z ++ x)).
     let back : (g ≡ h) × (y ≡ x) = forward g h y x r.0 vg vh (sym o) r.1 r.2 in (sym back.0, sym back.1))
-    (fronts (octets_of h) (octets_of g) x y e)
+    (prefixes (octets_of h) (octets_of g) x y e)
   where
     forward : (h g : HeaderValue) (x y z : List ℕ) → IsHeader h → IsHeader g → origin_of h ≡ origin_of g → octets_of h ++ z ≡ octets_of g → x ≡ z ++ y → (h ≡ g) × (x ≡ y)
     forward h g x y [] vh vg o e f = (same-header h g vh vg o (sym (append-nil (octets_of h)) ∙ e), f)
-    forward h g x y (b ∷ z) vh vg o e f = absurd (no-front h g (b ∷ z) vh vg (λ n. omega (arith, ap length n)) e)
+    forward h g x y (b ∷ z) vh vg o e f = absurd (no-prefix h g (b ∷ z) vh vg (λ n. omega (arith, ap length n)) e)
 
--- why an octet does not continue the front of a header, or begin one
+-- why an octet does not continue a prefix of a header, or begin one
 abbrev pub IsHeadRefusal : FaultCode → List ℕ → ℕ → Type 0
 IsHeadRefusal StrayEnd o x = (o ≡ []) × (x ≡ 0)
 IsHeadRefusal code o x = IsRefusedOctet o x code
@@ -98,14 +98,14 @@ explains-long at x c k n i m ds o s = ⊎_elim
     let parts : (not (eqb x 0) ≡ true) × (ltb (length ds + 5) m ≡ true) = and_parts _ _ bad in
     let many : length ds + 5 < m = ltb-true _ _ parts.1 in
     let total : length ds + (m - length ds) ≡ m = omega arith in
-    let front : IsLengthPrefix c k n i ds (m - length ds) o = record {
+    let prefix : IsLengthPrefix c k n i ds (m - length ds) o = record {
       identified = s.identifier;
       each = s.each;
       some = omega arith;
       few = omega (arith, s.few);
       octets_are = rw total s.octets;
     } in
-    rw bad (length_too_large c k n i ds (m - length ds) front (omega arith) (eqb-false x 0 (not-true _ parts.0))))
+    rw bad (length_too_large c k n i ds (m - length ds) prefix (omega arith) (eqb-false x 0 (not-true _ parts.0))))
     (λ (good : (not (eqb x 0) && ltb (length ds + 5) m) ≡ false). ⊎_elim
     (λ (more : ltb (length ds + 1) m ≡ true). rw (good, more) tt)
     (λ (last : ltb (length ds + 1) m ≡ false). rw (good, last) tt)
@@ -130,7 +130,7 @@ stuck-none at s o e m n h (x ∷ more) v f =
     let ready : scan at (o ++ x ∷ more) ≡ Ready (moved at h) = rw f (scan-moved at h v) in
     scan_from-past at s (x ∷ more) (moved at h) m (λ z. omega (arith, ap length z)) (rw (scan_from-append at Fresh o (x ∷ more), e) at ready)
 
--- one more octet makes the front of a header, or a header, or begins none
+-- one more octet makes a prefix of a header, or a header, or begins none
 pub data Next (o : List ℕ) (x : ℕ) : Type 0 where
   continues : IsHeaderPrefix (o ++ x ∷ []) → Next o x
   completes : (h : HeaderValue) → IsHeader h → octets_of h ≡ o ++ x ∷ [] → Next o x
@@ -138,9 +138,9 @@ pub data Next (o : List ℕ) (x : ℕ) : Type 0 where
 
 next-from : (o : List ℕ) (x : ℕ) (s : Scan) → scan start (o ++ x ∷ []) ≡ s → IsStateAfter start s (o ++ x ∷ []) → Explains s o x → Next o x
 next-from o x Fresh e r w = absurd (omega (arith, ap length r, length-append o (x ∷ [])))
-next-from o x (High c k ds) e r w = continues (front-from_more start (High c k ds) _ r (λ z. omega (arith, ap length z, length-append o (x ∷ []))) refl)
-next-from o x (Named c k m i) e r w = continues (front-from_more start (Named c k m i) _ r (λ z. omega (arith, ap length z, length-append o (x ∷ []))) refl)
-next-from o x (Long c k m i j ds) e r w = continues (front-from_more start (Long c k m i j ds) _ r (λ z. omega (arith, ap length z, length-append o (x ∷ []))) refl)
+next-from o x (High c k ds) e r w = continues (prefix-from_more start (High c k ds) _ r (λ z. omega (arith, ap length z, length-append o (x ∷ []))) refl)
+next-from o x (Named c k m i) e r w = continues (prefix-from_more start (Named c k m i) _ r (λ z. omega (arith, ap length z, length-append o (x ∷ []))) refl)
+next-from o x (Long c k m i j ds) e r w = continues (prefix-from_more start (Long c k m i j ds) _ r (λ z. omega (arith, ap length z, length-append o (x ∷ []))) refl)
 next-from o x (Ready h) e r w = completes h r.0 (sym r.1)
 next-from o x (Stuck code) e r w = refuses code w (stuck-none start (Stuck code) _ e refl (λ h z. cc))
 next-from o x Over e r w = absurd w
@@ -150,7 +150,7 @@ next-more o x h m r = next-from o x (step start (scan start o) x) (scan_from-app
 
 pub next : (o : List ℕ) (x : ℕ) → x < 256 → (o ≡ []) ⊎ IsHeaderPrefix o → Next o x
 next o x h (inl e) = rw e (next-more [] x h refl refl)
-next o x h (inr f) = next-more o x h (more-from_front start o f) (reads-scan start o (front-bytes o f))
+next o x h (inr f) = next-more o x h (more-from_prefix start o f) (reads-scan start o (prefix-bytes o f))
 
 refused-octet : (code : FaultCode) (o : List ℕ) (x : ℕ) → (o ≡ [] → x ≢ 0) → IsHeadRefusal code o x → IsRefusedOctet o x code
 refused-octet StrayEnd o x first r = absurd (first r.0 r.1)
@@ -163,5 +163,5 @@ classified o x first (completes h v e) = inr (inl (h, v, e))
 classified o x first (refuses code r none) = inr (inr (code, refused-octet code o x first r))
 
 -- what can go on is no header
-pub front-no_header : (o : List ℕ) (h : HeaderValue) → IsHeaderPrefix o → IsHeader h → octets_of h ≡ o → ⊥
-front-no_header o h f v e = no-front h f.header f.more v f.valid f.proper (rw e f.front)
+pub prefix-no_header : (o : List ℕ) (h : HeaderValue) → IsHeaderPrefix o → IsHeader h → octets_of h ≡ o → ⊥
+prefix-no_header o h f v e = no-prefix h f.header f.more v f.valid f.proper (rw e f.prefix)

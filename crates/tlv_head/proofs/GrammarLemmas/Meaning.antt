@@ -1,4 +1,4 @@
--- What the octets read so far are, by the state that they lead to: nothing, a header, the front of one, or refused.
+-- What the octets read so far are, by the state that they lead to: nothing, a header, a prefix of one, or refused.
 use Rattle.std.proofs.Common.{◌≡◌, ◌≢◌, ◌⊎◌, inl, inr, ℕ, zero, suc, if◌then◌else◌, ◌+◌, ◌-◌, ◌*◌, ◌/◌, ◌%◌, ◌^◌, ◌<◌}
 use Rattle.std.proofs.Common.{◌≤◌, Bool, true, false, cond, ◌&&◌, not, eqb, ltb, List, [], ◌∷◌, ◌++◌, length, map}
 use Rattle.std.proofs.Common.{replicate, All, refl, ap, ◌∙◌, arith, append_assoc, append-nil, lt-ltb, le-ltb, eq-eqb}
@@ -196,19 +196,19 @@ reads-scan_from at s o (x ∷ xs) each r =
 pub reads-scan : (at : Origin) (xs : List ℕ) → All (λ x. x < 256) xs → IsStateAfter at (scan at xs) xs
 reads-scan at xs each = reads-scan_from at Fresh [] xs each refl
 
--- identifier octets, or the first of them, are the front of a header: its length may be 0
-named-front : (c : Class) (k : Bool) (n : ℕ) (i o more : List ℕ) → IsIdentifier c k n i → o ≢ [] → o ++ more ≡ i → IsHeaderPrefix o
-named-front c k n i o more id some e = record {
+-- identifier octets, or the first of them, are a prefix of a header: its length may be 0
+named-prefix : (c : Class) (k : Bool) (n : ℕ) (i o more : List ℕ) → IsIdentifier c k n i → o ≢ [] → o ++ more ≡ i → IsHeaderPrefix o
+named-prefix c k n i o more id some e = record {
   header = head_of start c k n i (Definite 0) (0 ∷ []);
   more = more ++ 0 ∷ [];
   proper = λ z. omega (arith, ap length z, length-append more (0 ∷ []));
   valid = record { identifier = id; lengths = inl (omega arith, refl); allowed = allows_definite k 0 };
-  front = rw (← append_assoc o more (0 ∷ []), e);
+  prefix = rw (← append_assoc o more (0 ∷ []), e);
 }
 
--- octets up to digits of a length are the front of a header: its other digits may be zeros
-long-front : (c : Class) (k : Bool) (n : ℕ) (i : List ℕ) (m : ℕ) (ds o : List ℕ) → o ≢ [] → IsLongState c k n i m ds o → IsHeaderPrefix o
-long-front c k n i m ds o some s =
+-- octets up to digits of a length are a prefix of a header: its other digits may be zeros
+long-prefix : (c : Class) (k : Bool) (n : ℕ) (i : List ℕ) (m : ℕ) (ds o : List ℕ) → o ≢ [] → IsLongState c k n i m ds o → IsHeaderPrefix o
+long-prefix c k n i m ds o some s =
     let total : length (ds ++ replicate (m - length ds) 0) ≡ m = omega (arith, length-append ds (replicate (m - length ds) 0), length-replicate {A = ℕ} (m - length ds) 0, s.short) in
     record {
       header = head_of start c k n i (Definite (value_of 256 (ds ++ replicate (m - length ds) 0))) ((128 + m) ∷ (ds ++ replicate (m - length ds) 0));
@@ -227,19 +227,19 @@ long-front c k n i m ds o some s =
           octets_are = rw total;
         });
       };
-      front = rw (s.octets, append_assoc i ((128 + m) ∷ ds) (replicate (m - length ds) 0));
+      prefix = rw (s.octets, append_assoc i ((128 + m) ∷ ds) (replicate (m - length ds) 0));
     }
 
--- octets after which more are needed are the front of a header
-pub front-from_more : (at : Origin) (s : Scan) (o : List ℕ) → IsStateAfter at s o → o ≢ [] → is_more s ≡ true → IsHeaderPrefix o
-front-from_more at Fresh o r some e = absurd (some r)
-front-from_more at (High c k ds) o r some e =
-    named-front c k _ _ o (0 ∷ []) (inr (record { digits = ds; last = 0; each = r.each; last_digit = omega arith; few = r.few; value = refl; octets_are = refl })) some (rw r.octets)
-front-from_more at (Named c k n i) o r some e = named-front c k n i o [] r.0 some (append-nil o ∙ r.1)
-front-from_more at (Long c k n i m ds) o r some e = long-front c k n i m ds o some r
-front-from_more at (Ready h) o r some e = absurd (cc)
-front-from_more at (Stuck code) o r some e = absurd (cc)
-front-from_more at Over o r some e = absurd (cc)
+-- octets after which more are needed are a prefix of a header
+pub prefix-from_more : (at : Origin) (s : Scan) (o : List ℕ) → IsStateAfter at s o → o ≢ [] → is_more s ≡ true → IsHeaderPrefix o
+prefix-from_more at Fresh o r some e = absurd (some r)
+prefix-from_more at (High c k ds) o r some e =
+    named-prefix c k _ _ o (0 ∷ []) (inr (record { digits = ds; last = 0; each = r.each; last_digit = omega arith; few = r.few; value = refl; octets_are = refl })) some (rw r.octets)
+prefix-from_more at (Named c k n i) o r some e = named-prefix c k n i o [] r.0 some (append-nil o ∙ r.1)
+prefix-from_more at (Long c k n i m ds) o r some e = long-prefix c k n i m ds o some r
+prefix-from_more at (Ready h) o r some e = absurd (cc)
+prefix-from_more at (Stuck code) o r some e = absurd (cc)
+prefix-from_more at Over o r some e = absurd (cc)
 
 -- the numbers in a header are below 256
 leading-byte : (c : Class) (k : Bool) (n : ℕ) → n < 32 → leading_octet c k n < 256
@@ -272,8 +272,8 @@ header-bytes : (h : HeaderValue) → IsHeader h → All (λ x. x < 256) (octets_
 header-bytes h valid =
     All-append (λ x. x < 256) h.identifier h.lengths (identifier-bytes h.class h.constructed h.number h.identifier valid.identifier) (length-bytes h.size h.lengths valid.lengths)
 
-All-front : (xs ys : List ℕ) → All (λ x. x < 256) (xs ++ ys) → All (λ x. x < 256) xs
-All-front xs ys each k d h = rw (get_or_append_left xs ys d k h) at (each k d (omega (arith, length-append xs ys)))
+All-prefix : (xs ys : List ℕ) → All (λ x. x < 256) (xs ++ ys) → All (λ x. x < 256) xs
+All-prefix xs ys each k d h = rw (get_or_append_left xs ys d k h) at (each k d (omega (arith, length-append xs ys)))
 
-pub front-bytes : (o : List ℕ) → IsHeaderPrefix o → All (λ x. x < 256) o
-front-bytes o f = All-front o f.more (rw f.front (header-bytes f.header f.valid))
+pub prefix-bytes : (o : List ℕ) → IsHeaderPrefix o → All (λ x. x < 256) o
+prefix-bytes o f = All-prefix o f.more (rw f.prefix (header-bytes f.header f.valid))

@@ -13,37 +13,37 @@ use Rattle.tlv_head.specs.Refusal.{CannotBecomeHeader, BeginsWithNoHeader, IsHea
 use Rattle.tlv_head.specs.Refusal.{indefinite_primitive, length_too_large, reserved_length, tag_too_long}
 use Rattle.tlv_head.proofs.GrammarLemmas.Scan.{Scan, Origin, start, Fresh, High, Named, Long, Ready, Stuck, Over, step}
 use Rattle.tlv_head.proofs.GrammarLemmas.Scan.{scan_from, scan, scan_from-append, scan_from-over, scan-identifier}
-use Rattle.tlv_head.proofs.GrammarLemmas.Scan.{scan-moved, moved, step-leading, is_more, more-from_front}
-use Rattle.tlv_head.proofs.GrammarLemmas.Headers.{fronts, stuck-none}
+use Rattle.tlv_head.proofs.GrammarLemmas.Scan.{scan-moved, moved, step-leading, is_more, more-from_prefix}
+use Rattle.tlv_head.proofs.GrammarLemmas.Headers.{prefixes, stuck-none}
 
--- read from this state, a front of the octets is refused at its last octet
+-- read from this state, a prefix of the octets is refused at its last octet
 record IsStuckFrom (at : Origin) (s : Scan) (o : List ℕ) : Type 0 where
-  front : List ℕ
+  prefix : List ℕ
   rest : List ℕ
   code : FaultCode
-  stuck : scan_from at s front ≡ Stuck code
-  octets : o ≡ front ++ rest
+  stuck : scan_from at s prefix ≡ Stuck code
+  octets : o ≡ prefix ++ rest
 
 -- so it is, whatever follows
 stuck-longer : (at : Origin) (s : Scan) (o more : List ℕ) → IsStuckFrom at s o → IsStuckFrom at s (o ++ more)
 stuck-longer at s o more r = record {
-  front = r.front;
+  prefix = r.prefix;
   rest = r.rest ++ more;
   code = r.code;
   stuck = r.stuck;
-  octets = ap (λ z. z ++ more) r.octets ∙ append_assoc r.front r.rest more;
+  octets = ap (λ z. z ++ more) r.octets ∙ append_assoc r.prefix r.rest more;
 }
 
 stuck-last : (at : Origin) (o : List ℕ) (code : FaultCode) → scan at o ≡ Stuck code → IsStuckFrom at Fresh o
-stuck-last at o code e = record { front = o; rest = []; code = code; stuck = e; octets = sym (append-nil o) }
+stuck-last at o code e = record { prefix = o; rest = []; code = code; stuck = e; octets = sym (append-nil o) }
 
-front-none : (o : List ℕ) (code : FaultCode) → scan start o ≡ Stuck code → CannotBecomeHeader o
-front-none o code e = stuck-none start (Stuck code) o e refl (λ h z. cc)
+prefix-none : (o : List ℕ) (code : FaultCode) → scan start o ≡ Stuck code → CannotBecomeHeader o
+prefix-none o code e = stuck-none start (Stuck code) o e refl (λ h z. cc)
 
 -- no header begins with such octets
 stuck-begins-none : (o : List ℕ) → IsStuckFrom start Fresh o → CannotBecomeHeader o
 stuck-begins-none o r = λ h more v e.
-    front-none r.front r.code r.stuck h (r.rest ++ more) v (sym (append_assoc r.front r.rest more) ∙ (ap (λ z. z ++ more) (sym r.octets) ∙ e))
+    prefix-none r.prefix r.code r.stuck h (r.rest ++ more) v (sym (append_assoc r.prefix r.rest more) ∙ (ap (λ z. z ++ more) (sym r.octets) ∙ e))
 
 past-header : (at : Origin) (h : HeaderValue) (z : List ℕ) (code : FaultCode) → scan_from at (Ready h) z ≡ Stuck code → ⊥
 past-header at h [] code e = cc
@@ -57,9 +57,9 @@ header-not_stuck h z o code v e s =
     past-header start (moved start h) z code (ap (λ (t : Scan). scan_from start t z) (sym (scan-moved start h v)) ∙ split)
 
 stuck-begins_with-none : (o : List ℕ) → IsStuckFrom start Fresh o → BeginsWithNoHeader o
-stuck-begins_with-none o r = λ h rest v e. elim (fronts r.front (octets_of h) r.rest rest (sym r.octets ∙ e)) [
-  | inl z ↦ front-none r.front r.code r.stuck h z.0 v z.1
-  | inr z ↦ header-not_stuck h z.0 r.front r.code v z.1 r.stuck
+stuck-begins_with-none o r = λ h rest v e. elim (prefixes r.prefix (octets_of h) r.rest rest (sym r.octets ∙ e)) [
+  | inl z ↦ prefix-none r.prefix r.code r.stuck h z.0 v z.1
+  | inr z ↦ header-not_stuck h z.0 r.prefix r.code v z.1 r.stuck
 ]
 
 -- one octet after those that were read
@@ -86,10 +86,10 @@ too_long-stuck : (at : Origin) (c : Class) (k : Bool) (ds o : List ℕ) (x : ℕ
 too_long-stuck at c k ds o x each eight octets flag =
     let nonzero : leading_octet c k 31 ≡ 0 → ⊥ = omega arith in
     let below : 31 < 32 = omega arith in
-    let front : scan at o ≡ High c k ds =
+    let prefix : scan at o ≡ High c k ds =
     rw octets (ap (λ (s : Scan). scan_from at s (with_bit_8 ds)) (step-leading at c k 31 below nonzero)
     ∙ scan-flagged at c k [] ds each (omega (arith, eight))) in
-    scan-step at o x (High c k ds) TagTooLong front
+    scan-step at o x (High c k ds) TagTooLong prefix
     (rw (le-ltb x 128 flag, le-ltb (length ds) 8 (omega (arith, eight))))
 
 -- a first length octet ff
@@ -106,7 +106,7 @@ long-or-stuck : (at : Origin) (c : Class) (k : Bool) (n : ℕ) (i : List ℕ) (m
 long-or-stuck at c k n i m ds [] h = inl (ap (Long c k n i m) (sym (append-nil ds)))
 long-or-stuck at c k n i m ds (e ∷ es) h = ⊎_elim
     (λ (bad : (not (eqb e 0) && ltb (length ds + 5) m) ≡ true).
-    inr (record { front = e ∷ []; rest = es; code = LengthTooLarge; stuck = rw bad refl; octets = refl }))
+    inr (record { prefix = e ∷ []; rest = es; code = LengthTooLarge; stuck = rw bad refl; octets = refl }))
     (λ (good : (not (eqb e 0) && ltb (length ds + 5) m) ≡ false).
     let room : length ds + 1 < m = omega arith in
     let one : step at (Long c k n i m ds) e ≡ Long c k n i m (ds ++ e ∷ []) = rw (good, lt-ltb (length ds + 1) m room) in
@@ -114,7 +114,7 @@ long-or-stuck at c k n i m ds (e ∷ es) h = ⊎_elim
     ⊎_elim
     (λ (on : scan_from at (Long c k n i m (ds ++ e ∷ [])) es ≡ Long c k n i m ((ds ++ e ∷ []) ++ es)). inl (rw (one, sym (append_assoc ds (e ∷ []) es)) on))
     (λ (r : IsStuckFrom at (Long c k n i m (ds ++ e ∷ [])) es).
-    inr (record { front = e ∷ r.front; rest = r.rest; code = r.code; stuck = ap (λ (s : Scan). scan_from at s r.front) one ∙ r.stuck; octets = ap (λ z. e ∷ z) r.octets }))
+    inr (record { prefix = e ∷ r.prefix; rest = r.rest; code = r.code; stuck = ap (λ (s : Scan). scan_from at s r.prefix) one ∙ r.stuck; octets = ap (λ z. e ∷ z) r.octets }))
     (long-or-stuck at c k n i m (ds ++ e ∷ []) es fewer))
     (cases_Bool (not (eqb e 0) && ltb (length ds + 5) m))
 
@@ -140,24 +140,24 @@ too_large-stuck at c k n x left i ds o id many few octets nonzero =
     (rw (ne_eqb x 0 nonzero, lt-ltb (length ds + 5) m more))))
     (λ (s : IsStuckFrom at (Long c k n i m []) ds).
     inr (record {
-      front = i ++ (128 + m) ∷ s.front;
+      prefix = i ++ (128 + m) ∷ s.prefix;
       rest = s.rest;
       code = s.code;
-      stuck = lead s.front ∙ s.stuck;
-      octets = octets ∙ (ap (λ z. i ++ (128 + m) ∷ z) s.octets ∙ sym (append_assoc i ((128 + m) ∷ s.front) s.rest));
+      stuck = lead s.prefix ∙ s.stuck;
+      octets = octets ∙ (ap (λ z. i ++ (128 + m) ∷ z) s.octets ∙ sym (append_assoc i ((128 + m) ∷ s.prefix) s.rest));
     }))
     (long-or-stuck at c k n i m [] ds (omega (arith, many)))
 
 -- the last octet is refused with this code, or one before it is refused
 refused-last : (at : Origin) (code : FaultCode) (o : List ℕ) (x : ℕ) → IsRefusedOctet o x code
     → (scan at (o ++ x ∷ []) ≡ Stuck code) ⊎ ((code ≡ LengthTooLarge) × IsStuckFrom at Fresh o)
-refused-last at code o x (tag_too_long c k ds front eight flag) = inl (too_long-stuck at c k ds o x front.each eight front.octets_are flag)
+refused-last at code o x (tag_too_long c k ds prefix eight flag) = inl (too_long-stuck at c k ds o x prefix.each eight prefix.octets_are flag)
 refused-last at code o x (reserved_length c k n i e) = inl (reserved-stuck at c k n o x i e)
 refused-last at code o x (indefinite_primitive c n i e) = inl (primitive-stuck at c n o x i e)
-refused-last at code o x (length_too_large c k n i ds left front many nonzero) = ⊎_elim
+refused-last at code o x (length_too_large c k n i ds left prefix many nonzero) = ⊎_elim
     (λ (e : scan at (o ++ x ∷ []) ≡ Stuck LengthTooLarge). inl e)
     (λ (s : IsStuckFrom at Fresh o). inr (refl, s))
-    (too_large-stuck at c k n x left i ds o front.identified many front.few front.octets_are nonzero)
+    (too_large-stuck at c k n x left i ds o prefix.identified many prefix.few prefix.octets_are nonzero)
 
 refused-stuck_from : (code : FaultCode) (o : List ℕ) (x : ℕ) → IsRefusedOctet o x code → IsStuckFrom start Fresh (o ++ x ∷ [])
 refused-stuck_from code o x r = ⊎_elim
@@ -181,22 +181,22 @@ past-stuck at code (y ∷ z) = ap is_more (scan_from-over at z)
 stuck-no_more : (at : Origin) (o : List ℕ) → IsStuckFrom at Fresh o → is_more (scan at o) ≡ false
 stuck-no_more at o r =
     let split : scan at o ≡ scan_from at (Stuck r.code) r.rest =
-    ap (scan at) r.octets ∙ (scan_from-append at Fresh r.front r.rest ∙ ap (λ (s : Scan). scan_from at s r.rest) r.stuck) in
+    ap (scan at) r.octets ∙ (scan_from-append at Fresh r.prefix r.rest ∙ ap (λ (s : Scan). scan_from at s r.rest) r.stuck) in
     ap is_more split ∙ past-stuck at r.code r.rest
 
--- after the front of a header an octet is refused with this code
+-- after a prefix of a header an octet is refused with this code
 pub refused-stuck : (at : Origin) (code : FaultCode) (o : List ℕ) (x : ℕ) → IsHeaderPrefix o → IsRefusedOctet o x code → scan at (o ++ x ∷ []) ≡ Stuck code
-refused-stuck at code o x front r = ⊎_elim
+refused-stuck at code o x prefix r = ⊎_elim
     (λ (e : scan at (o ++ x ∷ []) ≡ Stuck code). e)
     (λ (s : (code ≡ LengthTooLarge) × IsStuckFrom at Fresh o).
-    absurd (let both : true ≡ false = sym (more-from_front at o front) ∙ stuck-no_more at o s.1 in cc))
+    absurd (let both : true ≡ false = sym (more-from_prefix at o prefix) ∙ stuck-no_more at o s.1 in cc))
     (refused-last at code o x r)
 
 stuck-or_over : (at : Origin) (s : Scan) (o : List ℕ) (x : ℕ) → IsStuckFrom at s o → scan_from at s (o ++ x ∷ []) ≡ Over
 stuck-or_over at s o x r =
-    let whole : o ++ x ∷ [] ≡ r.front ++ (r.rest ++ x ∷ []) = ap (λ z. z ++ x ∷ []) r.octets ∙ append_assoc r.front r.rest (x ∷ []) in
+    let whole : o ++ x ∷ [] ≡ r.prefix ++ (r.rest ++ x ∷ []) = ap (λ z. z ++ x ∷ []) r.octets ∙ append_assoc r.prefix r.rest (x ∷ []) in
     ap (scan_from at s) whole
-    ∙ (scan_from-append at s r.front (r.rest ++ x ∷ []) ∙ (ap (λ (t : Scan). scan_from at t (r.rest ++ x ∷ [])) r.stuck ∙ over r.rest))
+    ∙ (scan_from-append at s r.prefix (r.rest ++ x ∷ []) ∙ (ap (λ (t : Scan). scan_from at t (r.rest ++ x ∷ [])) r.stuck ∙ over r.rest))
   where
     over : (z : List ℕ) → scan_from at (Stuck r.code) (z ++ x ∷ []) ≡ Over
     over [] = refl

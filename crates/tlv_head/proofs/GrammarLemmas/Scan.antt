@@ -242,15 +242,15 @@ more-cases : (at : Origin) (s : Scan) (xs : List ℕ) (h : HeaderValue) → xs �
 more-cases at s xs h some r true e = e
 more-cases at s xs h some r false e = absurd (scan_from-past at s xs h e some r)
 
--- after the front of a header more octets are needed
-pub more-from_front : (at : Origin) (o : List ℕ) → IsHeaderPrefix o → is_more (scan at o) ≡ true
-more-from_front at o f =
-    let whole : scan at (o ++ f.more) ≡ Ready (moved at f.header) = rw f.front (scan-moved at f.header f.valid) in
+-- after a prefix of a header more octets are needed
+pub more-from_prefix : (at : Origin) (o : List ℕ) → IsHeaderPrefix o → is_more (scan at o) ≡ true
+more-from_prefix at o f =
+    let whole : scan at (o ++ f.more) ≡ Ready (moved at f.header) = rw f.prefix (scan-moved at f.header f.valid) in
     more-cases at (scan at o) f.more (moved at f.header) f.proper (rw (scan_from-append at Fresh o f.more) at whole) (is_more (scan at o)) refl
 
--- a header is no proper front of another
-pub no-front : (h g : HeaderValue) (xs : List ℕ) → IsHeader h → IsHeader g → xs ≢ [] → octets_of h ++ xs ≡ octets_of g → ⊥
-no-front h g xs vh vg some e =
+-- a header is no proper prefix of another
+pub no-prefix : (h g : HeaderValue) (xs : List ℕ) → IsHeader h → IsHeader g → xs ≢ [] → octets_of h ++ xs ≡ octets_of g → ⊥
+no-prefix h g xs vh vg some e =
     let whole : scan start (octets_of h ++ xs) ≡ Ready (moved start g) = rw e (scan-moved start g vg) in
     let split : scan_from start (scan start (octets_of h)) xs ≡ Ready (moved start g) = rw (scan_from-append start Fresh (octets_of h) xs) at whole in
     let past : scan_from start (Ready (moved start h)) xs ≡ Ready (moved start g) = rw (scan-moved start h vh) at split in

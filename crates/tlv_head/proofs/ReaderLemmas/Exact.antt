@@ -11,7 +11,7 @@ use Rattle.tlv_head.specs.HeadReaderState.{ContentsFit, HeadReaderState}
 use Rattle.tlv_head.specs.Refusal.{IsHeaderPrefix, IsRefusedOctet}
 use Rattle.tlv_head.specs.Push.{Completes, FitsThere, IsRefusedPush, Pushes, more, no_room, overrun, refused}
 use Rattle.tlv_head.specs.Push.{refused_octet, too_deep, whole}
-use Rattle.tlv_head.proofs.GrammarLemmas.Headers.{front-no_header}
+use Rattle.tlv_head.proofs.GrammarLemmas.Headers.{prefix-no_header}
 use Rattle.tlv_head.proofs.GrammarLemmas.Refused.{one-refusal, refused-none}
 use Rattle.tlv_head.proofs.GrammarLemmas.Scan.{same-header}
 
@@ -20,9 +20,9 @@ pub completes_unique : (r : HeadReaderState) (x : ℕ) (g h : HeaderValue) → C
 completes_unique r x g h p q =
     same-header g h p.valid q.valid (λ i. record { offset = (p.offset ∙ sym q.offset) i; named = (p.named ∙ sym q.named) i }) (p.octets ∙ sym q.octets)
 
--- the front of a header is no whole header
-pub front_not_whole : (r : HeadReaderState) (x : ℕ) (h : HeaderValue) → IsHeaderPrefix (r.octets ++ x ∷ []) → Completes r (x ∷ []) h → ⊥
-front_not_whole r x h f c = front-no_header _ h f c.valid c.octets
+-- a prefix of a header is no whole header
+pub prefix_not_whole : (r : HeadReaderState) (x : ℕ) (h : HeaderValue) → IsHeaderPrefix (r.octets ++ x ∷ []) → Completes r (x ∷ []) h → ⊥
+prefix_not_whole r x h f c = prefix-no_header _ h f c.valid c.octets
 
 -- an octet that is refused for the octets alone completes no header
 refused_completes_none : (code : FaultCode) (r : HeadReaderState) (x : ℕ) (h : HeaderValue) → IsRefusedOctet r.octets x code → Completes r (x ∷ []) h → ⊥
@@ -47,7 +47,7 @@ refused_not_whole code r x room depth h (overrun m g d k past) c n f =
 
 pub exact : (old new : HeadReaderState) (x : ℕ) (room : Option ℕ) (depth : ℕ) (r : Head) → Pushes old x room depth new r → (h : HeaderValue) → Completes old (x ∷ []) h
     → room ≢ Some 0 → FitsThere h room depth → r ≡ Whole h
-exact old new x room depth r (more m front e) h c n f = absurd (front_not_whole old x h front c)
+exact old new x room depth r (more m prefix e) h c n f = absurd (prefix_not_whole old x h prefix c)
 exact old new x room depth r (whole g d there e) h c n f = ap (λ k. Whole k) (completes_unique old x g h d c)
 exact old new x room depth r (refused fault cause at e) h c n f = absurd (refused_not_whole fault.code old x room depth h cause c n f)
 
@@ -76,11 +76,11 @@ one_code c d r x room depth (overrun n h e k l) (refused_octet m q) = absurd (re
 one_code c d r x room depth (overrun n h e k l) (too_deep m g f i j) = absurd (not_deep_and_past r x depth g h f i j e k)
 one_code c d r x room depth (overrun n h e k l) (overrun m g f i j) = refl
 
-refused_no_front : (code : FaultCode) (r : HeadReaderState) (x : ℕ) (room : Option ℕ) (depth : ℕ) → IsRefusedPush r x room depth code → room ≢ Some 0 → IsHeaderPrefix (r.octets ++ x ∷ []) → ⊥
-refused_no_front code r x room depth (no_room z) n f = n z
-refused_no_front code r x room depth (refused_octet m p) n f = refused-none code r.octets x p f.header f.more f.valid f.front
-refused_no_front code r x room depth (too_deep m h c k l) n f = front_not_whole r x h f c
-refused_no_front code r x room depth (overrun m h c k l) n f = front_not_whole r x h f c
+refused_no_prefix : (code : FaultCode) (r : HeadReaderState) (x : ℕ) (room : Option ℕ) (depth : ℕ) → IsRefusedPush r x room depth code → room ≢ Some 0 → IsHeaderPrefix (r.octets ++ x ∷ []) → ⊥
+refused_no_prefix code r x room depth (no_room z) n f = n z
+refused_no_prefix code r x room depth (refused_octet m p) n f = refused-none code r.octets x p f.header f.more f.valid f.prefix
+refused_no_prefix code r x room depth (too_deep m h c k l) n f = prefix_not_whole r x h f c
+refused_no_prefix code r x room depth (overrun m h c k l) n f = prefix_not_whole r x h f c
 
 room_left : (size : Size) (room : Option ℕ) → ContentsFit size room → room ≢ Some 0
 room_left (Definite n) room f e = let none : IfSome (Some 0) (λ r. n < r) = subst (λ (o : Option ℕ). IfSome o (λ r. n < r)) e f in omega (arith, none)
@@ -90,9 +90,9 @@ room_left Indefinite room f e = let none : IfSome (Some 0) (λ r. 0 < r) = subst
 pub one-result : (old new other : HeadReaderState) (x : ℕ) (room : Option ℕ) (depth : ℕ) (r s : Head) → Pushes old x room depth new r → Pushes old x room depth other s → r ≡ s
 one-result old new other x room depth r s a (whole h c there e) = exact old new x room depth r a h c (room_left h.size room there.within) there
 one-result old new other x room depth r s (whole h c there e) b = sym (exact old other x room depth s b h c (room_left h.size room there.within) there)
-one-result old new other x room depth r s (more n front e) (more m front' e') = refl
-one-result old new other x room depth r s (more n front e) (refused g cause at e') = absurd (refused_no_front g.code old x room depth cause n front)
-one-result old new other x room depth r s (refused f cause at e) (more n front e') = absurd (refused_no_front f.code old x room depth cause n front)
+one-result old new other x room depth r s (more n prefix e) (more m prefix' e') = refl
+one-result old new other x room depth r s (more n prefix e) (refused g cause at e') = absurd (refused_no_prefix g.code old x room depth cause n prefix)
+one-result old new other x room depth r s (refused f cause at e) (more n prefix e') = absurd (refused_no_prefix f.code old x room depth cause n prefix)
 one-result old new other x room depth r s (refused f cause at e) (refused g cause' at' e') =
     let code : f.code ≡ g.code = one_code f.code g.code old x room depth cause cause' in
     let offset : f.offset ≡ g.offset = at ∙ sym at' in

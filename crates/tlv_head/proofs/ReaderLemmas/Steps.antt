@@ -40,19 +40,19 @@ length-lt n left some small =
 
 pub number-lt : (id : Identifier) (octets : List ℕ) → CarriesNumber id octets → id.number < 2 ^ 56
 number-lt id octets h =
-    let v : value_of 128 h.digits < 128 ^ length h.digits = value_of-lt 128 h.digits (lit< tt) h.front.each in
+    let v : value_of 128 h.digits < 128 ^ length h.digits = value_of-lt 128 h.digits (lit< tt) h.prefix.each in
     let p : 128 ^ length h.digits ≤ 128 ^ 8 = pow-le-pow_right {n = 128} (lit< tt) h.few in
     omega (arith, h.value)
 
--- one more octet after a front
-front-snoc : (i ds os : List ℕ) (a b x : ℕ) → os ≡ i ++ a ∷ ds → b ≡ a → os ++ x ∷ [] ≡ i ++ (b ∷ (ds ++ x ∷ []))
-front-snoc i ds os a b x e f = rw (e, f) (append_assoc i (a ∷ ds) (x ∷ []))
+-- one more octet after a prefix
+prefix-snoc : (i ds os : List ℕ) (a b x : ℕ) → os ≡ i ++ a ∷ ds → b ≡ a → os ++ x ∷ [] ≡ i ++ (b ∷ (ds ++ x ∷ []))
+prefix-snoc i ds os a b x e f = rw (e, f) (append_assoc i (a ∷ ds) (x ∷ []))
 
 pub begins_length : (id : Identifier) (octets : List ℕ) (x : ℕ) → CarriesIdentifier id octets → 128 < x → x < 255 → CarriesLength id 0 (x - 128) (octets ++ x ∷ [])
 begins_length id octets x h low high = record {
   identifier = octets;
   digits = [];
-  front = record {
+  prefix = record {
     identified = h.identified;
     each = All-nil (λ d. d < 256);
     some = omega arith;
@@ -68,18 +68,18 @@ begins_length id octets x h low high = record {
 pub more_length : (id : Identifier) (n left x r : ℕ) (octets : List ℕ) → CarriesLength id n left octets → r ≡ x → x < 256
     → (x ≡ 0) ⊎ (left - 1 < 5) → left - 1 ≢ 0 → CarriesLength id (n * 256 + r) (left - 1) (octets ++ x ∷ [])
 more_length id n left x r octets h e below zero_or_few rest =
-    let some : 1 ≤ left = h.front.some in
+    let some : 1 ≤ left = h.prefix.some in
     let len : length (h.digits ++ x ∷ []) ≡ length h.digits + 1 = omega (arith, length-append h.digits (x ∷ [])) in
-    let few : length h.digits + left ≤ 126 = h.front.few in
+    let few : length h.digits + left ≤ 126 = h.prefix.few in
     record {
       identifier = h.identifier;
       digits = h.digits ++ x ∷ [];
-      front = record {
-        identified = h.front.identified;
-        each = All-push (λ d. d < 256) h.digits x h.front.each below;
+      prefix = record {
+        identified = h.prefix.identified;
+        each = All-push (λ d. d < 256) h.digits x h.prefix.each below;
         some = omega arith;
         few = omega arith;
-        octets_are = front-snoc _ _ _ _ _ _ h.front.octets_are (omega arith);
+        octets_are = prefix-snoc _ _ _ _ _ _ h.prefix.octets_are (omega arith);
       };
       count = h.count;
       few = h.few;
@@ -90,18 +90,18 @@ more_length id n left x r octets h e below zero_or_few rest =
 pub ends_length : (id : Identifier) (n left x r : ℕ) (octets : List ℕ) → CarriesLength id n left octets → r ≡ x → x < 256
     → (x ≡ 0) ⊎ (left - 1 < 5) → left - 1 ≡ 0 → MakesHeader id (Definite (n * 256 + r)) (octets ++ x ∷ [])
 ends_length id n left x r octets h e below zero_or_few rest =
-    let some : 1 ≤ left = h.front.some in
+    let some : 1 ≤ left = h.prefix.some in
     let len : length (h.digits ++ x ∷ []) ≡ length h.digits + 1 = omega (arith, length-append h.digits (x ∷ [])) in
-    let few : length h.digits + left ≤ 126 = h.front.few in
+    let few : length h.digits + left ≤ 126 = h.prefix.few in
     let one : left ≡ 1 = omega arith in
     let small : n < 256 ^ (5 - 1) = subst (λ m. n < 256 ^ (5 - m)) one h.small in
     record {
       identifier = h.identifier;
       lengths = (128 + length (h.digits ++ x ∷ [])) ∷ (h.digits ++ x ∷ []);
-      identified = record { identified = h.front.identified; count = h.count; few = h.few };
+      identified = record { identified = h.prefix.identified; count = h.count; few = h.few };
       sized = inr (record {
         digits = h.digits ++ x ∷ [];
-        each = All-push (λ d. d < 256) h.digits x h.front.each below;
+        each = All-push (λ d. d < 256) h.digits x h.prefix.each below;
         some = omega arith;
         few = omega arith;
         value = rw (e, h.value) (sym (value_of-snoc 256 h.digits x));
@@ -111,7 +111,7 @@ ends_length id n left x r octets h e below zero_or_few rest =
       few = omega arith;
       some = omega arith;
       allowed = allows_definite id.constructed (n * 256 + r);
-      octets_are = front-snoc _ _ _ _ _ _ h.front.octets_are (omega arith);
+      octets_are = prefix-snoc _ _ _ _ _ _ h.prefix.octets_are (omega arith);
     }
 
 pub more_number : (id : Identifier) (x r : ℕ) (octets : List ℕ) → CarriesNumber id octets → x ≡ 128 + r → r < 128 → id.octets < 9
@@ -121,9 +121,9 @@ more_number id x r octets h e below few =
     let count : id.octets ≡ length h.digits + 1 = h.count in
     record {
       digits = h.digits ++ r ∷ [];
-      front = record {
-        each = All-push (λ d. d < 128) h.digits r h.front.each below;
-        octets_are = rw (h.front.octets_are, e, map_push (λ d. 128 + d) h.digits r) refl;
+      prefix = record {
+        each = All-push (λ d. d < 128) h.digits r h.prefix.each below;
+        octets_are = rw (h.prefix.octets_are, e, map_push (λ d. 128 + d) h.digits r) refl;
       };
       count = omega arith;
       few = omega arith;
@@ -134,17 +134,17 @@ pub ends_number : (id : Identifier) (x r : ℕ) (octets : List ℕ) → CarriesN
     → CarriesIdentifier (record { class = id.class; constructed = id.constructed; number = id.number * 128 + r; octets = id.octets + 1 }) (octets ++ x ∷ [])
 ends_number id x r octets h e below =
     let count : id.octets ≡ length h.digits + 1 = h.count in
-    let size : length octets ≡ length h.digits + 1 = rw h.front.octets_are (omega (arith, length-map h.digits (λ d. 128 + d))) in
+    let size : length octets ≡ length h.digits + 1 = rw h.prefix.octets_are (omega (arith, length-map h.digits (λ d. 128 + d))) in
     let few : length h.digits ≤ 8 = h.few in
     record {
       identified = inr (record {
         digits = h.digits;
         last = x;
-        each = h.front.each;
+        each = h.prefix.each;
         last_digit = below;
         few = h.few;
         value = rw (e, h.value) (sym (value_of-snoc 128 h.digits x));
-        octets_are = rw h.front.octets_are refl;
+        octets_are = rw h.prefix.octets_are refl;
       });
       count = omega (arith, length-append octets (x ∷ []));
       few = omega (arith, length-append octets (x ∷ []));
@@ -152,7 +152,7 @@ ends_number id x r octets h e below =
 
 -- a ninth subsequent identifier octet that is not the last
 pub ninth_number : (id : Identifier) (octets : List ℕ) (x : ℕ) → CarriesNumber id octets → 9 ≤ id.octets → 128 ≤ x → IsRefusedOctet octets x TagTooLong
-ninth_number id octets x h many flag = tag_too_long id.class id.constructed h.digits h.front (omega (arith, h.few, h.count)) flag
+ninth_number id octets x h many flag = tag_too_long id.class id.constructed h.digits h.prefix (omega (arith, h.few, h.count)) flag
 
 -- a first length octet ff
 pub all_ones : (id : Identifier) (octets : List ℕ) (x : ℕ) → CarriesIdentifier id octets → x ≡ 255 → IsRefusedOctet octets x ReservedLength
@@ -165,4 +165,4 @@ unallowed id octets x h form e = indefinite_primitive id.class id.number (subst 
 -- a length octet that makes the length too large
 pub too_large : (id : Identifier) (n left : ℕ) (octets : List ℕ) (x : ℕ) → CarriesLength id n left octets → 6 ≤ left → x ≢ 0 → IsRefusedOctet octets x LengthTooLarge
 too_large id n left octets x h many nonzero =
-    length_too_large id.class id.constructed id.number h.identifier h.digits left h.front many nonzero
+    length_too_large id.class id.constructed id.number h.identifier h.digits left h.prefix many nonzero

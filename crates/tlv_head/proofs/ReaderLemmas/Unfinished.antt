@@ -24,13 +24,13 @@ pub length-carried : (p : Part) (os : List ℕ) → Carries p os → length os �
 length-carried Start os h = rw h (omega arith)
 length-carried (Number id) os h =
     let few : length h.digits ≤ 8 = h.few in
-    rw h.front.octets_are (omega (arith, length-map h.digits (λ d. 128 + d)))
+    rw h.prefix.octets_are (omega (arith, length-map h.digits (λ d. 128 + d)))
 length-carried (Length id) os h = let few : length os ≤ 10 = h.few in omega arith
 length-carried (Digits id n left) os h =
     let few : length h.identifier ≤ 10 = h.few in
-    let some : 1 ≤ left = h.front.some in
-    let most : length h.digits + left ≤ 126 = h.front.few in
-    rw h.front.octets_are (omega (arith, length-append h.identifier ((128 + (length h.digits + left)) ∷ h.digits)))
+    let some : 1 ≤ left = h.prefix.some in
+    let most : length h.digits + left ≤ 126 = h.prefix.few in
+    rw h.prefix.octets_are (omega (arith, length-append h.identifier ((128 + (length h.digits + left)) ∷ h.digits)))
 length-carried Done os h = rw h (omega arith)
 
 -- the header that is made
@@ -85,14 +85,14 @@ made_whole r id size os x m e =
 cons≢nil : (x : ℕ) (xs : List ℕ) → x ∷ xs ≢ []
 cons≢nil x xs e = cc
 
--- octets are the front of a header if they are with a zero after them
+-- octets are a prefix of a header if they are with a zero after them
 zero_after : (os : List ℕ) → IsHeaderPrefix (os ++ 0 ∷ []) → IsHeaderPrefix os
 zero_after os u = record {
   header = u.header;
   more = 0 ∷ u.more;
   valid = u.valid;
   proper = cons≢nil 0 u.more;
-  front = sym (append_assoc os (0 ∷ []) u.more) ∙ u.front;
+  prefix = sym (append_assoc os (0 ∷ []) u.more) ∙ u.prefix;
 }
 
 zero_ends : (id : Identifier) (size : Size) (os : List ℕ) → MakesHeader id size (os ++ 0 ∷ []) → IsHeaderPrefix os
@@ -101,7 +101,7 @@ zero_ends id size os m = record {
   more = 0 ∷ [];
   valid = made-valid 0 false id size _ m;
   proper = cons≢nil 0 [];
-  front = m.octets_are;
+  prefix = m.octets_are;
 }
 
 pub unfinished_identifier : (id : Identifier) (os : List ℕ) → CarriesIdentifier id os → IsHeaderPrefix os
@@ -120,7 +120,7 @@ pub unfinished_number : (id : Identifier) (os : List ℕ) → CarriesNumber id o
 unfinished_number id os h = zero_after os (unfinished_identifier _ _ (ends_number id 0 0 os h refl (lit< tt)))
 
 pub unfinished_length : (k : ℕ) (id : Identifier) (n left : ℕ) (os : List ℕ) → left ≤ k → CarriesLength id n left os → IsHeaderPrefix os
-unfinished_length zero id n left os below h = let some : 1 ≤ left = h.front.some in absurd (omega arith)
+unfinished_length zero id n left os below h = let some : 1 ≤ left = h.prefix.some in absurd (omega arith)
 unfinished_length (suc k) id n left os below h = elim (cases_eq (left - 1) 0) [
   | inl e ↦ zero_ends id (Definite (n * 256 + 0)) os (ends_length id n left 0 0 os h refl (lit< tt) (inl refl) e)
   | inr e ↦ zero_after os (unfinished_length k id (n * 256 + 0) (left - 1) _ (omega arith) (more_length id n left 0 0 os h refl (lit< tt) (inl refl) e))

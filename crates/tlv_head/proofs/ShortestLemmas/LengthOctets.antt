@@ -21,13 +21,13 @@ digits-of : (k n : ℕ) → n < 256 ^ k → HasDigits k n
 digits-of zero n below = record { digits = []; each = All-nil (λ d. d < 256); count = refl; value = let b : n < 1 = rw (pow-zero 256) at below in omega arith }
 digits-of (suc k) n below =
     let b : n < 256 ^ k * 256 = rw (pow-suc 256 k) at below in
-    let front : HasDigits k (n / 256) = digits-of k (n / 256) (omega (arith, b)) in
-    let value : value_of 256 (front.digits ++ n % 256 ∷ []) ≡ value_of 256 front.digits * 256 + n % 256 = value_of-snoc 256 front.digits (n % 256) in
+    let leading : HasDigits k (n / 256) = digits-of k (n / 256) (omega (arith, b)) in
+    let value : value_of 256 (leading.digits ++ n % 256 ∷ []) ≡ value_of 256 leading.digits * 256 + n % 256 = value_of-snoc 256 leading.digits (n % 256) in
     record {
-      digits = front.digits ++ n % 256 ∷ [];
-      each = All-push (λ d. d < 256) front.digits (n % 256) front.each (omega arith);
-      count = omega (arith, front.count, length-append front.digits (n % 256 ∷ []));
-      value = omega (arith, value, front.value);
+      digits = leading.digits ++ n % 256 ∷ [];
+      each = All-push (λ d. d < 256) leading.digits (n % 256) leading.each (omega arith);
+      count = omega (arith, leading.count, length-append leading.digits (n % 256 ∷ []));
+      value = omega (arith, value, leading.value);
     }
 
 -- length octets, as few as they can be, at most six

@@ -1,4 +1,4 @@
-//! Texts that are written to the front of octets.
+//! Texts that are written over the first of some octets.
 ghost use Rattle.std.specs.Prelude.{◌≡◌, ◌+◌, ◌*◌, ◌≤◌, length, take};
 ghost use Rattle.tlv_io.specs.LineTexts.{spaced_pairs, spaces};
 
@@ -31,7 +31,7 @@ fn fill_more_spaces(to: &mut [u8], count: usize)
 
 /// Writes octets as pairs of digits, each after a space.
 #[inline(always)]
-pub(super) fn write_pairs(octets: &[u8], to: &mut [u8])
+pub(super) fn write_spaced_pairs(octets: &[u8], to: &mut [u8])
     requires { 3 * length octets.now ≤ length to.old }
     ensures text { take (3 * length octets.now) to.new ≡ spaced_pairs octets.now }
     ensures size { length to.new ≡ length to.old }
@@ -44,7 +44,7 @@ pub(super) fn write_pairs(octets: &[u8], to: &mut [u8])
 
 /// Writes 16 octets as pairs of digits, each after a space. The spaces are there first, copied at once.
 #[inline(always)]
-pub(super) fn write_row(octets: &[u8; 16], to: &mut [u8])
+pub(super) fn write_spaced_row(octets: &[u8; 16], to: &mut [u8])
     requires { 48 ≤ length to.old }
     ensures text { take 48 to.new ≡ spaced_pairs octets.now }
     ensures size { length to.new ≡ length to.old }

@@ -58,7 +58,7 @@ full-or-not false e = refl
 
 unused-at : (k : Bool) (n size x : ℕ) (c : List ℕ) → eqb n bit_string ≡ k → has_unused_bits (value_check_after (new_value_check_of n size) (x ∷ c)) ≡ (k && not (x == 0))
 unused-at true n size x c e = subst (λ (m : ℕ). has_unused_bits (value_check_after (new_value_check_of m size) (x ∷ c)) ≡ not (x == 0)) (sym (eqb-true n bit_string e)) refl
-unused-at false n size x c e = ap (λ (k : Bool). k && begins_nonzero (value_check_after (new_value_check_of n size) (x ∷ c)).front) e
+unused-at false n size x c e = ap (λ (k : Bool). k && begins_nonzero (value_check_after (new_value_check_of n size) (x ∷ c)).first_octets) e
 
 type-is : (universal : Bool) (n : ℕ) → eqb (if universal then n else octet_string) bit_string ≡ (universal && n == bit_string)
 type-is true n = refl

@@ -7,16 +7,16 @@ use Rattle.std.specs.Str.{is_utf8}
 use Rattle.tlv_head.specs.Header.{HeaderValue, announced_length}
 use Rattle.tlv_value.specs.declared.kind.Kind.TheVariants.{Utf8}
 use Rattle.tlv_value.specs.CheckLaws.{ChecksJoin, FindingsEnd}
-use Rattle.tlv_value.specs.ValueCheckState.{ValueCheckState, all_utf8, value_check_after, new_value_check, new_value_check_of, notes_each, notes_front, facts_in, notes_time, with_each, with_front, with_notes, with_time}
+use Rattle.tlv_value.specs.ValueCheckState.{ValueCheckState, all_utf8, value_check_after, new_value_check, new_value_check_of, notes_each, notes_first, facts_in, notes_time, note_each, note_first, note_octets, note_time}
 use Rattle.tlv_value.specs.Checks.{ContentsFacts, allows_octet, findings_by, is_padded_after, last_octet, type_conditions}
 use Rattle.tlv_value.specs.Types.{is_number_of, object_types, type_number}
 use Rattle.tlv_value.specs.Rows.{full_rows, open_row}
 use Rattle.tlv_value.proofs.CheckLemmas.NotedFacts.{noted-same}
 use Rattle.tlv_value.proofs.RowLemmas.OneCut.{rows-join}
 
-last-join : (before : ℕ) (x y : List ℕ) → last_octet (last_octet before x) y ≡ last_octet before (x ++ y)
-last-join before [] y = refl
-last-join before (z ∷ x) y = last-join z x y
+last-join : (previous : ℕ) (x y : List ℕ) → last_octet (last_octet previous x) y ≡ last_octet previous (x ++ y)
+last-join previous [] y = refl
+last-join previous (z ∷ x) y = last-join z x y
 
 and-assoc : (a b c : Bool) → ((a && b) && c) ≡ (a && (b && c))
 and-assoc true b c = refl
@@ -26,10 +26,10 @@ or-assoc : (a b c : Bool) → ((a || b) || c) ≡ (a || (b || c))
 or-assoc true b c = refl
 or-assoc false b c = refl
 
-padded-join : (before : ℕ) (x y : List ℕ) → (is_padded_after before x || is_padded_after (last_octet before x) y) ≡ is_padded_after before (x ++ y)
-padded-join before [] y = refl
-padded-join before (z ∷ x) y =
-    or-assoc (nat_lt before 128 && eqb z 128) (is_padded_after z x) (is_padded_after (last_octet z x) y) ∙ ap (λ (b : Bool). (nat_lt before 128 && eqb z 128) || b) (padded-join z x y)
+padded-join : (previous : ℕ) (x y : List ℕ) → (is_padded_after previous x || is_padded_after (last_octet previous x) y) ≡ is_padded_after previous (x ++ y)
+padded-join previous [] y = refl
+padded-join previous (z ∷ x) y =
+    or-assoc (nat_lt previous 128 && eqb z 128) (is_padded_after z x) (is_padded_after (last_octet z x) y) ∙ ap (λ (b : Bool). (nat_lt previous 128 && eqb z 128) || b) (padded-join z x y)
 
 utf8-join : (rows more : List (List ℕ)) → (all_utf8 rows && all_utf8 more) ≡ all_utf8 (rows ++ more)
 utf8-join [] more = refl
@@ -40,15 +40,15 @@ take-twice zero xs ys = refl
 take-twice (suc n) [] ys = refl
 take-twice (suc n) (x ∷ xs) ys = ap (λ (t : List ℕ). x ∷ t) (take-twice n xs ys)
 
-take-join : (n : ℕ) (front x y : List ℕ) → take n (take n (front ++ x) ++ y) ≡ take n (front ++ (x ++ y))
-take-join n front x y = take-twice n (front ++ x) y ∙ ap (take n) (append_assoc front x y)
+take-join : (n : ℕ) (prefix x y : List ℕ) → take n (take n (prefix ++ x) ++ y) ≡ take n (prefix ++ (x ++ y))
+take-join n prefix x y = take-twice n (prefix ++ x) y ∙ ap (take n) (append_assoc prefix x y)
 
-padded-at : (b padded : Bool) (before : ℕ) (x y : List ℕ)
-    → (if b then (if b then padded || is_padded_after before x else padded) || is_padded_after (last_octet before x) y else (if b then padded || is_padded_after before x else padded))
-    ≡ (if b then padded || is_padded_after before (x ++ y) else padded)
-padded-at true padded before x y =
-    or-assoc padded (is_padded_after before x) (is_padded_after (last_octet before x) y) ∙ ap (λ (b : Bool). padded || b) (padded-join before x y)
-padded-at false padded before x y = refl
+padded-at : (b padded : Bool) (previous : ℕ) (x y : List ℕ)
+    → (if b then (if b then padded || is_padded_after previous x else padded) || is_padded_after (last_octet previous x) y else (if b then padded || is_padded_after previous x else padded))
+    ≡ (if b then padded || is_padded_after previous (x ++ y) else padded)
+padded-at true padded previous x y =
+    or-assoc padded (is_padded_after previous x) (is_padded_after (last_octet previous x) y) ∙ ap (λ (b : Bool). padded || b) (padded-join previous x y)
+padded-at false padded previous x y = refl
 
 formed-at : (b formed : Bool) (row x y : List ℕ)
     → (if b then (if b then formed && all_utf8 (full_rows Utf8 row x) else formed) && all_utf8 (full_rows Utf8 (if b then open_row Utf8 row x else row) y) else (if b then formed && all_utf8 (full_rows Utf8 row x) else formed))
@@ -63,11 +63,11 @@ row-at true row x y = sym (rows-join Utf8 row x y).1
 row-at false row x y = refl
 
 abbrev built : ValueCheckState → ℕ → List ℕ → ℕ → Bool → Bool → Bool → List ℕ → List ℕ → ValueCheckState
-built s left front last allowed padded formed row time = record {
+built s left first_octets last allowed padded formed row time = record {
   number = s.number;
   size = s.size;
   left = left;
-  front = front;
+  first_octets = first_octets;
   last = last;
   allowed = allowed;
   padded = padded;
@@ -81,10 +81,10 @@ built-eq s l l' f f' t t' a a' p p' m m' r r' i i' e1 e2 e3 e4 e5 e6 e7 e8 = rw 
 
 -- what is noted, by what the type asks for
 abbrev noted_by : Bool → Bool → Bool → ValueCheckState → List ℕ → ValueCheckState
-noted_by front each time s octets =
-    if front then with_front s octets
-    else if each then with_each s octets
-    else if time then with_time s octets
+noted_by first each time s octets =
+    if first then note_first s octets
+    else if each then note_each s octets
+    else if time then note_time s octets
     else s
 
 abbrev by_kind : Bool → Bool → Bool → ValueCheckState → List ℕ → ValueCheckState
@@ -93,20 +93,20 @@ by_kind f e t s octets = record (noted_by f e t s octets) { number = s.number; s
 join-by : (f e t : Bool) (s : ValueCheckState) (x y : List ℕ) → by_kind f e t (by_kind f e t s x) y ≡ by_kind f e t s (x ++ y)
 join-by true e t s x y =
     let l : s.left - length x - length y ≡ s.left - length (x ++ y) = omega (arith, length-append x y) in
-    built-eq s (s.left - length x - length y) (s.left - length (x ++ y)) (take 2 (take 2 (s.front ++ x) ++ y)) (take 2 (s.front ++ (x ++ y))) (last_octet (last_octet s.last x) y) (last_octet s.last (x ++ y))
+    built-eq s (s.left - length x - length y) (s.left - length (x ++ y)) (take 2 (take 2 (s.first_octets ++ x) ++ y)) (take 2 (s.first_octets ++ (x ++ y))) (last_octet (last_octet s.last x) y) (last_octet s.last (x ++ y))
     s.allowed s.allowed s.padded s.padded s.formed s.formed s.row s.row s.time s.time
-    l (take-join 2 s.front x y) (last-join s.last x y) refl refl refl refl refl
+    l (take-join 2 s.first_octets x y) (last-join s.last x y) refl refl refl refl refl
 join-by false true t s x y =
     let l : s.left - length x - length y ≡ s.left - length (x ++ y) = omega (arith, length-append x y) in
-    built-eq s (s.left - length x - length y) (s.left - length (x ++ y)) s.front s.front (last_octet (last_octet s.last x) y) (last_octet s.last (x ++ y))
-    (with_each (with_each s x) y).allowed (with_each s (x ++ y)).allowed (with_each (with_each s x) y).padded (with_each s (x ++ y)).padded (with_each (with_each s x) y).formed (with_each s (x ++ y)).formed
-    (with_each (with_each s x) y).row (with_each s (x ++ y)).row s.time s.time
+    built-eq s (s.left - length x - length y) (s.left - length (x ++ y)) s.first_octets s.first_octets (last_octet (last_octet s.last x) y) (last_octet s.last (x ++ y))
+    (note_each (note_each s x) y).allowed (note_each s (x ++ y)).allowed (note_each (note_each s x) y).padded (note_each s (x ++ y)).padded (note_each (note_each s x) y).formed (note_each s (x ++ y)).formed
+    (note_each (note_each s x) y).row (note_each s (x ++ y)).row s.time s.time
     l refl (last-join s.last x y)
     (and-assoc s.allowed (list_all (allows_octet s.number) x) (list_all (allows_octet s.number) y) ∙ ap (λ (b : Bool). s.allowed && b) (sym (list_all-append (allows_octet s.number) x y)))
     (padded-at (is_number_of object_types s.number) s.padded s.last x y) (formed-at (eqb s.number 12) s.formed s.row x y) (row-at (eqb s.number 12) s.row x y) refl
 join-by false false true s x y =
     let l : s.left - length x - length y ≡ s.left - length (x ++ y) = omega (arith, length-append x y) in
-    built-eq s (s.left - length x - length y) (s.left - length (x ++ y)) s.front s.front s.last s.last
+    built-eq s (s.left - length x - length y) (s.left - length (x ++ y)) s.first_octets s.first_octets s.last s.last
     s.allowed s.allowed s.padded s.padded s.formed s.formed s.row s.row (take 64 (take 64 (s.time ++ x) ++ y)) (take 64 (s.time ++ (x ++ y)))
     l refl refl refl refl refl refl (take-join 64 s.time x y)
 join-by false false false s x y =
@@ -114,7 +114,7 @@ join-by false false false s x y =
     ap (λ (n : ℕ). record s { left = n }) l
 
 pub checks-join : ChecksJoin
-checks-join s x y = join-by (notes_front s.number) (notes_each s.number) (notes_time s.number) s x y
+checks-join s x y = join-by (notes_first s.number) (notes_each s.number) (notes_time s.number) s x y
 
 -- what is noted at the end
 
@@ -128,8 +128,8 @@ pub findings-end : FindingsEnd
 findings-end h octets e =
     let n = type_number h in
     ap (λ (c : ContentsFacts). findings_by (type_conditions n c))
-    (noted-left (notes_front n) (notes_each n) (notes_time n) (new_value_check h) octets
-    ∙ ap (λ (z : ℕ). facts_in (with_notes (new_value_check_of n z) octets)) (sym e))
+    (noted-left (notes_first n) (notes_each n) (notes_time n) (new_value_check h) octets
+    ∙ ap (λ (z : ℕ). facts_in (note_octets (new_value_check_of n z) octets)) (sym e))
     ∙ sym (noted-same n octets)
 
 -- no octets
@@ -148,4 +148,4 @@ none-by false false false n size = ap (λ (l : ℕ). record (new_value_check_of 
 pub checked-none : (h : HeaderValue) → value_check_after (new_value_check h) [] ≡ new_value_check h
 checked-none h =
     let n = type_number h in
-    none-by (notes_front n) (notes_each n) (notes_time n) n (announced_length h.size)
+    none-by (notes_first n) (notes_each n) (notes_time n) n (announced_length h.size)

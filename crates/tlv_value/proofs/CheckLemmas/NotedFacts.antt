@@ -10,7 +10,7 @@ use Rattle.tlv_value.specs.Checks.{ContentsFacts, allows, allows_octet, facts_of
 use Rattle.tlv_value.specs.Private.Checks.{findings_of}
 use Rattle.tlv_value.specs.Types.{character_types, is_number_of}
 use Rattle.tlv_value.proofs.CheckLemmas.CheckWords.{allows_both}
-use Rattle.tlv_value.specs.ValueCheckState.{all_utf8, facts_in, is_allowed, new_value_check_of, notes_each, with_each, with_notes}
+use Rattle.tlv_value.specs.ValueCheckState.{all_utf8, facts_in, is_allowed, new_value_check_of, notes_each, note_each, note_octets}
 use Rattle.tlv_value.specs.Rows.{full_rows, open_row}
 use Rattle.tlv_value.specs.declared.kind.Kind.TheVariants.{Utf8}
 use Rattle.std.specs.Str.{is_utf8}
@@ -20,7 +20,7 @@ use Rattle.tlv_value.specs.Times.{Form, canonical_generalized_time_form, canonic
 
 -- what is noted of all contents of the type with this number
 abbrev pub noted : ℕ → List ℕ → ContentsFacts
-noted number c = facts_in (with_notes (new_value_check_of number (length c)) c)
+noted number c = facts_in (note_octets (new_value_check_of number (length c)) c)
 
 -- what is found by it is what is found by the whole contents
 abbrev Same : ℕ → List ℕ → Type 0
@@ -115,10 +115,10 @@ allowed-each n c true = ap (λ (f : Bool). f && list_all (allows_octet n) c) (ro
 allowed-each n c false = refl
 
 other-allowed : (n : ℕ) (c : List ℕ) → eqb n 1 ≡ false → eqb n 2 ≡ false → eqb n 3 ≡ false → eqb n 10 ≡ false → eqb n 23 ≡ false → eqb n 24 ≡ false
-    → is_allowed (with_notes (new_value_check_of n (length c)) c) ≡ allows n c
+    → is_allowed (note_octets (new_value_check_of n (length c)) c) ≡ allows n c
 other-allowed n c e1 e2 e3 e10 e23 e24 = rw (e1, e2, e3, e10, e23, e24) (by (notes_each n) refl) ∙ allows-both n c
   where
-    by : (k : Bool) → notes_each n ≡ k → is_allowed (if k then with_each (new_value_check_of n (length c)) c else new_value_check_of n (length c)) ≡ allows_both n c
+    by : (k : Bool) → notes_each n ≡ k → is_allowed (if k then note_each (new_value_check_of n (length c)) c else new_value_check_of n (length c)) ≡ allows_both n c
     by true e = allowed-each n c (eqb n 12)
     by false e = ap is_allowed (sym (nothing-noted (new_value_check_of n (length c)) c e)) ∙ allowed-each n c (eqb n 12)
 

@@ -36,15 +36,15 @@ all-next all next test xs i h e k =
     ∙ ap (λ (l : List ℕ). all && list_all test l) (sym (drop_more xs i 0 h)) ∙ k
 
 -- the last octet
-pub last-at : (before x : ℕ) (xs : List ℕ) → last_octet before (x ∷ xs) ≡ get_or (x ∷ xs) (length xs) 0
-last-at before x [] = refl
-last-at before x (y ∷ xs) = last-at x y xs
+pub last-at : (previous x : ℕ) (xs : List ℕ) → last_octet previous (x ∷ xs) ≡ get_or (x ∷ xs) (length xs) 0
+last-at previous x [] = refl
+last-at previous x (y ∷ xs) = last-at x y xs
 
-pub last-some : (before : ℕ) (xs : List ℕ) → 1 ≤ length xs → get_or xs (length xs - 1) 0 ≡ last_octet before xs
-last-some before [] h = absurd (omega arith)
-last-some before (x ∷ xs) h =
+pub last-some : (previous : ℕ) (xs : List ℕ) → 1 ≤ length xs → get_or xs (length xs - 1) 0 ≡ last_octet previous xs
+last-some previous [] h = absurd (omega arith)
+last-some previous (x ∷ xs) h =
     let e : length (x ∷ xs) - 1 ≡ length xs = omega arith in
-    rw e (sym (last-at before x xs))
+    rw e (sym (last-at previous x xs))
 
 -- a row more, and no row more
 pub and-row : (formed : Bool) (row : List ℕ) (rows all : List (List ℕ)) → all ≡ row ∷ rows → ((formed && is_utf8 row) && all_utf8 rows) ≡ (formed && all_utf8 all)
@@ -56,12 +56,12 @@ and-nothing true all e = rw e refl
 and-nothing false all e = refl
 
 -- as many octets as there is room for
-pub take-room : (front octets : List ℕ) (n room : ℕ) → room + length front ≡ 64 → n ≡ min (length octets) room → front ++ take n octets ≡ take 64 (front ++ octets)
-take-room front octets n room e h =
+pub take-room : (kept octets : List ℕ) (n room : ℕ) → room + length kept ≡ 64 → n ≡ min (length octets) room → kept ++ take n octets ≡ take 64 (kept ++ octets)
+take-room kept octets n room e h =
     let m : n ≡ min room (length octets) = omega arith in
-    let w : 64 ≡ length front + room = omega arith in
-    ap (λ (t : List ℕ). front ++ t) (ap (λ (k : ℕ). take k octets) m ∙ take_min room octets)
-    ∙ sym (take-append-add front octets room) ∙ ap (λ (k : ℕ). take k (front ++ octets)) (sym w)
+    let w : 64 ≡ length kept + room = omega arith in
+    ap (λ (t : List ℕ). kept ++ t) (ap (λ (k : ℕ). take k octets) m ∙ take_min room octets)
+    ∙ sym (take-append-add kept octets room) ∙ ap (λ (k : ℕ). take k (kept ++ octets)) (sym w)
 
 -- if there is no octet 80, none begins a subidentifier
 not-padded : (begins is other padded : Bool) → (other ≡ false → padded ≡ false) → (is || other) ≡ false → ((begins && is) || padded) ≡ false
@@ -69,6 +69,6 @@ not-padded begins true other padded more e = cc
 not-padded true false other padded more e = more e
 not-padded false false other padded more e = more e
 
-pub no-80 : (before : ℕ) (octets : List ℕ) → list_any (λ x. eqb x 128) octets ≡ false → is_padded_after before octets ≡ false
-no-80 before [] e = refl
-no-80 before (x ∷ xs) e = not-padded (nat_lt before 128) (eqb x 128) (list_any (λ y. eqb y 128) xs) (is_padded_after x xs) (no-80 x xs) e
+pub no-80 : (previous : ℕ) (octets : List ℕ) → list_any (λ x. eqb x 128) octets ≡ false → is_padded_after previous octets ≡ false
+no-80 previous [] e = refl
+no-80 previous (x ∷ xs) e = not-padded (nat_lt previous 128) (eqb x 128) (list_any (λ y. eqb y 128) xs) (is_padded_after x xs) (no-80 x xs) e

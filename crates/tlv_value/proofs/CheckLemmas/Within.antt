@@ -83,15 +83,15 @@ together test f g h octets =
     ∙ sym (any-flat_map test (g then h) (f octets))
 
 -- a first part, and then two parts within one
-within-front : {f k : Form} (g h m : Form) → Within f k → Within (g then h) m → Within ((f then g) then h) (k then m)
-within-front {f} g h m v w = record {
+within-prefix : {f k : Form} (g h m : Form) → Within f k → Within (g then h) m → Within ((f then g) then h) (k then m)
+within-prefix {f} g h m v w = record {
   leaves = λ test octets e. (within-then v w).leaves test octets (sym (together test f g h octets) ∙ e);
 }
 
 -- the same, with a second form of three parts
-within-fronts : {f k : Form} (g h m n : Form) → Within f k → Within (g then h) (m then n) → Within ((f then g) then h) ((k then m) then n)
-within-fronts {f} {k} g h m n v w = record {
-  leaves = λ test octets e. together test k m n octets ∙ (within-front g h (m then n) v w).leaves test octets e;
+within-prefixes : {f k : Form} (g h m n : Form) → Within f k → Within (g then h) (m then n) → Within ((f then g) then h) ((k then m) then n)
+within-prefixes {f} {k} g h m n v w = record {
+  leaves = λ test octets e. together test k m n octets ∙ (within-prefix g h (m then n) v w).leaves test octets e;
 }
 
 if-within :
@@ -118,8 +118,8 @@ within-two low high more le = record { leaves = leave }
     leave test (x ∷ []) h = h
     leave test (x ∷ y ∷ rest) h =
         let n : ℕ = 10 * (x - 48) + (y - 48) in
-        let before : Bool = is_ascii_digit x && is_ascii_digit y && nat_le low n in
-        if-within test (before && nat_le n high) (before && nat_le n more) (rest ∷ []) (and-last before (nat_le n high) (nat_le n more) (greater n)) h
+        let at_least : Bool = is_ascii_digit x && is_ascii_digit y && nat_le low n in
+        if-within test (at_least && nat_le n high) (at_least && nat_le n more) (rest ∷ []) (and-last at_least (nat_le n high) (nat_le n more) (greater n)) h
 
 -- there may be no digits: then all is left
 no-digits : (test : List ℕ → Bool) (octets : List ℕ) → list_any test (octets ∷ []) ≡ true → list_any test (digits octets) ≡ true
@@ -142,13 +142,13 @@ not-zero x h = grind (arith, nat_tests)
 abbrev IsMore : (List ℕ → Bool) → List ℕ → Type 0
 IsMore test octets = list_any test ((digits then one 49 57) octets) ≡ true → list_any test (digits octets) ≡ true
 
--- a digit in front of digits
-digit-front :
+-- a digit before digits
+digit-first :
     (test : List ℕ → Bool) (x : ℕ) (xs : List ℕ)
     → IsMore test xs
     → list_any test ((digits then one 49 57) (x ∷ xs)) ≡ true
     → (is_ascii_digit x ≡ true) × (list_any test (digits xs) ≡ true)
-digit-front test x xs more h =
+digit-first test x xs more h =
     let first : List (List ℕ) = one 49 57 (x ∷ xs) in
     let second : List (List ℕ) = flat_map (one 49 57) (if is_ascii_digit x then digits xs else []) in
     go (or_cases (list_any test first) (list_any test second) (sym (list_any-append test first second) ∙ h))
@@ -161,7 +161,7 @@ digit-front test x xs more h =
 digits-more : (test : List ℕ → Bool) (octets : List ℕ) → IsMore test octets
 digits-more test [] h = absurd cc
 digits-more test (x ∷ xs) h =
-    let t = digit-front test x xs (digits-more test xs) h in
+    let t = digit-first test x xs (digits-more test xs) h in
     or-right (test (x ∷ xs)) (list_any test (if is_ascii_digit x then digits xs else [])) (rw t.0 t.1)
 
 -- digits of which the last is not 0 are one digit or more
@@ -173,7 +173,7 @@ within-digits = record { leaves = leave }
         → list_any test ((digits then one 49 57) octets) ≡ true
         → list_any test ((one 48 57 then digits) octets) ≡ true
     leave test [] h = absurd cc
-    leave test (x ∷ xs) h = let t = digit-front test x xs (digits-more test xs) h in rw (t.0, append-nil (digits xs)) t.1
+    leave test (x ∷ xs) h = let t = digit-first test x xs (digits-more test xs) h in rw (t.0, append-nil (digits xs)) t.1
 
 within-hour : Within (two 0 23) hour
 within-hour = within-two 0 23 24 (omega arith)
@@ -184,8 +184,8 @@ within-second w = within-then (within-first no_octets (within-same second)) w
 -- 11.8
 utc-within : Within canonical_utc_time_form utc_time_form
 utc-within =
-    within-fronts _ _ _ _ (within-same (two 0 99)) (within-fronts _ _ _ _ (within-same day) (within-fronts _ _ _ _ within-hour
-    (within-front _ _ _ (within-same minute) (within-second (within-first (sign then hour then minute) (within-same (mark 90)))))))
+    within-prefixes _ _ _ _ (within-same (two 0 99)) (within-prefixes _ _ _ _ (within-same day) (within-prefixes _ _ _ _ within-hour
+    (within-prefix _ _ _ (within-same minute) (within-second (within-first (sign then hour then minute) (within-same (mark 90)))))))
 
 general-tail : Within (maybe canonical_fraction then mark 90) (maybe fraction then maybe general_zone)
 general-tail =
@@ -196,8 +196,8 @@ general-tail =
 -- 11.7
 general-within : Within canonical_generalized_time_form generalized_time_form
 general-within =
-    within-fronts _ _ _ _ (within-same (two 0 99)) (within-fronts _ _ _ _ (within-same (two 0 99)) (within-fronts _ _ _ _ (within-same day)
-    (within-front _ _ _ within-hour
+    within-prefixes _ _ _ _ (within-same (two 0 99)) (within-prefixes _ _ _ _ (within-same (two 0 99)) (within-prefixes _ _ _ _ (within-same day)
+    (within-prefix _ _ _ within-hour
     (within-then (within-first no_octets (within-then (within-same minute) (within-first no_octets (within-same second)))) general-tail))))
 
 empty-any : (rests : List (List ℕ)) → is_rest_empty rests ≡ list_any is_nil rests

@@ -20,11 +20,11 @@ pub record Given (old new : SourceState) (octets : List ℕ) : Type 0 where
   pub gathered : Gathered old new
   pub are : concat gathered.pieces ≡ octets
 
-module _ (old mid new : SourceState) (octets : List ℕ) (x : Given old mid octets) (most : length octets ≤ names_limit) (failures : mid.failures ≡ old.failures) (piece : List ℕ) (room : length piece ≡ 4096) where
+module _ (old middle new : SourceState) (octets : List ℕ) (x : Given old middle octets) (most : length octets ≤ names_limit) (failures : middle.failures ≡ old.failures) (piece : List ℕ) (room : length piece ≡ 4096) where
   -- a read that failed
-  pub gives_failed : {Z : Type 0} → (e : ReadFault) → ReadsOnce mid new (Err e) piece → Gives {Z = Z} old new (Err ReadFailed)
+  pub gives_failed : {Z : Type 0} → (e : ReadFault) → ReadsOnce middle new (Err e) piece → Gives {Z = Z} old new (Err ReadFailed)
   gives_failed e r = record {
-    pieces = pieces_all old mid new x.gathered [] (consumes_kept mid.left new.left r.octets) r.reads (inr (r.last, refl)) (omega arith);
+    pieces = pieces_all old middle new x.gathered [] (consumes_kept middle.left new.left r.octets) r.reads (inr (r.last, refl)) (omega arith);
     gives = (r.last, subst (λ (l : List ℕ). length l ≤ names_limit) (sym (append-nil (concat x.gathered.pieces) ∙ x.are)) most);
     failures = r.failures ∙ ap next_count failures;
   }
@@ -34,7 +34,7 @@ module _ (old mid new : SourceState) (octets : List ℕ) (x : Given old mid octe
       consumes_kept (Some xs) None k = absurd k
       consumes_kept (Some xs) (Some ys) k = sym k
 
-  module _ (n : ℕ) (r : ReadsOnce {E = ReadFault} mid new (Ok n) piece) where
+  module _ (n : ℕ) (r : ReadsOnce {E = ReadFault} middle new (Ok n) piece) where
     pub r_length : length (take n piece) ≡ n
     r_length = length-take-le n piece r.bound.0
 
@@ -46,7 +46,7 @@ module _ (old mid new : SourceState) (octets : List ℕ) (x : Given old mid octe
 
     -- and these are all
     abbrev pub pieces_so : Pieces old new
-    pieces_so = pieces_all old mid new x.gathered (take n piece) r.octets.0 r.reads (inl (r.last ∙ ap gave (sym r_length))) few
+    pieces_so = pieces_all old middle new x.gathered (take n piece) r.octets.0 r.reads (inl (r.last ∙ ap gave (sym r_length))) few
 
     length_all : length (concat x.gathered.pieces ++ take n piece) ≡ length octets + n
     length_all = ap length all_are ∙ length-append octets (take n piece) ∙ ap (λ (k : ℕ). length octets + k) r_length
@@ -77,7 +77,7 @@ module _ (old mid new : SourceState) (octets : List ℕ) (x : Given old mid octe
     -- or there are more
     pub given_more : (n ≡ 0 → ⊥) → (more : List ℕ) → more ≡ octets ++ take n piece → Given old new more
     given_more some more is = record {
-      gathered = gathered_more old mid new x.gathered (take n piece) r.octets.0 r.reads (omega (arith, some, r_length), few);
+      gathered = gathered_more old middle new x.gathered (take n piece) r.octets.0 r.reads (omega (arith, some, r_length), few);
       are = together_more x.gathered.pieces (take n piece) ∙ all_are ∙ sym is;
     }
 

@@ -68,13 +68,13 @@ none-from : {A : Type 0} (o : Option A) → is_some o ≡ false → o ≡ None
 none-from None h = refl
 none-from (Some x) h = absurd (cc)
 
-go-on : (octets rest after : List ℕ) (number : ℕ) (es new : List Entry) (line : Line) (s : Standing octets rest number es)
-    → map names_line (lines rest) ≡ line ∷ map names_line (lines after) → line_refusal s.above line ≡ None
+go-on : (octets rest below : List ℕ) (number : ℕ) (es new : List Entry) (line : Line) (s : Standing octets rest number es)
+    → map names_line (lines rest) ≡ line ∷ map names_line (lines below) → line_refusal s.above line ≡ None
     → ((q : List ℕ) → find q new ≡ find q (entries_of s.above ++ line_entries line)) → length new ≡ length (entries_of s.above ++ line_entries line)
-    → Standing octets after (number + 1) new
-go-on octets rest after number es new line s e h f l = record {
+    → Standing octets below (number + 1) new
+go-on octets rest below number es new line s e h f l = record {
   above = s.above ++ line ∷ [];
-  same = s.same ∙ ap (judged s.above) e ∙ judged-more s.above (map names_line (lines after)) line h;
+  same = s.same ∙ ap (judged s.above) e ∙ judged-more s.above (map names_line (lines below)) line h;
   count = let n : length s.above ≡ number = s.count in length-append s.above (line ∷ []) ∙ ap (λ n. n + 1) n;
   found = λ q. f q ∙ ap (find q) (sym (entries-push s.above line));
   size = l ∙ ap length (sym (entries-push s.above line));
@@ -84,55 +84,55 @@ among-above : (octets rest : List ℕ) (number : ℕ) (es : List Entry) (s : Sta
 among-above octets rest number es s q = among-find q (entries_of s.above) ∙ ap is_some (sym (s.found q)) ∙ sym (among-find q es)
 
 -- the line is taken
-pub step : {T : Type 0} (octets rest after : List ℕ) (number : ℕ) (es new : List Entry) (u : T) (line : Line) (s : Standing octets rest number es)
-    → map names_line (lines rest) ≡ line ∷ map names_line (lines after) → AddsLine (number + 1) line es new (Ok u) → Standing octets after (number + 1) new
-step octets rest after number es new u no_entry s e a =
-    go-on octets rest after number es new no_entry s e refl
+pub step : {T : Type 0} (octets rest below : List ℕ) (number : ℕ) (es new : List Entry) (u : T) (line : Line) (s : Standing octets rest number es)
+    → map names_line (lines rest) ≡ line ∷ map names_line (lines below) → AddsLine (number + 1) line es new (Ok u) → Standing octets below (number + 1) new
+step octets rest below number es new u no_entry s e a =
+    go-on octets rest below number es new no_entry s e refl
     (λ q. ap (find q) a.1 ∙ s.found q ∙ ap (find q) (sym (append-nil (entries_of s.above))))
     (ap length a.1 ∙ s.size ∙ ap length (sym (append-nil (entries_of s.above))))
-step octets rest after number es new u (entry dotted name) s e a =
+step octets rest below number es new u (entry dotted name) s e a =
     let absent : has_entry dotted es ≡ false = a.0 in
     let few : nat_le most_names (length (entries_of s.above)) ≡ false = lt-leb most_names (length (entries_of s.above)) (omega (arith, a.1, s.size)) in
     let none : is_some (find dotted (entries_of s.above)) ≡ false = sym (among-find dotted (entries_of s.above)) ∙ among-above octets rest number es s dotted ∙ absent in
-    go-on octets rest after number es new (entry dotted name) s e
+    go-on octets rest below number es new (entry dotted name) s e
     (rw (among-above octets rest number es s dotted, absent, few) refl)
     (λ q. ap (find q) a.2 ∙ entries.find-put (slice_cmp nat_cmp) nat_list_cmp_total q dotted name es
     ∙ ap (λ (o : Option (List ℕ)). if eq_by_cmp (slice_cmp nat_cmp) q dotted then Some name else o) (s.found q)
     ∙ sym (entries.find-append (slice_cmp nat_cmp) nat_list_cmp_total (entries_of s.above) dotted name q (none-from (find dotted (entries_of s.above)) none)))
     (a.3 ∙ ap (λ n. n + 1) s.size ∙ sym (length-append (entries_of s.above) ((dotted, name) ∷ [])))
-step octets rest after number es new u no_oid s e a = absurd (cc)
-step octets rest after number es new u no_name s e a = absurd (cc)
-step octets rest after number es new u long_line s e a = absurd (cc)
+step octets rest below number es new u no_oid s e a = absurd (cc)
+step octets rest below number es new u no_name s e a = absurd (cc)
+step octets rest below number es new u long_line s e a = absurd (cc)
 
-refused : (octets rest after : List ℕ) (number : ℕ) (es : List Entry) (line : Line) (fault : NamesFault) (s : Standing octets rest number es)
-    → map names_line (lines rest) ≡ line ∷ map names_line (lines after) → line_refusal s.above line ≡ Some fault → names_of octets ≡ Err fault
-refused octets rest after number es line fault s e h = s.same ∙ ap (judged s.above) e ∙ judged-refused s.above (map names_line (lines after)) line fault h
+refused : (octets rest below : List ℕ) (number : ℕ) (es : List Entry) (line : Line) (fault : NamesFault) (s : Standing octets rest number es)
+    → map names_line (lines rest) ≡ line ∷ map names_line (lines below) → line_refusal s.above line ≡ Some fault → names_of octets ≡ Err fault
+refused octets rest below number es line fault s e h = s.same ∙ ap (judged s.above) e ∙ judged-refused s.above (map names_line (lines below)) line fault h
 
 same-fault : {T : Type 0} (a b : NamesFault) → IsErrOf {T = T} (Err a) b → a ≡ b
 same-fault a b e = cc
 
 -- the line is refused
-pub stop : (Z T : Type 0) (octets rest after : List ℕ) (number : ℕ) (es new : List Entry) (fault : NamesFault) (line : Line) (s : Standing octets rest number es)
-    → map names_line (lines rest) ≡ line ∷ map names_line (lines after) → AddsLine {T = T} (number + 1) line es new (Err fault) → IsTableOf {Z = Z} octets (Err fault)
-stop Z T octets rest after number es new fault no_entry s e a = absurd (let h : false ≡ true = a.0 in cc)
-stop Z T octets rest after number es new (BadOid n) (entry dotted name) s e a = absurd a
-stop Z T octets rest after number es new (BadName n) (entry dotted name) s e a = absurd a
-stop Z T octets rest after number es new (Repeated n) (entry dotted name) s e a =
+pub stop : (Z T : Type 0) (octets rest below : List ℕ) (number : ℕ) (es new : List Entry) (fault : NamesFault) (line : Line) (s : Standing octets rest number es)
+    → map names_line (lines rest) ≡ line ∷ map names_line (lines below) → AddsLine {T = T} (number + 1) line es new (Err fault) → IsTableOf {Z = Z} octets (Err fault)
+stop Z T octets rest below number es new fault no_entry s e a = absurd (let h : false ≡ true = a.0 in cc)
+stop Z T octets rest below number es new (BadOid n) (entry dotted name) s e a = absurd a
+stop Z T octets rest below number es new (BadName n) (entry dotted name) s e a = absurd a
+stop Z T octets rest below number es new (Repeated n) (entry dotted name) s e a =
     let known : has_entry dotted es ≡ true = a.0 in
     let line_number : length s.above + 1 ≡ n = ap (λ n. n + 1) s.count ∙ sym a.1 in
-    refused octets rest after number es (entry dotted name) (Repeated n) s e (rw (among-above octets rest number es s dotted, known, line_number) refl)
-stop Z T octets rest after number es new TooLarge (entry dotted name) s e a =
+    refused octets rest below number es (entry dotted name) (Repeated n) s e (rw (among-above octets rest number es s dotted, known, line_number) refl)
+stop Z T octets rest below number es new TooLarge (entry dotted name) s e a =
     let absent : has_entry dotted es ≡ false = a.0 in
     let many : nat_le most_names (length (entries_of s.above)) ≡ true = le-leb most_names (length (entries_of s.above)) (omega (arith, a.1, s.size)) in
-    refused octets rest after number es (entry dotted name) TooLarge s e (rw (among-above octets rest number es s dotted, absent, many) refl)
-stop Z T octets rest after number es new ReadFailed (entry dotted name) s e a = absurd a
-stop Z T octets rest after number es new Memory (entry dotted name) s e a = tt
-stop Z T octets rest after number es new fault no_oid s e a =
+    refused octets rest below number es (entry dotted name) TooLarge s e (rw (among-above octets rest number es s dotted, absent, many) refl)
+stop Z T octets rest below number es new ReadFailed (entry dotted name) s e a = absurd a
+stop Z T octets rest below number es new Memory (entry dotted name) s e a = tt
+stop Z T octets rest below number es new fault no_oid s e a =
     subst (λ f. IsTableOf {Z = Z} octets (Err f)) (sym (same-fault fault (BadOid (number + 1)) a))
-    (refused octets rest after number es no_oid (BadOid (number + 1)) s e (ap (λ n. Some (BadOid (n + 1))) s.count))
-stop Z T octets rest after number es new fault no_name s e a =
+    (refused octets rest below number es no_oid (BadOid (number + 1)) s e (ap (λ n. Some (BadOid (n + 1))) s.count))
+stop Z T octets rest below number es new fault no_name s e a =
     subst (λ f. IsTableOf {Z = Z} octets (Err f)) (sym (same-fault fault (BadName (number + 1)) a))
-    (refused octets rest after number es no_name (BadName (number + 1)) s e (ap (λ n. Some (BadName (n + 1))) s.count))
-stop Z T octets rest after number es new fault long_line s e a =
+    (refused octets rest below number es no_name (BadName (number + 1)) s e (ap (λ n. Some (BadName (n + 1))) s.count))
+stop Z T octets rest below number es new fault long_line s e a =
     subst (λ f. IsTableOf {Z = Z} octets (Err f)) (sym (same-fault fault TooLarge a))
-    (refused octets rest after number es long_line TooLarge s e refl)
+    (refused octets rest below number es long_line TooLarge s e refl)

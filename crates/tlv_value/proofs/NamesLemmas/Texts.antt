@@ -78,10 +78,10 @@ one_part (x ∷ xs) h =
       | false ↦ λ g. ap (std_list.onto_first x) (one_part xs (omega arith))
     ] h
 
-pub front_part : (xs : List ℕ) → (more : List (List ℕ)) × (dotted_parts xs ≡ before_first (is_mark 46) xs ∷ more)
-front_part [] = ([], refl)
-front_part (x ∷ xs) =
-    let rest = front_part xs in
+pub first_part : (xs : List ℕ) → (more : List (List ℕ)) × (dotted_parts xs ≡ before_first (is_mark 46) xs ∷ more)
+first_part [] = ([], refl)
+first_part (x ∷ xs) =
+    let rest = first_part xs in
     elim (x == 46) as (λ b. (more : List (List ℕ)) × (cond b ([] ∷ dotted_parts xs) (std_list.onto_first x (dotted_parts xs)) ≡ take (cond (not b) (1 + position_or_len (is_mark 46) xs) 0) (x ∷ xs) ∷ more)) [
       | true ↦ (dotted_parts xs, refl)
       | false ↦ (rest.0, rw (take-more (position_or_len (is_mark 46) xs) x xs) (ap (std_list.onto_first x) rest.1))
@@ -89,9 +89,9 @@ front_part (x ∷ xs) =
 
 pub no_arc : (xs : List ℕ) → is_arc (before_first (is_mark 46) xs) ≡ false → list_all is_arc (dotted_parts xs) ≡ false
 no_arc xs h =
-    let front = front_part xs in
-    let e : dotted_parts xs ≡ before_first (is_mark 46) xs ∷ front.0 = front.1 in
-    rw e (and_left (is_arc (before_first (is_mark 46) xs)) (list_all is_arc front.0) h)
+    let first = first_part xs in
+    let e : dotted_parts xs ≡ before_first (is_mark 46) xs ∷ first.0 = first.1 in
+    rw e (and_left (is_arc (before_first (is_mark 46) xs)) (list_all is_arc first.0) h)
 
 pub last_arc : (xs : List ℕ) → length xs ≤ position_or_len (is_mark 46) xs → is_arc xs ≡ true → list_all is_arc (dotted_parts xs) ≡ true
 last_arc xs h a = let e : dotted_parts xs ≡ xs ∷ [] = one_part xs h in rw e (and_from (is_arc xs) true a refl)
@@ -217,14 +217,14 @@ no_first first second h =
 
 -- the first part of a text, by where it ends
 
-pub front_no_arc : (xs : List ℕ) (end : ℕ) → end ≡ position_or_len (is_mark 46) xs → is_arc (take end xs) ≡ false → list_all is_arc (dotted_parts xs) ≡ false
-front_no_arc xs end e h = no_arc xs (subst (λ n. is_arc (take n xs) ≡ false) e h)
+pub first_no_arc : (xs : List ℕ) (end : ℕ) → end ≡ position_or_len (is_mark 46) xs → is_arc (take end xs) ≡ false → list_all is_arc (dotted_parts xs) ≡ false
+first_no_arc xs end e h = no_arc xs (subst (λ n. is_arc (take n xs) ≡ false) e h)
 
-pub front_arc : (xs : List ℕ) (end : ℕ) → end ≡ position_or_len (is_mark 46) xs → list_all is_arc (dotted_parts xs) ≡ true → is_arc (take end xs) ≡ true
-front_arc xs end e h =
-    let front = front_part xs in
-    let all : list_all is_arc (before_first (is_mark 46) xs ∷ front.0) ≡ true = subst (λ (ps : List (List ℕ)). list_all is_arc ps ≡ true) front.1 h in
-    subst (λ n. is_arc (take n xs) ≡ true) (sym e) (and_parts (is_arc (before_first (is_mark 46) xs)) (list_all is_arc front.0) all).0
+pub first_arc : (xs : List ℕ) (end : ℕ) → end ≡ position_or_len (is_mark 46) xs → list_all is_arc (dotted_parts xs) ≡ true → is_arc (take end xs) ≡ true
+first_arc xs end e h =
+    let first = first_part xs in
+    let all : list_all is_arc (before_first (is_mark 46) xs ∷ first.0) ≡ true = subst (λ (ps : List (List ℕ)). list_all is_arc ps ≡ true) first.1 h in
+    subst (λ n. is_arc (take n xs) ≡ true) (sym e) (and_parts (is_arc (before_first (is_mark 46) xs)) (list_all is_arc first.0) all).0
 
 pub whole_arc : (xs : List ℕ) (end : ℕ) → end ≡ position_or_len (is_mark 46) xs → end ≡ length xs → is_arc (take end xs) ≡ true → list_all is_arc (dotted_parts xs) ≡ true
 whole_arc xs end e l h =
@@ -243,7 +243,7 @@ pub two_parts : (xs : List ℕ) (end next : ℕ) → end ≡ position_or_len (is
     → may_begin (take end xs) (take next (drop (end + 1) xs)) ≡ are_first_arcs (dotted_parts xs)
 two_parts xs end next e l f =
     let first : dotted_parts xs ≡ take end xs ∷ dotted_parts (drop (end + 1) xs) = more_parts xs (omega arith) ∙ ap (λ n. take n xs ∷ dotted_parts (drop (n + 1) xs)) (sym e) in
-    let second = front_part (drop (end + 1) xs) in
+    let second = first_part (drop (end + 1) xs) in
     let both : dotted_parts (drop (end + 1) xs) ≡ take next (drop (end + 1) xs) ∷ second.0 = second.1 ∙ ap (λ n. take n (drop (end + 1) xs) ∷ second.0) (sym f) in
     sym (ap are_first_arcs (first ∙ ap (λ (ps : List (List ℕ)). take end xs ∷ ps) both))
 

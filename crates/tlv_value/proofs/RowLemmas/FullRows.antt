@@ -114,13 +114,13 @@ pub full_line_added : (layout : Layout) (old row : List ℕ) (n : ℕ) → space
 full_line_added layout old [] n e some whole = absurd (omega (arith, whole))
 full_line_added layout old (x ∷ xs) n e some whole =
     let text : List ℕ = row_text Octets (x ∷ xs) in
-    let before : spaces (n - 1) ++ 32 ∷ [] ≡ margin layout.pure no_columns (layout.level + 1) = replicate_more (n - 1) 32 ∙ ap spaces (omega (arith, some)) ∙ e in
+    let indent : spaces (n - 1) ++ 32 ∷ [] ≡ margin layout.pure no_columns (layout.level + 1) = replicate_more (n - 1) 32 ∙ ap spaces (omega (arith, some)) ∙ e in
     ap (λ (l : List ℕ). old ++ spaces (n - 1) ++ l ++ 10 ∷ []) (pairs_joined x xs)
     ∙ joined (spaces (n - 1)) text
-    ∙ ap (λ (l : List ℕ). old ++ (l ++ text ++ 10 ∷ [])) before
+    ∙ ap (λ (l : List ℕ). old ++ (l ++ text ++ 10 ∷ [])) indent
   where
-    joined : (front text : List ℕ) → old ++ front ++ (32 ∷ text) ++ 10 ∷ [] ≡ old ++ (front ++ 32 ∷ [] ++ text ++ 10 ∷ [])
-    joined front text = simp append_assoc refl
+    joined : (indent text : List ℕ) → old ++ indent ++ (32 ∷ text) ++ 10 ∷ [] ≡ old ++ (indent ++ 32 ∷ [] ++ text ++ 10 ∷ [])
+    joined indent text = simp append_assoc refl
 
 -- the lines of the full rows, and that of the last
 pub lines_cut : (layout : Layout) (octets : List ℕ) (rows : List (List ℕ)) (more : List ℕ) → rows ≡ first_chunks 16 (length octets / 16) octets → more ≡ drop (length octets / 16 * 16) octets
@@ -133,9 +133,9 @@ pub last_line : (layout : Layout) (row : List ℕ) → eqb (length row) 0 ≡ fa
 last_line layout [] some = absurd (grind (arith, nat_tests))
 last_line layout (x ∷ xs) some = sym (append-nil (full_line layout (x ∷ xs)))
 
-pub no_last_line : (layout : Layout) (front row : List ℕ) → eqb (length row) 0 ≡ true → front ≡ front ++ full_lines layout (last_rows row)
-no_last_line layout front [] none = sym (append-nil front)
-no_last_line layout front (x ∷ xs) none = absurd (grind (arith, nat_tests))
+pub no_last_line : (layout : Layout) (shown row : List ℕ) → eqb (length row) 0 ≡ true → shown ≡ shown ++ full_lines layout (last_rows row)
+no_last_line layout shown [] none = sym (append-nil shown)
+no_last_line layout shown (x ∷ xs) none = absurd (grind (arith, nat_tests))
 
 -- ---- line by line
 

@@ -46,9 +46,9 @@ module _ (kind : Kind) where
   AreParts octets rows row = (rows_filled kind [] octets ≡ rows) × (row_begun kind [] octets ≡ row)
 
   -- a full row, and the rows of the octets after it
-  parts-front : (row rest : List ℕ) (rows : List (List ℕ)) (last : List ℕ) → IsRow (row_size kind) (character_length kind) row → IsFilled kind [] (length row) (row ++ rest) → AreParts rest rows last
+  parts-first : (row rest : List ℕ) (rows : List (List ℕ)) (last : List ℕ) → IsRow (row_size kind) (character_length kind) row → IsFilled kind [] (length row) (row ++ rest) → AreParts rest rows last
       → AreParts (row ++ rest) (row ∷ rows) last
-  parts-front row rest rows last r f more =
+  parts-first row rest rows last r f more =
       let z = one_fits kind in
       let s = r.short in
       let t = turn kind [] (length row) (row ++ rest) (row-room row rest r) (omega arith) (omega (arith, length-append row rest)) (omega arith) f in
@@ -59,7 +59,7 @@ module _ (kind : Kind) where
       → AreParts (row ++ []) (if full then row ∷ [] else []) (if full then [] else row)
   parts-last row true e r =
       let n : length row ≡ row_size kind = eqb-true (length row) (row_size kind) e in
-      parts-front row [] [] [] r (inl (omega arith)) (refl, refl)
+      parts-first row [] [] [] r (inl (omega arith)) (refl, refl)
   parts-last row false e r =
       let s = r.short in
       let room : HaveRoom kind 0 row (length row) = rw (append-nil row) at (row-room row [] r) in
@@ -71,7 +71,7 @@ module _ (kind : Kind) where
   parts [] each full = (refl, refl)
   parts (row ∷ []) each full = parts-last row (eqb (length row) (row_size kind)) refl each.0
   parts (row ∷ next ∷ rows) each full =
-      parts-front row (octets_of_rows (next ∷ rows)) (full_rows_in kind (next ∷ rows)) (open_row_in kind (next ∷ rows)) each.0 (as-filled row next (octets_of_rows rows) (has-octet next each.1.0) full.0) (parts (next ∷ rows) each.1 full.1)
+      parts-first row (octets_of_rows (next ∷ rows)) (full_rows_in kind (next ∷ rows)) (open_row_in kind (next ∷ rows)) each.0 (as-filled row next (octets_of_rows rows) (has-octet next each.1.0) full.0) (parts (next ∷ rows) each.1 full.1)
 
   -- its full rows and the octets of the last one are all of it
   last-part : (row : List ℕ) (full : Bool) → 1 ≤ length row → (if full then row ∷ [] else []) ++ last_rows (if full then [] else row) ≡ row ∷ []
@@ -115,12 +115,12 @@ open-parts kind row octets begun =
 -- two pieces in order have the rows of one
 pub rows-join : (kind : Kind) (row x y : List ℕ) → (full_rows kind row (x ++ y) ≡ full_rows kind row x ++ full_rows kind (open_row kind row x) y) × (open_row kind row (x ++ y) ≡ open_row kind (open_row kind row x) y)
 rows-join kind row x y =
-    let before = cut-parts kind (row ++ x) in
+    let cut = cut-parts kind (row ++ x) in
     let all = cut-parts kind ((row ++ x) ++ y) in
     let j = steps-join kind [] (row ++ x) y in
     let p = open-parts kind (row_begun kind [] (row ++ x)) y (begun-open kind [] (row ++ x) (none-open kind)) in
     let one : (row ++ x) ++ y ≡ row ++ (x ++ y) = append_assoc row x y in
-    let full = ap₂ (λ (rows : List (List ℕ)) (r : List ℕ). rows ++ full_rows kind r y) before.0 before.1 in
-    let begun = ap (λ (r : List ℕ). open_row kind r y) before.1 in
-    let front = ap (λ (rows : List (List ℕ)). rows_filled kind [] (row ++ x) ++ rows) p.0 in
-    (rw (← one) (sym all.0 ∙ j.0 ∙ front ∙ full), rw (← one) (sym all.1 ∙ j.1 ∙ p.1 ∙ begun))
+    let full = ap₂ (λ (rows : List (List ℕ)) (r : List ℕ). rows ++ full_rows kind r y) cut.0 cut.1 in
+    let begun = ap (λ (r : List ℕ). open_row kind r y) cut.1 in
+    let joined = ap (λ (rows : List (List ℕ)). rows_filled kind [] (row ++ x) ++ rows) p.0 in
+    (rw (← one) (sym all.0 ∙ j.0 ∙ joined ∙ full), rw (← one) (sym all.1 ∙ j.1 ∙ p.1 ∙ begun))

@@ -9,9 +9,9 @@ use Rattle.std.specs.List.{onto_first}
 use Rattle.std.proofs.lemmas.Bool.Decides.{nat_tests}
 use Rattle.std.proofs.lemmas.Fmt.{decimal_digit, length-decimal-le_wide}
 use Rattle.std.proofs.Math.Nat.{one-le-pow, pow-le-pow_right, pow-suc}
-use Rattle.tlv_value.specs.Arcs.{arcs_of, dotted_arcs, dotted_text, first_arcs, is_finished, parts_of, subidentifiers}
+use Rattle.tlv_value.specs.Arcs.{arcs_of, dotted_arcs, dotted_of, first_arcs, is_finished, parts_of, subidentifiers}
 use Rattle.tlv_value.proofs.TextLemmas.Subidentifier.{subidentifier}
-use Rattle.tlv_value.specs.Private.Arcs.{part_text}
+use Rattle.tlv_value.specs.Private.Arcs.{arcs_text}
 use Rattle.tlv_value.proofs.TextLemmas.ArcWords.{after_dots, all_below}
 
 -- the text goes on with the subidentifiers of these octets, of which the first has begun with n
@@ -19,7 +19,7 @@ abbrev pub run : List ℕ → Bool → Bool → ℕ → List ℕ → Option (Lis
 run t first relative n [] = Some t
 run t first relative n (x ∷ xs) =
     if nat_lt n (2 ^ 121)
-    then (if nat_lt x 128 then run (t ++ part_text first relative (n * 128 + x % 128)) false relative 0 xs else run t first relative (n * 128 + x % 128) xs)
+    then (if nat_lt x 128 then run (t ++ arcs_text first relative (n * 128 + x % 128)) false relative 0 xs else run t first relative (n * 128 + x % 128) xs)
     else None
 
 -- the subidentifiers of these octets, of which the first has begun with n
@@ -34,7 +34,7 @@ ends begun (x ∷ xs) = ends (not (nat_lt x 128)) xs
 
 abbrev pub parts_text : Bool → Bool → List ℕ → List ℕ
 parts_text first relative [] = []
-parts_text first relative (v ∷ vs) = part_text first relative v ++ parts_text false relative vs
+parts_text first relative (v ∷ vs) = arcs_text first relative v ++ parts_text false relative vs
 
 abbrev texts : List ℕ → Bool → Bool → List ℕ → Option (List ℕ)
 texts t first relative vs = if all_below (2 ^ 128) vs then Some (t ++ parts_text first relative vs) else None
@@ -53,18 +53,18 @@ too-large n [] e h = cc
 too-large n (x ∷ xs) e h = too-large-at n x xs (nat_lt x 128) refl e h (λ m. too-large m xs)
 
 one-part : (t : List ℕ) (first relative : Bool) (v : ℕ) (vs : List ℕ) → v < 2 ^ 128
-    → texts (t ++ part_text first relative v) false relative vs ≡ texts t first relative (v ∷ vs)
+    → texts (t ++ arcs_text first relative v) false relative vs ≡ texts t first relative (v ∷ vs)
 one-part t first relative v vs h =
     let b : nat_lt v (2 ^ 128) ≡ true = grind (arith, nat_tests) in
-    rw (b, append_assoc t (part_text first relative v) (parts_text false relative vs)) refl
+    rw (b, append_assoc t (arcs_text first relative v) (parts_text false relative vs)) refl
 
 run-carry-at : (t : List ℕ) (first relative : Bool) (n x : ℕ) (xs : List ℕ) (last small : Bool) → nat_lt x 128 ≡ last → nat_lt n (2 ^ 121) ≡ small
     → ends (not last) xs ≡ true → n < 2 ^ 128
     → ((s : List ℕ) (f : Bool) (m : ℕ) (b : Bool) → ends b xs ≡ true → m < 2 ^ 128 → run s f relative m xs ≡ texts s f relative (carry m xs))
-    → (if small then (if last then run (t ++ part_text first relative (n * 128 + x % 128)) false relative 0 xs else run t first relative (n * 128 + x % 128) xs) else None)
+    → (if small then (if last then run (t ++ arcs_text first relative (n * 128 + x % 128)) false relative 0 xs else run t first relative (n * 128 + x % 128) xs) else None)
     ≡ texts t first relative (if last then (n * 128 + x % 128) ∷ carry 0 xs else carry (n * 128 + x % 128) xs)
 run-carry-at t first relative n x xs true true e f h g more =
-    more (t ++ part_text first relative (n * 128 + x % 128)) false 0 false h (omega arith)
+    more (t ++ arcs_text first relative (n * 128 + x % 128)) false 0 false h (omega arith)
     ∙ one-part t first relative (n * 128 + x % 128) (carry 0 xs) (grind (arith, nat_tests))
 run-carry-at t first relative n x xs false true e f h g more = more t first (n * 128 + x % 128) true h (grind (arith, nat_tests))
 run-carry-at t first relative n x xs true false e f h g more =
@@ -156,7 +156,7 @@ ends-finished (x ∷ xs) e =
     ends-last false x xs (rw l at (and_right (nat_le 1 (length (x ∷ xs))) (nat_lt (get_or (x ∷ xs) (length (x ∷ xs) - 1) 0) 128) e))
 
 -- the dotted text of the definition
-pub run-dotted : (relative : Bool) (c : List ℕ) → is_finished c ≡ true → nat_le (length c) 64 ≡ true → run [] true relative 0 c ≡ dotted_text relative c
+pub run-dotted : (relative : Bool) (c : List ℕ) → is_finished c ≡ true → nat_le (length c) 64 ≡ true → run [] true relative 0 c ≡ dotted_of relative c
 run-dotted relative c f l =
     let e = ends-finished c f in
     run-carry [] true relative 0 c false e (omega arith)
@@ -178,7 +178,7 @@ run-within t first relative n v c i e h g b =
     rw (drop-cons c i 0 h, small, last, add-one, e) refl
 
 pub run-last : (t : List ℕ) (first relative : Bool) (n v : ℕ) (c : List ℕ) (i : ℕ) → v ≡ n * 128 + get_or c i 0 % 128 → i < length c → n < 2 ^ 121 → get_or c i 0 < 128
-    → run t first relative n (drop i c) ≡ run (t ++ part_text first relative v) false relative 0 (drop (i + 1) c)
+    → run t first relative n (drop i c) ≡ run (t ++ arcs_text first relative v) false relative 0 (drop (i + 1) c)
 run-last t first relative n v c i e h g b =
     let small : nat_lt n (2 ^ 121) ≡ true = grind (arith, nat_tests) in
     let last : nat_lt (get_or c i 0) 128 ≡ true = grind (arith, nat_tests) in
@@ -216,14 +216,14 @@ first-long-at v k false false vs s h g = two-long 2 (v - 80) k vs (long 2 1 (ome
 
 -- at the end of the loop
 pub run-end : (relative : Bool) (c t : List ℕ) (first : Bool) (n i : ℕ) → is_finished c ≡ true → length c ≤ 64 → length c ≤ i
-    → run t first relative n (drop i c) ≡ run [] true relative 0 c → dotted_text relative c ≡ Some t
+    → run t first relative n (drop i c) ≡ run [] true relative 0 c → dotted_of relative c ≡ Some t
 run-end relative c t first n i f l o e =
     let d : drop i c ≡ [] = nil_from_length (drop i c) (omega (arith, length-drop i c)) in
     sym (run-dotted relative c f (grind (arith, nat_tests))) ∙ sym e ∙ rw d refl
 
 -- what a subidentifier that is too large leaves
 pub run-none : (relative : Bool) (c t : List ℕ) (first : Bool) (n i : ℕ) → is_finished c ≡ true → length c ≤ 64 → i < length c → 2 ^ 121 ≤ n
-    → run t first relative n (drop i c) ≡ run [] true relative 0 c → dotted_text relative c ≡ None
+    → run t first relative n (drop i c) ≡ run [] true relative 0 c → dotted_of relative c ≡ None
 run-none relative c t first n i f l o h e =
     sym (run-dotted relative c f (grind (arith, nat_tests))) ∙ sym e ∙ run-over t first relative n (drop i c) (omega (arith, length-drop i c)) h
 
@@ -232,7 +232,7 @@ run-none relative c t first n i f l o h e =
 abbrev pub HasRoom : List ℕ → Bool → ℕ → ℕ → Type 0
 HasRoom t first n i = (k : ℕ) × (n < 10 ^ (3 * k)) × (length t + 4 * k + (if first then 2 else 0) ≤ 4 * i + 2)
 
-part-long : (first relative : Bool) (v k : ℕ) → 1 ≤ k → v < 2 ^ 128 → v < 10 ^ (3 * k) → length (part_text first relative v) ≤ 3 * k + 1 + (if first then 2 else 0)
+part-long : (first relative : Bool) (v k : ℕ) → 1 ≤ k → v < 2 ^ 128 → v < 10 ^ (3 * k) → length (arcs_text first relative v) ≤ 3 * k + 1 + (if first then 2 else 0)
 part-long true true v k s h g = omega (arith, long v (3 * k) h g (omega arith))
 part-long true false v k s h g =
     omega (arith, ap (λ (l : List ℕ). length (dotted_arcs l)) (append-nil (first_arcs v)), first-long-at v k (nat_lt v 40) (nat_lt v 80) [] s h g)
@@ -244,10 +244,10 @@ room-within t first n x v i e (k, h, g) = (suc k, rw e (thousand n x k h), omega
 
 -- one that does
 pub room-last : (t : List ℕ) (first relative : Bool) (n x v i : ℕ) → v ≡ n * 128 + x % 128 → v < 2 ^ 128 → HasRoom t first n i
-    → HasRoom (t ++ part_text first relative v) false 0 (i + 1)
+    → HasRoom (t ++ arcs_text first relative v) false 0 (i + 1)
 room-last t first relative n x v i e small (k, h, g) =
     let l = part-long first relative v (suc k) (omega arith) small (rw e (thousand n x k h)) in
-    (0, omega arith, omega (arith, g, l, length-append t (part_text first relative v)))
+    (0, omega arith, omega (arith, g, l, length-append t (arcs_text first relative v)))
 
 -- the arcs of the first subidentifier
 pub first-text : (held added all : List ℕ) (v a b : ℕ) → a < 10 → first_arcs v ≡ a ∷ b ∷ [] → added ≡ held ++ (48 + a) ∷ 46 ∷ [] → all ≡ added ++ decimal b

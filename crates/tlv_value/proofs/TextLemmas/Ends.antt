@@ -9,13 +9,13 @@ use Rattle.tlv_value.specs.declared.kind.Kind.TheVariants.{Octets, Boolean, Inte
 use Rattle.tlv_value.specs.declared.layout.Layout.{Layout}
 use Rattle.tlv_value.specs.Layout.{columns, margin, row_line}
 use Rattle.tlv_value.specs.Private.ObjectLines.{object_lines, rest_of_lines}
-use Rattle.tlv_value.specs.Private.PrimitiveLines.{front_of, primitive_lines}
+use Rattle.tlv_value.specs.Private.PrimitiveLines.{line_prefix, primitive_lines}
 use Rattle.tlv_value.specs.declared.primitive.Primitive.{Primitive}
 use Rattle.tlv_value.specs.Rows.{full_rows}
 use Rattle.tlv_value.specs.ValueLines.{row_lines}
 use Rattle.tlv_value.specs.ValueTextState.{RowsState, ValueTextState, contents_lines, end_lines, primitive_line}
 use Rattle.tlv_value.specs.Value.{NameOf, Value, bit_count, bits_value, boolean_value, integer_value, is_long, is_readable, long_text, most_on_line, no_names, octets_value, row_octets, row_text, short_value, used_digits, value_on_line}
-use Rattle.tlv_value.specs.Private.PlainText.{plain_text}
+use Rattle.tlv_value.specs.Private.UndottedText.{undotted_text}
 
 -- rows of octets are the same for an object identifier
 object-rows : (layout : Layout) (i : ℕ) (rows : List (List ℕ)) → row_lines Object layout i rows ≡ row_lines Octets layout i rows
@@ -27,19 +27,19 @@ relative-rows layout i [] = refl
 relative-rows layout i (row ∷ rows) = ap (λ (t : List ℕ). row_line layout i (row_text Octets row) ++ t) (relative-rows layout (i + 1) rows)
 
 -- a line in parts, and rows after it
-line-front : (margin tag text rows : List ℕ) → (margin ++ tag) ++ ((text ++ 10 ∷ []) ++ rows) ≡ ((margin ++ (tag ++ text)) ++ 10 ∷ []) ++ rows
-line-front margin tag text rows =
+line-prefix : (margin tag text rows : List ℕ) → (margin ++ tag) ++ ((text ++ 10 ∷ []) ++ rows) ≡ ((margin ++ (tag ++ text)) ++ 10 ∷ []) ++ rows
+line-prefix margin tag text rows =
     sym (append_assoc (margin ++ tag) (text ++ 10 ∷ []) rows) ∙ ap (λ (t : List ℕ). t ++ rows) (sym (append_assoc (margin ++ tag) text (10 ∷ [])) ∙ ap (λ (t : List ℕ). t ++ 10 ∷ []) (append_assoc margin tag text))
 
-front-line : (p : Primitive) (v : Value) → front_of p ++ rest_of_lines p.layout [] v ≡ primitive_line p v.text ++ row_lines Octets p.layout 0 v.rows
-front-line p v = line-front (margin p.layout.pure (columns p.offset (decimal p.size)) p.layout.level) (tag_text p.class p.number) v.text (row_lines Octets p.layout 0 v.rows)
+prefix-line : (p : Primitive) (v : Value) → line_prefix p ++ rest_of_lines p.layout [] v ≡ primitive_line p v.text ++ row_lines Octets p.layout 0 v.rows
+prefix-line p v = line-prefix (margin p.layout.pure (columns p.offset (decimal p.size)) p.layout.level) (tag_text p.class p.number) v.text (row_lines Octets p.layout 0 v.rows)
 
 -- what the line of a primitive begins with, and the rest of its lines
-pub shown-front : (name_of : NameOf) (p : Primitive) (octets : List ℕ)
-    → front_of p ++ (((short_value name_of p.kind octets).text ++ 10 ∷ []) ++ row_lines p.kind p.layout 0 (short_value name_of p.kind octets).rows) ≡ primitive_lines name_of p octets
-shown-front name_of p octets =
+pub shown-prefix : (name_of : NameOf) (p : Primitive) (octets : List ℕ)
+    → line_prefix p ++ (((short_value name_of p.kind octets).text ++ 10 ∷ []) ++ row_lines p.kind p.layout 0 (short_value name_of p.kind octets).rows) ≡ primitive_lines name_of p octets
+shown-prefix name_of p octets =
     let v : Value = short_value name_of p.kind octets in
-    line-front (margin p.layout.pure (columns p.offset (decimal p.size)) p.layout.level) (tag_text p.class p.number) v.text (row_lines p.kind p.layout 0 v.rows)
+    line-prefix (margin p.layout.pure (columns p.offset (decimal p.size)) p.layout.level) (tag_text p.class p.number) v.text (row_lines p.kind p.layout 0 v.rows)
 
 module _ (name_of : NameOf) (layout : Layout) (line : List ℕ → List ℕ) (octets : List ℕ) where
   abbrev shown_by : Kind → List ℕ
@@ -51,27 +51,27 @@ module _ (name_of : NameOf) (layout : Layout) (line : List ℕ → List ℕ) (oc
   relative_at : (kind : Kind) → kind ≡ Relative → line (short_value name_of Relative octets).text ++ row_lines Octets layout 0 (short_value name_of Relative octets).rows ≡ shown_by kind
   relative_at kind e = rw e (ap (λ (t : List ℕ). line (short_value name_of Relative octets).text ++ t) (sym (relative-rows layout 0 (short_value name_of Relative octets).rows)))
 
-pub shown-object : (name_of : NameOf) (p : Primitive) (octets : List ℕ) → p.kind ≡ Object → front_of p ++ object_lines name_of p.layout [] false octets ≡ primitive_lines name_of p octets
-shown-object name_of p octets e = front-line p (short_value name_of Object octets) ∙ object_at name_of p.layout (primitive_line p) octets p.kind e
+pub shown-object : (name_of : NameOf) (p : Primitive) (octets : List ℕ) → p.kind ≡ Object → line_prefix p ++ object_lines name_of p.layout [] false octets ≡ primitive_lines name_of p octets
+shown-object name_of p octets e = prefix-line p (short_value name_of Object octets) ∙ object_at name_of p.layout (primitive_line p) octets p.kind e
 
-pub shown-relative : (name_of : NameOf) (p : Primitive) (octets : List ℕ) → p.kind ≡ Relative → front_of p ++ object_lines no_names p.layout [] true octets ≡ primitive_lines name_of p octets
-shown-relative name_of p octets e = front-line p (short_value name_of Relative octets) ∙ relative_at name_of p.layout (primitive_line p) octets p.kind e
+pub shown-relative : (name_of : NameOf) (p : Primitive) (octets : List ℕ) → p.kind ≡ Relative → line_prefix p ++ object_lines no_names p.layout [] true octets ≡ primitive_lines name_of p octets
+shown-relative name_of p octets e = prefix-line p (short_value name_of Relative octets) ∙ relative_at name_of p.layout (primitive_line p) octets p.kind e
 
 -- held values without rows
 
-abbrev IsPlain : NameOf → Kind → List ℕ → Type 0
-IsPlain name_of kind row = ((short_value name_of kind row).text ≡ plain_text kind row) × ((short_value name_of kind row).rows ≡ [])
+abbrev IsUndotted : NameOf → Kind → List ℕ → Type 0
+IsUndotted name_of kind row = ((short_value name_of kind row).text ≡ undotted_text kind row) × ((short_value name_of kind row).rows ≡ [])
 
-octets-plain : (row : List ℕ) → length row ≤ 16 → (octets_value row).rows ≡ []
-octets-plain row h = let b : nat_le (length row) 16 ≡ true = grind (arith, nat_tests) in rw b refl
+octets-rows : (row : List ℕ) → length row ≤ 16 → (octets_value row).rows ≡ []
+octets-rows row h = let b : nat_le (length row) 16 ≡ true = grind (arith, nat_tests) in rw b refl
 
-octets-text : (name_of : NameOf) (row : List ℕ) → length row ≤ 16 → IsPlain name_of Octets row
+octets-text : (name_of : NameOf) (row : List ℕ) → length row ≤ 16 → IsUndotted name_of Octets row
 octets-text name_of row h = let b : nat_le (length row) 16 ≡ true = grind (arith, nat_tests) in rw b (refl, refl)
 
 boolean-rows : (row : List ℕ) → length row ≤ 16 → (boolean_value row).rows ≡ []
 boolean-rows [] h = refl
 boolean-rows (x ∷ []) h = refl
-boolean-rows (x ∷ y ∷ row) h = octets-plain (x ∷ y ∷ row) h
+boolean-rows (x ∷ y ∷ row) h = octets-rows (x ∷ y ∷ row) h
 
 integer-rows : (row : List ℕ) → length row ≤ 16 → (integer_value row).rows ≡ []
 integer-rows [] h = refl
@@ -84,27 +84,27 @@ if-rows false x y e f = f
 bits-rows : (row : List ℕ) → length row ≤ 9 → (bits_value row).rows ≡ []
 bits-rows [] h = refl
 bits-rows (u ∷ row) h =
-    if-rows (is_readable u (length row)) (value_on_line (bit_count u (length row) ++ used_digits u row)) (octets_value (u ∷ row)) refl (octets-plain (u ∷ row) (omega arith))
+    if-rows (is_readable u (length row)) (value_on_line (bit_count u (length row) ++ used_digits u row)) (octets_value (u ∷ row)) refl (octets-rows (u ∷ row) (omega arith))
 
-pub held-plain : (name_of : NameOf) (kind : Kind) (row : List ℕ) → (kind ≡ Object → ⊥) → (kind ≡ Relative → ⊥) → length row ≤ most_on_line kind → IsPlain name_of kind row
-held-plain name_of Octets row o r h = octets-text name_of row h
-held-plain name_of Boolean row o r h = (refl, boolean-rows row h)
-held-plain name_of Integer row o r h = (refl, integer-rows row h)
-held-plain name_of Bits row o r h = (refl, bits-rows row h)
-held-plain name_of Object row o r h = absurd (o refl)
-held-plain name_of Relative row o r h = absurd (r refl)
-held-plain name_of Text row o r h = (refl, refl)
-held-plain name_of Utf8 row o r h = (refl, refl)
-held-plain name_of Ucs2 row o r h = (refl, refl)
-held-plain name_of Ucs4 row o r h = (refl, refl)
+pub held-undotted : (name_of : NameOf) (kind : Kind) (row : List ℕ) → (kind ≡ Object → ⊥) → (kind ≡ Relative → ⊥) → length row ≤ most_on_line kind → IsUndotted name_of kind row
+held-undotted name_of Octets row o r h = octets-text name_of row h
+held-undotted name_of Boolean row o r h = (refl, boolean-rows row h)
+held-undotted name_of Integer row o r h = (refl, integer-rows row h)
+held-undotted name_of Bits row o r h = (refl, bits-rows row h)
+held-undotted name_of Object row o r h = absurd (o refl)
+held-undotted name_of Relative row o r h = absurd (r refl)
+held-undotted name_of Text row o r h = (refl, refl)
+held-undotted name_of Utf8 row o r h = (refl, refl)
+held-undotted name_of Ucs2 row o r h = (refl, refl)
+held-undotted name_of Ucs4 row o r h = (refl, refl)
 
-plain_at : (name_of : NameOf) (kind : Kind) (layout : Layout) (front row : List ℕ) → IsPlain name_of kind row
-    → front ++ (plain_text kind row ++ 10 ∷ []) ≡ front ++ (((short_value name_of kind row).text ++ 10 ∷ []) ++ row_lines kind layout 0 (short_value name_of kind row).rows)
-plain_at name_of kind layout front row p = rw (p.0, p.1) (ap (λ (t : List ℕ). front ++ t) (sym (append-nil (plain_text kind row ++ 10 ∷ []))))
+undotted_at : (name_of : NameOf) (kind : Kind) (layout : Layout) (line row : List ℕ) → IsUndotted name_of kind row
+    → line ++ (undotted_text kind row ++ 10 ∷ []) ≡ line ++ (((short_value name_of kind row).text ++ 10 ∷ []) ++ row_lines kind layout 0 (short_value name_of kind row).rows)
+undotted_at name_of kind layout line row p = rw (p.0, p.1) (ap (λ (t : List ℕ). line ++ t) (sym (append-nil (undotted_text kind row ++ 10 ∷ []))))
 
-pub shown-plain : (name_of : NameOf) (p : Primitive) (octets : List ℕ) → (p.kind ≡ Object → ⊥) → (p.kind ≡ Relative → ⊥) → length octets ≤ most_on_line p.kind
-    → front_of p ++ (plain_text p.kind octets ++ 10 ∷ []) ≡ primitive_lines name_of p octets
-shown-plain name_of p octets o r h = plain_at name_of p.kind p.layout (front_of p) octets (held-plain name_of p.kind octets o r h) ∙ shown-front name_of p octets
+pub shown-undotted : (name_of : NameOf) (p : Primitive) (octets : List ℕ) → (p.kind ≡ Object → ⊥) → (p.kind ≡ Relative → ⊥) → length octets ≤ most_on_line p.kind
+    → line_prefix p ++ (undotted_text p.kind octets ++ 10 ∷ []) ≡ primitive_lines name_of p octets
+shown-undotted name_of p octets o r h = undotted_at name_of p.kind p.layout (line_prefix p) octets (held-undotted name_of p.kind octets o r h) ∙ shown-prefix name_of p octets
 
 abbrev pub state_by : Primitive → ℕ → RowsState → ValueTextState
 state_by p left kept = record { value = p; left = left; kept = kept }

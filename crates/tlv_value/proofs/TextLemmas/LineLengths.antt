@@ -11,8 +11,8 @@ pub added : (old new text : List ℕ) → new ≡ old ++ text → length new ≡
 added old new text e = ap length e ∙ length-append old text
 
 -- the first octets of a text were added
-pub front_short : (old new text : List ℕ) (n : ℕ) → new ≡ old ++ take n text → length new ≤ length old + n
-front_short old new text n e = omega (arith, added old new (take n text) e, length-take n text)
+pub prefix_short : (old new text : List ℕ) (n : ℕ) → new ≡ old ++ take n text → length new ≤ length old + n
+prefix_short old new text n e = omega (arith, added old new (take n text) e, length-take n text)
 
 -- a number was added
 pub number_short : (old new : List ℕ) (n : ℕ) → n < 2 ^ 64 → new ≡ old ++ decimal n → length new ≤ length old + 20

@@ -7,7 +7,7 @@ use Rattle.std.proofs.lemmas.Bool.Decides.{nat_tests}
 use Rattle.std.proofs.lemmas.List.{take_all}
 use Rattle.tlv_value.specs.declared.kind.Kind.TheVariants.{Octets}
 use Rattle.tlv_value.specs.declared.layout.Layout.{Layout}
-use Rattle.tlv_value.specs.Arcs.{dotted_text}
+use Rattle.tlv_value.specs.Arcs.{dotted_of}
 use Rattle.tlv_value.specs.Private.ObjectLines.{object_lines, octets_lines}
 use Rattle.tlv_value.specs.Rows.{rows_of}
 use Rattle.tlv_value.specs.ValueLines.{row_lines}
@@ -29,7 +29,7 @@ after_space old new text n e at =
 
 module _ (name_of : NameOf) (layout : Layout) (relative : Bool) (contents : List ℕ) where
   -- a dotted text with a name
-  pub object_named : (text name : List ℕ) → dotted_text relative contents ≡ Some text → name_of text ≡ Some name
+  pub object_named : (text name : List ℕ) → dotted_of relative contents ≡ Some text → name_of text ≡ Some name
       → (32 ∷ text) ++ (32 ∷ 40 ∷ (name ++ 41 ∷ 10 ∷ [])) ≡ object_lines name_of layout [] relative contents
   object_named text name d n =
       rw (d, n) (sym
@@ -38,11 +38,11 @@ module _ (name_of : NameOf) (layout : Layout) (relative : Bool) (contents : List
       ∙ ap (λ (l : List ℕ). (32 ∷ text) ++ (32 ∷ 40 ∷ l)) (append_assoc name (41 ∷ []) (10 ∷ []))))
 
   -- without a name
-  pub object_plain : (text : List ℕ) → dotted_text relative contents ≡ Some text → name_of text ≡ None → (32 ∷ text) ++ 10 ∷ [] ≡ object_lines name_of layout [] relative contents
-  object_plain text d n = rw (d, n) (sym (append-nil ((32 ∷ (text ++ [])) ++ 10 ∷ []) ∙ ap (λ (l : List ℕ). (32 ∷ l) ++ 10 ∷ []) (append-nil text)))
+  pub object_unnamed : (text : List ℕ) → dotted_of relative contents ≡ Some text → name_of text ≡ None → (32 ∷ text) ++ 10 ∷ [] ≡ object_lines name_of layout [] relative contents
+  object_unnamed text d n = rw (d, n) (sym (append-nil ((32 ∷ (text ++ [])) ++ 10 ∷ []) ∙ ap (λ (l : List ℕ). (32 ∷ l) ++ 10 ∷ []) (append-nil text)))
 
   -- no dotted text
-  pub object_octets : dotted_text relative contents ≡ None → octets_lines layout [] contents ≡ object_lines name_of layout [] relative contents
+  pub object_octets : dotted_of relative contents ≡ None → octets_lines layout [] contents ≡ object_lines name_of layout [] relative contents
   object_octets d = rw d refl
 
 -- octets on the line

@@ -12,7 +12,7 @@ use Rattle.tlv_value.specs.Laws.{LinesBegin, LinesEnd, LinesGoOn, PiecesJoin}
 use Rattle.tlv_value.specs.Rows.{full_rows, full_rows_in, open_row, open_row_in, rows_of}
 use Rattle.tlv_value.specs.Private.PrimitiveLines.{lines_in_steps, primitive_lines}
 use Rattle.tlv_value.specs.ValueLines.{has_line, open_lines, row_lines, whole_lines}
-use Rattle.tlv_value.specs.ValueTextState.{RowsState, ValueTextState, begin_lines, contents_lines, end_lines, first_rows, first_rows_after, full_row_lines, new_value_text_of, new_value_text, primitive_line, primitive_of, rows_after, rows_state_after, state_for, value_text_after}
+use Rattle.tlv_value.specs.ValueTextState.{RowsState, ValueTextState, begin_lines, contents_lines, end_lines, first_rows, first_rows_after, full_row_lines, new_value_text_of, new_value_text, primitive_line, new_primitive, rows_after, rows_state_after, state_for, value_text_after}
 use Rattle.tlv_value.specs.Value.{NameOf, is_long, long_text, long_value, row_octets, short_value}
 use Rattle.std.proofs.lemmas.Bool.Decides.{nat_tests}
 use Rattle.tlv_value.proofs.TextLemmas.Puts.{row_lines-append}
@@ -160,7 +160,7 @@ module _ (layout : Layout) (line : List ℕ → List ℕ) (size : ℕ) where
       ∙ ap (λ (t : List ℕ). (line (long_text Bits size (u ∷ [])) ++ row_lines Bits layout 0 (full_rows Bits [] (row_octets Bits (u ∷ octets)))) ++ row_lines Bits layout (0 + length (full_rows Bits (row_octets Bits (u ∷ [])) octets)) (last_rows t)) o
 
 abbrev line_for : HeaderValue → Layout → List ℕ → List ℕ
-line_for h layout = primitive_line (primitive_of h layout)
+line_for h layout = primitive_line (new_primitive h layout)
 
 -- all that is known of a primitive that is still open was written
 pub open-lines : (h : HeaderValue) (layout : Layout) (octets : List ℕ) → open_lines h layout octets ≡ begin_lines (new_value_text h layout) ++ contents_lines (new_value_text h layout) octets
@@ -242,9 +242,9 @@ new-long name_of p c long e =
     ∙ append_assoc (begin_lines s) (contents_lines s c) (end_lines name_of (value_text_after s c))
 
 -- one with its value on its line is written with its end
-pub shown-new : (name_of : NameOf) (h : HeaderValue) (layout : Layout) (p : Primitive) (c : List ℕ) → p ≡ primitive_of h layout → is_long (kind_of h.class h.number) (size_of h.size) ≡ false
+pub shown-new : (name_of : NameOf) (h : HeaderValue) (layout : Layout) (p : Primitive) (c : List ℕ) → p ≡ new_primitive h layout → is_long (kind_of h.class h.number) (size_of h.size) ≡ false
     → length c ≡ size_of h.size → primitive_lines name_of p c ≡ whole_lines name_of h layout c
 shown-new name_of h layout p c is short e = ap (λ (q : Primitive). primitive_lines name_of q c) is ∙ at-end ∙ whole-new name_of h layout c e
   where
-    at-end : primitive_lines name_of (primitive_of h layout) c ≡ begin_lines (new_value_text h layout) ++ (contents_lines (new_value_text h layout) c ++ end_lines name_of (value_text_after (new_value_text h layout) c))
+    at-end : primitive_lines name_of (new_primitive h layout) c ≡ begin_lines (new_value_text h layout) ++ (contents_lines (new_value_text h layout) c ++ end_lines name_of (value_text_after (new_value_text h layout) c))
     at-end = rw short refl

@@ -17,38 +17,38 @@ bits-step octets i h =
 pub length-digits : (octets : List ℕ) → length (digits_of_bits (bits_of octets)) ≡ 8 * length octets
 length-digits octets = length-map (bits_of octets) (λ bit. 48 + bit) ∙ length-bits octets
 
-pub length-octet_digits : (x : ℕ) → length (digits_of_bits (last_bits 8 x)) ≡ 8
-length-octet_digits x = length-map (last_bits 8 x) (λ bit. 48 + bit) ∙ length-last_bits 8 x
+pub length-digits_of_octet : (x : ℕ) → length (digits_of_bits (last_bits 8 x)) ≡ 8
+length-digits_of_octet x = length-map (last_bits 8 x) (λ bit. 48 + bit) ∙ length-last_bits 8 x
 
 take-digits : (n : ℕ) (bits : List ℕ) → digits_of_bits (take n bits) ≡ take n (digits_of_bits bits)
 take-digits zero bits = refl
 take-digits (suc n) [] = refl
 take-digits (suc n) (b ∷ bits) = ap (λ (t : List ℕ). (48 + b) ∷ t) (take-digits n bits)
 
-used-some : (unused : ℕ) (front : List ℕ) (last : ℕ)
-    → used_digits unused (front ++ last ∷ []) ≡ 32 ∷ digits_of_bits (take (8 * length (front ++ last ∷ []) - unused) (bits_of (front ++ last ∷ [])))
+used-some : (unused : ℕ) (prefix : List ℕ) (last : ℕ)
+    → used_digits unused (prefix ++ last ∷ []) ≡ 32 ∷ digits_of_bits (take (8 * length (prefix ++ last ∷ []) - unused) (bits_of (prefix ++ last ∷ [])))
 used-some unused [] last = refl
-used-some unused (x ∷ front) last = refl
+used-some unused (x ∷ prefix) last = refl
 
 -- the bits of the last octet
-pub used-last : (unused : ℕ) (front : List ℕ) (last : ℕ) → unused ≤ 7
-    → used_digits unused (front ++ last ∷ []) ≡ 32 ∷ (digits_of_bits (bits_of front) ++ take (8 - unused) (digits_of_bits (last_bits 8 last)))
-used-last unused front last h =
-    let l : 8 * length (front ++ last ∷ []) - unused ≡ length (bits_of front) + (8 - unused) = omega (arith, length-append front (last ∷ []), length-bits front) in
-    let b : bits_of (front ++ last ∷ []) ≡ bits_of front ++ last_bits 8 last = bits-append front (last ∷ []) ∙ ap (λ (t : List ℕ). bits_of front ++ t) (append-nil (last_bits 8 last)) in
-    let t : take (length (bits_of front) + (8 - unused)) (bits_of front ++ last_bits 8 last) ≡ bits_of front ++ take (8 - unused) (last_bits 8 last) =
-    take-append-add (bits_of front) (last_bits 8 last) (8 - unused) in
-    let d : digits_of_bits (take (8 * length (front ++ last ∷ []) - unused) (bits_of (front ++ last ∷ []))) ≡ digits_of_bits (bits_of front) ++ take (8 - unused) (digits_of_bits (last_bits 8 last)) =
-    rw (l, b, t) (map-append (λ bit. 48 + bit) (bits_of front) (take (8 - unused) (last_bits 8 last)) ∙ ap (λ (t : List ℕ). digits_of_bits (bits_of front) ++ t) (take-digits (8 - unused) (last_bits 8 last))) in
-    used-some unused front last ∙ ap (λ (t : List ℕ). 32 ∷ t) d
+pub used-last : (unused : ℕ) (prefix : List ℕ) (last : ℕ) → unused ≤ 7
+    → used_digits unused (prefix ++ last ∷ []) ≡ 32 ∷ (digits_of_bits (bits_of prefix) ++ take (8 - unused) (digits_of_bits (last_bits 8 last)))
+used-last unused prefix last h =
+    let l : 8 * length (prefix ++ last ∷ []) - unused ≡ length (bits_of prefix) + (8 - unused) = omega (arith, length-append prefix (last ∷ []), length-bits prefix) in
+    let b : bits_of (prefix ++ last ∷ []) ≡ bits_of prefix ++ last_bits 8 last = bits-append prefix (last ∷ []) ∙ ap (λ (t : List ℕ). bits_of prefix ++ t) (append-nil (last_bits 8 last)) in
+    let t : take (length (bits_of prefix) + (8 - unused)) (bits_of prefix ++ last_bits 8 last) ≡ bits_of prefix ++ take (8 - unused) (last_bits 8 last) =
+    take-append-add (bits_of prefix) (last_bits 8 last) (8 - unused) in
+    let d : digits_of_bits (take (8 * length (prefix ++ last ∷ []) - unused) (bits_of (prefix ++ last ∷ []))) ≡ digits_of_bits (bits_of prefix) ++ take (8 - unused) (digits_of_bits (last_bits 8 last)) =
+    rw (l, b, t) (map-append (λ bit. 48 + bit) (bits_of prefix) (take (8 - unused) (last_bits 8 last)) ∙ ap (λ (t : List ℕ). digits_of_bits (bits_of prefix) ++ t) (take-digits (8 - unused) (last_bits 8 last))) in
+    used-some unused prefix last ∙ ap (λ (t : List ℕ). 32 ∷ t) d
 
 -- the digits of the unused bits are dropped from the end
-pub digits-cut : (held before digits : List ℕ) (unused n : ℕ) → unused ≤ 7 → length digits ≡ 8 → n ≡ length ((held ++ before) ++ digits) - unused
-    → take n ((held ++ before) ++ digits) ≡ held ++ (before ++ take (8 - unused) digits)
-digits-cut held before digits unused n h size e =
-    let m : n ≡ length (held ++ before) + (8 - unused) = omega (arith, e, length-append (held ++ before) digits, size) in
-    ap (λ (k : ℕ). take k ((held ++ before) ++ digits)) m
-    ∙ take-append-add (held ++ before) digits (8 - unused) ∙ append_assoc held before (take (8 - unused) digits)
+pub digits-cut : (held shown digits : List ℕ) (unused n : ℕ) → unused ≤ 7 → length digits ≡ 8 → n ≡ length ((held ++ shown) ++ digits) - unused
+    → take n ((held ++ shown) ++ digits) ≡ held ++ (shown ++ take (8 - unused) digits)
+digits-cut held shown digits unused n h size e =
+    let m : n ≡ length (held ++ shown) + (8 - unused) = omega (arith, e, length-append (held ++ shown) digits, size) in
+    ap (λ (k : ℕ). take k ((held ++ shown) ++ digits)) m
+    ∙ take-append-add (held ++ shown) digits (8 - unused) ∙ append_assoc held shown (take (8 - unused) digits)
 
 -- a BIT STRING that can be read
 pub bits-readable : (c octets : List ℕ) → octets ≡ drop 1 c → 1 ≤ length c → is_readable (get_or c 0 0) (length octets) ≡ true

@@ -3,7 +3,7 @@ use Rattle.std.specs.Prelude.{ℕ, Bool, true, false, List, ◌∷◌, decimal}
 use Rattle.tlv_value.specs.Arcs.{dotted_arcs, first_arcs}
 
 -- the arcs of a subidentifier, as they are in the dotted text
-abbrev pub part_text : Bool → Bool → ℕ → List ℕ
-part_text true true v = decimal v
-part_text true false v = dotted_arcs (first_arcs v)
-part_text false relative v = 46 ∷ decimal v
+abbrev pub arcs_text : Bool → Bool → ℕ → List ℕ
+arcs_text true true v = decimal v
+arcs_text true false v = dotted_arcs (first_arcs v)
+arcs_text false relative v = 46 ∷ decimal v

@@ -9,8 +9,8 @@ use Rattle.tlv_value.specs.ValueTextState.{ValueTextState, begin_lines, contents
 use Rattle.tlv_value.specs.ValueTextState.{primitive_line, value_text_after}
 
 -- what its line begins with
-abbrev pub front_of : Primitive → List ℕ
-front_of p = margin p.layout.pure (columns p.offset (decimal p.size)) p.layout.level ++ tag_text p.class p.number
+abbrev pub line_prefix : Primitive → List ℕ
+line_prefix p = margin p.layout.pure (columns p.offset (decimal p.size)) p.layout.level ++ tag_text p.class p.number
 
 -- its lines, if its value is on its line
 abbrev pub primitive_lines : NameOf → Primitive → List ℕ → List ℕ

@@ -14,77 +14,77 @@ use tlv_head::universal;
 
 impl ValueCheck {
     /// What is found on the contents by what was noted of them.
-    pub(super) fn found(&self) -> ArrayVec<Finding, 16>
+    pub(super) fn findings(&self) -> ArrayVec<Finding, 16>
         ensures { result.items ≡ findings_in self.now }
     {
         let mut found = ArrayVec::new();
         match self.number {
-            universal::BOOLEAN => self.note_boolean(&mut found),
+            universal::BOOLEAN => self.add_boolean_findings(&mut found),
             universal::INTEGER | universal::ENUMERATED => {
-                note(self.size == 0, Finding::B07, &mut found);
-                note(self.is_padded_integer(), Finding::B08, &mut found);
+                add_if(self.size == 0, Finding::B07, &mut found);
+                add_if(self.is_padded_integer(), Finding::B08, &mut found);
             }
-            universal::BIT_STRING => self.note_bits(&mut found),
-            universal::NULL => note(self.size != 0, Finding::B09, &mut found),
+            universal::BIT_STRING => self.add_bit_string_findings(&mut found),
+            universal::NULL => add_if(self.size != 0, Finding::B09, &mut found),
             universal::OBJECT_IDENTIFIER => {
-                note(self.size == 0, Finding::B10, &mut found);
-                note(self.padded, Finding::B11, &mut found);
-                note(self.last >= 128, Finding::B12, &mut found);
+                add_if(self.size == 0, Finding::B10, &mut found);
+                add_if(self.padded, Finding::B11, &mut found);
+                add_if(self.last >= 128, Finding::B12, &mut found);
             }
             universal::RELATIVE_OID => {
-                note(self.padded, Finding::B11, &mut found);
-                note(self.last >= 128, Finding::B12, &mut found);
+                add_if(self.padded, Finding::B11, &mut found);
+                add_if(self.last >= 128, Finding::B12, &mut found);
             }
             universal::UTC_TIME => {
                 if self.size <= 64 {
                     let time = self.time.as_slice();
-                    note_time(utc_ok(time), utc_canonical(time), &mut found);
+                    add_time_findings(utc_ok(time), utc_canonical(time), &mut found);
                 }
             }
             universal::GENERALIZED_TIME => {
                 if self.size <= 64 {
                     let time = self.time.as_slice();
-                    note_time(general_ok(time), general_canonical(time), &mut found);
+                    add_time_findings(general_ok(time), general_canonical(time), &mut found);
                 }
             }
-            number if has_characters(number) => {
-                note(!self.is_allowed(), Finding::B18, &mut found);
+            number if is_character_type(number) => {
+                add_if(!self.is_allowed(), Finding::B18, &mut found);
             }
             _ => {}
         }
         found
     }
 
-    /// Notes what is found on the contents of a BOOLEAN.
-    fn note_boolean(&self, found: &mut ArrayVec<Finding, 16>)
+    /// Adds what is found on the contents of a BOOLEAN.
+    fn add_boolean_findings(&self, found: &mut ArrayVec<Finding, 16>)
         requires { found.old.items ≡ [] }
         ensures { found.new.items
             ≡ findings_by (type_conditions boolean (facts_in self.now)) }
     {
-        let first = self.first();
-        note(self.size != 1, Finding::B06, found);
-        note(
+        let first = self.first_octet();
+        add_if(self.size != 1, Finding::B06, found);
+        add_if(
             self.size == 1 && first != 0 && first != 255,
             Finding::S02,
             found,
         );
     }
 
-    /// Notes what is found on the contents of a BIT STRING.
-    fn note_bits(&self, found: &mut ArrayVec<Finding, 16>)
+    /// Adds what is found on the contents of a BIT STRING.
+    fn add_bit_string_findings(&self, found: &mut ArrayVec<Finding, 16>)
         requires { found.old.items ≡ [] }
         ensures { found.new.items
             ≡ findings_by (type_conditions bit_string (facts_in self.now)) }
     {
-        let first = self.first();
-        note(self.size == 0, Finding::B13, found);
-        note(first > 7, Finding::B14, found);
-        note(
+        let first = self.first_octet();
+        add_if(self.size == 0, Finding::B13, found);
+        add_if(first > 7, Finding::B14, found);
+        add_if(
             self.size == 1 && first >= 1 && first <= 7,
             Finding::B15,
             found,
         );
-        note(
+        add_if(
             self.size >= 2 && first <= 7 && are_set(first, self.last),
             Finding::S03,
             found,
@@ -93,7 +93,7 @@ impl ValueCheck {
 }
 
 /// Whether the type with this number is a string whose characters are looked at.
-fn has_characters(number: u64) -> bool
+fn is_character_type(number: u64) -> bool
     ensures { result ≡ is_number_of character_types number }
 {
     matches!(
@@ -109,7 +109,7 @@ fn has_characters(number: u64) -> bool
 }
 
 /// Adds a finding, if it is there.
-fn note(there: bool, finding: Finding, found: &mut ArrayVec<Finding, 16>)
+fn add_if(there: bool, finding: Finding, found: &mut ArrayVec<Finding, 16>)
     requires { length found.old.items < 16 }
     ensures { found.new.items ≡ found.old.items ++ finding_if there finding }
 {
@@ -119,12 +119,12 @@ fn note(there: bool, finding: Finding, found: &mut ArrayVec<Finding, 16>)
 }
 
 /// Adds what is found on a time.
-fn note_time(of_grammar: bool, is_canonical: bool, found: &mut ArrayVec<Finding, 16>)
+fn add_time_findings(of_grammar: bool, is_canonical: bool, found: &mut ArrayVec<Finding, 16>)
     requires { length found.old.items < 16 }
     ensures { found.new.items ≡ found.old.items ++ time_findings of_grammar is_canonical }
 {
     if of_grammar {
-        note(!is_canonical, Finding::S04, found);
+        add_if(!is_canonical, Finding::S04, found);
     } else {
         found.push(Finding::B19);
     }

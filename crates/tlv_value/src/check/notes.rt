@@ -1,6 +1,6 @@
 //! What is noted of contents octets while they come.
-ghost use Rattle.std.specs.Prelude.{◌≡◌, ◌||◌};
-ghost use Rattle.tlv_value.specs.ValueCheckState.{notes_each, notes_front, notes_time};
+ghost use Rattle.std.specs.Prelude.{◌≡◌};
+ghost use Rattle.tlv_value.specs.ValueCheckState.{is_padded_with, notes_each, notes_first, notes_time};
 ghost use Rattle.tlv_value.specs.Checks.{is_padded_after, last_octet};
 
 use tlv_head::universal;
@@ -8,8 +8,8 @@ use tlv_head::universal;
 /// Whether the first octets of the type with this universal number are looked at, and the last one: BOOLEAN, INTEGER,
 /// BIT STRING, ENUMERATED.
 #[inline(always)]
-pub(super) fn notes_front(number: u64) -> bool
-    ensures { result ≡ notes_front number }
+pub(super) fn notes_first(number: u64) -> bool
+    ensures { result ≡ notes_first number }
 {
     matches!(
         number,
@@ -43,36 +43,36 @@ pub(super) fn notes_time(number: u64) -> bool
 }
 
 /// The last of the octets, or the one before them.
-pub(crate) fn last_octet(before: u8, octets: &[u8]) -> u8
-    ensures { result ≡ last_octet before octets.now }
+pub(crate) fn last_octet(previous: u8, octets: &[u8]) -> u8
+    ensures { result ≡ last_octet previous octets.now }
 {
     match octets {
         [.., last] => *last,
-        [] => before,
+        [] => previous,
     }
 }
 
 /// Whether a subidentifier begins with `80`, with these octets too.
-pub(super) fn is_padded_with(padded: bool, before: u8, octets: &[u8]) -> bool
-    ensures { result ≡ (padded || is_padded_after before octets.now) }
+pub(super) fn is_padded_with(padded: bool, previous: u8, octets: &[u8]) -> bool
+    ensures { result ≡ is_padded_with padded previous octets.now }
 {
-    padded || is_padded_after(before, octets)
+    padded || is_padded_after(previous, octets)
 }
 
 /// Whether a subidentifier begins with `80`, after this octet.
-pub(crate) fn is_padded_after(before: u8, octets: &[u8]) -> bool
-    ensures { result ≡ is_padded_after before octets.now }
+pub(crate) fn is_padded_after(previous: u8, octets: &[u8]) -> bool
+    ensures { result ≡ is_padded_after previous octets.now }
 {
     // Most have no octet 80 at all, which is seen for many octets at once. The loop is then left out.
     if !octets.contains(&128) {
         return false;
     }
-    let mut before = before;
+    let mut previous = previous;
     for octet in octets {
-        if before < 128 && *octet == 128 {
+        if previous < 128 && *octet == 128 {
             return true;
         }
-        before = *octet;
+        previous = *octet;
     }
     false
 }

@@ -26,27 +26,27 @@ pub(super) fn take_rows(row: &mut ArrayVec<u8, 64>, octets: &[u8]) -> bool
             let _ = row.try_extend_from_slice(part);
             return formed;
         }
-        formed = both(formed, is_full_formed(row, part));
+        formed = both(formed, is_full_row_utf8(row, part));
     }
     formed
 }
 
 /// Whether the row that has begun is well-formed with the octets that fill it. The row is then empty.
-fn is_full_formed(row: &mut ArrayVec<u8, 64>, part: &[u8]) -> bool
+fn is_full_row_utf8(row: &mut ArrayVec<u8, 64>, part: &[u8]) -> bool
     requires { length row.old.items + length part.now ≤ 64 }
     ensures formed { result ≡ is_utf8 (row.old.items ++ part.now) }
     ensures row { row.new.items ≡ [] }
 {
     if row.is_empty() {
-        return is_well_formed(part);
+        return is_utf8(part);
     }
     let _ = row.try_extend_from_slice(part);
     let full = row.take();
-    is_well_formed(full.as_slice())
+    is_utf8(full.as_slice())
 }
 
 /// Whether the octets are UTF-8.
-pub(crate) fn is_well_formed(octets: &[u8]) -> bool
+pub(crate) fn is_utf8(octets: &[u8]) -> bool
     ensures { result ≡ is_utf8 octets.now }
 {
     simdutf8::is_utf8(octets)

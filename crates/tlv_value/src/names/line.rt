@@ -86,7 +86,7 @@ fn without_return(line: &[u8]) -> &[u8]
     ensures { result.now ≡ without_return line.now }
 {
     match line.split_last() {
-        Some((b'\r', front)) => front,
+        Some((b'\r', prefix)) => prefix,
         _ => line,
     }
 }

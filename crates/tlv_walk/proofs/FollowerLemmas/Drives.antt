@@ -31,7 +31,7 @@ use Rattle.tlv_walk.proofs.FollowerLemmas.Followed.{events_enough, followed-alik
 use Rattle.tlv_walk.proofs.FollowerLemmas.Following.{made_both, made_put}
 use Rattle.tlv_walk.proofs.FollowerLemmas.Enough.{comes_to, ends_so}
 use Rattle.tlv_io.proofs.Pieces.{GaveLast, gathered_more, pieces_all, together_more}
-use Rattle.tlv_io.proofs.Puts.{sends_ok, sends_then}
+use Rattle.tlv_io.proofs.Sends.{sends_ok, sends_then}
 use Rattle.tlv_walk.proofs.FollowerLemmas.Pauses.{stands_spelled, stands_yielded}
 use Rattle.tlv_walk.proofs.FollowerLemmas.Turns.{run_is}
 use Rattle.tlv_walk.proofs.FollowerLemmas.SoFar.{gave_last, gave_none, given_short, given_octets, enters_each, Walking}

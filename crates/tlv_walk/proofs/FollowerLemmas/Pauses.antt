@@ -20,7 +20,8 @@ use Rattle.tlv_walk.specs.Place.{top_place}
 use Rattle.tlv_walk.specs.Reading.{AreOctets, IsReading}
 use Rattle.tlv_walk.specs.Stands.{Stands, waiting_events}
 use Rattle.tlv_walk.proofs.FollowerLemmas.Following.{walked_goes_on}
-use Rattle.tlv_io.proofs.Puts.{puts_failed_last, puts_then_as, sends_flushed, sends_puts}
+use Rattle.tlv_io.proofs.Puts.{puts_failed_last, puts_then_as}
+use Rattle.tlv_io.proofs.Sends.{sends_flushed, sends_puts}
 use Rattle.tlv_walk.proofs.GrammarLemmas.PushSteps.{Spells}
 use Rattle.tlv_walk.proofs.GrammarLemmas.Readings.{reading-unique}
 use Rattle.tlv_walk.proofs.WalkerLemmas.ZipperReading.{state-reading, state-spells}

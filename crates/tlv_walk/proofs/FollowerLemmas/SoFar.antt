@@ -20,7 +20,7 @@ use Rattle.tlv_walk.specs.OneTurn.{LastReadGaveUpTo, TurnState, last_octets, tur
 use Rattle.tlv_walk.specs.Wrappers.{entered_offsets}
 use Rattle.tlv_walk.proofs.FollowerLemmas.Following.{made_none}
 use Rattle.tlv_io.proofs.Pieces.{GaveLast, Gathered, gathered_none}
-use Rattle.tlv_io.proofs.Puts.{sends_nothing}
+use Rattle.tlv_io.proofs.Sends.{sends_nothing}
 
 -- ---- reads
 

@@ -35,7 +35,7 @@ use Rattle.tlv_walk.specs.Wrappers.{first_other, first_without_wrapper, entered_
 use Rattle.tlv_walk.proofs.GrammarLemmas.Finals.{refused-final}
 use Rattle.tlv_walk.proofs.FollowerLemmas.Followed.{followed-front}
 use Rattle.tlv_walk.proofs.FollowerLemmas.Following.{walked_goes_on}
-use Rattle.tlv_io.proofs.Puts.{sends_err, sends_ok}
+use Rattle.tlv_io.proofs.Sends.{sends_err, sends_ok}
 use Rattle.tlv_walk.proofs.GrammarLemmas.Readings.{reading-longer}
 use Rattle.tlv_walk.proofs.FollowerLemmas.SoFar.{limit_after}
 use Rattle.tlv_walk.proofs.WalkerLemmas.EventOctets.{stands-yielded_octets}

@@ -5,8 +5,8 @@ use Rattle.tlv_head.specs.declared.fault.FaultCode.{FaultCode}
 use Rattle.tlv_head.specs.declared.fault.FaultCode.TheVariants.{StrayEnd}
 use Rattle.tlv_head.specs.Header.{HeaderValue, announced_length, holds, is_wrapper, octets_of}
 use Rattle.tlv_head.specs.Refusal.{IsRefusedOctet}
-use Rattle.tlv_head.proofs.GrammarLemmas.Scan.{Origin, Scan, Fresh, High, Named, Long, Ready, Stuck, Over, moved, step, scan, scan-moved, more-from_front}
-use Rattle.tlv_head.proofs.GrammarLemmas.Meaning.{IsStateAfter, reads-step, reads-scan, front-bytes}
+use Rattle.tlv_head.proofs.GrammarLemmas.Scan.{Origin, Scan, Fresh, High, Named, Long, Ready, Stuck, Over, moved, step, scan, scan-moved, more-from_prefix}
+use Rattle.tlv_head.proofs.GrammarLemmas.Meaning.{IsStateAfter, reads-step, reads-scan, prefix-bytes}
 use Rattle.tlv_head.proofs.GrammarLemmas.Headers.{IsHeadRefusal, Explains, explains}
 use Rattle.tlv_head.proofs.GrammarLemmas.Refused.{refused-stuck}
 use Rattle.tlv_walk.specs.declared.framing.Framing.{Framing}
@@ -112,11 +112,11 @@ begin-blames p o x Over some below w r = absurd w
 header-blames : (p : Place) (o : List ℕ) (x : ℕ) → x < 256 → IsOpen p (OpenHeader o) → Blames p (OpenHeader o) x (refusal (push p (OpenHeader o) x))
 header-blames p o x h w =
     let at : Origin = origin p in
-    let now : IsStateAfter at (scan at o) o = reads-scan at o (front-bytes o w.1) in
+    let now : IsStateAfter at (scan at o) o = reads-scan at o (prefix-bytes o w.1) in
     elim (cases_Bool (fits p (length o + 1))) [
       | inl f ↦ rw f
           (begin-blames p o x (step at (scan at o) x) w.0 (within-fits p.bound _ f)
-          (explains at x (scan at o) o (more-from_front at o w.1) now) (reads-step at x (scan at o) o h now))
+          (explains at x (scan at o) o (more-from_prefix at o w.1) now) (reads-step at x (scan at o) o h now))
       | inr f ↦ rw f (no_room (too-long p (length o + 1) f))
     ]
 

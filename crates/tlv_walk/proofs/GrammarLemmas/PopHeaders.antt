@@ -6,7 +6,7 @@ use Rattle.tlv_head.specs.declared.header.Size.{Size}
 use Rattle.tlv_head.specs.declared.header.Size.TheVariants.{Definite, Indefinite}
 use Rattle.tlv_head.specs.Header.{HeaderValue, IsHeader, IsIdentifier, IsLength, announced_length, holds, octets_of}
 use Rattle.tlv_head.specs.Refusal.{IsHeaderPrefix}
-use Rattle.tlv_head.proofs.GrammarLemmas.Scan.{Origin, Scan, Fresh, High, Named, Long, Ready, Stuck, Over, origin_of, scan, scan_from-append, scan-header, is_more, more-from_front}
+use Rattle.tlv_head.proofs.GrammarLemmas.Scan.{Origin, Scan, Fresh, High, Named, Long, Ready, Stuck, Over, origin_of, scan, scan_from-append, scan-header, is_more, more-from_prefix}
 use Rattle.tlv_walk.specs.Forest.{Forest, NoMore, OpenBitString, OpenHeader, lead, opening, spelling}
 use Rattle.tlv_walk.specs.Place.{Fits, IsEntry, IsHeaderAt, IsOpen, Place}
 use Rattle.tlv_walk.proofs.GrammarLemmas.Bounds.{fits-within, lead-zero, within-le}
@@ -75,7 +75,7 @@ begin-more p o Over e = absurd (cc)
 
 -- an octet that makes a longer front of a header
 pub push-front : (p : Place) (o : List ℕ) (x : ℕ) → IsHeaderPrefix (o ++ x ∷ []) → Fits p (length o + 1) → push p (OpenHeader o) x ≡ Grown (OpenHeader (o ++ x ∷ []))
-push-front p o x front f = push-scan p o x _ f refl ∙ begin-more p (o ++ x ∷ []) _ (more-from_front (origin p) (o ++ x ∷ []) front)
+push-front p o x front f = push-scan p o x _ f refl ∙ begin-more p (o ++ x ∷ []) _ (more-from_prefix (origin p) (o ++ x ∷ []) front)
 
 -- a header that may stand there is a forest
 pub complete-element_begun : (p : Place) (h : HeaderValue) (k : Bool) → holds h ≡ k → (k && leb 128 p.depth) ≡ false → Fits p (length (octets_of h) + announced_length h.size) → complete p h ≡ Grown (element_begun k h)
@@ -97,7 +97,7 @@ header-popped p h k header d f = elim (back (octets_of h)) [
         last = x;
         is_open = (
           λ z. omega (arith, ap length z),
-          record { header = h; more = x ∷ []; valid = header.valid; proper = λ z. omega (arith, ap length z); front = sym e },
+          record { header = h; more = x ∷ []; valid = header.valid; proper = λ z. omega (arith, ap length z); prefix = sym e },
           within-le p.bound _ _ (omega arith) f,
         );
         spelled = (element_begun-sound p h k header d f).spelled ∙ e;
@@ -132,7 +132,7 @@ more-nonzero at x e z = let e' : is_more (scan at (0 ∷ [])) ≡ true = rw z at
 -- the front of a header is popped
 pub front-popped : (p : Place) (o : List ℕ) (x : ℕ) → IsHeaderPrefix (o ++ x ∷ []) → Fits p (length (o ++ x ∷ [])) → Popped p (OpenHeader (o ++ x ∷ []))
 front-popped p [] x front f =
-    let nz : x ≢ 0 = more-nonzero (origin p) x (more-from_front (origin p) (x ∷ []) front) in
+    let nz : x ≢ 0 = more-nonzero (origin p) x (more-from_prefix (origin p) (x ∷ []) front) in
     record { from = NoMore; last = x; is_open = tt; spelled = refl; pushed = rw (fits-within p.bound (p.offset + 1) f, ne_eqb x 0 nz) }
 front-popped p (y ∷ o) x front f = record {
   from = OpenHeader (y ∷ o);
@@ -144,7 +144,7 @@ front-popped p (y ∷ o) x front f = record {
       more = x ∷ front.more;
       valid = front.valid;
       proper = λ z. omega (arith, ap length z);
-      front = sym (append_assoc (y ∷ o) (x ∷ []) front.more) ∙ front.front;
+      prefix = sym (append_assoc (y ∷ o) (x ∷ []) front.more) ∙ front.prefix;
     },
     within-le p.bound _ _ (omega (arith, length-append (y ∷ o) (x ∷ []))) f,
   );

@@ -6,7 +6,7 @@ use Rattle.tlv_head.specs.declared.header.Size.TheVariants.{Definite, Indefinite
 use Rattle.tlv_head.specs.Header.{AllowsSize, HeaderValue, IsHeader, announced_length, holds, octets_of, wraps}
 use Rattle.tlv_head.specs.Refusal.{IsHeaderPrefix}
 use Rattle.tlv_head.proofs.GrammarLemmas.Scan.{Origin, Scan, Fresh, High, Named, Long, Ready, Stuck, Over, origin_of, step, scan, first-more}
-use Rattle.tlv_head.proofs.GrammarLemmas.Meaning.{IsStateAfter, reads-step, reads-scan, front-from_more, front-bytes}
+use Rattle.tlv_head.proofs.GrammarLemmas.Meaning.{IsStateAfter, reads-step, reads-scan, prefix-from_more, prefix-bytes}
 use Rattle.tlv_walk.specs.Forest.{Forest, Holder, NoMore, OpenBitString, OpenEndOctets, OpenHeader, OpenHolder, OpenPrimitive, PaddingOctet, Primitive, contents_length, end_octets, extent, is_complete, lead, opening, spelling}
 use Rattle.tlv_walk.specs.Place.{Fits, IsEntry, IsHeaderAt, IsOpen, Place, place_after, place_of_children}
 use Rattle.tlv_walk.proofs.GrammarLemmas.Lengths.{LacksOctets}
@@ -142,9 +142,9 @@ front-sound p o some front f = record { is_open = (some, front, f); spelled = re
 -- octets of a header, by what they say
 begin-sound : (p : Place) (o : List ℕ) (s : Scan) → IsStateAfter (origin p) s o → o ≢ [] → Fits p (length o) → IsStep p o (begin p o s)
 begin-sound p o Fresh r some f = absurd (some r)
-begin-sound p o (High c k ds) r some f = front-sound p o some (front-from_more (origin p) (High c k ds) o r some refl) f
-begin-sound p o (Named c k n i) r some f = front-sound p o some (front-from_more (origin p) (Named c k n i) o r some refl) f
-begin-sound p o (Long c k n i m ds) r some f = front-sound p o some (front-from_more (origin p) (Long c k n i m ds) o r some refl) f
+begin-sound p o (High c k ds) r some f = front-sound p o some (prefix-from_more (origin p) (High c k ds) o r some refl) f
+begin-sound p o (Named c k n i) r some f = front-sound p o some (prefix-from_more (origin p) (Named c k n i) o r some refl) f
+begin-sound p o (Long c k n i m ds) r some f = front-sound p o some (prefix-from_more (origin p) (Long c k n i m ds) o r some refl) f
 begin-sound p o (Ready h) r some f = rw (r.1) (complete-sound p h r.0 r.2)
 begin-sound p o (Stuck code) r some f = tt
 begin-sound p o Over r some f = tt
@@ -157,7 +157,7 @@ push≢nil o x e = omega (arith, ap length e, length-append o (x ∷ []))
 front-step : (p : Place) (o : List ℕ) (x : ℕ) → x < 256 → IsHeaderPrefix o → IsStep p (o ++ x ∷ []) (push p (OpenHeader o) x)
 front-step p o x h front = elim (cases_Bool (fits p (length o + 1))) [
   | inl f ↦ rw f
-      (begin-sound p (o ++ x ∷ []) (step (origin p) (scan (origin p) o) x) (reads-step (origin p) x (scan (origin p) o) o h (reads-scan (origin p) o (front-bytes o front))) (push≢nil o x)
+      (begin-sound p (o ++ x ∷ []) (step (origin p) (scan (origin p) o) x) (reads-step (origin p) x (scan (origin p) o) o h (reads-scan (origin p) o (prefix-bytes o front))) (push≢nil o x)
       (within-le p.bound _ _ (omega (arith, length-append o (x ∷ []))) (within-fits p.bound _ f)))
   | inr f ↦ rw f tt
 ]
@@ -175,7 +175,7 @@ no_more-step p x h = elim (cases_Bool (fits p 1)) [
     | inl z ↦ rw (f, eq-eqb x 0 z, z) (zero-sound p p.indefinite p.padding refl refl (within-fits p.bound _ f))
     | inr nz ↦ rw (f, ne_eqb x 0 nz)
         (front-sound p (x ∷ []) (push≢nil [] x)
-        (front-from_more (origin p) (step (origin p) Fresh x) (x ∷ []) (reads-step (origin p) x Fresh [] h refl) (push≢nil [] x) (first-more (origin p) x nz))
+        (prefix-from_more (origin p) (step (origin p) Fresh x) (x ∷ []) (reads-step (origin p) x Fresh [] h refl) (push≢nil [] x) (first-more (origin p) x nz))
         (within-fits p.bound _ f))
   ]
   | inr f ↦ rw f tt

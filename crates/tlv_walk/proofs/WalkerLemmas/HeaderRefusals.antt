@@ -10,7 +10,7 @@ use Rattle.tlv_head.specs.Refusal.{IsRefusedOctet, tag_too_long, reserved_length
 use Rattle.tlv_head.specs.HeadReaderState.{ContentsFit, HeadReaderState}
 use Rattle.tlv_head.specs.Push as push
 use Rattle.tlv_head.specs.Push.{Completes, IsRefusedPush}
-use Rattle.tlv_head.proofs.ReaderLemmas.Front.{header-two}
+use Rattle.tlv_head.proofs.ReaderLemmas.Prefix.{header-two}
 use Rattle.tlv_walk.specs.Phase as phase
 use Rattle.tlv_walk.specs.Ending.{IsEnding, IsFault, fault_ending, no_room, overrun, refused_octet, too_deep}
 use Rattle.tlv_walk.specs.Forest.{OpenHeader}

@@ -3,7 +3,7 @@ use Rattle.std.proofs.lemmas.List.{take-append-drop, take_all, take_more}
 use Rattle.tlv_head.specs.Refusal.{BeginsWith}
 use Rattle.tlv_head.specs.HeaderFields.{new_header}
 use Rattle.tlv_head.specs.Private.NextOctet.{MakesHeader}
-use Rattle.tlv_head.proofs.ReaderLemmas.Front.{around, begun_none, begun_part, made_begins, made_sized}
+use Rattle.tlv_head.proofs.ReaderLemmas.Prefix.{around, begun_none, begun_part, made_begins, made_sized}
 use Rattle.tlv_head.proofs.GrammarLemmas.Refused.{refused-with_none}
 use Rattle.tlv_head.proofs.header_at_once.read_header.Goals as goal
 

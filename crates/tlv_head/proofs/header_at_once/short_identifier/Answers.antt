@@ -1,8 +1,8 @@
 use Rattle.std.proofs.lemmas.Grind.{common_steps}
 use Rattle.std.proofs.Common.{rules, ◌∷◌, [], get_or, arith}
 use Rattle.tlv_head.specs.HeaderSoFar.{CarriesNumber}
-use Rattle.tlv_head.proofs.ReaderLemmas.ShortFronts.{always-unfinished, goes-on, leads-on, no-other, no-third}
-use Rattle.tlv_head.proofs.ReaderLemmas.ShortFronts.{still-high, IsUnended}
+use Rattle.tlv_head.proofs.ReaderLemmas.ShortPrefixes.{always-unfinished, goes-on, leads-on, no-other, no-third}
+use Rattle.tlv_head.proofs.ReaderLemmas.ShortPrefixes.{still-high, IsUnended}
 use Rattle.tlv_head.proofs.header_at_once.short_identifier.Goals as goal
 
 pub returns-in_default : goal.returns-in_default

@@ -4,12 +4,12 @@ use Rattle.tlv_head.proofs.next_octet.next_length.Goals as goal
 
 pub overflow_mul-length : goal.overflow_mul-length
 overflow_mul-length c =
-    let b : c.args.length < 2 ^ 32 = length-lt _ _ c.requires.1.front.some c.requires.1.small in
+    let b : c.args.length < 2 ^ 32 = length-lt _ _ c.requires.1.prefix.some c.requires.1.small in
     omega arith
 
 pub overflow_add-length : goal.overflow_add-length
 overflow_add-length c =
-    let b : c.args.length < 2 ^ 32 = length-lt _ _ c.requires.1.front.some c.requires.1.small in
+    let b : c.args.length < 2 ^ 32 = length-lt _ _ c.requires.1.prefix.some c.requires.1.small in
     omega (arith, c.from.ensures)
 
 pub returns-then-left-eq0 : goal.returns-then-left-eq0

@@ -4,7 +4,7 @@ use Rattle.std.proofs.lemmas.List.{take_all}
 use Rattle.std.specs.Prelude.{Err}
 use Rattle.std.proofs.lemmas.Result.{err_from_is_err_and}
 use Rattle.std.proofs.Math.ListN.{length-drop}
-use Rattle.tlv_io.proofs.Puts.{appends_more, sends_part}
+use Rattle.tlv_io.proofs.Sends.{appends_more, sends_part}
 use Rattle.tlv_io.proofs.out.send.Goals as goal
 
 pub loop-sent-preserved : goal.loop-sent-preserved

@@ -1,12 +1,12 @@
 use Rattle.std.proofs.Common.{◌∷◌, [], arith}
-use Rattle.tlv_value.proofs.TextLemmas.LineLengths.{added, front_short, number_short}
+use Rattle.tlv_value.proofs.TextLemmas.LineLengths.{added, prefix_short, number_short}
 use Rattle.tlv_show.proofs.finding_lines.write_listed.Goals as goal
 
 pub add-requires : goal.add-requires
 add-requires c = omega (arith, number_short _ _ _ c.ranges.offset.fits c.number.ensures, c.requires)
 
-pub add_front-requires : goal.add_front-requires
-add_front-requires c =
+pub add_prefix-requires : goal.add_prefix-requires
+add_prefix-requires c =
     let first = number_short _ _ _ c.ranges.offset.fits c.number.ensures in
     let second = added _ _ (32 ∷ []) c.add.ensures in
     (omega arith, (omega (arith, c.padded_wording-count.ensures.count), omega (arith, first, second, c.requires)))
@@ -15,5 +15,5 @@ pub add-requires-2 : goal.add-requires-2
 add-requires-2 c =
     let first = number_short _ _ _ c.ranges.offset.fits c.number.ensures in
     let second = added _ _ (32 ∷ []) c.add.ensures in
-    let third = front_short _ _ _ c.padded_wording-count.result.1 c.add_front.ensures in
+    let third = prefix_short _ _ _ c.padded_wording-count.result.1 c.add_prefix.ensures in
     omega (arith, first, second, third, c.padded_wording-count.ensures.count, c.requires)

@@ -1,7 +1,7 @@
 use Rattle.std.proofs.Common.{◌≡◌, ℕ, ◌+◌, ◌*◌, ◌%◌, ◌++◌, ◌∷◌, true, List, get_or, refl, sym, ap, ◌∙◌, arith, append_assoc, rules}
 use Rattle.std.proofs.lemmas.Grind.{common_steps}
 use Rattle.tlv_value.specs.Arcs.{is_finished}
-use Rattle.tlv_value.specs.Private.Arcs.{part_text}
+use Rattle.tlv_value.specs.Private.Arcs.{arcs_text}
 use Rattle.tlv_value.proofs.TextLemmas.Arcs.{room-last, room-within, run-end, run-last, run-none, run-within}
 use Rattle.tlv_value.proofs.dotted.write_dotted.Goals.{then-octet-lt128, else-octet-lt128}
 use Rattle.tlv_value.proofs.dotted.write_dotted.Goals as goal
@@ -21,7 +21,7 @@ loop-octet-preserved c =
     let v : n ≡ c.loop-octet.number * 128 + x % 128 = ap (λ (m : ℕ). c.loop-octet.number * 128 + m) c.from.ensures in
     elim c.if-octet-lt128.branch [
       | then-octet-lt128 w ↦
-          let part : List ℕ = part_text c.loop-octet.first c.args.relative n in (
+          let part : List ℕ = arcs_text c.loop-octet.first c.args.relative n in (
             text ++ part,
             w.held-is ∙ w.write_arcs.ensures ∙ ap (λ (t : List ℕ). t ++ part) held ∙ append_assoc c.args.held.now (32 ∷ text) part,
             rw (w.first-is, w.number-is) (room-last text c.loop-octet.first c.args.relative c.loop-octet.number x n i v (omega arith) room),

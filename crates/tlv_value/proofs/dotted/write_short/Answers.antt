@@ -1,5 +1,5 @@
 use Rattle.std.proofs.Common.{◌≡◌, ℕ, ◌+◌, ◌*◌, ◌%◌, ◌++◌, ◌∷◌, List, get_or, refl, sym, ap, ◌∙◌, arith, append_assoc}
-use Rattle.tlv_value.specs.Private.Arcs.{part_text}
+use Rattle.tlv_value.specs.Private.Arcs.{arcs_text}
 use Rattle.tlv_value.proofs.TextLemmas.Arcs.{few-bits, none-yet, one-more, room-last, room-within, run-end, run-last, run-within}
 use Rattle.tlv_value.proofs.dotted.write_short.Goals.{then-octet-lt128, else-octet-lt128}
 use Rattle.tlv_value.proofs.dotted.write_short.Goals as goal
@@ -16,7 +16,7 @@ loop-octet-preserved c =
       | then-octet-lt128 w ↦
           let m : ℕ = w.from-then-octet-lt128.result in
           let u : m ≡ c.loop-octet.number * 128 + x % 128 = w.from-then-octet-lt128.ensures ∙ v in
-          let part : List ℕ = part_text c.loop-octet.first c.args.relative m in (
+          let part : List ℕ = arcs_text c.loop-octet.first c.args.relative m in (
             text ++ part,
             w.held-is ∙ w.write_arcs.ensures ∙ ap (λ (t : List ℕ). t ++ part) held ∙ append_assoc c.args.held.now (32 ∷ text) part,
             rw (w.first-is, w.number-is) (room-last text c.loop-octet.first c.args.relative c.loop-octet.number x m i u (omega (arith, few, u)) room),

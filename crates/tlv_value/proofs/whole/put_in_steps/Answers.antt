@@ -26,8 +26,8 @@ returns-in_err-bytes g c =
     let name_of = g.N.NameTable.name_of c.args.names.now in
     let octets : List ℕ = c.args.contents.now in
     let s : ValueTextState = c.of-text.result in
-    let front = puts_then_as g.D.Drain.state _ _ _ (begin_lines s) (contents_lines s octets) (begin_lines s ++ contents_lines s octets) _ _ c.in_ok-begin.ensures.puts c.in_err-bytes.ensures.puts refl in
-    puts_failed_in g.D.Drain.state _ _ (begin_lines s ++ contents_lines s octets) _ _ _ front (search rules) (record {
+    let begun = puts_then_as g.D.Drain.state _ _ _ (begin_lines s) (contents_lines s octets) (begin_lines s ++ contents_lines s octets) _ _ c.in_ok-begin.ensures.puts c.in_err-bytes.ensures.puts refl in
+    puts_failed_in g.D.Drain.state _ _ (begin_lines s ++ contents_lines s octets) _ _ _ begun (search rules) (record {
       rest = end_lines name_of (value_text_after s octets);
       is = append_assoc (begin_lines s) (contents_lines s octets) (end_lines name_of (value_text_after s octets)) ∙ ap (λ (t : ValueTextState). lines_in_steps name_of t octets) c.of-text.ensures;
     })

@@ -7,11 +7,11 @@ use Rattle.tlv_head.specs.HeaderFields.{fields_hold}
 use Rattle.tlv_head.specs.declared.header.HeaderFields.{HeaderFields}
 use Rattle.tlv_head.specs.Refusal.{IsRefusedOctet}
 use Rattle.tlv_head.specs.Push.{Completes, IsRefusedPush, Pushes, more, no_room, refused_octet, whole}
-use Rattle.tlv_head.proofs.ReaderLemmas.Exact.{exact, completes_unique, front_not_whole, refuses}
+use Rattle.tlv_head.proofs.ReaderLemmas.Exact.{exact, completes_unique, prefix_not_whole, refuses}
 use Rattle.tlv_head.proofs.ReaderLemmas.Unfinished.{length-carried, made_overrun, made_too_deep, made_whole}
 use Rattle.tlv_head.proofs.ReaderLemmas.Unfinished.{unfinished_part}
 use Rattle.tlv_head.proofs.reader.HeadReader.push.Goals as goal
-use Rattle.tlv_head.proofs.reader.HeadReader.push.Goals.{else-depth-ge128-via-then-depth-ge128+else-holds}
+use Rattle.tlv_head.proofs.reader.HeadReader.push.Goals.{else-depth-ge128-via-then-depth-ge128+else-fields_hold}
 use Rattle.tlv_head.proofs.reader.HeadReader.push.Goals.{else-depth-ge128-via-else-depth-ge128}
 
 -- whether the header that is made holds others
@@ -29,13 +29,13 @@ returns-then-eq c =
     refuses _ _ _ _ _ _ _ c.refusal.ensures (no_room (search rules)) (rw (← c.self.view_is) (ap (λ n. c.self.inside.offset + n) c.len.ensures.value)) in
     record { pushes = a; whole = exact _ _ _ _ _ _ a }
 
-pub returns-then-holds : goal.returns-then-holds
-returns-then-holds c =
+pub returns-then-fields_hold : goal.returns-then-fields_hold
+returns-then-fields_hold c =
     let deep : IsRefusedPush c.args.self.now c.args.octet c.args.room c.args.depth TooDeep =
     subst (λ (p : HeadReaderState). IsRefusedPush p c.args.octet c.args.room c.args.depth TooDeep) c.self.view_is
-    (made_too_deep _ _ _ _ _ _ _ (search rules) (c.in-Finished.ensures c.self.inside.raw.items c.self.invariant) refl (sym (holds_made c.holds.ensures c.header_fields-fields.ensures) ∙ c.if-holds.true) c.if-depth-ge128.true) in
-    let a : Pushes c.args.self.now c.args.octet c.args.room c.args.depth c.args.self.now c.refusal-then-holds.result =
-    refuses _ _ _ _ _ _ _ c.refusal-then-holds.ensures deep (rw (← c.self.view_is) (ap (λ n. c.self.inside.offset + n) c.len.ensures.value)) in
+    (made_too_deep _ _ _ _ _ _ _ (search rules) (c.in-Finished.ensures c.self.inside.raw.items c.self.invariant) refl (sym (holds_made c.fields_hold.ensures c.header_fields-fields.ensures) ∙ c.if-fields_hold.true) c.if-depth-ge128.true) in
+    let a : Pushes c.args.self.now c.args.octet c.args.room c.args.depth c.args.self.now c.refusal-then-fields_hold.result =
+    refuses _ _ _ _ _ _ _ c.refusal-then-fields_hold.ensures deep (rw (← c.self.view_is) (ap (λ n. c.self.inside.offset + n) c.len.ensures.value)) in
     record { pushes = a; whole = exact _ _ _ _ _ _ a }
 
 pub returns-then-not-contents_fit : goal.returns-then-not-contents_fit
@@ -43,7 +43,7 @@ returns-then-not-contents_fit c =
     let past : IsRefusedPush c.args.self.now c.args.octet c.args.room c.args.depth Overrun =
     subst (λ (p : HeadReaderState). IsRefusedPush p c.args.octet c.args.room c.args.depth Overrun) c.self.view_is
     (made_overrun _ _ _ _ _ _ _ (search rules) (c.in-Finished.ensures c.self.inside.raw.items c.self.invariant) refl
-    (elim c.else-depth-ge128.branch [ else-depth-ge128-via-then-depth-ge128+else-holds w ↦ λ h. absurd (false≢true (sym w.if-holds.false ∙ holds_made w.holds.ensures c.header_fields-fields.ensures ∙ h)) | else-depth-ge128-via-else-depth-ge128 w ↦ λ _. w.if-depth-ge128.false ])
+    (elim c.else-depth-ge128.branch [ else-depth-ge128-via-then-depth-ge128+else-fields_hold w ↦ λ h. absurd (false≢true (sym w.if-fields_hold.false ∙ holds_made w.fields_hold.ensures c.header_fields-fields.ensures ∙ h)) | else-depth-ge128-via-else-depth-ge128 w ↦ λ _. w.if-depth-ge128.false ])
     (λ f. absurd (false≢true (sym c.if-not-contents_fit.true ∙ c.contents_fit.ensures.1 f)))) in
     let a : Pushes c.args.self.now c.args.octet c.args.room c.args.depth c.args.self.now c.refusal-then-not-contents_fit.result =
     refuses _ _ _ _ _ _ _ c.refusal-then-not-contents_fit.ensures past (rw (← c.self.view_is) (ap (λ n. c.self.inside.offset + n) c.len.ensures.value)) in
@@ -54,7 +54,7 @@ returns-in-Unfinished c =
     let p = unfinished_part c.in-Unfinished.part c.self.inside.raw.items c.args.octet (c.in-Unfinished.ensures c.self.inside.raw.items c.self.invariant) in
     rw (← c.self.view_is) (record {
       pushes = more (search rules) p.0 (rw (p.1, c.push.ensures.items) refl);
-      whole = λ h d n f. absurd (front_not_whole _ _ h p.0 d);
+      whole = λ h d n f. absurd (prefix_not_whole _ _ h p.0 d);
     })
 
 pub returns-in-Refused : goal.returns-in-Refused
@@ -75,7 +75,7 @@ pub returns-else-not-contents_fit-clause-pushes : goal.returns-else-not-contents
 returns-else-not-contents_fit-clause-pushes c =
     whole _ (completes c)
     (rw (c.with_raw.ensures, c.header_fields-fields.ensures) (record {
-      shallow = elim c.else-depth-ge128.branch [ else-depth-ge128-via-then-depth-ge128+else-holds w ↦ λ h. absurd (false≢true (sym w.if-holds.false ∙ holds_made w.holds.ensures c.header_fields-fields.ensures ∙ h)) | else-depth-ge128-via-else-depth-ge128 w ↦ λ _. w.if-depth-ge128.false ];
+      shallow = elim c.else-depth-ge128.branch [ else-depth-ge128-via-then-depth-ge128+else-fields_hold w ↦ λ h. absurd (false≢true (sym w.if-fields_hold.false ∙ holds_made w.fields_hold.ensures c.header_fields-fields.ensures ∙ h)) | else-depth-ge128-via-else-depth-ge128 w ↦ λ _. w.if-depth-ge128.false ];
       within = c.contents_fit.ensures.0 c.if-not-contents_fit.false;
     }))
     refl

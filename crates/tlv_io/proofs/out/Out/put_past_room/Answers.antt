@@ -1,11 +1,11 @@
 use Rattle.std.proofs.Common.{◌≡◌, [], arith, refl}
 use Rattle.std.proofs.lemmas.List.{nil_from_length}
-use Rattle.tlv_io.proofs.Puts.{front_none, puts_failed_in, puts_sent, puts_then_as}
+use Rattle.tlv_io.proofs.Puts.{prefix_none, puts_failed_in, puts_sent, puts_then_as}
 use Rattle.tlv_io.proofs.out.Out.put_past_room.Goals.{then-octets-room+in_ok-flush, else-octets-room}
 use Rattle.tlv_io.proofs.out.Out.put_past_room.Goals as goal
 
 pub returns-in_err-flush-clause-puts : goal.returns-in_err-flush-clause-puts
-returns-in_err-flush-clause-puts g c = grind (arith, puts_failed_in, front_none)
+returns-in_err-flush-clause-puts g c = grind (arith, puts_failed_in, prefix_none)
 
 pub returns-then-octets-ge-CAPACITY-clause-puts : goal.returns-then-octets-ge-CAPACITY-clause-puts
 returns-then-octets-ge-CAPACITY-clause-puts g c = elim c.if-octets-room.branch [

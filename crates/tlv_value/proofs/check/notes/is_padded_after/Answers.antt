@@ -4,7 +4,7 @@ use Rattle.tlv_value.proofs.CheckLemmas.Noting.{no-80}
 use Rattle.tlv_value.proofs.check.notes.is_padded_after.Goals as goal
 
 pub returns-then-not-contains : goal.returns-then-not-contains
-returns-then-not-contains c = sym (no-80 c.args.before c.args.octets.now (sym c.if-not-contains.ensures.value))
+returns-then-not-contains c = sym (no-80 c.args.previous c.args.octets.now (sym c.if-not-contains.ensures.value))
 
 pub returns-then-octet : goal.returns-then-octet
 returns-then-octet c = grind (arith, common_steps)

@@ -53,8 +53,8 @@ loop-rest-preserved c =
     ] in
     let t = turned Utf8 c.len.result row m c.loop-rest.rest.now part more c.len.ensures.value c.split_at.ensures.front c.split_at.ensures.back c.fitting_length.ensures.fits c.fitting_length.ensures.bound
     c.fitting_length.ensures.within (omega arith) c.fitting_length.ensures.next claim in
-    let none : c.is_full_formed.new.row.items ≡ [] = c.is_full_formed.ensures.row in
-    let both : c.both-formed.result ≡ (c.loop-rest.formed && is_utf8 (row ++ part)) = c.both-formed.ensures ∙ ap (λ (b : Bool). c.loop-rest.formed && b) c.is_full_formed.ensures.formed in
+    let none : c.is_full_row_utf8.new.row.items ≡ [] = c.is_full_row_utf8.ensures.row in
+    let both : c.both-formed.result ≡ (c.loop-rest.formed && is_utf8 (row ++ part)) = c.both-formed.ensures ∙ ap (λ (b : Bool). c.loop-rest.formed && b) c.is_full_row_utf8.ensures.formed in
     record {
       begun = rw none (none-open Utf8);
       row = rw none (sym t.1 ∙ i.row);

@@ -1,11 +1,11 @@
 use Rattle.std.proofs.Common.{◌+◌, ℕ, List, length, sym, ◌∙◌, ap, arith, length-drop}
 use Rattle.std.specs.List.{list_all}
 use Rattle.tlv_value.specs.Names.{dotted_parts, is_arc}
-use Rattle.tlv_value.proofs.NamesLemmas.Texts.{front_no_arc, whole_arc, rest_arcs}
+use Rattle.tlv_value.proofs.NamesLemmas.Texts.{first_no_arc, whole_arc, rest_arcs}
 use Rattle.tlv_value.proofs.names.arcs.are_arcs.Goals as goal
 
 pub returns-then-not-is_arc : goal.returns-then-not-is_arc
-returns-then-not-is_arc c = sym (c.loop-rest.invariant.same ∙ front_no_arc c.loop-rest.rest.now c.end_before-end.result c.end_before-end.ensures.value (sym c.is_arc.ensures ∙ c.if-not-is_arc.true))
+returns-then-not-is_arc c = sym (c.loop-rest.invariant.same ∙ first_no_arc c.loop-rest.rest.now c.end_before-end.result c.end_before-end.ensures.value (sym c.is_arc.ensures ∙ c.if-not-is_arc.true))
 
 pub returns-then-end-rest : goal.returns-then-end-rest
 returns-then-end-rest c = sym (c.loop-rest.invariant.same ∙ whole_arc c.loop-rest.rest.now c.end_before-end.result c.end_before-end.ensures.value c.if-end-rest.true (sym c.is_arc.ensures ∙ c.if-not-is_arc.false))

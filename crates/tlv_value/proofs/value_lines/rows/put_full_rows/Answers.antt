@@ -20,8 +20,8 @@ pub returns-in_err-make_room_for : goal.returns-in_err-make_room_for
 returns-in_err-make_room_for g c =
     let state_of = g.D.Drain.state in
     let i : ℕ = c.loop-row.row-index in
-    let front : List ℕ = full_lines c.args.layout (take i c.args.rows.now) in
-    puts_failed_in state_of _ _ front _ _ _ (puts_then_as state_of _ _ _ front [] front _ _ c.loop-row.invariant c.in_err-make_room_for.ensures.puts (append-nil front)) (search rules)
+    let full : List ℕ = full_lines c.args.layout (take i c.args.rows.now) in
+    puts_failed_in state_of _ _ full _ _ _ (puts_then_as state_of _ _ _ full [] full _ _ c.loop-row.invariant c.in_err-make_room_for.ensures.puts (append-nil full)) (search rules)
     (record { rest = full_lines c.args.layout (drop i c.args.rows.now); is = lines_split c.args.layout c.args.rows.now i })
 
 pub returns : goal.returns

@@ -25,9 +25,9 @@ returns-in_err-make_room g c =
     let state_of = g.D.Drain.state in
     let rows = c.as_chunks.result.0.now in
     let last : List ℕ = c.as_chunks.result.1.now in
-    let front : List ℕ = full_lines c.args.layout rows in
+    let full : List ℕ = full_lines c.args.layout rows in
     let cut = lines_cut c.args.layout c.args.octets.now rows last c.as_chunks.ensures.front c.as_chunks.ensures.back in
-    puts_failed_in state_of _ _ front _ _ _ (puts_then_as state_of _ _ _ front [] front _ _ c.in_ok-put_full_rows.ensures c.in_err-make_room.ensures.puts (append-nil front)) (search rules)
+    puts_failed_in state_of _ _ full _ _ _ (puts_then_as state_of _ _ _ full [] full _ _ c.in_ok-put_full_rows.ensures c.in_err-make_room.ensures.puts (append-nil full)) (search rules)
     (record { rest = full_lines c.args.layout (last_rows last); is = cut })
 
 pub returns : goal.returns
@@ -35,7 +35,7 @@ returns g c =
     let state_of = g.D.Drain.state in
     let rows = c.as_chunks.result.0.now in
     let last : List ℕ = c.as_chunks.result.1.now in
-    let front : List ℕ = full_lines c.args.layout rows in
+    let full : List ℕ = full_lines c.args.layout rows in
     let cut = lines_cut c.args.layout c.args.octets.now rows last c.as_chunks.ensures.front c.as_chunks.ensures.back in
     let line = last_line c.args.layout last (sym c.if-is_empty.ensures) in
-    puts_then_as state_of _ _ _ front _ _ _ _ c.in_ok-put_full_rows.ensures (puts_line state_of _ _ _ _ _ (tt {0}) c.in_ok-make_room.ensures.puts refl c.write_line.ensures) (ap (λ (t : List ℕ). front ++ t) line ∙ cut)
+    puts_then_as state_of _ _ _ full _ _ _ _ c.in_ok-put_full_rows.ensures (puts_line state_of _ _ _ _ _ (tt {0}) c.in_ok-make_room.ensures.puts refl c.write_line.ensures) (ap (λ (t : List ℕ). full ++ t) line ∙ cut)

@@ -15,9 +15,9 @@ add-requires c =
 pub returns : goal.returns
 returns c =
     let held : List ℕ = c.args.held.now in
-    let front : List ℕ = margin c.args.layout.pure no_columns (c.args.layout.level + 1) in
+    let indent : List ℕ = margin c.args.layout.pure no_columns (c.args.layout.level + 1) in
     let dots : List ℕ = codes "...\n" in
     c.add.ensures
     ∙ ap (λ (l : List ℕ). l ++ dots) (c.spaces.ensures ∙ ap (λ (l : List ℕ). held ++ l) c.row_indent.ensures.text)
-    ∙ append_assoc held front dots
-    ∙ ap (λ (l : List ℕ). held ++ l) (sym (append_assoc front (codes "...") (10 ∷ [])))
+    ∙ append_assoc held indent dots
+    ∙ ap (λ (l : List ℕ). held ++ l) (sym (append_assoc indent (codes "...") (10 ∷ [])))

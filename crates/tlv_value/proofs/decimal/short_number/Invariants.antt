@@ -1,6 +1,0 @@
-use Rattle.std.proofs.Common.{◌≡◌, ◌+◌, take}
-use Rattle.tlv_value.specs.Number.{twos_complement}
-use Rattle.tlv_value.proofs.decimal.short_number.Given as goal
-
-abbrev pub invariant-loop-octet : goal.invariant-loop-octet
-invariant-loop-octet l = l.number ≡ twos_complement (take (l.octet-index + 1) l.contents)

@@ -1,5 +1,0 @@
-use Rattle.std.proofs.Common.{rules}
-use Rattle.tlv_value.proofs.units.plain_size.Goals as goal
-
-pub returns-then-not-has_ascii-clause-next : goal.returns-then-not-has_ascii-clause-next
-returns-then-not-has_ascii-clause-next c = search rules

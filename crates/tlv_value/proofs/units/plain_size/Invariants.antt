@@ -1,7 +1,0 @@
-use Rattle.std.proofs.Common.{◌≡◌, ◌<◌, ℕ, true}
-use Rattle.std.specs.Prelude.{slice_index}
-use Rattle.tlv_value.specs.Private.Plain.{is_plain}
-use Rattle.tlv_value.proofs.units.plain_size.Given as goal
-
-abbrev pub invariant-loop-i : goal.invariant-loop-i
-invariant-loop-i l = (k : ℕ) → k < l.i → is_plain (slice_index l.octets k) ≡ true

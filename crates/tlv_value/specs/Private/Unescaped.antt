@@ -1,0 +1,36 @@
+-- Characters in a row: those written as they are, and what is written of the first ones.
+use Rattle.std.specs.Prelude.{◌≡◌, ℕ, ◌<◌, Bool, true, false, ◌&&◌, ◌||◌, not, eqb, List, ◌++◌, drop}
+use Rattle.std.specs.Prelude.{flat_map, slice_index}
+use Rattle.tlv_io.specs.LineTexts.{AddsIfRoom}
+use Rattle.tlv_value.specs.declared.kind.Kind.{Kind}
+use Rattle.tlv_value.specs.declared.kind.Kind.TheVariants.{Octets, Boolean, Integer, Bits, Object, Relative}
+use Rattle.tlv_value.specs.declared.kind.Kind.TheVariants.{Text, Utf8, Ucs2, Ucs4}
+use Rattle.tlv_value.specs.Units.{is_printable, unit_text, units}
+
+-- a printable character of ASCII that is neither the quotation mark nor the reverse solidus
+abbrev pub is_unescaped : ℕ → Bool
+is_unescaped x = is_printable x && not (eqb x 0x22 || eqb x 0x5c)
+
+-- a character of ASCII has one octet
+abbrev pub has_ascii : Kind → Bool
+has_ascii Octets = false
+has_ascii Boolean = false
+has_ascii Integer = false
+has_ascii Bits = false
+has_ascii Object = false
+has_ascii Relative = false
+has_ascii Text = true
+has_ascii Utf8 = true
+has_ascii Ucs2 = false
+has_ascii Ucs4 = false
+
+-- the first n of the octets are such characters
+abbrev pub AreUnescaped : Kind → List ℕ → ℕ → Type 0
+AreUnescaped kind octets n = (0 < n → has_ascii kind ≡ true) × ((i : ℕ) → i < n → is_unescaped (slice_index octets i) ≡ true)
+
+-- the first n of the octets were written after what was held, if there is room
+abbrev pub IsPart : Kind → List ℕ → List ℕ → List ℕ → ℕ → Type 0
+IsPart kind octets old new n =
+    (text : List ℕ) × AddsIfRoom old new text
+    × (flat_map (unit_text kind) (units kind 0 octets)
+    ≡ text ++ flat_map (unit_text kind) (units kind 0 (drop n octets)))
