@@ -52,21 +52,21 @@ returns-in_default-clause-puts g c = search rules
 -- in other words
 
 pub returns-then-not-is_long-clause-whole : goal.returns-then-not-is_long-clause-whole
-returns-then-not-is_long-clause-whole g c h layout before e =
-    bytes-puts g.D.Drain.state _ _ _ h layout c.args.self.now before c.args.octets.now e (returns-then-not-is_long-clause-puts g c)
+returns-then-not-is_long-clause-whole g c h layout prefix e =
+    bytes-puts g.D.Drain.state _ _ _ h layout c.args.self.now prefix c.args.octets.now e (returns-then-not-is_long-clause-puts g c)
 
 pub returns-then-self-clause-whole : goal.returns-then-self-clause-whole
-returns-then-self-clause-whole g c h layout before e =
-    bytes-puts g.D.Drain.state _ _ _ h layout c.args.self.now before c.args.octets.now e (returns-then-self-clause-puts g c)
+returns-then-self-clause-whole g c h layout prefix e =
+    bytes-puts g.D.Drain.state _ _ _ h layout c.args.self.now prefix c.args.octets.now e (returns-then-self-clause-puts g c)
 
 pub returns-in_default-clause-whole : goal.returns-in_default-clause-whole
-returns-in_default-clause-whole g c h layout before e =
-    bytes-puts g.D.Drain.state _ _ _ h layout c.args.self.now before c.args.octets.now e (returns-in_default-clause-puts g c)
+returns-in_default-clause-whole g c h layout prefix e =
+    bytes-puts g.D.Drain.state _ _ _ h layout c.args.self.now prefix c.args.octets.now e (returns-in_default-clause-puts g c)
 
 pub returns-in_err-put_bits-clause-whole : goal.returns-in_err-put_bits-clause-whole
-returns-in_err-put_bits-clause-whole g c h layout before e =
-    bytes-puts g.D.Drain.state _ _ _ h layout c.args.self.now before c.args.octets.now e (returns-in_err-put_bits-clause-puts g c)
+returns-in_err-put_bits-clause-whole g c h layout prefix e =
+    bytes-puts g.D.Drain.state _ _ _ h layout c.args.self.now prefix c.args.octets.now e (returns-in_err-put_bits-clause-puts g c)
 
 pub returns-clause-whole : goal.returns-clause-whole
-returns-clause-whole g c h layout before e =
-    bytes-puts g.D.Drain.state _ _ _ h layout c.args.self.now before c.args.octets.now e (returns-clause-puts g c)
+returns-clause-whole g c h layout prefix e =
+    bytes-puts g.D.Drain.state _ _ _ h layout c.args.self.now prefix c.args.octets.now e (returns-clause-puts g c)
