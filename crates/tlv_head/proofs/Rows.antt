@@ -152,7 +152,8 @@ longest-137 = refl
 -- 9f 81 and seven 80, then 80: a ninth subsequent octet that is not the last
 refused-number : IsRefusedOctet (0x9f ∷ 0x81 ∷ 0x80 ∷ 0x80 ∷ 0x80 ∷ 0x80 ∷ 0x80 ∷ 0x80 ∷ 0x80 ∷ []) 0x80 TagTooLong
 refused-number =
-    tag_too_long Context false (1 ∷ 0 ∷ 0 ∷ 0 ∷ 0 ∷ 0 ∷ 0 ∷ 0 ∷ []) (record {
+    tag_too_long Context false (record {
+      digits = 1 ∷ 0 ∷ 0 ∷ 0 ∷ 0 ∷ 0 ∷ 0 ∷ 0 ∷ [];
       each = below 128 (1 ∷ 0 ∷ 0 ∷ 0 ∷ 0 ∷ 0 ∷ 0 ∷ 0 ∷ []) refl;
       octets_are = refl;
     }) refl (lit≤ tt)
@@ -167,7 +168,9 @@ refused-indefinite = indefinite_primitive Universal 4 octet-string refl
 
 -- 04 86, then 01, which five octets are to follow
 refused-length : IsRefusedOctet (0x04 ∷ 0x86 ∷ []) 0x01 LengthTooLarge
-refused-length = length_too_large Universal false 4 (0x04 ∷ []) [] 6 (record {
+refused-length = length_too_large Universal false 4 6 (record {
+  identifier = 0x04 ∷ [];
+  digits = [];
   identified = octet-string;
   each = below 256 [] refl;
   some = lit≤ tt;
@@ -177,7 +180,9 @@ refused-length = length_too_large Universal false 4 (0x04 ∷ []) [] 6 (record {
 
 -- 04 fe and 120 octets 00, then 01, which five octets are to follow
 refused-padded_length : IsRefusedOctet (0x04 ∷ 0xfe ∷ replicate 120 0x00) 0x01 LengthTooLarge
-refused-padded_length = length_too_large Universal false 4 (0x04 ∷ []) (replicate 120 0) 6 (record {
+refused-padded_length = length_too_large Universal false 4 6 (record {
+  identifier = 0x04 ∷ [];
+  digits = replicate 120 0;
   identified = octet-string;
   each = below 256 (replicate 120 0) refl;
   some = lit≤ tt;

@@ -21,7 +21,7 @@ pub record CanPush (r : HeadReaderState) (x : ℕ) (room : Option ℕ) (depth : 
 abbrev pub with_octet : HeadReaderState → ℕ → HeadReaderState
 with_octet r x = record { offset = r.offset; named = r.named; octets = r.octets ++ x ∷ []; done = false }
 
--- contents of this size end within the bound, to which there are so many octets from the header's last on
+-- contents of this size end within the bound: `room` counts from the last octet of the header on
 abbrev pub ContentsFit : Size → Option ℕ → Type 0
 ContentsFit (Definite n) room = IfSome room (λ r. n < r)
 ContentsFit Indefinite room = IfSome room (λ r. 0 < r)

@@ -16,8 +16,8 @@ class_bits Context = 2
 class_bits Private = 3
 
 -- 8.1.2.2, 8.1.2.4.1, 8.1.2.5: the first identifier octet is the class, the form in bit 6, and bits 5 to 1
-abbrev pub leading_octet : Class → Bool → ℕ → ℕ
-leading_octet class constructed low = 64 * class_bits class + (if constructed then 32 else 0) + low
+abbrev pub identifier_octet : Class → Bool → ℕ → ℕ
+identifier_octet class constructed low = 64 * class_bits class + (if constructed then 32 else 0) + low
 
 -- 8.1.2.4.2 b), 8.1.3.5 b): the number that digits make, the most significant first
 abbrev pub value_of : ℕ → List ℕ → ℕ
@@ -31,8 +31,8 @@ with_bit_8 digits = map (λ d. 128 + d) digits
 -- 8.1.2.2: one octet, for a number up to 30. It is not 00, with which 8.1.5 ends contents
 pub record IsLowForm (class : Class) (constructed : Bool) (number : ℕ) (octets : List ℕ) : Type 0 where
   pub small : number < 31
-  pub octets_are : octets ≡ leading_octet class constructed number ∷ []
-  pub nonzero : leading_octet class constructed number ≢ 0
+  pub octets_are : octets ≡ identifier_octet class constructed number ∷ []
+  pub nonzero : identifier_octet class constructed number ≢ 0
 
 -- 8.1.2.4: a first octet with bits 5 to 1 set, then one to nine digits in base 128, with bit 8 set in all but the last
 pub record IsHighForm (class : Class) (constructed : Bool) (number : ℕ) (octets : List ℕ) : Type 0 where
@@ -42,7 +42,7 @@ pub record IsHighForm (class : Class) (constructed : Bool) (number : ℕ) (octet
   pub last_digit : last < 128
   pub few : length digits ≤ 8
   pub value : number ≡ value_of 128 (digits ++ last ∷ [])
-  pub octets_are : octets ≡ leading_octet class constructed 31 ∷ (with_bit_8 digits ++ last ∷ [])
+  pub octets_are : octets ≡ identifier_octet class constructed 31 ∷ (with_bit_8 digits ++ last ∷ [])
 
 -- 8.1.2: identifier octets
 abbrev pub IsIdentifier : Class → Bool → ℕ → List ℕ → Type 0

@@ -10,11 +10,10 @@ use Rattle.tlv_head.specs.declared.reader.HeadReader.TheInside.{Inside}
 
 -- the identifier octets so far are in the high form
 pub record CarriesNumber (id : Identifier) (octets : List ℕ) : Type 0 where
-  pub digits : List ℕ
-  pub prefix : IsNumberPrefix id.class id.constructed digits octets
-  pub count : id.octets ≡ length digits + 1
-  pub few : length digits ≤ 8
-  pub value : id.number ≡ value_of 128 digits
+  pub prefix : IsNumberPrefix id.class id.constructed octets
+  pub count : id.octets ≡ length prefix.digits + 1
+  pub few : length prefix.digits ≤ 8
+  pub value : id.number ≡ value_of 128 prefix.digits
 
 -- the octets are the identifier
 pub record CarriesIdentifier (id : Identifier) (octets : List ℕ) : Type 0 where
@@ -24,12 +23,10 @@ pub record CarriesIdentifier (id : Identifier) (octets : List ℕ) : Type 0 wher
 
 -- the octets are the identifier, the first length octet and digits
 pub record CarriesLength (id : Identifier) (n left : ℕ) (octets : List ℕ) : Type 0 where
-  pub identifier : List ℕ
-  pub digits : List ℕ
-  pub prefix : IsLengthPrefix id.class id.constructed id.number identifier digits left octets
-  pub count : id.octets ≡ length identifier
-  pub few : length identifier ≤ 10
-  pub value : n ≡ value_of 256 digits
+  pub prefix : IsLengthPrefix id.class id.constructed id.number left octets
+  pub count : id.octets ≡ length prefix.identifier
+  pub few : length prefix.identifier ≤ 10
+  pub value : n ≡ value_of 256 prefix.digits
   -- so that zeros make a length below 2^40 of it
   pub small : n < 256 ^ (5 - left)
 

@@ -16,8 +16,8 @@ pub record Completes (r : HeadReaderState) (added : List ℕ) (h : HeaderValue) 
   pub named : h.named ≡ r.named
   pub octets : octets_of h ≡ r.octets ++ added
 
--- a header may stand there: an element that holds others is not inside 128, and the contents announced
--- end within the bound
+-- a header may be there: an element that holds others is not inside 128, and the contents announced end within the
+-- bound
 pub record FitsThere (h : HeaderValue) (room : Option ℕ) (depth : ℕ) : Type 0 where
   pub shallow : holds h ≡ true → depth < 128
   pub within : ContentsFit h.size room
@@ -40,8 +40,9 @@ pub data IsRefusedPush (r : HeadReaderState) (x : ℕ) (room : Option ℕ) (dept
 pub data Pushes (old : HeadReaderState) (x : ℕ) (room : Option ℕ) (depth : ℕ) (new : HeadReaderState)
     : Head → Type 0 where
   -- the octet was taken, and others are to follow
-  more : room ≢ Some 0 → IsHeaderPrefix (old.octets ++ x ∷ []) → new ≡ with_octet old x → Pushes old x room depth new More
-  -- the octet was taken, and completes a header that may stand there
+  more : room ≢ Some 0 → IsHeaderPrefix (old.octets ++ x ∷ []) → new ≡ with_octet old x
+      → Pushes old x room depth new More
+  -- the octet was taken, and completes a header that may be there
   whole : (h : HeaderValue) → Completes old (x ∷ []) h → FitsThere h room depth → new.done ≡ true
       → Pushes old x room depth new (Whole h)
   -- the octet was not taken

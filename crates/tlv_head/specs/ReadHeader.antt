@@ -6,7 +6,9 @@ use Rattle.tlv_head.specs.Header.{HeaderValue, IsHeader, octets_of}
 use Rattle.tlv_head.specs.Refusal.{BeginsWith}
 
 -- the octets begin with the header that has these fields and so many of the octets
-pub record BeginsWithFields (octets : List ℕ) (offset : ℕ) (is_named : Bool) (f : HeaderFields) (count : ℕ) : Type 0 where
+pub record BeginsWithFields
+    (octets : List ℕ) (offset : ℕ) (is_named : Bool) (f : HeaderFields) (count : ℕ)
+    : Type 0 where
   pub within : count ≤ length octets
   pub sized : IsHeaderSized f (take count octets)
   pub begins : BeginsWith octets offset is_named (new_header f (take count octets))

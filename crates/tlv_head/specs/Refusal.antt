@@ -4,7 +4,7 @@ use Rattle.tlv_head.specs.declared.header.Class.{Class}
 use Rattle.tlv_head.specs.declared.fault.FaultCode.{FaultCode}
 use Rattle.tlv_head.specs.declared.fault.FaultCode.TheVariants.{TagTooLong, ReservedLength, IndefinitePrimitive}
 use Rattle.tlv_head.specs.declared.fault.FaultCode.TheVariants.{LengthTooLarge}
-use Rattle.tlv_head.specs.Header.{HeaderValue, IsHeader, IsIdentifier, leading_octet, octets_of, with_bit_8}
+use Rattle.tlv_head.specs.Header.{HeaderValue, IsHeader, IsIdentifier, identifier_octet, octets_of, with_bit_8}
 
 -- 8.1.2, 8.1.3: octets to which one or more others can be added to make a header
 pub record IsHeaderPrefix (octets : List ℕ) : Type 0 where
@@ -31,14 +31,15 @@ abbrev pub BeginsWithNoHeader : List ℕ → Type 0
 BeginsWithNoHeader octets = (h : HeaderValue) (rest : List ℕ) → IsHeader h → octets ≡ octets_of h ++ rest → ⊥
 
 -- 8.1.2.4.2: the high form so far: digits, each with bit 8 set, after the first octet
-pub record IsNumberPrefix (class : Class) (constructed : Bool) (digits octets : List ℕ) : Type 0 where
+pub record IsNumberPrefix (class : Class) (constructed : Bool) (octets : List ℕ) : Type 0 where
+  pub digits : List ℕ
   pub each : All (λ d. d < 128) digits
-  pub octets_are : octets ≡ leading_octet class constructed 31 ∷ with_bit_8 digits
+  pub octets_are : octets ≡ identifier_octet class constructed 31 ∷ with_bit_8 digits
 
 -- 8.1.3.5: identifier octets, the first length octet, and digits, after which so many are still to come
-pub record IsLengthPrefix
-    (class : Class) (constructed : Bool) (number : ℕ) (identifier digits : List ℕ) (left : ℕ) (octets : List ℕ)
-    : Type 0 where
+pub record IsLengthPrefix (class : Class) (constructed : Bool) (number left : ℕ) (octets : List ℕ) : Type 0 where
+  pub identifier : List ℕ
+  pub digits : List ℕ
   pub identified : IsIdentifier class constructed number identifier
   pub each : All (λ d. d < 256) digits
   pub some : 1 ≤ left
@@ -48,8 +49,8 @@ pub record IsLengthPrefix
 -- why the octet x is refused after a prefix of a header, wherever that is: a line for each cause
 pub data IsRefusedOctet (octets : List ℕ) (x : ℕ) : FaultCode → Type 0 where
   -- F06, 8.1.2.4.2: a ninth subsequent identifier octet with bit 8 set
-  tag_too_long : (class : Class) (constructed : Bool) (digits : List ℕ)
-      → IsNumberPrefix class constructed digits octets → length digits ≡ 8 → 128 ≤ x
+  tag_too_long : (class : Class) (constructed : Bool) (prefix : IsNumberPrefix class constructed octets)
+      → length prefix.digits ≡ 8 → 128 ≤ x
       → IsRefusedOctet octets x TagTooLong
   -- F07, 8.1.3.5 c): a first length octet ff
   reserved_length : (class : Class) (constructed : Bool) (number : ℕ)
@@ -60,6 +61,6 @@ pub data IsRefusedOctet (octets : List ℕ) (x : ℕ) : FaultCode → Type 0 whe
       → IsIdentifier class false number octets → x ≡ 128
       → IsRefusedOctet octets x IndefinitePrimitive
   -- F09, 8.1.3.5: a length octet after the first, other than 00, that five or more are to follow
-  length_too_large : (class : Class) (constructed : Bool) (number : ℕ) (identifier digits : List ℕ) (left : ℕ)
-      → IsLengthPrefix class constructed number identifier digits left octets → 6 ≤ left → x ≢ 0
+  length_too_large : (class : Class) (constructed : Bool) (number left : ℕ)
+      → IsLengthPrefix class constructed number left octets → 6 ≤ left → x ≢ 0
       → IsRefusedOctet octets x LengthTooLarge

@@ -1,6 +1,6 @@
 -- Identifier and length octets that are as few as they can be: X.690 8.1.2, 9.1 and 10.1.
 use Rattle.std.specs.Prelude.{◌≡◌, ◌≢◌, ℕ, ◌%◌, ◌<◌, ◌≤◌, List, length, slice_index}
-use Rattle.tlv_head.specs.Header.{HeaderValue, IsHeader, announced_length, leading_octet}
+use Rattle.tlv_head.specs.Header.{HeaderValue, IsHeader, announced_length, identifier_octet}
 
 -- 8.1.2.2: a number below 31 is in the single octet. 8.1.2.4.2 c): no subsequent octets begin with seven bits 0
 pub record IsShortestIdentifier (number : ℕ) (octets : List ℕ) : Type 0 where
@@ -48,5 +48,5 @@ ShortestHeadersAreShortest =
 -- rules say
 abbrev pub HeadersHaveAShortest : Type 0
 HeadersHaveAShortest =
-    (h : HeaderValue) → IsHeader h → leading_octet h.class h.constructed h.number ≢ 0
+    (h : HeaderValue) → IsHeader h → identifier_octet h.class h.constructed h.number ≢ 0
     → (g : HeaderValue) × IsHeader g × HaveOneTag h g × (h.size ≡ g.size) × IsShortest g

@@ -7,7 +7,7 @@ pub enum FaultCode {
     Empty,
     /// F02: the input ends inside an encoding.
     Short,
-    /// F03: `00` where no end-of-contents octets may stand (8.1.5).
+    /// F03: `00` where no end-of-contents octets may be (8.1.5).
     StrayEnd,
     /// F04: the second end-of-contents octet is not `00` (8.1.5).
     BadEnd,

@@ -37,7 +37,7 @@ pub fn read_header(offset: u64, named: bool, octets: &[u8]) -> Option<(HeaderFie
 
 /// The header with which the octets begin, and how many octets it has, if one to three of them are the identifier and
 /// one to three the length. `None` if the octets begin with no such header; [`read_header`] finds a longer one. It
-/// stands apart because most headers are so short, and few instructions read them.
+/// is apart because most headers are so short, and few instructions read them.
 #[inline(always)]
 pub fn read_short(offset: u64, named: bool, octets: &[u8]) -> Option<(HeaderFields, usize)>
     ensures begins { MatchOption result (BeginsWithNoShortHeader octets.now)

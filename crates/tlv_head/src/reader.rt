@@ -73,7 +73,7 @@ impl HeadReader {
     /// The header is not whole yet ([`HeadReader::done`]), its offset at most 2^40, and `depth` at most 128. A first
     /// octet is not `00`, and its room not 0.
     ///
-    /// [`Head::Whole`] comes exactly with the octet that completes a header whose element may stand
+    /// [`Head::Whole`] comes exactly with the octet that completes a header whose element may be
     /// there. [`Head::Refused`] leaves the reader as it was; the refusals are decided in this order:
     /// Overrun if the bound is reached; TagTooLong, ReservedLength, IndefinitePrimitive and
     /// LengthTooLarge by what the octets say; TooDeep at the header of an element that holds others
@@ -82,7 +82,7 @@ impl HeadReader {
         requires { CanPush self.old octet room depth }
         ensures pushes { Pushes self.old octet room depth self.new result }
 
-        // Nothing else is returned for the octet that completes a header that may stand there.
+        // Nothing else is returned for the octet that completes a header that may be there.
         ensures whole { (h : HeaderValue) → Completes self.old (octet ∷ []) h → room ≢ Some 0
             → FitsThere h room depth
             → result ≡ Head.Whole h }

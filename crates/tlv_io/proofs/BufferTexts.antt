@@ -10,7 +10,7 @@ use Rattle.std.proofs.lemmas.List.{take_more_set}
 use Rattle.hex.specs.Hex.{encode_lower, lower_digits}
 use Rattle.hex.proofs.HexLemmas.{length-encode_with}
 use Rattle.itoa.proofs.Decimal.{length_one, length_step_wide}
-use Rattle.tlv_io.specs.LineTexts.{right_aligned, spaced_pairs, spaces}
+use Rattle.tlv_io.specs.LineTexts.{at_right, spaced_pairs, spaces}
 
 -- ---- texts that were added
 
@@ -46,7 +46,7 @@ text_written new prefix text rest start n kept written e =
 
 -- spaces were written to so many places, and then a text to their right end
 pub right_written : (old new tail text rest pad : List ℕ) (at start places : ℕ) → at ≤ length old → length text ≤ places → start + length text ≡ at + places → pad ≡ spaces places
-    → take start new ≡ take start (take at old ++ (pad ++ tail)) → drop start new ≡ text ++ rest → take (at + places) new ≡ take at old ++ right_aligned places text
+    → take start new ≡ take start (take at old ++ (pad ++ tail)) → drop start new ≡ text ++ rest → take (at + places) new ≡ take at old ++ at_right places text
 right_written old new tail text rest pad at start places within short e is kept written =
     let left : ℕ = places - length text in
     let from : start ≡ at + left = omega (arith, e, short) in
@@ -55,8 +55,8 @@ right_written old new tail text rest pad at start places within short e is kept 
     let taken : take start new ≡ take at old ++ spaces left = kept ∙ ap (λ (k : ℕ). take k (take at old ++ (pad ++ tail))) from ∙ part_written old (pad ++ tail) (spaces left) at left within blank in
     text_written new (take at old ++ spaces left) text rest start (at + places) taken written (sym e) ∙ append_assoc (take at old) (spaces left) text
 
--- a long text stands as it is
-pub right_long : (places : ℕ) (text : List ℕ) → places ≤ length text → right_aligned places text ≡ text
+-- a long text is as it is
+pub right_long : (places : ℕ) (text : List ℕ) → places ≤ length text → at_right places text ≡ text
 right_long places text long = let none : places - length text ≡ 0 = omega (arith, long) in ap (λ (n : ℕ). spaces n ++ text) none
 
 -- ---- spaces
@@ -84,7 +84,7 @@ spaces_of_more count done to more e = sym (take-take count done to more) ∙ ap 
 
 -- a text was written to the right end of so many spaces
 pub right_end : (old new prefix text tail : List ℕ) (start places : ℕ) → old ≡ prefix ++ (spaces places ++ tail) → length text ≤ places → start + length text ≡ length prefix + places
-    → take start new ≡ take start old → drop start new ≡ text ++ drop (length prefix + places) old → new ≡ prefix ++ (right_aligned places text ++ tail)
+    → take start new ≡ take start old → drop start new ≡ text ++ drop (length prefix + places) old → new ≡ prefix ++ (at_right places text ++ tail)
 right_end old new prefix text tail start places is short e kept written =
     let left : ℕ = places - length text in
     let from : start ≡ length prefix + left = omega (arith, e, short) in
@@ -100,11 +100,11 @@ right_end old new prefix text tail start places is short e kept written =
     ∙ ap (λ (l : List ℕ). prefix ++ l) (sym (append_assoc (spaces left) text tail))
 
 -- a text that is not too long takes so many places
-right-size : (places : ℕ) (text : List ℕ) → length text ≤ places → length (right_aligned places text) ≡ places
+right-size : (places : ℕ) (text : List ℕ) → length text ≤ places → length (at_right places text) ≡ places
 right-size places text short = omega (arith, length-append (spaces (places - length text)) text, length-replicate {A = ℕ} (places - length text) 32)
 
 -- and a number 20 at most
-pub right-short : (places n : ℕ) → places ≤ 20 → n < 2 ^ 64 → length (right_aligned places (decimal n)) ≤ 20
+pub right-short : (places n : ℕ) → places ≤ 20 → n < 2 ^ 64 → length (at_right places (decimal n)) ≤ 20
 right-short places n few fits =
     omega (arith, length-append (spaces (places - length (decimal n))) (decimal n), length-replicate {A = ℕ} (places - length (decimal n)) 32, length-decimal-le 20 n (omega arith) (omega arith) fits)
 
@@ -115,18 +115,18 @@ blank_columns prefix tail at size =
     ∙ let place : at + 15 - at ≡ 15 = omega arith in ap (λ (n : ℕ). prefix ++ set (spaces 17 ++ tail) n 58) place
 
 module _ (old first tail : List ℕ) (at : ℕ) (within : at ≤ length old) (short : length first ≤ 8) where
-  -- what stands before the second column
+  -- what is before the second column
   abbrev pub first_column : List ℕ
-  first_column = take at old ++ (right_aligned 8 first ++ 32 ∷ [])
+  first_column = take at old ++ (at_right 8 first ++ 32 ∷ [])
 
   -- and both columns
   abbrev pub columns_of : List ℕ → List ℕ
-  columns_of second = right_aligned 8 first ++ 32 ∷ [] ++ second ++ 58 ∷ 32 ∷ []
+  columns_of second = at_right 8 first ++ 32 ∷ [] ++ second ++ 58 ∷ 32 ∷ []
 
   pub first_column-size : length first_column ≡ at + 9
-  first_column-size = omega (arith, length-append (take at old) (right_aligned 8 first ++ 32 ∷ []), length-take-le at old within, length-append (right_aligned 8 first) (32 ∷ []), right-size 8 first short)
+  first_column-size = omega (arith, length-append (take at old) (at_right 8 first ++ 32 ∷ []), length-take-le at old within, length-append (at_right 8 first) (32 ∷ []), right-size 8 first short)
 
-  -- spaces and a colon stand there, and an offset was written to them
+  -- spaces and a colon are there, and an offset was written to them
   pub offset_written : (pad middle : List ℕ) (start : ℕ) → pad ≡ spaces 17 → start + length first ≡ at + 8
       → take start middle ≡ take start (set (take at old ++ (pad ++ tail)) (at + 15) 58) → drop start middle ≡ first ++ drop (at + 8) (set (take at old ++ (pad ++ tail)) (at + 15) 58)
       → middle ≡ first_column ++ (spaces 6 ++ 58 ∷ 32 ∷ tail)
@@ -137,8 +137,8 @@ module _ (old first tail : List ℕ) (at : ℕ) (within : at ≤ length old) (sh
       let is = ap (λ (l : List ℕ). set (take at old ++ (l ++ tail)) (at + 15) 58) blank ∙ blank_columns (take at old) tail at size in
       right_end there middle (take at old) first more start 8 is short (omega (arith, e, size)) kept
       (written ∙ ap (λ (n : ℕ). first ++ drop (n + 8) there) (sym size))
-      ∙ ap (λ (l : List ℕ). take at old ++ l) (sym (append_assoc (right_aligned 8 first) (32 ∷ []) (spaces 6 ++ 58 ∷ 32 ∷ tail)))
-      ∙ sym (append_assoc (take at old) (right_aligned 8 first ++ 32 ∷ []) (spaces 6 ++ 58 ∷ 32 ∷ tail))
+      ∙ ap (λ (l : List ℕ). take at old ++ l) (sym (append_assoc (at_right 8 first) (32 ∷ []) (spaces 6 ++ 58 ∷ 32 ∷ tail)))
+      ∙ sym (append_assoc (take at old) (at_right 8 first ++ 32 ∷ []) (spaces 6 ++ 58 ∷ 32 ∷ tail))
 
   -- both columns are there
   pub columns_there : (new second : List ℕ) → length second ≡ 6 → new ≡ first_column ++ (second ++ 58 ∷ 32 ∷ tail)
@@ -147,21 +147,21 @@ module _ (old first tail : List ℕ) (at : ℕ) (within : at ≤ length old) (sh
       let whole : List ℕ = take at old ++ columns_of second in
       let same : new ≡ whole ++ tail = is ∙ simp append_assoc refl in
       let size : length (columns_of second) ≡ 17 =
-      omega (arith, length-append (right_aligned 8 first ++ 32 ∷ [] ++ second) (58 ∷ 32 ∷ []), length-append (right_aligned 8 first ++ 32 ∷ []) second, length-append (right_aligned 8 first) (32 ∷ []), right-size 8 first short, six) in
+      omega (arith, length-append (at_right 8 first ++ 32 ∷ [] ++ second) (58 ∷ 32 ∷ []), length-append (at_right 8 first ++ 32 ∷ []) second, length-append (at_right 8 first) (32 ∷ []), right-size 8 first short, six) in
       let all : length whole ≡ at + 17 = omega (arith, length-append (take at old) (columns_of second), length-take-le at old within, size) in
       ap₂ take (sym all) same ∙ take-append_seam whole tail
 
   -- a size was written after the offset
   pub size_written : (middle new text : List ℕ) (start : ℕ) → middle ≡ first_column ++ (spaces 6 ++ 58 ∷ 32 ∷ tail) → length text ≤ 6 → start + length text ≡ at + 15
       → take start new ≡ take start middle → drop start new ≡ text ++ drop (at + 15) middle
-      → take (at + 17) new ≡ take at old ++ columns_of (right_aligned 6 text)
+      → take (at + 17) new ≡ take at old ++ columns_of (at_right 6 text)
   size_written middle new text start is few e kept written =
-      columns_there new (right_aligned 6 text) (right-size 6 text few)
+      columns_there new (at_right 6 text) (right-size 6 text few)
       (right_end middle new first_column text (58 ∷ 32 ∷ tail) start 6 is few (omega (arith, e, first_column-size)) kept (written ∙ ap (λ (n : ℕ). text ++ drop n middle) (omega (arith, first_column-size))))
 
   -- a word was written after the offset
   pub word_written : (middle there word : List ℕ) → middle ≡ first_column ++ (spaces 6 ++ 58 ∷ 32 ∷ tail) → length word ≡ 6 → there ≡ word
-      → take (at + 17) (take (at + 9) middle ++ (there ++ drop (at + 15 - (at + 9)) (drop (at + 9) middle))) ≡ take at old ++ columns_of (right_aligned 6 word)
+      → take (at + 17) (take (at + 9) middle ++ (there ++ drop (at + 15 - (at + 9)) (drop (at + 9) middle))) ≡ take at old ++ columns_of (at_right 6 word)
   word_written middle there word is six same =
       let rest : List ℕ = spaces 6 ++ 58 ∷ 32 ∷ tail in
       let taken : take (at + 9) middle ≡ first_column = ap₂ take (sym first_column-size) is ∙ take-append_seam first_column rest in
@@ -187,7 +187,7 @@ digits_of_power k n fits from to = sym (by k n (omega arith) from to)
         omega (arith, length_step_wide n (omega (arith, power_some k, from)) fits, by k (n / 10) (omega arith) (omega (arith, from)) (omega (arith, to)))
 
 -- a number of at least this power of ten has more digits
-pub long_number : (k n : ℕ) → n < 2 ^ 64 → 10 ^ k ≤ n → right_aligned k (decimal n) ≡ decimal n
+pub long_number : (k n : ℕ) → n < 2 ^ 64 → 10 ^ k ≤ n → at_right k (decimal n) ≡ decimal n
 long_number k n fits from = right_long k (decimal n) (by k n (omega arith) from)
   where
     by : (k n : ℕ) → n < 2 ^ 128 → 10 ^ k ≤ n → k ≤ length (decimal n)

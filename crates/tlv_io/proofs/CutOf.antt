@@ -5,15 +5,12 @@ use Rattle.std.specs.Prelude.{eqb, nat_le, if◌then◌else◌}
 use Rattle.std.specs.Int.{is_in_range}
 use Rattle.std.proofs.lemmas.Bool.{eqb-true, leb-true}
 use Rattle.std.proofs.lemmas.Bool.Decides.{nat_tests}
-use Rattle.tlv_io.specs.Cuts.{AreFull, AreRows, RowsOf, IsCut, IsFull, IsRow, last_rows, octets_of_rows, utf8_length}
+use Rattle.tlv_io.specs.Cuts.{AreFull, AreRows, RowsOf, IsCut, IsFull, IsRow, has_room_by, last_rows, octets_of_rows}
+use Rattle.tlv_io.specs.Cuts.{utf8_length}
 
 -- ---- octet by octet
 
 module _ (size : ℕ) (wanted : ℕ → ℕ) where
-  -- the octet has room in a row of so many octets
-  abbrev pub has_room_by : ℕ → ℕ → Bool
-  has_room_by octets x = nat_le (octets + wanted x) size
-
   -- the row is full with one octet more
   abbrev lacks_one_octet : List ℕ → Bool
   lacks_one_octet row = eqb (length row + 1) size
@@ -24,7 +21,7 @@ module _ (size : ℕ) (wanted : ℕ → ℕ) where
   rows_filled_by row [] = []
   rows_filled_by row (x ∷ xs) =
       let more = row ++ x ∷ [] in
-      if has_room_by (length row) x
+      if has_room_by size wanted (length row) x
       then (if lacks_one_octet row then more ∷ rows_filled_by [] xs else rows_filled_by more xs)
       else row ∷ rows_filled_by (x ∷ []) xs
 
@@ -32,7 +29,7 @@ module _ (size : ℕ) (wanted : ℕ → ℕ) where
   abbrev pub row_begun_by : List ℕ → List ℕ → List ℕ
   row_begun_by row [] = row
   row_begun_by row (x ∷ xs) =
-      if has_room_by (length row) x
+      if has_room_by size wanted (length row) x
       then (if lacks_one_octet row then row_begun_by [] xs else row_begun_by (row ++ x ∷ []) xs)
       else row_begun_by (x ∷ []) xs
 
@@ -225,6 +222,6 @@ character-fits x =
 abbrev pub cut_of_characters : (octets : List ℕ) → RowsOf 64 utf8_length octets
 cut_of_characters octets = cut_of 64 utf8_length (row-some true) character-fits octets
 
--- and one of octets that stand by themselves, into rows of 64 or of 16
+-- and one of octets that are by themselves, into rows of 64 or of 16
 abbrev pub cut_of_octets : (long : Bool) (octets : List ℕ) → RowsOf (if long then 64 else 16) (λ x. 1) octets
 cut_of_octets long octets = cut_of (if long then 64 else 16) (λ x. 1) (row-some long) (λ x. row-some long) octets

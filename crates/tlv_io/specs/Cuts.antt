@@ -1,6 +1,7 @@
 -- How octets are cut into rows, as a condition on rows: by how many octets a full row has, and how many are to be kept
 -- in one row, from an octet on.
-use Rattle.std.specs.Prelude.{◌≡◌, ◌≢◌, ◌⊎◌, ℕ, ◌+◌, ◌<◌, ◌≤◌, if◌then◌else◌, List, [], ◌∷◌, ◌++◌, length, slice_index}
+use Rattle.std.specs.Prelude.{◌≡◌, ◌≢◌, ◌⊎◌, ℕ, ◌+◌, ◌<◌, ◌≤◌, Bool, nat_le, if◌then◌else◌, List, [], ◌∷◌, ◌++◌}
+use Rattle.std.specs.Prelude.{length, slice_index}
 use Rattle.std.specs.Int.{is_in_range}
 
 abbrev pub octets_of_rows : List (List ℕ) → List ℕ
@@ -16,6 +17,10 @@ module _ (size : ℕ) (wanted : ℕ → ℕ) where
   -- from each octet of a row on, the row has room for those that are to be kept in one row
   abbrev pub SplitsNone : List ℕ → Type 0
   SplitsNone row = (i : ℕ) → i < length row → i + wanted (slice_index row i) ≤ size
+
+  -- after so many octets of a row there is room for the octet x, and for those that are to be kept in one row with it
+  abbrev pub has_room_by : ℕ → ℕ → Bool
+  has_room_by octets x = nat_le (octets + wanted x) size
 
   -- a row has octets, no more than it has room for, and splits none that are to be kept in one row
   pub record IsRow (row : List ℕ) : Type 0 where
@@ -46,7 +51,7 @@ module _ (size : ℕ) (wanted : ℕ → ℕ) where
     pub rows : List (List ℕ)
     pub is_cut : IsCut octets rows
 
--- RFC 3629, 4: of how many octets a character of UTF-8 is that begins with this one; 1 if none does
+-- RFC 3629, 4: how many octets a character of UTF-8 has that begins with this one; 1 if none does
 abbrev pub utf8_length : ℕ → ℕ
 utf8_length x =
     if is_in_range 0xc2 0xdf x then 2

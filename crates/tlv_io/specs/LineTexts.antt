@@ -17,13 +17,13 @@ AddsIfRoom old new text = HasRoomFor old (length text) → new ≡ old ++ text
 abbrev pub spaces : ℕ → List ℕ
 spaces n = replicate n 0x20
 
--- at the right end of so many places; what is longer takes as many as it needs
-abbrev pub right_aligned : ℕ → List ℕ → List ℕ
-right_aligned places text = spaces (places - length text) ++ text
+-- the text at the right of so many places; what is longer takes as many as it needs
+abbrev pub at_right : ℕ → List ℕ → List ℕ
+at_right places text = spaces (places - length text) ++ text
 
 -- the first columns of a line: where an element is, and how many contents octets it has, or a word
 abbrev pub columns : ℕ → List ℕ → List ℕ
-columns offset word = right_aligned 8 (decimal offset) ++ codes " " ++ right_aligned 6 word ++ codes ": "
+columns offset word = at_right 8 (decimal offset) ++ codes " " ++ at_right 6 word ++ codes ": "
 
 -- pairs of digits, each after a space
 abbrev pub spaced_pairs : List ℕ → List ℕ

@@ -37,4 +37,5 @@ module _ {T E : Type 0} where
     pub took : Appends (state_of (drain_of old).now).octets (state_of (drain_of new).now).octets sent
     pub held : OnOk result (held_octets new ≡ left)
     pub lost : OnErr result (left ≢ [])
-    pub failures : (state_of (drain_of new).now).failures ≡ failures_after result (state_of (drain_of old).now).failures
+    pub failures :
+        (state_of (drain_of new).now).failures ≡ failures_after result (state_of (drain_of old).now).failures

@@ -81,7 +81,7 @@ impl<'d, D: Drain> Out<'d, D> {
         self.put_past_room(octets)
     }
 
-    /// Puts octets that leave no room, or do not fit. It stands apart so that `put` stays short where it is inlined.
+    /// Puts octets that leave no room, or do not fit. It is apart so that `put` stays short where it is inlined.
     #[cold]
     #[inline(never)]
     fn put_past_room(&mut self, octets: &[u8]) -> Result<(), WriteFault>

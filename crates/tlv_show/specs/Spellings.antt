@@ -1,7 +1,7 @@
 -- Encodings by DER and by CER have one spelling: X.690 8.1.2, 9.1 and 10.1.
 use Rattle.std.specs.Prelude.{◌≡◌, ◌≢◌, ◌↔◌, ℕ, ◌^◌, ◌≤◌, Bool, true, false, List, length}
 use Rattle.std.specs.List.{list_any}
-use Rattle.tlv_head.specs.Header.{HeaderValue, IsHeader, leading_octet}
+use Rattle.tlv_head.specs.Header.{HeaderValue, IsHeader, identifier_octet}
 use Rattle.tlv_head.specs.Shortest.{HasShorter}
 use Rattle.tlv_value.specs.declared.finding.Finding.{Finding}
 use Rattle.tlv_value.specs.declared.finding.Finding.TheVariants.{B01, B02, S01, D01, C01}
@@ -75,7 +75,7 @@ is_on_lengths finding = false
 abbrev pub LongerIdentifiersAreFound : Type 0
 LongerIdentifiersAreFound =
     (rules : Rules) (s : Surroundings) (h : HeaderValue)
-    → IsHeader h → leading_octet h.class h.constructed h.number ≢ 0
+    → IsHeader h → identifier_octet h.class h.constructed h.number ≢ 0
     → (list_any is_on_identifier (header_findings rules s h) ≡ true) ↔ HasShorter (λ k. k.identifier) h
 
 -- by DER and by CER, S01 is found exactly if fewer length octets say the same

@@ -136,8 +136,8 @@ fn expect_no_short_fronts(rt: &impl Abort, octets: &[u8]) {
     }
 }
 
-/// A header of at most three identifier and three length octets is read at once, no longer one is, no prefix of one, and
-/// nothing that is refused.
+/// A header of at most three identifier and three length octets is read at once. No longer one is, no prefix of one,
+/// and nothing that is refused.
 #[test]
 fn short_headers_are_read_at_once(rt: HostRuntime) {
     for shape in &SHAPES {
@@ -285,7 +285,8 @@ fn a_long_length_is_refused_early(rt: HostRuntime) {
     expect_shape(&rt, &whole(&octets, TOP), &shape);
 }
 
-/// A refused octet is not taken, and another may come in its place. `None` if one of these is not refused, or another is.
+/// A refused octet is not taken, and another may come in its place. `None` if one of these is not refused, or another
+/// is.
 fn refusals_and_header() -> Option<(Fault, Fault, Header)> {
     let mut reader = HeadReader::new(OFFSET, false);
     if reader.done() || !matches!(reader.push(0x04, None, 0), Head::More) {

@@ -1,12 +1,13 @@
 -- The definitions on short contents.
-use Rattle.std.proofs.Common.{◌≡◌, true, false, [], ◌∷◌, refl}
+use Rattle.std.proofs.Common.{◌≡◌, ℕ, true, false, [], ◌∷◌, refl}
 use Rattle.std.specs.Prelude.{Some, None, codes, pos, negsuc}
+use Rattle.tlv_head.specs.Header.{HeaderValue}
 use Rattle.tlv_head.specs.declared.header.Class.TheVariants.{Universal, Context}
+use Rattle.tlv_head.specs.declared.header.Size.TheVariants.{Definite}
 use Rattle.tlv_value.specs.declared.finding.Finding.TheVariants.{B08, B11, B12, B15, B19, S02, S03, S04}
 use Rattle.tlv_value.specs.declared.kind.Kind.TheVariants.{Octets, Integer}
 use Rattle.tlv_value.specs.Arcs.{arcs_of, subidentifiers}
 use Rattle.tlv_value.specs.Checks.{findings_on_contents}
-use Rattle.tlv_value.specs.Private.Checks.{universal_header}
 use Rattle.tlv_value.specs.Kind.{kind_of}
 use Rattle.tlv_value.specs.Number.{decimal_of}
 use Rattle.tlv_value.specs.Rows.{rows_of}
@@ -57,6 +58,19 @@ general-without-digits = refl
 
 general-canonical : has_form canonical_generalized_time_form (codes "19920722132100.3Z") ≡ true
 general-canonical = refl
+
+-- a primitive of the universal type with this number
+abbrev universal_header : ℕ → HeaderValue
+universal_header number = record {
+  offset = 0;
+  named = false;
+  class = Universal;
+  constructed = false;
+  number = number;
+  size = Definite 0;
+  identifier = [];
+  lengths = [];
+}
 
 padded-integer : findings_on_contents (universal_header 2) (0 ∷ 127 ∷ []) ≡ B08 ∷ []
 padded-integer = refl

@@ -2,14 +2,14 @@
 use Rattle.std.proofs.Common.{◌≡◌, [], ◌∷◌, ◌++◌, true, false, refl}
 use Rattle.std.specs.Prelude.{Ok, Err, codes, replicate}
 use Rattle.std.specs.FinMap as finite
-use Rattle.tlv_value.specs.Names.{entry, is_dotted, lines, long_line, names_line, names_of, no_entry, no_name, no_oid}
+use Rattle.tlv_value.specs.Names.{entry, is_dotted, file_lines, long_line, names_line, names_of, no_entry, no_name, no_object_identifier}
 use Rattle.tlv_value.specs.declared.names.fault.NamesFault.TheVariants.{BadOid, BadName, Repeated, TooLarge}
 
 -- after a last LF there is no line
-two-lines : lines (97 ∷ 10 ∷ 10 ∷ []) ≡ (97 ∷ []) ∷ [] ∷ []
+two-lines : file_lines (97 ∷ 10 ∷ 10 ∷ []) ≡ (97 ∷ []) ∷ [] ∷ []
 two-lines = refl
 
-last-line-without-end : lines (97 ∷ 10 ∷ 98 ∷ []) ≡ (97 ∷ []) ∷ (98 ∷ []) ∷ []
+last-line-without-end : file_lines (97 ∷ 10 ∷ 98 ∷ []) ≡ (97 ∷ []) ∷ (98 ∷ []) ∷ []
 last-line-without-end = refl
 
 comment : names_line (codes "  # 2.5.4.3 commonName") ≡ no_entry
@@ -28,7 +28,7 @@ two-returns = refl
 no-name-at-all : names_line (codes "2.5.4.3 ") ≡ no_name
 no-name-at-all = refl
 
-second-arc-past-39 : names_line (codes "1.40 x") ≡ no_oid
+second-arc-past-39 : names_line (codes "1.40 x") ≡ no_object_identifier
 second-arc-past-39 = refl
 
 second-arc-of-39 : is_dotted (codes "1.39") ≡ true
@@ -37,7 +37,7 @@ second-arc-of-39 = refl
 second-arc-under-2 : is_dotted (codes "2.999") ≡ true
 second-arc-under-2 = refl
 
-first-arc-past-2 : names_line (codes "3.1 x") ≡ no_oid
+first-arc-past-2 : names_line (codes "3.1 x") ≡ no_object_identifier
 first-arc-past-2 = refl
 
 one-arc : is_dotted (codes "2") ≡ false

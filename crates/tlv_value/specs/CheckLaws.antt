@@ -3,7 +3,8 @@ use Rattle.std.specs.Prelude.{◌≡◌, ◌↔◌, ℕ, true, List, ◌++◌, l
 use Rattle.tlv_head.specs.Header.{HeaderValue, announced_length}
 use Rattle.tlv_value.specs.declared.kind.Kind.TheVariants.{Utf8}
 use Rattle.tlv_value.specs.Checks.{findings_on_contents}
-use Rattle.tlv_value.specs.ValueCheckState.{ValueCheckState, all_utf8, value_check_after, findings_in, new_value_check}
+use Rattle.tlv_value.specs.ValueCheckState.{ValueCheckState, all_utf8, findings_in, new_value_check}
+use Rattle.tlv_value.specs.ValueCheckState.{value_check_after}
 use Rattle.tlv_value.specs.Rows.{rows_of}
 
 -- two pieces, one after the other, are as one

@@ -13,7 +13,8 @@ use Rattle.tlv_value.specs.declared.finding.Finding.{Finding}
 use Rattle.tlv_value.specs.declared.finding.Finding.TheVariants.{B06, B07, B08, B09, B10, B11, B12, B13, B14}
 use Rattle.tlv_value.specs.declared.finding.Finding.TheVariants.{B15, B18, B19, S02, S03, S04}
 use Rattle.tlv_value.specs.Times as times
-use Rattle.tlv_value.specs.Types.{character_types, integer_types, is_number_of, object_types, time_types, type_number}
+use Rattle.tlv_value.specs.Types.{character_types, integer_types, is_number_of, object_types, time_types}
+use Rattle.tlv_value.specs.Types.{type_number}
 use Rattle.tlv_value.specs.Units.{is_printable}
 
 abbrev pub last_octet : ℕ → List ℕ → ℕ
@@ -36,7 +37,8 @@ is_digit_or_space x = eqb x 32 || is_ascii_digit x
 
 -- X.680 41.4
 abbrev pub is_printable_string_octet : ℕ → Bool
-is_printable_string_octet x = is_digit_or_space x || is_ascii_alphabetic x || list_any (eqb x) (codes "'()+,-./:=?")
+is_printable_string_octet x =
+    is_digit_or_space x || is_ascii_alphabetic x || list_any (eqb x) (codes "'()+,-./:=?")
 
 -- the test that each octet of a string of the type with this number passes: NumericString, PrintableString, IA5String,
 -- VisibleString. Other types have none
@@ -156,6 +158,11 @@ type_conditions n c =
 abbrev pub contents_conditions : HeaderValue → List ℕ → List (Bool × Finding)
 contents_conditions h c = type_conditions (type_number h) (facts_of (type_number h) c)
 
--- what is found, by the rules of BER, CER or DER, in order
+-- what is found on these contents of a primitive of the type with this number, by the rules of BER, CER or DER, in
+-- order
+abbrev pub type_findings : ℕ → List ℕ → List Finding
+type_findings number c = findings_by (type_conditions number (facts_of number c))
+
+-- the same, of a primitive with this header
 abbrev pub findings_on_contents : HeaderValue → List ℕ → List Finding
-findings_on_contents h c = findings_by (contents_conditions h c)
+findings_on_contents h c = type_findings (type_number h) c

@@ -8,7 +8,7 @@ use Rattle.tlv_value.specs.RowSizes.{character_length, row_size}
 use Rattle.tlv_value.specs.Rows.{rows_of}
 use Rattle.tlv_value.specs.ValueLines.{open_lines, whole_lines}
 use Rattle.tlv_value.specs.ValueTextState.{ValueTextState, begin_lines, contents_lines, end_lines}
-use Rattle.tlv_value.specs.ValueTextState.{new_value_text, state_for, value_text_after}
+use Rattle.tlv_value.specs.ValueTextState.{new_value_text, value_text_for, value_text_after}
 use Rattle.tlv_value.specs.Value.{NameOf}
 
 -- two pieces, one after the other, are as one
@@ -23,19 +23,22 @@ abbrev pub LinesBegin : Type 0
 LinesBegin =
     (h : HeaderValue) (layout : Layout)
     → (open_lines h layout [] ≡ begin_lines (new_value_text h layout))
-    × (state_for h layout [] ≡ new_value_text h layout)
+    × (value_text_for h layout [] ≡ new_value_text h layout)
 
 -- with more octets, what is new in the lines of the primitive, which is still open
 abbrev pub LinesGoOn : Type 0
 LinesGoOn =
     (h : HeaderValue) (layout : Layout) (octets x : List ℕ)
-    → open_lines h layout (octets ++ x) ≡ open_lines h layout octets ++ contents_lines (state_for h layout octets) x
+    → open_lines h layout (octets ++ x)
+    ≡ open_lines h layout octets ++ contents_lines (value_text_for h layout octets) x
 
 -- with the end, the rest of the lines of the whole primitive
 abbrev pub LinesEnd : Type 0
 LinesEnd =
-    (name_of : NameOf) (h : HeaderValue) (layout : Layout) (octets : List ℕ) → length octets ≡ announced_length h.size
-    → whole_lines name_of h layout octets ≡ open_lines h layout octets ++ end_lines name_of (state_for h layout octets)
+    (name_of : NameOf) (h : HeaderValue) (layout : Layout) (octets : List ℕ)
+    → length octets ≡ announced_length h.size
+    → whole_lines name_of h layout octets
+    ≡ open_lines h layout octets ++ end_lines name_of (value_text_for h layout octets)
 
 -- the rows of contents are a cut
 abbrev pub RowsAreACut : Type 0

@@ -3,7 +3,7 @@ use Rattle.std.specs.Prelude.{ℕ, ◌+◌, ◌*◌, Bool, eqb, nat_lt, if◌the
 use Rattle.std.specs.Prelude.{Some, None, codes}
 use Rattle.std.specs.Option.{option_map_or}
 use Rattle.tlv_value.specs.declared.layout.Layout.{Layout}
-pub use Rattle.tlv_io.specs.LineTexts.{columns, right_aligned, spaces}
+pub use Rattle.tlv_io.specs.LineTexts.{columns, at_right, spaces}
 
 -- the first columns of a row
 abbrev pub no_columns : List ℕ

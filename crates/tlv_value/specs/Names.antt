@@ -27,13 +27,14 @@ abbrev pub Entry : Type 0
 Entry = List ℕ × List ℕ
 
 -- a line is the octets up to an LF or the end; after a last LF there is none
-abbrev pub lines : List ℕ → List (List ℕ)
-lines [] = []
-lines (x ∷ xs) = if x == 10 then [] ∷ lines xs else onto_first x (lines xs)
+abbrev pub file_lines : List ℕ → List (List ℕ)
+file_lines [] = []
+file_lines (x ∷ xs) = if x == 10 then [] ∷ file_lines xs else onto_first x (file_lines xs)
 
 -- without the one CR at the end, if there is one
 abbrev pub without_return : List ℕ → List ℕ
-without_return line = if slice_index line (length line - 1) == 13 then take (length line - 1) line else line
+without_return line =
+    if slice_index line (length line - 1) == 13 then take (length line - 1) line else line
 
 -- a space or a tab
 abbrev pub is_blank : ℕ → Bool
@@ -53,7 +54,9 @@ without_outer_blanks octets = without_last_blanks (without_first_blanks octets)
 -- digits without a leading zero (48); 0 itself is an arc
 abbrev pub is_arc : List ℕ → Bool
 is_arc part =
-    not (length part == 0) && list_all is_ascii_digit part && ((length part == 1) || not (slice_index part 0 == 48))
+    not (length part == 0)
+    && list_all is_ascii_digit part
+    && ((length part == 1) || not (slice_index part 0 == 48))
 
 -- X.660: the first arc is 0, 1 or 2, and below 0 and 1 the second is at most 39
 abbrev pub may_begin : List ℕ → List ℕ → Bool
@@ -77,40 +80,43 @@ is_dotted text = list_all is_arc (dotted_parts text) && are_first_arcs (dotted_p
 abbrev pub is_name : List ℕ → Bool
 is_name text = not (length text == 0) && list_all is_printable text
 
--- what a line says
-pub data Line : Type 0 where
+-- what a line of a names file says
+pub data NamesLine : Type 0 where
   -- nothing: it is blank or a comment
-  no_entry : Line
+  no_entry : NamesLine
   -- a dotted text, and its name
-  entry : List ℕ → List ℕ → Line
-  no_oid : Line
-  no_name : Line
-  long_line : Line
+  entry : List ℕ → List ℕ → NamesLine
+  no_object_identifier : NamesLine
+  no_name : NamesLine
+  long_line : NamesLine
 
-abbrev pub pair_line : List ℕ → List ℕ → Line
-pair_line dotted name = if is_dotted dotted then (if is_name name then entry dotted name else no_name) else no_oid
+abbrev pub pair_line : List ℕ → List ℕ → NamesLine
+pair_line dotted name =
+    if is_dotted dotted
+    then (if is_name name then entry dotted name else no_name)
+    else no_object_identifier
 
 -- 35 is the mark of a comment
-abbrev pub entry_line : List ℕ → Line
+abbrev pub entry_line : List ℕ → NamesLine
 entry_line [] = no_entry
 entry_line (x ∷ xs) =
     if x == 35 then no_entry
     else pair_line (before_first is_blank (x ∷ xs)) (without_first_blanks (after_first is_blank (x ∷ xs)))
 
 -- a line of at most 400 octets
-abbrev pub names_line : List ℕ → Line
+abbrev pub names_line : List ℕ → NamesLine
 names_line octets =
     if nat_lt 400 (length octets) then long_line
     else entry_line (without_outer_blanks (without_return octets))
 
-abbrev pub line_entries : Line → List Entry
+abbrev pub line_entries : NamesLine → List Entry
 line_entries no_entry = []
 line_entries (entry dotted name) = (dotted, name) ∷ []
-line_entries no_oid = []
+line_entries no_object_identifier = []
 line_entries no_name = []
 line_entries long_line = []
 
-abbrev pub entries_of : List Line → List Entry
+abbrev pub entries_of : List NamesLine → List Entry
 entries_of lines = flat_map line_entries lines
 
 -- the dotted text is in one of the entries
@@ -122,23 +128,24 @@ abbrev pub most_names : ℕ
 most_names = 65536
 
 -- why a line is refused that is below others, if it is; lines are numbered from 1
-abbrev pub line_refusal : List Line → Line → Option NamesFault
+abbrev pub line_refusal : List NamesLine → NamesLine → Option NamesFault
 line_refusal above no_entry = None
 line_refusal above (entry dotted name) =
     if has_entry dotted (entries_of above) then Some (Repeated (length above + 1))
     else (if nat_le most_names (length (entries_of above)) then Some TooLarge else None)
-line_refusal above no_oid = Some (BadOid (length above + 1))
+line_refusal above no_object_identifier = Some (BadOid (length above + 1))
 line_refusal above no_name = Some (BadName (length above + 1))
 line_refusal above long_line = Some TooLarge
 
 -- the first refusal among lines that are below others
-abbrev pub first_refusal : List Line → List Line → Option NamesFault
+abbrev pub first_refusal : List NamesLine → List NamesLine → Option NamesFault
 first_refusal above [] = None
-first_refusal above (line ∷ below) = option_or (line_refusal above line) (first_refusal (above ++ line ∷ []) below)
+first_refusal above (line ∷ below) =
+    option_or (line_refusal above line) (first_refusal (above ++ line ∷ []) below)
 
-abbrev pub table_of : List Line → Result NamesTable NamesFault
+abbrev pub table_of : List NamesLine → Result NamesTable NamesFault
 table_of lines = option_map_or Err (first_refusal [] lines) (Ok (finite.from_entries (entries_of lines)))
 
 -- what the octets of a names file say: the table of all lines, or the first refusal
 abbrev pub names_of : List ℕ → Result NamesTable NamesFault
-names_of octets = table_of (map names_line (lines octets))
+names_of octets = table_of (map names_line (file_lines octets))

@@ -12,13 +12,18 @@ abbrev pub names_limit : ℕ
 names_limit = 1048576
 
 -- the source has ended, within the limit of octets, and these say the result
-abbrev pub IsWholeFile : SourceState → List ℕ → Result NamesTable NamesFault → Type 0
-IsWholeFile new octets result =
-    (new.last ≡ gave 0) × IsAtEnd new.left × (length octets ≤ names_limit) × (names_of octets ≡ result)
+pub record IsWholeFile (new : SourceState) (octets : List ℕ) (result : Result NamesTable NamesFault) : Type 0 where
+  pub ended : new.last ≡ gave 0
+  pub at_end : IsAtEnd new.left
+  pub within : length octets ≤ names_limit
+  pub result_is : names_of octets ≡ result
 
 -- the last read gave the first octet beyond the limit
-abbrev pub IsTooLong : LastReadValue → List ℕ → Type 0
-IsTooLong last octets = (n : ℕ) × (last ≡ gave n) × (names_limit < length octets) × (length octets ≤ names_limit + n)
+pub record IsTooLong (last : LastReadValue) (octets : List ℕ) : Type 0 where
+  pub count : ℕ
+  pub gave_last : last ≡ gave count
+  pub beyond : names_limit < length octets
+  pub before : length octets ≤ names_limit + count
 
 -- the result of reading these octets, by what the last read gave and what is left to read
 abbrev pub ReadsNames : SourceState → List ℕ → Result NamesTable NamesFault → Type 0

@@ -83,19 +83,20 @@ utc_zone = mark 90 or (sign then hour then minute)
 abbrev pub utc_time_form : Form
 utc_time_form = utc_minute then maybe second then utc_zone
 
-abbrev pub general_hour : Form
-general_hour = two 0 99 then two 0 99 then day then hour
+abbrev pub generalized_hour : Form
+generalized_hour = two 0 99 then two 0 99 then day then hour
 
 -- 46 is the point, 44 the comma
 abbrev pub fraction : Form
 fraction = (mark 46 or mark 44) then one 48 57 then digits
 
-abbrev pub general_zone : Form
-general_zone = mark 90 or (sign then hour then maybe minute)
+abbrev pub generalized_zone : Form
+generalized_zone = mark 90 or (sign then hour then maybe minute)
 
 -- X.680 46.2
 abbrev pub generalized_time_form : Form
-generalized_time_form = general_hour then maybe (minute then maybe second) then maybe fraction then maybe general_zone
+generalized_time_form =
+    generalized_hour then maybe (minute then maybe second) then maybe fraction then maybe generalized_zone
 
 -- midnight is hour 0 of the following day
 abbrev pub canonical_clock : Form

@@ -80,7 +80,9 @@ string_types =
 abbrev pub is_string : HeaderValue → Bool
 is_string h =
     is_one_of string_types h
-    || (is_universal h.class && nat_le universal.numeric_string h.number && nat_le h.number universal.universal_string)
+    || (is_universal h.class
+    && nat_le universal.numeric_string h.number
+    && nat_le h.number universal.universal_string)
 
 -- 8.1.2.5: so is a string that wraps encodings
 abbrev pub is_primitive : HeaderValue → Bool
@@ -90,6 +92,10 @@ is_primitive h = not h.constructed
 abbrev pub has_segments : HeaderValue → Bool
 has_segments h = h.constructed && is_string h
 
--- no type has the number
+-- no universal type has the number
+abbrev pub is_unassigned_number : ℕ → Bool
+is_unassigned_number number = number == 0 || number == 15 || nat_le 37 number
+
+-- the tag is universal, and no type has its number
 abbrev pub is_unassigned : HeaderValue → Bool
-is_unassigned h = is_universal h.class && (h.number == 0 || h.number == 15 || nat_le 37 h.number)
+is_unassigned h = is_universal h.class && is_unassigned_number h.number

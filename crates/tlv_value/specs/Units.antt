@@ -56,17 +56,21 @@ unit_size _ octets = 1
 -- the units in order, after octets that belong to one before them
 abbrev pub units : Kind → ℕ → List ℕ → List (List ℕ)
 units kind skipped [] = []
-units kind zero (x ∷ xs) = take (unit_size kind (x ∷ xs)) (x ∷ xs) ∷ units kind (unit_size kind (x ∷ xs) - 1) xs
+units kind zero (x ∷ xs) =
+    take (unit_size kind (x ∷ xs)) (x ∷ xs) ∷ units kind (unit_size kind (x ∷ xs) - 1) xs
 units kind (suc skipped) (x ∷ xs) = units kind skipped xs
 
 -- the text of a unit
 abbrev pub unit_text : Kind → List ℕ → List ℕ
 unit_text kind [] = []
 -- a character of two octets, and one of four
-unit_text Ucs2 (a ∷ b ∷ []) = if eqb a 0 && is_printable b then printable_text b else escaped_number (a ∷ b ∷ [])
+unit_text Ucs2 (a ∷ b ∷ []) =
+    if eqb a 0 && is_printable b then printable_text b else escaped_number (a ∷ b ∷ [])
 unit_text Ucs2 (a ∷ more) = escaped_octet a
 unit_text Ucs4 (a ∷ b ∷ c ∷ d ∷ []) =
-    if eqb a 0 && eqb b 0 && eqb c 0 && is_printable d then printable_text d else escaped_number (a ∷ b ∷ c ∷ d ∷ [])
+    if eqb a 0 && eqb b 0 && eqb c 0 && is_printable d
+    then printable_text d
+    else escaped_number (a ∷ b ∷ c ∷ d ∷ [])
 unit_text Ucs4 (a ∷ more) = escaped_octet a
 unit_text Utf8 (a ∷ b ∷ more) = escaped_number (three_octets (utf8_number (a ∷ b ∷ more)))
 -- an octet that is a character by itself, or belongs to none

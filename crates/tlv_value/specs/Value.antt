@@ -62,7 +62,8 @@ digits_of_bits bits = map (λ bit. 48 + bit) bits
 -- the bits of octets but for those that are not used, after a space if there are any
 abbrev pub used_digits : ℕ → List ℕ → List ℕ
 used_digits unused_bits [] = []
-used_digits unused_bits octets = 0x20 ∷ digits_of_bits (take (8 * length octets - unused_bits) (bits_of octets))
+used_digits unused_bits octets =
+    0x20 ∷ digits_of_bits (take (8 * length octets - unused_bits) (bits_of octets))
 
 -- 8.6.2: the first octet is the number of unused bits in the last one
 abbrev pub bits_value : List ℕ → Value
@@ -106,12 +107,14 @@ short_value name_of Integer octets = integer_value octets
 short_value name_of Bits octets = bits_value octets
 short_value name_of Object octets = object_value name_of false octets
 short_value name_of Relative octets = object_value no_names true octets
-short_value name_of kind octets = if is_text kind then value_on_line (quoted_text kind octets) else octets_value octets
+short_value name_of kind octets =
+    if is_text kind then value_on_line (quoted_text kind octets) else octets_value octets
 
 -- of long contents: what is on the line of n octets, of which these have come. 8.6.2: of a BIT STRING the number of
 -- bits, if its first octet can be read
 abbrev pub long_text : Kind → ℕ → List ℕ → List ℕ
-long_text Bits n (unused_bits ∷ octets) = if nat_le unused_bits 7 then 0x20 ∷ bit_count unused_bits (n - 1) else []
+long_text Bits n (unused_bits ∷ octets) =
+    if nat_le unused_bits 7 then 0x20 ∷ bit_count unused_bits (n - 1) else []
 long_text kind n octets = []
 
 -- the octets that are in rows: not such a first octet
@@ -119,8 +122,8 @@ abbrev pub row_octets : Kind → List ℕ → List ℕ
 row_octets Bits (unused_bits ∷ octets) = if nat_le unused_bits 7 then octets else unused_bits ∷ octets
 row_octets kind octets = octets
 
--- the value of long contents of n octets, of which these have come, as far as it is known: whether they are whole says
--- the first argument
+-- the value of long contents of n octets, of which these have come, as far as it is known: the first argument says
+-- whether they are whole
 abbrev pub long_value : Bool → Kind → ℕ → List ℕ → Value
 long_value whole kind n octets = record {
   text = long_text kind n octets;

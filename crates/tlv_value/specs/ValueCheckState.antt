@@ -83,34 +83,38 @@ notes_time number = is_number_of time_types number
 abbrev pub is_padded_with : Bool → ℕ → List ℕ → Bool
 is_padded_with padded previous octets = padded || is_padded_after previous octets
 
--- the state with what is noted of more octets: the first ones and the last, what must be known of each, or the time
-abbrev pub note_first : ValueCheckState → List ℕ → ValueCheckState
-note_first s octets = record s { first_octets = take 2 (s.first_octets ++ octets); last = last_octet s.last octets }
+-- the state with more octets noted: the first ones and the last, what must be known of each, or the time
+abbrev pub with_first_noted : ValueCheckState → List ℕ → ValueCheckState
+with_first_noted s octets = record s {
+  first_octets = take 2 (s.first_octets ++ octets);
+  last = last_octet s.last octets;
+}
 
-abbrev pub note_each : ValueCheckState → List ℕ → ValueCheckState
-note_each s octets = record s {
+abbrev pub with_each_noted : ValueCheckState → List ℕ → ValueCheckState
+with_each_noted s octets = record s {
   allowed = s.allowed && list_all (allows_octet s.number) octets;
   padded = if is_number_of object_types s.number then is_padded_with s.padded s.last octets else s.padded;
-  formed = if eqb s.number universal.utf8_string then s.formed && all_utf8 (full_rows Utf8 s.row octets) else s.formed;
+  formed =
+      if eqb s.number universal.utf8_string then s.formed && all_utf8 (full_rows Utf8 s.row octets) else s.formed;
   row = if eqb s.number universal.utf8_string then open_row Utf8 s.row octets else s.row;
   last = last_octet s.last octets;
 }
 
-abbrev pub note_time : ValueCheckState → List ℕ → ValueCheckState
-note_time s octets = record s { time = take 64 (s.time ++ octets) }
+abbrev pub with_time_noted : ValueCheckState → List ℕ → ValueCheckState
+with_time_noted s octets = record s { time = take 64 (s.time ++ octets) }
 
 -- the same, by what the type asks for
-abbrev pub note_octets : ValueCheckState → List ℕ → ValueCheckState
-note_octets s octets =
-    if notes_first s.number then note_first s octets
-    else if notes_each s.number then note_each s octets
-    else if notes_time s.number then note_time s octets
+abbrev pub with_octets_noted : ValueCheckState → List ℕ → ValueCheckState
+with_octets_noted s octets =
+    if notes_first s.number then with_first_noted s octets
+    else if notes_each s.number then with_each_noted s octets
+    else if notes_time s.number then with_time_noted s octets
     else s
 
 -- the state after more octets
 abbrev pub value_check_after : ValueCheckState → List ℕ → ValueCheckState
 value_check_after s octets =
-    record (note_octets s octets) { number = s.number; size = s.size; left = s.left - length octets }
+    record (with_octets_noted s octets) { number = s.number; size = s.size; left = s.left - length octets }
 
 -- there is a first octet, and it is not 0
 abbrev pub begins_nonzero : List ℕ → Bool

@@ -11,8 +11,8 @@ use Rattle.tlv_value.specs.Layout.{columns, line, row_line}
 use Rattle.tlv_value.specs.Value.{NameOf, Value, is_long, long_value, row_text, whole_value}
 
 -- the kind of the element's type
-abbrev pub kind_by : HeaderValue → Kind
-kind_by h = kind_of h.class h.number
+abbrev pub header_kind : HeaderValue → Kind
+header_kind h = kind_of h.class h.number
 
 -- the line of an element of this class, number and length, with this text after its tag
 abbrev pub element_line : Layout → ℕ → Class → ℕ → ℕ → List ℕ → List ℕ
@@ -22,17 +22,18 @@ element_line layout offset class number n text =
 -- rows in order, the first of which has this number
 abbrev pub row_lines : Kind → Layout → ℕ → List (List ℕ) → List ℕ
 row_lines kind layout i [] = []
-row_lines kind layout i (row ∷ rows) = row_line layout i (row_text kind row) ++ row_lines kind layout (i + 1) rows
+row_lines kind layout i (row ∷ rows) =
+    row_line layout i (row_text kind row) ++ row_lines kind layout (i + 1) rows
 
 -- the element's line, and those of its rows
 abbrev pub value_lines : HeaderValue → Layout → Value → List ℕ
 value_lines h layout value =
     element_line layout h.offset h.class h.number (announced_length h.size) value.text
-    ++ row_lines (kind_by h) layout 0 value.rows
+    ++ row_lines (header_kind h) layout 0 value.rows
 
 -- the lines of a primitive that is whole
 abbrev pub whole_lines : NameOf → HeaderValue → Layout → List ℕ → List ℕ
-whole_lines name_of h layout octets = value_lines h layout (whole_value name_of (kind_by h) octets)
+whole_lines name_of h layout octets = value_lines h layout (whole_value name_of (header_kind h) octets)
 
 -- the line of a long value is known from its header; that of a BIT STRING from its first contents octet
 abbrev pub has_line : Kind → List ℕ → Bool
@@ -43,6 +44,6 @@ has_line kind octets = true
 -- those that are known
 abbrev pub open_lines : HeaderValue → Layout → List ℕ → List ℕ
 open_lines h layout octets =
-    if is_long (kind_by h) (announced_length h.size) && has_line (kind_by h) octets
-    then value_lines h layout (long_value false (kind_by h) (announced_length h.size) octets)
+    if is_long (header_kind h) (announced_length h.size) && has_line (header_kind h) octets
+    then value_lines h layout (long_value false (header_kind h) (announced_length h.size) octets)
     else []

@@ -1,13 +1,15 @@
 -- What is kept of the contents of a primitive between their pieces, and the lines that are known with each piece.
-use Rattle.std.specs.Prelude.{ℕ, ◌+◌, ◌-◌, Bool, true, if◌then◌else◌, List, [], ◌∷◌, ◌++◌, length}
+use Rattle.std.specs.Prelude.{ℕ, ◌+◌, ◌-◌, Bool, true, false, if◌then◌else◌, List, [], ◌∷◌, ◌++◌, length, None}
+use Rattle.tlv_head.specs.declared.header.Class.TheVariants.{Private}
 use Rattle.tlv_head.specs.Header.{HeaderValue, announced_length}
 use Rattle.tlv_io.specs.Cuts.{last_rows}
 use Rattle.tlv_value.specs.declared.kind.Kind.{Kind}
+use Rattle.tlv_value.specs.declared.kind.Kind.TheVariants.{Octets}
 use Rattle.tlv_value.specs.declared.layout.Layout.{Layout}
 use Rattle.tlv_value.specs.declared.primitive.Primitive.{Primitive}
 use Rattle.tlv_value.specs.Rows.{full_rows, open_row}
-use Rattle.tlv_value.specs.ValueLines.{element_line, has_line, kind_by, row_lines}
-use Rattle.tlv_value.specs.Value.{NameOf, Value, is_long, long_text, row_octets, short_value}
+use Rattle.tlv_value.specs.ValueLines.{element_line, has_line, header_kind, row_lines}
+use Rattle.tlv_value.specs.Value.{NameOf, is_long, long_text, row_octets, short_value}
 
 -- what is kept: of a long value whether its line was written, how many rows were full, and the octets of the row that
 -- has begun; of any other all octets
@@ -31,7 +33,7 @@ new_primitive h layout = record {
   class = h.class;
   number = h.number;
   size = announced_length h.size;
-  kind = kind_by h;
+  kind = header_kind h;
   layout = layout;
 }
 
@@ -49,6 +51,17 @@ new_value_text_of p = record {
 
 abbrev pub new_value_text : HeaderValue → Layout → ValueTextState
 new_value_text h layout = new_value_text_of (new_primitive h layout)
+
+-- for no primitive yet: as for an empty one that is of no universal type, at the top
+abbrev pub idle_value_text : ValueTextState
+idle_value_text = new_value_text_of (record {
+  offset = 0;
+  class = Private;
+  number = 0;
+  size = 0;
+  kind = Octets;
+  layout = record { level = 0; limit = None; pure = false };
+})
 
 -- of a long value with a line
 abbrev pub rows_after : Kind → RowsState → List ℕ → RowsState
@@ -92,9 +105,9 @@ rows_state_after s octets =
 abbrev pub value_text_after : ValueTextState → List ℕ → ValueTextState
 value_text_after s octets = record s { left = s.left - length octets; kept = rows_state_after s octets }
 
--- the state that stands for contents of which these octets have come
-abbrev pub state_for : HeaderValue → Layout → List ℕ → ValueTextState
-state_for h layout octets = value_text_after (new_value_text h layout) octets
+-- the state for contents of which these octets have come
+abbrev pub value_text_for : HeaderValue → Layout → List ℕ → ValueTextState
+value_text_for h layout octets = value_text_after (new_value_text h layout) octets
 
 -- the lines that are known with the header
 abbrev pub begin_lines : ValueTextState → List ℕ
@@ -112,14 +125,15 @@ contents_lines s octets =
     else first_row_lines s octets)
     else []
 
--- the value of a primitive of which all contents are kept
-abbrev pub kept_value : NameOf → ValueTextState → Value
-kept_value name_of s = short_value name_of s.value.kind s.kept.row
+-- the lines of a primitive with these contents, if its value is on its line
+abbrev pub primitive_lines : NameOf → Primitive → List ℕ → List ℕ
+primitive_lines name_of p octets =
+    primitive_line p (short_value name_of p.kind octets).text
+    ++ row_lines p.kind p.layout 0 (short_value name_of p.kind octets).rows
 
 -- the lines that are known with the end
 abbrev pub end_lines : NameOf → ValueTextState → List ℕ
 end_lines name_of s =
     if is_long s.value.kind s.value.size
     then row_lines s.value.kind s.value.layout s.kept.rows (last_rows s.kept.row)
-    else primitive_line s.value (kept_value name_of s).text
-    ++ row_lines s.value.kind s.value.layout 0 (kept_value name_of s).rows
+    else primitive_lines name_of s.value s.kept.row

@@ -3,8 +3,8 @@ ghost use Rattle.std.specs.Prelude.{◌≡◌, ◌+◌, ◌≤◌, ◌&&◌, ℕ
 ghost use Rattle.tlv_head.specs.Header.{HeaderValue, announced_length};
 ghost use Rattle.tlv_value.specs.Types.{type_number};
 ghost use Rattle.tlv_value.specs.ValueCheckState.{value_check_after, findings_in, has_unused_bits};
-ghost use Rattle.tlv_value.specs.ValueCheckState.{is_allowed, new_value_check, new_value_check_of, note_each};
-ghost use Rattle.tlv_value.specs.ValueCheckState.{note_first};
+ghost use Rattle.tlv_value.specs.ValueCheckState.{is_allowed, new_value_check, new_value_check_of};
+ghost use Rattle.tlv_value.specs.ValueCheckState.{with_each_noted, with_first_noted};
 ghost use Rattle.tlv_value.specs.Checks.{findings_on_contents, is_padded_integer};
 
 mod characters;
@@ -154,7 +154,7 @@ impl ValueCheck {
     /// Notes the first two of the octets, and the last one.
     #[inline(always)]
     fn note_first(&mut self, octets: &[u8])
-        ensures { self.new ≡ note_first self.old octets.now }
+        ensures { self.new ≡ with_first_noted self.old octets.now }
     {
         match octets {
             [] => {}
@@ -178,7 +178,7 @@ impl ValueCheck {
     /// Notes what must be known of each of the octets.
     #[inline(always)]
     fn note_each(&mut self, octets: &[u8])
-        ensures { self.new ≡ note_each self.old octets.now }
+        ensures { self.new ≡ with_each_noted self.old octets.now }
     {
         match self.number {
             universal::OBJECT_IDENTIFIER | universal::RELATIVE_OID => {

@@ -2,9 +2,10 @@
 ghost use Rattle.std.specs.Prelude.{◌≡◌, ◌%◌, ◌^◌, ◌&&◌, ◌||◌, ◌==◌, [], IsTrue, eqb, false, length, nat_le};
 ghost use Rattle.std.specs.Prelude.{nat_lt, not, slice_index, true};
 ghost use Rattle.tlv_value.specs.Checks.{findings_on_contents, is_padded_after, is_padded_integer, last_octet};
-ghost use Rattle.tlv_value.specs.Private.Checks.{findings_of, general_time_findings, universal_header};
-ghost use Rattle.tlv_value.specs.Private.Checks.{utc_time_findings};
-ghost use Rattle.tlv_value.specs.Types.{constructed_types, is_one_of, is_unassigned};
+ghost use Rattle.tlv_value.specs.Checks.{type_findings};
+ghost use Rattle.tlv_value.specs.Private.Checks.{generalized_time_findings, utc_time_findings};
+ghost use Rattle.tlv_value.specs.Types.{constructed_types, is_number_of, is_one_of, is_unassigned};
+ghost use Rattle.tlv_value.specs.Types.{is_unassigned_number};
 
 use crate::check::{are_allowed, are_set, is_padded_after, is_utf8, last_octet};
 use crate::time::{general_canonical, utc_canonical};
@@ -25,10 +26,9 @@ pub fn is_clear(header: &Header, contents: &[u8]) -> bool
 /// a short look shows.
 #[inline(always)]
 fn is_type_clear(number: u64, contents: &[u8]) -> bool
-    ensures contents { IsTrue result → findings_of number contents.now ≡ [] }
+    ensures contents { IsTrue result → type_findings number contents.now ≡ [] }
     ensures form { IsTrue result
-        → (is_unassigned (universal_header number)
-        || is_one_of constructed_types (universal_header number)) ≡ false }
+        → (is_unassigned_number number || is_number_of constructed_types number) ≡ false }
 {
     match number {
         universal::BOOLEAN => is_truth(contents),
@@ -130,7 +130,7 @@ fn is_utc_clear(time: &[u8]) -> bool
 #[inline(never)]
 #[tactic(auto, using(crate::proofs::CheckLemmas::Within::general_clear))]
 fn is_general_clear(time: &[u8]) -> bool
-    ensures { result ≡ eqb (length (general_time_findings time.now)) 0 }
+    ensures { result ≡ eqb (length (generalized_time_findings time.now)) 0 }
 {
     // A canonical time is of its grammar.
     general_canonical(time)

@@ -4,9 +4,9 @@ ghost use Rattle.tlv_io.specs.LineTexts.{GrowsBy, HasRoomFor};
 ghost use Rattle.tlv_io.specs.Out.{Puts, held_octets};
 ghost use Rattle.tlv_value.specs.RowSizes.{row_size};
 ghost use Rattle.tlv_value.specs.Private.UndottedText.{undotted_text};
-ghost use Rattle.tlv_value.specs.Private.PrimitiveLines.{line_prefix, primitive_lines};
+ghost use Rattle.tlv_value.specs.Private.PrimitiveLines.{line_prefix};
 ghost use Rattle.tlv_value.specs.Value.{is_long, long_text, most_on_line};
-ghost use Rattle.tlv_value.specs.ValueTextState.{primitive_line, new_primitive};
+ghost use Rattle.tlv_value.specs.ValueTextState.{new_primitive, primitive_line, primitive_lines};
 
 use crate::kind::{Kind, kind_of};
 use crate::line::write_element;
@@ -45,7 +45,7 @@ impl Primitive {
         }
     }
 
-    /// Whether it has too many contents octets for them to stand on its line.
+    /// Whether it has too many contents octets for them to be on its line.
     #[inline(always)]
     pub fn is_long(&self) -> bool
         ensures { result ≡ is_long self.now.kind self.now.size }

@@ -1,12 +1,12 @@
 //! The lines of a primitive, from its contents in pieces.
-ghost use Rattle.std.specs.Prelude.{◌≡◌, ◌+◌, ◌<◌, ◌≤◌, ◌^◌, ◌++◌, ◌∷◌, [], ℕ, List, length, OnOk, None, true, false};
+ghost use Rattle.std.specs.Prelude.{◌≡◌, ◌+◌, ◌<◌, ◌≤◌, ◌^◌, ◌++◌, ◌∷◌, [], ℕ, List, length, OnOk};
 ghost use Rattle.tlv_head.specs.Header.{HeaderValue, announced_length};
 ghost use Rattle.tlv_io.specs.Out.{Puts};
 ghost use Rattle.tlv_value.specs.PutsRest.{PutsRest};
 ghost use Rattle.tlv_value.specs.Value.{row_octets};
 ghost use Rattle.tlv_value.specs.ValueLines.{open_lines, whole_lines};
-ghost use Rattle.tlv_value.specs.ValueTextState.{begin_lines, contents_lines, end_lines, new_value_text_of};
-ghost use Rattle.tlv_value.specs.ValueTextState.{new_value_text, state_for, value_text_after};
+ghost use Rattle.tlv_value.specs.ValueTextState.{begin_lines, contents_lines, end_lines, idle_value_text};
+ghost use Rattle.tlv_value.specs.ValueTextState.{new_value_text, new_value_text_of, value_text_for, value_text_after};
 
 use crate::kind::Kind;
 use crate::primitive::Primitive;
@@ -82,18 +82,7 @@ impl ValueText {
 
     /// For no primitive yet: as for an empty one that is of no universal type, at the top.
     pub fn idle() -> ValueText
-        ensures { result ≡ record {
-          value = record {
-            offset = 0;
-            class = Class.Private;
-            number = 0;
-            size = 0;
-            kind = Kind.Octets;
-            layout = record { level = 0; limit = None; pure = false };
-          };
-          left = 0;
-          kept = record { wrote_line = true; rows = 0; row = [] };
-        } }
+        ensures { result ≡ idle_value_text }
     {
         let value = Primitive {
             offset: 0,
@@ -152,7 +141,7 @@ impl ValueText {
         ensures state { OnOk result (self.new ≡ value_text_after self.old octets.now) }
         ensures puts { Puts D.state out.old out.new (contents_lines self.old octets.now) result }
         ensures whole { (h : HeaderValue) (layout : Layout) (c : List ℕ)
-            → self.old ≡ state_for h layout c
+            → self.old ≡ value_text_for h layout c
             → PutsRest D.state out.old out.new
             (open_lines h layout c) (open_lines h layout (c ++ octets.now)) result }
     {
@@ -190,7 +179,7 @@ impl ValueText {
         ensures puts { Puts D.state out.old out.new
             (end_lines (N.name_of names.now) self.old) result }
         ensures whole { (h : HeaderValue) (layout : Layout) (c : List ℕ)
-            → self.old ≡ state_for h layout c
+            → self.old ≡ value_text_for h layout c
             → length c ≡ announced_length h.size
             → PutsRest D.state out.old out.new
             (open_lines h layout c) (whole_lines (N.name_of names.now) h layout c) result }

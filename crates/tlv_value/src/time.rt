@@ -5,7 +5,7 @@
 ghost use Rattle.std.specs.Prelude.{◌≡◌, option_copied, option_to_list};
 ghost use Rattle.tlv_value.specs.Times.{canonical_clock, canonical_fraction, canonical_generalized_time_form};
 ghost use Rattle.tlv_value.specs.Times.{canonical_second, canonical_utc_time_form, day, digits, fraction};
-ghost use Rattle.tlv_value.specs.Times.{general_hour, generalized_time_form, general_zone, has_form, hour};
+ghost use Rattle.tlv_value.specs.Times.{generalized_hour, generalized_time_form, generalized_zone, has_form, hour};
 ghost use Rattle.tlv_value.specs.Times.{mark, maybe, minute, one, second, sign, two, utc_minute};
 ghost use Rattle.tlv_value.specs.Times.{utc_time_form, utc_zone, ◌or◌, ◌then◌};
 
@@ -77,7 +77,7 @@ fn after_utc_minute(octets: &[u8]) -> Option<&[u8]>
 
 /// What is after `YYYYMMDDhh`.
 fn after_general_hour(octets: &[u8]) -> Option<&[u8]>
-    ensures { option_to_list (option_copied result) ≡ general_hour octets.now }
+    ensures { option_to_list (option_copied result) ≡ generalized_hour octets.now }
 {
     let rest = after_two_digits(octets, 0, 99)?;
     let rest = after_two_digits(rest, 0, 99)?;
@@ -124,7 +124,7 @@ fn is_utc_difference(octets: &[u8]) -> bool
 /// `ss` or nothing, a fraction or nothing, and a zone or nothing.
 fn is_second_and_tail(octets: &[u8]) -> bool
     ensures { result
-        ≡ has_form (maybe second then maybe fraction then maybe general_zone) octets.now }
+        ≡ has_form (maybe second then maybe fraction then maybe generalized_zone) octets.now }
 {
     match after_two_digits(octets, 0, 60) {
         Some(after) => is_tail(after) || is_tail(octets),
@@ -134,14 +134,14 @@ fn is_second_and_tail(octets: &[u8]) -> bool
 
 /// A fraction or nothing, and a zone or nothing.
 fn is_tail(octets: &[u8]) -> bool
-    ensures { result ≡ has_form (maybe fraction then maybe general_zone) octets.now }
+    ensures { result ≡ has_form (maybe fraction then maybe generalized_zone) octets.now }
 {
     is_fraction_and_zone(octets) || is_general_zone(octets)
 }
 
 /// A fraction, and a zone or nothing.
 fn is_fraction_and_zone(octets: &[u8]) -> bool
-    ensures { result ≡ has_form (fraction then maybe general_zone) octets.now }
+    ensures { result ≡ has_form (fraction then maybe generalized_zone) octets.now }
 {
     let [b'.' | b',', b'0'..=b'9', rest @ ..] = octets else {
         return false;
@@ -155,7 +155,7 @@ fn is_fraction_and_zone(octets: &[u8]) -> bool
 
 /// `Z`, `+hh`, `-hh`, `+hhmm`, `-hhmm` or nothing, and no more.
 fn is_general_zone(octets: &[u8]) -> bool
-    ensures { result ≡ has_form (maybe general_zone) octets.now }
+    ensures { result ≡ has_form (maybe generalized_zone) octets.now }
 {
     octets.is_empty() || is_zulu(octets) || is_general_difference(octets)
 }

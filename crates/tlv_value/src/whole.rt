@@ -45,7 +45,7 @@ pub fn put_whole<N: NameTable, D: Drain>(
     }
 }
 
-/// Puts the lines of a primitive whose contents are too long for its line. It stands apart, since it comes seldom.
+/// Puts the lines of a primitive whose contents are too long for its line. It is apart, since it comes seldom.
 #[inline(never)]
 fn put_long<N: NameTable, D: Drain>(
     value: &Primitive,

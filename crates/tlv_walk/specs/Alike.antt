@@ -1,6 +1,6 @@
 -- Elements that differ in their spelling alone: X.690 8.1.
 use Rattle.std.specs.Prelude.{◌≢◌, List, ℕ}
-use Rattle.tlv_head.specs.Header.{HeaderValue, leading_octet}
+use Rattle.tlv_head.specs.Header.{HeaderValue, identifier_octet}
 use Rattle.tlv_head.specs.Shortest.{HaveOneTag}
 use Rattle.tlv_walk.specs.Forest.{Forest, NoMore, PaddingOctet, Primitive, Holder, OpenPrimitive, OpenHolder}
 use Rattle.tlv_walk.specs.Forest.{OpenBitString, OpenHeader, OpenEndOctets}
@@ -20,9 +20,9 @@ pub data AreAlike : Forest → Forest → Type 0 where
 abbrev pub HaveNoUniversalZero : Forest → Type 0
 HaveNoUniversalZero NoMore = Unit {0}
 HaveNoUniversalZero (PaddingOctet rest) = HaveNoUniversalZero rest
-HaveNoUniversalZero (Primitive h c rest) = (leading_octet h.class h.constructed h.number ≢ 0) × HaveNoUniversalZero rest
+HaveNoUniversalZero (Primitive h c rest) = (identifier_octet h.class h.constructed h.number ≢ 0) × HaveNoUniversalZero rest
 HaveNoUniversalZero (Holder h children rest) = HaveNoUniversalZero children × HaveNoUniversalZero rest
-HaveNoUniversalZero (OpenPrimitive h c) = leading_octet h.class h.constructed h.number ≢ 0
+HaveNoUniversalZero (OpenPrimitive h c) = identifier_octet h.class h.constructed h.number ≢ 0
 HaveNoUniversalZero (OpenHolder h children) = HaveNoUniversalZero children
 HaveNoUniversalZero (OpenBitString h) = Unit {0}
 HaveNoUniversalZero (OpenHeader octets) = Unit {0}

@@ -11,7 +11,7 @@ use Rattle.tlv_head.specs.declared.header.Class.{Class}
 use Rattle.tlv_head.specs.declared.header.Class.TheVariants.{Universal, Application, Context, Private}
 use Rattle.tlv_head.specs.declared.header.Size.{Size}
 use Rattle.tlv_head.specs.declared.header.Size.TheVariants.{Definite, Indefinite}
-use Rattle.tlv_head.specs.Header.{AllowsSize, HeaderValue, IsHeader, IsIdentifier, IsLength, class_bits, leading_octet}
+use Rattle.tlv_head.specs.Header.{AllowsSize, HeaderValue, IsHeader, IsIdentifier, IsLength, class_bits, identifier_octet}
 use Rattle.tlv_head.specs.Header.{octets_of, value_of}
 use Rattle.tlv_head.specs.Refusal.{IsHeaderPrefix}
 use Rattle.tlv_head.specs.declared.fault.FaultCode.TheVariants.{IndefinitePrimitive}
@@ -23,7 +23,7 @@ use Rattle.tlv_head.proofs.GrammarLemmas.Scan.{Over, class_of, leads, step, scan
 pub record IsHighState (c : Class) (k : Bool) (ds o : List ℕ) : Type 0 where
   pub each : All (λ d. d < 128) ds
   pub few : length ds ≤ 8
-  pub octets : o ≡ leading_octet c k 31 ∷ map (λ d. 128 + d) ds
+  pub octets : o ≡ identifier_octet c k 31 ∷ map (λ d. 128 + d) ds
 
 -- identifier octets, the first length octet, and digits of which more are to follow
 pub record IsLongState (c : Class) (k : Bool) (n : ℕ) (i : List ℕ) (m : ℕ) (ds o : List ℕ) : Type 0 where
@@ -56,10 +56,10 @@ leading-parts : (x a : ℕ) (k : Bool) → a ≡ x / 64 → ltb 31 (x % 64) ≡ 
 leading-parts x a true e t = omega (arith, ltb-true 31 (x % 64) t)
 leading-parts x a false e t = omega (arith, ltb-false 31 (x % 64) t)
 
-leading-of : (x : ℕ) → x < 256 → leading_octet (class_of (x / 64)) (ltb 31 (x % 64)) (x % 32) ≡ x
+leading-of : (x : ℕ) → x < 256 → identifier_octet (class_of (x / 64)) (ltb 31 (x % 64)) (x % 32) ≡ x
 leading-of x h = leading-parts x _ (ltb 31 (x % 64)) (bits-class_of (x / 64) (omega arith)) refl
 
-reads-leads : (at : Origin) (x : ℕ) (c : Class) (k : Bool) (low : ℕ) → low < 32 → leading_octet c k low ≡ x → x ≢ 0 → IsStateAfter at (leads x c k low) (x ∷ [])
+reads-leads : (at : Origin) (x : ℕ) (c : Class) (k : Bool) (low : ℕ) → low < 32 → identifier_octet c k low ≡ x → x ≢ 0 → IsStateAfter at (leads x c k low) (x ∷ [])
 reads-leads at x c k low h e nz = ⊎_elim
     (λ (last : low ≡ 31). rw (eq-eqb low 31 last) (record { each = All-nil (λ d. d < 128); few = omega arith; octets = rw (← e, last) }))
     (λ (other : low ≡ 31 → ⊥). rw (ne_eqb low 31 other) (inl (record { small = omega arith; octets_are = rw e; nonzero = rw e nz }), refl))
@@ -242,7 +242,7 @@ prefix-from_more at (Stuck code) o r some e = absurd (cc)
 prefix-from_more at Over o r some e = absurd (cc)
 
 -- the numbers in a header are below 256
-leading-byte : (c : Class) (k : Bool) (n : ℕ) → n < 32 → leading_octet c k n < 256
+leading-byte : (c : Class) (k : Bool) (n : ℕ) → n < 32 → identifier_octet c k n < 256
 leading-byte Universal true n h = omega arith
 leading-byte Universal false n h = omega arith
 leading-byte Application true n h = omega arith

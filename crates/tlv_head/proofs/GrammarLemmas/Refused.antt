@@ -8,7 +8,7 @@ use Rattle.tlv_head.specs.declared.header.Class.{Class}
 use Rattle.tlv_head.specs.declared.fault.FaultCode.{FaultCode}
 use Rattle.tlv_head.specs.declared.fault.FaultCode.TheVariants.{TagTooLong, ReservedLength, IndefinitePrimitive}
 use Rattle.tlv_head.specs.declared.fault.FaultCode.TheVariants.{LengthTooLarge}
-use Rattle.tlv_head.specs.Header.{HeaderValue, IsHeader, IsIdentifier, leading_octet, octets_of, with_bit_8}
+use Rattle.tlv_head.specs.Header.{HeaderValue, IsHeader, IsIdentifier, identifier_octet, octets_of, with_bit_8}
 use Rattle.tlv_head.specs.Refusal.{CannotBecomeHeader, BeginsWithNoHeader, IsHeaderPrefix, IsRefusedOctet}
 use Rattle.tlv_head.specs.Refusal.{indefinite_primitive, length_too_large, reserved_length, tag_too_long}
 use Rattle.tlv_head.proofs.GrammarLemmas.Scan.{Scan, Origin, start, Fresh, High, Named, Long, Ready, Stuck, Over, step}
@@ -82,9 +82,9 @@ scan-flagged at c k ds (e ∷ es) each few =
 
 -- a ninth such octet
 too_long-stuck : (at : Origin) (c : Class) (k : Bool) (ds o : List ℕ) (x : ℕ) → All (λ d. d < 128) ds → length ds ≡ 8
-    → o ≡ leading_octet c k 31 ∷ with_bit_8 ds → 128 ≤ x → scan at (o ++ x ∷ []) ≡ Stuck TagTooLong
+    → o ≡ identifier_octet c k 31 ∷ with_bit_8 ds → 128 ≤ x → scan at (o ++ x ∷ []) ≡ Stuck TagTooLong
 too_long-stuck at c k ds o x each eight octets flag =
-    let nonzero : leading_octet c k 31 ≡ 0 → ⊥ = omega arith in
+    let nonzero : identifier_octet c k 31 ≡ 0 → ⊥ = omega arith in
     let below : 31 < 32 = omega arith in
     let prefix : scan at o ≡ High c k ds =
     rw octets (ap (λ (s : Scan). scan_from at s (with_bit_8 ds)) (step-leading at c k 31 below nonzero)
@@ -151,13 +151,13 @@ too_large-stuck at c k n x left i ds o id many few octets nonzero =
 -- the last octet is refused with this code, or one before it is refused
 refused-last : (at : Origin) (code : FaultCode) (o : List ℕ) (x : ℕ) → IsRefusedOctet o x code
     → (scan at (o ++ x ∷ []) ≡ Stuck code) ⊎ ((code ≡ LengthTooLarge) × IsStuckFrom at Fresh o)
-refused-last at code o x (tag_too_long c k ds prefix eight flag) = inl (too_long-stuck at c k ds o x prefix.each eight prefix.octets_are flag)
+refused-last at code o x (tag_too_long c k prefix eight flag) = inl (too_long-stuck at c k prefix.digits o x prefix.each eight prefix.octets_are flag)
 refused-last at code o x (reserved_length c k n i e) = inl (reserved-stuck at c k n o x i e)
 refused-last at code o x (indefinite_primitive c n i e) = inl (primitive-stuck at c n o x i e)
-refused-last at code o x (length_too_large c k n i ds left prefix many nonzero) = ⊎_elim
+refused-last at code o x (length_too_large c k n left prefix many nonzero) = ⊎_elim
     (λ (e : scan at (o ++ x ∷ []) ≡ Stuck LengthTooLarge). inl e)
     (λ (s : IsStuckFrom at Fresh o). inr (refl, s))
-    (too_large-stuck at c k n x left i ds o prefix.identified many prefix.few prefix.octets_are nonzero)
+    (too_large-stuck at c k n x left prefix.identifier prefix.digits o prefix.identified many prefix.few prefix.octets_are nonzero)
 
 refused-stuck_from : (code : FaultCode) (o : List ℕ) (x : ℕ) → IsRefusedOctet o x code → IsStuckFrom start Fresh (o ++ x ∷ [])
 refused-stuck_from code o x r = ⊎_elim

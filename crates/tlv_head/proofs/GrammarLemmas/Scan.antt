@@ -10,7 +10,7 @@ use Rattle.tlv_head.specs.declared.header.Class.{Class}
 use Rattle.tlv_head.specs.declared.header.Class.TheVariants.{Universal, Application, Context, Private}
 use Rattle.tlv_head.specs.declared.header.Size.{Size}
 use Rattle.tlv_head.specs.declared.header.Size.TheVariants.{Definite, Indefinite}
-use Rattle.tlv_head.specs.Header.{AllowsSize, HeaderValue, IsHeader, IsIdentifier, IsLength, class_bits, leading_octet}
+use Rattle.tlv_head.specs.Header.{AllowsSize, HeaderValue, IsHeader, IsIdentifier, IsLength, class_bits, identifier_octet}
 use Rattle.tlv_head.specs.Header.{octets_of, value_of}
 use Rattle.tlv_head.specs.Refusal.{IsHeaderPrefix}
 use Rattle.tlv_head.specs.declared.fault.FaultCode.{FaultCode}
@@ -56,7 +56,7 @@ leads x class constructed low = cond (eqb low 31) (High class constructed []) (N
 abbrev pub step : Origin → Scan → ℕ → Scan
 step at Fresh x = cond (eqb x 0) (Stuck StrayEnd) (leads x (class_of (x / 64)) (ltb 31 (x % 64)) (x % 32))
 step at (High c k ds) x =
-    cond (ltb x 128) (Named c k (value_of 128 (ds ++ x ∷ [])) (leading_octet c k 31 ∷ (map (λ d. 128 + d) ds ++ x ∷ [])))
+    cond (ltb x 128) (Named c k (value_of 128 (ds ++ x ∷ [])) (identifier_octet c k 31 ∷ (map (λ d. 128 + d) ds ++ x ∷ [])))
     (cond (ltb (length ds) 8) (High c k (ds ++ (x - 128) ∷ [])) (Stuck TagTooLong))
 step at (Named c k n i) x =
     cond (ltb x 128) (Ready (record { offset = at.offset; named = at.named; class = c; constructed = k; number = n; size = Definite x; identifier = i; lengths = x ∷ [] }))
@@ -89,28 +89,28 @@ class_of-bits Application = refl
 class_of-bits Context = refl
 class_of-bits Private = refl
 
-leading-class : (c : Class) (k : Bool) (n : ℕ) → n < 32 → leading_octet c k n / 64 ≡ class_bits c
+leading-class : (c : Class) (k : Bool) (n : ℕ) → n < 32 → identifier_octet c k n / 64 ≡ class_bits c
 leading-class c true n h = omega arith
 leading-class c false n h = omega arith
 
-leading-form : (c : Class) (k : Bool) (n : ℕ) → n < 32 → ltb 31 (leading_octet c k n % 64) ≡ k
+leading-form : (c : Class) (k : Bool) (n : ℕ) → n < 32 → ltb 31 (identifier_octet c k n % 64) ≡ k
 leading-form c true n h = lt-ltb 31 _ (omega arith)
 leading-form c false n h = le-ltb 31 _ (omega arith)
 
-leading-low : (c : Class) (k : Bool) (n : ℕ) → n < 32 → leading_octet c k n % 32 ≡ n
+leading-low : (c : Class) (k : Bool) (n : ℕ) → n < 32 → identifier_octet c k n % 32 ≡ n
 leading-low c true n h = omega arith
 leading-low c false n h = omega arith
 
 leads-first : (at : Origin) (x : ℕ) (c : Class) (k : Bool) (n : ℕ) → x ≢ 0 → x / 64 ≡ class_bits c → ltb 31 (x % 64) ≡ k → x % 32 ≡ n → step at Fresh x ≡ leads x c k n
 leads-first at x c k n nz ec ek en = rw (ne_eqb x 0 nz, ec, ek, en, class_of-bits c)
 
-pub step-leading : (at : Origin) (c : Class) (k : Bool) (n : ℕ) → n < 32 → leading_octet c k n ≢ 0 → step at Fresh (leading_octet c k n) ≡ leads (leading_octet c k n) c k n
-step-leading at c k n h nz = leads-first at (leading_octet c k n) c k n nz (leading-class c k n h) (leading-form c k n h) (leading-low c k n h)
+pub step-leading : (at : Origin) (c : Class) (k : Bool) (n : ℕ) → n < 32 → identifier_octet c k n ≢ 0 → step at Fresh (identifier_octet c k n) ≡ leads (identifier_octet c k n) c k n
+step-leading at c k n h nz = leads-first at (identifier_octet c k n) c k n nz (leading-class c k n h) (leading-form c k n h) (leading-low c k n h)
 
 -- more digits of a number, up to the last
 scan-high : (at : Origin) (c : Class) (k : Bool) (ds es : List ℕ) (l : ℕ) → All (λ d. d < 128) es → l < 128 → length ds + length es ≤ 8
     → scan_from at (High c k ds) (map (λ d. 128 + d) es ++ l ∷ [])
-    ≡ Named c k (value_of 128 ((ds ++ es) ++ l ∷ [])) (leading_octet c k 31 ∷ (map (λ d. 128 + d) (ds ++ es) ++ l ∷ []))
+    ≡ Named c k (value_of 128 ((ds ++ es) ++ l ∷ [])) (identifier_octet c k 31 ∷ (map (λ d. 128 + d) (ds ++ es) ++ l ∷ []))
 scan-high at c k ds [] l each small few = rw (append-nil ds, lt-ltb l 128 small)
 scan-high at c k ds (e ∷ es) l each small few =
     let here : e < 128 = All-head (λ d. d < 128) e es each in
@@ -128,7 +128,7 @@ scan-identifier at c k n i (inl low) =
     let apart : n ≡ 31 → ⊥ = omega (arith, low.small) in
     rw low.octets_are (step-leading at c k n small low.nonzero ∙ rw (ne_eqb n 31 apart))
 scan-identifier at c k n i (inr high) =
-    let nonzero : leading_octet c k 31 ≢ 0 = omega arith in
+    let nonzero : identifier_octet c k 31 ≢ 0 = omega arith in
     let below : 31 < 32 = omega arith in
     rw (high.octets_are, high.value)
     (ap (λ (s : Scan). scan_from at s (map (λ d. 128 + d) high.digits ++ high.last ∷ [])) (step-leading at c k 31 below nonzero)

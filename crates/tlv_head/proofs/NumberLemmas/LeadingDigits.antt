@@ -5,7 +5,7 @@ use Rattle.std.proofs.lemmas.Bool.Decides.{nat_tests}
 use Rattle.std.proofs.lemmas.List.{length-map}
 use Rattle.std.proofs.lemmas.List.Elements.{All-head, All-nil, All-push, All-tail}
 use Rattle.std.specs.Prelude.{slice_index}
-use Rattle.tlv_head.specs.Header.{HeaderValue, IsHeader, IsLength, IsLongForm, announced_length, leading_octet}
+use Rattle.tlv_head.specs.Header.{HeaderValue, IsHeader, IsLength, IsLongForm, announced_length, identifier_octet}
 use Rattle.tlv_head.specs.Header.{value_of, with_bit_8}
 use Rattle.tlv_head.specs.declared.header.Size.{Size}
 use Rattle.tlv_head.specs.declared.header.Size.TheVariants.{Definite, Indefinite}
@@ -39,7 +39,7 @@ pub leading_bits-zero : (h : HeaderValue) → IsHeader h → 1 < length h.identi
     → (slice_index h.identifier 1 % 128 == 0) ≡ nat_lt h.number (128 ^ (length h.identifier - 2))
 leading_bits-zero h valid high = elim valid.identifier [
   | inl low ↦ absurd (omega (arith, ap length low.octets_are))
-  | inr f ↦ rw (f.value, f.octets_are) (high-leading (leading_octet h.class h.constructed 31) f.digits f.last f.each f.last_digit)
+  | inr f ↦ rw (f.value, f.octets_are) (high-leading (identifier_octet h.class h.constructed 31) f.digits f.last f.each f.last_digit)
 ]
 
 -- ---- length octets

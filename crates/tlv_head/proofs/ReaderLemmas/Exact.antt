@@ -33,7 +33,7 @@ pub refuses : (old : HeadReaderState) (x : ℕ) (room : Option ℕ) (depth : ℕ
     → IsRefusedPush old x room depth code → offset ≡ old.offset + length old.octets → Pushes old x room depth old r
 refuses old x room depth code offset r e cause at = subst (Pushes old x room depth old) (sym e) (refused _ cause at refl)
 
--- if an octet is refused for the depth or the bound, the header that it completes may not stand there
+-- if an octet is refused for the depth or the bound, the header that it completes may not be there
 refused_not_whole : (code : FaultCode) (r : HeadReaderState) (x : ℕ) (room : Option ℕ) (depth : ℕ) (h : HeaderValue) → IsRefusedPush r x room depth code
     → Completes r (x ∷ []) h → room ≢ Some 0 → FitsThere h room depth → ⊥
 refused_not_whole code r x room depth h (no_room z) c n f = n z

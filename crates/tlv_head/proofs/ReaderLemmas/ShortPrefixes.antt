@@ -13,7 +13,7 @@ use Rattle.tlv_head.specs.declared.next_octet.Part.{Part}
 use Rattle.tlv_head.specs.declared.next_octet.Part.TheVariants.{Start, Number, Length, Digits, Done}
 use Rattle.tlv_head.specs.declared.next_octet.Next.{Next}
 use Rattle.tlv_head.specs.declared.next_octet.Next.TheVariants.{Unfinished, Finished, Refused}
-use Rattle.tlv_head.specs.Header.{AllowsSize, IsIdentifier, IsLength, leading_octet, with_bit_8}
+use Rattle.tlv_head.specs.Header.{AllowsSize, IsIdentifier, IsLength, identifier_octet, with_bit_8}
 use Rattle.tlv_head.specs.HeaderSoFar.{Carries, CarriesIdentifier, CarriesNumber}
 use Rattle.tlv_head.specs.Private.NextOctet.{BeginsWithIdentifier, BeginsWithNoIdentifier, BeginsWithNoLength}
 use Rattle.tlv_head.specs.Private.NextOctet.{MakesNext}
@@ -24,7 +24,7 @@ use Rattle.tlv_head.proofs.GrammarLemmas.Scan.{Named, scan, scan-identifier, sta
 use Rattle.tlv_head.proofs.ReaderLemmas.Steps.{ends_number}
 
 -- the first octet says whether the number is in the high form
-forms-apart : (c d : Class) (k j : Bool) (n : ℕ) → n < 31 → leading_octet c k n ≡ leading_octet d j 31 → ⊥
+forms-apart : (c d : Class) (k j : Bool) (n : ℕ) → n < 31 → identifier_octet c k n ≡ identifier_octet d j 31 → ⊥
 forms-apart c d true true n h e = omega (arith, e)
 forms-apart c d true false n h e = omega (arith, e)
 forms-apart c d false true n h e = omega (arith, e)
@@ -44,24 +44,24 @@ flagged-end (a ∷ ds) (b ∷ es) l m x y h k e =
 -- octets begin with at most one identifier
 one-identifier : (c d : Class) (k j : Bool) (n m : ℕ) (i o x y : List ℕ) → IsIdentifier c k n i → IsIdentifier d j m o → i ++ x ≡ o ++ y → i ≡ o
 one-identifier c d k j n m i o x y (inl p) (inl q) e =
-    let whole : leading_octet c k n ∷ x ≡ leading_octet d j m ∷ y = ap (λ (z : List ℕ). z ++ x) (sym p.octets_are) ∙ (e ∙ ap (λ (z : List ℕ). z ++ y) q.octets_are) in
-    let same : leading_octet c k n ≡ leading_octet d j m = cc in
+    let whole : identifier_octet c k n ∷ x ≡ identifier_octet d j m ∷ y = ap (λ (z : List ℕ). z ++ x) (sym p.octets_are) ∙ (e ∙ ap (λ (z : List ℕ). z ++ y) q.octets_are) in
+    let same : identifier_octet c k n ≡ identifier_octet d j m = cc in
     p.octets_are ∙ (ap (λ (u : ℕ). u ∷ []) same ∙ sym q.octets_are)
 one-identifier c d k j n m i o x y (inl p) (inr q) e =
-    let whole : leading_octet c k n ∷ x ≡ leading_octet d j 31 ∷ ((with_bit_8 q.digits ++ q.last ∷ []) ++ y) =
+    let whole : identifier_octet c k n ∷ x ≡ identifier_octet d j 31 ∷ ((with_bit_8 q.digits ++ q.last ∷ []) ++ y) =
     ap (λ (z : List ℕ). z ++ x) (sym p.octets_are) ∙ (e ∙ ap (λ (z : List ℕ). z ++ y) q.octets_are) in
     absurd (forms-apart c d k j n p.small (cc))
 one-identifier c d k j n m i o x y (inr p) (inl q) e =
-    let whole : leading_octet d j m ∷ y ≡ leading_octet c k 31 ∷ ((with_bit_8 p.digits ++ p.last ∷ []) ++ x) =
+    let whole : identifier_octet d j m ∷ y ≡ identifier_octet c k 31 ∷ ((with_bit_8 p.digits ++ p.last ∷ []) ++ x) =
     ap (λ (z : List ℕ). z ++ y) (sym q.octets_are) ∙ (sym e ∙ ap (λ (z : List ℕ). z ++ x) p.octets_are) in
     absurd (forms-apart d c j k m q.small (cc))
 one-identifier c d k j n m i o x y (inr p) (inr q) e =
-    let whole : leading_octet c k 31 ∷ ((with_bit_8 p.digits ++ p.last ∷ []) ++ x) ≡ leading_octet d j 31 ∷ ((with_bit_8 q.digits ++ q.last ∷ []) ++ y) =
+    let whole : identifier_octet c k 31 ∷ ((with_bit_8 p.digits ++ p.last ∷ []) ++ x) ≡ identifier_octet d j 31 ∷ ((with_bit_8 q.digits ++ q.last ∷ []) ++ y) =
     ap (λ (z : List ℕ). z ++ x) (sym p.octets_are) ∙ (e ∙ ap (λ (z : List ℕ). z ++ y) q.octets_are) in
-    let same : leading_octet c k 31 ≡ leading_octet d j 31 = cc in
+    let same : identifier_octet c k 31 ≡ identifier_octet d j 31 = cc in
     let rest : (with_bit_8 p.digits ++ p.last ∷ []) ++ x ≡ (with_bit_8 q.digits ++ q.last ∷ []) ++ y = cc in
     let digits : with_bit_8 p.digits ++ p.last ∷ [] ≡ with_bit_8 q.digits ++ q.last ∷ [] = flagged-end p.digits q.digits p.last q.last x y p.last_digit q.last_digit rest in
-    p.octets_are ∙ (ap (λ (u : ℕ). u ∷ (with_bit_8 p.digits ++ p.last ∷ [])) same ∙ (ap (λ (t : List ℕ). leading_octet d j 31 ∷ t) digits ∙ sym q.octets_are))
+    p.octets_are ∙ (ap (λ (u : ℕ). u ∷ (with_bit_8 p.digits ++ p.last ∷ [])) same ∙ (ap (λ (t : List ℕ). identifier_octet d j 31 ∷ t) digits ∙ sym q.octets_are))
 
 -- and it has one form: primitive or constructed
 one-form : (c d : Class) (k j : Bool) (n m : ℕ) (i o : List ℕ) → IsIdentifier c k n i → IsIdentifier d j m o → i ≡ o → k ≡ j
@@ -113,12 +113,12 @@ unended-length id o x c k n i l h p some e =
 
 -- after the high form so far no octet is refused, if there are at most seven digits
 unrefused : (code : FaultCode) (id : Identifier) (o : List ℕ) (x : ℕ) → CarriesNumber id o → length o ≤ 8 → IsRefusedOctet o x code → ⊥
-unrefused code id o x h few (tag_too_long c k digits prefix eight flag) =
-    let size : length o ≡ length digits + 1 = rw prefix.octets_are (omega (arith, length-map digits (λ d. 128 + d))) in
+unrefused code id o x h few (tag_too_long c k prefix eight flag) =
+    let size : length o ≡ length prefix.digits + 1 = rw prefix.octets_are (omega (arith, length-map prefix.digits (λ d. 128 + d))) in
     omega (arith, eight)
 unrefused code id o x h few (reserved_length c k n i all) = unended id o c k n o [] h i (sym (append-nil o))
 unrefused code id o x h few (indefinite_primitive c n i mark) = unended id o c false n o [] h i (sym (append-nil o))
-unrefused code id o x h few (length_too_large c k n i digits left prefix many nonzero) = unended id o c k n i _ h prefix.identified prefix.octets_are
+unrefused code id o x h few (length_too_large c k n left prefix many nonzero) = unended id o c k n prefix.identifier _ h prefix.identified prefix.octets_are
 
 -- so an octet is read, and makes no header
 pub always-unfinished : (r : Next) (id : Identifier) (o : List ℕ) (x : ℕ) → CarriesNumber id o → length o ≤ 8 → MakesNext o x r
@@ -147,7 +147,7 @@ carried-on Start id o x h f not = absurd (snoc≢nil o x f)
 carried-on (Number d) id o x h f not = (d, refl, f)
 carried-on (Length d) id o x h f not = absurd (not d refl)
 carried-on (Digits d n left) id o x h f not =
-    absurd (unended-length id o x d.class d.constructed d.number f.identifier _ h f.prefix.identified (omega arith) f.prefix.octets_are)
+    absurd (unended-length id o x d.class d.constructed d.number f.prefix.identifier _ h f.prefix.identified (omega arith) f.prefix.octets_are)
 carried-on Done id o x h f not = absurd (snoc≢nil o x f)
 
 pub goes-on : (r : Next) (p : Part) (id : Identifier) (o : List ℕ) (x : ℕ) → CarriesNumber id o → MakesNext o x r → r ≡ Unfinished p
@@ -164,7 +164,7 @@ leads-on Start x h not nor = let none : x ∷ [] ≡ [] = h in cc
 leads-on (Number d) x h not nor = nor d refl
 leads-on (Length d) x h not nor = not d refl
 leads-on (Digits d n left) x h not nor =
-    some-identifier d.class d.constructed d.number h.identifier h.prefix.identified (short_prefix h.identifier _ _ x h.prefix.octets_are)
+    some-identifier d.class d.constructed d.number h.prefix.identifier h.prefix.identified (short_prefix h.prefix.identifier _ _ x h.prefix.octets_are)
   where
     short_prefix : (i : List ℕ) (y : ℕ) (l : List ℕ) (x : ℕ) → x ∷ [] ≡ i ++ y ∷ l → i ≡ []
     short_prefix [] y l x e = refl

@@ -1,11 +1,11 @@
 -- What each octet makes of what a reader carries.
 use Rattle.std.proofs.Common.{◌≡◌, ◌≢◌, ℕ, suc, Bool, false, ◌+◌, ◌*◌, ◌^◌, ◌-◌, ◌<◌, ◌≤◌, ◌⊎◌, inl, inr, List, [], ◌∷◌}
-use Rattle.std.proofs.Common.{◌++◌, length, refl, sym, arith, length-append, append_assoc, subst, lit<}
+use Rattle.std.proofs.Common.{◌++◌, length, refl, sym, ap, arith, length-append, append_assoc, subst, lit<}
 use Rattle.std.proofs.lemmas.Bool.{cases_lt}
 use Rattle.std.proofs.lemmas.List.{length-map, map_push}
 use Rattle.std.proofs.lemmas.List.Elements.{All-nil, All-push}
 use Rattle.std.proofs.Math.Nat.{pow-suc, pow-le-pow_right, one-le-pow}
-use Rattle.tlv_head.specs.Header.{IsIdentifier, value_of}
+use Rattle.tlv_head.specs.Header.{IsIdentifier, identifier_octet, value_of}
 use Rattle.tlv_head.specs.Refusal.{IsRefusedOctet, tag_too_long, reserved_length, indefinite_primitive}
 use Rattle.tlv_head.specs.Refusal.{length_too_large}
 use Rattle.tlv_head.specs.declared.fault.FaultCode.TheVariants.{TagTooLong, ReservedLength, IndefinitePrimitive}
@@ -40,8 +40,8 @@ length-lt n left some small =
 
 pub number-lt : (id : Identifier) (octets : List ℕ) → CarriesNumber id octets → id.number < 2 ^ 56
 number-lt id octets h =
-    let v : value_of 128 h.digits < 128 ^ length h.digits = value_of-lt 128 h.digits (lit< tt) h.prefix.each in
-    let p : 128 ^ length h.digits ≤ 128 ^ 8 = pow-le-pow_right {n = 128} (lit< tt) h.few in
+    let v : value_of 128 h.prefix.digits < 128 ^ length h.prefix.digits = value_of-lt 128 h.prefix.digits (lit< tt) h.prefix.each in
+    let p : 128 ^ length h.prefix.digits ≤ 128 ^ 8 = pow-le-pow_right {n = 128} (lit< tt) h.few in
     omega (arith, h.value)
 
 -- one more octet after a prefix
@@ -50,9 +50,9 @@ prefix-snoc i ds os a b x e f = rw (e, f) (append_assoc i (a ∷ ds) (x ∷ []))
 
 pub begins_length : (id : Identifier) (octets : List ℕ) (x : ℕ) → CarriesIdentifier id octets → 128 < x → x < 255 → CarriesLength id 0 (x - 128) (octets ++ x ∷ [])
 begins_length id octets x h low high = record {
-  identifier = octets;
-  digits = [];
   prefix = record {
+    identifier = octets;
+    digits = [];
     identified = h.identified;
     each = All-nil (λ d. d < 256);
     some = omega arith;
@@ -69,21 +69,21 @@ pub more_length : (id : Identifier) (n left x r : ℕ) (octets : List ℕ) → C
     → (x ≡ 0) ⊎ (left - 1 < 5) → left - 1 ≢ 0 → CarriesLength id (n * 256 + r) (left - 1) (octets ++ x ∷ [])
 more_length id n left x r octets h e below zero_or_few rest =
     let some : 1 ≤ left = h.prefix.some in
-    let len : length (h.digits ++ x ∷ []) ≡ length h.digits + 1 = omega (arith, length-append h.digits (x ∷ [])) in
-    let few : length h.digits + left ≤ 126 = h.prefix.few in
+    let len : length (h.prefix.digits ++ x ∷ []) ≡ length h.prefix.digits + 1 = omega (arith, length-append h.prefix.digits (x ∷ [])) in
+    let few : length h.prefix.digits + left ≤ 126 = h.prefix.few in
     record {
-      identifier = h.identifier;
-      digits = h.digits ++ x ∷ [];
       prefix = record {
+        identifier = h.prefix.identifier;
+        digits = h.prefix.digits ++ x ∷ [];
         identified = h.prefix.identified;
-        each = All-push (λ d. d < 256) h.digits x h.prefix.each below;
+        each = All-push (λ d. d < 256) h.prefix.digits x h.prefix.each below;
         some = omega arith;
         few = omega arith;
         octets_are = prefix-snoc _ _ _ _ _ _ h.prefix.octets_are (omega arith);
       };
       count = h.count;
       few = h.few;
-      value = rw (e, h.value) (sym (value_of-snoc 256 h.digits x));
+      value = rw (e, h.value) (sym (value_of-snoc 256 h.prefix.digits x));
       small = rw e (small-step n x left some h.small below zero_or_few);
     }
 
@@ -91,20 +91,20 @@ pub ends_length : (id : Identifier) (n left x r : ℕ) (octets : List ℕ) → C
     → (x ≡ 0) ⊎ (left - 1 < 5) → left - 1 ≡ 0 → MakesHeader id (Definite (n * 256 + r)) (octets ++ x ∷ [])
 ends_length id n left x r octets h e below zero_or_few rest =
     let some : 1 ≤ left = h.prefix.some in
-    let len : length (h.digits ++ x ∷ []) ≡ length h.digits + 1 = omega (arith, length-append h.digits (x ∷ [])) in
-    let few : length h.digits + left ≤ 126 = h.prefix.few in
+    let len : length (h.prefix.digits ++ x ∷ []) ≡ length h.prefix.digits + 1 = omega (arith, length-append h.prefix.digits (x ∷ [])) in
+    let few : length h.prefix.digits + left ≤ 126 = h.prefix.few in
     let one : left ≡ 1 = omega arith in
     let small : n < 256 ^ (5 - 1) = subst (λ m. n < 256 ^ (5 - m)) one h.small in
     record {
-      identifier = h.identifier;
-      lengths = (128 + length (h.digits ++ x ∷ [])) ∷ (h.digits ++ x ∷ []);
+      identifier = h.prefix.identifier;
+      lengths = (128 + length (h.prefix.digits ++ x ∷ [])) ∷ (h.prefix.digits ++ x ∷ []);
       identified = record { identified = h.prefix.identified; count = h.count; few = h.few };
       sized = inr (record {
-        digits = h.digits ++ x ∷ [];
-        each = All-push (λ d. d < 256) h.digits x h.prefix.each below;
+        digits = h.prefix.digits ++ x ∷ [];
+        each = All-push (λ d. d < 256) h.prefix.digits x h.prefix.each below;
         some = omega arith;
         few = omega arith;
-        value = rw (e, h.value) (sym (value_of-snoc 256 h.digits x));
+        value = rw (e, h.value) (sym (value_of-snoc 256 h.prefix.digits x));
         limit = omega arith;
         octets_are = refl;
       });
@@ -114,36 +114,45 @@ ends_length id n left x r octets h e below zero_or_few rest =
       octets_are = prefix-snoc _ _ _ _ _ _ h.prefix.octets_are (omega arith);
     }
 
+-- a first octet with bits 5 to 1 set: no digits so far
+pub begins_number : (id : Identifier) (x : ℕ) → id.number ≡ 0 → id.octets ≡ 1 → x ≡ identifier_octet id.class id.constructed 31 → CarriesNumber id (x ∷ [])
+begins_number id x none first e = record {
+  prefix = record { digits = []; each = All-nil (λ d. d < 128); octets_are = ap (λ (y : ℕ). y ∷ []) e };
+  count = first;
+  few = omega arith;
+  value = none;
+}
+
 pub more_number : (id : Identifier) (x r : ℕ) (octets : List ℕ) → CarriesNumber id octets → x ≡ 128 + r → r < 128 → id.octets < 9
     → CarriesNumber (record { class = id.class; constructed = id.constructed; number = id.number * 128 + r; octets = id.octets + 1 }) (octets ++ x ∷ [])
 more_number id x r octets h e below few =
-    let len : length (h.digits ++ r ∷ []) ≡ length h.digits + 1 = omega (arith, length-append h.digits (r ∷ [])) in
-    let count : id.octets ≡ length h.digits + 1 = h.count in
+    let len : length (h.prefix.digits ++ r ∷ []) ≡ length h.prefix.digits + 1 = omega (arith, length-append h.prefix.digits (r ∷ [])) in
+    let count : id.octets ≡ length h.prefix.digits + 1 = h.count in
     record {
-      digits = h.digits ++ r ∷ [];
       prefix = record {
-        each = All-push (λ d. d < 128) h.digits r h.prefix.each below;
-        octets_are = rw (h.prefix.octets_are, e, map_push (λ d. 128 + d) h.digits r) refl;
+        digits = h.prefix.digits ++ r ∷ [];
+        each = All-push (λ d. d < 128) h.prefix.digits r h.prefix.each below;
+        octets_are = rw (h.prefix.octets_are, e, map_push (λ d. 128 + d) h.prefix.digits r) refl;
       };
       count = omega arith;
       few = omega arith;
-      value = rw h.value (sym (value_of-snoc 128 h.digits r));
+      value = rw h.value (sym (value_of-snoc 128 h.prefix.digits r));
     }
 
 pub ends_number : (id : Identifier) (x r : ℕ) (octets : List ℕ) → CarriesNumber id octets → r ≡ x → x < 128
     → CarriesIdentifier (record { class = id.class; constructed = id.constructed; number = id.number * 128 + r; octets = id.octets + 1 }) (octets ++ x ∷ [])
 ends_number id x r octets h e below =
-    let count : id.octets ≡ length h.digits + 1 = h.count in
-    let size : length octets ≡ length h.digits + 1 = rw h.prefix.octets_are (omega (arith, length-map h.digits (λ d. 128 + d))) in
-    let few : length h.digits ≤ 8 = h.few in
+    let count : id.octets ≡ length h.prefix.digits + 1 = h.count in
+    let size : length octets ≡ length h.prefix.digits + 1 = rw h.prefix.octets_are (omega (arith, length-map h.prefix.digits (λ d. 128 + d))) in
+    let few : length h.prefix.digits ≤ 8 = h.few in
     record {
       identified = inr (record {
-        digits = h.digits;
+        digits = h.prefix.digits;
         last = x;
         each = h.prefix.each;
         last_digit = below;
         few = h.few;
-        value = rw (e, h.value) (sym (value_of-snoc 128 h.digits x));
+        value = rw (e, h.value) (sym (value_of-snoc 128 h.prefix.digits x));
         octets_are = rw h.prefix.octets_are refl;
       });
       count = omega (arith, length-append octets (x ∷ []));
@@ -152,7 +161,7 @@ ends_number id x r octets h e below =
 
 -- a ninth subsequent identifier octet that is not the last
 pub ninth_number : (id : Identifier) (octets : List ℕ) (x : ℕ) → CarriesNumber id octets → 9 ≤ id.octets → 128 ≤ x → IsRefusedOctet octets x TagTooLong
-ninth_number id octets x h many flag = tag_too_long id.class id.constructed h.digits h.prefix (omega (arith, h.few, h.count)) flag
+ninth_number id octets x h many flag = tag_too_long id.class id.constructed h.prefix (omega (arith, h.few, h.count)) flag
 
 -- a first length octet ff
 pub all_ones : (id : Identifier) (octets : List ℕ) (x : ℕ) → CarriesIdentifier id octets → x ≡ 255 → IsRefusedOctet octets x ReservedLength
@@ -165,4 +174,4 @@ unallowed id octets x h form e = indefinite_primitive id.class id.number (subst 
 -- a length octet that makes the length too large
 pub too_large : (id : Identifier) (n left : ℕ) (octets : List ℕ) (x : ℕ) → CarriesLength id n left octets → 6 ≤ left → x ≢ 0 → IsRefusedOctet octets x LengthTooLarge
 too_large id n left octets x h many nonzero =
-    length_too_large id.class id.constructed id.number h.identifier h.digits left h.prefix many nonzero
+    length_too_large id.class id.constructed id.number left h.prefix many nonzero

@@ -23,14 +23,14 @@ use Rattle.tlv_head.proofs.GrammarLemmas.Meaning.{allows_definite}
 pub length-carried : (p : Part) (os : List ℕ) → Carries p os → length os ≤ 136
 length-carried Start os h = rw h (omega arith)
 length-carried (Number id) os h =
-    let few : length h.digits ≤ 8 = h.few in
-    rw h.prefix.octets_are (omega (arith, length-map h.digits (λ d. 128 + d)))
+    let few : length h.prefix.digits ≤ 8 = h.few in
+    rw h.prefix.octets_are (omega (arith, length-map h.prefix.digits (λ d. 128 + d)))
 length-carried (Length id) os h = let few : length os ≤ 10 = h.few in omega arith
 length-carried (Digits id n left) os h =
-    let few : length h.identifier ≤ 10 = h.few in
+    let few : length h.prefix.identifier ≤ 10 = h.few in
     let some : 1 ≤ left = h.prefix.some in
-    let most : length h.digits + left ≤ 126 = h.prefix.few in
-    rw h.prefix.octets_are (omega (arith, length-append h.identifier ((128 + (length h.digits + left)) ∷ h.digits)))
+    let most : length h.prefix.digits + left ≤ 126 = h.prefix.few in
+    rw h.prefix.octets_are (omega (arith, length-append h.prefix.identifier ((128 + (length h.prefix.digits + left)) ∷ h.prefix.digits)))
 length-carried Done os h = rw h (omega arith)
 
 -- the header that is made

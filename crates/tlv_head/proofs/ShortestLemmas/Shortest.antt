@@ -9,7 +9,7 @@ use Rattle.tlv_head.specs.declared.header.Class.{Class}
 use Rattle.tlv_head.specs.declared.header.Size.{Size}
 use Rattle.tlv_head.specs.declared.header.Size.TheVariants.{Definite, Indefinite}
 use Rattle.tlv_head.specs.Header.{HeaderValue, IsHeader, IsHighForm, IsIdentifier, IsLength, announced_length}
-use Rattle.tlv_head.specs.Header.{leading_octet, value_of, with_bit_8}
+use Rattle.tlv_head.specs.Header.{identifier_octet, value_of, with_bit_8}
 use Rattle.tlv_head.specs.Shortest.{HaveOneTag, IsShortestIdentifier, IsShortestLength, ShortestHeadersAreOne}
 use Rattle.tlv_head.specs.Shortest.{ShortestHeadersAreShortest}
 use Rattle.tlv_head.proofs.NumberLemmas.OneValue.{fewest-digits, same-digits}
@@ -47,7 +47,7 @@ identifier-le class constructed n xs ys (inr f) (inr g) s =
     let some : 1 < length xs = omega (arith, count-high class constructed n xs f, length-append f.digits (f.last ∷ [])) in
     let nonzero : slice_index (all_digits f) 0 ≢ 0 =
     λ z. s.leading some
-    (ap (λ (l : List ℕ). slice_index l 1 % 128) f.octets_are ∙ high-first (leading_octet class constructed 31) f.digits f.last f.each f.last_digit ∙ z) in
+    (ap (λ (l : List ℕ). slice_index l 1 % 128) f.octets_are ∙ high-first (identifier_octet class constructed 31) f.digits f.last f.each f.last_digit ∙ z) in
     let fewer : length (all_digits f) ≤ length (all_digits g) =
     fewest 128 (all_digits f) (all_digits g) (lit< tt) nonzero (each-high class constructed n ys g) (sym f.value ∙ g.value) in
     omega (arith, fewer, count-high class constructed n xs f, count-high class constructed n ys g)
@@ -61,7 +61,7 @@ high-same class constructed n xs ys f g e =
     same-digits 128 (all_digits f) (all_digits g) (lit< tt) (each-high class constructed n xs f) (each-high class constructed n ys g) count
     (sym f.value ∙ g.value) in
     let parts : (f.digits ≡ g.digits) × (f.last ≡ g.last) = same_from_push f.digits g.digits f.last g.last digits in
-    f.octets_are ∙ ap₂ (λ (ds : List ℕ) (last : ℕ). leading_octet class constructed 31 ∷ (with_bit_8 ds ++ last ∷ [])) parts.0 parts.1 ∙ sym g.octets_are
+    f.octets_are ∙ ap₂ (λ (ds : List ℕ) (last : ℕ). identifier_octet class constructed 31 ∷ (with_bit_8 ds ++ last ∷ [])) parts.0 parts.1 ∙ sym g.octets_are
 
 -- the same number of identifier octets
 pub identifier-same : (class : Class) (constructed : Bool) (n : ℕ) (xs ys : List ℕ) → IsIdentifier class constructed n xs → IsIdentifier class constructed n ys

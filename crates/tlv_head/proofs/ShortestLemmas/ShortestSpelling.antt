@@ -7,7 +7,7 @@ use Rattle.std.specs.Prelude.{slice_index}
 use Rattle.tlv_head.specs.declared.header.Class.{Class}
 use Rattle.tlv_head.specs.declared.header.Size.{Size}
 use Rattle.tlv_head.specs.declared.header.Size.TheVariants.{Definite, Indefinite}
-use Rattle.tlv_head.specs.Header.{HeaderValue, IsHeader, IsIdentifier, IsLength, announced_length, leading_octet}
+use Rattle.tlv_head.specs.Header.{HeaderValue, IsHeader, IsIdentifier, IsLength, announced_length, identifier_octet}
 use Rattle.tlv_head.specs.Header.{value_of, with_bit_8}
 use Rattle.tlv_head.specs.Shortest.{HasShorter, HeadersHaveAShortest, IsShortestIdentifier, IsShortestLength}
 use Rattle.tlv_head.proofs.ShortestLemmas.Shortest.{high-first, identifier-le, identifier-same, length-le, length-same}
@@ -41,9 +41,9 @@ pub record ShortIdentifier (class : Class) (constructed : Bool) (n : ℕ) : Type
   pub valid : IsIdentifier class constructed n octets
   pub shortest : IsShortestIdentifier n octets
 
-low-form : (class : Class) (constructed : Bool) (n : ℕ) → n < 31 → leading_octet class constructed n ≢ 0 → ShortIdentifier class constructed n
+low-form : (class : Class) (constructed : Bool) (n : ℕ) → n < 31 → identifier_octet class constructed n ≢ 0 → ShortIdentifier class constructed n
 low-form class constructed n small nonzero = record {
-  octets = leading_octet class constructed n ∷ [];
+  octets = identifier_octet class constructed n ∷ [];
   valid = inl (record { small = small; octets_are = refl; nonzero = nonzero });
   shortest = record { single = λ s. refl; leading = λ more. absurd (omega (arith, more)) };
 }
@@ -64,16 +64,16 @@ high-form class constructed n digits last large each below few e =
     let value : n ≡ value_of 128 (r.kept ++ last ∷ []) = e ∙ sym r.value in
     let nonzero : slice_index (r.kept ++ last ∷ []) 0 ≢ 0 = first-kept r.kept last n large value r.first in
     record {
-      octets = leading_octet class constructed 31 ∷ (with_bit_8 r.kept ++ last ∷ []);
+      octets = identifier_octet class constructed 31 ∷ (with_bit_8 r.kept ++ last ∷ []);
       valid = inr (record { digits = r.kept; last = last; each = r.each; last_digit = below; few = omega (arith, r.fewer); value = value; octets_are = refl });
       shortest = record {
         single = λ small. absurd (omega (arith, small, large));
-        leading = λ more z. nonzero (sym (high-first (leading_octet class constructed 31) r.kept last r.each below) ∙ z);
+        leading = λ more z. nonzero (sym (high-first (identifier_octet class constructed 31) r.kept last r.each below) ∙ z);
       };
     }
 
 pub short-identifier : (class : Class) (constructed : Bool) (n : ℕ) (octets : List ℕ) → IsIdentifier class constructed n octets
-    → leading_octet class constructed n ≢ 0 → ShortIdentifier class constructed n
+    → identifier_octet class constructed n ≢ 0 → ShortIdentifier class constructed n
 short-identifier class constructed n octets (inl f) nonzero = low-form class constructed n f.small nonzero
 short-identifier class constructed n octets (inr f) nonzero = elim (cases_lt n 31) [
   | inl small ↦ low-form class constructed n small nonzero
@@ -144,7 +144,7 @@ shortest-there h valid nonzero =
     )
 
 -- a header that is not as short as it can be has a shorter one
-pub shorter-identifier : (h : HeaderValue) → IsHeader h → leading_octet h.class h.constructed h.number ≢ 0
+pub shorter-identifier : (h : HeaderValue) → IsHeader h → identifier_octet h.class h.constructed h.number ≢ 0
     → (IsShortestIdentifier h.number h.identifier → ⊥) → HasShorter (λ k. k.identifier) h
 shorter-identifier h valid nonzero none =
     let i : ShortIdentifier h.class h.constructed h.number = short-identifier h.class h.constructed h.number h.identifier valid.identifier nonzero in

@@ -1,6 +1,6 @@
 //! Numbers that are added to the octets held.
 ghost use Rattle.std.specs.Prelude.{◌≡◌, ◌+◌, ◌<◌, ◌^◌, ◌++◌, decimal, length};
-ghost use Rattle.tlv_io.specs.LineTexts.{HasRoomFor, columns, right_aligned};
+ghost use Rattle.tlv_io.specs.LineTexts.{HasRoomFor, columns, at_right};
 
 use super::HeldOctets;
 use itoa::{Buffer, write_digits};
@@ -102,7 +102,7 @@ impl HeldOctets {
     #[inline(always)]
     pub fn right_8(&mut self, number: u64)
         requires { HasRoomFor self.old 20 }
-        ensures { self.new ≡ self.old ++ right_aligned 8 (decimal number) }
+        ensures { self.new ≡ self.old ++ at_right 8 (decimal number) }
     {
         if number >= 100_000_000 {
             self.number(number);
@@ -119,7 +119,7 @@ impl HeldOctets {
     #[inline(always)]
     pub fn right_6(&mut self, number: u64)
         requires { HasRoomFor self.old 20 }
-        ensures { self.new ≡ self.old ++ right_aligned 6 (decimal number) }
+        ensures { self.new ≡ self.old ++ at_right 6 (decimal number) }
     {
         if number >= 1_000_000 {
             self.number(number);

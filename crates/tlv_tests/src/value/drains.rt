@@ -63,8 +63,8 @@ const LINES: &[u8] = b"       0     17: INTEGER
                    00
 ";
 
-/// The call at which a write failed, if one did, of so many letters and the lines, and whether the drain has then as much
-/// of them as there is room for.
+/// The call at which a write failed, if one did, of so many letters and the lines, and whether the drain has then as
+/// much of them as there is room for.
 fn failing_call_in(room: &mut [u8], letters: usize) -> (Option<Call>, bool) {
     let size = room.len();
     let mut drain = MemDrain::new(room, 100);
@@ -104,7 +104,7 @@ fn drains_without_room(rt: HostRuntime) {
     expect_eq(&rt, seen, [true, true, false, true, true]);
 }
 
-/// Whether the octets of the element fail to be written into so little room where they should, and what there is room for
+/// Whether the octets of the element fail to be written into so little room if they should, and what there is room for
 /// is written.
 fn fails_in(room: &mut [u8], element: &[u8], whole: &[u8]) -> bool {
     let size = room.len();
@@ -126,7 +126,8 @@ fn fills(room: &mut [u8], element: &[u8]) -> bool {
 }
 
 /// The rows of one piece may be more than an `Out` holds. It hands them to the drain with the contents when it has
-/// no room for a further one: 60 rows and the line before them, and then 60 more. The last five rows come with the flush.
+/// no room for a further one: 60 rows and the line before them, and then 60 more. The last five rows come with the
+/// flush.
 #[test]
 fn rows_without_room(rt: HostRuntime) {
     let mut element = [0; 2004];

@@ -7,7 +7,7 @@ use Rattle.std.specs.Str.{is_utf8}
 use Rattle.tlv_head.specs.Header.{HeaderValue, announced_length}
 use Rattle.tlv_value.specs.declared.kind.Kind.TheVariants.{Utf8}
 use Rattle.tlv_value.specs.CheckLaws.{ChecksJoin, FindingsEnd}
-use Rattle.tlv_value.specs.ValueCheckState.{ValueCheckState, all_utf8, value_check_after, new_value_check, new_value_check_of, notes_each, notes_first, facts_in, notes_time, note_each, note_first, note_octets, note_time}
+use Rattle.tlv_value.specs.ValueCheckState.{ValueCheckState, all_utf8, value_check_after, new_value_check, new_value_check_of, notes_each, notes_first, facts_in, notes_time, with_each_noted, with_first_noted, with_octets_noted, with_time_noted}
 use Rattle.tlv_value.specs.Checks.{ContentsFacts, allows_octet, findings_by, is_padded_after, last_octet, type_conditions}
 use Rattle.tlv_value.specs.Types.{is_number_of, object_types, type_number}
 use Rattle.tlv_value.specs.Rows.{full_rows, open_row}
@@ -82,9 +82,9 @@ built-eq s l l' f f' t t' a a' p p' m m' r r' i i' e1 e2 e3 e4 e5 e6 e7 e8 = rw 
 -- what is noted, by what the type asks for
 abbrev noted_by : Bool → Bool → Bool → ValueCheckState → List ℕ → ValueCheckState
 noted_by first each time s octets =
-    if first then note_first s octets
-    else if each then note_each s octets
-    else if time then note_time s octets
+    if first then with_first_noted s octets
+    else if each then with_each_noted s octets
+    else if time then with_time_noted s octets
     else s
 
 abbrev by_kind : Bool → Bool → Bool → ValueCheckState → List ℕ → ValueCheckState
@@ -99,8 +99,8 @@ join-by true e t s x y =
 join-by false true t s x y =
     let l : s.left - length x - length y ≡ s.left - length (x ++ y) = omega (arith, length-append x y) in
     built-eq s (s.left - length x - length y) (s.left - length (x ++ y)) s.first_octets s.first_octets (last_octet (last_octet s.last x) y) (last_octet s.last (x ++ y))
-    (note_each (note_each s x) y).allowed (note_each s (x ++ y)).allowed (note_each (note_each s x) y).padded (note_each s (x ++ y)).padded (note_each (note_each s x) y).formed (note_each s (x ++ y)).formed
-    (note_each (note_each s x) y).row (note_each s (x ++ y)).row s.time s.time
+    (with_each_noted (with_each_noted s x) y).allowed (with_each_noted s (x ++ y)).allowed (with_each_noted (with_each_noted s x) y).padded (with_each_noted s (x ++ y)).padded (with_each_noted (with_each_noted s x) y).formed (with_each_noted s (x ++ y)).formed
+    (with_each_noted (with_each_noted s x) y).row (with_each_noted s (x ++ y)).row s.time s.time
     l refl (last-join s.last x y)
     (and-assoc s.allowed (list_all (allows_octet s.number) x) (list_all (allows_octet s.number) y) ∙ ap (λ (b : Bool). s.allowed && b) (sym (list_all-append (allows_octet s.number) x y)))
     (padded-at (is_number_of object_types s.number) s.padded s.last x y) (formed-at (eqb s.number 12) s.formed s.row x y) (row-at (eqb s.number 12) s.row x y) refl
@@ -129,7 +129,7 @@ findings-end h octets e =
     let n = type_number h in
     ap (λ (c : ContentsFacts). findings_by (type_conditions n c))
     (noted-left (notes_first n) (notes_each n) (notes_time n) (new_value_check h) octets
-    ∙ ap (λ (z : ℕ). facts_in (note_octets (new_value_check_of n z) octets)) (sym e))
+    ∙ ap (λ (z : ℕ). facts_in (with_octets_noted (new_value_check_of n z) octets)) (sym e))
     ∙ sym (noted-same n octets)
 
 -- no octets

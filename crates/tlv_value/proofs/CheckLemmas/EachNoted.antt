@@ -4,7 +4,7 @@ use Rattle.std.specs.List.{list_all}
 use Rattle.std.specs.Prelude.{◌&&◌, ◌||◌, eqb}
 use Rattle.std.proofs.lemmas.Bool.Decides.{nat_tests}
 use Rattle.tlv_value.specs.Types.{is_number_of, object_types}
-use Rattle.tlv_value.specs.ValueCheckState.{ValueCheckState, all_utf8, notes_each, note_each}
+use Rattle.tlv_value.specs.ValueCheckState.{ValueCheckState, all_utf8, notes_each, with_each_noted}
 use Rattle.tlv_value.specs.Checks.{allows_octet, is_padded_after, last_octet}
 use Rattle.tlv_value.specs.declared.kind.Kind.TheVariants.{Utf8}
 use Rattle.tlv_value.specs.Rows.{full_rows, open_row}
@@ -14,7 +14,7 @@ and-true : (k : Bool) → (k && true) ≡ k
 and-true true = refl
 and-true false = refl
 
-pub nothing-noted : (s : ValueCheckState) (octets : List ℕ) → notes_each s.number ≡ false → record (note_each s octets) { last = s.last } ≡ s
+pub nothing-noted : (s : ValueCheckState) (octets : List ℕ) → notes_each s.number ≡ false → record (with_each_noted s octets) { last = s.last } ≡ s
 nothing-noted s octets none =
     let all : list_all (allows_octet s.number) octets ≡ true =
     all-other s.number octets (λ e. grind (arith, nat_tests, e, none)) (λ e. grind (arith, nat_tests, e, none)) (λ e. grind (arith, nat_tests, e, none)) (λ e. grind (arith, nat_tests, e, none)) in
@@ -24,7 +24,7 @@ nothing-noted s octets none =
 
 -- an object identifier
 pub object-noted : (s : ValueCheckState) (octets : List ℕ) → is_number_of object_types s.number ≡ true
-    → record s { padded = s.padded || is_padded_after s.last octets; last = last_octet s.last octets } ≡ note_each s octets
+    → record s { padded = s.padded || is_padded_after s.last octets; last = last_octet s.last octets } ≡ with_each_noted s octets
 object-noted s octets object =
     let all : list_all (allows_octet s.number) octets ≡ true =
     all-other s.number octets (λ e. grind (arith, nat_tests, e, object)) (λ e. grind (arith, nat_tests, e, object)) (λ e. grind (arith, nat_tests, e, object)) (λ e. grind (arith, nat_tests, e, object)) in
@@ -33,7 +33,7 @@ object-noted s octets object =
 
 -- a UTF8String
 pub text-noted : (s : ValueCheckState) (octets : List ℕ) → s.number ≡ 12
-    → record s { formed = s.formed && all_utf8 (full_rows Utf8 s.row octets); row = open_row Utf8 s.row octets; last = last_octet s.last octets } ≡ note_each s octets
+    → record s { formed = s.formed && all_utf8 (full_rows Utf8 s.row octets); row = open_row Utf8 s.row octets; last = last_octet s.last octets } ≡ with_each_noted s octets
 text-noted s octets is_text =
     let all : list_all (allows_octet s.number) octets ≡ true =
     all-other s.number octets (λ e. grind (arith, nat_tests, e, is_text)) (λ e. grind (arith, nat_tests, e, is_text)) (λ e. grind (arith, nat_tests, e, is_text)) (λ e. grind (arith, nat_tests, e, is_text)) in
@@ -43,5 +43,5 @@ text-noted s octets is_text =
 
 -- a string with a test of each octet
 pub characters-noted : (s : ValueCheckState) (octets : List ℕ) → is_number_of object_types s.number ≡ false → eqb s.number 12 ≡ false
-    → record s { allowed = s.allowed && list_all (allows_octet s.number) octets; last = last_octet s.last octets } ≡ note_each s octets
+    → record s { allowed = s.allowed && list_all (allows_octet s.number) octets; last = last_octet s.last octets } ≡ with_each_noted s octets
 characters-noted s octets object text = rw (object, text) refl

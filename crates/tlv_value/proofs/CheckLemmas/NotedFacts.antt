@@ -6,11 +6,10 @@ use Rattle.std.specs.List.{list_all}
 use Rattle.std.specs.Prelude.{slice_index}
 use Rattle.tlv_value.specs.declared.finding.Finding.{Finding}
 use Rattle.tlv_value.specs.declared.finding.Finding.TheVariants.{B06, B07, B08, B13, B14, B15, B18, B19, S02, S03, S04}
-use Rattle.tlv_value.specs.Checks.{ContentsFacts, allows, allows_octet, facts_of, finding_if, findings_by, is_padded_integer, last_octet, type_conditions}
-use Rattle.tlv_value.specs.Private.Checks.{findings_of}
+use Rattle.tlv_value.specs.Checks.{ContentsFacts, allows, allows_octet, facts_of, finding_if, findings_by, is_padded_integer, last_octet, type_conditions, type_findings}
 use Rattle.tlv_value.specs.Types.{character_types, is_number_of}
 use Rattle.tlv_value.proofs.CheckLemmas.CheckWords.{allows_both}
-use Rattle.tlv_value.specs.ValueCheckState.{all_utf8, facts_in, is_allowed, new_value_check_of, notes_each, note_each, note_octets}
+use Rattle.tlv_value.specs.ValueCheckState.{all_utf8, facts_in, is_allowed, new_value_check_of, notes_each, with_each_noted, with_octets_noted}
 use Rattle.tlv_value.specs.Rows.{full_rows, open_row}
 use Rattle.tlv_value.specs.declared.kind.Kind.TheVariants.{Utf8}
 use Rattle.std.specs.Str.{is_utf8}
@@ -20,11 +19,11 @@ use Rattle.tlv_value.specs.Times.{Form, canonical_generalized_time_form, canonic
 
 -- what is noted of all contents of the type with this number
 abbrev pub noted : ℕ → List ℕ → ContentsFacts
-noted number c = facts_in (note_octets (new_value_check_of number (length c)) c)
+noted number c = facts_in (with_octets_noted (new_value_check_of number (length c)) c)
 
 -- what is found by it is what is found by the whole contents
 abbrev Same : ℕ → List ℕ → Type 0
-Same n c = findings_of n c ≡ findings_by (type_conditions n (noted n c))
+Same n c = type_findings n c ≡ findings_by (type_conditions n (noted n c))
 
 first-noted : (c : List ℕ) → slice_index c 0 ≡ slice_index (take 2 c) 0
 first-noted [] = refl
@@ -115,10 +114,10 @@ allowed-each n c true = ap (λ (f : Bool). f && list_all (allows_octet n) c) (ro
 allowed-each n c false = refl
 
 other-allowed : (n : ℕ) (c : List ℕ) → eqb n 1 ≡ false → eqb n 2 ≡ false → eqb n 3 ≡ false → eqb n 10 ≡ false → eqb n 23 ≡ false → eqb n 24 ≡ false
-    → is_allowed (note_octets (new_value_check_of n (length c)) c) ≡ allows n c
+    → is_allowed (with_octets_noted (new_value_check_of n (length c)) c) ≡ allows n c
 other-allowed n c e1 e2 e3 e10 e23 e24 = rw (e1, e2, e3, e10, e23, e24) (by (notes_each n) refl) ∙ allows-both n c
   where
-    by : (k : Bool) → notes_each n ≡ k → is_allowed (if k then note_each (new_value_check_of n (length c)) c else new_value_check_of n (length c)) ≡ allows_both n c
+    by : (k : Bool) → notes_each n ≡ k → is_allowed (if k then with_each_noted (new_value_check_of n (length c)) c else new_value_check_of n (length c)) ≡ allows_both n c
     by true e = allowed-each n c (eqb n 12)
     by false e = ap is_allowed (sym (nothing-noted (new_value_check_of n (length c)) c e)) ∙ allowed-each n c (eqb n 12)
 

@@ -6,8 +6,8 @@ use Rattle.std.proofs.lemmas.Bool.{or_cases, leb-true, le-leb}
 use Rattle.std.proofs.lemmas.Bool.Decides.{nat_tests}
 use Rattle.std.proofs.lemmas.List.Folds.{list_any-append}
 use Rattle.std.specs.Char.{is_ascii_digit}
-use Rattle.tlv_value.specs.Times.{◌then◌, ◌or◌, Form, canonical_fraction, canonical_generalized_time_form, canonical_utc_time_form, day, digits, fraction, generalized_time_form, general_zone, has_form, hour, is_rest_empty, mark, maybe, minute, no_octets, one, second, sign, two, utc_time_form}
-use Rattle.tlv_value.specs.Private.Checks.{general_time_findings, time_findings, utc_time_findings}
+use Rattle.tlv_value.specs.Times.{◌then◌, ◌or◌, Form, canonical_fraction, canonical_generalized_time_form, canonical_utc_time_form, day, digits, fraction, generalized_time_form, generalized_zone, has_form, hour, is_rest_empty, mark, maybe, minute, no_octets, one, second, sign, two, utc_time_form}
+use Rattle.tlv_value.specs.Private.Checks.{generalized_time_findings, time_findings, utc_time_findings}
 
 abbrev is_nil : List ℕ → Bool
 is_nil [] = true
@@ -187,7 +187,7 @@ utc-within =
     within-prefixes _ _ _ _ (within-same (two 0 99)) (within-prefixes _ _ _ _ (within-same day) (within-prefixes _ _ _ _ within-hour
     (within-prefix _ _ _ (within-same minute) (within-second (within-first (sign then hour then minute) (within-same (mark 90)))))))
 
-general-tail : Within (maybe canonical_fraction then mark 90) (maybe fraction then maybe general_zone)
+general-tail : Within (maybe canonical_fraction then mark 90) (maybe fraction then maybe generalized_zone)
 general-tail =
     within-then
     (within-or (within-then (within-first (mark 44) (within-same (mark 46))) within-digits) (within-same no_octets))
@@ -224,5 +224,5 @@ utc_clear octets = clear-within utc-within octets
 
 pub general_clear :
     (octets : List ℕ)
-    → has_form canonical_generalized_time_form octets ≡ eqb (length (general_time_findings octets)) 0
+    → has_form canonical_generalized_time_form octets ≡ eqb (length (generalized_time_findings octets)) 0
 general_clear octets = clear-within general-within octets

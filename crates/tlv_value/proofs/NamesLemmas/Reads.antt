@@ -67,7 +67,12 @@ module _ (old middle new : SourceState) (octets : List ℕ) (x : Given old middl
     pub gives_long : {Z : Type 0} → names_limit - length octets < n → Gives {Z = Z} old new (Err TooLarge)
     gives_long more = record {
       pieces = pieces_so;
-      gives = (n, r.last, omega (arith, more, most, length_all), omega (arith, most, length_all));
+      gives = record {
+        count = n;
+        gave_last = r.last;
+        beyond = omega (arith, more, most, length_all);
+        before = omega (arith, most, length_all);
+      };
       failures = same_failures;
     }
 
@@ -85,7 +90,12 @@ module _ (old middle new : SourceState) (octets : List ℕ) (x : Given old middl
 
 -- the octets that were read say the result
 said : {Z : Type 0} (new : SourceState) (octets : List ℕ) (v : Vec ℕ Z) (r : Result NamesTable NamesFault) → GivesAll new octets (Ok v) → names_of v.items ≡ r → IsWholeFile new octets r
-said new octets v r x n = (x.1, x.2, subst (λ (l : List ℕ). length l ≤ names_limit) (sym x.0) x.3, ap names_of x.0 ∙ n)
+said new octets v r x n = record {
+  ended = x.1;
+  at_end = x.2;
+  within = subst (λ (l : List ℕ). length l ≤ names_limit) (sym x.0) x.3;
+  result_is = ap names_of x.0 ∙ n;
+}
 
 pub judged : {Y Z : Type 0} (old new : SourceState) (v : Vec ℕ Y) (result : Result (BTreeMap (Vec ℕ Z) (Vec ℕ Z)) NamesFault) → Gives old new (Ok v) → IsTableOf v.items result → ReadsFrom old new (result_in result)
 judged old new v (Ok m) x n = record { pieces = x.pieces; result_is = said new (octets_given x.pieces) v (Ok (table_in m)) x.gives n; failures = x.failures }

@@ -8,7 +8,7 @@ use Rattle.std.proofs.lemmas.Bool.{or_cases, cases_lt, and_parts, and_from, and_
 use Rattle.std.proofs.lemmas.List.{take_all, take_more, take_rest}
 use Rattle.std.proofs.lemmas.List.Splits.{slice_split_first}
 use Rattle.std.specs.List.{onto_first}
-use Rattle.tlv_value.specs.Names.{are_first_arcs, dotted_parts, entry, entry_line, is_arc, is_blank, is_dotted, is_name, lines, may_begin, names_line, no_name, pair_line, without_first_blanks, without_last_blanks, without_outer_blanks, without_return}
+use Rattle.tlv_value.specs.Names.{are_first_arcs, dotted_parts, entry, entry_line, is_arc, is_blank, is_dotted, is_name, file_lines, may_begin, names_line, no_name, pair_line, without_first_blanks, without_last_blanks, without_outer_blanks, without_return}
 use Rattle.std.specs.Char.{is_ascii_digit}
 use Rattle.std.specs.Str.Parse.{AllDigits, digits_value}
 use Rattle.std.proofs.lemmas.Str.{digit_value_digit}
@@ -28,12 +28,12 @@ drop-one n x xs = let e : 1 + n ≡ suc n = omega arith in rw e refl
 
 -- the first line ends before the first LF
 
-line-at : (b : Bool) (x n : ℕ) (xs : List ℕ) → onto_first x (lines xs) ≡ (x ∷ take n xs) ∷ lines (drop (n + 1) xs)
-    → cond b ([] ∷ lines xs) (onto_first x (lines xs)) ≡ take (cond (not b) (1 + n) 0) (x ∷ xs) ∷ lines (drop (cond (not b) (1 + n) 0 + 1) (x ∷ xs))
+line-at : (b : Bool) (x n : ℕ) (xs : List ℕ) → onto_first x (file_lines xs) ≡ (x ∷ take n xs) ∷ file_lines (drop (n + 1) xs)
+    → cond b ([] ∷ file_lines xs) (onto_first x (file_lines xs)) ≡ take (cond (not b) (1 + n) 0) (x ∷ xs) ∷ file_lines (drop (cond (not b) (1 + n) 0 + 1) (x ∷ xs))
 line-at true x n xs h = refl
 line-at false x n xs h = rw (take-more n x xs, drop-more n x xs) h
 
-pub first_line : (xs : List ℕ) → 0 < length xs → lines xs ≡ before_first (is_mark 10) xs ∷ lines (after_first (is_mark 10) xs)
+pub first_line : (xs : List ℕ) → 0 < length xs → file_lines xs ≡ before_first (is_mark 10) xs ∷ file_lines (after_first (is_mark 10) xs)
 first_line [] some = absurd (omega arith)
 first_line (x ∷ []) some = line-at (x == 10) x 0 [] refl
 first_line (x ∷ y ∷ ys) some =

@@ -1,4 +1,4 @@
--- Full rows of pairs of digits, from where their octets stand.
+-- Full rows of pairs of digits, from where their octets are.
 use Rattle.std.proofs.Common.{◌≡◌, inl, ℕ, zero, suc, ◌+◌, ◌-◌, ◌*◌, ◌/◌, ◌<◌, ◌≤◌, false, true, List, [], ◌∷◌, ◌++◌, length, take, drop, get_or, refl, sym, ap, ap₂, ◌∙◌, arith, append_assoc, append-nil, length-append, length-drop, take-append-drop}
 use Rattle.std.specs.Prelude.{None, eqb}
 use Rattle.std.proofs.lemmas.Bool.Decides.{nat_tests}

@@ -16,7 +16,7 @@ use Rattle.tlv_value.proofs.RowLemmas.FilledRows.{row_begun, rows_filled}
 pub one_fits : (kind : Kind) → 1 ≤ row_size kind
 one_fits kind = row-some (is_text kind)
 
--- and for what wants to stand in one row with it
+-- and for what is to be in one row with it
 character_fits : (kind : Kind) (x : ℕ) → character_length kind x ≤ row_size kind
 character_fits Utf8 x = character-fits x
 character_fits kind x = one_fits kind

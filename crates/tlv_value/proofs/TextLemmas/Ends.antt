@@ -9,11 +9,11 @@ use Rattle.tlv_value.specs.declared.kind.Kind.TheVariants.{Octets, Boolean, Inte
 use Rattle.tlv_value.specs.declared.layout.Layout.{Layout}
 use Rattle.tlv_value.specs.Layout.{columns, margin, row_line}
 use Rattle.tlv_value.specs.Private.ObjectLines.{object_lines, rest_of_lines}
-use Rattle.tlv_value.specs.Private.PrimitiveLines.{line_prefix, primitive_lines}
+use Rattle.tlv_value.specs.Private.PrimitiveLines.{line_prefix}
 use Rattle.tlv_value.specs.declared.primitive.Primitive.{Primitive}
 use Rattle.tlv_value.specs.Rows.{full_rows}
 use Rattle.tlv_value.specs.ValueLines.{row_lines}
-use Rattle.tlv_value.specs.ValueTextState.{RowsState, ValueTextState, contents_lines, end_lines, primitive_line}
+use Rattle.tlv_value.specs.ValueTextState.{RowsState, ValueTextState, contents_lines, end_lines, primitive_line, primitive_lines}
 use Rattle.tlv_value.specs.Value.{NameOf, Value, bit_count, bits_value, boolean_value, integer_value, is_long, is_readable, long_text, most_on_line, no_names, octets_value, row_octets, row_text, short_value, used_digits, value_on_line}
 use Rattle.tlv_value.specs.Private.UndottedText.{undotted_text}
 

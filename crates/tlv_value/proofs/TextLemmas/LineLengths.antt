@@ -3,7 +3,7 @@ use Rattle.std.proofs.Common.{◌≡◌, ℕ, ◌+◌, ◌-◌, ◌^◌, ◌<◌
 use Rattle.std.specs.Prelude.{decimal}
 use Rattle.std.proofs.lemmas.Fmt.{length-decimal-le}
 use Rattle.std.proofs.lemmas.List.{length-replicate, length-take}
-use Rattle.tlv_value.specs.Layout.{columns, right_aligned, spaces}
+use Rattle.tlv_value.specs.Layout.{columns, at_right, spaces}
 use Rattle.tlv_io.proofs.BufferTexts.{right-short}
 
 -- a text was added
@@ -21,6 +21,6 @@ number_short old new n fits e = omega (arith, added old new (decimal n) e, lengt
 -- the first columns
 pub columns_short : (offset : ℕ) (word : List ℕ) → offset < 2 ^ 64 → length word ≤ 20 → length (columns offset word) ≤ 43
 columns_short offset word fits few =
-    let first : List ℕ = right_aligned 8 (decimal offset) in
-    let last : length (right_aligned 6 word) ≤ 20 = omega (arith, length-append (spaces (6 - length word)) word, length-replicate {A = ℕ} (6 - length word) 32) in
-    omega (arith, length-append (first ++ 32 ∷ [] ++ right_aligned 6 word) (58 ∷ 32 ∷ []), length-append (first ++ 32 ∷ []) (right_aligned 6 word), length-append first (32 ∷ []), right-short 8 offset (omega arith) fits, last)
+    let first : List ℕ = at_right 8 (decimal offset) in
+    let last : length (at_right 6 word) ≤ 20 = omega (arith, length-append (spaces (6 - length word)) word, length-replicate {A = ℕ} (6 - length word) 32) in
+    omega (arith, length-append (first ++ 32 ∷ [] ++ at_right 6 word) (58 ∷ 32 ∷ []), length-append (first ++ 32 ∷ []) (at_right 6 word), length-append first (32 ∷ []), right-short 8 offset (omega arith) fits, last)

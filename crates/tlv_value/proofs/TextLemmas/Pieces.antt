@@ -10,9 +10,9 @@ use Rattle.tlv_value.specs.declared.primitive.Primitive.{Primitive}
 use Rattle.tlv_value.specs.Kind.{kind_of}
 use Rattle.tlv_value.specs.Laws.{LinesBegin, LinesEnd, LinesGoOn, PiecesJoin}
 use Rattle.tlv_value.specs.Rows.{full_rows, full_rows_in, open_row, open_row_in, rows_of}
-use Rattle.tlv_value.specs.Private.PrimitiveLines.{lines_in_steps, primitive_lines}
+use Rattle.tlv_value.specs.Private.PrimitiveLines.{lines_in_steps}
 use Rattle.tlv_value.specs.ValueLines.{has_line, open_lines, row_lines, whole_lines}
-use Rattle.tlv_value.specs.ValueTextState.{RowsState, ValueTextState, begin_lines, contents_lines, end_lines, first_rows, first_rows_after, full_row_lines, new_value_text_of, new_value_text, primitive_line, new_primitive, rows_after, rows_state_after, state_for, value_text_after}
+use Rattle.tlv_value.specs.ValueTextState.{RowsState, ValueTextState, begin_lines, contents_lines, end_lines, first_rows, first_rows_after, full_row_lines, new_value_text_of, new_value_text, primitive_line, primitive_lines, new_primitive, rows_after, rows_state_after, value_text_for, value_text_after}
 use Rattle.tlv_value.specs.Value.{NameOf, is_long, long_text, long_value, row_octets, short_value}
 use Rattle.std.proofs.lemmas.Bool.Decides.{nat_tests}
 use Rattle.tlv_value.proofs.TextLemmas.Puts.{row_lines-append}
@@ -203,8 +203,8 @@ pub lines-go_on : LinesGoOn
 lines-go_on h layout octets x =
     open-lines h layout (octets ++ x)
     ∙ ap (λ (t : List ℕ). begin_lines (new_value_text h layout) ++ t) (pieces-join (new_value_text h layout) octets x).1
-    ∙ sym (append_assoc (begin_lines (new_value_text h layout)) (contents_lines (new_value_text h layout) octets) (contents_lines (state_for h layout octets) x))
-    ∙ ap (λ (t : List ℕ). t ++ contents_lines (state_for h layout octets) x) (sym (open-lines h layout octets))
+    ∙ sym (append_assoc (begin_lines (new_value_text h layout)) (contents_lines (new_value_text h layout) octets) (contents_lines (value_text_for h layout octets) x))
+    ∙ ap (λ (t : List ℕ). t ++ contents_lines (value_text_for h layout octets) x) (sym (open-lines h layout octets))
 
 long-some : (kind : Kind) (n size : ℕ) → n ≡ size → is_long kind size ≡ true → 1 ≤ n
 long-some kind n size e h = grind (arith, nat_tests)

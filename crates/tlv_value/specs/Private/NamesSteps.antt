@@ -10,28 +10,30 @@ use Rattle.std.specs.Borrow.{Bor}
 use Rattle.std.specs.BTreeMap.{BTreeMap}
 use Rattle.std.specs.Io.KnownBytes.{IsAtEnd}
 use Rattle.tlv_io.specs.Device.{Pieces, SourceState, failed, gave, octets_given}
-use Rattle.tlv_value.specs.Names.{Entry, Line, NamesTable, entry, has_entry, long_line, most_names, names_of}
-use Rattle.tlv_value.specs.Names.{no_entry, no_name, no_oid}
+use Rattle.tlv_value.specs.Names.{Entry, NamesLine, NamesTable, entry, has_entry, long_line, most_names, names_of}
+use Rattle.tlv_value.specs.Names.{no_entry, no_name, no_object_identifier}
 use Rattle.tlv_value.specs.NamesReading.{IsTooLong, names_failures_after, names_limit}
 use Rattle.tlv_value.specs.declared.names.fault.NamesFault.{NamesFault}
 use Rattle.tlv_value.specs.declared.names.fault.NamesFault.TheVariants.{BadOid, BadName, Repeated, TooLarge}
 use Rattle.tlv_value.specs.declared.names.fault.NamesFault.TheVariants.{ReadFailed, Memory}
 use Rattle.tlv_value.specs.NamesFields.{texts_in, table_in}
 
-abbrev pub texts_of : Result (Option (Bor (List ℕ) × Bor (List ℕ))) NamesFault → Result (Option Entry) NamesFault
+abbrev pub texts_of :
+    Result (Option (Bor (List ℕ) × Bor (List ℕ))) NamesFault → Result (Option Entry) NamesFault
 texts_of (Ok pair) = Ok (option_map (λ p. (p.0.now, p.1.now)) pair)
 texts_of (Err fault) = Err fault
 
 -- the entry of a line with this number, or why it is refused by itself
-abbrev pub entry_or_refusal : ℕ → Line → Result (Option Entry) NamesFault
+abbrev pub entry_or_refusal : ℕ → NamesLine → Result (Option Entry) NamesFault
 entry_or_refusal number no_entry = Ok None
 entry_or_refusal number (entry dotted name) = Ok (Some (dotted, name))
-entry_or_refusal number no_oid = Err (BadOid number)
+entry_or_refusal number no_object_identifier = Err (BadOid number)
 entry_or_refusal number no_name = Err (BadName number)
 entry_or_refusal number long_line = Err TooLarge
 
 -- an entry is added to others, or refused
-abbrev pub Adds : {T : Type 0} → ℕ → List ℕ → List ℕ → List Entry → List Entry → Result T NamesFault → Type 0
+abbrev pub Adds : {T : Type 0}
+    → ℕ → List ℕ → List ℕ → List Entry → List Entry → Result T NamesFault → Type 0
 Adds number dotted name old new (Ok done) =
     (has_entry dotted old ≡ false)
     × (length old < most_names)
@@ -45,10 +47,10 @@ Adds number dotted name old new (Err ReadFailed) = ⊥
 Adds number dotted name old new (Err Memory) = Unit {0}
 
 -- what a line says is added to the entries, or refused
-abbrev pub AddsLine : {T : Type 0} → ℕ → Line → List Entry → List Entry → Result T NamesFault → Type 0
+abbrev pub AddsLine : {T : Type 0} → ℕ → NamesLine → List Entry → List Entry → Result T NamesFault → Type 0
 AddsLine number no_entry old new result = IsOk result × (new ≡ old)
 AddsLine number (entry dotted name) old new result = Adds number dotted name old new result
-AddsLine number no_oid old new result = IsErrOf result (BadOid number)
+AddsLine number no_object_identifier old new result = IsErrOf result (BadOid number)
 AddsLine number no_name old new result = IsErrOf result (BadName number)
 AddsLine number long_line old new result = IsErrOf result TooLarge
 
@@ -62,7 +64,8 @@ IsTableOf octets (Err TooLarge) = names_of octets ≡ Err TooLarge
 IsTableOf octets (Err ReadFailed) = ⊥
 IsTableOf octets (Err Memory) = Unit {0}
 
-abbrev pub result_in : {Z : Type 0} → Result (BTreeMap (Vec ℕ Z) (Vec ℕ Z)) NamesFault → Result NamesTable NamesFault
+abbrev pub result_in : {Z : Type 0}
+    → Result (BTreeMap (Vec ℕ Z) (Vec ℕ Z)) NamesFault → Result NamesTable NamesFault
 result_in (Ok m) = Ok (table_in m)
 result_in (Err fault) = Err fault
 

@@ -1,6 +1,6 @@
 -- What has room in a row.
 use Rattle.std.specs.Prelude.{◌≡◌, ℕ, ◌+◌, ◌<◌, Bool, true, List, slice_index}
-use Rattle.tlv_io.proofs.CutOf.{has_room_by}
+use Rattle.tlv_io.specs.Cuts.{has_room_by}
 use Rattle.tlv_value.specs.declared.kind.Kind.{Kind}
 use Rattle.tlv_value.specs.RowSizes.{character_length, row_size}
 
@@ -10,4 +10,5 @@ has_room kind octets x = has_room_by (row_size kind) (character_length kind) oct
 
 -- the first n of the octets have room after so many others
 abbrev pub HaveRoom : Kind → ℕ → List ℕ → ℕ → Type 0
-HaveRoom kind begun octets n = (i : ℕ) → i < n → has_room kind (begun + i) (slice_index octets i) ≡ true
+HaveRoom kind begun octets n =
+    (i : ℕ) → i < n → has_room kind (begun + i) (slice_index octets i) ≡ true

@@ -26,7 +26,8 @@ has_ascii Ucs4 = false
 
 -- the first n of the octets are such characters
 abbrev pub AreUnescaped : Kind → List ℕ → ℕ → Type 0
-AreUnescaped kind octets n = (0 < n → has_ascii kind ≡ true) × ((i : ℕ) → i < n → is_unescaped (slice_index octets i) ≡ true)
+AreUnescaped kind octets n =
+    (0 < n → has_ascii kind ≡ true) × ((i : ℕ) → i < n → is_unescaped (slice_index octets i) ≡ true)
 
 -- the first n of the octets were written after what was held, if there is room
 abbrev pub IsPart : Kind → List ℕ → List ℕ → List ℕ → ℕ → Type 0

@@ -14,10 +14,10 @@ use Rattle.tlv_walk.proofs.GrammarLemmas.Endings.{offset_in}
 
 -- no cause in the octets of a header is that the input ends too early
 octet-final : (o : List ℕ) (x : ℕ) (code : FaultCode) → IsRefusedOctet o x code → IsFinalCode code
-octet-final o x code (tag_too_long c k ds a b d) = (λ z. cc, λ z. cc)
+octet-final o x code (tag_too_long c k a b d) = (λ z. cc, λ z. cc)
 octet-final o x code (reserved_length c k n i e) = (λ z. cc, λ z. cc)
 octet-final o x code (indefinite_primitive c n i e) = (λ z. cc, λ z. cc)
-octet-final o x code (length_too_large c k n i ds l a b d) = (λ z. cc, λ z. cc)
+octet-final o x code (length_too_large c k n l a b d) = (λ z. cc, λ z. cc)
 
 -- none of the causes is that the input ends too early
 cause-final : (p : Place) (x : ℕ) (e : Forest) (code : FaultCode) → IsFault p x e code → IsFinalCode code

@@ -3,7 +3,7 @@
 use Rattle.std.proofs.Common.{◌≡◌, ◌≢◌, not, ℕ, ◌+◌, ◌*◌, ◌^◌, ◌<◌, ◌≤◌, Bool, true, false, List, [], ◌∷◌, ◌++◌, length, refl, sym, ap, ap₂, ◌∙◌, arith, subst, length-append}
 use Rattle.tlv_head.specs.declared.header.Size.{Size}
 use Rattle.tlv_head.specs.declared.header.Size.TheVariants.{Definite}
-use Rattle.tlv_head.specs.Header.{HeaderValue, IsHeader, is_wrapper, leading_octet, octets_of}
+use Rattle.tlv_head.specs.Header.{HeaderValue, IsHeader, is_wrapper, identifier_octet, octets_of}
 use Rattle.tlv_head.proofs.ShortestLemmas.Shortest.{identifier-some, lengths-some}
 use Rattle.tlv_walk.specs.Alike.{AreAlike, HaveNoUniversalZero, holders, nothing, padding, primitives}
 use Rattle.tlv_walk.specs.Forest.{Forest, NoMore, PaddingOctet, Primitive, Holder, OpenPrimitive, OpenHolder, OpenBitString, OpenHeader, OpenEndOctets, end_octets, extent, lead, opening, spelling}
@@ -247,7 +247,7 @@ module _ (form : Bool → Bool) (definite : form false ≡ false) where
       let primitive : h.constructed ≡ false = not-holding h.constructed (is_wrapper h.named h.class h.constructed h.number h.size) u.0.form in
       let o : Octets h false (Definite (length c)) =
       octets-for h false (Definite (length c)) (moved h.class h.constructed false h.number h.identifier primitive u.0.valid.identifier)
-      (subst (λ (k : Bool). leading_octet h.class k h.number ≢ 0) primitive low.0) refl (omega (arith, count, few)) in
+      (subst (λ (k : Bool). identifier_octet h.class k h.number ≢ 0) primitive low.0) refl (omega (arith, count, few)) in
       spelling-primitive p h c rest primitive u.0.valid o (respelled (place_after p (length (octets_of h) + length c)) rest (omega (arith, count, few)) u.2 low.1)
   respelled p (Holder h inside rest) few u low =
       let count : length (spelling (Holder h inside rest)) ≡ extent h inside + length (spelling rest) = length-holder h inside rest in

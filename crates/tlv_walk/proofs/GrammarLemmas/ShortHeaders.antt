@@ -6,7 +6,7 @@ use Rattle.std.specs.Prelude.{if◌then◌else◌}
 use Rattle.tlv_head.specs.declared.header.Class.{Class}
 use Rattle.tlv_head.specs.declared.header.Size.{Size}
 use Rattle.tlv_head.specs.declared.header.Size.TheVariants.{Definite, Indefinite}
-use Rattle.tlv_head.specs.Header.{AllowsSize, HeaderValue, IsHeader, IsIdentifier, announced_length, is_universal, is_wrapper, leading_octet}
+use Rattle.tlv_head.specs.Header.{AllowsSize, HeaderValue, IsHeader, IsIdentifier, announced_length, is_universal, is_wrapper, identifier_octet}
 use Rattle.tlv_head.specs.Shortest.{IsShortest}
 use Rattle.tlv_head.proofs.ShortestLemmas.LengthOctets.{FewLengths, few-lengths}
 use Rattle.tlv_head.proofs.ShortestLemmas.Shortest.{identifier-le, identifier-some}
@@ -53,7 +53,7 @@ few-octets (Definite n) l few = omega (arith, few)
 few-octets Indefinite l few = omega (arith, ap length l.valid)
 
 pub octets-for : (h : HeaderValue) (constructed : Bool) (size : Size) → IsIdentifier h.class constructed h.number h.identifier
-    → leading_octet h.class constructed h.number ≢ 0
+    → identifier_octet h.class constructed h.number ≢ 0
     → AllowsSize constructed size → announced_length size < 2 ^ 40 → Octets h constructed size
 octets-for h constructed size valid nonzero allowed below =
     let i : ShortIdentifier h.class constructed h.number = short-identifier h.class constructed h.number h.identifier valid nonzero in
@@ -169,7 +169,7 @@ string-of true class number size e =
     record { universal = parts.0; kind = number-of number (not (eqb (announced_length size) 0)) parts.1 }
 string-of false class number size e = absurd (true≢false (sym e))
 
-string-nonzero : (class : Class) (number : ℕ) → IsString class number → leading_octet class false number ≢ 0
+string-nonzero : (class : Class) (number : ℕ) → IsString class number → identifier_octet class false number ≢ 0
 string-nonzero class number s z = elim s.kind [ inl four ↦ omega (arith, z, four) | inr three ↦ omega (arith, z, three) ]
 
 -- with as many contents octets as it has before what it holds, and more
@@ -181,12 +181,12 @@ string-wraps class number false n s e = elim s.kind [
   | inr three ↦ rw (s.universal, three) (ap not (ne_eqb (1 + n) 0 (λ e. omega (arith, e))))
 ]
 
-constructed-nonzero : (class : Class) (n : ℕ) → leading_octet class true n ≢ 0
+constructed-nonzero : (class : Class) (n : ℕ) → identifier_octet class true n ≢ 0
 constructed-nonzero class n z = omega (arith, z)
 
 -- what was held is so again
 pub record Holds (h : HeaderValue) (constructed : Bool) (t : Bool) (n : ℕ) : Type 0 where
-  pub nonzero : leading_octet h.class constructed h.number ≢ 0
+  pub nonzero : identifier_octet h.class constructed h.number ≢ 0
   pub again : (constructed || is_wrapper (not constructed) h.class constructed h.number (size-for t (length (lead-for constructed h.number) + n))) ≡ true
 
 pub holds-again : (h : HeaderValue) (constructed t : Bool) (n : ℕ) → (constructed ≡ false → t ≡ false)

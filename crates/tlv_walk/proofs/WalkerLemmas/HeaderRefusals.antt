@@ -45,11 +45,11 @@ completes-two r x h c e =
 
 -- what is refused for the octets of a header has octets before it
 refused-after : (o : List ℕ) (x : ℕ) (code : FaultCode) → IsRefusedOctet o x code → o ≡ [] → ⊥
-refused-after o x code (tag_too_long c k ds front eight flag) e = let z : [] ≡ _ ∷ _ = sym e ∙ front.octets_are in absurd (cc)
+refused-after o x code (tag_too_long c k front eight flag) e = let z : [] ≡ _ ∷ _ = sym e ∙ front.octets_are in absurd (cc)
 refused-after o x code (reserved_length c k n i ones) e = identifier-nil c k n o i e
 refused-after o x code (indefinite_primitive c n i mark) e = identifier-nil c false n o i e
-refused-after o x code (length_too_large c k n i ds left front many nonzero) e =
-    omega (arith, ap length (sym e ∙ front.octets_are), length-append i ((128 + (length ds + left)) ∷ ds))
+refused-after o x code (length_too_large c k n left front many nonzero) e =
+    omega (arith, ap length (sym e ∙ front.octets_are), length-append front.identifier ((128 + (length front.digits + left)) ∷ front.digits))
 
 -- so a refusal has octets before it, or no room
 pub refused-some : (code : FaultCode) (r : HeadReaderState) (x : ℕ) (room : Option ℕ) (depth : ℕ) → IsRefusedPush r x room depth code → room ≢ Some 0 → r.octets ≡ [] → ⊥

@@ -1,20 +1,20 @@
 use Rattle.std.proofs.Common.{◌≡◌, ◌∷◌, [], List, ℕ, sym, ◌∙◌}
 use Rattle.std.specs.Prelude.{Bool, Some}
-use Rattle.tlv_value.specs.Times.{Form, fraction, general_hour, general_zone, has_form, maybe, minute, second, ◌then◌}
+use Rattle.tlv_value.specs.Times.{Form, fraction, generalized_hour, generalized_zone, has_form, maybe, minute, second, ◌then◌}
 use Rattle.tlv_value.proofs.CheckLemmas.Forms.{form-then, form-three, maybe-left, maybe-there}
 use Rattle.tlv_value.proofs.time.general_ok.Goals as goal
 
 abbrev tail : Form
-tail = maybe fraction then maybe general_zone
+tail = maybe fraction then maybe generalized_zone
 
 -- the minute is there
 with_minute : (rest after : List ℕ) (r : Bool) → after ∷ [] ≡ minute rest → r ≡ has_form (maybe second then tail) after → r ≡ has_form ((minute then maybe second) then tail) rest
 with_minute rest after r e h = h ∙ sym (form-then minute (maybe second then tail) rest (Some after) e) ∙ sym (form-three minute (maybe second) tail rest)
 
 -- the hour is there
-with_hour : (c rest : List ℕ) (r : Bool) → rest ∷ [] ≡ general_hour c → r ≡ has_form (maybe (minute then maybe second) then tail) rest
-    → r ≡ has_form (general_hour then maybe (minute then maybe second) then tail) c
-with_hour c rest r e h = h ∙ sym (form-then general_hour (maybe (minute then maybe second) then tail) c (Some rest) e)
+with_hour : (c rest : List ℕ) (r : Bool) → rest ∷ [] ≡ generalized_hour c → r ≡ has_form (maybe (minute then maybe second) then tail) rest
+    → r ≡ has_form (generalized_hour then maybe (minute then maybe second) then tail) c
+with_hour c rest r e h = h ∙ sym (form-then generalized_hour (maybe (minute then maybe second) then tail) c (Some rest) e)
 
 pub returns-then-is_second_and_tail : goal.returns-then-is_second_and_tail
 returns-then-is_second_and_tail c =

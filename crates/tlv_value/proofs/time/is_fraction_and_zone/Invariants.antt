@@ -1,9 +1,9 @@
 use Rattle.std.proofs.Common.{◌≡◌, length}
-use Rattle.tlv_value.specs.Times.{digits, fraction, general_zone, has_form, maybe, ◌then◌}
+use Rattle.tlv_value.specs.Times.{digits, fraction, generalized_zone, has_form, maybe, ◌then◌}
 use Rattle.tlv_value.proofs.time.is_fraction_and_zone.Given as goal
 
 abbrev pub invariant-loop-rest : goal.invariant-loop-rest
-invariant-loop-rest l = has_form (digits then maybe general_zone) l.rest ≡ has_form (fraction then maybe general_zone) l.octets
+invariant-loop-rest l = has_form (digits then maybe generalized_zone) l.rest ≡ has_form (fraction then maybe generalized_zone) l.octets
 
 abbrev pub decreases-loop-rest : goal.decreases-loop-rest
 decreases-loop-rest l = length l.rest

@@ -1,11 +1,11 @@
 use Rattle.std.proofs.Common.{sym, ◌∙◌}
 use Rattle.std.specs.Prelude.{Some}
-use Rattle.tlv_value.specs.Times.{Form, fraction, general_zone, maybe, second, ◌then◌}
+use Rattle.tlv_value.specs.Times.{Form, fraction, generalized_zone, maybe, second, ◌then◌}
 use Rattle.tlv_value.proofs.CheckLemmas.Forms.{form-then, maybe-left, maybe-there}
 use Rattle.tlv_value.proofs.time.is_second_and_tail.Goals as goal
 
 abbrev tail : Form
-tail = maybe fraction then maybe general_zone
+tail = maybe fraction then maybe generalized_zone
 
 pub returns-then-is_tail : goal.returns-then-is_tail
 returns-then-is_tail c =

@@ -1,10 +1,10 @@
-use Rattle.tlv_value.specs.Times.{fraction, general_zone, maybe}
+use Rattle.tlv_value.specs.Times.{fraction, generalized_zone, maybe}
 use Rattle.tlv_value.proofs.CheckLemmas.Forms.{maybe-left, maybe-there}
 use Rattle.tlv_value.proofs.time.is_tail.Goals as goal
 
 pub returns-then-is_fraction_and_zone : goal.returns-then-is_fraction_and_zone
-returns-then-is_fraction_and_zone c = maybe-there fraction (maybe general_zone) c.args.octets.now c.is_fraction_and_zone.result c.is_fraction_and_zone.ensures (cc)
+returns-then-is_fraction_and_zone c = maybe-there fraction (maybe generalized_zone) c.args.octets.now c.is_fraction_and_zone.result c.is_fraction_and_zone.ensures (cc)
 
 pub returns-else-is_fraction_and_zone : goal.returns-else-is_fraction_and_zone
 returns-else-is_fraction_and_zone c =
-    maybe-left fraction (maybe general_zone) c.args.octets.now c.is_fraction_and_zone.result c.is_general_zone.result c.is_fraction_and_zone.ensures (cc) c.is_general_zone.ensures
+    maybe-left fraction (maybe generalized_zone) c.args.octets.now c.is_fraction_and_zone.result c.is_general_zone.result c.is_fraction_and_zone.ensures (cc) c.is_general_zone.ensures

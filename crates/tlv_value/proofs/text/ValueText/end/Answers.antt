@@ -1,9 +1,8 @@
 use Rattle.std.proofs.Common.{rules, ◌≡◌, ◌∙◌, length, sym, ap, arith}
 use Rattle.std.specs.Prelude.{false}
 use Rattle.tlv_io.proofs.Puts.{puts_text}
-use Rattle.tlv_value.specs.ValueTextState.{ValueTextState, end_lines}
+use Rattle.tlv_value.specs.ValueTextState.{ValueTextState, end_lines, primitive_lines}
 use Rattle.tlv_value.specs.Value.{is_long}
-use Rattle.tlv_value.specs.Private.PrimitiveLines.{primitive_lines}
 use Rattle.tlv_value.specs.ValueTextFields.{value_text_state_of}
 use Rattle.tlv_value.proofs.TextLemmas.Ends.{ended-shown, held-most}
 use Rattle.tlv_value.proofs.TextLemmas.Rests.{end-puts}
