@@ -2,7 +2,7 @@
 ghost use Rattle.std.specs.Prelude.{◌≡◌, refl};
 ghost use Rattle.tlv_walk.proofs.FollowerLemmas.Followed.{each_octet-goes_on, each_octet-joins};
 ghost use Rattle.tlv_show.specs.CheckStep.{check_octet_step, check_step};
-ghost use Rattle.tlv_show.specs.FinderState.{new_finder};
+ghost use Rattle.tlv_show.specs.FinderState.{new_check};
 
 use crate::Rules;
 use crate::contents::contents_in;
@@ -31,7 +31,7 @@ impl Model for Check {
 impl Check {
     /// A check by these rules, of an input of which no event has come.
     pub fn new(rules: Rules) -> Check
-        ensures { result ≡ new_finder rules }
+        ensures { result ≡ new_check rules }
     {
         Check {
             finder: Finder::new(rules),

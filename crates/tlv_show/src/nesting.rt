@@ -19,7 +19,7 @@ pub(crate) struct Nesting {
     level: u8,
     /// The innermost frame that is kept, or that of the top.
     frame: SiblingFrame,
-    /// Its floor: how many elements hold what stands directly in its element. The `level - floor` elements that are
+    /// Its floor: how many elements hold what is directly in its element. The `level - floor` elements that are
     /// open inside of it have no frame.
     floor: u8,
     /// The frames outside of it that are kept.
