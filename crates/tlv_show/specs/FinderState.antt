@@ -33,7 +33,8 @@ pub record CheckState : Type 0 where
 abbrev pub new_check : Rules → CheckState
 new_check rules = record { rules = rules; holders = new_nesting; value = None; count = 0 }
 
--- it becomes `state`, and these are found in the element that begins at the offset and that so many elements hold
+-- what an event makes of it: what it is then, and what is found. This is in the element that begins at `offset` and
+-- that `level` others hold
 pub record FinderState : Type 0 where
   pub state : CheckState
   pub level : ℕ

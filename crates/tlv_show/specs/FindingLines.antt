@@ -15,6 +15,6 @@ styled_line (Dump pure) level offset finding =
 abbrev pub styled_lines : Style → ℕ → ℕ → List Finding → List ℕ
 styled_lines style level offset findings = flat_map (styled_line style level offset) findings
 
--- those that a finder found last
+-- the lines of what a finder found last
 abbrev pub last_finding_lines : Style → FinderState → List ℕ
 last_finding_lines style f = styled_lines style f.level f.offset f.found

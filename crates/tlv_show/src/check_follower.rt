@@ -13,8 +13,7 @@ use tlv_head::Header;
 use tlv_walk::{Drain, Event, Follow, Go, Out, WriteFault};
 
 /// Lists what violates the rules, a line for each finding: the offset of the element, the code, and the text. A finding
-/// comes as soon as the octets allow: with the whole header, with the last octet of a primitive, or with the end of an
-/// element that holds others.
+/// comes with the event that shows it: a header, the end of a primitive, or the end of an element that holds others.
 #[derive(Drop)]
 pub struct Check {
     finder: Finder,

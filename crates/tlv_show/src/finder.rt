@@ -110,8 +110,8 @@ impl Finder {
         self.last.offset
     }
 
-    /// Takes an event. Returns whether there may be findings; if not, it has none, and what the events before it left
-    /// is left as it is.
+    /// Takes an event. Returns whether there may be findings. If not, there are none, and the last
+    /// findings stay those of an event before.
     #[inline(always)]
     pub fn find(&mut self, event: &Event<'_>) -> bool
         ensures { ReportsFindings

@@ -57,8 +57,8 @@ pub(crate) fn frame_of(header: &Header) -> SiblingFrame
     }
 }
 
-/// Keeps what must be known of an element in a string: whether it is primitive, how many contents octets it announces,
-/// and whether bits of it are unused. Nothing is asked of the others.
+/// Keeps what must be known of a segment that has come: whether it is primitive, how many contents
+/// octets it announces, and whether bits of it are unused. Of other elements nothing is kept.
 #[inline(always)]
 pub(crate) fn note_element(
     frame: &mut SiblingFrame,

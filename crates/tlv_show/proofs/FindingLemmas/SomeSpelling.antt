@@ -129,7 +129,7 @@ rising-of least end (n ∷ ns) few r = (r.0, omega (arith, few, rise-le (n + 1) 
 among-others : (n x : ℕ) (ns : List ℕ) → eqb n x ≡ false → is_among x (n ∷ ns) ≡ true → is_among x ns ≡ true
 among-others n x ns apart e = sym (ap (λ (k : Bool). k || is_among x ns) apart) ∙ e
 
--- what stands after the first offset is among the others
+-- what is after the first offset is among the others
 among-later : (n least end : ℕ) (ns xs : List ℕ) → n < least → Rise least end xs → AreNamed (n ∷ ns) xs → AreNamed ns xs
 among-later n least end ns [] below r named = tt
 among-later n least end ns (x ∷ xs) below r named = (
