@@ -1,9 +1,11 @@
 """The words of specs: each has one definition in the repository, so that no reader meets one with two meanings. And no file of
-specs calls a tactic: what a reader has to believe is written out."""
+specs calls a tactic: what a reader has to believe is written out. And each edit that the prover must refuse is named by a function
+of the file that it changes."""
 import os
 import re
 
 TACTIC = re.compile(r"\b(?:omega|grind|search|simp|cc|ground|assumption)\b")
+EDIT = re.compile(r"(?:[A-Z]\w*\.)?(\w+)\.\w+\.edit")
 DEFINITION = re.compile(r"^(\s*)(?:(?:abbrev|unfoldable) )?pub (?:(record|data) )?([A-Za-z_◌][\w'◌-]*)")
 
 
@@ -32,8 +34,20 @@ def specs(root):
                     yield os.path.relpath(path, root), file.read()
 
 
+def edits(root):
+    """Yields the path of each edit, the function that it is named by, and the text of the file that it changes."""
+    for crate in sorted(os.listdir(os.path.join(root, "crates"))):
+        folder = os.path.join(root, "crates", crate, "must-fail")
+        for name in sorted(os.listdir(folder)) if os.path.isdir(folder) else ():
+            path = os.path.join(folder, name)
+            with open(path, encoding="utf-8") as file:
+                changed = file.readline().removeprefix("file: ").strip()
+            with open(os.path.join(root, "crates", crate, changed), encoding="utf-8") as file:
+                yield os.path.relpath(path, root), EDIT.fullmatch(name)[1], file.read()
+
+
 def test(part):
-    """Counts a test for each word, and one for each file."""
+    """Counts a test for each word, one for each file, and one for each edit."""
     homes = {}
     for path, text in specs(part.root):
         for word in definitions(text):
@@ -43,3 +57,5 @@ def test(part):
     for word, files in sorted(homes.items()):
         part.expect(f"the word {word} of specs has one definition", len(files) == 1, *files)
     part.expect("specs define words", len(homes) > 500)
+    for path, function, source in edits(part.root):
+        part.expect(f"{path} is named by a function of the file", re.search(rf"\bfn {function}\b", source))

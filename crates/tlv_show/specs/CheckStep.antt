@@ -6,11 +6,11 @@ use Rattle.tlv_walk.specs.Follow.{Effect, each_octet, no_effect}
 use Rattle.tlv_show.specs.declared.finding_lines.Style.TheVariants.{Check}
 use Rattle.tlv_show.specs.FinderState.{CheckState, FinderState, finder_begin_step, finder_bytes_step}
 use Rattle.tlv_show.specs.FinderState.{finder_close_step, finder_end_step, finder_open_step}
-use Rattle.tlv_show.specs.FindingLines.{styled_lines}
+use Rattle.tlv_show.specs.FindingLines.{last_finding_lines}
 
 -- the findings are put, each with its line
 abbrev pub findings_effect : FinderState → Effect CheckState
-findings_effect f = record { state = f.state; put = styled_lines Check f.level f.offset f.found; goes = On }
+findings_effect f = record { state = f.state; put = last_finding_lines Check f; goes = On }
 
 -- a contents octet
 abbrev pub check_octet_step : CheckState → ℕ → Effect CheckState

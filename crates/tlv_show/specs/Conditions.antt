@@ -8,8 +8,8 @@ use Rattle.tlv_value.specs.declared.finding.Finding.{Finding}
 use Rattle.tlv_value.specs.declared.finding.Finding.TheVariants.{B01, B02, B03, B04, B05, B16, B17, S01, D01}
 use Rattle.tlv_value.specs.declared.finding.Finding.TheVariants.{D02, C01, C02, C03, C04, C05, C06}
 use Rattle.tlv_head.specs.UniversalTypes as universal
-use Rattle.tlv_value.specs.Types.{constructed_types, has_segments, is_a, is_one_of, is_primitive, is_string}
-use Rattle.tlv_value.specs.Types.{is_unassigned, primitive_types}
+use Rattle.tlv_value.specs.Types.{has_segments, is_a, is_always_constructed, is_always_primitive, is_primitive}
+use Rattle.tlv_value.specs.Types.{is_string, is_unassigned}
 use Rattle.tlv_walk.specs.Place.{is_indefinite}
 use Rattle.tlv_show.specs.Site.{Before, Sibling, Site, in_bit_string, in_string}
 
@@ -20,21 +20,21 @@ abbrev pub has_high_form : HeaderValue → Bool
 has_high_form h = nat_lt 1 (length h.identifier)
 
 -- 8.1.2.4.2: bits 7 to 1 of the first of them
-abbrev pub leading_bits : HeaderValue → ℕ
-leading_bits h = slice_index h.identifier 1 % 128
+abbrev pub number_bits : HeaderValue → ℕ
+number_bits h = slice_index h.identifier 1 % 128
 
 -- 8.1.3.5: there are subsequent length octets
 abbrev pub has_long_form : HeaderValue → Bool
 has_long_form h = nat_lt 1 (length h.lengths)
 
 -- the first of them
-abbrev pub leading_length_octet : HeaderValue → ℕ
-leading_length_octet h = slice_index h.lengths 1
+abbrev pub length_octet : HeaderValue → ℕ
+length_octet h = slice_index h.lengths 1
 
 -- 9.1, 10.1: it does not have the fewest octets: those of the long form are for 128 and more, and do not begin with 00
 abbrev pub is_length_padded : HeaderValue → Bool
 is_length_padded h =
-    has_long_form h && (nat_lt (announced_length h.size) 128 || leading_length_octet h == 0)
+    has_long_form h && (nat_lt (announced_length h.size) 128 || length_octet h == 0)
 
 -- 8.6.2.2: a primitive BIT STRING with unused bits
 abbrev pub follows_unused_bits : Before → Bool
@@ -74,13 +74,13 @@ basic_conditions s h =
     -- 8.1.2.2: a number below 31 is in the single identifier octet
     (has_high_form h && nat_lt h.number 31, B01)
     -- 8.1.2.4.2 c): bits 7 to 1 of the first subsequent octet are not all 0
-    ∷ (has_high_form h && leading_bits h == 0, B02)
+    ∷ (has_high_form h && number_bits h == 0, B02)
     -- X.680, table 1: the universal number is that of a type
     ∷ (is_unassigned h, B03)
     -- 8.2.1, 8.3.1, 8.4, 8.5.1, 8.8.1, 8.19.1, 8.20.1: the encodings of these types are primitive
-    ∷ (h.constructed && is_one_of primitive_types h, B04)
+    ∷ (h.constructed && is_always_primitive h, B04)
     -- 8.9.1, 8.11.1, 8.17, 8.18, 8.24: the encodings of these types are constructed
-    ∷ (is_primitive h && is_one_of constructed_types h, B05)
+    ∷ (is_primitive h && is_always_constructed h, B05)
     -- 8.6.4: each segment of a BIT STRING but the last has a multiple of eight bits
     ∷ (s.after_unused_bits, B16)
     -- 8.6.4, 8.7.3: a segment has the tag of that type

@@ -7,10 +7,10 @@ use Rattle.tlv_walk.specs.Events.{Begin, Bytes, Close, End, Enter, EventValue, L
 use Rattle.tlv_walk.specs.Follow.{Effect, each_octet}
 use Rattle.tlv_show.specs.declared.rules.Rules.{Rules}
 use Rattle.tlv_show.specs.declared.finding_lines.Style.TheVariants.{Dump}
-use Rattle.tlv_show.specs.FindingLines.{styled_lines}
+use Rattle.tlv_show.specs.FindingLines.{last_finding_lines}
 use Rattle.tlv_show.specs.LinesStep.{LinesState, lines_octet_step, lines_padding_step, lines_step, new_lines}
 use Rattle.tlv_show.specs.FinderState.{CheckState, FinderState, finder_begin_step, finder_bytes_step}
-use Rattle.tlv_show.specs.FinderState.{finder_close_step, finder_end_step, finder_open_step, new_finder}
+use Rattle.tlv_show.specs.FinderState.{finder_close_step, finder_end_step, finder_open_step, new_check}
 use Rattle.tlv_show.specs.FinderState.{without_findings}
 
 -- what contracts see of a `Dump`
@@ -20,11 +20,11 @@ pub record DumpState : Type 0 where
 
 -- a dump of which nothing is written
 abbrev pub new_dump : Rules → Layout → NamesTable → DumpState
-new_dump rules layout names = record { lines = new_lines layout names; finder = new_finder rules }
+new_dump rules layout names = record { lines = new_lines layout names; finder = new_check rules }
 
 -- the lines of what is found
 abbrev pub finding_lines : DumpState → FinderState → List ℕ
-finding_lines s f = styled_lines (Dump s.lines.layout.pure) f.level f.offset f.found
+finding_lines s f = last_finding_lines (Dump s.lines.layout.pure) f
 
 -- what is found comes before the lines, or after them
 abbrev pub findings_first : DumpState → FinderState → Effect LinesState → Effect DumpState
@@ -45,7 +45,11 @@ findings_last s f d = record {
 abbrev pub dump_octet_step : DumpState → ℕ → Effect DumpState
 dump_octet_step s x =
     let d = lines_octet_step s.lines x in
-    record { state = record { lines = d.state; finder = finder_bytes_step s.finder (x ∷ []) }; put = d.put; goes = On }
+    record {
+      state = record { lines = d.state; finder = finder_bytes_step s.finder (x ∷ []) };
+      put = d.put;
+      goes = On;
+    }
 
 abbrev pub dump_padding_step : DumpState → ℕ → Effect DumpState
 dump_padding_step s x =

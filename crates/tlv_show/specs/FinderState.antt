@@ -30,10 +30,11 @@ pub record CheckState : Type 0 where
   -- how many findings were reported; it stops at 2^64 - 1
   pub count : ℕ
 
-abbrev pub new_finder : Rules → CheckState
-new_finder rules = record { rules = rules; holders = new_nesting; value = None; count = 0 }
+abbrev pub new_check : Rules → CheckState
+new_check rules = record { rules = rules; holders = new_nesting; value = None; count = 0 }
 
--- it becomes `state`, and these are found in the element that begins at the offset and that so many elements hold
+-- what an event makes of it: what it is then, and what is found. This is in the element that begins at `offset` and
+-- that `level` others hold
 pub record FinderState : Type 0 where
   pub state : CheckState
   pub level : ℕ
@@ -75,10 +76,12 @@ finder_begin_step s h =
 -- contents octets: only as many as were announced are counted
 abbrev pub open_value_after : Option OpenPrimitiveState → List ℕ → Option OpenPrimitiveState
 open_value_after None octets = None
-open_value_after (Some v) octets = Some (record v { check = value_check_after v.check (take v.check.left octets) })
+open_value_after (Some v) octets =
+    Some (record v { check = value_check_after v.check (take v.check.left octets) })
 
 abbrev pub finder_bytes_step : CheckState → List ℕ → CheckState
-finder_bytes_step s octets = if length octets == 0 then s else record s { value = open_value_after s.value octets }
+finder_bytes_step s octets =
+    if length octets == 0 then s else record s { value = open_value_after s.value octets }
 
 -- a primitive ends, of which all contents octets have come
 abbrev pub contents_findings_in : Rules → ValueCheckState → List Finding
@@ -93,7 +96,8 @@ finder_after_value s v = record s {
 abbrev pub finder_value_end_step : CheckState → Option OpenPrimitiveState → FinderState
 finder_value_end_step s None = without_findings s
 finder_value_end_step s (Some v) =
-    with_findings (finder_after_value s v) (length s.holders.outer) v.offset (contents_findings_in s.rules v.check)
+    with_findings (finder_after_value s v) (length s.holders.outer) v.offset
+    (contents_findings_in s.rules v.check)
 
 abbrev pub finder_end_step : CheckState → FinderState
 finder_end_step s = finder_value_end_step s s.value

@@ -8,7 +8,7 @@ use Rattle.tlv_show.specs.Site.{top_site}
 use Rattle.tlv_show.specs.declared.rules.Rules.TheVariants.{Ber}
 use Rattle.tlv_show.specs.CheckJob.{check_job}
 use Rattle.tlv_show.specs.DumpJob.{dump_job, top_layout}
-use Rattle.tlv_show.specs.FinderState.{new_finder}
+use Rattle.tlv_show.specs.FinderState.{new_check}
 use Rattle.tlv_show.specs.Texts.{check_line, finding_count}
 use Rattle.tlv_show.specs.CheckStep.{check_step}
 use Rattle.tlv_show.specs.DumpStep.{new_dump}
@@ -81,7 +81,7 @@ DumpsMakeTexts =
 abbrev pub ChecksMakeTexts : Type 0
 ChecksMakeTexts =
     (rules : Rules) (framing : Framing) (b : List ℕ) (f : Forest) → length b ≤ 2 ^ 40 → IsReading framing b f
-    → let made = effect_of check_step (new_finder rules) (events f) in
+    → let made = effect_of check_step (new_check rules) (events f) in
     (made.put ≡ (check_job rules framing).text f)
     × (made.state.count ≡ finding_count rules f)
     × (made.goes ≡ On)

@@ -28,7 +28,13 @@ pub record LinesState : Type 0 where
 
 -- the lines of a dump before its first event
 abbrev pub new_lines : Layout → NamesTable → LinesState
-new_lines layout names = record { layout = layout; names = names; offset = 0; in_padding = false; value = None }
+new_lines layout names = record {
+  layout = layout;
+  names = names;
+  offset = 0;
+  in_padding = false;
+  value = None;
+}
 
 -- it becomes `s`, and these octets are put
 abbrev pub lines_effect : LinesState → List ℕ → Effect LinesState
@@ -43,12 +49,16 @@ outer_layout layout = record layout { level = layout.level - 1 }
 
 -- an element begins, and padding ends
 abbrev pub lines_after_header : LinesState → HeaderValue → LinesState
-lines_after_header s h = record s { offset = saturating_sum h.offset (length (octets_of h)); in_padding = false }
+lines_after_header s h = record s {
+  offset = saturating_sum h.offset (length (octets_of h));
+  in_padding = false;
+}
 
 -- an element that holds others begins
 abbrev pub lines_open_step : LinesState → HeaderValue → List ℕ → Effect LinesState
 lines_open_step s h word =
-    lines_effect (record (lines_after_header s h) { layout = inner_layout s.layout }) (opening_line s.layout h word)
+    lines_effect (record (lines_after_header s h) { layout = inner_layout s.layout })
+    (opening_line s.layout h word)
 
 -- it ends
 abbrev pub lines_close_step : LinesState → Option ℕ → Effect LinesState

@@ -16,7 +16,7 @@ top_frame = record {
   size = 0;
   is_primitive = false;
   has_segments = false;
-  has_bits = false;
+  is_bit_string = false;
   last_has_unused_bits = false;
   last_is_not_full = false;
   all_primitive = true;
@@ -31,7 +31,7 @@ frame_of h = record {
   size = announced_length h.size;
   is_primitive = is_primitive h;
   has_segments = has_segments h;
-  has_bits = has_segments h && is_a universal.bit_string h;
+  is_bit_string = has_segments h && is_a universal.bit_string h;
   last_has_unused_bits = false;
   last_is_not_full = false;
   all_primitive = true;
@@ -50,13 +50,14 @@ frame_after_segment w primitive size unused = record w {
   last_has_unused_bits = unused;
   last_is_not_full = not (primitive && size == 1000);
   all_primitive = w.all_primitive && primitive;
-  octets = min (w.octets + (size - (if w.has_bits then 1 else 0))) 1001;
+  octets = min (w.octets + (size - (if w.is_bit_string then 1 else 0))) 1001;
   ends_empty = primitive && size == 0;
 }
 
 -- after an element more: outside of strings nothing is asked of it
 abbrev pub frame_after : SiblingFrame → Bool → ℕ → Bool → SiblingFrame
-frame_after w primitive size unused = if w.has_segments then frame_after_segment w primitive size unused else w
+frame_after w primitive size unused =
+    if w.has_segments then frame_after_segment w primitive size unused else w
 
 -- ---- What a frame says to the conditions
 
@@ -64,8 +65,8 @@ frame_after w primitive size unused = if w.has_segments then frame_after_segment
 abbrev pub surroundings_in : SiblingFrame → Surroundings
 surroundings_in w = record {
   in_string = w.has_segments;
-  in_bit_string = w.has_segments && w.has_bits;
-  after_unused_bits = w.has_segments && w.has_bits && w.last_has_unused_bits;
+  in_bit_string = w.has_segments && w.is_bit_string;
+  after_unused_bits = w.has_segments && w.is_bit_string && w.last_has_unused_bits;
   after_not_full = w.has_segments && w.last_is_not_full;
 }
 
@@ -74,7 +75,7 @@ abbrev pub segments_in : SiblingFrame → Segments
 segments_in w = record {
   in_string = w.has_segments;
   all_primitive = w.all_primitive;
-  octets = (if w.has_bits then 1 else 0) + w.octets;
+  octets = (if w.is_bit_string then 1 else 0) + w.octets;
   ends_empty = w.ends_empty;
 }
 

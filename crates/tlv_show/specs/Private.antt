@@ -1,4 +1,3 @@
-pub mod FindingLines
 pub mod LinesStep
 pub mod FinderState
 pub mod Nesting

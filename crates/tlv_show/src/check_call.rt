@@ -7,13 +7,13 @@ use crate::{Check, Rules};
 use tlv_walk::{DeviceFault, Drain, Framing, Source, drive};
 
 /// Lists what violates the rules in the encodings that the source gives, up to its end or the first
-/// octet that is refused. The line of a finding comes as soon as the octets allow: with the header of
-/// its element, with the last octet of a primitive, or with the end of an element that holds others.
+/// octet that is refused.
 ///
 /// # Errors
 ///
 /// `ReadFailed` exactly if the source's failures rose in the call, and `WriteFailed` exactly if
-/// the drain's did. `InputTooLong` after 2^40 octets.
+/// the drain's did. `InputTooLong` if the source gave more than 2^40 octets, and none of the first
+/// 2^40 is refused.
 pub fn check<S: Source, D: Drain>(
     source: &mut S,
     drain: &mut D,

@@ -2,7 +2,7 @@
 ghost use Rattle.std.specs.Prelude.{◌≡◌, refl};
 ghost use Rattle.tlv_walk.proofs.FollowerLemmas.Followed.{each_octet-goes_on, each_octet-joins};
 ghost use Rattle.tlv_show.specs.CheckStep.{check_octet_step, check_step};
-ghost use Rattle.tlv_show.specs.FinderState.{new_finder};
+ghost use Rattle.tlv_show.specs.FinderState.{new_check};
 
 use crate::Rules;
 use crate::contents::contents_in;
@@ -13,8 +13,7 @@ use tlv_head::Header;
 use tlv_walk::{Drain, Event, Follow, Go, Out, WriteFault};
 
 /// Lists what violates the rules, a line for each finding: the offset of the element, the code, and the text. A finding
-/// comes as soon as the octets allow: with the whole header, with the last octet of a primitive, or with the end of an
-/// element that holds others.
+/// comes with the event that shows it: a header, the end of a primitive, or the end of an element that holds others.
 #[derive(Drop)]
 pub struct Check {
     finder: Finder,
@@ -31,7 +30,7 @@ impl Model for Check {
 impl Check {
     /// A check by these rules, of an input of which no event has come.
     pub fn new(rules: Rules) -> Check
-        ensures { result ≡ new_finder rules }
+        ensures { result ≡ new_check rules }
     {
         Check {
             finder: Finder::new(rules),

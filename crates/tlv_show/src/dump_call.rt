@@ -6,14 +6,15 @@ use crate::{Dump, Options, Outcome};
 use tlv_value::Names;
 use tlv_walk::{DeviceFault, Drain, Source, drive};
 
-/// Writes the lines of the encodings that the source gives, up to its end or the first octet that is refused. The
-/// lines of an element come as soon as its octets allow. Object identifiers that the table has are shown with their
-/// names, and findings with lines of their own.
+/// Writes the lines of the encodings that the source gives, up to its end or the first octet that is
+/// refused. Object identifiers that the table has are shown with their names, and findings with lines
+/// of their own.
 ///
 /// # Errors
 ///
 /// `ReadFailed` exactly if the source's failures rose in the call, and `WriteFailed` exactly if
-/// the drain's did. `InputTooLong` after 2^40 octets.
+/// the drain's did. `InputTooLong` if the source gave more than 2^40 octets, and none of the first
+/// 2^40 is refused.
 pub fn dump<S: Source, D: Drain>(
     source: &mut S,
     drain: &mut D,

@@ -152,7 +152,7 @@ impl Dump<'_> {
         self.lines.open(header, word, out)
     }
 
-    /// A string that wraps encodings begins. Such strings are few, so this stands apart.
+    /// A string that wraps encodings begins. Such strings are few, so this is no part of `write_lines`.
     #[inline(never)]
     fn open_wrapper<D: Drain>(
         &mut self,

@@ -4,10 +4,10 @@ ghost use Rattle.tlv_head.specs.Header.{announced_length};
 ghost use Rattle.tlv_walk.specs.HasRead.{event_value_of};
 ghost use Rattle.tlv_show.specs.FinderState.{finder_at_value, finder_begin_step, finder_bytes_step};
 ghost use Rattle.tlv_show.specs.FinderState.{finder_close_step, finder_end_step, finder_open_step};
-ghost use Rattle.tlv_show.specs.FinderState.{header_findings_in, new_finder, with_findings, without_findings};
+ghost use Rattle.tlv_show.specs.FinderState.{header_findings_in, with_findings, without_findings};
 ghost use Rattle.tlv_show.specs.Found.{end_findings};
 ghost use Rattle.tlv_show.specs.NestingState.{segments_in};
-ghost use Rattle.tlv_show.specs.Private.FinderState.{PassesOrStays, ReportsFindings, finder_step, with_state};
+ghost use Rattle.tlv_show.specs.Private.FinderState.{PassesOrStays, ReportsFindings, finder_step, new_finder, with_state};
 
 use crate::Rules;
 use crate::contents_findings::add_contents_findings;
@@ -64,7 +64,7 @@ impl Model for Finder {
 impl Finder {
     /// A finder of which no event has come.
     pub fn new(rules: Rules) -> Finder
-        ensures { result ≡ without_findings (new_finder rules) }
+        ensures { result ≡ new_finder rules }
     {
         Finder {
             rules,
@@ -110,8 +110,8 @@ impl Finder {
         self.last.offset
     }
 
-    /// Takes an event. Returns whether there may be findings; if not, it has none, and what the events before it left
-    /// is left as it is.
+    /// Takes an event. Returns whether there may be findings. If not, there are none, and the last
+    /// findings stay those of an event before.
     #[inline(always)]
     pub fn find(&mut self, event: &Event<'_>) -> bool
         ensures { ReportsFindings

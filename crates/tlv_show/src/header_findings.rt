@@ -4,7 +4,7 @@ ghost use Rattle.std.specs.Prelude.{nat_lt, length, []};
 ghost use Rattle.tlv_value.specs.Checks.{finding_if, findings_by};
 ghost use Rattle.tlv_value.specs.Types.{has_segments};
 ghost use Rattle.tlv_show.specs.Conditions.{basic_conditions, cer_conditions, der_conditions, has_high_form};
-ghost use Rattle.tlv_show.specs.Conditions.{leading_bits, length_conditions};
+ghost use Rattle.tlv_show.specs.Conditions.{length_conditions, number_bits};
 ghost use Rattle.tlv_show.specs.NestingState.{segments_in, surroundings_in};
 ghost use Rattle.tlv_show.specs.Found.{end_findings, header_findings};
 ghost use Rattle.tlv_show.specs.Private.UsualTypes.{IsUsual};
@@ -86,7 +86,7 @@ fn is_tag_usual(header: &Header) -> bool
     ensures needed { IsTrue result
         → (has_high_form header.now && nat_lt header.now.number 31) ≡ false }
     ensures shortest { IsTrue result
-        → (has_high_form header.now && leading_bits header.now == 0) ≡ false }
+        → (has_high_form header.now && number_bits header.now == 0) ≡ false }
 {
     !has_high_form(header) || (header.number >= 31 && header.number_octet() % 128 != 0)
 }
@@ -146,7 +146,7 @@ pub(crate) fn add_end_findings(
 fn fits(frame: &SiblingFrame) -> bool
     ensures { result ≡ nat_le (segments_in frame.now).octets 1000 }
 {
-    frame.octets <= if frame.has_bits { 999 } else { 1000 }
+    frame.octets <= if frame.is_bit_string { 999 } else { 1000 }
 }
 
 /// Adds a finding, if it is there.
@@ -188,12 +188,12 @@ fn add_basic_findings(frame: &SiblingFrame, header: &Header, found: &mut ArrayVe
         found,
     );
     add_if(
-        frame.has_segments && frame.has_bits && frame.last_has_unused_bits,
+        frame.has_segments && frame.is_bit_string && frame.last_has_unused_bits,
         Finding::B16,
         found,
     );
     add_if(
-        frame.has_segments && !is_segment(frame.has_bits, header),
+        frame.has_segments && !is_segment(frame.is_bit_string, header),
         Finding::B17,
         found,
     );

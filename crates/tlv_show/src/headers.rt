@@ -2,7 +2,7 @@
 ghost use Rattle.std.specs.Prelude.{◌≡◌, if◌then◌else◌};
 ghost use Rattle.tlv_head.specs.Header.{announced_length, is_universal};
 ghost use Rattle.tlv_head.specs.UniversalTypes.{bit_string, octet_string};
-ghost use Rattle.tlv_value.specs.Types.{constructed_types, is_a, is_one_of, is_string, is_unassigned, primitive_types};
+ghost use Rattle.tlv_value.specs.Types.{is_a, is_always_constructed, is_always_primitive, is_string, is_unassigned};
 ghost use Rattle.tlv_walk.specs.Place.{is_indefinite};
 ghost use Rattle.tlv_show.specs.Conditions.{has_high_form, has_long_form, is_length_padded};
 
@@ -68,7 +68,7 @@ pub(crate) fn is_unassigned(header: &Header) -> bool
 /// Whether the encodings of the type are primitive.
 #[inline(always)]
 pub(crate) fn is_always_primitive(header: &Header) -> bool
-    ensures { result ≡ is_one_of primitive_types header.now }
+    ensures { result ≡ is_always_primitive header.now }
 {
     is_universal(header)
         && matches!(
@@ -86,7 +86,7 @@ pub(crate) fn is_always_primitive(header: &Header) -> bool
 /// Whether the encodings of the type are constructed.
 #[inline(always)]
 pub(crate) fn is_always_constructed(header: &Header) -> bool
-    ensures { result ≡ is_one_of constructed_types header.now }
+    ensures { result ≡ is_always_constructed header.now }
 {
     is_universal(header)
         && matches!(
@@ -126,12 +126,12 @@ pub(crate) fn is_bit_string(header: &Header) -> bool
 
 /// Whether the tag is that of a segment, of a BIT STRING or of any other string.
 #[inline(always)]
-pub(crate) fn is_segment(has_bits: bool, header: &Header) -> bool
-    ensures { result ≡ is_a (if has_bits then bit_string else octet_string) header.now }
+pub(crate) fn is_segment(in_bit_string: bool, header: &Header) -> bool
+    ensures { result ≡ is_a (if in_bit_string then bit_string else octet_string) header.now }
 {
     is_universal(header)
         && header.number
-            == if has_bits {
+            == if in_bit_string {
                 universal::BIT_STRING
             } else {
                 universal::OCTET_STRING

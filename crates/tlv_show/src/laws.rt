@@ -4,23 +4,26 @@ ghost use Rattle.tlv_show.specs.Laws.{BasicFindingsStay, ChecksGoOn, ChecksMakeT
 ghost use Rattle.tlv_show.specs.Laws.{DumpsMakeTexts, PrimitivesAreShown};
 ghost use Rattle.tlv_show.specs.Spellings.{LongerIdentifiersAreFound, LongerLengthsAreFound, OneSpelling, SomeSpelling};
 
-/// What a `Dump` makes of the events of a reading is the text of that reading and the number of its findings. It always
-/// wants more.
+/// What a `Dump` makes of the events of a reading of at most 2^40 octets is the text of that reading
+/// and the number of its findings. It always wants more.
 pub fn dumps_make_texts()
     ensures { DumpsMakeTexts }
 {}
 
-/// What a `Check` makes of the events of a reading is the list of its findings and their number. It always wants more.
+/// What a `Check` makes of the events of a reading of at most 2^40 octets is the list of its findings
+/// and their number. It always wants more.
 pub fn checks_make_texts()
     ensures { ChecksMakeTexts }
 {}
 
-/// What is written of a longer input is what is written of the shorter, and then more.
+/// What is written of a longer input, of at most 2^40 octets, is what is written of the shorter, and
+/// then more.
 pub fn dumps_go_on()
     ensures { DumpsGoOn }
 {}
 
-/// What a check lists of a longer input is what it lists of the shorter, and then more.
+/// What a check lists of a longer input, of at most 2^40 octets, is what it lists of the shorter, and
+/// then more.
 pub fn checks_go_on()
     ensures { ChecksGoOn }
 {}

@@ -1,4 +1,5 @@
-//! What `dump` writes: a line for each element, and rows for the contents of a long primitive.
+//! What `dump` and `check` write: the lines of each element, rows for the contents of a long primitive,
+//! and a line for each finding.
 #![tactic(auto)]
 
 mod check_call;

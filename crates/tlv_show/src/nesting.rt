@@ -19,7 +19,7 @@ pub(crate) struct Nesting {
     level: u8,
     /// The innermost frame that is kept, or that of the top.
     frame: SiblingFrame,
-    /// Its floor: how many elements hold what stands directly in its element. The `level - floor` elements that are
+    /// Its floor: how many elements hold what is directly in its element. The `level - floor` elements that are
     /// open inside of it have no frame.
     floor: u8,
     /// The frames outside of it that are kept.
@@ -151,8 +151,8 @@ fn has_frame(frame: &SiblingFrame, header: &Header) -> bool
     frame.has_segments || (header.constructed && is_string(header))
 }
 
-/// An element that has a frame ends: the frame outside is the innermost one again, and says of the element what has
-/// to be known of it.
+/// An element that has a frame ends: the frame around it is the innermost one again, and keeps what
+/// must be known of the element.
 #[inline(never)]
 fn take_back(frame: &mut SiblingFrame, floor: &mut u8, outer: &mut Frames<KeptFrame>)
     ensures { TakesBack frame.old outer.old frame.new floor.new outer.new }

@@ -5,7 +5,7 @@ use tlv_walk::Framing;
 /// How a dump is to be written.
 #[derive(Debug, Drop)]
 pub struct Options {
-    /// Whose rules findings are reported by.
+    /// The rules by which findings are reported.
     pub rules: Rules,
     /// How many rows of one value are written; one more is written as `...`, and the others are left out. Without a
     /// limit all are.

@@ -1,6 +1,6 @@
-//! Whose rules findings are reported by.
+//! The rules by which findings are reported.
 
-/// Whose rules findings are reported by: findings are of the basic rules, and of those that each of the other two adds.
+/// The rules by which findings are reported: the basic rules, or these and what one of the other two adds.
 #[derive(Clone, Copy, Debug, PartialEq, Eq)]
 pub enum Rules {
     /// The basic encoding rules.

@@ -17,7 +17,7 @@ pub(crate) struct SiblingFrame {
     /// Whether it is a constructed string, so that what it holds are segments.
     pub has_segments: bool,
     /// Whether it is a constructed BIT STRING.
-    pub has_bits: bool,
+    pub is_bit_string: bool,
     /// Whether the last segment so far has unused bits.
     pub last_has_unused_bits: bool,
     /// Whether the last segment so far is no primitive of 1000 contents octets.
@@ -51,14 +51,14 @@ pub(crate) fn frame_of(header: &Header) -> SiblingFrame
         size: announced_length(header),
         is_primitive: !header.constructed,
         has_segments,
-        has_bits: has_segments && is_bit_string(header),
+        is_bit_string: has_segments && is_bit_string(header),
         all_primitive: true,
         ..SiblingFrame::default()
     }
 }
 
-/// Keeps what must be known of an element in a string: whether it is primitive, how many contents octets it announces,
-/// and whether bits of it are unused. Nothing is asked of the others.
+/// Keeps what must be known of a segment that has come: whether it is primitive, how many contents
+/// octets it announces, and whether bits of it are unused. Of other elements nothing is kept.
 #[inline(always)]
 pub(crate) fn note_element(
     frame: &mut SiblingFrame,
@@ -71,7 +71,7 @@ pub(crate) fn note_element(
     if !frame.has_segments {
         return;
     }
-    let octets = size.saturating_sub(u64::from(frame.has_bits));
+    let octets = size.saturating_sub(u64::from(frame.is_bit_string));
     frame.last_has_unused_bits = has_unused_bits;
     frame.last_is_not_full = !(is_primitive && size == 1000);
     frame.all_primitive = frame.all_primitive && is_primitive;
@@ -79,7 +79,7 @@ pub(crate) fn note_element(
     frame.ends_empty = is_primitive && size == 0;
 }
 
-/// A frame, and its floor: how many elements hold what stands directly in its element.
+/// A frame, and its floor: how many elements hold what is directly in its element.
 #[derive(Clone, Copy, Default)]
 pub(crate) struct KeptFrame {
     pub frame: SiblingFrame,

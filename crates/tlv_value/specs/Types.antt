@@ -56,6 +56,9 @@ primitive_types =
     ∷ universal.relative_oid
     ∷ []
 
+abbrev pub is_always_primitive : HeaderValue → Bool
+is_always_primitive h = is_one_of primitive_types h
+
 -- 8.9.1, 8.11.1, 8.17, 8.18, 8.24: types whose encodings are constructed
 abbrev pub constructed_types : List ℕ
 constructed_types =
@@ -65,6 +68,9 @@ constructed_types =
     ∷ universal.set
     ∷ universal.character_string
     ∷ []
+
+abbrev pub is_always_constructed : HeaderValue → Bool
+is_always_constructed h = is_one_of constructed_types h
 
 abbrev pub string_types : List ℕ
 string_types =

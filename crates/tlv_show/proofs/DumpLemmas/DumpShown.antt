@@ -34,10 +34,10 @@ use Rattle.tlv_show.proofs.FindingLemmas.SitesAfter.{site_after, site_after_hold
 use Rattle.tlv_show.proofs.FindingLemmas.SiteWords.{first_octet}
 use Rattle.tlv_show.specs.Texts.{item_text}
 use Rattle.tlv_show.proofs.DumpLemmas.DumpSteps.{all_on}
-use Rattle.tlv_show.proofs.DumpLemmas.DumpTexts.{at_level, closer_shown, fill_shown, holder_shown, no_padding, later_padded, part_shown, primitive_shown, standing as lines_at}
+use Rattle.tlv_show.proofs.DumpLemmas.DumpTexts.{at_level, closer_shown, fill_shown, holder_shown, no_padding, later_padded, part_shown, primitive_shown, lines_between}
 use Rattle.tlv_show.proofs.FindingLemmas.FinderFolds.{offset-under, not-constructed, noted_all}
 use Rattle.tlv_show.proofs.FindingLemmas.FramesAround.{knows-after, knows-inside, knows-padding, unused-of}
-use Rattle.tlv_show.proofs.FindingLemmas.FinderItems.{after_contents, after_end, later_header, after_primitive, closed-find, opened-find, primitive-find, standing}
+use Rattle.tlv_show.proofs.FindingLemmas.FinderItems.{after_contents, after_end, later_header, after_primitive, closed-find, opened-find, primitive-find, check_between}
 use Rattle.tlv_show.proofs.FindingLemmas.HeaderFindings.{Knows, header-same}
 use Rattle.tlv_show.proofs.DumpLemmas.DumpEvents.{pair, is_shown, then_shown, texts, opens-by, closes-by, primitive-by, part-by}
 use Rattle.tlv_show.specs.Conditions.{surroundings_of, segments_of}
@@ -69,13 +69,13 @@ module _ (style : Layout) (names : NamesTable) (rules : Rules) where
       ∙ sym (split (findings_at level offset fs) rest)
 
   abbrev start : Place → Bool → SiblingFrame → List SiblingFrame → ℕ → DumpState
-  start p padded w outer n = pair (lines_at style names p.depth p.offset padded) (standing rules w outer n)
+  start p padded w outer n = pair (lines_between style names p.depth p.offset padded) (check_between rules w outer n)
 
   pub record IsShown (p : Place) (holder : Option HeaderValue) (before : Before) (w : SiblingFrame) (outer : List SiblingFrame) (f : Forest) : Type 0 where
     pub text : (n : ℕ) → (effect_of dump_step (start p (is_padding before) w outer n) (events f)).put ≡ texts_of (items rules (site p holder before) f)
-    pub stands : (n : ℕ) → is_whole f ≡ true → (m : ℕ)
+    pub after : (n : ℕ) → is_whole f ≡ true → (m : ℕ)
         × ((effect_of dump_step (start p (is_padding before) w outer n) (events f)).state
-        ≡ pair (lines_at style names p.depth (p.offset + length (spelling f)) (later_padded style names (is_padding before) f)) (standing rules (noted_all w f) outer m))
+        ≡ pair (lines_between style names p.depth (p.offset + length (spelling f)) (later_padded style names (is_padding before) f)) (check_between rules (noted_all w f) outer m))
 
   -- elements after what was shown
   shown-after : (p q : Place) (padded : Bool) (w : SiblingFrame) (outer : List SiblingFrame) (n m : ℕ) (v : SiblingFrame) (holder : Option HeaderValue) (before : Before) (es : List EventValue) (put : List ℕ) (rest : Forest)
@@ -96,7 +96,7 @@ module _ (style : Layout) (names : NamesTable) (rules : Rules) where
       → effect_of dump_step (start p (is_padding before) w outer n) (opening_events h)
       ≡ is_shown (start (place_of_children p h) false (frame_under w h) (w ∷ outer) (later_header rules w h n)) (styled_lines (Dump style.pure) (length outer) h.offset (header_findings rules (surroundings_in w) h) ++ holder_line (at_level style names p.depth) h)
   opened-shown p holder before w outer n h k there low far =
-      opens-by (lines_at style names p.depth p.offset (is_padding before)) (standing rules w outer n) h h.constructed (h.number == 3)
+      opens-by (lines_between style names p.depth p.offset (is_padding before)) (check_between rules w outer n) h h.constructed (h.number == 3)
       ∙ ap₂ (λ (d : Effect LinesState) (f : FinderState). is_shown (pair d.state f.state) (texts style f ++ d.put))
       (holder_shown style names p.depth p.offset (is_padding before) h there (omega (arith, low)) far)
       (opened-find rules w outer n h (omega (arith, k.1, low)))
@@ -108,7 +108,7 @@ module _ (style : Layout) (names : NamesTable) (rules : Rules) where
       ≡ is_shown (start (place_after p (length (octets_of h) + length c)) false (after_primitive rules w h c) outer (after_contents rules w h c n))
       (styled_lines (Dump style.pure) (length outer) h.offset (header_findings rules (surroundings_in w) h) ++ (whole_lines (finite.get names) h (at_level style names p.depth) c ++ styled_lines (Dump style.pure) (length outer) h.offset (contents_findings rules h c)))
   primitive-shown p padded w outer n h c there size far =
-      primitive-by (lines_at style names p.depth p.offset padded) (standing rules w outer n) h c
+      primitive-by (lines_between style names p.depth p.offset padded) (check_between rules w outer n) h c
       ∙ ap₂ (λ (d : Effect LinesState) (f : FinderState). is_shown (pair d.state f.state) (styled_lines (Dump style.pure) (length outer) h.offset (header_findings rules (surroundings_in w) h) ++ (d.put ++ texts style f)))
       (primitive_shown style names p.depth p.offset padded h c there size far)
       (primitive-find rules w outer n h c (sym size))
@@ -117,19 +117,19 @@ module _ (style : Layout) (names : NamesTable) (rules : Rules) where
       → IsShown p holder before w outer f
   shows_forest p holder before w outer NoMore v b k = record {
     text = λ n. refl;
-    stands = λ n e. (n, ap (λ (offset : ℕ). pair (lines_at style names p.depth offset (is_padding before)) (standing rules w outer n)) (omega arith));
+    after = λ n e. (n, ap (λ (offset : ℕ). pair (lines_between style names p.depth offset (is_padding before)) (check_between rules w outer n)) (omega arith));
   }
   shows_forest p holder before w outer (PaddingOctet rest) v b k =
       let s : Site = site p holder before in
       let t = shows_forest (place_after p 1) holder Padding w outer rest v.1 (omega (arith, b)) (knows-padding w s k.0 (k.2 v.0.0), k.1, k.2) in
       let one : (n : ℕ) → effect_of dump_step (start p (is_padding before) w outer n) (Pad (0 ∷ []) ∷ []) ≡ is_shown (start (place_after p 1) true w outer n) (if is_padding before then [] else padding_line (at_level style names p.depth) p.offset) =
-      λ n. ap (λ (d : Effect LinesState). is_shown (pair d.state (standing rules w outer n)) d.put) (fill_shown style names p.depth p.offset (is_padding before) (omega (arith, b))) in
+      λ n. ap (λ (d : Effect LinesState). is_shown (pair d.state (check_between rules w outer n)) d.put) (fill_shown style names p.depth p.offset (is_padding before) (omega (arith, b))) in
       let all = λ (n : ℕ). shown-after p (place_after p 1) (is_padding before) w outer n n w holder Padding (Pad (0 ∷ []) ∷ []) (if is_padding before then [] else padding_line (at_level style names p.depth) p.offset) rest refl (one n) t in
       record {
         text = λ n. ap (λ (x : Effect DumpState). x.put) (all n) ∙ pads (is_padding before) p.depth p.offset (items rules (site_after_padding s) rest);
-        stands = λ n e.
-            let r = t.stands n e in
-            (r.0, ap (λ (x : Effect DumpState). x.state) (all n) ∙ r.1 ∙ ap (λ (offset : ℕ). pair (lines_at style names p.depth offset (later_padded style names true rest)) (standing rules (noted_all w rest) outer r.0)) (omega arith));
+        after = λ n e.
+            let r = t.after n e in
+            (r.0, ap (λ (x : Effect DumpState). x.state) (all n) ∙ r.1 ∙ ap (λ (offset : ℕ). pair (lines_between style names p.depth offset (later_padded style names true rest)) (check_between rules (noted_all w rest) outer r.0)) (omega arith));
       }
     where
       pads : (k : Bool) (level offset : ℕ) (l : List Item)
@@ -154,11 +154,11 @@ module _ (style : Layout) (names : NamesTable) (rules : Rules) where
             ∙ three (styled_lines (Dump style.pure) (length outer) h.offset (header_findings rules (surroundings_in w) h)) (whole_lines (finite.get names) h (at_level style names p.depth) c) (styled_lines (Dump style.pure) (length outer) h.offset (contents_findings rules h c)) (texts_of others)
             ∙ found-first (length outer) p.depth h.offset (header_findings rules (surroundings_in w) h) (header_findings rules (surroundings_of s) h) _ (PrimitiveLines p.depth h c ∷ (findings_at p.depth h.offset (contents_findings rules h c) ++ others)) k.1 (header-same rules w s h k.0)
             (ap (λ (l : List ℕ). whole_lines (finite.get names) h (at_level style names p.depth) c ++ l) (found-first (length outer) p.depth h.offset (contents_findings rules h c) (contents_findings rules h c) (texts_of others) others k.1 refl refl));
-        stands = λ n e.
-            let r = t.stands (after_contents rules w h c n) e in (
+        after = λ n e.
+            let r = t.after (after_contents rules w h c n) e in (
               r.0,
               ap (λ (x : Effect DumpState). x.state) (all n) ∙ r.1
-                  ∙ ap (λ (offset : ℕ). pair (lines_at style names p.depth offset (later_padded style names false rest)) (standing rules (noted_all (after_primitive rules w h c) rest) outer r.0)) (omega (arith, length-primitive h c rest)),
+                  ∙ ap (λ (offset : ℕ). pair (lines_between style names p.depth offset (later_padded style names false rest)) (check_between rules (noted_all (after_primitive rules w h c) rest) outer r.0)) (omega (arith, length-primitive h c rest)),
             );
       }
     where
@@ -178,23 +178,23 @@ module _ (style : Layout) (names : NamesTable) (rules : Rules) where
       let first : List ℕ = styled_lines (Dump style.pure) (length outer) h.offset (header_findings rules (surroundings_in w) h) in
       let last : List ℕ = styled_lines (Dump style.pure) (length outer) h.offset (end_findings rules (segments_of h (headers inside))) in
       let held : List ℕ = texts_of (items rules (site_of_children s h) inside) in
-      let closes-shown : (m : ℕ) → effect_of dump_step (pair (lines_at style names (p.depth + 1) end false) (standing rules (noted_all (frame_under w h) inside) (w ∷ outer) m)) (closing_event h inside ∷ [])
+      let closes-shown : (m : ℕ) → effect_of dump_step (pair (lines_between style names (p.depth + 1) end false) (check_between rules (noted_all (frame_under w h) inside) (w ∷ outer) m)) (closing_event h inside ∷ [])
       ≡ is_shown (start q false (frame_after w (is_primitive h) (announced_length h.size) false) outer (after_end rules h inside m)) (close ++ last) =
       λ m.
-      closes-by (lines_at style names (p.depth + 1) end false) (standing rules (noted_all (frame_under w h) inside) (w ∷ outer) m) (end_offset h.size (h.offset + length (opening h) + length (spelling inside))) h.constructed
+      closes-by (lines_between style names (p.depth + 1) end false) (check_between rules (noted_all (frame_under w h) inside) (w ∷ outer) m) (end_offset h.size (h.offset + length (opening h) + length (spelling inside))) h.constructed
       ∙ ap₂ (λ (d : Effect LinesState) (f : FinderState). is_shown (pair d.state f.state) (d.put ++ texts style f))
       (closer_shown style names p.depth end h inside (omega (arith, v.0.0.header.offset)) v.0.0.header.valid.allowed (omega (arith, b, size)))
       (closed-find rules i_place w outer m h inside v.1 v.0.1)
-      ∙ ap (λ (l : List ℕ). is_shown (pair (lines_at style names p.depth (end + length (end_octets h.size)) false) (standing rules (frame_after w (is_primitive h) (announced_length h.size) false) outer (after_end rules h inside m))) (close ++ l))
+      ∙ ap (λ (l : List ℕ). is_shown (pair (lines_between style names p.depth (end + length (end_octets h.size)) false) (check_between rules (frame_after w (is_primitive h) (announced_length h.size) false) outer (after_end rules h inside m))) (close ++ l))
       (offset-under rules i_place w h inside v.1 v.0.1 (styled_lines (Dump style.pure) (length outer)) (λ offset. refl))
-      ∙ ap (λ (offset : ℕ). is_shown (pair (lines_at style names p.depth offset false) (standing rules (frame_after w (is_primitive h) (announced_length h.size) false) outer (after_end rules h inside m))) (close ++ last)) (omega arith) in
+      ∙ ap (λ (offset : ℕ). is_shown (pair (lines_between style names p.depth offset false) (check_between rules (frame_after w (is_primitive h) (announced_length h.size) false) outer (after_end rules h inside m))) (close ++ last)) (omega arith) in
       let held-shown : (m : ℕ) → (r : ℕ) × (effect_of dump_step (start i_place false (frame_under w h) (w ∷ outer) m) (events inside)
-      ≡ is_shown (pair (lines_at style names (p.depth + 1) end false) (standing rules (noted_all (frame_under w h) inside) (w ∷ outer) r)) held) =
+      ≡ is_shown (pair (lines_between style names (p.depth + 1) end false) (check_between rules (noted_all (frame_under w h) inside) (w ∷ outer) r)) held) =
       λ m.
-      let r = i.stands m v.0.1 in (
+      let r = i.after m v.0.1 in (
         r.0,
         as_shows (start i_place false (frame_under w h) (w ∷ outer) m) _ (events inside) held
-            (r.1 ∙ ap (λ (x : Bool). pair (lines_at style names (p.depth + 1) end x) (standing rules (noted_all (frame_under w h) inside) (w ∷ outer) r.0)) (no_padding style names i_place inside refl v.1)) (i.text m),
+            (r.1 ∙ ap (λ (x : Bool). pair (lines_between style names (p.depth + 1) end x) (check_between rules (noted_all (frame_under w h) inside) (w ∷ outer) r.0)) (no_padding style names i_place inside refl v.1)) (i.text m),
       ) in
       let element : (n : ℕ) → (m : ℕ) × (effect_of dump_step (start p (is_padding before) w outer n) (opening_events h ++ (events inside ++ closing_event h inside ∷ []))
       ≡ is_shown (start q false (frame_after w (is_primitive h) (announced_length h.size) false) outer m) ((first ++ line) ++ (held ++ (close ++ last)))) =
@@ -205,7 +205,7 @@ module _ (style : Layout) (names : NamesTable) (rules : Rules) where
         then_shown (start p (is_padding before) w outer n) (start i_place false (frame_under w h) (w ∷ outer) a) (first ++ line) (opening_events h) (events inside ++ closing_event h inside ∷ [])
             (opened-shown p holder before w outer n h k v.0.0.header.offset (v.0.0.depth refl) (omega (arith, b, size)))
             ∙ ap (λ (x : Effect DumpState). record x { put = (first ++ line) ++ x.put })
-            (then_shown (start i_place false (frame_under w h) (w ∷ outer) a) (pair (lines_at style names (p.depth + 1) end false) (standing rules (noted_all (frame_under w h) inside) (w ∷ outer) r.0)) held (events inside) (closing_event h inside ∷ []) r.1
+            (then_shown (start i_place false (frame_under w h) (w ∷ outer) a) (pair (lines_between style names (p.depth + 1) end false) (check_between rules (noted_all (frame_under w h) inside) (w ∷ outer) r.0)) held (events inside) (closing_event h inside ∷ []) r.1
             ∙ ap (λ (x : Effect DumpState). record x { put = held ++ x.put }) (closes-shown r.0)),
       ) in
       let es : List EventValue = opening_events h ++ (events inside ++ closing_event h inside ∷ []) in
@@ -224,11 +224,11 @@ module _ (style : Layout) (names : NamesTable) (rules : Rules) where
             (ap (λ (l : List ℕ). line ++ l)
             (ap (λ (l : List ℕ). held ++ (close ++ l)) (found-first (length outer) p.depth h.offset (end_findings rules (segments_of h (headers inside))) (end_findings rules (segments_of h (headers inside))) (texts_of others) others k.1 refl refl)
             ∙ sym (split (items rules (site_of_children s h) inside) closing)));
-        stands = λ n e.
-            let r = t.stands (element n).0 e in (
+        after = λ n e.
+            let r = t.after (element n).0 e in (
               r.0,
               ap (λ (x : Effect DumpState). x.state) (all n) ∙ r.1
-                  ∙ ap (λ (offset : ℕ). pair (lines_at style names p.depth offset (later_padded style names false rest)) (standing rules (noted_all (frame_after w (is_primitive h) (announced_length h.size) false) rest) outer r.0)) (omega (arith, size)),
+                  ∙ ap (λ (offset : ℕ). pair (lines_between style names p.depth offset (later_padded style names false rest)) (check_between rules (noted_all (frame_after w (is_primitive h) (announced_length h.size) false) rest) outer r.0)) (omega (arith, size)),
             );
       }
     where
@@ -240,10 +240,10 @@ module _ (style : Layout) (names : NamesTable) (rules : Rules) where
           ap (λ (g : Go). record { state = (effect_of dump_step s es).state; put = (effect_of dump_step s es).put; goes = g }) (all_on s es) ∙ ap₂ (λ (u : DumpState) (l : List ℕ). is_shown u l) e f
   shows_forest p holder before w outer (OpenPrimitive h c) v b k = record {
     text = λ n.
-        part-by (lines_at style names p.depth p.offset (is_padding before)) (standing rules w outer n) h c
+        part-by (lines_between style names p.depth p.offset (is_padding before)) (check_between rules w outer n) h c
         ∙ found-first (length outer) p.depth h.offset (header_findings rules (surroundings_in w) h) (header_findings rules (surroundings_of (site p holder before)) h) _ (OpenPrimitiveLines p.depth h c ∷ []) k.1 (header-same rules w (site p holder before) h k.0)
         (part_shown style names p.depth p.offset (is_padding before) h c (omega (arith, v.1)) ∙ sym (append-nil (open_lines h (at_level style names p.depth) c)));
-    stands = λ n e. absurd (cc (e));
+    after = λ n e. absurd (cc (e));
   }
   shows_forest p holder before w outer (OpenHolder h inside) v b k =
       let s : Site = site p holder before in
@@ -259,19 +259,19 @@ module _ (style : Layout) (names : NamesTable) (rules : Rules) where
             ∙ ap (λ (l : List ℕ). (first ++ line) ++ l) (i.text (later_header rules w h n))
             ∙ append_assoc first line (texts_of (items rules (site_of_children s h) inside))
             ∙ found-first (length outer) p.depth h.offset (header_findings rules (surroundings_in w) h) (header_findings rules (surroundings_of s) h) _ (OpeningLine p.depth h ∷ items rules (site_of_children s h) inside) k.1 (header-same rules w s h k.0) refl;
-        stands = λ n e. absurd (cc (e));
+        after = λ n e. absurd (cc (e));
       }
   shows_forest p holder before w outer (OpenBitString h) v b k = record {
     text = λ n.
         append_assoc (styled_lines (Dump style.pure) (length outer) h.offset (header_findings rules (surroundings_in w) h)) (opening_line (at_level style names p.depth) h (opening_word false)) []
         ∙ found-first (length outer) p.depth h.offset (header_findings rules (surroundings_in w) h) (header_findings rules (surroundings_of (site p holder before)) h) _ (OpeningLine p.depth h ∷ []) k.1 (header-same rules w (site p holder before) h k.0)
         (ap (λ (l : List ℕ). l ++ []) (sym (awaiting p.depth h h.constructed v.1)));
-    stands = λ n e. absurd (cc (e));
+    after = λ n e. absurd (cc (e));
   }
     where
       awaiting : (level : ℕ) (h : HeaderValue) (k : Bool) → (if k then [] else lead (record h { constructed = false })) ≡ 0 ∷ []
           → opening_line (at_level style names level) h (opening_word k) ≡ opening_line (at_level style names level) h (opening_word false)
       awaiting level h true e = absurd (cc (e))
       awaiting level h false e = refl
-  shows_forest p holder before w outer (OpenHeader octets) v b k = record { text = λ n. refl; stands = λ n e. absurd (cc (e)) }
-  shows_forest p holder before w outer OpenEndOctets v b k = record { text = λ n. refl; stands = λ n e. absurd (cc (e)) }
+  shows_forest p holder before w outer (OpenHeader octets) v b k = record { text = λ n. refl; after = λ n e. absurd (cc (e)) }
+  shows_forest p holder before w outer OpenEndOctets v b k = record { text = λ n. refl; after = λ n e. absurd (cc (e)) }

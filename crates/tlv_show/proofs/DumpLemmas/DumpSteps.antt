@@ -12,7 +12,7 @@ use Rattle.tlv_walk.specs.Follow.{Effect, each_octet, effect_of, if_on}
 use Rattle.tlv_show.specs.LinesStep.{lines_octet_step, lines_padding_step}
 use Rattle.tlv_show.specs.DumpStep.{DumpState, dump_octet_step, dump_padding_step, dump_step, finding_lines}
 use Rattle.tlv_show.specs.FinderState.{CheckState, FinderState, finder_bytes_step}
-use Rattle.tlv_show.specs.Private.FindingLines.{last_finding_lines}
+use Rattle.tlv_show.specs.FindingLines.{last_finding_lines}
 use Rattle.tlv_show.specs.Private.FinderState.{ReportsFindings, with_findings_if}
 use Rattle.tlv_show.specs.declared.finding_lines.Style.{Style}
 use Rattle.tlv_show.specs.declared.finding_lines.Style.TheVariants.{Dump}

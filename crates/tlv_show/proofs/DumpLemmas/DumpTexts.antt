@@ -75,28 +75,28 @@ module _ (style : Layout) (names : NamesTable) where
   at_level level = record style { level = level }
 
   -- a dump between two elements
-  abbrev pub standing : ℕ → ℕ → Bool → LinesState
-  standing level offset padded = record { layout = at_level level; names = names; offset = offset; in_padding = padded; value = None }
+  abbrev pub lines_between : ℕ → ℕ → Bool → LinesState
+  lines_between level offset padded = record { layout = at_level level; names = names; offset = offset; in_padding = padded; value = None }
 
   -- a state between two elements, and what was put
-  settled : (l m o n : ℕ) (k j : Bool) (put put' : List ℕ) → l ≡ m → o ≡ n → k ≡ j → put ≡ put' → lines_effect (standing l o k) put ≡ lines_effect (standing m n j) put'
+  settled : (l m o n : ℕ) (k j : Bool) (put put' : List ℕ) → l ≡ m → o ≡ n → k ≡ j → put ≡ put' → lines_effect (lines_between l o k) put ≡ lines_effect (lines_between m n j) put'
   settled l m o n k j put put' e f g i =
-      ap₂ (λ (l : ℕ) (put : List ℕ). lines_effect (standing l o k) put) e i ∙ ap₂ (λ (o : ℕ) (k : Bool). lines_effect (standing m o k) put') f g
+      ap₂ (λ (l : ℕ) (put : List ℕ). lines_effect (lines_between l o k) put) e i ∙ ap₂ (λ (o : ℕ) (k : Bool). lines_effect (lines_between m o k) put') f g
 
   -- ---- a primitive
 
   abbrev begun_in : ℕ → ℕ → Bool → HeaderValue → LinesState
-  begun_in level offset padded h = record (lines_after_header (standing level offset padded) h) { value = Some (new_value_text h (at_level level)) }
+  begun_in level offset padded h = record (lines_after_header (lines_between level offset padded) h) { value = Some (new_value_text h (at_level level)) }
 
   pub primitive_shown : (level offset : ℕ) (padded : Bool) (h : HeaderValue) (c : List ℕ) → h.offset ≡ offset → announced_length h.size ≡ length c → offset + (length (octets_of h) + length c) ≤ 2 ^ 64 - 1
-      → effect_of lines_step (standing level offset padded) (Begin h ∷ Bytes c ∷ End ∷ []) ≡ lines_effect (standing level (offset + (length (octets_of h) + length c)) false) (whole_lines (finite.get names) h (at_level level) c)
+      → effect_of lines_step (lines_between level offset padded) (Begin h ∷ Bytes c ∷ End ∷ []) ≡ lines_effect (lines_between level (offset + (length (octets_of h) + length c)) false) (whole_lines (finite.get names) h (at_level level) c)
   primitive_shown level offset padded h c there size far_enough =
-      primitives_shown (standing level offset padded) h c size
+      primitives_shown (lines_between level offset padded) h c size
       ∙ settled level level (saturating_sum (saturating_sum h.offset (length (octets_of h))) (length c)) (offset + (length (octets_of h) + length c)) false false _ (whole_lines (finite.get names) h (at_level level) c)
       refl (omega (arith, there, far_enough)) refl refl
 
   pub part_shown : (level offset : ℕ) (padded : Bool) (h : HeaderValue) (c : List ℕ) → length c ≤ announced_length h.size
-      → (effect_of lines_step (standing level offset padded) (Begin h ∷ Bytes c ∷ [])).put ≡ open_lines h (at_level level) c
+      → (effect_of lines_step (lines_between level offset padded) (Begin h ∷ Bytes c ∷ [])).put ≡ open_lines h (at_level level) c
   part_shown level offset padded h c size =
       let t : ValueTextState = new_value_text h (at_level level) in
       ap (λ (k : Effect LinesState). (after_put (begin_lines t) (if_on k.goes k (λ w. effect_of lines_step w []))).put) (dumped_bytes (begun_in level offset padded h) c (λ e. rested-new h (at_level level)))
@@ -112,8 +112,8 @@ module _ (style : Layout) (names : NamesTable) where
 
   holder_by : (level offset : ℕ) (padded k three : Bool) (h : HeaderValue) → h.offset ≡ offset → level + 1 ≤ 255
       → offset + (length (octets_of h) + length (lead_by k three)) ≤ 2 ^ 64 - 1
-      → effect_of lines_step (standing level offset padded) ((if k then Open h else Enter h) ∷ map (λ z. Unused) (lead_by k three))
-      ≡ lines_effect (standing (level + 1) (offset + (length (octets_of h) + length (lead_by k three))) false) (opening_line (at_level level) h (opening_word k))
+      → effect_of lines_step (lines_between level offset padded) ((if k then Open h else Enter h) ∷ map (λ z. Unused) (lead_by k three))
+      ≡ lines_effect (lines_between (level + 1) (offset + (length (octets_of h) + length (lead_by k three))) false) (opening_line (at_level level) h (opening_word k))
   holder_by level offset padded true three h there low far_enough =
       settled (min (level + 1) 255) (level + 1) (saturating_sum h.offset (length (octets_of h))) (offset + (length (octets_of h) + 0)) false false _ (opening_line (at_level level) h (opening_word true))
       (omega (arith, low)) (omega (arith, there, far_enough)) refl (append-nil (opening_line (at_level level) h (opening_word true)))
@@ -125,7 +125,7 @@ module _ (style : Layout) (names : NamesTable) where
       (omega (arith, low)) (omega (arith, there, far_enough)) refl (append-nil (opening_line (at_level level) h (opening_word false)))
 
   pub holder_shown : (level offset : ℕ) (padded : Bool) (h : HeaderValue) → h.offset ≡ offset → level + 1 ≤ 255 → offset + length (opening h) ≤ 2 ^ 64 - 1
-      → effect_of lines_step (standing level offset padded) (opening_events h) ≡ lines_effect (standing (level + 1) (offset + length (opening h)) false) (holder_line (at_level level) h)
+      → effect_of lines_step (lines_between level offset padded) (opening_events h) ≡ lines_effect (lines_between (level + 1) (offset + length (opening h)) false) (holder_line (at_level level) h)
   holder_shown level offset padded h there low far_enough =
       holder_by level offset padded h.constructed (eqb h.number 3) h there low (omega (arith, far_enough, length-opening h))
       ∙ settled (level + 1) (level + 1) (offset + (length (octets_of h) + length (lead h))) (offset + length (opening h)) false false (holder_line (at_level level) h) (holder_line (at_level level) h)
@@ -134,8 +134,8 @@ module _ (style : Layout) (names : NamesTable) where
   -- ---- and ends
 
   closer_by : (level o : ℕ) (k : Bool) (size : Size) → AllowsSize k size → o + length (end_octets size) ≤ 2 ^ 64 - 1
-      → effect_of lines_step (standing (level + 1) o false) ((if k then Close (end_offset size o) else Leave) ∷ [])
-      ≡ lines_effect (standing level (o + length (end_octets size)) false) (closing_line (at_level level) (if k then end_offset size o else None))
+      → effect_of lines_step (lines_between (level + 1) o false) ((if k then Close (end_offset size o) else Leave) ∷ [])
+      ≡ lines_effect (lines_between level (o + length (end_octets size)) false) (closing_line (at_level level) (if k then end_offset size o else None))
   closer_by level o true (Definite n) allowed far_enough =
       settled (level + 1 - 1) level o (o + 0) false false _ (closing_line (at_level level) None) (omega arith) (omega arith) refl (append-nil (closing_line (at_level (level + 1 - 1)) None) ∙ ap (λ (l : ℕ). closing_line (at_level l) None) (omega arith))
   closer_by level o true Indefinite allowed far_enough =
@@ -146,15 +146,15 @@ module _ (style : Layout) (names : NamesTable) where
   closer_by level o false Indefinite allowed far_enough = absurd (cc (allowed))
 
   pub closer_shown : (level o : ℕ) (h : HeaderValue) (inside : Forest) → h.offset + length (opening h) + length (spelling inside) ≡ o → AllowsSize h.constructed h.size → o + length (end_octets h.size) ≤ 2 ^ 64 - 1
-      → effect_of lines_step (standing (level + 1) o false) (closing_event h inside ∷ []) ≡ lines_effect (standing level (o + length (end_octets h.size)) false) (closing_line (at_level level) (if h.constructed then end_place h inside else None))
+      → effect_of lines_step (lines_between (level + 1) o false) (closing_event h inside ∷ []) ≡ lines_effect (lines_between level (o + length (end_octets h.size)) false) (closing_line (at_level level) (if h.constructed then end_place h inside else None))
   closer_shown level o h inside there allowed far_enough =
-      subst (λ (n : ℕ). effect_of lines_step (standing (level + 1) o false) ((if h.constructed then Close (end_offset h.size n) else Leave) ∷ [])
-      ≡ lines_effect (standing level (o + length (end_octets h.size)) false) (closing_line (at_level level) (if h.constructed then end_offset h.size n else None)))
+      subst (λ (n : ℕ). effect_of lines_step (lines_between (level + 1) o false) ((if h.constructed then Close (end_offset h.size n) else Leave) ∷ [])
+      ≡ lines_effect (lines_between level (o + length (end_octets h.size)) false) (closing_line (at_level level) (if h.constructed then end_offset h.size n else None)))
       (sym there) (closer_by level o h.constructed h.size allowed far_enough)
 
   -- ---- elements
 
-  -- whether padding stands at their end
+  -- whether padding is at their end
   abbrev pub later_padded : Bool → Forest → Bool
   later_padded padded NoMore = padded
   later_padded padded (PaddingOctet rest) = later_padded true rest
@@ -178,7 +178,7 @@ module _ (style : Layout) (names : NamesTable) where
   no_padding p (OpenHeader octets) e v = refl
   no_padding p OpenEndOctets e v = refl
 
-  pub fill_shown : (level offset : ℕ) (padded : Bool) → offset + 1 ≤ 2 ^ 64 - 1 → effect_of lines_step (standing level offset padded) (Pad (0 ∷ []) ∷ []) ≡ lines_effect (standing level (offset + 1) true) (if padded then [] else padding_line (at_level level) offset)
+  pub fill_shown : (level offset : ℕ) (padded : Bool) → offset + 1 ≤ 2 ^ 64 - 1 → effect_of lines_step (lines_between level offset padded) (Pad (0 ∷ []) ∷ []) ≡ lines_effect (lines_between level (offset + 1) true) (if padded then [] else padding_line (at_level level) offset)
   fill_shown level offset padded far_enough =
       let line = if padded then [] else padding_line (at_level level) offset in
       settled level level (saturating_sum offset 1) (offset + 1) true true ((line ++ []) ++ []) line refl (far offset 1 far_enough) refl (append-nil (line ++ []) ∙ append-nil line)

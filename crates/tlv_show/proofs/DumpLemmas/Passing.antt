@@ -25,7 +25,7 @@ use Rattle.tlv_show.specs.Private.FinderState.{PassesOrStays, PassesPrimitive, f
 use Rattle.tlv_show.specs.Private.UsualTypes.{IsUsual}
 use Rattle.tlv_show.specs.Found.{is_shown, header_findings}
 use Rattle.tlv_show.proofs.FindingLemmas.CheckLaws.{each-found}
-use Rattle.tlv_show.proofs.FindingLemmas.FinderItems.{after_primitive, primitive-find, standing}
+use Rattle.tlv_show.proofs.FindingLemmas.FinderItems.{after_primitive, primitive-find, check_between}
 use Rattle.tlv_show.specs.SaturatingSum.{saturating_sum}
 
 -- ---- a finder
@@ -53,12 +53,12 @@ pub passed : (s : CheckState) (h : HeaderValue) (c : List ℕ) → announced_len
     → header_findings s.rules (surroundings_in s.holders.frame) h ≡ [] → findings_on_contents h c ≡ []
     → finder_whole_step s h c ≡ record { state = without_value s; level = length s.holders.outer; offset = h.offset; found = [] }
 passed s h c size w header contents =
-    let made : SiblingFrame → ℕ → List Finding → FinderState = λ (f : SiblingFrame) (n : ℕ) (fs : List Finding). record { state = standing s.rules f s.holders.outer (saturating_sum n (length fs)); level = length s.holders.outer; offset = h.offset; found = fs } in
+    let made : SiblingFrame → ℕ → List Finding → FinderState = λ (f : SiblingFrame) (n : ℕ) (fs : List Finding). record { state = check_between s.rules f s.holders.outer (saturating_sum n (length fs)); level = length s.holders.outer; offset = h.offset; found = fs } in
     primitive-find s.rules s.holders.frame s.holders.outer s.count h c (sym size)
     ∙ ap (λ (fs : List Finding). made (after_primitive s.rules s.holders.frame h c) (saturating_sum s.count (length (header_findings s.rules (surroundings_in s.holders.frame) h))) (filter (is_shown s.rules) fs)) contents
     ∙ ap (λ (fs : List Finding). made (after_primitive s.rules s.holders.frame h c) (saturating_sum s.count (length fs)) []) header
     ∙ ap (λ (f : SiblingFrame). made f (saturating_sum s.count 0) []) (outside s.holders.frame _ _ w)
-    ∙ ap (λ (n : ℕ). record { state = standing s.rules s.holders.frame s.holders.outer n; level = length s.holders.outer; offset = h.offset; found = [] }) (none-counted (saturating_sum s.count 0) ∙ none-counted s.count)
+    ∙ ap (λ (n : ℕ). record { state = check_between s.rules s.holders.frame s.holders.outer n; level = length s.holders.outer; offset = h.offset; found = [] }) (none-counted (saturating_sum s.count 0) ∙ none-counted s.count)
 
 pub passes : (old new : FinderState) (h : HeaderValue) (c : List ℕ) → announced_length h.size ≡ length c → old.state.holders.frame.has_segments ≡ false
     → header_findings old.state.rules (surroundings_in old.state.holders.frame) h ≡ [] → findings_on_contents h c ≡ []

@@ -25,7 +25,7 @@ use Rattle.tlv_show.specs.CheckJob.{check_job}
 use Rattle.tlv_show.specs.CheckStep.{check_step}
 use Rattle.tlv_show.specs.FindingLines.{styled_lines}
 use Rattle.tlv_show.specs.Conditions.{end_conditions, header_conditions, segments_of, surroundings_of}
-use Rattle.tlv_show.specs.FinderState.{CheckState, FinderState, OpenPrimitiveState, finder_frame_end_step, finder_value_end_step, new_finder, open_value_after}
+use Rattle.tlv_show.specs.FinderState.{CheckState, FinderState, OpenPrimitiveState, finder_frame_end_step, finder_value_end_step, new_check, open_value_after}
 use Rattle.tlv_show.specs.NestingState.{top_frame}
 use Rattle.tlv_show.specs.Private.FinderState.{finder_step}
 use Rattle.tlv_show.specs.Found.{contents_findings, header_findings, is_shown, end_findings}
@@ -183,7 +183,7 @@ module _ (rules : Rules) where
   -- ---- a check
 
   abbrev start : CheckState
-  start = new_finder rules
+  start = new_check rules
 
   module _ (framing : Framing) (octets : List ℕ) (f : Forest) (short : length octets ≤ 2 ^ 40) (r : IsReading framing octets f) where
     put-is : (run start (events f)).put ≡ only (items rules top_site f)
@@ -206,5 +206,5 @@ module _ (rules : Rules) where
 pub all_on : (s : CheckState) (es : List EventValue) → (effect_of check_step s es).goes ≡ go.On
 all_on s es = ap (λ (t : Effect CheckState). t.goes) (followed-run s es)
 
-pub checks : (rules : Rules) (framing : Framing) → Shower check_step (new_finder rules) framing (check_job rules framing).text (finding_count rules) (λ (s : CheckState). s.count)
+pub checks : (rules : Rules) (framing : Framing) → Shower check_step (new_check rules) framing (check_job rules framing).text (finding_count rules) (λ (s : CheckState). s.count)
 checks rules framing = record { goes_on = all_on; put = λ octets f few r. text-made rules framing octets f few r; counts = λ octets f few r. count-made rules framing octets f few r }

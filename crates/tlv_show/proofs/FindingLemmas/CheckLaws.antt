@@ -10,8 +10,7 @@ use Rattle.tlv_walk.specs.Follow.{Effect, each_octet, no_effect}
 use Rattle.tlv_show.specs.declared.finding_lines.Style.{Style}
 use Rattle.tlv_show.specs.declared.finding_lines.Style.TheVariants.{Check}
 use Rattle.tlv_show.specs.CheckStep.{check_octet_step, check_step, findings_effect}
-use Rattle.tlv_show.specs.FindingLines.{styled_lines}
-use Rattle.tlv_show.specs.Private.FindingLines.{last_finding_lines}
+use Rattle.tlv_show.specs.FindingLines.{last_finding_lines, styled_lines}
 use Rattle.tlv_show.specs.FinderState.{CheckState, FinderState, OpenPrimitiveState, finder_bytes_step, open_value_after}
 use Rattle.tlv_show.specs.Private.FinderState.{ReportsFindings, finder_step, with_findings_if}
 use Rattle.tlv_show.proofs.DumpLemmas.Dumped.{take-both}

@@ -113,9 +113,9 @@ bit_of b = if b then 1 else 0
 
 record SumsUp (w : SiblingFrame) (n : ℕ) (f : Forest) : Type 0 where
   pub segments : (segments_noted w f).has_segments ≡ w.has_segments
-  pub bits : (segments_noted w f).has_bits ≡ w.has_bits
+  pub bits : (segments_noted w f).is_bit_string ≡ w.is_bit_string
   pub all : (segments_noted w f).all_primitive ≡ (w.all_primitive && list_all is_primitive (headers f))
-  pub octets : (segments_noted w f).octets ≡ min (added (bit_of w.has_bits) n (headers f)) 1001
+  pub octets : (segments_noted w f).octets ≡ min (added (bit_of w.is_bit_string) n (headers f)) 1001
   pub empty : (segments_noted w f).ends_empty ≡ ends_empty w.ends_empty (headers f)
 
 and-true : (a : Bool) → a ≡ (a && true)
@@ -132,7 +132,7 @@ sums-up p w n (PaddingOctet rest) v e o =
     let r = sums-up (place_after p 1) w n rest v.1 e o in
     record { segments = r.segments; bits = r.bits; all = r.all; octets = r.octets; empty = r.empty }
 sums-up p w n (Primitive h c rest) v e o =
-    let d : ℕ = announced_length h.size - bit_of w.has_bits in
+    let d : ℕ = announced_length h.size - bit_of w.is_bit_string in
     let k : is_primitive h ≡ true = ap not (not-constructed h.constructed (wraps h) v.0.0.header.form) in
     let u : Bool = has_unused_bits (value_check_after (new_value_check h) c) in
     let r = sums-up (place_after p (length (octets_of h) + length c)) (frame_after_segment w true (announced_length h.size) u) (n + d) rest v.1 e (more-octets w.octets n d o) in
@@ -144,7 +144,7 @@ sums-up p w n (Primitive h c rest) v e o =
       empty = r.empty ∙ ap (λ (b : Bool). ends_empty (b && announced_length h.size == 0) (headers rest)) (sym k);
     }
 sums-up p w n (Holder h inside rest) v e o =
-    let d : ℕ = announced_length h.size - bit_of w.has_bits in
+    let d : ℕ = announced_length h.size - bit_of w.is_bit_string in
     let r = sums-up (place_after p (extent h inside)) (frame_after_segment w (is_primitive h) (announced_length h.size) false) (n + d) rest v.2 e (more-octets w.octets n d o) in
     record {
       segments = r.segments;
@@ -175,7 +175,7 @@ segments-summed rules p h inside v e =
 -- outside of strings nothing is found with an end
 no-ends : (rules : Rules) (w : SiblingFrame) → w.has_segments ≡ false → end_findings rules (segments_in w) ≡ []
 no-ends rules w e =
-    ap (λ (k : Bool). ends_by rules k w.all_primitive (nat_le ((if w.has_bits then 1 else 0) + w.octets) 1000) w.ends_empty) e
+    ap (λ (k : Bool). ends_by rules k w.all_primitive (nat_le ((if w.is_bit_string then 1 else 0) + w.octets) 1000) w.ends_empty) e
 
 -- what is found with an end, by the frame of what was held
 summed : (rules : Rules) (p : Place) (h : HeaderValue) (inside : Forest) → IsOpen p inside → is_whole inside ≡ true → end_findings rules (segments_in (noted_all (frame_of h) inside)) ≡ end_findings rules (segments_of h (headers inside))

@@ -102,8 +102,8 @@ primitive-found s h c e =
 
 module _ (rules : Rules) where
   -- between two elements
-  abbrev pub standing : SiblingFrame → List SiblingFrame → ℕ → CheckState
-  standing w outer n = record { rules = rules; holders = record { frame = w; outer = outer }; value = None; count = n }
+  abbrev pub check_between : SiblingFrame → List SiblingFrame → ℕ → CheckState
+  check_between w outer n = record { rules = rules; holders = record { frame = w; outer = outer }; value = None; count = n }
 
   abbrev pub later_header : SiblingFrame → HeaderValue → ℕ → ℕ
   later_header w h n = saturating_sum n (length (header_findings rules (surroundings_in w) h))
@@ -111,8 +111,8 @@ module _ (rules : Rules) where
   -- ---- an element that holds others begins
 
   pub opened-find : (w : SiblingFrame) (outer : List SiblingFrame) (n : ℕ) (h : HeaderValue) → length outer < 128
-      → finder_open_step (standing w outer n) h
-      ≡ record { state = standing (frame_under w h) (w ∷ outer) (later_header w h n); level = length outer; offset = h.offset; found = header_findings rules (surroundings_in w) h }
+      → finder_open_step (check_between w outer n) h
+      ≡ record { state = check_between (frame_under w h) (w ∷ outer) (later_header w h n); level = length outer; offset = h.offset; found = header_findings rules (surroundings_in w) h }
   opened-find w outer n h few =
       let yes : nat_lt (length outer) 128 ≡ true = grind (arith, nat_tests) in
       rw yes refl
@@ -124,9 +124,9 @@ module _ (rules : Rules) where
   opened-by s h false false es = refl
 
   pub opened : (w : SiblingFrame) (outer : List SiblingFrame) (n : ℕ) (h : HeaderValue) (es : List EventValue) → length outer < 128
-      → run (standing w outer n) (opening_events h ++ es) ≡ then_found (findings_at (length outer) h.offset (header_findings rules (surroundings_in w) h)) (run (standing (frame_under w h) (w ∷ outer) (later_header w h n)) es)
+      → run (check_between w outer n) (opening_events h ++ es) ≡ then_found (findings_at (length outer) h.offset (header_findings rules (surroundings_in w) h)) (run (check_between (frame_under w h) (w ∷ outer) (later_header w h n)) es)
   opened w outer n h es few =
-      opened-by (standing w outer n) h h.constructed (h.number == 3) es
+      opened-by (check_between w outer n) h h.constructed (h.number == 3) es
       ∙ ap (λ (f : FinderState). then_found (found_items f) (run f.state es)) (opened-find w outer n h few)
 
   -- ---- and ends
@@ -139,13 +139,13 @@ module _ (rules : Rules) where
   after_end h inside n = saturating_sum n (length (end_findings rules (segments_of h (headers inside))))
 
   pub closed : (p : Place) (w : SiblingFrame) (outer : List SiblingFrame) (n : ℕ) (h : HeaderValue) (inside : Forest) (es : List EventValue) → IsOpen p inside → is_whole inside ≡ true
-      → run (standing (noted_all (frame_under w h) inside) (w ∷ outer) n) (closing_event h inside ∷ es)
-      ≡ then_found (findings_at (length outer) h.offset (end_findings rules (segments_of h (headers inside)))) (run (standing (frame_after w (is_primitive h) (announced_length h.size) false) outer (after_end h inside n)) es)
+      → run (check_between (noted_all (frame_under w h) inside) (w ∷ outer) n) (closing_event h inside ∷ es)
+      ≡ then_found (findings_at (length outer) h.offset (end_findings rules (segments_of h (headers inside)))) (run (check_between (frame_after w (is_primitive h) (announced_length h.size) false) outer (after_end h inside n)) es)
   closed p w outer n h inside es v whole =
       let f : SiblingFrame = noted_all (frame_under w h) inside in
-      closed-by (standing f (w ∷ outer) n) (end_offset h.size (h.offset + length (opening h) + length (spelling inside))) h.constructed es
-      ∙ ap (λ (fs : List Finding). then_found (findings_at (length outer) f.offset fs) (run (standing (frame_after w f.is_primitive f.size false) outer (saturating_sum n (length fs))) es)) (summed-under rules p w h inside v whole)
-      ∙ ap₂ (λ (put : List Item) (t : SiblingFrame). then_found put (run (standing t outer (after_end h inside n)) es)) (offset-under rules p w h inside v whole (findings_at (length outer)) (λ offset. refl)) (noted-under w h inside)
+      closed-by (check_between f (w ∷ outer) n) (end_offset h.size (h.offset + length (opening h) + length (spelling inside))) h.constructed es
+      ∙ ap (λ (fs : List Finding). then_found (findings_at (length outer) f.offset fs) (run (check_between (frame_after w f.is_primitive f.size false) outer (saturating_sum n (length fs))) es)) (summed-under rules p w h inside v whole)
+      ∙ ap₂ (λ (put : List Item) (t : SiblingFrame). then_found put (run (check_between t outer (after_end h inside n)) es)) (offset-under rules p w h inside v whole (findings_at (length outer)) (λ offset. refl)) (noted-under w h inside)
 
   -- ---- a primitive
 
@@ -156,38 +156,38 @@ module _ (rules : Rules) where
   after_contents w h c n = saturating_sum (later_header w h n) (length (contents_findings rules h c))
 
   pub primitive : (w : SiblingFrame) (outer : List SiblingFrame) (n : ℕ) (h : HeaderValue) (c : List ℕ) (es : List EventValue) → length c ≡ announced_length h.size
-      → run (standing w outer n) (Begin h ∷ Bytes c ∷ End ∷ es)
+      → run (check_between w outer n) (Begin h ∷ Bytes c ∷ End ∷ es)
       ≡ then_found (findings_at (length outer) h.offset (header_findings rules (surroundings_in w) h))
-      (then_found (findings_at (length outer) h.offset (contents_findings rules h c)) (run (standing (after_primitive w h c) outer (after_contents w h c n)) es))
+      (then_found (findings_at (length outer) h.offset (contents_findings rules h c)) (run (check_between (after_primitive w h c) outer (after_contents w h c n)) es))
   primitive w outer n h c es e =
       let put : List Item = findings_at (length outer) h.offset (header_findings rules (surroundings_in w) h) in
-      let s : CheckState = standing w outer (later_header w h n) in
+      let s : CheckState = check_between w outer (later_header w h n) in
       ap (λ (u : CheckState). then_found put (then_found [] (run u (End ∷ es)))) (took s h.offset h c (omega (arith, e)))
-      ∙ ap (λ (fs : List Finding). then_found put (then_found (findings_at (length outer) h.offset fs) (run (standing (after_primitive w h c) outer (saturating_sum (later_header w h n) (length fs))) es))) (ended rules h c e)
+      ∙ ap (λ (fs : List Finding). then_found put (then_found (findings_at (length outer) h.offset fs) (run (check_between (after_primitive w h c) outer (saturating_sum (later_header w h n) (length fs))) es))) (ended rules h c e)
 
   -- ---- what a finder makes of each end by itself
 
   pub closed-find : (p : Place) (w : SiblingFrame) (outer : List SiblingFrame) (n : ℕ) (h : HeaderValue) (inside : Forest) → IsOpen p inside → is_whole inside ≡ true
-      → finder_close_step (standing (noted_all (frame_under w h) inside) (w ∷ outer) n)
-      ≡ record { state = standing (frame_after w (is_primitive h) (announced_length h.size) false) outer (after_end h inside n); level = length outer; offset = (noted_all (frame_under w h) inside).offset; found = end_findings rules (segments_of h (headers inside)) }
+      → finder_close_step (check_between (noted_all (frame_under w h) inside) (w ∷ outer) n)
+      ≡ record { state = check_between (frame_after w (is_primitive h) (announced_length h.size) false) outer (after_end h inside n); level = length outer; offset = (noted_all (frame_under w h) inside).offset; found = end_findings rules (segments_of h (headers inside)) }
   closed-find p w outer n h inside v whole =
       let f : SiblingFrame = noted_all (frame_under w h) inside in
-      ap (λ (gs : List Finding). record { state = standing (frame_after w f.is_primitive f.size false) outer (saturating_sum n (length gs)); level = length outer; offset = f.offset; found = gs }) (summed-under rules p w h inside v whole)
-      ∙ ap (λ (t : SiblingFrame). record { state = standing t outer (after_end h inside n); level = length outer; offset = f.offset; found = end_findings rules (segments_of h (headers inside)) }) (noted-under w h inside)
+      ap (λ (gs : List Finding). record { state = check_between (frame_after w f.is_primitive f.size false) outer (saturating_sum n (length gs)); level = length outer; offset = f.offset; found = gs }) (summed-under rules p w h inside v whole)
+      ∙ ap (λ (t : SiblingFrame). record { state = check_between t outer (after_end h inside n); level = length outer; offset = f.offset; found = end_findings rules (segments_of h (headers inside)) }) (noted-under w h inside)
 
   pub primitive-find : (w : SiblingFrame) (outer : List SiblingFrame) (n : ℕ) (h : HeaderValue) (c : List ℕ) → length c ≡ announced_length h.size
-      → finder_end_step (finder_bytes_step (finder_begin_step (standing w outer n) h).state c)
-      ≡ record { state = standing (after_primitive w h c) outer (after_contents w h c n); level = length outer; offset = h.offset; found = contents_findings rules h c }
+      → finder_end_step (finder_bytes_step (finder_begin_step (check_between w outer n) h).state c)
+      ≡ record { state = check_between (after_primitive w h c) outer (after_contents w h c n); level = length outer; offset = h.offset; found = contents_findings rules h c }
   primitive-find w outer n h c e =
-      ap finder_end_step (took (standing w outer (later_header w h n)) h.offset h c (omega (arith, e)))
-      ∙ ap (λ (fs : List Finding). record { state = standing (after_primitive w h c) outer (saturating_sum (later_header w h n) (length fs)); level = length outer; offset = h.offset; found = fs }) (ended rules h c e)
+      ap finder_end_step (took (check_between w outer (later_header w h n)) h.offset h c (omega (arith, e)))
+      ∙ ap (λ (fs : List Finding). record { state = check_between (after_primitive w h c) outer (saturating_sum (later_header w h n) (length fs)); level = length outer; offset = h.offset; found = fs }) (ended rules h c e)
 
   -- ---- elements
 
   -- what was reported of elements: the findings of their items; and if they are whole, the frame after them
   pub record IsFoundAs (s : Site) (w : SiblingFrame) (outer : List SiblingFrame) (f : Forest) : Type 0 where
-    pub put : (n : ℕ) → (run (standing w outer n) (events f)).put ≡ only (items rules s f)
-    pub stands : (n : ℕ) → is_whole f ≡ true → (m : ℕ) × ((run (standing w outer n) (events f)).state ≡ standing (noted_all w f) outer m)
+    pub put : (n : ℕ) → (run (check_between w outer n) (events f)).put ≡ only (items rules s f)
+    pub after : (n : ℕ) → is_whole f ≡ true → (m : ℕ) × ((run (check_between w outer n) (events f)).state ≡ check_between (noted_all w f) outer m)
 
   -- findings with a header, and then other items
   header-items : (s : Site) (w : SiblingFrame) (outer : List SiblingFrame) (h : HeaderValue) (found rest : List Item) → Knows w s → length outer ≡ s.level → found ≡ only rest
@@ -205,10 +205,10 @@ module _ (rules : Rules) where
 
   pub finds_forest : (p : Place) (s : Site) (w : SiblingFrame) (outer : List SiblingFrame) (f : Forest) → IsOpen p f → Knows w s → length outer ≡ s.level → s.level ≡ p.depth → (p.padding ≡ true → s.holder ≡ None)
       → IsFoundAs s w outer f
-  finds_forest p s w outer NoMore v k l d free = record { put = λ n. refl; stands = λ n e. (n, refl) }
+  finds_forest p s w outer NoMore v k l d free = record { put = λ n. refl; after = λ n e. (n, refl) }
   finds_forest p s w outer (PaddingOctet rest) v k l d free =
       let r = finds_forest (place_after p 1) (site_after_padding s) w outer rest v.1 (knows-padding w s k (free v.0.0)) l d free in
-      record { put = λ n. r.put n ∙ sym (only-pads (is_padding s.before) s.level s.offset (items rules (site_after_padding s) rest)); stands = r.stands }
+      record { put = λ n. r.put n ∙ sym (only-pads (is_padding s.before) s.level s.offset (items rules (site_after_padding s) rest)); after = r.after }
   finds_forest p s w outer (Primitive h c rest) v k l d free =
       let size : length c ≡ announced_length h.size = sym (ap announced_length v.0.1) in
       let form : h.constructed ≡ false = not-constructed h.constructed (wraps h) v.0.0.header.form in
@@ -221,8 +221,8 @@ module _ (rules : Rules) where
             ap (λ (t : Step). t.put) (primitive w outer n h c (events rest) size)
             ∙ header-items s w outer h _ (PrimitiveLines s.level h c ∷ (findings_at s.level h.offset (contents_findings rules h c) ++ items rules (site_after s h c) rest)) k l
             (more-items s outer h.offset (contents_findings rules h c) _ (items rules (site_after s h c) rest) l (r.put (after_contents w h c n)));
-        stands = λ n e.
-            let t = r.stands (after_contents w h c n) e in
+        after = λ n e.
+            let t = r.after (after_contents w h c n) e in
             (t.0, ap (λ (x : Step). x.state) (primitive w outer n h c (events rest) size) ∙ t.1);
       }
   finds_forest p s w outer (Holder h inside rest) v k l d free =
@@ -231,17 +231,17 @@ module _ (rules : Rules) where
       (knows-after w s (site_after_holder s h inside) h None false k refl refl refl) l d free in
       let few : length outer < 128 = omega (arith, l, d, (v.0.0.depth refl)) in
       let es : List EventValue = closing_event h inside ∷ events rest in
-      let all : (n : ℕ) → (m : ℕ) × (run (standing w outer n) (events (Holder h inside rest))
+      let all : (n : ℕ) → (m : ℕ) × (run (check_between w outer n) (events (Holder h inside rest))
       ≡ then_found (findings_at (length outer) h.offset (header_findings rules (surroundings_in w) h)) (then_found (only (items rules (site_of_children s h) inside))
-      (then_found (findings_at (length outer) h.offset (end_findings rules (segments_of h (headers inside)))) (run (standing (frame_after w (is_primitive h) (announced_length h.size) false) outer m) (events rest))))) =
+      (then_found (findings_at (length outer) h.offset (end_findings rules (segments_of h (headers inside)))) (run (check_between (frame_after w (is_primitive h) (announced_length h.size) false) outer m) (events rest))))) =
       λ n.
       let a : ℕ = later_header w h n in
-      let t = i.stands a v.0.1 in
+      let t = i.after a v.0.1 in
       let put : List Item = findings_at (length outer) h.offset (header_findings rules (surroundings_in w) h) in (
         after_end h inside t.0,
         opened w outer n h (events inside ++ es) few
             ∙ ap (then_found put)
-            (run-more (standing (frame_under w h) (w ∷ outer) a) (events inside) es
+            (run-more (check_between (frame_under w h) (w ∷ outer) a) (events inside) es
             ∙ ap₂ (λ (l : List Item) (x : CheckState). then_found l (run x es)) (i.put a) t.1
             ∙ ap (then_found (only (items rules (site_of_children s h) inside))) (closed (place_of_children p h) w outer t.0 h inside (events rest) v.1 v.0.1)),
       ) in
@@ -254,14 +254,14 @@ module _ (rules : Rules) where
             (ap (λ (t : List Item). only (items rules (site_of_children s h) inside) ++ t)
             (more-items s outer h.offset (end_findings rules (segments_of h (headers inside))) _ (items rules (site_after_holder s h inside) rest) l (r.put a.0))
             ∙ sym (filter-append is_finding (items rules (site_of_children s h) inside) last));
-        stands = λ n e.
+        after = λ n e.
             let a = all n in
-            let t = r.stands a.0 e in
+            let t = r.after a.0 e in
             (t.0, ap (λ (x : Step). x.state) a.1 ∙ t.1);
       }
   finds_forest p s w outer (OpenPrimitive h c) v k l d free = record {
     put = λ n. header-items s w outer h [] (OpenPrimitiveLines s.level h c ∷ []) k l refl;
-    stands = λ n e. absurd (cc (e));
+    after = λ n e. absurd (cc (e));
   }
   finds_forest p s w outer (OpenHolder h inside) v k l d free =
       let i = finds_forest (place_of_children p h) (site_of_children s h) (frame_under w h) (w ∷ outer) inside v.1 (knows-inside w s h) (omega (arith, l)) (omega (arith, d)) (λ e. absurd (cc (e))) in
@@ -270,11 +270,11 @@ module _ (rules : Rules) where
         put = λ n.
             ap (λ (t : Step). t.put) (opened w outer n h (events inside) few)
             ∙ header-items s w outer h _ (OpeningLine s.level h ∷ items rules (site_of_children s h) inside) k l (i.put (later_header w h n));
-        stands = λ n e. absurd (cc (e));
+        after = λ n e. absurd (cc (e));
       }
   finds_forest p s w outer (OpenBitString h) v k l d free = record {
     put = λ n. header-items s w outer h [] (OpeningLine s.level h ∷ []) k l refl;
-    stands = λ n e. absurd (cc (e));
+    after = λ n e. absurd (cc (e));
   }
-  finds_forest p s w outer (OpenHeader octets) v k l d free = record { put = λ n. refl; stands = λ n e. absurd (cc (e)) }
-  finds_forest p s w outer OpenEndOctets v k l d free = record { put = λ n. refl; stands = λ n e. absurd (cc (e)) }
+  finds_forest p s w outer (OpenHeader octets) v k l d free = record { put = λ n. refl; after = λ n e. absurd (cc (e)) }
+  finds_forest p s w outer OpenEndOctets v k l d free = record { put = λ n. refl; after = λ n e. absurd (cc (e)) }

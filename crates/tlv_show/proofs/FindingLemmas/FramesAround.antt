@@ -87,7 +87,7 @@ knows-after w s t h first unused k e b u = by-segments w.has_segments refl
     segments : w.has_segments ≡ in_string t
     segments = ap (λ (x : Surroundings). x.in_string) same
 
-    bits : (w.has_segments && w.has_bits) ≡ in_bit_string t
+    bits : (w.has_segments && w.is_bit_string) ≡ in_bit_string t
     bits = ap (λ (x : Surroundings). x.in_bit_string) same
 
     by-segments : (b : Bool) → w.has_segments ≡ b

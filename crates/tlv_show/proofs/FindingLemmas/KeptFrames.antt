@@ -55,8 +55,8 @@ around-same w zero kept = refl
 around-same w (suc n) kept =
     ap (λ (k : Bool). record {
       in_string = k;
-      in_bit_string = k && w.has_bits;
-      after_unused_bits = k && w.has_bits && w.last_has_unused_bits;
+      in_bit_string = k && w.is_bit_string;
+      after_unused_bits = k && w.is_bit_string && w.last_has_unused_bits;
       after_not_full = k && w.last_is_not_full;
     }) (sym kept)
 

@@ -10,7 +10,7 @@ use Rattle.tlv_head.proofs.ShortestLemmas.Shortest.{identifier-from, lengths-fro
 use Rattle.tlv_head.proofs.ShortestLemmas.ShortestSpelling.{no-shorter_identifier, no-shorter_length, shorter-identifier, shorter-length}
 use Rattle.tlv_show.specs.declared.rules.Rules.{Rules}
 use Rattle.tlv_show.specs.declared.rules.Rules.TheVariants.{Ber, Der, Cer}
-use Rattle.tlv_show.specs.Conditions.{leading_length_octet, has_high_form, has_long_form, header_conditions, leading_bits, Surroundings}
+use Rattle.tlv_show.specs.Conditions.{length_octet, has_high_form, has_long_form, header_conditions, number_bits, Surroundings}
 use Rattle.tlv_show.specs.Found.{header_findings}
 use Rattle.tlv_show.specs.Spellings.{LongerIdentifiersAreFound, LongerLengthsAreFound, is_on_identifier, is_on_lengths}
 use Rattle.tlv_show.proofs.FindingLemmas.FindingsOfHeaders.{any_of, found-with_header}
@@ -29,12 +29,12 @@ from-absurd false none = absurd (none refl)
 -- ---- identifier octets
 
 abbrev pub longer_identifier : HeaderValue → Bool
-longer_identifier h = (has_high_form h && nat_lt h.number 31) || (has_high_form h && leading_bits h == 0)
+longer_identifier h = (has_high_form h && nat_lt h.number 31) || (has_high_form h && number_bits h == 0)
 
 on-identifier : (rules : Rules) (s : Surroundings) (h : HeaderValue) → any_of is_on_identifier rules (header_conditions s h) ≡ longer_identifier h
-on-identifier Ber s h = ap (λ (b : Bool). (has_high_form h && nat_lt h.number 31) || b) (or-false (has_high_form h && leading_bits h == 0))
-on-identifier Der s h = ap (λ (b : Bool). (has_high_form h && nat_lt h.number 31) || b) (or-false (has_high_form h && leading_bits h == 0))
-on-identifier Cer s h = ap (λ (b : Bool). (has_high_form h && nat_lt h.number 31) || b) (or-false (has_high_form h && leading_bits h == 0))
+on-identifier Ber s h = ap (λ (b : Bool). (has_high_form h && nat_lt h.number 31) || b) (or-false (has_high_form h && number_bits h == 0))
+on-identifier Der s h = ap (λ (b : Bool). (has_high_form h && nat_lt h.number 31) || b) (or-false (has_high_form h && number_bits h == 0))
+on-identifier Cer s h = ap (λ (b : Bool). (has_high_form h && nat_lt h.number 31) || b) (or-false (has_high_form h && number_bits h == 0))
 
 -- an identifier as short as it can be has none of them
 pub longer_identifier-absent : (h : HeaderValue) → IsShortestIdentifier h.number h.identifier → longer_identifier h ≡ false
@@ -42,19 +42,19 @@ longer_identifier-absent h s = elim (cases_lt 1 (length h.identifier)) [
   | inl more ↦
       let large : 31 ≤ h.number = at-least h.number 31 (λ small. omega (arith, more, s.single small)) in
       let number : nat_lt h.number 31 ≡ false = grind (arith, nat_tests) in
-      let nonzero : leading_bits h ≢ 0 = s.leading more in
-      let bits : (leading_bits h == 0) ≡ false = grind (arith, nat_tests) in
+      let nonzero : number_bits h ≢ 0 = s.leading more in
+      let bits : (number_bits h == 0) ≡ false = grind (arith, nat_tests) in
       or_from _ _ (ap (λ (b : Bool). has_high_form h && b) number ∙ and-false (has_high_form h))
       (ap (λ (b : Bool). has_high_form h && b) bits ∙ and-false (has_high_form h))
   | inr le ↦
       let low : has_high_form h ≡ false = grind (arith, nat_tests) in
-      or_from _ _ (ap (λ (b : Bool). b && nat_lt h.number 31) low) (ap (λ (b : Bool). b && leading_bits h == 0) low)
+      or_from _ _ (ap (λ (b : Bool). b && nat_lt h.number 31) low) (ap (λ (b : Bool). b && number_bits h == 0) low)
 ]
 
 -- and one that has none is as short as it can be
 identifier-shortest : (h : HeaderValue) → IsHeader h → longer_identifier h ≡ false → IsShortestIdentifier h.number h.identifier
 identifier-shortest h valid e =
-    let both : ((has_high_form h && nat_lt h.number 31) ≡ false) × ((has_high_form h && leading_bits h == 0) ≡ false) = or_parts _ _ e in
+    let both : ((has_high_form h && nat_lt h.number 31) ≡ false) × ((has_high_form h && number_bits h == 0) ≡ false) = or_parts _ _ e in
     identifier-from h valid (high-form h both.0 both.1)
 
 pub identifiers-found : LongerIdentifiersAreFound
@@ -68,7 +68,7 @@ identifiers-found rules s h valid nonzero =
 -- ---- length octets
 
 abbrev pub longer_lengths : HeaderValue → Bool
-longer_lengths h = has_long_form h && (nat_lt (announced_length h.size) 128 || leading_length_octet h == 0)
+longer_lengths h = has_long_form h && (nat_lt (announced_length h.size) 128 || length_octet h == 0)
 
 on-lengths : (rules : Rules) (s : Surroundings) (h : HeaderValue) → rules ≢ Ber → any_of is_on_lengths rules (header_conditions s h) ≡ longer_lengths h
 on-lengths Ber s h strict = absurd (strict refl)
@@ -80,12 +80,12 @@ longer_lengths-absent h s = elim (cases_lt 1 (length h.lengths)) [
   | inl more ↦
       let large : 128 ≤ announced_length h.size = at-least (announced_length h.size) 128 (λ small. omega (arith, more, s.single small)) in
       let number : nat_lt (announced_length h.size) 128 ≡ false = grind (arith, nat_tests) in
-      let nonzero : leading_length_octet h ≢ 0 = s.leading more in
-      let first : (leading_length_octet h == 0) ≡ false = grind (arith, nat_tests) in
+      let nonzero : length_octet h ≢ 0 = s.leading more in
+      let first : (length_octet h == 0) ≡ false = grind (arith, nat_tests) in
       ap (λ (b : Bool). has_long_form h && b) (or_from _ _ number first) ∙ and-false (has_long_form h)
   | inr le ↦
       let short : has_long_form h ≡ false = grind (arith, nat_tests) in
-      ap (λ (b : Bool). b && (nat_lt (announced_length h.size) 128 || leading_length_octet h == 0)) short
+      ap (λ (b : Bool). b && (nat_lt (announced_length h.size) 128 || length_octet h == 0)) short
 ]
 
 pub lengths-found : LongerLengthsAreFound

@@ -24,7 +24,7 @@ use Rattle.tlv_walk.proofs.GrammarLemmas.Respelled.{SpelledAt, Spelling, respell
 use Rattle.tlv_walk.proofs.EventLemmas.Wrappers.{AreNamed, Rise, wrapper_offsets-named, wrapper_offsets-rise}
 use Rattle.tlv_show.specs.declared.rules.Rules.{Rules}
 use Rattle.tlv_show.specs.declared.rules.Rules.TheVariants.{Ber, Der, Cer}
-use Rattle.tlv_show.specs.Conditions.{Segments, end_conditions, has_high_form, header_conditions, leading_bits, segments_of, surroundings_of}
+use Rattle.tlv_show.specs.Conditions.{Segments, end_conditions, has_high_form, header_conditions, number_bits, segments_of, surroundings_of}
 use Rattle.tlv_show.specs.Found.{contents_findings, header_findings, end_findings}
 use Rattle.tlv_show.specs.Items.{Item, OpeningLine, ClosingLine, PrimitiveLines, PaddingLine, headers, items}
 use Rattle.tlv_show.proofs.FindingLemmas.ElementItems.{on_contents, on_end, on_header}
@@ -53,10 +53,10 @@ header-absent : (rules : Rules) (s : Site) (h : HeaderValue) → rules ≢ Ber �
     → any_of is_on_spelling rules (header_conditions (surroundings_of s) h) ≡ false
 header-absent Ber s h strict r = absurd (strict refl)
 header-absent Der s h strict r =
-    four-absent (has_high_form h && nat_lt h.number 31) (has_high_form h && leading_bits h == 0) (longer_lengths h) (is_indefinite h.size)
+    four-absent (has_high_form h && nat_lt h.number 31) (has_high_form h && number_bits h == 0) (longer_lengths h) (is_indefinite h.size)
     (longer_identifier-absent h r.shortest.identifier) (longer_lengths-absent h r.shortest.lengths) r.by_form
 header-absent Cer s h strict r =
-    four-absent (has_high_form h && nat_lt h.number 31) (has_high_form h && leading_bits h == 0) (longer_lengths h)
+    four-absent (has_high_form h && nat_lt h.number 31) (has_high_form h && number_bits h == 0) (longer_lengths h)
     (h.constructed && not (is_indefinite h.size)) (longer_identifier-absent h r.shortest.identifier) (longer_lengths-absent h r.shortest.lengths)
     (constructed-absent h.constructed (is_indefinite h.size) r.by_form)
 
@@ -129,7 +129,7 @@ rising-of least end (n ∷ ns) few r = (r.0, omega (arith, few, rise-le (n + 1) 
 among-others : (n x : ℕ) (ns : List ℕ) → eqb n x ≡ false → is_among x (n ∷ ns) ≡ true → is_among x ns ≡ true
 among-others n x ns apart e = sym (ap (λ (k : Bool). k || is_among x ns) apart) ∙ e
 
--- what stands after the first offset is among the others
+-- what is after the first offset is among the others
 among-later : (n least end : ℕ) (ns xs : List ℕ) → n < least → Rise least end xs → AreNamed (n ∷ ns) xs → AreNamed ns xs
 among-later n least end ns [] below r named = tt
 among-later n least end ns (x ∷ xs) below r named = (

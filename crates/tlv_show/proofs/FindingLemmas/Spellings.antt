@@ -23,7 +23,7 @@ use Rattle.tlv_walk.proofs.GrammarLemmas.Endings.{done-sound, sound-reading}
 use Rattle.tlv_walk.proofs.GrammarLemmas.Readings.{reading-unique}
 use Rattle.tlv_show.specs.declared.rules.Rules.{Rules}
 use Rattle.tlv_show.specs.declared.rules.Rules.TheVariants.{Ber, Der, Cer}
-use Rattle.tlv_show.specs.Conditions.{leading_length_octet, has_high_form, has_long_form, header_conditions, leading_bits, surroundings_of}
+use Rattle.tlv_show.specs.Conditions.{length_octet, has_high_form, has_long_form, header_conditions, number_bits, surroundings_of}
 use Rattle.tlv_show.specs.Found.{header_findings}
 use Rattle.tlv_show.specs.Items.{Item, OpeningLine, ClosingLine, PrimitiveLines, PaddingLine, items}
 use Rattle.tlv_show.proofs.FindingLemmas.ElementItems.{findings_at, on_contents, on_end, on_header}
@@ -52,26 +52,26 @@ none-of_four false false false true e = absurd (cc (e))
 
 -- ---- what they say of a header
 
-pub high-form : (h : HeaderValue) → (has_high_form h && nat_lt h.number 31) ≡ false → (has_high_form h && leading_bits h == 0) ≡ false
+pub high-form : (h : HeaderValue) → (has_high_form h && nat_lt h.number 31) ≡ false → (has_high_form h && number_bits h == 0) ≡ false
     → 1 < length h.identifier → (31 ≤ h.number) × (slice_index h.identifier 1 % 128 ≢ 0)
 high-form h a b more =
     let high : nat_lt 1 (length h.identifier) ≡ true = grind (arith, nat_tests) in
     let large : nat_lt h.number 31 ≡ false = rw high at a in
-    let nonzero : (leading_bits h == 0) ≡ false = rw high at b in
+    let nonzero : (number_bits h == 0) ≡ false = rw high at b in
     (grind (arith, nat_tests), grind (arith, nat_tests))
 
-pub long-form : (h : HeaderValue) → (has_long_form h && (nat_lt (announced_length h.size) 128 || leading_length_octet h == 0)) ≡ false
+pub long-form : (h : HeaderValue) → (has_long_form h && (nat_lt (announced_length h.size) 128 || length_octet h == 0)) ≡ false
     → 1 < length h.lengths → (128 ≤ announced_length h.size) × (slice_index h.lengths 1 ≢ 0)
 long-form h a more =
     let long : nat_lt 1 (length h.lengths) ≡ true = grind (arith, nat_tests) in
-    let neither : (nat_lt (announced_length h.size) 128 || leading_length_octet h == 0) ≡ false = rw long at a in
-    let both : (nat_lt (announced_length h.size) 128 ≡ false) × ((leading_length_octet h == 0) ≡ false) = or_parts _ _ neither in
+    let neither : (nat_lt (announced_length h.size) 128 || length_octet h == 0) ≡ false = rw long at a in
+    let both : (nat_lt (announced_length h.size) 128 ≡ false) × ((length_octet h == 0) ≡ false) = or_parts _ _ neither in
     let large : nat_lt (announced_length h.size) 128 ≡ false = both.0 in
-    let nonzero : (leading_length_octet h == 0) ≡ false = both.1 in
+    let nonzero : (length_octet h == 0) ≡ false = both.1 in
     (grind (arith, nat_tests), grind (arith, nat_tests))
 
-shortest : (h : HeaderValue) → IsHeader h → (has_high_form h && nat_lt h.number 31) ≡ false → (has_high_form h && leading_bits h == 0) ≡ false
-    → (has_long_form h && (nat_lt (announced_length h.size) 128 || leading_length_octet h == 0)) ≡ false → IsShortest h
+shortest : (h : HeaderValue) → IsHeader h → (has_high_form h && nat_lt h.number 31) ≡ false → (has_high_form h && number_bits h == 0) ≡ false
+    → (has_long_form h && (nat_lt (announced_length h.size) 128 || length_octet h == 0)) ≡ false → IsShortest h
 shortest h valid a b c = record { identifier = identifier-from h valid (high-form h a b); lengths = lengths-from h valid (long-form h c) }
 
 -- whether the length of an element of that form is indefinite: by DER never, by CER if it is constructed
@@ -92,12 +92,12 @@ regular : (rules : Rules) (s : Site) (h : HeaderValue) → rules ≢ Ber → IsH
     → IsRegular (form_by rules) h
 regular Ber s h strict valid e = absurd (strict refl)
 regular Der s h strict valid e =
-    let none = none-of_four (has_high_form h && nat_lt h.number 31) (has_high_form h && leading_bits h == 0)
-    (has_long_form h && (nat_lt (announced_length h.size) 128 || leading_length_octet h == 0)) (is_indefinite h.size) (absent Der s h e) in
+    let none = none-of_four (has_high_form h && nat_lt h.number 31) (has_high_form h && number_bits h == 0)
+    (has_long_form h && (nat_lt (announced_length h.size) 128 || length_octet h == 0)) (is_indefinite h.size) (absent Der s h e) in
     record { shortest = shortest h valid none.0 none.1 none.2; by_form = none.3 }
 regular Cer s h strict valid e =
-    let none = none-of_four (has_high_form h && nat_lt h.number 31) (has_high_form h && leading_bits h == 0)
-    (has_long_form h && (nat_lt (announced_length h.size) 128 || leading_length_octet h == 0)) (h.constructed && not (is_indefinite h.size)) (absent Cer s h e) in
+    let none = none-of_four (has_high_form h && nat_lt h.number 31) (has_high_form h && number_bits h == 0)
+    (has_long_form h && (nat_lt (announced_length h.size) 128 || length_octet h == 0)) (h.constructed && not (is_indefinite h.size)) (absent Cer s h e) in
     record { shortest = shortest h valid none.0 none.1 none.2; by_form = by-form h.constructed h.size valid.allowed none.3 }
 
 -- ---- elements

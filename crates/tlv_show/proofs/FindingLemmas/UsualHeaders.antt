@@ -6,7 +6,7 @@ use Rattle.tlv_value.specs.Checks.{findings_by}
 use Rattle.tlv_value.specs.Types.{is_a}
 use Rattle.tlv_show.specs.declared.sibling_frame.SiblingFrame.{SiblingFrame}
 use Rattle.tlv_show.specs.declared.rules.Rules.TheVariants.{Ber}
-use Rattle.tlv_show.specs.Conditions.{has_high_form, leading_bits, segment_type}
+use Rattle.tlv_show.specs.Conditions.{has_high_form, number_bits, segment_type}
 use Rattle.tlv_show.specs.NestingState.{surroundings_in}
 use Rattle.tlv_show.specs.Found.{header_findings}
 use Rattle.tlv_show.specs.Private.UsualTypes.{IsUsual}
@@ -17,10 +17,10 @@ none-of_seven : (a b c d e f g : Bool) → a ≡ false → b ≡ false → c ≡
 none-of_seven a b c d e f g p q r s t u v = rw (p, q, r, s, t, u, v) refl
 
 pub none-by_ber : (w : SiblingFrame) (h : HeaderValue) → w.has_segments ≡ false
-    → (has_high_form h && nat_lt h.number 31) ≡ false → (has_high_form h && leading_bits h == 0) ≡ false → IsUsual h
+    → (has_high_form h && nat_lt h.number 31) ≡ false → (has_high_form h && number_bits h == 0) ≡ false → IsUsual h
     → header_findings Ber (surroundings_in w) h ≡ []
 none-by_ber w h outside number bits usual =
     basic-found (surroundings_in w) h
     ∙ none-of_seven _ _ _ _ _ _ _ number bits usual.assigned usual.primitive usual.constructed
-    (ap (λ (k : Bool). (k && w.has_bits) && w.last_has_unused_bits) outside)
+    (ap (λ (k : Bool). (k && w.is_bit_string) && w.last_has_unused_bits) outside)
     (ap (λ (k : Bool). k && not (is_a (segment_type (surroundings_in w)) h)) outside)

@@ -3,9 +3,14 @@ use Rattle.std.specs.Prelude.{ℕ, ◌≡◌, Bool, true, false, if◌then◌els
 use Rattle.tlv_head.specs.Header.{HeaderValue}
 use Rattle.tlv_value.specs.ValueCheckState.{ValueCheckState}
 use Rattle.tlv_walk.specs.Events.{Begin, Bytes, Close, End, Enter, EventValue, Leave, Open, Pad, Unused}
-use Rattle.tlv_show.specs.FinderState.{OpenPrimitiveState, CheckState, FinderState, without_findings}
+use Rattle.tlv_show.specs.declared.rules.Rules.{Rules}
+use Rattle.tlv_show.specs.FinderState.{OpenPrimitiveState, CheckState, FinderState, new_check, without_findings}
 use Rattle.tlv_show.specs.FinderState.{finder_open_step, finder_begin_step, finder_bytes_step}
 use Rattle.tlv_show.specs.FinderState.{finder_end_step, finder_close_step}
+
+-- a finder of which no event has come
+abbrev pub new_finder : Rules → FinderState
+new_finder rules = without_findings (new_check rules)
 
 -- the primitive that begins at `offset`, if one is open
 abbrev pub open_by : Bool → ℕ → ValueCheckState → Option OpenPrimitiveState

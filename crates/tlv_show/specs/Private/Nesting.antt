@@ -1,4 +1,4 @@
--- The frames that are kept of the elements that are open, and all those that they stand for.
+-- The frames that are kept of the elements that are open, and all those that they represent.
 use Rattle.std.specs.Prelude.{ℕ, zero, suc, ◌≡◌, ◌-◌, ◌<◌, ⊤, if◌then◌else◌, false, List, [], ◌∷◌}
 use Rattle.std.specs.Prelude.{Option, Some, None}
 use Rattle.tlv_show.specs.declared.sibling_frame.SiblingFrame.{SiblingFrame}
