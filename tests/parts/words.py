@@ -3,8 +3,14 @@ specs calls a tactic: what a reader has to believe is written out."""
 import os
 import re
 
+CODE = re.compile(r'(?:"(?:\\.|[^"\\])*"|(?!--).)*')
 TACTIC = re.compile(r"\b(?:omega|grind|search|simp|cc|ground|assumption)\b")
 DEFINITION = re.compile(r"^(\s*)(?:(?:abbrev|unfoldable) )?pub (?:(record|data) )?([A-Za-z_◌][\w'◌-]*)")
+
+
+def without_comment(line):
+    """Returns a line of specs up to its comment, which begins with "--" outside of a text."""
+    return CODE.match(line)[0]
 
 
 def definitions(text):
@@ -38,7 +44,7 @@ def test(part):
     for path, text in specs(part.root):
         for word in definitions(text):
             homes.setdefault(word, []).append(path)
-        tactics = [line for line in text.split("\n") if TACTIC.search(line.partition("--")[0])]
+        tactics = [line for line in text.split("\n") if TACTIC.search(without_comment(line))]
         part.expect(f"{path} calls no tactic", not tactics, *tactics)
     for word, files in sorted(homes.items()):
         part.expect(f"the word {word} of specs has one definition", len(files) == 1, *files)
