@@ -17,11 +17,11 @@ typedef uint64_t number;
 typedef unsigned __int128 wide;
 enum { PIECE = 4096, HELD = 64, LINE = 1024, DEEPEST = 128, TYPES = 37 };
 
-/* How contents are shown. Those of more octets than MOST says stand in rows. */
+/* How contents are shown. Those of more octets than MOST says are in rows. */
 enum kind { PAIRS, TRUTH, INTEGER, BITS, ARCS, TEXT, UTF8 };
 static const octet MOST[] = {16, 16, 16, 9, HELD, HELD, HELD};
 
-/* Universal types by their numbers; the first stands for all others. */
+/* Universal types by their numbers; the first is for all others. */
 static const octet KIND[TYPES] = {[1] = TRUTH, [2] = INTEGER, [3] = BITS, [6] = ARCS, [7] = TEXT, [10] = INTEGER, [12] = UTF8,
                                   [18] = TEXT, TEXT, TEXT, TEXT, TEXT, TEXT, TEXT, TEXT, TEXT, TEXT};
 static const char NAME[TYPES][20] = {
@@ -84,7 +84,7 @@ static char *add_spaces(char *to, size_t count) {
     return to + count;
 }
 
-/* Adds IT in decimal, with spaces before it where it has less than WIDTH digits; WIDTH is 1, 6 or 8. */
+/* Adds IT in decimal, with spaces before it if it has less than WIDTH digits; WIDTH is 1, 6 or 8. */
 static char *add_number(char *to, int width, number it) {
     number most = width == 8 ? 100000000 : width == 6 ? 1000000 : 10;
     for (; it >= most && width < 20; width++) most *= 10;

@@ -10,7 +10,7 @@ _tlvdump_files() {
     mapfile -t COMPREPLY < <(compgen -f -- "$word")
 }
 
-# Completes the value of the option $before, if it has one. An option with "=" is one word, or three where "=" splits words.
+# Completes the value of the option $before, if it has one. An option with "=" is one word, or three if "=" splits words.
 _tlvdump_value() {
     case $before in
     --names) _tlvdump_files ;;
@@ -21,7 +21,7 @@ _tlvdump_value() {
     esac
 }
 
-# Completes a value behind "=", with what stands in front of it where that is the same word.
+# Completes the value after "=", with the text before it if both are one word.
 _tlvdump_assigned() {
     local front=
     case $word in

@@ -1,6 +1,6 @@
 """./tlvdump: that it builds the program if that is missing or old, and what it prints meanwhile.
 
-In the place of the kit's rt stands a script that writes the lines of a build, slowly, and then puts the program of the tests.
+In the place of the kit's rt is a script that writes the lines of a build, slowly, and then puts the program of the tests.
 """
 import os
 import pty

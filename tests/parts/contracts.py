@@ -19,7 +19,7 @@ def sources(folder):
                 yield read(at, name)
 
 
-def exported(root):
+def public_names(root):
     """Returns the names that the `pub use` lines of lib.rt make public, but for those of another crate."""
     found = set()
     for group, single in re.findall(r"^pub use (?!tlv_)[\w:]+::(?:\{([^}]*)\}|(\w+));", root, re.M):
@@ -29,7 +29,7 @@ def exported(root):
 
 def items(folder):
     """Returns the public items: functions and types by name, methods as `Type::method`, and laws."""
-    names = exported(read(folder, "lib.rt"))
+    names = public_names(read(folder, "lib.rt"))
     found = set(names)
     for text in sources(folder):
         for start in IMPL.finditer(text):
@@ -54,7 +54,7 @@ def sections(text):
     return found
 
 
-def named(text):
+def names_in(text):
     """Returns the names in backquotes. `Type::{a, b}` is `Type::a` and `Type::b`."""
     found = set()
     for word in re.findall(r"`([^`]+)`", text):
@@ -69,12 +69,12 @@ def test(part):
     about = sections(read(part.root, "docs", "CONTRACTS.md"))
     for crate in CRATES:
         there = items(os.path.join(part.root, "crates", crate, "src"))
-        words = named(about[crate])
+        words = names_in(about[crate])
         all_items |= there
         for item in sorted(there):
             part.expect(f"docs/CONTRACTS.md names {item} of {crate}", item in words)
     types = {item for item in all_items if item[0].isupper() and "::" not in item}
-    for word in sorted(named("".join(about.values()))):
+    for word in sorted(names_in("".join(about.values()))):
         owner, _, name = word.partition("::")
         if owner in types and re.fullmatch(r"[a-z_]+", name):
             part.expect(f"{word} of docs/CONTRACTS.md is there", word in all_items)

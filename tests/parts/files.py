@@ -68,7 +68,7 @@ def inputs_that_break(part):
     far.close()
     part.gives(["dump"], None, 3, JONES_LINES[0], READ, stdin=near)
     near.close()
-    # A pipe that does not wait fails if it is empty, and its writer still stands.
+    # A pipe that does not wait fails if it is empty, and its writer is still open.
     reading, writing = os.pipe()
     os.set_blocking(reading, False)
     os.write(writing, JONES[:7])
@@ -88,7 +88,7 @@ def outputs_that_fail(part):
     for words in COMMANDS:
         with open("/dev/full", "wb") as full:
             part.gives(words, NULL, 3, err=WRITE, stdout=full)
-            # What could not be written passes before a fault after it.
+            # A failed write takes precedence over a fault after it.
             part.gives(words, b"\x30\x03\x02\x02\x01", 3, err=WRITE, stdout=full)
             part.gives(words, b"", 2, err="fault at 0: F01 empty input", stdout=full)
         part.gives(words, NULL, 3, err=WRITE, stdout=None, preexec_fn=closing(1))

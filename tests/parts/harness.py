@@ -64,7 +64,7 @@ class Suite:
 
 
 class Part:
-    """What the tests of one part use. `folder` is the folder in which its runs stand."""
+    """What the tests of one part use. `folder` is the folder that its runs are in."""
 
     def __init__(self, suite, name, folder):
         self.suite, self.name, self.folder = suite, name, folder

@@ -19,7 +19,7 @@ def whole(part, words, name):
 
 
 def before_all_else(part, name, wanted):
-    """Help passes before words that are refused, values out of range and files, and reads nothing."""
+    """Help takes precedence over words that are refused, values out of range and files, and reads nothing."""
     part.same(f"{name} --help --nonsense", part.run([name, "--help", "--nonsense"]), wanted)
     part.same(f"{name} missing --help", part.run([name, "missing", "--help"]), wanted)
     twice = part.run([name, "--padding", "--help", "--padding"])

@@ -275,7 +275,7 @@ def made(script):
     for name in ("cert.der", "file.p12", "crl.der"):
         with open(part.path(name), "rb") as file:
             script.agrees(name, file.read())
-    # A signature over 3 MB is made in pieces, and the certificate stands after them.
+    # A signature over 3 MB is made in pieces, and the certificate is after them.
     part.write("long", b"\x05\x00\x05\x00" * 750_000)
     command(part, "openssl cms -sign -binary -nodetach -stream -in long -signer cert -inkey key -outform DER -out cms")
     opened = script.run("--option", "cms")

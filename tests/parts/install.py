@@ -37,7 +37,7 @@ def files_below(folder):
 
 
 def places(part, prefix):
-    """That each file stands below this prefix, as its source has it, and nothing else."""
+    """That each file is below this prefix, as its source has it, and nothing else."""
     part.expect(f"files below {prefix}", files_below(part.path(prefix)) == sorted(PLACES), *files_below(part.path(prefix)))
     for place, source in PLACES.items():
         path = os.path.join(part.folder, prefix, place)
@@ -107,7 +107,7 @@ def clone(part, name, built):
 
 def builds(part):
     """Without TLVDUMP the program of the clone is taken; if it cannot be built nothing is put."""
-    # The kit of this machine stands after one that builds nothing.
+    # On the PATH the kit of this machine comes after one that builds nothing.
     part.write("rt", b"#!/bin/sh\nexit 1\n")
     os.chmod(part.path("rt"), 0o755)
     env = {"PATH": f"{part.folder}:{os.environ['PATH']}"}

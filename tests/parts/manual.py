@@ -32,7 +32,7 @@ def rendered(part, page):
 
 
 def complete(part, text):
-    """Each command, option, status and code stands in it; and no option that the program does not have."""
+    """Each command, option, status and code is in it; and no option that the program does not have."""
     options = words_of(part)
     for name in options:
         part.expect(f"the command {name}", f".Cm {name}" in text and f".Ss {name}\n" in text)

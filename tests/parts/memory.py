@@ -17,12 +17,12 @@ LOADED = 42
 # exit_group(42) of Linux on x86-64: mov edi, 42; mov eax, 231; syscall.
 ENDS = b"\xbf\x2a\x00\x00\x00\xb8\xe7\x00\x00\x00\x0f\x05"
 X86_64, LOAD = 62, 1
-# In kilobytes: small steps where the words take memory, wider ones where the names do.
+# In kilobytes: small steps while the words take memory, wider ones while the names do.
 STEPS = [*range(0, 512, 8), *range(512, 16384, 48)]
 
 
 def place_of(octets, address):
-    """Returns where in the file the octet stands that is loaded to this address."""
+    """Returns the place in the file of the octet that is loaded to this address."""
     table, size, count = struct.unpack_from("<Q", octets, 32)[0], *struct.unpack_from("<HH", octets, 54)
     for number in range(count):
         kind, _, offset, start, _, length = struct.unpack_from("<IIQQQQ", octets, table + number * size)

@@ -80,7 +80,7 @@ def lines(part):
         refused(part, f"{line}", b"1.2.840 us\n" + line, "N2 line 2: no usable name")
     for line in (b"2.5.4.3 cn", b"2.5.4.3 commonName", b"\t2.5.4.3\tcn\r"):
         refused(part, f"{line}", b"# x\n2.5.4.3 commonName\n" + line + b"\n", "N3 line 3: repeated")
-    # The first refused line is reported, and a line without a name passes before a repeated one.
+    # The first refused line is reported, and a line without a name takes precedence over a repeated one.
     refused(part, "two lines", b"2.5.4.3\n1.40 x\n", "N2 line 1: no usable name")
     refused(part, "a repeat without a name", b"2.5.4.3 a\n2.5.4.3\n", "N2 line 2: no usable name")
 
@@ -111,7 +111,7 @@ def limits(part):
 
 
 def unread(part):
-    """Names files that cannot be read, and which refusal passes before which."""
+    """Names files that cannot be read, and which refusal takes precedence over which."""
     said = "N5 names file not read"
     os.mkdir(part.path("folder"))
     part.write("input", OBJECT)
@@ -172,7 +172,7 @@ def order(part):
     part.write("names", b"1.2.840 us\n")
     part.gives(["dump", "--names", "names", "folder"], OBJECT, 3, err="E1 read failed")
     part.gives(["dump", "--names", "names", "fault"], OBJECT, 2, err="fault at 1: F07 length octet ff is reserved")
-    # Where both are the same pipe, the names file takes all that comes.
+    # If both are the same pipe, the names file takes all that comes.
     empty = "fault at 0: F01 empty input"
     part.gives(["dump", "--names", "/dev/stdin"], b"1.2.840 us\n", 2, err=empty)
     twice = ["dump", "--names", "/dev/stdin", "/dev/stdin"]

@@ -26,7 +26,7 @@ def said_by(*words):
 
 
 def place_of(path):
-    """Where the package has what ./install puts there below its PREFIX."""
+    """The place in the package of what ./install puts there below its PREFIX."""
     path = path.replace("zsh/site-functions", "zsh/vendor-completions")
     return f"usr/{path}" + ".gz" * path.startswith("share/man/")
 

@@ -46,7 +46,7 @@ def examples(part, blocks):
 
 
 def not_run(part, blocks):
-    """What stands in the other blocks of the shell: commands that are there."""
+    """What is in the other blocks of the shell: commands that are there."""
     named = [line.split()[0] for name, lines in blocks if name == "sh" for line in lines]
     part.expect("commands that are not run", named == NOT_RUN, *named)
     for name in set(named):

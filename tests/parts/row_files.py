@@ -26,7 +26,7 @@ FINDING = re.compile(rb" *\d+ +[BSDC]\d\d: ")
 
 
 def parts_of(text):
-    """Reads octets as a row writes them, and returns them as pairs: octets, and how often they stand there."""
+    """Reads octets as a row writes them, and returns them as pairs: octets, and how often they come there."""
     parts, group, at = [], None, 0
     while at < len(text):
         it = TOKEN.match(text, at)

@@ -55,7 +55,7 @@ def in_brackets(text):
 
 
 def octets(parts):
-    """Octets, from pairs of octets and how often they stand there."""
+    """Octets, from pairs of octets and how often they come there."""
     texts, plain = [], b""
     for group, times in parts:
         if times > 16 and len(group) == 1:

@@ -21,7 +21,7 @@ pub(crate) fn tables() -> [&'static str; {count}] {{
 
 
 def groups(parts):
-    """Octets as groups, from pairs of octets and how often they stand there."""
+    """Octets as groups, from pairs of octets and how often they come there."""
     texts, plain = [], ""
     for octets, times in parts:
         if times > 16:

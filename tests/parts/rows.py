@@ -17,7 +17,7 @@ from parts.row_files import files
 
 
 def waiting(pipe):
-    """How many octets stand in the pipe, written and not read."""
+    """How many octets are in the pipe, written and not read."""
     return struct.unpack("i", fcntl.ioctl(pipe, termios.FIONREAD, b"\0" * 4))[0]
 
 

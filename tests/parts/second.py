@@ -1,4 +1,4 @@
-"""A second reading of docs/FORMAT.md and docs/FINDINGS.md (tests/second_opinion) agrees with the program.
+"""A second implementation of docs/FORMAT.md and docs/FINDINGS.md (tests/second_opinion) agrees with the program.
 
 By hand, with any seeds: tests/second.
 """

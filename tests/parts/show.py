@@ -41,7 +41,7 @@ class Script:
         self.part.same(what, self.run(words, given), Done(status, out, "".join(lines).encode()))
 
     def why(self, octets, *words):
-        """What it says of these octets as they stand, and its status."""
+        """What it says of these octets as they are, and its status."""
         got = self.run(["--as", "ber", "--why", *words], octets)
         return got.status, got.out.decode()
 
@@ -130,7 +130,7 @@ def dumps(script):
 
 
 def choices(script):
-    """Where several forms fit: what parses is taken, and what else parses is reported; --as decides."""
+    """If several forms fit: what parses is taken, and what else parses is reported; --as decides."""
     part = script.part
     both = element(0xA0, string(b"\0" * 21)).hex().upper().encode()
     plain = part.run(["dump"], both)

@@ -89,7 +89,7 @@ def heed(number):
 
 
 def signals(part):
-    """A signal ends the program as it ends any; what was written stands. A pause changes nothing."""
+    """A signal ends the program as it ends any; what was written stays. A pause changes nothing."""
     for number in (signal.SIGTERM, signal.SIGINT, signal.SIGHUP, signal.SIGKILL):
         child = part.start(["dump"], **PIPES, preexec_fn=lambda: heed(number))
         child.stdin.write(STEPS[0][0])

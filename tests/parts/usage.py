@@ -152,7 +152,7 @@ NO_TEXTS = [b"\xff", b"\xff\xfe", b"\xc3", b"\x80", b"\xc0\x80", b"\xe2\x82", b"
 NO_TEXTS += [b"\xf0\x9f\x98", b"\xf4\x90\x80\x80", b"a\xffb", b"ab\xe9", b"\xc3\xa9\xff"]
 NO_TEXTS += [b"x" * 299 + b"\xff", b"\xff" * 300]
 
-# Where such a word can stand: * is the place.
+# The places of such a word: *.
 PLACES = [
     "*",
     "* dump",
@@ -175,7 +175,7 @@ PLACES = [
     "extract --offset=0 --inside=* null",
     "indef *",
     "indef --padding -- *",
-    # It passes before all that is refused for another reason, and before help.
+    # It takes precedence over all that is refused for another reason, and over help.
     "nonsense *",
     "dump --nonsense *",
     "dump a b *",

@@ -4,9 +4,15 @@ of the file that it changes."""
 import os
 import re
 
+CODE = re.compile(r'(?:"(?:\\.|[^"\\])*"|(?!--).)*')
 TACTIC = re.compile(r"\b(?:omega|grind|search|simp|cc|ground|assumption)\b")
 EDIT = re.compile(r"(?:[A-Z]\w*\.)?(\w+)\.\w+\.edit")
 DEFINITION = re.compile(r"^(\s*)(?:(?:abbrev|unfoldable) )?pub (?:(record|data) )?([A-Za-z_◌][\w'◌-]*)")
+
+
+def without_comment(line):
+    """Returns a line of specs up to its comment, which begins with "--" outside of a text."""
+    return CODE.match(line)[0]
 
 
 def definitions(text):
@@ -52,7 +58,7 @@ def test(part):
     for path, text in specs(part.root):
         for word in definitions(text):
             homes.setdefault(word, []).append(path)
-        tactics = [line for line in text.split("\n") if TACTIC.search(line.partition("--")[0])]
+        tactics = [line for line in text.split("\n") if TACTIC.search(without_comment(line))]
         part.expect(f"{path} calls no tactic", not tactics, *tactics)
     for word, files in sorted(homes.items()):
         part.expect(f"the word {word} of specs has one definition", len(files) == 1, *files)

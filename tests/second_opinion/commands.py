@@ -28,7 +28,7 @@ class Refused(Exception):
 
 @dataclass
 class Options:
-    """The options of a command. A value is the text that stands in the words; None if there is none."""
+    """The options of a command. A value is the text in the words; None if there is none."""
 
     command: str
     rules: str | None = None
@@ -43,7 +43,7 @@ class Options:
 
 @dataclass
 class Values:
-    """What the texts of the options stand for."""
+    """What the texts of the options mean."""
 
     rules: str
     limit: int
@@ -143,7 +143,7 @@ class Report:
                 self.line(level, findings.TEXTS[code], element.offset, code)
 
     def siblings(self, items, parent, level):
-        """Adds the lines of elements that stand one after another, and of padding."""
+        """Adds the lines of elements that come one after another, and of padding."""
         previous = None
         for item in items:
             if isinstance(item, Padding):

@@ -53,7 +53,7 @@ class Reading:
     """The one reading of an input.
 
     items: elements and padding at the top. fault: None if the ending is Done. kept: how many octets
-    stand in whole headers, in contents, and in whole pairs 00 00; not in an unfinished header or a lone 00.
+    are in whole headers, in contents, and in whole pairs 00 00; not in an unfinished header or a lone 00.
     """
 
     def __init__(self, octets, inside=(), padding=False):

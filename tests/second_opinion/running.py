@@ -10,7 +10,7 @@ SECONDS = 120
 
 
 class Runner:
-    """Runs the program in a folder, in which the input and the names file of a case stand."""
+    """Runs the program in a folder, in which the input and the names file of a case are."""
 
     def __init__(self, program, folder):
         """Keeps the path of the program, and the folder."""

@@ -37,7 +37,7 @@ def most_octets(element):
 
 
 def shown(element, names):
-    """Returns what stands after the tag, or None while the line has not come, and the rows that have come.
+    """Returns what is after the tag, or None while the line has not come, and the rows that have come.
 
     `names` has names by arcs: {"2.5.4.3": "commonName"}.
     """

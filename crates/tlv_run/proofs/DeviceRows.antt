@@ -20,9 +20,9 @@ use Rattle.tlv_walk.specs.Reading.{AreOctets, IsReading}
 use Rattle.tlv_run.proofs.Results.{is_result, makes_unique}
 use Rattle.tlv_run.proofs.RowWords.{check, clean_with, dump, extract, faulty, lines, octets, plain, result}
 use Rattle.tlv_run.specs.declared.command.Command.{Command}
-use Rattle.tlv_run.specs.Octets.{IsReport, RunsOctets, broken, ended, settled, too_long}
+use Rattle.tlv_run.specs.RunsOctets.{IsReport, RunsOctets, ended, read_failed, settled, too_long}
 use Rattle.tlv_run.specs.Report.{ReportValue, device_report, report_with}
-use Rattle.tlv_run.specs.Results.{CommandResult, IsSettled, MakesResult, command_job}
+use Rattle.tlv_run.specs.Results.{CommandResult, IsJobResult, IsSettled, command_job}
 
 -- ---- octets
 
@@ -51,25 +51,25 @@ module _ (command : Command) (b : List ℕ) where
   job = job_of command
 
   abbrev Makes : CommandResult → Type 0
-  Makes = MakesResult job (take job.limit b)
+  Makes = IsJobResult job (take job.limit b)
 
   ended-at : (made : CommandResult) (y : Makes made) (r : ReportValue) → length b ≤ job.limit → IsReport job b false y r → r ≡ made.report
   ended-at made y r few (settled s) = refl
   ended-at made y r few (ended f l) = refl
-  ended-at made y r few (broken n f l) = absurd (cc (f))
+  ended-at made y r few (read_failed n f l) = absurd (cc (f))
   ended-at made y r few (too_long n less) = absurd (omega arith)
 
   settled-at : (fails : Bool) (made : CommandResult) (y : Makes made) (r : ReportValue) → IsSettled y → IsReport job b fails y r → r ≡ made.report
   settled-at fails made y r s (settled t) = refl
   settled-at fails made y r s (ended f l) = refl
-  settled-at fails made y r s (broken n f l) = absurd (n s)
+  settled-at fails made y r s (read_failed n f l) = absurd (n s)
   settled-at fails made y r s (too_long n less) = absurd (n s)
 
-  broken-at : (made : CommandResult) (y : Makes made) (r : ReportValue) → length b ≤ job.limit → (IsSettled y → ⊥) → IsReport job b true y r → r ≡ device_report ReadFailed
-  broken-at made y r few n (settled s) = absurd (n s)
-  broken-at made y r few n (ended f l) = absurd (cc (f))
-  broken-at made y r few n (broken m f l) = refl
-  broken-at made y r few n (too_long m less) = absurd (omega arith)
+  read-failed-at : (made : CommandResult) (y : Makes made) (r : ReportValue) → length b ≤ job.limit → (IsSettled y → ⊥) → IsReport job b true y r → r ≡ device_report ReadFailed
+  read-failed-at made y r few n (settled s) = absurd (n s)
+  read-failed-at made y r few n (ended f l) = absurd (cc (f))
+  read-failed-at made y r few n (read_failed m f l) = refl
+  read-failed-at made y r few n (too_long m less) = absurd (omega arith)
 
   -- the octets are below 256, and no more than are read; and what is made of them
   module _ (m : CommandResult) (small : list_all (λ x. ltb x 256) b ≡ true) (whole : take job.limit b ≡ b) (few : leb (length b) job.limit ≡ true)
@@ -79,7 +79,7 @@ module _ (command : Command) (b : List ℕ) where
 
     is-made : (made : CommandResult) → Makes made → made ≡ m
     is-made made y =
-        makes_unique job b made (result command b) (subst (λ (o : List ℕ). MakesResult job o made) whole y) (is_result job b are) ∙ row
+        makes_unique job b made (result command b) (subst (λ (o : List ℕ). IsJobResult job o made) whole y) (is_result job b are) ∙ row
 
     output-is : (fails : Bool) (room : ℕ) (w : List ℕ) (r : ReportValue) (x : RunsOctets job b fails room (record { written = w; report = r })) → w ≡ take room m.output
     output-is fails room w r x = x.output ∙ ap (λ (n : CommandResult). take room n.output) (is-made x.made x.is_made)
@@ -108,7 +108,7 @@ module _ (command : Command) (b : List ℕ) where
           → Writes command b true room (take room m.output) (device_report ReadFailed)
       to-failure open_ w r x = (
         output-is true room w r x,
-        broken-at x.made x.is_made r (leb-true (length b) job.limit few) (open_ x.made x.is_made (is-made x.made x.is_made)) (report-of true w r x),
+        read-failed-at x.made x.is_made r (leb-true (length b) job.limit few) (open_ x.made x.is_made (is-made x.made x.is_made)) (report-of true w r x),
       )
 
       -- a read fails, and no more octets could count
@@ -145,11 +145,11 @@ plain_dump = dump Ber None false plain
 never-enough : (f : Forest) → (job_of plain_dump).is_enough f ≡ true → ⊥
 never-enough f e = absurd (cc (e))
 
-abbrev read_failed : ReportValue
-read_failed = report_with 3 (codes "E1 read failed")
+abbrev read_failed_report : ReportValue
+read_failed_report = report_with 3 (codes "E1 read failed")
 
-abbrev write_failed : ReportValue
-write_failed = report_with 3 (codes "E2 write failed")
+abbrev write_failed_report : ReportValue
+write_failed_report = report_with 3 (codes "E2 write failed")
 
 -- a NULL has a line of 22 octets
 abbrev null : List ℕ
@@ -171,17 +171,17 @@ null-2 : Writes plain_dump null false 1000 null_lines (report_with 0 [])
 null-2 = to-end plain_dump null (clean_with null_lines) refl refl refl null-made 1000 refl
 
 -- a read fails: the line was written before
-null-3 : Writes plain_dump null true 22 null_lines read_failed
+null-3 : Writes plain_dump null true 22 null_lines read_failed_report
 null-3 =
     to-failure plain_dump null (clean_with null_lines) refl refl refl null-made 22 refl
     (open-yet plain_dump null (clean_with null_lines) never-enough (λ final. final))
 
 -- an octet too little room, whatever comes after the octets
-null-4 : (fails : Bool) → Writes plain_dump null fails 21 (codes "       0      0: NULL") write_failed
+null-4 : (fails : Bool) → Writes plain_dump null fails 21 (codes "       0      0: NULL") write_failed_report
 null-4 fails = little-room plain_dump null (clean_with null_lines) refl refl refl null-made fails 21 refl
 
 -- no room
-null-5 : (fails : Bool) → Writes plain_dump null fails 0 [] write_failed
+null-5 : (fails : Bool) → Writes plain_dump null fails 0 [] write_failed_report
 null-5 fails = little-room plain_dump null (clean_with null_lines) refl refl refl null-made fails 0 refl
 
 -- an unfinished header in a SEQUENCE, whose line has 28 octets
@@ -203,7 +203,7 @@ unfinished-1 : Writes plain_dump unfinished false 28 sequence_line (report_with 
 unfinished-1 = to-end plain_dump unfinished unfinished_result refl refl refl unfinished-made 28 refl
 
 -- a read fails: it is not known what the input would have come to
-unfinished-2 : Writes plain_dump unfinished true 28 sequence_line read_failed
+unfinished-2 : Writes plain_dump unfinished true 28 sequence_line read_failed_report
 unfinished-2 =
     to-failure plain_dump unfinished unfinished_result refl refl refl unfinished-made 28 refl
     (open-yet plain_dump unfinished unfinished_result never-enough (λ final. final.1 refl))
@@ -229,7 +229,7 @@ overrun-1 =
     ((λ e. absurd (cc (e))), (λ e. absurd (cc (e))))
 
 -- the line before the fault finds no room: the failed write takes precedence
-overrun-2 : (fails : Bool) → Writes plain_dump overrun fails 9 (codes "       0 ") write_failed
+overrun-2 : (fails : Bool) → Writes plain_dump overrun fails 9 (codes "       0 ") write_failed_report
 overrun-2 fails =
     little-room plain_dump overrun overrun_result refl refl refl overrun-made fails 9 refl
 
@@ -250,7 +250,7 @@ indefinite-made : result der_check indefinite ≡ indefinite_result
 unfolding digits
 indefinite-made = refl
 
-indefinite-1 : Writes der_check indefinite true 24 indefinite_lines read_failed
+indefinite-1 : Writes der_check indefinite true 24 indefinite_lines read_failed_report
 indefinite-1 =
     to-failure der_check indefinite indefinite_result refl refl refl indefinite-made 24 refl
     (open-yet der_check indefinite indefinite_result (λ f e. absurd (cc (e))) (λ final. final.1 refl))

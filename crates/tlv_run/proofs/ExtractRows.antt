@@ -196,7 +196,7 @@ row-33 : result (extract 2 false plain) (octets "30 80 05 00 30 05")
 unfolding digits encode_with is_utf8 chars encode
 row-33 = refl
 
--- the fault passes before the missing element
+-- the fault takes precedence over the missing element
 row-34 : result (extract 3 false plain) (octets "30 80 05 00 30 05")
     ≡ faulty 0 Short 6 "fault at 6: F02 input ends inside an encoding" []
 unfolding digits encode_with is_utf8 chars encode

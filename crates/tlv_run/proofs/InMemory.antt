@@ -32,11 +32,11 @@ use Rattle.tlv_io.specs.Out.{Sends}
 use Rattle.tlv_walk.specs.Reading.{AreOctets, IsPrefixOf, IsReading}
 use Rattle.tlv_run.proofs.Results.{Stays, one_made, settled_stays, stays_for, text_on}
 use Rattle.tlv_run.specs.declared.command.Command.{Command}
-use Rattle.tlv_run.specs.Private.MemoryDevices.{ending_source_state, failing_source_state, failing_last_read, room_state}
-use Rattle.tlv_run.specs.Octets.{IsReport, MakesResultOf, RunsOctets, broken, ended, settled, too_long}
+use Rattle.tlv_run.specs.Private.MemoryDevices.{ending_source_state, failing_source_state, failing_last_read, bounded_drain_state}
+use Rattle.tlv_run.specs.RunsOctets.{IsReport, RunsOctets, ended, read_failed, settled, too_long}
 use Rattle.tlv_run.specs.Report.{ReportValue, device_report, report_of}
-use Rattle.tlv_run.specs.Results.{CommandResult, IsSettled, MakesResult, command_job, command_result}
-use Rattle.tlv_run.specs.Runs.{RunsAndReports}
+use Rattle.tlv_run.specs.Results.{CommandResult, IsJobResult, IsSettled, command_job, command_result}
+use Rattle.tlv_run.specs.RunsAndReports.{RunsAndReports}
 
 -- what a slice holds of numbers that fit an octet
 octets_of : (xs : List ℕ) → ((i : ℕ) → Fits w8 (slice_index_or xs i 0)) → AreOctets xs
@@ -108,7 +108,7 @@ module _ (job : Job ReportValue) (stays : Stays job)
   seen = take job.limit octets
 
   -- octets that hold neither a fault nor enough settle nothing
-  unsettled : (b : List ℕ) (made : CommandResult) → (x : MakesResult job b made) → WantMore job b → IsSettled x → ⊥
+  unsettled : (b : List ℕ) (made : CommandResult) → (x : IsJobResult job b made) → WantMore job b → IsSettled x → ⊥
   unsettled b made x s k =
       let same : x.reading ≡ s.0 = reading-unique job.framing b x.reading s.0 x.is_reading s.1 in
       let not_enough : job.is_enough x.reading ≡ false = ap job.is_enough same ∙ s.3 in
@@ -130,7 +130,7 @@ module _ (job : Job ReportValue) (stays : Stays job)
     Comes report = RunsOctets job octets read_fails room (record { written = written; report = report })
 
     -- all was written
-    whole : (made : CommandResult) (report : ReportValue) → (x : MakesResultOf job octets read_fails made)
+    whole : (made : CommandResult) (report : ReportValue) → (x : IsJobResult job seen made)
         → written ≡ made.output → IsReport job octets read_fails x report → Comes report
     whole made report x e s = record {
       made = made;
@@ -141,7 +141,7 @@ module _ (job : Job ReportValue) (stays : Stays job)
     }
 
     -- a front was written, which fills the room, and there is more
-    short : (made : CommandResult) (rest : List ℕ) → (x : MakesResultOf job octets read_fails made)
+    short : (made : CommandResult) (rest : List ℕ) → (x : IsJobResult job seen made)
         → made.output ≡ written ++ rest → rest ≢ [] → length written ≡ room → Comes (device_report WriteFailed)
     short made rest x e more n = record {
       made = made;
@@ -167,13 +167,13 @@ module _ (job : Job ReportValue) (stays : Stays job)
         let m : CommandResult = command_result job x.reading e in
         let b : List ℕ = take job.limit given in
         let same : m.report ≡ report = sym k.1 in
-        let y : MakesResult job b m = record { reading = x.reading; is_reading = x.is_reading; ends = ends_with job.framing b (job.is_enough x.reading) e (Settled job given x.reading new e) k.2; is_made = refl } in
+        let y : IsJobResult job b m = record { reading = x.reading; is_reading = x.is_reading; ends = ends_with job.framing b (job.is_enough x.reading) e (Settled job given x.reading new e) k.2; is_made = refl } in
         let sent : written ≡ m.output = all_sent (job.text x.reading) x.sends in
         let front = take_front job.limit given left.0 in
         let is : seen ≡ b ++ front.0 = ap (take job.limit) left.2 ∙ front.1 in
         let final : IsSettled y → Comes report = λ (z : IsSettled y).
         let z = settled_stays job stays b front.0 m (subst AreOctets is (All-take (λ x. x < 256) job.limit octets all)) y z in
-        let z' : (z : MakesResult job seen m) × IsSettled z = subst (λ (o : List ℕ). (z : MakesResult job o m) × IsSettled z) (sym is) z in
+        let z' : (z : IsJobResult job seen m) × IsSettled z = subst (λ (o : List ℕ). (z : IsJobResult job o m) × IsSettled z) (sym is) z in
         whole m report z'.0 sent (subst (λ (s : ReportValue). IsReport job octets read_fails z'.0 s) same (settled z'.1)) in
         elim (settled_by job.framing b (job.is_enough x.reading) e (Settled job given x.reading new e) k.2) [
           | inl enough ↦ final (inl enough)
@@ -185,22 +185,22 @@ module _ (job : Job ReportValue) (stays : Stays job)
                 let last : x.pieces.last ≡ [] = gave_none new.last x.pieces.last end.0 x.pieces.gave_last in
                 let few : length octets ≤ job.limit =
                 omega (arith, x.within, ap length whole_given, length-append (concat x.pieces.pieces) x.pieces.last, ap length last) in
-                let z : MakesResult job seen m = subst (λ (o : List ℕ). MakesResult job o m) (sym (ap (take job.limit) whole_given)) y in
+                let z : IsJobResult job seen m = subst (λ (o : List ℕ). IsJobResult job o m) (sym (ap (take job.limit) whole_given)) y in
                 whole m report z sent (subst (λ (s : ReportValue). IsReport job octets read_fails z s) same (ended (ends (x.failures ∙ quiet) end.0) few))
           ]
         ]
 
     -- of octets that settle nothing, all of them or too many, all was written
     unsettled_all : (f : Forest) (report : ReportValue) → IsReading job.framing seen f → WantMore job seen → written ≡ job.text f
-        → ((made : CommandResult) → (x : MakesResultOf job octets read_fails made) → (IsSettled x → ⊥) → IsReport job octets read_fails x report)
+        → ((made : CommandResult) → (x : IsJobResult job seen made) → (IsSettled x → ⊥) → IsReport job octets read_fails x report)
         → Comes report
     unsettled_all f report r s sent says =
         let one = one_made job seen (All-take (λ x. x < 256) job.limit octets all) in
         let same : f ≡ one.1.reading = reading-unique job.framing seen f one.1.reading r one.1.is_reading in
         whole one.0 report one.1 (sent ∙ ap job.text same ∙ sym (ap (λ (m : CommandResult). m.output) one.1.is_made)) (says one.0 one.1 (unsettled seen one.0 one.1 s))
 
-    run_broken : Runs job (device_states old from) (device_states new to) (Err ReadFailed) → Comes (device_report ReadFailed)
-    run_broken x =
+    run_read_failed : Runs job (device_states old from) (device_states new to) (Err ReadFailed) → Comes (device_report ReadFailed)
+    run_read_failed x =
         let given : List ℕ = octets_given x.pieces in
         let before : List ℕ = concat x.pieces.pieces in
         let left = left_of old.left new.left octets given known x.pieces.consumed in
@@ -215,7 +215,7 @@ module _ (job : Job ReportValue) (stays : Stays job)
         (subst (λ (o : List ℕ). IsReading job.framing (take job.limit o) x.reading) (sym is_given) x.is_reading)
         (subst (WantMore job) (sym seen_is) x.wants_more)
         (all_sent (job.text x.reading) x.sends)
-        (λ (made : CommandResult) y apart. broken apart after.0 few)
+        (λ (made : CommandResult) y apart. read_failed apart after.0 few)
 
     run_long : Runs job (device_states old from) (device_states new to) (Err InputTooLong) → Comes (device_report InputTooLong)
     run_long x =
@@ -250,17 +250,17 @@ module _ (job : Job ReportValue) (stays : Stays job)
 
     run_in : (result : Result ReportValue DeviceFault) → Runs job (device_states old from) (device_states new to) result → Comes (report_of (λ (of_input : ReportValue). of_input) result)
     run_in (Ok report) x = run_ok report x
-    run_in (Err ReadFailed) x = run_broken x
+    run_in (Err ReadFailed) x = run_read_failed x
     run_in (Err WriteFailed) x = run_short x
     run_in (Err InputTooLong) x = run_long x
 
     pub runs_octets : (report : ReportValue) → RunsAndReports job (device_states old from) (device_states new to) report → Comes report
     runs_octets report x = subst Comes (sym x.report_is) (run_in x.result x.runs)
 
--- what a room shows that has failed: it is full
-full_room : (room : ℕ) (xs : List ℕ) (failures : ℕ) → (room_state room xs failures).failures ≡ 1 → length xs ≤ room → length xs ≡ room
-full_room room xs failures e few = elim (cases_lt (length xs) room) [
-  | inl less ↦ absurd (apart ((room_state room xs failures).failures) (ap (λ (k : Bool). if k then 0 else failures) (lt-ltb (length xs) room less)) e)
+-- what a drain shows that has failed: it is full
+full_drain : (room : ℕ) (xs : List ℕ) (failures : ℕ) → (bounded_drain_state room xs failures).failures ≡ 1 → length xs ≤ room → length xs ≡ room
+full_drain room xs failures e few = elim (cases_lt (length xs) room) [
+  | inl less ↦ absurd (apart ((bounded_drain_state room xs failures).failures) (ap (λ (k : Bool). if k then 0 else failures) (lt-ltb (length xs) room less)) e)
   | inr more ↦ omega (arith, few, more)
 ] where
   apart : (n : ℕ) → n ≡ 0 → n ≡ 1 → ⊥
@@ -284,27 +284,27 @@ module _ (command : Command) (names : NamesTable) (octets : List ℕ) (fit : (i 
   kept_is : written.items ≡ kept.items
   kept_is = ap (λ (v : ArrayVec ℕ). v.items) same
 
-  filled : (room_state room kept.items failures).failures ≡ 1 → length written.items ≡ room
-  filled k = ap length kept_is ∙ full_room room kept.items failures k (omega (arith, ap length kept_is, fits))
+  filled : (bounded_drain_state room kept.items failures).failures ≡ 1 → length written.items ≡ room
+  filled k = ap length kept_is ∙ full_drain room kept.items failures k (omega (arith, ap length kept_is, fits))
 
   pub to_end : (old : SourceState) (new : MemSourceState) → old ≡ new_source (Some octets)
       → RunsAndReports (command_job command names) (device_states old from)
-      (device_states (ending_source_state new) (room_state room kept.items failures)) report
+      (device_states (ending_source_state new) (bounded_drain_state room kept.items failures)) report
       → RunsOctets (command_job command names) octets false room (record { written = written.items; report = report })
   to_end old new e x =
       runs_octets (command_job command names) (stays_for command names) (text_on command names) octets
       (octets_of octets fit) false
-      old (ending_source_state new) from (room_state room kept.items failures) room written.items
+      old (ending_source_state new) from (bounded_drain_state room kept.items failures) room written.items
       (ap (λ (s : SourceState). s.left) e) (ap (λ (s : SourceState). s.failures) e) (λ k. absurd (cc (k))) (λ _ _. refl)
       (ap (λ (t : DrainState). t.octets) from_is) (ap (λ (t : DrainState). t.failures) from_is) (ap Some (sym kept_is)) fits filled report x
 
   pub until_failure : (old : SourceState) (new : MemSourceState) (failed_reads : ℕ) → old ≡ new_source (Some octets)
       → RunsAndReports (command_job command names) (device_states old from)
-      (device_states (failing_source_state new failed_reads) (room_state room kept.items failures)) report
+      (device_states (failing_source_state new failed_reads) (bounded_drain_state room kept.items failures)) report
       → RunsOctets (command_job command names) octets true room (record { written = written.items; report = report })
   until_failure old new failed_reads e x =
       runs_octets (command_job command names) (stays_for command names) (text_on command names) octets
       (octets_of octets fit) true
-      old (failing_source_state new failed_reads) from (room_state room kept.items failures) room written.items
+      old (failing_source_state new failed_reads) from (bounded_drain_state room kept.items failures) room written.items
       (ap (λ (s : SourceState). s.left) e) (ap (λ (s : SourceState). s.failures) e) (λ k. (refl, spent new failed_reads k)) (λ _ k. absurd (gave_some new.log.last k))
       (ap (λ (t : DrainState). t.octets) from_is) (ap (λ (t : DrainState). t.failures) from_is) (ap Some (sym kept_is)) fits filled report x

@@ -8,17 +8,17 @@ use Rattle.tlv_walk.specs.Job.{DeviceStates, Job, Runs, WantMore, read_failed, t
 use Rattle.tlv_walk.proofs.FollowerLemmas.Enough.{comes_to, returns}
 use Rattle.tlv_run.specs.Report.{ReportValue, report_of}
 use Rattle.tlv_run.specs.Results.{job_with_report}
-use Rattle.tlv_run.specs.Runs.{RunsAndReports}
+use Rattle.tlv_run.specs.RunsAndReports.{RunsAndReports}
 
-module _ {A : Type 0} (say : A → ReportValue) (job : Job A) where
-  wants_too : (b : List ℕ) → WantMore job b → WantMore (job_with_report say job) b
+module _ {A : Type 0} (report : A → ReportValue) (job : Job A) where
+  wants_too : (b : List ℕ) → WantMore job b → WantMore (job_with_report report job) b
   wants_too b x = x
 
   module _ (old new : DeviceStates) where
     runs_too : (result : Result A DeviceFault) → Runs job old new result
-        → (report : ReportValue) → report ≡ report_of say result → RunsAndReports (job_with_report say job) old new report
-    runs_too (Ok a) x report e = record {
-      result = Ok (say a);
+        → (reported : ReportValue) → reported ≡ report_of report result → RunsAndReports (job_with_report report job) old new reported
+    runs_too (Ok a) x reported e = record {
+      result = Ok (report a);
       runs = record {
         pieces = x.pieces;
         failures = x.failures;
@@ -29,11 +29,11 @@ module _ {A : Type 0} (say : A → ReportValue) (job : Job A) where
         sends = x.sends;
         comes =
             let k = returns job (octets_given x.pieces) x.reading new.source (Ok a) x.comes in
-            comes_to (job_with_report say job) (octets_given x.pieces) x.reading new.source (Ok (say a)) (k.0, ap say k.1, k.2);
+            comes_to (job_with_report report job) (octets_given x.pieces) x.reading new.source (Ok (report a)) (k.0, ap report k.1, k.2);
       };
       report_is = e;
     }
-    runs_too (Err ReadFailed) x report e = record {
+    runs_too (Err ReadFailed) x reported e = record {
       result = Err ReadFailed;
       runs = record {
         pieces = x.pieces;
@@ -47,7 +47,7 @@ module _ {A : Type 0} (say : A → ReportValue) (job : Job A) where
       };
       report_is = e;
     }
-    runs_too (Err WriteFailed) x report e = record {
+    runs_too (Err WriteFailed) x reported e = record {
       result = Err WriteFailed;
       runs = record {
         pieces = x.pieces;
@@ -61,7 +61,7 @@ module _ {A : Type 0} (say : A → ReportValue) (job : Job A) where
       };
       report_is = e;
     }
-    runs_too (Err InputTooLong) x report e = record {
+    runs_too (Err InputTooLong) x reported e = record {
       result = Err InputTooLong;
       runs = record {
         pieces = x.pieces;
@@ -79,6 +79,6 @@ module _ {A : Type 0} (say : A → ReportValue) (job : Job A) where
     }
 
   -- as a run of a command shows it
-  pub reported_runs : {old new : DeviceStates} {result : Result A DeviceFault} {report : ReportValue} → Runs job old new result → report ≡ report_of say result
-      → RunsAndReports (job_with_report say job) old new report
-  reported_runs {old} {new} {result} {report} x e = runs_too old new result x report e
+  pub reported_runs : {old new : DeviceStates} {result : Result A DeviceFault} {reported : ReportValue} → Runs job old new result → reported ≡ report_of report result
+      → RunsAndReports (job_with_report report job) old new reported
+  reported_runs {old} {new} {result} {reported} x e = runs_too old new result x reported e

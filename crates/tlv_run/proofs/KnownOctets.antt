@@ -16,7 +16,7 @@ use Rattle.tlv_run.proofs.InMemory.{at_end, left_of}
 use Rattle.tlv_run.proofs.Results.{Stays, limit_is, settled_stays, stays_for}
 use Rattle.tlv_run.specs.Laws.{RunsAreResults}
 use Rattle.tlv_run.specs.Report.{ReportValue, report_of}
-use Rattle.tlv_run.specs.Results.{CommandResult, IsSettled, MakesResult, command_job, command_result}
+use Rattle.tlv_run.specs.Results.{CommandResult, IsJobResult, IsSettled, command_job, command_result}
 
 -- a count below its end goes on
 goes_up : (n : ℕ) → n < 2 ^ 64 - 1 → next_count n ≡ n → ⊥
@@ -26,7 +26,7 @@ module _ (job : Job ReportValue) (stays : Stays job) (octets : List ℕ) (all : 
     (old new : DeviceStates) (known : old.source.left ≡ Some octets) where
   -- the result of the octets was written, and this is reported
   Gives : ReportValue → Type 0
-  Gives report = (made : CommandResult) × MakesResult job octets made × Appends old.drain.octets new.drain.octets made.output × (report ≡ made.report)
+  Gives report = (made : CommandResult) × IsJobResult job octets made × Appends old.drain.octets new.drain.octets made.output × (report ≡ made.report)
 
   gives_ok : (report : ReportValue) → Runs job old new (Ok report) → Gives report
   unfolding Gives
@@ -38,11 +38,11 @@ module _ (job : Job ReportValue) (stays : Stays job) (octets : List ℕ) (all : 
       let m : CommandResult = command_result job x.reading e in
       let short : length given ≤ job.limit = omega (arith, few, ap length left.2, length-append given left.0) in
       let is : octets ≡ take job.limit given ++ left.0 = left.2 ∙ ap (λ (l : List ℕ). l ++ left.0) (sym (take_all job.limit given short)) in
-      let y : MakesResult job (take job.limit given) m = record { reading = x.reading; is_reading = x.is_reading; ends = ends_with job.framing (take job.limit given) (job.is_enough x.reading) e (Settled job given x.reading new.source e) k.2; is_made = refl } in
+      let y : IsJobResult job (take job.limit given) m = record { reading = x.reading; is_reading = x.is_reading; ends = ends_with job.framing (take job.limit given) (job.is_enough x.reading) e (Settled job given x.reading new.source e) k.2; is_made = refl } in
       let sent : Appends old.drain.octets new.drain.octets m.output = sends_appends old.drain new.drain (job.text x.reading) tt x.sends in
       let final : IsSettled y → Gives report = λ (z : IsSettled y).
       let z = settled_stays job stays (take job.limit given) left.0 m (subst AreOctets is all) y z in
-      (m, subst (λ (o : List ℕ). MakesResult job o m) (sym is) z.0, sent, k.1) in
+      (m, subst (λ (o : List ℕ). IsJobResult job o m) (sym is) z.0, sent, k.1) in
       elim (settled_by job.framing (take job.limit given) (job.is_enough x.reading) e (Settled job given x.reading new.source e) k.2) [
         | inl enough ↦ final (inl enough)
         | inr rest ↦ elim rest [
@@ -50,7 +50,7 @@ module _ (job : Job ReportValue) (stays : Stays job) (octets : List ℕ) (all : 
           | inr end ↦
               let none : left.0 ≡ [] = at_end new.source.left left.0 left.1 end.1 in
               let same : octets ≡ take job.limit given = is ∙ ap (λ (l : List ℕ). take job.limit given ++ l) none ∙ append-nil (take job.limit given) in
-              (m, subst (λ (o : List ℕ). MakesResult job o m) (sym same) y, sent, k.1)
+              (m, subst (λ (o : List ℕ). IsJobResult job o m) (sym same) y, sent, k.1)
         ]
       ]
 
@@ -65,7 +65,9 @@ module _ (job : Job ReportValue) (stays : Stays job) (octets : List ℕ) (all : 
 
 pub run_results : RunsAreResults
 unfolding Gives
-run_results command names octets before after report all few known old_few quiet from_few took x =
+run_results command names octets before after report input nowhere x =
     let job = command_job command names in
-    let y = gives job (stays_for command names) octets all (subst (λ (n : ℕ). length octets ≤ n) (sym (limit_is command names)) few) before after known old_few quiet from_few took x.result x.runs in
+    let few : length octets ≤ job.limit = subst (λ (n : ℕ). length octets ≤ n) (sym (limit_is command names)) input.within in
+    let y = gives job (stays_for command names) octets input.are_octets few before after input.left
+    nowhere.counts_reads nowhere.no_failed_read nowhere.counts_writes nowhere.no_failed_write x.result x.runs in
     (y.0, y.1, y.2, x.report_is ∙ y.3)

@@ -23,7 +23,7 @@ use Rattle.tlv_walk.specs.Job.{EndsWith, Job}
 use Rattle.tlv_walk.specs.Reading.{AreOctets, IsPrefixOf, IsReading}
 use Rattle.tlv_run.specs.Laws.{InputsHaveOneResult, OutputsGoOn, SecondIndefIsTheFirst, SettledResultsStay}
 use Rattle.tlv_run.specs.Report.{ReportValue, cut_report, indef_report}
-use Rattle.tlv_run.specs.Results.{CommandResult, IsSettled, MakesResult, command_job, command_result}
+use Rattle.tlv_run.specs.Results.{CommandResult, IsJobResult, IsSettled, command_job, command_result}
 use Rattle.tlv_run.specs.declared.command.Command.{Command}
 use Rattle.tlv_run.specs.declared.command.Command.TheVariants.{Check, Dump, Extract, Indef}
 
@@ -52,7 +52,7 @@ final_stays framing b c f false (ending.Fault k) final r x = refused-for-good fr
 
 module _ (job : Job ReportValue) where
   -- octets have one result at most
-  pub makes_unique : (b : List ℕ) (m n : CommandResult) → MakesResult job b m → MakesResult job b n → m ≡ n
+  pub makes_unique : (b : List ℕ) (m n : CommandResult) → IsJobResult job b m → IsJobResult job b n → m ≡ n
   makes_unique b m n x y =
       let same : x.reading ≡ y.reading = reading-unique job.framing b x.reading y.reading x.is_reading y.is_reading in
       let here : EndsWith job.framing b (job.is_enough y.reading) m.ending =
@@ -64,12 +64,12 @@ module _ (job : Job ReportValue) where
   abbrev pub result_of : List ℕ → CommandResult
   result_of b = let f = reading job.framing b in command_result job f (end_of job.framing b (job.is_enough f))
 
-  pub is_result : (b : List ℕ) → AreOctets b → MakesResult job b (result_of b)
+  pub is_result : (b : List ℕ) → AreOctets b → IsJobResult job b (result_of b)
   is_result b octets =
       let f : Forest = reading job.framing b in
       record { reading = f; is_reading = is-reading job.framing b octets; ends = is_end job.framing b octets (job.is_enough f); is_made = refl }
 
-  pub one_made : (b : List ℕ) → AreOctets b → (made : CommandResult) × MakesResult job b made × ((other : CommandResult) → MakesResult job b other → other ≡ made)
+  pub one_made : (b : List ℕ) → AreOctets b → (made : CommandResult) × IsJobResult job b made × ((other : CommandResult) → IsJobResult job b other → other ≡ made)
   one_made b octets =
       let x = is_result b octets in
       (result_of b, x, λ (other : CommandResult) y. makes_unique b other (result_of b) y x)
@@ -79,8 +79,8 @@ module _ (job : Job ReportValue) where
   Stays = (b c : List ℕ) (f g : Forest) → IsReading job.framing b f → IsReading job.framing (b ++ c) g → job.is_enough f ≡ true
       → (job.is_enough g ≡ true) × ((e : Ending) → command_result job g e ≡ command_result job f e)
 
-  pub settled_stays : Stays → (b c : List ℕ) (made : CommandResult) → AreOctets (b ++ c) → (x : MakesResult job b made)
-      → IsSettled x → (y : MakesResult job (b ++ c) made) × IsSettled y
+  pub settled_stays : Stays → (b c : List ℕ) (made : CommandResult) → AreOctets (b ++ c) → (x : IsJobResult job b made)
+      → IsSettled x → (y : IsJobResult job (b ++ c) made) × IsSettled y
   settled_stays stays b c made octets x s = elim s [
     | inl enough ↦
         let g : Forest = reading job.framing (b ++ c) in

@@ -10,7 +10,7 @@ file_of (Check rules framing file) = file
 file_of (Extract offset contents framing file) = file
 file_of (Indef padding file) = file
 
--- the name of the file of names
+-- the name of the names file
 abbrev pub names_file_of : Command → Option (List ℕ)
 names_file_of (Dump options names file) = names
 names_file_of (Check rules framing file) = None

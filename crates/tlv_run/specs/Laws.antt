@@ -3,11 +3,12 @@ use Rattle.std.specs.Prelude.{◌≡◌, ℕ, ◌^◌, ◌≤◌, Bool, List, �
 use Rattle.std.specs.Io.KnownBytes.{Appends}
 use Rattle.tlv_value.specs.Names.{NamesTable}
 use Rattle.tlv_walk.specs.declared.ending.Ending.TheVariants.{Done}
+use Rattle.tlv_io.specs.Device.{SourceState}
 use Rattle.tlv_walk.specs.Job.{DeviceStates}
 use Rattle.tlv_walk.specs.Reading.{AreOctets, IsPrefixOf, IsSoundList}
 use Rattle.tlv_run.specs.Report.{ReportValue}
-use Rattle.tlv_run.specs.Results.{CommandResult, IsResultOf, IsSettled, command_job}
-use Rattle.tlv_run.specs.Runs.{RunsAndReports}
+use Rattle.tlv_run.specs.Results.{CommandResult, IsCommandResult, IsSettled, command_job}
+use Rattle.tlv_run.specs.RunsAndReports.{RunsAndReports}
 use Rattle.tlv_run.specs.declared.command.Command.{Command}
 use Rattle.tlv_run.specs.declared.command.Command.TheVariants.{Indef}
 
@@ -16,46 +17,57 @@ abbrev pub InputsHaveOneResult : Type 0
 InputsHaveOneResult =
     (command : Command) (names : NamesTable) (b : List ℕ) → AreOctets b
     → (made : CommandResult)
-    × IsResultOf command names b made
-    × ((other : CommandResult) → IsResultOf command names b other → other ≡ made)
+    × IsCommandResult command names b made
+    × ((other : CommandResult) → IsCommandResult command names b other → other ≡ made)
 
 -- at a fault other than F01 and F02, and if `extract` has its whole element, the result stays, whatever follows
 abbrev pub SettledResultsStay : Type 0
 SettledResultsStay =
     (command : Command) (names : NamesTable) (b c : List ℕ) (made : CommandResult) → AreOctets (b ++ c)
-    → (x : IsResultOf command names b made) → IsSettled x → IsResultOf command names (b ++ c) made
+    → (x : IsCommandResult command names b made) → IsSettled x → IsCommandResult command names (b ++ c) made
 
--- what is written of an input, of no more octets than are read as encodings, goes on from what is written of a prefix
+-- what is written of an input of at most 2^40 octets goes on from what is written of a prefix
 abbrev pub OutputsGoOn : Type 0
 OutputsGoOn =
     (command : Command) (names : NamesTable) (b c : List ℕ) (made more : CommandResult) → length (b ++ c) ≤ 2 ^ 40
-    → IsResultOf command names b made → IsResultOf command names (b ++ c) more
+    → IsCommandResult command names b made → IsCommandResult command names (b ++ c) more
     → IsPrefixOf made.output more.output
 
 -- what `indef` wrote, read again by `indef`, is written unchanged; and if it ended without a fault it does so again
 abbrev pub SecondIndefIsTheFirst : Type 0
 SecondIndefIsTheFirst =
     (padding : Bool) (file : Option (List ℕ)) (names : NamesTable) (b : List ℕ) (made again : CommandResult)
-    → IsResultOf (Indef padding file) names b made → IsResultOf (Indef padding file) names made.output again
+    → IsCommandResult (Indef padding file) names b made → IsCommandResult (Indef padding file) names made.output again
     → (again.output ≡ made.output) × (made.ending ≡ Done → again ≡ made)
 
--- what a run makes of a source that knows its octets, if neither device failed: the result of these octets
+-- the source has these octets left, at most 2^40
+pub record HasInput (source : SourceState) (octets : List ℕ) : Type 0 where
+  pub are_octets : AreOctets octets
+  pub within : length octets ≤ 2 ^ 40
+  pub left : source.left ≡ Some octets
+
+-- neither device counted a failure, and each could have counted one: the count was below its end
+pub record FailsNowhere (old new : DeviceStates) : Type 0 where
+  pub counts_reads : old.source.failures < 2 ^ 64 - 1
+  pub no_failed_read : new.source.failures ≡ old.source.failures
+  pub counts_writes : old.drain.failures < 2 ^ 64 - 1
+  pub no_failed_write : new.drain.failures ≡ old.drain.failures
+
+-- what a run makes of a source that knows its octets, if neither device fails: the result of these octets
 abbrev pub RunsAreResults : Type 0
 RunsAreResults =
     (command : Command) (names : NamesTable) (octets : List ℕ)
     (old new : DeviceStates) (report : ReportValue)
-    → AreOctets octets → length octets ≤ 2 ^ 40 → old.source.left ≡ Some octets
-    → old.source.failures < 2 ^ 64 - 1 → new.source.failures ≡ old.source.failures
-    → old.drain.failures < 2 ^ 64 - 1 → new.drain.failures ≡ old.drain.failures
+    → HasInput old.source octets → FailsNowhere old new
     → RunsAndReports (command_job command names) old new report
     → (made : CommandResult)
-    × IsResultOf command names octets made
+    × IsCommandResult command names octets made
     × Appends old.drain.octets new.drain.octets made.output
     × (report ≡ made.report)
 
 -- if no element is asked for, or it is not whole, the status 2 says just that the input is no sound list of encodings
 abbrev pub StatusesShowSoundness : Type 0
 StatusesShowSoundness =
-    (command : Command) (names : NamesTable) (b : List ℕ) (made : CommandResult) (x : IsResultOf command names b made)
+    (command : Command) (names : NamesTable) (b : List ℕ) (made : CommandResult) (x : IsCommandResult command names b made)
     → let job = command_job command names in job.is_enough x.reading ≡ false
     → (made.report.status ≡ 2) ↔ (IsSoundList job.framing b → ⊥)

@@ -1,7 +1,7 @@
 pub mod CommandFiles
 pub mod Laws
-pub mod Octets
 pub mod Report
 pub mod Results
-pub mod Runs
+pub mod RunsAndReports
+pub mod RunsOctets
 pub mod Private

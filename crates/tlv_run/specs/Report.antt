@@ -78,8 +78,8 @@ device_report InputTooLong = report_with 3 (codes "E3 input too long")
 
 -- what is reported of a result, or of the device that failed
 abbrev pub report_of : {A : Type 0} → (A → ReportValue) → Result A DeviceFault → ReportValue
-report_of say (Ok a) = say a
-report_of say (Err fault) = device_report fault
+report_of report (Ok a) = report a
+report_of report (Err fault) = device_report fault
 
 -- the file to read does not open
 abbrev pub unopened_report : ReportValue

@@ -16,12 +16,12 @@ use Rattle.tlv_run.specs.declared.command.Command.TheVariants.{Check, Dump, Extr
 
 -- the same job, with the report of its result in place of the result
 abbrev pub job_with_report : {A : Type 0} → (A → ReportValue) → Job A → Job ReportValue
-job_with_report say job = record {
+job_with_report report job = record {
   framing = job.framing;
   limit = job.limit;
   text = job.text;
   is_enough = job.is_enough;
-  returned = λ f e. say (job.returned f e);
+  returned = λ f e. report (job.returned f e);
 }
 
 -- what each command wants of an input: what is written of its elements, when nothing more is wanted, and what is
@@ -44,7 +44,7 @@ abbrev pub command_result : Job ReportValue → Forest → Ending → CommandRes
 command_result job f e = record { output = job.text f; ending = e; report = job.returned f e }
 
 -- what a job makes of an input of these octets, and of no others
-pub record MakesResult (job : Job ReportValue) (b : List ℕ) (made : CommandResult) : Type 0 where
+pub record IsJobResult (job : Job ReportValue) (b : List ℕ) (made : CommandResult) : Type 0 where
   pub reading : Forest
   pub is_reading : IsReading job.framing b reading
   -- Done if nothing more is wanted
@@ -52,9 +52,9 @@ pub record MakesResult (job : Job ReportValue) (b : List ℕ) (made : CommandRes
   pub is_made : made ≡ command_result job reading made.ending
 
 -- what a command makes of an input
-abbrev pub IsResultOf : Command → NamesTable → List ℕ → CommandResult → Type 0
-IsResultOf command names = MakesResult (command_job command names)
+abbrev pub IsCommandResult : Command → NamesTable → List ℕ → CommandResult → Type 0
+IsCommandResult command names = IsJobResult (command_job command names)
 
 -- nothing counts that could follow the octets: an octet is refused, or nothing more is wanted
-abbrev pub IsSettled : {job : Job ReportValue} {b : List ℕ} {made : CommandResult} → MakesResult job b made → Type 0
+abbrev pub IsSettled : {job : Job ReportValue} {b : List ℕ} {made : CommandResult} → IsJobResult job b made → Type 0
 IsSettled {job} {b} {made} x = (job.is_enough x.reading ≡ true) ⊎ IsFinalEnding made.ending

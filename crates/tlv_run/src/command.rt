@@ -13,7 +13,7 @@ pub enum Command {
     /// Writes each element on a line of its own.
     Dump {
         options: Options,
-        /// The file of names for object identifiers.
+        /// The names file, for object identifiers.
         names: Option<Text>,
         /// The file to read; without one it is standard input, as for each command.
         file: Option<Text>,
@@ -40,7 +40,7 @@ pub enum Command {
 }
 
 impl Command {
-    /// The name of the file to read, if the words have one.
+    /// The name of the file to read, if the command names one.
     pub fn file(&self) -> Option<&str>
         ensures { option_map (λ name. name.now) result ≡ file_of self.now }
     {
@@ -52,7 +52,7 @@ impl Command {
         }
     }
 
-    /// The name of the file of names for object identifiers, if the words have one.
+    /// The name of the names file, if the command names one.
     pub fn names_file(&self) -> Option<&str>
         ensures { option_map (λ name. name.now) result ≡ names_file_of self.now }
     {

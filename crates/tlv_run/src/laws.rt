@@ -8,8 +8,8 @@ pub fn one_result()
     ensures { InputsHaveOneResult }
 {}
 
-/// If a source knows its octets, and neither device fails, a run writes and reports what is the result of these
-/// octets, in whatever pieces the source gives them. This follows from the contract of `run` alone.
+/// If a source knows its octets, at most 2^40, and neither device fails, a run writes and reports what is the result of
+/// these octets, in whatever pieces the source gives them. This follows from the contract of `run` alone.
 pub fn runs_are_results()
     ensures { RunsAreResults }
 {}
@@ -20,7 +20,7 @@ pub fn settled_results_stay()
     ensures { SettledResultsStay }
 {}
 
-/// What a command writes for a longer input is what it writes for the shorter, and then more.
+/// What a command writes for a longer input, of at most 2^40 octets, is what it writes for the shorter, and then more.
 pub fn outputs_go_on()
     ensures { OutputsGoOn }
 {}
@@ -32,7 +32,7 @@ pub fn second_indef_is_the_first()
 {}
 
 /// The status is 2 exactly if the input is no sound list of encodings, read as the command says. Of `extract` that
-/// holds if its element is not whole; if it is, the status is 0, whatever follows.
+/// holds if its element is not whole.
 pub fn statuses_show_soundness()
     ensures { StatusesShowSoundness }
 {}

@@ -5,14 +5,14 @@ mod command;
 pub mod laws;
 mod memory_devices;
 mod message;
-mod octets;
 mod report;
-mod runner;
+mod run_call;
+mod run_octets_call;
 mod text;
 
 pub use command::Command;
 pub use message::write_message;
-pub use octets::{OctetsRun, run_octets};
 pub use report::{Report, device_report, names_report, unopened_report};
-pub use runner::run;
+pub use run_call::run;
+pub use run_octets_call::{OctetsRun, run_octets};
 pub use text::Text;

@@ -1,7 +1,7 @@
-//! Devices over memory that fail in one place alone: two sources, and a drain that has room of its own.
+//! Devices over memory that fail in one place alone: two sources, and a drain with room for so many octets.
 ghost use Rattle.std.specs.Prelude.{◌≡◌, ◌<◌, ◌≤◌, [], None, Some, length};
 ghost use Rattle.tlv_io.specs.Device.{ReadsOnce, WritesOnce, new_source};
-ghost use Rattle.tlv_run.specs.Private.MemoryDevices.{ending_source_state, failing_source_state, room_state};
+ghost use Rattle.tlv_run.specs.Private.MemoryDevices.{ending_source_state, failing_source_state, bounded_drain_state};
 
 use arrayvec::ArrayVec;
 use tlv_walk::{Drain, MemSource, ReadFault, Source, WriteFault};
@@ -10,7 +10,7 @@ use tlv_walk::{Drain, MemSource, ReadFault, Source, WriteFault};
 #[derive(Drop)]
 pub(crate) struct EndingSource<'a> {
     source: MemSource<'a>,
-    ghost sound: { source.fail_at ≡ None },
+    ghost never_fails: { source.fail_at ≡ None },
 }
 
 impl<'a> EndingSource<'a> {
@@ -37,7 +37,7 @@ impl Source for EndingSource<'_> {
 pub(crate) struct FailingSource<'a> {
     source: MemSource<'a>,
     failures: u64,
-    ghost sound: { source.fail_at ≡ None },
+    ghost never_fails: { source.fail_at ≡ None },
     ghost spent: { 0 < failures → source.left ≡ [] },
 }
 
@@ -68,20 +68,20 @@ impl Source for FailingSource<'_> {
     }
 }
 
-/// Room for `N` octets as a drain, of which a write fails if no room is left.
+/// A drain with room for `N` octets, of which a write fails if no room is left.
 #[derive(Drop)]
-pub(crate) struct Room<const N: usize> {
+pub(crate) struct BoundedDrain<const N: usize> {
     octets: ArrayVec<u8, N>,
     failures: u64,
-    ghost full: { length octets.items < N → failures ≡ 0 },
+    ghost fails_if_full: { length octets.items < N → failures ≡ 0 },
 }
 
-impl<const N: usize> Room<N> {
-    pub(crate) fn new() -> Room<N>
-        ensures { room_state N result.octets.items result.failures
+impl<const N: usize> BoundedDrain<N> {
+    pub(crate) fn new() -> BoundedDrain<N>
+        ensures { bounded_drain_state N result.octets.items result.failures
             ≡ record { octets = Some []; failures = 0 } }
     {
-        Room {
+        BoundedDrain {
             octets: ArrayVec::new(),
             failures: 0,
         }
@@ -98,8 +98,8 @@ impl<const N: usize> Room<N> {
     }
 }
 
-impl<const N: usize> Drain for Room<N> {
-    ghost state = { λ d. room_state N d.octets.items d.failures };
+impl<const N: usize> Drain for BoundedDrain<N> {
+    ghost state = { λ d. bounded_drain_state N d.octets.items d.failures };
 
     fn write(&mut self, from: &[u8]) -> Result<usize, WriteFault> {
         let count = from.len().min(self.octets.remaining_capacity());

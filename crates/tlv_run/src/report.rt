@@ -43,10 +43,10 @@ impl Report {
 }
 
 /// The report of a dump or a check: a fault, else an offset without a string, else findings. Their count stays.
-pub(crate) fn outcome_report(came: Result<Outcome, DeviceFault>) -> Report
-    ensures { report_value_of result ≡ report_of outcome_report came }
+pub(crate) fn outcome_report(result_of_run: Result<Outcome, DeviceFault>) -> Report
+    ensures { report_value_of result ≡ report_of outcome_report result_of_run }
 {
-    match came {
+    match result_of_run {
         Ok(outcome) => {
             let unused = unused_report(outcome.unused, findings_report(outcome.findings));
             let mut report = ending_report(outcome.ending, unused);
@@ -58,20 +58,20 @@ pub(crate) fn outcome_report(came: Result<Outcome, DeviceFault>) -> Report
 }
 
 /// The report of an extract of the element at this offset.
-pub(crate) fn cut_report(offset: u64, came: Result<Cut, DeviceFault>) -> Report
-    ensures { report_value_of result ≡ report_of (cut_report offset) came }
+pub(crate) fn cut_report(offset: u64, result_of_run: Result<Cut, DeviceFault>) -> Report
+    ensures { report_value_of result ≡ report_of (cut_report offset) result_of_run }
 {
-    match came {
+    match result_of_run {
         Ok(cut) => ending_report(cut.ending, found_report(offset, cut.found)),
         Err(fault) => device_report(fault),
     }
 }
 
 /// The report of an input written with indefinite lengths.
-pub(crate) fn indef_report(came: Result<Ending, DeviceFault>) -> Report
-    ensures { report_value_of result ≡ report_of indef_report came }
+pub(crate) fn indef_report(result_of_run: Result<Ending, DeviceFault>) -> Report
+    ensures { report_value_of result ≡ report_of indef_report result_of_run }
 {
-    match came {
+    match result_of_run {
         Ok(ending) => ending_report(ending, Report::without_message(0)),
         Err(fault) => device_report(fault),
     }

@@ -83,8 +83,8 @@ matched_command found =
 
 -- ---- the words of a command line
 
--- `clap` takes the words, and the result is the command of what it matches, or the first option
--- whose text is no value
+-- `clap` finds no fault in the words, and the result is the command of what it matches, or the
+-- first option whose text is no value
 pub record AreReadAs (words : List Text) (result : Result Command Text) : Type 0 where
   pub no_fault : fault_of tlvdump_app words ≡ []
   pub same_result : option_map matched_command (subcommand_of tlvdump_app words) ≡ Some result

@@ -21,8 +21,8 @@ usage_report (usage.Value option) = report_with 4 (codes "U2 value out of range:
 usage_report usage.Memory = report_with 5 (codes "U3 out of memory")
 
 -- a word is not UTF-8
-abbrev pub words_report : ReportValue
-words_report = report_with 4 (codes "U1 an argument is not UTF-8")
+abbrev pub not_utf8_report : ReportValue
+not_utf8_report = report_with 4 (codes "U1 an argument is not UTF-8")
 
 -- help or the version could not be written
 abbrev pub unprinted_report : ReportValue

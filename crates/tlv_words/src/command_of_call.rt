@@ -21,8 +21,9 @@ use tlv_walk::Framing;
 ///
 /// # Errors
 ///
-/// `Parser` if `clap` does not take the words, or they ask for help or for the version. `Value` if it takes them, with
-/// the first option whose text is no value, in the order rules, limit, offset, inside. `Memory` if memory is refused.
+/// `Parser` if `clap` does not take the words, or they ask for help or for the version. `Value` if it finds no
+/// fault in them, with the first option whose text is no value, in the order rules, limit, offset, inside. `Memory` if
+/// memory is refused.
 pub fn command_of(alloc: Global, words: &Words) -> Result<Command, UsageFault>
     ensures ok { IfOk result (λ command. AreReadAs words.now (Ok command)) }
     ensures err { IfErr result (IsUsageFaultOf words.now) }

@@ -1,7 +1,7 @@
 //! Why the words of a command line are refused, and what the program reports then.
 ghost use Rattle.std.specs.Prelude.{◌≡◌, ◌++◌, ◌≤◌, codes, length};
 ghost use Rattle.tlv_run.specs.Report.{report_value_of};
-ghost use Rattle.tlv_words.specs.Usage.{unprinted_report, usage_report, words_report};
+ghost use Rattle.tlv_words.specs.Usage.{unprinted_report, usage_report, not_utf8_report};
 
 use arrayvec::ArrayVec;
 use tlv_run::{Report, device_report};
@@ -12,7 +12,7 @@ use tlv_walk::DeviceFault;
 pub enum UsageFault {
     /// `clap` does not take the words, or they ask for help or for the version.
     Parser(clap::Error),
-    /// U2: the value of this option is not in its range. It is written as on the command line.
+    /// U2: the value of this option is not in its range. The name is as on the command line, with `--`.
     Value(&'static str),
     /// U3: memory was refused.
     Memory,
@@ -45,8 +45,8 @@ pub fn unprinted_report() -> Report
 }
 
 /// The report if a word of the command line is not UTF-8.
-pub fn words_report() -> Report
-    ensures { report_value_of result ≡ words_report }
+pub fn not_utf8_report() -> Report
+    ensures { report_value_of result ≡ not_utf8_report }
 {
     Report::with_message(4, b"U1 an argument is not UTF-8")
 }

@@ -99,7 +99,7 @@ fn first_part(text: &[u8]) -> (&[u8], Option<&[u8]>)
         ≡ result.0.now ∷ option_map_or (λ others. comma_parts others.now) result.1 [] }
     ensures fewer { IfSome result.1 (λ others. length others.now < length text.now) }
 {
-    let end = first_part_len(text);
+    let end = first_part_length(text);
     if end < text.len() {
         (&text[..end], Some(&text[end + 1..]))
     } else {
@@ -108,7 +108,7 @@ fn first_part(text: &[u8]) -> (&[u8], Option<&[u8]>)
 }
 
 /// How many octets are before the first comma. If there is none, it is all of them.
-fn first_part_len(text: &[u8]) -> usize
+fn first_part_length(text: &[u8]) -> usize
     ensures value { result ≡ position_or_len (λ octet. octet == 44) text.now }
     ensures within { result ≤ length text.now }
 {

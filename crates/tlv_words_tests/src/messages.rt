@@ -4,7 +4,7 @@ use std::process::Abort;
 use tlv_run::{Report, device_report, names_report, unopened_report, write_message};
 use tlv_value::NamesFault;
 use tlv_walk::{DeviceFault, MemDrain};
-use tlv_words::{UsageFault, unprinted_report, usage_report, words_report};
+use tlv_words::{UsageFault, unprinted_report, usage_report, not_utf8_report};
 
 /// Expects this status, and this line with a line feed after it.
 fn expect_written(rt: &impl Abort, report: &Report, status: u8, line: &[u8]) {
@@ -41,7 +41,7 @@ fn lines_of_devices_are_written(rt: HostRuntime) {
 #[test]
 fn lines_of_words_are_written(rt: HostRuntime) {
     let value = UsageFault::Value("--inside");
-    expect_written(&rt, &words_report(), 4, b"U1 an argument is not UTF-8\n");
+    expect_written(&rt, &not_utf8_report(), 4, b"U1 an argument is not UTF-8\n");
     expect_written(
         &rt,
         &usage_report(&value),

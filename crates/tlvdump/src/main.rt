@@ -8,7 +8,7 @@ use std::process::ExitCode;
 use tlv_run::{Command, Report, names_report, run, unopened_report, write_message};
 use tlv_value::{Names, NamesFault};
 use tlv_walk::{ReadSource, WriteDrain};
-use tlv_words::{UsageFault, Words, command_of, unprinted_report, usage_report, words_report};
+use tlv_words::{UsageFault, Words, command_of, not_utf8_report, unprinted_report, usage_report};
 
 fn main(rt: HostRuntime) -> ExitCode {
     let report = match report_of_run(&rt) {
@@ -19,8 +19,8 @@ fn main(rt: HostRuntime) -> ExitCode {
     ExitCode::from(write_message(&report, &mut drain))
 }
 
-/// Reads the command, then the names file, then opens the file, and runs the command. The error is the report of what
-/// comes first of them that is refused.
+/// Reads the command, then the names file, then opens the file, and runs the command. The error is the report of the
+/// first of these that is refused.
 fn report_of_run(rt: &HostRuntime) -> Result<Report, Report> {
     let command = command_asked_for(rt)?;
     let names = names_asked_for(rt, &command)?;
@@ -66,7 +66,7 @@ fn words_of(rt: &HostRuntime) -> Result<Words, Report> {
         Err(error) if error.kind() == ErrorKind::OutOfMemory => {
             return Err(usage_report(&UsageFault::Memory));
         }
-        Err(_) => return Err(words_report()),
+        Err(_) => return Err(not_utf8_report()),
     };
     for argument in arguments {
         if let Err(fault) = words.push(argument.as_str()) {

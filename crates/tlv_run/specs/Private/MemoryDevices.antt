@@ -1,16 +1,11 @@
--- Sources over octets in memory, and a drain with room of its own, as contracts see them.
+-- Sources over octets in memory, and a drain with room for so many octets, as contracts see them.
 use Rattle.std.specs.Prelude.{ℕ, zero, suc, ltb, List, [], Some, if◌then◌else◌, length}
 use Rattle.tlv_io.specs.Device.{DrainState, LastReadValue, SourceState, failed, gave, never}
-use Rattle.tlv_io.specs.MemSource.{MemSourceState}
+use Rattle.tlv_io.specs.MemSource.{MemSourceState, source_state_of}
 
 -- a source that fails with no read shows no failure
 abbrev pub ending_source_state : MemSourceState → SourceState
-ending_source_state source = record {
-  left = Some source.left;
-  reads = source.log.reads;
-  last = source.log.last;
-  failures = 0;
-}
+ending_source_state source = record (source_state_of source) { failures = 0 }
 
 -- if another would give nothing, at its end, such a source fails
 abbrev pub failing_last_read : LastReadValue → LastReadValue
@@ -26,16 +21,15 @@ octets_left (suc failures) octets = []
 
 -- a source that fails after its octets, after so many failures
 abbrev pub failing_source_state : MemSourceState → ℕ → SourceState
-failing_source_state source failures = record {
+failing_source_state source failures = record (source_state_of source) {
   left = Some (octets_left failures source.left);
-  reads = source.log.reads;
   last = failing_last_read source.log.last;
   failures = failures;
 }
 
--- what a drain shows of itself that has room for so many octets: its writes fail only if it is full
-abbrev pub room_state : ℕ → List ℕ → ℕ → DrainState
-room_state room octets failures = record {
+-- what a drain with room for so many octets shows of itself: its writes fail only if it is full
+abbrev pub bounded_drain_state : ℕ → List ℕ → ℕ → DrainState
+bounded_drain_state room octets failures = record {
   octets = Some octets;
   failures = if ltb (length octets) room then 0 else failures;
 }

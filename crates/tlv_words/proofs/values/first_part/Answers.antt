@@ -4,8 +4,8 @@ use Rattle.tlv_words.proofs.values.first_part.Goals as goal
 
 pub returns-then-end-text-clause-parts : goal.returns-then-end-text-clause-parts
 returns-then-end-text-clause-parts c =
-    first_part c.args.text.now c.first_part_len-end.result c.first_part_len-end.ensures.value (search rules)
+    first_part c.args.text.now c.first_part_length-end.result c.first_part_length-end.ensures.value (search rules)
 
 pub returns-else-end-text-clause-parts : goal.returns-else-end-text-clause-parts
 returns-else-end-text-clause-parts c =
-    one_part c.args.text.now (let e = c.first_part_len-end.ensures.value in search rules)
+    one_part c.args.text.now (let e = c.first_part_length-end.ensures.value in search rules)

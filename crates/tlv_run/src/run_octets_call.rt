@@ -1,12 +1,12 @@
 //! A run of a command over octets in memory.
 ghost use Rattle.std.specs.Prelude.{true, false};
-ghost use Rattle.tlv_run.specs.Octets.{RunsOctets, octets_run_value_of};
+ghost use Rattle.tlv_run.specs.RunsOctets.{RunsOctets, octets_run_value_of};
 ghost use Rattle.tlv_run.specs.Results.{command_job};
 
 use crate::command::Command;
-use crate::memory_devices::{EndingSource, FailingSource, Room};
+use crate::memory_devices::{EndingSource, FailingSource, BoundedDrain};
 use crate::report::Report;
-use crate::runner::run;
+use crate::run_call::run;
 use arrayvec::ArrayVec;
 use tlv_value::Names;
 
@@ -19,10 +19,9 @@ pub struct OctetsRun<const N: usize> {
 
 /// Runs the command over `octets`, with room for `N` octets of output.
 ///
-/// Read `i`, counted from 0, gives at most `cuts[i]` octets, or one if that is 0, and after the end of
-/// `cuts` as many as there is room for. After the octets the input ends, or a read fails. If there is
-/// room for all of the output, it is written, whatever the cuts; else the first `N` octets of it, and
-/// the report is that of a failed write.
+/// `cuts` say into which pieces the octets are cut, as for `MemSource::new`; what is written and reported does not
+/// depend on them. After the octets the input ends, or a read fails. If there is room for all of the output, it is
+/// written; else the first `N` octets of it, and the report is that of a failed write.
 pub fn run_octets<const N: usize>(
     command: &Command,
     names: &Names,
@@ -49,14 +48,14 @@ fn run_until_failure<const N: usize>(
     ensures { RunsOctets (command_job command.now names.now) octets.now true N
         (octets_run_value_of result) }
 {
-    let mut room = Room::new();
+    let mut drain = BoundedDrain::new();
     let report = run(
         command,
         names,
         &mut FailingSource::new(octets, cuts),
-        &mut room,
+        &mut drain,
     );
-    let written = room.into_octets();
+    let written = drain.into_octets();
     OctetsRun { written, report }
 }
 
@@ -69,13 +68,13 @@ fn run_to_end<const N: usize>(
     ensures { RunsOctets (command_job command.now names.now) octets.now false N
         (octets_run_value_of result) }
 {
-    let mut room = Room::new();
+    let mut drain = BoundedDrain::new();
     let report = run(
         command,
         names,
         &mut EndingSource::new(octets, cuts),
-        &mut room,
+        &mut drain,
     );
-    let written = room.into_octets();
+    let written = drain.into_octets();
     OctetsRun { written, report }
 }

@@ -2,7 +2,7 @@
 ghost use Rattle.tlv_walk.specs.Job.{device_states};
 ghost use Rattle.tlv_run.specs.Report.{report_value_of};
 ghost use Rattle.tlv_run.specs.Results.{command_job};
-ghost use Rattle.tlv_run.specs.Runs.{RunsAndReports};
+ghost use Rattle.tlv_run.specs.RunsAndReports.{RunsAndReports};
 
 use crate::command::Command;
 use crate::report::{Report, cut_report, indef_report, outcome_report};

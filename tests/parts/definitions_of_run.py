@@ -3,7 +3,7 @@ have no definition that no contract reaches."""
 import os
 import re
 
-from parts.words import DEFINITION, specs
+from parts.words import DEFINITION, specs, without_comment
 
 IMPORT = re.compile(r"^\s*(?:pub |ghost )*use Rattle\.(tlv_\w+)\.specs\.([\w.]+?)(?:\.\{([^}]*)\}| as (\w+))?;?$", re.M)
 TOKEN = re.compile(r"[^\s(){}\[\];,λ:]+")
@@ -15,7 +15,7 @@ def blocks(text):
     """Yields each definition of a file of specs as its name and its text, which ends where the next begins."""
     name, inside, lines = None, None, []
     for line in text.split("\n"):
-        code = line.partition("--")[0].rstrip()
+        code = without_comment(line).rstrip()
         depth = len(code) - len(code.lstrip())
         found = DEFINITION.match(code)
         if found and found[3] not in ("mod", "use") and (inside is None or depth <= inside):
@@ -51,7 +51,7 @@ class Definitions:
                 return self.home(f"{crate}.{other}", name)
         return found
 
-    def cited(self, text, imports, file=None):
+    def citations(self, text, imports, file=None):
         """Returns the definitions that a text cites, by the imports that it is below."""
         names, aliases = set(), {}
         for crate, other, group, alias in imports:
@@ -73,7 +73,7 @@ class Definitions:
             place = left.pop()
             if place not in reached:
                 reached.add(place)
-                left += self.cited(self.texts[place], self.imports[place[0]], place[0])
+                left += self.citations(self.texts[place], self.imports[place[0]], place[0])
         return reached
 
     def of_clauses(self, source):
@@ -85,11 +85,11 @@ class Definitions:
             while open_braces:
                 open_braces += {"{": 1, "}": -1}.get(code[end], 0)
                 end += 1
-            found |= self.cited(code[clause.start() : end], IMPORT.findall(source))
+            found |= self.citations(code[clause.start() : end], IMPORT.findall(source))
         return found
 
 
-def listed(text, files):
+def entries(text, files):
     """Yields each file that a list names, with whether all but the words are needed, or these alone, and the words."""
     crate = None
     for entry in ENTRY.finditer(text):
@@ -114,11 +114,11 @@ def test(part):
     by_file = {}
     for file, name in all_of.texts:
         by_file.setdefault(file, set()).add(name)
-    with open(os.path.join(part.root, "crates/tlv_run/src/runner.rt"), encoding="utf-8") as file:
+    with open(os.path.join(part.root, "crates/tlv_run/src/run_call.rt"), encoding="utf-8") as file:
         needed = all_of.closure(all_of.of_clauses(file.read()))
     with open(os.path.join(part.root, "docs/PROVED.md"), encoding="utf-8") as file:
         text = file.read().partition("## What a reader must believe")[2].partition("The contract of `run_octets`")[0]
-    lists = {file: by_file[file] - words if but else words for file, but, words in listed(text, by_file)}
+    lists = {file: by_file[file] - words if but else words for file, but, words in entries(text, by_file)}
     for file in sorted({place[0] for place in needed} | set(lists)):
         there = {name for home, name in needed if home == file}
         wrong = sorted(there ^ lists.get(file, set()))

@@ -2,9 +2,9 @@
 use Rattle.std.specs.Prelude.{◌≡◌, ℕ, ◌<◌, ◌≤◌, Bool, true, false, List, length, take}
 use Rattle.tlv_walk.specs.declared.run.DeviceFault.TheVariants.{ReadFailed, WriteFailed, InputTooLong}
 use Rattle.tlv_walk.specs.Job.{Job}
-use Rattle.tlv_run.specs.declared.octets.OctetsRun.{OctetsRun}
+use Rattle.tlv_run.specs.declared.run_octets_call.OctetsRun.{OctetsRun}
 use Rattle.tlv_run.specs.Report.{ReportValue, device_report, report_value_of}
-use Rattle.tlv_run.specs.Results.{CommandResult, IsSettled, MakesResult}
+use Rattle.tlv_run.specs.Results.{CommandResult, IsJobResult, IsSettled}
 
 -- what such a run wrote, and its report
 pub record OctetsRunValue : Type 0 where
@@ -16,18 +16,15 @@ octets_run_value_of run = record { written = run.written.items; report = report_
 
 -- the job, all octets, and whether after them a read fails
 module _ (job : Job ReportValue) (octets : List ℕ) (read_fails : Bool) where
-  -- what is made of the octets, or of the first of them, no more than are read as encodings
-  abbrev pub MakesResultOf : CommandResult → Type 0
-  MakesResultOf = MakesResult job (take job.limit octets)
-
-  -- what is reported if all of that was written: a line for each cause
-  pub data IsReport {made : CommandResult} (x : MakesResultOf made) : ReportValue → Type 0 where
+  -- what is reported if all was written that is made of the octets, or of the first of them, no more than are read as
+  -- encodings: a line for each cause
+  pub data IsReport {made : CommandResult} (x : IsJobResult job (take job.limit octets) made) : ReportValue → Type 0 where
     -- nothing counts that could follow
     settled : IsSettled x → IsReport x made.report
     -- the input ends with the octets
     ended : read_fails ≡ false → length octets ≤ job.limit → IsReport x made.report
     -- after the octets a read failed
-    broken : (IsSettled x → ⊥) → read_fails ≡ true → length octets ≤ job.limit
+    read_failed : (IsSettled x → ⊥) → read_fails ≡ true → length octets ≤ job.limit
         → IsReport x (device_report ReadFailed)
     -- the octets are too many
     too_long : (IsSettled x → ⊥) → job.limit < length octets → IsReport x (device_report InputTooLong)
@@ -35,7 +32,7 @@ module _ (job : Job ReportValue) (octets : List ℕ) (read_fails : Bool) where
   -- what was written, into so much room, and what is reported
   pub record RunsOctets (room : ℕ) (run : OctetsRunValue) : Type 0 where
     pub made : CommandResult
-    pub is_made : MakesResultOf made
+    pub is_made : IsJobResult job (take job.limit octets) made
     pub output : run.written ≡ take room made.output
     pub with_room : length made.output ≤ room → IsReport is_made run.report
     pub without_room : room < length made.output → run.report ≡ device_report WriteFailed

@@ -1,5 +1,5 @@
 use Rattle.std.proofs.Common.{rules}
-use Rattle.tlv_run.proofs.octets.run_octets.Goals as goal
+use Rattle.tlv_run.proofs.run_octets_call.run_octets.Goals as goal
 
 pub returns-else-read_fails : goal.returns-else-read_fails
 returns-else-read_fails g c = search rules

@@ -1,6 +1,6 @@
 use Rattle.std.proofs.Common.{◌≡◌, ◌+◌, ◌==◌, drop}
 use Rattle.std.specs.List.{position_or_len}
-use Rattle.tlv_words.proofs.values.first_part_len.Given as goal
+use Rattle.tlv_words.proofs.values.first_part_length.Given as goal
 
 abbrev pub invariant-loop-index : goal.invariant-loop-index
 invariant-loop-index l =

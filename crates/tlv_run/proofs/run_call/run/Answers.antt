@@ -4,7 +4,7 @@ use Rattle.tlv_show.specs.CheckJob.{check_job}
 use Rattle.tlv_show.specs.DumpJob.{dump_job}
 use Rattle.tlv_run.specs.Report.{cut_report, indef_report, outcome_report}
 use Rattle.tlv_run.proofs.JobReports.{reported_runs}
-use Rattle.tlv_run.proofs.runner.run.Goals as goal
+use Rattle.tlv_run.proofs.run_call.run.Goals as goal
 
 pub returns-in-Dump : goal.returns-in-Dump
 returns-in-Dump g c = rw c.in-Dump.is (reported_runs outcome_report (dump_job _ _) c.dump.ensures c.outcome_report.ensures)

@@ -1,6 +1,6 @@
 """Each request for memory refused in turn: the program reports U3 or N6 and does nothing else.
 
-tests/parts/refuse.c stands in front of the C library. It numbers the requests that the program makes,
+tests/parts/refuse.c is loaded before the C library. It numbers the requests that the program makes,
 refuses some, and reports after how many of them each file is opened. So the tests know which requests are
 those of the words, and which are those of the names file: the words come first, then the names file is
 read, then FILE is opened, and a run takes no memory.
