@@ -150,13 +150,13 @@ module _ {S : Type 0} (next : S → EventValue → Effect S) (old new : TurnStat
     TurnsTo (Err WriteFailed) = WriteFailsIn (take limit (taken ++ given)) yielded
     TurnsTo (Err InputTooLong) = PassesLimit
 
-  -- octets were followed, no more than the limit, and the next one can be taken
+  -- the walker took octets, in all no more than the limit, and can take the next one
   pub record HasMovedWithin (limit : ℕ) : Type 0 where
     pub moved : old.walker.offset < new.walker.offset
     pub within : new.walker.offset ≤ limit
     pub ready : CanTake new.walker
 
-  -- the octets up to the limit were followed, and the next one could be taken
+  -- the walker took as many octets as the limit, and can take the next one
   pub record IsAtLimit (limit : ℕ) : Type 0 where
     pub at_limit : new.walker.offset ≡ limit
     pub ready : CanTake new.walker

@@ -241,7 +241,7 @@ fn follow_found<F: Follow, D: Drain>(
 }
 
 /// Lets the follower follow an event. It is a function of its own for the events that seldom come, so that the follower
-/// is inlined only where speed counts.
+/// is inlined only if speed counts.
 #[inline(never)]
 fn follow_event<F: Follow, D: Drain>(
     follower: &mut F,

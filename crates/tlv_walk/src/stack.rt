@@ -25,15 +25,15 @@ enum FrameKind {
 /// The input, or an open element that holds others.
 #[derive(Clone, Copy, Default)]
 struct Frame {
-    /// Where the innermost definite element ends that is this one or holds it; `u64::MAX` if there is none.
+    /// The end of the innermost definite element: of this one, or of the nearest around it; `u64::MAX` if there is none.
     bound: u64,
     kind: FrameKind,
 }
 
 /// The open elements that hold others, at most 128.
 ///
-/// Each event asks about the innermost one, and seldom about another. So its frame is kept by itself, where a look at
-/// it is one load and one comparison.
+/// Each event asks about the innermost one, and seldom about another. So its frame is kept by itself: a look at it is
+/// one load and one comparison.
 #[derive(Drop)]
 pub(crate) struct Stack {
     /// The innermost open element, or the input if none is open.
