@@ -5,9 +5,9 @@ use Rattle.tlv_head.specs.Header.{HeaderValue, octets_of}
 use Rattle.tlv_walk.specs.declared.follow.Go.{Go}
 use Rattle.tlv_walk.specs.declared.follow.Go.TheVariants.{On, Enough}
 use Rattle.tlv_walk.specs.Events.{Begin, Bytes, Close, End, Enter, EventValue, Leave, Open, Pad, Unused}
-use Rattle.tlv_walk.specs.Follow.{Effect, each_octet, no_effect}
+use Rattle.tlv_walk.specs.Follow.{Effect, each_octet, effect_with, no_effect}
 use Rattle.tlv_cut.specs.declared.extract_follower.Position.{Position}
-use Rattle.tlv_cut.specs.declared.extract_follower.Position.TheVariants.{Before, Inside, After}
+use Rattle.tlv_cut.specs.declared.extract_follower.Position.TheVariants.{Before, Within, After}
 
 -- what contracts see of an `Extract`
 pub record ExtractState : Type 0 where
@@ -25,12 +25,12 @@ new_extract offset contents_only =
 
 -- the header of the element wanted has come whole
 abbrev pub has_found : ExtractState → Bool
-has_found s = at s.position
+has_found s = by_position s.position
   where
-    at : Position → Bool
-    at Before = false
-    at (Inside level) = true
-    at After = true
+    by_position : Position → Bool
+    by_position Before = false
+    by_position (Within level) = true
+    by_position After = true
 
 -- of octets around the contents of the element wanted, those that are put: none if its contents
 -- alone are wanted
@@ -45,15 +45,15 @@ extract_step_to s position octets goes =
 -- an element begins at this offset, with these octets for its header: the one wanted, one that it holds, or
 -- another. The count of those that it holds stops at 255
 abbrev pub extract_begin_step_at : ExtractState → ℕ → List ℕ → Effect ExtractState
-extract_begin_step_at s offset octets = at s.position
+extract_begin_step_at s offset octets = by_position s.position
   where
-    at : Position → Effect ExtractState
-    at Before =
+    by_position : Position → Effect ExtractState
+    by_position Before =
         if offset == s.offset
-        then extract_step_to s (Inside 0) (outer_octets s.contents_only octets) On
+        then extract_step_to s (Within 0) (outer_octets s.contents_only octets) On
         else no_effect s
-    at (Inside level) = extract_step_to s (Inside (min (level + 1) 255)) octets On
-    at After = no_effect s
+    by_position (Within level) = extract_step_to s (Within (min (level + 1) 255)) octets On
+    by_position After = no_effect s
 
 -- the element with this header begins
 abbrev pub extract_begin_step : ExtractState → HeaderValue → Effect ExtractState
@@ -62,12 +62,12 @@ extract_begin_step s h = extract_begin_step_at s h.offset (octets_of h)
 -- of octets that come at this position, those of the element wanted
 abbrev pub wanted_octets : Position → List ℕ → List ℕ
 wanted_octets Before octets = []
-wanted_octets (Inside level) octets = octets
+wanted_octets (Within level) octets = octets
 wanted_octets After octets = []
 
 -- a contents octet comes
 abbrev pub extract_octet_step : ExtractState → ℕ → Effect ExtractState
-extract_octet_step s x = record { state = s; put = wanted_octets s.position (x ∷ []); goes = On }
+extract_octet_step s x = effect_with s (wanted_octets s.position (x ∷ []))
 
 -- contents octets come
 abbrev pub extract_contents_step : ExtractState → List ℕ → Effect ExtractState
@@ -75,13 +75,13 @@ extract_contents_step s octets = each_octet extract_octet_step s octets
 
 -- an element ends, with these end-of-contents octets
 abbrev pub extract_end_step : ExtractState → List ℕ → Effect ExtractState
-extract_end_step s octets = at s.position
+extract_end_step s octets = by_position s.position
   where
-    at : Position → Effect ExtractState
-    at Before = no_effect s
-    at (Inside zero) = extract_step_to s After (outer_octets s.contents_only octets) Enough
-    at (Inside (suc level)) = extract_step_to s (Inside level) octets On
-    at After = no_effect s
+    by_position : Position → Effect ExtractState
+    by_position Before = no_effect s
+    by_position (Within zero) = extract_step_to s After (outer_octets s.contents_only octets) Enough
+    by_position (Within (suc level)) = extract_step_to s (Within level) octets On
+    by_position After = no_effect s
 
 -- an event comes
 abbrev pub extract_step : ExtractState → EventValue → Effect ExtractState

@@ -5,7 +5,7 @@ use Rattle.std.specs.Option.{is_some, option_map_or, option_or}
 use Rattle.tlv_head.specs.Header.{octets_of}
 use Rattle.tlv_walk.specs.Forest.{Forest, NoMore, PaddingOctet, Primitive, Holder, OpenPrimitive, OpenHolder}
 use Rattle.tlv_walk.specs.Forest.{OpenBitString}
-use Rattle.tlv_walk.specs.Forest.{end_octets, is_complete, lead, opening}
+use Rattle.tlv_walk.specs.Forest.{end_octets, is_whole, lead, opening}
 
 -- the element whose header begins at the offset n, by itself, if its header is whole. No two
 -- elements begin at one offset
@@ -28,7 +28,7 @@ has_element_at n f = is_some (element_at n f)
 
 -- such an element is there, and has ended
 abbrev pub has_whole_element_at : ℕ → Forest → Bool
-has_whole_element_at n f = option_map_or is_complete (element_at n f) false
+has_whole_element_at n f = option_map_or is_whole (element_at n f) false
 
 -- 8.1.1.1: the octets of elements so far. The octets of an unfinished header are left out, and so
 -- is the first of the end-of-contents octets without the second. Padding belongs to no element

@@ -1,10 +1,9 @@
 -- Laws of what `indef` writes.
 use Rattle.std.specs.Prelude.{◌≡◌, ℕ, Bool, List}
 use Rattle.tlv_walk.specs.declared.ending.Ending.TheVariants.{Done}
-use Rattle.tlv_walk.specs.declared.follow.Go.TheVariants.{On}
 use Rattle.tlv_walk.specs.Ending.{IsEnding}
 use Rattle.tlv_walk.specs.Events.{events}
-use Rattle.tlv_walk.specs.Follow.{effect_of}
+use Rattle.tlv_walk.specs.Follow.{effect_of, effect_with}
 use Rattle.tlv_walk.specs.Forest.{Forest, spelling}
 use Rattle.tlv_walk.specs.Place.{IsOpen, top_place}
 use Rattle.tlv_walk.specs.Reading.{IsPrefixOf, IsReading}
@@ -16,8 +15,7 @@ use Rattle.tlv_cut.specs.IndefReading.{indef_reading}
 
 -- of the events of elements an `Indef` makes what `indef` writes, and it wants more
 abbrev pub IndefMakesItsText : Type 0
-IndefMakesItsText = (s : IndefState) (f : Forest)
-    → effect_of indef_step s (events f) ≡ record { state = s; put = indef_text f; goes = On }
+IndefMakesItsText = (s : IndefState) (f : Forest) → effect_of indef_step s (events f) ≡ effect_with s (indef_text f)
 
 -- what is written for an input is a prefix of what is written for a longer one
 abbrev pub IndefTextGoesOn : Type 0

@@ -1,9 +1,8 @@
 -- What an `Indef` makes of events.
 use Rattle.std.specs.Prelude.{ℕ, if◌then◌else◌, List, [], ◌∷◌}
 use Rattle.tlv_head.specs.Header.{spell_indefinite, octets_of}
-use Rattle.tlv_walk.specs.declared.follow.Go.TheVariants.{On}
 use Rattle.tlv_walk.specs.Events.{Begin, Bytes, Close, End, Enter, EventValue, Leave, Open, Pad, Unused}
-use Rattle.tlv_walk.specs.Follow.{Effect}
+use Rattle.tlv_walk.specs.Follow.{Effect, effect_with}
 
 -- what contracts see of an `Indef`: nothing, since it keeps nothing
 pub record IndefState : Type 0 where
@@ -27,4 +26,4 @@ indef_event_text (Pad octets) = octets
 
 -- an event comes: more is always wanted
 abbrev pub indef_step : IndefState → EventValue → Effect IndefState
-indef_step s e = record { state = s; put = indef_event_text e; goes = On }
+indef_step s e = effect_with s (indef_event_text e)

@@ -20,9 +20,9 @@ pub struct Cut {
 /// input. If no element begins there, nothing is written. `framing` says which strings are read as
 /// encodings, and whether padding may be between the outermost elements.
 ///
-/// Octets are written as they come, also of an element that does not end. Not written are the
-/// octets of a header that is not whole, and the first of the end-of-contents octets without the
-/// second. Nothing more is read once the element has ended.
+/// Also the octets of an element that does not end are written. Not written are the octets of a
+/// header that is not whole, and the first of the end-of-contents octets without the second. Nothing
+/// more is read once the element has ended.
 ///
 /// # Errors
 ///

@@ -15,7 +15,7 @@ enum Position {
     /// That element has not begun.
     Before,
     /// In that element, and in this many of the elements that it holds. The count stops at 255.
-    Inside(u8),
+    Within(u8),
     /// That element has ended.
     After,
 }
@@ -80,11 +80,11 @@ impl Extract {
                 if !self.contents_only {
                     out.put(octets)?;
                 }
-                self.position = Position::Inside(0);
+                self.position = Position::Within(0);
             }
-            Position::Inside(level) => {
+            Position::Within(level) => {
                 out.put(octets)?;
-                self.position = Position::Inside(level.saturating_add(1));
+                self.position = Position::Within(level.saturating_add(1));
             }
             _ => {}
         }
@@ -107,7 +107,7 @@ impl Extract {
             (extract_contents_step self.now octets.now).put result }
     {
         match self.position {
-            Position::Inside(_) => out.put(octets),
+            Position::Within(_) => out.put(octets),
             _ => Ok(()),
         }
     }
@@ -119,16 +119,16 @@ impl Extract {
             (extract_end_step self.old octets.now).put result }
     {
         match self.position {
-            Position::Inside(0) => {
+            Position::Within(0) => {
                 if !self.contents_only {
                     out.put(octets)?;
                 }
                 self.position = Position::After;
                 Ok(Go::Enough)
             }
-            Position::Inside(level) => {
+            Position::Within(level) => {
                 out.put(octets)?;
-                self.position = Position::Inside(level - 1);
+                self.position = Position::Within(level - 1);
                 Ok(Go::On)
             }
             _ => Ok(Go::On),
@@ -145,13 +145,13 @@ impl Follow for Extract {
 
     ghost bytes_join = { each_octet-joins extract_octet_step };
 
-    ghost bytes_rest = { λ s. refl };
+    ghost bytes_empty = { λ s. refl };
 
     ghost bytes_go_on = { each_octet-goes_on extract_octet_step };
 
     ghost pad_join = { λ s x y. refl };
 
-    ghost pad_rest = { λ s. refl };
+    ghost pad_empty = { λ s. refl };
 
     ghost pad_go_on = { λ s x. refl };
 
@@ -179,12 +179,12 @@ impl Follow for Extract {
         match self.position {
             // The element wanted is left to `on`, which has enough at its end.
             Position::Before => Ok(header.offset != self.offset),
-            Position::Inside(level) if level < 255 => {
+            Position::Within(level) if level < 255 => {
                 out.put(octets)?;
                 Ok(true)
             }
             // At 255 the count would not go up before it goes down, so this is left to `on` too.
-            Position::Inside(_) => Ok(false),
+            Position::Within(_) => Ok(false),
             Position::After => Ok(true),
         }
     }

@@ -45,13 +45,13 @@ impl Follow for Indef {
 
     ghost bytes_join = { λ s x y. refl };
 
-    ghost bytes_rest = { λ s. refl };
+    ghost bytes_empty = { λ s. refl };
 
     ghost bytes_go_on = { λ s x. refl };
 
     ghost pad_join = { λ s x y. refl };
 
-    ghost pad_rest = { λ s. refl };
+    ghost pad_empty = { λ s. refl };
 
     ghost pad_go_on = { λ s x. refl };
 

@@ -50,13 +50,13 @@ impl Follow for Check {
 
     ghost bytes_join = { each_octet-joins check_octet_step };
 
-    ghost bytes_rest = { λ s. refl };
+    ghost bytes_empty = { λ s. refl };
 
     ghost bytes_go_on = { each_octet-goes_on check_octet_step };
 
     ghost pad_join = { λ s x y. refl };
 
-    ghost pad_rest = { λ s. refl };
+    ghost pad_empty = { λ s. refl };
 
     ghost pad_go_on = { λ s x. refl };
 

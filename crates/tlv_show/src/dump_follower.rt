@@ -69,13 +69,13 @@ impl Follow for Dump<'_> {
 
     ghost bytes_join = { each_octet-joins dump_octet_step };
 
-    ghost bytes_rest = { λ s. refl };
+    ghost bytes_empty = { λ s. refl };
 
     ghost bytes_go_on = { each_octet-goes_on dump_octet_step };
 
     ghost pad_join = { each_octet-joins dump_padding_step };
 
-    ghost pad_rest = { λ s. refl };
+    ghost pad_empty = { λ s. refl };
 
     ghost pad_go_on = { each_octet-goes_on dump_padding_step };
 

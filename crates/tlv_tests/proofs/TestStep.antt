@@ -3,12 +3,13 @@ use Rattle.std.proofs.Common.{◌≡◌, [], ◌∷◌, refl}
 use Rattle.std.specs.Prelude.{Some, codes}
 use Rattle.tlv_walk.specs.declared.follow.Go.TheVariants.{Enough}
 use Rattle.tlv_walk.specs.Events.{Bytes, Close, End, Pad}
-use Rattle.tlv_tests.specs.TestStep.{ends, place, test_effect, test_step}
+use Rattle.tlv_walk.specs.Follow.{effect_with}
+use Rattle.tlv_tests.specs.TestStep.{ends, place, test_step}
 
-octets_row : test_step 0 (Bytes (74 ∷ 5 ∷ [])) ≡ test_effect 0 (codes " 4a 05")
+octets_row : test_step 0 (Bytes (74 ∷ 5 ∷ [])) ≡ effect_with 0 (codes " 4a 05")
 octets_row = refl
 
-padding_row : test_step 0 (Pad (0 ∷ 0 ∷ [])) ≡ test_effect 0 (codes "pad\npad\n")
+padding_row : test_step 0 (Pad (0 ∷ 0 ∷ [])) ≡ effect_with 0 (codes "pad\npad\n")
 padding_row = refl
 
 place_row : place 11256 ≡ codes " 1256"

@@ -1,11 +1,11 @@
--- What the follower of the tests writes of events: a line for each, but that a primitive's contents stand on the line
+-- What the follower of the tests writes of events: a line for each, but that a primitive's contents are on the line
 -- of its end.
 use Rattle.std.specs.Prelude.{ℕ, ◌-◌, ◌/◌, ◌%◌, ◌==◌, if◌then◌else◌, List, [], ◌∷◌, ◌++◌, Option, Some, None}
 use Rattle.std.specs.Prelude.{codes, flat_map, slice_index}
 use Rattle.tlv_head.specs.Header.{HeaderValue, octets_of}
 use Rattle.tlv_walk.specs.declared.follow.Go.TheVariants.{On, Enough}
 use Rattle.tlv_walk.specs.Events.{Begin, Bytes, Close, End, Enter, EventValue, Leave, Open, Pad, Unused}
-use Rattle.tlv_walk.specs.Follow.{Effect}
+use Rattle.tlv_walk.specs.Follow.{Effect, effect_with}
 
 -- a digit below 16
 abbrev pub digit : ℕ → ℕ
@@ -26,18 +26,14 @@ pads octets = flat_map (λ x. codes "pad\n") octets
 abbrev pub place : ℕ → List ℕ
 place n = 32 ∷ digit (n / 1000 % 10) ∷ digit (n / 100 % 10) ∷ digit (n / 10 % 10) ∷ digit (n % 10) ∷ []
 
--- the line of a header: a word, where the header stands, and its octets
+-- the line of a header: a word, where the header is, and its octets
 abbrev pub header_line : List ℕ → HeaderValue → List ℕ
 header_line word h = word ++ place h.offset ++ pairs (octets_of h) ++ 10 ∷ []
 
 -- the line of the end of a constructed element, with the offset of its end-of-contents octets, if it has them
 abbrev pub test_close_line : Option ℕ → List ℕ
 test_close_line None = codes "close\n"
-test_close_line (Some at) = codes "close" ++ place at ++ 10 ∷ []
-
--- these octets are put, and more is wanted
-abbrev pub test_effect : ℕ → List ℕ → Effect ℕ
-test_effect n octets = record { state = n; put = octets; goes = On }
+test_close_line (Some offset) = codes "close" ++ place offset ++ 10 ∷ []
 
 -- an element ends: n is how many ends are to come up to the one that is enough, or 0 if none is
 abbrev pub ends : ℕ → List ℕ → Effect ℕ
@@ -45,12 +41,12 @@ ends n octets = record { state = n - 1; put = octets; goes = if n == 1 then Enou
 
 -- an event
 abbrev pub test_step : ℕ → EventValue → Effect ℕ
-test_step n (Open h) = test_effect n (header_line (codes "open") h)
-test_step n (Begin h) = test_effect n (header_line (codes "begin") h)
-test_step n (Enter h) = test_effect n (header_line (codes "enter") h)
-test_step n (Bytes octets) = test_effect n (pairs octets)
-test_step n (Pad octets) = test_effect n (pads octets)
-test_step n Unused = test_effect n (codes "unused\n")
+test_step n (Open h) = effect_with n (header_line (codes "open") h)
+test_step n (Begin h) = effect_with n (header_line (codes "begin") h)
+test_step n (Enter h) = effect_with n (header_line (codes "enter") h)
+test_step n (Bytes octets) = effect_with n (pairs octets)
+test_step n (Pad octets) = effect_with n (pads octets)
+test_step n Unused = effect_with n (codes "unused\n")
 test_step n End = ends n (codes " end\n")
 test_step n Leave = ends n (codes "leave\n")
 test_step n (Close at) = ends n (test_close_line at)

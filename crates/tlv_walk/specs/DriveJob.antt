@@ -44,12 +44,12 @@ run_over framing f es go.Enough e =
 
 -- what takes part in a walk over all that a source gives, as it is before the walk or after it: the follower's
 -- state and the devices
-pub record DriveState (S : Type 0) : Type 0 where
+pub record DriveStates (S : Type 0) : Type 0 where
   pub follower : S
   pub devices : DeviceStates
 
-abbrev pub drive_state : {S : Type 0} → S → SourceState → DrainState → DriveState S
-drive_state follower source drain = record { follower = follower; devices = device_states source drain }
+abbrev pub drive_states : {S : Type 0} → S → SourceState → DrainState → DriveStates S
+drive_states follower source drain = record { follower = follower; devices = device_states source drain }
 
 module _ {S : Type 0} (next : S → EventValue → Effect S) where
   -- a walk, followed from this state on
@@ -63,7 +63,7 @@ module _ {S : Type 0} (next : S → EventValue → Effect S) where
   }
 
   -- what it comes to, and the state that it leaves
-  pub record Drives (framing : Framing) (limit : ℕ) (old new : DriveState S) (result : Result Run DeviceFault)
+  pub record Drives (framing : Framing) (limit : ℕ) (old new : DriveStates S) (result : Result Run DeviceFault)
       : Type 0 where
     pub runs : Runs (drive_job framing limit old.follower) old.devices new.devices result
     pub state : OnOk (drain_result result)

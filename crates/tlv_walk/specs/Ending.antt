@@ -10,7 +10,7 @@ use Rattle.tlv_walk.specs.declared.framing.Framing.{Framing}
 use Rattle.tlv_walk.specs.declared.ending.Ending.{Ending}
 use Rattle.tlv_walk.specs.declared.ending.Ending.TheVariants.{Done, Fault}
 use Rattle.tlv_walk.specs.Forest.{Forest, NoMore, PaddingOctet, Primitive, Holder, OpenHolder, OpenBitString}
-use Rattle.tlv_walk.specs.Forest.{OpenHeader, OpenEndOctets, extent, has_element, is_complete}
+use Rattle.tlv_walk.specs.Forest.{OpenHeader, OpenEndOctets, extent, has_element, is_whole}
 use Rattle.tlv_walk.specs.Forest.{primitive_extent, spelling}
 use Rattle.tlv_walk.specs.Place.{Fits, IsHeaderAt, Place, place_after, place_of_children, top_place}
 use Rattle.tlv_walk.specs.Reading.{CannotBecomeSound, IsReading, IsSoundList}
@@ -46,7 +46,7 @@ pub data IsFault (p : Place) (x : ℕ) : Forest → FaultCode → Type 0 where
       → (Fits p (length (octets_of h) + announced_length h.size) → ⊥) → IsFault p x (OpenHeader o) Overrun
   -- 8.1.5: no end-of-contents octets before the bound
   no_end : p.indefinite ≡ true → (Fits p 1 → ⊥) → IsFault p x NoMore MissingEnd
-  -- 8.1.5: 00 where no end-of-contents octets can stand, and no padding
+  -- 8.1.5: 00 where no end-of-contents octets can be, and no padding
   stray_end : p.indefinite ≡ false → p.padding ≡ false → x ≡ 0 → IsFault p x NoMore StrayEnd
 
 abbrev pub fault_at : FaultCode → ℕ → FaultOf
@@ -61,10 +61,10 @@ pub data IsEnding (framing : Framing) (b : List ℕ) : Ending → Type 0 where
   empty : (f : Forest) → IsReading framing b f → spelling f ≡ b → has_element f ≡ false
       → IsEnding framing b (fault_ending Empty (length b))
   -- F02: something is open
-  short : (f : Forest) → IsReading framing b f → spelling f ≡ b → is_complete f ≡ false
+  short : (f : Forest) → IsReading framing b f → spelling f ≡ b → is_whole f ≡ false
       → IsEnding framing b (fault_ending Short (length b))
   -- one or more elements, and nothing is open
-  done : (f : Forest) → IsReading framing b f → spelling f ≡ b → has_element f ≡ true → is_complete f ≡ true
+  done : (f : Forest) → IsReading framing b f → spelling f ≡ b → has_element f ≡ true → is_whole f ≡ true
       → IsEnding framing b Done
   -- the octet after the reading is refused
   refused : (f : Forest) (x : ℕ) (rest : List ℕ) (code : FaultCode) → IsReading framing b f → spelling f ++ x ∷ rest ≡ b

@@ -16,9 +16,13 @@ pub record Effect (S : Type 0) : Type 0 where
   pub put : List ℕ
   pub goes : Go
 
+-- this state, these octets put, and more is wanted
+abbrev pub effect_with : {S : Type 0} → S → List ℕ → Effect S
+effect_with s octets = record { state = s; put = octets; goes = go.On }
+
 -- what a follower makes of no event: its state stays the same, it puts nothing, and it wants more
 abbrev pub no_effect : {S : Type 0} → S → Effect S
-no_effect s = record { state = s; put = []; goes = go.On }
+no_effect s = effect_with s []
 
 -- what it makes of some events and then of others, if it follows both
 abbrev pub and_then : {S : Type 0} → Effect S → (S → Effect S) → Effect S
@@ -82,9 +86,9 @@ abbrev pub Joins : {S : Type 0} → (S → EventValue → Effect S) → (List �
 Joins {S} next part = (s : S) (x y : List ℕ)
     → next s (part (x ++ y)) ≡ and_then (next s (part x)) (λ u. next u (part y))
 
--- no octets make nothing
-abbrev pub IgnoresNoOctets : {S : Type 0} → (S → EventValue → Effect S) → (List ℕ → EventValue) → Type 0
-IgnoresNoOctets {S} next part = (s : S) → next s (part []) ≡ no_effect s
+-- a part without octets makes nothing
+abbrev pub IgnoresEmpty : {S : Type 0} → (S → EventValue → Effect S) → (List ℕ → EventValue) → Type 0
+IgnoresEmpty {S} next part = (s : S) → next s (part []) ≡ no_effect s
 
 -- octets are never enough: an end may be
 abbrev pub GoesOn : {S : Type 0} → (S → EventValue → Effect S) → (List ℕ → EventValue) → Type 0

@@ -63,12 +63,12 @@ abbrev pub extent : HeaderValue → Forest → ℕ
 extent h children = length (opening h) + (length (spelling children) + length (end_octets h.size))
 
 -- nothing is open
-abbrev pub is_complete : Forest → Bool
-is_complete NoMore = true
-is_complete (PaddingOctet rest) = is_complete rest
-is_complete (Primitive h c rest) = is_complete rest
-is_complete (Holder h children rest) = is_complete rest
-is_complete end = false
+abbrev pub is_whole : Forest → Bool
+is_whole NoMore = true
+is_whole (PaddingOctet rest) = is_whole rest
+is_whole (Primitive h c rest) = is_whole rest
+is_whole (Holder h children rest) = is_whole rest
+is_whole end = false
 
 -- an octet of an element is there
 abbrev pub has_element : Forest → Bool

@@ -58,7 +58,7 @@ pub data HasRead (w : WalkerState) (b : List ℕ) (reading : Forest) : Type 0 wh
   refused : (x : ℕ) (yielded : List EventValue) (f : Fault) (stands : StandsRefused w b x yielded f)
       → stands.refused.reading ≡ reading → HasRead w b reading
 
--- of what a walker has read this holds
+-- P holds of the octets that the walker read and of their reading
 abbrev pub IfRead : WalkerState → (List ℕ → Forest → Type 0) → Type 0
 IfRead w P = (b : List ℕ) (f : Forest) → HasRead w b f → P b f
 
@@ -70,12 +70,12 @@ pub record RefusesAt (w : WalkerState) (octets : List ℕ) (yielded : List Event
   pub octets_is : taken ++ octet ∷ others ≡ octets
   pub stands : StandsRefused w taken octet yielded f
 
--- where a walker stands that walked over these octets to the end, and yielded these events: after all octets, or at the
--- octet that it refused
+-- what a walker stands for that walked over these octets to the end, and yielded these events: all of them, or those
+-- before the one that it refused
 pub data StandsAtEnd (w : WalkerState) (octets : List ℕ) (yielded : List EventValue) : Type 0 where
   took_all : Stands w octets yielded → IsIdle w → StandsAtEnd w octets yielded
   refused_one : (f : Fault) → RefusesAt w octets yielded f → StandsAtEnd w octets yielded
 
--- of whatever input a walker walked over to the end this holds
+-- P holds of the input, whichever it is, that the walker walked over to the end
 abbrev pub IfAtEnd : WalkerState → (List ℕ → Type 0) → Type 0
 IfAtEnd w P = (octets : List ℕ) (yielded : List EventValue) → StandsAtEnd w octets yielded → P octets

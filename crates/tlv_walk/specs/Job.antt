@@ -34,17 +34,15 @@ pub record Job (A : Type 0) : Type 0 where
   pub returned : Forest → Ending → A
 
 module _ {A : Type 0} where
-  -- what a result says of one device alone, the source or the drain: that it failed, or nothing
-  abbrev pub device_result : DeviceFault → Result A DeviceFault → Result ⊤ DeviceFault
-  device_result ReadFailed (Err ReadFailed) = Err ReadFailed
-  device_result WriteFailed (Err WriteFailed) = Err WriteFailed
-  device_result device result = Ok tt
-
+  -- what a result says of the source alone: that a read failed, or nothing
   abbrev pub source_result : Result A DeviceFault → Result ⊤ DeviceFault
-  source_result result = device_result ReadFailed result
+  source_result (Err ReadFailed) = Err ReadFailed
+  source_result result = Ok tt
 
+  -- what it says of the drain alone: that a write failed, or nothing
   abbrev pub drain_result : Result A DeviceFault → Result ⊤ DeviceFault
-  drain_result result = device_result WriteFailed result
+  drain_result (Err WriteFailed) = Err WriteFailed
+  drain_result result = Ok tt
 
 -- the ending: Done if there was enough, otherwise what the octets come to
 abbrev pub EndsWith : Framing → List ℕ → Bool → Ending → Type 0
@@ -81,12 +79,12 @@ module _ {A : Type 0} (job : Job A) where
   -- a source was read to its end, to a fault or to enough, and what that makes was sent to a drain
   pub record Runs (old new : DeviceStates) (result : Result A DeviceFault) : Type 0 where
     pub pieces : Pieces old.source new.source
-    pub failures : new.source.failures ≡ failures_after (device_result ReadFailed result) old.source.failures
+    pub failures : new.source.failures ≡ failures_after (source_result result) old.source.failures
     -- before the last read there was no reason to stop
     pub wants_more : WantMore (concat pieces.pieces)
     pub within : length (concat pieces.pieces) ≤ job.limit
     -- no more octets are read as encodings than the limit
     pub reading : Forest
     pub is_reading : IsReading job.framing (take job.limit (octets_given pieces)) reading
-    pub sends : Sends old.drain new.drain (job.text reading) (device_result WriteFailed result)
+    pub sends : Sends old.drain new.drain (job.text reading) (drain_result result)
     pub comes : ComesTo (octets_given pieces) reading new.source result

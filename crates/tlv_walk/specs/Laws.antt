@@ -14,7 +14,7 @@ abbrev pub PrefixesAreOpen : Type 0
 PrefixesAreOpen = (p : Place) (f : Forest) (s : List ℕ) → IsOpen p f → IsPrefixOf s (spelling f)
     → (g : Forest) × IsOpen p g × (spelling g ≡ s)
 
--- open forests that stand at one place and have one spelling are one forest, offsets included
+-- open forests at one place that have one spelling are one forest, offsets included
 abbrev pub SpellingsAreExact : Type 0
 SpellingsAreExact = (p : Place) (f g : Forest) → IsOpen p f → IsOpen p g → spelling f ≡ spelling g → f ≡ g
 

@@ -34,7 +34,7 @@ LastReadGaveUpTo room never = ⊥
 LastReadGaveUpTo room (gave n) = n ≤ room
 LastReadGaveUpTo room failed = ⊥
 
--- what the read of a turn gave that came to this
+-- what the read gave, by the result of the turn
 abbrev pub LastReadWas : ℕ → Result Turn DeviceFault → LastReadValue → Type 0
 LastReadWas room (Ok turn) last = LastReadGaveUpTo room last
 LastReadWas room (Err ReadFailed) last = last ≡ failed
@@ -42,31 +42,30 @@ LastReadWas room (Err WriteFailed) last = LastReadGaveUpTo room last
 LastReadWas room (Err InputTooLong) last = LastReadGaveUpTo room last
 
 -- what takes part in a turn, as it is before the turn or after it: the walker, the follower's state and the devices
-pub record TurnState (S : Type 0) : Type 0 where
+pub record TurnStates (S : Type 0) : Type 0 where
   pub walker : WalkerState
   pub follower : S
   pub devices : DeviceStates
 
-abbrev pub turn_state : {S : Type 0} → WalkerState → S → SourceState → DrainState → TurnState S
-turn_state walker follower source drain =
+abbrev pub turn_states : {S : Type 0} → WalkerState → S → SourceState → DrainState → TurnStates S
+turn_states walker follower source drain =
     record { walker = walker; follower = follower; devices = device_states source drain }
 
--- one read, after which the piece is this, and writes
-pub record CallsDevices {S : Type 0} (old new : TurnState S) (piece : List ℕ) (result : Result Turn DeviceFault)
-    : Type 0 where
-  pub octets : Consumes old.devices.source.left new.devices.source.left (last_octets new.devices.source.last piece)
-  pub reads : new.devices.source.reads ≡ next_count old.devices.source.reads
-  pub last : LastReadWas (length piece) result new.devices.source.last
-  pub at_end : new.devices.source.last ≡ gave 0 → IsAtEnd new.devices.source.left
-  pub failed_reads : new.devices.source.failures ≡ failures_after (source_result result) old.devices.source.failures
-  pub failed_writes : new.devices.drain.failures ≡ failures_after (drain_result result) old.devices.drain.failures
+module _ {S : Type 0} (next : S → EventValue → Effect S) (old new : TurnStates S) where
+  -- one read, after which the piece is this, and writes
+  pub record CallsDevices (piece : List ℕ) (result : Result Turn DeviceFault) : Type 0 where
+    pub octets : Consumes old.devices.source.left new.devices.source.left (last_octets new.devices.source.last piece)
+    pub reads : new.devices.source.reads ≡ next_count old.devices.source.reads
+    pub last : LastReadWas (length piece) result new.devices.source.last
+    pub at_end : new.devices.source.last ≡ gave 0 → IsAtEnd new.devices.source.left
+    pub failed_reads : new.devices.source.failures ≡ failures_after (source_result result) old.devices.source.failures
+    pub failed_writes : new.devices.drain.failures ≡ failures_after (drain_result result) old.devices.drain.failures
 
--- walker and follower are as they were
-pub record HasNotMoved {S : Type 0} (old new : TurnState S) : Type 0 where
-  pub walker : new.walker ≡ old.walker
-  pub follower : new.follower ≡ old.follower
+  -- walker and follower are as they were
+  pub record HasNotMoved : Type 0 where
+    pub walker : new.walker ≡ old.walker
+    pub follower : new.follower ≡ old.follower
 
-module _ {S : Type 0} (next : S → EventValue → Effect S) (old new : TurnState S) where
   -- what is made of these events was handed to the drain, with this result
   abbrev pub SendsMade : List EventValue → Result ⊤ DeviceFault → Type 0
   SendsMade more result = Sends old.devices.drain new.devices.drain (effect_of next old.follower more).put result
@@ -80,7 +79,8 @@ module _ {S : Type 0} (next : S → EventValue → Effect S) (old new : TurnStat
     pub put : SendsMade more (Ok tt)
     pub framing : new.walker.framing ≡ old.walker.framing
 
-  -- here `yielded` are the events yielded before the turn, of octets with which `octets` begin
+  -- here `octets` are those taken before the turn and those given in it, up to the limit; `yielded` are the events
+  -- yielded before it
 
   -- all events of the octets were followed, the walker stands for them, and no event waits
   pub record StandsAfter (octets : List ℕ) (yielded : List EventValue) : Type 0 where
@@ -117,7 +117,7 @@ module _ {S : Type 0} (next : S → EventValue → Effect S) (old new : TurnStat
 
   -- nothing was followed, and nothing was sent
   pub record ReadsNothing : Type 0 where
-    pub same : HasNotMoved old new
+    pub same : HasNotMoved
     pub put : SendsMade [] (Ok tt)
 
   -- a turn before which the walker stands for octets that it took, of which these events were yielded, and whose read
@@ -150,23 +150,32 @@ module _ {S : Type 0} (next : S → EventValue → Effect S) (old new : TurnStat
     TurnsTo (Err WriteFailed) = WriteFailsIn (take limit (taken ++ given)) yielded
     TurnsTo (Err InputTooLong) = PassesLimit
 
--- how a walk can go on after a turn. If more is to be read, or more was read than the limit allows, the next octet can
--- be taken; after a failed read nothing has changed
-abbrev pub CanGoOn : {S : Type 0} → ℕ → TurnState S → TurnState S → Result Turn DeviceFault → Type 0
-CanGoOn limit old new (Ok Again) =
-    (old.walker.offset < new.walker.offset) × (new.walker.offset ≤ limit) × CanTake new.walker
-CanGoOn limit old new (Ok (Ended run)) = ⊤
-CanGoOn limit old new (Err ReadFailed) = HasNotMoved old new
-CanGoOn limit old new (Err WriteFailed) = ⊤
-CanGoOn limit old new (Err InputTooLong) = (new.walker.offset ≡ limit) × CanTake new.walker
+  -- octets were followed, no more than the limit, and the next one can be taken
+  pub record HasMovedWithin (limit : ℕ) : Type 0 where
+    pub moved : old.walker.offset < new.walker.offset
+    pub within : new.walker.offset ≤ limit
+    pub ready : CanTake new.walker
 
--- one read of a source into a piece, followed and flushed
-pub record FollowsOneRead {S : Type 0} (next : S → EventValue → Effect S) (limit : ℕ)
-    (old new : TurnState S) (piece : List ℕ) (result : Result Turn DeviceFault) : Type 0 where
-  -- what the devices did
-  pub calls : CallsDevices old new piece result
-  pub octets : AreOctets piece
-  -- what was made of the octets that the read gave, if the walker stands for those before them
-  pub turned : (taken : List ℕ) (yielded : List EventValue) → Stands old.walker taken yielded
-      → TurnsTo next old new limit taken yielded (last_octets new.devices.source.last piece) result
-  pub goes_on : CanGoOn limit old new result
+  -- the octets up to the limit were followed, and the next one could be taken
+  pub record IsAtLimit (limit : ℕ) : Type 0 where
+    pub at_limit : new.walker.offset ≡ limit
+    pub ready : CanTake new.walker
+
+  -- how a walk can go on after a turn. If more is to be read, or more was read than the limit allows, the next octet
+  -- can be taken; after a failed read nothing has changed
+  abbrev pub CanGoOn : ℕ → Result Turn DeviceFault → Type 0
+  CanGoOn limit (Ok Again) = HasMovedWithin limit
+  CanGoOn limit (Ok (Ended run)) = ⊤
+  CanGoOn limit (Err ReadFailed) = HasNotMoved
+  CanGoOn limit (Err WriteFailed) = ⊤
+  CanGoOn limit (Err InputTooLong) = IsAtLimit limit
+
+  -- one read of a source into a piece, followed and flushed
+  pub record FollowsOneRead (limit : ℕ) (piece : List ℕ) (result : Result Turn DeviceFault) : Type 0 where
+    -- what the devices did
+    pub calls : CallsDevices piece result
+    pub octets : AreOctets piece
+    -- what was made of the octets that the read gave, if the walker stands for those before them
+    pub turned : (taken : List ℕ) (yielded : List EventValue) → Stands old.walker taken yielded
+        → TurnsTo limit taken yielded (last_octets new.devices.source.last piece) result
+    pub goes_on : CanGoOn limit result

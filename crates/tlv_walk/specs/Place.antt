@@ -1,4 +1,4 @@
--- Where elements may stand, and what may be open there: X.690 8.1.3, 8.1.4 and 8.1.5.
+-- Where elements may be, and what may be open there: X.690 8.1.3, 8.1.4 and 8.1.5.
 use Rattle.std.specs.Prelude.{◌≡◌, ◌≢◌, ℕ, ◌+◌, ◌<◌, ◌≤◌, Bool, true, false, List, [], ◌∷◌, length, Option}
 use Rattle.std.specs.Prelude.{Some, None, IfSome}
 use Rattle.std.specs.Option.{is_none, option_map_or}
@@ -10,7 +10,7 @@ use Rattle.tlv_walk.specs.declared.framing.Framing.{Framing}
 use Rattle.tlv_walk.specs.Inside.{is_among}
 use Rattle.tlv_walk.specs.Forest.{Forest, Holder, NoMore, OpenBitString, OpenEndOctets, OpenHeader}
 use Rattle.tlv_walk.specs.Forest.{OpenHolder, OpenPrimitive, PaddingOctet, Primitive, contents_length, extent}
-use Rattle.tlv_walk.specs.Forest.{is_complete, lead, opening, primitive_extent}
+use Rattle.tlv_walk.specs.Forest.{is_whole, lead, opening, primitive_extent}
 
 -- where a forest is
 pub record Place : Type 0 where
@@ -22,7 +22,7 @@ pub record Place : Type 0 where
   pub bound : Option ℕ
   -- the innermost element that holds it has an indefinite length
   pub indefinite : Bool
-  -- octets 00 may stand there between encodings
+  -- octets 00 may be there between encodings
   pub padding : Bool
   -- the offsets that the user named
   pub inside : List ℕ
@@ -50,7 +50,7 @@ is_indefinite size = is_none (definite_length size)
 abbrev pub bound_in : Size → ℕ → Option ℕ → Option ℕ
 bound_in size start outside = option_map_or (λ n. Some (start + n)) (definite_length size) outside
 
--- 8.1.4: where the elements stand that an element with this header holds: if its length is definite, the end of its
+-- 8.1.4: the place of the elements inside an element with this header: if its length is definite, the end of its
 -- contents is the bound
 abbrev pub place_of_children : Place → HeaderValue → Place
 place_of_children p h = record p {
@@ -86,7 +86,7 @@ pub record IsElementAt (p : Place) (holding : Bool) (h : HeaderValue) (n : ℕ) 
 abbrev pub IsEntry : Place → Bool → HeaderValue → Type 0
 IsEntry p holding h = IsElementAt p holding h (length (octets_of h) + announced_length h.size)
 
--- an open forest: each element in it stands by the rules, and no octet and no announced end lies beyond the bound
+-- an open forest: each element in it keeps the rules, and no octet and no announced end lies beyond the bound
 abbrev pub IsOpen : Place → Forest → Type 0
 IsOpen p NoMore = Unit {0}
 -- an octet 00 between encodings
@@ -97,7 +97,7 @@ IsOpen p (Primitive h c rest) =
     × IsOpen (place_after p (primitive_extent h c)) rest
 -- 8.1.4, 8.1.5: an element that holds others and has ended. 8.1.3.3: a definite length is that of the contents
 IsOpen p (Holder h children rest) =
-    (IsElementAt p true h (extent h children) × (is_complete children ≡ true)
+    (IsElementAt p true h (extent h children) × (is_whole children ≡ true)
     × IfSome (definite_length h.size) (λ n. contents_length h children ≡ n))
     × IsOpen (place_of_children p h) children × IsOpen (place_after p (extent h children)) rest
 -- 8.1.4: a primitive that lacks contents octets
@@ -106,7 +106,7 @@ IsOpen p (OpenPrimitive h c) = IsEntry p false h × (length c < announced_length
 -- definite, contents octets are lacking
 IsOpen p (OpenHolder h children) =
     (IsEntry p true h
-    × (is_complete children ≡ true → IfSome (definite_length h.size) (λ n. contents_length h children < n)))
+    × (is_whole children ≡ true → IfSome (definite_length h.size) (λ n. contents_length h children < n)))
     × IsOpen (place_of_children p h) children
 -- 8.6.2.2: a wrapping BIT STRING of which the header alone is there
 IsOpen p (OpenBitString h) = IsEntry p true h × (lead h ≡ 0 ∷ [])

@@ -6,7 +6,7 @@ use Rattle.tlv_walk.specs.Place.{IsWithin}
 pub record FrameValue : Type 0 where
   -- where its contents end, if its length is definite
   pub end : Option ℕ
-  -- where the innermost definite element ends that is this one or holds it
+  -- the end of the innermost definite element: of this one, or of the nearest around it
   pub bound : Option ℕ
   -- it is a string that wraps encodings
   pub wrapper : Bool
@@ -31,11 +31,14 @@ abbrev pub IsFilled : List FrameValue → ℕ → Type 0
 IsFilled [] offset = ⊥
 IsFilled (f ∷ fs) offset = f.end ≡ Some offset
 
--- an element's bound is where it ends, or else the bound around it
-abbrev pub IsBound : Option ℕ → Option ℕ → Option ℕ → Type 0
-IsBound outer None bound = bound ≡ outer
-IsBound outer (Some e) bound = (bound ≡ Some e) × IsWithin outer e
+-- an element's bound is where it ends, within the bound around it, or else that bound
+abbrev pub HasBoundIn : Option ℕ → FrameValue → Type 0
+HasBoundIn outer f = by_end f.end
+  where
+    by_end : Option ℕ → Type 0
+    by_end None = f.bound ≡ outer
+    by_end (Some e) = (f.bound ≡ Some e) × IsWithin outer e
 
 abbrev pub IsNested : List FrameValue → Type 0
 IsNested [] = Unit {0}
-IsNested (f ∷ fs) = IsBound (bound_of fs) f.end f.bound × IsNested fs
+IsNested (f ∷ fs) = HasBoundIn (bound_of fs) f × IsNested fs

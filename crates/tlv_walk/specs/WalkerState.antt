@@ -65,7 +65,7 @@ pub record IsWalkerState (w : WalkerState) : Type 0 where
 abbrev pub HasNotRefused : WalkerState → Type 0
 HasNotRefused w = (f : Fault) → w.phase ≢ Refused f
 
--- if an octet was refused, this holds of the fault
+-- if an octet was refused, P holds of the fault
 abbrev pub IfRefused : WalkerState → (Fault → Type 0) → Type 0
 IfRefused w P = (f : Fault) → w.phase ≡ Refused f → P f
 

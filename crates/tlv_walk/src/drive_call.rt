@@ -1,6 +1,6 @@
 //! A walk over all that a source gives.
 ghost use Rattle.std.specs.Prelude.{◌≤◌, ◌^◌};
-ghost use Rattle.tlv_walk.specs.DriveJob.{Drives, drive_state};
+ghost use Rattle.tlv_walk.specs.DriveJob.{Drives, drive_states};
 
 use crate::one_turn::turn_to;
 use crate::{DeviceFault, Drain, Follow, Framing, INPUT_LIMIT, Out, Run, Source, Turn, Walker};
@@ -20,8 +20,8 @@ pub fn drive<S: Source, F: Follow, D: Drain>(
     framing: &Framing,
 ) -> Result<Run, DeviceFault>
     ensures { Drives F.next framing.now (2 ^ 40)
-        (drive_state follower.old (S.state source.old) (D.state drain.old))
-        (drive_state follower.new (S.state source.new) (D.state drain.new)) result }
+        (drive_states follower.old (S.state source.old) (D.state drain.old))
+        (drive_states follower.new (S.state source.new) (D.state drain.new)) result }
 {
     drive_up_to(source, follower, drain, INPUT_LIMIT, framing)
 }
@@ -46,8 +46,8 @@ pub fn drive_up_to<S: Source, F: Follow, D: Drain>(
 ) -> Result<Run, DeviceFault>
     requires { limit ≤ 2 ^ 40 }
     ensures { Drives F.next framing.now limit
-        (drive_state follower.old (S.state source.old) (D.state drain.old))
-        (drive_state follower.new (S.state source.new) (D.state drain.new)) result }
+        (drive_states follower.old (S.state source.old) (D.state drain.old))
+        (drive_states follower.new (S.state source.new) (D.state drain.new)) result }
 {
     let mut piece = [0; PIECE];
     let mut walker = Walker::new(framing);

@@ -3,7 +3,7 @@ ghost use Rattle.std.specs.Prelude.{◌≡◌, true};
 ghost use Rattle.tlv_head.specs.HeaderFields.{IsHeaderSized, new_header};
 ghost use Rattle.tlv_walk.specs.Events.{Bytes, EventValue, Open, Pad};
 ghost use Rattle.tlv_walk.specs.Follow.{Effect, GoesOn, HasEffect, HasEffectOrNone, IsWholeElement, Joins};
-ghost use Rattle.tlv_walk.specs.Follow.{IgnoresNoOctets, put_if_followed, whole_effect};
+ghost use Rattle.tlv_walk.specs.Follow.{IgnoresEmpty, put_if_followed, whole_effect};
 ghost use Rattle.tlv_io.specs.Out.{Puts};
 ghost use Rattle.tlv_walk.specs.HasRead.{event_value_of};
 
@@ -88,13 +88,13 @@ pub trait Follow {
     // enough. So it is for padding.
     ghost bytes_join: { Joins next Bytes };
 
-    ghost bytes_rest: { IgnoresNoOctets next Bytes };
+    ghost bytes_empty: { IgnoresEmpty next Bytes };
 
     ghost bytes_go_on: { GoesOn next Bytes };
 
     ghost pad_join: { Joins next Pad };
 
-    ghost pad_rest: { IgnoresNoOctets next Pad };
+    ghost pad_empty: { IgnoresEmpty next Pad };
 
     ghost pad_go_on: { GoesOn next Pad };
 }

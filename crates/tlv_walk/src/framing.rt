@@ -29,7 +29,7 @@ impl Model for Inside {
 pub struct Framing {
     /// The strings whose contents are to be read as encodings.
     pub inside: Inside,
-    /// Whether octets `00` may stand between the encodings at the top.
+    /// Whether octets `00` may be between the encodings at the top.
     pub padding: bool,
 }
 
@@ -114,7 +114,7 @@ pub(crate) fn is_among(offset: u64, inside: &Inside) -> bool
     !inside.offsets.is_empty() && is_among_some(offset, inside)
 }
 
-/// The same if there are some. It stands apart, so that the search is out of the functions that ask for it.
+/// The same if there are some. It is a function of its own, so that the search is not in the functions that ask for it.
 #[inline(never)]
 fn is_among_some(offset: u64, inside: &Inside) -> bool
     ensures { result ≡ is_among offset inside.now }

@@ -6,7 +6,7 @@ ghost use Rattle.tlv_walk.specs.declared.framing.Framing.{Framing};
 ghost use Rattle.tlv_walk.specs.Ending.{IsEnding};
 ghost use Rattle.tlv_walk.specs.Events.{AreEqualJoined, EventValue, single_octets};
 ghost use Rattle.tlv_walk.specs.Follow.{effect_of};
-ghost use Rattle.tlv_walk.specs.Forest.{Forest, is_complete};
+ghost use Rattle.tlv_walk.specs.Forest.{Forest, is_whole};
 ghost use Rattle.tlv_walk.specs.Laws.{EventsGoOn, FaultsAreFinal, FaultsAreRight, PrefixesAreOpen};
 ghost use Rattle.tlv_walk.specs.Laws.{OctetsHaveOneEnding, OctetsHaveOneReading, SpellingsAreExact};
 ghost use Rattle.tlv_walk.specs.Place.{IsOpen, top_place};
@@ -19,8 +19,8 @@ pub fn prefixes_are_open()
     ensures { PrefixesAreOpen }
 {}
 
-/// Octets can be read in one way only: two open forests that stand at one place and have one spelling
-/// are the same, with their headers' offsets.
+/// Octets can be read in one way only: two open forests at one place that have one spelling are
+/// the same, with their headers' offsets.
 pub fn spellings_are_exact()
     ensures { SpellingsAreExact }
 {}
@@ -67,7 +67,7 @@ pub fn joined_is_apart()
 /// A sound list is an open forest in which nothing is open.
 pub fn sound_is_whole()
     ensures { (framing : Framing) (f : Forest)
-        → IsSound (top_place framing) f ↔ (IsOpen (top_place framing) f × (is_complete f ≡ true)) }
+        → IsSound (top_place framing) f ↔ (IsOpen (top_place framing) f × (is_whole f ≡ true)) }
 {}
 
 /// Nothing that a follower does shows how contents and padding were cut into pieces: of events that

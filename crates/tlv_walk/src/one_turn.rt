@@ -2,12 +2,12 @@
 ghost use Rattle.std.specs.Prelude.{◌≡◌, [], ◌+◌, ◌<◌, ◌≤◌, ◌^◌, IfOk, length};
 ghost use Rattle.tlv_walk.specs.Follow.{HasEffect};
 ghost use Rattle.tlv_walk.specs.Private.ResultOfPause.{IsResultOfPause, IsRun};
-ghost use Rattle.tlv_walk.specs.Private.FollowsPiece.{FollowsAndFlushes, FollowsPart, FollowsPiece, walk_state};
+ghost use Rattle.tlv_walk.specs.Private.FollowsPiece.{FollowsAndFlushes, FollowsPart, FollowsPiece, follow_states};
 ghost use Rattle.tlv_walk.specs.Private.WalkerState.{CanPass};
 ghost use Rattle.tlv_walk.specs.Stands.{CanTake};
 ghost use Rattle.tlv_io.specs.Out.{Puts, held_octets, drain_of};
 ghost use Rattle.tlv_walk.specs.HasRead.{event_value_of};
-ghost use Rattle.tlv_walk.specs.OneTurn.{FollowsOneRead, turn_state};
+ghost use Rattle.tlv_walk.specs.OneTurn.{FollowsOneRead, turn_states};
 
 use crate::walker::WholePrimitive;
 use crate::{
@@ -53,10 +53,10 @@ pub fn turn<F: Follow, S: Source, D: Drain>(
     requires limit { limit ≤ 2 ^ 40 }
     requires taken { walker.old.offset ≤ limit }
     requires ready { CanTake walker.old }
-    ensures { FollowsOneRead F.next limit
-        (turn_state walker.old follower.old (S.state source.old) (D.state drain.old))
-        (turn_state walker.new follower.new (S.state source.new) (D.state drain.new))
-        piece.new result }
+    ensures { FollowsOneRead F.next
+        (turn_states walker.old follower.old (S.state source.old) (D.state drain.old))
+        (turn_states walker.new follower.new (S.state source.new) (D.state drain.new))
+        limit piece.new result }
 {
     let mut out = Out::new(drain);
     turn_to(walker, follower, source, &mut out, piece, limit)
@@ -77,10 +77,10 @@ pub(crate) fn turn_to<F: Follow, S: Source, D: Drain>(
     requires taken { walker.old.offset ≤ limit }
     requires ready { CanTake walker.old }
     requires empty { held_octets out.old ≡ [] }
-    ensures read { FollowsOneRead F.next limit
-        (turn_state walker.old follower.old (S.state source.old) (D.state (drain_of out.old).now))
-        (turn_state walker.new follower.new (S.state source.new) (D.state (drain_of out.new).now))
-        piece.new result }
+    ensures read { FollowsOneRead F.next
+        (turn_states walker.old follower.old (S.state source.old) (D.state (drain_of out.old).now))
+        (turn_states walker.new follower.new (S.state source.new) (D.state (drain_of out.new).now))
+        limit piece.new result }
     ensures same_reference { (drain_of out.new).ghost_name ≡ (drain_of out.old).ghost_name }
     ensures empty { IfOk result (λ t. t ≡ Turn.Again → held_octets out.new ≡ []) }
 {
@@ -135,8 +135,8 @@ fn follow_and_flush<F: Follow, D: Drain>(
     requires limit { walker.old.offset + length piece.now ≤ 2 ^ 40 }
     requires empty { held_octets out.old ≡ [] }
     ensures { FollowsAndFlushes F.next D.state
-        (walk_state walker.old follower.old out.old)
-        (walk_state walker.new follower.new out.new)
+        (follow_states walker.old follower.old out.old)
+        (follow_states walker.new follower.new out.new)
         piece.now result }
 {
     let pause = follow(walker, follower, piece, out)?;
@@ -153,8 +153,8 @@ fn follow<F: Follow, D: Drain>(
 ) -> Result<Pause, WriteFault>
     requires { walker.old.offset + length piece.now ≤ 2 ^ 40 }
     ensures { FollowsPiece F.next D.state
-        (walk_state walker.old follower.old out.old)
-        (walk_state walker.new follower.new out.new)
+        (follow_states walker.old follower.old out.old)
+        (follow_states walker.new follower.new out.new)
         piece.now result }
 {
     let mut rest = piece;
@@ -199,8 +199,8 @@ fn follow_primitive<F: Follow, D: Drain>(
 ) -> Result<bool, WriteFault>
     requires { walker.old.offset + length piece.old.now ≤ 2 ^ 40 }
     ensures { FollowsPart F.next D.state
-        (walk_state walker.old follower.old out.old)
-        (walk_state walker.new follower.new out.new)
+        (follow_states walker.old follower.old out.old)
+        (follow_states walker.new follower.new out.new)
         piece.old.now piece.new.now result }
 {
     // Most headers have two octets. If that is known, most branches of what is done with a primitive fall away, so they
@@ -227,8 +227,8 @@ fn follow_found<F: Follow, D: Drain>(
     requires can { CanPass walker.old piece.old.now primitive.now }
     requires limit { walker.old.offset + length piece.old.now ≤ 2 ^ 40 }
     ensures { FollowsPart F.next D.state
-        (walk_state walker.old follower.old out.old)
-        (walk_state walker.new follower.new out.new)
+        (follow_states walker.old follower.old out.old)
+        (follow_states walker.new follower.new out.new)
         piece.old.now piece.new.now result }
 {
     let octets = *piece;
@@ -240,8 +240,8 @@ fn follow_found<F: Follow, D: Drain>(
     Ok(true)
 }
 
-/// Lets the follower follow an event. It stands apart for the events that seldom come, so that the follower is inlined
-/// only where speed counts.
+/// Lets the follower follow an event. It is a function of its own for the events that seldom come, so that the follower
+/// is inlined only where speed counts.
 #[inline(never)]
 fn follow_event<F: Follow, D: Drain>(
     follower: &mut F,

@@ -32,7 +32,7 @@ struct Frame {
 
 /// The open elements that hold others, at most 128.
 ///
-/// Each event asks about the innermost one, and seldom about another. So its frame stands by itself, where a look at
+/// Each event asks about the innermost one, and seldom about another. So its frame is kept by itself, where a look at
 /// it is one load and one comparison.
 #[derive(Drop)]
 pub(crate) struct Stack {
@@ -86,7 +86,7 @@ impl Stack {
 
     /// Opens an element inside the innermost one: where its contents end, if its length is definite, and whether it
     /// is a string that wraps encodings. Such a string has a definite length, and `u64::MAX` is no end, since it
-    /// stands for no bound.
+    /// says that there is no bound.
     #[inline(always)]
     pub fn push(&mut self, end: Option<u64>, wrapper: bool)
         requires few { length self.old < 128 }

@@ -184,7 +184,7 @@ impl Walker {
     /// Takes octets from the front of `piece`, up to the next event. The octets taken and those of the
     /// piece are together at most 2^40.
     ///
-    /// `NeedMore` comes only with an empty piece and no event waiting. After a fault each step returns
+    /// `NeedMore` comes only if the whole piece was taken and no event waits. After a fault each step returns
     /// the same fault and takes nothing. A fault is no false alarm: no input that begins with the octets
     /// taken and the one refused is a sound list of encodings.
     #[inline(never)]

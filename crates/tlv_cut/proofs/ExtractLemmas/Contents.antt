@@ -1,40 +1,35 @@
 -- What an `Extract` makes of contents octets that come in pieces.
 use Rattle.std.proofs.Common.{◌≡◌, ℕ, List, [], ◌∷◌, ◌++◌, refl, ap, ◌∙◌}
 use Rattle.std.specs.Prelude.{Result, Ok, ⊤}
-use Rattle.tlv_walk.specs.declared.follow.Go.TheVariants.{On}
-use Rattle.tlv_walk.specs.Follow.{Effect, each_octet}
+use Rattle.tlv_walk.specs.Follow.{Effect, each_octet, effect_with}
 use Rattle.tlv_io.specs.declared.drain.WriteFault.{WriteFault}
 use Rattle.tlv_io.specs.declared.out.Out.{Out}
 use Rattle.tlv_io.specs.Device.{DrainState}
 use Rattle.tlv_io.specs.Out.{Puts}
 use Rattle.tlv_io.proofs.Puts.{HasPut, puts_nothing}
 use Rattle.tlv_cut.specs.declared.extract_follower.Position.{Position}
-use Rattle.tlv_cut.specs.declared.extract_follower.Position.TheVariants.{Before, Inside, After}
+use Rattle.tlv_cut.specs.declared.extract_follower.Position.TheVariants.{Before, Within, After}
 use Rattle.tlv_cut.specs.ExtractStep.{ExtractState, wanted_octets, extract_octet_step}
 
 pub wanted_octets-none : (w : Position) → [] ≡ wanted_octets w []
 wanted_octets-none Before = refl
-wanted_octets-none (Inside level) = refl
+wanted_octets-none (Within level) = refl
 wanted_octets-none After = refl
 
 wanted_octets-more : (w : Position) (x : ℕ) (xs : List ℕ)
     → wanted_octets w (x ∷ []) ++ wanted_octets w xs ≡ wanted_octets w (x ∷ xs)
 wanted_octets-more Before x xs = refl
-wanted_octets-more (Inside level) x xs = refl
+wanted_octets-more (Within level) x xs = refl
 wanted_octets-more After x xs = refl
-
--- the octets are put, and the state stays
-abbrev pub put_step : ExtractState → List ℕ → Effect ExtractState
-put_step s octets = record { state = s; put = octets; goes = On }
 
 -- octets that come one by one put the same as all at once
 pub all_contents : (s : ExtractState) (xs : List ℕ)
-    → each_octet extract_octet_step s xs ≡ put_step s (wanted_octets s.position xs)
-all_contents s [] = ap (put_step s) (wanted_octets-none s.position)
+    → each_octet extract_octet_step s xs ≡ effect_with s (wanted_octets s.position xs)
+all_contents s [] = ap (effect_with s) (wanted_octets-none s.position)
 all_contents s (x ∷ xs) =
     ap (λ (u : Effect ExtractState). record u { put = wanted_octets s.position (x ∷ []) ++ u.put })
     (all_contents s xs)
-    ∙ ap (put_step s) (wanted_octets-more s.position x xs)
+    ∙ ap (effect_with s) (wanted_octets-more s.position x xs)
 
 module _ (s : ExtractState) (w : Position) (xs : List ℕ) (e : s.position ≡ w) where
   contents_put : (each_octet extract_octet_step s xs).put ≡ wanted_octets w xs
@@ -50,7 +45,7 @@ module _ (s : ExtractState) (w : Position) (xs : List ℕ) (e : s.position ≡ w
 -- outside the element wanted nothing is put
 pub puts_none : (s : ExtractState) (w : Position) (xs : List ℕ) {D : Type 0} (state_of : D → DrainState) (a : Out D)
     → s.position ≡ w
-    → ((level : ℕ) → w ≡ Inside level → ⊥) → HasPut state_of a a (each_octet extract_octet_step s xs).put
+    → ((level : ℕ) → w ≡ Within level → ⊥) → HasPut state_of a a (each_octet extract_octet_step s xs).put
 puts_none s Before xs state_of a e n = puts_contents s Before xs e state_of a a (Ok tt) (puts_nothing state_of a tt)
-puts_none s (Inside level) xs state_of a e n = absurd (n level refl)
+puts_none s (Within level) xs state_of a e n = absurd (n level refl)
 puts_none s After xs state_of a e n = puts_contents s After xs e state_of a a (Ok tt) (puts_nothing state_of a tt)

@@ -6,15 +6,14 @@ use Rattle.std.specs.Option.{is_some, option_map_or, option_or}
 use Rattle.tlv_head.specs.Header.{AllowsSize, HeaderValue, octets_of}
 use Rattle.tlv_walk.specs.declared.follow.Go.TheVariants as go
 use Rattle.tlv_walk.specs.Events.{Begin, Bytes, End, Enter, EventValue, closing_event, events, opening_events}
-use Rattle.tlv_walk.specs.Follow.{Effect, go_of, no_effect}
+use Rattle.tlv_walk.specs.Follow.{Effect, effect_with, go_of, no_effect}
 use Rattle.tlv_walk.specs.Forest.{Forest, NoMore, PaddingOctet, Primitive, Holder, OpenPrimitive, OpenHolder, OpenBitString, OpenHeader, OpenEndOctets}
-use Rattle.tlv_walk.specs.Forest.{end_octets, extent, is_complete, lead, opening}
+use Rattle.tlv_walk.specs.Forest.{end_octets, extent, is_whole, lead, opening}
 use Rattle.tlv_walk.specs.Place.{IsOpen, Place, place_after, place_of_children}
 use Rattle.tlv_walk.proofs.FollowerLemmas.Followed.{followed-enough, followed-one}
 use Rattle.tlv_cut.specs.declared.extract_follower.Position.TheVariants as position
 use Rattle.tlv_cut.specs.ExtractText.{element_at, element_text, octets_so_far}
 use Rattle.tlv_cut.specs.ExtractStep.{ExtractState, extract_begin_step, extract_step, has_found, new_extract, outer_octets}
-use Rattle.tlv_cut.proofs.ExtractLemmas.Contents.{put_step}
 use Rattle.tlv_cut.proofs.ExtractLemmas.Inside.{made_from, IsPassedOn, whole_inside_passed_on}
 use Rattle.tlv_cut.proofs.ExtractLemmas.Inside.{made_from-begins, events-holder, made_from-closes, state_inside}
 use Rattle.tlv_cut.proofs.ExtractLemmas.Inside.{made_from-opens, then_more, passed_on}
@@ -35,7 +34,7 @@ module _ (n : ℕ) (only : Bool) where
   -- what was made is the text of this element, if there is one
   pub record IsTextOf (e : Option Forest) (t : Effect ExtractState) : Type 0 where
     pub put : t.put ≡ option_map_or (element_text only) e []
-    pub goes : t.goes ≡ go_of (option_map_or is_complete e false)
+    pub goes : t.goes ≡ go_of (option_map_or is_whole e false)
     pub found : has_found t.state ≡ is_some e
     pub misses : e ≡ None → t ≡ no_effect before
 
@@ -49,14 +48,14 @@ module _ (n : ℕ) (only : Bool) where
   }
 
   -- it has not ended
-  open_text : (e : Forest) (t : Effect ExtractState) → is_complete e ≡ false → t.put ≡ element_text only e
+  open_text : (e : Forest) (t : Effect ExtractState) → is_whole e ≡ false → t.put ≡ element_text only e
       → t.goes ≡ go.On
       → has_found t.state ≡ true → IsTextOf (Some e) t
   open_text e t part octets on found =
       record { put = octets; goes = on ∙ sym (ap go_of part); found = found; misses = λ none. absurd (cc (none)) }
 
   -- it has ended
-  whole_text : (e : Forest) (t : Effect ExtractState) (octets : List ℕ) → is_complete e ≡ true
+  whole_text : (e : Forest) (t : Effect ExtractState) (octets : List ℕ) → is_whole e ≡ true
       → octets ≡ element_text only e → t ≡ finish_step octets
       → IsTextOf (Some e) t
   whole_text e t octets whole is made = record {
@@ -85,10 +84,10 @@ module _ (n : ℕ) (only : Bool) where
   -- by whether it is the one wanted
   abbrev begins : HeaderValue → Bool → Effect ExtractState
   begins h wanted =
-      if wanted then put_step (state_inside n only 0) (outer_octets only (octets_of h)) else no_effect before
+      if wanted then effect_with (state_inside n only 0) (outer_octets only (octets_of h)) else no_effect before
 
   wanted_begins : (h : HeaderValue) → (h.offset == n) ≡ true
-      → extract_begin_step before h ≡ put_step (state_inside n only 0) (outer_octets only (octets_of h))
+      → extract_begin_step before h ≡ effect_with (state_inside n only 0) (outer_octets only (octets_of h))
   wanted_begins h e = ap (begins h) e
 
   other_begins : (h : HeaderValue) → (h.offset == n) ≡ false → extract_begin_step before h ≡ no_effect before
@@ -104,7 +103,7 @@ module _ (n : ℕ) (only : Bool) where
       (made_from-begins before (state_inside n only 0) (outer_octets only (octets_of h)) h c (wanted_begins h e))
 
   opens_wanted : (h : HeaderValue) → (h.offset == n) ≡ true
-      → made_from before (opening_events h) ≡ put_step (state_inside n only 0) (outer_octets only (octets_of h) ++ lead h)
+      → made_from before (opening_events h) ≡ effect_with (state_inside n only 0) (outer_octets only (octets_of h) ++ lead h)
   opens_wanted h e =
       made_from-opens before (state_inside n only 0) (outer_octets only (octets_of h)) h (wanted_begins h e)
 
@@ -113,7 +112,7 @@ module _ (n : ℕ) (only : Bool) where
   opens_other h es e = then_more before before [] (opening_events h) es (made_from-opens before before [] h (other_begins h e))
 
   made_from-holder : (h : HeaderValue) (inside : Forest) → (h.offset == n) ≡ true → AllowsSize h.constructed h.size
-      → is_complete inside ≡ true → IsPassedOn n only 0 inside
+      → is_whole inside ≡ true → IsPassedOn n only 0 inside
       → made_from before (opening_events h ++ (events inside ++ closing_event h inside ∷ []))
       ≡ finish_step ((outer_octets only (octets_of h) ++ lead h) ++
       (octets_so_far inside ++ outer_octets only (end_octets h.size)))
@@ -174,7 +173,7 @@ module _ (n : ℕ) (only : Bool) where
 
   -- the element has ended, if there is one
   abbrev AllWhole : Option Forest → Type 0
-  AllWhole e = option_map_or is_complete e true ≡ true
+  AllWhole e = option_map_or is_whole e true ≡ true
 
   either : (k : Bool) (a b : Option Forest) → AllWhole a → AllWhole b → AllWhole (if k then a else b)
   either true a b v w = v
@@ -185,7 +184,7 @@ module _ (n : ℕ) (only : Bool) where
   either_there None b v w = w
 
   -- if all elements have ended, the one at the offset has
-  whole_at : (p : Place) (f : Forest) → IsOpen p f → is_complete f ≡ true → AllWhole (element_at n f)
+  whole_at : (p : Place) (f : Forest) → IsOpen p f → is_whole f ≡ true → AllWhole (element_at n f)
   whole_at p NoMore v w = refl
   whole_at p (PaddingOctet rest) v w = whole_at (place_after p 1) rest v.1 w
   whole_at p (Primitive h c rest) v w =
@@ -202,7 +201,7 @@ module _ (n : ℕ) (only : Bool) where
   whole_at p OpenEndOctets v w = absurd (cc (w))
 
   -- the element that is there has ended
-  there_whole : (a : Option Forest) (e : Forest) → a ≡ Some e → AllWhole a → option_map_or is_complete a false ≡ true
+  there_whole : (a : Option Forest) (e : Forest) → a ≡ Some e → AllWhole a → option_map_or is_whole a false ≡ true
   there_whole (Some d) e is w = w
   there_whole None e is w = absurd (cc (is))
 

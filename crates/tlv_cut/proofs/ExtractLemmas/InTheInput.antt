@@ -6,7 +6,7 @@ use Rattle.std.specs.Option.{option_or}
 use Rattle.std.proofs.lemmas.Bool.{eqb-true, true≢false}
 use Rattle.tlv_head.specs.Header.{HeaderValue, IsHeader, octets_of}
 use Rattle.tlv_walk.specs.Forest.{Forest, NoMore, PaddingOctet, Primitive, Holder, OpenPrimitive, OpenHolder, OpenBitString, OpenHeader, OpenEndOctets}
-use Rattle.tlv_walk.specs.Forest.{end_octets, extent, is_complete, lead, opening, spelling}
+use Rattle.tlv_walk.specs.Forest.{end_octets, extent, is_whole, lead, opening, spelling}
 use Rattle.tlv_walk.specs.Place.{IsHeaderAt, IsOpen, Place, place_after, place_of_children}
 use Rattle.tlv_walk.proofs.GrammarLemmas.Spellings.{append_assoc-3, append_assoc-4}
 use Rattle.tlv_cut.specs.ExtractText.{contents_so_far, element_at, octets_so_far}
@@ -17,11 +17,11 @@ use Rattle.tlv_cut.specs.ExtractText.{contents_so_far, element_at, octets_so_far
 record IsFrontOf (f : Forest) : Type 0 where
   rest : List ℕ
   octets : spelling f ≡ octets_so_far f ++ rest
-  all : is_complete f ≡ true → spelling f ≡ octets_so_far f
+  all : is_whole f ≡ true → spelling f ≡ octets_so_far f
 
 -- those of elements after others
 front_of_rest : (f rest : Forest) (o : List ℕ) → spelling f ≡ o ++ spelling rest → octets_so_far f ≡ o ++ octets_so_far rest
-    → is_complete f ≡ is_complete rest → IsFrontOf rest → IsFrontOf f
+    → is_whole f ≡ is_whole rest → IsFrontOf rest → IsFrontOf f
 front_of_rest f rest o all keeps whole r = record {
   rest = r.rest;
   octets = all ∙ ap (λ (l : List ℕ). o ++ l) r.octets ∙ sym (append_assoc o (octets_so_far rest) r.rest)
@@ -72,12 +72,12 @@ module _ (n : ℕ) where
     pub valid : IsHeader header
     pub offset : header.offset ≡ n
     pub parts : octets_so_far e
-        ≡ octets_of header ++ (contents_so_far e ++ (if is_complete e then end_octets header.size else []))
+        ≡ octets_of header ++ (contents_so_far e ++ (if is_whole e then end_octets header.size else []))
 
   -- it is the first of the forest
   first : (p : Place) (k : Bool) (h : HeaderValue) (f e : Forest) (rest : List ℕ) → IsHeaderAt p k h
       → (h.offset == n) ≡ true → spelling f ≡ octets_so_far e ++ rest
-      → octets_so_far e ≡ octets_of h ++ (contents_so_far e ++ (if is_complete e then end_octets h.size else []))
+      → octets_so_far e ≡ octets_of h ++ (contents_so_far e ++ (if is_whole e then end_octets h.size else []))
       → IsFoundIn p f e
   first p k h f e rest at is octets parts = record {
     front = [];

@@ -8,16 +8,16 @@ use Rattle.tlv_walk.specs.declared.follow.Go.{Go}
 use Rattle.tlv_walk.specs.declared.follow.Go.TheVariants as go
 use Rattle.tlv_walk.specs.Events.{Begin, Bytes, Close, End, Enter, EventValue, Leave, Open, Pad, Unused, closing_event}
 use Rattle.tlv_walk.specs.Events.{end_offset, events, opening_events}
-use Rattle.tlv_walk.specs.Follow.{Effect, and_then, effect_of, if_on}
+use Rattle.tlv_walk.specs.Follow.{Effect, and_then, effect_of, effect_with, if_on}
 use Rattle.tlv_walk.specs.Forest.{Forest, NoMore, PaddingOctet, Primitive, Holder, OpenPrimitive, OpenHolder, OpenBitString, OpenHeader, OpenEndOctets}
-use Rattle.tlv_walk.specs.Forest.{end_octets, extent, is_complete, lead, opening}
+use Rattle.tlv_walk.specs.Forest.{end_octets, extent, is_whole, lead, opening}
 use Rattle.tlv_walk.specs.Place.{IsOpen, Place, place_after, place_of_children}
 use Rattle.tlv_walk.proofs.FollowerLemmas.Followed.{followed-more, followed-one}
 use Rattle.tlv_cut.specs.declared.extract_follower.Position.TheVariants as position
 use Rattle.tlv_cut.specs.ExtractText.{octets_so_far}
 use Rattle.tlv_cut.specs.ExtractStep.{ExtractState, extract_begin_step, extract_end_step, extract_step, has_found, wanted_octets}
 use Rattle.tlv_cut.proofs.Lead.{lead_by}
-use Rattle.tlv_cut.proofs.ExtractLemmas.Contents.{all_contents, wanted_octets-none, put_step}
+use Rattle.tlv_cut.proofs.ExtractLemmas.Contents.{all_contents, wanted_octets-none}
 
 -- what an `Extract` makes of these events
 abbrev pub made_from : ExtractState → List EventValue → Effect ExtractState
@@ -26,36 +26,36 @@ made_from s es = effect_of extract_step s es
 -- ---- one event after another
 
 -- of some events this was made, and then others come
-pub then_more : (s t : ExtractState) (put : List ℕ) (xs ys : List EventValue) → made_from s xs ≡ put_step t put
+pub then_more : (s t : ExtractState) (put : List ℕ) (xs ys : List EventValue) → made_from s xs ≡ effect_with t put
     → made_from s (xs ++ ys) ≡ record (made_from t ys) { put = put ++ (made_from t ys).put }
 then_more s t put xs ys e =
     followed-more extract_step s xs ys (ap (λ (u : Effect ExtractState). u.goes) e)
     ∙ ap (λ (k : Effect ExtractState). and_then k (λ u. made_from u ys)) e
 
 -- a primitive begins, and gives contents octets
-pub made_from-begins : (s t : ExtractState) (put : List ℕ) (h : HeaderValue) (c : List ℕ) → extract_begin_step s h ≡ put_step t put
-    → made_from s (Begin h ∷ Bytes c ∷ []) ≡ put_step t (put ++ wanted_octets t.position c)
+pub made_from-begins : (s t : ExtractState) (put : List ℕ) (h : HeaderValue) (c : List ℕ) → extract_begin_step s h ≡ effect_with t put
+    → made_from s (Begin h ∷ Bytes c ∷ []) ≡ effect_with t (put ++ wanted_octets t.position c)
 made_from-begins s t put h c e =
     ap (λ (k : Effect ExtractState). if_on k.goes k (λ u. made_from u (Bytes c ∷ []))) e
-    ∙ ap (λ (k : Effect ExtractState). and_then (put_step t put) (λ u. k))
+    ∙ ap (λ (k : Effect ExtractState). and_then (effect_with t put) (λ u. k))
     (followed-one extract_step t (Bytes c) ∙ all_contents t c)
 
 -- an element that holds others begins
-opens_by : (k three : Bool) (s t : ExtractState) (put : List ℕ) (h : HeaderValue) → extract_begin_step s h ≡ put_step t put
+opens_by : (k three : Bool) (s t : ExtractState) (put : List ℕ) (h : HeaderValue) → extract_begin_step s h ≡ effect_with t put
     → made_from s ((if k then Open h else Enter h) ∷ map (λ z. Unused) (lead_by k three))
-    ≡ put_step t (put ++ wanted_octets t.position (lead_by k three))
+    ≡ effect_with t (put ++ wanted_octets t.position (lead_by k three))
 opens_by true three s t put h e =
     followed-one extract_step s (Open h) ∙ e
-    ∙ ap (put_step t) (sym (append-nil put) ∙ ap (λ (l : List ℕ). put ++ l) (wanted_octets-none t.position))
+    ∙ ap (effect_with t) (sym (append-nil put) ∙ ap (λ (l : List ℕ). put ++ l) (wanted_octets-none t.position))
 opens_by false true s t put h e =
     ap (λ (k : Effect ExtractState). if_on k.goes k (λ u. made_from u (Unused ∷ []))) e
-    ∙ ap (λ (k : Effect ExtractState). and_then (put_step t put) (λ u. k)) (followed-one extract_step t Unused)
+    ∙ ap (λ (k : Effect ExtractState). and_then (effect_with t put) (λ u. k)) (followed-one extract_step t Unused)
 opens_by false false s t put h e =
     followed-one extract_step s (Enter h) ∙ e
-    ∙ ap (put_step t) (sym (append-nil put) ∙ ap (λ (l : List ℕ). put ++ l) (wanted_octets-none t.position))
+    ∙ ap (effect_with t) (sym (append-nil put) ∙ ap (λ (l : List ℕ). put ++ l) (wanted_octets-none t.position))
 
-pub made_from-opens : (s t : ExtractState) (put : List ℕ) (h : HeaderValue) → extract_begin_step s h ≡ put_step t put
-    → made_from s (opening_events h) ≡ put_step t (put ++ wanted_octets t.position (lead h))
+pub made_from-opens : (s t : ExtractState) (put : List ℕ) (h : HeaderValue) → extract_begin_step s h ≡ effect_with t put
+    → made_from s (opening_events h) ≡ effect_with t (put ++ wanted_octets t.position (lead h))
 made_from-opens s t put h e = opens_by h.constructed (eqb h.number 3) s t put h e
 
 -- it ends
@@ -81,7 +81,7 @@ events-holder h inside rest =
 module _ (n : ℕ) (only : Bool) where
   -- an `Extract` in the element wanted, and in this many that it holds
   abbrev pub state_inside : ℕ → ExtractState
-  state_inside level = record { offset = n; contents_only = only; position = position.Inside level }
+  state_inside level = record { offset = n; contents_only = only; position = position.Within level }
 
   -- ---- in the element wanted
 
@@ -90,10 +90,10 @@ module _ (n : ℕ) (only : Bool) where
     pub put : (made_from (state_inside level) (events f)).put ≡ octets_so_far f
     pub goes : (made_from (state_inside level) (events f)).goes ≡ go.On
     pub found : has_found (made_from (state_inside level) (events f)).state ≡ true
-    pub stays : is_complete f ≡ true → (made_from (state_inside level) (events f)).state ≡ state_inside level
+    pub stays : is_whole f ≡ true → (made_from (state_inside level) (events f)).state ≡ state_inside level
 
-  pub whole_inside_passed_on : (level : ℕ) (f : Forest) → is_complete f ≡ true → IsPassedOn level f
-      → made_from (state_inside level) (events f) ≡ put_step (state_inside level) (octets_so_far f)
+  pub whole_inside_passed_on : (level : ℕ) (f : Forest) → is_whole f ≡ true → IsPassedOn level f
+      → made_from (state_inside level) (events f) ≡ effect_with (state_inside level) (octets_so_far f)
   whole_inside_passed_on level f whole k =
       let goes = (made_from (state_inside level) (events f)).goes in
       ap₂ (λ (s : ExtractState) (l : List ℕ). record { state = s; put = l; goes = goes }) (k.stays whole) k.put
@@ -101,8 +101,8 @@ module _ (n : ℕ) (only : Bool) where
 
   -- elements after those whose octets are put
   passed_on_after : (level : ℕ) (es : List EventValue) (put : List ℕ) (f rest : Forest)
-      → made_from (state_inside level) es ≡ put_step (state_inside level) put
-      → events f ≡ es ++ events rest → put ++ octets_so_far rest ≡ octets_so_far f → is_complete f ≡ is_complete rest
+      → made_from (state_inside level) es ≡ effect_with (state_inside level) put
+      → events f ≡ es ++ events rest → put ++ octets_so_far rest ≡ octets_so_far f → is_whole f ≡ is_whole rest
       → IsPassedOn level rest → IsPassedOn level f
   passed_on_after level es put f rest e again octets whole k =
       let all =
@@ -117,21 +117,21 @@ module _ (n : ℕ) (only : Bool) where
 
   -- one more is open, and the count goes up
   one_more : (level : ℕ) (h : HeaderValue) → level ≤ 254
-      → extract_begin_step (state_inside level) h ≡ put_step (state_inside (suc level)) (octets_of h)
-  one_more level h low = ap (λ (m : ℕ). put_step (state_inside m) (octets_of h)) (omega (arith, low))
+      → extract_begin_step (state_inside level) h ≡ effect_with (state_inside (suc level)) (octets_of h)
+  one_more level h low = ap (λ (m : ℕ). effect_with (state_inside m) (octets_of h)) (omega (arith, low))
 
   -- a primitive
   pub primitive_passed_on : (level : ℕ) (h : HeaderValue) (c : List ℕ) → level ≤ 254
-      → made_from (state_inside level) (Begin h ∷ Bytes c ∷ End ∷ []) ≡ put_step (state_inside level) (octets_of h ++ c)
+      → made_from (state_inside level) (Begin h ∷ Bytes c ∷ End ∷ []) ≡ effect_with (state_inside level) (octets_of h ++ c)
   primitive_passed_on level h c low =
       then_more (state_inside level) (state_inside (suc level)) (octets_of h ++ c) (Begin h ∷ Bytes c ∷ []) (End ∷ [])
       (made_from-begins (state_inside level) (state_inside (suc level)) (octets_of h) h c (one_more level h low))
-      ∙ ap (put_step (state_inside level)) (append-nil (octets_of h ++ c))
+      ∙ ap (effect_with (state_inside level)) (append-nil (octets_of h ++ c))
 
   holder_passed_on : (level : ℕ) (h : HeaderValue) (inside : Forest) → level ≤ 128 → AllowsSize h.constructed h.size
-      → is_complete inside ≡ true → IsPassedOn (suc level) inside
+      → is_whole inside ≡ true → IsPassedOn (suc level) inside
       → made_from (state_inside level) (opening_events h ++ (events inside ++ closing_event h inside ∷ []))
-      ≡ put_step (state_inside level) (opening h ++ (octets_so_far inside ++ end_octets h.size))
+      ≡ effect_with (state_inside level) (opening h ++ (octets_so_far inside ++ end_octets h.size))
   holder_passed_on level h inside low allowed whole k =
       then_more (state_inside level) (state_inside (suc level)) (opening h) (opening_events h)
       (events inside ++ closing_event h inside ∷ [])

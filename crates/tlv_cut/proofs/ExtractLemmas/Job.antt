@@ -6,7 +6,7 @@ use Rattle.tlv_walk.specs.declared.framing.Framing.{Framing}
 use Rattle.tlv_walk.specs.declared.run.DeviceFault.{DeviceFault}
 use Rattle.tlv_walk.specs.declared.run.Run.{Run}
 use Rattle.tlv_io.specs.Device.{DrainState, SourceState}
-use Rattle.tlv_walk.specs.DriveJob.{Drives, drive_state, had_enough}
+use Rattle.tlv_walk.specs.DriveJob.{Drives, drive_states, had_enough}
 use Rattle.tlv_walk.specs.Events.{events}
 use Rattle.tlv_walk.specs.Follow.{followed_events, go_of}
 use Rattle.tlv_walk.specs.Forest.{Forest}
@@ -50,7 +50,7 @@ module _ (framing : Framing) (n : ℕ) (only : Bool) (t : ExtractState) (old new
       ∙ ap (λ (x : Bool). record { ending = e; found = x }) q
 
   pub extract_ok : (run : Run) (answer : Cut) → answer.ending ≡ run.ending → answer.found ≡ has_found t
-      → Drives extract_step framing (2 ^ 40) (drive_state (new_extract n only) old from) (drive_state t new to) (Ok run)
+      → Drives extract_step framing (2 ^ 40) (drive_states (new_extract n only) old from) (drive_states t new to) (Ok run)
       → Runs (extract_job framing n only) (device_states old from) (device_states new to) (Ok answer)
   extract_ok run answer ending found x =
       jobs.runs_ok extract_step (extract_job framing n only)
@@ -62,7 +62,7 @@ module _ (framing : Framing) (n : ℕ) (only : Bool) (t : ExtractState) (old new
       (found ∙ ap has_found state ∙ (made_text octets f r).found))
 
   pub extract_err : (e : DeviceFault)
-      → Drives extract_step framing (2 ^ 40) (drive_state (new_extract n only) old from) (drive_state t new to) (Err e)
+      → Drives extract_step framing (2 ^ 40) (drive_states (new_extract n only) old from) (drive_states t new to) (Err e)
       → Runs (extract_job framing n only) (device_states old from) (device_states new to) (Err e)
   extract_err e x =
       jobs.runs_err extract_step (extract_job framing n only) (new_extract n only) text enough t old new from to e x

@@ -6,7 +6,7 @@ use Rattle.tlv_head.specs.Header.{HeaderValue, octets_of}
 use Rattle.tlv_walk.specs.declared.follow.Go.TheVariants as go
 use Rattle.tlv_walk.specs.Events.{Open, Begin, Bytes, End, Close, Enter, Unused, Leave, Pad}
 use Rattle.tlv_walk.specs.Follow.{no_effect}
-use Rattle.tlv_walk.specs.Forest.{Forest, end_octets, is_complete}
+use Rattle.tlv_walk.specs.Forest.{Forest, end_octets, is_whole}
 use Rattle.tlv_walk.specs.Place.{top_place}
 use Rattle.tlv_walk.proofs.FollowerLemmas.Followed.{each_octet-goes_on}
 use Rattle.tlv_walk.proofs.GrammarLemmas.Spellings.{append_assoc-3}
@@ -43,7 +43,7 @@ extract_text_is_in_the_input framing b f r n some =
       parts =
           written ∙ e.parts
           ∙ ap (λ (o : Option Forest). octets_of e.header ++ (option_map_or contents_so_far o []
-          ++ (if option_map_or is_complete o false then end_octets e.header.size else []))) (sym there.1);
+          ++ (if option_map_or is_whole o false then end_octets e.header.size else []))) (sym there.1);
     }
 
 pub extract_makes_its_text : ExtractMakesItsText
@@ -64,10 +64,10 @@ begin_goes_on n only position.Before h = by (h.offset == n)
     s = record { offset = n; contents_only = only; position = position.Before }
 
     by : (k : Bool)
-        → (if k then extract_step_to s (position.Inside 0) (outer_octets only (octets_of h)) go.On else no_effect s).goes ≡ go.On
+        → (if k then extract_step_to s (position.Within 0) (outer_octets only (octets_of h)) go.On else no_effect s).goes ≡ go.On
     by true = refl
     by false = refl
-begin_goes_on n only (position.Inside level) h = refl
+begin_goes_on n only (position.Within level) h = refl
 begin_goes_on n only position.After h = refl
 
 extract_begin_step-goes_on : (s : ExtractState) (h : HeaderValue) → (extract_begin_step s h).goes ≡ go.On

@@ -33,7 +33,7 @@ at n only w = record { offset = n; contents_only = only; position = w }
 begin_found : (n : ℕ) (only : Bool) (w : Position) (h : HeaderValue) → has_found (at n only w) ≡ true
     → has_found (extract_begin_step (at n only w) h).state ≡ true
 begin_found n only position.Before h b = absurd (cc (b))
-begin_found n only (position.Inside level) h b = refl
+begin_found n only (position.Within level) h b = refl
 begin_found n only position.After h b = refl
 
 extract_begin_step-found : (s : ExtractState) (h : HeaderValue) → has_found s ≡ true → has_found (extract_begin_step s h).state ≡ true
@@ -42,8 +42,8 @@ extract_begin_step-found s h b = begin_found s.offset s.contents_only s.position
 end_found : (n : ℕ) (only : Bool) (w : Position) (octets : List ℕ) → has_found (at n only w) ≡ true
     → has_found (extract_end_step (at n only w) octets).state ≡ true
 end_found n only position.Before octets b = absurd (cc (b))
-end_found n only (position.Inside zero) octets b = refl
-end_found n only (position.Inside (suc level)) octets b = refl
+end_found n only (position.Within zero) octets b = refl
+end_found n only (position.Within (suc level)) octets b = refl
 end_found n only position.After octets b = refl
 
 extract_end_step-found : (s : ExtractState) (octets : List ℕ) → has_found s ≡ true → has_found (extract_end_step s octets).state ≡ true

@@ -8,15 +8,14 @@ use Rattle.tlv_walk.specs.declared.follow.Go.TheVariants.{On}
 use Rattle.tlv_io.specs.declared.out.Out.{Out}
 use Rattle.tlv_io.specs.Device.{DrainState}
 use Rattle.tlv_walk.specs.Events.{Begin, Bytes, End}
-use Rattle.tlv_walk.specs.Follow.{Effect, HasEffectOrNone, contents_in, no_effect, put_if_followed, whole_events}
+use Rattle.tlv_walk.specs.Follow.{Effect, HasEffectOrNone, contents_in, effect_with, no_effect, put_if_followed, whole_events}
 use Rattle.tlv_io.specs.Out.{Puts}
 use Rattle.tlv_walk.proofs.FollowerLemmas.Followed.{followed-one}
 use Rattle.tlv_io.proofs.Puts.{HasPut, puts_as, puts_failed_last, puts_nothing, puts_text}
 use Rattle.tlv_cut.specs.declared.extract_follower.Position.{Position}
-use Rattle.tlv_cut.specs.declared.extract_follower.Position.TheVariants.{Before, Inside, After}
+use Rattle.tlv_cut.specs.declared.extract_follower.Position.TheVariants.{Before, Within, After}
 use Rattle.tlv_cut.specs.ExtractStep.{ExtractState, extract_begin_step, extract_end_step, extract_step, outer_octets, extract_step_to}
 use Rattle.tlv_cut.specs.ExtractStep.{wanted_octets}
-use Rattle.tlv_cut.proofs.ExtractLemmas.Contents.{put_step}
 use Rattle.tlv_cut.proofs.ExtractLemmas.Inside.{made_from, made_from-begins, then_more, primitive_passed_on}
 
 module _ (s : ExtractState) (h : HeaderValue) (o : List ℕ) where
@@ -31,20 +30,20 @@ module _ (s : ExtractState) (h : HeaderValue) (o : List ℕ) where
   made = made_from s (whole_events h o)
 
   -- an element that the one wanted holds
-  pub whole_inside : (level : ℕ) → s.position ≡ Inside level → level ≤ 254 → octets_of h ++ contents_in h o ≡ o
-      → made ≡ put_step s o
+  pub whole_inside : (level : ℕ) → s.position ≡ Within level → level ≤ 254 → octets_of h ++ contents_in h o ≡ o
+      → made ≡ effect_with s o
   whole_inside level e low all =
       subst
       (λ (w : Position). made_from (record s { position = w }) (whole_events h o)
-      ≡ put_step (record s { position = w }) (octets_of h ++ c))
+      ≡ effect_with (record s { position = w }) (octets_of h ++ c))
       (sym e)
       (primitive_passed_on s.offset s.contents_only level h c low)
-      ∙ ap (put_step s) all
+      ∙ ap (effect_with s) all
 
   -- an element of which nothing is put
   passed_by : extract_begin_step s h ≡ no_effect s → wanted_octets s.position c ≡ [] → extract_end_step s [] ≡ no_effect s → made ≡ no_effect s
   passed_by b none n =
-      then_more s s [] (Begin h ∷ Bytes c ∷ []) (End ∷ []) (made_from-begins s s [] h c b ∙ ap (put_step s) none)
+      then_more s s [] (Begin h ∷ Bytes c ∷ []) (End ∷ []) (made_from-begins s s [] h c b ∙ ap (effect_with s) none)
       ∙ followed-one extract_step s End
       ∙ n
 
@@ -58,7 +57,7 @@ module _ (s : ExtractState) (h : HeaderValue) (o : List ℕ) where
   whole_before e other =
       passed_by
       (subst (λ (w : Position). extract_begin_step (at w) h ≡ no_effect (at w)) (sym e)
-      (ap (λ (k : Bool). if k then extract_step_to (at Before) (Inside 0)
+      (ap (λ (k : Bool). if k then extract_step_to (at Before) (Within 0)
       (outer_octets s.contents_only (octets_of h)) On else no_effect (at Before)) other))
       (subst (λ (w : Position). wanted_octets w c ≡ []) (sym e) refl)
       (subst (λ (w : Position). extract_end_step (at w) [] ≡ no_effect (at w)) (sym e) refl)
@@ -98,7 +97,7 @@ no_step {S = S} s m false e = refl
 no_step {S = S} s m true e =
     (sym (ap (λ (t : Effect S). t.state) (e refl)), ap (λ (t : Effect S). t.goes) (e refl))
 
-pub whole_step : (s : ExtractState) (m : Effect ExtractState) (xs : List ℕ) → m ≡ put_step s xs
+pub whole_step : (s : ExtractState) (m : Effect ExtractState) (xs : List ℕ) → m ≡ effect_with s xs
     → HasEffectOrNone {E = WriteFault} m s s (Ok true)
 whole_step s m xs e =
     (sym (ap (λ (t : Effect ExtractState). t.state) e), ap (λ (t : Effect ExtractState). t.goes) e)

@@ -4,9 +4,8 @@ use Rattle.std.specs.Prelude.{◌≡◌, ℕ, ◌+◌, Bool, true, false, eqb, i
 use Rattle.std.specs.Prelude.{map, Option}
 use Rattle.std.proofs.lemmas.Grind.{flat_map-append}
 use Rattle.tlv_head.specs.Header.{HeaderValue, spell_indefinite, octets_of}
-use Rattle.tlv_walk.specs.declared.follow.Go.TheVariants.{On}
 use Rattle.tlv_walk.specs.Events.{Close, Enter, EventValue, Leave, Open, Unused, closing_event, end_offset, events, opening_events}
-use Rattle.tlv_walk.specs.Follow.{Effect, effect_of}
+use Rattle.tlv_walk.specs.Follow.{Effect, effect_of, effect_with}
 use Rattle.tlv_walk.specs.Forest.{Forest, NoMore, PaddingOctet, Primitive, Holder, OpenPrimitive, OpenHolder, OpenBitString, OpenHeader, OpenEndOctets}
 use Rattle.tlv_walk.specs.Forest.{lead, opening, spelling}
 use Rattle.tlv_cut.specs.IndefText.{indef_text, indefinite_header, with_indefinite_lengths}
@@ -19,7 +18,7 @@ events_text es = flat_map indef_event_text es
 
 -- the state stays, and more is always wanted
 pub followed-indef_step : (s : IndefState) (es : List EventValue)
-    → effect_of indef_step s es ≡ record { state = s; put = events_text es; goes = On }
+    → effect_of indef_step s es ≡ effect_with s (events_text es)
 followed-indef_step s [] = refl
 followed-indef_step s (e ∷ es) =
     ap (λ (t : Effect IndefState). record { state = t.state; put = indef_event_text e ++ t.put; goes = t.goes })
@@ -101,7 +100,7 @@ events_text-events OpenEndOctets = refl
 
 -- what an `Indef` makes of the events of elements
 pub followed-events : (s : IndefState) (f : Forest)
-    → effect_of indef_step s (events f) ≡ record { state = s; put = indef_text f; goes = On }
+    → effect_of indef_step s (events f) ≡ effect_with s (indef_text f)
 followed-events s f =
     followed-indef_step s (events f)
-    ∙ ap (λ (l : List ℕ). record { state = s; put = l; goes = On }) (events_text-events f)
+    ∙ ap (effect_with s) (events_text-events f)

@@ -7,7 +7,7 @@ use Rattle.tlv_io.specs.Device.{DrainState, SourceState, octets_given}
 use Rattle.tlv_walk.specs.declared.ending.Ending.{Ending}
 use Rattle.tlv_walk.specs.declared.ending.Ending.TheVariants.{Done}
 use Rattle.tlv_walk.specs.Ending.{IsEnding}
-use Rattle.tlv_walk.specs.DriveJob.{Drives, drive_state, had_enough}
+use Rattle.tlv_walk.specs.DriveJob.{Drives, drive_states, had_enough}
 use Rattle.tlv_walk.specs.Events.{events}
 use Rattle.tlv_walk.specs.Follow.{Effect, effect_of, followed_events}
 use Rattle.tlv_walk.specs.Forest.{Forest}
@@ -50,7 +50,7 @@ module _ (padding : Bool) (s t : IndefState) (old new : SourceState) (from to : 
         same_again = again.1;
       })
 
-  runs_ok : (run : Run) → Drives indef_step (indef_framing padding) (2 ^ 40) (drive_state s old from) (drive_state t new to) (Ok run)
+  runs_ok : (run : Run) → Drives indef_step (indef_framing padding) (2 ^ 40) (drive_states s old from) (drive_states t new to) (Ok run)
       → Runs (indef_job padding) (device_states old from) (device_states new to) (Ok run.ending)
   runs_ok run x =
       jobs.runs_ok indef_step (indef_job padding) s text goes_on t old new from to run run.ending x
@@ -58,13 +58,13 @@ module _ (padding : Bool) (s t : IndefState) (old new : SourceState) (from to : 
       ∙ jobs.run-ending (indef_framing padding) f (followed_events indef_step s (events f))
       (effect_of indef_step s (events f)).goes e)
 
-  pub indef_ok : (run : Run) → Drives indef_step (indef_framing padding) (2 ^ 40) (drive_state s old from) (drive_state t new to) (Ok run)
+  pub indef_ok : (run : Run) → Drives indef_step (indef_framing padding) (2 ^ 40) (drive_states s old from) (drive_states t new to) (Ok run)
       → RunsIndef padding (device_states old from) (device_states new to) (Ok run.ending)
   indef_ok run x =
       let runs : Runs (indef_job padding) (device_states old from) (device_states new to) (Ok run.ending) = runs_ok run x in
       record { runs = runs; read_back = λ is. read_back run.ending runs (cc (is)) }
 
-  pub indef_err : (e : DeviceFault) → Drives indef_step (indef_framing padding) (2 ^ 40) (drive_state s old from) (drive_state t new to) (Err e)
+  pub indef_err : (e : DeviceFault) → Drives indef_step (indef_framing padding) (2 ^ 40) (drive_states s old from) (drive_states t new to) (Err e)
       → RunsIndef padding (device_states old from) (device_states new to) (Err e)
   indef_err e x = record {
     runs = jobs.runs_err indef_step (indef_job padding) s text goes_on t old new from to e x;

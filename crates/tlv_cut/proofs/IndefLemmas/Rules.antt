@@ -7,7 +7,7 @@ use Rattle.tlv_head.specs.declared.header.Size.{Size}
 use Rattle.tlv_head.specs.declared.header.Size.TheVariants.{Indefinite}
 use Rattle.tlv_head.specs.Header.{AllowsSize, HeaderValue, announced_length, definite_length, is_wrapper, octets_of}
 use Rattle.tlv_walk.specs.Forest.{Forest, NoMore, PaddingOctet, Primitive, Holder, OpenPrimitive, OpenHolder, OpenBitString, OpenHeader, OpenEndOctets}
-use Rattle.tlv_walk.specs.Forest.{extent, has_element, is_complete, lead, opening, spelling}
+use Rattle.tlv_walk.specs.Forest.{extent, has_element, is_whole, lead, opening, spelling}
 use Rattle.tlv_walk.specs.Place.{Fits, IsHeaderAt, IsOpen, Place, place_after, place_of_children}
 use Rattle.tlv_cut.specs.IndefText.{with_indefinite_lengths, indefinite_header}
 use Rattle.tlv_cut.specs.IndefReading.{with_offsets_from}
@@ -15,7 +15,7 @@ use Rattle.tlv_cut.proofs.Lead.{lead_by}
 use Rattle.tlv_cut.proofs.IndefLemmas.Offsets.{constructed_at, is_named, spelling-with_offsets_from}
 
 -- elements that have all ended have ended at any offset
-is_whole-with_offsets_from : (offset : ℕ) (f : Forest) → is_complete (with_offsets_from offset f) ≡ is_complete f
+is_whole-with_offsets_from : (offset : ℕ) (f : Forest) → is_whole (with_offsets_from offset f) ≡ is_whole f
 is_whole-with_offsets_from offset NoMore = refl
 is_whole-with_offsets_from offset (PaddingOctet rest) = is_whole-with_offsets_from (offset + 1) rest
 is_whole-with_offsets_from offset (Primitive h c rest) =
@@ -28,12 +28,12 @@ is_whole-with_offsets_from offset (OpenHeader octets) = refl
 is_whole-with_offsets_from offset OpenEndOctets = refl
 
 -- and with indefinite lengths
-holder_whole : (constructed : Bool) (h : HeaderValue) (c : List ℕ) (inside rest : Forest) → is_complete rest ≡ true
-    → is_complete (if constructed then Holder (indefinite_header h) inside rest else Primitive h c rest) ≡ true
+holder_whole : (constructed : Bool) (h : HeaderValue) (c : List ℕ) (inside rest : Forest) → is_whole rest ≡ true
+    → is_whole (if constructed then Holder (indefinite_header h) inside rest else Primitive h c rest) ≡ true
 holder_whole true h c inside rest e = e
 holder_whole false h c inside rest e = e
 
-is_whole-with_indefinite_lengths : (f : Forest) → is_complete f ≡ true → is_complete (with_indefinite_lengths f) ≡ true
+is_whole-with_indefinite_lengths : (f : Forest) → is_whole f ≡ true → is_whole (with_indefinite_lengths f) ≡ true
 is_whole-with_indefinite_lengths NoMore e = refl
 is_whole-with_indefinite_lengths (PaddingOctet rest) e = is_whole-with_indefinite_lengths rest e
 is_whole-with_indefinite_lengths (Primitive h c rest) e = is_whole-with_indefinite_lengths rest e
@@ -46,8 +46,8 @@ is_whole-with_indefinite_lengths (OpenBitString h) e = absurd (cc)
 is_whole-with_indefinite_lengths (OpenHeader octets) e = refl
 is_whole-with_indefinite_lengths OpenEndOctets e = refl
 
-pub whole : (offset : ℕ) (f : Forest) → is_complete f ≡ true
-    → is_complete (with_offsets_from offset (with_indefinite_lengths f)) ≡ true
+pub whole : (offset : ℕ) (f : Forest) → is_whole f ≡ true
+    → is_whole (with_offsets_from offset (with_indefinite_lengths f)) ≡ true
 whole offset f e = is_whole-with_offsets_from offset (with_indefinite_lengths f) ∙ is_whole-with_indefinite_lengths f e
 
 -- if there is an element, there is one with indefinite lengths too
@@ -57,7 +57,7 @@ holder_some : (constructed : Bool) (offset : ℕ) (h : HeaderValue) (c : List �
 holder_some true offset h c inside rest = refl
 holder_some false offset h c inside rest = refl
 
-pub some : (offset : ℕ) (f : Forest) → is_complete f ≡ true → has_element f ≡ true
+pub some : (offset : ℕ) (f : Forest) → is_whole f ≡ true → has_element f ≡ true
     → has_element (with_offsets_from offset (with_indefinite_lengths f)) ≡ true
 some offset NoMore w e = e
 some offset (PaddingOctet rest) w e = some (offset + 1) rest w e

@@ -2,7 +2,7 @@
 use Rattle.std.proofs.Common.{◌≡◌, ℕ, Bool, true, List, refl, ap, ◌∙◌}
 use Rattle.tlv_walk.specs.declared.ending.Ending.TheVariants.{Done}
 use Rattle.tlv_walk.specs.Ending.{IsEnding, done}
-use Rattle.tlv_walk.specs.Forest.{Forest, has_element, is_complete, spelling}
+use Rattle.tlv_walk.specs.Forest.{Forest, has_element, is_whole, spelling}
 use Rattle.tlv_walk.specs.Place.{IsOpen, top_place}
 use Rattle.tlv_walk.specs.Reading.{IsReading, IsSoundList}
 use Rattle.tlv_walk.proofs.GrammarLemmas.Endings.{done-sound, sound-reading}
@@ -34,7 +34,7 @@ indef_text_is_read_back padding b f r =
     )
 
 -- what is written for a sound list of encodings has no fault
-sound_again : (padding : Bool) (b : List ℕ) (f : Forest) → IsReading (indef_framing padding) b f → is_complete f ≡ true
+sound_again : (padding : Bool) (b : List ℕ) (f : Forest) → IsReading (indef_framing padding) b f → is_whole f ≡ true
     → has_element f ≡ true
     → IsEnding (indef_framing padding) (indef_text f) Done
 sound_again padding b f r w e =
@@ -49,5 +49,5 @@ indef_text_is_done padding b f r d =
     let s : IsSoundList w b = done-sound w b d in
     let same : f ≡ s.forest = reading-unique w b f s.forest r (sound-reading w b s) in
     sound_again padding b f r
-    (ap is_complete same ∙ sound-whole (top_place w) s.forest s.sound)
+    (ap is_whole same ∙ sound-whole (top_place w) s.forest s.sound)
     (ap has_element same ∙ s.some)

@@ -8,7 +8,7 @@ use Rattle.tlv_walk.specs.declared.framing.Framing.{Framing}
 use Rattle.tlv_walk.specs.declared.run.DeviceFault.{DeviceFault}
 use Rattle.tlv_walk.specs.declared.run.Run.{Run}
 use Rattle.tlv_io.specs.Device.{DrainState, SourceState}
-use Rattle.tlv_walk.specs.DriveJob.{Drives, drive_state, had_enough, run_over}
+use Rattle.tlv_walk.specs.DriveJob.{Drives, drive_states, had_enough, run_over}
 use Rattle.tlv_walk.specs.Events.{EventValue, events}
 use Rattle.tlv_walk.specs.Follow.{Effect, effect_of, followed_events}
 use Rattle.tlv_walk.specs.Forest.{Forest, spelling}
@@ -54,7 +54,7 @@ module _ {S : Type 0} (next : S → EventValue → Effect S) (first : S) (framin
   run_on f e = ap (λ (g : Go). run_over framing f (followed_events next first (events f)) g e) (w.goes_on first (events f))
 
   pub shows_ok : (run : Run) (outcome : Outcome) → outcome.ending ≡ run.ending → outcome.findings ≡ count_in t → outcome.unused ≡ run.unused
-      → Drives next framing (2 ^ 40) (drive_state first old from) (drive_state t new to) (Ok run) → Runs (showing framing text count) (device_states old from) (device_states new to) (Ok outcome)
+      → Drives next framing (2 ^ 40) (drive_states first old from) (drive_states t new to) (Ok run) → Runs (showing framing text count) (device_states old from) (device_states new to) (Ok outcome)
   shows_ok run outcome ending findings unused x =
       jobs.runs_ok next (showing framing text count) first w.put goes_on t old new from to run outcome x
       (λ octets f e few r state is. outcome_is outcome e (count f) (first_without_wrapper framing.inside f)
@@ -62,5 +62,5 @@ module _ {S : Type 0} (next : S → EventValue → Effect S) (first : S) (framin
       (findings ∙ ap count_in state ∙ w.counts octets f few r)
       (unused ∙ ap (λ (k : Run). k.unused) (is ∙ run_on f e)))
 
-  pub shows_err : (e : DeviceFault) → Drives next framing (2 ^ 40) (drive_state first old from) (drive_state t new to) (Err e) → Runs (showing framing text count) (device_states old from) (device_states new to) (Err e)
+  pub shows_err : (e : DeviceFault) → Drives next framing (2 ^ 40) (drive_states first old from) (drive_states t new to) (Err e) → Runs (showing framing text count) (device_states old from) (device_states new to) (Err e)
   shows_err e x = jobs.runs_err next (showing framing text count) first w.put goes_on t old new from to e x

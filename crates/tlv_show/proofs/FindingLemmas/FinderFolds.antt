@@ -8,7 +8,7 @@ use Rattle.tlv_value.specs.declared.finding.Finding.{Finding}
 use Rattle.tlv_value.specs.ValueCheckState.{value_check_after, has_unused_bits, new_value_check}
 use Rattle.tlv_head.specs.UniversalTypes.{bit_string}
 use Rattle.tlv_value.specs.Types.{has_segments, is_a, is_primitive}
-use Rattle.tlv_walk.specs.Forest.{Forest, NoMore, PaddingOctet, Primitive, Holder, OpenPrimitive, OpenHolder, OpenBitString, OpenHeader, OpenEndOctets, extent, is_complete}
+use Rattle.tlv_walk.specs.Forest.{Forest, NoMore, PaddingOctet, Primitive, Holder, OpenPrimitive, OpenHolder, OpenBitString, OpenHeader, OpenEndOctets, extent, is_whole}
 use Rattle.tlv_walk.specs.Place.{IsOpen, Place, place_after}
 use Rattle.tlv_show.specs.declared.sibling_frame.SiblingFrame.{SiblingFrame}
 use Rattle.tlv_show.specs.declared.rules.Rules.{Rules}
@@ -125,7 +125,7 @@ and-true false = refl
 more-octets : (w n d : ℕ) → w ≡ min n 1001 → min (w + d) 1001 ≡ min (n + d) 1001
 more-octets w n d e = omega (arith, e)
 
-sums-up : (p : Place) (w : SiblingFrame) (n : ℕ) (f : Forest) → IsOpen p f → is_complete f ≡ true → w.octets ≡ min n 1001 → SumsUp w n f
+sums-up : (p : Place) (w : SiblingFrame) (n : ℕ) (f : Forest) → IsOpen p f → is_whole f ≡ true → w.octets ≡ min n 1001 → SumsUp w n f
 sums-up p w n NoMore v e o =
     record { segments = refl; bits = refl; all = and-true w.all_primitive; octets = o; empty = refl }
 sums-up p w n (PaddingOctet rest) v e o =
@@ -159,7 +159,7 @@ sums-up p w n (OpenBitString h) v e o = absurd (cc (e))
 sums-up p w n (OpenHeader octets) v e o = absurd (cc (e))
 sums-up p w n OpenEndOctets v e o = absurd (cc (e))
 
-segments-summed : (rules : Rules) (p : Place) (h : HeaderValue) (inside : Forest) → IsOpen p inside → is_complete inside ≡ true → end_findings rules (segments_in (segments_noted (frame_of h) inside)) ≡ end_findings rules (segments_of h (headers inside))
+segments-summed : (rules : Rules) (p : Place) (h : HeaderValue) (inside : Forest) → IsOpen p inside → is_whole inside ≡ true → end_findings rules (segments_in (segments_noted (frame_of h) inside)) ≡ end_findings rules (segments_of h (headers inside))
 segments-summed rules p h inside v e =
     let r = sums-up p (frame_of h) 0 inside v e refl in
     let w : SiblingFrame = segments_noted (frame_of h) inside in
@@ -178,7 +178,7 @@ no-ends rules w e =
     ap (λ (k : Bool). ends_by rules k w.all_primitive (nat_le ((if w.is_bit_string then 1 else 0) + w.octets) 1000) w.ends_empty) e
 
 -- what is found with an end, by the frame of what was held
-summed : (rules : Rules) (p : Place) (h : HeaderValue) (inside : Forest) → IsOpen p inside → is_complete inside ≡ true → end_findings rules (segments_in (noted_all (frame_of h) inside)) ≡ end_findings rules (segments_of h (headers inside))
+summed : (rules : Rules) (p : Place) (h : HeaderValue) (inside : Forest) → IsOpen p inside → is_whole inside ≡ true → end_findings rules (segments_in (noted_all (frame_of h) inside)) ≡ end_findings rules (segments_of h (headers inside))
 summed rules p h inside v e = by-segments (has_segments h) refl
   where
     by-segments : (k : Bool) → has_segments h ≡ k → end_findings rules (segments_in (noted_all (frame_of h) inside)) ≡ end_findings rules (segments_of h (headers inside))
@@ -190,7 +190,7 @@ summed rules p h inside v e = by-segments (has_segments h) refl
 
 -- ---- the same if nothing is to be known of what was held
 
-module _ (rules : Rules) (p : Place) (w : SiblingFrame) (h : HeaderValue) (inside : Forest) (v : IsOpen p inside) (whole : is_complete inside ≡ true) where
+module _ (rules : Rules) (p : Place) (w : SiblingFrame) (h : HeaderValue) (inside : Forest) (v : IsOpen p inside) (whole : is_whole inside ≡ true) where
   -- an element that is no string: nothing is found with its end
   nothing-ends : has_segments h ≡ false → end_findings rules (segments_of h (headers inside)) ≡ []
   nothing-ends e = sym (summed rules p h inside v whole) ∙ ap (λ (t : SiblingFrame). end_findings rules (segments_in t)) (all-outside (frame_of h) inside e) ∙ no-ends rules (frame_of h) e

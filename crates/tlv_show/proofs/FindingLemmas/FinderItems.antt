@@ -11,7 +11,7 @@ use Rattle.tlv_value.specs.ValueCheckState.{ValueCheckState, value_check_after, 
 use Rattle.tlv_value.specs.Types.{is_primitive}
 use Rattle.tlv_value.proofs.CheckLemmas.CheckPieces.{checked-none, findings-end}
 use Rattle.tlv_walk.specs.Events.{Begin, Bytes, Close, End, Enter, EventValue, Leave, Open, Unused, closing_event, end_offset, end_place, events, opening_events}
-use Rattle.tlv_walk.specs.Forest.{Forest, NoMore, PaddingOctet, Primitive, Holder, OpenPrimitive, OpenHolder, OpenBitString, OpenHeader, OpenEndOctets, extent, is_complete, opening, spelling}
+use Rattle.tlv_walk.specs.Forest.{Forest, NoMore, PaddingOctet, Primitive, Holder, OpenPrimitive, OpenHolder, OpenBitString, OpenHeader, OpenEndOctets, extent, is_whole, opening, spelling}
 use Rattle.tlv_walk.specs.Place.{IsOpen, Place, place_after, place_of_children}
 use Rattle.tlv_show.specs.declared.sibling_frame.SiblingFrame.{SiblingFrame}
 use Rattle.tlv_show.specs.declared.rules.Rules.{Rules}
@@ -138,7 +138,7 @@ module _ (rules : Rules) where
   abbrev pub after_end : HeaderValue → Forest → ℕ → ℕ
   after_end h inside n = saturating_sum n (length (end_findings rules (segments_of h (headers inside))))
 
-  pub closed : (p : Place) (w : SiblingFrame) (outer : List SiblingFrame) (n : ℕ) (h : HeaderValue) (inside : Forest) (es : List EventValue) → IsOpen p inside → is_complete inside ≡ true
+  pub closed : (p : Place) (w : SiblingFrame) (outer : List SiblingFrame) (n : ℕ) (h : HeaderValue) (inside : Forest) (es : List EventValue) → IsOpen p inside → is_whole inside ≡ true
       → run (check_between (noted_all (frame_under w h) inside) (w ∷ outer) n) (closing_event h inside ∷ es)
       ≡ then_found (findings_at (length outer) h.offset (end_findings rules (segments_of h (headers inside)))) (run (check_between (frame_after w (is_primitive h) (announced_length h.size) false) outer (after_end h inside n)) es)
   closed p w outer n h inside es v whole =
@@ -167,7 +167,7 @@ module _ (rules : Rules) where
 
   -- ---- what a finder makes of each end by itself
 
-  pub closed-find : (p : Place) (w : SiblingFrame) (outer : List SiblingFrame) (n : ℕ) (h : HeaderValue) (inside : Forest) → IsOpen p inside → is_complete inside ≡ true
+  pub closed-find : (p : Place) (w : SiblingFrame) (outer : List SiblingFrame) (n : ℕ) (h : HeaderValue) (inside : Forest) → IsOpen p inside → is_whole inside ≡ true
       → finder_close_step (check_between (noted_all (frame_under w h) inside) (w ∷ outer) n)
       ≡ record { state = check_between (frame_after w (is_primitive h) (announced_length h.size) false) outer (after_end h inside n); level = length outer; offset = (noted_all (frame_under w h) inside).offset; found = end_findings rules (segments_of h (headers inside)) }
   closed-find p w outer n h inside v whole =
@@ -187,7 +187,7 @@ module _ (rules : Rules) where
   -- what was reported of elements: the findings of their items; and if they are whole, the frame after them
   pub record IsFoundAs (s : Site) (w : SiblingFrame) (outer : List SiblingFrame) (f : Forest) : Type 0 where
     pub put : (n : ℕ) → (run (check_between w outer n) (events f)).put ≡ only (items rules s f)
-    pub after : (n : ℕ) → is_complete f ≡ true → (m : ℕ) × ((run (check_between w outer n) (events f)).state ≡ check_between (noted_all w f) outer m)
+    pub after : (n : ℕ) → is_whole f ≡ true → (m : ℕ) × ((run (check_between w outer n) (events f)).state ≡ check_between (noted_all w f) outer m)
 
   -- findings with a header, and then other items
   header-items : (s : Site) (w : SiblingFrame) (outer : List SiblingFrame) (h : HeaderValue) (found rest : List Item) → Knows w s → length outer ≡ s.level → found ≡ only rest

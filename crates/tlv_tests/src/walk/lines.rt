@@ -145,19 +145,20 @@ impl Follow for Lines {
     ghost use Rattle.std.specs.Prelude.{codes, refl};
     ghost use Rattle.std.proofs.Common.{ap};
     ghost use Rattle.std.proofs.lemmas.Grind.{flat_map-append};
-    ghost use Rattle.tlv_tests.specs.TestStep.{pair, test_effect, test_step};
+    ghost use Rattle.tlv_walk.specs.Follow.{effect_with};
+    ghost use Rattle.tlv_tests.specs.TestStep.{pair, test_step};
 
     ghost next = { test_step };
 
-    ghost bytes_join = { λ s x y. ap (test_effect s) (flat_map-append pair x y) };
+    ghost bytes_join = { λ s x y. ap (effect_with s) (flat_map-append pair x y) };
 
-    ghost bytes_rest = { λ s. refl };
+    ghost bytes_empty = { λ s. refl };
 
     ghost bytes_go_on = { λ s x. refl };
 
-    ghost pad_join = { λ s x y. ap (test_effect s) (flat_map-append (λ z. codes "pad\n") x y) };
+    ghost pad_join = { λ s x y. ap (effect_with s) (flat_map-append (λ z. codes "pad\n") x y) };
 
-    ghost pad_rest = { λ s. refl };
+    ghost pad_empty = { λ s. refl };
 
     ghost pad_go_on = { λ s x. refl };
 

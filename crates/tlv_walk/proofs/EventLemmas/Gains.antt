@@ -8,7 +8,7 @@ use Rattle.tlv_walk.specs.Forest.{Forest, NoMore, PaddingOctet, Primitive, Holde
 use Rattle.tlv_walk.specs.Place.{IsOpen, Place, place_after, place_of_children}
 use Rattle.tlv_walk.specs.Events.{Begin, Bytes, End, Enter, EventValue, Pad, Unused, closing_event, events, opening_events, single_octets}
 use Rattle.tlv_walk.proofs.GrammarLemmas.Bounds.{fits}
-use Rattle.tlv_walk.proofs.GrammarLemmas.PushSteps.{Step, Grown, Ended, Refused, holder_so_far, follow, is_filled, primitive_so_far, push, settle}
+use Rattle.tlv_walk.proofs.GrammarLemmas.PushSteps.{Step, Grown, Ended, Refused, holder_so_far, follow, is_filled_by, primitive_so_far, push, settle}
 use Rattle.tlv_walk.proofs.EventLemmas.Joined.{apart-before, apart-more, bytes_apart}
 
 -- the events of what a step gives
@@ -19,7 +19,7 @@ step_events (Refused code) = []
 
 -- the end of an element that holds others, if a step of what it holds is its last
 abbrev pub closing : HeaderValue → Step → List EventValue
-closing h (Grown g) = cond (is_filled h g) (closing_event h g ∷ []) []
+closing h (Grown g) = cond (is_filled_by h g) (closing_event h g ∷ []) []
 closing h (Ended g) = closing_event h g ∷ []
 closing h (Refused code) = []
 
@@ -77,7 +77,7 @@ holder-brings h yielded more g e =
 -- an element that holds others brings what they bring, and its end after the last
 holder_so_far-brings : (h : HeaderValue) (yielded more : List EventValue) (g : Forest) → single_octets (events g) ≡ single_octets (yielded ++ more)
     → single_octets (events (holder_so_far h g)) ≡ single_octets ((opening_events h ++ yielded) ++ (more ++ closing h (Grown g)))
-holder_so_far-brings h yielded more g e = elim (cases_Bool (is_filled h g)) [
+holder_so_far-brings h yielded more g e = elim (cases_Bool (is_filled_by h g)) [
   | inl full ↦ rw full (holder-brings h yielded more g e)
   | inr less ↦ rw (less, append-nil more) (apart-more (opening_events h) (events g) yielded more e)
 ]

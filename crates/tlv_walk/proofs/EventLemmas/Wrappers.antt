@@ -11,7 +11,7 @@ use Rattle.tlv_walk.specs.Events.{Begin, Bytes, Close, End, Enter, EventValue, L
 use Rattle.tlv_walk.specs.Wrappers.{wrapper_at, entered_offsets, wrapper_offsets}
 use Rattle.tlv_walk.proofs.GrammarLemmas.Bounds.{fits}
 use Rattle.tlv_walk.proofs.GrammarLemmas.Spellings.{length-holder, length-opening, length-primitive}
-use Rattle.tlv_walk.proofs.GrammarLemmas.PushSteps.{Step, Grown, Ended, Refused, Spells, begin, element_begun, holder_so_far, is_filled, holder_begun, origin, primitive_so_far, push, zero_between}
+use Rattle.tlv_walk.proofs.GrammarLemmas.PushSteps.{Step, Grown, Ended, Refused, Spells, begin, element_begun, holder_so_far, is_filled_by, holder_begun, origin, primitive_so_far, push, zero_between}
 use Rattle.tlv_walk.proofs.GrammarLemmas.Push.{push-sound}
 use Rattle.tlv_walk.proofs.GrammarLemmas.PopHeaders.{header-length}
 use Rattle.tlv_walk.proofs.EventLemmas.Gains.{closing, gained, push-brings, step_events}
@@ -121,7 +121,7 @@ wrapper-few h = elim (cases_Bool h.constructed) [
 
 -- an end enters none
 closing-none : (h : HeaderValue) (s : Step) → entered_offsets (closing h s) ≡ []
-closing-none h (Grown g) = elim (cases_Bool (is_filled h g)) [
+closing-none h (Grown g) = elim (cases_Bool (is_filled_by h g)) [
   | inl e ↦ rw e (enters-closes h g [])
   | inr e ↦ rw e
 ]
@@ -130,7 +130,7 @@ closing-none h (Refused code) = refl
 
 -- an element that holds none yet, by its contents octets
 holder_so_far-few : (h : HeaderValue) → EntersFew (events (holder_so_far h NoMore))
-holder_so_far-few h = elim (cases_Bool (is_filled h NoMore)) [
+holder_so_far-few h = elim (cases_Bool (is_filled_by h NoMore)) [
   | inl e ↦ rw e (omega (arith, wrapper-few h, ap length (enters-opens h (closing_event h NoMore ∷ [])), length-append (wrapper_at h) (entered_offsets (closing_event h NoMore ∷ [])), ap length (enters-closes h NoMore [])))
   | inr e ↦ rw e (omega (arith, wrapper-few h, ap length (enters-opens h []), length-append {A = ℕ} (wrapper_at h) []))
 ]

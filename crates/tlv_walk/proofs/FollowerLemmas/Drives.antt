@@ -15,9 +15,9 @@ use Rattle.tlv_walk.specs.declared.run.Turn.{Turn}
 use Rattle.tlv_walk.specs.declared.run.Turn.TheVariants.{Again, Ended}
 use Rattle.std.specs.List.{concat}
 use Rattle.tlv_io.specs.Device.{DrainState, LastReadValue, SourceState, failed, failures_after, gave}
-use Rattle.tlv_walk.specs.DriveJob.{Drives, drive_job, drive_state, event_octets, had_enough, run_over}
+use Rattle.tlv_walk.specs.DriveJob.{Drives, drive_job, drive_states, event_octets, had_enough, run_over}
 use Rattle.tlv_walk.specs.Events.{AreEqualJoined, Bytes, EventValue, Pad, events}
-use Rattle.tlv_walk.specs.Follow.{Effect, GoesOn, Joins, IgnoresNoOctets, effect_of, followed_events}
+use Rattle.tlv_walk.specs.Follow.{Effect, GoesOn, Joins, IgnoresEmpty, effect_of, followed_events}
 use Rattle.tlv_walk.specs.FollowsEvents.{FollowsEvents}
 use Rattle.tlv_walk.specs.Forest.{Forest, spelling}
 use Rattle.tlv_walk.specs.Ending.{IsFinalEnding}
@@ -25,7 +25,7 @@ use Rattle.tlv_walk.specs.Job.{ComesTo, EndsWith, Runs, WantMore, device_states,
 use Rattle.tlv_io.specs.Out.{Sends}
 use Rattle.tlv_walk.specs.Reading.{AreOctets, IsReading}
 use Rattle.tlv_walk.specs.Stands.{Stands}
-use Rattle.tlv_walk.specs.OneTurn.{EndsIn, FollowsMore, FollowsOneRead, LastReadWas, LastReadGaveUpTo, HasEnoughIn, TurnState, TurnsTo, WalkEnds, at_enough, at_fault, at_input_end, last_octets}
+use Rattle.tlv_walk.specs.OneTurn.{EndsIn, FollowsMore, FollowsOneRead, LastReadWas, LastReadGaveUpTo, HasEnoughIn, TurnStates, TurnsTo, WalkEnds, at_enough, at_fault, at_input_end, last_octets}
 use Rattle.tlv_walk.specs.Wrappers.{first_other, entered_offsets}
 use Rattle.tlv_walk.proofs.FollowerLemmas.Followed.{events_enough, followed-alike, followed-enough, kept-alike}
 use Rattle.tlv_walk.proofs.FollowerLemmas.Following.{made_both, made_put}
@@ -37,19 +37,19 @@ use Rattle.tlv_walk.proofs.FollowerLemmas.Turns.{run_is}
 use Rattle.tlv_walk.proofs.FollowerLemmas.SoFar.{gave_last, gave_none, given_short, given_octets, enters_each, Walking}
 
 module _ {S : Type 0} (next : S → EventValue → Effect S)
-    (bytes_join : Joins next Bytes) (bytes_rest : IgnoresNoOctets next Bytes) (bytes_go_on : GoesOn next Bytes)
-    (pad_join : Joins next Pad) (pad_rest : IgnoresNoOctets next Pad) (pad_go_on : GoesOn next Pad) where
+    (bytes_join : Joins next Bytes) (bytes_empty : IgnoresEmpty next Bytes) (bytes_go_on : GoesOn next Bytes)
+    (pad_join : Joins next Pad) (pad_empty : IgnoresEmpty next Pad) (pad_go_on : GoesOn next Pad) where
   alike : (s : S) (es fs : List EventValue) → AreEqualJoined es fs → effect_of next s es ≡ effect_of next s fs
-  alike = followed-alike next bytes_join bytes_rest bytes_go_on pad_join pad_rest pad_go_on
+  alike = followed-alike next bytes_join bytes_empty bytes_go_on pad_join pad_empty pad_go_on
 
   octets_alike : (s : S) (es fs : List EventValue) → AreEqualJoined es fs → flat_map event_octets (followed_events next s es) ≡ flat_map event_octets (followed_events next s fs)
   octets_alike s es fs e =
-      kept-alike next bytes_join bytes_rest bytes_go_on pad_join pad_rest pad_go_on event_octets (λ x y. refl) refl (λ x y. refl) refl s es fs e
+      kept-alike next bytes_join bytes_empty bytes_go_on pad_join pad_empty pad_go_on event_octets (λ x y. refl) refl (λ x y. refl) refl s es fs e
 
   enters_alike : (s : S) (es fs : List EventValue) → AreEqualJoined es fs → entered_offsets (followed_events next s es) ≡ entered_offsets (followed_events next s fs)
   enters_alike s es fs e =
       enters_each (followed_events next s es)
-      ∙ kept-alike next bytes_join bytes_rest bytes_go_on pad_join pad_rest pad_go_on (λ e. entered_offsets (e ∷ [])) (λ x y. refl) refl (λ x y. refl) refl s es fs e
+      ∙ kept-alike next bytes_join bytes_empty bytes_go_on pad_join pad_empty pad_go_on (λ e. entered_offsets (e ∷ [])) (λ x y. refl) refl (λ x y. refl) refl s es fs e
       ∙ sym (enters_each (followed_events next s fs))
 
   -- what was made of all events of a forest
@@ -85,7 +85,7 @@ module _ {S : Type 0} (next : S → EventValue → Effect S)
   enough_enters : (s t : S) (es others : List EventValue) (f : Forest) → FollowsEvents next s t es go.Enough → AreEqualJoined (es ++ others) (events f) → entered_offsets es ≡ entered_offsets (followed_events next s (events f))
   enough_enters s t es others f m e = ap entered_offsets (sym (enough_events s t es others m)) ∙ enters_alike s (es ++ others) (events f) e
 
-  module _ (framing : Framing) (limit : ℕ) (s : S) (old : SourceState) (from : DrainState) (now : TurnState S) (x : Walking next framing s old from now) where
+  module _ (framing : Framing) (limit : ℕ) (s : S) (old : SourceState) (from : DrainState) (now : TurnStates S) (x : Walking next framing s old from now) where
     abbrev b : List ℕ
     b = concat x.gathered.pieces
 
@@ -103,7 +103,7 @@ module _ {S : Type 0} (next : S → EventValue → Effect S)
     first_wants : WantMore (drive_job next framing limit s) b
     first_wants = (x.stands.reads.reading, first_reading, first_spelled, ap had_enough first_made.goes_so)
 
-    module _ (new : TurnState S) (piece : List ℕ) (result : Result Turn DeviceFault) (read : FollowsOneRead next limit now new piece result)
+    module _ (new : TurnStates S) (piece : List ℕ) (result : Result Turn DeviceFault) (read : FollowsOneRead next now new limit piece result)
         (room : length piece ≡ 4096) (below : now.walker.offset ≤ limit) where
       abbrev r : List ℕ
       r = last_octets new.devices.source.last piece
@@ -170,7 +170,7 @@ module _ {S : Type 0} (next : S → EventValue → Effect S)
       -- ---- the walk has ended
 
       abbrev Driven : Result Run DeviceFault → Type 0
-      Driven answer = Drives next framing limit (drive_state s old from) (drive_state new.follower new.devices.source new.devices.drain) answer
+      Driven answer = Drives next framing limit (drive_states s old from) (drive_states new.follower new.devices.source new.devices.drain) answer
 
       runs_by : (answer : Result Run DeviceFault) (f : Forest) → GaveLast new.devices.source.last r → IsReading framing walked f → (es : List EventValue) → (goes : Go) (k : MadeAll s new.follower f goes (effect_of next s es).put)
           → source_result answer ≡ source_result result → Sends from new.devices.drain (effect_of next s es).put (drain_result answer) → ComesTo (drive_job next framing limit s) (b ++ r) f new.devices.source answer

@@ -3,7 +3,7 @@ use Rattle.std.proofs.Common.{◌≡◌, ℕ, List, [], ◌∷◌, ◌++◌, ref
 use Rattle.tlv_walk.specs.declared.follow.Go.{Go}
 use Rattle.tlv_walk.specs.declared.follow.Go.TheVariants.{On, Enough}
 use Rattle.tlv_walk.specs.Events.{AreEqualJoined, Begin, Bytes, Close, End, Enter, EventValue, Leave, Open, Pad, Unused, joined_events, with_bytes, with_pad}
-use Rattle.tlv_walk.specs.Follow.{Effect, GoesOn, Joins, IgnoresNoOctets, and_then, each_octet, effect_of, followed_events, if_more, if_on, no_effect}
+use Rattle.tlv_walk.specs.Follow.{Effect, GoesOn, Joins, IgnoresEmpty, and_then, each_octet, effect_of, followed_events, if_more, if_on, no_effect}
 
 module _ {S : Type 0} where
   -- what was put before
@@ -121,7 +121,7 @@ module _ {S : Type 0} (next : S → EventValue → Effect S) where
   after s e es fs h = if_on-alike (next s e).goes (next s e) (λ u. effect_of next u es) (λ u. effect_of next u fs) (h (next s e).state)
 
   -- octets in parts: `part` is `Bytes` or `Pad`
-  module _ (part : List ℕ → EventValue) (joins : Joins next part) (rests : IgnoresNoOctets next part) (go_on : GoesOn next part) where
+  module _ (part : List ℕ → EventValue) (joins : Joins next part) (rests : IgnoresEmpty next part) (go_on : GoesOn next part) where
     after_part : (s : S) (b : List ℕ) (es : List EventValue) → effect_of next s (part b ∷ es) ≡ and_then (next s (part b)) (λ u. effect_of next u es)
     after_part s b es = ap (λ (go : Go). if_on go (next s (part b)) (λ u. effect_of next u es)) (go_on s b)
 
@@ -139,12 +139,12 @@ module _ {S : Type 0} (next : S → EventValue → Effect S) where
     no_part s es = after_part s [] es ∙ ap (λ (t : Effect S). and_then t (λ u. effect_of next u es)) (rests s)
 
 module _ {S : Type 0} (next : S → EventValue → Effect S)
-    (bytes_join : Joins next Bytes) (bytes_rest : IgnoresNoOctets next Bytes) (bytes_go_on : GoesOn next Bytes)
-    (pad_join : Joins next Pad) (pad_rest : IgnoresNoOctets next Pad) (pad_go_on : GoesOn next Pad) where
+    (bytes_join : Joins next Bytes) (bytes_empty : IgnoresEmpty next Bytes) (bytes_go_on : GoesOn next Bytes)
+    (pad_join : Joins next Pad) (pad_empty : IgnoresEmpty next Pad) (pad_go_on : GoesOn next Pad) where
   followed-with_bytes : (s : S) (b : List ℕ) (es : List EventValue) → effect_of next s (with_bytes b es) ≡ effect_of next s (Bytes b ∷ es)
-  followed-with_bytes s [] es = sym (no_part next Bytes bytes_join bytes_rest bytes_go_on s es)
+  followed-with_bytes s [] es = sym (no_part next Bytes bytes_join bytes_empty bytes_go_on s es)
   followed-with_bytes s (x ∷ b) [] = refl
-  followed-with_bytes s (x ∷ b) (Bytes c ∷ es) = two_parts next Bytes bytes_join bytes_rest bytes_go_on s (x ∷ b) c es
+  followed-with_bytes s (x ∷ b) (Bytes c ∷ es) = two_parts next Bytes bytes_join bytes_empty bytes_go_on s (x ∷ b) c es
   followed-with_bytes s (x ∷ b) (Open h ∷ es) = refl
   followed-with_bytes s (x ∷ b) (Begin h ∷ es) = refl
   followed-with_bytes s (x ∷ b) (End ∷ es) = refl
@@ -155,9 +155,9 @@ module _ {S : Type 0} (next : S → EventValue → Effect S)
   followed-with_bytes s (x ∷ b) (Pad c ∷ es) = refl
 
   followed-with_pad : (s : S) (b : List ℕ) (es : List EventValue) → effect_of next s (with_pad b es) ≡ effect_of next s (Pad b ∷ es)
-  followed-with_pad s [] es = sym (no_part next Pad pad_join pad_rest pad_go_on s es)
+  followed-with_pad s [] es = sym (no_part next Pad pad_join pad_empty pad_go_on s es)
   followed-with_pad s (x ∷ b) [] = refl
-  followed-with_pad s (x ∷ b) (Pad c ∷ es) = two_parts next Pad pad_join pad_rest pad_go_on s (x ∷ b) c es
+  followed-with_pad s (x ∷ b) (Pad c ∷ es) = two_parts next Pad pad_join pad_empty pad_go_on s (x ∷ b) c es
   followed-with_pad s (x ∷ b) (Open h ∷ es) = refl
   followed-with_pad s (x ∷ b) (Begin h ∷ es) = refl
   followed-with_pad s (x ∷ b) (End ∷ es) = refl
@@ -207,14 +207,14 @@ module _ {S : Type 0} (next : S → EventValue → Effect S) (part : EventValue 
         ap (λ (t : Effect S). record { state = t.state; put = part (o (x ++ y)); goes = t.goes }) (joins s x y)
         ∙ ap (λ (l : List ℕ). record { state = both.state; put = l; goes = both.goes }) (parts x y)
 
-    keeping_rests : IgnoresNoOctets next o → IgnoresNoOctets keeping o
+    keeping_rests : IgnoresEmpty next o → IgnoresEmpty keeping o
     keeping_rests rests s =
         ap (λ (t : Effect S). record { state = t.state; put = part (o []); goes = t.goes }) (rests s)
         ∙ ap (λ (l : List ℕ). record { state = s; put = l; goes = On }) none
 
 module _ {S : Type 0} (next : S → EventValue → Effect S)
-    (bytes_join : Joins next Bytes) (bytes_rest : IgnoresNoOctets next Bytes) (bytes_go_on : GoesOn next Bytes)
-    (pad_join : Joins next Pad) (pad_rest : IgnoresNoOctets next Pad) (pad_go_on : GoesOn next Pad)
+    (bytes_join : Joins next Bytes) (bytes_empty : IgnoresEmpty next Bytes) (bytes_go_on : GoesOn next Bytes)
+    (pad_join : Joins next Pad) (pad_empty : IgnoresEmpty next Pad) (pad_go_on : GoesOn next Pad)
     (part : EventValue → List ℕ)
     (bytes : (x y : List ℕ) → part (Bytes (x ++ y)) ≡ part (Bytes x) ++ part (Bytes y)) (no_bytes : part (Bytes []) ≡ [])
     (pads : (x y : List ℕ) → part (Pad (x ++ y)) ≡ part (Pad x) ++ part (Pad y)) (no_pads : part (Pad []) ≡ []) where
@@ -222,8 +222,8 @@ module _ {S : Type 0} (next : S → EventValue → Effect S)
   pub kept-alike : (s : S) (es fs : List EventValue) → AreEqualJoined es fs → flat_map part (followed_events next s es) ≡ flat_map part (followed_events next s fs)
   kept-alike s es fs e =
       let same : effect_of (keeping next part) s es ≡ effect_of (keeping next part) s fs =
-      followed-alike (keeping next part) (keeping_joins next part Bytes bytes no_bytes bytes_join) (keeping_rests next part Bytes bytes no_bytes bytes_rest) bytes_go_on
-      (keeping_joins next part Pad pads no_pads pad_join) (keeping_rests next part Pad pads no_pads pad_rest) pad_go_on s es fs e in
+      followed-alike (keeping next part) (keeping_joins next part Bytes bytes no_bytes bytes_join) (keeping_rests next part Bytes bytes no_bytes bytes_empty) bytes_go_on
+      (keeping_joins next part Pad pads no_pads pad_join) (keeping_rests next part Pad pads no_pads pad_empty) pad_go_on s es fs e in
       kept next part s es ∙ ap (λ (t : Effect S). t.put) same ∙ sym (kept next part s fs)
 
 -- ---- octet by octet

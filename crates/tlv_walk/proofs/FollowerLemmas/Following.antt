@@ -13,7 +13,7 @@ use Rattle.tlv_io.specs.Device.{DrainState}
 use Rattle.tlv_walk.specs.Events.{AreEqualJoined, EventValue, events, single_octets}
 use Rattle.tlv_walk.specs.Follow.{Effect, and_then, effect_of, followed_events}
 use Rattle.tlv_walk.specs.FollowsEvents.{FollowsEvents}
-use Rattle.tlv_walk.specs.Private.FollowsPiece.{Follows, FollowsPiece, GoesOnIn, WalkState, WalksOver, WalksTo, walk_state}
+use Rattle.tlv_walk.specs.Private.FollowsPiece.{Follows, FollowsPiece, GoesOnIn, FollowStates, WalksOver, WalksTo, follow_states}
 use Rattle.tlv_walk.specs.Forest.{Forest}
 use Rattle.tlv_walk.specs.WalkerState.{IsAfterEvent, WalkerState}
 use Rattle.tlv_io.specs.Out.{Puts}
@@ -118,13 +118,13 @@ module _ {S : Type 0} (next : S → EventValue → Effect S) where
 
   module _ {D : Type 0} (state_of : D → DrainState) where
     -- a prefix of a piece was followed, and what was made of it was put
-    pub record HasFollowed (old new : WalkState S D) (piece rest : List ℕ) (goes : Go) : Type 0 where
+    pub record HasFollowed (old new : FollowStates S D) (piece rest : List ℕ) (goes : Go) : Type 0 where
       pub more : List EventValue
       pub follows : Follows next old new piece rest more goes
       pub puts : HasPut state_of old.out new.out (effect_of next old.follower more).put
 
     -- a follower that has followed nothing
-    pub follows_none : (x : WalkState S D) (piece : List ℕ) → HasFollowed x x piece piece go.On
+    pub follows_none : (x : FollowStates S D) (piece : List ℕ) → HasFollowed x x piece piece go.On
     follows_none x piece = record {
       more = [];
       follows = record { made = made_none x.follower; walked = walked_none x.walker piece };
@@ -132,7 +132,7 @@ module _ {S : Type 0} (next : S → EventValue → Effect S) where
     }
 
     -- it followed one event more
-    pub follows_event : (x y z : WalkState S D) (piece rest left : List ℕ) (e : EventValue) (goes : Go) → HasFollowed x y piece rest go.On → WalksOver y.walker z.walker rest left (e ∷ [])
+    pub follows_event : (x y z : FollowStates S D) (piece rest left : List ℕ) (e : EventValue) (goes : Go) → HasFollowed x y piece rest go.On → WalksOver y.walker z.walker rest left (e ∷ [])
         → (z.follower ≡ (next y.follower e).state) × (goes ≡ (next y.follower e).goes) → (g : Go) → Puts {T = Go} {E = WriteFault} state_of y.out z.out (next y.follower e).put (Ok g)
         → HasFollowed x z piece left goes
     follows_event x y z piece rest left e goes h walks has g p = record {
@@ -146,12 +146,12 @@ module _ {S : Type 0} (next : S → EventValue → Effect S) where
     }
 
     -- the same was put, and another result is returned
-    same_put : (x y : WalkState S D) (more : List EventValue) (why : Pause) → HasPut state_of x.out y.out (effect_of next x.follower more).put
+    same_put : (x y : FollowStates S D) (more : List EventValue) (why : Pause) → HasPut state_of x.out y.out (effect_of next x.follower more).put
         → Puts {T = Pause} {E = WriteFault} state_of x.out y.out (effect_of next x.follower more).put (Ok why)
     same_put x y more why p = puts_as state_of x.out y.out (effect_of next x.follower more).put (effect_of next x.follower more).put tt why p refl
 
     -- the follower had enough
-    pub pauses_enough : (x y : WalkState S D) (piece rest : List ℕ) (goes : Go) → HasFollowed x y piece rest goes → goes ≡ go.Enough → IsAfterEvent y.walker.phase
+    pub pauses_enough : (x y : FollowStates S D) (piece rest : List ℕ) (goes : Go) → HasFollowed x y piece rest goes → goes ≡ go.Enough → IsAfterEvent y.walker.phase
         → FollowsPiece next state_of x y piece (Ok pause.Enough)
     pauses_enough x y piece rest goes h enough after_event = record {
       more = h.more;
@@ -164,7 +164,7 @@ module _ {S : Type 0} (next : S → EventValue → Effect S) where
     }
 
     -- the drain failed at an event
-    pub fails_event : (x y z : WalkState S D) (v : WalkerState) (piece rest left : List ℕ) (e : EventValue) → HasFollowed x y piece rest go.On
+    pub fails_event : (x y z : FollowStates S D) (v : WalkerState) (piece rest left : List ℕ) (e : EventValue) → HasFollowed x y piece rest go.On
         → WalksOver y.walker v rest left (e ∷ []) → (i j : WriteFault) → Puts {T = Go} {E = WriteFault} state_of y.out z.out (next y.follower e).put (Err i)
         → FollowsPiece next state_of x z piece (Err j)
     fails_event x y z v piece rest left e h walks i j p = record {
@@ -177,9 +177,9 @@ module _ {S : Type 0} (next : S → EventValue → Effect S) where
     }
 
     -- the piece is used up
-    pub pauses_used_up : (x y : WalkState S D) (v : WalkerState) (piece rest left : List ℕ) → HasFollowed x y piece rest go.On
+    pub pauses_used_up : (x y : FollowStates S D) (v : WalkerState) (piece rest left : List ℕ) → HasFollowed x y piece rest go.On
         → StepsTo y.walker v rest left step.NeedMore → y.walker.offset + length rest ≡ x.walker.offset + length piece
-        → FollowsPiece next state_of x (walk_state v y.follower y.out) piece (Ok pause.UsedUp)
+        → FollowsPiece next state_of x (follow_states v y.follower y.out) piece (Ok pause.UsedUp)
     pauses_used_up x y v piece rest left h steps walked = record {
       more = h.more;
       pauses = record {
@@ -196,17 +196,17 @@ module _ {S : Type 0} (next : S → EventValue → Effect S) where
         offset = omega (arith, steps.takes.offset, ap length steps.takes.piece_is, ap length steps.none_left, length-append steps.takes.taken left, walked);
         ready = steps.ready;
       };
-      puts = same_put x (walk_state v y.follower y.out) h.more pause.UsedUp h.puts;
+      puts = same_put x (follow_states v y.follower y.out) h.more pause.UsedUp h.puts;
     }
 
     -- an octet is refused
-    pub pauses_fault : (x y : WalkState S D) (v : WalkerState) (piece rest left : List ℕ) (f : Fault) → HasFollowed x y piece rest go.On
-        → StepsTo y.walker v rest left (step.Fault f) → FollowsPiece next state_of x (walk_state v y.follower y.out) piece (Ok (pause.Fault f))
+    pub pauses_fault : (x y : FollowStates S D) (v : WalkerState) (piece rest left : List ℕ) (f : Fault) → HasFollowed x y piece rest go.On
+        → StepsTo y.walker v rest left (step.Fault f) → FollowsPiece next state_of x (follow_states v y.follower y.out) piece (Ok (pause.Fault f))
     pauses_fault x y v piece rest left f h steps = record {
       more = h.more;
       pauses = record {
         made = h.follows.made;
         walked = λ o es st. refused_there x.walker y.walker v piece rest left f h.more h.follows.walked o es (h.follows.walked.stands o es st) steps;
       };
-      puts = same_put x (walk_state v y.follower y.out) h.more (pause.Fault f) h.puts;
+      puts = same_put x (follow_states v y.follower y.out) h.more (pause.Fault f) h.puts;
     }

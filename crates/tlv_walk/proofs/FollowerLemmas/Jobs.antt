@@ -11,7 +11,7 @@ use Rattle.tlv_walk.specs.declared.run.DeviceFault.TheVariants.{ReadFailed, Writ
 use Rattle.tlv_walk.specs.declared.run.Run.{Run}
 use Rattle.std.specs.List.{concat}
 use Rattle.tlv_io.specs.Device.{DrainState, SourceState, octets_given}
-use Rattle.tlv_walk.specs.DriveJob.{Drives, drive_job, drive_state, had_enough, run_over}
+use Rattle.tlv_walk.specs.DriveJob.{Drives, drive_job, drive_states, had_enough, run_over}
 use Rattle.tlv_walk.specs.Events.{EventValue, events}
 use Rattle.tlv_walk.specs.Follow.{Effect, effect_of, go_of}
 use Rattle.tlv_walk.specs.Forest.{Forest}
@@ -43,7 +43,7 @@ module _ {S A : Type 0} (next : S → EventValue → Effect S) (job : Job A) (s 
   sent_as : {E : Type 0} (given : List ℕ) (f : Forest) (result : Result ⊤ E) → IsReading job.framing (take job.limit given) f → Sends from to (effect_of next s (events f)).put result → Sends from to (job.text f) result
   sent_as given f result r x = subst (λ (l : List ℕ). Sends from to l result) (text (take job.limit given) f (within_limit given) r) x
 
-  pub runs_ok : (run : Run) (a : A) → Drives next job.framing job.limit (drive_state s old from) (drive_state t new to) (Ok run)
+  pub runs_ok : (run : Run) (a : A) → Drives next job.framing job.limit (drive_states s old from) (drive_states t new to) (Ok run)
       → ((octets : List ℕ) (f : Forest) (e : Ending) → length octets ≤ job.limit → IsReading job.framing octets f → t ≡ (effect_of next s (events f)).state → run ≡ (drive_job next job.framing job.limit s).returned f e → a ≡ job.returned f e)
       → Runs job (device_states old from) (device_states new to) (Ok a)
   runs_ok run a x answer =
@@ -65,7 +65,7 @@ module _ {S A : Type 0} (next : S → EventValue → Effect S) (job : Job A) (s 
         );
       }
 
-  pub runs_err : (e : DeviceFault) → Drives next job.framing job.limit (drive_state s old from) (drive_state t new to) (Err e) → Runs job (device_states old from) (device_states new to) (Err e)
+  pub runs_err : (e : DeviceFault) → Drives next job.framing job.limit (drive_states s old from) (drive_states t new to) (Err e) → Runs job (device_states old from) (device_states new to) (Err e)
   runs_err ReadFailed x =
       let w = x.runs in record {
         pieces = w.pieces;

@@ -15,7 +15,7 @@ use Rattle.tlv_walk.specs.Follow.{Effect, effect_of, followed_events, if_more, i
 use Rattle.tlv_walk.specs.FollowsEvents.{FollowsEvents}
 use Rattle.tlv_walk.specs.WalkerState.{WalkerState}
 use Rattle.tlv_io.specs.Out.{Puts}
-use Rattle.tlv_walk.specs.Private.FollowsPiece.{FollowsPart, FollowsPiece, GoesOnIn, TakesNone, TakesPart, TakesPartOrNone, WalkState, WalksOver}
+use Rattle.tlv_walk.specs.Private.FollowsPiece.{FollowsPart, FollowsPiece, GoesOnIn, TakesNone, TakesPart, TakesPartOrNone, FollowStates, WalksOver}
 use Rattle.tlv_walk.specs.Private.WalkerState.{CanPass, Passes, header_at}
 use Rattle.tlv_walk.specs.Private.Yields.{YieldsEvents}
 use Rattle.tlv_walk.proofs.FollowerLemmas.Following.{HasFollowed, made_both, made_put, walked_both, walked_goes_on}
@@ -48,7 +48,7 @@ module _ {S : Type 0} (next : S → EventValue → Effect S) where
 
   module _ {D : Type 0} (state_of : D → DrainState) where
     -- the drain failed after what was followed
-    pub fails_part : (x y z : WalkState S D) (piece rest left : List ℕ) (e f : WriteFault) → HasFollowed next state_of x y piece rest go.On
+    pub fails_part : (x y z : FollowStates S D) (piece rest left : List ℕ) (e f : WriteFault) → HasFollowed next state_of x y piece rest go.On
         → FollowsPart next state_of y z rest left (Err e) → FollowsPiece next state_of x z piece (Err f)
     fails_part x y z piece rest left e f h p = record {
       more = h.more ++ p.more;
@@ -64,7 +64,7 @@ module _ {S : Type 0} (next : S → EventValue → Effect S) where
     }
 
     -- a primitive that lies whole at the front of a piece was followed
-    pub part_whole : {T : Type 0} (x y : WalkState S D) (piece rest : List ℕ) (p : WholePrimitive) (h : HeaderValue) (r : T) → h ≡ header_at p piece
+    pub part_whole : {T : Type 0} (x y : FollowStates S D) (piece rest : List ℕ) (p : WholePrimitive) (h : HeaderValue) (r : T) → h ≡ header_at p piece
         → y.follower ≡ (effect_of next x.follower (whole_events h (take p.octets piece))).state → (effect_of next x.follower (whole_events h (take p.octets piece))).goes ≡ go.On
         → Puts {T = T} {E = WriteFault} state_of x.out y.out (effect_of next x.follower (whole_events h (take p.octets piece))).put (Ok r)
         → YieldsEvents x.walker y.walker piece rest (whole_events (header_at p piece) (take p.octets piece)) → Passes x.walker y.walker piece rest
@@ -82,7 +82,7 @@ module _ {S : Type 0} (next : S → EventValue → Effect S) where
     }
 
     -- the drain failed at it
-    pub part_fails : {T : Type 0} (x y : WalkState S D) (piece rest : List ℕ) (p : WholePrimitive) (h : HeaderValue) (e f : WriteFault) → CanPass x.walker piece p → h ≡ header_at p piece
+    pub part_fails : {T : Type 0} (x y : FollowStates S D) (piece rest : List ℕ) (p : WholePrimitive) (h : HeaderValue) (e f : WriteFault) → CanPass x.walker piece p → h ≡ header_at p piece
         → Puts {T = T} {E = WriteFault} state_of x.out y.out (effect_of next x.follower (whole_events h (take p.octets piece))).put (Err e)
         → FollowsPart next state_of x y piece rest (Err f)
     part_fails x y piece rest p h e f can same put = record {
@@ -96,16 +96,16 @@ module _ {S : Type 0} (next : S → EventValue → Effect S) where
 
     -- ---- a part after what was followed
 
-    part_some : (y z : WalkState S D) (rest left : List ℕ) (more : List EventValue) (k : Bool) → k ≡ true → TakesPartOrNone next y z rest left more (Ok k) → TakesPart next y z rest left more
+    part_some : (y z : FollowStates S D) (rest left : List ℕ) (more : List EventValue) (k : Bool) → k ≡ true → TakesPartOrNone next y z rest left more (Ok k) → TakesPart next y z rest left more
     part_some y z rest left more true e p = p
     part_some y z rest left more false e p = absurd (true≢false (sym e))
 
-    part_none : (y z : WalkState S D) (rest left : List ℕ) (more : List EventValue) (k : Bool) → k ≡ false → TakesPartOrNone next y z rest left more (Ok k) → TakesNone next y z rest left more
+    part_none : (y z : FollowStates S D) (rest left : List ℕ) (more : List EventValue) (k : Bool) → k ≡ false → TakesPartOrNone next y z rest left more (Ok k) → TakesNone next y z rest left more
     part_none y z rest left more false e p = p
     part_none y z rest left more true e p = absurd (true≢false e)
 
     -- it was followed
-    pub follows_part : (x y z : WalkState S D) (piece rest left : List ℕ) (k : Bool) → HasFollowed next state_of x y piece rest go.On → k ≡ true
+    pub follows_part : (x y z : FollowStates S D) (piece rest left : List ℕ) (k : Bool) → HasFollowed next state_of x y piece rest go.On → k ≡ true
         → FollowsPart next state_of y z rest left (Ok k) → HasFollowed next state_of x z piece left go.On
     follows_part x y z piece rest left k h e p =
         let t : TakesPart next y z rest left p.more = part_some y z rest left p.more k e p.takes in record {
@@ -118,11 +118,11 @@ module _ {S : Type 0} (next : S → EventValue → Effect S) where
               (puts_as state_of y.out z.out (effect_of next y.follower p.more).put (effect_of next y.follower p.more).put k tt p.puts refl) (made_put next x.follower y.follower h.more p.more h.follows.made);
         }
 
-    pub part_passes : (y z : WalkState S D) (rest left : List ℕ) (k : Bool) → k ≡ true → FollowsPart next state_of y z rest left (Ok k) → Passes y.walker z.walker rest left
+    pub part_passes : (y z : FollowStates S D) (rest left : List ℕ) (k : Bool) → k ≡ true → FollowsPart next state_of y z rest left (Ok k) → Passes y.walker z.walker rest left
     part_passes y z rest left k e p = (part_some y z rest left p.more k e p.takes).passes
 
     -- nothing of it was taken
-    pub follows_left : (x y z : WalkState S D) (piece rest left : List ℕ) (k : Bool) → HasFollowed next state_of x y piece rest go.On → k ≡ false
+    pub follows_left : (x y z : FollowStates S D) (piece rest left : List ℕ) (k : Bool) → HasFollowed next state_of x y piece rest go.On → k ≡ false
         → FollowsPart next state_of y z rest left (Ok k) → HasFollowed next state_of x z piece left go.On
     follows_left x y z piece rest left k h e p =
         let n : TakesNone next y z rest left p.more = part_none y z rest left p.more k e p.takes in record {
@@ -137,7 +137,7 @@ module _ {S : Type 0} (next : S → EventValue → Effect S) where
               (puts_as state_of y.out z.out (effect_of next y.follower p.more).put [] k tt p.puts (ap (λ (es : List EventValue). (effect_of next y.follower es).put) n.no_event)) (append-nil (effect_of next x.follower h.more).put);
         }
 
-    pub left_walked : (y z : WalkState S D) (rest left : List ℕ) (k : Bool) → k ≡ false → FollowsPart next state_of y z rest left (Ok k)
+    pub left_walked : (y z : FollowStates S D) (rest left : List ℕ) (k : Bool) → k ≡ false → FollowsPart next state_of y z rest left (Ok k)
         → z.walker.offset + length left ≡ y.walker.offset + length rest
     left_walked y z rest left k e p =
         let n : TakesNone next y z rest left p.more = part_none y z rest left p.more k e p.takes in ap₂ (λ (m : WalkerState) (o : List ℕ). m.offset + length o) n.walker n.all_left

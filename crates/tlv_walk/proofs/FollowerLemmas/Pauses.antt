@@ -9,7 +9,7 @@ use Rattle.tlv_walk.specs.declared.one_turn.Pause.TheVariants as pause
 use Rattle.tlv_io.specs.Device.{DrainState}
 use Rattle.tlv_walk.specs.Events.{AreEqualJoined, EventValue, events}
 use Rattle.tlv_walk.specs.Follow.{Effect, effect_of}
-use Rattle.tlv_walk.specs.Private.FollowsPiece.{Fails, FollowsAndFlushes, FollowsPiece, FollowsToFault, GoesOnIn, Pauses, WalkState, WalksTo, walk_state}
+use Rattle.tlv_walk.specs.Private.FollowsPiece.{Fails, FollowsAndFlushes, FollowsPiece, FollowsToFault, GoesOnIn, Pauses, FollowStates, WalksTo, follow_states}
 use Rattle.tlv_walk.specs.Forest.{Forest, spelling}
 use Rattle.tlv_walk.specs.declared.framing.Framing.{Framing}
 use Rattle.tlv_walk.specs.HasRead.{IsRefusedAfter}
@@ -69,7 +69,7 @@ module _ {S : Type 0} (next : S → EventValue → Effect S) where
   -- ---- what was put is flushed, or cannot be
 
   module _ {D : Type 0} where
-    fault_goes_on : (x y : WalkState S D) (piece : List ℕ) (more : List EventValue) (e : Fault) → FollowsToFault next x y piece more e → (b : List ℕ) (yielded : List EventValue) → Stands x.walker b yielded
+    fault_goes_on : (x y : FollowStates S D) (piece : List ℕ) (more : List EventValue) (e : Fault) → FollowsToFault next x y piece more e → (b : List ℕ) (yielded : List EventValue) → Stands x.walker b yielded
         → GoesOnIn x.walker.framing (b ++ piece) (yielded ++ more)
     fault_goes_on x y piece more e to b yielded st f r =
         let k : WalksTo x.walker y.walker piece more e b yielded = to.walked b yielded st in (
@@ -79,21 +79,21 @@ module _ {S : Type 0} (next : S → EventValue → Effect S) where
               (walked_refused x.walker y.walker b piece yielded more e k).0.all_events),
         )
 
-    pauses_failing : (x y : WalkState S D) (piece : List ℕ) (more : List EventValue) (why : Pause) → Pauses next x y piece more (Ok why) → Fails next x y piece more
+    pauses_failing : (x y : FollowStates S D) (piece : List ℕ) (more : List EventValue) (why : Pause) → Pauses next x y piece more (Ok why) → Fails next x y piece more
     pauses_failing x y piece more pause.UsedUp k = record { yields = walked_goes_on x.walker y.walker piece [] more k.follows.walked }
     pauses_failing x y piece more (pause.Fault f) k = record { yields = fault_goes_on x y piece more f k }
     pauses_failing x y piece more pause.Enough k = record { yields = walked_goes_on x.walker y.walker piece k.rest more k.follows.walked }
 
     -- the walker and the follower are the same, and so is where the piece is followed no further
-    pauses_same : (x y : WalkState S D) (c : Out D) (piece : List ℕ) (more : List EventValue) (why : Pause) → Pauses next x y piece more (Ok why) → Pauses next x (walk_state y.walker y.follower c) piece more (Ok why)
+    pauses_same : (x y : FollowStates S D) (c : Out D) (piece : List ℕ) (more : List EventValue) (why : Pause) → Pauses next x y piece more (Ok why) → Pauses next x (follow_states y.walker y.follower c) piece more (Ok why)
     pauses_same x y c piece more pause.UsedUp k = record { follows = record { made = k.follows.made; walked = k.follows.walked }; offset = k.offset; ready = k.ready }
     pauses_same x y c piece more (pause.Fault f) k = record { made = k.made; walked = k.walked }
     pauses_same x y c piece more pause.Enough k = record { rest = k.rest; follows = record { made = k.follows.made; walked = k.follows.walked }; after_event = k.after_event }
 
-    module _ (state_of : D → DrainState) (x y : WalkState S D) (c : Out D) (piece : List ℕ) (octets : AreOctets piece) (none : held_octets x.out ≡ []) where
+    module _ (state_of : D → DrainState) (x y : FollowStates S D) (c : Out D) (piece : List ℕ) (octets : AreOctets piece) (none : held_octets x.out ≡ []) where
       -- the piece was followed, and what was put was flushed
       pub pauses_flushed : (why : Pause) → FollowsPiece next state_of x y piece (Ok why) → Puts {T = ⊤} {E = WriteFault} state_of y.out c [] (Ok tt) → held_octets c ≡ []
-          → FollowsAndFlushes next state_of x (walk_state y.walker y.follower c) piece (Ok why)
+          → FollowsAndFlushes next state_of x (follow_states y.walker y.follower c) piece (Ok why)
       pauses_flushed why k flushed empty = record {
         octets = octets;
         more = k.more;
@@ -105,7 +105,7 @@ module _ {S : Type 0} (next : S → EventValue → Effect S) where
 
       -- or could not be flushed
       pub pauses_unflushed : (why : Pause) (e f : WriteFault) → FollowsPiece next state_of x y piece (Ok why) → Puts {T = ⊤} {E = WriteFault} state_of y.out c [] (Err e)
-          → FollowsAndFlushes next state_of x (walk_state y.walker y.follower c) piece (Err f)
+          → FollowsAndFlushes next state_of x (follow_states y.walker y.follower c) piece (Err f)
       pauses_unflushed why e f k unflushed =
           let text : List ℕ = (effect_of next x.follower k.more).put in record {
             octets = octets;
@@ -118,7 +118,7 @@ module _ {S : Type 0} (next : S → EventValue → Effect S) where
           }
 
     -- the drain failed before
-    pub fails_sent : (state_of : D → DrainState) (x y : WalkState S D) (piece : List ℕ) → AreOctets piece → held_octets x.out ≡ [] → (e f : WriteFault) → FollowsPiece next state_of x y piece (Err e)
+    pub fails_sent : (state_of : D → DrainState) (x y : FollowStates S D) (piece : List ℕ) → AreOctets piece → held_octets x.out ≡ [] → (e f : WriteFault) → FollowsPiece next state_of x y piece (Err e)
         → FollowsAndFlushes next state_of x y piece (Err f)
     fails_sent state_of x y piece octets none e f k =
         let text : List ℕ = (effect_of next x.follower k.more).put in record {

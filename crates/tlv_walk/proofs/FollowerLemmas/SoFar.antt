@@ -16,7 +16,7 @@ use Rattle.tlv_walk.specs.Reading.{AreOctets}
 use Rattle.tlv_walk.specs.WalkerState.{new_walker}
 use Rattle.tlv_io.specs.Out.{Sends}
 use Rattle.tlv_walk.specs.Stands.{IsIdle, Stands}
-use Rattle.tlv_walk.specs.OneTurn.{LastReadGaveUpTo, TurnState, last_octets, turn_state}
+use Rattle.tlv_walk.specs.OneTurn.{LastReadGaveUpTo, TurnStates, last_octets, turn_states}
 use Rattle.tlv_walk.specs.Wrappers.{entered_offsets}
 use Rattle.tlv_walk.proofs.FollowerLemmas.Following.{made_none}
 use Rattle.tlv_io.proofs.Pieces.{GaveLast, Gathered, gathered_none}
@@ -65,7 +65,7 @@ enters_each (Pad c ∷ es) = enters_each es
 
 module _ {S : Type 0} (next : S → EventValue → Effect S) where
   -- the walk so far: the octets given, the events yielded of them, and what was made of these
-  pub record Walking (framing : Framing) (s : S) (old : SourceState) (from : DrainState) (now : TurnState S) : Type 0 where
+  pub record Walking (framing : Framing) (s : S) (old : SourceState) (from : DrainState) (now : TurnStates S) : Type 0 where
     pub gathered : Gathered old now.devices.source
     pub octets : AreOctets (concat gathered.pieces)
     pub failures : now.devices.source.failures ≡ old.failures
@@ -77,7 +77,7 @@ module _ {S : Type 0} (next : S → EventValue → Effect S) where
     pub idle : IsIdle now.walker
 
   pub walking_none : (framing : Framing) (s : S) (old : SourceState) (from : DrainState) → Stands (new_walker framing) [] []
-      → Walking framing s old from (turn_state (new_walker framing) s old from)
+      → Walking framing s old from (turn_states (new_walker framing) s old from)
   walking_none framing s old from st = record {
     gathered = gathered_none old;
     octets = All-nil (λ x. x < 256);

@@ -23,14 +23,14 @@ use Rattle.tlv_walk.specs.Ending.{IsEnding, IsFinalEnding}
 use Rattle.tlv_walk.specs.Events.{AreEqualJoined, EventValue, events}
 use Rattle.tlv_walk.specs.Follow.{Effect, effect_of}
 use Rattle.tlv_walk.specs.Private.ResultOfPause.{IsResultOfPause, IsRun}
-use Rattle.tlv_walk.specs.Private.FollowsPiece.{FollowsAndFlushes, FollowsToFault, FollowsToEnough, Pauses, FollowsAll, WalkState, WalksOver, WalksTo, walk_state}
+use Rattle.tlv_walk.specs.Private.FollowsPiece.{FollowsAndFlushes, FollowsToFault, FollowsToEnough, Pauses, FollowsAll, FollowStates, WalksOver, WalksTo, follow_states}
 use Rattle.tlv_walk.specs.Forest.{Forest, spelling}
 use Rattle.tlv_walk.specs.WalkerState.{WalkerState}
 use Rattle.tlv_io.specs.Out.{Sends, drain_of}
 use Rattle.tlv_walk.specs.Reading.{AreOctets, IsReading}
 use Rattle.tlv_walk.specs.Stands.{Stands}
 use Rattle.tlv_walk.specs.HasRead.{refused_one, took_all}
-use Rattle.tlv_walk.specs.OneTurn.{EndsIn, HasEnoughIn, StandsAfter, TurnState, TurnsTo, at_enough, at_fault, at_input_end}
+use Rattle.tlv_walk.specs.OneTurn.{EndsIn, HasEnoughIn, StandsAfter, TurnStates, TurnsTo, at_enough, at_fault, at_input_end}
 use Rattle.tlv_walk.specs.Wrappers.{first_other, first_without_wrapper, entered_offsets}
 use Rattle.tlv_walk.proofs.GrammarLemmas.Finals.{refused-final}
 use Rattle.tlv_walk.proofs.FollowerLemmas.Followed.{followed-front}
@@ -52,7 +52,7 @@ run_is run e n k u p q r s =
 
 -- ---- what was made of a piece, by why it is not followed any further
 
-module _ {S D : Type 0} (next : S → EventValue → Effect S) (old new : TurnState S) (from to : Out D) (b piece : List ℕ) (yielded more : List EventValue)
+module _ {S D : Type 0} (next : S → EventValue → Effect S) (old new : TurnStates S) (from to : Out D) (b piece : List ℕ) (yielded more : List EventValue)
     (put : Sends {T = ⊤} {E = DeviceFault} old.devices.drain new.devices.drain (effect_of next old.follower more).put (Ok tt)) (st : Stands old.walker b yielded) where
   abbrev w : WalkerState
   w = old.walker
@@ -61,11 +61,11 @@ module _ {S D : Type 0} (next : S → EventValue → Effect S) (old new : TurnSt
   v = new.walker
 
   -- the walker and the follower, before and after
-  abbrev x : WalkState S D
-  x = walk_state old.walker old.follower from
+  abbrev x : FollowStates S D
+  x = follow_states old.walker old.follower from
 
-  abbrev y : WalkState S D
-  y = walk_state new.walker new.follower to
+  abbrev y : FollowStates S D
+  y = follow_states new.walker new.follower to
 
   -- the piece is used up
   pub used_up_on : FollowsAll next x y piece more → StandsAfter next old new (b ++ piece) yielded
@@ -112,7 +112,7 @@ module _ {S D : Type 0} (next : S → EventValue → Effect S) (old new : TurnSt
       }
 
 -- the input has ended
-used_up_ends : {S : Type 0} (next : S → EventValue → Effect S) (old new : TurnState S) (o : List ℕ) (yielded : List EventValue) (run : Run) (e : Ending)
+used_up_ends : {S : Type 0} (next : S → EventValue → Effect S) (old new : TurnStates S) (o : List ℕ) (yielded : List EventValue) (run : Run) (e : Ending)
     → StandsAfter next old new o yielded → IsRun run e false new.walker → IsEnding new.walker.framing o e → EndsIn next old new o yielded run
 used_up_ends next old new o yielded run e x is ends =
     let w : WalkerState = old.walker in
@@ -141,7 +141,7 @@ taken_within limit offset n p = elim (cases_lt (limit - offset) n) [
   | inr more ↦ ap (λ (k : ℕ). take k p) (omega (arith, more)) ∙ sym (take_all (limit - offset) (take n p) (omega (arith, more, length-take n p)))
 ]
 
-module _ {S D : Type 0} (next : S → EventValue → Effect S) (old new : TurnState S) (from to : Out D) (b : List ℕ) (yielded : List EventValue) (p piece r : List ℕ) (n m limit : ℕ)
+module _ {S D : Type 0} (next : S → EventValue → Effect S) (old new : TurnStates S) (from to : Out D) (b : List ℕ) (yielded : List EventValue) (p piece r : List ℕ) (n m limit : ℕ)
     (st : Stands old.walker b yielded) (some : n ≤ length p) (below : old.walker.offset ≤ limit) (is_m : m ≡ min (limit - old.walker.offset) n)
     (is_piece : piece ≡ take m p) (is_r : r ≡ take n p) (octets : AreOctets piece) where
   abbrev offset : ℕ
@@ -178,7 +178,7 @@ module _ {S D : Type 0} (next : S → EventValue → Effect S) (old new : TurnSt
   -- they were followed so far, and what is made of them handed to the drain
   record Followed (why paused : Pause) : Type 0 where
     more : List EventValue
-    pauses : Pauses next (walk_state old.walker old.follower from) (walk_state new.walker new.follower to) piece more (Ok paused)
+    pauses : Pauses next (follow_states old.walker old.follower from) (follow_states new.walker new.follower to) piece more (Ok paused)
     put : Sent (Ok why) more
 
   used : (why : Pause) → Followed why pause.UsedUp → StandsAfter next old new (b ++ piece) yielded
@@ -236,7 +236,7 @@ module _ {S D : Type 0} (next : S → EventValue → Effect S) (old new : TurnSt
 
   module _ (state_of : D → DrainState) (drain_was : old.devices.drain ≡ state_of (drain_of from).now) (drain_is : new.devices.drain ≡ state_of (drain_of to).now) where
     abbrev FollowsIn : Result Pause WriteFault → Type 0
-    FollowsIn result = FollowsAndFlushes next state_of (walk_state old.walker old.follower from) (walk_state new.walker new.follower to) piece result
+    FollowsIn result = FollowsAndFlushes next state_of (follow_states old.walker old.follower from) (follow_states new.walker new.follower to) piece result
 
     handed : (result : Result Pause WriteFault) → (x : FollowsIn result) → Sent result x.more
     handed result x =

@@ -8,7 +8,7 @@ use Rattle.tlv_head.specs.declared.fault.FaultCode.TheVariants.{Empty, Short}
 use Rattle.tlv_walk.specs.declared.ending.Ending.{Ending}
 use Rattle.tlv_walk.specs.declared.ending.Ending.TheVariants.{Done, Fault}
 use Rattle.tlv_walk.specs.declared.framing.Framing.{Framing}
-use Rattle.tlv_walk.specs.Forest.{Forest, has_element, is_complete, spelling}
+use Rattle.tlv_walk.specs.Forest.{Forest, has_element, is_whole, spelling}
 use Rattle.tlv_walk.specs.Place.{top_place}
 use Rattle.tlv_walk.specs.Reading.{IsReading, IsSoundList}
 use Rattle.tlv_walk.specs.Ending.{IsEnding, IsFault, done, empty, fault_ending, refused, short, tip}
@@ -20,7 +20,7 @@ use Rattle.tlv_walk.proofs.GrammarLemmas.Faults.{fault-refused, refused-fault}
 
 -- the ending of a run over n octets
 abbrev pub ending_of : ℕ → Run → Ending
-ending_of n (Going f) = cond (has_element f) (cond (is_complete f) Done (fault_ending Short n)) (fault_ending Empty n)
+ending_of n (Going f) = cond (has_element f) (cond (is_whole f) Done (fault_ending Short n)) (fault_ending Empty n)
 ending_of n (Halted f code) = fault_ending code (length (spelling f))
 
 -- the ending that pushing gives
@@ -38,7 +38,7 @@ going-ending : (w : Framing) (f : Forest) (b : List ℕ) → Spells (top_place w
 going-ending w f b r =
     let reading : IsReading w b f = run-reading w (Going f) b r in
     elim (cases_Bool (has_element f)) [
-      | inl some ↦ elim (cases_Bool (is_complete f)) [
+      | inl some ↦ elim (cases_Bool (is_whole f)) [
         | inl whole ↦ rw (some, whole) (done f reading r.spelled some whole)
         | inr part ↦ rw (some, part) (short f reading r.spelled part)
       ]
@@ -64,7 +64,7 @@ pub record IsDone (w : Framing) (b : List ℕ) : Type 0 where
   pub forest : Forest
   pub spells : Spells (top_place w) b forest
   pub some : has_element forest ≡ true
-  pub whole : is_complete forest ≡ true
+  pub whole : is_whole forest ≡ true
 
 -- F01 or F02: the input ends too early, and a longer one may be sound
 abbrev pub IsEarly : FaultCode → Type 0

@@ -3,12 +3,12 @@ use Rattle.std.proofs.Common.{◌≡◌, ◌⊎◌, inl, inr, ℕ, ◌+◌, ◌<
 use Rattle.std.proofs.lemmas.Bool.{cases_Bool, and_from, true≢false}
 use Rattle.tlv_head.specs.declared.header.Size.TheVariants.{Definite}
 use Rattle.tlv_head.specs.Header.{HeaderValue, announced_length, octets_of}
-use Rattle.tlv_walk.specs.Forest.{Forest, Holder, NoMore, OpenBitString, OpenEndOctets, OpenHeader, OpenHolder, OpenPrimitive, PaddingOctet, Primitive, contents_length, end_octets, extent, is_complete, lead, opening, spelling}
+use Rattle.tlv_walk.specs.Forest.{Forest, Holder, NoMore, OpenBitString, OpenEndOctets, OpenHeader, OpenHolder, OpenPrimitive, PaddingOctet, Primitive, contents_length, end_octets, extent, is_whole, lead, opening, spelling}
 use Rattle.tlv_walk.specs.Place.{Fits, IsEntry, IsHeaderAt, IsOpen, Place, is_indefinite, place_after, place_of_children}
 use Rattle.tlv_walk.proofs.GrammarLemmas.Lengths.{LacksOctets}
 use Rattle.tlv_walk.proofs.GrammarLemmas.Bounds.{IsEndless, IsFull, definite-length, fits-inside, fits-within, has_length, indefinite-endless, lacks-length, length-full, within-lacks, within-le}
 use Rattle.tlv_walk.proofs.GrammarLemmas.Spellings.{append_assoc-3, append_assoc-4, length-holder, length-opening, length-primitive}
-use Rattle.tlv_walk.proofs.GrammarLemmas.PushSteps.{IsWholeHolder, IsWholePrimitive, Grown, Ended, holder_so_far, follow, is_filled, primitive_so_far, push, settle}
+use Rattle.tlv_walk.proofs.GrammarLemmas.PushSteps.{IsWholeHolder, IsWholePrimitive, Grown, Ended, holder_so_far, follow, is_filled_by, primitive_so_far, push, settle}
 use Rattle.tlv_walk.proofs.GrammarLemmas.Push.{reaches, size-definite}
 use Rattle.tlv_walk.proofs.GrammarLemmas.PopHeaders.{back, Popped, header-popped, holder_begun-popped, lead-popped, front-popped, is_nil, is_push}
 
@@ -60,8 +60,8 @@ open_primitive-popped p h c w =
     primitive-popped p h c n.0 (OpenPrimitive h c) w.0.header n.1 (omega (arith, w.1)) (within-le p.bound _ _ (omega arith) w.0.fits) (primitive_so_far-open h c n.0 n.1 (omega (arith, w.1))) refl
 
 -- an element that lacks contents octets has not ended
-holder_so_far-open : (h : HeaderValue) (f : Forest) → (is_complete f ≡ true → LacksOctets h.size (contents_length h f)) → holder_so_far h f ≡ OpenHolder h f
-holder_so_far-open h f lacks = elim (cases_Bool (is_complete f)) [
+holder_so_far-open : (h : HeaderValue) (f : Forest) → (is_whole f ≡ true → LacksOctets h.size (contents_length h f)) → holder_so_far h f ≡ OpenHolder h f
+holder_so_far-open h f lacks = elim (cases_Bool (is_whole f)) [
   | inl e ↦ rw (e, lacks-length h.size (contents_length h f) (lacks e))
   | inr e ↦ rw e
 ]
@@ -106,7 +106,7 @@ record HasFirstEndOctet (p : Place) (f g : Forest) : Type 0 where
   pushed : push p g 0 ≡ Ended f
 
 -- whole elements in an element of indefinite length are so
-has-first_end_octet : (p : Place) (f : Forest) → IsOpen p f → is_complete f ≡ true → p.indefinite ≡ true → Fits p (length (spelling f) + 2) → HasFirstEndOctet p f (with_first_end_octet f)
+has-first_end_octet : (p : Place) (f : Forest) → IsOpen p f → is_whole f ≡ true → p.indefinite ≡ true → Fits p (length (spelling f) + 2) → HasFirstEndOctet p f (with_first_end_octet f)
 has-first_end_octet p NoMore w whole i f =
     record { is_open = (i, within-le p.bound _ _ (omega arith) f); spelled = refl; pushed = rw (fits-within p.bound (p.offset + 2) f) }
 has-first_end_octet p (PaddingOctet rest) w whole i f = absurd (true≢false (sym i ∙ w.0.1))
@@ -161,7 +161,7 @@ definite-popped p h inside i w v below =
     let full : IsFull h.size (contents_length h inside) = length-full h.size _ test in
     let none : length (end_octets h.size) ≡ 0 = ap length full.ends in
     let entry : IsEntry p true h = record { header = w.0.header; depth = w.0.depth; fits = within-le p.bound _ _ (omega (arith, full.all, length-opening h)) w.0.fits } in
-    let filled : is_filled h inside ≡ true = and_from _ _ w.1 test in
+    let filled : is_filled_by h inside ≡ true = and_from _ _ w.1 test in
     settled p h inside (Holder h inside NoMore) entry v below (rw filled)
     (ap (λ (t : List ℕ). opening h ++ (spelling inside ++ (t ++ []))) full.ends ∙ ap (λ (t : List ℕ). opening h ++ t) (append-nil (spelling inside)))
 

@@ -7,12 +7,12 @@ use Rattle.tlv_head.specs.Header.{AllowsSize, HeaderValue, IsHeader, announced_l
 use Rattle.tlv_head.specs.Refusal.{IsHeaderPrefix}
 use Rattle.tlv_head.proofs.GrammarLemmas.Scan.{Origin, Scan, Fresh, High, Named, Long, Ready, Stuck, Over, origin_of, step, scan, first-more}
 use Rattle.tlv_head.proofs.GrammarLemmas.Meaning.{IsStateAfter, reads-step, reads-scan, prefix-from_more, prefix-bytes}
-use Rattle.tlv_walk.specs.Forest.{Forest, Holder, NoMore, OpenBitString, OpenEndOctets, OpenHeader, OpenHolder, OpenPrimitive, PaddingOctet, Primitive, contents_length, end_octets, extent, is_complete, lead, opening, spelling}
+use Rattle.tlv_walk.specs.Forest.{Forest, Holder, NoMore, OpenBitString, OpenEndOctets, OpenHeader, OpenHolder, OpenPrimitive, PaddingOctet, Primitive, contents_length, end_octets, extent, is_whole, lead, opening, spelling}
 use Rattle.tlv_walk.specs.Place.{Fits, IsEntry, IsHeaderAt, IsOpen, Place, place_after, place_of_children}
 use Rattle.tlv_walk.proofs.GrammarLemmas.Lengths.{LacksOctets}
 use Rattle.tlv_walk.proofs.GrammarLemmas.Bounds.{IsEndless, IsFull, fits, fits-inside, has_length, indefinite-endless, lead-zero, length-full, length-lacks, within-fits, within-le, within-outside}
 use Rattle.tlv_walk.proofs.GrammarLemmas.Spellings.{append_assoc-3, append_assoc-4, length-holder, length-opening, length-primitive}
-use Rattle.tlv_walk.proofs.GrammarLemmas.PushSteps.{IsWholePrimitive, IsWholeHolder, Step, origin, is_filled, holder_so_far, primitive_so_far, holder_begun, element_begun, complete, begin, zero_between, follow, settle, push, Spells, IsStep, Grown, Ended, Refused}
+use Rattle.tlv_walk.proofs.GrammarLemmas.PushSteps.{IsWholePrimitive, IsWholeHolder, Step, origin, is_filled_by, holder_so_far, primitive_so_far, holder_begun, element_begun, complete, begin, zero_between, follow, settle, push, Spells, IsStep, Grown, Ended, Refused}
 
 -- if what an element holds ends within the bound inside, the element so far ends within that outside
 reaches-open_holder : (p : Place) (h : HeaderValue) (inside : Forest) → Fits p (length (octets_of h) + announced_length h.size) → Fits (place_of_children p h) (length (spelling inside))
@@ -72,7 +72,7 @@ primitive_so_far-sound p h c n header e most f =
     ]
 
 -- an element that holds others, with all its contents octets by its definite length
-pub holder-sound : (p : Place) (h : HeaderValue) (g : Forest) → IsEntry p true h → IsOpen (place_of_children p h) g → is_complete g ≡ true → IsFull h.size (contents_length h g)
+pub holder-sound : (p : Place) (h : HeaderValue) (g : Forest) → IsEntry p true h → IsOpen (place_of_children p h) g → is_whole g ≡ true → IsFull h.size (contents_length h g)
     → Spells p (opening h ++ spelling g) (Holder h g NoMore)
 holder-sound p h g entry w whole full =
     let none : length (end_octets h.size) ≡ 0 = ap length full.ends in
@@ -90,16 +90,16 @@ holder-sound p h g entry w whole full =
     }
 
 -- an element that is not filled lacks octets, if what it holds is whole
-pub unfilled-lacks : (p : Place) (h : HeaderValue) (g : Forest) → is_filled h g ≡ false → is_complete g ≡ true → Fits (place_of_children p h) (length (spelling g)) → LacksOctets h.size (contents_length h g)
+pub unfilled-lacks : (p : Place) (h : HeaderValue) (g : Forest) → is_filled_by h g ≡ false → is_whole g ≡ true → Fits (place_of_children p h) (length (spelling g)) → LacksOctets h.size (contents_length h g)
 unfilled-lacks p h g e whole there =
     let short : has_length h.size (contents_length h g) ≡ false = rw whole at e in
     length-lacks h.size (p.offset + length (octets_of h)) p.bound _ (within-le (place_of_children p h).bound _ _ (omega (arith, length-opening h)) there) short
 
 -- what an element holds is open: so is the element
 pub holder_so_far-sound : (p : Place) (h : HeaderValue) (g : Forest) → IsEntry p true h → IsOpen (place_of_children p h) g → Spells p (opening h ++ spelling g) (holder_so_far h g)
-holder_so_far-sound p h g entry w = elim (cases_Bool (is_filled h g)) [
+holder_so_far-sound p h g entry w = elim (cases_Bool (is_filled_by h g)) [
   | inl e ↦
-      let parts : (is_complete g ≡ true) × (has_length h.size (contents_length h g) ≡ true) = and_parts _ _ e in
+      let parts : (is_whole g ≡ true) × (has_length h.size (contents_length h g) ≡ true) = and_parts _ _ e in
       rw e (holder-sound p h g entry w parts.0 (length-full h.size _ parts.1))
   | inr e ↦
       let there : Fits (place_of_children p h) (length (spelling g)) = reaches (place_of_children p h) g (fits-inside p h entry.header.form entry.fits) w in

@@ -5,7 +5,7 @@ use Rattle.tlv_head.specs.declared.fault.FaultCode.TheVariants.{StrayEnd, BadEnd
 use Rattle.tlv_head.specs.declared.header.Size.TheVariants.{Definite}
 use Rattle.tlv_head.specs.Header.{HeaderValue, announced_length, holds, octets_of}
 use Rattle.tlv_head.proofs.GrammarLemmas.Scan.{Origin, Scan, Fresh, High, Named, Long, Ready, Stuck, Over, step, scan}
-use Rattle.tlv_walk.specs.Forest.{Forest, Holder, NoMore, OpenBitString, OpenEndOctets, OpenHeader, OpenHolder, OpenPrimitive, PaddingOctet, Primitive, contents_length, extent, is_complete, lead, spelling}
+use Rattle.tlv_walk.specs.Forest.{Forest, Holder, NoMore, OpenBitString, OpenEndOctets, OpenHeader, OpenHolder, OpenPrimitive, PaddingOctet, Primitive, contents_length, extent, is_whole, lead, spelling}
 use Rattle.tlv_walk.specs.Inside.{is_among}
 use Rattle.tlv_walk.specs.Place.{Fits, IsElementAt, IsOpen, Place, place_after, place_of_children}
 use Rattle.tlv_walk.proofs.GrammarLemmas.Lengths.{HasLength}
@@ -17,7 +17,7 @@ IsWholePrimitive p h c = IsElementAt p false h (length (octets_of h) + length c)
 
 -- an element that holds others and has ended
 abbrev pub IsWholeHolder : Place → HeaderValue → Forest → Type 0
-IsWholeHolder p h inside = IsElementAt p true h (extent h inside) × (is_complete inside ≡ true) × HasLength h.size (contents_length h inside)
+IsWholeHolder p h inside = IsElementAt p true h (extent h inside) × (is_whole inside ≡ true) × HasLength h.size (contents_length h inside)
 
 -- what an octet makes of an open forest
 pub data Step : Type 0 where
@@ -32,12 +32,12 @@ abbrev pub origin : Place → Origin
 origin p = record { offset = p.offset; named = is_among p.offset p.inside }
 
 -- what an element holds is whole, and as long as was announced
-abbrev pub is_filled : HeaderValue → Forest → Bool
-is_filled h f = is_complete f && has_length h.size (contents_length h f)
+abbrev pub is_filled_by : HeaderValue → Forest → Bool
+is_filled_by h f = is_whole f && has_length h.size (contents_length h f)
 
 -- an element that holds these others so far
 abbrev pub holder_so_far : HeaderValue → Forest → Forest
-holder_so_far h f = cond (is_filled h f) (Holder h f NoMore) (OpenHolder h f)
+holder_so_far h f = cond (is_filled_by h f) (Holder h f NoMore) (OpenHolder h f)
 
 -- a primitive with these contents octets so far
 abbrev pub primitive_so_far : HeaderValue → List ℕ → Forest
@@ -106,7 +106,7 @@ pub record Spells (p : Place) (o : List ℕ) (g : Forest) : Type 0 where
 -- the octets are whole elements and the end-of-contents octets
 pub record Ends (p : Place) (o : List ℕ) (g : Forest) : Type 0 where
   pub is_open : IsOpen p g
-  pub whole : is_complete g ≡ true
+  pub whole : is_whole g ≡ true
   pub indefinite : p.indefinite ≡ true
   pub spelled : spelling g ++ 0 ∷ 0 ∷ [] ≡ o
   pub fits : Fits p (length (spelling g) + 2)

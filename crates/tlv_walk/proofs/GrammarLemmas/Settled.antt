@@ -5,13 +5,13 @@ use Rattle.tlv_head.specs.declared.header.Size.{Size}
 use Rattle.tlv_head.specs.declared.header.Size.TheVariants.{Definite, Indefinite}
 use Rattle.tlv_head.specs.Header.{HeaderValue, octets_of}
 use Rattle.tlv_walk.specs.declared.framing.Framing.{Framing}
-use Rattle.tlv_walk.specs.Forest.{Forest, Holder, NoMore, contents_length, is_complete, opening, spelling}
+use Rattle.tlv_walk.specs.Forest.{Forest, Holder, NoMore, contents_length, is_whole, opening, spelling}
 use Rattle.tlv_walk.specs.Place.{Fits, IsOpen, Place, bound_in, place_after, place_of_children, top_place}
 use Rattle.tlv_walk.specs.Stack.{IsFilled}
 use Rattle.tlv_walk.specs.Private.Zipper.{AreLayers, AreWhole, Layer, frames_of, place_in, spelling_of_layers}
-use Rattle.tlv_walk.specs.Stands.{is_end}
+use Rattle.tlv_walk.specs.Stands.{is_filled}
 use Rattle.tlv_walk.proofs.GrammarLemmas.Bounds.{IsFull, fits-inside, has_length, length-full}
-use Rattle.tlv_walk.proofs.GrammarLemmas.PushSteps.{Spells, is_filled}
+use Rattle.tlv_walk.proofs.GrammarLemmas.PushSteps.{Spells, is_filled_by}
 use Rattle.tlv_walk.proofs.GrammarLemmas.Push.{holder-sound, reaches, unfilled-lacks}
 use Rattle.tlv_walk.proofs.GrammarLemmas.Spellings.{length-opening}
 use Rattle.tlv_walk.proofs.WalkerLemmas.Zipper.{followed_by, open-followed_by, open-within, settled, spelling-followed_by, spelling-within, whole-followed_by, within}
@@ -27,13 +27,13 @@ pub record IsEnded (w : Framing) (l : Layer) (ls : List Layer) (f : Forest) : Ty
   pub same_end : end_in w ls (followed_by l.before (Holder l.header f NoMore)) ≡ end_in w (l ∷ ls) f
 
 -- what is filled has all its contents octets
-pub filled-full : (h : HeaderValue) (f : Forest) → is_filled h f ≡ true → IsFull h.size (contents_length h f)
+pub filled-full : (h : HeaderValue) (f : Forest) → is_filled_by h f ≡ true → IsFull h.size (contents_length h f)
 filled-full h f e =
-    let parts : (is_complete f ≡ true) × (has_length h.size (contents_length h f) ≡ true) = and_parts _ _ e in
+    let parts : (is_whole f ≡ true) × (has_length h.size (contents_length h f) ≡ true) = and_parts _ _ e in
     length-full h.size _ parts.1
 
 -- an element that is filled ends so
-pub filled-ended : (w : Framing) (l : Layer) (ls : List Layer) (f : Forest) → AreLayers w (l ∷ ls) → AreWhole (place_in w (l ∷ ls)) f → is_filled l.header f ≡ true → IsEnded w l ls f
+pub filled-ended : (w : Framing) (l : Layer) (ls : List Layer) (f : Forest) → AreLayers w (l ∷ ls) → AreWhole (place_in w (l ∷ ls)) f → is_filled_by l.header f ≡ true → IsEnded w l ls f
 filled-ended w l ls f a i e =
     let p : Place = place_after (place_in w ls) (length (spelling l.before)) in
     let c : Spells p (opening l.header ++ spelling f) (Holder l.header f NoMore) = holder-sound p l.header f a.2 i.is_open i.whole (filled-full l.header f e) in
@@ -46,7 +46,7 @@ filled-ended w l ls f a i e =
     }
 
 -- an element that is not filled lacks octets
-pub unfilled-room : (w : Framing) (l : Layer) (ls : List Layer) (f : Forest) → AreLayers w (l ∷ ls) → AreWhole (place_in w (l ∷ ls)) f → is_filled l.header f ≡ false
+pub unfilled-room : (w : Framing) (l : Layer) (ls : List Layer) (f : Forest) → AreLayers w (l ∷ ls) → AreWhole (place_in w (l ∷ ls)) f → is_filled_by l.header f ≡ false
     → IsOpen (top_place w) (within (l ∷ ls) f)
 unfilled-room w l ls f a i e =
     let p : Place = place_after (place_in w ls) (length (spelling l.before)) in
@@ -56,7 +56,7 @@ unfilled-room w l ls f a i e =
 -- they are open, and spell the octets of the layers and then their own
 pub settled-spells : (w : Framing) (ls : List Layer) (f : Forest) → AreLayers w ls → AreWhole (place_in w ls) f → Spells (top_place w) (spelling_of_layers ls ++ spelling f) (settled ls f)
 settled-spells w [] f a i = record { is_open = i.is_open; spelled = refl }
-settled-spells w (l ∷ ls) f a i = elim (cases_Bool (is_filled l.header f)) [
+settled-spells w (l ∷ ls) f a i = elim (cases_Bool (is_filled_by l.header f)) [
   | inl e ↦
       let d : IsEnded w l ls f = filled-ended w l ls f a i e in
       let r : Spells (top_place w) (spelling_of_layers ls ++ spelling (followed_by l.before (Holder l.header f NoMore))) (settled ls (followed_by l.before (Holder l.header f NoMore))) =
@@ -76,7 +76,7 @@ pub open-settled : (w : Framing) (ls : List Layer) (f : Forest) → AreLayers w 
 open-settled w ls f a i = let r : Spells (top_place w) (spelling_of_layers ls ++ spelling f) (settled ls f) = settled-spells w ls f a i in r.is_open
 
 -- an element ends at an offset by its frame if it has all its contents octets by its length
-end-length : (s : Size) (start m n : ℕ) → start + m ≡ n → is_end (bound_in s start None) n ≡ has_length s m
+end-length : (s : Size) (start m n : ℕ) → start + m ≡ n → is_filled (bound_in s start None) n ≡ has_length s m
 end-length (Definite k) start m n e = elim (cases_Bool (eqb m k)) [
   | inl same ↦ let there : m ≡ k = eqb-true m k same in rw (same, eq-eqb (start + k) n (omega arith))
   | inr other ↦ let apart : m ≡ k → ⊥ = eqb-false m k other in rw (other, ne_eqb (start + k) n (λ z. apart (omega arith)))
@@ -84,23 +84,23 @@ end-length (Definite k) start m n e = elim (cases_Bool (eqb m k)) [
 end-length Indefinite start m n e = refl
 
 -- so the frame of the innermost open element says whether that is filled
-pub end-filled : (w : Framing) (l : Layer) (ls : List Layer) (f : Forest) → is_complete f ≡ true
-    → is_end (bound_in l.header.size (((place_in w ls).offset + length (spelling l.before)) + length (octets_of l.header)) None) (end_in w (l ∷ ls) f) ≡ is_filled l.header f
+pub end-filled : (w : Framing) (l : Layer) (ls : List Layer) (f : Forest) → is_whole f ≡ true
+    → is_filled (bound_in l.header.size (((place_in w ls).offset + length (spelling l.before)) + length (octets_of l.header)) None) (end_in w (l ∷ ls) f) ≡ is_filled_by l.header f
 end-filled w l ls f whole =
     end-length l.header.size (((place_in w ls).offset + length (spelling l.before)) + length (octets_of l.header)) (contents_length l.header f) (end_in w (l ∷ ls) f) (omega (arith, length-opening l.header))
     ∙ ap (λ (k : Bool). k && has_length l.header.size (contents_length l.header f)) (sym whole)
 
 -- a frame that ends there says so
-end-there : (end : Option ℕ) (offset : ℕ) → is_end end offset ≡ true → end ≡ Some offset
+end-there : (end : Option ℕ) (offset : ℕ) → is_filled end offset ≡ true → end ≡ Some offset
 end-there None offset e = absurd (cc)
 end-there (Some n) offset e = ap Some (eqb-true n offset e)
 
 -- if the innermost open element is not filled, no element ends
 pub settled-within : (w : Framing) (ls : List Layer) (f : Forest) → (IsFilled (frames_of w ls) (end_in w ls f) → ⊥) → settled ls f ≡ within ls f
 settled-within w [] f n = refl
-settled-within w (l ∷ ls) f n = elim (cases_Bool (is_filled l.header f)) [
+settled-within w (l ∷ ls) f n = elim (cases_Bool (is_filled_by l.header f)) [
   | inl e ↦
-      let parts : (is_complete f ≡ true) × (has_length l.header.size (contents_length l.header f) ≡ true) = and_parts _ _ e in
+      let parts : (is_whole f ≡ true) × (has_length l.header.size (contents_length l.header f) ≡ true) = and_parts _ _ e in
       absurd (n (end-there _ (end_in w (l ∷ ls) f) (end-filled w l ls f parts.0 ∙ e)))
   | inr e ↦ rw e refl
 ]

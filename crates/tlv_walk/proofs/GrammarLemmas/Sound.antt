@@ -2,7 +2,7 @@
 use Rattle.std.proofs.Common.{◌≡◌, ◌+◌, true, false, length, refl, arith}
 use Rattle.tlv_head.specs.Header.{HeaderValue, octets_of}
 use Rattle.tlv_walk.specs.declared.framing.Framing.{Framing}
-use Rattle.tlv_walk.specs.Forest.{Forest, Holder, NoMore, OpenBitString, OpenEndOctets, OpenHeader, OpenHolder, OpenPrimitive, PaddingOctet, Primitive, contents_length, extent, is_complete, spelling}
+use Rattle.tlv_walk.specs.Forest.{Forest, Holder, NoMore, OpenBitString, OpenEndOctets, OpenHeader, OpenHolder, OpenPrimitive, PaddingOctet, Primitive, contents_length, extent, is_whole, spelling}
 use Rattle.tlv_walk.specs.Place.{Fits, IsOpen, Place, place_after, place_of_children, top_place}
 use Rattle.tlv_walk.proofs.GrammarLemmas.Lengths.{HasLength}
 use Rattle.tlv_walk.specs.Reading.{IsSound}
@@ -10,7 +10,7 @@ use Rattle.tlv_walk.proofs.GrammarLemmas.Bounds.{filled-within, within-le}
 use Rattle.tlv_walk.proofs.GrammarLemmas.Spellings.{length-holder, length-opening, length-primitive}
 
 -- nothing is open in sound elements
-pub sound-whole : (p : Place) (f : Forest) → IsSound p f → is_complete f ≡ true
+pub sound-whole : (p : Place) (f : Forest) → IsSound p f → is_whole f ≡ true
 sound-whole p NoMore s = refl
 sound-whole p (PaddingOctet rest) s = sound-whole (place_after p 1) rest s.1
 sound-whole p (Primitive h c rest) s = sound-whole (place_after p (length (octets_of h) + length c)) rest s.2
@@ -52,7 +52,7 @@ sound-open p (OpenHeader octets) d z s = absurd s
 sound-open p OpenEndOctets d z s = absurd s
 
 -- an open forest in which nothing is open is sound
-pub open-sound : (p : Place) (f : Forest) → IsOpen p f → is_complete f ≡ true → IsSound p f
+pub open-sound : (p : Place) (f : Forest) → IsOpen p f → is_whole f ≡ true → IsSound p f
 open-sound p NoMore w t = tt
 open-sound p (PaddingOctet rest) w t = (w.0.0, open-sound (place_after p 1) rest w.1 t)
 open-sound p (Primitive h c rest) w t = (w.0.0.header, w.0.1, open-sound (place_after p (length (octets_of h) + length c)) rest w.1 t)

@@ -2,7 +2,7 @@
 use Rattle.std.proofs.Common.{◌≡◌, ℕ, ◌+◌, true, false, length, Option, Some, None, refl, ◌∙◌, arith}
 use Rattle.tlv_head.specs.declared.fault.FaultCode.{FaultCode}
 use Rattle.tlv_head.specs.Header.{HeaderValue, octets_of}
-use Rattle.tlv_walk.specs.Forest.{Forest, Holder, NoMore, OpenBitString, OpenEndOctets, OpenHeader, OpenHolder, OpenPrimitive, PaddingOctet, Primitive, contents_length, extent, is_complete, spelling}
+use Rattle.tlv_walk.specs.Forest.{Forest, Holder, NoMore, OpenBitString, OpenEndOctets, OpenHeader, OpenHolder, OpenPrimitive, PaddingOctet, Primitive, contents_length, extent, is_whole, spelling}
 use Rattle.tlv_walk.specs.Place.{Fits, IsOpen, Place, place_after, place_of_children}
 use Rattle.tlv_walk.specs.Ending.{tip}
 use Rattle.tlv_walk.proofs.GrammarLemmas.Bounds.{fits-inside, lacks-within, within-le}
@@ -41,7 +41,7 @@ push-tip p OpenEndOctets x = refl
 
 -- whole elements outside an indefinite length may be followed by another octet
 abbrev pub HasRoom : Place → Forest → Type 0
-HasRoom p f = p.indefinite ≡ false → is_complete f ≡ true → Fits p (length (spelling f) + 1)
+HasRoom p f = p.indefinite ≡ false → is_whole f ≡ true → Fits p (length (spelling f) + 1)
 
 -- what holds of an open end that begins there
 abbrev pub IsTip : Place → Forest → Type 0
@@ -53,7 +53,7 @@ IsTip p OpenEndOctets = Fits p 1
 IsTip p f = ⊥
 
 -- what has room has room at its end
-room-after : (p : Place) (n : ℕ) (f g : Forest) → length (spelling g) ≡ n + length (spelling f) → (is_complete f ≡ true → is_complete g ≡ true) → HasRoom p g → HasRoom (place_after p n) f
+room-after : (p : Place) (n : ℕ) (f g : Forest) → length (spelling g) ≡ n + length (spelling f) → (is_whole f ≡ true → is_whole g ≡ true) → HasRoom p g → HasRoom (place_after p n) f
 room-after p n f g size whole r i w = within-le p.bound _ _ (omega arith) (r i (whole w))
 
 -- what an element holds has room, if octets are lacking

@@ -7,7 +7,7 @@ use Rattle.tlv_head.specs.declared.fault.FaultCode.TheVariants.{Empty, Short}
 use Rattle.tlv_walk.specs.declared.ending.Ending.{Ending}
 use Rattle.tlv_walk.specs.declared.ending.Ending.TheVariants.{Done, Fault}
 use Rattle.tlv_walk.specs.declared.framing.Framing.{Framing}
-use Rattle.tlv_walk.specs.Forest.{Forest, NoMore, PaddingOctet, Primitive, Holder, OpenPrimitive, OpenHolder, OpenBitString, OpenHeader, OpenEndOctets, has_element, is_complete, spelling}
+use Rattle.tlv_walk.specs.Forest.{Forest, NoMore, PaddingOctet, Primitive, Holder, OpenPrimitive, OpenHolder, OpenBitString, OpenHeader, OpenEndOctets, has_element, is_whole, spelling}
 use Rattle.tlv_walk.specs.Place.{top_place}
 use Rattle.tlv_walk.specs.Reading.{CannotBecomeSound, IsReading, IsSoundList}
 use Rattle.tlv_walk.specs.Ending.{IsEnding, IsFault, IsFinalEnding, ShowsSoundness, done, empty, fault_ending, refused, short, tip}
@@ -16,7 +16,7 @@ use Rattle.tlv_walk.proofs.GrammarLemmas.Faults.{fault-unique}
 use Rattle.tlv_walk.proofs.GrammarLemmas.Endings.{IsRefused, done-sound, fault-halt, halt-ending, no-false-alarm, sound-done}
 
 -- without an octet of an element nothing is open
-none-whole : (f : Forest) → has_element f ≡ false → is_complete f ≡ true
+none-whole : (f : Forest) → has_element f ≡ false → is_whole f ≡ true
 none-whole NoMore e = refl
 none-whole (PaddingOctet rest) e = none-whole rest e
 none-whole (Primitive h c rest) e = absurd (cc)
@@ -51,15 +51,15 @@ refused-same w b f g x y r s c d u v e e' k l =
 -- an input has one ending
 pub ending-unique : (w : Framing) (b : List ℕ) (e d : Ending) → IsEnding w b e → IsEnding w b d → e ≡ d
 ending-unique w b e d (empty f r s n) (empty g u t m) = refl
-ending-unique w b e d (empty f r s n) (short g u t p) = absurd (test-apart w b f g is_complete r u (none-whole f n) p)
+ending-unique w b e d (empty f r s n) (short g u t p) = absurd (test-apart w b f g is_whole r u (none-whole f n) p)
 ending-unique w b e d (empty f r s n) (done g u t m q) = absurd (test-apart w b g f has_element u r m n)
 ending-unique w b e d (empty f r s n) (refused g y rest c u t k) = absurd (read-apart w b f g y rest r u s t)
-ending-unique w b e d (short f r s p) (empty g u t m) = absurd (test-apart w b g f is_complete u r (none-whole g m) p)
+ending-unique w b e d (short f r s p) (empty g u t m) = absurd (test-apart w b g f is_whole u r (none-whole g m) p)
 ending-unique w b e d (short f r s p) (short g u t q) = refl
-ending-unique w b e d (short f r s p) (done g u t m q) = absurd (test-apart w b g f is_complete u r q p)
+ending-unique w b e d (short f r s p) (done g u t m q) = absurd (test-apart w b g f is_whole u r q p)
 ending-unique w b e d (short f r s p) (refused g y rest c u t k) = absurd (read-apart w b f g y rest r u s t)
 ending-unique w b e d (done f r s n q) (empty g u t m) = absurd (test-apart w b f g has_element r u n m)
-ending-unique w b e d (done f r s n q) (short g u t p) = absurd (test-apart w b f g is_complete r u q p)
+ending-unique w b e d (done f r s n q) (short g u t p) = absurd (test-apart w b f g is_whole r u q p)
 ending-unique w b e d (done f r s n q) (done g u t m p) = refl
 ending-unique w b e d (done f r s n q) (refused g y rest c u t k) = absurd (read-apart w b f g y rest r u s t)
 ending-unique w b e d (refused f x rest c r s k) (empty g u t m) = absurd (read-apart w b g f x rest u r t s)

@@ -6,7 +6,7 @@ use Rattle.tlv_head.specs.declared.header.Size.TheVariants.{Definite, Indefinite
 use Rattle.tlv_head.specs.Header.{AllowsSize, HeaderValue, announced_length, octets_of}
 use Rattle.tlv_walk.specs.Phase as phase
 use Rattle.tlv_walk.specs.Events.{AreEqualJoined, Close, EventValue, Leave, closing_event, end_offset, events, opening_events, single_octets}
-use Rattle.tlv_walk.specs.Forest.{Forest, Holder, NoMore, OpenEndOctets, contents_length, end_octets, extent, is_complete, opening, spelling}
+use Rattle.tlv_walk.specs.Forest.{Forest, Holder, NoMore, OpenEndOctets, contents_length, end_octets, extent, is_whole, opening, spelling}
 use Rattle.tlv_walk.specs.Wrappers.{entered_offsets}
 use Rattle.std.proofs.lemmas.Bool.{cases_Bool}
 use Rattle.tlv_walk.specs.WalkerState.{WalkerState}
@@ -16,7 +16,7 @@ use Rattle.tlv_walk.proofs.GrammarLemmas.Lengths.{HasLength}
 use Rattle.tlv_walk.specs.Stack.{FrameValue, IsFilled, IsInIndefinite, IsInWrapper, bound_of}
 use Rattle.tlv_walk.specs.Private.Stack.{innermost_wraps}
 use Rattle.tlv_walk.specs.Private.Yields.{Continues}
-use Rattle.tlv_walk.specs.Private.Zipper.{AreWhole, Between, HasZipper, InEndOctets, Layer, Tail, Zipper, events_of_layers, events_of_tail, frame_at, frames_of, place_in, place_of, spelling_of_layers, spelling_of_tail}
+use Rattle.tlv_walk.specs.Private.Zipper.{AreWhole, NoTail, HasZipper, EndOctetsTail, Layer, Tail, Zipper, events_of_layers, events_of_tail, frame_at, frames_of, place_in, place_of, spelling_of_layers, spelling_of_tail}
 use Rattle.tlv_walk.specs.Stands.{filled_end}
 use Rattle.tlv_walk.proofs.WalkerLemmas.Moves.{began, between_tail, closed_here, continues_both, lone_tail, phase_at, tail_state, yields_zero, yielded_more, with_layers, with_tail}
 use Rattle.tlv_walk.proofs.WalkerLemmas.Places.{definite-size, walker-offset}
@@ -27,7 +27,7 @@ use Rattle.tlv_walk.proofs.WalkerLemmas.ZipperEvents.{events-followed_by}
 regroup : (a b c d e t : List ℕ) → a ++ ((b ++ (c ++ (d ++ ((e ++ t) ++ [])))) ++ []) ≡ ((a ++ (b ++ c)) ++ (d ++ e)) ++ t
 regroup a b c d e t = simp (append_assoc, append-nil) refl
 
-spelled_closed : (ls : List Layer) (l : Layer) (here : Forest) (old t b : List ℕ) → is_complete l.before ≡ true → old ++ t ≡ end_octets l.header.size
+spelled_closed : (ls : List Layer) (l : Layer) (here : Forest) (old t b : List ℕ) → is_whole l.before ≡ true → old ++ t ≡ end_octets l.header.size
     → spelling_of_layers (l ∷ ls) ++ (spelling here ++ old) ≡ b → spelling_of_layers ls ++ (spelling (closed_here l here) ++ []) ≡ b ++ t
 spelled_closed ls l here old t b whole e f =
     ap (λ (s : List ℕ). spelling_of_layers ls ++ (s ++ [])) (spelling-followed_by l.before (Holder l.header here NoMore) whole)
@@ -38,7 +38,7 @@ spelled_closed ls l here old t b whole e f =
 regroup_yielded : (a b c d : List EventValue) (e : EventValue) → a ++ ((b ++ (c ++ (d ++ e ∷ []))) ++ []) ≡ ((a ++ (b ++ c)) ++ (d ++ [])) ++ e ∷ []
 regroup_yielded a b c d e = simp (append_assoc, append-nil) refl
 
-yielded_closed : (yielded : List EventValue) (ls : List Layer) (l : Layer) (here : Forest) → is_complete l.before ≡ true → AreEqualJoined yielded (events_of_layers (l ∷ ls) ++ (events here ++ []))
+yielded_closed : (yielded : List EventValue) (ls : List Layer) (l : Layer) (here : Forest) → is_whole l.before ≡ true → AreEqualJoined yielded (events_of_layers (l ∷ ls) ++ (events here ++ []))
     → AreEqualJoined (yielded ++ closing_event l.header here ∷ []) (events_of_layers ls ++ (events (closed_here l here) ++ []))
 yielded_closed yielded ls l here whole h =
     yielded_more yielded (events_of_layers (l ∷ ls) ++ (events here ++ [])) (closing_event l.header here ∷ []) (events_of_layers ls ++ (events (closed_here l here) ++ [])) h
@@ -60,9 +60,9 @@ pub close_state : (w v : WalkerState) (b : List ℕ) (yielded : List EventValue)
     → spelling_of_tail tail ++ t ≡ end_octets l.header.size → HasLength l.header.size (contents_length l.header here)
     → Fits (place_after (place_in w.framing ls) (length (spelling l.before))) (extent l.header here)
     → v ≡ record w { stack = drop 1 w.stack; phase = phase.Between; offset = w.offset + length t; events = w.events + 1 } → w.has_element ≡ true
-    → HasZipper v (b ++ t) (yielded ++ closing_event l.header here ∷ []) (record { layers = ls; here = closed_here l here; tail = Between })
+    → HasZipper v (b ++ t) (yielded ++ closing_event l.header here ∷ []) (record { layers = ls; here = closed_here l here; tail = NoTail })
 close_state w v b yielded l ls here tail t has stack quiet ends filled fits is_v element =
-    subst (λ (u : WalkerState). HasZipper u (b ++ t) (yielded ++ closing_event l.header here ∷ []) (record { layers = ls; here = closed_here l here; tail = Between })) (sym is_v) (record {
+    subst (λ (u : WalkerState). HasZipper u (b ++ t) (yielded ++ closing_event l.header here ∷ []) (record { layers = ls; here = closed_here l here; tail = NoTail })) (sym is_v) (record {
       spelled = spelled_closed ls l here (spelling_of_tail tail) t b has.layers.1.whole ends has.spelled;
       offset = omega (arith, has.offset, length-append b t);
       stack = ap (drop 1) stack;
@@ -92,14 +92,14 @@ closes_indefinite h here n k s e =
     ap (λ (c : Bool). if c then Close (end_offset h.size (h.offset + length (opening h) + length (spelling here))) else Leave) k
     ∙ ap (λ (t : Size). Close (end_offset t (h.offset + length (opening h) + length (spelling here)))) s ∙ ap (λ (m : ℕ). Close (Some m)) e
 
-second_from : (w : WalkerState) (b : List ℕ) (yielded : List EventValue) (s : Zipper) (ls : List Layer) → HasZipper w b yielded (with_layers s ls InEndOctets) → IsOpen (place_of w.framing (with_layers s ls InEndOctets)) OpenEndOctets
+second_from : (w : WalkerState) (b : List ℕ) (yielded : List EventValue) (s : Zipper) (ls : List Layer) → HasZipper w b yielded (with_layers s ls EndOctetsTail) → IsOpen (place_of w.framing (with_layers s ls EndOctetsTail)) OpenEndOctets
     → IsWithin (bound_of w.stack) (w.offset + 1)
     → (t : Zipper) × HasZipper (record w { stack = drop 1 w.stack; phase = phase.Between; offset = w.offset + 1; events = w.events + 1 }) (b ++ 0 ∷ []) (yielded ++ Close (Some (w.offset - 1)) ∷ []) t
 second_from w b yielded s [] has zero room = absurd (true≢false (sym zero.0))
 second_from w b yielded s (l ∷ ls) has zero room =
     let p : Place = place_after (place_in w.framing ls) (length (spelling l.before)) in
     let size : l.header.size ≡ Indefinite = size_indefinite l.header.size zero.0 in
-    let at : w.offset ≡ (place_of w.framing (with_layers s (l ∷ ls) InEndOctets)).offset + 1 = walker-offset w b yielded _ has in
+    let at : w.offset ≡ (place_of w.framing (with_layers s (l ∷ ls) EndOctetsTail)).offset + 1 = walker-offset w b yielded _ has in
     let header : l.header.offset ≡ p.offset = has.layers.2.header.offset in
     let k : l.header.constructed ≡ true = constructed_indefinite l.header.constructed l.header.size size has.layers.2.header.valid.allowed in
     let ends : end_octets l.header.size ≡ 0 ∷ 0 ∷ [] = ap end_octets size in
@@ -109,8 +109,8 @@ second_from w b yielded s (l ∷ ls) has zero room =
     let two : length (end_octets l.header.size) ≡ 2 = ap length ends in
     let fits : Fits p (extent l.header s.here) = subst (λ (n : ℕ). IsWithin p.bound n) (omega arith) outer in (
       _,
-      subst (λ (e : EventValue). HasZipper (record w { stack = drop 1 w.stack; phase = phase.Between; offset = w.offset + 1; events = w.events + 1 }) (b ++ 0 ∷ []) (yielded ++ e ∷ []) (record { layers = ls; here = closed_here l s.here; tail = Between })) event
-          (close_state w _ b yielded l ls s.here InEndOctets (0 ∷ []) has has.stack refl (sym ends) (length_of l.header Indefinite _ size tt) fits refl (has.element)),
+      subst (λ (e : EventValue). HasZipper (record w { stack = drop 1 w.stack; phase = phase.Between; offset = w.offset + 1; events = w.events + 1 }) (b ++ 0 ∷ []) (yielded ++ e ∷ []) (record { layers = ls; here = closed_here l s.here; tail = NoTail })) event
+          (close_state w _ b yielded l ls s.here EndOctetsTail (0 ∷ []) has has.stack refl (sym ends) (length_of l.header Indefinite _ size tt) fits refl (has.element)),
     )
 
 -- the second of the end-of-contents octets
@@ -121,8 +121,8 @@ yields_second w e room = record {
   found = refl;
   goes = λ b yielded s has.
       let t = lone_tail s.tail _ (phase_at w b yielded s _ e has) in
-      let has' : HasZipper w b yielded (with_tail s InEndOctets) = tail_state w b yielded s _ t has in
-      second_from w b yielded s s.layers has' (phase_at w b yielded (with_tail s InEndOctets) _ e has') room;
+      let has' : HasZipper w b yielded (with_tail s EndOctetsTail) = tail_state w b yielded s _ t has in
+      second_from w b yielded s s.layers has' (phase_at w b yielded (with_tail s EndOctetsTail) _ e has') room;
 }
 
 -- the event of the end of an element that is filled has no offset
@@ -134,7 +134,7 @@ closes_definite false s m o e = refl
 head_frame : (f g : FrameValue) (fs gs : List FrameValue) → f ∷ fs ≡ g ∷ gs → f ≡ g
 head_frame f g fs gs e = cc
 
-filled_from : (w : WalkerState) (b : List ℕ) (yielded : List EventValue) (s : Zipper) (ls : List Layer) → HasZipper w b yielded (with_layers s ls Between) → w.phase ≡ phase.Between
+filled_from : (w : WalkerState) (b : List ℕ) (yielded : List EventValue) (s : Zipper) (ls : List Layer) → HasZipper w b yielded (with_layers s ls NoTail) → w.phase ≡ phase.Between
     → (f : FrameValue) (fs : List FrameValue) → w.stack ≡ f ∷ fs → f.end ≡ Some w.offset
     → (t : Zipper) × HasZipper (record w { stack = drop 1 w.stack; events = w.events + 1 }) (b ++ []) (yielded ++ filled_end f ∷ []) t
 filled_from w b yielded s [] has e f fs is full = absurd (cc (has.stack))
@@ -142,7 +142,7 @@ filled_from w b yielded s (l ∷ ls) has e f fs is full =
     let p : Place = place_after (place_in w.framing ls) (length (spelling l.before)) in
     let same : f ≡ frame_at p l.header = head_frame f (frame_at p l.header) fs (frames_of w.framing ls) (sym is ∙ has.stack) in
     let size : (n : ℕ) × (l.header.size ≡ Definite n) × (p.offset + length (octets_of l.header) + n ≡ w.offset) = definite-size l.header.size _ w.offset (sym (ap (λ (g : FrameValue). g.end) same) ∙ full) in
-    let at : w.offset ≡ (place_of w.framing (with_layers s (l ∷ ls) Between)).offset + 0 = walker-offset w b yielded _ has in
+    let at : w.offset ≡ (place_of w.framing (with_layers s (l ∷ ls) NoTail)).offset + 0 = walker-offset w b yielded _ has in
     let long : contents_length l.header s.here ≡ size.0 = omega (arith, size.2, at, length-opening l.header) in
     let none : end_octets l.header.size ≡ [] = ap end_octets size.1 in
     let zero : length (end_octets l.header.size) ≡ 0 = ap length none in
@@ -151,8 +151,8 @@ filled_from w b yielded s (l ∷ ls) has e f fs is full =
     let fits : Fits p (extent l.header s.here) = subst (λ (n : ℕ). Fits p n) (omega (arith, long, zero, length-opening l.header)) entry in
     let still : w.offset ≡ w.offset + 0 = omega arith in (
       _,
-      subst (λ (t : EventValue). HasZipper (record w { stack = drop 1 w.stack; events = w.events + 1 }) (b ++ []) (yielded ++ t ∷ []) (record { layers = ls; here = closed_here l s.here; tail = Between })) event
-          (close_state w _ b yielded l ls s.here Between [] has has.stack refl (sym none) (length_of l.header (Definite size.0) _ size.1 long) fits
+      subst (λ (t : EventValue). HasZipper (record w { stack = drop 1 w.stack; events = w.events + 1 }) (b ++ []) (yielded ++ t ∷ []) (record { layers = ls; here = closed_here l s.here; tail = NoTail })) event
+          (close_state w _ b yielded l ls s.here NoTail [] has has.stack refl (sym none) (length_of l.header (Definite size.0) _ size.1 long) fits
           (λ i. record w { stack = drop 1 w.stack; phase = e i; offset = still i; events = w.events + 1 }) has.element),
     )
 

@@ -12,7 +12,7 @@ use Rattle.tlv_walk.specs.WalkerState.{WalkerState}
 use Rattle.tlv_walk.specs.Private.WalkerState.{after_header}
 use Rattle.tlv_walk.specs.Place.{Fits, IsEntry, IsHeaderAt, IsOpen, IsWithin, Place}
 use Rattle.tlv_walk.specs.Stack.{FrameValue, bound_of}
-use Rattle.tlv_walk.specs.Private.Zipper.{InBitString, Between, HasZipper, InPrimitive, InEndOctets, InHeader, IsPhaseOf, Layer, Tail, Zipper, events_of_layers, events_of_tail, frame_at, frames_of, place_in, place_of, spelling_of_layers, spelling_of_tail}
+use Rattle.tlv_walk.specs.Private.Zipper.{BitStringTail, NoTail, HasZipper, PrimitiveTail, EndOctetsTail, HeaderTail, IsPhaseOf, Layer, Tail, Zipper, events_of_layers, events_of_tail, frame_at, frames_of, place_in, place_of, spelling_of_layers, spelling_of_tail}
 use Rattle.tlv_walk.specs.Private.Yields.{Continues}
 use Rattle.tlv_walk.proofs.WalkerLemmas.Moves.{between_tail, phase_at, spelled_after, tail_state, yielded_after, with_tail}
 use Rattle.tlv_walk.proofs.WalkerLemmas.Places.{place-bound, place-depth, place-inside, walker-offset}
@@ -27,11 +27,11 @@ pub record AtHeader (w : WalkerState) (b : List ℕ) (yielded : List EventValue)
   pub stack : w.stack ≡ frames_of w.framing s.layers
 
 pub at_new : (w : WalkerState) (b : List ℕ) (yielded : List EventValue) (s : Zipper) (r : HeadReaderState) → HasZipper w b yielded s → w.phase ≡ phase.Between → r.octets ≡ [] → r.offset ≡ w.offset
-    → r.named ≡ is_among w.offset w.framing.inside → AtHeader w b yielded (with_tail s Between) r
+    → r.named ≡ is_among w.offset w.framing.inside → AtHeader w b yielded (with_tail s NoTail) r
 at_new w b yielded s r has e none at named =
-    let t : s.tail ≡ Between = between_tail s.tail _ (phase_at w b yielded s _ e has) in
-    let has' : HasZipper w b yielded (with_tail s Between) = tail_state w b yielded s _ t has in
-    let place : w.offset ≡ (place_of w.framing (with_tail s Between)).offset + 0 = walker-offset w b yielded _ has' in
+    let t : s.tail ≡ NoTail = between_tail s.tail _ (phase_at w b yielded s _ e has) in
+    let has' : HasZipper w b yielded (with_tail s NoTail) = tail_state w b yielded s _ t has in
+    let place : w.offset ≡ (place_of w.framing (with_tail s NoTail)).offset + 0 = walker-offset w b yielded _ has' in
     record {
       has = has';
       octets = sym none;
@@ -41,19 +41,19 @@ at_new w b yielded s r has e none at named =
       stack = has'.stack;
     }
 
-front_tail : (r : HeadReaderState) (t : Tail) (p : Place) → IsPhaseOf (phase.InHeader r) t p → (o : List ℕ) × (t ≡ InHeader o)
-front_tail r Between p x = absurd x
-front_tail r (InPrimitive h c) p x = absurd x
-front_tail r (InBitString h) p x = absurd x
-front_tail r (InHeader o) p x = (o, refl)
-front_tail r InEndOctets p x = absurd x
+front_tail : (r : HeadReaderState) (t : Tail) (p : Place) → IsPhaseOf (phase.InHeader r) t p → (o : List ℕ) × (t ≡ HeaderTail o)
+front_tail r NoTail p x = absurd x
+front_tail r (PrimitiveTail h c) p x = absurd x
+front_tail r (BitStringTail h) p x = absurd x
+front_tail r (HeaderTail o) p x = (o, refl)
+front_tail r EndOctetsTail p x = absurd x
 
 pub at_front : (w : WalkerState) (b : List ℕ) (yielded : List EventValue) (s : Zipper) (r : HeadReaderState) → HasZipper w b yielded s → w.phase ≡ phase.InHeader r
-    → (o : List ℕ) × AtHeader w b yielded (with_tail s (InHeader o)) r
+    → (o : List ℕ) × AtHeader w b yielded (with_tail s (HeaderTail o)) r
 at_front w b yielded s r has e =
     let t = front_tail r s.tail _ (phase_at w b yielded s _ e has) in
-    let has' : HasZipper w b yielded (with_tail s (InHeader t.0)) = tail_state w b yielded s _ t.1 has in
-    let at : IsPhaseOf (phase.InHeader r) (InHeader t.0) (place_of w.framing s) = phase_at w b yielded _ _ e has' in (
+    let has' : HasZipper w b yielded (with_tail s (HeaderTail t.0)) = tail_state w b yielded s _ t.1 has in
+    let at : IsPhaseOf (phase.InHeader r) (HeaderTail t.0) (place_of w.framing s) = phase_at w b yielded _ _ e has' in (
       t.0,
       record {
         has = has';
@@ -111,7 +111,7 @@ header_end w b yielded s r t h at c =
 -- a primitive begins
 pub primitive_state : (w : WalkerState) (b : List ℕ) (yielded : List EventValue) (s : Zipper) (r : HeadReaderState) (t : List ℕ) (h : HeaderValue) (n : ℕ) → AtHeader w b yielded s r → Completed w r t h
     → holds h ≡ false → h.size ≡ Definite n
-    → HasZipper (after_header w (phase.InPrimitive n) (h.offset + length (octets_of h))) (b ++ t) (yielded ++ Begin h ∷ []) (with_tail s (InPrimitive h []))
+    → HasZipper (after_header w (phase.InPrimitive n) (h.offset + length (octets_of h))) (b ++ t) (yielded ++ Begin h ∷ []) (with_tail s (PrimitiveTail h []))
 primitive_state w b yielded s r t h n at c e size =
     let zero : n ≡ 0 + n = omega arith in
     record {
@@ -147,7 +147,7 @@ opening_event h = if h.constructed then Open h else Enter h
 pub holding_state : (w : WalkerState) (b : List ℕ) (yielded : List EventValue) (s : Zipper) (r : HeadReaderState) (t : List ℕ) (h : HeaderValue) (k : ℕ) → AtHeader w b yielded s r → Completed w r t h
     → holds h ≡ true → lead h ≡ []
     → HasZipper (record (after_header w phase.Between (h.offset + length (octets_of h))) { stack = frame_at (place_of w.framing s) h ∷ w.stack; wrapper_count = k }) (b ++ t) (yielded ++ opening_event h ∷ [])
-    (record { layers = record { before = s.here; header = h } ∷ s.layers; here = NoMore; tail = Between })
+    (record { layers = record { before = s.here; header = h } ∷ s.layers; here = NoMore; tail = NoTail })
 holding_state w b yielded s r t h k at c e none = record {
   spelled = layer_spelled s.layers s.here h (spelling_of_tail s.tail) t b
       (ap (λ (o : List ℕ). o ++ t) at.octets ∙ (sym c.octets ∙ (sym (append-nil (octets_of h)) ∙ ap (λ (l : List ℕ). octets_of h ++ l) (sym none)))) at.has.spelled;
@@ -164,7 +164,7 @@ holding_state w b yielded s r t h k at c e none = record {
 pub lead_state : (w : WalkerState) (b : List ℕ) (yielded : List EventValue) (s : Zipper) (r : HeadReaderState) (t : List ℕ) (h : HeaderValue) (k : ℕ) → AtHeader w b yielded s r → Completed w r t h
     → holds h ≡ true → lead h ≡ 0 ∷ []
     → HasZipper (record (after_header w phase.InBitString (h.offset + length (octets_of h))) { stack = frame_at (place_of w.framing s) h ∷ w.stack; wrapper_count = k }) (b ++ t) (yielded ++ Enter h ∷ [])
-    (with_tail s (InBitString h))
+    (with_tail s (BitStringTail h))
 lead_state w b yielded s r t h k at c e one = record {
   spelled = spelled_after s.layers s.here (spelling_of_tail s.tail) (octets_of h) t b (c.octets ∙ ap (λ (o : List ℕ). o ++ t) (sym at.octets)) at.has.spelled;
   offset = header_end w b yielded s r t h at c;
@@ -177,12 +177,12 @@ lead_state w b yielded s r t h k at c e one = record {
 }
 
 -- its first contents octet
-pub lead_tail : (t : Tail) (p : Place) → IsPhaseOf phase.InBitString t p → (h : HeaderValue) × (t ≡ InBitString h)
-lead_tail Between p x = absurd x
-lead_tail (InPrimitive h c) p x = absurd x
-lead_tail (InBitString h) p x = (h, refl)
-lead_tail (InHeader o) p x = absurd x
-lead_tail InEndOctets p x = absurd x
+pub lead_tail : (t : Tail) (p : Place) → IsPhaseOf phase.InBitString t p → (h : HeaderValue) × (t ≡ BitStringTail h)
+lead_tail NoTail p x = absurd x
+lead_tail (PrimitiveTail h c) p x = absurd x
+lead_tail (BitStringTail h) p x = (h, refl)
+lead_tail (HeaderTail o) p x = absurd x
+lead_tail EndOctetsTail p x = absurd x
 
 abbrev pub lead_by : Bool → Bool → List ℕ
 lead_by constructed bits = if constructed then [] else (if bits then 0 ∷ [] else [])
@@ -191,9 +191,9 @@ lead_primitive : (k n : Bool) → lead_by k n ≡ 0 ∷ [] → k ≡ false
 lead_primitive true n e = absurd (cc)
 lead_primitive false n e = refl
 
-unused_state : (w : WalkerState) (b : List ℕ) (yielded : List EventValue) (s : Zipper) (h : HeaderValue) → HasZipper w b yielded (with_tail s (InBitString h)) → IsOpen (place_of w.framing s) (OpenBitString h)
+unused_state : (w : WalkerState) (b : List ℕ) (yielded : List EventValue) (s : Zipper) (h : HeaderValue) → HasZipper w b yielded (with_tail s (BitStringTail h)) → IsOpen (place_of w.framing s) (OpenBitString h)
     → HasZipper (record w { phase = phase.Between; offset = w.offset + 1; events = w.events + 1 }) (b ++ 0 ∷ []) (yielded ++ Unused ∷ [])
-    (record { layers = record { before = s.here; header = h } ∷ s.layers; here = NoMore; tail = Between })
+    (record { layers = record { before = s.here; header = h } ∷ s.layers; here = NoMore; tail = NoTail })
 unused_state w b yielded s h has a =
     let k : h.constructed ≡ false = lead_primitive h.constructed (eqb h.number 3) a.1 in
     record {
@@ -215,14 +215,14 @@ yields_unused w e = record {
   found = refl;
   goes = λ b yielded s has.
       let t = lead_tail s.tail _ (phase_at w b yielded s _ e has) in
-      let has' : HasZipper w b yielded (with_tail s (InBitString t.0)) = tail_state w b yielded s _ t.1 has in
-      (_, unused_state w b yielded s t.0 has' (phase_at w b yielded (with_tail s (InBitString t.0)) _ e has'));
+      let has' : HasZipper w b yielded (with_tail s (BitStringTail t.0)) = tail_state w b yielded s _ t.1 has in
+      (_, unused_state w b yielded s t.0 has' (phase_at w b yielded (with_tail s (BitStringTail t.0)) _ e has'));
 }
 
 -- more octets of a header
 pub front_state : (w : WalkerState) (b : List ℕ) (yielded : List EventValue) (s : Zipper) (r q : HeadReaderState) (t : List ℕ) → AtHeader w b yielded s r → q.octets ≡ r.octets ++ t → q.offset ≡ r.offset
     → q.named ≡ r.named → (q.octets ≡ [] → ⊥) → IsHeaderPrefix q.octets → IsWithin (bound_of w.stack) (q.offset + length q.octets)
-    → HasZipper (record w { phase = phase.InHeader q; offset = q.offset + length q.octets; has_element = true }) (b ++ t) (yielded ++ []) (with_tail s (InHeader q.octets))
+    → HasZipper (record w { phase = phase.InHeader q; offset = q.offset + length q.octets; has_element = true }) (b ++ t) (yielded ++ []) (with_tail s (HeaderTail q.octets))
 front_state w b yielded s r q t at o f n some front fits =
     let bound : bound_of w.stack ≡ (place_in w.framing s.layers).bound = ap bound_of at.stack ∙ sym (place-bound w.framing s.layers) in
     let place : q.offset ≡ (place_of w.framing s).offset = f ∙ at.offset in

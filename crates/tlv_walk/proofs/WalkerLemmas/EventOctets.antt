@@ -10,10 +10,10 @@ use Rattle.tlv_walk.specs.Phase.{PhaseValue}
 use Rattle.tlv_walk.specs.Phase as phase
 use Rattle.tlv_walk.specs.DriveJob.{event_octets}
 use Rattle.tlv_walk.specs.Events.{AreEqualJoined, Begin, Bytes, Close, End, Enter, EventValue, Leave, Open, Pad, Unused, closing_event, end_offset, events, opening_events, single_octets}
-use Rattle.tlv_walk.specs.Forest.{Forest, NoMore, PaddingOctet, Primitive, Holder, OpenPrimitive, OpenHolder, OpenBitString, OpenHeader, OpenEndOctets, end_octets, extent, is_complete, lead, opening, spelling}
+use Rattle.tlv_walk.specs.Forest.{Forest, NoMore, PaddingOctet, Primitive, Holder, OpenPrimitive, OpenHolder, OpenBitString, OpenHeader, OpenEndOctets, end_octets, extent, is_whole, lead, opening, spelling}
 use Rattle.tlv_walk.specs.WalkerState.{IsAfterEvent, WalkerState}
 use Rattle.tlv_walk.specs.Place.{IsHeaderAt, IsOpen, Place, place_after, place_of_children}
-use Rattle.tlv_walk.specs.Private.Zipper.{AreLayers, InBitString, Between, HasZipper, InPrimitive, InEndOctets, InHeader, IsPhaseOf, Layer, Tail, Zipper, events_of_layers, events_of_tail, events_of_zipper, place_in, place_of, spelling_of_layers, spelling_of_tail}
+use Rattle.tlv_walk.specs.Private.Zipper.{AreLayers, BitStringTail, NoTail, HasZipper, PrimitiveTail, EndOctetsTail, HeaderTail, IsPhaseOf, Layer, Tail, Zipper, events_of_layers, events_of_tail, events_of_zipper, place_in, place_of, spelling_of_layers, spelling_of_tail}
 use Rattle.tlv_walk.specs.Stands.{Stands}
 use Rattle.tlv_walk.proofs.EventLemmas.Joined.{apart-from_joined}
 
@@ -85,7 +85,7 @@ octets_append : (xs ys : List EventValue) → flat_map event_octets (xs ++ ys) �
 octets_append xs ys = flat_map-append event_octets xs ys
 
 -- of whole elements
-octets_whole : (p : Place) (f : Forest) → IsOpen p f → is_complete f ≡ true → flat_map event_octets (events f) ≡ spelling f
+octets_whole : (p : Place) (f : Forest) → IsOpen p f → is_whole f ≡ true → flat_map event_octets (events f) ≡ spelling f
 octets_whole p NoMore o e = refl
 octets_whole p (PaddingOctet rest) o e = ap (λ (l : List ℕ). 0 ∷ l) (octets_whole (place_after p 1) rest o.1 e)
 octets_whole p (Primitive h c rest) o e = ap (λ (l : List ℕ). octets_of h ++ (c ++ l)) (octets_whole (place_after p (length (octets_of h) + length c)) rest o.1 e)
@@ -118,11 +118,11 @@ octets_layers w (l ∷ ls) a =
     )
 
 octets_tail : (f : PhaseValue) (t : Tail) (p : Place) → IsPhaseOf f t p → IsAfterEvent f → flat_map event_octets (events_of_tail t) ≡ spelling_of_tail t
-octets_tail phase.Between Between p i k = refl
-octets_tail (phase.InHeader r) (InHeader octets) p i k = absurd k
-octets_tail (phase.InPrimitive left) (InPrimitive h c) p i k = ap (λ (l : List ℕ). octets_of h ++ l) (append-nil c)
-octets_tail phase.InBitString (InBitString h) p i k = append-nil (octets_of h)
-octets_tail phase.InEndOctets InEndOctets p i k = absurd k
+octets_tail phase.Between NoTail p i k = refl
+octets_tail (phase.InHeader r) (HeaderTail octets) p i k = absurd k
+octets_tail (phase.InPrimitive left) (PrimitiveTail h c) p i k = ap (λ (l : List ℕ). octets_of h ++ l) (append-nil c)
+octets_tail phase.InBitString (BitStringTail h) p i k = append-nil (octets_of h)
+octets_tail phase.InEndOctets EndOctetsTail p i k = absurd k
 octets_tail f t p i k = absurd i
 
 -- a walker that has yielded an event of each octet

@@ -24,7 +24,7 @@ use Rattle.tlv_walk.specs.Place.{IsWithin}
 use Rattle.tlv_walk.specs.Private.Yields.{Continues}
 use Rattle.tlv_head.specs.ReadHeader.{BeginsWithFields}
 use Rattle.tlv_head.specs.Refusal.{BeginsWith}
-use Rattle.tlv_walk.specs.Private.Zipper.{Between, HasZipper, InPrimitive, Zipper, frame_at, place_of}
+use Rattle.tlv_walk.specs.Private.Zipper.{NoTail, HasZipper, PrimitiveTail, Zipper, frame_at, place_of}
 use Rattle.tlv_walk.proofs.WalkerLemmas.Entering.{AtHeader, Completed, at_new, holding_state, lead_by, lead_state, primitive_state}
 use Rattle.tlv_walk.proofs.WalkerLemmas.Moves.{with_tail}
 use Rattle.tlv_walk.proofs.WalkerLemmas.Places.{place-bound}
@@ -66,7 +66,7 @@ or-right a b e f = ap (λ (x : Bool). x || b) e ∙ f
 
 -- the state inside an element that has just begun
 abbrev inside_state : Zipper → HeaderValue → Zipper
-inside_state s h = record { layers = record { before = s.here; header = h } ∷ s.layers; here = NoMore; tail = Between }
+inside_state s h = record { layers = record { before = s.here; header = h } ∷ s.layers; here = NoMore; tail = NoTail }
 
 constructed_enters : (w : WalkerState) (b : List ℕ) (yielded : List EventValue) (s : Zipper) (r : HeadReaderState) (t : List ℕ) (h : HeaderValue) → AtHeader w b yielded s r → Completed w r t h → h.constructed ≡ true
     → (u : Zipper) × HasZipper (machine_in_element w h phase.Between w.wrapper_count) (b ++ t) (yielded ++ Open h ∷ []) u
@@ -98,7 +98,7 @@ primitive_enters : (w : WalkerState) (b : List ℕ) (yielded : List EventValue) 
 primitive_enters w b yielded s r t h at c no_hold =
     let size : (n : ℕ) × (h.size ≡ Definite n) = size-definite h c.valid no_hold in (
       _,
-      subst (λ (n : ℕ). HasZipper (after_header w (phase.InPrimitive n) (h.offset + length (octets_of h))) (b ++ t) (yielded ++ Begin h ∷ []) (with_tail s (InPrimitive h []))) (sym (ap announced_length size.1))
+      subst (λ (n : ℕ). HasZipper (after_header w (phase.InPrimitive n) (h.offset + length (octets_of h))) (b ++ t) (yielded ++ Begin h ∷ []) (with_tail s (PrimitiveTail h []))) (sym (ap announced_length size.1))
           (primitive_state w b yielded s r t h size.0 at c no_hold size.1),
     )
 
@@ -150,7 +150,7 @@ fast_enters w v piece named f count o k e begins front name shallow fits enter =
       framing = enters_framing w v f (f.offset + length o) k enter;
       found = enters_found w v f o (f.offset + length o) k enter;
       goes = λ b yielded s has.
-          enters_state w v b yielded (with_tail s Between) r o f o k (at_new w b yielded s r has e refl refl name) completed
+          enters_state w v b yielded (with_tail s NoTail) r o f o k (at_new w b yielded s r has e refl refl name) completed
           (subst (λ (x : List ℕ). TakesHeader w v f (f.offset + length x) k) (sym whole) enter);
     }
 

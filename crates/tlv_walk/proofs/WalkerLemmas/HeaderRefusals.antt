@@ -21,7 +21,7 @@ use Rattle.tlv_walk.specs.Place.{Fits, IsHeaderAt, IsWithin, Place}
 use Rattle.tlv_walk.specs.Private.ReadsOn.{HandsOver}
 use Rattle.tlv_walk.specs.Stack.{FrameValue, bound_of}
 use Rattle.tlv_walk.specs.Private.Stack.{room_to}
-use Rattle.tlv_walk.specs.Private.Zipper.{HasZipper, InHeader, Zipper, place_of}
+use Rattle.tlv_walk.specs.Private.Zipper.{HasZipper, HeaderTail, Zipper, place_of}
 use Rattle.tlv_walk.specs.Private.Yields.{RefusesOctet}
 use Rattle.tlv_walk.proofs.WalkerLemmas.HeaderSteps.{HasTaken, TakenState, in_header, taken_state}
 use Rattle.tlv_walk.proofs.WalkerLemmas.Moves.{phase_at, with_tail}
@@ -100,11 +100,11 @@ refused_fault p q room depth x code k (push.overrun left h completes shallow pas
 -- ---- a walker refuses it
 
 -- the reader of a walker inside a header stands where its state says
-reader_there : (w : WalkerState) (b : List ℕ) (yielded : List EventValue) (s : Zipper) (q : HeadReaderState) (depth : ℕ) → w.phase ≡ phase.InHeader q → HasZipper w b yielded (with_tail s (InHeader q.octets)) → depth ≡ length w.stack
+reader_there : (w : WalkerState) (b : List ℕ) (yielded : List EventValue) (s : Zipper) (q : HeadReaderState) (depth : ℕ) → w.phase ≡ phase.InHeader q → HasZipper w b yielded (with_tail s (HeaderTail q.octets)) → depth ≡ length w.stack
     → IsReader (place_of w.framing s) q (room_to (bound_of w.stack) (q.offset + length q.octets)) depth
 reader_there w b yielded s q depth e has d =
     let p : Place = place_of w.framing s in
-    let at = phase_at w b yielded (with_tail s (InHeader q.octets)) (phase.InHeader q) e has in
+    let at = phase_at w b yielded (with_tail s (HeaderTail q.octets)) (phase.InHeader q) e has in
     let bound : bound_of w.stack ≡ p.bound = ap bound_of has.stack ∙ sym (place-bound w.framing s.layers) in
     record {
       offset = at.1;
@@ -128,8 +128,8 @@ refuses_header w u r q piece rest others x depth offset f over k e within place 
       rest_is = e;
       refuses = λ b yielded s has.
           let t : TakenState w u q k.taken b yielded = taken_state w u r q piece rest over k some (subst (IsWithin (bound_of u.stack)) (sym place) within) b yielded s has in
-          let has' : HasZipper (in_header w q) (b ++ k.taken) yielded (with_tail t.state (InHeader q.octets)) =
-          subst (λ (es : List EventValue). HasZipper (in_header w q) (b ++ k.taken) es (with_tail t.state (InHeader q.octets))) (append-nil yielded) t.has in
+          let has' : HasZipper (in_header w q) (b ++ k.taken) yielded (with_tail t.state (HeaderTail q.octets)) =
+          subst (λ (es : List EventValue). HasZipper (in_header w q) (b ++ k.taken) es (with_tail t.state (HeaderTail q.octets))) (append-nil yielded) t.has in
           let same : u.stack ≡ w.stack = ap (λ (m : WalkerState). m.stack) t.same in
           let left : room_to (bound_of u.stack) offset ≡ room_to (bound_of w.stack) (q.offset + length q.octets) =
           ap (λ (fs : List FrameValue). room_to (bound_of fs) offset) same ∙ ap (room_to (bound_of w.stack)) (sym place) in
@@ -137,12 +137,12 @@ refuses_header w u r q piece rest others x depth offset f over k e within place 
           refused_fault _ q _ depth x f.code (reader_there (in_header w q) (b ++ k.taken) yielded t.state q depth refl has' (deep ∙ ap length same))
           (subst (λ (o : Option ℕ). IsRefusedPush q x o depth f.code) left refused) in record {
             walker = in_header w q;
-            state = with_tail t.state (InHeader q.octets);
+            state = with_tail t.state (HeaderTail q.octets);
             has_state = has';
             idle = refl;
             offset = there;
             ends = λ c. subst (λ (n : ℕ). IsEnding w.framing ((b ++ k.taken) ++ x ∷ c) (fault_ending f.code n)) (sym has'.offset ∙ sym there)
-                (state-fault (in_header w q) (b ++ k.taken) yielded (with_tail t.state (InHeader q.octets)) x c f.code has' (λ z. z) faulty);
+                (state-fault (in_header w q) (b ++ k.taken) yielded (with_tail t.state (HeaderTail q.octets)) x c f.code has' (λ z. z) faulty);
             framing = refl;
             stack = refl;
           };

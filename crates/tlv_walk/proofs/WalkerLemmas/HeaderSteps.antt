@@ -24,7 +24,7 @@ use Rattle.tlv_walk.specs.Private.ReadsOn.{HandsOver, YieldsHeader}
 use Rattle.tlv_walk.specs.Stack.{bound_of}
 use Rattle.tlv_walk.specs.Place.{IsWithin}
 use Rattle.tlv_walk.specs.Private.Stack.{room_to}
-use Rattle.tlv_walk.specs.Private.Zipper.{Between, HasZipper, InHeader, IsPhaseOf, Zipper, place_of}
+use Rattle.tlv_walk.specs.Private.Zipper.{NoTail, HasZipper, HeaderTail, IsPhaseOf, Zipper, place_of}
 use Rattle.tlv_walk.specs.Private.Yields.{Continues, YieldsEvent}
 use Rattle.tlv_walk.proofs.WalkerLemmas.Entering.{AtHeader, Completed, at_front, at_new, front_state}
 use Rattle.tlv_walk.proofs.WalkerLemmas.HeaderKinds.{enters_found, enters_framing, enters_state, event_of}
@@ -37,9 +37,9 @@ pub handed : (w u : WalkerState) (r : HeadReaderState) → HandsOver w u r → (
     → (t : Zipper) × AtHeader w b yielded t r × (u ≡ record w { phase = phase.Between; has_element = true })
 handed w u r (inl h) b yielded s has =
     let a = at_front w b yielded s r has h.0 in
-    (with_tail s (InHeader a.0), a.1, h.1 ∙ ap (λ (k : Bool). record w { phase = phase.Between; has_element = k }) a.1.has.element)
+    (with_tail s (HeaderTail a.0), a.1, h.1 ∙ ap (λ (k : Bool). record w { phase = phase.Between; has_element = k }) a.1.has.element)
 handed w u r (inr h) b yielded s has = (
-  with_tail s Between,
+  with_tail s NoTail,
   at_new w b yielded s r has h.0.phase h.0.none h.0.offset h.0.named,
   h.1 ∙ ap (λ (f : PhaseValue). record w { phase = f; has_element = true }) h.0.phase,
 )
@@ -48,7 +48,7 @@ handed w u r (inr h) b yielded s has = (
 handed_front : (w u : WalkerState) (r : HeadReaderState) → HandsOver w u r → (b : List ℕ) (yielded : List EventValue) (s : Zipper) → HasZipper w b yielded s → (r.octets ≡ [] → ⊥) → IsHeaderPrefix r.octets
 handed_front w u r (inl h) b yielded s has some =
     let a = at_front w b yielded s r has h.0 in
-    let at : IsPhaseOf (phase.InHeader r) (InHeader a.0) (place_of w.framing s) = phase_at w b yielded _ _ h.0 a.1.has in
+    let at : IsPhaseOf (phase.InHeader r) (HeaderTail a.0) (place_of w.framing s) = phase_at w b yielded _ _ h.0 a.1.has in
     subst IsHeaderPrefix (sym at.0) at.3.1
 handed_front w u r (inr h) b yielded s has some = absurd (some h.0.none)
 
@@ -86,7 +86,7 @@ in_header w q = record w { phase = phase.InHeader q; offset = q.offset + length 
 -- the state after them, of the walker that the reader was taken from
 pub record TakenState (w u : WalkerState) (q : HeadReaderState) (t b : List ℕ) (yielded : List EventValue) : Type 0 where
   pub state : Zipper
-  pub has : HasZipper (in_header w q) (b ++ t) (yielded ++ []) (with_tail state (InHeader q.octets))
+  pub has : HasZipper (in_header w q) (b ++ t) (yielded ++ []) (with_tail state (HeaderTail q.octets))
   pub same : u ≡ record w { phase = phase.Between; has_element = true }
 
 pub taken_state : (w u : WalkerState) (r q : HeadReaderState) (piece rest : List ℕ) → HandsOver w u r → (k : HasTaken r q piece rest) → (q.octets ≡ [] → ⊥)
@@ -120,9 +120,9 @@ yields_unfinished w u r q piece offset over k some e fits = record {
       let new : in_header w q ≡ record u { phase = phase.InHeader q; offset = offset } =
       ap (λ (n : ℕ). record w { phase = phase.InHeader q; offset = n; has_element = true }) e ∙ ap (λ (m : WalkerState). record m { phase = phase.InHeader q; offset = offset }) (sym t.same) in
       let all : k.taken ≡ piece = sym (k.piece_is ∙ append-nil k.taken) in (
-        with_tail t.state (InHeader q.octets),
-        subst (λ (m : WalkerState). HasZipper m (b ++ piece) (yielded ++ []) (with_tail t.state (InHeader q.octets))) new
-            (subst (λ (o : List ℕ). HasZipper (in_header w q) (b ++ o) (yielded ++ []) (with_tail t.state (InHeader q.octets))) all t.has),
+        with_tail t.state (HeaderTail q.octets),
+        subst (λ (m : WalkerState). HasZipper m (b ++ piece) (yielded ++ []) (with_tail t.state (HeaderTail q.octets))) new
+            (subst (λ (o : List ℕ). HasZipper (in_header w q) (b ++ o) (yielded ++ []) (with_tail t.state (HeaderTail q.octets))) all t.has),
       );
 }
 

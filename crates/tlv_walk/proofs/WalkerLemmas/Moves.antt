@@ -7,7 +7,7 @@ use Rattle.tlv_head.specs.Header.{HeaderValue, octets_of}
 use Rattle.tlv_walk.specs.Phase.{PhaseValue}
 use Rattle.tlv_walk.specs.Phase as phase
 use Rattle.tlv_walk.specs.Events.{AreEqualJoined, Begin, Bytes, End, EventValue, events, single_octets}
-use Rattle.tlv_walk.specs.Forest.{Forest, NoMore, PaddingOctet, Primitive, Holder, OpenPrimitive, OpenHolder, OpenBitString, OpenHeader, OpenEndOctets, has_element, is_complete, spelling}
+use Rattle.tlv_walk.specs.Forest.{Forest, NoMore, PaddingOctet, Primitive, Holder, OpenPrimitive, OpenHolder, OpenBitString, OpenHeader, OpenEndOctets, has_element, is_whole, spelling}
 use Rattle.tlv_walk.specs.declared.framing.Framing.{Framing}
 use Rattle.tlv_walk.specs.WalkerState.{WalkerState}
 use Rattle.tlv_walk.specs.Private.WrapperCount.{next_wrapper, wrappers_after}
@@ -15,7 +15,7 @@ use Rattle.tlv_walk.specs.Wrappers.{entered_offsets}
 use Rattle.tlv_walk.proofs.EventLemmas.Wrappers.{enters-append}
 use Rattle.tlv_walk.specs.Place.{Fits, IsOpen, IsWithin, Place, is_indefinite, place_after}
 use Rattle.tlv_walk.specs.Stack.{FrameValue, IsInIndefinite, bound_of}
-use Rattle.tlv_walk.specs.Private.Zipper.{AreWhole, InBitString, Between, HasZipper, InPrimitive, InEndOctets, InHeader, IsContents, IsPhaseOf, Layer, Tail, Zipper, begins_among, events_of_layers, frames_of, place_in, place_of, spelling_of_layers}
+use Rattle.tlv_walk.specs.Private.Zipper.{AreWhole, BitStringTail, NoTail, HasZipper, PrimitiveTail, EndOctetsTail, HeaderTail, IsContents, IsPhaseOf, Layer, Tail, Zipper, begins_among, events_of_layers, frames_of, place_in, place_of, spelling_of_layers}
 use Rattle.tlv_walk.specs.Private.Yields.{Continues}
 use Rattle.tlv_walk.proofs.EventLemmas.Joined.{apart-before, apart-from_joined, apart-more, joined-from_apart}
 use Rattle.tlv_walk.proofs.GrammarLemmas.Spellings.{append_assoc-3}
@@ -66,23 +66,23 @@ spelled_after ls here old new t b e f =
     ap (λ (s : List ℕ). spelling_of_layers ls ++ (spelling here ++ s)) e ∙ (sym (append_assoc-3 (spelling_of_layers ls) (spelling here) old t) ∙ ap (λ (s : List ℕ). s ++ t) f)
 
 -- the same, if the open end is whole now
-pub yielded_whole : (yielded : List EventValue) (ls : List Layer) (here new : Forest) (old more : List EventValue) → is_complete here ≡ true → AreEqualJoined yielded (events_of_layers ls ++ (events here ++ old))
+pub yielded_whole : (yielded : List EventValue) (ls : List Layer) (here new : Forest) (old more : List EventValue) → is_whole here ≡ true → AreEqualJoined yielded (events_of_layers ls ++ (events here ++ old))
     → single_octets (events new) ≡ single_octets (old ++ more) → AreEqualJoined (yielded ++ more) (events_of_layers ls ++ (events (followed_by here new) ++ []))
 yielded_whole yielded ls here new old more whole h e =
     subst (λ (es : List EventValue). AreEqualJoined (yielded ++ more) (events_of_layers ls ++ es)) (sym (append-nil (events (followed_by here new)) ∙ events-followed_by here new whole))
     (yielded_after yielded ls here old (events new) more h e)
 
-pub spelled_whole : (ls : List Layer) (here more : Forest) (old t b : List ℕ) → is_complete here ≡ true → spelling more ≡ old ++ t → spelling_of_layers ls ++ (spelling here ++ old) ≡ b
+pub spelled_whole : (ls : List Layer) (here more : Forest) (old t b : List ℕ) → is_whole here ≡ true → spelling more ≡ old ++ t → spelling_of_layers ls ++ (spelling here ++ old) ≡ b
     → spelling_of_layers ls ++ (spelling (followed_by here more) ++ []) ≡ b ++ t
 spelled_whole ls here more old t b whole e f =
     ap (λ (s : List ℕ). spelling_of_layers ls ++ s) (append-nil (spelling (followed_by here more)) ∙ spelling-followed_by here more whole) ∙ spelled_after ls here old (spelling more) t b e f
 
 -- whole elements, and then one more
-pub are_whole : (p : Place) (here more : Forest) → AreWhole p here → IsOpen (place_after p (length (spelling here))) more → is_complete more ≡ true → AreWhole p (followed_by here more)
+pub are_whole : (p : Place) (here more : Forest) → AreWhole p here → IsOpen (place_after p (length (spelling here))) more → is_whole more ≡ true → AreWhole p (followed_by here more)
 are_whole p here more h o w = record { is_open = open-followed_by p here more h o; whole = whole-followed_by here more h.whole ∙ w }
 
 -- an element came
-pub element-either : (f g : Forest) → is_complete f ≡ true → has_element (followed_by f g) ≡ (has_element f || has_element g)
+pub element-either : (f g : Forest) → is_whole f ≡ true → has_element (followed_by f g) ≡ (has_element f || has_element g)
 element-either NoMore g e = refl
 element-either (PaddingOctet rest) g e = element-either rest g e
 element-either (Primitive h c rest) g e = refl
@@ -93,7 +93,7 @@ element-either (OpenBitString h) g e = absurd (cc)
 element-either (OpenHeader octets) g e = absurd (cc)
 element-either OpenEndOctets g e = absurd (cc)
 
-pub began : (ls : List Layer) (here more : Forest) → is_complete here ≡ true → has_element more ≡ true → begins_among ls (followed_by here more) ≡ true
+pub began : (ls : List Layer) (here more : Forest) → is_whole here ≡ true → has_element more ≡ true → begins_among ls (followed_by here more) ≡ true
 began [] here more w e = element-either here more w ∙ (ap (λ (k : Bool). has_element here || k) e ∙ or-true (has_element here))
 began (l ∷ ls) here more w e = refl
 
@@ -108,17 +108,17 @@ pub phase_at : (w : WalkerState) (b : List ℕ) (yielded : List EventValue) (s :
 phase_at w b yielded s f e has = subst (λ (g : PhaseValue). IsPhaseOf g s.tail (place_of w.framing s)) e has.phase
 
 -- contents of a primitive
-contents_tail : (left : ℕ) (t : Tail) (p : Place) → IsPhaseOf (phase.InPrimitive left) t p → (h : HeaderValue) × (c : List ℕ) × (t ≡ InPrimitive h c)
-contents_tail left Between p x = absurd x
-contents_tail left (InPrimitive h c) p x = (h, c, refl)
-contents_tail left (InBitString h) p x = absurd x
-contents_tail left (InHeader o) p x = absurd x
-contents_tail left InEndOctets p x = absurd x
+contents_tail : (left : ℕ) (t : Tail) (p : Place) → IsPhaseOf (phase.InPrimitive left) t p → (h : HeaderValue) × (c : List ℕ) × (t ≡ PrimitiveTail h c)
+contents_tail left NoTail p x = absurd x
+contents_tail left (PrimitiveTail h c) p x = (h, c, refl)
+contents_tail left (BitStringTail h) p x = absurd x
+contents_tail left (HeaderTail o) p x = absurd x
+contents_tail left EndOctetsTail p x = absurd x
 
 contents_state : (w : WalkerState) (b : List ℕ) (yielded : List EventValue) (s : Zipper) (h : HeaderValue) (c t : List ℕ) (left : ℕ)
-    → HasZipper w b yielded (with_tail s (InPrimitive h c)) → w.phase ≡ phase.InPrimitive left → length t ≤ left
+    → HasZipper w b yielded (with_tail s (PrimitiveTail h c)) → w.phase ≡ phase.InPrimitive left → length t ≤ left
     → HasZipper (record w { phase = phase.InPrimitive (left - length t); offset = w.offset + length t; events = w.events + 1 }) (b ++ t) (yielded ++ Bytes t ∷ [])
-    (with_tail s (InPrimitive h (c ++ t)))
+    (with_tail s (PrimitiveTail h (c ++ t)))
 contents_state w b yielded s h c t left has e most =
     let k : IsContents (place_of w.framing s) h c left = phase_at w b yielded _ _ e has in
     let same : length c + left ≡ length (c ++ t) + (left - length t) = omega (arith, length-append c t) in
@@ -152,9 +152,9 @@ yields_contents w left t n e most len =
     })
 
 -- the end of a primitive
-end_state : (w : WalkerState) (b : List ℕ) (yielded : List EventValue) (s : Zipper) (h : HeaderValue) (c : List ℕ) → HasZipper w b yielded (with_tail s (InPrimitive h c)) → w.phase ≡ phase.InPrimitive 0
+end_state : (w : WalkerState) (b : List ℕ) (yielded : List EventValue) (s : Zipper) (h : HeaderValue) (c : List ℕ) → HasZipper w b yielded (with_tail s (PrimitiveTail h c)) → w.phase ≡ phase.InPrimitive 0
     → HasZipper (record w { phase = phase.Between; events = w.events + 1 }) (b ++ []) (yielded ++ End ∷ [])
-    (record { layers = s.layers; here = followed_by s.here (Primitive h c NoMore); tail = Between })
+    (record { layers = s.layers; here = followed_by s.here (Primitive h c NoMore); tail = NoTail })
 end_state w b yielded s h c has e =
     let p : Place = place_of w.framing s in
     let k : IsContents p h c 0 = phase_at w b yielded _ _ e has in
@@ -180,19 +180,19 @@ yields_end w e = record {
 }
 
 -- between elements
-pub between_tail : (t : Tail) (p : Place) → IsPhaseOf phase.Between t p → t ≡ Between
-between_tail Between p x = refl
-between_tail (InPrimitive h c) p x = absurd x
-between_tail (InBitString h) p x = absurd x
-between_tail (InHeader o) p x = absurd x
-between_tail InEndOctets p x = absurd x
+pub between_tail : (t : Tail) (p : Place) → IsPhaseOf phase.Between t p → t ≡ NoTail
+between_tail NoTail p x = refl
+between_tail (PrimitiveTail h c) p x = absurd x
+between_tail (BitStringTail h) p x = absurd x
+between_tail (HeaderTail o) p x = absurd x
+between_tail EndOctetsTail p x = absurd x
 
-pub lone_tail : (t : Tail) (p : Place) → IsPhaseOf phase.InEndOctets t p → t ≡ InEndOctets
-lone_tail Between p x = absurd x
-lone_tail (InPrimitive h c) p x = absurd x
-lone_tail (InBitString h) p x = absurd x
-lone_tail (InHeader o) p x = absurd x
-lone_tail InEndOctets p x = refl
+pub lone_tail : (t : Tail) (p : Place) → IsPhaseOf phase.InEndOctets t p → t ≡ EndOctetsTail
+lone_tail NoTail p x = absurd x
+lone_tail (PrimitiveTail h c) p x = absurd x
+lone_tail (BitStringTail h) p x = absurd x
+lone_tail (HeaderTail o) p x = absurd x
+lone_tail EndOctetsTail p x = refl
 
 -- a state inside an element that has these layers
 abbrev pub with_layers : Zipper → List Layer → Tail → Zipper
@@ -204,8 +204,8 @@ closed_here l inside = followed_by l.before (Holder l.header inside NoMore)
 
 -- the first of the end-of-contents octets
 zero_state : (w : WalkerState) (b : List ℕ) (yielded : List EventValue) (s : Zipper) (l : Layer) (ls : List Layer)
-    → HasZipper w b yielded (record { layers = l ∷ ls; here = s.here; tail = Between }) → l.header.size ≡ Indefinite → Fits (place_after (place_in w.framing (l ∷ ls)) (length (spelling s.here))) 1
-    → HasZipper (record w { phase = phase.InEndOctets; offset = w.offset + 1 }) (b ++ 0 ∷ []) (yielded ++ []) (record { layers = l ∷ ls; here = s.here; tail = InEndOctets })
+    → HasZipper w b yielded (record { layers = l ∷ ls; here = s.here; tail = NoTail }) → l.header.size ≡ Indefinite → Fits (place_after (place_in w.framing (l ∷ ls)) (length (spelling s.here))) 1
+    → HasZipper (record w { phase = phase.InEndOctets; offset = w.offset + 1 }) (b ++ 0 ∷ []) (yielded ++ []) (record { layers = l ∷ ls; here = s.here; tail = EndOctetsTail })
 zero_state w b yielded s l ls has e f = record {
   spelled = spelled_after (l ∷ ls) s.here [] (0 ∷ []) (0 ∷ []) b refl has.spelled;
   offset = omega (arith, has.offset, length-append b (0 ∷ []));
@@ -224,17 +224,17 @@ yields_zero w e i f = record {
   found = refl;
   goes = λ b yielded s has.
       let t = between_tail s.tail _ (phase_at w b yielded s _ e has) in
-      let has' : HasZipper w b yielded (with_tail s Between) = tail_state w b yielded s _ t has in
+      let has' : HasZipper w b yielded (with_tail s NoTail) = tail_state w b yielded s _ t has in
       zero_from w b yielded s s.layers refl has' i f;
 }
   where
-    zero_from : (w : WalkerState) (b : List ℕ) (yielded : List EventValue) (s : Zipper) (ls : List Layer) → s.layers ≡ ls → HasZipper w b yielded (with_layers s ls Between) → IsInIndefinite w.stack
+    zero_from : (w : WalkerState) (b : List ℕ) (yielded : List EventValue) (s : Zipper) (ls : List Layer) → s.layers ≡ ls → HasZipper w b yielded (with_layers s ls NoTail) → IsInIndefinite w.stack
         → IsWithin (bound_of w.stack) (w.offset + 1) → (t : Zipper) × HasZipper (record w { phase = phase.InEndOctets; offset = w.offset + 1 }) (b ++ 0 ∷ []) (yielded ++ []) t
     zero_from w b yielded s [] q has i f = absurd (subst IsInIndefinite has.stack i)
     zero_from w b yielded s (l ∷ ls) q has i f =
         let inside : IsInIndefinite (frames_of w.framing (l ∷ ls)) = subst IsInIndefinite has.stack i in
         let fits : IsWithin (place_in w.framing (l ∷ ls)).bound (w.offset + 1) = subst (λ (fs : List FrameValue). IsWithin (bound_of fs) (w.offset + 1)) has.stack f in
-        let at : w.offset ≡ (place_of w.framing (with_layers s (l ∷ ls) Between)).offset + 0 = walker-offset w b yielded _ has in (
+        let at : w.offset ≡ (place_of w.framing (with_layers s (l ∷ ls) NoTail)).offset + 0 = walker-offset w b yielded _ has in (
           _,
           zero_state w b yielded s l ls has (indefinite-size l.header.size _ inside)
               (subst (λ (n : ℕ). IsWithin (place_in w.framing (l ∷ ls)).bound n) (omega (arith, at)) fits),

@@ -4,17 +4,17 @@ use Rattle.std.proofs.lemmas.Bool.{true≢false}
 use Rattle.tlv_walk.specs.Stack.{FrameValue}
 use Rattle.tlv_walk.specs.declared.framing.Framing.{Framing}
 use Rattle.tlv_walk.specs.Events.{EventValue}
-use Rattle.tlv_walk.specs.Forest.{Forest, NoMore, PaddingOctet, Primitive, Holder, OpenPrimitive, OpenHolder, OpenBitString, OpenHeader, OpenEndOctets, is_complete}
+use Rattle.tlv_walk.specs.Forest.{Forest, NoMore, PaddingOctet, Primitive, Holder, OpenPrimitive, OpenHolder, OpenBitString, OpenHeader, OpenEndOctets, is_whole}
 use Rattle.tlv_walk.specs.WalkerState.{WalkerState}
 use Rattle.tlv_walk.proofs.WalkerLemmas.Waiting.{EventWaits}
 use Rattle.tlv_walk.specs.OpenCount.{open_count}
 use Rattle.tlv_walk.specs.Place.{Place}
-use Rattle.tlv_walk.specs.Private.Zipper.{AreLayers, InBitString, Between, HasZipper, InPrimitive, InEndOctets, InHeader, Layer, Tail, Zipper, frames_of, place_of, stack_of}
+use Rattle.tlv_walk.specs.Private.Zipper.{AreLayers, BitStringTail, NoTail, HasZipper, PrimitiveTail, EndOctetsTail, HeaderTail, Layer, Tail, Zipper, frames_of, place_of, stack_of}
 use Rattle.tlv_walk.proofs.WalkerLemmas.ZipperEndings.{forest_of, state-within}
 use Rattle.tlv_walk.proofs.WalkerLemmas.Zipper.{followed_by, reading_of, within}
 
 -- after whole elements as many are open as of the others
-pub count-after : (f g : Forest) → is_complete f ≡ true → open_count (followed_by f g) ≡ open_count g
+pub count-after : (f g : Forest) → is_whole f ≡ true → open_count (followed_by f g) ≡ open_count g
 count-after NoMore g e = refl
 count-after (PaddingOctet rest) g e = count-after rest g e
 count-after (Primitive h c rest) g e = count-after rest g e
@@ -38,11 +38,11 @@ length-frames w (l ∷ ls) = ap suc (length-frames w ls)
 
 -- and so has a wrapping BIT STRING before its first contents octet
 length-stack : (w : Framing) (ls : List Layer) (p : Place) (t : Tail) → length (stack_of w ls p t) ≡ length ls + open_count (forest_of t)
-length-stack w ls p Between = omega (arith, length-frames w ls)
-length-stack w ls p (InPrimitive h c) = omega (arith, length-frames w ls)
-length-stack w ls p (InBitString h) = omega (arith, length-frames w ls)
-length-stack w ls p (InHeader octets) = omega (arith, length-frames w ls)
-length-stack w ls p InEndOctets = omega (arith, length-frames w ls)
+length-stack w ls p NoTail = omega (arith, length-frames w ls)
+length-stack w ls p (PrimitiveTail h c) = omega (arith, length-frames w ls)
+length-stack w ls p (BitStringTail h) = omega (arith, length-frames w ls)
+length-stack w ls p (HeaderTail octets) = omega (arith, length-frames w ls)
+length-stack w ls p EndOctetsTail = omega (arith, length-frames w ls)
 
 -- the frames of a walker are as many as the open elements of its reading that hold others
 pub state-depth : (w : WalkerState) (b : List ℕ) (yielded : List EventValue) (s : Zipper) → HasZipper w b yielded s → (EventWaits w → ⊥) → length w.stack ≡ open_count (reading_of s)

@@ -4,10 +4,10 @@ use Rattle.std.proofs.lemmas.List.Elements.{All-head, All-tail}
 use Rattle.tlv_walk.specs.Phase.{PhaseValue}
 use Rattle.tlv_walk.specs.Phase as phase
 use Rattle.tlv_walk.specs.Events.{EventValue, Pad, events, single_octets}
-use Rattle.tlv_walk.specs.Forest.{Forest, NoMore, PaddingOctet, has_element, is_complete, spelling}
+use Rattle.tlv_walk.specs.Forest.{Forest, NoMore, PaddingOctet, has_element, is_whole, spelling}
 use Rattle.tlv_walk.specs.WalkerState.{WalkerState}
 use Rattle.tlv_walk.specs.Place.{IsOpen, Place, place_after}
-use Rattle.tlv_walk.specs.Private.Zipper.{Between, HasZipper, IsPhaseOf, Layer, Zipper, place_in, place_of}
+use Rattle.tlv_walk.specs.Private.Zipper.{NoTail, HasZipper, IsPhaseOf, Layer, Zipper, place_in, place_of}
 use Rattle.tlv_walk.specs.Private.Yields.{Continues}
 use Rattle.tlv_walk.proofs.WalkerLemmas.Moves.{are_whole, element-either, between_tail, phase_at, spelled_whole, tail_state, yielded_whole, with_layers}
 use Rattle.tlv_walk.proofs.WalkerLemmas.Zipper.{followed_by}
@@ -28,7 +28,7 @@ events-padding_octets (x ∷ t) z =
     ap (λ (es : List EventValue). Pad (0 ∷ []) ∷ es) (events-padding_octets t (All-tail (λ x. x ≡ 0) x t z))
     ∙ ap (λ (y : ℕ). Pad (y ∷ []) ∷ map (λ x. Pad (x ∷ [])) t) (sym (All-head (λ x. x ≡ 0) x t z))
 
-whole-padding_octets : (t : List ℕ) → is_complete (padding_octets t) ≡ true
+whole-padding_octets : (t : List ℕ) → is_whole (padding_octets t) ≡ true
 whole-padding_octets [] = refl
 whole-padding_octets (x ∷ t) = whole-padding_octets t
 
@@ -44,20 +44,20 @@ or-false : (k : Bool) → (k || false) ≡ k
 or-false true = refl
 or-false false = refl
 
-pad_state : (w : WalkerState) (b : List ℕ) (yielded : List EventValue) (s : Zipper) (t : List ℕ) → HasZipper w b yielded (with_layers s [] Between) → w.phase ≡ phase.Between → w.framing.padding ≡ true → All (λ x. x ≡ 0) t
-    → HasZipper (record w { offset = w.offset + length t; events = w.events + 1 }) (b ++ t) (yielded ++ Pad t ∷ []) (record { layers = []; here = followed_by s.here (padding_octets t); tail = Between })
+pad_state : (w : WalkerState) (b : List ℕ) (yielded : List EventValue) (s : Zipper) (t : List ℕ) → HasZipper w b yielded (with_layers s [] NoTail) → w.phase ≡ phase.Between → w.framing.padding ≡ true → All (λ x. x ≡ 0) t
+    → HasZipper (record w { offset = w.offset + length t; events = w.events + 1 }) (b ++ t) (yielded ++ Pad t ∷ []) (record { layers = []; here = followed_by s.here (padding_octets t); tail = NoTail })
 pad_state w b yielded s t has e padding zeros = record {
   spelled = spelled_whole [] s.here (padding_octets t) [] t b has.here.whole (spelling-padding_octets t zeros) has.spelled;
   offset = omega (arith, has.offset, length-append b t);
   stack = has.stack;
   layers = tt;
   here = are_whole (place_in w.framing []) s.here (padding_octets t) has.here (open-padding_octets _ t padding refl refl) (whole-padding_octets t);
-  phase = subst (λ (f : PhaseValue). IsPhaseOf f Between (place_of w.framing (record { layers = []; here = followed_by s.here (padding_octets t); tail = Between }))) (sym e) tt;
+  phase = subst (λ (f : PhaseValue). IsPhaseOf f NoTail (place_of w.framing (record { layers = []; here = followed_by s.here (padding_octets t); tail = NoTail }))) (sym e) tt;
   same_events = yielded_whole yielded [] s.here (padding_octets t) [] (Pad t ∷ []) has.here.whole has.same_events (events-padding_octets t zeros ∙ sym (append-nil (map (λ x. Pad (x ∷ [])) t)));
   element = has.element ∙ sym (element-either s.here (padding_octets t) has.here.whole ∙ (ap (λ (k : Bool). has_element s.here || k) (element-padding_octets t) ∙ or-false (has_element s.here)));
 }
 
-pad_from : (w : WalkerState) (b : List ℕ) (yielded : List EventValue) (s : Zipper) (t : List ℕ) (ls : List Layer) → HasZipper w b yielded (with_layers s ls Between) → w.phase ≡ phase.Between → w.stack ≡ [] → w.framing.padding ≡ true → All (λ x. x ≡ 0) t
+pad_from : (w : WalkerState) (b : List ℕ) (yielded : List EventValue) (s : Zipper) (t : List ℕ) (ls : List Layer) → HasZipper w b yielded (with_layers s ls NoTail) → w.phase ≡ phase.Between → w.stack ≡ [] → w.framing.padding ≡ true → All (λ x. x ≡ 0) t
     → (u : Zipper) × HasZipper (record w { offset = w.offset + length t; events = w.events + 1 }) (b ++ t) (yielded ++ Pad t ∷ []) u
 pad_from w b yielded s t [] has e none padding zeros = (_, pad_state w b yielded s t has e padding zeros)
 pad_from w b yielded s t (l ∷ ls) has e none padding zeros = absurd (cc (has.stack))

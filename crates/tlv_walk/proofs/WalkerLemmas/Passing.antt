@@ -40,8 +40,8 @@ contents_whole w piece p can =
     ap (contents_in (header_at p piece)) (whole_octets w piece p can) ∙ contents_after p.fields (take p.header piece) (contents_at p piece)
 
 -- all of its octets are there
-pub is_complete : (w : WalkerState) (piece : List ℕ) (p : WholePrimitive) → CanPass w piece p → IsWholeElement (header_at p piece) (take p.octets piece)
-is_complete w piece p can = record {
+pub is_whole : (w : WalkerState) (piece : List ℕ) (p : WholePrimitive) → CanPass w piece p → IsWholeElement (header_at p piece) (take p.octets piece)
+is_whole w piece p can = record {
   header =
       ap₂ (λ (l r : List ℕ). l ++ r) (take-append-drop p.fields.id_len (take p.header piece)) (contents_whole w piece p can)
       ∙ sym (whole_octets w piece p can);

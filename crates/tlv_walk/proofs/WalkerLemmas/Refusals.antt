@@ -14,7 +14,7 @@ use Rattle.tlv_walk.proofs.WalkerLemmas.Waiting.{EventWaits, EventWaitsIn, quiet
 use Rattle.tlv_walk.specs.Stack.{IsFilled, IsInIndefinite, bound_of}
 use Rattle.tlv_walk.specs.Place.{IsWithin}
 use Rattle.tlv_walk.specs.Private.Stack.{room_to, room_in}
-use Rattle.tlv_walk.specs.Private.Zipper.{InBitString, Between, HasZipper, InEndOctets, Layer, Zipper, frames_of, place_in, place_of}
+use Rattle.tlv_walk.specs.Private.Zipper.{BitStringTail, NoTail, HasZipper, EndOctetsTail, Layer, Zipper, frames_of, place_in, place_of}
 use Rattle.tlv_walk.specs.Private.Yields.{RefusesOctet}
 use Rattle.tlv_walk.proofs.WalkerLemmas.Entering.{lead_tail}
 use Rattle.tlv_walk.proofs.WalkerLemmas.Moves.{between_tail, lone_tail, phase_at, tail_state, with_tail}
@@ -76,10 +76,10 @@ pub refuses_missing : (w : WalkerState) (x : ℕ) (rest : List ℕ) → w.phase 
     → RefusesOctet w (x ∷ rest) (x ∷ rest) (fault_at MissingEnd w.offset)
 refuses_missing w x rest e unfilled inside within room = refuses_here w x rest MissingEnd (idle_at w phase.Between e unfilled) (λ b yielded s has.
     let t = between_tail s.tail _ (phase_at w b yielded s _ e has) in
-    let has' : HasZipper w b yielded (with_tail s Between) = tail_state w b yielded s _ t has in
-    let place : w.offset ≡ (place_of w.framing (with_tail s Between)).offset + 0 = walker-offset w b yielded _ has' in
-    let none : room_to (place_of w.framing (with_tail s Between)).bound w.offset ≡ Some 0 = subst (λ (o : Option ℕ). room_to o w.offset ≡ Some 0) (bound_there w b yielded _ has' has'.stack) room in (
-      with_tail s Between,
+    let has' : HasZipper w b yielded (with_tail s NoTail) = tail_state w b yielded s _ t has in
+    let place : w.offset ≡ (place_of w.framing (with_tail s NoTail)).offset + 0 = walker-offset w b yielded _ has' in
+    let none : room_to (place_of w.framing (with_tail s NoTail)).bound w.offset ≡ Some 0 = subst (λ (o : Option ℕ). room_to o w.offset ≡ Some 0) (bound_there w b yielded _ has' has'.stack) room in (
+      with_tail s NoTail,
       has',
       no_end ((place-indefinite w.framing s.layers).1 (subst IsInIndefinite has'.stack inside)) (left_none _ w.offset _ none (omega (arith, place))),
     ))
@@ -100,8 +100,8 @@ pub refuses_stray : (w : WalkerState) (rest : List ℕ) → w.phase ≡ phase.Be
     → RefusesOctet w (0 ∷ rest) (0 ∷ rest) (fault_at StrayEnd w.offset)
 refuses_stray w rest e unfilled outside padding = refuses_here w 0 rest StrayEnd (idle_at w phase.Between e unfilled) (λ b yielded s has.
     let t = between_tail s.tail _ (phase_at w b yielded s _ e has) in
-    let has' : HasZipper w b yielded (with_tail s Between) = tail_state w b yielded s _ t has in (
-      with_tail s Between,
+    let has' : HasZipper w b yielded (with_tail s NoTail) = tail_state w b yielded s _ t has in (
+      with_tail s NoTail,
       has',
       stray_end (not_indefinite _ (λ i. outside (subst IsInIndefinite (sym has'.stack) ((place-indefinite w.framing s.layers).0 i)))) (not_padding w s.layers has'.stack padding) refl,
     ))
@@ -117,18 +117,18 @@ pub refuses_second_missing : (w : WalkerState) (x : ℕ) (rest : List ℕ) → w
     → RefusesOctet w (x ∷ rest) (x ∷ rest) (fault_at MissingEnd w.offset)
 refuses_second_missing w x rest e within room = refuses_here w x rest MissingEnd (idle_at w phase.InEndOctets e (λ k. k)) (λ b yielded s has.
     let t = lone_tail s.tail _ (phase_at w b yielded s _ e has) in
-    let has' : HasZipper w b yielded (with_tail s InEndOctets) = tail_state w b yielded s _ t has in
-    let place : w.offset ≡ (place_of w.framing (with_tail s InEndOctets)).offset + 1 = walker-offset w b yielded _ has' in
-    let none : room_to (place_of w.framing (with_tail s InEndOctets)).bound w.offset ≡ Some 0 = subst (λ (o : Option ℕ). room_to o w.offset ≡ Some 0) (bound_there w b yielded _ has' has'.stack) room in
-    (with_tail s InEndOctets, has', missing_end (left_none _ w.offset _ none (omega (arith, place)))))
+    let has' : HasZipper w b yielded (with_tail s EndOctetsTail) = tail_state w b yielded s _ t has in
+    let place : w.offset ≡ (place_of w.framing (with_tail s EndOctetsTail)).offset + 1 = walker-offset w b yielded _ has' in
+    let none : room_to (place_of w.framing (with_tail s EndOctetsTail)).bound w.offset ≡ Some 0 = subst (λ (o : Option ℕ). room_to o w.offset ≡ Some 0) (bound_there w b yielded _ has' has'.stack) room in
+    (with_tail s EndOctetsTail, has', missing_end (left_none _ w.offset _ none (omega (arith, place)))))
 
 pub refuses_second : (w : WalkerState) (x : ℕ) (rest : List ℕ) → w.phase ≡ phase.InEndOctets → (room_in w.stack w.offset ≡ Some 0 → ⊥) → x ≢ 0
     → RefusesOctet w (x ∷ rest) (x ∷ rest) (fault_at BadEnd w.offset)
 refuses_second w x rest e room nonzero = refuses_here w x rest BadEnd (idle_at w phase.InEndOctets e (λ k. k)) (λ b yielded s has.
     let t = lone_tail s.tail _ (phase_at w b yielded s _ e has) in
-    let has' : HasZipper w b yielded (with_tail s InEndOctets) = tail_state w b yielded s _ t has in
-    let place : w.offset ≡ (place_of w.framing (with_tail s InEndOctets)).offset + 1 = walker-offset w b yielded _ has' in (
-      with_tail s InEndOctets,
+    let has' : HasZipper w b yielded (with_tail s EndOctetsTail) = tail_state w b yielded s _ t has in
+    let place : w.offset ≡ (place_of w.framing (with_tail s EndOctetsTail)).offset + 1 = walker-offset w b yielded _ has' in (
+      with_tail s EndOctetsTail,
       has',
       bad_end (left_some _ w.offset _ (λ none. room (subst (λ (o : Option ℕ). room_to o w.offset ≡ Some 0) (sym (bound_there w b yielded _ has' has'.stack)) none)) (omega (arith, place))) nonzero,
     ))
@@ -137,4 +137,4 @@ refuses_second w x rest e room nonzero = refuses_here w x rest BadEnd (idle_at w
 pub refuses_unused : (w : WalkerState) (x : ℕ) (rest : List ℕ) → w.phase ≡ phase.InBitString → x ≢ 0 → RefusesOctet w (x ∷ rest) (x ∷ rest) (fault_at BadInside w.offset)
 refuses_unused w x rest e nonzero = refuses_here w x rest BadInside (idle_at w phase.InBitString e (λ k. k)) (λ b yielded s has.
     let t = lead_tail s.tail _ (phase_at w b yielded s _ e has) in
-    (with_tail s (InBitString t.0), tail_state w b yielded s _ t.1 has, bad_inside nonzero))
+    (with_tail s (BitStringTail t.0), tail_state w b yielded s _ t.1 has, bad_inside nonzero))

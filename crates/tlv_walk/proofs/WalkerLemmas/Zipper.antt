@@ -6,13 +6,13 @@ use Rattle.tlv_head.specs.declared.header.Size.TheVariants.{Definite, Indefinite
 use Rattle.tlv_head.specs.Header.{HeaderValue, announced_length, octets_of}
 use Rattle.tlv_walk.specs.declared.framing.Framing.{Framing}
 use Rattle.tlv_walk.specs.Ending.{tip}
-use Rattle.tlv_walk.specs.Forest.{Forest, Holder, NoMore, OpenBitString, OpenEndOctets, OpenHeader, OpenHolder, OpenPrimitive, PaddingOctet, Primitive, contents_length, end_octets, extent, has_element, is_complete, opening, spelling}
+use Rattle.tlv_walk.specs.Forest.{Forest, Holder, NoMore, OpenBitString, OpenEndOctets, OpenHeader, OpenHolder, OpenPrimitive, PaddingOctet, Primitive, contents_length, end_octets, extent, has_element, is_whole, opening, spelling}
 use Rattle.tlv_walk.specs.Place.{Fits, IsOpen, Place, bound_in, is_indefinite, place_after, top_place}
 use Rattle.tlv_walk.proofs.GrammarLemmas.Lengths.{LacksOctets}
 use Rattle.tlv_walk.specs.Stack.{IsInIndefinite}
-use Rattle.tlv_walk.specs.Private.Zipper.{AreLayers, AreWhole, InBitString, Between, InPrimitive, InEndOctets, InHeader, Layer, Tail, Zipper, frames_of, place_in, spelling_of_layers}
+use Rattle.tlv_walk.specs.Private.Zipper.{AreLayers, AreWhole, BitStringTail, NoTail, PrimitiveTail, EndOctetsTail, HeaderTail, Layer, Tail, Zipper, frames_of, place_in, spelling_of_layers}
 use Rattle.tlv_walk.proofs.GrammarLemmas.Bounds.{fits-inside}
-use Rattle.tlv_walk.proofs.GrammarLemmas.PushSteps.{is_filled}
+use Rattle.tlv_walk.proofs.GrammarLemmas.PushSteps.{is_filled_by}
 use Rattle.tlv_walk.proofs.GrammarLemmas.Spellings.{append_assoc-3, append_assoc-4, length-holder, length-primitive}
 
 -- whole elements, and then others
@@ -35,7 +35,7 @@ within (l ∷ ls) f = within ls (followed_by l.before (OpenHolder l.header f))
 -- the same, where each element that is filled ends
 abbrev pub settled : List Layer → Forest → Forest
 settled [] f = f
-settled (l ∷ ls) f = cond (is_filled l.header f) (settled ls (followed_by l.before (Holder l.header f NoMore))) (within (l ∷ ls) f)
+settled (l ∷ ls) f = cond (is_filled_by l.header f) (settled ls (followed_by l.before (Holder l.header f NoMore))) (within (l ∷ ls) f)
 
 abbrev pub primitive_in : List Layer → Forest → HeaderValue → List ℕ → Bool → Forest
 primitive_in ls here h c true = settled ls (followed_by here (Primitive h c NoMore))
@@ -43,11 +43,11 @@ primitive_in ls here h c false = within ls (followed_by here (OpenPrimitive h c)
 
 -- what a state has been read as
 abbrev pub reading_in : List Layer → Forest → Tail → Forest
-reading_in ls here Between = settled ls here
-reading_in ls here (InPrimitive h c) = primitive_in ls here h c (eqb (length c) (announced_length h.size))
-reading_in ls here (InBitString h) = within ls (followed_by here (OpenBitString h))
-reading_in ls here (InHeader octets) = within ls (followed_by here (OpenHeader octets))
-reading_in ls here InEndOctets = within ls (followed_by here OpenEndOctets)
+reading_in ls here NoTail = settled ls here
+reading_in ls here (PrimitiveTail h c) = primitive_in ls here h c (eqb (length c) (announced_length h.size))
+reading_in ls here (BitStringTail h) = within ls (followed_by here (OpenBitString h))
+reading_in ls here (HeaderTail octets) = within ls (followed_by here (OpenHeader octets))
+reading_in ls here EndOctetsTail = within ls (followed_by here OpenEndOctets)
 
 abbrev pub reading_of : Zipper → Forest
 reading_of s = reading_in s.layers s.here s.tail
@@ -69,7 +69,7 @@ open-after p m n k g e w = subst (λ (q : Place). IsOpen q g) (sym (after-after 
 -- ---- whole elements, and then others
 
 -- their octets
-pub spelling-followed_by : (f g : Forest) → is_complete f ≡ true → spelling (followed_by f g) ≡ spelling f ++ spelling g
+pub spelling-followed_by : (f g : Forest) → is_whole f ≡ true → spelling (followed_by f g) ≡ spelling f ++ spelling g
 spelling-followed_by NoMore g e = refl
 spelling-followed_by (PaddingOctet rest) g e = ap (λ (t : List ℕ). 0 ∷ t) (spelling-followed_by rest g e)
 spelling-followed_by (Primitive h c rest) g e =
@@ -84,7 +84,7 @@ spelling-followed_by (OpenHeader octets) g e = absurd (true≢false (sym e))
 spelling-followed_by OpenEndOctets g e = absurd (true≢false (sym e))
 
 -- nothing is open if nothing of the others is
-pub whole-followed_by : (f g : Forest) → is_complete f ≡ true → is_complete (followed_by f g) ≡ is_complete g
+pub whole-followed_by : (f g : Forest) → is_whole f ≡ true → is_whole (followed_by f g) ≡ is_whole g
 whole-followed_by NoMore g e = refl
 whole-followed_by (PaddingOctet rest) g e = whole-followed_by rest g e
 whole-followed_by (Primitive h c rest) g e = whole-followed_by rest g e
@@ -134,7 +134,7 @@ tip-after : (p : Place) (m n k : ℕ) (g : Forest) → m + n ≡ k → tip (plac
 tip-after p m n k g e = ap (λ (q : Place). tip q g) (after-after p m n k e)
 
 -- the open end is that of the others
-pub tip-followed_by : (p : Place) (f g : Forest) → is_complete f ≡ true → tip p (followed_by f g) ≡ tip (place_after p (length (spelling f))) g
+pub tip-followed_by : (p : Place) (f g : Forest) → is_whole f ≡ true → tip p (followed_by f g) ≡ tip (place_after p (length (spelling f))) g
 tip-followed_by p NoMore g e = ap (λ (q : Place). tip q g) (sym (after-none p))
 tip-followed_by p (PaddingOctet rest) g e = tip-followed_by (place_after p 1) rest g e ∙ tip-after p 1 (length (spelling rest)) _ g (omega arith)
 tip-followed_by p (Primitive h c rest) g e =
@@ -160,7 +160,7 @@ followed_by-none (OpenHeader octets) = refl
 followed_by-none OpenEndOctets = refl
 
 -- after whole elements the open end is between them and the next
-pub tip-whole : (p : Place) (f : Forest) → is_complete f ≡ true → tip p f ≡ (place_after p (length (spelling f)), NoMore)
+pub tip-whole : (p : Place) (f : Forest) → is_whole f ≡ true → tip p f ≡ (place_after p (length (spelling f)), NoMore)
 tip-whole p f e = ap (λ (g : Forest). tip p g) (sym (followed_by-none f)) ∙ tip-followed_by p f NoMore e
 
 -- ---- where the elements in the innermost open element begin
@@ -200,10 +200,10 @@ spelling-within w (l ∷ ls) f a =
 -- if they are whole, contents octets of the innermost open element are lacking
 abbrev pub HasRoomIn : List Layer → Forest → Type 0
 HasRoomIn [] f = Unit {0}
-HasRoomIn (l ∷ ls) f = is_complete f ≡ true → LacksOctets l.header.size (contents_length l.header f)
+HasRoomIn (l ∷ ls) f = is_whole f ≡ true → LacksOctets l.header.size (contents_length l.header f)
 
 -- if something is open, none need be lacking
-pub room-if_open : (ls : List Layer) (f : Forest) → is_complete f ≡ false → HasRoomIn ls f
+pub room-if_open : (ls : List Layer) (f : Forest) → is_whole f ≡ false → HasRoomIn ls f
 room-if_open [] f e = tt
 room-if_open (l ∷ ls) f e = λ whole. absurd (true≢false (sym whole ∙ e))
 
@@ -221,6 +221,6 @@ tip-within w [] f a = refl
 tip-within w (l ∷ ls) f a = tip-within w ls (followed_by l.before (OpenHolder l.header f)) a.0 ∙ tip-followed_by (place_in w ls) l.before (OpenHolder l.header f) a.1.whole
 
 -- inside a layer something is open
-pub whole-within : (w : Framing) (ls : List Layer) (f : Forest) → AreLayers w ls → (ls ≡ [] → is_complete f ≡ false) → is_complete (within ls f) ≡ false
+pub whole-within : (w : Framing) (ls : List Layer) (f : Forest) → AreLayers w ls → (ls ≡ [] → is_whole f ≡ false) → is_whole (within ls f) ≡ false
 whole-within w [] f a e = e refl
 whole-within w (l ∷ ls) f a e = whole-within w ls (followed_by l.before (OpenHolder l.header f)) a.0 (λ _. whole-followed_by l.before (OpenHolder l.header f) a.1.whole)

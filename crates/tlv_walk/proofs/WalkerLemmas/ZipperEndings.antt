@@ -9,11 +9,11 @@ use Rattle.tlv_walk.specs.Phase.{PhaseValue}
 use Rattle.tlv_walk.specs.Phase as phase
 use Rattle.tlv_walk.specs.Ending.{IsEnding, IsFault, done, empty, fault_ending, short, tip}
 use Rattle.tlv_walk.specs.Events.{EventValue}
-use Rattle.tlv_walk.specs.Forest.{Forest, NoMore, OpenPrimitive, OpenBitString, OpenHeader, OpenEndOctets, has_element, is_complete, spelling}
+use Rattle.tlv_walk.specs.Forest.{Forest, NoMore, OpenPrimitive, OpenBitString, OpenHeader, OpenEndOctets, has_element, is_whole, spelling}
 use Rattle.tlv_walk.specs.WalkerState.{WalkerState}
 use Rattle.tlv_walk.proofs.WalkerLemmas.Waiting.{EventWaits, EventWaitsIn}
 use Rattle.tlv_walk.specs.Place.{Place, top_place}
-use Rattle.tlv_walk.specs.Private.Zipper.{InBitString, Between, HasZipper, InPrimitive, InEndOctets, InHeader, IsPhaseOf, Layer, Tail, Zipper, begins_element, frames_of, place_in, place_of, spelling_of_tail, stack_of}
+use Rattle.tlv_walk.specs.Private.Zipper.{BitStringTail, NoTail, HasZipper, PrimitiveTail, EndOctetsTail, HeaderTail, IsPhaseOf, Layer, Tail, Zipper, begins_element, frames_of, place_in, place_of, spelling_of_tail, stack_of}
 use Rattle.tlv_walk.proofs.GrammarLemmas.Endings.{halt-ending}
 use Rattle.tlv_walk.proofs.GrammarLemmas.Faults.{fault-refused}
 use Rattle.tlv_walk.proofs.GrammarLemmas.PushSteps.{Spells}
@@ -25,11 +25,11 @@ use Rattle.tlv_walk.proofs.WalkerLemmas.Zipper.{followed_by, followed_by-none, r
 
 -- what is open after the whole elements, as a forest: of a primitive, one that lacks contents octets
 abbrev pub forest_of : Tail → Forest
-forest_of Between = NoMore
-forest_of (InPrimitive h c) = OpenPrimitive h c
-forest_of (InBitString h) = OpenBitString h
-forest_of (InHeader octets) = OpenHeader octets
-forest_of InEndOctets = OpenEndOctets
+forest_of NoTail = NoMore
+forest_of (PrimitiveTail h c) = OpenPrimitive h c
+forest_of (BitStringTail h) = OpenBitString h
+forest_of (HeaderTail octets) = OpenHeader octets
+forest_of EndOctetsTail = OpenEndOctets
 
 -- the whole elements end at the offset: no element is filled there
 filled-at : (w : Framing) (ls : List Layer) (here : Forest) (offset : ℕ) → offset ≡ end_in w ls here + 0 → (EventWaitsIn phase.Between (frames_of w ls) offset → ⊥) → EventWaitsIn phase.Between (frames_of w ls) (end_in w ls here) → ⊥
@@ -39,12 +39,12 @@ filled-at w ls here offset e n f = let there : end_in w ls here ≡ offset = ome
 reading-within : (w : Framing) (ls : List Layer) (here : Forest) (f : PhaseValue) (t : Tail) (offset : ℕ) → IsPhaseOf f t (later_place w ls here)
     → offset ≡ (later_place w ls here).offset + length (spelling_of_tail t) → (EventWaitsIn f (stack_of w ls (later_place w ls here) t) offset → ⊥)
     → reading_in ls here t ≡ within ls (followed_by here (forest_of t))
-reading-within w ls here phase.Between Between offset j e n =
+reading-within w ls here phase.Between NoTail offset j e n =
     settled-within w ls here (filled-at w ls here offset e n) ∙ ap (within ls) (sym (followed_by-none here))
-reading-within w ls here (phase.InPrimitive left) (InPrimitive h c) offset j e n = rw (contents-less _ h c left j n) refl
-reading-within w ls here (phase.InHeader r) (InHeader octets) offset j e n = refl
-reading-within w ls here phase.InBitString (InBitString h) offset j e n = refl
-reading-within w ls here phase.InEndOctets InEndOctets offset j e n = refl
+reading-within w ls here (phase.InPrimitive left) (PrimitiveTail h c) offset j e n = rw (contents-less _ h c left j n) refl
+reading-within w ls here (phase.InHeader r) (HeaderTail octets) offset j e n = refl
+reading-within w ls here phase.InBitString (BitStringTail h) offset j e n = refl
+reading-within w ls here phase.InEndOctets EndOctetsTail offset j e n = refl
 reading-within w ls here f t offset j e n = absurd j
 
 -- so what a walker with nothing waiting has read is its layers, its whole elements and what is open
@@ -57,11 +57,11 @@ state-within w b yielded s h n =
 
 -- what is open after the whole elements is the open end
 tip-tail : (p : Place) (t : Tail) → tip p (forest_of t) ≡ (p, forest_of t)
-tip-tail p Between = refl
-tip-tail p (InPrimitive h c) = refl
-tip-tail p (InBitString h) = refl
-tip-tail p (InHeader octets) = refl
-tip-tail p InEndOctets = refl
+tip-tail p NoTail = refl
+tip-tail p (PrimitiveTail h c) = refl
+tip-tail p (BitStringTail h) = refl
+tip-tail p (HeaderTail octets) = refl
+tip-tail p EndOctetsTail = refl
 
 -- the open end of the reading is that of the state
 pub state-tip : (w : WalkerState) (b : List ℕ) (yielded : List EventValue) (s : Zipper) → HasZipper w b yielded s → (EventWaits w → ⊥)
@@ -87,15 +87,15 @@ state-fault w b yielded s x rest code h n k =
 -- outside all elements that hold others, between encodings, the whole elements are the reading
 outermost-reading : (w : Framing) (ls : List Layer) (here : Forest) (t : Tail) → IsPhaseOf phase.Between t (later_place w ls here) → stack_of w ls (later_place w ls here) t ≡ []
     → reading_in ls here t ≡ here
-outermost-reading w [] here Between j e = refl
-outermost-reading w (l ∷ ls) here Between j e = absurd (cc)
+outermost-reading w [] here NoTail j e = refl
+outermost-reading w (l ∷ ls) here NoTail j e = absurd (cc)
 outermost-reading w ls here t j e = absurd j
 
 -- there an octet of an element came if one is in the reading
 outermost-element : (w : Framing) (ls : List Layer) (here : Forest) (t : Tail) → IsPhaseOf phase.Between t (later_place w ls here) → stack_of w ls (later_place w ls here) t ≡ []
     → begins_element ls here t ≡ has_element here
-outermost-element w [] here Between j e = refl
-outermost-element w (l ∷ ls) here Between j e = absurd (cc)
+outermost-element w [] here NoTail j e = refl
+outermost-element w (l ∷ ls) here NoTail j e = absurd (cc)
 outermost-element w ls here t j e = absurd j
 
 -- what a walker has read between encodings and outside all elements that hold others
@@ -121,7 +121,7 @@ pub state-done : (w : WalkerState) (b : List ℕ) (yielded : List EventValue) (s
     → IsEnding w.framing b Done
 state-done w b yielded s h e none some =
     let o : IsOutermost w b s = state-outermost w b yielded s h e none in
-    done (reading_of s) (state-reading w b yielded s h) o.spelled (ap has_element o.reading ∙ o.element ∙ some) (ap is_complete o.reading ∙ h.here.whole)
+    done (reading_of s) (state-reading w b yielded s h) o.spelled (ap has_element o.reading ∙ o.element ∙ some) (ap is_whole o.reading ∙ h.here.whole)
 
 -- and if no octet of an element came, there is none
 pub state-empty : (w : WalkerState) (b : List ℕ) (yielded : List EventValue) (s : Zipper) → HasZipper w b yielded s → w.phase ≡ phase.Between → w.stack ≡ [] → w.has_element ≡ false
@@ -132,12 +132,12 @@ state-empty w b yielded s h e none no_element =
 
 -- elsewhere something is open: an element that holds others, or what is after the whole elements
 open-elsewhere : (w : Framing) (ls : List Layer) (here : Forest) (f : PhaseValue) (t : Tail) → IsPhaseOf f t (later_place w ls here)
-    → (f ≡ phase.Between → stack_of w ls (later_place w ls here) t ≡ [] → ⊥) → ls ≡ [] → is_complete (forest_of t) ≡ false
-open-elsewhere w ls here phase.Between Between j n e = absurd (n refl (ap (frames_of w) e))
-open-elsewhere w ls here (phase.InHeader r) (InHeader octets) j n e = refl
-open-elsewhere w ls here (phase.InPrimitive left) (InPrimitive h c) j n e = refl
-open-elsewhere w ls here phase.InBitString (InBitString h) j n e = refl
-open-elsewhere w ls here phase.InEndOctets InEndOctets j n e = refl
+    → (f ≡ phase.Between → stack_of w ls (later_place w ls here) t ≡ [] → ⊥) → ls ≡ [] → is_whole (forest_of t) ≡ false
+open-elsewhere w ls here phase.Between NoTail j n e = absurd (n refl (ap (frames_of w) e))
+open-elsewhere w ls here (phase.InHeader r) (HeaderTail octets) j n e = refl
+open-elsewhere w ls here (phase.InPrimitive left) (PrimitiveTail h c) j n e = refl
+open-elsewhere w ls here phase.InBitString (BitStringTail h) j n e = refl
+open-elsewhere w ls here phase.InEndOctets EndOctetsTail j n e = refl
 open-elsewhere w ls here f t j n e = absurd j
 
 -- there the input is too short
@@ -145,7 +145,7 @@ pub state-short : (w : WalkerState) (b : List ℕ) (yielded : List EventValue) (
     → IsEnding w.framing b (fault_ending Short (length b))
 state-short w b yielded s h n outside =
     let r : Spells (top_place w.framing) b (reading_of s) = state-spells w b yielded s h in
-    let part : is_complete (within s.layers (followed_by s.here (forest_of s.tail))) ≡ false =
+    let part : is_whole (within s.layers (followed_by s.here (forest_of s.tail))) ≡ false =
     whole-within w.framing s.layers (followed_by s.here (forest_of s.tail)) h.layers
     (λ e. whole-followed_by s.here (forest_of s.tail) h.here.whole ∙ open-elsewhere w.framing s.layers s.here w.phase s.tail h.phase (λ p q. outside p (h.stack ∙ q)) e) in
-    short (reading_of s) (state-reading w b yielded s h) r.spelled (ap is_complete (state-within w b yielded s h n) ∙ part)
+    short (reading_of s) (state-reading w b yielded s h) r.spelled (ap is_whole (state-within w b yielded s h n) ∙ part)

@@ -6,21 +6,21 @@ use Rattle.tlv_head.specs.declared.header.Size.TheVariants.{Definite, Indefinite
 use Rattle.tlv_head.specs.Header.{HeaderValue}
 use Rattle.tlv_walk.specs.declared.framing.Framing.{Framing}
 use Rattle.tlv_walk.specs.Events.{Begin, Bytes, Close, End, EventValue, Leave, Pad, closing_event, end_offset, events, opening_events}
-use Rattle.tlv_walk.specs.Forest.{Forest, Holder, NoMore, OpenBitString, OpenEndOctets, OpenHeader, OpenHolder, OpenPrimitive, PaddingOctet, Primitive, contents_length, end_octets, is_complete, spelling}
+use Rattle.tlv_walk.specs.Forest.{Forest, Holder, NoMore, OpenBitString, OpenEndOctets, OpenHeader, OpenHolder, OpenPrimitive, PaddingOctet, Primitive, contents_length, end_octets, is_whole, spelling}
 use Rattle.tlv_walk.specs.Stands.{filled_end, filled_ends}
 use Rattle.tlv_walk.specs.Private.Zipper.{AreLayers, AreWhole, Layer, events_of_layers, frame_at, frames_of, place_in}
 use Rattle.tlv_walk.proofs.WalkerLemmas.ZipperWrappers.{wrappers_layers}
 use Rattle.tlv_walk.specs.Place.{Place, place_after}
 use Rattle.tlv_walk.specs.Wrappers.{wrapper_at, wrapper_offsets}
 use Rattle.tlv_walk.proofs.GrammarLemmas.Bounds.{IsFull}
-use Rattle.tlv_walk.proofs.GrammarLemmas.PushSteps.{is_filled}
+use Rattle.tlv_walk.proofs.GrammarLemmas.PushSteps.{is_filled_by}
 use Rattle.tlv_walk.proofs.GrammarLemmas.Settled.{IsEnded, end_in, end-filled, filled-ended, filled-full}
 use Rattle.tlv_walk.proofs.WalkerLemmas.Zipper.{followed_by, settled, within}
 
 -- ---- whole elements, and then others
 
 -- their events
-pub events-followed_by : (f g : Forest) → is_complete f ≡ true → events (followed_by f g) ≡ events f ++ events g
+pub events-followed_by : (f g : Forest) → is_whole f ≡ true → events (followed_by f g) ≡ events f ++ events g
 events-followed_by NoMore g e = refl
 events-followed_by (PaddingOctet rest) g e = ap (λ (t : List EventValue). Pad (0 ∷ []) ∷ t) (events-followed_by rest g e)
 events-followed_by (Primitive h c rest) g e = ap (λ (t : List EventValue). Begin h ∷ Bytes c ∷ End ∷ t) (events-followed_by rest g e)
@@ -35,7 +35,7 @@ events-followed_by (OpenHeader octets) g e = absurd (true≢false (sym e))
 events-followed_by OpenEndOctets g e = absurd (true≢false (sym e))
 
 -- their wrappers
-pub wrapper_offsets-followed_by : (f g : Forest) → is_complete f ≡ true → wrapper_offsets (followed_by f g) ≡ wrapper_offsets f ++ wrapper_offsets g
+pub wrapper_offsets-followed_by : (f g : Forest) → is_whole f ≡ true → wrapper_offsets (followed_by f g) ≡ wrapper_offsets f ++ wrapper_offsets g
 wrapper_offsets-followed_by NoMore g e = refl
 wrapper_offsets-followed_by (PaddingOctet rest) g e = wrapper_offsets-followed_by rest g e
 wrapper_offsets-followed_by (Primitive h c rest) g e = wrapper_offsets-followed_by rest g e
@@ -77,7 +77,7 @@ closes-definite true Indefinite offset e = absurd (cc)
 closes-definite false s offset e = refl
 
 -- the end of an element that is filled is that of its frame
-closes-filled : (p : Place) (h : HeaderValue) (f : Forest) → is_filled h f ≡ true → closing_event h f ≡ filled_end (frame_at p h)
+closes-filled : (p : Place) (h : HeaderValue) (f : Forest) → is_filled_by h f ≡ true → closing_event h f ≡ filled_end (frame_at p h)
 closes-filled p h f e = let full : IsFull h.size (contents_length h f) = filled-full h f e in closes-definite h.constructed h.size _ full.ends
 
 -- events of layers, of whole elements in the innermost, and of its end
@@ -89,7 +89,7 @@ regroup-end around earlier start inside ends c d e = rw e (simp append_assoc)
 pub events-settled : (w : Framing) (ls : List Layer) (f : Forest) → AreLayers w ls → AreWhole (place_in w ls) f
     → events (settled ls f) ≡ (events_of_layers ls ++ events f) ++ filled_ends (end_in w ls f) (frames_of w ls)
 events-settled w [] f a i = sym (append-nil (events f))
-events-settled w (l ∷ ls) f a i = elim (cases_Bool (is_filled l.header f)) [
+events-settled w (l ∷ ls) f a i = elim (cases_Bool (is_filled_by l.header f)) [
   | inl e ↦
       let d : IsEnded w l ls f = filled-ended w l ls f a i e in
       let r : events (settled ls (followed_by l.before (Holder l.header f NoMore))) ≡ (events_of_layers ls ++ events (followed_by l.before (Holder l.header f NoMore))) ++ filled_ends (end_in w ls (followed_by l.before (Holder l.header f NoMore))) (frames_of w ls) =
@@ -106,7 +106,7 @@ events-settled w (l ∷ ls) f a i = elim (cases_Bool (is_filled l.header f)) [
 -- their wrappers, after those of the layers
 pub wrapper_offsets-settled : (w : Framing) (ls : List Layer) (f : Forest) → AreLayers w ls → AreWhole (place_in w ls) f → wrapper_offsets (settled ls f) ≡ wrappers_layers ls ++ wrapper_offsets f
 wrapper_offsets-settled w [] f a i = refl
-wrapper_offsets-settled w (l ∷ ls) f a i = elim (cases_Bool (is_filled l.header f)) [
+wrapper_offsets-settled w (l ∷ ls) f a i = elim (cases_Bool (is_filled_by l.header f)) [
   | inl e ↦
       let d : IsEnded w l ls f = filled-ended w l ls f a i e in
       let r : wrapper_offsets (settled ls (followed_by l.before (Holder l.header f NoMore))) ≡ wrappers_layers ls ++ wrapper_offsets (followed_by l.before (Holder l.header f NoMore)) =

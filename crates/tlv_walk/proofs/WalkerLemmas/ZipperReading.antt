@@ -8,13 +8,13 @@ use Rattle.tlv_walk.specs.declared.framing.Framing.{Framing}
 use Rattle.tlv_walk.specs.Phase.{PhaseValue}
 use Rattle.tlv_walk.specs.Phase as phase
 use Rattle.tlv_walk.specs.Events.{AreEqualJoined, Begin, Bytes, End, EventValue, events, single_octets}
-use Rattle.tlv_walk.specs.Forest.{Forest, NoMore, Primitive, OpenPrimitive, OpenBitString, OpenHeader, OpenEndOctets, is_complete, spelling}
+use Rattle.tlv_walk.specs.Forest.{Forest, NoMore, Primitive, OpenPrimitive, OpenBitString, OpenHeader, OpenEndOctets, is_whole, spelling}
 use Rattle.tlv_walk.specs.WalkerState.{WalkerState, new_walker}
 use Rattle.tlv_walk.specs.Private.WrapperCount.{wrappers_after}
 use Rattle.tlv_walk.specs.Place.{IsOpen, Place, place_after, top_place}
 use Rattle.tlv_walk.specs.Reading.{IsReading}
 use Rattle.tlv_walk.specs.Stands.{Stands, filled_ends, waiting_events, waiting_events_in}
-use Rattle.tlv_walk.specs.Private.Zipper.{AreLayers, AreWhole, InBitString, Between, HasZipper, InPrimitive, InEndOctets, InHeader, IsContents, IsPhaseOf, Layer, Tail, Zipper, events_of_layers, events_of_tail, events_of_zipper, frames_of, place_in, place_of, spelling_of_layers, spelling_of_tail, spelling_of_zipper, stack_of}
+use Rattle.tlv_walk.specs.Private.Zipper.{AreLayers, AreWhole, BitStringTail, NoTail, HasZipper, PrimitiveTail, EndOctetsTail, HeaderTail, IsContents, IsPhaseOf, Layer, Tail, Zipper, events_of_layers, events_of_tail, events_of_zipper, frames_of, place_in, place_of, spelling_of_layers, spelling_of_tail, spelling_of_zipper, stack_of}
 use Rattle.tlv_walk.proofs.WalkerLemmas.ZipperWrappers.{wrappers_layers, wrappers_tail, wrappers_zipper}
 use Rattle.tlv_walk.specs.Inside.{can_name}
 use Rattle.tlv_walk.specs.Wrappers.{entered_offsets, wrapper_offsets}
@@ -32,13 +32,13 @@ abbrev pub later_place : Framing → List Layer → Forest → Place
 later_place w ls here = place_after (place_in w ls) (length (spelling here))
 
 -- the place after whole elements is where they end
-pub followed_by-end : (w : Framing) (ls : List Layer) (here g : Forest) → is_complete here ≡ true → end_in w ls (followed_by here g) ≡ (later_place w ls here).offset + length (spelling g)
+pub followed_by-end : (w : Framing) (ls : List Layer) (here g : Forest) → is_whole here ≡ true → end_in w ls (followed_by here g) ≡ (later_place w ls here).offset + length (spelling g)
 followed_by-end w ls here g e = omega (arith, ap length (spelling-followed_by here g e), length-append (spelling here) (spelling g))
 
 -- ---- whole elements, and then an open end
 
 -- they are open, with these octets
-open-spells : (w : Framing) (ls : List Layer) (here g : Forest) → AreLayers w ls → AreWhole (place_in w ls) here → IsOpen (later_place w ls here) g → is_complete g ≡ false
+open-spells : (w : Framing) (ls : List Layer) (here g : Forest) → AreLayers w ls → AreWhole (place_in w ls) here → IsOpen (later_place w ls here) g → is_whole g ≡ false
     → Spells (top_place w) (spelling_of_layers ls ++ (spelling here ++ spelling g)) (within ls (followed_by here g))
 open-spells w ls here g a i v e = record {
   is_open = open-within w ls (followed_by here g) a (open-followed_by (place_in w ls) here g i v) (room-if_open ls (followed_by here g) (whole-followed_by here g i.whole ∙ e));
@@ -112,28 +112,28 @@ contents-less p h c left i n =
 
 -- what holds of what is open after the whole elements, whatever the phase
 abbrev pub IsTailAt : Place → Tail → Type 0
-IsTailAt p Between = Unit {0}
-IsTailAt p (InPrimitive h c) = (left : ℕ) × IsContents p h c left
-IsTailAt p (InBitString h) = IsOpen p (OpenBitString h)
-IsTailAt p (InHeader octets) = IsOpen p (OpenHeader octets)
-IsTailAt p InEndOctets = IsOpen p OpenEndOctets
+IsTailAt p NoTail = Unit {0}
+IsTailAt p (PrimitiveTail h c) = (left : ℕ) × IsContents p h c left
+IsTailAt p (BitStringTail h) = IsOpen p (OpenBitString h)
+IsTailAt p (HeaderTail octets) = IsOpen p (OpenHeader octets)
+IsTailAt p EndOctetsTail = IsOpen p OpenEndOctets
 
 -- the phase says so
 pub phase-tail : (f : PhaseValue) (t : Tail) (p : Place) → IsPhaseOf f t p → IsTailAt p t
-phase-tail phase.Between Between p i = tt
-phase-tail (phase.InHeader r) (InHeader octets) p i = i.3
-phase-tail (phase.InPrimitive left) (InPrimitive h c) p i = (left, i)
-phase-tail phase.InBitString (InBitString h) p i = i
-phase-tail phase.InEndOctets InEndOctets p i = i
+phase-tail phase.Between NoTail p i = tt
+phase-tail (phase.InHeader r) (HeaderTail octets) p i = i.3
+phase-tail (phase.InPrimitive left) (PrimitiveTail h c) p i = (left, i)
+phase-tail phase.InBitString (BitStringTail h) p i = i
+phase-tail phase.InEndOctets EndOctetsTail p i = i
 phase-tail f t p i = absurd i
 
 -- what a state has been read as is open, with the state's octets
 reading-spells : (w : Framing) (ls : List Layer) (here : Forest) (t : Tail) → AreLayers w ls → AreWhole (place_in w ls) here → IsTailAt (later_place w ls here) t
     → Spells (top_place w) (spelling_of_layers ls ++ (spelling here ++ spelling_of_tail t)) (reading_in ls here t)
-reading-spells w ls here Between a i j =
+reading-spells w ls here NoTail a i j =
     let r : Spells (top_place w) (spelling_of_layers ls ++ spelling here) (settled ls here) = settled-spells w ls here a i in
     record { is_open = r.is_open; spelled = r.spelled ∙ ap (λ (t : List ℕ). spelling_of_layers ls ++ t) (sym (append-nil (spelling here))) }
-reading-spells w ls here (InPrimitive h c) a i j = elim (cases_eq j.0 0) [
+reading-spells w ls here (PrimitiveTail h c) a i j = elim (cases_eq j.0 0) [
   | inl z ↦
       let r : Spells (top_place w) (spelling_of_layers ls ++ (spelling here ++ (octets_of h ++ (c ++ [])))) (settled ls (followed_by here (Primitive h c NoMore))) =
       whole-spells w ls here (Primitive h c NoMore) a i (contents-whole _ h c j.0 j.1 z) in
@@ -141,21 +141,21 @@ reading-spells w ls here (InPrimitive h c) a i j = elim (cases_eq j.0 0) [
       (record { is_open = r.is_open; spelled = r.spelled ∙ ap (λ (t : List ℕ). spelling_of_layers ls ++ (spelling here ++ (octets_of h ++ t))) (append-nil c) })
   | inr n ↦ rw (contents-less _ h c j.0 j.1 n) (open-spells w ls here (OpenPrimitive h c) a i (contents-open_primitive _ h c j.0 j.1 n) refl)
 ]
-reading-spells w ls here (InBitString h) a i j = open-spells w ls here (OpenBitString h) a i j refl
-reading-spells w ls here (InHeader octets) a i j = open-spells w ls here (OpenHeader octets) a i j refl
-reading-spells w ls here InEndOctets a i j = open-spells w ls here OpenEndOctets a i j refl
+reading-spells w ls here (BitStringTail h) a i j = open-spells w ls here (OpenBitString h) a i j refl
+reading-spells w ls here (HeaderTail octets) a i j = open-spells w ls here (OpenHeader octets) a i j refl
+reading-spells w ls here EndOctetsTail a i j = open-spells w ls here OpenEndOctets a i j refl
 
 -- its wrappers are the state's
 reading-wrappers : (w : Framing) (ls : List Layer) (here : Forest) (t : Tail) → AreLayers w ls → AreWhole (place_in w ls) here → IsTailAt (later_place w ls here) t
     → wrapper_offsets (reading_in ls here t) ≡ wrappers_layers ls ++ (wrapper_offsets here ++ wrappers_tail t)
-reading-wrappers w ls here Between a i j = wrapper_offsets-settled w ls here a i ∙ ap (λ (t : List ℕ). wrappers_layers ls ++ t) (sym (append-nil (wrapper_offsets here)))
-reading-wrappers w ls here (InPrimitive h c) a i j = elim (cases_eq j.0 0) [
+reading-wrappers w ls here NoTail a i j = wrapper_offsets-settled w ls here a i ∙ ap (λ (t : List ℕ). wrappers_layers ls ++ t) (sym (append-nil (wrapper_offsets here)))
+reading-wrappers w ls here (PrimitiveTail h c) a i j = elim (cases_eq j.0 0) [
   | inl z ↦ rw (contents-all _ h c j.0 j.1 z) (whole-wrappers w ls here (Primitive h c NoMore) a i (contents-whole _ h c j.0 j.1 z))
   | inr n ↦ rw (contents-less _ h c j.0 j.1 n) (open-wrappers w ls here (OpenPrimitive h c) a i)
 ]
-reading-wrappers w ls here (InBitString h) a i j = open-wrappers w ls here (OpenBitString h) a i
-reading-wrappers w ls here (InHeader octets) a i j = open-wrappers w ls here (OpenHeader octets) a i
-reading-wrappers w ls here InEndOctets a i j = open-wrappers w ls here OpenEndOctets a i
+reading-wrappers w ls here (BitStringTail h) a i j = open-wrappers w ls here (OpenBitString h) a i
+reading-wrappers w ls here (HeaderTail octets) a i j = open-wrappers w ls here (OpenHeader octets) a i
+reading-wrappers w ls here EndOctetsTail a i j = open-wrappers w ls here OpenEndOctets a i
 
 -- a primitive's end, yielded after what has been yielded of it
 contents-end : (around earlier ends : List EventValue) (h : HeaderValue) (c : List ℕ)
@@ -166,19 +166,19 @@ contents-end around earlier ends h c = simp append_assoc
 reading-events : (w : Framing) (ls : List Layer) (here : Forest) (f : PhaseValue) (t : Tail) (offset : ℕ) → AreLayers w ls → AreWhole (place_in w ls) here → IsPhaseOf f t (later_place w ls here)
     → offset ≡ (later_place w ls here).offset + length (spelling_of_tail t)
     → (events_of_layers ls ++ (events here ++ events_of_tail t)) ++ waiting_events_in f (stack_of w ls (later_place w ls here) t) offset ≡ events (reading_in ls here t)
-reading-events w ls here phase.Between Between offset a i j e =
+reading-events w ls here phase.Between NoTail offset a i j e =
     let there : offset ≡ end_in w ls here = omega arith in
     rw (append-nil (events here), there) (sym (events-settled w ls here a i))
-reading-events w ls here (phase.InPrimitive left) (InPrimitive h c) offset a i j e = elim (cases_eq left 0) [
+reading-events w ls here (phase.InPrimitive left) (PrimitiveTail h c) offset a i j e = elim (cases_eq left 0) [
   | inl z ↦
       let there : offset ≡ (later_place w ls here).offset + length (octets_of h ++ (c ++ [])) = e ∙ ap (λ (t : List ℕ). (later_place w ls here).offset + length (octets_of h ++ t)) (sym (append-nil c)) in
       rw (contents-all _ h c left j z, eq-eqb left 0 z)
       (contents-end (events_of_layers ls) (events here) (filled_ends offset (frames_of w ls)) h c ∙ sym (whole-events w ls here (Primitive h c NoMore) offset a i (contents-whole _ h c left j z) there))
   | inr n ↦ rw (contents-less _ h c left j n, ne_eqb left 0 n) (open-events w ls here (OpenPrimitive h c) a i)
 ]
-reading-events w ls here (phase.InHeader r) (InHeader octets) offset a i j e = open-events w ls here (OpenHeader octets) a i
-reading-events w ls here phase.InBitString (InBitString h) offset a i j e = open-events w ls here (OpenBitString h) a i
-reading-events w ls here phase.InEndOctets InEndOctets offset a i j e = open-events w ls here OpenEndOctets a i
+reading-events w ls here (phase.InHeader r) (HeaderTail octets) offset a i j e = open-events w ls here (OpenHeader octets) a i
+reading-events w ls here phase.InBitString (BitStringTail h) offset a i j e = open-events w ls here (OpenBitString h) a i
+reading-events w ls here phase.InEndOctets EndOctetsTail offset a i j e = open-events w ls here OpenEndOctets a i
 reading-events w ls here f t offset a i j e = absurd j
 
 -- ---- of a walker
@@ -214,7 +214,7 @@ stands w b yielded s h n k =
 
 -- the state of a new walker: nothing is open, and nothing came
 abbrev pub new_state : Zipper
-new_state = record { layers = []; here = NoMore; tail = Between }
+new_state = record { layers = []; here = NoMore; tail = NoTail }
 
 -- a new walker has it
 pub state-new : (framing : Framing) → HasZipper (new_walker framing) [] [] new_state

@@ -45,17 +45,17 @@ GoesOnIn framing octets yielded = (f : Forest) → IsReading framing octets f
 
 -- what takes part in following a piece, as it is before that or after it: the walker, the follower's state, and the
 -- `Out` to which it puts
-pub record WalkState (S D : Type 0) : Type 0 where
+pub record FollowStates (S D : Type 0) : Type 0 where
   pub walker : WalkerState
   pub follower : S
   pub out : Out D
 
-abbrev pub walk_state : {S D : Type 0} → WalkerState → S → Out D → WalkState S D
-walk_state walker follower out = record { walker = walker; follower = follower; out = out }
+abbrev pub follow_states : {S D : Type 0} → WalkerState → S → Out D → FollowStates S D
+follow_states walker follower out = record { walker = walker; follower = follower; out = out }
 
 -- here `more` are the events that the walker yielded of a piece, and the follower followed
 
-module _ {S D : Type 0} (next : S → EventValue → Effect S) (old new : WalkState S D) where
+module _ {S D : Type 0} (next : S → EventValue → Effect S) (old new : FollowStates S D) where
   -- a prefix of a piece was walked over, its events were followed, and the rest is left
   pub record Follows (piece rest : List ℕ) (more : List EventValue) (goes : Go) : Type 0 where
     pub made : FollowsEvents next old.follower new.follower more goes
@@ -110,7 +110,7 @@ module _ {S D : Type 0} (next : S → EventValue → Effect S) (old new : WalkSt
   TakesPartOrNone piece rest more (Err e) = Fails piece more
 
 module _ {S D : Type 0} (next : S → EventValue → Effect S) (state_of : D → DrainState)
-    (old new : WalkState S D) where
+    (old new : FollowStates S D) where
   -- a piece was followed, and what is made of its events was put. `Puts` says of the `Out` that it lends the same
   -- drain, and how many writes failed
   pub record FollowsPiece (piece : List ℕ) (result : Result Pause WriteFault) : Type 0 where

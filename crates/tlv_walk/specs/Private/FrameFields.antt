@@ -6,7 +6,7 @@ use Rattle.tlv_walk.specs.declared.stack.Frame.{Frame}
 use Rattle.tlv_walk.specs.declared.stack.FrameKind.{FrameKind}
 use Rattle.tlv_walk.specs.declared.stack.FrameKind.TheVariants.{Input, Definite, Indefinite, Wrapper}
 
--- the largest u64 stands for no bound
+-- the largest u64 says that there is no bound
 abbrev pub bound_from : ℕ → Option ℕ
 bound_from n = if eqb n (2 ^ 64 - 1) then None else Some n
 

@@ -10,7 +10,7 @@ use Rattle.tlv_walk.specs.Inside.{is_among}
 use Rattle.tlv_walk.specs.WalkerState.{WalkerState}
 use Rattle.tlv_walk.specs.Private.Yields.{Continues, YieldsStep}
 
--- a reader of the header that begins where the walker stands
+-- a reader of the header that begins where the walker is
 pub record BeginsAt (w : WalkerState) (r : HeadReaderState) : Type 0 where
   pub phase : w.phase ≡ Between
   pub none : r.octets ≡ []

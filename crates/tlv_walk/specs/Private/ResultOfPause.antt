@@ -21,7 +21,7 @@ pub record IsRun (run : Run) (e : Ending) (is_enough : Bool) (v : WalkerState) :
   pub octets : run.octets ≡ v.offset
   pub unused : run.unused ≡ first_without_wrapper_in v
 
--- the run of a walker that stands after the last octet of the input
+-- the run of a walker that is after the last octet of the input
 abbrev pub IsLastRun : Run → WalkerState → Type 0
 IsLastRun run v = (e : Ending) × IsRun run e false v
     × ((o : List ℕ) (yielded : List EventValue) → Stands v o yielded → IsEnding v.framing o e)

@@ -26,7 +26,7 @@ use Rattle.tlv_walk.specs.Private.WrapperCount.{next_wrapper}
 use Rattle.tlv_walk.specs.Stands.{CanTake}
 use Rattle.tlv_walk.specs.WalkerState.{HasOctets, IsAfterEvent, WalkerState}
 
--- an event was yielded, and the walker stands at this offset
+-- an event was yielded, and the walker is at this offset
 pub record YieldsAt (old new : WalkerState) (offset : ℕ) : Type 0 where
   pub place : new.offset ≡ offset
   pub events : new.events ≡ old.events + 1
@@ -55,7 +55,7 @@ HasBegunHeader (Refused fault) = ⊥
 abbrev pub CanRead : WalkerState → List ℕ → Type 0
 CanRead w piece = CanBegin w piece ⊎ (HasBegunHeader w.phase × (piece ≢ []))
 
--- the walker stands after the octets that the reader has; if those are none, a header begins with the piece
+-- the walker is after the octets that the reader has; if those are none, a header begins with the piece
 pub record CanReadOn (w : WalkerState) (r : HeadReaderState) (piece : List ℕ) : Type 0 where
   pub unfinished : r.done ≡ false
   pub place : r.offset + length r.octets ≡ w.offset
@@ -96,7 +96,7 @@ abbrev pub CountsAtOnce : WalkerState → WalkerState → List ℕ → List ℕ 
 CountsAtOnce old new piece rest (Some e) = YieldsOne old new piece rest × HasOctets e
 CountsAtOnce old new piece rest None = (new ≡ old) × (rest ≡ piece)
 
--- a header that may stand there, and of which the walker has taken a part at most
+-- a header that may be there, and of which the walker has taken a part at most
 pub record CanEnter (w : WalkerState) (h : HeaderValue) : Type 0 where
   pub valid : IsHeader h
   pub fewer : w.events + length w.stack ≤ h.offset
@@ -108,7 +108,7 @@ pub record CanEnter (w : WalkerState) (h : HeaderValue) : Type 0 where
 abbrev pub after_header : WalkerState → PhaseValue → ℕ → WalkerState
 after_header w phase offset = record w { phase = phase; offset = offset; events = w.events + 1; has_element = true }
 
--- where a walker stands after a header
+-- what a walker becomes that takes a header
 abbrev pub TakesHeader : WalkerState → WalkerState → HeaderFields → ℕ → HeaderKind → Type 0
 TakesHeader old new f offset kind.Primitive =
     (fields_hold f ≡ false)
@@ -126,7 +126,7 @@ TakesHeader old new f offset kind.Wrapper =
       wrapper_count = next_wrapper old.framing.inside old.wrapper_count f.offset;
     })
 
--- a primitive that is not named, with all of which a piece begins, and that may stand there
+-- a primitive that is not named, with all of which a piece begins, and that may be there
 pub record CanPass (w : WalkerState) (piece : List ℕ) (p : WholePrimitive) : Type 0 where
   pub phase : w.phase ≡ Between
   pub unnamed : is_among w.offset w.framing.inside ≡ false

@@ -7,7 +7,7 @@ use Rattle.tlv_walk.specs.declared.framing.Framing.{Framing}
 use Rattle.tlv_walk.specs.Phase.{PhaseValue}
 use Rattle.tlv_walk.specs.Phase as phase
 use Rattle.tlv_walk.specs.Events.{AreEqualJoined, Begin, Bytes, Enter, EventValue, events, opening_events}
-use Rattle.tlv_walk.specs.Forest.{Forest, OpenBitString, OpenHeader, OpenEndOctets, has_element, is_complete}
+use Rattle.tlv_walk.specs.Forest.{Forest, OpenBitString, OpenHeader, OpenEndOctets, has_element, is_whole}
 use Rattle.tlv_walk.specs.Forest.{opening, spelling}
 use Rattle.tlv_walk.specs.Inside.{can_name, is_among}
 use Rattle.tlv_walk.specs.WalkerState.{WalkerState}
@@ -23,15 +23,15 @@ pub record Layer : Type 0 where
 
 -- what is open after the whole elements of the innermost open element
 pub data Tail : Type 0 where
-  Between : Tail
+  NoTail : Tail
   -- contents octets so far, which may be all: the end is then still to be yielded
-  InPrimitive : (header : HeaderValue) (contents : List ℕ) → Tail
+  PrimitiveTail : (header : HeaderValue) (contents : List ℕ) → Tail
   -- a wrapping BIT STRING without its first contents octet
-  InBitString : (header : HeaderValue) → Tail
+  BitStringTail : (header : HeaderValue) → Tail
   -- a prefix of a header
-  InHeader : (octets : List ℕ) → Tail
+  HeaderTail : (octets : List ℕ) → Tail
   -- the first of the end-of-contents octets
-  InEndOctets : Tail
+  EndOctetsTail : Tail
 
 -- the open elements that hold others, innermost first; the whole elements in the innermost of them; and
 -- what is open after those
@@ -52,9 +52,9 @@ place_of w s = place_after (place_in w s.layers) (length (spelling s.here))
 -- whole elements are there, and nothing is open
 pub record AreWhole (p : Place) (f : Forest) : Type 0 where
   pub is_open : IsOpen p f
-  pub whole : is_complete f ≡ true
+  pub whole : is_whole f ≡ true
 
--- each layer's elements are whole, and its header may stand after them
+-- each layer's elements are whole, and its header may be after them
 abbrev pub AreLayers : Framing → List Layer → Type 0
 AreLayers w [] = Unit {0}
 AreLayers w (l ∷ ls) =
@@ -77,20 +77,20 @@ frames_of w (l ∷ ls) = frame_at (place_after (place_in w ls) (length (spelling
 
 -- the frames of a state: a wrapping BIT STRING has one before its first contents octet
 abbrev pub stack_of : Framing → List Layer → Place → Tail → List FrameValue
-stack_of w ls p Between = frames_of w ls
-stack_of w ls p (InPrimitive h c) = frames_of w ls
-stack_of w ls p (InBitString h) = frame_at p h ∷ frames_of w ls
-stack_of w ls p (InHeader octets) = frames_of w ls
-stack_of w ls p InEndOctets = frames_of w ls
+stack_of w ls p NoTail = frames_of w ls
+stack_of w ls p (PrimitiveTail h c) = frames_of w ls
+stack_of w ls p (BitStringTail h) = frame_at p h ∷ frames_of w ls
+stack_of w ls p (HeaderTail octets) = frames_of w ls
+stack_of w ls p EndOctetsTail = frames_of w ls
 
 -- the phase of a walker is what is open there
 abbrev pub IsPhaseOf : PhaseValue → Tail → Place → Type 0
-IsPhaseOf phase.Between Between p = Unit {0}
-IsPhaseOf (phase.InHeader r) (InHeader octets) p =
+IsPhaseOf phase.Between NoTail p = Unit {0}
+IsPhaseOf (phase.InHeader r) (HeaderTail octets) p =
     (r.octets ≡ octets) × (r.offset ≡ p.offset) × (r.named ≡ is_among p.offset p.inside) × IsOpen p (OpenHeader octets)
-IsPhaseOf (phase.InPrimitive left) (InPrimitive h c) p = IsContents p h c left
-IsPhaseOf phase.InBitString (InBitString h) p = IsOpen p (OpenBitString h)
-IsPhaseOf phase.InEndOctets InEndOctets p = IsOpen p OpenEndOctets
+IsPhaseOf (phase.InPrimitive left) (PrimitiveTail h c) p = IsContents p h c left
+IsPhaseOf phase.InBitString (BitStringTail h) p = IsOpen p (OpenBitString h)
+IsPhaseOf phase.InEndOctets EndOctetsTail p = IsOpen p OpenEndOctets
 IsPhaseOf f t p = ⊥
 
 -- the octets
@@ -99,11 +99,11 @@ spelling_of_layers [] = []
 spelling_of_layers (l ∷ ls) = spelling_of_layers ls ++ (spelling l.before ++ opening l.header)
 
 abbrev pub spelling_of_tail : Tail → List ℕ
-spelling_of_tail Between = []
-spelling_of_tail (InPrimitive h c) = octets_of h ++ c
-spelling_of_tail (InBitString h) = octets_of h
-spelling_of_tail (InHeader octets) = octets
-spelling_of_tail InEndOctets = 0 ∷ []
+spelling_of_tail NoTail = []
+spelling_of_tail (PrimitiveTail h c) = octets_of h ++ c
+spelling_of_tail (BitStringTail h) = octets_of h
+spelling_of_tail (HeaderTail octets) = octets
+spelling_of_tail EndOctetsTail = 0 ∷ []
 
 abbrev pub spelling_of_zipper : Zipper → List ℕ
 spelling_of_zipper s = spelling_of_layers s.layers ++ (spelling s.here ++ spelling_of_tail s.tail)
@@ -114,11 +114,11 @@ events_of_layers [] = []
 events_of_layers (l ∷ ls) = events_of_layers ls ++ (events l.before ++ opening_events l.header)
 
 abbrev pub events_of_tail : Tail → List EventValue
-events_of_tail Between = []
-events_of_tail (InPrimitive h c) = Begin h ∷ Bytes c ∷ []
-events_of_tail (InBitString h) = Enter h ∷ []
-events_of_tail (InHeader octets) = []
-events_of_tail InEndOctets = []
+events_of_tail NoTail = []
+events_of_tail (PrimitiveTail h c) = Begin h ∷ Bytes c ∷ []
+events_of_tail (BitStringTail h) = Enter h ∷ []
+events_of_tail (HeaderTail octets) = []
+events_of_tail EndOctetsTail = []
 
 abbrev pub events_of_zipper : Zipper → List EventValue
 events_of_zipper s = events_of_layers s.layers ++ (events s.here ++ events_of_tail s.tail)
@@ -129,11 +129,11 @@ begins_among [] here = has_element here
 begins_among (l ∷ ls) here = true
 
 abbrev pub begins_element : List Layer → Forest → Tail → Bool
-begins_element layers here Between = begins_among layers here
-begins_element layers here (InPrimitive h c) = true
-begins_element layers here (InBitString h) = true
-begins_element layers here (InHeader octets) = true
-begins_element layers here InEndOctets = true
+begins_element layers here NoTail = begins_among layers here
+begins_element layers here (PrimitiveTail h c) = true
+begins_element layers here (BitStringTail h) = true
+begins_element layers here (HeaderTail octets) = true
+begins_element layers here EndOctetsTail = true
 
 -- the walker has this zipper: octets so far, frames, phase and counts are the zipper's
 pub record HasZipper (w : WalkerState) (b : List ℕ) (yielded : List EventValue) (s : Zipper) : Type 0 where

@@ -62,7 +62,7 @@ impl Walker {
         Event::Close(None)
     }
 
-    /// Takes end-of-contents octets that lie whole in the piece, if they may stand here.
+    /// Takes end-of-contents octets that lie whole in the piece, if they may be here.
     #[inline(always)]
     pub(super) fn end_octets<'a>(&mut self, piece: &mut &'a [u8]) -> Option<Option<u64>>
         requires phase { self.old.phase ≡ phases.Between }

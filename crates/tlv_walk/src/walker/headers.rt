@@ -24,7 +24,7 @@ use std::mem::replace;
 use tlv_head::{Head, HeadReader, Header, HeaderFields, Size, read_header, universal};
 
 impl Walker {
-    /// Begins a header: takes it at once, if it lies whole in the piece and may stand here, and else octet by octet.
+    /// Begins a header: takes it at once, if it lies whole in the piece and may be here, and else octet by octet.
     pub(super) fn header<'a>(&mut self, piece: &mut &'a [u8]) -> Step<'a>
         requires begins { CanBegin self.old piece.old.now }
         requires limit { self.old.offset + length piece.old.now ≤ 2 ^ 40 }
@@ -40,7 +40,7 @@ impl Walker {
         self.slow_header(piece)
     }
 
-    /// Takes the header with which the piece begins, if it may stand here.
+    /// Takes the header with which the piece begins, if it may be here.
     #[inline(always)]
     fn take_header<'a>(
         &mut self,
@@ -58,7 +58,7 @@ impl Walker {
     {
         let octets: &'a [u8] = *piece;
         let (front, rest) = octets.split_at(count);
-        if !self.may_stand(fields, front) {
+        if !self.fits_there(fields, front) {
             return None;
         }
         *piece = rest;
@@ -186,10 +186,10 @@ impl Walker {
         }
     }
 
-    /// Whether an element with this header may stand here: it is not too deep, and its contents end
-    /// within the bound.
+    /// If this is `true`, an element with this header may be here: it is not too deep, and its contents
+    /// end within the bound.
     #[inline(always)]
-    pub(super) fn may_stand(&self, fields: &HeaderFields, octets: &[u8]) -> bool
+    pub(super) fn fits_there(&self, fields: &HeaderFields, octets: &[u8]) -> bool
         requires place { fields.now.offset ≡ self.now.offset }
         requires limit { fields.now.offset + length octets.now ≤ 2 ^ 40 }
         requires length { announced_length fields.now.size < 2 ^ 40 }

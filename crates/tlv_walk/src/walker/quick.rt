@@ -22,7 +22,7 @@ pub(crate) struct WholePrimitive {
 
 impl Walker {
     /// The primitive with which these octets begin, if all of it is among them, its header has few octets, it is not
-    /// named, and it may stand here. With `short`, only if its header has two octets.
+    /// named, and it may be here. With `short`, only if its header has two octets.
     #[inline(always)]
     pub(crate) fn primitive(&self, octets: &[u8], short: bool) -> Option<WholePrimitive>
         requires { self.now.offset + length octets.now ≤ 2 ^ 40 }
@@ -84,7 +84,7 @@ impl Walker {
         self.has_element = true;
     }
 
-    /// Takes the header with which the piece begins, if it is a constructed one of few octets that may stand here.
+    /// Takes the header with which the piece begins, if it is a constructed one of few octets that may be here.
     /// Otherwise nothing is taken.
     #[inline(always)]
     pub(crate) fn constructed<'a>(
@@ -115,7 +115,7 @@ impl Walker {
             return None;
         }
         let (front, rest) = octets.split_at(count);
-        if !self.may_stand(&fields, front) {
+        if !self.fits_there(&fields, front) {
             return None;
         }
         *piece = rest;

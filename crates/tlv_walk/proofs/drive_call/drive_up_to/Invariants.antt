@@ -1,7 +1,7 @@
 use Rattle.std.proofs.Common.{◌≡◌, ◌-◌, ◌≤◌, [], length}
 use Rattle.tlv_walk.specs.Stands.{CanTake}
 use Rattle.tlv_io.specs.Out.{held_octets, drain_of}
-use Rattle.tlv_walk.specs.OneTurn.{turn_state}
+use Rattle.tlv_walk.specs.OneTurn.{turn_states}
 use Rattle.tlv_walk.proofs.FollowerLemmas.SoFar.{Walking}
 use Rattle.tlv_walk.proofs.drive_call.drive_up_to.Given as goal
 
@@ -10,7 +10,7 @@ invariant-turns g l = record {
   taken : l.walker.offset ≤ l.limit;
   walking :
       Walking g.F.Follow.next l.framing l.initial.follower (g.S.Source.state l.initial.source) (g.D.Drain.state (drain_of l.initial.out).now)
-      (turn_state l.walker l.follower (g.S.Source.state l.source) (g.D.Drain.state (drain_of l.out).now));
+      (turn_states l.walker l.follower (g.S.Source.state l.source) (g.D.Drain.state (drain_of l.out).now));
   ready : CanTake l.walker;
   piece : length l.piece ≡ 4096;
   empty : held_octets l.out ≡ [];

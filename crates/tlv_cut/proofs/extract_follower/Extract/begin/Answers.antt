@@ -3,7 +3,7 @@ use Rattle.std.specs.Prelude.{ℕ, ◌+◌, min, Bool, if◌then◌else◌, ◌=
 use Rattle.tlv_walk.specs.declared.follow.Go.TheVariants.{On}
 use Rattle.tlv_walk.specs.Follow.{no_effect}
 use Rattle.tlv_cut.specs.declared.extract_follower.Position.{Position}
-use Rattle.tlv_cut.specs.declared.extract_follower.Position.TheVariants.{Before, Inside}
+use Rattle.tlv_cut.specs.declared.extract_follower.Position.TheVariants.{Before, Within}
 use Rattle.tlv_cut.specs.ExtractStep.{ExtractState, extract_begin_step_at, outer_octets, extract_step_to}
 use Rattle.tlv_cut.proofs.extract_follower.Extract.begin.Goals as goal
 
@@ -12,26 +12,26 @@ same m n e = search rules
 
 -- the element that is wanted begins
 extract_begin_step_at-wanted : (s : ExtractState) (offset : ℕ) (octets : List ℕ) → s.position ≡ Before → offset ≡ s.offset
-    → extract_begin_step_at s offset octets ≡ extract_step_to s (Inside 0) (outer_octets s.contents_only octets) On
+    → extract_begin_step_at s offset octets ≡ extract_step_to s (Within 0) (outer_octets s.contents_only octets) On
 extract_begin_step_at-wanted s offset octets b e =
     let at = λ (w : Position). record s { position = w } in
-    let first = extract_step_to (at Before) (Inside 0) (outer_octets s.contents_only octets) On in
+    let first = extract_step_to (at Before) (Within 0) (outer_octets s.contents_only octets) On in
     subst (λ (w : Position). extract_begin_step_at (at w) offset octets
-    ≡ extract_step_to (at w) (Inside 0) (outer_octets s.contents_only octets) On) (sym b)
+    ≡ extract_step_to (at w) (Within 0) (outer_octets s.contents_only octets) On) (sym b)
     (ap (λ (k : Bool). if k then first else no_effect (at Before)) (same offset s.offset e))
 
 -- an element begins that the one wanted holds
-extract_begin_step_at-inside : (s : ExtractState) (level offset : ℕ) (octets : List ℕ) → s.position ≡ Inside level
-    → extract_begin_step_at s offset octets ≡ extract_step_to s (Inside (min (level + 1) 255)) octets On
+extract_begin_step_at-inside : (s : ExtractState) (level offset : ℕ) (octets : List ℕ) → s.position ≡ Within level
+    → extract_begin_step_at s offset octets ≡ extract_step_to s (Within (min (level + 1) 255)) octets On
 extract_begin_step_at-inside s level offset octets e =
     let at = λ (w : Position). record s { position = w } in
     subst (λ (w : Position). extract_begin_step_at (at w) offset octets
-    ≡ extract_step_to (at w) (Inside (min (level + 1) 255)) octets On) (sym e) refl
+    ≡ extract_step_to (at w) (Within (min (level + 1) 255)) octets On) (sym e) refl
 
-pub returns-in_ok-put-in-Inside-clause-state : goal.returns-in_ok-put-in-Inside-clause-state
-returns-in_ok-put-in-Inside-clause-state g c =
-    let is = ap (λ (s : ExtractState). s.position) (sym c.self.view_is) ∙ c.in-Inside.is in
-    let one_more = extract_begin_step_at-inside c.args.self.now c.in-Inside.level c.args.offset c.args.octets.now is in
+pub returns-in_ok-put-in-Within-clause-state : goal.returns-in_ok-put-in-Within-clause-state
+returns-in_ok-put-in-Within-clause-state g c =
+    let is = ap (λ (s : ExtractState). s.position) (sym c.self.view_is) ∙ c.in-Within.is in
+    let one_more = extract_begin_step_at-inside c.args.self.now c.in-Within.level c.args.offset c.args.octets.now is in
     rw (one_more, ← c.self.view_is, c.saturating_add.ensures) (refl, refl)
 
 pub returns-after-not-self-clause-state : goal.returns-after-not-self-clause-state

@@ -1,42 +1,42 @@
 use Rattle.std.proofs.Common.{◌≡◌, ℕ, List, true, false, rules, refl, sym, ap, ◌∙◌, subst}
 use Rattle.tlv_walk.specs.declared.follow.Go.TheVariants.{Enough}
 use Rattle.tlv_cut.specs.declared.extract_follower.Position.{Position}
-use Rattle.tlv_cut.specs.declared.extract_follower.Position.TheVariants.{Inside, After}
+use Rattle.tlv_cut.specs.declared.extract_follower.Position.TheVariants.{Within, After}
 use Rattle.tlv_cut.specs.ExtractStep.{ExtractState, extract_end_step, outer_octets, extract_step_to}
 use Rattle.tlv_cut.proofs.extract_follower.Extract.end.Goals as goal
-use Rattle.tlv_cut.proofs.extract_follower.Extract.end.Goals.{then-not-self+in_ok-put-in-Inside-eq0, else-not-self}
+use Rattle.tlv_cut.proofs.extract_follower.Extract.end.Goals.{then-not-self+in_ok-put-in-Within-eq0, else-not-self}
 
 -- the element wanted ends
-extract_end_step-last : (s : ExtractState) (octets : List ℕ) → s.position ≡ Inside 0
+extract_end_step-last : (s : ExtractState) (octets : List ℕ) → s.position ≡ Within 0
     → extract_end_step s octets ≡ extract_step_to s After (outer_octets s.contents_only octets) Enough
 extract_end_step-last s octets e =
     let at = λ (w : Position). record s { position = w } in
     subst (λ (w : Position). extract_end_step (at w) octets
     ≡ extract_step_to (at w) After (outer_octets s.contents_only octets) Enough) (sym e) refl
 
-pub returns-in_err-put-in-Inside-eq0-clause-puts : goal.returns-in_err-put-in-Inside-eq0-clause-puts
-returns-in_err-put-in-Inside-eq0-clause-puts g c =
-    let level = sym c.in-Inside-eq0.field-0-is ∙ c.in-Inside-eq0.field-0-test in
-    let position : c.args.self.now.position ≡ Inside 0 =
-    ap (λ (s : ExtractState). s.position) (sym c.self.view_is) ∙ c.in-Inside-eq0.is ∙ ap Inside level in
+pub returns-in_err-put-in-Within-eq0-clause-puts : goal.returns-in_err-put-in-Within-eq0-clause-puts
+returns-in_err-put-in-Within-eq0-clause-puts g c =
+    let level = sym c.in-Within-eq0.field-0-is ∙ c.in-Within-eq0.field-0-test in
+    let position : c.args.self.now.position ≡ Within 0 =
+    ap (λ (s : ExtractState). s.position) (sym c.self.view_is) ∙ c.in-Within-eq0.is ∙ ap Within level in
     let whole : c.args.self.now.contents_only ≡ false =
     ap (λ (s : ExtractState). s.contents_only) (sym c.self.view_is) ∙ c.if-not-self.true in
     rw (position, whole) (search rules)
 
 pub returns-after-not-self-clause-state : goal.returns-after-not-self-clause-state
 returns-after-not-self-clause-state g c =
-    let level = sym c.in-Inside-eq0.field-0-is ∙ c.in-Inside-eq0.field-0-test in
-    let is : c.args.self.now.position ≡ Inside 0 =
-    ap (λ (s : ExtractState). s.position) (sym c.self.view_is) ∙ c.in-Inside-eq0.is ∙ ap Inside level in
+    let level = sym c.in-Within-eq0.field-0-is ∙ c.in-Within-eq0.field-0-test in
+    let is : c.args.self.now.position ≡ Within 0 =
+    ap (λ (s : ExtractState). s.position) (sym c.self.view_is) ∙ c.in-Within-eq0.is ∙ ap Within level in
     rw (extract_end_step-last c.args.self.now c.args.octets.now is, ← c.self.view_is) (refl, refl)
 
 pub returns-after-not-self-clause-puts : goal.returns-after-not-self-clause-puts
 returns-after-not-self-clause-puts g c =
-    let level = sym c.in-Inside-eq0.field-0-is ∙ c.in-Inside-eq0.field-0-test in
-    let position : c.args.self.now.position ≡ Inside 0 =
-    ap (λ (s : ExtractState). s.position) (sym c.self.view_is) ∙ c.in-Inside-eq0.is ∙ ap Inside level in
+    let level = sym c.in-Within-eq0.field-0-is ∙ c.in-Within-eq0.field-0-test in
+    let position : c.args.self.now.position ≡ Within 0 =
+    ap (λ (s : ExtractState). s.position) (sym c.self.view_is) ∙ c.in-Within-eq0.is ∙ ap Within level in
     elim c.if-not-self.branch [
-      | then-not-self+in_ok-put-in-Inside-eq0 w ↦
+      | then-not-self+in_ok-put-in-Within-eq0 w ↦
           let whole : c.args.self.now.contents_only ≡ false =
           ap (λ (s : ExtractState). s.contents_only) (sym c.self.view_is) ∙ w.if-not-self.true in
           rw (position, whole, w.out-is) (search rules)

@@ -3,12 +3,12 @@ use Rattle.tlv_cut.specs.ExtractStep.{ExtractState}
 use Rattle.tlv_cut.proofs.ExtractLemmas.Contents.{puts_none, puts_contents}
 use Rattle.tlv_cut.proofs.extract_follower.Extract.put_contents.Goals as goal
 
-pub returns-in-Inside : goal.returns-in-Inside
-returns-in-Inside g c =
-    let is = ap (λ (s : ExtractState). s.position) (sym c.self.view_is) ∙ c.in-Inside.is in
+pub returns-in-Within : goal.returns-in-Within
+returns-in-Within g c =
+    let is = ap (λ (s : ExtractState). s.position) (sym c.self.view_is) ∙ c.in-Within.is in
     puts_contents _ _ _ is g.D.Drain.state _ _ _ c.put.ensures.puts
 
 pub returns-in_default : goal.returns-in_default
 returns-in_default g c =
     puts_none c.args.self.now c.self.inside.position c.args.octets.now g.D.Drain.state _
-    (ap (λ (s : ExtractState). s.position) (sym c.self.view_is)) c.in_default.not-Inside
+    (ap (λ (s : ExtractState). s.position) (sym c.self.view_is)) c.in_default.not-Within

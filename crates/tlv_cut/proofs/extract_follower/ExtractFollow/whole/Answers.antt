@@ -1,24 +1,24 @@
 use Rattle.std.proofs.Common.{◌≡◌, sym, ap, ◌∙◌, arith, false, true}
 use Rattle.tlv_head.specs.Header.{HeaderValue}
 use Rattle.tlv_walk.specs.Follow.{Effect, effect_of, whole_events}
-use Rattle.tlv_cut.specs.declared.extract_follower.Position.TheVariants.{Before, Inside, After}
+use Rattle.tlv_cut.specs.declared.extract_follower.Position.TheVariants.{Before, Within, After}
 use Rattle.tlv_cut.specs.ExtractStep.{ExtractState, extract_step}
 use Rattle.tlv_cut.proofs.ExtractLemmas.Primitives.{differ, no_put, no_step, whole_before, whole_after}
 use Rattle.tlv_cut.proofs.ExtractLemmas.Primitives.{whole_failed, whole_inside, whole_put, whole_step}
 use Rattle.tlv_cut.proofs.extract_follower.ExtractFollow.whole.Goals as goal
 use Rattle.tlv_cut.proofs.extract_follower.ExtractFollow.whole.Goals.{in-Before}
-use Rattle.tlv_cut.proofs.extract_follower.ExtractFollow.whole.Goals.{in-Inside+in_ok-put-in-Inside}
-use Rattle.tlv_cut.proofs.extract_follower.ExtractFollow.whole.Goals.{in-Inside-2, in-After}
+use Rattle.tlv_cut.proofs.extract_follower.ExtractFollow.whole.Goals.{in-Within+in_ok-put-in-Within}
+use Rattle.tlv_cut.proofs.extract_follower.ExtractFollow.whole.Goals.{in-Within-2, in-After}
 
-pub returns-in_err-put-in-Inside-clause-puts : goal.returns-in_err-put-in-Inside-clause-puts
-returns-in_err-put-in-Inside-clause-puts g c =
-    let is : c.args.self.now.position ≡ Inside c.in-Inside.level =
-    ap (λ (s : ExtractState). s.position) (sym c.self.view_is) ∙ c.in-Inside.is in
+pub returns-in_err-put-in-Within-clause-puts : goal.returns-in_err-put-in-Within-clause-puts
+returns-in_err-put-in-Within-clause-puts g c =
+    let is : c.args.self.now.position ≡ Within c.in-Within.level =
+    ap (λ (s : ExtractState). s.position) (sym c.self.view_is) ∙ c.in-Within.is in
     let m = effect_of extract_step c.args.self.now (whole_events c.args.header.now c.args.octets.now) in
     whole_failed g.D.Drain.state c.args.out.now c.put.new.self m c.args.octets.now _ c.from_residual.result
-    c.in_err-put-in-Inside.ensures.puts c.from_residual.ensures.0
+    c.in_err-put-in-Within.ensures.puts c.from_residual.ensures.0
     (sym (ap (λ (t : Effect ExtractState). t.put)
-    (whole_inside c.args.self.now c.args.header.now c.args.octets.now c.in-Inside.level is
+    (whole_inside c.args.self.now c.args.header.now c.args.octets.now c.in-Within.level is
     (omega arith) c.requires.whole.header)))
 
 pub returns-clause-puts : goal.returns-clause-puts
@@ -36,14 +36,14 @@ returns-clause-puts g c =
           (differ h.offset s.offset c.header.inside.offset c.self.inside.offset
           (sym (ap (λ (k : HeaderValue). k.offset) c.header.view_is))
           (sym (ap (λ (k : ExtractState). k.offset) c.self.view_is)) x)))
-      | in-Inside+in_ok-put-in-Inside w ↦
-          let is : s.position ≡ Inside w.in-Inside.level =
-          ap (λ (s : ExtractState). s.position) (sym c.self.view_is) ∙ w.in-Inside.is in
+      | in-Within+in_ok-put-in-Within w ↦
+          let is : s.position ≡ Within w.in-Within.level =
+          ap (λ (s : ExtractState). s.position) (sym c.self.view_is) ∙ w.in-Within.is in
           rw (w.out-is, w.result-is)
-          (whole_put g.D.Drain.state c.args.out.now w.put.new.self m octets w.in_ok-put-in-Inside.ensures.puts
+          (whole_put g.D.Drain.state c.args.out.now w.put.new.self m octets w.in_ok-put-in-Within.ensures.puts
           (sym (ap (λ (t : Effect ExtractState). t.put)
-          (whole_inside s h octets w.in-Inside.level is (omega arith) c.requires.whole.header))))
-      | in-Inside-2 w ↦ rw (w.out-is, w.result-is)
+          (whole_inside s h octets w.in-Within.level is (omega arith) c.requires.whole.header))))
+      | in-Within-2 w ↦ rw (w.out-is, w.result-is)
           (no_put g.D.Drain.state c.args.out.now s m false (λ x. absurd (cc (x))))
       | in-After w ↦
           let is : s.position ≡ After = ap (λ (s : ExtractState). s.position) (sym c.self.view_is) ∙ w.in-After.is in
@@ -64,12 +64,12 @@ returns-clause-state g c =
           (differ h.offset s.offset c.header.inside.offset c.self.inside.offset
           (sym (ap (λ (k : HeaderValue). k.offset) c.header.view_is))
           (sym (ap (λ (k : ExtractState). k.offset) c.self.view_is)) x)))
-      | in-Inside+in_ok-put-in-Inside w ↦
-          let is : s.position ≡ Inside w.in-Inside.level =
-          ap (λ (s : ExtractState). s.position) (sym c.self.view_is) ∙ w.in-Inside.is in
+      | in-Within+in_ok-put-in-Within w ↦
+          let is : s.position ≡ Within w.in-Within.level =
+          ap (λ (s : ExtractState). s.position) (sym c.self.view_is) ∙ w.in-Within.is in
           rw (w.result-is) (whole_step s m octets
-          (whole_inside s h octets w.in-Inside.level is (omega arith) c.requires.whole.header))
-      | in-Inside-2 w ↦ rw (w.result-is) (no_step s m false (λ x. absurd (cc (x))))
+          (whole_inside s h octets w.in-Within.level is (omega arith) c.requires.whole.header))
+      | in-Within-2 w ↦ rw (w.result-is) (no_step s m false (λ x. absurd (cc (x))))
       | in-After w ↦
           let is : s.position ≡ After = ap (λ (s : ExtractState). s.position) (sym c.self.view_is) ∙ w.in-After.is in
           rw (w.result-is) (no_step s m true (λ x. whole_after s h octets is))
