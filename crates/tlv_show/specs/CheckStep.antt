@@ -1,8 +1,7 @@
 -- What a check makes of events.
 use Rattle.std.specs.Prelude.{ℕ, [], ◌∷◌}
-use Rattle.tlv_walk.specs.declared.follow.Go.TheVariants.{On}
 use Rattle.tlv_walk.specs.Events.{Begin, Bytes, Close, End, Enter, EventValue, Leave, Open, Pad, Unused}
-use Rattle.tlv_walk.specs.Follow.{Effect, each_octet, no_effect}
+use Rattle.tlv_walk.specs.Follow.{Effect, each_octet, effect_with, no_effect}
 use Rattle.tlv_show.specs.declared.finding_lines.Style.TheVariants.{Check}
 use Rattle.tlv_show.specs.FinderState.{CheckState, FinderState, finder_begin_step, finder_bytes_step}
 use Rattle.tlv_show.specs.FinderState.{finder_close_step, finder_end_step, finder_open_step}
@@ -10,7 +9,7 @@ use Rattle.tlv_show.specs.FindingLines.{last_finding_lines}
 
 -- the findings are put, each with its line
 abbrev pub findings_effect : FinderState → Effect CheckState
-findings_effect f = record { state = f.state; put = last_finding_lines Check f; goes = On }
+findings_effect f = effect_with f.state (last_finding_lines Check f)
 
 -- a contents octet
 abbrev pub check_octet_step : CheckState → ℕ → Effect CheckState

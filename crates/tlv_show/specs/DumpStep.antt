@@ -2,9 +2,8 @@
 use Rattle.std.specs.Prelude.{ℕ, List, [], ◌∷◌, ◌++◌}
 use Rattle.tlv_value.specs.declared.layout.Layout.{Layout}
 use Rattle.tlv_value.specs.Names.{NamesTable}
-use Rattle.tlv_walk.specs.declared.follow.Go.TheVariants.{On}
 use Rattle.tlv_walk.specs.Events.{Begin, Bytes, Close, End, Enter, EventValue, Leave, Open, Pad, Unused}
-use Rattle.tlv_walk.specs.Follow.{Effect, each_octet}
+use Rattle.tlv_walk.specs.Follow.{Effect, each_octet, effect_with}
 use Rattle.tlv_show.specs.declared.rules.Rules.{Rules}
 use Rattle.tlv_show.specs.declared.finding_lines.Style.TheVariants.{Dump}
 use Rattle.tlv_show.specs.FindingLines.{last_finding_lines}
@@ -28,33 +27,23 @@ finding_lines s f = last_finding_lines (Dump s.lines.layout.pure) f
 
 -- what is found comes before the lines, or after them
 abbrev pub findings_first : DumpState → FinderState → Effect LinesState → Effect DumpState
-findings_first s f d = record {
-  state = record { lines = d.state; finder = f.state };
-  put = finding_lines s f ++ d.put;
-  goes = On;
-}
+findings_first s f d =
+    effect_with (record { lines = d.state; finder = f.state }) (finding_lines s f ++ d.put)
 
 abbrev pub findings_last : DumpState → FinderState → Effect LinesState → Effect DumpState
-findings_last s f d = record {
-  state = record { lines = d.state; finder = f.state };
-  put = d.put ++ finding_lines s f;
-  goes = On;
-}
+findings_last s f d =
+    effect_with (record { lines = d.state; finder = f.state }) (d.put ++ finding_lines s f)
 
 -- a contents octet, and an octet of padding
 abbrev pub dump_octet_step : DumpState → ℕ → Effect DumpState
 dump_octet_step s x =
     let d = lines_octet_step s.lines x in
-    record {
-      state = record { lines = d.state; finder = finder_bytes_step s.finder (x ∷ []) };
-      put = d.put;
-      goes = On;
-    }
+    effect_with (record { lines = d.state; finder = finder_bytes_step s.finder (x ∷ []) }) d.put
 
 abbrev pub dump_padding_step : DumpState → ℕ → Effect DumpState
 dump_padding_step s x =
     let d = lines_padding_step s.lines x in
-    record { state = record { lines = d.state; finder = s.finder }; put = d.put; goes = On }
+    effect_with (record { lines = d.state; finder = s.finder }) d.put
 
 -- an event
 abbrev pub dump_step : DumpState → EventValue → Effect DumpState

@@ -16,7 +16,7 @@ use Rattle.tlv_head.specs.Header.{HeaderValue, announced_length}
 use Rattle.tlv_value.specs.Names.{NamesTable}
 use Rattle.tlv_value.specs.ValueLines.{whole_lines}
 use Rattle.tlv_walk.specs.Events.{Begin, Bytes, End, events}
-use Rattle.tlv_walk.specs.Follow.{effect_of}
+use Rattle.tlv_walk.specs.Follow.{effect_of, effect_with}
 use Rattle.tlv_walk.specs.Forest.{Forest}
 use Rattle.tlv_walk.specs.Reading.{IsPrefixOf, IsReading}
 use Rattle.tlv_walk.specs.declared.framing.Framing.{Framing}
@@ -58,14 +58,10 @@ PrimitivesAreShown =
     × (shown.lines.value ≡ None)
     × (shown.finder.value ≡ None)
     × (effect_of dump_step s (Begin h ∷ Bytes c ∷ End ∷ [])
-    ≡ record {
-      state = shown;
-      put =
-          finding_lines s (finder_begin_step s.finder h)
-          ++ (whole_lines (finite.get s.lines.names) h s.lines.layout c
-          ++ contents_finding_lines s h c);
-      goes = On;
-    })
+    ≡ effect_with shown
+    (finding_lines s (finder_begin_step s.finder h)
+    ++ (whole_lines (finite.get s.lines.names) h s.lines.layout c
+    ++ contents_finding_lines s h c)))
 
 -- a `Dump` puts the text of a reading of no more octets than are dumped, counts its findings, and never has enough
 abbrev pub DumpsMakeTexts : Type 0

@@ -7,9 +7,8 @@ use Rattle.tlv_value.specs.declared.layout.Layout.{Layout}
 use Rattle.tlv_value.specs.Names.{NamesTable}
 use Rattle.tlv_value.specs.ValueTextState.{ValueTextState, begin_lines, contents_lines, end_lines}
 use Rattle.tlv_value.specs.ValueTextState.{new_value_text, value_text_after}
-use Rattle.tlv_walk.specs.declared.follow.Go.TheVariants.{On}
 use Rattle.tlv_walk.specs.Events.{Begin, Bytes, Close, End, Enter, EventValue, Leave, Open, Pad, Unused}
-use Rattle.tlv_walk.specs.Follow.{Effect, each_octet}
+use Rattle.tlv_walk.specs.Follow.{Effect, each_octet, effect_with}
 use Rattle.tlv_show.specs.Lines.{closing_line, opening_line, padding_line, opening_word}
 use Rattle.tlv_show.specs.SaturatingSum.{saturating_sum}
 
@@ -36,10 +35,6 @@ new_lines layout names = record {
   value = None;
 }
 
--- it becomes `s`, and these octets are put
-abbrev pub lines_effect : LinesState → List ℕ → Effect LinesState
-lines_effect s octets = record { state = s; put = octets; goes = On }
-
 -- the layout of what an element holds, and of what holds it; the level stops at 255
 abbrev pub inner_layout : Layout → Layout
 inner_layout layout = record layout { level = min (layout.level + 1) 255 }
@@ -57,21 +52,21 @@ lines_after_header s h = record s {
 -- an element that holds others begins
 abbrev pub lines_open_step : LinesState → HeaderValue → List ℕ → Effect LinesState
 lines_open_step s h word =
-    lines_effect (record (lines_after_header s h) { layout = inner_layout s.layout })
+    effect_with (record (lines_after_header s h) { layout = inner_layout s.layout })
     (opening_line s.layout h word)
 
 -- it ends
 abbrev pub lines_close_step : LinesState → Option ℕ → Effect LinesState
 lines_close_step s None =
-    lines_effect (record s { layout = outer_layout s.layout }) (closing_line (outer_layout s.layout) None)
+    effect_with (record s { layout = outer_layout s.layout }) (closing_line (outer_layout s.layout) None)
 lines_close_step s (Some offset) =
-    lines_effect (record s { layout = outer_layout s.layout; offset = saturating_sum offset 2 })
+    effect_with (record s { layout = outer_layout s.layout; offset = saturating_sum offset 2 })
     (closing_line (outer_layout s.layout) (Some offset))
 
 -- a primitive begins
 abbrev pub lines_begin_step : LinesState → HeaderValue → Effect LinesState
 lines_begin_step s h =
-    lines_effect (record (lines_after_header s h) { value = Some (new_value_text h s.layout) })
+    effect_with (record (lines_after_header s h) { value = Some (new_value_text h s.layout) })
     (begin_lines (new_value_text h s.layout))
 
 -- contents octets: only as many as were announced are counted
@@ -86,7 +81,7 @@ value_contents_lines (Some t) octets = contents_lines t (take t.left octets)
 -- a contents octet
 abbrev pub lines_octet_step : LinesState → ℕ → Effect LinesState
 lines_octet_step s x =
-    lines_effect (record s { offset = saturating_sum s.offset 1; value = value_after s.value (x ∷ []) })
+    effect_with (record s { offset = saturating_sum s.offset 1; value = value_after s.value (x ∷ []) })
     (value_contents_lines s.value (x ∷ []))
 
 -- a primitive ends, of which all contents octets have come
@@ -95,12 +90,12 @@ value_end_lines names None = []
 value_end_lines names (Some t) = if eqb t.left 0 then end_lines (finite.get names) t else []
 
 abbrev pub lines_end_step : LinesState → Effect LinesState
-lines_end_step s = lines_effect (record s { value = None }) (value_end_lines s.names s.value)
+lines_end_step s = effect_with (record s { value = None }) (value_end_lines s.names s.value)
 
 -- an octet of padding: the first of a run has a line
 abbrev pub lines_padding_step : LinesState → ℕ → Effect LinesState
 lines_padding_step s x =
-    lines_effect (record s { offset = saturating_sum s.offset 1; in_padding = true })
+    effect_with (record s { offset = saturating_sum s.offset 1; in_padding = true })
     (if s.in_padding then [] else padding_line s.layout s.offset)
 
 -- an event
@@ -112,5 +107,5 @@ lines_step s (Bytes octets) = each_octet lines_octet_step s octets
 lines_step s End = lines_end_step s
 lines_step s (Close offset) = lines_close_step s offset
 lines_step s Leave = lines_close_step s None
-lines_step s Unused = lines_effect (record s { offset = saturating_sum s.offset 1 }) []
+lines_step s Unused = effect_with (record s { offset = saturating_sum s.offset 1 }) []
 lines_step s (Pad octets) = each_octet lines_padding_step s octets

@@ -14,12 +14,12 @@ use Rattle.tlv_value.specs.ValueTextState.{ValueTextState, begin_lines, contents
 use Rattle.tlv_value.specs.Value.{NameOf}
 use Rattle.tlv_value.proofs.TextLemmas.Pieces.{lines-end, open-lines}
 use Rattle.tlv_walk.specs.Events.{Begin, Bytes, Close, End, Enter, EventValue, Leave, Open, Pad, Unused, closing_event, end_offset, end_place, opening_events}
-use Rattle.tlv_walk.specs.Follow.{Effect, and_then, effect_of, if_on}
+use Rattle.tlv_walk.specs.Follow.{Effect, and_then, effect_of, effect_with, if_on}
 use Rattle.tlv_walk.specs.Forest.{Forest, NoMore, PaddingOctet, Primitive, Holder, OpenPrimitive, OpenHolder, OpenBitString, OpenHeader, OpenEndOctets, end_octets, extent, lead, opening, spelling}
 use Rattle.tlv_walk.specs.Place.{IsOpen, Place, place_after}
 use Rattle.tlv_walk.proofs.FollowerLemmas.Followed.{followed-more}
 use Rattle.tlv_walk.proofs.GrammarLemmas.Spellings.{length-opening}
-use Rattle.tlv_show.specs.LinesStep.{LinesState, lines_effect, lines_step, lines_after_header}
+use Rattle.tlv_show.specs.LinesStep.{LinesState, lines_step, lines_after_header}
 use Rattle.tlv_show.specs.Lines.{closing_line, opening_line, padding_line, opening_word}
 use Rattle.tlv_show.proofs.DumpLemmas.HolderLine.{holder_line}
 use Rattle.tlv_show.proofs.DumpLemmas.Dumped.{after_put, dumped_bytes, rested-new}
@@ -35,7 +35,7 @@ both : (s : LinesState) (xs ys : List EventValue) → effect_of lines_step s (xs
 both s xs ys = followed-more lines_step s xs ys (all_on s xs)
 
 -- what was made, and then more
-then_more : (s t : LinesState) (put : List ℕ) (xs ys : List EventValue) → effect_of lines_step s xs ≡ lines_effect t put
+then_more : (s t : LinesState) (put : List ℕ) (xs ys : List EventValue) → effect_of lines_step s xs ≡ effect_with t put
     → effect_of lines_step s (xs ++ ys) ≡ record (effect_of lines_step t ys) { put = put ++ (effect_of lines_step t ys).put }
 then_more s t put xs ys e = both s xs ys ∙ ap (λ (k : Effect LinesState). and_then k (λ u. effect_of lines_step u ys)) e
 
@@ -57,7 +57,7 @@ whole_shown name_of h layout c e =
 -- whatever went before
 pub primitives_shown : (s : LinesState) (h : HeaderValue) (c : List ℕ) → announced_length h.size ≡ length c
     → effect_of lines_step s (Begin h ∷ Bytes c ∷ End ∷ [])
-    ≡ lines_effect (record (lines_after_header s h) { offset = saturating_sum (lines_after_header s h).offset (length c); value = None }) (whole_lines (finite.get s.names) h s.layout c)
+    ≡ effect_with (record (lines_after_header s h) { offset = saturating_sum (lines_after_header s h).offset (length c); value = None }) (whole_lines (finite.get s.names) h s.layout c)
 primitives_shown s h c size =
     let t : ValueTextState = new_value_text h s.layout in
     let u : LinesState = record (lines_after_header s h) { value = Some t } in
@@ -65,9 +65,9 @@ primitives_shown s h c size =
     let took = take-all (announced_length h.size) c (omega (arith, size)) in
     let none : announced_length h.size - length c ≡ 0 = omega (arith, size) in
     ap (λ (k : Effect LinesState). after_put (begin_lines t) (if_on k.goes k (λ w. effect_of lines_step w (End ∷ [])))) (dumped_bytes u c (λ e. rested-new h s.layout))
-    ∙ ap (λ (l : List ℕ). lines_effect place_after (begin_lines t ++ (contents_lines t l ++ ((if eqb (announced_length h.size - length l) 0 then end_lines (finite.get s.names) (value_text_after t l) else []) ++ [])))) took
-    ∙ ap (λ (n : ℕ). lines_effect place_after (begin_lines t ++ (contents_lines t c ++ ((if eqb n 0 then end_lines (finite.get s.names) (value_text_after t c) else []) ++ [])))) none
-    ∙ ap (lines_effect place_after) (whole_shown (finite.get s.names) h s.layout c (sym size))
+    ∙ ap (λ (l : List ℕ). effect_with place_after (begin_lines t ++ (contents_lines t l ++ ((if eqb (announced_length h.size - length l) 0 then end_lines (finite.get s.names) (value_text_after t l) else []) ++ [])))) took
+    ∙ ap (λ (n : ℕ). effect_with place_after (begin_lines t ++ (contents_lines t c ++ ((if eqb n 0 then end_lines (finite.get s.names) (value_text_after t c) else []) ++ [])))) none
+    ∙ ap (effect_with place_after) (whole_shown (finite.get s.names) h s.layout c (sym size))
 
 -- of elements in this style, with these names
 module _ (style : Layout) (names : NamesTable) where
@@ -79,9 +79,9 @@ module _ (style : Layout) (names : NamesTable) where
   lines_between level offset padded = record { layout = at_level level; names = names; offset = offset; in_padding = padded; value = None }
 
   -- a state between two elements, and what was put
-  settled : (l m o n : ℕ) (k j : Bool) (put put' : List ℕ) → l ≡ m → o ≡ n → k ≡ j → put ≡ put' → lines_effect (lines_between l o k) put ≡ lines_effect (lines_between m n j) put'
+  settled : (l m o n : ℕ) (k j : Bool) (put put' : List ℕ) → l ≡ m → o ≡ n → k ≡ j → put ≡ put' → effect_with (lines_between l o k) put ≡ effect_with (lines_between m n j) put'
   settled l m o n k j put put' e f g i =
-      ap₂ (λ (l : ℕ) (put : List ℕ). lines_effect (lines_between l o k) put) e i ∙ ap₂ (λ (o : ℕ) (k : Bool). lines_effect (lines_between m o k) put') f g
+      ap₂ (λ (l : ℕ) (put : List ℕ). effect_with (lines_between l o k) put) e i ∙ ap₂ (λ (o : ℕ) (k : Bool). effect_with (lines_between m o k) put') f g
 
   -- ---- a primitive
 
@@ -89,7 +89,7 @@ module _ (style : Layout) (names : NamesTable) where
   begun_in level offset padded h = record (lines_after_header (lines_between level offset padded) h) { value = Some (new_value_text h (at_level level)) }
 
   pub primitive_shown : (level offset : ℕ) (padded : Bool) (h : HeaderValue) (c : List ℕ) → h.offset ≡ offset → announced_length h.size ≡ length c → offset + (length (octets_of h) + length c) ≤ 2 ^ 64 - 1
-      → effect_of lines_step (lines_between level offset padded) (Begin h ∷ Bytes c ∷ End ∷ []) ≡ lines_effect (lines_between level (offset + (length (octets_of h) + length c)) false) (whole_lines (finite.get names) h (at_level level) c)
+      → effect_of lines_step (lines_between level offset padded) (Begin h ∷ Bytes c ∷ End ∷ []) ≡ effect_with (lines_between level (offset + (length (octets_of h) + length c)) false) (whole_lines (finite.get names) h (at_level level) c)
   primitive_shown level offset padded h c there size far_enough =
       primitives_shown (lines_between level offset padded) h c size
       ∙ settled level level (saturating_sum (saturating_sum h.offset (length (octets_of h))) (length c)) (offset + (length (octets_of h) + length c)) false false _ (whole_lines (finite.get names) h (at_level level) c)
@@ -113,7 +113,7 @@ module _ (style : Layout) (names : NamesTable) where
   holder_by : (level offset : ℕ) (padded k three : Bool) (h : HeaderValue) → h.offset ≡ offset → level + 1 ≤ 255
       → offset + (length (octets_of h) + length (lead_by k three)) ≤ 2 ^ 64 - 1
       → effect_of lines_step (lines_between level offset padded) ((if k then Open h else Enter h) ∷ map (λ z. Unused) (lead_by k three))
-      ≡ lines_effect (lines_between (level + 1) (offset + (length (octets_of h) + length (lead_by k three))) false) (opening_line (at_level level) h (opening_word k))
+      ≡ effect_with (lines_between (level + 1) (offset + (length (octets_of h) + length (lead_by k three))) false) (opening_line (at_level level) h (opening_word k))
   holder_by level offset padded true three h there low far_enough =
       settled (min (level + 1) 255) (level + 1) (saturating_sum h.offset (length (octets_of h))) (offset + (length (octets_of h) + 0)) false false _ (opening_line (at_level level) h (opening_word true))
       (omega (arith, low)) (omega (arith, there, far_enough)) refl (append-nil (opening_line (at_level level) h (opening_word true)))
@@ -125,7 +125,7 @@ module _ (style : Layout) (names : NamesTable) where
       (omega (arith, low)) (omega (arith, there, far_enough)) refl (append-nil (opening_line (at_level level) h (opening_word false)))
 
   pub holder_shown : (level offset : ℕ) (padded : Bool) (h : HeaderValue) → h.offset ≡ offset → level + 1 ≤ 255 → offset + length (opening h) ≤ 2 ^ 64 - 1
-      → effect_of lines_step (lines_between level offset padded) (opening_events h) ≡ lines_effect (lines_between (level + 1) (offset + length (opening h)) false) (holder_line (at_level level) h)
+      → effect_of lines_step (lines_between level offset padded) (opening_events h) ≡ effect_with (lines_between (level + 1) (offset + length (opening h)) false) (holder_line (at_level level) h)
   holder_shown level offset padded h there low far_enough =
       holder_by level offset padded h.constructed (eqb h.number 3) h there low (omega (arith, far_enough, length-opening h))
       ∙ settled (level + 1) (level + 1) (offset + (length (octets_of h) + length (lead h))) (offset + length (opening h)) false false (holder_line (at_level level) h) (holder_line (at_level level) h)
@@ -135,7 +135,7 @@ module _ (style : Layout) (names : NamesTable) where
 
   closer_by : (level o : ℕ) (k : Bool) (size : Size) → AllowsSize k size → o + length (end_octets size) ≤ 2 ^ 64 - 1
       → effect_of lines_step (lines_between (level + 1) o false) ((if k then Close (end_offset size o) else Leave) ∷ [])
-      ≡ lines_effect (lines_between level (o + length (end_octets size)) false) (closing_line (at_level level) (if k then end_offset size o else None))
+      ≡ effect_with (lines_between level (o + length (end_octets size)) false) (closing_line (at_level level) (if k then end_offset size o else None))
   closer_by level o true (Definite n) allowed far_enough =
       settled (level + 1 - 1) level o (o + 0) false false _ (closing_line (at_level level) None) (omega arith) (omega arith) refl (append-nil (closing_line (at_level (level + 1 - 1)) None) ∙ ap (λ (l : ℕ). closing_line (at_level l) None) (omega arith))
   closer_by level o true Indefinite allowed far_enough =
@@ -146,10 +146,10 @@ module _ (style : Layout) (names : NamesTable) where
   closer_by level o false Indefinite allowed far_enough = absurd (cc (allowed))
 
   pub closer_shown : (level o : ℕ) (h : HeaderValue) (inside : Forest) → h.offset + length (opening h) + length (spelling inside) ≡ o → AllowsSize h.constructed h.size → o + length (end_octets h.size) ≤ 2 ^ 64 - 1
-      → effect_of lines_step (lines_between (level + 1) o false) (closing_event h inside ∷ []) ≡ lines_effect (lines_between level (o + length (end_octets h.size)) false) (closing_line (at_level level) (if h.constructed then end_place h inside else None))
+      → effect_of lines_step (lines_between (level + 1) o false) (closing_event h inside ∷ []) ≡ effect_with (lines_between level (o + length (end_octets h.size)) false) (closing_line (at_level level) (if h.constructed then end_place h inside else None))
   closer_shown level o h inside there allowed far_enough =
       subst (λ (n : ℕ). effect_of lines_step (lines_between (level + 1) o false) ((if h.constructed then Close (end_offset h.size n) else Leave) ∷ [])
-      ≡ lines_effect (lines_between level (o + length (end_octets h.size)) false) (closing_line (at_level level) (if h.constructed then end_offset h.size n else None)))
+      ≡ effect_with (lines_between level (o + length (end_octets h.size)) false) (closing_line (at_level level) (if h.constructed then end_offset h.size n else None)))
       (sym there) (closer_by level o h.constructed h.size allowed far_enough)
 
   -- ---- elements
@@ -178,7 +178,7 @@ module _ (style : Layout) (names : NamesTable) where
   no_padding p (OpenHeader octets) e v = refl
   no_padding p OpenEndOctets e v = refl
 
-  pub fill_shown : (level offset : ℕ) (padded : Bool) → offset + 1 ≤ 2 ^ 64 - 1 → effect_of lines_step (lines_between level offset padded) (Pad (0 ∷ []) ∷ []) ≡ lines_effect (lines_between level (offset + 1) true) (if padded then [] else padding_line (at_level level) offset)
+  pub fill_shown : (level offset : ℕ) (padded : Bool) → offset + 1 ≤ 2 ^ 64 - 1 → effect_of lines_step (lines_between level offset padded) (Pad (0 ∷ []) ∷ []) ≡ effect_with (lines_between level (offset + 1) true) (if padded then [] else padding_line (at_level level) offset)
   fill_shown level offset padded far_enough =
       let line = if padded then [] else padding_line (at_level level) offset in
       settled level level (saturating_sum offset 1) (offset + 1) true true ((line ++ []) ++ []) line refl (far offset 1 far_enough) refl (append-nil (line ++ []) ∙ append-nil line)

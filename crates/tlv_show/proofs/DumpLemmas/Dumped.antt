@@ -7,8 +7,8 @@ use Rattle.tlv_head.specs.Header.{HeaderValue}
 use Rattle.tlv_value.specs.declared.layout.Layout.{Layout}
 use Rattle.tlv_value.specs.ValueTextState.{ValueTextState, contents_lines, new_value_text, value_text_after}
 use Rattle.tlv_value.proofs.TextLemmas.Pieces.{after-nothing, new-nothing, pieces-join}
-use Rattle.tlv_walk.specs.Follow.{Effect, each_octet}
-use Rattle.tlv_show.specs.LinesStep.{LinesState, lines_effect, lines_octet_step, lines_padding_step, value_after, value_contents_lines}
+use Rattle.tlv_walk.specs.Follow.{Effect, each_octet, effect_with}
+use Rattle.tlv_show.specs.LinesStep.{LinesState, lines_octet_step, lines_padding_step, value_after, value_contents_lines}
 use Rattle.tlv_show.specs.Lines.{padding_line}
 use Rattle.tlv_show.specs.SaturatingSum.{saturating_sum}
 
@@ -66,7 +66,7 @@ after_put put u = record { state = u.state; put = put ++ u.put; goes = u.goes }
 
 -- a dump of contents: the offset after them, what is reported of the primitive, and what is put
 abbrev pub of_bytes : LinesState → ℕ → Option ValueTextState → List ℕ → Effect LinesState
-of_bytes s offset value put = lines_effect (record s { offset = offset; value = value }) put
+of_bytes s offset value put = effect_with (record s { offset = offset; value = value }) put
 
 pub dumped_bytes : (s : LinesState) (xs : List ℕ) → (xs ≡ [] → IsRested s.value)
     → each_octet lines_octet_step s xs ≡ of_bytes s (saturating_sum s.offset (length xs)) (value_after s.value xs) (value_contents_lines s.value xs)
@@ -88,28 +88,28 @@ abbrev pub padded_at : LinesState → ℕ → Bool → LinesState
 padded_at s offset in_padding = record s { offset = offset; in_padding = in_padding }
 
 -- it had its line
-pub more_pad : (s : LinesState) (offset : ℕ) (xs : List ℕ) → each_octet lines_padding_step (padded_at s offset true) xs ≡ lines_effect (padded_at s (saturating_sum offset (length xs)) true) []
-more_pad s offset [] = ap (λ (o : ℕ). lines_effect (padded_at s o true) []) (sym (further-none offset))
+pub more_pad : (s : LinesState) (offset : ℕ) (xs : List ℕ) → each_octet lines_padding_step (padded_at s offset true) xs ≡ effect_with (padded_at s (saturating_sum offset (length xs)) true) []
+more_pad s offset [] = ap (λ (o : ℕ). effect_with (padded_at s o true) []) (sym (further-none offset))
 more_pad s offset (x ∷ xs) =
-    more_pad s (saturating_sum offset 1) xs ∙ ap (λ (o : ℕ). lines_effect (padded_at s o true) []) (further-more offset 1 (length xs) ∙ ap (saturating_sum offset) (omega arith))
+    more_pad s (saturating_sum offset 1) xs ∙ ap (λ (o : ℕ). effect_with (padded_at s o true) []) (further-more offset 1 (length xs) ∙ ap (saturating_sum offset) (omega arith))
 
 more_by : (s : LinesState) (offset : ℕ) (in_padding : Bool) (xs : List ℕ) → in_padding ≡ true
-    → each_octet lines_padding_step (padded_at s offset in_padding) xs ≡ lines_effect (padded_at s (saturating_sum offset (length xs)) in_padding) []
+    → each_octet lines_padding_step (padded_at s offset in_padding) xs ≡ effect_with (padded_at s (saturating_sum offset (length xs)) in_padding) []
 more_by s offset true xs e = more_pad s offset xs
 more_by s offset false xs e = absurd (cc)
 
-pub padded_more : (s : LinesState) (xs : List ℕ) → s.in_padding ≡ true → each_octet lines_padding_step s xs ≡ lines_effect (padded_at s (saturating_sum s.offset (length xs)) s.in_padding) []
+pub padded_more : (s : LinesState) (xs : List ℕ) → s.in_padding ≡ true → each_octet lines_padding_step s xs ≡ effect_with (padded_at s (saturating_sum s.offset (length xs)) s.in_padding) []
 padded_more s xs e = more_by s s.offset s.in_padding xs e
 
 -- it has its line with the first octet
 first_by : (s : LinesState) (offset : ℕ) (in_padding : Bool) (xs : List ℕ) → 0 < length xs → in_padding ≡ false
-    → each_octet lines_padding_step (padded_at s offset in_padding) xs ≡ lines_effect (padded_at s (saturating_sum offset (length xs)) true) (padding_line s.layout offset)
+    → each_octet lines_padding_step (padded_at s offset in_padding) xs ≡ effect_with (padded_at s (saturating_sum offset (length xs)) true) (padding_line s.layout offset)
 first_by s offset true xs some e = absurd (cc)
 first_by s offset false [] some e = absurd (omega (arith, some))
 first_by s offset false (x ∷ xs) some e =
     ap (after_put (padding_line s.layout offset)) (more_pad s (saturating_sum offset 1) xs)
-    ∙ ap (λ (o : ℕ). lines_effect (padded_at s o true) (padding_line s.layout offset ++ [])) (further-more offset 1 (length xs) ∙ ap (saturating_sum offset) (omega arith))
-    ∙ ap (lines_effect (padded_at s (saturating_sum offset (length (x ∷ xs))) true)) (append-nil (padding_line s.layout offset))
+    ∙ ap (λ (o : ℕ). effect_with (padded_at s o true) (padding_line s.layout offset ++ [])) (further-more offset 1 (length xs) ∙ ap (saturating_sum offset) (omega arith))
+    ∙ ap (effect_with (padded_at s (saturating_sum offset (length (x ∷ xs))) true)) (append-nil (padding_line s.layout offset))
 
-pub padded_first : (s : LinesState) (xs : List ℕ) → 0 < length xs → s.in_padding ≡ false → each_octet lines_padding_step s xs ≡ lines_effect (padded_at s (saturating_sum s.offset (length xs)) true) (padding_line s.layout s.offset)
+pub padded_first : (s : LinesState) (xs : List ℕ) → 0 < length xs → s.in_padding ≡ false → each_octet lines_padding_step s xs ≡ effect_with (padded_at s (saturating_sum s.offset (length xs)) true) (padding_line s.layout s.offset)
 padded_first s xs some e = first_by s s.offset s.in_padding xs some e
