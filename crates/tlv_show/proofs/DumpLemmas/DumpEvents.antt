@@ -3,12 +3,11 @@ use Rattle.std.proofs.Common.{◌≡◌, ℕ, Bool, true, false, if◌then◌els
 use Rattle.std.specs.Prelude.{Option, Some, None}
 use Rattle.tlv_head.specs.Header.{HeaderValue}
 use Rattle.tlv_value.specs.declared.layout.Layout.{Layout}
-use Rattle.tlv_walk.specs.declared.follow.Go.TheVariants as go
 use Rattle.tlv_walk.specs.Events.{Begin, Bytes, Close, End, Enter, EventValue, Leave, Open, Unused}
-use Rattle.tlv_walk.specs.Follow.{Effect, and_then, each_octet, effect_of, if_on}
+use Rattle.tlv_walk.specs.Follow.{Effect, and_then, each_octet, effect_of, effect_with, if_on}
 use Rattle.tlv_walk.proofs.FollowerLemmas.Followed.{followed-more}
 use Rattle.tlv_show.specs.declared.finding_lines.Style.TheVariants.{Dump}
-use Rattle.tlv_show.specs.FindingLines.{styled_lines}
+use Rattle.tlv_show.specs.FindingLines.{last_finding_lines}
 use Rattle.tlv_show.specs.LinesStep.{LinesState, lines_octet_step, lines_step, lines_after_header}
 use Rattle.tlv_show.specs.DumpStep.{DumpState, dump_step}
 use Rattle.tlv_show.specs.FinderState.{CheckState, FinderState, finder_begin_step, finder_bytes_step, finder_close_step, finder_end_step, finder_open_step}
@@ -25,29 +24,26 @@ use Rattle.tlv_show.specs.SaturatingSum.{saturating_sum}
 abbrev pub pair : LinesState → CheckState → DumpState
 pair l f = record { lines = l; finder = f }
 
-abbrev pub is_shown : DumpState → List ℕ → Effect DumpState
-is_shown s put = record { state = s; put = put; goes = go.On }
-
 shown-more : (s : DumpState) (xs ys : List EventValue) → effect_of dump_step s (xs ++ ys) ≡ and_then (effect_of dump_step s xs) (λ u. effect_of dump_step u ys)
 shown-more s xs ys = followed-more dump_step s xs ys (all_on s xs)
 
-pub then_shown : (s t : DumpState) (put : List ℕ) (xs ys : List EventValue) → effect_of dump_step s xs ≡ is_shown t put
+pub then_shown : (s t : DumpState) (put : List ℕ) (xs ys : List EventValue) → effect_of dump_step s xs ≡ effect_with t put
     → effect_of dump_step s (xs ++ ys) ≡ record (effect_of dump_step t ys) { put = put ++ (effect_of dump_step t ys).put }
 then_shown s t put xs ys e = shown-more s xs ys ∙ ap (λ (k : Effect DumpState). and_then k (λ u. effect_of dump_step u ys)) e
 
 -- the lines of what is found, as a dump in this layout puts them
 abbrev pub texts : Layout → FinderState → List ℕ
-texts layout f = styled_lines (Dump layout.pure) f.level f.offset f.found
+texts layout f = last_finding_lines (Dump layout.pure) f
 
 -- ---- an element that holds others
 
 pub opens-by : (l : LinesState) (s : CheckState) (h : HeaderValue) (k three : Bool)
     → effect_of dump_step (pair l s) ((if k then Open h else Enter h) ∷ map {A = ℕ} (λ z. Unused) (if k then [] else (if three then 0 ∷ [] else [])))
     ≡ (let d = effect_of lines_step l ((if k then Open h else Enter h) ∷ map {A = ℕ} (λ z. Unused) (if k then [] else (if three then 0 ∷ [] else []))) in
-    is_shown (pair d.state (finder_open_step s h).state) (texts l.layout (finder_open_step s h) ++ d.put))
-opens-by l s h true three = ap (is_shown _) (append_assoc (texts l.layout (finder_open_step s h)) (lines_step l (Open h)).put [])
-opens-by l s h false true = ap (is_shown _) (append_assoc (texts l.layout (finder_open_step s h)) (lines_step l (Enter h)).put [])
-opens-by l s h false false = ap (is_shown _) (append_assoc (texts l.layout (finder_open_step s h)) (lines_step l (Enter h)).put [])
+    effect_with (pair d.state (finder_open_step s h).state) (texts l.layout (finder_open_step s h) ++ d.put))
+opens-by l s h true three = ap (effect_with _) (append_assoc (texts l.layout (finder_open_step s h)) (lines_step l (Open h)).put [])
+opens-by l s h false true = ap (effect_with _) (append_assoc (texts l.layout (finder_open_step s h)) (lines_step l (Enter h)).put [])
+opens-by l s h false false = ap (effect_with _) (append_assoc (texts l.layout (finder_open_step s h)) (lines_step l (Enter h)).put [])
 
 again : (a b : List ℕ) → (a ++ b) ++ [] ≡ (a ++ []) ++ b
 again a b = append-nil (a ++ b) ∙ ap (λ (x : List ℕ). x ++ b) (sym (append-nil a))
@@ -55,10 +51,10 @@ again a b = append-nil (a ++ b) ∙ ap (λ (x : List ℕ). x ++ b) (sym (append-
 pub closes-by : (l : LinesState) (s : CheckState) (offset : Option ℕ) (k : Bool)
     → effect_of dump_step (pair l s) ((if k then Close offset else Leave) ∷ [])
     ≡ (let d = effect_of lines_step l ((if k then Close offset else Leave) ∷ []) in
-    is_shown (pair d.state (finder_close_step s).state) (d.put ++ texts l.layout (finder_close_step s)))
-closes-by l s None true = ap (is_shown _) (again (lines_step l (Close None)).put (texts l.layout (finder_close_step s)))
-closes-by l s (Some offset) true = ap (is_shown _) (again (lines_step l (Close (Some offset))).put (texts l.layout (finder_close_step s)))
-closes-by l s offset false = ap (is_shown _) (again (lines_step l Leave).put (texts l.layout (finder_close_step s)))
+    effect_with (pair d.state (finder_close_step s).state) (d.put ++ texts l.layout (finder_close_step s)))
+closes-by l s None true = ap (effect_with _) (again (lines_step l (Close None)).put (texts l.layout (finder_close_step s)))
+closes-by l s (Some offset) true = ap (effect_with _) (again (lines_step l (Close (Some offset))).put (texts l.layout (finder_close_step s)))
+closes-by l s offset false = ap (effect_with _) (again (lines_step l Leave).put (texts l.layout (finder_close_step s)))
 
 -- ---- a primitive
 
@@ -69,7 +65,7 @@ pub primitive-by : (l : LinesState) (s : CheckState) (h : HeaderValue) (c : List
     → effect_of dump_step (pair l s) (Begin h ∷ Bytes c ∷ End ∷ [])
     ≡ (let d = effect_of lines_step l (Begin h ∷ Bytes c ∷ End ∷ []) in
     let f = finder_end_step (finder_bytes_step (finder_begin_step s h).state c) in
-    is_shown (pair d.state f.state) (texts l.layout (finder_begin_step s h) ++ (d.put ++ texts l.layout f)))
+    effect_with (pair d.state f.state) (texts l.layout (finder_begin_step s h) ++ (d.put ++ texts l.layout f)))
 primitive-by l s h c =
     let b = lines_step l (Begin h) in
     let m = each_octet lines_octet_step b.state c in
@@ -77,9 +73,9 @@ primitive-by l s h c =
     let u : CheckState = finder_bytes_step (finder_begin_step s h).state c in
     let f = finder_end_step u in
     let first = texts l.layout (finder_begin_step s h) in
-    let whole : Effect LinesState → Effect DumpState = λ k. is_shown (pair (lines_step k.state End).state f.state) ((first ++ b.put) ++ (k.put ++ (((lines_step k.state End).put ++ texts k.state.layout f) ++ []))) in
+    let whole : Effect LinesState → Effect DumpState = λ k. effect_with (pair (lines_step k.state End).state f.state) ((first ++ b.put) ++ (k.put ++ (((lines_step k.state End).put ++ texts k.state.layout f) ++ []))) in
     let parts : Effect LinesState → Effect DumpState =
-    λ k. let d = and_then b (λ z. if_on k.goes k (λ w. effect_of lines_step w (End ∷ []))) in is_shown (pair d.state f.state) (first ++ (d.put ++ texts l.layout f)) in
+    λ k. let d = and_then b (λ z. if_on k.goes k (λ w. effect_of lines_step w (End ∷ []))) in effect_with (pair d.state f.state) (first ++ (d.put ++ texts l.layout f)) in
     let o : Effect LinesState = of_bytes b.state (saturating_sum b.state.offset (length c)) (value_after b.state.value c) (value_contents_lines b.state.value c) in
     let is : m ≡ o = dumped_bytes b.state c (λ e. rested-new h l.layout) in
     ap (λ (k : Effect DumpState). record {
@@ -89,7 +85,7 @@ primitive-by l s h c =
     })
     (each-shown (pair b.state (finder_begin_step s h).state) c)
     ∙ ap whole is
-    ∙ ap (is_shown (pair (lines_step o.state End).state f.state)) (around first b.put o.put (lines_step o.state End).put (texts l.layout f))
+    ∙ ap (effect_with (pair (lines_step o.state End).state f.state)) (around first b.put o.put (lines_step o.state End).put (texts l.layout f))
     ∙ sym (ap parts is)
 
 pub primitives_are_shown : PrimitivesAreShown
@@ -101,7 +97,7 @@ primitives_are_shown s h c size =
       refl,
       f.1,
       primitive-by s.lines s.finder h c
-          ∙ ap₂ (λ (d : Effect LinesState) (f : FinderState). is_shown (pair d.state f.state) (texts s.lines.layout (finder_begin_step s.finder h) ++ (d.put ++ texts s.lines.layout f))) d f.2,
+          ∙ ap₂ (λ (d : Effect LinesState) (f : FinderState). effect_with (pair d.state f.state) (texts s.lines.layout (finder_begin_step s.finder h) ++ (d.put ++ texts s.lines.layout f))) d f.2,
     )
 
 -- a primitive that is open

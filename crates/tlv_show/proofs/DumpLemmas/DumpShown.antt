@@ -12,7 +12,7 @@ use Rattle.tlv_value.specs.ValueLines.{open_lines, whole_lines}
 use Rattle.tlv_value.specs.Types.{is_primitive}
 use Rattle.tlv_walk.specs.declared.follow.Go.{Go}
 use Rattle.tlv_walk.specs.Events.{Begin, Bytes, End, EventValue, Pad, closing_event, end_offset, end_place, events, opening_events}
-use Rattle.tlv_walk.specs.Follow.{Effect, effect_of}
+use Rattle.tlv_walk.specs.Follow.{Effect, effect_of, effect_with}
 use Rattle.tlv_walk.specs.Forest.{Forest, NoMore, PaddingOctet, Primitive, Holder, OpenPrimitive, OpenHolder, OpenBitString, OpenHeader, OpenEndOctets, end_octets, extent, is_whole, lead, opening, spelling}
 use Rattle.tlv_walk.specs.Place.{IsOpen, Place, place_after, place_of_children}
 use Rattle.tlv_walk.proofs.GrammarLemmas.Spellings.{length-holder, length-primitive}
@@ -39,7 +39,7 @@ use Rattle.tlv_show.proofs.FindingLemmas.FinderFolds.{offset-under, not-construc
 use Rattle.tlv_show.proofs.FindingLemmas.FramesAround.{knows-after, knows-inside, knows-padding, unused-of}
 use Rattle.tlv_show.proofs.FindingLemmas.FinderItems.{after_contents, after_end, later_header, after_primitive, closed-find, opened-find, primitive-find, check_between}
 use Rattle.tlv_show.proofs.FindingLemmas.HeaderFindings.{Knows, header-same}
-use Rattle.tlv_show.proofs.DumpLemmas.DumpEvents.{pair, is_shown, then_shown, texts, opens-by, closes-by, primitive-by, part-by}
+use Rattle.tlv_show.proofs.DumpLemmas.DumpEvents.{pair, then_shown, texts, opens-by, closes-by, primitive-by, part-by}
 use Rattle.tlv_show.specs.Conditions.{surroundings_of, segments_of}
 
 -- ---- elements, in this style, with these names and rules
@@ -80,7 +80,7 @@ module _ (style : Layout) (names : NamesTable) (rules : Rules) where
   -- elements after what was shown
   shown-after : (p q : Place) (padded : Bool) (w : SiblingFrame) (outer : List SiblingFrame) (n m : ℕ) (v : SiblingFrame) (holder : Option HeaderValue) (before : Before) (es : List EventValue) (put : List ℕ) (rest : Forest)
       → q.depth ≡ p.depth
-      → effect_of dump_step (start p padded w outer n) es ≡ is_shown (start q (is_padding before) v outer m) put → IsShown q holder before v outer rest
+      → effect_of dump_step (start p padded w outer n) es ≡ effect_with (start q (is_padding before) v outer m) put → IsShown q holder before v outer rest
       → effect_of dump_step (start p padded w outer n) (es ++ events rest)
       ≡ record (effect_of dump_step (start q (is_padding before) v outer m) (events rest)) { put = put ++ texts_of (items rules (site q holder before) rest) }
   shown-after p q padded w outer n m v holder before es put rest d e t =
@@ -94,10 +94,10 @@ module _ (style : Layout) (names : NamesTable) (rules : Rules) where
   opened-shown : (p : Place) (holder : Option HeaderValue) (before : Before) (w : SiblingFrame) (outer : List SiblingFrame) (n : ℕ) (h : HeaderValue) → Known p holder before w outer
       → h.offset ≡ p.offset → p.depth < 128 → p.offset + length (opening h) ≤ 2 ^ 64 - 1
       → effect_of dump_step (start p (is_padding before) w outer n) (opening_events h)
-      ≡ is_shown (start (place_of_children p h) false (frame_under w h) (w ∷ outer) (later_header rules w h n)) (styled_lines (Dump style.pure) (length outer) h.offset (header_findings rules (surroundings_in w) h) ++ holder_line (at_level style names p.depth) h)
+      ≡ effect_with (start (place_of_children p h) false (frame_under w h) (w ∷ outer) (later_header rules w h n)) (styled_lines (Dump style.pure) (length outer) h.offset (header_findings rules (surroundings_in w) h) ++ holder_line (at_level style names p.depth) h)
   opened-shown p holder before w outer n h k there low far =
       opens-by (lines_between style names p.depth p.offset (is_padding before)) (check_between rules w outer n) h h.constructed (h.number == 3)
-      ∙ ap₂ (λ (d : Effect LinesState) (f : FinderState). is_shown (pair d.state f.state) (texts style f ++ d.put))
+      ∙ ap₂ (λ (d : Effect LinesState) (f : FinderState). effect_with (pair d.state f.state) (texts style f ++ d.put))
       (holder_shown style names p.depth p.offset (is_padding before) h there (omega (arith, low)) far)
       (opened-find rules w outer n h (omega (arith, k.1, low)))
 
@@ -105,11 +105,11 @@ module _ (style : Layout) (names : NamesTable) (rules : Rules) where
   primitive-shown : (p : Place) (padded : Bool) (w : SiblingFrame) (outer : List SiblingFrame) (n : ℕ) (h : HeaderValue) (c : List ℕ) → h.offset ≡ p.offset → announced_length h.size ≡ length c
       → p.offset + (length (octets_of h) + length c) ≤ 2 ^ 64 - 1
       → effect_of dump_step (start p padded w outer n) (Begin h ∷ Bytes c ∷ End ∷ [])
-      ≡ is_shown (start (place_after p (length (octets_of h) + length c)) false (after_primitive rules w h c) outer (after_contents rules w h c n))
+      ≡ effect_with (start (place_after p (length (octets_of h) + length c)) false (after_primitive rules w h c) outer (after_contents rules w h c n))
       (styled_lines (Dump style.pure) (length outer) h.offset (header_findings rules (surroundings_in w) h) ++ (whole_lines (finite.get names) h (at_level style names p.depth) c ++ styled_lines (Dump style.pure) (length outer) h.offset (contents_findings rules h c)))
   primitive-shown p padded w outer n h c there size far =
       primitive-by (lines_between style names p.depth p.offset padded) (check_between rules w outer n) h c
-      ∙ ap₂ (λ (d : Effect LinesState) (f : FinderState). is_shown (pair d.state f.state) (styled_lines (Dump style.pure) (length outer) h.offset (header_findings rules (surroundings_in w) h) ++ (d.put ++ texts style f)))
+      ∙ ap₂ (λ (d : Effect LinesState) (f : FinderState). effect_with (pair d.state f.state) (styled_lines (Dump style.pure) (length outer) h.offset (header_findings rules (surroundings_in w) h) ++ (d.put ++ texts style f)))
       (primitive_shown style names p.depth p.offset padded h c there size far)
       (primitive-find rules w outer n h c (sym size))
 
@@ -122,8 +122,8 @@ module _ (style : Layout) (names : NamesTable) (rules : Rules) where
   shows_forest p holder before w outer (PaddingOctet rest) v b k =
       let s : Site = site p holder before in
       let t = shows_forest (place_after p 1) holder Padding w outer rest v.1 (omega (arith, b)) (knows-padding w s k.0 (k.2 v.0.0), k.1, k.2) in
-      let one : (n : ℕ) → effect_of dump_step (start p (is_padding before) w outer n) (Pad (0 ∷ []) ∷ []) ≡ is_shown (start (place_after p 1) true w outer n) (if is_padding before then [] else padding_line (at_level style names p.depth) p.offset) =
-      λ n. ap (λ (d : Effect LinesState). is_shown (pair d.state (check_between rules w outer n)) d.put) (fill_shown style names p.depth p.offset (is_padding before) (omega (arith, b))) in
+      let one : (n : ℕ) → effect_of dump_step (start p (is_padding before) w outer n) (Pad (0 ∷ []) ∷ []) ≡ effect_with (start (place_after p 1) true w outer n) (if is_padding before then [] else padding_line (at_level style names p.depth) p.offset) =
+      λ n. ap (λ (d : Effect LinesState). effect_with (pair d.state (check_between rules w outer n)) d.put) (fill_shown style names p.depth p.offset (is_padding before) (omega (arith, b))) in
       let all = λ (n : ℕ). shown-after p (place_after p 1) (is_padding before) w outer n n w holder Padding (Pad (0 ∷ []) ∷ []) (if is_padding before then [] else padding_line (at_level style names p.depth) p.offset) rest refl (one n) t in
       record {
         text = λ n. ap (λ (x : Effect DumpState). x.put) (all n) ∙ pads (is_padding before) p.depth p.offset (items rules (site_after_padding s) rest);
@@ -179,17 +179,17 @@ module _ (style : Layout) (names : NamesTable) (rules : Rules) where
       let last : List ℕ = styled_lines (Dump style.pure) (length outer) h.offset (end_findings rules (segments_of h (headers inside))) in
       let held : List ℕ = texts_of (items rules (site_of_children s h) inside) in
       let closes-shown : (m : ℕ) → effect_of dump_step (pair (lines_between style names (p.depth + 1) end false) (check_between rules (noted_all (frame_under w h) inside) (w ∷ outer) m)) (closing_event h inside ∷ [])
-      ≡ is_shown (start q false (frame_after w (is_primitive h) (announced_length h.size) false) outer (after_end rules h inside m)) (close ++ last) =
+      ≡ effect_with (start q false (frame_after w (is_primitive h) (announced_length h.size) false) outer (after_end rules h inside m)) (close ++ last) =
       λ m.
       closes-by (lines_between style names (p.depth + 1) end false) (check_between rules (noted_all (frame_under w h) inside) (w ∷ outer) m) (end_offset h.size (h.offset + length (opening h) + length (spelling inside))) h.constructed
-      ∙ ap₂ (λ (d : Effect LinesState) (f : FinderState). is_shown (pair d.state f.state) (d.put ++ texts style f))
+      ∙ ap₂ (λ (d : Effect LinesState) (f : FinderState). effect_with (pair d.state f.state) (d.put ++ texts style f))
       (closer_shown style names p.depth end h inside (omega (arith, v.0.0.header.offset)) v.0.0.header.valid.allowed (omega (arith, b, size)))
       (closed-find rules i_place w outer m h inside v.1 v.0.1)
-      ∙ ap (λ (l : List ℕ). is_shown (pair (lines_between style names p.depth (end + length (end_octets h.size)) false) (check_between rules (frame_after w (is_primitive h) (announced_length h.size) false) outer (after_end rules h inside m))) (close ++ l))
+      ∙ ap (λ (l : List ℕ). effect_with (pair (lines_between style names p.depth (end + length (end_octets h.size)) false) (check_between rules (frame_after w (is_primitive h) (announced_length h.size) false) outer (after_end rules h inside m))) (close ++ l))
       (offset-under rules i_place w h inside v.1 v.0.1 (styled_lines (Dump style.pure) (length outer)) (λ offset. refl))
-      ∙ ap (λ (offset : ℕ). is_shown (pair (lines_between style names p.depth offset false) (check_between rules (frame_after w (is_primitive h) (announced_length h.size) false) outer (after_end rules h inside m))) (close ++ last)) (omega arith) in
+      ∙ ap (λ (offset : ℕ). effect_with (pair (lines_between style names p.depth offset false) (check_between rules (frame_after w (is_primitive h) (announced_length h.size) false) outer (after_end rules h inside m))) (close ++ last)) (omega arith) in
       let held-shown : (m : ℕ) → (r : ℕ) × (effect_of dump_step (start i_place false (frame_under w h) (w ∷ outer) m) (events inside)
-      ≡ is_shown (pair (lines_between style names (p.depth + 1) end false) (check_between rules (noted_all (frame_under w h) inside) (w ∷ outer) r)) held) =
+      ≡ effect_with (pair (lines_between style names (p.depth + 1) end false) (check_between rules (noted_all (frame_under w h) inside) (w ∷ outer) r)) held) =
       λ m.
       let r = i.after m v.0.1 in (
         r.0,
@@ -197,7 +197,7 @@ module _ (style : Layout) (names : NamesTable) (rules : Rules) where
             (r.1 ∙ ap (λ (x : Bool). pair (lines_between style names (p.depth + 1) end x) (check_between rules (noted_all (frame_under w h) inside) (w ∷ outer) r.0)) (no_padding style names i_place inside refl v.1)) (i.text m),
       ) in
       let element : (n : ℕ) → (m : ℕ) × (effect_of dump_step (start p (is_padding before) w outer n) (opening_events h ++ (events inside ++ closing_event h inside ∷ []))
-      ≡ is_shown (start q false (frame_after w (is_primitive h) (announced_length h.size) false) outer m) ((first ++ line) ++ (held ++ (close ++ last)))) =
+      ≡ effect_with (start q false (frame_after w (is_primitive h) (announced_length h.size) false) outer m) ((first ++ line) ++ (held ++ (close ++ last)))) =
       λ n.
       let a : ℕ = later_header rules w h n in
       let r = held-shown a in (
@@ -235,9 +235,9 @@ module _ (style : Layout) (names : NamesTable) (rules : Rules) where
       six : (a b c d e f : List ℕ) → ((a ++ b) ++ (c ++ (d ++ e))) ++ f ≡ a ++ (b ++ (c ++ (d ++ (e ++ f))))
       six a b c d e f = simp append_assoc
 
-      as_shows : (s t : DumpState) (es : List EventValue) (put : List ℕ) → (effect_of dump_step s es).state ≡ t → (effect_of dump_step s es).put ≡ put → effect_of dump_step s es ≡ is_shown t put
+      as_shows : (s t : DumpState) (es : List EventValue) (put : List ℕ) → (effect_of dump_step s es).state ≡ t → (effect_of dump_step s es).put ≡ put → effect_of dump_step s es ≡ effect_with t put
       as_shows s t es put e f =
-          ap (λ (g : Go). record { state = (effect_of dump_step s es).state; put = (effect_of dump_step s es).put; goes = g }) (all_on s es) ∙ ap₂ (λ (u : DumpState) (l : List ℕ). is_shown u l) e f
+          ap (λ (g : Go). record { state = (effect_of dump_step s es).state; put = (effect_of dump_step s es).put; goes = g }) (all_on s es) ∙ ap₂ (λ (u : DumpState) (l : List ℕ). effect_with u l) e f
   shows_forest p holder before w outer (OpenPrimitive h c) v b k = record {
     text = λ n.
         part-by (lines_between style names p.depth p.offset (is_padding before)) (check_between rules w outer n) h c
