@@ -2,7 +2,7 @@
 ghost use Rattle.std.specs.Prelude.{◌≡◌, ◌+◌, ◌++◌, ◌≤◌, [], decimal, length};
 ghost use Rattle.tlv_run.specs.Report.{cut_report, device_report, ending_report, fault_line, findings_report};
 ghost use Rattle.tlv_run.specs.Report.{found_report, indef_report, line_with, names_report, outcome_report};
-ghost use Rattle.tlv_run.specs.Report.{report_of, report_value_of, report_with, unopened_report, unused_report};
+ghost use Rattle.tlv_run.specs.Report.{report_value_of, report_with, unopened_report, unused_report};
 
 use arrayvec::ArrayVec;
 use itoa::Buffer;
@@ -43,38 +43,27 @@ impl Report {
 }
 
 /// The report of a dump or a check: a fault, else an offset without a string, else findings. Their count stays.
-pub(crate) fn outcome_report(result_of_run: Result<Outcome, DeviceFault>) -> Report
-    ensures { report_value_of result ≡ report_of outcome_report result_of_run }
+pub(crate) fn outcome_report(outcome: Outcome) -> Report
+    ensures { report_value_of result ≡ outcome_report outcome }
 {
-    match result_of_run {
-        Ok(outcome) => {
-            let unused = unused_report(outcome.unused, findings_report(outcome.findings));
-            let mut report = ending_report(outcome.ending, unused);
-            report.findings = outcome.findings;
-            report
-        }
-        Err(failed) => device_report(failed),
-    }
+    let unused = unused_report(outcome.unused, findings_report(outcome.findings));
+    let mut report = ending_report(outcome.ending, unused);
+    report.findings = outcome.findings;
+    report
 }
 
 /// The report of an extract of the element at this offset.
-pub(crate) fn cut_report(offset: u64, result_of_run: Result<Cut, DeviceFault>) -> Report
-    ensures { report_value_of result ≡ report_of (cut_report offset) result_of_run }
+pub(crate) fn cut_report(offset: u64, cut: Cut) -> Report
+    ensures { report_value_of result ≡ cut_report offset cut }
 {
-    match result_of_run {
-        Ok(cut) => ending_report(cut.ending, found_report(offset, cut.found)),
-        Err(fault) => device_report(fault),
-    }
+    ending_report(cut.ending, found_report(offset, cut.found))
 }
 
 /// The report of an input written with indefinite lengths.
-pub(crate) fn indef_report(result_of_run: Result<Ending, DeviceFault>) -> Report
-    ensures { report_value_of result ≡ report_of indef_report result_of_run }
+pub(crate) fn indef_report(ending: Ending) -> Report
+    ensures { report_value_of result ≡ indef_report ending }
 {
-    match result_of_run {
-        Ok(ending) => ending_report(ending, Report::without_message(0)),
-        Err(fault) => device_report(fault),
-    }
+    ending_report(ending, Report::without_message(0))
 }
 
 /// A fault, or else what there is to say of an input without one.

@@ -5,7 +5,7 @@ ghost use Rattle.tlv_run.specs.Results.{command_job};
 ghost use Rattle.tlv_run.specs.RunsAndReports.{RunsAndReports};
 
 use crate::command::Command;
-use crate::report::{Report, cut_report, indef_report, outcome_report};
+use crate::report::{Report, cut_report, device_report, indef_report, outcome_report};
 use tlv_cut::{extract, indef};
 use tlv_show::{check, dump};
 use tlv_value::Names;
@@ -25,16 +25,26 @@ pub fn run<S: Source, D: Drain>(
         (device_states (S.state source.new) (D.state drain.new)) (report_value_of result) }
 {
     match command {
-        Command::Dump { options, .. } => outcome_report(dump(source, drain, options, names)),
-        Command::Check { rules, framing, .. } => outcome_report(check(
-            source, drain, *rules, framing,
-        )),
+        Command::Dump { options, .. } => match dump(source, drain, options, names) {
+            Ok(outcome) => outcome_report(outcome),
+            Err(fault) => device_report(fault),
+        },
+        Command::Check { rules, framing, .. } => match check(source, drain, *rules, framing) {
+            Ok(outcome) => outcome_report(outcome),
+            Err(fault) => device_report(fault),
+        },
         Command::Extract {
             offset,
             contents,
             framing,
             ..
-        } => cut_report(*offset, extract(source, drain, *offset, *contents, framing)),
-        Command::Indef { padding, .. } => indef_report(indef(source, drain, *padding)),
+        } => match extract(source, drain, *offset, *contents, framing) {
+            Ok(cut) => cut_report(*offset, cut),
+            Err(fault) => device_report(fault),
+        },
+        Command::Indef { padding, .. } => match indef(source, drain, *padding) {
+            Ok(ending) => indef_report(ending),
+            Err(fault) => device_report(fault),
+        },
     }
 }

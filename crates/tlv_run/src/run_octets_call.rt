@@ -4,7 +4,7 @@ ghost use Rattle.tlv_run.specs.RunsOctets.{RunsOctets, octets_run_value_of};
 ghost use Rattle.tlv_run.specs.Results.{command_job};
 
 use crate::command::Command;
-use crate::memory_devices::{EndingSource, FailingSource, BoundedDrain};
+use crate::memory_devices::{BoundedDrain, EndingSource, FailingSource};
 use crate::report::Report;
 use crate::run_call::run;
 use arrayvec::ArrayVec;
