@@ -12,7 +12,9 @@ abbrev pub names_limit : ℕ
 names_limit = 1048576
 
 -- the source has ended, within the limit of octets, and these say the result
-pub record IsWholeFile (new : SourceState) (octets : List ℕ) (result : Result NamesTable NamesFault) : Type 0 where
+pub record IsWholeFile
+    (new : SourceState) (octets : List ℕ) (result : Result NamesTable NamesFault)
+    : Type 0 where
   pub ended : new.last ≡ gave 0
   pub at_end : IsAtEnd new.left
   pub within : length octets ≤ names_limit

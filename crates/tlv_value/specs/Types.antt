@@ -86,9 +86,7 @@ string_types =
 abbrev pub is_string : HeaderValue → Bool
 is_string h =
     is_one_of string_types h
-    || (is_universal h.class
-    && nat_le universal.numeric_string h.number
-    && nat_le h.number universal.universal_string)
+    || (is_universal h.class && nat_le universal.numeric_string h.number && nat_le h.number universal.universal_string)
 
 -- 8.1.2.5: so is a string that wraps encodings
 abbrev pub is_primitive : HeaderValue → Bool

@@ -10,8 +10,8 @@ use Rattle.std.specs.Borrow.{Bor}
 use Rattle.std.specs.BTreeMap.{BTreeMap}
 use Rattle.std.specs.Io.KnownBytes.{IsAtEnd}
 use Rattle.tlv_io.specs.Device.{Pieces, SourceState, failed, gave, octets_given}
-use Rattle.tlv_value.specs.Names.{Entry, NamesLine, NamesTable, entry, has_entry, long_line, most_names, names_of}
-use Rattle.tlv_value.specs.Names.{no_entry, no_name, no_object_identifier}
+use Rattle.tlv_value.specs.Names.{Entry, NamesLine, NamesTable, entry, has_entry, long_line, most_names}
+use Rattle.tlv_value.specs.Names.{names_of, no_entry, no_name, no_object_identifier}
 use Rattle.tlv_value.specs.NamesReading.{IsTooLong, names_failures_after, names_limit}
 use Rattle.tlv_value.specs.declared.names.fault.NamesFault.{NamesFault}
 use Rattle.tlv_value.specs.declared.names.fault.NamesFault.TheVariants.{BadOid, BadName, Repeated, TooLarge}
@@ -55,7 +55,8 @@ AddsLine number no_name old new result = IsErrOf result (BadName number)
 AddsLine number long_line old new result = IsErrOf result TooLarge
 
 -- the octets come to this table or refusal; memory may be refused at any time
-abbrev pub IsTableOf : {Z : Type 0} → List ℕ → Result (BTreeMap (Vec ℕ Z) (Vec ℕ Z)) NamesFault → Type 0
+abbrev pub IsTableOf : {Z : Type 0}
+    → List ℕ → Result (BTreeMap (Vec ℕ Z) (Vec ℕ Z)) NamesFault → Type 0
 IsTableOf octets (Ok table) = names_of octets ≡ Ok (finite.from_entries (texts_in table))
 IsTableOf octets (Err (BadOid n)) = names_of octets ≡ Err (BadOid n)
 IsTableOf octets (Err (BadName n)) = names_of octets ≡ Err (BadName n)
