@@ -7,7 +7,8 @@ ghost use Rattle.tlv_show.specs.FinderState.{finder_close_step, finder_end_step,
 ghost use Rattle.tlv_show.specs.FinderState.{header_findings_in, with_findings, without_findings};
 ghost use Rattle.tlv_show.specs.Found.{end_findings};
 ghost use Rattle.tlv_show.specs.NestingState.{segments_in};
-ghost use Rattle.tlv_show.specs.Private.FinderState.{PassesOrStays, ReportsFindings, finder_step, new_finder, with_state};
+ghost use Rattle.tlv_show.specs.Private.FinderState.{PassesOrStays, ReportsFindings};
+ghost use Rattle.tlv_show.specs.Private.FinderState.{finder_step, new_finder, with_state};
 
 use crate::Rules;
 use crate::contents_findings::add_contents_findings;

@@ -49,8 +49,8 @@ AreKept floor [] = floor ≡ 0
 AreKept floor (k ∷ outer) = (k.floor < floor) × IsKept k.frame (floor - 1 - k.floor) × AreKept k.floor outer
 
 -- what is kept after the end of the element inside the innermost of these
-pub record IsTakenBack (closed : SiblingFrame) (k : KeptFrame) (outer : List KeptFrame) (w : SiblingFrame) (floor : ℕ)
-    (rest : List KeptFrame) : Type 0 where
+pub record IsTakenBack (closed : SiblingFrame) (k : KeptFrame) (outer : List KeptFrame)
+    (w : SiblingFrame) (floor : ℕ) (rest : List KeptFrame) : Type 0 where
   pub frame : w ≡ frame_after k.frame closed.is_primitive closed.size false
   pub level : floor ≡ k.floor
   pub others : rest ≡ outer
