@@ -45,7 +45,7 @@ pub fn one(f: u8) -> u8 {
 """
 
 
-def cloned(part, name):
+def make_clone(part, name):
     """A clone without the program, of two crates: the program uses tlv_low, and another crate is not used."""
     script = os.path.join(os.path.dirname(clone(part, name, False)), "tlvdump")
     part.write(f"{name}/crates.txt", b"tlvdump: tlv_low clap\ntlv_low: hex # a comment\ntlv_tests: tlv_low\n")
@@ -79,7 +79,7 @@ def begin_of(script):
 
 def not_on_a_terminal(part):
     """A line for each crate, and then the program on these octets; the next run says nothing of a build."""
-    script = cloned(part, "clone")
+    script = make_clone(part, "clone")
     octets = bytes.fromhex("3003020201")
     wanted = part.run(["dump"], octets)
     status, out, err = run(part, script, ["dump"], octets)
@@ -103,7 +103,7 @@ def not_on_a_terminal(part):
 
 def on_a_terminal(part):
     """One line that changes, and is empty in the end."""
-    script = cloned(part, "terminal")
+    script = make_clone(part, "terminal")
     main, side = pty.openpty()
     how = {"env": environment(part), "stdin": subprocess.DEVNULL, "stdout": subprocess.PIPE}
     child = subprocess.Popen([script, "--version"], cwd=part.folder, stderr=side, **how)
@@ -143,7 +143,7 @@ def on_a_terminal(part):
 
 def failing(part):
     """Status 70, with the end of the log, or if there is no rt; an interrupt ends all."""
-    script = cloned(part, "failing")
+    script = make_clone(part, "failing")
     got = run(part, script, ["dump"], RT_FAILS="yes")
     end = "two\nfn tlv_low::f: not proved\nrt: the library tlv_low did not build\ntlvdump: not built\n"
     part.expect("a build that fails", got == (70, b"", begin_of(script) + end), *map(str, got))

@@ -125,18 +125,18 @@ def outputs_that_fill_up(part):
     whole = b"".join(JONES_LINES)
     for room in (0, 1, 7, 17, len(whole) - 1):
 
-        def limited(ignored=signal.SIG_IGN):
+        def limit_file_size(ignored=signal.SIG_IGN):
             signal.signal(signal.SIGXFSZ, ignored)
             resource.setrlimit(resource.RLIMIT_FSIZE, (room, room))
 
         path = part.path("out")
         with open(path, "wb") as out:
-            got = part.run(["dump"], JONES, stdout=out, preexec_fn=limited)
+            got = part.run(["dump"], JONES, stdout=out, preexec_fn=limit_file_size)
         part.same(f"room for {room} octets", got, Done(3, b"", message(WRITE)))
         with open(path, "rb") as file:
             part.expect(f"what {room} octets hold", file.read() == whole[:room])
     with open(path, "wb") as out:
-        how = {"stdout": out, "preexec_fn": lambda: limited(signal.SIG_DFL)}
+        how = {"stdout": out, "preexec_fn": lambda: limit_file_size(signal.SIG_DFL)}
         got = part.run(["dump"], JONES, **how)
     part.same("a limit that kills", got, Done(-signal.SIGXFSZ, b"", b""))
     with open(path, "ab") as out:

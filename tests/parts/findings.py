@@ -9,7 +9,7 @@ SEGMENT = "segment follows one not of 1000 octets"
 FITS = "constructed string fits in 1000 octets"
 
 
-def listed(rows):
+def finding_lines(rows):
     return "".join(f"{offset} {code} {text}\n" for offset, code, text in rows).encode()
 
 
@@ -21,17 +21,17 @@ def segments(part):
     """A string of 1000 segments: each but the first follows one that is not full, and all fit in one."""
     part.gives(["check", "--rules", "ber"], STRING, 0)
     rows = [(2 + 3 * number, "C04", SEGMENT) for number in range(1, 1000)] + [(0, "C05", FITS)]
-    part.gives(["check", "--rules", "cer"], STRING, 1, listed(rows), count_of(rows))
+    part.gives(["check", "--rules", "cer"], STRING, 1, finding_lines(rows), count_of(rows))
     more = STRING[:-2] + b"\x04\x01\x00\x00\x00"
     rows = [(2 + 3 * number, "C04", SEGMENT) for number in range(1, 1001)]
-    part.gives(["check", "--rules", "cer"], more, 1, listed(rows), count_of(rows))
+    part.gives(["check", "--rules", "cer"], more, 1, finding_lines(rows), count_of(rows))
 
 
 def levels(part):
     """128 levels deep, with a finding at each."""
     deep = b"\x30\x80" * 128 + b"\x00\x00" * 128
     rows = [(2 * level, "D01", "indefinite length") for level in range(128)]
-    part.gives(["check"], deep, 1, listed(rows), count_of(rows))
+    part.gives(["check"], deep, 1, finding_lines(rows), count_of(rows))
     lines = ""
     for level in range(128):
         lines += f"{2 * level:>8}    D01: {'  ' * level}indefinite length\n"
@@ -41,7 +41,7 @@ def levels(part):
     part.gives(["dump", "--rules", "der"], deep, 1, lines.encode(), count_of(rows))
 
 
-def explained(part):
+def check_table(part):
     """The table of docs/FINDINGS.md: each example has its finding, under the rule sets that are named, and no other."""
     with open(os.path.join(part.root, "docs", "FINDINGS.md"), encoding="utf-8") as file:
         rows = [line.strip("| \n").split(" | ") for line in file if re.match(r"\| [BSDC]\d\d ", line)]
@@ -67,5 +67,5 @@ def devices(part):
 def test(part):
     segments(part)
     levels(part)
-    explained(part)
+    check_table(part)
     devices(part)

@@ -74,7 +74,7 @@ def within(found):
                 pass
 
 
-def expected(octets):
+def expected_list(octets):
     """The list and what is left out: level by level, 16 at most."""
     level, kept, left = elements(octets, 0), [], []
     while level:
@@ -106,7 +106,7 @@ class Script:
     def agrees(self, what, octets):
         """That the list is the computed one, and that the program takes it."""
         name = self.part.write("it.der", octets)
-        wanted, left = expected(octets)
+        wanted, left = expected_list(octets)
         said = [f"left out: {left}"] if left else []
         if not wanted:
             said.append("no string holds encodings")

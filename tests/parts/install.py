@@ -47,7 +47,7 @@ def places(part, prefix):
         part.expect(f"{prefix}/{place}", fine)
 
 
-def installed(part):
+def check_install(part):
     """Puts, puts again, takes away."""
     printed = "".join(f"there/{place}\n" for place in PLACES)
     for what in ("first", "again"):
@@ -79,7 +79,7 @@ def installed(part):
     part.expect("no folder of its own stays", not os.path.exists(part.path("a place/share/tlvdump")))
 
 
-def masked(part):
+def check_umask(part):
     """Under umask 077 others can still read what was put, and the folders too."""
     before = os.umask(0o077)
     got = install(part, "masked/prefix")
@@ -120,7 +120,7 @@ def builds(part):
     part.expect("a program that cannot be built", fine, str(got.returncode), got.stderr)
 
 
-def refused(part):
+def check_refusals(part):
     for words in (["--nonsense"], ["-x"], ["a", "b"], [""], ["--remove", "a", "b"]):
         status, out, err = install(part, *words)
         part.expect(f"refused: {words}", (status, out) == (4, "") and err.startswith("usage: "), err)
@@ -161,25 +161,25 @@ def bash(part, options):
         got = subprocess.run(["bash", "-c", script, "bash", path, name, *words], cwd=part.folder, capture_output=True, text=True)
         return set(got.stdout.split())
 
-    def completed(*words):
+    def completions(*words):
         return completed_by("tlvdump", *words)
 
-    part.expect("bash: commands", completed("") == {*options, "--help", "--version"}, str(completed("")))
-    part.expect("bash: d", completed("d") == {"dump"})
+    part.expect("bash: commands", completions("") == {*options, "--help", "--version"}, str(completions("")))
+    part.expect("bash: d", completions("d") == {"dump"})
     for name, wanted in options.items():
-        part.expect(f"bash: options of {name}", completed(name, "--") == wanted, str(completed(name, "--")))
-        part.expect(f"bash: FILE of {name}", completed(name, "str") == {"string"})
-    part.expect("bash: --names", completed("dump", "--names", "str") == {"string"})
-    part.expect("bash: --limit", completed("dump", "--limit", "") == set())
+        part.expect(f"bash: options of {name}", completions(name, "--") == wanted, str(completions(name, "--")))
+        part.expect(f"bash: FILE of {name}", completions(name, "str") == {"string"})
+    part.expect("bash: --names", completions("dump", "--names", "str") == {"string"})
+    part.expect("bash: --limit", completions("dump", "--limit", "") == set())
     rules = {"ber", "der", "cer"}
-    part.expect("bash: --rules", completed("dump", "--rules", "") == rules)
+    part.expect("bash: --rules", completions("dump", "--rules", "") == rules)
     # Bash splits words at "=", unless it is set otherwise.
-    part.expect("bash: --rules=", completed("dump", "--rules", "=") == rules)
-    part.expect("bash: --rules=d", completed("dump", "--rules", "=", "d") == {"der"})
-    part.expect("bash: --rules=d, one word", completed("dump", "--rules=d") == {"--rules=der"})
-    part.expect("bash: --rules=, one word", completed("dump", "--rules=") == {f"--rules={it}" for it in rules})
-    part.expect("bash: --names=", completed("dump", "--names", "=", "str") == {"string"})
-    part.expect("bash: --limit=", completed("dump", "--limit", "=") == set())
+    part.expect("bash: --rules=", completions("dump", "--rules", "=") == rules)
+    part.expect("bash: --rules=d", completions("dump", "--rules", "=", "d") == {"der"})
+    part.expect("bash: --rules=d, one word", completions("dump", "--rules=d") == {"--rules=der"})
+    part.expect("bash: --rules=, one word", completions("dump", "--rules=") == {f"--rules={it}" for it in rules})
+    part.expect("bash: --names=", completions("dump", "--names", "=", "str") == {"string"})
+    part.expect("bash: --limit=", completions("dump", "--limit", "=") == set())
     for name in ("tlvdump-inside", "tlvdump-show"):
         printed = completed_by(name, "--")
         part.expect(f"bash: options of {name}", printed == script_options(part, name), str(printed))
@@ -194,27 +194,27 @@ def zsh(part, options):
     stubs = '_arguments() { print -rl -- "$@" }; _describe() { print -rl -- "${(P@)2}" }; _files() { }\n'
     path = os.path.join(part.root, "completions", "_tlvdump")
 
-    def completed(service, *words):
+    def completions(service, *words):
         call = f'service={service}; words=({service} "$@"); CURRENT=$(($# + 1)); main() {{ source "{path}" }}; main'
         got = subprocess.run(["zsh", "-f", "-c", stubs + call, "zsh", *words], cwd=part.folder, capture_output=True, text=True)
         return got.stdout if not got.stderr else got.stderr
 
-    commands = re.findall(r"^(\w+):", completed("tlvdump", ""), re.M)
-    part.expect("zsh: commands", set(commands) == set(options) and len(commands) == len(options), completed("tlvdump", ""))
+    commands = re.findall(r"^(\w+):", completions("tlvdump", ""), re.M)
+    part.expect("zsh: commands", set(commands) == set(options) and len(commands) == len(options), completions("tlvdump", ""))
     for name, wanted in options.items():
-        printed = completed("tlvdump", name, "--")
+        printed = completions("tlvdump", name, "--")
         part.expect(f"zsh: options of {name}", set(re.findall(r"--[a-z]+", printed)) == wanted and "1:file:_files" in printed, printed)
     for name in ("tlvdump-inside", "tlvdump-show"):
-        printed = completed(name, "--")
+        printed = completions(name, "--")
         fine = set(re.findall(r"--[a-z]+", printed)) == script_options(part, name) and "1:file:_files" in printed
         part.expect(f"zsh: options of {name}", fine, printed)
 
 
 def test(part):
-    installed(part)
-    masked(part)
+    check_install(part)
+    check_umask(part)
     builds(part)
-    refused(part)
+    check_refusals(part)
     options = words_of(part)
     bash(part, options)
     zsh(part, options)

@@ -13,7 +13,7 @@ import subprocess
 import tempfile
 
 from .classes import Classes
-from .table import encoded
+from .table import contents_of
 
 PYTHON = "usr/lib/python3/dist-packages"
 DOTTED = r"[012](?:\.\d+)+"
@@ -144,7 +144,7 @@ def heimdal(folder):
             yield ".".join(re.findall(r"\((\d+)\)", right)), name
 
 
-def assigned(all_texts):
+def assigned_values(all_texts):
     """The values that ASN.1 modules and MIBs assign, each resolved by the names of the others."""
     pending = {}
     for text in all_texts:
@@ -153,13 +153,13 @@ def assigned(all_texts):
         for name, right in re.findall(pattern, text, re.M | re.S):
             pending.setdefault(name, right)
     known = dict(ROOTS)
-    while found := {name: arcs for name, right in pending.items() if (arcs := resolved(right, known))}:
+    while found := {name: arcs for name, right in pending.items() if (arcs := resolve(right, known))}:
         known |= found
         pending = {name: right for name, right in pending.items() if name not in found}
         yield from ((arcs, name) for name, arcs in found.items())
 
 
-def resolved(right, known):
+def resolve(right, known):
     """Returns the arcs of `{ id-pkix 3 }` or `{ iso(1) org(3) }`, or nothing if a name is not known."""
     arcs = []
     for word in re.findall(r"[\w-]+\s*\(\s*\d+\s*\)|[\w-]+", right):
@@ -174,7 +174,7 @@ def resolved(right, known):
 
 
 def erlang(folder):
-    return assigned(texts(folder, "usr/lib/erlang/lib/public_key-*/asn1/*.asn1"))
+    return assigned_values(texts(folder, "usr/lib/erlang/lib/public_key-*/asn1/*.asn1"))
 
 
 def erlang_headers(folder):
@@ -186,7 +186,7 @@ def erlang_headers(folder):
 def mibs(folder):
     """The MIBs of libsnmp-base and of snmp-mibs-downloader."""
     where = ("usr/share/snmp/mibs/*.txt", "var/lib/snmp/mibs/**/*", "usr/share/mibs/**/*")
-    return assigned(texts(folder, *where))
+    return assigned_values(texts(folder, *where))
 
 
 def pysnmp(folder):
@@ -211,7 +211,7 @@ def capture(wanted):
     """Returns a capture file whose packets are SEQUENCEs of object identifiers."""
     octets = struct.pack("<IHHIIII", 0xA1B2C3D4, 2, 4, 0, 0, 65535, 147)
     for start in range(0, len(wanted), 100):
-        every = [encoded(dotted) for dotted in wanted[start:start + 100]]
+        every = [contents_of(dotted) for dotted in wanted[start:start + 100]]
         body = b"".join(bytes([6, len(contents)]) + contents for contents in every)
         packet = b"\x30\x82" + len(body).to_bytes(2, "big") + body
         octets += struct.pack("<IIII", 0, 0, len(packet), len(packet)) + packet

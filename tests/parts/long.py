@@ -28,7 +28,7 @@ def path_of(name, octets):
     return path
 
 
-def opened(part, path, names):
+def check_opening(part, path, names):
     """FILE and NAMES of these paths are opened by each command that takes them."""
     what = f"{len(path.encode())} octets of FILE, {len(names.encode())} of NAMES"
     for words, out in [
@@ -48,16 +48,16 @@ def names_of_files(part):
     for octets in LENGTHS:
         part.write(name_of(octets), OBJECT)
         part.write(name_of(octets, "n"), NAMES)
-        opened(part, name_of(octets), name_of(octets, "n"))
+        check_opening(part, name_of(octets), name_of(octets, "n"))
     for octets in (256, 257, 300, 511, 512, 513, 1000, 1024, 4000, LONGEST_PATH):
-        opened(part, path_of(name_of(200), octets), path_of(name_of(200, "n"), octets))
+        check_opening(part, path_of(name_of(200), octets), path_of(name_of(200, "n"), octets))
     folder = ""
     for _ in range(5):
         folder += "f" * 200 + "/"
         os.mkdir(part.path(folder))
     part.write(folder + name_of(LONGEST_NAME), OBJECT)
     part.write(folder + name_of(LONGEST_NAME, "n"), NAMES)
-    opened(part, folder + name_of(LONGEST_NAME), folder + name_of(LONGEST_NAME, "n"))
+    check_opening(part, folder + name_of(LONGEST_NAME), folder + name_of(LONGEST_NAME, "n"))
 
 
 def names_of_no_file(part):
@@ -98,32 +98,32 @@ def is_refused(part, what, words, said):
     part.expect(what, (got.status, got.out) == (4, b"") and said_so, *got.lines())
 
 
-def unexpected(word):
+def unexpected_text(word):
     return f"unexpected argument '{word}' found"
 
 
-def long_words_refused(part):
+def check_long_words(part):
     """Long words that the parser refuses: each is reported whole."""
     for octets in (200, 256, 300, 5000):
         word, size = "x" * octets, f"{octets} octets"
         is_refused(part, f"a command of {size}", [word], f"unrecognized subcommand '{word}'")
-        is_refused(part, f"a second FILE of {size}", ["dump", "a", word], unexpected(word))
+        is_refused(part, f"a second FILE of {size}", ["dump", "a", word], unexpected_text(word))
         word = "--" + word
-        is_refused(part, f"an option of {size}", ["dump", word], unexpected(word))
-        is_refused(part, f"another option of {size}", ["dump", "--limit", "1", word], unexpected(word))
-        is_refused(part, f"an option of {size} with a value", ["indef", f"{word}=1"], unexpected(word))
+        is_refused(part, f"an option of {size}", ["dump", word], unexpected_text(word))
+        is_refused(part, f"another option of {size}", ["dump", "--limit", "1", word], unexpected_text(word))
+        is_refused(part, f"an option of {size} with a value", ["indef", f"{word}=1"], unexpected_text(word))
         said = f"unexpected value '{word}' for '--pure' found; no more were expected"
         is_refused(part, f"--pure with a value of {size}", ["dump", f"--pure={word}"], said)
 
 
-def many_words_refused(part):
+def check_many_words(part):
     """Lines of many words."""
     again = "the argument '--pure' cannot be used multiple times"
     for count in (20, 255, 256, 257, 2000, 20_000):
-        is_refused(part, f"{count} words", ["dump", "a"] + ["b"] * (count - 2), unexpected("b"))
-        is_refused(part, f"{count} words, --", ["indef", "--", "a"] + ["b"] * (count - 3), unexpected("b"))
+        is_refused(part, f"{count} words", ["dump", "a"] + ["b"] * (count - 2), unexpected_text("b"))
+        is_refused(part, f"{count} words, --", ["indef", "--", "a"] + ["b"] * (count - 3), unexpected_text("b"))
         is_refused(part, f"--pure {count} times", ["dump"] + ["--pure"] * count, again)
-    is_refused(part, "2,000 words of 300 octets", ["dump"] + ["y" * 300] * 2000, unexpected("y" * 300))
+    is_refused(part, "2,000 words of 300 octets", ["dump"] + ["y" * 300] * 2000, unexpected_text("y" * 300))
 
 
 def longest_lines(part):
@@ -155,6 +155,6 @@ def test(part):
     names_of_files(part)
     names_of_no_file(part)
     values(part)
-    long_words_refused(part)
-    many_words_refused(part)
+    check_long_words(part)
+    check_many_words(part)
     longest_lines(part)

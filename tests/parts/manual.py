@@ -5,7 +5,7 @@ import re
 import shutil
 import subprocess
 
-from parts.inside import command, element, expected
+from parts.inside import command, element, expected_list
 from parts.install import install, words_of
 
 NULL = b"\x05\x00"
@@ -19,7 +19,7 @@ MESSAGES += ["D01", "D02"] + [f"C{number:02}" for number in range(1, 7)]
 MESSAGES += [f"N{number}" for number in range(1, 7)] + [f"U{number}" for number in (1, 2, 3)]
 
 
-def rendered(part, page):
+def check_rendering(part, page):
     """The tools that know mdoc have nothing to say."""
     tools = [["mandoc", "-T", "lint", "-W", "warning"], ["groff", "-ww", "-mdoc", "-Tascii", "-z"]]
     for tool in tools:
@@ -80,7 +80,7 @@ def read(part, name):
         return file.read()
 
 
-def prepared(part):
+def make_files(part):
     """The files that the recipes are about."""
     command(part, "openssl req -x509 -newkey rsa:2048 -nodes -keyout key.pem -out cert.pem -days 9 -subj /C=DE/CN=x"
                   " -addext keyUsage=critical,digitalSignature -addext subjectAltName=DNS:x.example")
@@ -101,7 +101,7 @@ def prepared(part):
     return record
 
 
-def dumped(part, octets, *words):
+def dump_of(part, octets, *words):
     return part.run(["dump", *words], octets).out
 
 
@@ -143,25 +143,25 @@ def wanted_of(part, record):
     """What each recipe comes to, in their order: its status, its output, and what a file then holds."""
     cert, p12 = read(part, "cert.der"), read(part, "file.p12")
     data = p12[30 : 30 + int.from_bytes(p12[28:30], "big")]
-    inside, _ = expected(cert)
+    inside, _ = expected_list(cert)
     names = part.path("there/share/tlvdump/names.txt")
-    shown = dumped(part, cert, "--names", names, "--inside", inside)
+    shown = dump_of(part, cert, "--names", names, "--inside", inside)
     lines = b"".join(b"line %03d of the content\n" % number for number in range(210))
-    long = ("long.txt", dumped(part, record * 300_000))
+    long = ("long.txt", dump_of(part, record * 300_000))
     fault = b"certs/a.der: fault at 3: F11 element runs past the enclosing length\n"
     return [
         (0, shown * 5, None),
         (0, b"", None),
         (2, WHY.encode(), None),
         (0, shown, None),
-        (0, dumped(part, cert) * 2, None),
-        (0, dumped(part, cert, "--names", names, "--limit", "2"), None),
-        (0, dumped(part, cert, "--inside", inside), None),
-        (0, dumped(part, data) + dumped(part, p12, "--inside", "26"), None),
+        (0, dump_of(part, cert) * 2, None),
+        (0, dump_of(part, cert, "--names", names, "--limit", "2"), None),
+        (0, dump_of(part, cert, "--inside", inside), None),
+        (0, dump_of(part, data) + dump_of(part, p12, "--inside", "26"), None),
         (0, b"", ("joined", lines)),
-        (0, dumped(part, record), None),
-        (0, dumped(part, record), None),
-        (0, dumped(part, (record + b"\0" * 8) * 3, "--padding"), None),
+        (0, dump_of(part, record), None),
+        (0, dump_of(part, record), None),
+        (0, dump_of(part, (record + b"\0" * 8) * 3, "--padding"), None),
         (0, b"", ("record.ber", record)),
         (0, b"", long),
         (1, b"2c2\n<   INTEGER 5\n---\n>   INTEGER 6\n", ("old.txt", b"SEQUENCE {\n  INTEGER 5\n  NULL\n}\n")),
@@ -174,7 +174,7 @@ def wanted_of(part, record):
 def recipes(part, text):
     if not part.has("openssl"):
         return
-    record = prepared(part)
+    record = make_files(part)
     blocks, wanted = recipes_of(text), wanted_of(part, record)
     part.expect("each recipe has its test", len(blocks) == len(wanted), f"{len(blocks)} recipes, {len(wanted)} tests")
     env = {"PATH": part.path("there/bin") + ":" + os.environ["PATH"], "NAMES": part.path("there/share/tlvdump/names.txt")}
@@ -203,7 +203,7 @@ def in_shell(part, script):
     return subprocess.run(["sh", "-c", script], **how)
 
 
-def replaced(line, **values):
+def replace_names(line, **values):
     return re.sub(r"\b(F|N|M|hex)\b", lambda it: values[it[0]], line)
 
 
@@ -220,8 +220,8 @@ def replacements(part, text):
     null = b"       0      0: NULL\n"
     # What those write that do not show a NULL: the file, N and M, and the output.
     special = {
-        "tlvdump dump $(tlvdump-inside --option F) F": ("octets", "0", "1", dumped(part, element(4, NULL), "--inside", "0")),
-        "tlvdump dump --limit 0 F | grep '[{}]$'": ("nested", "0", "1", dumped(part, element(0x30, element(0x30, NULL))).replace(
+        "tlvdump dump $(tlvdump-inside --option F) F": ("octets", "0", "1", dump_of(part, element(4, NULL), "--inside", "0")),
+        "tlvdump dump --limit 0 F | grep '[{}]$'": ("nested", "0", "1", dump_of(part, element(0x30, element(0x30, NULL))).replace(
             b"       4      0:     NULL\n", b"")),
         "xxd -s N -l 16 F": ("plain", "0", "1", b"00000000: 0500" + b" " * 37 + b"..\n"),
         r"tlvdump dump F | grep -v '^.\{17\} \{M\}'": ("nested", "1", "2", b"       0      4: SEQUENCE {\n                 }\n"),
@@ -236,7 +236,7 @@ def replacements(part, text):
         file = "bits" if "tail -c +2" in line else "octets" if inner else "plain"
         plain = (file, "2" if line.startswith("head") else "0", "1", b"" if ">" in line else null)
         file, number, more, wanted = special.get(line, plain)
-        script = replaced(line, F=file, N=number, M=more, hex="0500")
+        script = replace_names(line, F=file, N=number, M=more, hex="0500")
         got = in_shell(part, script)
         said = b"tlvdump-show: taken for octets as they stand\n" if "tlvdump-show" in line else b""
         part.expect(line, (got.returncode, got.stdout, got.stderr) == (0, wanted, said), script, str(got))
@@ -246,14 +246,14 @@ def replacements(part, text):
 def by_task(part, octets, offset):
     """What the command here gives for each task, in their order, from the program itself."""
     inside, names = in_shell(part, "tlvdump-inside --option F").stdout.decode().split(), part.path("there/share/tlvdump/names.txt")
-    shown, short = dumped(part, octets, "--names", names, *inside), dumped(part, octets, "--limit", "0")
+    shown, short = dump_of(part, octets, "--names", names, *inside), dump_of(part, octets, "--limit", "0")
     cut = part.run(["extract", "--offset", str(offset)], octets).out
     outline = b"".join(line for line in short.splitlines(True) if line.endswith((b"{\n", b"}\n")))
-    plain = dumped(part, octets)
+    plain = dump_of(part, octets)
     example = b"       0      3: SEQUENCE {\n       2      1:   INTEGER 5\n                 }\n"
     violated = part.run(["check"], octets).out
-    return [shown, plain, plain, dumped(part, octets, "--pure"), dumped(part, octets, "--limit", "2"), outline, b"", violated,
-            dumped(part, cut), b"", shown, example], cut
+    return [shown, plain, plain, dump_of(part, octets, "--pure"), dump_of(part, octets, "--limit", "2"), outline, b"", violated,
+            dump_of(part, cut), b"", shown, example], cut
 
 
 def made(part):
@@ -318,14 +318,14 @@ def remarks(part, text):
     # What indef does not make alike, dump --pure shows alike.
     padded, plain = element(0x30, b"\x04\x81\x01\x07"), element(0x30, b"\x04\x01\x07")
     unlike = part.run(["indef"], padded).out != part.run(["indef"], plain).out
-    part.expect("padded lengths of primitives", unlike and dumped(part, padded, "--pure") == dumped(part, plain, "--pure"))
+    part.expect("padded lengths of primitives", unlike and dump_of(part, padded, "--pure") == dump_of(part, plain, "--pure"))
 
 
 def test(part):
     page = os.path.join(part.root, "man", "tlvdump.1")
     with open(page, encoding="ascii") as file:
         text = file.read()
-    rendered(part, page)
+    check_rendering(part, page)
     complete(part, text)
     install(part, "there")
     recipes(part, text)

@@ -111,7 +111,7 @@ class Line:
         # Those of the words end when the first file is opened.
         self.of_words = log.opened[0][1] if log.opened else self.requests
 
-    def wanted(self, number, is_alone):
+    def expected_results(self, number, is_alone):
         """Returns what may come of it if this request is refused, and the files that are opened then."""
         if number > self.requests:
             return [self.own], self.files
@@ -125,7 +125,7 @@ class Line:
         Returns whether one was refused, and what came of it if that may not be.
         """
         got, log = self.program.run(self.words, number, number if is_alone else LAST)
-        wanted, files = self.wanted(number, is_alone)
+        wanted, files = self.expected_results(number, is_alone)
         if got in wanted and log.files() == files:
             return log.refused, []
         lines = [f"request {number}: wanted {done.lines()}" for done in wanted]
@@ -146,7 +146,7 @@ class Line:
             self.program.part.expect(what, is_last and not wrong, f"{number} runs", *wrong[:12])
 
 
-def taken(part, program):
+def check_taken(part, program):
     for text, status, out, err, files in TAKEN:
         line = Line(program, text)
         part.same(f"{text}: no request refused", line.own, Done(status, out, message(err)))
@@ -159,7 +159,7 @@ def taken(part, program):
         line.refuse_each()
 
 
-def printed(part, program):
+def check_printed(part, program):
     for text in PRINTED + ALIKE:
         line = Line(program, text, text in ALIKE)
         fine = line.own == part.run(line.words) and line.own.status in (0, 4) and not line.files
@@ -178,6 +178,6 @@ def test(part):
     entries = [b"2.5.4.%d %s\n" % (number, b"n" * 300) for number in range(4, 44)]
     part.write("many", b"2.5.4.3 commonName\n" + b"".join(entries))
     part.write("wrong", b"2.5.4.3 commonName\n1.40 x\n")
-    taken(part, program)
-    printed(part, program)
+    check_taken(part, program)
+    check_printed(part, program)
     part.note(f"{len(TAKEN) + len(PRINTED + ALIKE)} lines of words, {program.runs} runs")

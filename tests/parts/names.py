@@ -56,14 +56,14 @@ NO_NAME = [b"2.5.4.3", b"2.5.4.3 ", b"2.5.4.3\t \t", b"2.5.4.3 caf\xc3\xa9", b"2
 NO_NAME += [b"2.5.4.3 a\0", b"2.5.4.3 a\r\r"]
 
 
-def refused(part, what, octets, said):
+def refuses(part, what, octets, said):
     part.write("names", octets)
     got = part.run(["dump", "--names", "names"], OBJECT)
     fine = (got.status, got.out, got.err) == (4, b"", said.encode() + b"\n")
     part.expect(f"{what}: {said}", fine, *got.lines())
 
 
-def taken(part, what, octets, name):
+def takes(part, what, octets, name):
     part.write("names", octets)
     got = part.run(["dump", "--names", "names"], OBJECT)
     part.expect(what, (got.status, got.out, got.err) == (0, line_for(name), b""), *got.lines())
@@ -71,18 +71,18 @@ def taken(part, what, octets, name):
 
 def lines(part):
     for octets, name in TAKEN:
-        taken(part, f"taken: {octets[:60]}", octets, name)
+        takes(part, f"taken: {octets[:60]}", octets, name)
     for line in NO_IDENTIFIER:
-        refused(part, f"{line}", line + b"\n", "N1 line 1: not an object identifier")
-        refused(part, f"{line}", b"# one\n\n1.2.840 us\r\n" + line, "N1 line 4: not an object identifier")
+        refuses(part, f"{line}", line + b"\n", "N1 line 1: not an object identifier")
+        refuses(part, f"{line}", b"# one\n\n1.2.840 us\r\n" + line, "N1 line 4: not an object identifier")
     for line in NO_NAME:
-        refused(part, f"{line}", line + b"\n", "N2 line 1: no usable name")
-        refused(part, f"{line}", b"1.2.840 us\n" + line, "N2 line 2: no usable name")
+        refuses(part, f"{line}", line + b"\n", "N2 line 1: no usable name")
+        refuses(part, f"{line}", b"1.2.840 us\n" + line, "N2 line 2: no usable name")
     for line in (b"2.5.4.3 cn", b"2.5.4.3 commonName", b"\t2.5.4.3\tcn\r"):
-        refused(part, f"{line}", b"# x\n2.5.4.3 commonName\n" + line + b"\n", "N3 line 3: repeated")
+        refuses(part, f"{line}", b"# x\n2.5.4.3 commonName\n" + line + b"\n", "N3 line 3: repeated")
     # The first refused line is reported, and a line without a name takes precedence over a repeated one.
-    refused(part, "two lines", b"2.5.4.3\n1.40 x\n", "N2 line 1: no usable name")
-    refused(part, "a repeat without a name", b"2.5.4.3 a\n2.5.4.3\n", "N2 line 2: no usable name")
+    refuses(part, "two lines", b"2.5.4.3\n1.40 x\n", "N2 line 1: no usable name")
+    refuses(part, "a repeat without a name", b"2.5.4.3 a\n2.5.4.3\n", "N2 line 2: no usable name")
 
 
 def entries(count):
@@ -92,22 +92,22 @@ def entries(count):
 
 def limits(part):
     big = "N4 names file too large"
-    refused(part, "a line of 401 octets", b"#" * 401 + b"\n", big)
-    refused(part, "a line of 401 octets with its CR", b"#" + b"x" * 399 + b"\r\n", big)
-    refused(part, "a line of 401 octets without an LF", b"1.2.840 " + b"y" * 393, big)
-    refused(part, "a wrong line before a long one", b"1.40 x\n" + b"#" * 401, "N1 line 1: not an object identifier")
+    refuses(part, "a line of 401 octets", b"#" * 401 + b"\n", big)
+    refuses(part, "a line of 401 octets with its CR", b"#" + b"x" * 399 + b"\r\n", big)
+    refuses(part, "a line of 401 octets without an LF", b"1.2.840 " + b"y" * 393, big)
+    refuses(part, "a wrong line before a long one", b"1.40 x\n" + b"#" * 401, "N1 line 1: not an object identifier")
     full = b"1.2.840 us\n" + (b"#" * 399 + b"\n") * 2621
     full += b"#" * ((SMALL - len(full)) // 2) + b"\n"
     full += b"#" * (SMALL - len(full))
     assert len(full) == SMALL
-    taken(part, f"{SMALL} octets", full, "us")
-    refused(part, f"{SMALL + 1} octets", full + b"\n", big)
-    refused(part, f"{SMALL + 1} octets, a wrong line first", b"1.40 x\n" + full[6:], big)
+    takes(part, f"{SMALL} octets", full, "us")
+    refuses(part, f"{SMALL + 1} octets", full + b"\n", big)
+    refuses(part, f"{SMALL + 1} octets, a wrong line first", b"1.40 x\n" + full[6:], big)
     most = entries(ENTRIES)
-    taken(part, f"{ENTRIES} entries", most, "n")
-    taken(part, f"{ENTRIES} entries and a comment", most + b"# x\n\n", "n")
-    refused(part, f"{ENTRIES + 1} entries", most + b"1.3 n\n", big)
-    refused(part, f"a repeat after {ENTRIES} entries", most + b"1.2.7 n\n", f"N3 line {ENTRIES + 1}: repeated")
+    takes(part, f"{ENTRIES} entries", most, "n")
+    takes(part, f"{ENTRIES} entries and a comment", most + b"# x\n\n", "n")
+    refuses(part, f"{ENTRIES + 1} entries", most + b"1.3 n\n", big)
+    refuses(part, f"a repeat after {ENTRIES} entries", most + b"1.2.7 n\n", f"N3 line {ENTRIES + 1}: repeated")
 
 
 def unread(part):
@@ -144,7 +144,7 @@ FILES = ("also-missing", "folder", "", "input/below", "fault")
 
 
 def words_first(part, names, file):
-    """Words that are refused pass before the names file and FILE, whatever those are."""
+    """Words that are refused take precedence over the names file and FILE, whatever those are."""
     said = "U2 value out of range:"
     part.gives(["dump", "--names", names, file, "--limit", "x"], b"", 4, err=f"{said} --limit")
     part.gives(["dump", file, "--inside=x", "--names", names], b"", 4, err=f"{said} --inside")

@@ -103,14 +103,14 @@ def installs(part, made):
     part.expect("what dpkg leaves", not os.path.exists(part.path("system/usr")), *files_below(part.path("system")))
 
 
-def judged(part, made):
+def check_with_lintian(part, made):
     if not part.has("lintian"):
         return
     got = subprocess.run(["lintian", "--fail-on", "error", made], capture_output=True, text=True, timeout=300)
     part.expect("lintian", got.returncode == 0, got.stdout, got.stderr)
 
 
-def refused(part, version):
+def check_refusals(part, version):
     for words in (["--nonsense"], ["-x"], ["a", "b"], [""]):
         status, out, err = package(part, *words)
         part.expect(f"refused: {words}", (status, out) == (4, "") and err.startswith("usage: "), err)
@@ -151,5 +151,5 @@ def test(part):
     part.expect("package, again", got == (0, f"./{name}\n", ""), *map(str, got))
     part.expect("the same package", content(made) == content(part.path(name)))
     installs(part, made)
-    judged(part, made)
-    refused(part, version)
+    check_with_lintian(part, made)
+    check_refusals(part, version)

@@ -114,7 +114,7 @@ class Row:
         return sum(self.words[0] == "check" or FINDING.match(line) is not None for line in lines)
 
 
-def finished(row, lines):
+def rows_in(row, lines):
     """Returns the row in a list, or an empty list if the lines are a heading; stops if they are neither."""
     if row.words is None:
         if any(not line.startswith("#") for line in lines):
@@ -136,7 +136,7 @@ def rows_of(path):
             row.read(line)
             lines.append(line)
         elif row:
-            rows += finished(row, lines)
+            rows += rows_in(row, lines)
             row, lines = None, []
     return rows
 

@@ -68,7 +68,7 @@ def octets(parts):
     return whole if len(whole) < WIDTH - 40 else " ++\n    ".join(texts)
 
 
-def joined(first, second):
+def join_texts(first, second):
     """Both texts, in one line if there is room."""
     is_short = len(first) + len(second.partition("\n")[0]) < WIDTH and "\n" not in first
     return f"{first} {second}" if is_short else f"{first}\n    {second}"
@@ -78,7 +78,7 @@ def string(text):
     return '"' + text.replace("\\", "\\\\").replace('"', '\\"') + '"'
 
 
-def written(row):
+def output_of(row):
     """The octets that the row writes: lines of a dump or a check, and else octets."""
     if not row.out:
         return "[]"
@@ -138,7 +138,7 @@ def made(row):
         said = f"noted {row.findings()} {string(row.message)}"
     else:
         said = "clean_with"
-    return f"{said} {written(row)}"
+    return f"{said} {output_of(row)}"
 
 
 def entries(row):
@@ -151,7 +151,7 @@ def read_names(name, row):
     """That the table of these entries is what the row's names file gives."""
     text = "lines " + in_brackets(list_of(string(line) for line in row.names.decode().splitlines()))
     proof = f"{name}-names = refl\n"
-    return joined(f"{name}-names : names_of ({text})", f"≡ Ok (names_in {entries(row)})\n{proof}")
+    return join_texts(f"{name}-names : names_of ({text})", f"≡ Ok (names_in {entries(row)})\n{proof}")
 
 
 def statement(number, row):
@@ -159,12 +159,12 @@ def statement(number, row):
     name, asked, given = f"row-{number}", command(row.words), in_brackets(octets(row.parts))
     proof, result = "refl", "result"
     if row.names is not None:
-        proof = joined(f"named {entries(row)}", f"{asked[5:]} {given}")
+        proof = join_texts(f"named {entries(row)}", f"{asked[5:]} {given}")
         result = f"result_with (names_in {entries(row)})"
     elif b"OBJECT IDENTIFIER" in row.out:
-        proof = joined(f"nameless {asked[5:]}", given)
+        proof = join_texts(f"nameless {asked[5:]}", given)
     title = f"-- {row.title}\n" if row.title else ""
-    stated = joined(joined(f"{name} : {result}", f"({asked})"), given)
+    stated = join_texts(join_texts(f"{name} : {result}", f"({asked})"), given)
     shown = f"unfolding digits encode_with is_utf8 chars encode\n{name} = {proof}\n"
     names = f"\n{read_names(name, row)}" if row.names is not None else ""
     return f"{title}{stated}\n    ≡ {made(row)}\n{shown}{names}"

@@ -41,7 +41,7 @@ def come(row):
     return ",".join(pairs) if row.is_timed() else ""
 
 
-def wrapped(text):
+def wrap_line(text):
     """The line as a string of Rust has it, in pieces of which each but the last ends with a backslash."""
     pieces = []
     while len(text) > WIDTH:
@@ -62,7 +62,7 @@ def line(row):
 
 def text(name, rows):
     """The table of a file of rows."""
-    return HEAD.format(file=name, name=name.upper(), lines="".join(wrapped(line(row)) for row in rows))
+    return HEAD.format(file=name, name=name.upper(), lines="".join(wrap_line(line(row)) for row in rows))
 
 
 def list_text(names):

@@ -6,7 +6,7 @@ import shutil
 import subprocess
 
 from parts.harness import Done
-from parts.inside import command, element, expected, string
+from parts.inside import command, element, expected_list, string
 from parts.install import words_of
 
 NULL = b"\x05\x00"
@@ -205,7 +205,7 @@ def handed_on(script):
         script.part.expect(f"handed on: {option}", fine, *got.lines())
 
 
-def refused(script):
+def check_refusals(script):
     part = script.part
     for words in (["--nothing"], ["-x"], ["a", "b"], ["--as"], ["--as", "xml"], ["--raw", "--why"], ["--raw", "--pure"],
                   ["--why", "--limit", "3"], ["--raw", "--padding"], ["--rules"], ["--raw=1"]):
@@ -372,7 +372,7 @@ def made(script):
     command(part, "openssl x509 -in cert.pem -text -out text.pem")
     with open(part.path("cert.der"), "rb") as file:
         octets = file.read()
-    inside, _ = expected(octets)
+    inside, _ = expected_list(octets)
     wanted = part.run(["dump", "--names", script.names, "--inside", inside, "cert.der"]).out
     for name in ("cert.der", "cert.pem", "text.pem"):
         got = script.run([name])
@@ -403,7 +403,7 @@ def test(part):
     choices(script)
     shown(script)
     handed_on(script)
-    refused(script)
+    check_refusals(script)
     reasons(script)
     hints(script)
     cuts(script)

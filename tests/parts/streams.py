@@ -109,7 +109,7 @@ def signals(part):
     part.same("a pause by SIGSTOP", Done(child.returncode, out, err), Done(0, rest, b""))
 
 
-def nested(depth):
+def nested_lines(depth):
     """The lines of so many open SEQUENCEs of indefinite length."""
     lines = [f"{2 * level:8}  indef: {'  ' * level}SEQUENCE {{\n" for level in range(depth)]
     return "".join(lines).encode()
@@ -119,13 +119,13 @@ def depth(part):
     """128 elements may be open, and a wrapper counts among them."""
     opened = b"\x30\x80" * 128
     ends = [f"{256 + 2 * n:8}    end: {'  ' * (127 - n)}}}\n".encode() for n in range(128)]
-    part.gives(["dump"], opened + bytes(256), 0, nested(128) + b"".join(ends))
+    part.gives(["dump"], opened + bytes(256), 0, nested_lines(128) + b"".join(ends))
     deep = "fault at 257: F10 more than 128 open elements"
-    part.gives(["dump"], opened + b"\x30\x80", 2, nested(128), deep)
-    part.gives(["dump", "--inside", "256"], opened + b"\x04\x00", 2, nested(128), deep)
+    part.gives(["dump"], opened + b"\x30\x80", 2, nested_lines(128), deep)
+    part.gives(["dump", "--inside", "256"], opened + b"\x04\x00", 2, nested_lines(128), deep)
     short = "fault at 258: F02 input ends inside an encoding"
     string = f"{256:8} {0:6}: {'  ' * 128}OCTET STRING\n".encode()
-    part.gives(["dump"], opened + b"\x04\x00", 2, nested(128) + string, short)
+    part.gives(["dump"], opened + b"\x04\x00", 2, nested_lines(128) + string, short)
     part.gives(["indef"], opened + bytes(256), 0, opened + bytes(256))
     inner = b"\x30\x80" * 2 + bytes(4)
     part.gives(["extract", "--offset", "252"], opened + bytes(256), 0, inner)

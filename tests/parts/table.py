@@ -84,7 +84,7 @@ def arcs_of(dotted):
     return [int(arc) for arc in dotted.split(".")]
 
 
-def encoded(dotted):
+def contents_of(dotted):
     """The contents octets of an object identifier (X.690 8.19)."""
     first, second, *rest = arcs_of(dotted)
     octets = b""
@@ -121,12 +121,12 @@ def form(part, path):
     return dict(pairs)
 
 
-def named(part, path, what, pairs):
+def check_names(part, path, what, pairs):
     """That the program reads the file and names each of these object identifiers so."""
     octets = b""
     wanted = []
     for dotted, name in pairs:
-        contents = encoded(dotted)
+        contents = contents_of(dotted)
         octets += bytes([6, len(contents)]) + contents
         wanted.append(f"OBJECT IDENTIFIER {dotted} ({name})")
     got = part.run(["dump", "--pure", "--names", path], octets)
@@ -163,8 +163,8 @@ def anchors(part, path):
 def test(part):
     path = os.path.join(part.root, "data", "names.txt")
     pairs = form(part, path)
-    named(part, path, "every entry is named by the program", list(pairs.items()))
+    check_names(part, path, "every entry is named by the program", list(pairs.items()))
     known = pairs_of(KNOWN.split("\n"))
     part.expect("70 well-known pairs", len(known) == 70)
-    named(part, path, "the well-known pairs", known)
+    check_names(part, path, "the well-known pairs", known)
     anchors(part, path)

@@ -131,7 +131,7 @@ TAKEN = [
 ]
 
 
-def refused(part):
+def check_refusals(part):
     for text in REFUSED:
         got = part.run(text.split(), NULL)
         fine = got.status == 4 and got.out == b"" and got.err.startswith(b"error: ")
@@ -140,7 +140,7 @@ def refused(part):
         part.gives(words, NULL, 4, err=f"U2 value out of range: {name}")
 
 
-def taken(part):
+def check_taken(part):
     for text, out in TAKEN:
         part.gives(text.split(), NULL, 0, out)
     far = "E4 no element at offset 1099511627776"
@@ -218,7 +218,7 @@ def files(part):
 
 
 def test(part):
-    refused(part)
-    taken(part)
+    check_refusals(part)
+    check_taken(part)
     not_utf_8(part)
     files(part)
