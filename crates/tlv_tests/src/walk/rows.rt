@@ -9,7 +9,7 @@ pub(crate) struct Row<'a> {
     pub name: &'a str,
     /// The offsets of the strings to be read as encodings.
     pub inside: &'a [u64],
-    /// Whether octets `00` may stand between the encodings.
+    /// Whether octets `00` may be between the encodings.
     pub padding: bool,
     pub input: &'a [u8],
     /// What is written, each part with the number of octets with which it has come.

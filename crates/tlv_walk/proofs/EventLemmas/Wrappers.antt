@@ -274,7 +274,7 @@ wraps-named true named h c e = absurd (true≢false c)
 wraps-named false true h c e = refl
 wraps-named false false h c e = absurd (cc)
 
--- an element that stands there, if it is a wrapper, is named
+-- an element that is there, if it is a wrapper, is named
 wrapper-named : (p : Place) (h : HeaderValue) → IsHeaderAt p true h → AreNamed p.inside (wrapper_at h)
 wrapper-named p h header = elim (cases_Bool h.constructed) [
   | inl c ↦ rw c tt

@@ -77,11 +77,11 @@ begin-more p o Over e = absurd (cc)
 pub push-front : (p : Place) (o : List ℕ) (x : ℕ) → IsHeaderPrefix (o ++ x ∷ []) → Fits p (length o + 1) → push p (OpenHeader o) x ≡ Grown (OpenHeader (o ++ x ∷ []))
 push-front p o x front f = push-scan p o x _ f refl ∙ begin-more p (o ++ x ∷ []) _ (more-from_prefix (origin p) (o ++ x ∷ []) front)
 
--- a header that may stand there is a forest
+-- a header that may be there is a forest
 pub complete-element_begun : (p : Place) (h : HeaderValue) (k : Bool) → holds h ≡ k → (k && leb 128 p.depth) ≡ false → Fits p (length (octets_of h) + announced_length h.size) → complete p h ≡ Grown (element_begun k h)
 complete-element_begun p h k e d f = rw (e, d, fits-within p.bound _ f)
 
--- a header that stands there begins there
+-- a header that is there begins there
 pub header-origin : (p : Place) (k : Bool) (h : HeaderValue) → IsHeaderAt p k h → origin_of h ≡ origin p
 header-origin p k h header = λ i. record { offset = header.offset i; named = header.named i }
 

@@ -114,7 +114,7 @@ holder_begun-sound p h [] e entry =
     record { is_open = r.is_open; spelled = r.spelled ∙ none }
 holder_begun-sound p h (x ∷ xs) e entry = record { is_open = (entry, lead-zero h x xs e); spelled = refl }
 
--- a header where one may stand is an open forest
+-- a header where one may be is an open forest
 pub element_begun-sound : (p : Place) (h : HeaderValue) (k : Bool) → IsHeaderAt p k h → (k && leb 128 p.depth) ≡ false → Fits p (length (octets_of h) + announced_length h.size)
     → Spells p (octets_of h) (element_begun k h)
 element_begun-sound p h true header d f = holder_begun-sound p h (lead h) refl (record { header = header; depth = λ _. leb-false 128 p.depth d; fits = f })

@@ -1,5 +1,5 @@
 -- Sound elements can be spelled with headers as short as they can be, and lengths of one form; the strings that hold elements are
--- named where they then stand.
+-- named where they then are.
 use Rattle.std.proofs.Common.{◌≡◌, ◌≢◌, not, ℕ, ◌+◌, ◌*◌, ◌^◌, ◌<◌, ◌≤◌, Bool, true, false, List, [], ◌∷◌, ◌++◌, length, refl, sym, ap, ap₂, ◌∙◌, arith, subst, length-append}
 use Rattle.tlv_head.specs.declared.header.Size.{Size}
 use Rattle.tlv_head.specs.declared.header.Size.TheVariants.{Definite}
@@ -21,7 +21,7 @@ pub record IsLike (p q : Place) : Type 0 where
   pub padding : q.padding ≡ p.padding
   pub depth : q.depth ≡ p.depth
 
--- no offset in the lists is below where they stand
+-- no offset in the lists is below where they are
 abbrev pub ComeAfter : (ℕ → List ℕ) → Type 0
 ComeAfter names = (offset i : ℕ) → i < offset → is_among i (names offset) ≡ false
 
@@ -42,7 +42,7 @@ pub record SpelledAt (form : Bool → Bool) (q : Place) (f : Forest) (octets nam
   pub spelled : spelling forest ≡ octets
   pub names_are : wrapper_offsets forest ≡ names
 
--- one spelling, wherever it stands, and the offsets of its wrappers, by that of its first octet
+-- one spelling, wherever it is, and the offsets of its wrappers, by that of its first octet
 pub record Spelling (form : Bool → Bool) (p : Place) (f : Forest) : Type 0 where
   pub octets : List ℕ
   pub names : ℕ → List ℕ
@@ -51,7 +51,7 @@ pub record Spelling (form : Bool → Bool) (p : Place) (f : Forest) : Type 0 whe
   pub names_within : AreWithin names (length octets)
   pub there : (q : Place) → IsLike p q → Agrees q (names q.offset) (length octets) → SpelledAt form q f octets (names q.offset)
 
--- what is named of an element that holds others and of those after it, by where it stands: what it holds stands `begins` octets
+-- what is named of an element that holds others and of those after it, by where it is: what it holds is `begins` octets
 -- on, and what is after it `far` octets on
 abbrev joined : (constructed : Bool) (inner others : ℕ → List ℕ) (begins far : ℕ) → ℕ → List ℕ
 joined constructed inner others begins far offset = own constructed offset ++ (inner (offset + begins) ++ others (offset + far))

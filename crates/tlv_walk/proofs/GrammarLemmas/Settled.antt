@@ -16,7 +16,7 @@ use Rattle.tlv_walk.proofs.GrammarLemmas.Push.{holder-sound, reaches, unfilled-l
 use Rattle.tlv_walk.proofs.GrammarLemmas.Spellings.{length-opening}
 use Rattle.tlv_walk.proofs.WalkerLemmas.Zipper.{followed_by, open-followed_by, open-within, settled, spelling-followed_by, spelling-within, whole-followed_by, within}
 
--- where the whole elements end that stand there, and before that
+-- where the whole elements end that are there, and before that
 abbrev pub end_in : Framing → List Layer → Forest → ℕ
 end_in w ls f = (place_in w ls).offset + length (spelling f)
 

@@ -1,4 +1,4 @@
--- An octet is refused for what stands at the innermost open end.
+-- An octet is refused for what is at the innermost open end.
 use Rattle.std.proofs.Common.{◌≡◌, ℕ, ◌+◌, true, false, length, Option, Some, None, refl, ◌∙◌, arith}
 use Rattle.tlv_head.specs.declared.fault.FaultCode.{FaultCode}
 use Rattle.tlv_head.specs.Header.{HeaderValue, octets_of}

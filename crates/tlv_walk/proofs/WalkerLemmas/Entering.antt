@@ -17,7 +17,7 @@ use Rattle.tlv_walk.specs.Private.Yields.{Continues}
 use Rattle.tlv_walk.proofs.WalkerLemmas.Moves.{between_tail, phase_at, spelled_after, tail_state, yielded_after, with_tail}
 use Rattle.tlv_walk.proofs.WalkerLemmas.Places.{place-bound, place-depth, place-inside, walker-offset}
 
--- a walker that stands at a header, or after the octets of one that the reader has
+-- a walker that is at a header, or after the octets of one that the reader has
 pub record AtHeader (w : WalkerState) (b : List ℕ) (yielded : List EventValue) (s : Zipper) (r : HeadReaderState) : Type 0 where
   pub has : HasZipper w b yielded s
   pub octets : spelling_of_tail s.tail ≡ r.octets
@@ -65,7 +65,7 @@ at_front w b yielded s r has e =
       },
     )
 
--- a header that is complete with these octets more, and may stand there
+-- a header that is complete with these octets more, and may be there
 pub record Completed (w : WalkerState) (r : HeadReaderState) (t : List ℕ) (h : HeaderValue) : Type 0 where
   pub valid : IsHeader h
   pub octets : octets_of h ≡ r.octets ++ t

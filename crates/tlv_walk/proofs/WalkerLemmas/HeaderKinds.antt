@@ -102,7 +102,7 @@ primitive_enters w b yielded s r t h at c no_hold =
           (primitive_state w b yielded s r t h size.0 at c no_hold size.1),
     )
 
--- after a header a walker stands as it says
+-- after a header a walker is as it says
 pub enters_state : (w v : WalkerState) (b : List ℕ) (yielded : List EventValue) (s : Zipper) (r : HeadReaderState) (t : List ℕ) (f : HeaderFields) (o : List ℕ) (k : HeaderKind) → AtHeader w b yielded s r
     → Completed w r t (new_header f o) → TakesHeader w v f (f.offset + length (octets_of (new_header f o))) k
     → (u : Zipper) × HasZipper v (b ++ t) (yielded ++ event_of k (new_header f o) ∷ []) u
@@ -154,7 +154,7 @@ fast_enters w v piece named f count o k e begins front name shallow fits enter =
           (subst (λ (x : List ℕ). TakesHeader w v f (f.offset + length x) k) (sym whole) enter);
     }
 
--- such a header may stand there
+-- such a header may be there
 pub fast_may_enter : (w : WalkerState) (piece : List ℕ) (named : Bool) (f : HeaderFields) (count : ℕ) (o : List ℕ) → BeginsWithFields piece w.offset named f count → o ≡ take count piece
     → w.events + length w.stack ≤ w.offset → w.offset + length piece ≤ 2 ^ 40 → (holds (new_header f o) ≡ true → length w.stack < 128)
     → IsWithin (bound_of w.stack) (f.offset + length o + announced_length f.size) → CanEnter w (new_header f o)

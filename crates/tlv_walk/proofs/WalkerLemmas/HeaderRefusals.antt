@@ -67,7 +67,7 @@ past_bound Indefinite None n m past h f = past tt
 past_bound (Definite k) (Some b) n m past h f = past (omega arith)
 past_bound Indefinite (Some b) n m past h f = past (omega arith)
 
--- where a reader stands
+-- where a reader is
 pub record IsReader (p : Place) (q : HeadReaderState) (room : Option ℕ) (depth : ℕ) : Type 0 where
   pub offset : q.offset ≡ p.offset
   pub named : q.named ≡ is_among p.offset p.inside
@@ -99,7 +99,7 @@ refused_fault p q room depth x code k (push.overrun left h completes shallow pas
 
 -- ---- a walker refuses it
 
--- the reader of a walker inside a header stands where its state says
+-- the reader of a walker inside a header is where its state says
 reader_there : (w : WalkerState) (b : List ℕ) (yielded : List EventValue) (s : Zipper) (q : HeadReaderState) (depth : ℕ) → w.phase ≡ phase.InHeader q → HasZipper w b yielded (with_tail s (HeaderTail q.octets)) → depth ≡ length w.stack
     → IsReader (place_of w.framing s) q (room_to (bound_of w.stack) (q.offset + length q.octets)) depth
 reader_there w b yielded s q depth e has d =

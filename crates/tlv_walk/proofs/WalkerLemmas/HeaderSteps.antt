@@ -32,7 +32,7 @@ use Rattle.tlv_walk.proofs.WalkerLemmas.Moves.{phase_at, with_tail}
 
 -- ---- the walker that the reader was taken from
 
--- it stands at the header of that reader
+-- it is at the header of that reader
 pub handed : (w u : WalkerState) (r : HeadReaderState) → HandsOver w u r → (b : List ℕ) (yielded : List EventValue) (s : Zipper) → HasZipper w b yielded s
     → (t : Zipper) × AtHeader w b yielded t r × (u ≡ record w { phase = phase.Between; has_element = true })
 handed w u r (inl h) b yielded s has =
@@ -134,7 +134,7 @@ enters_without w u new f offset kind.Primitive e enter = subst (λ (m : WalkerSt
 enters_without w u new f offset kind.Constructed e enter = subst (λ (m : WalkerState). TakesHeader m new f offset kind.Constructed) e enter
 enters_without w u new f offset kind.Wrapper e enter = subst (λ (m : WalkerState). TakesHeader m new f offset kind.Wrapper) e enter
 
--- and the header that it completes may stand there
+-- and the header that it completes may be there
 completed_without : (w u : WalkerState) (r : HeadReaderState) (t : List ℕ) (h : HeaderValue) → u ≡ record w { phase = phase.Between; has_element = true } → CanEnter u h → Completes r t h → Completed w r t h
 completed_without w u r t h e can makes =
     let can' : CanEnter (record w { phase = phase.Between; has_element = true }) h = subst (λ (m : WalkerState). CanEnter m h) e can in
@@ -187,7 +187,7 @@ within_announced (Definite k) (Some m) n h = omega (arith, h)
 within_announced Indefinite None n h = tt
 within_announced Indefinite (Some m) n h = omega (arith, h)
 
--- the header that it completes may stand there
+-- the header that it completes may be there
 pub whole_enters : (u : WalkerState) (q : HeadReaderState) (x depth offset : ℕ) (h : HeaderValue) → u.events + length u.stack ≤ q.offset → q.offset + length q.octets ≡ offset → offset + 1 ≤ 2 ^ 40 → depth ≡ length u.stack
     → Completes q (x ∷ []) h → FitsThere h (room_to (bound_of u.stack) offset) depth → CanEnter u h
 whole_enters u q x depth offset h fewer place limit deep c f =

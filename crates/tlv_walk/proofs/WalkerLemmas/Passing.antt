@@ -48,7 +48,7 @@ is_whole w piece p can = record {
   contents = sym (ap length (contents_whole w piece p can) ∙ contents_length w piece p can);
 }
 
--- where a walker stands that took it, and has yielded so many events
+-- what a walker becomes that took it, and has yielded so many events
 abbrev pub passed : WalkerState → WholePrimitive → ℕ → WalkerState
 passed w p n = record w { offset = w.offset + p.octets; events = n; has_element = true }
 

@@ -84,7 +84,7 @@ refuses_missing w x rest e unfilled inside within room = refuses_here w x rest M
       no_end ((place-indefinite w.framing s.layers).1 (subst IsInIndefinite has'.stack inside)) (left_none _ w.offset _ none (omega (arith, place))),
     ))
 
--- 00 where no end-of-contents octets can stand, and no padding
+-- 00 where no end-of-contents octets can be, and no padding
 not_padding : (w : WalkerState) (ls : List Layer) → w.stack ≡ frames_of w.framing ls → (w.framing.padding ≡ true → w.stack ≡ [] → ⊥) → (place_in w.framing ls).padding ≡ false
 not_padding w [] e f = elim (cases_Bool w.framing.padding) [
   | inl yes' ↦ absurd (f yes' e)

@@ -207,7 +207,7 @@ pub room-if_open : (ls : List Layer) (f : Forest) → is_whole f ≡ false → H
 room-if_open [] f e = tt
 room-if_open (l ∷ ls) f e = λ whole. absurd (true≢false (sym whole ∙ e))
 
--- they are open where they stand, and so is the whole
+-- they are open where they are, and so is the whole
 pub open-within : (w : Framing) (ls : List Layer) (f : Forest) → AreLayers w ls → IsOpen (place_in w ls) f → HasRoomIn ls f → IsOpen (top_place w) (within ls f)
 open-within w [] f a v r = v
 open-within w (l ∷ ls) f a v r =
