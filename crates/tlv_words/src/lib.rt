@@ -8,5 +8,5 @@ mod values;
 mod words;
 
 pub use command_of_call::command_of;
-pub use usage::{UsageFault, unprinted_report, usage_report, not_utf8_report};
+pub use usage::{UsageFault, not_utf8_report, unprinted_report, usage_report};
 pub use words::Words;

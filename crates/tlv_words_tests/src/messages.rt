@@ -4,7 +4,7 @@ use std::process::Abort;
 use tlv_run::{Report, device_report, names_report, unopened_report, write_message};
 use tlv_value::NamesFault;
 use tlv_walk::{DeviceFault, MemDrain};
-use tlv_words::{UsageFault, unprinted_report, usage_report, not_utf8_report};
+use tlv_words::{UsageFault, not_utf8_report, unprinted_report, usage_report};
 
 /// Expects this status, and this line with a line feed after it.
 fn expect_written(rt: &impl Abort, report: &Report, status: u8, line: &[u8]) {
