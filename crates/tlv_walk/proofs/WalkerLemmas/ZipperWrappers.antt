@@ -14,6 +14,3 @@ wrappers_tail (PrimitiveTail h c) = []
 wrappers_tail (BitStringTail h) = wrapper_at h
 wrappers_tail (HeaderTail octets) = []
 wrappers_tail EndOctetsTail = []
-
-abbrev pub wrappers_zipper : Zipper → List ℕ
-wrappers_zipper s = wrappers_layers s.layers ++ (wrapper_offsets s.here ++ wrappers_tail s.tail)
