@@ -101,11 +101,13 @@ def entries(text, files):
 
 def sources(root):
     """Yields the text of each source of the crates."""
-    for at, _, names in os.walk(os.path.join(root, "crates")):
-        for name in names if f"{os.sep}src" in at else ():
-            if name.endswith(".rt"):
-                with open(os.path.join(at, name), encoding="utf-8") as file:
-                    yield file.read()
+    crates = os.path.join(root, "crates")
+    for crate in sorted(os.listdir(crates)):
+        for at, _, names in os.walk(os.path.join(crates, crate, "src")):
+            for name in names:
+                if name.endswith(".rt"):
+                    with open(os.path.join(at, name), encoding="utf-8") as file:
+                        yield file.read()
 
 
 def test(part):

@@ -19,4 +19,3 @@ pub mod ZipperReading
 pub mod Waiting
 pub mod Zipper
 pub mod ZipperEvents
-pub mod ZipperWrappers

@@ -18,9 +18,6 @@ pub form-then : (f g : Form) (c : List ℕ) (o : Option (List ℕ)) → option_t
 form-then f g c None e = ap (λ (rests : List (List ℕ)). is_rest_empty (flat_map g rests)) (sym e)
 form-then f g c (Some rest) e = ap (λ (rests : List (List ℕ)). is_rest_empty (flat_map g rests)) (sym e) ∙ ap is_rest_empty (append-nil (g rest))
 
-pub form-or : (f g : Form) (c : List ℕ) → has_form (f or g) c ≡ (has_form f c || has_form g c)
-form-or f g c = empty-append (f c) (g c)
-
 flat_map-append : (g : Form) (xs ys : List (List ℕ)) → flat_map g (xs ++ ys) ≡ flat_map g xs ++ flat_map g ys
 flat_map-append g [] ys = refl
 flat_map-append g (x ∷ xs) ys = ap (λ (t : List (List ℕ)). g x ++ t) (flat_map-append g xs ys) ∙ sym (append_assoc (g x) (flat_map g xs) (flat_map g ys))

@@ -1,17 +1,10 @@
 -- The texts of values, piece by piece.
-use Rattle.std.proofs.Common.{◌≡◌, ℕ, zero, suc, ◌+◌, ◌-◌, ◌*◌, ◌<◌, ◌≤◌, List, [], ◌∷◌, ◌++◌, length, take, drop, get_or, refl, ap, ◌∙◌, arith, append_assoc, append-nil, length-append, add-one}
-use Rattle.std.proofs.Math.Seq.{drop-cons, take-append-add}
+use Rattle.std.proofs.Common.{◌≡◌, ℕ, zero, suc, ◌+◌, ◌-◌, ◌*◌, ◌≤◌, List, [], ◌∷◌, ◌++◌, length, take, refl, ap, ◌∙◌, arith, append_assoc, append-nil, length-append}
+use Rattle.std.proofs.Math.Seq.{take-append-add}
 use Rattle.std.proofs.lemmas.List.{length-map, map-append}
-use Rattle.std.specs.Prelude.{true}
 use Rattle.tlv_value.specs.Bits.{bits_of, last_bits}
-use Rattle.tlv_value.specs.Value.{bit_count, bits_value, digits_of_bits, is_readable, used_digits}
+use Rattle.tlv_value.specs.Value.{digits_of_bits, used_digits}
 use Rattle.tlv_value.proofs.TextLemmas.Numbers.{bits-append, length-bits, length-last_bits}
-
--- the bits of one octet more
-pub bits-step : (octets : List ℕ) (i : ℕ) → i < length octets
-    → digits_of_bits (bits_of (drop i octets)) ≡ digits_of_bits (last_bits 8 (get_or octets i 0)) ++ digits_of_bits (bits_of (drop (i + 1) octets))
-bits-step octets i h =
-    rw (drop-cons octets i 0 h, add-one) (map-append (λ bit. 48 + bit) (last_bits 8 (get_or octets i 0)) (bits_of (drop (suc i) octets)))
 
 -- eight digits of each octet
 pub length-digits : (octets : List ℕ) → length (digits_of_bits (bits_of octets)) ≡ 8 * length octets
@@ -49,11 +42,3 @@ digits-cut held shown digits unused n h size e =
     let m : n ≡ length (held ++ shown) + (8 - unused) = omega (arith, e, length-append (held ++ shown) digits, size) in
     ap (λ (k : ℕ). take k ((held ++ shown) ++ digits)) m
     ∙ take-append-add (held ++ shown) digits (8 - unused) ∙ append_assoc held shown (take (8 - unused) digits)
-
--- a BIT STRING that can be read
-pub bits-readable : (c octets : List ℕ) → octets ≡ drop 1 c → 1 ≤ length c → is_readable (get_or c 0 0) (length octets) ≡ true
-    → (bits_value c).text ≡ (32 ∷ bit_count (get_or c 0 0) (length octets)) ++ used_digits (get_or c 0 0) octets
-bits-readable [] octets o h e = absurd (omega arith)
-bits-readable (unused ∷ rest) octets o h e =
-    let r : is_readable unused (length rest) ≡ true = rw o at e in
-    rw o (rw r refl)

@@ -4,8 +4,6 @@ use Rattle.std.specs.Prelude.{IsTrue, IsUtf8, flat_map}
 use Rattle.std.specs.Str.{is_utf8}
 use Rattle.std.proofs.lemmas.Str.{IsUtf8-from_is_utf8, is_utf8-from_IsUtf8}
 use Rattle.tlv_value.specs.declared.kind.Kind.{Kind}
-use Rattle.std.proofs.lemmas.Bool.Decides.{nat_tests}
-use Rattle.tlv_io.specs.Cuts.{utf8_length}
 use Rattle.tlv_value.specs.Units.{unit_size, unit_text, units}
 
 units-skip : (kind : Kind) (k : ℕ) (xs : List ℕ) → units kind k xs ≡ units kind 0 (drop k xs)
@@ -33,6 +31,3 @@ same-at octets false true h e = h.1 (IsUtf8-from_is_utf8 octets e)
 -- what `simdutf8` returns
 pub is_utf8-same : (octets : List ℕ) (r : Bool) → (IsTrue r ↔ IsUtf8 octets) → r ≡ is_utf8 octets
 is_utf8-same octets r h = same-at octets r (is_utf8 octets) h refl
-
-pub utf8_length-most : (x : ℕ) → utf8_length x ≤ 4
-utf8_length-most x = grind (arith, nat_tests)

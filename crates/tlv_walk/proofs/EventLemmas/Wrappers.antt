@@ -1,20 +1,14 @@
--- Wrappers by the events that enter them: one more octet adds one at most, after the others.
-use Rattle.std.proofs.Common.{◌≡◌, inl, inr, ℕ, ◌+◌, ◌<◌, ◌≤◌, Bool, true, false, cond, ◌||◌, eqb, if◌then◌else◌, List, [], ◌∷◌, ◌++◌, length, map, refl, sym, ap, ◌∙◌, arith, length-append}
+-- Wrappers by the events that enter them, and that their offsets rise.
+use Rattle.std.proofs.Common.{◌≡◌, inl, inr, ℕ, ◌+◌, ◌<◌, ◌≤◌, Bool, true, false, ◌||◌, if◌then◌else◌, List, [], ◌∷◌, ◌++◌, length, map, refl, sym, ap, ◌∙◌, arith, length-append}
 use Rattle.std.proofs.lemmas.Bool.{cases_Bool, true≢false}
-use Rattle.tlv_head.specs.declared.fault.FaultCode.TheVariants.{MissingEnd, Overrun, TooDeep}
-use Rattle.tlv_head.specs.Header.{HeaderValue, announced_length, holds, is_wrapper, octets_of}
-use Rattle.tlv_head.proofs.GrammarLemmas.Scan.{Scan, Fresh, High, Named, Long, Ready, Stuck, Over, scan, step}
+use Rattle.tlv_head.specs.Header.{HeaderValue, is_wrapper, octets_of}
 use Rattle.tlv_walk.specs.Forest.{Forest, NoMore, PaddingOctet, Primitive, Holder, OpenPrimitive, OpenHolder, OpenBitString, OpenHeader, OpenEndOctets, extent, lead, opening, spelling}
 use Rattle.tlv_walk.specs.Inside.{is_among}
 use Rattle.tlv_walk.specs.Place.{IsHeaderAt, IsOpen, Place, place_after, place_of_children}
 use Rattle.tlv_walk.specs.Events.{Begin, Bytes, Close, End, Enter, EventValue, Leave, Open, Pad, Unused, closing_event, events, opening_events, single_octets}
 use Rattle.tlv_walk.specs.Wrappers.{wrapper_at, entered_offsets, wrapper_offsets}
-use Rattle.tlv_walk.proofs.GrammarLemmas.Bounds.{fits}
 use Rattle.tlv_walk.proofs.GrammarLemmas.Spellings.{length-holder, length-opening, length-primitive}
-use Rattle.tlv_walk.proofs.GrammarLemmas.PushSteps.{Step, Grown, Ended, Refused, Spells, begin, element_begun, holder_so_far, is_filled_by, holder_begun, origin, primitive_so_far, push, zero_between}
-use Rattle.tlv_walk.proofs.GrammarLemmas.Push.{push-sound}
 use Rattle.tlv_walk.proofs.GrammarLemmas.PopHeaders.{header-length}
-use Rattle.tlv_walk.proofs.EventLemmas.Gains.{closing, gained, push-brings, step_events}
 
 -- of two pieces
 pub enters-append : (xs ys : List EventValue) → entered_offsets (xs ++ ys) ≡ entered_offsets xs ++ entered_offsets ys
@@ -98,109 +92,6 @@ wrapper_offsets-entered p (OpenHolder h inside) w = sym (enters-opens h (events 
 wrapper_offsets-entered p (OpenBitString h) w = waiting-wraps h w.1
 wrapper_offsets-entered p (OpenHeader octets) w = refl
 wrapper_offsets-entered p OpenEndOctets w = refl
-
--- the wrappers of the forest pushed are those before, and then those that the octet enters
-pub push-wrappers : (p : Place) (f g : Forest) (x : ℕ) → x < 256 → IsOpen p f → push p f x ≡ Grown g → wrapper_offsets g ≡ wrapper_offsets f ++ entered_offsets (gained p f x)
-push-wrappers p f g x h w e =
-    let sound : Spells p (spelling f ++ x ∷ []) g = rw e at (push-sound p f x h w) in
-    let brings : single_octets (events g) ≡ single_octets (events f ++ gained p f x) = rw e at (push-brings p f x w) in
-    wrapper_offsets-entered p g sound.is_open
-    ∙ sym (enters-apart (events g)) ∙ ap entered_offsets brings ∙ enters-apart (events f ++ gained p f x)
-    ∙ enters-append (events f) (gained p f x) ∙ ap (λ (t : List ℕ). t ++ entered_offsets (gained p f x)) (sym (wrapper_offsets-entered p f w))
-
--- the octet enters no wrapper, or one
-abbrev pub EntersFew : List EventValue → Type 0
-EntersFew es = length (entered_offsets es) ≤ 1
-
--- an element is one wrapper, or none
-wrapper-few : (h : HeaderValue) → length (wrapper_at h) ≤ 1
-wrapper-few h = elim (cases_Bool h.constructed) [
-  | inl e ↦ rw e (omega arith)
-  | inr e ↦ rw e (omega arith)
-]
-
--- an end enters none
-closing-none : (h : HeaderValue) (s : Step) → entered_offsets (closing h s) ≡ []
-closing-none h (Grown g) = elim (cases_Bool (is_filled_by h g)) [
-  | inl e ↦ rw e (enters-closes h g [])
-  | inr e ↦ rw e
-]
-closing-none h (Ended g) = enters-closes h g []
-closing-none h (Refused code) = refl
-
--- an element that holds none yet, by its contents octets
-holder_so_far-few : (h : HeaderValue) → EntersFew (events (holder_so_far h NoMore))
-holder_so_far-few h = elim (cases_Bool (is_filled_by h NoMore)) [
-  | inl e ↦ rw e (omega (arith, wrapper-few h, ap length (enters-opens h (closing_event h NoMore ∷ [])), length-append (wrapper_at h) (entered_offsets (closing_event h NoMore ∷ [])), ap length (enters-closes h NoMore [])))
-  | inr e ↦ rw e (omega (arith, wrapper-few h, ap length (enters-opens h []), length-append {A = ℕ} (wrapper_at h) []))
-]
-
--- an element that holds none yet
-holder_begun-few : (h : HeaderValue) (l : List ℕ) → EntersFew (events (holder_begun h l))
-holder_begun-few h [] = holder_so_far-few h
-holder_begun-few h (x ∷ l) = omega arith
-
--- a primitive
-primitive_so_far-none : (h : HeaderValue) (c : List ℕ) → EntersFew (events (primitive_so_far h c))
-primitive_so_far-none h c = elim (cases_Bool (eqb (length c) (announced_length h.size))) [
-  | inl e ↦ rw e (omega arith)
-  | inr e ↦ rw e (omega arith)
-]
-
--- a header alone
-element_begun-few : (h : HeaderValue) (k : Bool) → EntersFew (events (element_begun k h))
-element_begun-few h true = holder_begun-few h (lead h)
-element_begun-few h false = primitive_so_far-none h []
-
--- a header that is complete
-complete-few : (p : Place) (h : HeaderValue) (deep room : Bool) → EntersFew (step_events (cond deep (Refused TooDeep) (cond room (Grown (element_begun (holds h) h)) (Refused Overrun))))
-complete-few p h true room = omega arith
-complete-few p h false true = element_begun-few h (holds h)
-complete-few p h false false = omega arith
-
--- octets of a header, by what they say
-begin-few : (p : Place) (o : List ℕ) (s : Scan) → EntersFew (step_events (begin p o s))
-begin-few p o Fresh = omega arith
-begin-few p o (High c k ds) = omega arith
-begin-few p o (Named c k n i) = omega arith
-begin-few p o (Long c k n i m ds) = omega arith
-begin-few p o (Ready h) = complete-few p h _ _
-begin-few p o (Stuck code) = omega arith
-begin-few p o Over = omega arith
-
--- after the front of a header
-header-few : (p : Place) (o : List ℕ) (s : Scan) (room : Bool) → EntersFew (step_events (cond room (begin p o s) (Refused Overrun)))
-header-few p o s true = begin-few p o s
-header-few p o s false = omega arith
-
--- between encodings
-between-few : (o : List ℕ) (room zero indefinite padding : Bool) → EntersFew (step_events (cond room (cond zero (zero_between indefinite padding) (Grown (OpenHeader o))) (Refused MissingEnd)))
-between-few o true true true padding = omega arith
-between-few o true true false true = omega arith
-between-few o true true false false = omega arith
-between-few o true false indefinite padding = omega arith
-between-few o false zero indefinite padding = omega arith
-
--- an octet enters one wrapper at most
-pub gained-few : (p : Place) (f : Forest) (x : ℕ) → EntersFew (gained p f x)
-gained-few p NoMore x = between-few (x ∷ []) (fits p 1) (eqb x 0) p.indefinite p.padding
-gained-few p (PaddingOctet rest) x = gained-few (place_after p 1) rest x
-gained-few p (Primitive h c rest) x = gained-few (place_after p (length (octets_of h) + length c)) rest x
-gained-few p (Holder h inside rest) x = gained-few (place_after p (extent h inside)) rest x
-gained-few p (OpenPrimitive h c) x = elim (cases_Bool (eqb (length (c ++ x ∷ [])) (announced_length h.size))) [
-  | inl e ↦ rw e (omega arith)
-  | inr e ↦ rw e (omega arith)
-]
-gained-few p (OpenHolder h inside) x =
-    let es : List EventValue = closing h (push (place_of_children p h) inside x) in
-    let none : length (entered_offsets es) ≡ 0 = ap length (closing-none h (push (place_of_children p h) inside x)) in
-    omega (arith, gained-few (place_of_children p h) inside x, ap length (enters-append (gained (place_of_children p h) inside x) es), length-append (entered_offsets (gained (place_of_children p h) inside x)) (entered_offsets es))
-gained-few p (OpenBitString h) x = elim (cases_Bool (eqb x 0)) [
-  | inl e ↦ rw e (omega (arith, ap length (closing-none h (Grown NoMore))))
-  | inr e ↦ rw e (omega arith)
-]
-gained-few p (OpenHeader o) x = header-few p (o ++ x ∷ []) (step (origin p) (scan (origin p) o) x) (fits p (length o + 1))
-gained-few p OpenEndOctets x = omega arith
 
 -- each number is larger than the one before, from `least` on and below `end`
 abbrev pub Rise : ℕ → ℕ → List ℕ → Type 0

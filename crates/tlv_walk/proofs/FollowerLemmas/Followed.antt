@@ -101,10 +101,6 @@ module _ {S : Type 0} (next : S → EventValue → Effect S) where
       by On = refl
       by Enough = refl
 
-  -- and so are those after which it wants more
-  pub events_all : (s : S) (xs : List EventValue) → (effect_of next s xs).goes ≡ On → followed_events next s xs ≡ xs
-  events_all s xs h = ap (followed_events next s) (sym (append-nil xs)) ∙ events_more s xs [] h ∙ append-nil xs
-
   -- if it had enough, none after them
   pub events_enough : (s : S) (xs ys : List EventValue) → (effect_of next s xs).goes ≡ Enough → followed_events next s (xs ++ ys) ≡ followed_events next s xs
   events_enough s [] ys h = absurd (cc (h))

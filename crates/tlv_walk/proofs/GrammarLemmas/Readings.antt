@@ -198,21 +198,3 @@ reading-unique w b f g r s =
     let most : length (spelling f) ≤ length (spelling g) = s.longest f r.is_open r.is_prefix in
     let most' : length (spelling g) ≤ length (spelling f) = r.longest g s.is_open s.is_prefix in
     unique (top_place w) f g r.is_open s.is_open (front-same (spelling f) (spelling g) (r.is_prefix.0) (s.is_prefix.0) (r.is_prefix.1 ∙ sym s.is_prefix.1) (omega arith))
-
--- a run over two pieces
-pub run_from-append : (w : Framing) (r : Run) (xs ys : List ℕ) → run_from w r (xs ++ ys) ≡ run_from w (run_from w r xs) ys
-run_from-append w r [] ys = refl
-run_from-append w r (x ∷ xs) ys = run_from-append w (turn w r x) xs ys
-
--- a run over one more octet
-pub run-push : (w : Framing) (b : List ℕ) (x : ℕ) → run w (b ++ x ∷ []) ≡ turn w (run w b) x
-run-push w b x = run_from-append w (Going NoMore) b (x ∷ [])
-
--- a run that has halted takes no more
-run_from-halted : (w : Framing) (f : Forest) (code : FaultCode) (xs : List ℕ) → run_from w (Halted f code) xs ≡ Halted f code
-run_from-halted w f code [] = refl
-run_from-halted w f code (x ∷ xs) = run_from-halted w f code xs
-
--- what follows an octet that is refused changes nothing
-pub run-refused : (w : Framing) (b c : List ℕ) (f : Forest) (code : FaultCode) → run w b ≡ Halted f code → run w (b ++ c) ≡ Halted f code
-run-refused w b c f code e = rw (run_from-append w (Going NoMore) b c, e) (run_from-halted w f code c)

@@ -67,14 +67,6 @@ settled-spells w (l ∷ ls) f a i = elim (cases_Bool (is_filled_by l.header f)) 
   | inr e ↦ rw e (record { is_open = unfilled-room w l ls f a i e; spelled = spelling-within w (l ∷ ls) f a })
 ]
 
--- their octets, after those of the layers
-pub spelling-settled : (w : Framing) (ls : List Layer) (f : Forest) → AreLayers w ls → AreWhole (place_in w ls) f → spelling (settled ls f) ≡ spelling_of_layers ls ++ spelling f
-spelling-settled w ls f a i = let r : Spells (top_place w) (spelling_of_layers ls ++ spelling f) (settled ls f) = settled-spells w ls f a i in r.spelled
-
--- they are open
-pub open-settled : (w : Framing) (ls : List Layer) (f : Forest) → AreLayers w ls → AreWhole (place_in w ls) f → IsOpen (top_place w) (settled ls f)
-open-settled w ls f a i = let r : Spells (top_place w) (spelling_of_layers ls ++ spelling f) (settled ls f) = settled-spells w ls f a i in r.is_open
-
 -- an element ends at an offset by its frame if it has all its contents octets by its length
 end-length : (s : Size) (start m n : ℕ) → start + m ≡ n → is_filled (bound_in s start None) n ≡ has_length s m
 end-length (Definite k) start m n e = elim (cases_Bool (eqb m k)) [

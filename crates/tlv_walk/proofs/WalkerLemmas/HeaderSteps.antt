@@ -63,10 +63,6 @@ pub record HasTaken (r q : HeadReaderState) (piece rest : List ℕ) : Type 0 whe
   pub named : q.named ≡ r.named
   pub front : (q.octets ≡ r.octets) ⊎ IsHeaderPrefix q.octets
 
--- none yet
-pub taken_none : (r : HeadReaderState) (piece : List ℕ) → HasTaken r r piece piece
-taken_none r piece = record { taken = []; piece_is = refl; octets = sym (append-nil r.octets); offset = refl; named = refl; front = inl refl }
-
 -- one more
 pub taken_more : (r q p : HeadReaderState) (piece rest others : List ℕ) (x : ℕ) → HasTaken r q piece rest → rest ≡ x ∷ others → IsHeaderPrefix (q.octets ++ x ∷ []) → p ≡ with_octet q x → HasTaken r p piece others
 taken_more r q p piece rest others x k e front same =

@@ -1,17 +1,16 @@
 -- A walker's state is an open forest, seen from its open end.
-use Rattle.std.proofs.Common.{◌≡◌, ◌↔◌, ℕ, ◌+◌, Bool, true, false, cond, ◌||◌, eqb, List, [], ◌∷◌, ◌++◌, length, None, refl, sym, ap, ◌∙◌, subst, arith, append_assoc}
+use Rattle.std.proofs.Common.{◌≡◌, ◌↔◌, ℕ, ◌+◌, Bool, true, false, cond, eqb, List, [], ◌∷◌, ◌++◌, length, None, refl, sym, ap, ◌∙◌, subst, arith, append_assoc}
 use Rattle.std.proofs.lemmas.Bool.{true≢false}
 use Rattle.tlv_head.specs.declared.header.Size.{Size}
 use Rattle.tlv_head.specs.declared.header.Size.TheVariants.{Definite, Indefinite}
 use Rattle.tlv_head.specs.Header.{HeaderValue, announced_length, octets_of}
 use Rattle.tlv_walk.specs.declared.framing.Framing.{Framing}
 use Rattle.tlv_walk.specs.Ending.{tip}
-use Rattle.tlv_walk.specs.Forest.{Forest, Holder, NoMore, OpenBitString, OpenEndOctets, OpenHeader, OpenHolder, OpenPrimitive, PaddingOctet, Primitive, contents_length, end_octets, extent, has_element, is_whole, opening, spelling}
-use Rattle.tlv_walk.specs.Place.{Fits, IsOpen, Place, bound_in, is_indefinite, place_after, top_place}
+use Rattle.tlv_walk.specs.Forest.{Forest, Holder, NoMore, OpenBitString, OpenEndOctets, OpenHeader, OpenHolder, OpenPrimitive, PaddingOctet, Primitive, contents_length, end_octets, extent, is_whole, opening, spelling}
+use Rattle.tlv_walk.specs.Place.{IsOpen, Place, bound_in, is_indefinite, place_after, top_place}
 use Rattle.tlv_walk.proofs.GrammarLemmas.Lengths.{LacksOctets}
 use Rattle.tlv_walk.specs.Stack.{IsInIndefinite}
 use Rattle.tlv_walk.specs.Private.Zipper.{AreLayers, AreWhole, BitStringTail, NoTail, PrimitiveTail, EndOctetsTail, HeaderTail, Layer, Tail, Zipper, frames_of, place_in, spelling_of_layers}
-use Rattle.tlv_walk.proofs.GrammarLemmas.Bounds.{fits-inside}
 use Rattle.tlv_walk.proofs.GrammarLemmas.PushSteps.{is_filled_by}
 use Rattle.tlv_walk.proofs.GrammarLemmas.Spellings.{append_assoc-3, append_assoc-4, length-holder, length-primitive}
 
@@ -95,18 +94,6 @@ whole-followed_by (OpenBitString h) g e = absurd (true≢false (sym e))
 whole-followed_by (OpenHeader octets) g e = absurd (true≢false (sym e))
 whole-followed_by OpenEndOctets g e = absurd (true≢false (sym e))
 
--- an octet of an element is there if one of theirs or of the others' is
-pub element-after : (f g : Forest) → has_element (followed_by f g) ≡ (has_element f || has_element g)
-element-after NoMore g = refl
-element-after (PaddingOctet rest) g = element-after rest g
-element-after (Primitive h c rest) g = refl
-element-after (Holder h inside rest) g = refl
-element-after (OpenPrimitive h c) g = refl
-element-after (OpenHolder h inside) g = refl
-element-after (OpenBitString h) g = refl
-element-after (OpenHeader octets) g = refl
-element-after OpenEndOctets g = refl
-
 -- they are open if the others are, after them
 pub open-followed_by : (p : Place) (f g : Forest) → AreWhole p f → IsOpen (place_after p (length (spelling f))) g → IsOpen p (followed_by f g)
 open-followed_by p NoMore g a w = subst (λ (q : Place). IsOpen q g) (after-none p) w
@@ -159,10 +146,6 @@ followed_by-none (OpenBitString h) = refl
 followed_by-none (OpenHeader octets) = refl
 followed_by-none OpenEndOctets = refl
 
--- after whole elements the open end is between them and the next
-pub tip-whole : (p : Place) (f : Forest) → is_whole f ≡ true → tip p f ≡ (place_after p (length (spelling f)), NoMore)
-tip-whole p f e = ap (λ (g : Forest). tip p g) (sym (followed_by-none f)) ∙ tip-followed_by p f NoMore e
-
 -- ---- where the elements in the innermost open element begin
 
 -- an indefinite length has no end that is known
@@ -174,18 +157,6 @@ indefinite-endless Indefinite start = (λ e. refl, λ e. refl)
 pub place-indefinite : (w : Framing) (ls : List Layer) → ((place_in w ls).indefinite ≡ true) ↔ IsInIndefinite (frames_of w ls)
 place-indefinite w [] = (λ e. absurd (true≢false (sym e)), λ e. absurd e)
 place-indefinite w (l ∷ ls) = indefinite-endless l.header.size _
-
--- with padding if there is some at the top, and there alone
-pub place-padding-top : (w : Framing) → (place_in w []).padding ≡ w.padding
-place-padding-top w = refl
-
-pub place-padding-inside : (w : Framing) (l : Layer) (ls : List Layer) → (place_in w (l ∷ ls)).padding ≡ false
-place-padding-inside w l ls = refl
-
--- not past the bound
-pub layers-fit : (w : Framing) (ls : List Layer) → AreLayers w ls → Fits (place_in w ls) 0
-layers-fit w [] a = tt
-layers-fit w (l ∷ ls) a = fits-inside (place_after (place_in w ls) (length (spelling l.before))) l.header a.2.header.form a.2.fits
 
 -- ---- elements in the innermost open one
 

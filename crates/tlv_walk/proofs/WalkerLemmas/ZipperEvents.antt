@@ -9,9 +9,7 @@ use Rattle.tlv_walk.specs.Events.{Begin, Bytes, Close, End, EventValue, Leave, P
 use Rattle.tlv_walk.specs.Forest.{Forest, Holder, NoMore, OpenBitString, OpenEndOctets, OpenHeader, OpenHolder, OpenPrimitive, PaddingOctet, Primitive, contents_length, end_octets, is_whole, spelling}
 use Rattle.tlv_walk.specs.Stands.{filled_end, filled_ends}
 use Rattle.tlv_walk.specs.Private.Zipper.{AreLayers, AreWhole, Layer, events_of_layers, frame_at, frames_of, place_in}
-use Rattle.tlv_walk.proofs.WalkerLemmas.ZipperWrappers.{wrappers_layers}
 use Rattle.tlv_walk.specs.Place.{Place, place_after}
-use Rattle.tlv_walk.specs.Wrappers.{wrapper_at, wrapper_offsets}
 use Rattle.tlv_walk.proofs.GrammarLemmas.Bounds.{IsFull}
 use Rattle.tlv_walk.proofs.GrammarLemmas.PushSteps.{is_filled_by}
 use Rattle.tlv_walk.proofs.GrammarLemmas.Settled.{IsEnded, end_in, end-filled, filled-ended, filled-full}
@@ -34,21 +32,6 @@ events-followed_by (OpenBitString h) g e = absurd (true≢false (sym e))
 events-followed_by (OpenHeader octets) g e = absurd (true≢false (sym e))
 events-followed_by OpenEndOctets g e = absurd (true≢false (sym e))
 
--- their wrappers
-pub wrapper_offsets-followed_by : (f g : Forest) → is_whole f ≡ true → wrapper_offsets (followed_by f g) ≡ wrapper_offsets f ++ wrapper_offsets g
-wrapper_offsets-followed_by NoMore g e = refl
-wrapper_offsets-followed_by (PaddingOctet rest) g e = wrapper_offsets-followed_by rest g e
-wrapper_offsets-followed_by (Primitive h c rest) g e = wrapper_offsets-followed_by rest g e
-wrapper_offsets-followed_by (Holder h inside rest) g e =
-    ap (λ (t : List ℕ). wrapper_at h ++ (wrapper_offsets inside ++ t)) (wrapper_offsets-followed_by rest g e)
-    ∙ ap (λ (t : List ℕ). wrapper_at h ++ t) (sym (append_assoc (wrapper_offsets inside) (wrapper_offsets rest) (wrapper_offsets g)))
-    ∙ sym (append_assoc (wrapper_at h) (wrapper_offsets inside ++ wrapper_offsets rest) (wrapper_offsets g))
-wrapper_offsets-followed_by (OpenPrimitive h c) g e = absurd (true≢false (sym e))
-wrapper_offsets-followed_by (OpenHolder h inside) g e = absurd (true≢false (sym e))
-wrapper_offsets-followed_by (OpenBitString h) g e = absurd (true≢false (sym e))
-wrapper_offsets-followed_by (OpenHeader octets) g e = absurd (true≢false (sym e))
-wrapper_offsets-followed_by OpenEndOctets g e = absurd (true≢false (sym e))
-
 -- ---- elements in the innermost open one
 
 -- their events, after those of the layers
@@ -58,14 +41,6 @@ events-within w (l ∷ ls) f a =
     events-within w ls (followed_by l.before (OpenHolder l.header f)) a.0
     ∙ ap (λ (t : List EventValue). events_of_layers ls ++ t) (events-followed_by l.before (OpenHolder l.header f) a.1.whole ∙ sym (append_assoc (events l.before) (opening_events l.header) (events f)))
     ∙ sym (append_assoc (events_of_layers ls) (events l.before ++ opening_events l.header) (events f))
-
--- their wrappers, after those of the layers
-pub wrapper_offsets-within : (w : Framing) (ls : List Layer) (f : Forest) → AreLayers w ls → wrapper_offsets (within ls f) ≡ wrappers_layers ls ++ wrapper_offsets f
-wrapper_offsets-within w [] f a = refl
-wrapper_offsets-within w (l ∷ ls) f a =
-    wrapper_offsets-within w ls (followed_by l.before (OpenHolder l.header f)) a.0
-    ∙ ap (λ (t : List ℕ). wrappers_layers ls ++ t) (wrapper_offsets-followed_by l.before (OpenHolder l.header f) a.1.whole ∙ sym (append_assoc (wrapper_offsets l.before) (wrapper_at l.header) (wrapper_offsets f)))
-    ∙ sym (append_assoc (wrappers_layers ls) (wrapper_offsets l.before ++ wrapper_at l.header) (wrapper_offsets f))
 
 -- ---- whole elements in the innermost open one, where each element that is filled ends
 
@@ -101,18 +76,4 @@ events-settled w (l ∷ ls) f a i = elim (cases_Bool (is_filled_by l.header f)) 
       rw (e, end-filled w l ls f i.whole ∙ e)
       (r ∙ s ∙ regroup-end (events_of_layers ls) (events l.before) (opening_events l.header) (events f) (filled_ends (end_in w (l ∷ ls) f) (frames_of w ls)) _ _ (closes-filled (place_after (place_in w ls) (length (spelling l.before))) l.header f e))
   | inr e ↦ rw (e, end-filled w l ls f i.whole ∙ e) (events-within w (l ∷ ls) f a ∙ sym (append-nil _))
-]
-
--- their wrappers, after those of the layers
-pub wrapper_offsets-settled : (w : Framing) (ls : List Layer) (f : Forest) → AreLayers w ls → AreWhole (place_in w ls) f → wrapper_offsets (settled ls f) ≡ wrappers_layers ls ++ wrapper_offsets f
-wrapper_offsets-settled w [] f a i = refl
-wrapper_offsets-settled w (l ∷ ls) f a i = elim (cases_Bool (is_filled_by l.header f)) [
-  | inl e ↦
-      let d : IsEnded w l ls f = filled-ended w l ls f a i e in
-      let r : wrapper_offsets (settled ls (followed_by l.before (Holder l.header f NoMore))) ≡ wrappers_layers ls ++ wrapper_offsets (followed_by l.before (Holder l.header f NoMore)) =
-      wrapper_offsets-settled w ls (followed_by l.before (Holder l.header f NoMore)) a.0 d.are_whole in
-      let s : wrappers_layers ls ++ (wrapper_offsets l.before ++ (wrapper_at l.header ++ (wrapper_offsets f ++ []))) ≡ (wrappers_layers ls ++ (wrapper_offsets l.before ++ wrapper_at l.header)) ++ wrapper_offsets f =
-      rw (append-nil (wrapper_offsets f)) (simp append_assoc) in
-      rw e (r ∙ ap (λ (t : List ℕ). wrappers_layers ls ++ t) (wrapper_offsets-followed_by l.before (Holder l.header f NoMore) a.1.whole) ∙ s)
-  | inr e ↦ rw e (wrapper_offsets-within w (l ∷ ls) f a)
 ]

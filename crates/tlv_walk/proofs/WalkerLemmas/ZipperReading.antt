@@ -15,9 +15,8 @@ use Rattle.tlv_walk.specs.Place.{IsOpen, Place, place_after, top_place}
 use Rattle.tlv_walk.specs.Reading.{IsReading}
 use Rattle.tlv_walk.specs.Stands.{Stands, filled_ends, waiting_events, waiting_events_in}
 use Rattle.tlv_walk.specs.Private.Zipper.{AreLayers, AreWhole, BitStringTail, NoTail, HasZipper, PrimitiveTail, EndOctetsTail, HeaderTail, IsContents, IsPhaseOf, Layer, Tail, Zipper, events_of_layers, events_of_tail, events_of_zipper, frames_of, place_in, place_of, spelling_of_layers, spelling_of_tail, spelling_of_zipper, stack_of}
-use Rattle.tlv_walk.proofs.WalkerLemmas.ZipperWrappers.{wrappers_layers, wrappers_tail, wrappers_zipper}
 use Rattle.tlv_walk.specs.Inside.{can_name}
-use Rattle.tlv_walk.specs.Wrappers.{entered_offsets, wrapper_offsets}
+use Rattle.tlv_walk.specs.Wrappers.{entered_offsets}
 use Rattle.tlv_walk.proofs.EventLemmas.Joined.{apart-before, apart-from_joined, joined-from_apart}
 use Rattle.tlv_walk.proofs.GrammarLemmas.Bounds.{within-le}
 use Rattle.tlv_walk.proofs.GrammarLemmas.PushSteps.{Spells}
@@ -25,7 +24,7 @@ use Rattle.tlv_walk.proofs.GrammarLemmas.Readings.{Going, run-reading}
 use Rattle.tlv_walk.proofs.GrammarLemmas.Settled.{end_in, settled-spells}
 use Rattle.tlv_walk.proofs.WalkerLemmas.Places.{walker-offset}
 use Rattle.tlv_walk.proofs.WalkerLemmas.Zipper.{followed_by, open-followed_by, open-within, reading_in, reading_of, room-if_open, settled, spelling-followed_by, spelling-within, whole-followed_by, within}
-use Rattle.tlv_walk.proofs.WalkerLemmas.ZipperEvents.{events-followed_by, events-settled, events-within, wrapper_offsets-followed_by, wrapper_offsets-settled, wrapper_offsets-within}
+use Rattle.tlv_walk.proofs.WalkerLemmas.ZipperEvents.{events-followed_by, events-settled, events-within}
 
 -- after the whole elements of the innermost open one
 abbrev pub later_place : Framing → List Layer → Forest → Place
@@ -51,11 +50,6 @@ open-events : (w : Framing) (ls : List Layer) (here g : Forest) → AreLayers w 
 open-events w ls here g a i =
     append-nil _ ∙ sym (events-within w ls (followed_by here g) a ∙ ap (λ (t : List EventValue). events_of_layers ls ++ t) (events-followed_by here g i.whole))
 
--- and these wrappers
-open-wrappers : (w : Framing) (ls : List Layer) (here g : Forest) → AreLayers w ls → AreWhole (place_in w ls) here
-    → wrapper_offsets (within ls (followed_by here g)) ≡ wrappers_layers ls ++ (wrapper_offsets here ++ wrapper_offsets g)
-open-wrappers w ls here g a i = wrapper_offsets-within w ls (followed_by here g) a ∙ ap (λ (t : List ℕ). wrappers_layers ls ++ t) (wrapper_offsets-followed_by here g i.whole)
-
 -- ---- whole elements, and then others that are whole
 
 -- all are whole
@@ -77,12 +71,6 @@ whole-events w ls here g offset a i j e =
     events-settled w ls (followed_by here g) a (more-whole w ls here g i j)
     ∙ ap (λ (t : List EventValue). (events_of_layers ls ++ t) ++ filled_ends (end_in w ls (followed_by here g)) (frames_of w ls)) (events-followed_by here g i.whole)
     ∙ ap (λ (n : ℕ). (events_of_layers ls ++ (events here ++ events g)) ++ filled_ends n (frames_of w ls)) (followed_by-end w ls here g i.whole ∙ sym e)
-
--- and these wrappers
-whole-wrappers : (w : Framing) (ls : List Layer) (here g : Forest) → AreLayers w ls → AreWhole (place_in w ls) here → AreWhole (later_place w ls here) g
-    → wrapper_offsets (settled ls (followed_by here g)) ≡ wrappers_layers ls ++ (wrapper_offsets here ++ wrapper_offsets g)
-whole-wrappers w ls here g a i j =
-    wrapper_offsets-settled w ls (followed_by here g) a (more-whole w ls here g i j) ∙ ap (λ (t : List ℕ). wrappers_layers ls ++ t) (wrapper_offsets-followed_by here g i.whole)
 
 -- ---- a primitive
 
@@ -145,18 +133,6 @@ reading-spells w ls here (BitStringTail h) a i j = open-spells w ls here (OpenBi
 reading-spells w ls here (HeaderTail octets) a i j = open-spells w ls here (OpenHeader octets) a i j refl
 reading-spells w ls here EndOctetsTail a i j = open-spells w ls here OpenEndOctets a i j refl
 
--- its wrappers are the state's
-reading-wrappers : (w : Framing) (ls : List Layer) (here : Forest) (t : Tail) → AreLayers w ls → AreWhole (place_in w ls) here → IsTailAt (later_place w ls here) t
-    → wrapper_offsets (reading_in ls here t) ≡ wrappers_layers ls ++ (wrapper_offsets here ++ wrappers_tail t)
-reading-wrappers w ls here NoTail a i j = wrapper_offsets-settled w ls here a i ∙ ap (λ (t : List ℕ). wrappers_layers ls ++ t) (sym (append-nil (wrapper_offsets here)))
-reading-wrappers w ls here (PrimitiveTail h c) a i j = elim (cases_eq j.0 0) [
-  | inl z ↦ rw (contents-all _ h c j.0 j.1 z) (whole-wrappers w ls here (Primitive h c NoMore) a i (contents-whole _ h c j.0 j.1 z))
-  | inr n ↦ rw (contents-less _ h c j.0 j.1 n) (open-wrappers w ls here (OpenPrimitive h c) a i)
-]
-reading-wrappers w ls here (BitStringTail h) a i j = open-wrappers w ls here (OpenBitString h) a i
-reading-wrappers w ls here (HeaderTail octets) a i j = open-wrappers w ls here (OpenHeader octets) a i
-reading-wrappers w ls here EndOctetsTail a i j = open-wrappers w ls here OpenEndOctets a i
-
 -- a primitive's end, yielded after what has been yielded of it
 contents-end : (around earlier ends : List EventValue) (h : HeaderValue) (c : List ℕ)
     → (around ++ (earlier ++ (Begin h ∷ Bytes c ∷ []))) ++ (End ∷ ends) ≡ (around ++ (earlier ++ (Begin h ∷ Bytes c ∷ End ∷ []))) ++ ends
@@ -202,10 +178,6 @@ state-events w b yielded s h =
     ∙ reading-events w.framing s.layers s.here w.phase s.tail w.offset h.layers h.here h.phase (walker-offset w b yielded s h) in
     joined-from_apart (yielded ++ waiting_events w) (events (reading_of s))
     (apart-before yielded (events_of_zipper s) (waiting_events w) (apart-from_joined yielded (events_of_zipper s) h.same_events) ∙ ap single_octets all)
-
--- its wrappers are those of the state
-pub state-wrappers : (w : WalkerState) (b : List ℕ) (yielded : List EventValue) (s : Zipper) → HasZipper w b yielded s → wrapper_offsets (reading_of s) ≡ wrappers_zipper s
-state-wrappers w b yielded s h = reading-wrappers w.framing s.layers s.here s.tail h.layers h.here (phase-tail w.phase s.tail (place_of w.framing s) h.phase)
 
 -- a walker with a state stands for what was yielded and what was taken
 pub stands : (w : WalkerState) (b : List ℕ) (yielded : List EventValue) (s : Zipper) → HasZipper w b yielded s → can_name w.framing.inside ≡ true → w.wrapper_count ≡ wrappers_after w.framing.inside 0 (entered_offsets yielded) → Stands w b yielded
