@@ -68,6 +68,7 @@ RunsAreResults =
 -- if no element is asked for, or it is not whole, the status 2 says just that the input is no sound list of encodings
 abbrev pub StatusesShowSoundness : Type 0
 StatusesShowSoundness =
-    (command : Command) (names : NamesTable) (b : List ℕ) (made : CommandResult) (x : IsCommandResult command names b made)
+    (command : Command) (names : NamesTable) (b : List ℕ) (made : CommandResult)
+    → (x : IsCommandResult command names b made)
     → let job = command_job command names in job.is_enough x.reading ≡ false
     → (made.report.status ≡ 2) ↔ (IsSoundList job.framing b → ⊥)

@@ -18,7 +18,8 @@ octets_run_value_of run = record { written = run.written.items; report = report_
 module _ (job : Job ReportValue) (octets : List ℕ) (read_fails : Bool) where
   -- what is reported if all was written that is made of the octets, or of the first of them, no more than are read as
   -- encodings: a line for each cause
-  pub data IsReport {made : CommandResult} (x : IsJobResult job (take job.limit octets) made) : ReportValue → Type 0 where
+  pub data IsReport {made : CommandResult} (x : IsJobResult job (take job.limit octets) made)
+      : ReportValue → Type 0 where
     -- nothing counts that could follow
     settled : IsSettled x → IsReport x made.report
     -- the input ends with the octets

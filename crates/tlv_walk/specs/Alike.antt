@@ -20,7 +20,8 @@ pub data AreAlike : Forest → Forest → Type 0 where
 abbrev pub HaveNoUniversalZero : Forest → Type 0
 HaveNoUniversalZero NoMore = Unit {0}
 HaveNoUniversalZero (PaddingOctet rest) = HaveNoUniversalZero rest
-HaveNoUniversalZero (Primitive h c rest) = (identifier_octet h.class h.constructed h.number ≢ 0) × HaveNoUniversalZero rest
+HaveNoUniversalZero (Primitive h c rest) =
+    (identifier_octet h.class h.constructed h.number ≢ 0) × HaveNoUniversalZero rest
 HaveNoUniversalZero (Holder h children rest) = HaveNoUniversalZero children × HaveNoUniversalZero rest
 HaveNoUniversalZero (OpenPrimitive h c) = identifier_octet h.class h.constructed h.number ≢ 0
 HaveNoUniversalZero (OpenHolder h children) = HaveNoUniversalZero children

@@ -25,7 +25,8 @@ enum FrameKind {
 /// The input, or an open element that holds others.
 #[derive(Clone, Copy, Default)]
 struct Frame {
-    /// The end of the innermost definite element: of this one, or of the nearest around it; `u64::MAX` if there is none.
+    /// The end of the innermost definite element: of this one, or of the nearest around it. If there is none,
+    /// `u64::MAX`.
     bound: u64,
     kind: FrameKind,
 }
