@@ -36,7 +36,7 @@ pub data IsRefusedPush (r : HeadReaderState) (x : ℕ) (room : Option ℕ) (dept
   overrun : room ≢ Some 0 → (h : HeaderValue) → Completes r (x ∷ []) h → (holds h ≡ true → depth < 128)
       → (ContentsFit h.size room → ⊥) → IsRefusedPush r x room depth Overrun
 
--- what `push` returns, and the reader that it leaves: a line for each answer
+-- what `push` returns, and the reader that it leaves: a line for each result
 pub data Pushes (old : HeadReaderState) (x : ℕ) (room : Option ℕ) (depth : ℕ) (new : HeadReaderState)
     : Head → Type 0 where
   -- the octet was taken, and others are to follow

@@ -46,7 +46,7 @@ pub record IsLengthPrefix (class : Class) (constructed : Bool) (number left : �
   pub few : length digits + left ≤ 126
   pub octets_are : octets ≡ identifier ++ (128 + (length digits + left)) ∷ digits
 
--- why the octet x is refused after a prefix of a header, wherever that is: a line for each cause
+-- why the octet x is refused after a prefix of a header, whatever its place: a line for each cause
 pub data IsRefusedOctet (octets : List ℕ) (x : ℕ) : FaultCode → Type 0 where
   -- F06, 8.1.2.4.2: a ninth subsequent identifier octet with bit 8 set
   tag_too_long : (class : Class) (constructed : Bool) (prefix : IsNumberPrefix class constructed octets)

@@ -107,7 +107,7 @@ impl<'a> MemDrain<'a> {
 
     /// A drain that fills `room` from its first octet on.
     ///
-    /// A write takes as many octets as fit, at most `most`, where 0 counts as 1. It fails where no room is left.
+    /// A write takes as many octets as fit, at most `most`, where 0 counts as 1. It fails if no room is left.
     pub fn new(room: &'a mut [u8], most: usize) -> MemDrain<'a>
         ensures same_reference { (drain_room result).ghost_name ≡ room.entry.ghost_name }
         ensures room { (drain_room result).now ≡ room.old }

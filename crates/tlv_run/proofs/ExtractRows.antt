@@ -75,7 +75,7 @@ row-12 : result (extract 7 true plain) (octets "3a 80 04 03 4a 6f 6e 04 02 65 73
 unfolding digits encode_with is_utf8 chars encode
 row-12 = refl
 
--- A padded length and a high form stand as they are
+-- A padded length and a high form are left as they are
 row-13 : result (extract 0 false plain) (octets "1f 82 02 82 00 01 aa")
     ≡ clean_with (octets "1f 82 02 82 00 01 aa")
 unfolding digits encode_with is_utf8 chars encode

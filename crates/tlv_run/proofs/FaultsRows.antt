@@ -199,7 +199,7 @@ row-27 : result (dump Ber None false plain) (octets "30 05 30 80 02 01 05 02")
 unfolding digits encode_with is_utf8 chars encode
 row-27 = refl
 
--- the NULL before them stands
+-- the NULL before them is written
 row-28 : result (dump Ber None false plain) (octets "05 00 00")
     ≡ faulty 0 StrayEnd 2 "fault at 2: F03 end-of-contents outside an indefinite element" (lines (
     "       0      0: NULL" ∷ []))

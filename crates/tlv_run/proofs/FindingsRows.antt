@@ -245,7 +245,7 @@ row-31 : result (check Ber plain) (octets "3a 80 04 03 4a 6f 6e 04 02 65 73 00 0
 unfolding digits encode_with is_utf8 chars encode
 row-31 = refl
 
--- the finding stands before the line
+-- the finding comes before the line
 row-32 : result (dump Der None false plain) (octets "30 80 05 00 00 00")
     ≡ noted 1 "findings: 1" (lines (
     "       0    D01: indefinite length" ∷

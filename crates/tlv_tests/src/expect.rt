@@ -1,4 +1,4 @@
-//! What a test expects. Each of these stands apart since an assertion is proved where it stands.
+//! What a test expects. Each is a function of its own, since an assertion is proved at each place where it is written.
 use std::fmt::Debug;
 use std::process::Abort;
 

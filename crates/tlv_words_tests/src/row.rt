@@ -2,7 +2,7 @@
 //!
 //! A line has nine fields, with `|` between two of them:
 //!
-//! 1. where the row stands;
+//! 1. the file and the line of the row;
 //! 2. the words after the program's name;
 //! 3. the octets of the names file, 4. of the input, and 5. of what is written;
 //! 6. pairs as `7:33`, with a comma between two of them: with 7 octets of the input 33 of the output

@@ -210,7 +210,7 @@ pub(crate) static REFUSALS: [Refusal; 13] = [
         code: FaultCode::TooDeep,
         is_header: true,
     },
-    // The depth passes before the bound after the contents.
+    // The depth is judged before the bound after the contents.
     Refusal {
         octets: b"\x30\x02",
         place: Place {
@@ -240,7 +240,7 @@ pub(crate) static REFUSALS: [Refusal; 13] = [
         code: FaultCode::Overrun,
         is_header: true,
     },
-    // The bound is reached within the header, which passes before what the octet says.
+    // The bound is reached within the header, which is judged before what the octet says.
     Refusal {
         octets: b"\x04\x80",
         place: Place {
