@@ -13,7 +13,7 @@ use Rattle.tlv_walk.specs.Inside.{can_name, is_among}
 use Rattle.tlv_walk.specs.WalkerState.{WalkerState, first_without_wrapper_in}
 use Rattle.tlv_walk.specs.Private.WrapperCount.{next_wrapper, wrappers_after}
 use Rattle.tlv_walk.specs.Place.{IsOpen, top_place}
-use Rattle.tlv_walk.specs.Stands.{Stands, filled_ends, is_filled, waiting_events, waiting_events_in}
+use Rattle.tlv_walk.specs.Stands.{Stands, filled_ends, is_end_at, waiting_events, waiting_events_in}
 use Rattle.tlv_walk.specs.Wrappers.{first_other, first_without_wrapper, entered_offsets, wrapper_offsets}
 use Rattle.tlv_walk.proofs.EventLemmas.Joined.{apart-from_joined}
 use Rattle.tlv_walk.proofs.EventLemmas.Named.{AreRising, can-to}
@@ -85,7 +85,7 @@ first-found (n ∷ ns) (offset ∷ offsets) least low end r q = elim (cases_eq n
 -- the events that wait enter no wrapper
 ends_enter_none : (offset : ℕ) (fs : List FrameValue) → entered_offsets (filled_ends offset fs) ≡ []
 ends_enter_none offset [] = refl
-ends_enter_none offset (f ∷ fs) = elim (cases_Bool (is_filled f.end offset)) [
+ends_enter_none offset (f ∷ fs) = elim (cases_Bool (is_end_at f.end offset)) [
   | inl e ↦ elim (cases_Bool f.wrapper) [
     | inl k ↦ rw (e, k) (ends_enter_none offset fs)
     | inr k ↦ rw (e, k) (ends_enter_none offset fs)
