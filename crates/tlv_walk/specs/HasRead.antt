@@ -67,7 +67,7 @@ pub record RefusesAt (w : WalkerState) (octets : List ℕ) (yielded : List Event
   pub taken : List ℕ
   pub octet : ℕ
   pub others : List ℕ
-  pub octets_is : taken ++ octet ∷ others ≡ octets
+  pub octets_are : taken ++ octet ∷ others ≡ octets
   pub stands : StandsRefused w taken octet yielded f
 
 -- what a walker stands for that walked over these octets to the end, and yielded these events: all of them, or those

@@ -108,7 +108,7 @@ module _ {S D : Type 0} (next : S → EventValue → Effect S) (old new : TurnSt
         run_is =
             run_is run run.ending (length (spelling r.0.reading)) false (first_without_wrapper w.framing.inside r.0.reading) refl
             (is.octets ∙ k.stands.offset ∙ ap length (sym r.0.spelled)) is.enough (is.unused ∙ r.1);
-        walker = refused_one e (record { taken = b ++ k.taken; octet = k.octet; others = k.others; octets_is = fault_octets w v b piece yielded more e k; stands = k.stands });
+        walker = refused_one e (record { taken = b ++ k.taken; octet = k.octet; others = k.others; octets_are = fault_octets w v b piece yielded more e k; stands = k.stands });
       }
 
 -- the input has ended

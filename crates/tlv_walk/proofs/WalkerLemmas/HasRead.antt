@@ -47,7 +47,7 @@ pub ends_by : (w : WalkerState) (o : List ℕ) (yielded : List EventValue) (resu
     → ((f : Fault) → w.phase ≡ Refused f → result ≡ ending.Fault f) → StandsAtEnd w o yielded → IsEnding w.framing o result
 ends_by w o yielded result stands failed (took_all st none) = stands o yielded st
 ends_by w o yielded result stands failed (refused_one f at) =
-    subst (λ (l : List ℕ). IsEnding w.framing l result) at.octets_is
+    subst (λ (l : List ℕ). IsEnding w.framing l result) at.octets_are
     (subst (λ (k : Ending). IsEnding w.framing (at.taken ++ at.octet ∷ at.others) k) (sym (failed f at.stands.phase)) (at.stands.refused.ends at.others))
 
 -- and it shows whether the input is sound
