@@ -53,7 +53,7 @@ pub record StandsRefused (w : WalkerState) (b : List ℕ) (octet : ℕ) (yielded
 -- what a walker has read: the octets that it took, and their reading. Once it refused an octet, these are the octets
 -- before that one
 pub data HasRead (w : WalkerState) (b : List ℕ) (reading : Forest) : Type 0 where
-  took : (yielded : List EventValue) (stands : Stands w b yielded) → stands.reads.reading ≡ reading
+  took : (yielded : List EventValue) (stands : Stands w b yielded) → stands.has_events.reading ≡ reading
       → HasRead w b reading
   refused : (x : ℕ) (yielded : List EventValue) (f : Fault) (stands : StandsRefused w b x yielded f)
       → stands.refused.reading ≡ reading → HasRead w b reading

@@ -53,6 +53,6 @@ pub record HasEvents (framing : Framing) (octets : List ℕ) (es : List EventVal
 -- what a walker stands for that refused no octet: octets, and the events yielded for them. Yielded and waiting
 -- together they are those of the reading
 pub record Stands (w : WalkerState) (b : List ℕ) (yielded : List EventValue) : Type 0 where
-  pub reads : HasEvents w.framing b (yielded ++ waiting_events w)
+  pub has_events : HasEvents w.framing b (yielded ++ waiting_events w)
   -- of use to proofs alone
   pub private_state : HasPrivateState w b yielded

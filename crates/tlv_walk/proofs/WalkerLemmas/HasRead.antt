@@ -24,7 +24,7 @@ use Rattle.tlv_walk.proofs.WalkerLemmas.Waiting.{idle}
 pub read_depth : (w : WalkerState) (b : List ℕ) (f : Forest) → HasRead w b f → IsIdle w → length w.stack ≡ open_count f
 read_depth w b f (took yielded st e) none =
     state-depth w b yielded st.private_state.state st.private_state.has_state (idle w none)
-    ∙ ap open_count (reading-unique w.framing b _ st.reads.reading (state-reading w b yielded st.private_state.state st.private_state.has_state) st.reads.is_reading ∙ e)
+    ∙ ap open_count (reading-unique w.framing b _ st.has_events.reading (state-reading w b yielded st.private_state.state st.private_state.has_state) st.has_events.is_reading ∙ e)
 read_depth w b f (refused x yielded g st e) none = st.depth ∙ ap open_count e
 
 pub read_offset : (w : WalkerState) (b : List ℕ) (f : Forest) → HasRead w b f → w.offset ≡ length b

@@ -182,7 +182,7 @@ state-events w b yielded s h =
 -- a walker with a state stands for what was yielded and what was taken
 pub stands : (w : WalkerState) (b : List ℕ) (yielded : List EventValue) (s : Zipper) → HasZipper w b yielded s → can_name w.framing.inside ≡ true → w.wrapper_count ≡ wrappers_after w.framing.inside 0 (entered_offsets yielded) → Stands w b yielded
 stands w b yielded s h n k =
-    record { reads = record { reading = reading_of s; is_reading = state-reading w b yielded s h; all_events = state-events w b yielded s h }; private_state = record { state = s; has_state = h; named = n; found = k } }
+    record { has_events = record { reading = reading_of s; is_reading = state-reading w b yielded s h; all_events = state-events w b yielded s h }; private_state = record { state = s; has_state = h; named = n; found = k } }
 
 -- the state of a new walker: nothing is open, and nothing came
 abbrev pub new_state : Zipper
