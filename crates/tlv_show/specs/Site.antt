@@ -18,7 +18,7 @@ pub data Before : Type 0 where
 pub record Site : Type 0 where
   -- the offset of its first octet
   pub offset : ℕ
-  -- how many elements hold it
+  -- how far its line is indented: how many elements hold it
   pub level : ℕ
   -- the innermost of these
   pub holder : Option HeaderValue

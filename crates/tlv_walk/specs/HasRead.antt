@@ -53,7 +53,7 @@ pub record StandsRefused (w : WalkerState) (b : List ℕ) (octet : ℕ) (yielded
 -- what a walker has read: the octets that it took, and their reading. Once it refused an octet, these are the octets
 -- before that one
 pub data HasRead (w : WalkerState) (b : List ℕ) (reading : Forest) : Type 0 where
-  took : (yielded : List EventValue) (stands : Stands w b yielded) → stands.reads.reading ≡ reading
+  took : (yielded : List EventValue) (stands : Stands w b yielded) → stands.has_events.reading ≡ reading
       → HasRead w b reading
   refused : (x : ℕ) (yielded : List EventValue) (f : Fault) (stands : StandsRefused w b x yielded f)
       → stands.refused.reading ≡ reading → HasRead w b reading
@@ -67,7 +67,7 @@ pub record RefusesAt (w : WalkerState) (octets : List ℕ) (yielded : List Event
   pub taken : List ℕ
   pub octet : ℕ
   pub others : List ℕ
-  pub octets_is : taken ++ octet ∷ others ≡ octets
+  pub octets_are : taken ++ octet ∷ others ≡ octets
   pub stands : StandsRefused w taken octet yielded f
 
 -- what a walker stands for that walked over these octets to the end, and yielded these events: all of them, or those

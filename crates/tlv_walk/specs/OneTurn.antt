@@ -93,9 +93,9 @@ module _ {S : Type 0} (next : S → EventValue → Effect S) (old new : TurnStat
   pub record EndsIn (octets : List ℕ) (yielded : List EventValue) (run : Run) : Type 0 where
     pub all : List EventValue
     pub follows : FollowsMore yielded all go.On
-    pub reads : HasEvents old.walker.framing octets all
+    pub has_events : HasEvents old.walker.framing octets all
     pub ending : IsEnding old.walker.framing octets run.ending
-    pub run_is : run ≡ run_over old.walker.framing reads.reading all go.On run.ending
+    pub run_is : run ≡ run_over old.walker.framing has_events.reading all go.On run.ending
     pub walker : StandsAtEnd new.walker octets all
 
   -- the follower had enough with the last of the events that it followed, after which the octets have others; the
@@ -104,16 +104,16 @@ module _ {S : Type 0} (next : S → EventValue → Effect S) (old new : TurnStat
     pub all : List EventValue
     pub follows : FollowsMore yielded all go.Enough
     pub others : List EventValue
-    pub reads : HasEvents old.walker.framing octets (all ++ others)
+    pub has_events : HasEvents old.walker.framing octets (all ++ others)
     pub is_prefix : IsPrefixOf (flat_map event_octets all) octets
     pub stands : Stands new.walker (flat_map event_octets all) all
-    pub run_is : run ≡ run_over old.walker.framing reads.reading all go.Enough ending.Done
+    pub run_is : run ≡ run_over old.walker.framing has_events.reading all go.Enough ending.Done
 
   -- the drain failed at a prefix of what is made of all events of the octets
   pub record WriteFailsIn (octets : List ℕ) (yielded : List EventValue) : Type 0 where
     pub more : List EventValue
     pub put : SendsMade more (Err WriteFailed)
-    pub reads : HasEvents old.walker.framing octets (yielded ++ more)
+    pub has_events : HasEvents old.walker.framing octets (yielded ++ more)
 
   -- nothing was followed, and nothing was sent
   pub record ReadsNothing : Type 0 where

@@ -79,7 +79,7 @@ pub record IsHeaderAt (p : Place) (holding : Bool) (h : HeaderValue) : Type 0 wh
 -- 8.1.4: an element is there, in at most 127 others if it holds others, and n octets of it do not pass the bound
 pub record IsElementAt (p : Place) (holding : Bool) (h : HeaderValue) (n : ℕ) : Type 0 where
   pub header : IsHeaderAt p holding h
-  pub depth : holding ≡ true → p.depth < 128
+  pub shallow : holding ≡ true → p.depth < 128
   pub fits : Fits p n
 
 -- 8.1.3.3: the same of its header and all the contents octets that are announced

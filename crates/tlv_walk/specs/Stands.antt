@@ -14,15 +14,15 @@ use Rattle.tlv_walk.specs.Reading.{IsReading}
 abbrev pub filled_end : FrameValue → EventValue
 filled_end f = if f.wrapper then Leave else Close None
 
--- whether an element that ends there, if it is definite, is filled at the offset
-abbrev pub is_filled : Option ℕ → ℕ → Bool
-is_filled None offset = false
-is_filled (Some e) offset = eqb e offset
+-- whether the end of an element is at the offset; if its length is indefinite, it has none
+abbrev pub is_end_at : Option ℕ → ℕ → Bool
+is_end_at None offset = false
+is_end_at (Some e) offset = eqb e offset
 
 -- the events with which those elements end that are filled at the offset, innermost first
 abbrev pub filled_ends : ℕ → List FrameValue → List EventValue
 filled_ends offset [] = []
-filled_ends offset (f ∷ fs) = if is_filled f.end offset then filled_end f ∷ filled_ends offset fs else []
+filled_ends offset (f ∷ fs) = if is_end_at f.end offset then filled_end f ∷ filled_ends offset fs else []
 
 -- the events that need no further octet
 abbrev pub waiting_events_in : PhaseValue → List FrameValue → ℕ → List EventValue
@@ -53,6 +53,6 @@ pub record HasEvents (framing : Framing) (octets : List ℕ) (es : List EventVal
 -- what a walker stands for that refused no octet: octets, and the events yielded for them. Yielded and waiting
 -- together they are those of the reading
 pub record Stands (w : WalkerState) (b : List ℕ) (yielded : List EventValue) : Type 0 where
-  pub reads : HasEvents w.framing b (yielded ++ waiting_events w)
+  pub has_events : HasEvents w.framing b (yielded ++ waiting_events w)
   -- of use to proofs alone
   pub private_state : HasPrivateState w b yielded

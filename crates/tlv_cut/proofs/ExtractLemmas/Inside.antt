@@ -156,7 +156,7 @@ module _ (n : ℕ) (only : Bool) where
       (append_assoc (octets_of h) c (octets_so_far rest)) refl (passed_on (place_after p _) level rest v.1 low deep)
   passed_on p level (Holder h inside rest) v low deep =
       let i : IsPassedOn (suc level) inside =
-      passed_on (place_of_children p h) (suc level) inside v.1 (omega (arith, low)) (omega (arith, (v.0.0.depth refl))) in
+      passed_on (place_of_children p h) (suc level) inside v.1 (omega (arith, low)) (omega (arith, (v.0.0.shallow refl))) in
       passed_on_after level (opening_events h ++ (events inside ++ closing_event h inside ∷ []))
       (opening h ++ (octets_so_far inside ++ end_octets h.size)) (Holder h inside rest) rest
       (holder_passed_on level h inside (omega (arith, low, deep)) v.0.0.header.valid.allowed v.0.1 i)
@@ -177,7 +177,7 @@ module _ (n : ℕ) (only : Bool) where
       }
   passed_on p level (OpenHolder h inside) v low deep =
       let i : IsPassedOn (suc level) inside =
-      passed_on (place_of_children p h) (suc level) inside v.1 (omega (arith, low)) (omega (arith, (v.0.0.depth refl))) in
+      passed_on (place_of_children p h) (suc level) inside v.1 (omega (arith, low)) (omega (arith, (v.0.0.shallow refl))) in
       let all = then_more (state_inside level) (state_inside (suc level)) (opening h) (opening_events h) (events inside)
       (made_from-opens (state_inside level) (state_inside (suc level)) (octets_of h) h
       (one_more level h (omega (arith, low, deep)))) in

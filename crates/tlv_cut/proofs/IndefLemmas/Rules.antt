@@ -171,7 +171,7 @@ is_open p q (Primitive h c rest) k v =
       (
         record {
           header = primitive_at p q h k v.0.0.header;
-          depth = λ e. absurd
+          shallow = λ e. absurd
               (cc (e));
           fits = free_fits p q k n;
         },
@@ -187,7 +187,7 @@ is_open p q (Holder h inside rest) k v =
       (
         record {
           header = constructed_header p q h k v.0.0.header;
-          depth = λ _. subst (λ (d : ℕ). d < 128) (sym k.depth) (v.0.0.depth refl);
+          shallow = λ _. subst (λ (d : ℕ). d < 128) (sym k.depth) (v.0.0.shallow refl);
           fits = free_fits p q k (extent header (with_offsets_from offset (with_indefinite_lengths inside)));
         },
         whole offset inside v.0.1,
@@ -200,7 +200,7 @@ is_open p q (Holder h inside rest) k v =
 is_open p q (OpenPrimitive h c) k v = (
   record {
     header = primitive_at p q h k v.0.header;
-    depth = λ e. absurd (cc (e));
+    shallow = λ e. absurd (cc (e));
     fits = free_fits p q k
         (length (octets_of h) + announced_length h.size);
   },
@@ -212,7 +212,7 @@ is_open p q (OpenHolder h inside) k v =
       (
         record {
           header = constructed_header p q h k v.0.0.header;
-          depth = λ _. subst (λ (d : ℕ). d < 128) (sym k.depth) (v.0.0.depth refl);
+          shallow = λ _. subst (λ (d : ℕ). d < 128) (sym k.depth) (v.0.0.shallow refl);
           fits = free_fits p q k (length (octets_of header) + 0);
         },
         λ w. tt,

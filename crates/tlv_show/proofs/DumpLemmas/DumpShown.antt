@@ -203,7 +203,7 @@ module _ (style : Layout) (names : NamesTable) (rules : Rules) where
       let r = held-shown a in (
         after_end rules h inside r.0,
         then_shown (start p (is_padding before) w outer n) (start i_place false (frame_under w h) (w ∷ outer) a) (first ++ line) (opening_events h) (events inside ++ closing_event h inside ∷ [])
-            (opened-shown p holder before w outer n h k v.0.0.header.offset (v.0.0.depth refl) (omega (arith, b, size)))
+            (opened-shown p holder before w outer n h k v.0.0.header.offset (v.0.0.shallow refl) (omega (arith, b, size)))
             ∙ ap (λ (x : Effect DumpState). record x { put = (first ++ line) ++ x.put })
             (then_shown (start i_place false (frame_under w h) (w ∷ outer) a) (pair (lines_between style names (p.depth + 1) end false) (check_between rules (noted_all (frame_under w h) inside) (w ∷ outer) r.0)) held (events inside) (closing_event h inside ∷ []) r.1
             ∙ ap (λ (x : Effect DumpState). record x { put = held ++ x.put }) (closes-shown r.0)),
@@ -255,7 +255,7 @@ module _ (style : Layout) (names : NamesTable) (rules : Rules) where
         text = λ n.
             ap (λ (x : Effect DumpState). x.put)
             (then_shown (start p (is_padding before) w outer n) (start (place_of_children p h) false (frame_under w h) (w ∷ outer) (later_header rules w h n)) (first ++ line) (opening_events h) (events inside)
-            (opened-shown p holder before w outer n h k v.0.0.header.offset (v.0.0.depth refl) (omega (arith, b, size))))
+            (opened-shown p holder before w outer n h k v.0.0.header.offset (v.0.0.shallow refl) (omega (arith, b, size))))
             ∙ ap (λ (l : List ℕ). (first ++ line) ++ l) (i.text (later_header rules w h n))
             ∙ append_assoc first line (texts_of (items rules (site_of_children s h) inside))
             ∙ found-first (length outer) p.depth h.offset (header_findings rules (surroundings_in w) h) (header_findings rules (surroundings_of s) h) _ (OpeningLine p.depth h ∷ items rules (site_of_children s h) inside) k.1 (header-same rules w s h k.0) refl;

@@ -229,7 +229,7 @@ module _ (rules : Rules) where
       let i = finds_forest (place_of_children p h) (site_of_children s h) (frame_under w h) (w ∷ outer) inside v.1 (knows-inside w s h) (omega (arith, l)) (omega (arith, d)) (λ e. absurd (cc (e))) in
       let r = finds_forest (place_after p (extent h inside)) (site_after_holder s h inside) (frame_after w (is_primitive h) (announced_length h.size) false) outer rest v.2
       (knows-after w s (site_after_holder s h inside) h None false k refl refl refl) l d free in
-      let few : length outer < 128 = omega (arith, l, d, (v.0.0.depth refl)) in
+      let few : length outer < 128 = omega (arith, l, d, (v.0.0.shallow refl)) in
       let es : List EventValue = closing_event h inside ∷ events rest in
       let all : (n : ℕ) → (m : ℕ) × (run (check_between w outer n) (events (Holder h inside rest))
       ≡ then_found (findings_at (length outer) h.offset (header_findings rules (surroundings_in w) h)) (then_found (only (items rules (site_of_children s h) inside))
@@ -265,7 +265,7 @@ module _ (rules : Rules) where
   }
   finds_forest p s w outer (OpenHolder h inside) v k l d free =
       let i = finds_forest (place_of_children p h) (site_of_children s h) (frame_under w h) (w ∷ outer) inside v.1 (knows-inside w s h) (omega (arith, l)) (omega (arith, d)) (λ e. absurd (cc (e))) in
-      let few : length outer < 128 = omega (arith, l, d, v.0.0.depth refl) in
+      let few : length outer < 128 = omega (arith, l, d, v.0.0.shallow refl) in
       record {
         put = λ n.
             ap (λ (t : Step). t.put) (opened w outer n h (events inside) few)

@@ -13,7 +13,7 @@ use Rattle.tlv_walk.specs.Inside.{can_name, is_among}
 use Rattle.tlv_walk.specs.WalkerState.{WalkerState, first_without_wrapper_in}
 use Rattle.tlv_walk.specs.Private.WrapperCount.{next_wrapper, wrappers_after}
 use Rattle.tlv_walk.specs.Place.{IsOpen, top_place}
-use Rattle.tlv_walk.specs.Stands.{Stands, filled_ends, is_filled, waiting_events, waiting_events_in}
+use Rattle.tlv_walk.specs.Stands.{Stands, filled_ends, is_end_at, waiting_events, waiting_events_in}
 use Rattle.tlv_walk.specs.Wrappers.{first_other, first_without_wrapper, entered_offsets, wrapper_offsets}
 use Rattle.tlv_walk.proofs.EventLemmas.Joined.{apart-from_joined}
 use Rattle.tlv_walk.proofs.EventLemmas.Named.{AreRising, can-to}
@@ -85,7 +85,7 @@ first-found (n ∷ ns) (offset ∷ offsets) least low end r q = elim (cases_eq n
 -- the events that wait enter no wrapper
 ends_enter_none : (offset : ℕ) (fs : List FrameValue) → entered_offsets (filled_ends offset fs) ≡ []
 ends_enter_none offset [] = refl
-ends_enter_none offset (f ∷ fs) = elim (cases_Bool (is_filled f.end offset)) [
+ends_enter_none offset (f ∷ fs) = elim (cases_Bool (is_end_at f.end offset)) [
   | inl e ↦ elim (cases_Bool f.wrapper) [
     | inl k ↦ rw (e, k) (ends_enter_none offset fs)
     | inr k ↦ rw (e, k) (ends_enter_none offset fs)
@@ -121,12 +121,12 @@ yielded_unused framing yielded waits f named v none e =
     ap (λ (offsets : List ℕ). slice_get framing.inside (wrappers_after framing.inside 0 offsets)) same
     ∙ first-found framing.inside (wrapper_offsets f) 0 (top_place framing).offset _ (can-to framing.inside named).1 (wrapper_offsets-rise (top_place framing) f v)
 
-pub stands_unused : (w : WalkerState) (b : List ℕ) (yielded : List EventValue) → (st : Stands w b yielded) → first_without_wrapper_in w ≡ first_without_wrapper w.framing.inside st.reads.reading
+pub stands_unused : (w : WalkerState) (b : List ℕ) (yielded : List EventValue) → (st : Stands w b yielded) → first_without_wrapper_in w ≡ first_without_wrapper w.framing.inside st.has_events.reading
 stands_unused w b yielded st =
-    ap (slice_get w.framing.inside) st.private_state.found ∙ yielded_unused w.framing yielded (waiting_events w) st.reads.reading st.private_state.named st.reads.is_reading.is_open (waits_enter_none w.phase w.stack w.offset) st.reads.all_events
+    ap (slice_get w.framing.inside) st.private_state.found ∙ yielded_unused w.framing yielded (waiting_events w) st.has_events.reading st.private_state.named st.has_events.is_reading.is_open (waits_enter_none w.phase w.stack w.offset) st.has_events.all_events
 
 -- it is the first that no event yielded entered
 pub stands-entered : (w : WalkerState) (b : List ℕ) (yielded : List EventValue) → Stands w b yielded → first_without_wrapper_in w ≡ first_other w.framing.inside (entered_offsets yielded)
 stands-entered w b yielded st =
     stands_unused w b yielded st
-    ∙ ap (first_other w.framing.inside) (sym (yielded_wrappers w.framing yielded (waiting_events w) st.reads.reading st.reads.is_reading.is_open (waits_enter_none w.phase w.stack w.offset) st.reads.all_events))
+    ∙ ap (first_other w.framing.inside) (sym (yielded_wrappers w.framing yielded (waiting_events w) st.has_events.reading st.has_events.is_reading.is_open (waits_enter_none w.phase w.stack w.offset) st.has_events.all_events))

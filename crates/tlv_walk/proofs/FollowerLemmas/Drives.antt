@@ -89,19 +89,19 @@ module _ {S : Type 0} (next : S → EventValue → Effect S)
     abbrev b : List ℕ
     b = concat x.gathered.pieces
 
-    first_reading : IsReading framing b x.stands.reads.reading
-    first_reading = subst (λ (g : Framing). IsReading g b x.stands.reads.reading) x.same x.stands.reads.is_reading
+    first_reading : IsReading framing b x.stands.has_events.reading
+    first_reading = subst (λ (g : Framing). IsReading g b x.stands.has_events.reading) x.same x.stands.has_events.is_reading
 
-    first_made : MadeAll s now.follower x.stands.reads.reading go.On (effect_of next s x.yielded).put
+    first_made : MadeAll s now.follower x.stands.has_events.reading go.On (effect_of next s x.yielded).put
     first_made =
-        made_all s now.follower x.yielded x.stands.reads.reading go.On x.made (stands_yielded now.walker b x.yielded x.stands.reads.reading x.stands x.idle x.stands.reads.is_reading)
+        made_all s now.follower x.yielded x.stands.has_events.reading go.On x.made (stands_yielded now.walker b x.yielded x.stands.has_events.reading x.stands x.idle x.stands.has_events.is_reading)
 
-    first_spelled : spelling x.stands.reads.reading ≡ b
-    first_spelled = stands_spelled now.walker b x.yielded x.stands.reads.reading x.stands x.stands.reads.is_reading
+    first_spelled : spelling x.stands.has_events.reading ≡ b
+    first_spelled = stands_spelled now.walker b x.yielded x.stands.has_events.reading x.stands x.stands.has_events.is_reading
 
     -- the octets so far hold neither a fault nor enough
     first_wants : WantMore (drive_job next framing limit s) b
-    first_wants = (x.stands.reads.reading, first_reading, first_spelled, ap had_enough first_made.goes_so)
+    first_wants = (x.stands.has_events.reading, first_reading, first_spelled, ap had_enough first_made.goes_so)
 
     module _ (new : TurnStates S) (piece : List ℕ) (result : Result Turn DeviceFault) (read : FollowsOneRead next now new limit piece result)
         (room : length piece ≡ 4096) (below : now.walker.offset ≤ limit) where
@@ -197,10 +197,10 @@ module _ {S : Type 0} (next : S → EventValue → Effect S)
       ends_without run is y ended =
           let g : LastReadGaveUpTo (length piece) new.devices.source.last = gave_so (Ok (Ended run)) is in
           let es : List EventValue = y.all in
-          let f : Forest = y.reads.reading in
-          let is_reading : IsReading framing walked f = subst (λ (k : Framing). IsReading k walked f) x.same y.reads.is_reading in
+          let f : Forest = y.has_events.reading in
+          let is_reading : IsReading framing walked f = subst (λ (k : Framing). IsReading k walked f) x.same y.has_events.is_reading in
           let made : FollowsEvents next s new.follower es go.On = followed es go.On y.follows in
-          let k : MadeAll s new.follower f go.On (effect_of next s es).put = made_all s new.follower es f go.On made y.reads.all_events in
+          let k : MadeAll s new.follower f go.On (effect_of next s es).put = made_all s new.follower es f go.On made y.has_events.all_events in
           let answer : run ≡ run_over framing f (followed_events next s (events f)) (effect_of next s (events f)).goes run.ending =
           y.run_is ∙ ap (λ (k : Framing). run_over k f es go.On run.ending) x.same
           ∙ ap (λ (g : Go). run_over framing f (followed_events next s (events f)) g run.ending) (sym k.goes_so) in
@@ -222,9 +222,9 @@ module _ {S : Type 0} (next : S → EventValue → Effect S)
       ends_with run is y =
           let g : LastReadGaveUpTo (length piece) new.devices.source.last = gave_so (Ok (Ended run)) is in
           let es : List EventValue = y.all in
-          let f : Forest = y.reads.reading in
-          let is_reading : IsReading framing walked f = subst (λ (k : Framing). IsReading k walked f) x.same y.reads.is_reading in
-          let others : (others : List EventValue) × AreEqualJoined (es ++ others) (events f) = (y.others, y.reads.all_events) in
+          let f : Forest = y.has_events.reading in
+          let is_reading : IsReading framing walked f = subst (λ (k : Framing). IsReading k walked f) x.same y.has_events.is_reading in
+          let others : (others : List EventValue) × AreEqualJoined (es ++ others) (events f) = (y.others, y.has_events.all_events) in
           let made : FollowsEvents next s new.follower es go.Enough = followed es go.Enough y.follows in
           let k : MadeAll s new.follower f go.Enough (effect_of next s es).put = made_enough s new.follower es others.0 f made others.1 in
           let ending_is : run.ending ≡ Done = ap (λ (k : Run). k.ending) y.run_is in
@@ -256,7 +256,7 @@ module _ {S : Type 0} (next : S → EventValue → Effect S)
           let y = turned (Err ReadFailed) is in
           let last : new.devices.source.last ≡ failed = gave_so (Err ReadFailed) is in
           let none : r ≡ [] = ap (λ (l : LastReadValue). last_octets l piece) last in
-          let f : Forest = x.stands.reads.reading in
+          let f : Forest = x.stands.has_events.reading in
           let all : b ≡ walked = sym (ap (λ (o : List ℕ). take limit (b ++ o)) none ∙ ap (λ (o : List ℕ). take limit o) (append-nil b) ∙ take_all limit b within) in
           let k : MadeAll s new.follower f go.On (effect_of next s x.yielded).put = record { state = y.same.follower ∙ first_made.state; goes_so = first_made.goes_so; text_is = first_made.text_is } in
           let put : Sends from new.devices.drain (effect_of next s x.yielded).put (Ok tt) =
@@ -270,16 +270,16 @@ module _ {S : Type 0} (next : S → EventValue → Effect S)
       drives_write_failed is =
           let y = turned (Err WriteFailed) is in
           let g : LastReadGaveUpTo (length piece) new.devices.source.last = gave_so (Err WriteFailed) is in
-          let f : Forest = y.reads.reading in
+          let f : Forest = y.has_events.reading in
           let es : List EventValue = x.yielded ++ y.more in
-          let same : effect_of next s es ≡ effect_of next s (events f) = alike s es (events f) y.reads.all_events in record {
+          let same : effect_of next s es ≡ effect_of next s (events f) = alike s es (events f) y.has_events.all_events in record {
             runs = record {
               pieces = pieces_all old now.devices.source new.devices.source x.gathered r read.calls.octets read.calls.reads (gave_last new.devices.source.last piece g) few;
               failures = failed_so (Err WriteFailed) is;
               wants_more = first_wants;
               within = within;
               reading = f;
-              is_reading = subst (λ (k : Framing). IsReading k walked f) x.same y.reads.is_reading;
+              is_reading = subst (λ (k : Framing). IsReading k walked f) x.same y.has_events.is_reading;
               sends = subst (λ (l : List ℕ). Sends {T = ⊤} {E = DeviceFault} from new.devices.drain l (Err WriteFailed)) (ap (λ (k : Effect S). k.put) same) (sent y.more (Err WriteFailed) y.put);
               comes = write_failed;
             };
@@ -293,12 +293,12 @@ module _ {S : Type 0} (next : S → EventValue → Effect S)
           let g : LastReadGaveUpTo (length piece) new.devices.source.last = gave_so (Err InputTooLong) is in
           let z = y.stands in
           let es : List EventValue = z.all in
-          let f : Forest = z.stands.reads.reading in
-          let is_reading : IsReading framing walked f = subst (λ (k : Framing). IsReading k walked f) (z.follows.framing ∙ x.same) z.stands.reads.is_reading in
+          let f : Forest = z.stands.has_events.reading in
+          let is_reading : IsReading framing walked f = subst (λ (k : Framing). IsReading k walked f) (z.follows.framing ∙ x.same) z.stands.has_events.is_reading in
           let k : MadeAll s new.follower f go.On (effect_of next s es).put =
-          made_all s new.follower es f go.On (followed es go.On z.follows) (stands_yielded new.walker walked es f z.stands z.idle z.stands.reads.is_reading) in
+          made_all s new.follower es f go.On (followed es go.On z.follows) (stands_yielded new.walker walked es f z.stands z.idle z.stands.has_events.is_reading) in
           let wants : WantMore (drive_job next framing limit s) walked =
-          (f, is_reading, stands_spelled new.walker walked es f z.stands z.stands.reads.is_reading, is_enough_so f go.On (effect_of next s es).put k) in record {
+          (f, is_reading, stands_spelled new.walker walked es f z.stands z.stands.has_events.is_reading, is_enough_so f go.On (effect_of next s es).put k) in record {
             runs = runs_by (Err InputTooLong) f (gave_last new.devices.source.last piece g) is_reading es go.On k (ap source_result (sym is)) (sent_all es go.On z.follows) (too_long y.beyond wants);
             state = k.state;
           }

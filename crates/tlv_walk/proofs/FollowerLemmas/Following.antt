@@ -72,12 +72,12 @@ yielded_prefix w v b piece rest yielded more f walked st r =
     let all : b ++ piece ≡ (b ++ walked.taken) ++ rest = ap (λ (o : List ℕ). b ++ o) walked.piece_is ∙ sym (append_assoc b walked.taken rest) in
     let r' : IsReading v.framing ((b ++ walked.taken) ++ rest) f =
     subst (λ (g : Framing). IsReading g ((b ++ walked.taken) ++ rest) f) (sym walked.framing) (subst (λ (o : List ℕ). IsReading w.framing o f) all r) in
-    let goes : (es : List EventValue) × AreEqualJoined (events f) (events there.reads.reading ++ es) = events-prefix v.framing (b ++ walked.taken) rest there.reads.reading f there.reads.is_reading r' in (
+    let goes : (es : List EventValue) × AreEqualJoined (events f) (events there.has_events.reading ++ es) = events-prefix v.framing (b ++ walked.taken) rest there.has_events.reading f there.has_events.is_reading r' in (
       waiting_events v ++ goes.0,
       joined-from_apart (yielded ++ (more ++ (waiting_events v ++ goes.0))) (events f)
           (ap single_octets (sym (append_assoc yielded more (waiting_events v ++ goes.0)) ∙ sym (append_assoc (yielded ++ more) (waiting_events v) goes.0))
-          ∙ apart-before ((yielded ++ more) ++ waiting_events v) (events there.reads.reading) goes.0 (apart-from_joined ((yielded ++ more) ++ waiting_events v) (events there.reads.reading) there.reads.all_events)
-          ∙ sym (apart-from_joined (events f) (events there.reads.reading ++ goes.0) goes.1)),
+          ∙ apart-before ((yielded ++ more) ++ waiting_events v) (events there.has_events.reading) goes.0 (apart-from_joined ((yielded ++ more) ++ waiting_events v) (events there.has_events.reading) there.has_events.all_events)
+          ∙ sym (apart-from_joined (events f) (events there.has_events.reading ++ goes.0) goes.1)),
     )
 
 pub walked_goes_on : (w v : WalkerState) (piece rest : List ℕ) (more : List EventValue) → WalksOver w v piece rest more → (b : List ℕ) (yielded : List EventValue) → Stands w b yielded → GoesOnIn w.framing (b ++ piece) (yielded ++ more)

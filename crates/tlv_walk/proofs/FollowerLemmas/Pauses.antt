@@ -38,9 +38,9 @@ stands_spelled v b yielded f st r =
 -- if nothing waits, all events of the reading were yielded
 pub stands_yielded : (v : WalkerState) (b : List ℕ) (yielded : List EventValue) (f : Forest) → Stands v b yielded → waiting_events v ≡ [] → IsReading v.framing b f → AreEqualJoined yielded (events f)
 stands_yielded v b yielded f st idle r =
-    let all : AreEqualJoined (yielded ++ waiting_events v) (events st.reads.reading) = st.reads.all_events in
+    let all : AreEqualJoined (yielded ++ waiting_events v) (events st.has_events.reading) = st.has_events.all_events in
     subst (λ (es : List EventValue). AreEqualJoined es (events f)) (ap (λ (es : List EventValue). yielded ++ es) idle ∙ append-nil yielded)
-    (subst (λ (g : Forest). AreEqualJoined (yielded ++ waiting_events v) (events g)) (reading-unique v.framing b st.reads.reading f st.reads.is_reading r) all)
+    (subst (λ (g : Forest). AreEqualJoined (yielded ++ waiting_events v) (events g)) (reading-unique v.framing b st.has_events.reading f st.has_events.is_reading r) all)
 
 -- ---- an octet that is refused
 

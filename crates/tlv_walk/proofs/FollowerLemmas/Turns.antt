@@ -87,7 +87,7 @@ module _ {S D : Type 0} (next : S → EventValue → Effect S) (old new : TurnSt
         all = yielded ++ more;
         follows = record { more = more; all_is = refl; made = k.follows.made; put = put; framing = walked.framing };
         others = further.0;
-        reads = record { reading = f; is_reading = read; all_events = further.1 };
+        has_events = record { reading = f; is_reading = read; all_events = further.1 };
         is_prefix = (k.rest, ap (λ (o : List ℕ). o ++ k.rest) front ∙ append_assoc b walked.taken k.rest ∙ ap (λ (o : List ℕ). b ++ o) (sym walked.piece_is));
         stands = subst (λ (o : List ℕ). Stands v o (yielded ++ more)) (sym front) there;
         run_is =
@@ -103,12 +103,12 @@ module _ {S D : Type 0} (next : S → EventValue → Effect S) (old new : TurnSt
       let r = walked_refused w v b piece yielded more e k in record {
         all = yielded ++ more;
         follows = record { more = more; all_is = refl; made = to_fault.made; put = put; framing = k.framing };
-        reads = record { reading = r.0.reading; is_reading = fault_is_reading w v b piece yielded more e k; all_events = r.0.all_events };
+        has_events = record { reading = r.0.reading; is_reading = fault_is_reading w v b piece yielded more e k; all_events = r.0.all_events };
         ending = subst (λ (g : Ending). IsEnding w.framing (b ++ piece) g) (sym is.ending) (subst (λ (o : List ℕ). IsEnding w.framing o (ending.Fault e)) (fault_octets w v b piece yielded more e k) (r.0.ends k.others));
         run_is =
             run_is run run.ending (length (spelling r.0.reading)) false (first_without_wrapper w.framing.inside r.0.reading) refl
             (is.octets ∙ k.stands.offset ∙ ap length (sym r.0.spelled)) is.enough (is.unused ∙ r.1);
-        walker = refused_one e (record { taken = b ++ k.taken; octet = k.octet; others = k.others; octets_is = fault_octets w v b piece yielded more e k; stands = k.stands });
+        walker = refused_one e (record { taken = b ++ k.taken; octet = k.octet; others = k.others; octets_are = fault_octets w v b piece yielded more e k; stands = k.stands });
       }
 
 -- the input has ended
@@ -119,11 +119,11 @@ used_up_ends next old new o yielded run e x is ends =
     let v : WalkerState = new.walker in
     let all : List EventValue = x.all in
     let same : v.framing ≡ w.framing = x.follows.framing in
-    let f : Forest = x.stands.reads.reading in
-    let r : IsReading v.framing o f = x.stands.reads.is_reading in record {
+    let f : Forest = x.stands.has_events.reading in
+    let r : IsReading v.framing o f = x.stands.has_events.is_reading in record {
       all = x.all;
       follows = x.follows;
-      reads = record { reading = f; is_reading = subst (λ (g : Framing). IsReading g o f) same r; all_events = stands_yielded v o all f x.stands x.idle r };
+      has_events = record { reading = f; is_reading = subst (λ (g : Framing). IsReading g o f) same r; all_events = stands_yielded v o all f x.stands x.idle r };
       ending = subst (λ (k : Ending). IsEnding w.framing o k) (sym is.ending) (subst (λ (g : Framing). IsEnding g o e) same ends);
       run_is =
           run_is run run.ending (length (spelling f)) false (first_without_wrapper w.framing.inside f) refl
@@ -169,7 +169,7 @@ module _ {S D : Type 0} (next : S → EventValue → Effect S) (old new : TurnSt
   -- the reading of these
   read : (f : Forest) × IsReading old.walker.framing (b ++ piece) f
   read =
-      reading-longer old.walker.framing st.reads.reading b piece octets st.reads.is_reading (stands_spelled old.walker b yielded st.reads.reading st st.reads.is_reading)
+      reading-longer old.walker.framing st.has_events.reading b piece octets st.has_events.is_reading (stands_spelled old.walker b yielded st.has_events.reading st st.has_events.is_reading)
 
   -- all octets are within the limit
   all_within : (m < n → ⊥) → piece ≡ r
@@ -254,7 +254,7 @@ module _ {S D : Type 0} (next : S → EventValue → Effect S) (old new : TurnSt
           put =
               sends_err old.devices.drain new.devices.drain (effect_of next old.follower x.more).put (effect_of next old.follower (x.more ++ o.0)).put e WriteFailed (handed (Err e) x)
               (record { rest = front.0; is = sym front.1 });
-          reads = record {
+          has_events = record {
             reading = read.0;
             is_reading = subst (λ (o : List ℕ). IsReading old.walker.framing o read.0) reached read.1;
             all_events = subst (λ (es : List EventValue). AreEqualJoined es (events read.0)) (append_assoc yielded x.more o.0) o.1;

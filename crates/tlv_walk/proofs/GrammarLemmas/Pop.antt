@@ -28,7 +28,7 @@ contents-popped : (p : Place) (h : HeaderValue) (c : List ℕ) (x n : ℕ) (g : 
 contents-popped p h c x n g header e less f same spelled = record {
   from = OpenPrimitive h c;
   last = x;
-  is_open = (record { header = header; depth = λ e. absurd (cc (e)); fits = rw (ap announced_length e) f }, omega (arith, less, ap announced_length e));
+  is_open = (record { header = header; shallow = λ e. absurd (cc (e)); fits = rw (ap announced_length e) f }, omega (arith, less, ap announced_length e));
   spelled = spelled ∙ sym (append_assoc (octets_of h) c (x ∷ []));
   pushed = ap Grown same;
 }
@@ -145,7 +145,7 @@ endless-popped p h inside i w v =
       from = OpenHolder h (with_first_end_octet inside);
       last = 0;
       is_open = (
-        (record { header = w.0.header; depth = w.0.depth; fits = within-le p.bound _ _ (omega (arith, e.none, length-opening h)) w.0.fits }, λ _. e.lacks _),
+        (record { header = w.0.header; shallow = w.0.shallow; fits = within-le p.bound _ _ (omega (arith, e.none, length-opening h)) w.0.fits }, λ _. e.lacks _),
         r.is_open,
       );
       spelled = ap (λ (t : List ℕ). opening h ++ (spelling inside ++ (t ++ []))) e.ends
@@ -160,7 +160,7 @@ definite-popped p h inside i w v below =
     let test : has_length h.size (contents_length h inside) ≡ true = definite-length h.size _ i w.2 in
     let full : IsFull h.size (contents_length h inside) = length-full h.size _ test in
     let none : length (end_octets h.size) ≡ 0 = ap length full.ends in
-    let entry : IsEntry p true h = record { header = w.0.header; depth = w.0.depth; fits = within-le p.bound _ _ (omega (arith, full.all, length-opening h)) w.0.fits } in
+    let entry : IsEntry p true h = record { header = w.0.header; shallow = w.0.shallow; fits = within-le p.bound _ _ (omega (arith, full.all, length-opening h)) w.0.fits } in
     let filled : is_filled_by h inside ≡ true = and_from _ _ w.1 test in
     settled p h inside (Holder h inside NoMore) entry v below (rw filled)
     (ap (λ (t : List ℕ). opening h ++ (spelling inside ++ (t ++ []))) full.ends ∙ ap (λ (t : List ℕ). opening h ++ t) (append-nil (spelling inside)))

@@ -109,7 +109,7 @@ header-popped p h k header d f = elim (back (octets_of h)) [
 -- an element that holds none yet is popped by the last octet of its header
 pub holder_begun-popped : (p : Place) (h : HeaderValue) (l : List ℕ) → lead h ≡ l → IsEntry p true h → Popped p (holder_begun h l)
 holder_begun-popped p h l e entry =
-    let r : Popped p (holder_begun h (lead h)) = header-popped p h true entry.header (lt-leb 128 p.depth (entry.depth refl)) entry.fits in
+    let r : Popped p (holder_begun h (lead h)) = header-popped p h true entry.header (lt-leb 128 p.depth (entry.shallow refl)) entry.fits in
     rw (ap (holder_begun h) e) at r
 
 -- an element that holds none yet

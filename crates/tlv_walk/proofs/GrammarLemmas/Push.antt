@@ -62,11 +62,11 @@ primitive_so_far-sound p h c n header e most f =
     let all : announced_length h.size ≡ n = ap announced_length e in
     elim (cases_eq (length c) n) [
       | inl full ↦ rw (eq-eqb (length c) (announced_length h.size) (full ∙ sym all)) (record {
-        is_open = ((record { header = header; depth = λ e. absurd (cc (e)); fits = rw full f }, e ∙ ap Definite (sym full)), tt);
+        is_open = ((record { header = header; shallow = λ e. absurd (cc (e)); fits = rw full f }, e ∙ ap Definite (sym full)), tt);
         spelled = ap (λ (t : List ℕ). octets_of h ++ t) (append-nil c);
       })
       | inr less ↦ rw (ne_eqb (length c) (announced_length h.size) (λ z. less (z ∙ all))) (record {
-        is_open = (record { header = header; depth = λ e. absurd (cc (e)); fits = within-le p.bound _ _ (omega arith) f }, omega arith);
+        is_open = (record { header = header; shallow = λ e. absurd (cc (e)); fits = within-le p.bound _ _ (omega arith) f }, omega arith);
         spelled = refl;
       })
     ]
@@ -79,7 +79,7 @@ holder-sound p h g entry w whole full =
     record {
       is_open = (
         (
-          record { header = entry.header; depth = entry.depth; fits = within-le p.bound _ _ (omega (arith, full.all, length-opening h)) entry.fits },
+          record { header = entry.header; shallow = entry.shallow; fits = within-le p.bound _ _ (omega (arith, full.all, length-opening h)) entry.fits },
           whole,
           full.filled,
         ),
@@ -117,7 +117,7 @@ holder_begun-sound p h (x ∷ xs) e entry = record { is_open = (entry, lead-zero
 -- a header where one may be is an open forest
 pub element_begun-sound : (p : Place) (h : HeaderValue) (k : Bool) → IsHeaderAt p k h → (k && leb 128 p.depth) ≡ false → Fits p (length (octets_of h) + announced_length h.size)
     → Spells p (octets_of h) (element_begun k h)
-element_begun-sound p h true header d f = holder_begun-sound p h (lead h) refl (record { header = header; depth = λ _. leb-false 128 p.depth d; fits = f })
+element_begun-sound p h true header d f = holder_begun-sound p h (lead h) refl (record { header = header; shallow = λ _. leb-false 128 p.depth d; fits = f })
 element_begun-sound p h false header d f =
     let n : (n : ℕ) × (h.size ≡ Definite n) = size-definite h header.valid header.form in
     let f' : Fits p (length (octets_of h) + n.0) = rw (ap announced_length n.1) at f in
@@ -251,7 +251,7 @@ open_holder-step p h o (Ended g) entry r =
     record {
       is_open = (
         (
-          record { header = entry.header; depth = entry.depth; fits = within-le p.bound _ _ (omega arith) (rw e.bound at r.fits) },
+          record { header = entry.header; shallow = entry.shallow; fits = within-le p.bound _ _ (omega arith) (rw e.bound at r.fits) },
           r.whole,
           e.filled,
         ),

@@ -9,7 +9,7 @@ use Rattle.tlv_walk.specs.Forest.{Forest, Holder, NoMore, contents_length, is_wh
 use Rattle.tlv_walk.specs.Place.{Fits, IsOpen, Place, bound_in, place_after, place_of_children, top_place}
 use Rattle.tlv_walk.specs.Stack.{IsFilled}
 use Rattle.tlv_walk.specs.Private.Zipper.{AreLayers, AreWhole, Layer, frames_of, place_in, spelling_of_layers}
-use Rattle.tlv_walk.specs.Stands.{is_filled}
+use Rattle.tlv_walk.specs.Stands.{is_end_at}
 use Rattle.tlv_walk.proofs.GrammarLemmas.Bounds.{IsFull, fits-inside, has_length, length-full}
 use Rattle.tlv_walk.proofs.GrammarLemmas.PushSteps.{Spells, is_filled_by}
 use Rattle.tlv_walk.proofs.GrammarLemmas.Push.{holder-sound, reaches, unfilled-lacks}
@@ -68,7 +68,7 @@ settled-spells w (l ∷ ls) f a i = elim (cases_Bool (is_filled_by l.header f)) 
 ]
 
 -- an element ends at an offset by its frame if it has all its contents octets by its length
-end-length : (s : Size) (start m n : ℕ) → start + m ≡ n → is_filled (bound_in s start None) n ≡ has_length s m
+end-length : (s : Size) (start m n : ℕ) → start + m ≡ n → is_end_at (bound_in s start None) n ≡ has_length s m
 end-length (Definite k) start m n e = elim (cases_Bool (eqb m k)) [
   | inl same ↦ let there : m ≡ k = eqb-true m k same in rw (same, eq-eqb (start + k) n (omega arith))
   | inr other ↦ let apart : m ≡ k → ⊥ = eqb-false m k other in rw (other, ne_eqb (start + k) n (λ z. apart (omega arith)))
@@ -77,13 +77,13 @@ end-length Indefinite start m n e = refl
 
 -- so the frame of the innermost open element says whether that is filled
 pub end-filled : (w : Framing) (l : Layer) (ls : List Layer) (f : Forest) → is_whole f ≡ true
-    → is_filled (bound_in l.header.size (((place_in w ls).offset + length (spelling l.before)) + length (octets_of l.header)) None) (end_in w (l ∷ ls) f) ≡ is_filled_by l.header f
+    → is_end_at (bound_in l.header.size (((place_in w ls).offset + length (spelling l.before)) + length (octets_of l.header)) None) (end_in w (l ∷ ls) f) ≡ is_filled_by l.header f
 end-filled w l ls f whole =
     end-length l.header.size (((place_in w ls).offset + length (spelling l.before)) + length (octets_of l.header)) (contents_length l.header f) (end_in w (l ∷ ls) f) (omega (arith, length-opening l.header))
     ∙ ap (λ (k : Bool). k && has_length l.header.size (contents_length l.header f)) (sym whole)
 
 -- a frame that ends there says so
-end-there : (end : Option ℕ) (offset : ℕ) → is_filled end offset ≡ true → end ≡ Some offset
+end-there : (end : Option ℕ) (offset : ℕ) → is_end_at end offset ≡ true → end ≡ Some offset
 end-there None offset e = absurd (cc)
 end-there (Some n) offset e = ap Some (eqb-true n offset e)
 

@@ -50,7 +50,7 @@ closed_whole : (w : WalkerState) (l : Layer) (ls : List Layer) (here : Forest) â
     â†’ AreWhole (place_in w.framing ls) (closed_here l here)
 closed_whole w l ls here earlier entry inside filled fits = record {
   is_open = open-followed_by (place_in w.framing ls) l.before (Holder l.header here NoMore) earlier
-      ((record { header = entry.header; depth = entry.depth; fits = fits }, inside.whole, filled), inside.is_open, tt);
+      ((record { header = entry.header; shallow = entry.shallow; fits = fits }, inside.whole, filled), inside.is_open, tt);
   whole = whole-followed_by l.before (Holder l.header here NoMore) earlier.whole;
 }
 

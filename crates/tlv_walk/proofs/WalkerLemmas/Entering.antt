@@ -94,7 +94,7 @@ entry_at : (w : WalkerState) (b : List ℕ) (yielded : List EventValue) (s : Zip
     → IsEntry (place_of w.framing s) true h
 entry_at w b yielded s r t h at c e = record {
   header = is_header_at w b yielded s r t h true at c e;
-  depth = λ _. omega (arith, c.shallow e, place-depth w.framing s.layers, ap length at.stack);
+  shallow = λ _. omega (arith, c.shallow e, place-depth w.framing s.layers, ap length at.stack);
   fits = fits_at w b yielded s r t h at c;
 }
 

@@ -24,7 +24,7 @@ use Rattle.tlv_walk.proofs.WalkerLemmas.Waiting.{idle}
 pub read_depth : (w : WalkerState) (b : List ℕ) (f : Forest) → HasRead w b f → IsIdle w → length w.stack ≡ open_count f
 read_depth w b f (took yielded st e) none =
     state-depth w b yielded st.private_state.state st.private_state.has_state (idle w none)
-    ∙ ap open_count (reading-unique w.framing b _ st.reads.reading (state-reading w b yielded st.private_state.state st.private_state.has_state) st.reads.is_reading ∙ e)
+    ∙ ap open_count (reading-unique w.framing b _ st.has_events.reading (state-reading w b yielded st.private_state.state st.private_state.has_state) st.has_events.is_reading ∙ e)
 read_depth w b f (refused x yielded g st e) none = st.depth ∙ ap open_count e
 
 pub read_offset : (w : WalkerState) (b : List ℕ) (f : Forest) → HasRead w b f → w.offset ≡ length b
@@ -47,7 +47,7 @@ pub ends_by : (w : WalkerState) (o : List ℕ) (yielded : List EventValue) (resu
     → ((f : Fault) → w.phase ≡ Refused f → result ≡ ending.Fault f) → StandsAtEnd w o yielded → IsEnding w.framing o result
 ends_by w o yielded result stands failed (took_all st none) = stands o yielded st
 ends_by w o yielded result stands failed (refused_one f at) =
-    subst (λ (l : List ℕ). IsEnding w.framing l result) at.octets_is
+    subst (λ (l : List ℕ). IsEnding w.framing l result) at.octets_are
     (subst (λ (k : Ending). IsEnding w.framing (at.taken ++ at.octet ∷ at.others) k) (sym (failed f at.stands.phase)) (at.stands.refused.ends at.others))
 
 -- and it shows whether the input is sound

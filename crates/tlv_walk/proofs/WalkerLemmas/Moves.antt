@@ -164,7 +164,7 @@ end_state w b yielded s h c has e =
       offset = omega (arith, has.offset, ap length (append-nil b));
       stack = has.stack;
       layers = has.layers;
-      here = are_whole _ s.here (Primitive h c NoMore) has.here ((record { header = k.header; depth = λ e. absurd (cc (e)); fits = subst (λ (n : ℕ). Fits p (length (octets_of h) + n)) same k.fits }, k.size ∙ ap Definite same), tt) refl;
+      here = are_whole _ s.here (Primitive h c NoMore) has.here ((record { header = k.header; shallow = λ e. absurd (cc (e)); fits = subst (λ (n : ℕ). Fits p (length (octets_of h) + n)) same k.fits }, k.size ∙ ap Definite same), tt) refl;
       phase = tt;
       same_events = yielded_whole yielded s.layers s.here (Primitive h c NoMore) (Begin h ∷ Bytes c ∷ []) (End ∷ []) has.here.whole has.same_events refl;
       element = has.element ∙ sym (began s.layers s.here (Primitive h c NoMore) has.here.whole refl);

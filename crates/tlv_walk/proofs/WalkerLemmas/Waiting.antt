@@ -5,7 +5,7 @@ use Rattle.tlv_walk.specs.Phase as phase
 use Rattle.tlv_walk.specs.Events.{End, EventValue}
 use Rattle.tlv_walk.specs.WalkerState.{WalkerState}
 use Rattle.tlv_walk.specs.Stack.{FrameValue, IsFilled}
-use Rattle.tlv_walk.specs.Stands.{IsIdle, filled_end, filled_ends, is_filled, waiting_events, waiting_events_in}
+use Rattle.tlv_walk.specs.Stands.{IsIdle, filled_end, filled_ends, is_end_at, waiting_events, waiting_events_in}
 
 -- an event is to come that needs no further octet: not `IsIdle`, by phase
 abbrev pub EventWaitsIn : PhaseValue → List FrameValue → ℕ → Type 0
@@ -24,7 +24,7 @@ no_endings : (offset : ℕ) (fs : List FrameValue) → (IsFilled fs offset → �
 no_endings offset [] n = refl
 no_endings offset (f ∷ fs) n = ap (λ (k : Bool). if k then filled_end f ∷ filled_ends offset fs else []) (unfilled f.end n)
   where
-    unfilled : (e : Option ℕ) → (e ≡ Some offset → ⊥) → is_filled e offset ≡ false
+    unfilled : (e : Option ℕ) → (e ≡ Some offset → ⊥) → is_end_at e offset ≡ false
     unfilled None n = refl
     unfilled (Some m) n = ne_eqb m offset (λ e. n (ap Some e))
 
@@ -46,7 +46,7 @@ no_more e es false t n = absurd (cc)
 
 loud_in : (f : PhaseValue) (stack : List FrameValue) (offset : ℕ) → EventWaitsIn f stack offset → waiting_events_in f stack offset ≡ [] → ⊥
 loud_in phase.Between [] offset i n = i
-loud_in phase.Between (f ∷ fs) offset i n = no_more (filled_end f) (filled_ends offset fs) (is_filled f.end offset) (ap (λ (e : Option ℕ). is_filled e offset) i ∙ eq-eqb offset offset refl) n
+loud_in phase.Between (f ∷ fs) offset i n = no_more (filled_end f) (filled_ends offset fs) (is_end_at f.end offset) (ap (λ (e : Option ℕ). is_end_at e offset) i ∙ eq-eqb offset offset refl) n
 loud_in (phase.InHeader r) stack offset i n = i
 loud_in (phase.InPrimitive left) stack offset i n = no_more End (filled_ends offset stack) (eqb left 0) (eq-eqb left 0 i) n
 loud_in phase.InBitString stack offset i n = i

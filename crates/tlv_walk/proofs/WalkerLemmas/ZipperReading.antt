@@ -78,12 +78,12 @@ whole-events w ls here g offset a i j e =
 contents-whole : (p : Place) (h : HeaderValue) (c : List ℕ) (left : ℕ) → IsContents p h c left → left ≡ 0 → AreWhole p (Primitive h c NoMore)
 contents-whole p h c left i e =
     let size : length c + left ≡ length c = omega arith in
-    record { is_open = ((record { header = i.header; depth = λ e. absurd (cc (e)); fits = rw size at i.fits }, i.size ∙ ap Definite size), tt); whole = refl }
+    record { is_open = ((record { header = i.header; shallow = λ e. absurd (cc (e)); fits = rw size at i.fits }, i.size ∙ ap Definite size), tt); whole = refl }
 
 -- else it lacks contents octets
 contents-open_primitive : (p : Place) (h : HeaderValue) (c : List ℕ) (left : ℕ) → IsContents p h c left → (left ≡ 0 → ⊥) → IsOpen p (OpenPrimitive h c)
 contents-open_primitive p h c left i n = (
-  record { header = i.header; depth = λ e. absurd (cc (e)); fits = within-le p.bound _ _ (omega (arith, ap announced_length i.size)) i.fits },
+  record { header = i.header; shallow = λ e. absurd (cc (e)); fits = within-le p.bound _ _ (omega (arith, ap announced_length i.size)) i.fits },
   omega (arith, ap announced_length i.size),
 )
 
@@ -182,7 +182,7 @@ state-events w b yielded s h =
 -- a walker with a state stands for what was yielded and what was taken
 pub stands : (w : WalkerState) (b : List ℕ) (yielded : List EventValue) (s : Zipper) → HasZipper w b yielded s → can_name w.framing.inside ≡ true → w.wrapper_count ≡ wrappers_after w.framing.inside 0 (entered_offsets yielded) → Stands w b yielded
 stands w b yielded s h n k =
-    record { reads = record { reading = reading_of s; is_reading = state-reading w b yielded s h; all_events = state-events w b yielded s h }; private_state = record { state = s; has_state = h; named = n; found = k } }
+    record { has_events = record { reading = reading_of s; is_reading = state-reading w b yielded s h; all_events = state-events w b yielded s h }; private_state = record { state = s; has_state = h; named = n; found = k } }
 
 -- the state of a new walker: nothing is open, and nothing came
 abbrev pub new_state : Zipper
