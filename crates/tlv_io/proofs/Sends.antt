@@ -43,7 +43,7 @@ module _ {T E : Type 0} (result : Result T E) where
     left = drop i octets;
     prefix = take-append-drop i octets;
     took = appends_kept old.octets middle.octets new.octets (take i octets) took kept;
-    all = all;
+    all_sent = all;
     not_all = on_err_weaker result (some_left i octets) some;
     failures = failed ∙ ap (failures_after result) failures;
   }
@@ -59,9 +59,9 @@ module _ {T U E : Type 0} where
     prefix =
         append_assoc p.sent q.sent q.left
         ∙ ap (λ (l : List ℕ). p.sent ++ l) q.prefix
-        ∙ ap (λ (l : List ℕ). l ++ ys) (sym (append-nil p.sent) ∙ ap (λ (l : List ℕ). p.sent ++ l) (sym p.all) ∙ p.prefix);
+        ∙ ap (λ (l : List ℕ). l ++ ys) (sym (append-nil p.sent) ∙ ap (λ (l : List ℕ). p.sent ++ l) (sym p.all_sent) ∙ p.prefix);
     took = Appends-trans a.octets b.octets c.octets p.sent q.sent p.took q.took;
-    all = q.all;
+    all_sent = q.all_sent;
     not_all = q.not_all;
     failures = q.failures ∙ ap (failures_after r) p.failures;
   }
@@ -69,7 +69,7 @@ module _ {T U E : Type 0} where
 module _ {T U E F : Type 0} where
   -- the same, with another result of the same kind
   pub sends_ok : (a b : DrainState) (xs ys : List ℕ) (x : T) (y : U) → Sends {T = T} {E = E} a b xs (Ok x) → xs ≡ ys → Sends {T = U} {E = F} a b ys (Ok y)
-  sends_ok a b xs ys x y p z = record { sent = p.sent; left = p.left; prefix = p.prefix ∙ z; took = p.took; all = p.all; not_all = tt; failures = p.failures }
+  sends_ok a b xs ys x y p z = record { sent = p.sent; left = p.left; prefix = p.prefix ∙ z; took = p.took; all_sent = p.all_sent; not_all = tt; failures = p.failures }
 
   -- a prefix of the octets is one of more octets
   pub sends_err : (a b : DrainState) (xs ys : List ℕ) (e : E) (f : F) → Sends {T = T} {E = E} a b xs (Err e) → IsPrefix xs ys → Sends {T = U} {E = F} a b ys (Err f)
@@ -78,7 +78,7 @@ module _ {T U E F : Type 0} where
     left = p.left ++ z.rest;
     prefix = sym (append_assoc p.sent p.left z.rest) ∙ ap (λ (l : List ℕ). l ++ z.rest) p.prefix ∙ z.is;
     took = p.took;
-    all = tt;
+    all_sent = tt;
     not_all = more_left p.left z.rest p.not_all;
     failures = p.failures;
   }
@@ -86,11 +86,11 @@ module _ {T U E F : Type 0} where
 module _ {T E : Type 0} where
   -- if the call did not fail, the drain has all of them
   pub sends_appends : (a b : DrainState) (xs : List ℕ) (x : T) → Sends {T = T} {E = E} a b xs (Ok x) → Appends a.octets b.octets xs
-  sends_appends a b xs x p = subst (Appends a.octets b.octets) (sym (append-nil p.sent) ∙ ap (λ (l : List ℕ). p.sent ++ l) (sym p.all) ∙ p.prefix) p.took
+  sends_appends a b xs x p = subst (Appends a.octets b.octets) (sym (append-nil p.sent) ∙ ap (λ (l : List ℕ). p.sent ++ l) (sym p.all_sent) ∙ p.prefix) p.took
 
   -- nothing is sent
   pub sends_nothing : (a : DrainState) (x : T) → Sends {T = T} {E = E} a a [] (Ok x)
-  sends_nothing a x = record { sent = []; left = []; prefix = refl; took = Appends-nil a.octets; all = refl; not_all = tt; failures = refl }
+  sends_nothing a x = record { sent = []; left = []; prefix = refl; took = Appends-nil a.octets; all_sent = refl; not_all = tt; failures = refl }
 
 -- ---- to a drain, by way of an `Out`
 
@@ -105,7 +105,7 @@ module _ {D : Type 0} (state_of : D → DrainState) where
           left = p.left;
           prefix = p.prefix ∙ ap (λ (l : List ℕ). l ++ xs) none;
           took = p.took;
-          all = both r p.held empty;
+          all_sent = both r p.held empty;
           not_all = p.lost;
           failures = p.failures;
         })

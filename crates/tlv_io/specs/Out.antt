@@ -21,7 +21,7 @@ module _ {T E : Type 0} where
     pub left : List ℕ
     pub prefix : sent ++ left ≡ octets
     pub took : Appends old.octets new.octets sent
-    pub all : OnOk result (left ≡ [])
+    pub all_sent : OnOk result (left ≡ [])
     pub not_all : OnErr result (left ≢ [])
     pub failures : new.failures ≡ failures_after result old.failures
 

@@ -26,15 +26,15 @@ pub record CheckState : Type 0 where
   -- the elements that hold others and are open
   pub holders : NestingState
   -- the primitive that is open
-  pub value : Option OpenPrimitiveState
+  pub open_primitive : Option OpenPrimitiveState
   -- how many findings were reported; it stops at 2^64 - 1
   pub count : ℕ
 
 abbrev pub new_check : Rules → CheckState
-new_check rules = record { rules = rules; holders = new_nesting; value = None; count = 0 }
+new_check rules = record { rules = rules; holders = new_nesting; open_primitive = None; count = 0 }
 
--- what an event makes of it: what it is then, and what is found. This is in the element that begins at `offset` and
--- that `level` others hold
+-- what contracts see of a `Finder`: what it keeps, what it found with the last event, and in which element this is: one
+-- that begins at `offset` and that `level` others hold
 pub record FinderState : Type 0 where
   pub state : CheckState
   pub level : ℕ
@@ -66,41 +66,44 @@ finder_open_step s h =
     (header_findings_in s h)
 
 -- a primitive begins
-abbrev pub finder_at_value : CheckState → HeaderValue → CheckState
-finder_at_value s h = record s { value = Some (record { offset = h.offset; check = new_value_check h }) }
+abbrev pub finder_in_primitive : CheckState → HeaderValue → CheckState
+finder_in_primitive s h =
+    record s { open_primitive = Some (record { offset = h.offset; check = new_value_check h }) }
 
 abbrev pub finder_begin_step : CheckState → HeaderValue → FinderState
 finder_begin_step s h =
-    with_findings (finder_at_value s h) (length s.holders.outer) h.offset (header_findings_in s h)
+    with_findings (finder_in_primitive s h) (length s.holders.outer) h.offset (header_findings_in s h)
 
 -- contents octets: only as many as were announced are counted
-abbrev pub open_value_after : Option OpenPrimitiveState → List ℕ → Option OpenPrimitiveState
-open_value_after None octets = None
-open_value_after (Some v) octets =
+abbrev pub open_primitive_after : Option OpenPrimitiveState → List ℕ → Option OpenPrimitiveState
+open_primitive_after None octets = None
+open_primitive_after (Some v) octets =
     Some (record v { check = value_check_after v.check (take v.check.left octets) })
 
 abbrev pub finder_bytes_step : CheckState → List ℕ → CheckState
 finder_bytes_step s octets =
-    if length octets == 0 then s else record s { value = open_value_after s.value octets }
+    if length octets == 0
+    then s
+    else record s { open_primitive = open_primitive_after s.open_primitive octets }
 
 -- a primitive ends, of which all contents octets have come
 abbrev pub contents_findings_in : Rules → ValueCheckState → List Finding
 contents_findings_in rules t = if t.left == 0 then filter (is_shown rules) (findings_in t) else []
 
-abbrev pub finder_after_value : CheckState → OpenPrimitiveState → CheckState
-finder_after_value s v = record s {
+abbrev pub finder_after_primitive : CheckState → OpenPrimitiveState → CheckState
+finder_after_primitive s v = record s {
   holders = nesting_primitive_step s.holders v.check.size (has_unused_bits v.check);
-  value = None;
+  open_primitive = None;
 }
 
-abbrev pub finder_value_end_step : CheckState → Option OpenPrimitiveState → FinderState
-finder_value_end_step s None = without_findings s
-finder_value_end_step s (Some v) =
-    with_findings (finder_after_value s v) (length s.holders.outer) v.offset
+abbrev pub finder_primitive_end_step : CheckState → Option OpenPrimitiveState → FinderState
+finder_primitive_end_step s None = without_findings s
+finder_primitive_end_step s (Some v) =
+    with_findings (finder_after_primitive s v) (length s.holders.outer) v.offset
     (contents_findings_in s.rules v.check)
 
 abbrev pub finder_end_step : CheckState → FinderState
-finder_end_step s = finder_value_end_step s s.value
+finder_end_step s = finder_primitive_end_step s s.open_primitive
 
 -- an element that holds others ends, inside those with these frames
 abbrev pub finder_frame_end_step : CheckState → List SiblingFrame → FinderState

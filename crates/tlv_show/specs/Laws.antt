@@ -55,8 +55,8 @@ abbrev pub PrimitivesAreShown : Type 0
 PrimitivesAreShown =
     (s : DumpState) (h : HeaderValue) (c : List ℕ) → announced_length h.size ≡ length c
     → (shown : DumpState)
-    × (shown.lines.value ≡ None)
-    × (shown.finder.value ≡ None)
+    × (shown.lines.open_text ≡ None)
+    × (shown.finder.open_primitive ≡ None)
     × (effect_of dump_step s (Begin h ∷ Bytes c ∷ End ∷ [])
     ≡ effect_with shown
     (finding_lines s (finder_begin_step s.finder h)

@@ -23,7 +23,7 @@ pub record LinesState : Type 0 where
   -- whether the last octets were padding
   pub in_padding : Bool
   -- what is kept of the primitive that is open
-  pub value : Option ValueTextState
+  pub open_text : Option ValueTextState
 
 -- the lines of a dump before its first event
 abbrev pub new_lines : Layout → NamesTable → LinesState
@@ -32,7 +32,7 @@ new_lines layout names = record {
   names = names;
   offset = 0;
   in_padding = false;
-  value = None;
+  open_text = None;
 }
 
 -- the layout of what an element holds, and of what holds it; the level stops at 255
@@ -66,7 +66,7 @@ lines_close_step s (Some offset) =
 -- a primitive begins
 abbrev pub lines_begin_step : LinesState → HeaderValue → Effect LinesState
 lines_begin_step s h =
-    effect_with (record (lines_after_header s h) { value = Some (new_value_text h s.layout) })
+    effect_with (record (lines_after_header s h) { open_text = Some (new_value_text h s.layout) })
     (begin_lines (new_value_text h s.layout))
 
 -- contents octets: only as many as were announced are counted
@@ -81,8 +81,11 @@ value_contents_lines (Some t) octets = contents_lines t (take t.left octets)
 -- a contents octet
 abbrev pub lines_octet_step : LinesState → ℕ → Effect LinesState
 lines_octet_step s x =
-    effect_with (record s { offset = saturating_sum s.offset 1; value = value_after s.value (x ∷ []) })
-    (value_contents_lines s.value (x ∷ []))
+    effect_with (record s {
+      offset = saturating_sum s.offset 1;
+      open_text = value_after s.open_text (x ∷ []);
+    })
+    (value_contents_lines s.open_text (x ∷ []))
 
 -- a primitive ends, of which all contents octets have come
 abbrev pub value_end_lines : NamesTable → Option ValueTextState → List ℕ
@@ -90,7 +93,7 @@ value_end_lines names None = []
 value_end_lines names (Some t) = if eqb t.left 0 then end_lines (finite.get names) t else []
 
 abbrev pub lines_end_step : LinesState → Effect LinesState
-lines_end_step s = effect_with (record s { value = None }) (value_end_lines s.names s.value)
+lines_end_step s = effect_with (record s { open_text = None }) (value_end_lines s.names s.open_text)
 
 -- an octet of padding: the first of a run has a line
 abbrev pub lines_padding_step : LinesState → ℕ → Effect LinesState

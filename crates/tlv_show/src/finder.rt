@@ -2,7 +2,7 @@
 ghost use Rattle.std.specs.Prelude.{◌≡◌, length};
 ghost use Rattle.tlv_head.specs.Header.{announced_length};
 ghost use Rattle.tlv_walk.specs.HasRead.{event_value_of};
-ghost use Rattle.tlv_show.specs.FinderState.{finder_at_value, finder_begin_step, finder_bytes_step};
+ghost use Rattle.tlv_show.specs.FinderState.{finder_in_primitive, finder_begin_step, finder_bytes_step};
 ghost use Rattle.tlv_show.specs.FinderState.{finder_close_step, finder_end_step, finder_open_step};
 ghost use Rattle.tlv_show.specs.FinderState.{header_findings_in, with_findings, without_findings};
 ghost use Rattle.tlv_show.specs.Found.{end_findings};
@@ -53,7 +53,7 @@ impl Model for Finder {
       state = record {
         rules = f.rules;
         holders = f.holders;
-        value = open_by f.is_open f.offset f.check;
+        open_primitive = open_by f.is_open f.offset f.check;
         count = f.count;
       };
       level = f.last.level;
@@ -187,8 +187,8 @@ impl Finder {
 
     /// Keeps where a primitive begins, and that nothing of its contents has come.
     #[inline(always)]
-    fn enter_value(&mut self, header: &Header)
-        ensures { self.new ≡ with_state (finder_at_value self.old.state header.now) self.old }
+    fn enter_primitive(&mut self, header: &Header)
+        ensures { self.new ≡ with_state (finder_in_primitive self.old.state header.now) self.old }
     {
         self.offset = header.offset;
         self.is_open = true;
@@ -216,7 +216,7 @@ impl Finder {
         ensures { ReportsFindings (finder_begin_step self.old.state header.now) self.new result }
     {
         let has_findings = self.header(header);
-        self.enter_value(header);
+        self.enter_primitive(header);
         has_findings
     }
 

@@ -29,8 +29,8 @@ pub(crate) struct Lines<'n> {
     in_padding: bool,
     /// Whether a primitive is open.
     is_open: bool,
-    /// The primitive that is open, or the last one.
-    value: ValueText,
+    /// The text of the primitive that is open, or of the last one.
+    text: ValueText,
 }
 
 impl<'n> Model for Lines<'n> {
@@ -48,7 +48,7 @@ impl<'n> Model for Lines<'n> {
       names = d.names.now;
       offset = d.offset;
       in_padding = d.in_padding;
-      value = if_open d.is_open d.value;
+      open_text = if_open d.is_open d.text;
     } };
 }
 
@@ -63,7 +63,7 @@ impl<'n> Lines<'n> {
             offset: 0,
             in_padding: false,
             is_open: false,
-            value: ValueText::idle(),
+            text: ValueText::idle(),
         }
     }
 
@@ -140,8 +140,8 @@ impl<'n> Lines<'n> {
     {
         self.enter(header);
         self.is_open = true;
-        self.value = ValueText::new(header, self.layout);
-        self.value.begin(out)
+        self.text = ValueText::new(header, self.layout);
+        self.text.begin(out)
     }
 
     /// Contents of a primitive go on.
@@ -156,7 +156,7 @@ impl<'n> Lines<'n> {
             return Ok(());
         }
         self.offset = self.offset.saturating_add(octets.len() as u64);
-        put_bytes(self.is_open, &mut self.value, octets, out)
+        put_bytes(self.is_open, &mut self.text, octets, out)
     }
 
     /// A primitive ends.
@@ -164,7 +164,7 @@ impl<'n> Lines<'n> {
         ensures state { self.new ≡ (lines_end_step self.old).state }
         ensures puts { Puts D.state out.old out.new (lines_end_step self.old).put result }
     {
-        let put = put_end(self.is_open, &mut self.value, self.names, out);
+        let put = put_end(self.is_open, &mut self.text, self.names, out);
         self.is_open = false;
         put
     }
@@ -196,34 +196,34 @@ ghost use Rattle.tlv_show.specs.Private.LinesStep.{if_open};
 /// announced nothing is written.
 fn put_bytes<D: Drain>(
     is_open: bool,
-    value: &mut ValueText,
+    text: &mut ValueText,
     octets: &[u8],
     out: &mut Out<'_, D>,
 ) -> Result<(), WriteFault>
     ensures state { OnOk result
-        (if_open is_open value.new ≡ value_after (if_open is_open value.old) octets.now) }
+        (if_open is_open text.new ≡ value_after (if_open is_open text.old) octets.now) }
     ensures puts { Puts D.state out.old out.new
-        (value_contents_lines (if_open is_open value.old) octets.now) result }
+        (value_contents_lines (if_open is_open text.old) octets.now) result }
 {
     if !is_open {
         return Ok(());
     }
-    let count = value.left().min(octets.len() as u64) as usize;
-    value.bytes(&octets[..count], out)
+    let count = text.left().min(octets.len() as u64) as usize;
+    text.bytes(&octets[..count], out)
 }
 
 /// Writes the lines that come with the end of the open primitive, if all its contents octets have come.
 fn put_end<D: Drain>(
     is_open: bool,
-    value: &mut ValueText,
+    text: &mut ValueText,
     names: &Names,
     out: &mut Out<'_, D>,
 ) -> Result<(), WriteFault>
     ensures { Puts D.state out.old out.new
-        (value_end_lines names.now (if_open is_open value.old)) result }
+        (value_end_lines names.now (if_open is_open text.old)) result }
 {
-    if !is_open || value.left() != 0 {
+    if !is_open || text.left() != 0 {
         return Ok(());
     }
-    value.end(names, out)
+    text.end(names, out)
 }

@@ -21,7 +21,7 @@ pub record RowsState : Type 0 where
 -- what contracts see of a `ValueText`
 pub record ValueTextState : Type 0 where
   -- what the header says of the primitive, and how its lines are laid out
-  pub value : Primitive
+  pub primitive : Primitive
   -- how many octets are still to come
   pub left : ℕ
   pub kept : RowsState
@@ -44,7 +44,7 @@ primitive_line p text = element_line p.layout p.offset p.class p.number p.size t
 -- before any octet
 abbrev pub new_value_text_of : Primitive → ValueTextState
 new_value_text_of p = record {
-  value = p;
+  primitive = p;
   left = p.size;
   kept = record { wrote_line = has_line p.kind []; rows = 0; row = [] };
 }
@@ -85,19 +85,19 @@ first_rows_after kind k (x ∷ octets) = rows_after kind (first_rows kind x) oct
 abbrev pub first_row_lines : ValueTextState → List ℕ → List ℕ
 first_row_lines s [] = []
 first_row_lines s (x ∷ octets) =
-    primitive_line s.value (long_text s.value.kind s.value.size (x ∷ []))
-    ++ full_row_lines s.value.kind s.value.layout (first_rows s.value.kind x) octets
+    primitive_line s.primitive (long_text s.primitive.kind s.primitive.size (x ∷ []))
+    ++ full_row_lines s.primitive.kind s.primitive.layout (first_rows s.primitive.kind x) octets
 
 -- of a long value
 abbrev pub long_rows_after : ValueTextState → List ℕ → RowsState
 long_rows_after s octets =
     if s.kept.wrote_line
-    then rows_after s.value.kind s.kept octets
-    else first_rows_after s.value.kind s.kept octets
+    then rows_after s.primitive.kind s.kept octets
+    else first_rows_after s.primitive.kind s.kept octets
 
 abbrev pub rows_state_after : ValueTextState → List ℕ → RowsState
 rows_state_after s octets =
-    if is_long s.value.kind s.value.size
+    if is_long s.primitive.kind s.primitive.size
     then long_rows_after s octets
     else record s.kept { row = s.kept.row ++ octets }
 
@@ -112,16 +112,16 @@ value_text_for h layout octets = value_text_after (new_value_text h layout) octe
 -- the lines that are known with the header
 abbrev pub begin_lines : ValueTextState → List ℕ
 begin_lines s =
-    if is_long s.value.kind s.value.size
-    then (if s.kept.wrote_line then primitive_line s.value [] else [])
+    if is_long s.primitive.kind s.primitive.size
+    then (if s.kept.wrote_line then primitive_line s.primitive [] else [])
     else []
 
 -- the lines that are known with more octets
 abbrev pub contents_lines : ValueTextState → List ℕ → List ℕ
 contents_lines s octets =
-    if is_long s.value.kind s.value.size
+    if is_long s.primitive.kind s.primitive.size
     then (if s.kept.wrote_line
-    then full_row_lines s.value.kind s.value.layout s.kept octets
+    then full_row_lines s.primitive.kind s.primitive.layout s.kept octets
     else first_row_lines s octets)
     else []
 
@@ -134,6 +134,6 @@ primitive_lines name_of p octets =
 -- the lines that are known with the end
 abbrev pub end_lines : NameOf → ValueTextState → List ℕ
 end_lines name_of s =
-    if is_long s.value.kind s.value.size
-    then row_lines s.value.kind s.value.layout s.kept.rows (last_rows s.kept.row)
-    else primitive_lines name_of s.value s.kept.row
+    if is_long s.primitive.kind s.primitive.size
+    then row_lines s.primitive.kind s.primitive.layout s.kept.rows (last_rows s.kept.row)
+    else primitive_lines name_of s.primitive s.kept.row

@@ -43,7 +43,7 @@ fn is_type_clear(number: u64, contents: &[u8]) -> bool
         universal::IA5_STRING => are_allowed(universal::IA5_STRING, contents),
         universal::VISIBLE_STRING => are_allowed(universal::VISIBLE_STRING, contents),
         universal::UTC_TIME => contents.len() > 64 || is_utc_clear(contents),
-        universal::GENERALIZED_TIME => contents.len() > 64 || is_general_clear(contents),
+        universal::GENERALIZED_TIME => contents.len() > 64 || is_generalized_clear(contents),
         universal::UNIVERSAL_STRING => contents.len() % 4 == 0,
         universal::BMP_STRING => contents.len() % 2 == 0,
         // Of the other types that have primitives nothing is asked here.
@@ -128,8 +128,8 @@ fn is_utc_clear(time: &[u8]) -> bool
 
 /// Whether nothing is found on a GeneralizedTime.
 #[inline(never)]
-#[tactic(auto, using(crate::proofs::CheckLemmas::Within::general_clear))]
-fn is_general_clear(time: &[u8]) -> bool
+#[tactic(auto, using(crate::proofs::CheckLemmas::Within::generalized_clear))]
+fn is_generalized_clear(time: &[u8]) -> bool
     ensures { result ≡ eqb (length (generalized_time_findings time.now)) 0 }
 {
     // A canonical time is of its grammar.

@@ -34,7 +34,7 @@ fn begin_row(unused: u8, row: &mut ArrayVec<u8, 64>)
 /// when it is full or with the last octet. At most 64 octets are held.
 #[derive(Drop)]
 pub struct ValueText {
-    value: Primitive,
+    primitive: Primitive,
     /// How many octets are still to come.
     left: u64,
     /// Whether the line of a long value was written.
@@ -68,13 +68,13 @@ impl ValueText {
 
     /// For this primitive, of whose contents no octet has come.
     #[inline(always)]
-    pub(crate) fn of(value: Primitive) -> ValueText
-        ensures { result ≡ new_value_text_of value }
+    pub(crate) fn of(primitive: Primitive) -> ValueText
+        ensures { result ≡ new_value_text_of primitive }
     {
         ValueText {
-            value,
-            left: value.size,
-            has_line: !matches!(value.kind, Kind::Bits),
+            primitive,
+            left: primitive.size,
+            has_line: !matches!(primitive.kind, Kind::Bits),
             rows: 0,
             row: ArrayVec::new(),
         }
@@ -84,7 +84,7 @@ impl ValueText {
     pub fn idle() -> ValueText
         ensures { result ≡ idle_value_text }
     {
-        let value = Primitive {
+        let primitive = Primitive {
             offset: 0,
             class: Class::Private,
             number: 0,
@@ -97,7 +97,7 @@ impl ValueText {
             },
         };
         ValueText {
-            value,
+            primitive,
             left: 0,
             has_line: true,
             rows: 0,
@@ -124,10 +124,10 @@ impl ValueText {
             → self.now ≡ new_value_text h layout
             → Puts D.state out.old out.new (open_lines h layout []) result }
     {
-        if !self.value.is_long() || !self.has_line {
+        if !self.primitive.is_long() || !self.has_line {
             return Ok(());
         }
-        self.value.put_bare(out)
+        self.primitive.put_bare(out)
     }
 
     /// Writes what is known with more contents octets: after the lines of its primitive with the contents before
@@ -146,11 +146,11 @@ impl ValueText {
             (open_lines h layout c) (open_lines h layout (c ++ octets.now)) result }
     {
         self.left -= octets.len() as u64;
-        if !self.value.is_long() {
+        if !self.primitive.is_long() {
             let _ = self.row.try_extend_from_slice(octets);
             return Ok(());
         }
-        let (kind, layout) = (self.value.kind, self.value.layout);
+        let (kind, layout) = (self.primitive.kind, self.primitive.layout);
         if self.has_line {
             return put_rows(kind, layout, &mut self.row, &mut self.rows, octets, out);
         }
@@ -159,7 +159,7 @@ impl ValueText {
         };
         self.has_line = true;
         begin_row(*unused, &mut self.row);
-        self.value.put_bits(*unused, out)?;
+        self.primitive.put_bits(*unused, out)?;
         put_rows(kind, layout, &mut self.row, &mut self.rows, rest, out)
     }
 
@@ -185,9 +185,15 @@ impl ValueText {
             (open_lines h layout c) (whole_lines (N.name_of names.now) h layout c) result }
     {
         let contents = self.row.as_slice();
-        if self.value.is_long() {
-            return put_last(self.value.kind, self.value.layout, self.rows, contents, out);
+        if self.primitive.is_long() {
+            return put_last(
+                self.primitive.kind,
+                self.primitive.layout,
+                self.rows,
+                contents,
+                out,
+            );
         }
-        self.value.put(contents, names, out)
+        self.primitive.put(contents, names, out)
     }
 }

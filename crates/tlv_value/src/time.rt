@@ -39,7 +39,7 @@ pub fn utc_canonical(contents: &[u8]) -> bool
 pub fn general_ok(contents: &[u8]) -> bool
     ensures { result ≡ has_form generalized_time_form contents.now }
 {
-    let Some(rest) = after_general_hour(contents) else {
+    let Some(rest) = after_generalized_hour(contents) else {
         return false;
     };
     match after_two_digits(rest, 0, 59) {
@@ -76,7 +76,7 @@ fn after_utc_minute(octets: &[u8]) -> Option<&[u8]>
 }
 
 /// What is after `YYYYMMDDhh`.
-fn after_general_hour(octets: &[u8]) -> Option<&[u8]>
+fn after_generalized_hour(octets: &[u8]) -> Option<&[u8]>
     ensures { option_to_list (option_copied result) ≡ generalized_hour octets.now }
 {
     let rest = after_two_digits(octets, 0, 99)?;
@@ -136,7 +136,7 @@ fn is_second_and_tail(octets: &[u8]) -> bool
 fn is_tail(octets: &[u8]) -> bool
     ensures { result ≡ has_form (maybe fraction then maybe generalized_zone) octets.now }
 {
-    is_fraction_and_zone(octets) || is_general_zone(octets)
+    is_fraction_and_zone(octets) || is_generalized_zone(octets)
 }
 
 /// A fraction, and a zone or nothing.
@@ -150,18 +150,18 @@ fn is_fraction_and_zone(octets: &[u8]) -> bool
     while let [b'0'..=b'9', more @ ..] = rest {
         rest = more;
     }
-    is_general_zone(rest)
+    is_generalized_zone(rest)
 }
 
 /// `Z`, `+hh`, `-hh`, `+hhmm`, `-hhmm` or nothing, and no more.
-fn is_general_zone(octets: &[u8]) -> bool
+fn is_generalized_zone(octets: &[u8]) -> bool
     ensures { result ≡ has_form (maybe generalized_zone) octets.now }
 {
-    octets.is_empty() || is_zulu(octets) || is_general_difference(octets)
+    octets.is_empty() || is_zulu(octets) || is_generalized_difference(octets)
 }
 
 /// `+hh`, `-hh`, `+hhmm` or `-hhmm`, and no more.
-fn is_general_difference(octets: &[u8]) -> bool
+fn is_generalized_difference(octets: &[u8]) -> bool
     ensures { result ≡ has_form (sign then hour then maybe minute) octets.now }
 {
     match after_difference(octets) {

@@ -35,33 +35,34 @@ pub fn put_whole<N: NameTable, D: Drain>(
     ensures { Puts D.state out.old out.new
         (whole_lines (N.name_of names.now) header.now layout contents.now) result }
 {
-    let value = Primitive::new(header, layout);
-    if value.is_long() {
+    let primitive = Primitive::new(header, layout);
+    if primitive.is_long() {
         // A reference to a copy: a value on its line then stays in registers.
-        let long = value;
+        let long = primitive;
         put_long(&long, contents, names, out)
     } else {
-        value.put(contents, names, out)
+        primitive.put(contents, names, out)
     }
 }
 
 /// Puts the lines of a primitive whose contents are too long for its line. It is apart, since it comes seldom.
 #[inline(never)]
 fn put_long<N: NameTable, D: Drain>(
-    value: &Primitive,
+    primitive: &Primitive,
     contents: &[u8],
     names: &N,
     out: &mut Out<'_, D>,
 ) -> Result<(), WriteFault>
-    requires long { is_long value.now.kind value.now.size ≡ true }
-    requires whole { length contents.now ≡ value.now.size }
+    requires long { is_long primitive.now.kind primitive.now.size ≡ true }
+    requires whole { length contents.now ≡ primitive.now.size }
     ensures { Puts D.state out.old out.new
-        (lines_in_steps (N.name_of names.now) (new_value_text_of value.now) contents.now) result }
+        (lines_in_steps (N.name_of names.now) (new_value_text_of primitive.now) contents.now)
+        result }
 {
-    if value.has_pairs() {
-        put_pairs(value, contents, out)
+    if primitive.has_pairs() {
+        put_pairs(primitive, contents, out)
     } else {
-        put_in_steps(value, contents, names, out)
+        put_in_steps(primitive, contents, names, out)
     }
 }
 
@@ -69,20 +70,20 @@ fn put_long<N: NameTable, D: Drain>(
 /// saves the state of a [`ValueText`].
 #[inline(always)]
 fn put_pairs<D: Drain>(
-    value: &Primitive,
+    primitive: &Primitive,
     contents: &[u8],
     out: &mut Out<'_, D>,
 ) -> Result<(), WriteFault>
-    requires pairs { row_size value.now.kind ≡ 16 }
-    requires endless { value.now.layout.limit ≡ None }
-    requires long { is_long value.now.kind value.now.size ≡ true }
+    requires pairs { row_size primitive.now.kind ≡ 16 }
+    requires endless { primitive.now.layout.limit ≡ None }
+    requires long { is_long primitive.now.kind primitive.now.size ≡ true }
     ensures { Puts D.state out.old out.new
-        (primitive_line value.now (long_text value.now.kind value.now.size contents.now)
-        ++ row_lines value.now.kind value.now.layout 0
-        (rows_of value.now.kind (row_octets value.now.kind contents.now))) result }
+        (primitive_line primitive.now (long_text primitive.now.kind primitive.now.size contents.now)
+        ++ row_lines primitive.now.kind primitive.now.layout 0
+        (rows_of primitive.now.kind (row_octets primitive.now.kind contents.now))) result }
 {
-    value.put_long(contents, out)?;
-    put_pair_rows(value.layout, row_octets(value.kind, contents), out)
+    primitive.put_long(contents, out)?;
+    put_pair_rows(primitive.layout, row_octets(primitive.kind, contents), out)
 }
 
 /// The contents octets that are in rows: of a BIT STRING all but the first, if that can be read.
@@ -99,16 +100,17 @@ fn row_octets(kind: Kind, contents: &[u8]) -> &[u8]
 /// Puts the lines of a primitive whose contents are too long for its line, as a [`ValueText`] does.
 #[inline(never)]
 fn put_in_steps<N: NameTable, D: Drain>(
-    value: &Primitive,
+    primitive: &Primitive,
     contents: &[u8],
     names: &N,
     out: &mut Out<'_, D>,
 ) -> Result<(), WriteFault>
-    requires { length contents.now ≡ value.now.size }
+    requires { length contents.now ≡ primitive.now.size }
     ensures { Puts D.state out.old out.new
-        (lines_in_steps (N.name_of names.now) (new_value_text_of value.now) contents.now) result }
+        (lines_in_steps (N.name_of names.now) (new_value_text_of primitive.now) contents.now)
+        result }
 {
-    let mut text = ValueText::of(*value);
+    let mut text = ValueText::of(*primitive);
     text.begin(out)?;
     text.bytes(contents, out)?;
     text.end(names, out)

@@ -43,7 +43,7 @@ module _ (padding : Bool) (s t : IndefState) (old new : SourceState) (from to : 
       let ends : IsEnding w octets k.0 = ends_with w octets false k.0 (Settled (indef_job padding) given x.reading new k.0) k.2 in
       let again = indef_text_is_read_back padding octets x.reading x.is_reading in
       let all : x.sends.sent ≡ indef_text x.reading =
-      sym (append-nil x.sends.sent) ∙ ap (λ (l : List ℕ). x.sends.sent ++ l) (sym x.sends.all) ∙ x.sends.prefix in
+      sym (append-nil x.sends.sent) ∙ ap (λ (l : List ℕ). x.sends.sent ++ l) (sym x.sends.all_sent) ∙ x.sends.prefix in
       subst (λ (l : List ℕ). IsReadBack padding x.reading l) (sym all) (record {
         is_reading = again.0;
         is_done = indef_text_is_done padding octets x.reading x.is_reading (subst (λ (d : Ending). IsEnding w octets d) (sym k.1 ∙ done) ends);

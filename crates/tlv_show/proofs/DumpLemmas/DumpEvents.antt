@@ -76,7 +76,7 @@ primitive-by l s h c =
     let whole : Effect LinesState → Effect DumpState = λ k. effect_with (pair (lines_step k.state End).state f.state) ((first ++ b.put) ++ (k.put ++ (((lines_step k.state End).put ++ texts k.state.layout f) ++ []))) in
     let parts : Effect LinesState → Effect DumpState =
     λ k. let d = and_then b (λ z. if_on k.goes k (λ w. effect_of lines_step w (End ∷ []))) in effect_with (pair d.state f.state) (first ++ (d.put ++ texts l.layout f)) in
-    let o : Effect LinesState = of_bytes b.state (saturating_sum b.state.offset (length c)) (value_after b.state.value c) (value_contents_lines b.state.value c) in
+    let o : Effect LinesState = of_bytes b.state (saturating_sum b.state.offset (length c)) (value_after b.state.open_text c) (value_contents_lines b.state.open_text c) in
     let is : m ≡ o = dumped_bytes b.state c (λ e. rested-new h l.layout) in
     ap (λ (k : Effect DumpState). record {
       state = (if_on k.goes k (λ w. effect_of dump_step w (End ∷ []))).state;
@@ -92,7 +92,7 @@ pub primitives_are_shown : PrimitivesAreShown
 primitives_are_shown s h c size =
     let d = primitives_shown s.lines h c size in
     let f = primitive-found s.finder h c (sym size) in
-    let l : LinesState = record (lines_after_header s.lines h) { offset = saturating_sum (lines_after_header s.lines h).offset (length c); value = None } in (
+    let l : LinesState = record (lines_after_header s.lines h) { offset = saturating_sum (lines_after_header s.lines h).offset (length c); open_text = None } in (
       pair l f.0,
       refl,
       f.1,
@@ -107,7 +107,7 @@ part-by l s h c =
     let b = lines_step l (Begin h) in
     let m = each_octet lines_octet_step b.state c in
     let first = texts l.layout (finder_begin_step s h) in
-    let o : Effect LinesState = of_bytes b.state (saturating_sum b.state.offset (length c)) (value_after b.state.value c) (value_contents_lines b.state.value c) in
+    let o : Effect LinesState = of_bytes b.state (saturating_sum b.state.offset (length c)) (value_after b.state.open_text c) (value_contents_lines b.state.open_text c) in
     let is : m ≡ o = dumped_bytes b.state c (λ e. rested-new h l.layout) in
     ap (λ (k : Effect DumpState). (first ++ b.put) ++ (if_on k.goes k (λ w. effect_of dump_step w [])).put) (each-shown (pair b.state (finder_begin_step s h).state) c)
     ∙ append_assoc first b.put (m.put ++ [])

@@ -57,11 +57,11 @@ whole_shown name_of h layout c e =
 -- whatever went before
 pub primitives_shown : (s : LinesState) (h : HeaderValue) (c : List ℕ) → announced_length h.size ≡ length c
     → effect_of lines_step s (Begin h ∷ Bytes c ∷ End ∷ [])
-    ≡ effect_with (record (lines_after_header s h) { offset = saturating_sum (lines_after_header s h).offset (length c); value = None }) (whole_lines (finite.get s.names) h s.layout c)
+    ≡ effect_with (record (lines_after_header s h) { offset = saturating_sum (lines_after_header s h).offset (length c); open_text = None }) (whole_lines (finite.get s.names) h s.layout c)
 primitives_shown s h c size =
     let t : ValueTextState = new_value_text h s.layout in
-    let u : LinesState = record (lines_after_header s h) { value = Some t } in
-    let place_after : LinesState = record (lines_after_header s h) { offset = saturating_sum (lines_after_header s h).offset (length c); value = None } in
+    let u : LinesState = record (lines_after_header s h) { open_text = Some t } in
+    let place_after : LinesState = record (lines_after_header s h) { offset = saturating_sum (lines_after_header s h).offset (length c); open_text = None } in
     let took = take-all (announced_length h.size) c (omega (arith, size)) in
     let none : announced_length h.size - length c ≡ 0 = omega (arith, size) in
     ap (λ (k : Effect LinesState). after_put (begin_lines t) (if_on k.goes k (λ w. effect_of lines_step w (End ∷ [])))) (dumped_bytes u c (λ e. rested-new h s.layout))
@@ -76,7 +76,7 @@ module _ (style : Layout) (names : NamesTable) where
 
   -- a dump between two elements
   abbrev pub lines_between : ℕ → ℕ → Bool → LinesState
-  lines_between level offset padded = record { layout = at_level level; names = names; offset = offset; in_padding = padded; value = None }
+  lines_between level offset padded = record { layout = at_level level; names = names; offset = offset; in_padding = padded; open_text = None }
 
   -- a state between two elements, and what was put
   settled : (l m o n : ℕ) (k j : Bool) (put put' : List ℕ) → l ≡ m → o ≡ n → k ≡ j → put ≡ put' → effect_with (lines_between l o k) put ≡ effect_with (lines_between m n j) put'
@@ -86,7 +86,7 @@ module _ (style : Layout) (names : NamesTable) where
   -- ---- a primitive
 
   abbrev begun_in : ℕ → ℕ → Bool → HeaderValue → LinesState
-  begun_in level offset padded h = record (lines_after_header (lines_between level offset padded) h) { value = Some (new_value_text h (at_level level)) }
+  begun_in level offset padded h = record (lines_after_header (lines_between level offset padded) h) { open_text = Some (new_value_text h (at_level level)) }
 
   pub primitive_shown : (level offset : ℕ) (padded : Bool) (h : HeaderValue) (c : List ℕ) → h.offset ≡ offset → announced_length h.size ≡ length c → offset + (length (octets_of h) + length c) ≤ 2 ^ 64 - 1
       → effect_of lines_step (lines_between level offset padded) (Begin h ∷ Bytes c ∷ End ∷ []) ≡ effect_with (lines_between level (offset + (length (octets_of h) + length c)) false) (whole_lines (finite.get names) h (at_level level) c)

@@ -66,18 +66,18 @@ after_put put u = record { state = u.state; put = put ++ u.put; goes = u.goes }
 
 -- a dump of contents: the offset after them, what is reported of the primitive, and what is put
 abbrev pub of_bytes : LinesState → ℕ → Option ValueTextState → List ℕ → Effect LinesState
-of_bytes s offset value put = effect_with (record s { offset = offset; value = value }) put
+of_bytes s offset text put = effect_with (record s { offset = offset; open_text = text }) put
 
-pub dumped_bytes : (s : LinesState) (xs : List ℕ) → (xs ≡ [] → IsRested s.value)
-    → each_octet lines_octet_step s xs ≡ of_bytes s (saturating_sum s.offset (length xs)) (value_after s.value xs) (value_contents_lines s.value xs)
+pub dumped_bytes : (s : LinesState) (xs : List ℕ) → (xs ≡ [] → IsRested s.open_text)
+    → each_octet lines_octet_step s xs ≡ of_bytes s (saturating_sum s.offset (length xs)) (value_after s.open_text xs) (value_contents_lines s.open_text xs)
 dumped_bytes s [] rested =
     let r = rested refl in
-    ap (λ (n : ℕ). of_bytes s n s.value []) (sym (further-none s.offset))
+    ap (λ (n : ℕ). of_bytes s n s.open_text []) (sym (further-none s.offset))
     ∙ ap₂ (λ (v : Option ValueTextState) (put : List ℕ). of_bytes s (saturating_sum s.offset 0) v put) (sym r.0) (sym r.1)
 dumped_bytes s (x ∷ xs) rested =
-    let j = value-join s.value (x ∷ []) xs in
-    ap (after_put (value_contents_lines s.value (x ∷ []))) (dumped_bytes (lines_octet_step s x).state xs (λ e. rested-after s.value x))
-    ∙ ap (λ (n : ℕ). of_bytes s n (value_after (value_after s.value (x ∷ [])) xs) (value_contents_lines s.value (x ∷ []) ++ value_contents_lines (value_after s.value (x ∷ [])) xs))
+    let j = value-join s.open_text (x ∷ []) xs in
+    ap (after_put (value_contents_lines s.open_text (x ∷ []))) (dumped_bytes (lines_octet_step s x).state xs (λ e. rested-after s.open_text x))
+    ∙ ap (λ (n : ℕ). of_bytes s n (value_after (value_after s.open_text (x ∷ [])) xs) (value_contents_lines s.open_text (x ∷ []) ++ value_contents_lines (value_after s.open_text (x ∷ [])) xs))
     (further-more s.offset 1 (length xs) ∙ ap (saturating_sum s.offset) (omega arith))
     ∙ ap₂ (λ (v : Option ValueTextState) (put : List ℕ). of_bytes s (saturating_sum s.offset (length (x ∷ xs))) v put) j.0 (sym j.1)
 

@@ -46,12 +46,12 @@ outside : (w : SiblingFrame) (size : ℕ) (unused : Bool) → w.has_segments ≡
 outside w size unused e = ap (λ (b : Bool). if b then frame_after_segment w true size unused else w) e
 
 -- after a primitive with which nothing is found, outside of strings
-abbrev without_value : CheckState → CheckState
-without_value s = record s { value = None }
+abbrev without_primitive : CheckState → CheckState
+without_primitive s = record s { open_primitive = None }
 
 pub passed : (s : CheckState) (h : HeaderValue) (c : List ℕ) → announced_length h.size ≡ length c → s.holders.frame.has_segments ≡ false
     → header_findings s.rules (surroundings_in s.holders.frame) h ≡ [] → findings_on_contents h c ≡ []
-    → finder_whole_step s h c ≡ record { state = without_value s; level = length s.holders.outer; offset = h.offset; found = [] }
+    → finder_whole_step s h c ≡ record { state = without_primitive s; level = length s.holders.outer; offset = h.offset; found = [] }
 passed s h c size w header contents =
     let made : SiblingFrame → ℕ → List Finding → FinderState = λ (f : SiblingFrame) (n : ℕ) (fs : List Finding). record { state = check_between s.rules f s.holders.outer (saturating_sum n (length fs)); level = length s.holders.outer; offset = h.offset; found = fs } in
     primitive-find s.rules s.holders.frame s.holders.outer s.count h c (sym size)
@@ -62,7 +62,7 @@ passed s h c size w header contents =
 
 pub passes : (old new : FinderState) (h : HeaderValue) (c : List ℕ) → announced_length h.size ≡ length c → old.state.holders.frame.has_segments ≡ false
     → header_findings old.state.rules (surroundings_in old.state.holders.frame) h ≡ [] → findings_on_contents h c ≡ []
-    → new ≡ with_state (without_value old.state) old → PassesPrimitive old new h c
+    → new ≡ with_state (without_primitive old.state) old → PassesPrimitive old new h c
 passes old new h c size w header contents e =
     let all = passed old.state h c size w header contents in
     record {

@@ -25,7 +25,7 @@ use Rattle.tlv_show.specs.CheckJob.{check_job}
 use Rattle.tlv_show.specs.CheckStep.{check_step}
 use Rattle.tlv_show.specs.FindingLines.{styled_lines}
 use Rattle.tlv_show.specs.Conditions.{end_conditions, header_conditions, segments_of, surroundings_of}
-use Rattle.tlv_show.specs.FinderState.{CheckState, FinderState, OpenPrimitiveState, finder_frame_end_step, finder_value_end_step, new_check, open_value_after}
+use Rattle.tlv_show.specs.FinderState.{CheckState, FinderState, OpenPrimitiveState, finder_frame_end_step, finder_primitive_end_step, new_check, open_primitive_after}
 use Rattle.tlv_show.specs.NestingState.{top_frame}
 use Rattle.tlv_show.specs.Private.FinderState.{finder_step}
 use Rattle.tlv_show.specs.Found.{contents_findings, header_findings, is_shown, end_findings}
@@ -80,9 +80,9 @@ either-count : (a b : CheckState) (k : Bool) → a.count ≡ b.count → (if k t
 either-count a b true e = sym e
 either-count a b false e = refl
 
-by-value : (s : CheckState) (v : Option OpenPrimitiveState) → (finder_value_end_step s v).state.count ≡ saturating_sum s.count (length (finder_value_end_step s v).found)
-by-value s None = count-none s.count
-by-value s (Some v) = refl
+by-primitive : (s : CheckState) (v : Option OpenPrimitiveState) → (finder_primitive_end_step s v).state.count ≡ saturating_sum s.count (length (finder_primitive_end_step s v).found)
+by-primitive s None = count-none s.count
+by-primitive s (Some v) = refl
 
 by-frames : (s : CheckState) (outer : List SiblingFrame) → (finder_frame_end_step s outer).state.count ≡ saturating_sum s.count (length (finder_frame_end_step s outer).found)
 by-frames s [] = count-none s.count
@@ -92,8 +92,8 @@ by-frames s (w ∷ outer) = refl
 counted-one : (s : CheckState) (e : EventValue) → (finder_step s e).state.count ≡ saturating_sum s.count (length (finder_step s e).found)
 counted-one s (Open h) = refl
 counted-one s (Begin h) = refl
-counted-one s (Bytes octets) = either-count (record s { value = open_value_after s.value octets }) s (length octets == 0) refl ∙ count-none s.count
-counted-one s End = by-value s s.value
+counted-one s (Bytes octets) = either-count (record s { open_primitive = open_primitive_after s.open_primitive octets }) s (length octets == 0) refl ∙ count-none s.count
+counted-one s End = by-primitive s s.open_primitive
 counted-one s (Close offset) = by-frames s s.holders.outer
 counted-one s (Enter h) = refl
 counted-one s Unused = count-none s.count

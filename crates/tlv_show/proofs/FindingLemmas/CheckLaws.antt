@@ -11,13 +11,13 @@ use Rattle.tlv_show.specs.declared.finding_lines.Style.{Style}
 use Rattle.tlv_show.specs.declared.finding_lines.Style.TheVariants.{Check}
 use Rattle.tlv_show.specs.CheckStep.{check_octet_step, check_step, findings_effect}
 use Rattle.tlv_show.specs.FindingLines.{last_finding_lines, styled_lines}
-use Rattle.tlv_show.specs.FinderState.{CheckState, FinderState, OpenPrimitiveState, finder_bytes_step, open_value_after}
+use Rattle.tlv_show.specs.FinderState.{CheckState, FinderState, OpenPrimitiveState, finder_bytes_step, open_primitive_after}
 use Rattle.tlv_show.specs.Private.FinderState.{ReportsFindings, finder_step, with_findings_if}
 use Rattle.tlv_show.proofs.DumpLemmas.Dumped.{take-both}
 
-value-join : (v : Option OpenPrimitiveState) (x y : List ℕ) → open_value_after (open_value_after v x) y ≡ open_value_after v (x ++ y)
-value-join None x y = refl
-value-join (Some v) x y =
+primitive-join : (v : Option OpenPrimitiveState) (x y : List ℕ) → open_primitive_after (open_primitive_after v x) y ≡ open_primitive_after v (x ++ y)
+primitive-join None x y = refl
+primitive-join (Some v) x y =
     ap (λ (t : ValueCheckState). Some (record v { check = t }))
     (checks-join v.check (take v.check.left x) (take (v.check.left - length (take v.check.left x)) y) ∙ ap (value_check_after v.check) (sym (take-both v.check.left x y)))
 
@@ -29,7 +29,7 @@ found-join s [] y = refl
 found-join s (a ∷ x) [] = ap (λ (l : List ℕ). finder_bytes_step s (a ∷ l)) (append-nil x)
 found-join s (a ∷ x) (b ∷ y) =
     rw (one-or-more a (x ++ b ∷ y), one-or-more a x, one-or-more b y)
-    (ap (λ (v : Option OpenPrimitiveState). record s { value = v }) (sym (value-join s.value (a ∷ x) (b ∷ y))))
+    (ap (λ (v : Option OpenPrimitiveState). record s { open_primitive = v }) (sym (primitive-join s.open_primitive (a ∷ x) (b ∷ y))))
 
 -- octet by octet
 pub each-found : (s : CheckState) (octets : List ℕ) → each_octet check_octet_step s octets ≡ no_effect (finder_bytes_step s octets)

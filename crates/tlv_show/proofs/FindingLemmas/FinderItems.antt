@@ -62,7 +62,7 @@ take-all n c h = grind (arith, common_steps)
 
 -- all contents octets of a primitive
 abbrev with_check : CheckState → ℕ → ValueCheckState → CheckState
-with_check s offset t = record s { value = Some (record { offset = offset; check = t }) }
+with_check s offset t = record s { open_primitive = Some (record { offset = offset; check = t }) }
 
 took : (s : CheckState) (offset : ℕ) (h : HeaderValue) (c : List ℕ) → length c ≤ announced_length h.size → finder_bytes_step (with_check s offset (new_value_check h)) c ≡ with_check s offset (value_check_after (new_value_check h) c)
 took s offset h [] e = ap (with_check s offset) (sym (checked-none h))
@@ -89,11 +89,11 @@ only-pads false level offset l = refl
 
 -- what a finder makes of a primitive
 pub primitive-found : (s : CheckState) (h : HeaderValue) (c : List ℕ) → length c ≡ announced_length h.size
-    → (u : CheckState) × (u.value ≡ None) × (finder_end_step (finder_bytes_step (finder_begin_step s h).state c) ≡ record { state = u; level = length s.holders.outer; offset = h.offset; found = contents_findings s.rules h c })
+    → (u : CheckState) × (u.open_primitive ≡ None) × (finder_end_step (finder_bytes_step (finder_begin_step s h).state c) ≡ record { state = u; level = length s.holders.outer; offset = h.offset; found = contents_findings s.rules h c })
 primitive-found s h c e =
     let n = saturating_sum s.count (length (header_findings s.rules (surroundings_in s.holders.frame) h)) in
     let t : ValueCheckState = value_check_after (new_value_check h) c in
-    let site_after : List Finding → CheckState = λ fs. record { rules = s.rules; holders = nesting_primitive_step s.holders (announced_length h.size) (has_unused_bits t); value = None; count = saturating_sum n (length fs) } in (
+    let site_after : List Finding → CheckState = λ fs. record { rules = s.rules; holders = nesting_primitive_step s.holders (announced_length h.size) (has_unused_bits t); open_primitive = None; count = saturating_sum n (length fs) } in (
       site_after (contents_findings s.rules h c),
       refl,
       ap finder_end_step (took (record s { count = n }) h.offset h c (omega (arith, e)))
@@ -103,7 +103,7 @@ primitive-found s h c e =
 module _ (rules : Rules) where
   -- between two elements
   abbrev pub check_between : SiblingFrame → List SiblingFrame → ℕ → CheckState
-  check_between w outer n = record { rules = rules; holders = record { frame = w; outer = outer }; value = None; count = n }
+  check_between w outer n = record { rules = rules; holders = record { frame = w; outer = outer }; open_primitive = None; count = n }
 
   abbrev pub later_header : SiblingFrame → HeaderValue → ℕ → ℕ
   later_header w h n = saturating_sum n (length (header_findings rules (surroundings_in w) h))

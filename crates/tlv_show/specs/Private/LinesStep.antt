@@ -1,4 +1,4 @@
--- What is made of a value that is open.
+-- What is made of a primitive that is open.
 use Rattle.std.specs.Prelude.{ℕ, if◌then◌else◌, Bool, List, length, Option, Some, None}
 use Rattle.tlv_head.specs.Header.{HeaderValue}
 use Rattle.tlv_value.specs.ValueTextState.{ValueTextState}
@@ -7,11 +7,11 @@ use Rattle.tlv_show.specs.SaturatingSum.{saturating_sum}
 
 -- a primitive, if it is open
 abbrev pub if_open : Bool → ValueTextState → Option ValueTextState
-if_open is_open value = if is_open then Some value else None
+if_open is_open text = if is_open then Some text else None
 
 -- after a primitive with these contents
 abbrev pub lines_after_primitive : LinesState → HeaderValue → List ℕ → LinesState
 lines_after_primitive s h contents = record (lines_after_header s h) {
   offset = saturating_sum (lines_after_header s h).offset (length contents);
-  value = None;
+  open_text = None;
 }

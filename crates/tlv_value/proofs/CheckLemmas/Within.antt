@@ -187,18 +187,18 @@ utc-within =
     within-prefixes _ _ _ _ (within-same (two 0 99)) (within-prefixes _ _ _ _ (within-same day) (within-prefixes _ _ _ _ within-hour
     (within-prefix _ _ _ (within-same minute) (within-second (within-first (sign then hour then minute) (within-same (mark 90)))))))
 
-general-tail : Within (maybe canonical_fraction then mark 90) (maybe fraction then maybe generalized_zone)
-general-tail =
+generalized-tail : Within (maybe canonical_fraction then mark 90) (maybe fraction then maybe generalized_zone)
+generalized-tail =
     within-then
     (within-or (within-then (within-first (mark 44) (within-same (mark 46))) within-digits) (within-same no_octets))
     (within-first no_octets (within-first (sign then hour then maybe minute) (within-same (mark 90))))
 
 -- 11.7
-general-within : Within canonical_generalized_time_form generalized_time_form
-general-within =
+generalized-within : Within canonical_generalized_time_form generalized_time_form
+generalized-within =
     within-prefixes _ _ _ _ (within-same (two 0 99)) (within-prefixes _ _ _ _ (within-same (two 0 99)) (within-prefixes _ _ _ _ (within-same day)
     (within-prefix _ _ _ within-hour
-    (within-then (within-first no_octets (within-then (within-same minute) (within-first no_octets (within-same second)))) general-tail))))
+    (within-then (within-first no_octets (within-then (within-same minute) (within-first no_octets (within-same second)))) generalized-tail))))
 
 empty-any : (rests : List (List ℕ)) → is_rest_empty rests ≡ list_any is_nil rests
 empty-any [] = refl
@@ -222,7 +222,7 @@ pub utc_clear :
     → has_form canonical_utc_time_form octets ≡ eqb (length (utc_time_findings octets)) 0
 utc_clear octets = clear-within utc-within octets
 
-pub general_clear :
+pub generalized_clear :
     (octets : List ℕ)
     → has_form canonical_generalized_time_form octets ≡ eqb (length (generalized_time_findings octets)) 0
-general_clear octets = clear-within general-within octets
+generalized_clear octets = clear-within generalized-within octets

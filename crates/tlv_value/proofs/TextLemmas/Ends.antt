@@ -107,7 +107,7 @@ pub shown-undotted : (name_of : NameOf) (p : Primitive) (octets : List ℕ) → 
 shown-undotted name_of p octets o r h = undotted_at name_of p.kind p.layout (line_prefix p) octets (held-undotted name_of p.kind octets o r h) ∙ shown-prefix name_of p octets
 
 abbrev pub state_by : Primitive → ℕ → RowsState → ValueTextState
-state_by p left kept = record { value = p; left = left; kept = kept }
+state_by p left kept = record { primitive = p; left = left; kept = kept }
 
 -- with its end a primitive that is not long has all its lines
 pub ended-shown : (name_of : NameOf) (p : Primitive) (left : ℕ) (kept : RowsState) → is_long p.kind p.size ≡ false
@@ -121,10 +121,10 @@ new-first_at : (kind : Kind) (wrote_line : Bool) (size : ℕ) (layout : Layout) 
     ≡ line (long_text Bits size (x ∷ [])) ++ row_lines Bits layout 0 (full_rows Bits (row_octets Bits (x ∷ [])) rest)
 new-first_at kind wrote_line size layout line x rest rows_part e u l = rw (l, u, e) refl
 
-pub new-first : (s : ValueTextState) (x : ℕ) (rest : List ℕ) → s.value.kind ≡ Bits → s.kept.wrote_line ≡ false → is_long s.value.kind s.value.size ≡ true
-    → contents_lines s (x ∷ rest) ≡ primitive_line s.value (long_text Bits s.value.size (x ∷ [])) ++ row_lines Bits s.value.layout 0 (full_rows Bits (row_octets Bits (x ∷ [])) rest)
+pub new-first : (s : ValueTextState) (x : ℕ) (rest : List ℕ) → s.primitive.kind ≡ Bits → s.kept.wrote_line ≡ false → is_long s.primitive.kind s.primitive.size ≡ true
+    → contents_lines s (x ∷ rest) ≡ primitive_line s.primitive (long_text Bits s.primitive.size (x ∷ [])) ++ row_lines Bits s.primitive.layout 0 (full_rows Bits (row_octets Bits (x ∷ [])) rest)
 new-first s x rest e u l =
-    new-first_at s.value.kind s.kept.wrote_line s.value.size s.value.layout (primitive_line s.value) x rest (row_lines s.value.kind s.value.layout s.kept.rows (full_rows s.value.kind s.kept.row (x ∷ rest))) e u l
+    new-first_at s.primitive.kind s.kept.wrote_line s.primitive.size s.primitive.layout (primitive_line s.primitive) x rest (row_lines s.primitive.kind s.primitive.layout s.kept.rows (full_rows s.primitive.kind s.kept.row (x ∷ rest))) e u l
 
 -- the rows after it
 pub rows-first : (kind : Kind) (layout : Layout) (n : ℕ) (row begun rest : List ℕ) → kind ≡ Bits → n ≡ 0 → row ≡ begun → row_lines kind layout n (full_rows kind row rest) ≡ row_lines Bits layout 0 (full_rows Bits begun rest)

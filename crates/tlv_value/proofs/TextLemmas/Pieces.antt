@@ -66,19 +66,19 @@ module _ (kind : Kind) (layout : Layout) (line : List ℕ → List ℕ) (size : 
       ∙ sym (append_assoc (line (long_text kind size (u ∷ []))) (full_row_lines kind layout (first_rows kind u) x) (full_row_lines kind layout (rows_after kind (first_rows kind u) x) y))
 
 abbrev with_kept : ValueTextState → ℕ → RowsState → ValueTextState
-with_kept s left k = record { value = s.value; left = left; kept = k }
+with_kept s left k = record { primitive = s.primitive; left = left; kept = k }
 
-new_by-new : (s : ValueTextState) (x : List ℕ) → new_by s.value.kind s.value.layout (primitive_line s.value) s.value.size (is_long s.value.kind s.value.size) s.kept.wrote_line s.kept x ≡ contents_lines s x
+new_by-new : (s : ValueTextState) (x : List ℕ) → new_by s.primitive.kind s.primitive.layout (primitive_line s.primitive) s.primitive.size (is_long s.primitive.kind s.primitive.size) s.kept.wrote_line s.kept x ≡ contents_lines s x
 new_by-new s [] = refl
 new_by-new s (u ∷ x) = refl
 
 pub pieces-join : PiecesJoin
 pieces-join s x y =
     let l : s.left - length x - length y ≡ s.left - length (x ++ y) = omega (arith, length-append x y) in
-    let k = join-kept s.value.kind s.value.layout (primitive_line s.value) s.value.size (is_long s.value.kind s.value.size) s.kept.wrote_line s.kept x y refl in
-    let t = join-new s.value.kind s.value.layout (primitive_line s.value) s.value.size (is_long s.value.kind s.value.size) s.kept.wrote_line s.kept x y refl in (
+    let k = join-kept s.primitive.kind s.primitive.layout (primitive_line s.primitive) s.primitive.size (is_long s.primitive.kind s.primitive.size) s.kept.wrote_line s.kept x y refl in
+    let t = join-new s.primitive.kind s.primitive.layout (primitive_line s.primitive) s.primitive.size (is_long s.primitive.kind s.primitive.size) s.kept.wrote_line s.kept x y refl in (
       ap (λ (n : ℕ). with_kept s n (rows_state_after (value_text_after s x) y)) l ∙ ap (with_kept s (s.left - length (x ++ y))) k,
-      sym (new_by-new s (x ++ y)) ∙ t ∙ ap (λ (r : List ℕ). r ++ new_by s.value.kind s.value.layout (primitive_line s.value) s.value.size (is_long s.value.kind s.value.size) (rows_state_after s x).wrote_line (rows_state_after s x) y) (new_by-new s x)
+      sym (new_by-new s (x ++ y)) ∙ t ∙ ap (λ (r : List ℕ). r ++ new_by s.primitive.kind s.primitive.layout (primitive_line s.primitive) s.primitive.size (is_long s.primitive.kind s.primitive.size) (rows_state_after s x).wrote_line (rows_state_after s x) y) (new_by-new s x)
           ∙ ap (λ (r : List ℕ). contents_lines s x ++ r) (new_by-new (value_text_after s x) y),
     )
 
@@ -178,7 +178,7 @@ new-nothing_at kind layout line size true false = refl
 pub new-nothing : (h : HeaderValue) (layout : Layout) → contents_lines (new_value_text h layout) [] ≡ []
 new-nothing h layout =
     let s : ValueTextState = new_value_text h layout in
-    sym (new_by-new s []) ∙ new-nothing_at s.value.kind s.value.layout (primitive_line s.value) s.value.size (is_long s.value.kind s.value.size) s.kept.wrote_line
+    sym (new_by-new s []) ∙ new-nothing_at s.primitive.kind s.primitive.layout (primitive_line s.primitive) s.primitive.size (is_long s.primitive.kind s.primitive.size) s.kept.wrote_line
 
 after-nothing_at : (kind : Kind) (layout : Layout) (line : List ℕ → List ℕ) (size : ℕ) (long wrote_line : Bool) → wrote_line ≡ has_line kind [] → kept_by kind layout line size long wrote_line (begin_kept kind) [] ≡ begin_kept kind
 after-nothing_at kind layout line size false wrote_line e = refl
@@ -191,7 +191,7 @@ pub after-nothing : (h : HeaderValue) (layout : Layout) → value_text_after (ne
 after-nothing h layout =
     let s : ValueTextState = new_value_text h layout in
     let l : s.left - 0 ≡ s.left = omega arith in
-    ap (λ (n : ℕ). with_kept s n (rows_state_after s [])) l ∙ ap (with_kept s s.left) (after-nothing_at s.value.kind s.value.layout (primitive_line s.value) s.value.size (is_long s.value.kind s.value.size) s.kept.wrote_line refl)
+    ap (λ (n : ℕ). with_kept s n (rows_state_after s [])) l ∙ ap (with_kept s s.left) (after-nothing_at s.primitive.kind s.primitive.layout (primitive_line s.primitive) s.primitive.size (is_long s.primitive.kind s.primitive.size) s.kept.wrote_line refl)
 
 pub lines-begin : LinesBegin
 lines-begin h layout = (

@@ -7,4 +7,4 @@ returns-then-is_fraction_and_zone c = maybe-there fraction (maybe generalized_zo
 
 pub returns-else-is_fraction_and_zone : goal.returns-else-is_fraction_and_zone
 returns-else-is_fraction_and_zone c =
-    maybe-left fraction (maybe generalized_zone) c.args.octets.now c.is_fraction_and_zone.result c.is_general_zone.result c.is_fraction_and_zone.ensures (cc) c.is_general_zone.ensures
+    maybe-left fraction (maybe generalized_zone) c.args.octets.now c.is_fraction_and_zone.result c.is_generalized_zone.result c.is_fraction_and_zone.ensures (cc) c.is_generalized_zone.ensures

@@ -12,7 +12,7 @@ returns-in_err-put_long g c = puts_failed g.D.Drain.state _ _ _ _ _ _ c.in_err-p
 
 pub returns : goal.returns
 returns g c =
-    let p = c.args.value.now in
+    let p = c.args.primitive.now in
     let line : List ℕ = primitive_line p (long_text p.kind p.size c.args.contents.now) in
     let rows =
     pair_lines p.kind c.requires.pairs p.layout c.requires.endless c.row_octets.result.now

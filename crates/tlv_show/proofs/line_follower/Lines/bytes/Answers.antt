@@ -18,7 +18,7 @@ returns-clause-state g c =
     let is = ap (λ (s : LinesState). each_octet lines_octet_step s octets) (sym c.self.view_is) ∙ dumped_bytes _ octets (λ e. absurd (omega (arith, some, ap length e))) in
     let there : c.saturating_add-self-inside.result ≡ saturating_sum s.offset (length octets) = omega (arith, c.saturating_add-self-inside.ensures, within) in
     on_ok_weaker c.put_bytes.result
-    (λ e. ap₂ (λ (o : ℕ) (v : Option ValueTextState). record { layout = s.layout; names = s.names.now; offset = o; in_padding = s.in_padding; value = v }) there e
+    (λ e. ap₂ (λ (o : ℕ) (v : Option ValueTextState). record { layout = s.layout; names = s.names.now; offset = o; in_padding = s.in_padding; open_text = v }) there e
     ∙ sym (ap (λ (t : Effect LinesState). t.state) is))
     c.put_bytes.ensures.state
 

@@ -9,8 +9,8 @@ use Rattle.tlv_value.proofs.text.ValueText.begin.Goals.{then-not-is_long-via-the
 use Rattle.tlv_value.proofs.text.ValueText.begin.Goals as goal
 
 -- with the header of a value that is not long no line is known
-begun-short : (s v : ValueTextState) → s ≡ v → is_long s.value.kind s.value.size ≡ false → [] ≡ begin_lines v
-begun-short s v same l = sym (ap (λ (b : Bool). if b then (if s.kept.wrote_line then primitive_line s.value [] else []) else []) l) ∙ ap begin_lines same
+begun-short : (s v : ValueTextState) → s ≡ v → is_long s.primitive.kind s.primitive.size ≡ false → [] ≡ begin_lines v
+begun-short s v same l = sym (ap (λ (b : Bool). if b then (if s.kept.wrote_line then primitive_line s.primitive [] else []) else []) l) ∙ ap begin_lines same
 
 either : (b : Bool) (xs : List ℕ) → xs ≡ (if b then xs else xs)
 either true xs = refl
@@ -18,7 +18,7 @@ either false xs = refl
 
 -- nor is one with that of a value whose line comes later
 begun-unlined : (s v : ValueTextState) → s ≡ v → s.kept.wrote_line ≡ false → [] ≡ begin_lines v
-begun-unlined s v same l = either (is_long s.value.kind s.value.size) [] ∙ ap (λ (b : Bool). if is_long s.value.kind s.value.size then (if b then primitive_line s.value [] else []) else []) (sym l) ∙ ap begin_lines same
+begun-unlined s v same l = either (is_long s.primitive.kind s.primitive.size) [] ∙ ap (λ (b : Bool). if is_long s.primitive.kind s.primitive.size then (if b then primitive_line s.primitive [] else []) else []) (sym l) ∙ ap begin_lines same
 
 pub returns-then-not-is_long-clause-puts : goal.returns-then-not-is_long-clause-puts
 returns-then-not-is_long-clause-puts g c =

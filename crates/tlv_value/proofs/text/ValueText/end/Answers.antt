@@ -11,18 +11,18 @@ use Rattle.tlv_value.proofs.text.ValueText.end.Goals as goal
 pub put-requires : goal.put-requires
 put-requires g c =
     let t = c.self.inside in
-    let l : is_long t.value.kind t.value.size ≡ false = sym c.is_long.ensures ∙ c.if-is_long.false in
+    let l : is_long t.primitive.kind t.primitive.size ≡ false = sym c.is_long.ensures ∙ c.if-is_long.false in
     let left : t.left ≡ 0 = ap (λ (s : ValueTextState). s.left) c.self.view_is ∙ c.requires in
     let held = c.self.invariant.held l in
-    held-most t.value.kind (length c.as_slice-contents.result.now) t.value.size l (omega (arith, ap length c.as_slice-contents.ensures.value, held, left))
+    held-most t.primitive.kind (length c.as_slice-contents.result.now) t.primitive.size l (omega (arith, ap length c.as_slice-contents.ensures.value, held, left))
 
 pub returns-clause-puts : goal.returns-clause-puts
 returns-clause-puts g c =
     let t = c.self.inside in
     let names = g.N.NameTable.name_of c.args.names.now in
-    let l : is_long t.value.kind t.value.size ≡ false = sym c.is_long.ensures ∙ c.if-is_long.false in
-    let row : primitive_lines names t.value c.as_slice-contents.result.now ≡ primitive_lines names t.value t.row.items = ap (primitive_lines names t.value) c.as_slice-contents.ensures.value in
-    let all = sym (ended-shown names t.value t.left (value_text_state_of t).kept l) ∙ ap (end_lines names) c.self.view_is in
+    let l : is_long t.primitive.kind t.primitive.size ≡ false = sym c.is_long.ensures ∙ c.if-is_long.false in
+    let row : primitive_lines names t.primitive c.as_slice-contents.result.now ≡ primitive_lines names t.primitive t.row.items = ap (primitive_lines names t.primitive) c.as_slice-contents.ensures.value in
+    let all = sym (ended-shown names t.primitive t.left (value_text_state_of t).kept l) ∙ ap (end_lines names) c.self.view_is in
     puts_text g.D.Drain.state _ _ _ _ _ (row ∙ all) c.put.ensures
 
 pub returns-then-is_long-clause-puts : goal.returns-then-is_long-clause-puts
