@@ -11,7 +11,7 @@ use Rattle.tlv_head.specs.UniversalTypes as universal
 use Rattle.tlv_value.specs.Types.{has_segments, is_a, is_always_constructed, is_always_primitive, is_primitive}
 use Rattle.tlv_value.specs.Types.{is_string, is_unassigned}
 use Rattle.tlv_walk.specs.Place.{is_indefinite}
-use Rattle.tlv_show.specs.Site.{Before, Sibling, Site, in_bit_string, in_string}
+use Rattle.tlv_show.specs.Site.{Previous, Sibling, Site, in_bit_string, in_string}
 
 -- ---- With the header
 
@@ -37,12 +37,12 @@ is_length_padded h =
     has_long_form h && (nat_lt (announced_length h.size) 128 || length_octet h == 0)
 
 -- 8.6.2.2: a primitive BIT STRING with unused bits
-abbrev pub follows_unused_bits : Before → Bool
+abbrev pub follows_unused_bits : Previous → Bool
 follows_unused_bits (Sibling h (Some x)) = is_primitive h && is_a universal.bit_string h && not (x == 0)
 follows_unused_bits _ = false
 
 -- 9.2: an element, but no primitive of 1000 contents octets
-abbrev pub is_not_full : Before → Bool
+abbrev pub is_not_full : Previous → Bool
 is_not_full (Sibling h first) = h.constructed || not (announced_length h.size == 1000)
 is_not_full _ = false
 
@@ -60,8 +60,8 @@ abbrev pub surroundings_of : Site → Surroundings
 surroundings_of s = record {
   in_string = in_string s;
   in_bit_string = in_bit_string s;
-  after_unused_bits = in_bit_string s && follows_unused_bits s.before;
-  after_not_full = in_string s && is_not_full s.before;
+  after_unused_bits = in_bit_string s && follows_unused_bits s.previous;
+  after_not_full = in_string s && is_not_full s.previous;
 }
 
 -- 8.6.4, 8.7.3: the type of segments: BIT STRING in a BIT STRING, and OCTET STRING in any other string

@@ -8,29 +8,29 @@ use Rattle.tlv_show.specs.declared.rules.Rules.{Rules}
 use Rattle.tlv_show.specs.declared.finding_lines.Style.TheVariants.{Dump}
 use Rattle.tlv_show.specs.FindingLines.{last_finding_lines}
 use Rattle.tlv_show.specs.LinesStep.{LinesState, lines_octet_step, lines_padding_step, lines_step, new_lines}
-use Rattle.tlv_show.specs.FinderState.{CheckState, FinderState, finder_begin_step, finder_bytes_step}
+use Rattle.tlv_show.specs.FinderState.{FinderState, FinderReport, finder_begin_step, finder_bytes_step}
 use Rattle.tlv_show.specs.FinderState.{finder_close_step, finder_end_step, finder_open_step, new_check}
 use Rattle.tlv_show.specs.FinderState.{without_findings}
 
 -- what contracts see of a `Dump`
 pub record DumpState : Type 0 where
   pub lines : LinesState
-  pub finder : CheckState
+  pub finder : FinderState
 
 -- a dump of which nothing is written
 abbrev pub new_dump : Rules → Layout → NamesTable → DumpState
 new_dump rules layout names = record { lines = new_lines layout names; finder = new_check rules }
 
 -- the lines of what is found
-abbrev pub finding_lines : DumpState → FinderState → List ℕ
+abbrev pub finding_lines : DumpState → FinderReport → List ℕ
 finding_lines s f = last_finding_lines (Dump s.lines.layout.pure) f
 
 -- what is found comes before the lines, or after them
-abbrev pub findings_first : DumpState → FinderState → Effect LinesState → Effect DumpState
+abbrev pub findings_first : DumpState → FinderReport → Effect LinesState → Effect DumpState
 findings_first s f d =
     effect_with (record { lines = d.state; finder = f.state }) (finding_lines s f ++ d.put)
 
-abbrev pub findings_last : DumpState → FinderState → Effect LinesState → Effect DumpState
+abbrev pub findings_last : DumpState → FinderReport → Effect LinesState → Effect DumpState
 findings_last s f d =
     effect_with (record { lines = d.state; finder = f.state }) (d.put ++ finding_lines s f)
 

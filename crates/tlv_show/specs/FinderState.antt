@@ -21,7 +21,8 @@ pub record OpenPrimitiveState : Type 0 where
   pub offset : ℕ
   pub check : ValueCheckState
 
-pub record CheckState : Type 0 where
+-- what a finder keeps; a `Check` keeps nothing else
+pub record FinderState : Type 0 where
   pub rules : Rules
   -- the elements that hold others and are open
   pub holders : NestingState
@@ -30,19 +31,19 @@ pub record CheckState : Type 0 where
   -- how many findings were reported; it stops at 2^64 - 1
   pub count : ℕ
 
-abbrev pub new_check : Rules → CheckState
+abbrev pub new_check : Rules → FinderState
 new_check rules = record { rules = rules; holders = new_nesting; open_primitive = None; count = 0 }
 
 -- what contracts see of a `Finder`: what it keeps, what it found with the last event, and in which element this is: one
 -- that begins at `offset` and that `level` others hold
-pub record FinderState : Type 0 where
-  pub state : CheckState
+pub record FinderReport : Type 0 where
+  pub state : FinderState
   pub level : ℕ
   pub offset : ℕ
   pub found : List Finding
 
 -- findings are counted
-abbrev pub with_findings : CheckState → ℕ → ℕ → List Finding → FinderState
+abbrev pub with_findings : FinderState → ℕ → ℕ → List Finding → FinderReport
 with_findings s level offset found = record {
   state = record s { count = saturating_sum s.count (length found) };
   level = level;
@@ -50,27 +51,27 @@ with_findings s level offset found = record {
   found = found;
 }
 
-abbrev pub without_findings : CheckState → FinderState
+abbrev pub without_findings : FinderState → FinderReport
 without_findings s = record { state = s; level = 0; offset = 0; found = [] }
 
 -- ---- What it makes of an event
 
 -- what is found with a header
-abbrev pub header_findings_in : CheckState → HeaderValue → List Finding
+abbrev pub header_findings_in : FinderState → HeaderValue → List Finding
 header_findings_in s h = header_findings s.rules (surroundings_in s.holders.frame) h
 
 -- an element that holds others begins
-abbrev pub finder_open_step : CheckState → HeaderValue → FinderState
+abbrev pub finder_open_step : FinderState → HeaderValue → FinderReport
 finder_open_step s h =
     with_findings (record s { holders = nesting_open_step s.holders h }) (length s.holders.outer) h.offset
     (header_findings_in s h)
 
 -- a primitive begins
-abbrev pub finder_in_primitive : CheckState → HeaderValue → CheckState
+abbrev pub finder_in_primitive : FinderState → HeaderValue → FinderState
 finder_in_primitive s h =
     record s { open_primitive = Some (record { offset = h.offset; check = new_value_check h }) }
 
-abbrev pub finder_begin_step : CheckState → HeaderValue → FinderState
+abbrev pub finder_begin_step : FinderState → HeaderValue → FinderReport
 finder_begin_step s h =
     with_findings (finder_in_primitive s h) (length s.holders.outer) h.offset (header_findings_in s h)
 
@@ -80,7 +81,7 @@ open_primitive_after None octets = None
 open_primitive_after (Some v) octets =
     Some (record v { check = value_check_after v.check (take v.check.left octets) })
 
-abbrev pub finder_bytes_step : CheckState → List ℕ → CheckState
+abbrev pub finder_bytes_step : FinderState → List ℕ → FinderState
 finder_bytes_step s octets =
     if length octets == 0
     then s
@@ -90,27 +91,27 @@ finder_bytes_step s octets =
 abbrev pub contents_findings_in : Rules → ValueCheckState → List Finding
 contents_findings_in rules t = if t.left == 0 then filter (is_shown rules) (findings_in t) else []
 
-abbrev pub finder_after_primitive : CheckState → OpenPrimitiveState → CheckState
+abbrev pub finder_after_primitive : FinderState → OpenPrimitiveState → FinderState
 finder_after_primitive s v = record s {
   holders = nesting_primitive_step s.holders v.check.size (has_unused_bits v.check);
   open_primitive = None;
 }
 
-abbrev pub finder_primitive_end_step : CheckState → Option OpenPrimitiveState → FinderState
+abbrev pub finder_primitive_end_step : FinderState → Option OpenPrimitiveState → FinderReport
 finder_primitive_end_step s None = without_findings s
 finder_primitive_end_step s (Some v) =
     with_findings (finder_after_primitive s v) (length s.holders.outer) v.offset
     (contents_findings_in s.rules v.check)
 
-abbrev pub finder_end_step : CheckState → FinderState
+abbrev pub finder_end_step : FinderState → FinderReport
 finder_end_step s = finder_primitive_end_step s s.open_primitive
 
 -- an element that holds others ends, inside those with these frames
-abbrev pub finder_frame_end_step : CheckState → List SiblingFrame → FinderState
+abbrev pub finder_frame_end_step : FinderState → List SiblingFrame → FinderReport
 finder_frame_end_step s [] = without_findings s
 finder_frame_end_step s (w ∷ outer) =
     with_findings (record s { holders = nesting_close_step s.holders }) (length outer) s.holders.frame.offset
     (end_findings s.rules (segments_in s.holders.frame))
 
-abbrev pub finder_close_step : CheckState → FinderState
+abbrev pub finder_close_step : FinderState → FinderReport
 finder_close_step s = finder_frame_end_step s s.holders.outer

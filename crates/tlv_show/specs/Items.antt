@@ -41,7 +41,7 @@ module _ (rules : Rules) where
   abbrev pub items : Site → Forest → List Item
   -- a run of padding has one line
   items s (PaddingOctet rest) =
-      (if is_padding s.before then [] else PaddingLine s.level s.offset ∷ [])
+      (if is_padding s.previous then [] else PaddingLine s.level s.offset ∷ [])
       ++ items (later_site s 1 Padding) rest
   items s (Primitive h c rest) =
       finding_items s h (header_findings rules (surroundings_of s) h)

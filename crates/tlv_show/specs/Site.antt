@@ -7,13 +7,13 @@ use Rattle.tlv_value.specs.Types.{has_segments, is_a}
 use Rattle.tlv_walk.specs.Forest.{opening}
 
 -- what is right before an element, in what holds it
-pub data Before : Type 0 where
+pub data Previous : Type 0 where
   -- nothing: it is the first
-  Start : Before
+  Start : Previous
   -- octets 00 between encodings
-  Padding : Before
+  Padding : Previous
   -- an element. Of a primitive that wraps nothing the first contents octet is kept, if there is one
-  Sibling : (header : HeaderValue) (first : Option ℕ) → Before
+  Sibling : (header : HeaderValue) (first : Option ℕ) → Previous
 
 pub record Site : Type 0 where
   -- the offset of its first octet
@@ -22,15 +22,15 @@ pub record Site : Type 0 where
   pub level : ℕ
   -- the innermost of these
   pub holder : Option HeaderValue
-  pub before : Before
+  pub previous : Previous
 
 -- the start of the input
 abbrev pub top_site : Site
-top_site = record { offset = 0; level = 0; holder = None; before = Start }
+top_site = record { offset = 0; level = 0; holder = None; previous = Start }
 
 -- so many octets on, after this
-abbrev pub later_site : Site → ℕ → Before → Site
-later_site s octets before = record s { offset = s.offset + octets; before = before }
+abbrev pub later_site : Site → ℕ → Previous → Site
+later_site s octets previous = record s { offset = s.offset + octets; previous = previous }
 
 -- inside an element that holds others
 abbrev pub site_of_children : Site → HeaderValue → Site
@@ -38,10 +38,10 @@ site_of_children s h = record {
   offset = s.offset + length (opening h);
   level = s.level + 1;
   holder = Some h;
-  before = Start;
+  previous = Start;
 }
 
-abbrev pub is_padding : Before → Bool
+abbrev pub is_padding : Previous → Bool
 is_padding Padding = true
 is_padding _ = false
 

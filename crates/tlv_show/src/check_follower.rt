@@ -20,9 +20,9 @@ pub struct Check {
 }
 
 impl Model for Check {
-    ghost use Rattle.tlv_show.specs.FinderState.{CheckState};
+    ghost use Rattle.tlv_show.specs.FinderState.{FinderState};
 
-    ghost Value = { CheckState };
+    ghost Value = { FinderState };
 
     ghost view = { λ c. c.finder.state };
 }

@@ -44,10 +44,10 @@ pub(crate) struct Finder {
 }
 
 impl Model for Finder {
-    ghost use Rattle.tlv_show.specs.FinderState.{FinderState};
+    ghost use Rattle.tlv_show.specs.FinderState.{FinderReport};
     ghost use Rattle.tlv_show.specs.Private.FinderState.{open_by};
 
-    ghost Value = { FinderState };
+    ghost Value = { FinderReport };
 
     ghost view = { λ f. record {
       state = record {

@@ -10,7 +10,7 @@ use Rattle.tlv_show.specs.declared.finding_lines.Style.TheVariants.{Dump}
 use Rattle.tlv_show.specs.FindingLines.{last_finding_lines}
 use Rattle.tlv_show.specs.LinesStep.{LinesState, lines_octet_step, lines_step, lines_after_header}
 use Rattle.tlv_show.specs.DumpStep.{DumpState, dump_step}
-use Rattle.tlv_show.specs.FinderState.{CheckState, FinderState, finder_begin_step, finder_bytes_step, finder_close_step, finder_end_step, finder_open_step}
+use Rattle.tlv_show.specs.FinderState.{FinderState, FinderReport, finder_begin_step, finder_bytes_step, finder_close_step, finder_end_step, finder_open_step}
 use Rattle.tlv_show.specs.Laws.{PrimitivesAreShown}
 use Rattle.tlv_show.specs.LinesStep.{value_after, value_contents_lines}
 use Rattle.tlv_show.proofs.DumpLemmas.Dumped.{dumped_bytes, of_bytes, rested-new}
@@ -21,7 +21,7 @@ use Rattle.tlv_show.specs.SaturatingSum.{saturating_sum}
 
 -- ---- events one after another
 
-abbrev pub pair : LinesState → CheckState → DumpState
+abbrev pub pair : LinesState → FinderState → DumpState
 pair l f = record { lines = l; finder = f }
 
 shown-more : (s : DumpState) (xs ys : List EventValue) → effect_of dump_step s (xs ++ ys) ≡ and_then (effect_of dump_step s xs) (λ u. effect_of dump_step u ys)
@@ -32,12 +32,12 @@ pub then_shown : (s t : DumpState) (put : List ℕ) (xs ys : List EventValue) �
 then_shown s t put xs ys e = shown-more s xs ys ∙ ap (λ (k : Effect DumpState). and_then k (λ u. effect_of dump_step u ys)) e
 
 -- the lines of what is found, as a dump in this layout puts them
-abbrev pub texts : Layout → FinderState → List ℕ
+abbrev pub texts : Layout → FinderReport → List ℕ
 texts layout f = last_finding_lines (Dump layout.pure) f
 
 -- ---- an element that holds others
 
-pub opens-by : (l : LinesState) (s : CheckState) (h : HeaderValue) (k three : Bool)
+pub opens-by : (l : LinesState) (s : FinderState) (h : HeaderValue) (k three : Bool)
     → effect_of dump_step (pair l s) ((if k then Open h else Enter h) ∷ map {A = ℕ} (λ z. Unused) (if k then [] else (if three then 0 ∷ [] else [])))
     ≡ (let d = effect_of lines_step l ((if k then Open h else Enter h) ∷ map {A = ℕ} (λ z. Unused) (if k then [] else (if three then 0 ∷ [] else []))) in
     effect_with (pair d.state (finder_open_step s h).state) (texts l.layout (finder_open_step s h) ++ d.put))
@@ -48,7 +48,7 @@ opens-by l s h false false = ap (effect_with _) (append_assoc (texts l.layout (f
 again : (a b : List ℕ) → (a ++ b) ++ [] ≡ (a ++ []) ++ b
 again a b = append-nil (a ++ b) ∙ ap (λ (x : List ℕ). x ++ b) (sym (append-nil a))
 
-pub closes-by : (l : LinesState) (s : CheckState) (offset : Option ℕ) (k : Bool)
+pub closes-by : (l : LinesState) (s : FinderState) (offset : Option ℕ) (k : Bool)
     → effect_of dump_step (pair l s) ((if k then Close offset else Leave) ∷ [])
     ≡ (let d = effect_of lines_step l ((if k then Close offset else Leave) ∷ []) in
     effect_with (pair d.state (finder_close_step s).state) (d.put ++ texts l.layout (finder_close_step s)))
@@ -61,7 +61,7 @@ closes-by l s offset false = ap (effect_with _) (again (lines_step l Leave).put 
 around : (a b m e t : List ℕ) → (a ++ b) ++ (m ++ ((e ++ t) ++ [])) ≡ a ++ ((b ++ (m ++ (e ++ []))) ++ t)
 around a b m e t = simp (append_assoc, append-nil)
 
-pub primitive-by : (l : LinesState) (s : CheckState) (h : HeaderValue) (c : List ℕ)
+pub primitive-by : (l : LinesState) (s : FinderState) (h : HeaderValue) (c : List ℕ)
     → effect_of dump_step (pair l s) (Begin h ∷ Bytes c ∷ End ∷ [])
     ≡ (let d = effect_of lines_step l (Begin h ∷ Bytes c ∷ End ∷ []) in
     let f = finder_end_step (finder_bytes_step (finder_begin_step s h).state c) in
@@ -70,7 +70,7 @@ primitive-by l s h c =
     let b = lines_step l (Begin h) in
     let m = each_octet lines_octet_step b.state c in
     let e = lines_step m.state End in
-    let u : CheckState = finder_bytes_step (finder_begin_step s h).state c in
+    let u : FinderState = finder_bytes_step (finder_begin_step s h).state c in
     let f = finder_end_step u in
     let first = texts l.layout (finder_begin_step s h) in
     let whole : Effect LinesState → Effect DumpState = λ k. effect_with (pair (lines_step k.state End).state f.state) ((first ++ b.put) ++ (k.put ++ (((lines_step k.state End).put ++ texts k.state.layout f) ++ []))) in
@@ -97,11 +97,11 @@ primitives_are_shown s h c size =
       refl,
       f.1,
       primitive-by s.lines s.finder h c
-          ∙ ap₂ (λ (d : Effect LinesState) (f : FinderState). effect_with (pair d.state f.state) (texts s.lines.layout (finder_begin_step s.finder h) ++ (d.put ++ texts s.lines.layout f))) d f.2,
+          ∙ ap₂ (λ (d : Effect LinesState) (f : FinderReport). effect_with (pair d.state f.state) (texts s.lines.layout (finder_begin_step s.finder h) ++ (d.put ++ texts s.lines.layout f))) d f.2,
     )
 
 -- a primitive that is open
-pub part-by : (l : LinesState) (s : CheckState) (h : HeaderValue) (c : List ℕ)
+pub part-by : (l : LinesState) (s : FinderState) (h : HeaderValue) (c : List ℕ)
     → (effect_of dump_step (pair l s) (Begin h ∷ Bytes c ∷ [])).put ≡ texts l.layout (finder_begin_step s h) ++ (effect_of lines_step l (Begin h ∷ Bytes c ∷ [])).put
 part-by l s h c =
     let b = lines_step l (Begin h) in

@@ -11,7 +11,7 @@ use Rattle.tlv_walk.specs.Reading.{IsReading}
 use Rattle.tlv_show.specs.declared.options.Options.{Options}
 use Rattle.tlv_show.specs.DumpJob.{dump_job, top_layout}
 use Rattle.tlv_show.specs.DumpStep.{DumpState, dump_step, new_dump}
-use Rattle.tlv_show.specs.FinderState.{CheckState}
+use Rattle.tlv_show.specs.FinderState.{FinderState}
 use Rattle.tlv_show.specs.NestingState.{top_frame}
 use Rattle.tlv_show.specs.Private.FinderState.{finder_step}
 use Rattle.tlv_show.specs.Site.{Start}
@@ -39,7 +39,7 @@ finder-run s [] = refl
 finder-run s (e ∷ es) =
     ap (λ (g : Go). (if_on g (dump_step s e) (λ u. effect_of dump_step u es)).state.finder) (one_on s e)
     ∙ finder-run (dump_step s e).state es
-    ∙ ap (λ (u : CheckState). (run u es).state) (finder-by s e)
+    ∙ ap (λ (u : FinderState). (run u es).state) (finder-by s e)
 
 module _ (options : Options) (names : NamesTable) (octets : List ℕ) (f : Forest) (short : length octets ≤ 2 ^ 40) (r : IsReading options.framing octets f) where
   pub text-made : (effect_of dump_step (new_dump options.rules (top_layout options) names) (events f)).put ≡ (dump_job options names).text f
@@ -49,7 +49,7 @@ module _ (options : Options) (names : NamesTable) (octets : List ℕ) (f : Fores
 
   pub count-made : (effect_of dump_step (new_dump options.rules (top_layout options) names) (events f)).state.finder.count ≡ finding_count options.rules f
   count-made =
-      ap (λ (u : CheckState). u.count) (finder-run (new_dump options.rules (top_layout options) names) (events f)) ∙ count-run options.rules options.framing octets f short r
+      ap (λ (u : FinderState). u.count) (finder-run (new_dump options.rules (top_layout options) names) (events f)) ∙ count-run options.rules options.framing octets f short r
 
 pub dumps : (options : Options) (names : NamesTable)
     → Shower dump_step (new_dump options.rules (top_layout options) names) options.framing (dump_job options names).text (finding_count options.rules) (λ (s : DumpState). s.finder.count)

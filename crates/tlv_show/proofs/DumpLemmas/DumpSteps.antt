@@ -11,7 +11,7 @@ use Rattle.tlv_walk.specs.Events.{Begin, Bytes, Close, End, Enter, EventValue, L
 use Rattle.tlv_walk.specs.Follow.{Effect, each_octet, effect_of, if_on}
 use Rattle.tlv_show.specs.LinesStep.{lines_octet_step, lines_padding_step}
 use Rattle.tlv_show.specs.DumpStep.{DumpState, dump_octet_step, dump_padding_step, dump_step, finding_lines}
-use Rattle.tlv_show.specs.FinderState.{CheckState, FinderState, finder_bytes_step}
+use Rattle.tlv_show.specs.FinderState.{FinderState, FinderReport, finder_bytes_step}
 use Rattle.tlv_show.specs.FindingLines.{last_finding_lines}
 use Rattle.tlv_show.specs.Private.FinderState.{ReportsFindings, with_findings_if}
 use Rattle.tlv_show.specs.declared.finding_lines.Style.{Style}
@@ -31,7 +31,7 @@ each-shown s (x ∷ octets) =
     let d = lines_octet_step s.lines x in
     let u : DumpState = record { lines = d.state; finder = finder_bytes_step s.finder (x ∷ []) } in
     ap (λ (k : Effect DumpState). record { state = k.state; put = d.put ++ k.put; goes = k.goes }) (each-shown u octets)
-    ∙ ap (λ (f : CheckState). record { state = record { lines = (each_octet lines_octet_step d.state octets).state; finder = f }; put = d.put ++ (each_octet lines_octet_step d.state octets).put; goes = go.On })
+    ∙ ap (λ (f : FinderState). record { state = record { lines = (each_octet lines_octet_step d.state octets).state; finder = f }; put = d.put ++ (each_octet lines_octet_step d.state octets).put; goes = go.On })
     (sym (found-join s.finder (x ∷ []) octets))
 
 pub each-filled : (s : DumpState) (octets : List ℕ)
@@ -64,7 +64,7 @@ all_on s (e ∷ es) = ap (λ (g : Go). (if_on g (dump_step s e) (λ u. effect_of
 
 -- ---- findings are put before the lines, or after them
 
-module _ {D : Type 0} (taken : D → DrainState) (s : DumpState) (f last : FinderState) (has_findings : Bool) (style : Style) where
+module _ {D : Type 0} (taken : D → DrainState) (s : DumpState) (f last : FinderReport) (has_findings : Bool) (style : Style) where
   lines-last : style ≡ Dump s.lines.layout.pure → ReportsFindings f last has_findings → last_finding_lines style (with_findings_if has_findings last) ≡ finding_lines s f
   lines-last is says = ap (λ (y : Style). last_finding_lines y (with_findings_if has_findings last)) is ∙ last-same (Dump s.lines.layout.pure) f last has_findings says
 

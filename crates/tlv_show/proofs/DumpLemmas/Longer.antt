@@ -10,7 +10,7 @@ use Rattle.tlv_walk.proofs.EventLemmas.Prefixes.{events-prefix}
 use Rattle.tlv_show.specs.CheckStep.{check_octet_step, check_step}
 use Rattle.tlv_show.specs.DumpJob.{dump_job, top_layout}
 use Rattle.tlv_show.specs.DumpStep.{DumpState, dump_octet_step, dump_padding_step, dump_step, new_dump}
-use Rattle.tlv_show.specs.FinderState.{CheckState, new_check}
+use Rattle.tlv_show.specs.FinderState.{FinderState, new_check}
 use Rattle.tlv_show.specs.Laws.{ChecksGoOn, DumpsGoOn}
 use Rattle.tlv_show.proofs.FindingLemmas.CheckFolds.{checks}
 use Rattle.tlv_show.proofs.DumpLemmas.DumpFolds.{dumps}
@@ -38,5 +38,5 @@ dumps_on options names b c f g few r s =
 
 pub checks_on : ChecksGoOn
 checks_on rules framing b c f g few r s =
-    goes_on check_step (new_check rules) framing _ _ (λ (t : CheckState). t.count) (checks rules framing)
+    goes_on check_step (new_check rules) framing _ _ (λ (t : FinderState). t.count) (checks rules framing)
     (followed-alike check_step (each_octet-joins check_octet_step) (λ s. refl) (each_octet-goes_on check_octet_step) (λ s x y. refl) (λ s. refl) (λ s x. refl)) b c f g few r s

@@ -58,7 +58,7 @@ module _ (rules : Rules) where
 
   same : (s : Site) (f : Forest) → only (items Ber s f) ≡ basic (items rules s f)
   same s NoMore = refl
-  same s (PaddingOctet rest) = same-pads (is_padding s.before) s.level s.offset _ _ (same (site_after_padding s) rest)
+  same s (PaddingOctet rest) = same-pads (is_padding s.previous) s.level s.offset _ _ (same (site_after_padding s) rest)
   same s (Primitive h c rest) =
       same-found s.level h.offset (findings_by (header_conditions (surroundings_of s) h)) (PrimitiveLines s.level h c ∷ (findings_at s.level h.offset (contents_findings Ber h c) ++ items Ber (site_after s h c) rest))
       (PrimitiveLines s.level h c ∷ (findings_at s.level h.offset (contents_findings rules h c) ++ items rules (site_after s h c) rest))

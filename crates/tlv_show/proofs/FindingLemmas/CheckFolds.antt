@@ -25,7 +25,7 @@ use Rattle.tlv_show.specs.CheckJob.{check_job}
 use Rattle.tlv_show.specs.CheckStep.{check_step}
 use Rattle.tlv_show.specs.FindingLines.{styled_lines}
 use Rattle.tlv_show.specs.Conditions.{end_conditions, header_conditions, segments_of, surroundings_of}
-use Rattle.tlv_show.specs.FinderState.{CheckState, FinderState, OpenPrimitiveState, finder_frame_end_step, finder_primitive_end_step, new_check, open_primitive_after}
+use Rattle.tlv_show.specs.FinderState.{FinderState, FinderReport, OpenPrimitiveState, finder_frame_end_step, finder_primitive_end_step, new_check, open_primitive_after}
 use Rattle.tlv_show.specs.NestingState.{top_frame}
 use Rattle.tlv_show.specs.Private.FinderState.{finder_step}
 use Rattle.tlv_show.specs.Found.{contents_findings, header_findings, is_shown, end_findings}
@@ -46,15 +46,15 @@ written-items level offset [] = refl
 written-items level offset (f ∷ fs) = ap (λ (l : List ℕ). check_line (FindingAt level offset f) ++ l) (written-items level offset fs)
 
 -- what a check makes of events: what the finder reports of them, listed
-abbrev pub listed_run : Step → Effect CheckState
+abbrev pub listed_run : Step → Effect FinderState
 listed_run u = record { state = u.state; put = flat_map check_line u.put; goes = go.On }
 
-pub followed-run : (s : CheckState) (es : List EventValue) → effect_of check_step s es ≡ listed_run (run s es)
+pub followed-run : (s : FinderState) (es : List EventValue) → effect_of check_step s es ≡ listed_run (run s es)
 followed-run s [] = refl
 followed-run s (e ∷ es) =
-    let f : FinderState = finder_step s e in
-    ap (λ (t : Effect CheckState). if_on t.goes t (λ u. effect_of check_step u es)) (step-is s e)
-    ∙ ap (λ (t : Effect CheckState). record t { put = styled_lines Check f.level f.offset f.found ++ t.put }) (followed-run f.state es)
+    let f : FinderReport = finder_step s e in
+    ap (λ (t : Effect FinderState). if_on t.goes t (λ u. effect_of check_step u es)) (step-is s e)
+    ∙ ap (λ (t : Effect FinderState). record t { put = styled_lines Check f.level f.offset f.found ++ t.put }) (followed-run f.state es)
     ∙ ap (λ (l : List ℕ). record { state = (run f.state es).state; put = l; goes = go.On })
     (ap (λ (l : List ℕ). l ++ flat_map check_line (run f.state es).put) (sym (written-items f.level f.offset f.found))
     ∙ sym (flat_map-append check_line (found_items f) (run f.state es).put))
@@ -76,20 +76,20 @@ count-none n = omega arith
 count-more : (n m k : ℕ) → saturating_sum (saturating_sum n m) k ≡ saturating_sum n (m + k)
 count-more n m k = omega arith
 
-either-count : (a b : CheckState) (k : Bool) → a.count ≡ b.count → (if k then b else a).count ≡ a.count
+either-count : (a b : FinderState) (k : Bool) → a.count ≡ b.count → (if k then b else a).count ≡ a.count
 either-count a b true e = sym e
 either-count a b false e = refl
 
-by-primitive : (s : CheckState) (v : Option OpenPrimitiveState) → (finder_primitive_end_step s v).state.count ≡ saturating_sum s.count (length (finder_primitive_end_step s v).found)
+by-primitive : (s : FinderState) (v : Option OpenPrimitiveState) → (finder_primitive_end_step s v).state.count ≡ saturating_sum s.count (length (finder_primitive_end_step s v).found)
 by-primitive s None = count-none s.count
 by-primitive s (Some v) = refl
 
-by-frames : (s : CheckState) (outer : List SiblingFrame) → (finder_frame_end_step s outer).state.count ≡ saturating_sum s.count (length (finder_frame_end_step s outer).found)
+by-frames : (s : FinderState) (outer : List SiblingFrame) → (finder_frame_end_step s outer).state.count ≡ saturating_sum s.count (length (finder_frame_end_step s outer).found)
 by-frames s [] = count-none s.count
 by-frames s (w ∷ outer) = refl
 
 -- an event's findings are counted
-counted-one : (s : CheckState) (e : EventValue) → (finder_step s e).state.count ≡ saturating_sum s.count (length (finder_step s e).found)
+counted-one : (s : FinderState) (e : EventValue) → (finder_step s e).state.count ≡ saturating_sum s.count (length (finder_step s e).found)
 counted-one s (Open h) = refl
 counted-one s (Begin h) = refl
 counted-one s (Bytes octets) = either-count (record s { open_primitive = open_primitive_after s.open_primitive octets }) s (length octets == 0) refl ∙ count-none s.count
@@ -100,10 +100,10 @@ counted-one s Unused = count-none s.count
 counted-one s Leave = by-frames s s.holders.outer
 counted-one s (Pad octets) = count-none s.count
 
-pub counted-all : (s : CheckState) (es : List EventValue) → (run s es).state.count ≡ saturating_sum s.count (length (run s es).put)
+pub counted-all : (s : FinderState) (es : List EventValue) → (run s es).state.count ≡ saturating_sum s.count (length (run s es).put)
 counted-all s [] = count-none s.count
 counted-all s (e ∷ es) =
-    let f : FinderState = finder_step s e in
+    let f : FinderReport = finder_step s e in
     counted-all f.state es
     ∙ ap (λ (n : ℕ). saturating_sum n (length (run f.state es).put)) (counted-one s e)
     ∙ count-more s.count (length f.found) (length (run f.state es).put)
@@ -149,7 +149,7 @@ module _ (rules : Rules) where
   pub few : (p : Place) (s : Site) (f : Forest) → IsOpen p f → length (only (items rules s f)) ≤ 16 * length (spelling f)
   few p s NoMore v = omega arith
   few p s (PaddingOctet rest) v =
-      omega (arith, few-pads (is_padding s.before) s.level s.offset (items rules (site_after_padding s) rest), few (place_after p 1) (site_after_padding s) rest v.1)
+      omega (arith, few-pads (is_padding s.previous) s.level s.offset (items rules (site_after_padding s) rest), few (place_after p 1) (site_after_padding s) rest v.1)
   few p s (Primitive h c rest) v =
       let r = few (place_after p (length (octets_of h) + length c)) (site_after s h c) rest v.1 in
       let inner : List Item = findings_at s.level h.offset (contents_findings rules h c) ++ items rules (site_after s h c) rest in
@@ -182,7 +182,7 @@ module _ (rules : Rules) where
 
   -- ---- a check
 
-  abbrev start : CheckState
+  abbrev start : FinderState
   start = new_check rules
 
   module _ (framing : Framing) (octets : List ℕ) (f : Forest) (short : length octets ≤ 2 ^ 40) (r : IsReading framing octets f) where
@@ -190,7 +190,7 @@ module _ (rules : Rules) where
     put-is = (finds_forest rules (top_place framing) top_site top_frame [] f r.is_open refl refl refl (λ e. refl)).put 0
 
     pub text-made : (effect_of check_step start (events f)).put ≡ (check_job rules framing).text f
-    text-made = ap (λ (t : Effect CheckState). t.put) (followed-run start (events f)) ∙ ap (flat_map check_line) put-is ∙ only-written (items rules top_site f)
+    text-made = ap (λ (t : Effect FinderState). t.put) (followed-run start (events f)) ∙ ap (flat_map check_line) put-is ∙ only-written (items rules top_site f)
 
     pub count-run : (run start (events f)).state.count ≡ finding_count rules f
     count-run =
@@ -200,11 +200,11 @@ module _ (rules : Rules) where
         ∙ omega (arith, few (top_place framing) top_site f r.is_open, short, n, ap length r.is_prefix.1, length-append (spelling f) r.is_prefix.0)
 
     pub count-made : (effect_of check_step start (events f)).state.count ≡ finding_count rules f
-    count-made = ap (λ (t : Effect CheckState). t.state.count) (followed-run start (events f)) ∙ count-run
+    count-made = ap (λ (t : Effect FinderState). t.state.count) (followed-run start (events f)) ∙ count-run
 
 -- a check always wants more
-pub all_on : (s : CheckState) (es : List EventValue) → (effect_of check_step s es).goes ≡ go.On
-all_on s es = ap (λ (t : Effect CheckState). t.goes) (followed-run s es)
+pub all_on : (s : FinderState) (es : List EventValue) → (effect_of check_step s es).goes ≡ go.On
+all_on s es = ap (λ (t : Effect FinderState). t.goes) (followed-run s es)
 
-pub checks : (rules : Rules) (framing : Framing) → Shower check_step (new_check rules) framing (check_job rules framing).text (finding_count rules) (λ (s : CheckState). s.count)
+pub checks : (rules : Rules) (framing : Framing) → Shower check_step (new_check rules) framing (check_job rules framing).text (finding_count rules) (λ (s : FinderState). s.count)
 checks rules framing = record { goes_on = all_on; put = λ octets f few r. text-made rules framing octets f few r; counts = λ octets f few r. count-made rules framing octets f few r }

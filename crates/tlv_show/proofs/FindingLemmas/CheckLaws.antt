@@ -11,7 +11,7 @@ use Rattle.tlv_show.specs.declared.finding_lines.Style.{Style}
 use Rattle.tlv_show.specs.declared.finding_lines.Style.TheVariants.{Check}
 use Rattle.tlv_show.specs.CheckStep.{check_octet_step, check_step, findings_effect}
 use Rattle.tlv_show.specs.FindingLines.{last_finding_lines, styled_lines}
-use Rattle.tlv_show.specs.FinderState.{CheckState, FinderState, OpenPrimitiveState, finder_bytes_step, open_primitive_after}
+use Rattle.tlv_show.specs.FinderState.{FinderState, FinderReport, OpenPrimitiveState, finder_bytes_step, open_primitive_after}
 use Rattle.tlv_show.specs.Private.FinderState.{ReportsFindings, finder_step, with_findings_if}
 use Rattle.tlv_show.proofs.DumpLemmas.Dumped.{take-both}
 
@@ -24,7 +24,7 @@ primitive-join (Some v) x y =
 pub one-or-more : (x : ℕ) (octets : List ℕ) → (length (x ∷ octets) == 0) ≡ false
 one-or-more x octets = grind (arith, nat_tests)
 
-pub found-join : (s : CheckState) (x y : List ℕ) → finder_bytes_step s (x ++ y) ≡ finder_bytes_step (finder_bytes_step s x) y
+pub found-join : (s : FinderState) (x y : List ℕ) → finder_bytes_step s (x ++ y) ≡ finder_bytes_step (finder_bytes_step s x) y
 found-join s [] y = refl
 found-join s (a ∷ x) [] = ap (λ (l : List ℕ). finder_bytes_step s (a ∷ l)) (append-nil x)
 found-join s (a ∷ x) (b ∷ y) =
@@ -32,12 +32,12 @@ found-join s (a ∷ x) (b ∷ y) =
     (ap (λ (v : Option OpenPrimitiveState). record s { open_primitive = v }) (sym (primitive-join s.open_primitive (a ∷ x) (b ∷ y))))
 
 -- octet by octet
-pub each-found : (s : CheckState) (octets : List ℕ) → each_octet check_octet_step s octets ≡ no_effect (finder_bytes_step s octets)
+pub each-found : (s : FinderState) (octets : List ℕ) → each_octet check_octet_step s octets ≡ no_effect (finder_bytes_step s octets)
 each-found s [] = refl
-each-found s (x ∷ octets) = each-found (finder_bytes_step s (x ∷ [])) octets ∙ ap (λ (u : CheckState). no_effect u) (sym (found-join s (x ∷ []) octets))
+each-found s (x ∷ octets) = each-found (finder_bytes_step s (x ∷ [])) octets ∙ ap (λ (u : FinderState). no_effect u) (sym (found-join s (x ∷ []) octets))
 
 -- an event is what the finder makes of it, listed
-pub step-is : (s : CheckState) (e : EventValue) → check_step s e ≡ findings_effect (finder_step s e)
+pub step-is : (s : FinderState) (e : EventValue) → check_step s e ≡ findings_effect (finder_step s e)
 step-is s (Open h) = refl
 step-is s (Begin h) = refl
 step-is s (Bytes octets) = each-found s octets
@@ -49,18 +49,18 @@ step-is s Leave = refl
 step-is s (Pad octets) = refl
 
 -- what was reported, if anything was, is all that there is
-pub last-same : (style : Style) (f v : FinderState) (has_findings : Bool) → ReportsFindings f v has_findings → last_finding_lines style (with_findings_if has_findings v) ≡ last_finding_lines style f
+pub last-same : (style : Style) (f v : FinderReport) (has_findings : Bool) → ReportsFindings f v has_findings → last_finding_lines style (with_findings_if has_findings v) ≡ last_finding_lines style f
 last-same style f v true e = ap (last_finding_lines style) e
 last-same style f v false e = sym (ap (styled_lines style f.level f.offset) e.1)
 
-pub last-state : (f v : FinderState) (has_findings : Bool) → ReportsFindings f v has_findings → v.state ≡ f.state
-last-state f v true e = ap (λ (u : FinderState). u.state) e
+pub last-state : (f v : FinderReport) (has_findings : Bool) → ReportsFindings f v has_findings → v.state ≡ f.state
+last-state f v true e = ap (λ (u : FinderReport). u.state) e
 last-state f v false e = e.0
 
 -- what was reported and put is what the step says
-module _ (s t : CheckState) (v : FinderState) (has_findings : Bool) (e : EventValue) where
+module _ (s t : FinderState) (v : FinderReport) (has_findings : Bool) (e : EventValue) where
   pub step-text : s ≡ t → ReportsFindings (finder_step t e) v has_findings → last_finding_lines Check (with_findings_if has_findings v) ≡ (check_step s e).put
-  step-text i f = rw i (last-same Check (finder_step t e) v has_findings f ∙ ap (λ (k : Effect CheckState). k.put) (sym (step-is t e)))
+  step-text i f = rw i (last-same Check (finder_step t e) v has_findings f ∙ ap (λ (k : Effect FinderState). k.put) (sym (step-is t e)))
 
   pub step-state : s ≡ t → ReportsFindings (finder_step t e) v has_findings → (v.state ≡ (check_step s e).state) × (go.On ≡ (check_step s e).goes)
   step-state i f = rw i (rw (step-is t e) (last-state (finder_step t e) v has_findings f, refl))

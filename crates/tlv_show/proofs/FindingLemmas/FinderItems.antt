@@ -15,7 +15,7 @@ use Rattle.tlv_walk.specs.Forest.{Forest, NoMore, PaddingOctet, Primitive, Holde
 use Rattle.tlv_walk.specs.Place.{IsOpen, Place, place_after, place_of_children}
 use Rattle.tlv_show.specs.declared.sibling_frame.SiblingFrame.{SiblingFrame}
 use Rattle.tlv_show.specs.declared.rules.Rules.{Rules}
-use Rattle.tlv_show.specs.FinderState.{CheckState, FinderState, contents_findings_in, finder_begin_step, finder_bytes_step, finder_close_step, finder_end_step, finder_open_step}
+use Rattle.tlv_show.specs.FinderState.{FinderState, FinderReport, contents_findings_in, finder_begin_step, finder_bytes_step, finder_close_step, finder_end_step, finder_open_step}
 use Rattle.tlv_show.specs.NestingState.{frame_after, frame_under, nesting_primitive_step, surroundings_in}
 use Rattle.tlv_show.specs.Private.FinderState.{finder_step}
 use Rattle.tlv_show.specs.Found.{contents_findings, header_findings, is_shown, end_findings}
@@ -34,23 +34,23 @@ use Rattle.tlv_show.specs.SaturatingSum.{saturating_sum}
 
 -- what becomes of a finder, and the items that it reported
 pub record Step : Type 0 where
-  pub state : CheckState
+  pub state : FinderState
   pub put : List Item
 
-abbrev pub found_items : FinderState → List Item
+abbrev pub found_items : FinderReport → List Item
 found_items f = findings_at f.level f.offset f.found
 
 abbrev pub then_found : List Item → Step → Step
 then_found put u = record { state = u.state; put = put ++ u.put }
 
-abbrev pub run : CheckState → List EventValue → Step
+abbrev pub run : FinderState → List EventValue → Step
 run s [] = record { state = s; put = [] }
 run s (e ∷ es) = then_found (found_items (finder_step s e)) (run (finder_step s e).state es)
 
-pub run-more : (s : CheckState) (xs ys : List EventValue) → run s (xs ++ ys) ≡ then_found (run s xs).put (run (run s xs).state ys)
+pub run-more : (s : FinderState) (xs ys : List EventValue) → run s (xs ++ ys) ≡ then_found (run s xs).put (run (run s xs).state ys)
 run-more s [] ys = refl
 run-more s (x ∷ xs) ys =
-    let u : CheckState = (finder_step s x).state in
+    let u : FinderState = (finder_step s x).state in
     let put : List Item = found_items (finder_step s x) in
     ap (then_found put) (run-more u xs ys)
     ∙ ap (λ (l : List Item). record { state = (run (run u xs).state ys).state; put = l }) (sym (append_assoc put (run u xs).put (run (run u xs).state ys).put))
@@ -61,10 +61,10 @@ take-all : (n : ℕ) (c : List ℕ) → length c ≤ n → take n c ≡ c
 take-all n c h = grind (arith, common_steps)
 
 -- all contents octets of a primitive
-abbrev with_check : CheckState → ℕ → ValueCheckState → CheckState
+abbrev with_check : FinderState → ℕ → ValueCheckState → FinderState
 with_check s offset t = record s { open_primitive = Some (record { offset = offset; check = t }) }
 
-took : (s : CheckState) (offset : ℕ) (h : HeaderValue) (c : List ℕ) → length c ≤ announced_length h.size → finder_bytes_step (with_check s offset (new_value_check h)) c ≡ with_check s offset (value_check_after (new_value_check h) c)
+took : (s : FinderState) (offset : ℕ) (h : HeaderValue) (c : List ℕ) → length c ≤ announced_length h.size → finder_bytes_step (with_check s offset (new_value_check h)) c ≡ with_check s offset (value_check_after (new_value_check h) c)
 took s offset h [] e = ap (with_check s offset) (sym (checked-none h))
 took s offset h (x ∷ c) e = rw (one-or-more x c) (ap (λ (l : List ℕ). with_check s offset (value_check_after (new_value_check h) l)) (take-all (announced_length h.size) (x ∷ c) e))
 
@@ -88,12 +88,12 @@ only-pads true level offset l = refl
 only-pads false level offset l = refl
 
 -- what a finder makes of a primitive
-pub primitive-found : (s : CheckState) (h : HeaderValue) (c : List ℕ) → length c ≡ announced_length h.size
-    → (u : CheckState) × (u.open_primitive ≡ None) × (finder_end_step (finder_bytes_step (finder_begin_step s h).state c) ≡ record { state = u; level = length s.holders.outer; offset = h.offset; found = contents_findings s.rules h c })
+pub primitive-found : (s : FinderState) (h : HeaderValue) (c : List ℕ) → length c ≡ announced_length h.size
+    → (u : FinderState) × (u.open_primitive ≡ None) × (finder_end_step (finder_bytes_step (finder_begin_step s h).state c) ≡ record { state = u; level = length s.holders.outer; offset = h.offset; found = contents_findings s.rules h c })
 primitive-found s h c e =
     let n = saturating_sum s.count (length (header_findings s.rules (surroundings_in s.holders.frame) h)) in
     let t : ValueCheckState = value_check_after (new_value_check h) c in
-    let site_after : List Finding → CheckState = λ fs. record { rules = s.rules; holders = nesting_primitive_step s.holders (announced_length h.size) (has_unused_bits t); open_primitive = None; count = saturating_sum n (length fs) } in (
+    let site_after : List Finding → FinderState = λ fs. record { rules = s.rules; holders = nesting_primitive_step s.holders (announced_length h.size) (has_unused_bits t); open_primitive = None; count = saturating_sum n (length fs) } in (
       site_after (contents_findings s.rules h c),
       refl,
       ap finder_end_step (took (record s { count = n }) h.offset h c (omega (arith, e)))
@@ -102,7 +102,7 @@ primitive-found s h c e =
 
 module _ (rules : Rules) where
   -- between two elements
-  abbrev pub check_between : SiblingFrame → List SiblingFrame → ℕ → CheckState
+  abbrev pub check_between : SiblingFrame → List SiblingFrame → ℕ → FinderState
   check_between w outer n = record { rules = rules; holders = record { frame = w; outer = outer }; open_primitive = None; count = n }
 
   abbrev pub later_header : SiblingFrame → HeaderValue → ℕ → ℕ
@@ -117,7 +117,7 @@ module _ (rules : Rules) where
       let yes : nat_lt (length outer) 128 ≡ true = grind (arith, nat_tests) in
       rw yes refl
 
-  opened-by : (s : CheckState) (h : HeaderValue) (k three : Bool) (es : List EventValue)
+  opened-by : (s : FinderState) (h : HeaderValue) (k three : Bool) (es : List EventValue)
       → run s (((if k then Open h else Enter h) ∷ map {A = ℕ} (λ z. Unused) (if k then [] else (if three then 0 ∷ [] else []))) ++ es) ≡ then_found (found_items (finder_open_step s h)) (run (finder_open_step s h).state es)
   opened-by s h true three es = refl
   opened-by s h false true es = refl
@@ -127,11 +127,11 @@ module _ (rules : Rules) where
       → run (check_between w outer n) (opening_events h ++ es) ≡ then_found (findings_at (length outer) h.offset (header_findings rules (surroundings_in w) h)) (run (check_between (frame_under w h) (w ∷ outer) (later_header w h n)) es)
   opened w outer n h es few =
       opened-by (check_between w outer n) h h.constructed (h.number == 3) es
-      ∙ ap (λ (f : FinderState). then_found (found_items f) (run f.state es)) (opened-find w outer n h few)
+      ∙ ap (λ (f : FinderReport). then_found (found_items f) (run f.state es)) (opened-find w outer n h few)
 
   -- ---- and ends
 
-  closed-by : (s : CheckState) (offset : Option ℕ) (k : Bool) (es : List EventValue) → run s ((if k then Close offset else Leave) ∷ es) ≡ then_found (found_items (finder_close_step s)) (run (finder_close_step s).state es)
+  closed-by : (s : FinderState) (offset : Option ℕ) (k : Bool) (es : List EventValue) → run s ((if k then Close offset else Leave) ∷ es) ≡ then_found (found_items (finder_close_step s)) (run (finder_close_step s).state es)
   closed-by s offset true es = refl
   closed-by s offset false es = refl
 
@@ -161,8 +161,8 @@ module _ (rules : Rules) where
       (then_found (findings_at (length outer) h.offset (contents_findings rules h c)) (run (check_between (after_primitive w h c) outer (after_contents w h c n)) es))
   primitive w outer n h c es e =
       let put : List Item = findings_at (length outer) h.offset (header_findings rules (surroundings_in w) h) in
-      let s : CheckState = check_between w outer (later_header w h n) in
-      ap (λ (u : CheckState). then_found put (then_found [] (run u (End ∷ es)))) (took s h.offset h c (omega (arith, e)))
+      let s : FinderState = check_between w outer (later_header w h n) in
+      ap (λ (u : FinderState). then_found put (then_found [] (run u (End ∷ es)))) (took s h.offset h c (omega (arith, e)))
       ∙ ap (λ (fs : List Finding). then_found put (then_found (findings_at (length outer) h.offset fs) (run (check_between (after_primitive w h c) outer (saturating_sum (later_header w h n) (length fs))) es))) (ended rules h c e)
 
   -- ---- what a finder makes of each end by itself
@@ -208,7 +208,7 @@ module _ (rules : Rules) where
   finds_forest p s w outer NoMore v k l d free = record { put = λ n. refl; after = λ n e. (n, refl) }
   finds_forest p s w outer (PaddingOctet rest) v k l d free =
       let r = finds_forest (place_after p 1) (site_after_padding s) w outer rest v.1 (knows-padding w s k (free v.0.0)) l d free in
-      record { put = λ n. r.put n ∙ sym (only-pads (is_padding s.before) s.level s.offset (items rules (site_after_padding s) rest)); after = r.after }
+      record { put = λ n. r.put n ∙ sym (only-pads (is_padding s.previous) s.level s.offset (items rules (site_after_padding s) rest)); after = r.after }
   finds_forest p s w outer (Primitive h c rest) v k l d free =
       let size : length c ≡ announced_length h.size = sym (ap announced_length v.0.1) in
       let form : h.constructed ≡ false = not-constructed h.constructed (wraps h) v.0.0.header.form in
@@ -242,7 +242,7 @@ module _ (rules : Rules) where
         opened w outer n h (events inside ++ es) few
             ∙ ap (then_found put)
             (run-more (check_between (frame_under w h) (w ∷ outer) a) (events inside) es
-            ∙ ap₂ (λ (l : List Item) (x : CheckState). then_found l (run x es)) (i.put a) t.1
+            ∙ ap₂ (λ (l : List Item) (x : FinderState). then_found l (run x es)) (i.put a) t.1
             ∙ ap (then_found (only (items rules (site_of_children s h) inside))) (closed (place_of_children p h) w outer t.0 h inside (events rest) v.1 v.0.1)),
       ) in
       let last : List Item = ClosingLine s.level (if h.constructed then end_place h inside else None) ∷ (findings_at s.level h.offset (end_findings rules (segments_of h (headers inside))) ++ items rules (site_after_holder s h inside) rest) in

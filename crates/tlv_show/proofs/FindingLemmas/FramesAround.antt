@@ -10,7 +10,7 @@ use Rattle.tlv_value.proofs.CheckLemmas.CheckPieces.{checked-none}
 use Rattle.tlv_show.specs.declared.sibling_frame.SiblingFrame.{SiblingFrame}
 use Rattle.tlv_show.specs.Conditions.{follows_unused_bits, is_not_full, Surroundings}
 use Rattle.tlv_show.specs.NestingState.{frame_after, frame_after_segment, frame_of, frame_under, top_frame, surroundings_in}
-use Rattle.tlv_show.specs.Site.{Sibling, Site, in_bit_string, in_string, site_of_children, Before, Padding, Start}
+use Rattle.tlv_show.specs.Site.{Sibling, Site, in_bit_string, in_string, site_of_children, Previous, Padding, Start}
 use Rattle.tlv_show.proofs.FindingLemmas.SitesAfter.{site_after_padding}
 use Rattle.tlv_show.proofs.FindingLemmas.SiteWords.{first_octet, is_held_by}
 use Rattle.tlv_show.proofs.FindingLemmas.HeaderFindings.{Knows}
@@ -19,22 +19,22 @@ abbrev made : Bool → Bool → Bool → Bool → Surroundings
 made a b c d = record { in_string = a; in_bit_string = b; after_unused_bits = c; after_not_full = d }
 
 -- what is around an element, by what holds it, and what is before it
-abbrev around : Option HeaderValue → Before → Surroundings
-around holder before =
+abbrev around : Option HeaderValue → Previous → Surroundings
+around holder previous =
     made (is_held_by has_segments holder)
     (is_held_by (λ h. has_segments h && is_a bit_string h) holder)
-    (is_held_by (λ h. has_segments h && is_a bit_string h) holder && follows_unused_bits before)
-    (is_held_by has_segments holder && is_not_full before)
+    (is_held_by (λ h. has_segments h && is_a bit_string h) holder && follows_unused_bits previous)
+    (is_held_by has_segments holder && is_not_full previous)
 
-no-string : (h : HeaderValue) (before : Before) → has_segments h ≡ false → around (Some h) before ≡ surroundings_in top_frame
-no-string h before e =
-    ap (λ (k : Bool). made k (k && is_a bit_string h) ((k && is_a bit_string h) && follows_unused_bits before) (k && is_not_full before)) e
+no-string : (h : HeaderValue) (previous : Previous) → has_segments h ≡ false → around (Some h) previous ≡ surroundings_in top_frame
+no-string h previous e =
+    ap (λ (k : Bool). made k (k && is_a bit_string h) ((k && is_a bit_string h) && follows_unused_bits previous) (k && is_not_full previous)) e
 
 -- outside of strings
-around-none : (holder : Option HeaderValue) (before : Before) → is_held_by has_segments holder ≡ false
-    → around holder before ≡ surroundings_in top_frame
-around-none None before e = refl
-around-none (Some h) before e = no-string h before e
+around-none : (holder : Option HeaderValue) (previous : Previous) → is_held_by has_segments holder ≡ false
+    → around holder previous ≡ surroundings_in top_frame
+around-none None previous e = refl
+around-none (Some h) previous e = no-string h previous e
 
 in-its-own : (k b : Bool) → made k (k && (k && b)) ((k && (k && b)) && false) (k && false) ≡ made k (k && b) ((k && b) && false) (k && false)
 in-its-own true b = refl
@@ -77,12 +77,12 @@ unused-of h (x ∷ c) e =
 made-eq : (a a' b b' c c' d d' : Bool) → a ≡ a' → b ≡ b' → c ≡ c' → d ≡ d' → made a b c d ≡ made a' b' c' d'
 made-eq a a' b b' c c' d d' e f g h = rw (e, f, g, h) refl
 
-pub knows-after : (w : SiblingFrame) (s t : Site) (h : HeaderValue) (first : Option ℕ) (unused : Bool) → Knows w s → t.holder ≡ s.holder → t.before ≡ Sibling h first
+pub knows-after : (w : SiblingFrame) (s t : Site) (h : HeaderValue) (first : Option ℕ) (unused : Bool) → Knows w s → t.holder ≡ s.holder → t.previous ≡ Sibling h first
     → unused ≡ follows_unused_bits (Sibling h first) → Knows (frame_after w (is_primitive h) (announced_length h.size) unused) t
 knows-after w s t h first unused k e b u = by-segments w.has_segments refl
   where
-    same : surroundings_in w ≡ around t.holder s.before
-    same = k ∙ ap (λ (o : Option HeaderValue). around o s.before) (sym e)
+    same : surroundings_in w ≡ around t.holder s.previous
+    same = k ∙ ap (λ (o : Option HeaderValue). around o s.previous) (sym e)
 
     segments : w.has_segments ≡ in_string t
     segments = ap (λ (x : Surroundings). x.in_string) same
@@ -98,8 +98,8 @@ knows-after w s t h first unused k e b u = by-segments w.has_segments refl
         (ap₂ (λ (x y : Bool). x && y) segments (full-or-not h.constructed (announced_length h.size == 1000) ∙ ap is_not_full (sym b)))
     by-segments false c =
         let none : in_string t ≡ false = sym segments ∙ c in
-        same ∙ around-none t.holder s.before none ∙ sym (around-none t.holder t.before none)
+        same ∙ around-none t.holder s.previous none ∙ sym (around-none t.holder t.previous none)
 
 pub knows-padding : (w : SiblingFrame) (s : Site) → Knows w s → s.holder ≡ None → Knows w (site_after_padding s)
 knows-padding w s k e =
-    k ∙ ap (λ (o : Option HeaderValue). around o s.before) e ∙ sym (ap (λ (o : Option HeaderValue). around o Padding) e)
+    k ∙ ap (λ (o : Option HeaderValue). around o s.previous) e ∙ sym (ap (λ (o : Option HeaderValue). around o Padding) e)

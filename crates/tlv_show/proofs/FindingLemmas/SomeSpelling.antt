@@ -96,8 +96,8 @@ module _ (rules : Rules) (strict : rules ≢ Ber) where
   none-found : (p : Place) (s : Site) (f : Forest) → IsSound p f → AreRegular (form_by rules) f → list_any is_item_on_spelling (items rules s f) ≡ false
   none-found p s NoMore u r = refl
   none-found p s (PaddingOctet rest) u r =
-      both-none (if is_padding s.before then [] else PaddingLine s.level s.offset ∷ []) (items rules (site_after_padding s) rest)
-      (padding-none (is_padding s.before) s.level s.offset) (none-found (place_after p 1) (site_after_padding s) rest u.1 r)
+      both-none (if is_padding s.previous then [] else PaddingLine s.level s.offset ∷ []) (items rules (site_after_padding s) rest)
+      (padding-none (is_padding s.previous) s.level s.offset) (none-found (place_after p 1) (site_after_padding s) rest u.1 r)
   none-found p s (Primitive h c rest) u r =
       both-none (on_header rules s h) (PrimitiveLines s.level h c ∷ (on_contents rules s h c ++ items rules (site_after s h c) rest)) (header-none s h r.0)
       (both-none (on_contents rules s h c) (items rules (site_after s h c) rest) (contents-none s h c)

@@ -111,7 +111,7 @@ module _ (rules : Rules) (strict : rules ≢ Ber) where
   all-regular p s NoMore u e = tt
   all-regular p s (PaddingOctet rest) u e =
       all-regular (place_after p 1) (site_after_padding s) rest u.1
-      (none-in (if is_padding s.before then [] else PaddingLine s.level s.offset ∷ []) (items rules (site_after_padding s) rest) e).1
+      (none-in (if is_padding s.previous then [] else PaddingLine s.level s.offset ∷ []) (items rules (site_after_padding s) rest) e).1
   all-regular p s (Primitive h c rest) u e =
       let header = none-in (on_header rules s h) (PrimitiveLines s.level h c ∷ (on_contents rules s h c ++ items rules (site_after s h c) rest)) e in
       let others = none-in (on_contents rules s h c) (items rules (site_after s h c) rest) header.1 in
