@@ -37,25 +37,51 @@ constructed-zero : IsIdentifier Universal true 0 (0x20 ∷ [])
 constructed-zero = inl (record { small = lit< tt; octets_are = refl; nonzero = omega arith })
 
 -- 00 is no identifier
-zero-no_identifier : (class : Class) (constructed : Bool) (number : ℕ) → IsIdentifier class constructed number (0x00 ∷ []) → ⊥
+zero-no_identifier : (class : Class) (constructed : Bool) (number : ℕ)
+    → IsIdentifier class constructed number (0x00 ∷ []) → ⊥
 zero-no_identifier class constructed number (inl low) = low.nonzero (cc (low.octets_are))
 zero-no_identifier class constructed number (inr high) =
     omega (arith, ap length high.octets_are, length-append (with_bit_8 high.digits) (high.last ∷ []))
 
 -- 1f 02: INTEGER, the number 2 in the high form
 high-integer : IsIdentifier Universal false 2 (0x1f ∷ 0x02 ∷ [])
-high-integer = inr (record { digits = []; last = 2; each = below 128 [] refl; last_digit = lit< tt; few = omega arith; value = refl; octets_are = refl })
+high-integer = inr (record {
+  digits = [];
+  last = 2;
+  each = below 128 [] refl;
+  last_digit = lit< tt;
+  few = omega arith;
+  value = refl;
+  octets_are = refl;
+})
 
 -- 1f 80 02: the same number after a digit 0
 padded-integer : IsIdentifier Universal false 2 (0x1f ∷ 0x80 ∷ 0x02 ∷ [])
-padded-integer = inr (record { digits = 0 ∷ []; last = 2; each = below 128 (0 ∷ []) refl; last_digit = lit< tt; few = lit≤ tt; value = refl; octets_are = refl })
+padded-integer = inr (record {
+  digits = 0 ∷ [];
+  last = 2;
+  each = below 128 (0 ∷ []) refl;
+  last_digit = lit< tt;
+  few = lit≤ tt;
+  value = refl;
+  octets_are = refl;
+})
 
 -- 5f 1f: application class, primitive, the number 31
 application-31 : IsIdentifier Application false 31 (0x5f ∷ 0x1f ∷ [])
-application-31 = inr (record { digits = []; last = 31; each = below 128 [] refl; last_digit = lit< tt; few = omega arith; value = refl; octets_are = refl })
+application-31 = inr (record {
+  digits = [];
+  last = 31;
+  each = below 128 [] refl;
+  last_digit = lit< tt;
+  few = omega arith;
+  value = refl;
+  octets_are = refl;
+})
 
 -- 9f 81, seven 80 and 00: nine subsequent octets, the number 2^56
-nine-octets : IsIdentifier Context false 72057594037927936 (0x9f ∷ 0x81 ∷ 0x80 ∷ 0x80 ∷ 0x80 ∷ 0x80 ∷ 0x80 ∷ 0x80 ∷ 0x80 ∷ 0x00 ∷ [])
+nine-octets : IsIdentifier Context false 72057594037927936
+    (0x9f ∷ 0x81 ∷ 0x80 ∷ 0x80 ∷ 0x80 ∷ 0x80 ∷ 0x80 ∷ 0x80 ∷ 0x80 ∷ 0x00 ∷ [])
 nine-octets = inr (record {
   digits = 1 ∷ 0 ∷ 0 ∷ 0 ∷ 0 ∷ 0 ∷ 0 ∷ 0 ∷ [];
   last = 0;
@@ -72,11 +98,27 @@ short-3 = inl (lit< tt, refl)
 
 -- 81 03: the same in the long form
 long-3 : IsLength (Definite 3) (0x81 ∷ 0x03 ∷ [])
-long-3 = inr (record { digits = 3 ∷ []; each = below 256 (3 ∷ []) refl; some = lit≤ tt; few = lit≤ tt; value = refl; limit = lit< tt; octets_are = refl })
+long-3 = inr (record {
+  digits = 3 ∷ [];
+  each = below 256 (3 ∷ []) refl;
+  some = lit≤ tt;
+  few = lit≤ tt;
+  value = refl;
+  limit = lit< tt;
+  octets_are = refl;
+})
 
 -- 82 00 80: 128 contents octets, with a leading 00
 padded-128 : IsLength (Definite 128) (0x82 ∷ 0x00 ∷ 0x80 ∷ [])
-padded-128 = inr (record { digits = 0 ∷ 128 ∷ []; each = below 256 (0 ∷ 128 ∷ []) refl; some = lit≤ tt; few = lit≤ tt; value = refl; limit = lit< tt; octets_are = refl })
+padded-128 = inr (record {
+  digits = 0 ∷ 128 ∷ [];
+  each = below 256 (0 ∷ 128 ∷ []) refl;
+  some = lit≤ tt;
+  few = lit≤ tt;
+  value = refl;
+  limit = lit< tt;
+  octets_are = refl;
+})
 
 -- 85 and five ff: the largest length
 largest : IsLength (Definite 1099511627775) (0x85 ∷ 0xff ∷ 0xff ∷ 0xff ∷ 0xff ∷ 0xff ∷ [])
@@ -129,7 +171,10 @@ sequence-header = record { identifier = sequence; lengths = refl; allowed = refl
 
 -- 9f 81, seven 80, 00, fe, 125 octets 00 and 01: one contents octet, announced by the longest header there is
 abbrev longest : HeaderValue
-longest = first Context false 72057594037927936 (Definite 1) (0x9f ∷ 0x81 ∷ 0x80 ∷ 0x80 ∷ 0x80 ∷ 0x80 ∷ 0x80 ∷ 0x80 ∷ 0x80 ∷ 0x00 ∷ []) (0xfe ∷ (replicate 125 0x00 ++ 0x01 ∷ []))
+longest =
+    first Context false 72057594037927936 (Definite 1)
+        (0x9f ∷ 0x81 ∷ 0x80 ∷ 0x80 ∷ 0x80 ∷ 0x80 ∷ 0x80 ∷ 0x80 ∷ 0x80 ∷ 0x00 ∷ [])
+        (0xfe ∷ (replicate 125 0x00 ++ 0x01 ∷ []))
 
 longest-header : IsHeader longest
 longest-header = record {
@@ -223,11 +268,13 @@ prefix-high_form = record {
 }
 
 -- 30 80 00 00: a header and two octets
-begins-sequence : BeginsWith (0x30 ∷ 0x80 ∷ 0x00 ∷ 0x00 ∷ []) 0 false (first Universal true 16 Indefinite (0x30 ∷ []) (0x80 ∷ []))
+begins-sequence : BeginsWith (0x30 ∷ 0x80 ∷ 0x00 ∷ 0x00 ∷ []) 0 false
+    (first Universal true 16 Indefinite (0x30 ∷ []) (0x80 ∷ []))
 begins-sequence = record { valid = sequence-header; place = refl; named = refl; rest = 0x00 ∷ 0x00 ∷ []; octets = refl }
 
 -- bf 1f 82 01 00, with the indefinite form
-respelled : spell_indefinite (first Context true 31 (Definite 256) (0xbf ∷ 0x1f ∷ []) (0x82 ∷ 0x01 ∷ 0x00 ∷ [])) ≡ 0xbf ∷ 0x1f ∷ 0x80 ∷ []
+respelled : spell_indefinite (first Context true 31 (Definite 256) (0xbf ∷ 0x1f ∷ []) (0x82 ∷ 0x01 ∷ 0x00 ∷ []))
+    ≡ 0xbf ∷ 0x1f ∷ 0x80 ∷ []
 respelled = refl
 
 -- 04 00, named: an OCTET STRING wraps encodings, if none

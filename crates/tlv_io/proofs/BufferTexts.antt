@@ -15,7 +15,8 @@ use Rattle.tlv_io.specs.LineTexts.{at_right, spaced_pairs, spaces}
 -- ---- texts that were added
 
 -- the first columns of a line, one after the other
-pub columns_added : (old one two three new first second : List ℕ) → one ≡ old ++ first → two ≡ one ++ 32 ∷ [] → three ≡ two ++ second → new ≡ three ++ 58 ∷ 32 ∷ []
+pub columns_added : (old one two three new first second : List ℕ) → one ≡ old ++ first → two ≡ one ++ 32 ∷ []
+    → three ≡ two ++ second → new ≡ three ++ 58 ∷ 32 ∷ []
     → new ≡ old ++ (first ++ 32 ∷ [] ++ second ++ 58 ∷ 32 ∷ [])
 columns_added old one two three new first second p q r s = rw (s, r, q, p) (simp append_assoc refl)
 
@@ -24,52 +25,71 @@ pub added : (old new text : List ℕ) → new ≡ old ++ text → length new ≡
 added old new text e = ap length e ∙ length-append old text
 
 -- as many octets as are held are those that are held
-pub held_up_to : (octets held : List ℕ) (len count : ℕ) → take len octets ≡ held → count ≡ length held → len ≤ length octets → take count octets ≡ held
-held_up_to octets held len count is size within = ap (λ (n : ℕ). take n octets) (size ∙ sym (ap length is) ∙ length-take-le len octets within) ∙ is
+pub held_up_to : (octets held : List ℕ) (len count : ℕ) → take len octets ≡ held → count ≡ length held
+    → len ≤ length octets → take count octets ≡ held
+held_up_to octets held len count is size within =
+    ap (λ (n : ℕ). take n octets) (size ∙ sym (ap length is) ∙ length-take-le len octets within) ∙ is
 
 -- ---- a text after the octets that stay
 
 -- the rest was lent, and a text was written to its first places
-pub part_written : (old part text : List ℕ) (at n : ℕ) → at ≤ length old → take n part ≡ text → take (at + n) (take at old ++ part) ≡ take at old ++ text
+pub part_written : (old part text : List ℕ) (at n : ℕ) → at ≤ length old → take n part ≡ text
+    → take (at + n) (take at old ++ part) ≡ take at old ++ text
 part_written old part text at n within e =
     let size : length (take at old) ≡ at = length-take-le at old within in
-    ap (λ (k : ℕ). take (k + n) (take at old ++ part)) (sym size) ∙ take-append-add (take at old) part n ∙ ap (λ (l : List ℕ). take at old ++ l) e
+    ap (λ (k : ℕ). take (k + n) (take at old ++ part)) (sym size) ∙ take-append-add (take at old) part n
+        ∙ ap (λ (l : List ℕ). take at old ++ l) e
 
 -- of which more was lent than the text takes
-pub prefix_written : (old part tail text : List ℕ) (at n : ℕ) → at ≤ length old → n ≤ length part → take n part ≡ text → take (at + n) (take at old ++ (part ++ tail)) ≡ take at old ++ text
-prefix_written old part tail text at n within long e = part_written old (part ++ tail) text at n within (take-append-le n part tail long ∙ e)
+pub prefix_written : (old part tail text : List ℕ) (at n : ℕ) → at ≤ length old → n ≤ length part → take n part ≡ text
+    → take (at + n) (take at old ++ (part ++ tail)) ≡ take at old ++ text
+prefix_written old part tail text at n within long e =
+    part_written old (part ++ tail) text at n within (take-append-le n part tail long ∙ e)
 
 -- a text was written after what stays
-pub text_written : (new prefix text rest : List ℕ) (start n : ℕ) → take start new ≡ prefix → drop start new ≡ text ++ rest → n ≡ start + length text → take n new ≡ prefix ++ text
+pub text_written : (new prefix text rest : List ℕ) (start n : ℕ) → take start new ≡ prefix
+    → drop start new ≡ text ++ rest → n ≡ start + length text → take n new ≡ prefix ++ text
 text_written new prefix text rest start n kept written e =
-    ap (λ (k : ℕ). take k new) e ∙ take-add start (length text) new ∙ ap₂ (λ (k l : List ℕ). k ++ take (length text) l) kept written ∙ ap (λ (l : List ℕ). prefix ++ l) (take-append_seam text rest)
+    ap (λ (k : ℕ). take k new) e ∙ take-add start (length text) new
+        ∙ ap₂ (λ (k l : List ℕ). k ++ take (length text) l) kept written
+        ∙ ap (λ (l : List ℕ). prefix ++ l) (take-append_seam text rest)
 
 -- spaces were written to so many places, and then a text to their right end
-pub right_written : (old new tail text rest pad : List ℕ) (at start places : ℕ) → at ≤ length old → length text ≤ places → start + length text ≡ at + places → pad ≡ spaces places
-    → take start new ≡ take start (take at old ++ (pad ++ tail)) → drop start new ≡ text ++ rest → take (at + places) new ≡ take at old ++ at_right places text
+pub right_written : (old new tail text rest pad : List ℕ) (at start places : ℕ) → at ≤ length old
+    → length text ≤ places → start + length text ≡ at + places → pad ≡ spaces places
+    → take start new ≡ take start (take at old ++ (pad ++ tail)) → drop start new ≡ text ++ rest
+        → take (at + places) new ≡ take at old ++ at_right places text
 right_written old new tail text rest pad at start places within short e is kept written =
     let left : ℕ = places - length text in
     let from : start ≡ at + left = omega (arith, e, short) in
     let size : length pad ≡ places = ap length is ∙ length-replicate places 32 in
-    let blank : take left (pad ++ tail) ≡ spaces left = take-append-le left pad tail (omega (arith, size)) ∙ ap (take left) is ∙ take-replicate left places 32 (omega arith) in
-    let taken : take start new ≡ take at old ++ spaces left = kept ∙ ap (λ (k : ℕ). take k (take at old ++ (pad ++ tail))) from ∙ part_written old (pad ++ tail) (spaces left) at left within blank in
-    text_written new (take at old ++ spaces left) text rest start (at + places) taken written (sym e) ∙ append_assoc (take at old) (spaces left) text
+    let blank : take left (pad ++ tail) ≡ spaces left =
+        take-append-le left pad tail (omega (arith, size)) ∙ ap (take left) is
+            ∙ take-replicate left places 32 (omega arith) in
+    let taken : take start new ≡ take at old ++ spaces left =
+        kept ∙ ap (λ (k : ℕ). take k (take at old ++ (pad ++ tail))) from
+            ∙ part_written old (pad ++ tail) (spaces left) at left within blank in
+    text_written new (take at old ++ spaces left) text rest start (at + places) taken written (sym e)
+        ∙ append_assoc (take at old) (spaces left) text
 
 -- a long text is as it is
 pub right_long : (places : ℕ) (text : List ℕ) → places ≤ length text → at_right places text ≡ text
-right_long places text long = let none : places - length text ≡ 0 = omega (arith, long) in ap (λ (n : ℕ). spaces n ++ text) none
+right_long places text long =
+    let none : places - length text ≡ 0 = omega (arith, long) in ap (λ (n : ℕ). spaces n ++ text) none
 
 -- ---- spaces
 
 -- 32 of them hold as many as are wanted
-pub spaces_prefix : (count : ℕ) (pad tail : List ℕ) → pad ≡ replicate 32 32 → count ≤ 32 → take count (pad ++ tail) ≡ spaces count
+pub spaces_prefix : (count : ℕ) (pad tail : List ℕ) → pad ≡ replicate 32 32 → count ≤ 32
+    → take count (pad ++ tail) ≡ spaces count
 spaces_prefix count pad tail e few =
     ap (λ (l : List ℕ). take count (l ++ tail)) e
     ∙ take-append-le count (replicate 32 32) tail (omega (arith, length-replicate {A = ℕ} 32 32, few))
     ∙ take-replicate count 32 32 few
 
 -- 32 more
-pub spaces_step : (to pad tail : List ℕ) (done : ℕ) → done ≤ length to → pad ≡ replicate 32 32 → take done to ≡ spaces done → take (done + 32) (take done to ++ (pad ++ tail)) ≡ spaces (done + 32)
+pub spaces_step : (to pad tail : List ℕ) (done : ℕ) → done ≤ length to → pad ≡ replicate 32 32
+    → take done to ≡ spaces done → take (done + 32) (take done to ++ (pad ++ tail)) ≡ spaces (done + 32)
 spaces_step to pad tail done within e is =
     let more : List ℕ = replicate 32 32 in
     part_written to (pad ++ tail) more done 32 within (spaces_prefix 32 pad tail e (omega arith))
@@ -77,23 +97,30 @@ spaces_step to pad tail done within e is =
     ∙ replicate-append-replicate done 32 32
 
 -- of more of them, as many as are wanted
-pub spaces_of_more : (count done : ℕ) (to : List ℕ) → count ≤ done → take done to ≡ spaces done → take count to ≡ spaces count
-spaces_of_more count done to more e = sym (take-take count done to more) ∙ ap (take count) e ∙ take-replicate count done 32 more
+pub spaces_of_more : (count done : ℕ) (to : List ℕ) → count ≤ done → take done to ≡ spaces done
+    → take count to ≡ spaces count
+spaces_of_more count done to more e =
+    sym (take-take count done to more) ∙ ap (take count) e ∙ take-replicate count done 32 more
 
 -- ---- the first columns of a line
 
 -- a text was written to the right end of so many spaces
-pub right_end : (old new prefix text tail : List ℕ) (start places : ℕ) → old ≡ prefix ++ (spaces places ++ tail) → length text ≤ places → start + length text ≡ length prefix + places
-    → take start new ≡ take start old → drop start new ≡ text ++ drop (length prefix + places) old → new ≡ prefix ++ (at_right places text ++ tail)
+pub right_end : (old new prefix text tail : List ℕ) (start places : ℕ) → old ≡ prefix ++ (spaces places ++ tail)
+    → length text ≤ places → start + length text ≡ length prefix + places
+    → take start new ≡ take start old → drop start new ≡ text ++ drop (length prefix + places) old
+        → new ≡ prefix ++ (at_right places text ++ tail)
 right_end old new prefix text tail start places is short e kept written =
     let left : ℕ = places - length text in
     let from : start ≡ length prefix + left = omega (arith, e, short) in
     let size : length (spaces places) ≡ places = length-replicate places 32 in
-    let blank : take left (spaces places ++ tail) ≡ spaces left = take-append-le left (spaces places) tail (omega (arith, size)) ∙ take-replicate left places 32 (omega arith) in
+    let blank : take left (spaces places ++ tail) ≡ spaces left =
+        take-append-le left (spaces places) tail (omega (arith, size)) ∙ take-replicate left places 32 (omega arith) in
     let taken : take start old ≡ prefix ++ spaces left =
-    ap (take start) is ∙ ap (λ (k : ℕ). take k (prefix ++ (spaces places ++ tail))) from ∙ take-append-add prefix (spaces places ++ tail) left ∙ ap (λ (l : List ℕ). prefix ++ l) blank in
+    ap (take start) is ∙ ap (λ (k : ℕ). take k (prefix ++ (spaces places ++ tail))) from
+        ∙ take-append-add prefix (spaces places ++ tail) left ∙ ap (λ (l : List ℕ). prefix ++ l) blank in
     let dropped : drop (length prefix + places) old ≡ tail =
-    ap (drop (length prefix + places)) is ∙ drop-append-add prefix (spaces places ++ tail) places ∙ ap (λ (k : ℕ). drop k (spaces places ++ tail)) (sym size) ∙ drop-append_seam (spaces places) tail in
+    ap (drop (length prefix + places)) is ∙ drop-append-add prefix (spaces places ++ tail) places
+        ∙ ap (λ (k : ℕ). drop k (spaces places ++ tail)) (sym size) ∙ drop-append_seam (spaces places) tail in
     sym (take-append-drop start new)
     ∙ ap₂ (λ (k l : List ℕ). k ++ l) (kept ∙ taken) (written ∙ ap (λ (l : List ℕ). text ++ l) dropped)
     ∙ append_assoc prefix (spaces left) (text ++ tail)
@@ -101,15 +128,21 @@ right_end old new prefix text tail start places is short e kept written =
 
 -- a text that is not too long takes so many places
 right-size : (places : ℕ) (text : List ℕ) → length text ≤ places → length (at_right places text) ≡ places
-right-size places text short = omega (arith, length-append (spaces (places - length text)) text, length-replicate {A = ℕ} (places - length text) 32)
+right-size places text short =
+    omega
+        (arith, length-append (spaces (places - length text)) text, length-replicate {A = ℕ} (places - length text) 32)
 
 -- and a number 20 at most
 pub right-short : (places n : ℕ) → places ≤ 20 → n < 2 ^ 64 → length (at_right places (decimal n)) ≤ 20
 right-short places n few fits =
-    omega (arith, length-append (spaces (places - length (decimal n))) (decimal n), length-replicate {A = ℕ} (places - length (decimal n)) 32, length-decimal-le 20 n (omega arith) (omega arith) fits)
+    omega
+        (arith, length-append (spaces (places - length (decimal n))) (decimal n),
+            length-replicate {A = ℕ} (places - length (decimal n)) 32,
+            length-decimal-le 20 n (omega arith) (omega arith) fits)
 
 -- a colon was written to spaces
-blank_columns : (prefix tail : List ℕ) (at : ℕ) → length prefix ≡ at → set (prefix ++ (spaces 17 ++ tail)) (at + 15) 58 ≡ prefix ++ (spaces 15 ++ 58 ∷ 32 ∷ tail)
+blank_columns : (prefix tail : List ℕ) (at : ℕ) → length prefix ≡ at
+    → set (prefix ++ (spaces 17 ++ tail)) (at + 15) 58 ≡ prefix ++ (spaces 15 ++ 58 ∷ 32 ∷ tail)
 blank_columns prefix tail at size =
     set-append_right prefix (spaces 17 ++ tail) at (at + 15) 58 size (omega arith)
     ∙ let place : at + 15 - at ≡ 15 = omega arith in ap (λ (n : ℕ). prefix ++ set (spaces 17 ++ tail) n 58) place
@@ -124,20 +157,27 @@ module _ (old first tail : List ℕ) (at : ℕ) (within : at ≤ length old) (sh
   columns_of second = at_right 8 first ++ 32 ∷ [] ++ second ++ 58 ∷ 32 ∷ []
 
   pub first_column-size : length first_column ≡ at + 9
-  first_column-size = omega (arith, length-append (take at old) (at_right 8 first ++ 32 ∷ []), length-take-le at old within, length-append (at_right 8 first) (32 ∷ []), right-size 8 first short)
+  first_column-size =
+      omega
+          (arith, length-append (take at old) (at_right 8 first ++ 32 ∷ []), length-take-le at old within,
+              length-append (at_right 8 first) (32 ∷ []), right-size 8 first short)
 
   -- spaces and a colon are there, and an offset was written to them
   pub offset_written : (pad middle : List ℕ) (start : ℕ) → pad ≡ spaces 17 → start + length first ≡ at + 8
-      → take start middle ≡ take start (set (take at old ++ (pad ++ tail)) (at + 15) 58) → drop start middle ≡ first ++ drop (at + 8) (set (take at old ++ (pad ++ tail)) (at + 15) 58)
+      → take start middle ≡ take start (set (take at old ++ (pad ++ tail)) (at + 15) 58)
+          → drop start middle ≡ first ++ drop (at + 8) (set (take at old ++ (pad ++ tail)) (at + 15) 58)
       → middle ≡ first_column ++ (spaces 6 ++ 58 ∷ 32 ∷ tail)
   offset_written pad middle start blank e kept written =
       let size : length (take at old) ≡ at = length-take-le at old within in
       let there : List ℕ = set (take at old ++ (pad ++ tail)) (at + 15) 58 in
       let more : List ℕ = 32 ∷ (spaces 6 ++ 58 ∷ 32 ∷ tail) in
-      let is = ap (λ (l : List ℕ). set (take at old ++ (l ++ tail)) (at + 15) 58) blank ∙ blank_columns (take at old) tail at size in
+      let is =
+          ap (λ (l : List ℕ). set (take at old ++ (l ++ tail)) (at + 15) 58) blank
+              ∙ blank_columns (take at old) tail at size in
       right_end there middle (take at old) first more start 8 is short (omega (arith, e, size)) kept
       (written ∙ ap (λ (n : ℕ). first ++ drop (n + 8) there) (sym size))
-      ∙ ap (λ (l : List ℕ). take at old ++ l) (sym (append_assoc (at_right 8 first) (32 ∷ []) (spaces 6 ++ 58 ∷ 32 ∷ tail)))
+      ∙ ap (λ (l : List ℕ). take at old ++ l)
+          (sym (append_assoc (at_right 8 first) (32 ∷ []) (spaces 6 ++ 58 ∷ 32 ∷ tail)))
       ∙ sym (append_assoc (take at old) (at_right 8 first ++ 32 ∷ []) (spaces 6 ++ 58 ∷ 32 ∷ tail))
 
   -- both columns are there
@@ -147,26 +187,37 @@ module _ (old first tail : List ℕ) (at : ℕ) (within : at ≤ length old) (sh
       let whole : List ℕ = take at old ++ columns_of second in
       let same : new ≡ whole ++ tail = is ∙ simp append_assoc refl in
       let size : length (columns_of second) ≡ 17 =
-      omega (arith, length-append (at_right 8 first ++ 32 ∷ [] ++ second) (58 ∷ 32 ∷ []), length-append (at_right 8 first ++ 32 ∷ []) second, length-append (at_right 8 first) (32 ∷ []), right-size 8 first short, six) in
-      let all : length whole ≡ at + 17 = omega (arith, length-append (take at old) (columns_of second), length-take-le at old within, size) in
+      omega
+          (arith, length-append (at_right 8 first ++ 32 ∷ [] ++ second) (58 ∷ 32 ∷ []),
+              length-append (at_right 8 first ++ 32 ∷ []) second, length-append (at_right 8 first) (32 ∷ []),
+              right-size 8 first short, six) in
+      let all : length whole ≡ at + 17 =
+          omega (arith, length-append (take at old) (columns_of second), length-take-le at old within, size) in
       ap₂ take (sym all) same ∙ take-append_seam whole tail
 
   -- a size was written after the offset
-  pub size_written : (middle new text : List ℕ) (start : ℕ) → middle ≡ first_column ++ (spaces 6 ++ 58 ∷ 32 ∷ tail) → length text ≤ 6 → start + length text ≡ at + 15
+  pub size_written : (middle new text : List ℕ) (start : ℕ) → middle ≡ first_column ++ (spaces 6 ++ 58 ∷ 32 ∷ tail)
+      → length text ≤ 6 → start + length text ≡ at + 15
       → take start new ≡ take start middle → drop start new ≡ text ++ drop (at + 15) middle
       → take (at + 17) new ≡ take at old ++ columns_of (at_right 6 text)
   size_written middle new text start is few e kept written =
       columns_there new (at_right 6 text) (right-size 6 text few)
-      (right_end middle new first_column text (58 ∷ 32 ∷ tail) start 6 is few (omega (arith, e, first_column-size)) kept (written ∙ ap (λ (n : ℕ). text ++ drop n middle) (omega (arith, first_column-size))))
+      (right_end middle new first_column text (58 ∷ 32 ∷ tail) start 6 is few (omega (arith, e, first_column-size))
+          kept (written ∙ ap (λ (n : ℕ). text ++ drop n middle) (omega (arith, first_column-size))))
 
   -- a word was written after the offset
-  pub word_written : (middle there word : List ℕ) → middle ≡ first_column ++ (spaces 6 ++ 58 ∷ 32 ∷ tail) → length word ≡ 6 → there ≡ word
-      → take (at + 17) (take (at + 9) middle ++ (there ++ drop (at + 15 - (at + 9)) (drop (at + 9) middle))) ≡ take at old ++ columns_of (at_right 6 word)
+  pub word_written : (middle there word : List ℕ) → middle ≡ first_column ++ (spaces 6 ++ 58 ∷ 32 ∷ tail)
+      → length word ≡ 6 → there ≡ word
+      → take (at + 17) (take (at + 9) middle ++ (there ++ drop (at + 15 - (at + 9)) (drop (at + 9) middle)))
+          ≡ take at old ++ columns_of (at_right 6 word)
   word_written middle there word is six same =
       let rest : List ℕ = spaces 6 ++ 58 ∷ 32 ∷ tail in
-      let taken : take (at + 9) middle ≡ first_column = ap₂ take (sym first_column-size) is ∙ take-append_seam first_column rest in
+      let taken : take (at + 9) middle ≡ first_column =
+          ap₂ take (sym first_column-size) is ∙ take-append_seam first_column rest in
       let dropped : drop (at + 15 - (at + 9)) (drop (at + 9) middle) ≡ 58 ∷ 32 ∷ tail =
-      drop-drop (at + 15 - (at + 9)) (at + 9) middle ∙ ap₂ (λ (n : ℕ) (l : List ℕ). drop n l) (omega (arith, first_column-size)) is ∙ drop-append-add first_column rest 6 in
+      drop-drop (at + 15 - (at + 9)) (at + 9) middle
+          ∙ ap₂ (λ (n : ℕ) (l : List ℕ). drop n l) (omega (arith, first_column-size)) is
+          ∙ drop-append-add first_column rest 6 in
       let t = ap₂ (λ (k l : List ℕ). k ++ l) taken (ap₂ (λ (k l : List ℕ). k ++ l) same dropped) in
       columns_there (take (at + 9) middle ++ (there ++ drop (at + 15 - (at + 9)) (drop (at + 9) middle))) word six t
       ∙ ap (λ (l : List ℕ). take at old ++ columns_of l) (sym (right_long 6 word (omega (arith, six))))
@@ -184,7 +235,9 @@ digits_of_power k n fits from to = sym (by k n (omega arith) from to)
     by : (k n : ℕ) → n < 2 ^ 128 → 10 ^ k ≤ n → n < 10 * 10 ^ k → length (decimal n) ≡ k + 1
     by zero n fits from to = length_one n (omega arith)
     by (suc k) n fits from to =
-        omega (arith, length_step_wide n (omega (arith, power_some k, from)) fits, by k (n / 10) (omega arith) (omega (arith, from)) (omega (arith, to)))
+        omega
+            (arith, length_step_wide n (omega (arith, power_some k, from)) fits,
+                by k (n / 10) (omega arith) (omega (arith, from)) (omega (arith, to)))
 
 -- a number of at least this power of ten has more digits
 pub long_number : (k n : ℕ) → n < 2 ^ 64 → 10 ^ k ≤ n → at_right k (decimal n) ≡ decimal n
@@ -194,17 +247,21 @@ long_number k n fits from = right_long k (decimal n) (by k n (omega arith) from)
     by zero n fits from = omega arith
     by (suc zero) n fits from = omega (arith, length_step_wide n from fits)
     by (suc (suc k)) n fits from =
-        omega (arith, length_step_wide n (omega (arith, power_some k, from)) fits, by (suc k) (n / 10) (omega arith) (omega (arith, from)))
+        omega
+            (arith, length_step_wide n (omega (arith, power_some k, from)) fits,
+                by (suc k) (n / 10) (omega arith) (omega (arith, from)))
 
 -- ---- pairs of digits
 
 pairs-append : (xs ys : List ℕ) → spaced_pairs (xs ++ ys) ≡ spaced_pairs xs ++ spaced_pairs ys
 pairs-append [] ys = refl
 pairs-append (x ∷ xs) ys =
-    ap (λ (l : List ℕ). (32 ∷ encode_lower (x ∷ [])) ++ l) (pairs-append xs ys) ∙ sym (append_assoc (32 ∷ encode_lower (x ∷ [])) (spaced_pairs xs) (spaced_pairs ys))
+    ap (λ (l : List ℕ). (32 ∷ encode_lower (x ∷ [])) ++ l) (pairs-append xs ys)
+        ∙ sym (append_assoc (32 ∷ encode_lower (x ∷ [])) (spaced_pairs xs) (spaced_pairs ys))
 
 -- one pair more
-pairs-more : (octets : List ℕ) (i : ℕ) → i < length octets → spaced_pairs (take (i + 1) octets) ≡ spaced_pairs (take i octets) ++ 32 ∷ encode_lower (get_or octets i 0 ∷ [])
+pairs-more : (octets : List ℕ) (i : ℕ) → i < length octets
+    → spaced_pairs (take (i + 1) octets) ≡ spaced_pairs (take i octets) ++ 32 ∷ encode_lower (get_or octets i 0 ∷ [])
 pairs-more octets i h =
     ap spaced_pairs (take_more octets i 0 h)
     ∙ pairs-append (take i octets) (get_or octets i 0 ∷ [])
@@ -213,21 +270,30 @@ pairs-more octets i h =
 -- how many octets they are
 pub pairs-size : (octets : List ℕ) → length (spaced_pairs octets) ≡ 3 * length octets
 pairs-size [] = refl
-pairs-size (x ∷ xs) = omega (arith, length-append (32 ∷ encode_lower (x ∷ [])) (spaced_pairs xs), length-encode_with lower_digits (x ∷ []), pairs-size xs)
+pairs-size (x ∷ xs) =
+    omega
+        (arith, length-append (32 ∷ encode_lower (x ∷ [])) (spaced_pairs xs),
+            length-encode_with lower_digits (x ∷ []), pairs-size xs)
 
 -- the pair of octet i, in place of the spaces after the one before it
-pub row_step : (octets to new pair rest : List ℕ) (i : ℕ) → i < 16 → length octets ≡ 16 → to ≡ spaced_pairs (take i octets) ++ (spaces (48 - 3 * i) ++ rest)
-    → pair ≡ encode_lower (get_or octets i 0 ∷ []) → new ≡ take (3 * i + 1) to ++ (pair ++ drop (3 * i + 3 - (3 * i + 1)) (drop (3 * i + 1) to))
+pub row_step : (octets to new pair rest : List ℕ) (i : ℕ) → i < 16 → length octets ≡ 16
+    → to ≡ spaced_pairs (take i octets) ++ (spaces (48 - 3 * i) ++ rest)
+    → pair ≡ encode_lower (get_or octets i 0 ∷ [])
+        → new ≡ take (3 * i + 1) to ++ (pair ++ drop (3 * i + 3 - (3 * i + 1)) (drop (3 * i + 1) to))
     → new ≡ spaced_pairs (take (i + 1) octets) ++ (spaces (48 - 3 * (i + 1)) ++ rest)
 row_step octets to new pair rest i few whole is p e =
     let prefix : List ℕ = spaced_pairs (take i octets) in
     let tail : List ℕ = spaces (48 - 3 * (i + 1)) ++ rest in
-    let size : length prefix ≡ 3 * i = pairs-size (take i octets) ∙ ap (λ (n : ℕ). 3 * n) (length-take-le i octets (omega arith)) in
+    let size : length prefix ≡ 3 * i =
+        pairs-size (take i octets) ∙ ap (λ (n : ℕ). 3 * n) (length-take-le i octets (omega arith)) in
     let three : 48 - 3 * i ≡ suc (suc (suc (48 - 3 * (i + 1)))) = omega (arith, few) in
     let t : to ≡ prefix ++ (32 ∷ 32 ∷ 32 ∷ tail) = is ∙ ap (λ (n : ℕ). prefix ++ (spaces n ++ rest)) three in
-    let taken : take (3 * i + 1) to ≡ prefix ++ 32 ∷ [] = ap₂ (λ (n : ℕ) (l : List ℕ). take (n + 1) l) (sym size) t ∙ take-append-add prefix (32 ∷ 32 ∷ 32 ∷ tail) 1 in
+    let taken : take (3 * i + 1) to ≡ prefix ++ 32 ∷ [] =
+        ap₂ (λ (n : ℕ) (l : List ℕ). take (n + 1) l) (sym size) t ∙ take-append-add prefix (32 ∷ 32 ∷ 32 ∷ tail) 1 in
     let dropped : drop (3 * i + 3 - (3 * i + 1)) (drop (3 * i + 1) to) ≡ tail =
-    drop-drop (3 * i + 3 - (3 * i + 1)) (3 * i + 1) to ∙ ap₂ (λ (n : ℕ) (l : List ℕ). drop n l) (omega (arith, size)) t ∙ drop-append-add prefix (32 ∷ 32 ∷ 32 ∷ tail) 3 in
+    drop-drop (3 * i + 3 - (3 * i + 1)) (3 * i + 1) to
+        ∙ ap₂ (λ (n : ℕ) (l : List ℕ). drop n l) (omega (arith, size)) t
+        ∙ drop-append-add prefix (32 ∷ 32 ∷ 32 ∷ tail) 3 in
     e
     ∙ ap₂ (λ (k l : List ℕ). k ++ (pair ++ l)) taken dropped
     ∙ ap (λ (l : List ℕ). (prefix ++ 32 ∷ []) ++ (l ++ tail)) p
@@ -236,20 +302,26 @@ row_step octets to new pair rest i few whole is p e =
     ∙ ap (λ (l : List ℕ). l ++ tail) (sym (pairs-more octets i (omega arith)))
 
 -- all 16
-pub row_whole : (octets to rest : List ℕ) (i : ℕ) → i ≡ 16 → length octets ≡ 16 → to ≡ spaced_pairs (take i octets) ++ (spaces (48 - 3 * i) ++ rest) → take 48 to ≡ spaced_pairs octets
+pub row_whole : (octets to rest : List ℕ) (i : ℕ) → i ≡ 16 → length octets ≡ 16
+    → to ≡ spaced_pairs (take i octets) ++ (spaces (48 - 3 * i) ++ rest) → take 48 to ≡ spaced_pairs octets
 row_whole octets to rest i last whole is =
     let all : take i octets ≡ octets = take_all i octets (omega arith) in
     let none : 48 - 3 * i ≡ 0 = omega (arith, last) in
     let size : length (spaced_pairs octets) ≡ 48 = omega (arith, pairs-size octets, whole) in
-    ap₂ take (sym size) (is ∙ ap₂ (λ (l : List ℕ) (n : ℕ). spaced_pairs l ++ (spaces n ++ rest)) all none) ∙ take-append_seam (spaced_pairs octets) rest
+    ap₂ take (sym size) (is ∙ ap₂ (λ (l : List ℕ) (n : ℕ). spaced_pairs l ++ (spaces n ++ rest)) all none)
+        ∙ take-append_seam (spaced_pairs octets) rest
 
 -- the pair of octet i, after the pairs before it
-pub pairs_step : (octets to pair tail : List ℕ) (i : ℕ) → i < length octets → 3 * i + 3 ≤ length to → take (3 * i) to ≡ spaced_pairs (take i octets) → pair ≡ encode_lower (get_or octets i 0 ∷ [])
+pub pairs_step : (octets to pair tail : List ℕ) (i : ℕ) → i < length octets → 3 * i + 3 ≤ length to
+    → take (3 * i) to ≡ spaced_pairs (take i octets) → pair ≡ encode_lower (get_or octets i 0 ∷ [])
     → take (3 * (i + 1)) (take (3 * i + 1) (set to (3 * i) 32) ++ (pair ++ tail)) ≡ spaced_pairs (take (i + 1) octets)
 pairs_step octets to pair tail i more within t e =
     let prefix : List ℕ = spaced_pairs (take i octets) in
-    let taken : take (3 * i + 1) (set to (3 * i) 32) ≡ prefix ++ 32 ∷ [] = take_more_set to (3 * i) 32 (omega (arith, within)) ∙ ap (λ (l : List ℕ). l ++ 32 ∷ []) t in
-    let size : length (take (3 * i + 1) (set to (3 * i) 32)) ≡ 3 * i + 1 = ap length taken ∙ length-append prefix (32 ∷ []) ∙ ap (λ (l : List ℕ). length l + 1) (sym t) ∙ ap (λ (n : ℕ). n + 1) (length-take-le (3 * i) to (omega (arith, within))) in
+    let taken : take (3 * i + 1) (set to (3 * i) 32) ≡ prefix ++ 32 ∷ [] =
+        take_more_set to (3 * i) 32 (omega (arith, within)) ∙ ap (λ (l : List ℕ). l ++ 32 ∷ []) t in
+    let size : length (take (3 * i + 1) (set to (3 * i) 32)) ≡ 3 * i + 1 =
+        ap length taken ∙ length-append prefix (32 ∷ []) ∙ ap (λ (l : List ℕ). length l + 1) (sym t)
+            ∙ ap (λ (n : ℕ). n + 1) (length-take-le (3 * i) to (omega (arith, within))) in
     let two : length pair ≡ 2 = ap length e ∙ length-encode_with lower_digits (get_or octets i 0 ∷ []) in
     let whole : 3 * (i + 1) ≡ length (take (3 * i + 1) (set to (3 * i) 32)) + length pair = omega (arith, size, two) in
     ap (λ (n : ℕ). take n (take (3 * i + 1) (set to (3 * i) 32) ++ (pair ++ tail))) whole

@@ -46,7 +46,8 @@ least-if true least m n h g = h
 least-if false least m n h g = g
 
 -- there is room for the first octet of a row
-pub room-first : (size : ℕ) (wanted : ℕ → ℕ) → ((x : ℕ) → wanted x ≤ size) → (x : ℕ) → has_room_by size wanted 0 x ≡ true
+pub room-first : (size : ℕ) (wanted : ℕ → ℕ) → ((x : ℕ) → wanted x ≤ size) → (x : ℕ)
+    → has_room_by size wanted 0 x ≡ true
 room-first size wanted fits x = let h = fits x in grind (arith, nat_tests)
 
 -- ---- octets of rows
@@ -82,7 +83,8 @@ module _ (size : ℕ) (wanted : ℕ → ℕ) where
   split : (i n : ℕ) → i < n + 1 → (i < n) ⊎ (i ≡ n)
   split i n h = split-at i n (eqb i n) refl h
 
-  pub fit-more : (row : List ℕ) (x : ℕ) → AllFit row → has_room_by size wanted (length row) x ≡ true → AllFit (row ++ x ∷ [])
+  pub fit-more : (row : List ℕ) (x : ℕ) → AllFit row → has_room_by size wanted (length row) x ≡ true
+      → AllFit (row ++ x ∷ [])
   fit-more row x f r i h =
       let room : length row + wanted x ≤ size =
       leb-true (length row + wanted x) size r in
@@ -145,7 +147,8 @@ module _ (size : ℕ) (wanted : ℕ → ℕ) (some : 1 ≤ size) (fits : (x : �
       → ((r : List ℕ) → AllFit size wanted r → length r < size → CutOn r xs (rows_after_row r xs))
       → CutOn row (x ∷ xs)
       ((if room
-      then (if last then (row ++ x ∷ []) ∷ rows_filled_by size wanted [] xs else rows_filled_by size wanted (row ++ x ∷ []) xs)
+      then (if last then (row ++ x ∷ []) ∷ rows_filled_by size wanted [] xs
+          else rows_filled_by size wanted (row ++ x ∷ []) xs)
       else row ∷ rows_filled_by size wanted (x ∷ []) xs)
       ++ last_rows (if room
       then (if last then row_begun_by size wanted [] xs else row_begun_by size wanted (row ++ x ∷ []) xs)

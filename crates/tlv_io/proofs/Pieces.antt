@@ -28,7 +28,8 @@ counted-all (suc n) r = ap next_count (counted-all n r) ∙ omega arith
 -- pieces, and one more
 pub together_more : (pieces : List (List ℕ)) (r : List ℕ) → concat (pieces ++ r ∷ []) ≡ concat pieces ++ r
 together_more [] r = append-nil r
-together_more (p ∷ pieces) r = ap (λ (l : List ℕ). p ++ l) (together_more pieces r) ∙ sym (append_assoc p (concat pieces) r)
+together_more (p ∷ pieces) r =
+    ap (λ (l : List ℕ). p ++ l) (together_more pieces r) ∙ sym (append_assoc p (concat pieces) r)
 
 pub count_more : (pieces : List (List ℕ)) (r : List ℕ) → length (pieces ++ r ∷ []) ≡ suc (length pieces)
 count_more [] r = refl
@@ -44,7 +45,8 @@ pub record Gathered (old new : SourceState) : Type 0 where
 abbrev pub gathered_none : (old : SourceState) → Gathered old old
 gathered_none old = record { pieces = []; each = All-nil IsPiece; reads = refl; consumed = Consumes-nil old.left }
 
-module _ (old middle new : SourceState) (x : Gathered old middle) (r : List ℕ) (consumed : Consumes middle.left new.left r) (read : new.reads ≡ next_count middle.reads) where
+module _ (old middle new : SourceState) (x : Gathered old middle) (r : List ℕ)
+    (consumed : Consumes middle.left new.left r) (read : new.reads ≡ next_count middle.reads) where
   pub all_consumed : Consumes old.left new.left (concat x.pieces ++ r)
   all_consumed = Consumes-trans old.left middle.left new.left (concat x.pieces) r x.consumed consumed
 

@@ -19,30 +19,37 @@ right n = replicate (8 - length (decimal n)) 32 ++ decimal n
 -- the lines of so many more elements, after those of so many
 abbrev openings : ℕ → ℕ → List ℕ
 openings zero level = []
-openings (suc n) level = right (2 * level) ++ codes "  indef: " ++ replicate (2 * level) 32 ++ codes "SEQUENCE {" ++ 10 ∷ openings n (level + 1)
+openings (suc n) level =
+    right (2 * level) ++ codes "  indef: " ++ replicate (2 * level) 32 ++ codes "SEQUENCE {"
+        ++ 10 ∷ openings n (level + 1)
 
 -- the lines of the ends of so many elements, the first of them at this offset
 abbrev closings : ℕ → ℕ → List ℕ
 closings zero offset = []
-closings (suc level) offset = right offset ++ codes "    end: " ++ replicate (2 * level) 32 ++ 125 ∷ 10 ∷ closings level (offset + 2)
+closings (suc level) offset =
+    right offset ++ codes "    end: " ++ replicate (2 * level) 32 ++ 125 ∷ 10 ∷ closings level (offset + 2)
 
 -- 128 times 30 80, and 128 times 00 00
-deep : result (dump Ber None false plain) (begun 128 ++ replicate 256 0x00) ≡ clean_with (openings 128 0 ++ closings 128 256)
+deep : result (dump Ber None false plain) (begun 128 ++ replicate 256 0x00)
+    ≡ clean_with (openings 128 0 ++ closings 128 256)
 unfolding digits
 deep = refl
 
 -- 129 times 30 80: the header of the last is refused
-too_deep : result (dump Ber None false plain) (begun 129) ≡ faulty 0 TooDeep 257 "fault at 257: F10 more than 128 open elements" (openings 128 0)
+too_deep : result (dump Ber None false plain) (begun 129)
+    ≡ faulty 0 TooDeep 257 "fault at 257: F10 more than 128 open elements" (openings 128 0)
 unfolding digits
 too_deep = refl
 
 -- 128 times 30 80, and 04 00: a string that is read counts as they do
-string-too_deep : result (dump Ber None false (framed (256 ∷ []) false)) (begun 128 ++ 0x04 ∷ 0x00 ∷ []) ≡ faulty 0 TooDeep 257 "fault at 257: F10 more than 128 open elements" (openings 128 0)
+string-too_deep : result (dump Ber None false (framed (256 ∷ []) false)) (begun 128 ++ 0x04 ∷ 0x00 ∷ [])
+    ≡ faulty 0 TooDeep 257 "fault at 257: F10 more than 128 open elements" (openings 128 0)
 unfolding digits
 string-too_deep = refl
 
 -- 128 times 30 80, and 04 00: if it is not named it is a primitive
 string-not-named : result (dump Ber None false plain) (begun 128 ++ 0x04 ∷ 0x00 ∷ [])
-    ≡ faulty 0 Short 258 "fault at 258: F02 input ends inside an encoding" (openings 128 0 ++ right 256 ++ codes "      0: " ++ replicate 256 32 ++ codes "OCTET STRING" ++ 10 ∷ [])
+    ≡ faulty 0 Short 258 "fault at 258: F02 input ends inside an encoding"
+        (openings 128 0 ++ right 256 ++ codes "      0: " ++ replicate 256 32 ++ codes "OCTET STRING" ++ 10 ∷ [])
 unfolding digits
 string-not-named = refl

@@ -44,7 +44,8 @@ job_of command = command_job command finite.empty
 -- a run over these octets, after which a read fails or the input ends, into so much room: what is written and reported
 abbrev Writes : Command → List ℕ → Bool → ℕ → List ℕ → ReportValue → Type 0
 Writes command b fails room written report =
-    (w : List ℕ) (r : ReportValue) → RunsOctets (job_of command) b fails room (record { written = w; report = r }) → (w ≡ written) × (r ≡ report)
+    (w : List ℕ) (r : ReportValue) → RunsOctets (job_of command) b fails room (record { written = w; report = r })
+        → (w ≡ written) × (r ≡ report)
 
 module _ (command : Command) (b : List ℕ) where
   abbrev job : Job ReportValue
@@ -53,54 +54,70 @@ module _ (command : Command) (b : List ℕ) where
   abbrev Makes : CommandResult → Type 0
   Makes = IsJobResult job (take job.limit b)
 
-  ended-at : (made : CommandResult) (y : Makes made) (r : ReportValue) → length b ≤ job.limit → IsReport job b false y r → r ≡ made.report
+  ended-at : (made : CommandResult) (y : Makes made) (r : ReportValue) → length b ≤ job.limit
+      → IsReport job b false y r → r ≡ made.report
   ended-at made y r few (settled s) = refl
   ended-at made y r few (ended f l) = refl
   ended-at made y r few (read_failed n f l) = absurd (cc (f))
   ended-at made y r few (too_long n less) = absurd (omega arith)
 
-  settled-at : (fails : Bool) (made : CommandResult) (y : Makes made) (r : ReportValue) → IsSettled y → IsReport job b fails y r → r ≡ made.report
+  settled-at : (fails : Bool) (made : CommandResult) (y : Makes made) (r : ReportValue) → IsSettled y
+      → IsReport job b fails y r → r ≡ made.report
   settled-at fails made y r s (settled t) = refl
   settled-at fails made y r s (ended f l) = refl
   settled-at fails made y r s (read_failed n f l) = absurd (n s)
   settled-at fails made y r s (too_long n less) = absurd (n s)
 
-  read-failed-at : (made : CommandResult) (y : Makes made) (r : ReportValue) → length b ≤ job.limit → (IsSettled y → ⊥) → IsReport job b true y r → r ≡ device_report ReadFailed
+  read-failed-at : (made : CommandResult) (y : Makes made) (r : ReportValue) → length b ≤ job.limit
+      → (IsSettled y → ⊥) → IsReport job b true y r → r ≡ device_report ReadFailed
   read-failed-at made y r few n (settled s) = absurd (n s)
   read-failed-at made y r few n (ended f l) = absurd (cc (f))
   read-failed-at made y r few n (read_failed m f l) = refl
   read-failed-at made y r few n (too_long m less) = absurd (omega arith)
 
   -- the octets are below 256, and no more than are read; and what is made of them
-  module _ (m : CommandResult) (small : list_all (λ x. ltb x 256) b ≡ true) (whole : take job.limit b ≡ b) (few : leb (length b) job.limit ≡ true)
+  module _ (m : CommandResult) (small : list_all (λ x. ltb x 256) b ≡ true) (whole : take job.limit b ≡ b)
+      (few : leb (length b) job.limit ≡ true)
       (row : result command b ≡ m) where
     are : AreOctets b
     are = are-octets b small
 
     is-made : (made : CommandResult) → Makes made → made ≡ m
     is-made made y =
-        makes_unique job b made (result command b) (subst (λ (o : List ℕ). IsJobResult job o made) whole y) (is_result job b are) ∙ row
+        makes_unique job b made (result command b) (subst (λ (o : List ℕ). IsJobResult job o made) whole y)
+            (is_result job b are)
+            ∙ row
 
-    output-is : (fails : Bool) (room : ℕ) (w : List ℕ) (r : ReportValue) (x : RunsOctets job b fails room (record { written = w; report = r })) → w ≡ take room m.output
+    output-is : (fails : Bool) (room : ℕ) (w : List ℕ) (r : ReportValue)
+        (x : RunsOctets job b fails room (record { written = w; report = r }))
+        → w ≡ take room m.output
     output-is fails room w r x = x.output ∙ ap (λ (n : CommandResult). take room n.output) (is-made x.made x.is_made)
 
     -- there is less room than the output needs
-    little-room : (fails : Bool) (room : ℕ) → ltb room (length m.output) ≡ true → Writes command b fails room (take room m.output) (device_report WriteFailed)
+    little-room : (fails : Bool) (room : ℕ) → ltb room (length m.output) ≡ true
+        → Writes command b fails room (take room m.output) (device_report WriteFailed)
     little-room fails room less w r x = (
       output-is fails room w r x,
-      x.without_room (subst (λ (n : CommandResult). room < length n.output) (sym (is-made x.made x.is_made)) (ltb-true room (length m.output) less)),
+      x.without_room
+          (subst (λ (n : CommandResult). room < length n.output) (sym (is-made x.made x.is_made))
+              (ltb-true room (length m.output) less)),
     )
 
     module _ (room : ℕ) (fits : leb (length m.output) room ≡ true) where
-      report-of : (fails : Bool) (w : List ℕ) (r : ReportValue) (x : RunsOctets job b fails room (record { written = w; report = r })) → IsReport job b fails x.is_made r
+      report-of : (fails : Bool) (w : List ℕ) (r : ReportValue)
+          (x : RunsOctets job b fails room (record { written = w; report = r }))
+          → IsReport job b fails x.is_made r
       report-of fails w r x =
-          x.with_room (subst (λ (n : CommandResult). length n.output ≤ room) (sym (is-made x.made x.is_made)) (leb-true (length m.output) room fits))
+          x.with_room
+              (subst (λ (n : CommandResult). length n.output ≤ room) (sym (is-made x.made x.is_made))
+                  (leb-true (length m.output) room fits))
 
       -- the input ends with the octets
       to-end : Writes command b false room (take room m.output) m.report
       to-end w r x = (
         output-is false room w r x,
-        ended-at x.made x.is_made r (leb-true (length b) job.limit few) (report-of false w r x) ∙ ap (λ (n : CommandResult). n.report) (is-made x.made x.is_made),
+        ended-at x.made x.is_made r (leb-true (length b) job.limit few) (report-of false w r x)
+            ∙ ap (λ (n : CommandResult). n.report) (is-made x.made x.is_made),
       )
 
       -- a read fails, and more octets could count
@@ -108,7 +125,8 @@ module _ (command : Command) (b : List ℕ) where
           → Writes command b true room (take room m.output) (device_report ReadFailed)
       to-failure open_ w r x = (
         output-is true room w r x,
-        read-failed-at x.made x.is_made r (leb-true (length b) job.limit few) (open_ x.made x.is_made (is-made x.made x.is_made)) (report-of true w r x),
+        read-failed-at x.made x.is_made r (leb-true (length b) job.limit few)
+            (open_ x.made x.is_made (is-made x.made x.is_made)) (report-of true w r x),
       )
 
       -- a read fails, and no more octets could count
@@ -116,26 +134,33 @@ module _ (command : Command) (b : List ℕ) where
       to-fault final w r x =
           let e = is-made x.made x.is_made in (
             output-is true room w r x,
-            settled-at true x.made x.is_made r (inr (subst (λ (n : CommandResult). IsFinalEnding n.ending) (sym e) final)) (report-of true w r x)
+            settled-at true x.made x.is_made r
+                (inr (subst (λ (n : CommandResult). IsFinalEnding n.ending) (sym e) final)) (report-of true w r x)
                 ∙ ap (λ (n : CommandResult). n.report) e,
           )
 
       -- a read fails, and nothing more was wanted
-      to-enough : job.is_enough (reading job.framing b) ≡ true → Writes command b true room (take room m.output) m.report
+      to-enough : job.is_enough (reading job.framing b) ≡ true
+          → Writes command b true room (take room m.output) m.report
       to-enough enough w r x =
           let read = subst (λ (o : List ℕ). IsReading job.framing o x.is_made.reading) whole x.is_made.is_reading in
-          let same = reading-unique job.framing b (reading job.framing b) x.is_made.reading (is-reading job.framing b are) read in (
+          let same =
+              reading-unique job.framing b (reading job.framing b) x.is_made.reading (is-reading job.framing b are)
+                  read in (
             output-is true room w r x,
-            settled-at true x.made x.is_made r (inl (subst (λ (f : Forest). job.is_enough f ≡ true) same enough)) (report-of true w r x)
+            settled-at true x.made x.is_made r (inl (subst (λ (f : Forest). job.is_enough f ≡ true) same enough))
+                (report-of true w r x)
                 ∙ ap (λ (n : CommandResult). n.report) (is-made x.made x.is_made),
           )
 
 -- more octets could count: a job that never has enough, at an ending that is not final
-open-yet : (command : Command) (b : List ℕ) (m : CommandResult) → ((f : Forest) → (job_of command).is_enough f ≡ true → ⊥) → (IsFinalEnding m.ending → ⊥)
+open-yet : (command : Command) (b : List ℕ) (m : CommandResult)
+    → ((f : Forest) → (job_of command).is_enough f ≡ true → ⊥) → (IsFinalEnding m.ending → ⊥)
     → (made : CommandResult) (y : Makes command b made) → made ≡ m → IsSettled y → ⊥
 open-yet command b m never unfinished made y e s =
     ⊎_elim (λ (enough : (job_of command).is_enough y.reading ≡ true). never y.reading enough)
-    (λ (final : IsFinalEnding made.ending). unfinished (subst (λ (n : CommandResult). IsFinalEnding n.ending) e final)) s
+    (λ (final : IsFinalEnding made.ending). unfinished (subst (λ (n : CommandResult). IsFinalEnding n.ending) e final))
+        s
 
 -- ---- rows
 
@@ -199,7 +224,8 @@ unfolding digits
 unfinished-made = refl
 
 -- the input ends
-unfinished-1 : Writes plain_dump unfinished false 28 sequence_line (report_with 2 (codes "fault at 3: F02 input ends inside an encoding"))
+unfinished-1 : Writes plain_dump unfinished false 28 sequence_line
+    (report_with 2 (codes "fault at 3: F02 input ends inside an encoding"))
 unfinished-1 = to-end plain_dump unfinished unfinished_result refl refl refl unfinished-made 28 refl
 
 -- a read fails: it is not known what the input would have come to

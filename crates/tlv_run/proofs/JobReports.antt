@@ -16,7 +16,8 @@ module _ {A : Type 0} (report : A → ReportValue) (job : Job A) where
 
   module _ (old new : DeviceStates) where
     runs_too : (result : Result A DeviceFault) → Runs job old new result
-        → (reported : ReportValue) → reported ≡ report_of report result → RunsAndReports (job_with_report report job) old new reported
+        → (reported : ReportValue) → reported ≡ report_of report result
+            → RunsAndReports (job_with_report report job) old new reported
     runs_too (Ok a) x reported e = record {
       result = Ok (report a);
       runs = record {
@@ -29,7 +30,8 @@ module _ {A : Type 0} (report : A → ReportValue) (job : Job A) where
         sends = x.sends;
         comes =
             let k = returns job (octets_given x.pieces) x.reading new.source (Ok a) x.comes in
-            comes_to (job_with_report report job) (octets_given x.pieces) x.reading new.source (Ok (report a)) (k.0, ap report k.1, k.2);
+            comes_to (job_with_report report job) (octets_given x.pieces) x.reading new.source (Ok (report a))
+                (k.0, ap report k.1, k.2);
       };
       report_is = e;
     }
@@ -79,6 +81,7 @@ module _ {A : Type 0} (report : A → ReportValue) (job : Job A) where
     }
 
   -- as a run of a command shows it
-  pub reported_runs : {old new : DeviceStates} {result : Result A DeviceFault} {reported : ReportValue} → Runs job old new result → reported ≡ report_of report result
+  pub reported_runs : {old new : DeviceStates} {result : Result A DeviceFault} {reported : ReportValue}
+      → Runs job old new result → reported ≡ report_of report result
       → RunsAndReports (job_with_report report job) old new reported
   reported_runs {old} {new} {result} {reported} x e = runs_too old new result x reported e

@@ -37,16 +37,19 @@ is_end : (framing : Framing) (b : List ℕ) → AreOctets b → (k : Bool) → E
 is_end framing b octets true = refl
 is_end framing b octets false = is-ending framing b octets
 
-end_unique : (framing : Framing) (b : List ℕ) (k : Bool) (e d : Ending) → EndsWith framing b k e → EndsWith framing b k d → e ≡ d
+end_unique : (framing : Framing) (b : List ℕ) (k : Bool) (e d : Ending) → EndsWith framing b k e
+    → EndsWith framing b k d → e ≡ d
 end_unique framing b true e d x y = x ∙ sym y
 end_unique framing b false e d x y = ending-unique framing b e d x y
 
 -- an octet that is refused is so whatever follows
-final_stays : (framing : Framing) (b c : List ℕ) (f : Forest) (k : Bool) (e : Ending) → IsFinalEnding e → IsReading framing b f → EndsWith framing b k e
+final_stays : (framing : Framing) (b c : List ℕ) (f : Forest) (k : Bool) (e : Ending) → IsFinalEnding e
+    → IsReading framing b f → EndsWith framing b k e
     → IsReading framing (b ++ c) f × EndsWith framing (b ++ c) k e
 final_stays framing b c f true e final r x = absurd (subst IsFinalEnding x final)
 final_stays framing b c f false ending.Done final r x = absurd final
-final_stays framing b c f false (ending.Fault k) final r x = refused-for-good framing b c k.code k.offset f final.0 final.1 x r
+final_stays framing b c f false (ending.Fault k) final r x =
+    refused-for-good framing b c k.code k.offset f final.0 final.1 x r
 
 -- ---- any job
 
@@ -57,8 +60,10 @@ module _ (job : Job ReportValue) where
       let same : x.reading ≡ y.reading = reading-unique job.framing b x.reading y.reading x.is_reading y.is_reading in
       let here : EndsWith job.framing b (job.is_enough y.reading) m.ending =
       subst (λ (f : Forest). EndsWith job.framing b (job.is_enough f) m.ending) same x.ends in
-      let end : m.ending ≡ n.ending = end_unique job.framing b (job.is_enough y.reading) m.ending n.ending here y.ends in
-      x.is_made ∙ ap (λ (f : Forest). command_result job f m.ending) same ∙ ap (command_result job y.reading) end ∙ sym y.is_made
+      let end : m.ending ≡ n.ending =
+          end_unique job.framing b (job.is_enough y.reading) m.ending n.ending here y.ends in
+      x.is_made ∙ ap (λ (f : Forest). command_result job f m.ending) same ∙ ap (command_result job y.reading) end
+          ∙ sym y.is_made
 
   -- the result, computed
   abbrev pub result_of : List ℕ → CommandResult
@@ -67,16 +72,24 @@ module _ (job : Job ReportValue) where
   pub is_result : (b : List ℕ) → AreOctets b → IsJobResult job b (result_of b)
   is_result b octets =
       let f : Forest = reading job.framing b in
-      record { reading = f; is_reading = is-reading job.framing b octets; ends = is_end job.framing b octets (job.is_enough f); is_made = refl }
+      record {
+        reading = f;
+        is_reading = is-reading job.framing b octets;
+        ends = is_end job.framing b octets (job.is_enough f);
+        is_made = refl;
+      }
 
-  pub one_made : (b : List ℕ) → AreOctets b → (made : CommandResult) × IsJobResult job b made × ((other : CommandResult) → IsJobResult job b other → other ≡ made)
+  pub one_made : (b : List ℕ) → AreOctets b
+      → (made : CommandResult) × IsJobResult job b made
+          × ((other : CommandResult) → IsJobResult job b other → other ≡ made)
   one_made b octets =
       let x = is_result b octets in
       (result_of b, x, λ (other : CommandResult) y. makes_unique b other (result_of b) y x)
 
   -- if nothing more is wanted, the same is made of every longer input
   abbrev pub Stays : Type 0
-  Stays = (b c : List ℕ) (f g : Forest) → IsReading job.framing b f → IsReading job.framing (b ++ c) g → job.is_enough f ≡ true
+  Stays = (b c : List ℕ) (f g : Forest) → IsReading job.framing b f → IsReading job.framing (b ++ c) g
+      → job.is_enough f ≡ true
       → (job.is_enough g ≡ true) × ((e : Ending) → command_result job g e ≡ command_result job f e)
 
   pub settled_stays : Stays → (b c : List ℕ) (made : CommandResult) → AreOctets (b ++ c) → (x : IsJobResult job b made)
@@ -86,7 +99,8 @@ module _ (job : Job ReportValue) where
         let g : Forest = reading job.framing (b ++ c) in
         let r : IsReading job.framing (b ++ c) g = is-reading job.framing (b ++ c) octets in
         let both = stays b c x.reading g x.is_reading r enough in
-        let done : made.ending ≡ ending.Done = subst (λ (k : Bool). EndsWith job.framing b k made.ending) enough x.ends in (
+        let done : made.ending ≡ ending.Done =
+            subst (λ (k : Bool). EndsWith job.framing b k made.ending) enough x.ends in (
           record {
             reading = g;
             is_reading = r;
@@ -96,7 +110,8 @@ module _ (job : Job ReportValue) where
           inl both.0,
         )
     | inr final ↦
-        let both = final_stays job.framing b c x.reading (job.is_enough x.reading) made.ending final x.is_reading x.ends in
+        let both =
+            final_stays job.framing b c x.reading (job.is_enough x.reading) made.ending final x.is_reading x.ends in
         (record { reading = x.reading; is_reading = both.0; ends = both.1; is_made = x.is_made }, inr final)
   ]
 
@@ -114,9 +129,12 @@ stays_for (Check rules framing file) names b c f g r s e = absurd (true≢false 
 stays_for (Extract offset contents framing file) names b c f g r s e =
     let text : extract_text offset contents g ≡ extract_text offset contents f =
     same_extract_text framing b c f g r s offset contents e in
-    let found : has_element_at offset g ≡ has_element_at offset f = same_found framing b c f g r s offset contents e in (
+    let found : has_element_at offset g ≡ has_element_at offset f =
+        same_found framing b c f g r s offset contents e in (
       same_whole framing b c f g r s offset contents e ∙ e,
-      λ (d : Ending). ap (λ (t : List ℕ). made t d (cut_report offset (record { ending = d; found = has_element_at offset g }))) text
+      λ (d : Ending).
+          ap (λ (t : List ℕ). made t d (cut_report offset (record { ending = d; found = has_element_at offset g })))
+          text
           ∙ ap (λ (k : Bool). made (extract_text offset contents f) d
           (cut_report offset (record { ending = d; found = k }))) found,
     )
@@ -148,7 +166,9 @@ outputs_on command names b c made more few x y =
     sym (ap (λ (m : CommandResult). m.output) x.is_made) in
     let longer : (command_job command names).text y.reading ≡ more.output =
     sym (ap (λ (m : CommandResult). m.output) y.is_made) in
-    let front = text_on command names b c x.reading y.reading (subst (λ (n : ℕ). length (b ++ c) ≤ n) (sym (limit_is command names)) few) x.is_reading y.is_reading in
+    let front =
+        text_on command names b c x.reading y.reading
+            (subst (λ (n : ℕ). length (b ++ c) ≤ n) (sym (limit_is command names)) few) x.is_reading y.is_reading in
     (front.0, ap (λ (l : List ℕ). l ++ front.0) (sym shorter) ∙ front.1 ∙ longer)
 
 pub second_indef : SecondIndefIsTheFirst

@@ -1,5 +1,5 @@
--- The words of the proof files that `tests/make-rows` writes from tests/rows: commands, and what is made of an input. Each result is the only one of its
--- input, by `is_result` and `makes_unique` of Results.
+-- The words of the proof files that `tests/make-rows` writes from tests/rows: commands, and what is made of an
+-- input. Each result is the only one of its input, by `is_result` and `makes_unique` of Results.
 use Rattle.std.proofs.Common.{◌≡◌, ℕ, ◌+◌, ◌-◌, ◌*◌, false, Bool, List, [], ◌∷◌, ◌++◌, None, Option, codes, ap}
 use Rattle.std.specs.Prelude.{flat_map, if◌then◌else◌, nat_le}
 use Rattle.std.specs.Cmp.Lexicographic.{nat_list_cmp_total, slice_cmp}
@@ -81,12 +81,20 @@ clean_with output = record { output = output; ending = Done; report = clean }
 
 -- status 1 with so many findings and this message
 abbrev pub noted : ℕ → String → List ℕ → CommandResult
-noted findings message output = record { output = output; ending = Done; report = record { status = 1; findings = findings; message = codes message } }
+noted findings message output = record {
+  output = output;
+  ending = Done;
+  report = record { status = 1; findings = findings; message = codes message };
+}
 
 -- status 2: so many findings, and a fault of this code at this offset, with this message
 abbrev pub faulty : ℕ → FaultCode → ℕ → String → List ℕ → CommandResult
 faulty findings code offset message output =
-    record { output = output; ending = fault_ending code offset; report = record { status = 2; findings = findings; message = codes message } }
+    record {
+      output = output;
+      ending = fault_ending code offset;
+      report = record { status = 2; findings = findings; message = codes message };
+    }
 
 -- ---- names of object identifiers
 
@@ -96,14 +104,18 @@ dumped_by rules limit pure framing name_of octets =
     let show = show_job framing rules (item_text name_of (top_layout (options_of rules limit pure framing))) in
     record (result (dump rules limit pure framing) octets) { output = show.text (reading framing octets) }
 
-by_names : (rules : Rules) (limit : Option ℕ) (pure : Bool) (framing : Framing) (names : NamesTable) (name_of : NameOf) →
-    finite.get names ≡ name_of → (octets : List ℕ) → result_with names (dump rules limit pure framing) octets ≡ dumped_by rules limit pure framing name_of octets
-by_names rules limit pure framing names name_of e octets = ap (λ (by : NameOf). dumped_by rules limit pure framing by octets) e
+by_names : (rules : Rules) (limit : Option ℕ) (pure : Bool) (framing : Framing) (names : NamesTable) (name_of : NameOf)
+    →
+    finite.get names ≡ name_of → (octets : List ℕ)
+        → result_with names (dump rules limit pure framing) octets ≡ dumped_by rules limit pure framing name_of octets
+by_names rules limit pure framing names name_of e octets =
+    ap (λ (by : NameOf). dumped_by rules limit pure framing by octets) e
 
 -- without a names file nothing has a name
 pub nameless : (rules : Rules) (limit : Option ℕ) (pure : Bool) (framing : Framing) (octets : List ℕ) →
     result (dump rules limit pure framing) octets ≡ dumped_by rules limit pure framing no_names octets
-nameless rules limit pure framing = by_names rules limit pure framing finite.empty no_names (λ i text. finite.get-empty (slice_cmp nat_cmp) text i)
+nameless rules limit pure framing =
+    by_names rules limit pure framing finite.empty no_names (λ i text. finite.get-empty (slice_cmp nat_cmp) text i)
 
 -- the table of a names file with these entries
 abbrev pub names_in : List (List ℕ × List ℕ) → NamesTable
@@ -112,7 +124,11 @@ names_in entries = finite.from_entries entries
 abbrev name_in : List (List ℕ × List ℕ) → NameOf
 name_in entries text = finite.find (slice_cmp nat_cmp) text entries
 
-pub named : (entries : List (List ℕ × List ℕ)) (rules : Rules) (limit : Option ℕ) (pure : Bool) (framing : Framing) (octets : List ℕ) →
-    result_with (names_in entries) (dump rules limit pure framing) octets ≡ dumped_by rules limit pure framing (name_in entries) octets
+pub named : (entries : List (List ℕ × List ℕ)) (rules : Rules) (limit : Option ℕ) (pure : Bool) (framing : Framing)
+    (octets : List ℕ)
+    →
+    result_with (names_in entries) (dump rules limit pure framing) octets
+        ≡ dumped_by rules limit pure framing (name_in entries) octets
 named entries rules limit pure framing =
-    by_names rules limit pure framing (names_in entries) (name_in entries) (λ i text. finite.get-from_entries nat_list_cmp_total entries text i)
+    by_names rules limit pure framing (names_in entries) (name_in entries)
+        (λ i text. finite.get-from_entries nat_list_cmp_total entries text i)

@@ -23,7 +23,8 @@ use Rattle.tlv_run.specs.declared.command.Command.TheVariants.{Check, Dump, Extr
 quiet : (unused : Option ℕ) (findings : ℕ) → (unused_report unused (findings_report findings)).status ≡ 2 → ⊥
 quiet None findings e = by-test (findings == 0) e
   where
-    by-test : (none : Bool) → (if none then report_with 0 [] else report_with 1 (codes "findings: " ++ decimal findings)).status ≡ 2 → ⊥
+    by-test : (none : Bool)
+        → (if none then report_with 0 [] else report_with 1 (codes "findings: " ++ decimal findings)).status ≡ 2 → ⊥
     by-test true e = absurd (cc (e))
     by-test false e = absurd (cc (e))
 quiet (Some offset) findings e = absurd (cc (e))
@@ -34,8 +35,10 @@ found_quiet offset false e = absurd (cc (e))
 
 done_quiet : (command : Command) (names : NamesTable) (f : Forest)
     → ((command_job command names).returned f ending.Done).status ≡ 2 → ⊥
-done_quiet (Dump options names_file file) names f e = let outcome : Outcome = (dump_job options names).returned f ending.Done in quiet outcome.unused outcome.findings e
-done_quiet (Check rules framing file) names f e = let outcome : Outcome = (check_job rules framing).returned f ending.Done in quiet outcome.unused outcome.findings e
+done_quiet (Dump options names_file file) names f e =
+    let outcome : Outcome = (dump_job options names).returned f ending.Done in quiet outcome.unused outcome.findings e
+done_quiet (Check rules framing file) names f e =
+    let outcome : Outcome = (check_job rules framing).returned f ending.Done in quiet outcome.unused outcome.findings e
 done_quiet (Extract offset contents framing file) names f e = found_quiet offset (has_element_at offset f) e
 done_quiet (Indef padding file) names f e = absurd (cc (e))
 
@@ -50,9 +53,15 @@ fault_loud (Indef padding file) names f (ending.Fault k) apart = refl
 pub statuses : StatusesShowSoundness
 statuses command names b made x open_ =
     let job = command_job command names in
-    let ends : IsEnding job.framing b made.ending = subst (λ (k : Bool). EndsWith job.framing b k made.ending) open_ x.ends in
-    let status : made.report.status ≡ (job.returned x.reading made.ending).status = ap (λ (m : CommandResult). m.report.status) x.is_made in (
+    let ends : IsEnding job.framing b made.ending =
+        subst (λ (k : Bool). EndsWith job.framing b k made.ending) open_ x.ends in
+    let status : made.report.status ≡ (job.returned x.reading made.ending).status =
+        ap (λ (m : CommandResult). m.report.status) x.is_made in (
       λ two sound. done_quiet command names x.reading
-          (ap (λ (e : Ending). (job.returned x.reading e).status) (sym (ending-unique job.framing b made.ending ending.Done ends (sound-done job.framing b sound))) ∙ sym status ∙ two),
-      λ unsound. status ∙ fault_loud command names x.reading made.ending (λ done. unsound (done-sound job.framing b (subst (IsEnding job.framing b) done ends))),
+          (ap (λ (e : Ending). (job.returned x.reading e).status)
+              (sym (ending-unique job.framing b made.ending ending.Done ends (sound-done job.framing b sound)))
+              ∙ sym status ∙ two),
+      λ unsound. status
+          ∙ fault_loud command names x.reading made.ending
+              (λ done. unsound (done-sound job.framing b (subst (IsEnding job.framing b) done ends))),
     )

@@ -1,4 +1,5 @@
--- Findings of all encodings, on contents: short inputs, each shown by computing. The texts are those of an independent reading of the rules.
+-- Findings of all encodings, on contents: short inputs, each shown by computing. The texts are those of an
+-- independent reading of the rules.
 use Rattle.std.proofs.Common.{◌≡◌, [], ◌∷◌, codes, refl}
 use Rattle.std.specs.Fmt.{digits}
 use Rattle.tlv_show.specs.declared.rules.Rules.TheVariants.{Ber}
@@ -119,7 +120,8 @@ unfolding digits
 b12-there-2 = refl
 
 -- 06 03 2a 81 80
-b12-there-3 : checked plain Ber (6 ∷ 3 ∷ 42 ∷ 129 ∷ 128 ∷ []) ≡ says 1 (codes "0 B12 last subidentifier is unfinished" ∷ [])
+b12-there-3 : checked plain Ber (6 ∷ 3 ∷ 42 ∷ 129 ∷ 128 ∷ [])
+    ≡ says 1 (codes "0 B12 last subidentifier is unfinished" ∷ [])
 unfolding digits
 b12-there-3 = refl
 

@@ -1,4 +1,5 @@
--- Findings of all encodings, with the header: short inputs, each shown by computing. The texts are those of an independent reading of the rules.
+-- Findings of all encodings, with the header: short inputs, each shown by computing. The texts are those of an
+-- independent reading of the rules.
 use Rattle.std.proofs.Common.{◌≡◌, [], ◌∷◌, codes, refl}
 use Rattle.std.specs.Fmt.{digits}
 use Rattle.std.specs.Str.{chars, is_utf8}
@@ -27,7 +28,9 @@ b02-there = refl
 
 -- 1f 00 00
 b02-there-2 : checked plain Ber (31 ∷ 0 ∷ 0 ∷ [])
-    ≡ says 3 (codes "0 B01 high form for a number below 31" ∷ codes "0 B02 tag number begins with zero bits" ∷ codes "0 B03 unassigned universal number" ∷ [])
+    ≡ says 3
+        (codes "0 B01 high form for a number below 31" ∷ codes "0 B02 tag number begins with zero bits"
+            ∷ codes "0 B03 unassigned universal number" ∷ [])
 unfolding digits
 b02-there-2 = refl
 
@@ -156,7 +159,8 @@ b05-absent-2 : checked plain Ber (144 ∷ 0 ∷ []) ≡ says 0 []
 b05-absent-2 = refl
 
 -- 23 08 03 02 01 00 03 02 00 ff
-b16-there : checked plain Ber (35 ∷ 8 ∷ 3 ∷ 2 ∷ 1 ∷ 0 ∷ 3 ∷ 2 ∷ 0 ∷ 255 ∷ []) ≡ says 1 (codes "6 B16 segment follows unused bits" ∷ [])
+b16-there : checked plain Ber (35 ∷ 8 ∷ 3 ∷ 2 ∷ 1 ∷ 0 ∷ 3 ∷ 2 ∷ 0 ∷ 255 ∷ [])
+    ≡ says 1 (codes "6 B16 segment follows unused bits" ∷ [])
 unfolding digits
 b16-there = refl
 
@@ -171,7 +175,8 @@ b16-absent : checked plain Ber (35 ∷ 8 ∷ 3 ∷ 2 ∷ 0 ∷ 0 ∷ 3 ∷ 2 ∷
 b16-absent = refl
 
 -- 23 06 03 00 03 02 00 ff
-b16-absent-2 : checked plain Ber (35 ∷ 6 ∷ 3 ∷ 0 ∷ 3 ∷ 2 ∷ 0 ∷ 255 ∷ []) ≡ says 1 (codes "2 B13 no first octet of a bit string" ∷ [])
+b16-absent-2 : checked plain Ber (35 ∷ 6 ∷ 3 ∷ 0 ∷ 3 ∷ 2 ∷ 0 ∷ 255 ∷ [])
+    ≡ says 1 (codes "2 B13 no first octet of a bit string" ∷ [])
 unfolding digits
 b16-absent-2 = refl
 
@@ -180,7 +185,8 @@ b16-absent-3 : checked plain Ber (48 ∷ 8 ∷ 3 ∷ 2 ∷ 1 ∷ 0 ∷ 3 ∷ 2 �
 b16-absent-3 = refl
 
 -- 23 08 83 02 01 00 03 02 00 ff
-b16-absent-4 : checked plain Ber (35 ∷ 8 ∷ 131 ∷ 2 ∷ 1 ∷ 0 ∷ 3 ∷ 2 ∷ 0 ∷ 255 ∷ []) ≡ says 1 (codes "2 B17 segment has another tag" ∷ [])
+b16-absent-4 : checked plain Ber (35 ∷ 8 ∷ 131 ∷ 2 ∷ 1 ∷ 0 ∷ 3 ∷ 2 ∷ 0 ∷ 255 ∷ [])
+    ≡ says 1 (codes "2 B17 segment has another tag" ∷ [])
 unfolding digits
 b16-absent-4 = refl
 

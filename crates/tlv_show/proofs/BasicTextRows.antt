@@ -1,4 +1,5 @@
--- Findings of all encodings, on characters and times: short inputs, each shown by computing. The texts are those of an independent reading of the rules.
+-- Findings of all encodings, on characters and times: short inputs, each shown by computing. The texts are those of
+-- an independent reading of the rules.
 use Rattle.std.proofs.Common.{◌≡◌, [], ◌∷◌, ◌++◌, codes, refl}
 use Rattle.std.specs.Prelude.{replicate}
 use Rattle.std.specs.Fmt.{digits}
@@ -43,7 +44,8 @@ unfolding digits
 b18-there-7 = refl
 
 -- 1c 05 00 00 00 41 00
-b18-there-8 : checked plain Ber (28 ∷ 5 ∷ 0 ∷ 0 ∷ 0 ∷ 65 ∷ 0 ∷ []) ≡ says 1 (codes "0 B18 characters not of the type" ∷ [])
+b18-there-8 : checked plain Ber (28 ∷ 5 ∷ 0 ∷ 0 ∷ 0 ∷ 65 ∷ 0 ∷ [])
+    ≡ says 1 (codes "0 B18 characters not of the type" ∷ [])
 unfolding digits
 b18-there-8 = refl
 
@@ -62,7 +64,9 @@ unfolding is_utf8 chars encode
 b18-absent-2 = refl
 
 -- 13 0f 61 5a 30 20 27 28 29 2b 2c 2d 2e 2f 3a 3d 3f
-b18-absent-3 : checked plain Ber (19 ∷ 15 ∷ 97 ∷ 90 ∷ 48 ∷ 32 ∷ 39 ∷ 40 ∷ 41 ∷ 43 ∷ 44 ∷ 45 ∷ 46 ∷ 47 ∷ 58 ∷ 61 ∷ 63 ∷ []) ≡ says 0 []
+b18-absent-3 : checked plain Ber
+    (19 ∷ 15 ∷ 97 ∷ 90 ∷ 48 ∷ 32 ∷ 39 ∷ 40 ∷ 41 ∷ 43 ∷ 44 ∷ 45 ∷ 46 ∷ 47 ∷ 58 ∷ 61 ∷ 63 ∷ [])
+    ≡ says 0 []
 b18-absent-3 = refl
 
 -- 16 01 7f
@@ -90,12 +94,14 @@ b18-absent-9 : checked plain Ber (140 ∷ 1 ∷ 255 ∷ []) ≡ says 0 []
 b18-absent-9 = refl
 
 -- 17 0b 39 31 31 33 30 36 32 33 34 35 5a
-b19-there : checked plain Ber (23 ∷ 11 ∷ 57 ∷ 49 ∷ 49 ∷ 51 ∷ 48 ∷ 54 ∷ 50 ∷ 51 ∷ 52 ∷ 53 ∷ 90 ∷ []) ≡ says 1 (codes "0 B19 time not of its grammar" ∷ [])
+b19-there : checked plain Ber (23 ∷ 11 ∷ 57 ∷ 49 ∷ 49 ∷ 51 ∷ 48 ∷ 54 ∷ 50 ∷ 51 ∷ 52 ∷ 53 ∷ 90 ∷ [])
+    ≡ says 1 (codes "0 B19 time not of its grammar" ∷ [])
 unfolding digits
 b19-there = refl
 
 -- 18 0d 31 39 39 32 30 37 32 31 31 33 32 31 30
-b19-there-2 : checked plain Ber (24 ∷ 13 ∷ 49 ∷ 57 ∷ 57 ∷ 50 ∷ 48 ∷ 55 ∷ 50 ∷ 49 ∷ 49 ∷ 51 ∷ 50 ∷ 49 ∷ 48 ∷ []) ≡ says 1 (codes "0 B19 time not of its grammar" ∷ [])
+b19-there-2 : checked plain Ber (24 ∷ 13 ∷ 49 ∷ 57 ∷ 57 ∷ 50 ∷ 48 ∷ 55 ∷ 50 ∷ 49 ∷ 49 ∷ 51 ∷ 50 ∷ 49 ∷ 48 ∷ [])
+    ≡ says 1 (codes "0 B19 time not of its grammar" ∷ [])
 unfolding digits
 b19-there-2 = refl
 
@@ -105,7 +111,8 @@ unfolding digits
 b19-there-3 = refl
 
 -- 18 0f 31 39 39 32 30 37 32 31 31 33 32 31 30 30 2e
-b19-there-4 : checked plain Ber (24 ∷ 15 ∷ 49 ∷ 57 ∷ 57 ∷ 50 ∷ 48 ∷ 55 ∷ 50 ∷ 49 ∷ 49 ∷ 51 ∷ 50 ∷ 49 ∷ 48 ∷ 48 ∷ 46 ∷ [])
+b19-there-4 : checked plain Ber
+    (24 ∷ 15 ∷ 49 ∷ 57 ∷ 57 ∷ 50 ∷ 48 ∷ 55 ∷ 50 ∷ 49 ∷ 49 ∷ 51 ∷ 50 ∷ 49 ∷ 48 ∷ 48 ∷ 46 ∷ [])
     ≡ says 1 (codes "0 B19 time not of its grammar" ∷ [])
 unfolding digits
 b19-there-4 = refl

@@ -1,4 +1,5 @@
--- Findings of DER alone and of CER alone: short inputs, each shown by computing. The texts are those of an independent reading of the rules.
+-- Findings of DER alone and of CER alone: short inputs, each shown by computing. The texts are those of an
+-- independent reading of the rules.
 use Rattle.std.proofs.Common.{◌≡◌, [], ◌∷◌, ◌++◌, codes, refl}
 use Rattle.std.specs.Prelude.{replicate}
 use Rattle.std.specs.Fmt.{digits}
@@ -90,7 +91,8 @@ c01-absent-2 : checked plain Cer (4 ∷ 0 ∷ []) ≡ says 0 []
 c01-absent-2 = refl
 
 -- 04 82 03 e9 1001 times 00
-c02-there : checked plain Cer ((4 ∷ 130 ∷ 3 ∷ 233 ∷ []) ++ replicate 1001 0) ≡ says 1 (codes "0 C02 primitive string above 1000 octets" ∷ [])
+c02-there : checked plain Cer ((4 ∷ 130 ∷ 3 ∷ 233 ∷ []) ++ replicate 1001 0)
+    ≡ says 1 (codes "0 C02 primitive string above 1000 octets" ∷ [])
 unfolding digits
 c02-there = refl
 
@@ -104,7 +106,9 @@ c02-absent-2 = refl
 
 -- 24 82 03 ec 04 82 03 e8 1000 times 00
 c02-absent-3 : checked plain Cer ((36 ∷ 130 ∷ 3 ∷ 236 ∷ 4 ∷ 130 ∷ 3 ∷ 232 ∷ []) ++ replicate 1000 0)
-    ≡ says 2 (codes "0 C01 definite length of a constructed element" ∷ codes "0 C05 constructed string fits in 1000 octets" ∷ [])
+    ≡ says 2
+        (codes "0 C01 definite length of a constructed element" ∷ codes "0 C05 constructed string fits in 1000 octets"
+            ∷ [])
 unfolding digits
 c02-absent-3 = refl
 
@@ -115,35 +119,46 @@ unfolding digits
 c03-there = refl
 
 -- 24 80 04 01 00 00 00
-c03-absent : checked plain Cer (36 ∷ 128 ∷ 4 ∷ 1 ∷ 0 ∷ 0 ∷ 0 ∷ []) ≡ says 1 (codes "0 C05 constructed string fits in 1000 octets" ∷ [])
+c03-absent : checked plain Cer (36 ∷ 128 ∷ 4 ∷ 1 ∷ 0 ∷ 0 ∷ 0 ∷ [])
+    ≡ says 1 (codes "0 C05 constructed string fits in 1000 octets" ∷ [])
 unfolding digits
 c03-absent = refl
 
 -- 30 80 24 80 00 00 00 00
-c03-absent-2 : checked plain Cer (48 ∷ 128 ∷ 36 ∷ 128 ∷ 0 ∷ 0 ∷ 0 ∷ 0 ∷ []) ≡ says 1 (codes "2 C05 constructed string fits in 1000 octets" ∷ [])
+c03-absent-2 : checked plain Cer (48 ∷ 128 ∷ 36 ∷ 128 ∷ 0 ∷ 0 ∷ 0 ∷ 0 ∷ [])
+    ≡ says 1 (codes "2 C05 constructed string fits in 1000 octets" ∷ [])
 unfolding digits
 c03-absent-2 = refl
 
 -- 24 80 04 01 00 04 01 00 00 00
 c04-there : checked plain Cer (36 ∷ 128 ∷ 4 ∷ 1 ∷ 0 ∷ 4 ∷ 1 ∷ 0 ∷ 0 ∷ 0 ∷ [])
-    ≡ says 2 (codes "5 C04 segment follows one not of 1000 octets" ∷ codes "0 C05 constructed string fits in 1000 octets" ∷ [])
+    ≡ says 2
+        (codes "5 C04 segment follows one not of 1000 octets" ∷ codes "0 C05 constructed string fits in 1000 octets"
+            ∷ [])
 unfolding digits
 c04-there = refl
 
 -- 24 80 24 80 00 00 04 01 00 00 00
 c04-there-2 : checked plain Cer (36 ∷ 128 ∷ 36 ∷ 128 ∷ 0 ∷ 0 ∷ 4 ∷ 1 ∷ 0 ∷ 0 ∷ 0 ∷ [])
-    ≡ says 3 (codes "2 C03 segment is constructed" ∷ codes "2 C05 constructed string fits in 1000 octets" ∷ codes "6 C04 segment follows one not of 1000 octets" ∷ [])
+    ≡ says 3
+        (codes "2 C03 segment is constructed" ∷ codes "2 C05 constructed string fits in 1000 octets"
+            ∷ codes "6 C04 segment follows one not of 1000 octets" ∷ [])
 unfolding digits
 c04-there-2 = refl
 
 -- 24 80 24 82 03 e8 04 82 03 e4 996 times 00 04 01 00 00 00
-c04-there-3 : checked plain Cer ((36 ∷ 128 ∷ 36 ∷ 130 ∷ 3 ∷ 232 ∷ 4 ∷ 130 ∷ 3 ∷ 228 ∷ []) ++ replicate 996 0 ++ (4 ∷ 1 ∷ 0 ∷ 0 ∷ 0 ∷ []))
-    ≡ says 4 (codes "2 C01 definite length of a constructed element" ∷ codes "2 C03 segment is constructed" ∷ codes "2 C05 constructed string fits in 1000 octets" ∷ codes "1006 C04 segment follows one not of 1000 octets" ∷ [])
+c04-there-3 : checked plain Cer
+    ((36 ∷ 128 ∷ 36 ∷ 130 ∷ 3 ∷ 232 ∷ 4 ∷ 130 ∷ 3 ∷ 228 ∷ []) ++ replicate 996 0 ++ (4 ∷ 1 ∷ 0 ∷ 0 ∷ 0 ∷ []))
+    ≡ says 4
+        (codes "2 C01 definite length of a constructed element" ∷ codes "2 C03 segment is constructed"
+            ∷ codes "2 C05 constructed string fits in 1000 octets"
+            ∷ codes "1006 C04 segment follows one not of 1000 octets" ∷ [])
 unfolding digits
 c04-there-3 = refl
 
 -- 24 80 04 82 03 e8 1000 times 00 04 01 00 00 00
-c04-absent : checked plain Cer ((36 ∷ 128 ∷ 4 ∷ 130 ∷ 3 ∷ 232 ∷ []) ++ replicate 1000 0 ++ (4 ∷ 1 ∷ 0 ∷ 0 ∷ 0 ∷ [])) ≡ says 0 []
+c04-absent : checked plain Cer ((36 ∷ 128 ∷ 4 ∷ 130 ∷ 3 ∷ 232 ∷ []) ++ replicate 1000 0 ++ (4 ∷ 1 ∷ 0 ∷ 0 ∷ 0 ∷ []))
+    ≡ says 0 []
 c04-absent = refl
 
 -- 30 80 04 01 00 04 01 00 00 00
@@ -151,12 +166,14 @@ c04-absent-2 : checked plain Cer (48 ∷ 128 ∷ 4 ∷ 1 ∷ 0 ∷ 4 ∷ 1 ∷ 0
 c04-absent-2 = refl
 
 -- 24 80 04 01 00 00 00
-c05-there : checked plain Cer (36 ∷ 128 ∷ 4 ∷ 1 ∷ 0 ∷ 0 ∷ 0 ∷ []) ≡ says 1 (codes "0 C05 constructed string fits in 1000 octets" ∷ [])
+c05-there : checked plain Cer (36 ∷ 128 ∷ 4 ∷ 1 ∷ 0 ∷ 0 ∷ 0 ∷ [])
+    ≡ says 1 (codes "0 C05 constructed string fits in 1000 octets" ∷ [])
 unfolding digits
 c05-there = refl
 
 -- 24 80 00 00
-c05-there-2 : checked plain Cer (36 ∷ 128 ∷ 0 ∷ 0 ∷ []) ≡ says 1 (codes "0 C05 constructed string fits in 1000 octets" ∷ [])
+c05-there-2 : checked plain Cer (36 ∷ 128 ∷ 0 ∷ 0 ∷ [])
+    ≡ says 1 (codes "0 C05 constructed string fits in 1000 octets" ∷ [])
 unfolding digits
 c05-there-2 = refl
 
@@ -168,21 +185,27 @@ c05-there-3 = refl
 
 -- 23 80 0c 00 00 00
 c05-there-4 : checked plain Cer (35 ∷ 128 ∷ 12 ∷ 0 ∷ 0 ∷ 0 ∷ [])
-    ≡ says 3 (codes "2 B17 segment has another tag" ∷ codes "0 C05 constructed string fits in 1000 octets" ∷ codes "0 C06 last segment is empty" ∷ [])
+    ≡ says 3
+        (codes "2 B17 segment has another tag" ∷ codes "0 C05 constructed string fits in 1000 octets"
+            ∷ codes "0 C06 last segment is empty" ∷ [])
 unfolding digits is_utf8 chars encode
 c05-there-4 = refl
 
 -- 24 80 04 82 03 e8 1000 times 00 04 01 00 00 00
-c05-absent : checked plain Cer ((36 ∷ 128 ∷ 4 ∷ 130 ∷ 3 ∷ 232 ∷ []) ++ replicate 1000 0 ++ (4 ∷ 1 ∷ 0 ∷ 0 ∷ 0 ∷ [])) ≡ says 0 []
+c05-absent : checked plain Cer ((36 ∷ 128 ∷ 4 ∷ 130 ∷ 3 ∷ 232 ∷ []) ++ replicate 1000 0 ++ (4 ∷ 1 ∷ 0 ∷ 0 ∷ 0 ∷ []))
+    ≡ says 0 []
 c05-absent = refl
 
 -- 24 80 30 80 00 00 00 00
-c05-absent-2 : checked plain Cer (36 ∷ 128 ∷ 48 ∷ 128 ∷ 0 ∷ 0 ∷ 0 ∷ 0 ∷ []) ≡ says 2 (codes "2 B17 segment has another tag" ∷ codes "2 C03 segment is constructed" ∷ [])
+c05-absent-2 : checked plain Cer (36 ∷ 128 ∷ 48 ∷ 128 ∷ 0 ∷ 0 ∷ 0 ∷ 0 ∷ [])
+    ≡ says 2 (codes "2 B17 segment has another tag" ∷ codes "2 C03 segment is constructed" ∷ [])
 unfolding digits
 c05-absent-2 = refl
 
 -- 23 80 03 82 03 e8 1000 times 00 03 02 00 00 00 00
-c05-absent-3 : checked plain Cer ((35 ∷ 128 ∷ 3 ∷ 130 ∷ 3 ∷ 232 ∷ []) ++ replicate 1000 0 ++ (3 ∷ 2 ∷ 0 ∷ 0 ∷ 0 ∷ 0 ∷ [])) ≡ says 0 []
+c05-absent-3 : checked plain Cer
+    ((35 ∷ 128 ∷ 3 ∷ 130 ∷ 3 ∷ 232 ∷ []) ++ replicate 1000 0 ++ (3 ∷ 2 ∷ 0 ∷ 0 ∷ 0 ∷ 0 ∷ []))
+    ≡ says 0 []
 c05-absent-3 = refl
 
 -- 30 80 04 01 00 00 00
@@ -197,28 +220,35 @@ c06-there = refl
 
 -- 24 80 04 01 00 04 00 00 00
 c06-there-2 : checked plain Cer (36 ∷ 128 ∷ 4 ∷ 1 ∷ 0 ∷ 4 ∷ 0 ∷ 0 ∷ 0 ∷ [])
-    ≡ says 3 (codes "5 C04 segment follows one not of 1000 octets" ∷ codes "0 C05 constructed string fits in 1000 octets" ∷ codes "0 C06 last segment is empty" ∷ [])
+    ≡ says 3
+        (codes "5 C04 segment follows one not of 1000 octets" ∷ codes "0 C05 constructed string fits in 1000 octets"
+            ∷ codes "0 C06 last segment is empty" ∷ [])
 unfolding digits
 c06-there-2 = refl
 
 -- 24 80 04 01 00 00 00
-c06-absent : checked plain Cer (36 ∷ 128 ∷ 4 ∷ 1 ∷ 0 ∷ 0 ∷ 0 ∷ []) ≡ says 1 (codes "0 C05 constructed string fits in 1000 octets" ∷ [])
+c06-absent : checked plain Cer (36 ∷ 128 ∷ 4 ∷ 1 ∷ 0 ∷ 0 ∷ 0 ∷ [])
+    ≡ says 1 (codes "0 C05 constructed string fits in 1000 octets" ∷ [])
 unfolding digits
 c06-absent = refl
 
 -- 24 80 04 00 04 01 00 00 00
 c06-absent-2 : checked plain Cer (36 ∷ 128 ∷ 4 ∷ 0 ∷ 4 ∷ 1 ∷ 0 ∷ 0 ∷ 0 ∷ [])
-    ≡ says 2 (codes "4 C04 segment follows one not of 1000 octets" ∷ codes "0 C05 constructed string fits in 1000 octets" ∷ [])
+    ≡ says 2
+        (codes "4 C04 segment follows one not of 1000 octets" ∷ codes "0 C05 constructed string fits in 1000 octets"
+            ∷ [])
 unfolding digits
 c06-absent-2 = refl
 
 -- 24 80 00 00
-c06-absent-3 : checked plain Cer (36 ∷ 128 ∷ 0 ∷ 0 ∷ []) ≡ says 1 (codes "0 C05 constructed string fits in 1000 octets" ∷ [])
+c06-absent-3 : checked plain Cer (36 ∷ 128 ∷ 0 ∷ 0 ∷ [])
+    ≡ says 1 (codes "0 C05 constructed string fits in 1000 octets" ∷ [])
 unfolding digits
 c06-absent-3 = refl
 
 -- 23 80 03 01 00 00 00
-c06-absent-4 : checked plain Cer (35 ∷ 128 ∷ 3 ∷ 1 ∷ 0 ∷ 0 ∷ 0 ∷ []) ≡ says 1 (codes "0 C05 constructed string fits in 1000 octets" ∷ [])
+c06-absent-4 : checked plain Cer (35 ∷ 128 ∷ 3 ∷ 1 ∷ 0 ∷ 0 ∷ 0 ∷ [])
+    ≡ says 1 (codes "0 C05 constructed string fits in 1000 octets" ∷ [])
 unfolding digits
 c06-absent-4 = refl
 

@@ -34,10 +34,16 @@ pub record Answer : Type 0 where
   pub count : ℕ
 
 abbrev pub dumped : Framing → Layout → Rules → List ℕ → Answer
-dumped framing layout rules b = let f = reading framing b in record { text = (show_job framing rules (item_text no_names layout)).text f; count = finding_count rules f }
+dumped framing layout rules b = let f = reading framing b in record {
+  text = (show_job framing rules (item_text no_names layout)).text f;
+  count = finding_count rules f;
+}
 
 abbrev pub checked : Framing → Rules → List ℕ → Answer
-checked framing rules b = let f = reading framing b in record { text = (check_job rules framing).text f; count = finding_count rules f }
+checked framing rules b = let f = reading framing b in record {
+  text = (check_job rules framing).text f;
+  count = finding_count rules f;
+}
 
 -- so many findings, and these lines
 abbrev pub says : ℕ → List (List ℕ) → Answer

@@ -1,4 +1,5 @@
--- Findings of DER and of CER: short inputs, each shown by computing. The texts are those of an independent reading of the rules.
+-- Findings of DER and of CER: short inputs, each shown by computing. The texts are those of an independent reading
+-- of the rules.
 use Rattle.std.proofs.Common.{◌≡◌, [], ◌∷◌, ◌++◌, codes, refl}
 use Rattle.std.specs.Prelude.{replicate}
 use Rattle.std.specs.Fmt.{digits}
@@ -6,7 +7,8 @@ use Rattle.tlv_show.specs.declared.rules.Rules.TheVariants.{Der}
 use Rattle.tlv_show.proofs.RowWords.{plain, checked, says}
 
 -- 04 81 03 aa bb cc
-s01-there : checked plain Der (4 ∷ 129 ∷ 3 ∷ 170 ∷ 187 ∷ 204 ∷ []) ≡ says 1 (codes "0 S01 length is not the shortest" ∷ [])
+s01-there : checked plain Der (4 ∷ 129 ∷ 3 ∷ 170 ∷ 187 ∷ 204 ∷ [])
+    ≡ says 1 (codes "0 S01 length is not the shortest" ∷ [])
 unfolding digits
 s01-there = refl
 
@@ -16,17 +18,20 @@ unfolding digits
 s01-there-2 = refl
 
 -- 04 81 7f 127 times 00
-s01-there-3 : checked plain Der ((4 ∷ 129 ∷ 127 ∷ []) ++ replicate 127 0) ≡ says 1 (codes "0 S01 length is not the shortest" ∷ [])
+s01-there-3 : checked plain Der ((4 ∷ 129 ∷ 127 ∷ []) ++ replicate 127 0)
+    ≡ says 1 (codes "0 S01 length is not the shortest" ∷ [])
 unfolding digits
 s01-there-3 = refl
 
 -- 04 82 00 80 128 times 00
-s01-there-4 : checked plain Der ((4 ∷ 130 ∷ 0 ∷ 128 ∷ []) ++ replicate 128 0) ≡ says 1 (codes "0 S01 length is not the shortest" ∷ [])
+s01-there-4 : checked plain Der ((4 ∷ 130 ∷ 0 ∷ 128 ∷ []) ++ replicate 128 0)
+    ≡ says 1 (codes "0 S01 length is not the shortest" ∷ [])
 unfolding digits
 s01-there-4 = refl
 
 -- 04 82 00 03 aa bb cc
-s01-there-5 : checked plain Der (4 ∷ 130 ∷ 0 ∷ 3 ∷ 170 ∷ 187 ∷ 204 ∷ []) ≡ says 1 (codes "0 S01 length is not the shortest" ∷ [])
+s01-there-5 : checked plain Der (4 ∷ 130 ∷ 0 ∷ 3 ∷ 170 ∷ 187 ∷ 204 ∷ [])
+    ≡ says 1 (codes "0 S01 length is not the shortest" ∷ [])
 unfolding digits
 s01-there-5 = refl
 
@@ -95,37 +100,46 @@ unfolding digits
 s03-absent-4 = refl
 
 -- 17 0b 39 31 30 35 30 36 32 33 34 35 5a
-s04-there : checked plain Der (23 ∷ 11 ∷ 57 ∷ 49 ∷ 48 ∷ 53 ∷ 48 ∷ 54 ∷ 50 ∷ 51 ∷ 52 ∷ 53 ∷ 90 ∷ []) ≡ says 1 (codes "0 S04 time is not canonical" ∷ [])
+s04-there : checked plain Der (23 ∷ 11 ∷ 57 ∷ 49 ∷ 48 ∷ 53 ∷ 48 ∷ 54 ∷ 50 ∷ 51 ∷ 52 ∷ 53 ∷ 90 ∷ [])
+    ≡ says 1 (codes "0 S04 time is not canonical" ∷ [])
 unfolding digits
 s04-there = refl
 
 -- 18 12 31 39 39 32 30 37 32 32 31 33 32 31 30 30 2e 35 30 5a
-s04-there-2 : checked plain Der (24 ∷ 18 ∷ 49 ∷ 57 ∷ 57 ∷ 50 ∷ 48 ∷ 55 ∷ 50 ∷ 50 ∷ 49 ∷ 51 ∷ 50 ∷ 49 ∷ 48 ∷ 48 ∷ 46 ∷ 53 ∷ 48 ∷ 90 ∷ [])
+s04-there-2 : checked plain Der
+    (24 ∷ 18 ∷ 49 ∷ 57 ∷ 57 ∷ 50 ∷ 48 ∷ 55 ∷ 50 ∷ 50 ∷ 49 ∷ 51 ∷ 50 ∷ 49 ∷ 48 ∷ 48 ∷ 46 ∷ 53 ∷ 48 ∷ 90 ∷ [])
     ≡ says 1 (codes "0 S04 time is not canonical" ∷ [])
 unfolding digits
 s04-there-2 = refl
 
 -- 18 0f 31 39 39 32 30 37 32 31 32 34 30 30 30 30 5a
-s04-there-3 : checked plain Der (24 ∷ 15 ∷ 49 ∷ 57 ∷ 57 ∷ 50 ∷ 48 ∷ 55 ∷ 50 ∷ 49 ∷ 50 ∷ 52 ∷ 48 ∷ 48 ∷ 48 ∷ 48 ∷ 90 ∷ [])
+s04-there-3 : checked plain Der
+    (24 ∷ 15 ∷ 49 ∷ 57 ∷ 57 ∷ 50 ∷ 48 ∷ 55 ∷ 50 ∷ 49 ∷ 50 ∷ 52 ∷ 48 ∷ 48 ∷ 48 ∷ 48 ∷ 90 ∷ [])
     ≡ says 1 (codes "0 S04 time is not canonical" ∷ [])
 unfolding digits
 s04-there-3 = refl
 
 -- 17 0d 39 31 30 35 30 36 32 33 34 35 30 30 5a
-s04-absent : checked plain Der (23 ∷ 13 ∷ 57 ∷ 49 ∷ 48 ∷ 53 ∷ 48 ∷ 54 ∷ 50 ∷ 51 ∷ 52 ∷ 53 ∷ 48 ∷ 48 ∷ 90 ∷ []) ≡ says 0 []
+s04-absent : checked plain Der (23 ∷ 13 ∷ 57 ∷ 49 ∷ 48 ∷ 53 ∷ 48 ∷ 54 ∷ 50 ∷ 51 ∷ 52 ∷ 53 ∷ 48 ∷ 48 ∷ 90 ∷ [])
+    ≡ says 0 []
 s04-absent = refl
 
 -- 18 11 31 39 39 32 30 37 32 32 31 33 32 31 30 30 2e 35 5a
-s04-absent-2 : checked plain Der (24 ∷ 17 ∷ 49 ∷ 57 ∷ 57 ∷ 50 ∷ 48 ∷ 55 ∷ 50 ∷ 50 ∷ 49 ∷ 51 ∷ 50 ∷ 49 ∷ 48 ∷ 48 ∷ 46 ∷ 53 ∷ 90 ∷ []) ≡ says 0 []
+s04-absent-2 : checked plain Der
+    (24 ∷ 17 ∷ 49 ∷ 57 ∷ 57 ∷ 50 ∷ 48 ∷ 55 ∷ 50 ∷ 50 ∷ 49 ∷ 51 ∷ 50 ∷ 49 ∷ 48 ∷ 48 ∷ 46 ∷ 53 ∷ 90 ∷ [])
+    ≡ says 0 []
 s04-absent-2 = refl
 
 -- 17 0b 39 31 31 33 30 36 32 33 34 35 5a
-s04-absent-3 : checked plain Der (23 ∷ 11 ∷ 57 ∷ 49 ∷ 49 ∷ 51 ∷ 48 ∷ 54 ∷ 50 ∷ 51 ∷ 52 ∷ 53 ∷ 90 ∷ []) ≡ says 1 (codes "0 B19 time not of its grammar" ∷ [])
+s04-absent-3 : checked plain Der (23 ∷ 11 ∷ 57 ∷ 49 ∷ 49 ∷ 51 ∷ 48 ∷ 54 ∷ 50 ∷ 51 ∷ 52 ∷ 53 ∷ 90 ∷ [])
+    ≡ says 1 (codes "0 B19 time not of its grammar" ∷ [])
 unfolding digits
 s04-absent-3 = refl
 
 -- 18 41 31 39 39 32 30 37 32 31 31 33 32 31 30 30 2e 50 times 31
-s04-absent-4 : checked plain Der ((24 ∷ 65 ∷ 49 ∷ 57 ∷ 57 ∷ 50 ∷ 48 ∷ 55 ∷ 50 ∷ 49 ∷ 49 ∷ 51 ∷ 50 ∷ 49 ∷ 48 ∷ 48 ∷ 46 ∷ []) ++ replicate 50 49) ≡ says 0 []
+s04-absent-4 : checked plain Der
+    ((24 ∷ 65 ∷ 49 ∷ 57 ∷ 57 ∷ 50 ∷ 48 ∷ 55 ∷ 50 ∷ 49 ∷ 49 ∷ 51 ∷ 50 ∷ 49 ∷ 48 ∷ 48 ∷ 46 ∷ []) ++ replicate 50 49)
+    ≡ says 0 []
 s04-absent-4 = refl
 
 -- 04 0a 31 39 39 32 30 37 32 31 31 33

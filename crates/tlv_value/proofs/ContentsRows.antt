@@ -11,7 +11,8 @@ use Rattle.tlv_value.specs.Checks.{findings_on_contents}
 use Rattle.tlv_value.specs.Kind.{kind_of}
 use Rattle.tlv_value.specs.Number.{decimal_of}
 use Rattle.tlv_value.specs.Rows.{rows_of}
-use Rattle.tlv_value.specs.Times.{canonical_generalized_time_form, canonical_utc_time_form, generalized_time_form, has_form, utc_time_form}
+use Rattle.tlv_value.specs.Times.{canonical_generalized_time_form, canonical_utc_time_form, generalized_time_form}
+use Rattle.tlv_value.specs.Times.{has_form, utc_time_form}
 use Rattle.tlv_value.specs.Value.{used_digits}
 
 enumerated : kind_of Universal 10 ≡ Integer

@@ -2,7 +2,8 @@
 use Rattle.std.proofs.Common.{◌≡◌, [], ◌∷◌, ◌++◌, true, false, refl}
 use Rattle.std.specs.Prelude.{Ok, Err, codes, replicate}
 use Rattle.std.specs.FinMap as finite
-use Rattle.tlv_value.specs.Names.{entry, is_dotted, file_lines, long_line, names_line, names_of, no_entry, no_name, no_object_identifier}
+use Rattle.tlv_value.specs.Names.{entry, is_dotted, file_lines, long_line, names_line, names_of, no_entry, no_name}
+use Rattle.tlv_value.specs.Names.{no_object_identifier}
 use Rattle.tlv_value.specs.declared.names.fault.NamesFault.TheVariants.{BadOid, BadName, Repeated, TooLarge}
 
 -- after a last LF there is no line
@@ -18,7 +19,8 @@ comment = refl
 blank : names_line (codes " " ++ 9 ∷ 13 ∷ []) ≡ no_entry
 blank = refl
 
-common-name : names_line (codes " 2.5.4.3" ++ 9 ∷ codes "  common name " ++ 13 ∷ []) ≡ entry (codes "2.5.4.3") (codes "common name")
+common-name : names_line (codes " 2.5.4.3" ++ 9 ∷ codes "  common name " ++ 13 ∷ [])
+    ≡ entry (codes "2.5.4.3") (codes "common name")
 common-name = refl
 
 -- one CR alone is dropped
@@ -68,10 +70,12 @@ line-of-401 = refl
 no-lines : names_of [] ≡ Ok (finite.from_entries [])
 no-lines = refl
 
-table-of-one : names_of (codes "2.5.4.3 commonName" ++ 13 ∷ 10 ∷ []) ≡ Ok (finite.from_entries ((codes "2.5.4.3", codes "commonName") ∷ []))
+table-of-one : names_of (codes "2.5.4.3 commonName" ++ 13 ∷ 10 ∷ [])
+    ≡ Ok (finite.from_entries ((codes "2.5.4.3", codes "commonName") ∷ []))
 table-of-one = refl
 
-repeated : names_of (codes "# x" ++ 10 ∷ codes "2.5.4.3 commonName" ++ 10 ∷ codes "2.5.4.3 cn" ++ 10 ∷ []) ≡ Err (Repeated 3)
+repeated : names_of (codes "# x" ++ 10 ∷ codes "2.5.4.3 commonName" ++ 10 ∷ codes "2.5.4.3 cn" ++ 10 ∷ [])
+    ≡ Err (Repeated 3)
 repeated = refl
 
 -- the first refusal counts

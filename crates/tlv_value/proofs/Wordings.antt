@@ -3,7 +3,9 @@ use Rattle.std.proofs.Common.{◌≡◌, ℕ, ◌+◌, ◌-◌, ◌≤◌, List,
 use Rattle.std.proofs.lemmas.List.{drop-take, take-take, take_at}
 use Rattle.std.proofs.Math.Seq.{drop-append-add}
 use Rattle.tlv_value.specs.declared.finding.Finding.{Finding}
-use Rattle.tlv_value.specs.declared.finding.Finding.TheVariants.{B01, B02, B03, B04, B05, B06, B07, B08, B09, B10, B11, B12, B13, B14, B15, B16, B17, B18, B19, S01, S02, S03, S04, D01, D02, C01, C02, C03, C04, C05, C06}
+use Rattle.tlv_value.specs.declared.finding.Finding.TheVariants.{B01, B02, B03, B04, B05, B06, B07, B08, B09, B10, B11}
+use Rattle.tlv_value.specs.declared.finding.Finding.TheVariants.{B12, B13, B14, B15, B16, B17, B18, B19, S01, S02, S03}
+use Rattle.tlv_value.specs.declared.finding.Finding.TheVariants.{S04, D01, D02, C01, C02, C03, C04, C05, C06}
 use Rattle.tlv_value.specs.Finding.{finding_code}
 
 pub code_size : (finding : Finding) → length (finding_code finding) ≡ 3

@@ -1,6 +1,8 @@
 -- The definitions on short inputs.
 use Rattle.std.proofs.Common.{◌≡◌, true, false, [], ◌∷◌, Some, refl}
-use Rattle.tlv_head.specs.declared.fault.FaultCode.TheVariants.{Empty, Short, StrayEnd, BadEnd, MissingEnd, ReservedLength, IndefinitePrimitive, LengthTooLarge, Overrun, BadInside}
+use Rattle.tlv_head.specs.declared.fault.FaultCode.TheVariants.{Empty, Short, StrayEnd, BadEnd, MissingEnd}
+use Rattle.tlv_head.specs.declared.fault.FaultCode.TheVariants.{ReservedLength, IndefinitePrimitive, LengthTooLarge}
+use Rattle.tlv_head.specs.declared.fault.FaultCode.TheVariants.{Overrun, BadInside}
 use Rattle.tlv_walk.specs.declared.ending.Ending.TheVariants.{Done}
 use Rattle.tlv_walk.specs.declared.framing.Framing.{Framing}
 use Rattle.tlv_walk.specs.Ending.{fault_ending}

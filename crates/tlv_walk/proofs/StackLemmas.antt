@@ -1,5 +1,7 @@
 -- What a stack shows of its frames: the innermost one, and those that hold it.
-use Rattle.std.proofs.Common.{◌≡◌, ◌≢◌, ◌⊎◌, inl, inr, ◌↔◌, ℕ, suc, ◌-◌, ◌^◌, ◌≤◌, Bool, true, false, eqb, if◌then◌else◌, List, [], ◌∷◌, length, Option, Some, None, refl, sym, ap, ap₂, ◌∙◌, arith, eqb-true, ne_eqb}
+use Rattle.std.proofs.Common.{◌≡◌, ◌≢◌, ◌⊎◌, inl, inr, ◌↔◌, ℕ, suc, ◌-◌, ◌^◌, ◌≤◌, Bool, true, false, eqb}
+use Rattle.std.proofs.Common.{if◌then◌else◌, List, [], ◌∷◌, length, Option, Some, None, refl, sym, ap, ap₂, ◌∙◌, arith}
+use Rattle.std.proofs.Common.{eqb-true, ne_eqb}
 use Rattle.std.proofs.lemmas.Bool.{false_from_ne_true}
 use Rattle.tlv_walk.specs.declared.stack.Frame.{Frame}
 use Rattle.tlv_walk.specs.declared.stack.FrameKind.{FrameKind}
@@ -15,7 +17,8 @@ length-frames_in : (i : Frame) (fs : List Frame) → length (frames_from i fs) �
 length-frames_in i [] = refl
 length-frames_in i (f ∷ fs) = ap suc (length-frames_in f fs)
 
-pub length-frames : (i : Frame) (fs : List Frame) (now : List FrameValue) → frames_from i fs ≡ now → length now ≡ length fs
+pub length-frames : (i : Frame) (fs : List Frame) (now : List FrameValue) → frames_from i fs ≡ now
+    → length now ≡ length fs
 length-frames i fs now shown = sym (ap length shown) ∙ length-frames_in i fs
 
 -- the bound
@@ -87,7 +90,8 @@ input_endless h is_input (inr e) = cc
 pub is_filled : (i : Frame) (fs : List Frame) (offset : ℕ) → AreHolders i fs
     → IsFilled (frames_from i fs) offset ↔ ((i.bound ≡ offset) × ((i.kind ≡ Definite) ⊎ (i.kind ≡ Wrapper)))
 is_filled i [] offset h = ((λ x. absurd x), (λ k. input_endless i.kind h.0 k.1))
-is_filled i (f ∷ fs) offset h = (end_alone i.kind i.bound offset h.0, λ k. ends_there i.kind i.bound h.0 k.1 ∙ ap Some k.0)
+is_filled i (f ∷ fs) offset h =
+    (end_alone i.kind i.bound offset h.0, λ k. ends_there i.kind i.bound h.0 k.1 ∙ ap Some k.0)
 
 -- an element of the indefinite length is opened inside the innermost one
 

@@ -7,13 +7,15 @@ use Rattle.tlv_head.specs.Header.{AllowsSize, HeaderValue, octets_of}
 use Rattle.tlv_walk.specs.declared.follow.Go.TheVariants as go
 use Rattle.tlv_walk.specs.Events.{Begin, Bytes, End, Enter, EventValue, closing_event, events, opening_events}
 use Rattle.tlv_walk.specs.Follow.{Effect, effect_with, go_of, no_effect}
-use Rattle.tlv_walk.specs.Forest.{Forest, NoMore, PaddingOctet, Primitive, Holder, OpenPrimitive, OpenHolder, OpenBitString, OpenHeader, OpenEndOctets}
+use Rattle.tlv_walk.specs.Forest.{Forest, NoMore, PaddingOctet, Primitive, Holder, OpenPrimitive, OpenHolder}
+use Rattle.tlv_walk.specs.Forest.{OpenBitString, OpenHeader, OpenEndOctets}
 use Rattle.tlv_walk.specs.Forest.{end_octets, extent, is_whole, lead, opening}
 use Rattle.tlv_walk.specs.Place.{IsOpen, Place, place_after, place_of_children}
 use Rattle.tlv_walk.proofs.FollowerLemmas.Followed.{followed-enough, followed-one}
 use Rattle.tlv_cut.specs.declared.extract_follower.Position.TheVariants as position
 use Rattle.tlv_cut.specs.ExtractText.{element_at, element_text, octets_so_far}
-use Rattle.tlv_cut.specs.ExtractStep.{ExtractState, extract_begin_step, extract_step, has_found, new_extract, outer_octets}
+use Rattle.tlv_cut.specs.ExtractStep.{ExtractState, extract_begin_step, extract_step, has_found, new_extract}
+use Rattle.tlv_cut.specs.ExtractStep.{outer_octets}
 use Rattle.tlv_cut.proofs.ExtractLemmas.Inside.{made_from, IsPassedOn, whole_inside_passed_on}
 use Rattle.tlv_cut.proofs.ExtractLemmas.Inside.{made_from-begins, events-holder, made_from-closes, state_inside}
 use Rattle.tlv_cut.proofs.ExtractLemmas.Inside.{made_from-opens, then_more, passed_on}
@@ -103,13 +105,15 @@ module _ (n : ℕ) (only : Bool) where
       (made_from-begins before (state_inside n only 0) (outer_octets only (octets_of h)) h c (wanted_begins h e))
 
   opens_wanted : (h : HeaderValue) → (h.offset == n) ≡ true
-      → made_from before (opening_events h) ≡ effect_with (state_inside n only 0) (outer_octets only (octets_of h) ++ lead h)
+      → made_from before (opening_events h)
+          ≡ effect_with (state_inside n only 0) (outer_octets only (octets_of h) ++ lead h)
   opens_wanted h e =
       made_from-opens before (state_inside n only 0) (outer_octets only (octets_of h)) h (wanted_begins h e)
 
   opens_other : (h : HeaderValue) (es : List EventValue) → (h.offset == n) ≡ false
       → made_from before (opening_events h ++ es) ≡ made_from before es
-  opens_other h es e = then_more before before [] (opening_events h) es (made_from-opens before before [] h (other_begins h e))
+  opens_other h es e =
+      then_more before before [] (opening_events h) es (made_from-opens before before [] h (other_begins h e))
 
   made_from-holder : (h : HeaderValue) (inside : Forest) → (h.offset == n) ≡ true → AllowsSize h.constructed h.size
       → is_whole inside ≡ true → IsPassedOn n only 0 inside
@@ -146,7 +150,8 @@ module _ (n : ℕ) (only : Bool) where
       by true = ap (λ (l : List ℕ). lead h ++ l) (append-nil (octets_so_far inside))
       by false = ap (λ (l : List ℕ). opening h ++ (octets_so_far inside ++ l)) (sym (append-nil (end_octets h.size)))
 
-  open_primitive_octets : (h : HeaderValue) (c : List ℕ) → outer_octets only (octets_of h) ++ c ≡ element_text only (OpenPrimitive h c)
+  open_primitive_octets : (h : HeaderValue) (c : List ℕ)
+      → outer_octets only (octets_of h) ++ c ≡ element_text only (OpenPrimitive h c)
   open_primitive_octets h c = by only
     where
       by : (k : Bool) → outer_octets k (octets_of h) ++ c ≡ element_text k (OpenPrimitive h c)
@@ -188,12 +193,14 @@ module _ (n : ℕ) (only : Bool) where
   whole_at p NoMore v w = refl
   whole_at p (PaddingOctet rest) v w = whole_at (place_after p 1) rest v.1 w
   whole_at p (Primitive h c rest) v w =
-      either (h.offset == n) (Some (Primitive h c NoMore)) (element_at n rest) refl (whole_at (place_after p _) rest v.1 w)
+      either (h.offset == n) (Some (Primitive h c NoMore)) (element_at n rest) refl
+          (whole_at (place_after p _) rest v.1 w)
   whole_at p (Holder h inside rest) v w =
       let a = element_at n inside in
       let b = element_at n rest in
       either (h.offset == n) (Some (Holder h inside NoMore)) (option_or a b) refl
-      (either_there a b (whole_at (place_of_children p h) inside v.1 v.0.1) (whole_at (place_after p (extent h inside)) rest v.2 w))
+      (either_there a b (whole_at (place_of_children p h) inside v.1 v.0.1)
+          (whole_at (place_after p (extent h inside)) rest v.2 w))
   whole_at p (OpenPrimitive h c) v w = absurd (cc (w))
   whole_at p (OpenHolder h inside) v w = absurd (cc (w))
   whole_at p (OpenBitString h) v w = absurd (cc (w))
@@ -224,10 +231,12 @@ module _ (n : ℕ) (only : Bool) where
       (λ e is.
       let whole = there_whole (element_at n inside) e is (whole_at (place_of_children p h) inside v.1 v.0.1) in
       let on = i.goes ∙ ap go_of whole in
-      let same = opened ∙ followed-enough extract_step before (events inside) (closing_event h inside ∷ events rest) on in
+      let same =
+          opened ∙ followed-enough extract_step before (events inside) (closing_event h inside ∷ events rest) on in
       subst (IsTextOf (element_at n inside)) (sym same) i)
       (λ none.
-      let same = opened ∙ then_more before before [] (events inside) (closing_event h inside ∷ events rest) (i.misses none)
+      let same =
+          opened ∙ then_more before before [] (events inside) (closing_event h inside ∷ events rest) (i.misses none)
       ∙ then_more before before [] (closing_event h inside ∷ []) (events rest)
       (made_from-closes before h inside v.0.0.header.valid.allowed) in
       subst (IsTextOf (element_at n rest)) (sym same) r)
@@ -240,7 +249,8 @@ module _ (n : ℕ) (only : Bool) where
   makes_text p (Primitive h c rest) v deep =
       let es = Begin h ∷ Bytes c ∷ End ∷ [] in
       choose (h.offset == n) (Some (Primitive h c NoMore)) (element_at n rest) (made_from before (es ++ events rest))
-      (λ e. whole_text (Primitive h c NoMore) _ _ refl (whole_octets h c) (enough es (events rest) _ (made_from-primitive h c e)))
+      (λ e. whole_text (Primitive h c NoMore) _ _ refl (whole_octets h c)
+          (enough es (events rest) _ (made_from-primitive h c e)))
       (λ e. subst (IsTextOf (element_at n rest))
       (sym (then_more before before [] (Begin h ∷ Bytes c ∷ []) (End ∷ events rest)
       (made_from-begins before before [] h c (other_begins h e))))
@@ -250,11 +260,13 @@ module _ (n : ℕ) (only : Bool) where
       choose (h.offset == n) (Some (Holder h inside NoMore)) (option_or (element_at n inside) (element_at n rest))
       (made_from before (events (Holder h inside rest)))
       (λ e.
-      let k = passed_on n only (place_of_children p h) 0 inside v.1 (omega arith) (omega (arith, (v.0.0.shallow refl))) in
+      let k =
+          passed_on n only (place_of_children p h) 0 inside v.1 (omega arith) (omega (arith, (v.0.0.shallow refl))) in
       let all = enough es (events rest) _ (made_from-holder h inside e v.0.0.header.valid.allowed v.0.1 k) in
       whole_text (Holder h inside NoMore) _ _ refl (holder_octets h inside)
       (ap (made_from before) (events-holder h inside rest) ∙ all))
-      (λ e. passed_by p h inside rest v e (makes_text (place_of_children p h) inside v.1 (omega (arith, (v.0.0.shallow refl))))
+      (λ e. passed_by p h inside rest v e
+          (makes_text (place_of_children p h) inside v.1 (omega (arith, (v.0.0.shallow refl))))
       (makes_text (place_after p (extent h inside)) rest v.2 deep))
   makes_text p (OpenPrimitive h c) v deep =
       let es = Begin h ∷ Bytes c ∷ [] in
@@ -270,7 +282,8 @@ module _ (n : ℕ) (only : Bool) where
       choose (h.offset == n) (Some (OpenHolder h inside)) (element_at n inside)
       (made_from before (opening_events h ++ events inside))
       (λ e.
-      let k = passed_on n only (place_of_children p h) 0 inside v.1 (omega arith) (omega (arith, (v.0.0.shallow refl))) in
+      let k =
+          passed_on n only (place_of_children p h) 0 inside v.1 (omega arith) (omega (arith, (v.0.0.shallow refl))) in
       let all =
       then_more before (state_inside n only 0) (outer_octets only (octets_of h) ++ lead h) (opening_events h)
       (events inside) (opens_wanted h e) in

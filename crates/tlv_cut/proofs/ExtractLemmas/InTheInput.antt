@@ -5,7 +5,8 @@ use Rattle.std.specs.Prelude.{length, Option, Some, None}
 use Rattle.std.specs.Option.{option_or}
 use Rattle.std.proofs.lemmas.Bool.{eqb-true, true≢false}
 use Rattle.tlv_head.specs.Header.{HeaderValue, IsHeader, octets_of}
-use Rattle.tlv_walk.specs.Forest.{Forest, NoMore, PaddingOctet, Primitive, Holder, OpenPrimitive, OpenHolder, OpenBitString, OpenHeader, OpenEndOctets}
+use Rattle.tlv_walk.specs.Forest.{Forest, NoMore, PaddingOctet, Primitive, Holder, OpenPrimitive, OpenHolder}
+use Rattle.tlv_walk.specs.Forest.{OpenBitString, OpenHeader, OpenEndOctets}
 use Rattle.tlv_walk.specs.Forest.{end_octets, extent, is_whole, lead, opening, spelling}
 use Rattle.tlv_walk.specs.Place.{IsHeaderAt, IsOpen, Place, place_after, place_of_children}
 use Rattle.tlv_walk.proofs.GrammarLemmas.Spellings.{append_assoc-3, append_assoc-4}
@@ -20,7 +21,8 @@ record IsFrontOf (f : Forest) : Type 0 where
   all : is_whole f ≡ true → spelling f ≡ octets_so_far f
 
 -- those of elements after others
-front_of_rest : (f rest : Forest) (o : List ℕ) → spelling f ≡ o ++ spelling rest → octets_so_far f ≡ o ++ octets_so_far rest
+front_of_rest : (f rest : Forest) (o : List ℕ) → spelling f ≡ o ++ spelling rest
+    → octets_so_far f ≡ o ++ octets_so_far rest
     → is_whole f ≡ is_whole rest → IsFrontOf rest → IsFrontOf f
 front_of_rest f rest o all keeps whole r = record {
   rest = r.rest;
@@ -91,7 +93,8 @@ module _ (n : ℕ) where
   }
 
   -- it is among elements that come later, or deeper
-  further : (p q : Place) (f g e : Forest) (o t : List ℕ) → spelling f ≡ o ++ (spelling g ++ t) → q.offset ≡ p.offset + length o
+  further : (p q : Place) (f g e : Forest) (o t : List ℕ) → spelling f ≡ o ++ (spelling g ++ t)
+      → q.offset ≡ p.offset + length o
       → IsFoundIn q g e → IsFoundIn p f e
   further p q f g e o t all at r = record {
     front = o ++ r.front;
@@ -125,7 +128,8 @@ module _ (n : ℕ) where
   none p f e is = absurd (cc (is))
 
   -- it is after an element
-  in_rest : (p q : Place) (f rest e : Forest) (o : List ℕ) → spelling f ≡ o ++ spelling rest → q.offset ≡ p.offset + length o
+  in_rest : (p q : Place) (f rest e : Forest) (o : List ℕ) → spelling f ≡ o ++ spelling rest
+      → q.offset ≡ p.offset + length o
       → IsFoundIn q rest e → IsFoundIn p f e
   in_rest p q f rest e o all at r =
       further p q f rest e o [] (all ∙ ap (λ (l : List ℕ). o ++ l) (sym (append-nil (spelling rest)))) at r
@@ -192,7 +196,8 @@ module _ (n : ℕ) where
       (ap (λ (l : List ℕ). opening h ++ l) i.octets ∙ sym (append_assoc (opening h) (octets_so_far inside) i.rest))
       (append_assoc (octets_of h) (lead h) (octets_so_far inside)
       ∙ ap (λ (l : List ℕ). octets_of h ++ l) (sym (append-nil (lead h ++ octets_so_far inside)))))
-      (λ _ some. in_rest p (place_of_children p h) f inside d (opening h) refl refl (find (place_of_children p h) inside v.1 d some))
+      (λ _ some. in_rest p (place_of_children p h) f inside d (opening h) refl refl
+          (find (place_of_children p h) inside v.1 d some))
       some
   find p (OpenBitString h) v d some =
       choose p (OpenBitString h) (h.offset == n) (OpenBitString h) None d

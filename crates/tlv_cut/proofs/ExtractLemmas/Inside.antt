@@ -9,13 +9,15 @@ use Rattle.tlv_walk.specs.declared.follow.Go.TheVariants as go
 use Rattle.tlv_walk.specs.Events.{Begin, Bytes, Close, End, Enter, EventValue, Leave, Open, Pad, Unused, closing_event}
 use Rattle.tlv_walk.specs.Events.{end_offset, events, opening_events}
 use Rattle.tlv_walk.specs.Follow.{Effect, and_then, effect_of, effect_with, if_on}
-use Rattle.tlv_walk.specs.Forest.{Forest, NoMore, PaddingOctet, Primitive, Holder, OpenPrimitive, OpenHolder, OpenBitString, OpenHeader, OpenEndOctets}
+use Rattle.tlv_walk.specs.Forest.{Forest, NoMore, PaddingOctet, Primitive, Holder, OpenPrimitive, OpenHolder}
+use Rattle.tlv_walk.specs.Forest.{OpenBitString, OpenHeader, OpenEndOctets}
 use Rattle.tlv_walk.specs.Forest.{end_octets, extent, is_whole, lead, opening}
 use Rattle.tlv_walk.specs.Place.{IsOpen, Place, place_after, place_of_children}
 use Rattle.tlv_walk.proofs.FollowerLemmas.Followed.{followed-more, followed-one}
 use Rattle.tlv_cut.specs.declared.extract_follower.Position.TheVariants as position
 use Rattle.tlv_cut.specs.ExtractText.{octets_so_far}
-use Rattle.tlv_cut.specs.ExtractStep.{ExtractState, extract_begin_step, extract_end_step, extract_step, has_found, wanted_octets}
+use Rattle.tlv_cut.specs.ExtractStep.{ExtractState, extract_begin_step, extract_end_step, extract_step, has_found}
+use Rattle.tlv_cut.specs.ExtractStep.{wanted_octets}
 use Rattle.tlv_cut.proofs.Lead.{lead_by}
 use Rattle.tlv_cut.proofs.ExtractLemmas.Contents.{all_contents, wanted_octets-none}
 
@@ -33,7 +35,8 @@ then_more s t put xs ys e =
     ∙ ap (λ (k : Effect ExtractState). and_then k (λ u. made_from u ys)) e
 
 -- a primitive begins, and gives contents octets
-pub made_from-begins : (s t : ExtractState) (put : List ℕ) (h : HeaderValue) (c : List ℕ) → extract_begin_step s h ≡ effect_with t put
+pub made_from-begins : (s t : ExtractState) (put : List ℕ) (h : HeaderValue) (c : List ℕ)
+    → extract_begin_step s h ≡ effect_with t put
     → made_from s (Begin h ∷ Bytes c ∷ []) ≡ effect_with t (put ++ wanted_octets t.position c)
 made_from-begins s t put h c e =
     ap (λ (k : Effect ExtractState). if_on k.goes k (λ u. made_from u (Bytes c ∷ []))) e
@@ -41,7 +44,8 @@ made_from-begins s t put h c e =
     (followed-one extract_step t (Bytes c) ∙ all_contents t c)
 
 -- an element that holds others begins
-opens_by : (k three : Bool) (s t : ExtractState) (put : List ℕ) (h : HeaderValue) → extract_begin_step s h ≡ effect_with t put
+opens_by : (k three : Bool) (s t : ExtractState) (put : List ℕ) (h : HeaderValue)
+    → extract_begin_step s h ≡ effect_with t put
     → made_from s ((if k then Open h else Enter h) ∷ map (λ z. Unused) (lead_by k three))
     ≡ effect_with t (put ++ wanted_octets t.position (lead_by k three))
 opens_by true three s t put h e =
@@ -73,10 +77,12 @@ made_from-closes s h inside allowed =
 
 -- the events of an element that has ended, and of what follows it
 pub events-holder : (h : HeaderValue) (inside rest : Forest)
-    → events (Holder h inside rest) ≡ (opening_events h ++ (events inside ++ closing_event h inside ∷ [])) ++ events rest
+    → events (Holder h inside rest)
+        ≡ (opening_events h ++ (events inside ++ closing_event h inside ∷ [])) ++ events rest
 events-holder h inside rest =
     sym (append_assoc (opening_events h) (events inside ++ closing_event h inside ∷ []) (events rest)
-    ∙ ap (λ (l : List EventValue). opening_events h ++ l) (append_assoc (events inside) (closing_event h inside ∷ []) (events rest)))
+    ∙ ap (λ (l : List EventValue). opening_events h ++ l)
+        (append_assoc (events inside) (closing_event h inside ∷ []) (events rest)))
 
 module _ (n : ℕ) (only : Bool) where
   -- an `Extract` in the element wanted, and in this many that it holds
@@ -122,7 +128,8 @@ module _ (n : ℕ) (only : Bool) where
 
   -- a primitive
   pub primitive_passed_on : (level : ℕ) (h : HeaderValue) (c : List ℕ) → level ≤ 254
-      → made_from (state_inside level) (Begin h ∷ Bytes c ∷ End ∷ []) ≡ effect_with (state_inside level) (octets_of h ++ c)
+      → made_from (state_inside level) (Begin h ∷ Bytes c ∷ End ∷ [])
+          ≡ effect_with (state_inside level) (octets_of h ++ c)
   primitive_passed_on level h c low =
       then_more (state_inside level) (state_inside (suc level)) (octets_of h ++ c) (Begin h ∷ Bytes c ∷ []) (End ∷ [])
       (made_from-begins (state_inside level) (state_inside (suc level)) (octets_of h) h c (one_more level h low))
@@ -156,7 +163,8 @@ module _ (n : ℕ) (only : Bool) where
       (append_assoc (octets_of h) c (octets_so_far rest)) refl (passed_on (place_after p _) level rest v.1 low deep)
   passed_on p level (Holder h inside rest) v low deep =
       let i : IsPassedOn (suc level) inside =
-      passed_on (place_of_children p h) (suc level) inside v.1 (omega (arith, low)) (omega (arith, (v.0.0.shallow refl))) in
+      passed_on (place_of_children p h) (suc level) inside v.1 (omega (arith, low))
+          (omega (arith, (v.0.0.shallow refl))) in
       passed_on_after level (opening_events h ++ (events inside ++ closing_event h inside ∷ []))
       (opening h ++ (octets_so_far inside ++ end_octets h.size)) (Holder h inside rest) rest
       (holder_passed_on level h inside (omega (arith, low, deep)) v.0.0.header.valid.allowed v.0.1 i)
@@ -177,7 +185,8 @@ module _ (n : ℕ) (only : Bool) where
       }
   passed_on p level (OpenHolder h inside) v low deep =
       let i : IsPassedOn (suc level) inside =
-      passed_on (place_of_children p h) (suc level) inside v.1 (omega (arith, low)) (omega (arith, (v.0.0.shallow refl))) in
+      passed_on (place_of_children p h) (suc level) inside v.1 (omega (arith, low))
+          (omega (arith, (v.0.0.shallow refl))) in
       let all = then_more (state_inside level) (state_inside (suc level)) (opening h) (opening_events h) (events inside)
       (made_from-opens (state_inside level) (state_inside (suc level)) (octets_of h) h
       (one_more level h (omega (arith, low, deep)))) in

@@ -27,7 +27,8 @@ goes_alike true false e = absurd (cc (e))
 goes_alike false true e = absurd (cc (e))
 goes_alike false false e = refl
 
-module _ (framing : Framing) (n : ℕ) (only : Bool) (t : ExtractState) (old new : SourceState) (from to : DrainState) where
+module _ (framing : Framing) (n : ℕ) (only : Bool) (t : ExtractState) (old new : SourceState)
+    (from to : DrainState) where
   -- what is put for a reading is what `extract` writes
   made_text : (octets : List ℕ) (f : Forest) → IsReading framing octets f
       → IsTextOf n only (element_at n f) (made_from (new_extract n only) (events f))
@@ -50,7 +51,8 @@ module _ (framing : Framing) (n : ℕ) (only : Bool) (t : ExtractState) (old new
       ∙ ap (λ (x : Bool). record { ending = e; found = x }) q
 
   pub extract_ok : (run : Run) (answer : Cut) → answer.ending ≡ run.ending → answer.found ≡ has_found t
-      → Drives extract_step framing (2 ^ 40) (drive_states (new_extract n only) old from) (drive_states t new to) (Ok run)
+      → Drives extract_step framing (2 ^ 40) (drive_states (new_extract n only) old from) (drive_states t new to)
+          (Ok run)
       → Runs (extract_job framing n only) (device_states old from) (device_states new to) (Ok answer)
   extract_ok run answer ending found x =
       jobs.runs_ok extract_step (extract_job framing n only)
@@ -62,7 +64,8 @@ module _ (framing : Framing) (n : ℕ) (only : Bool) (t : ExtractState) (old new
       (found ∙ ap has_found state ∙ (made_text octets f r).found))
 
   pub extract_err : (e : DeviceFault)
-      → Drives extract_step framing (2 ^ 40) (drive_states (new_extract n only) old from) (drive_states t new to) (Err e)
+      → Drives extract_step framing (2 ^ 40) (drive_states (new_extract n only) old from) (drive_states t new to)
+          (Err e)
       → Runs (extract_job framing n only) (device_states old from) (device_states new to) (Err e)
   extract_err e x =
       jobs.runs_err extract_step (extract_job framing n only) (new_extract n only) text enough t old new from to e x

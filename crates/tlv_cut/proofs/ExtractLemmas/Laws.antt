@@ -14,7 +14,8 @@ use Rattle.tlv_cut.specs.declared.extract_follower.Position.{Position}
 use Rattle.tlv_cut.specs.declared.extract_follower.Position.TheVariants as position
 use Rattle.tlv_cut.specs.ExtractText.{contents_so_far, element_at, extract_text, octets_so_far}
 use Rattle.tlv_cut.specs.ExtractLaws.{ExtractTextIsInTheInput, EnoughComesAtEnds, ExtractMakesItsText}
-use Rattle.tlv_cut.specs.ExtractStep.{ExtractState, extract_begin_step, extract_octet_step, outer_octets, extract_step_to}
+use Rattle.tlv_cut.specs.ExtractStep.{ExtractState, extract_begin_step, extract_octet_step, outer_octets}
+use Rattle.tlv_cut.specs.ExtractStep.{extract_step_to}
 use Rattle.tlv_cut.proofs.ExtractLemmas.Elements.{makes_text}
 use Rattle.tlv_cut.proofs.ExtractLemmas.InTheInput.{find}
 
@@ -64,7 +65,9 @@ begin_goes_on n only position.Before h = by (h.offset == n)
     s = record { offset = n; contents_only = only; position = position.Before }
 
     by : (k : Bool)
-        → (if k then extract_step_to s (position.Within 0) (outer_octets only (octets_of h)) go.On else no_effect s).goes ≡ go.On
+        → (if k then extract_step_to s (position.Within 0) (outer_octets only (octets_of h)) go.On
+            else no_effect s).goes
+            ≡ go.On
     by true = refl
     by false = refl
 begin_goes_on n only (position.Within level) h = refl

@@ -11,13 +11,15 @@ use Rattle.tlv_walk.specs.Follow.{Effect, go_of, if_on}
 use Rattle.tlv_walk.specs.Forest.{Forest}
 use Rattle.tlv_walk.specs.Place.{top_place}
 use Rattle.tlv_walk.specs.Reading.{IsPrefixOf, IsReading}
-use Rattle.tlv_walk.proofs.FollowerLemmas.Followed.{each_octet-goes_on, each_octet-joins, followed-alike, followed-append}
+use Rattle.tlv_walk.proofs.FollowerLemmas.Followed.{each_octet-goes_on, each_octet-joins, followed-alike}
+use Rattle.tlv_walk.proofs.FollowerLemmas.Followed.{followed-append}
 use Rattle.tlv_walk.proofs.FollowerLemmas.Followed.{followed-enough, followed-front}
 use Rattle.tlv_walk.proofs.EventLemmas.Prefixes.{events-prefix}
 use Rattle.tlv_cut.specs.declared.extract_follower.Position.{Position}
 use Rattle.tlv_cut.specs.declared.extract_follower.Position.TheVariants as position
 use Rattle.tlv_cut.specs.ExtractText.{extract_text, element_at, has_element_at, has_whole_element_at}
-use Rattle.tlv_cut.specs.ExtractStep.{ExtractState, extract_begin_step, extract_end_step, extract_step, has_found, extract_octet_step}
+use Rattle.tlv_cut.specs.ExtractStep.{ExtractState, extract_begin_step, extract_end_step, extract_step, has_found}
+use Rattle.tlv_cut.specs.ExtractStep.{extract_octet_step}
 use Rattle.tlv_cut.specs.ExtractStep.{new_extract}
 use Rattle.tlv_cut.proofs.ExtractLemmas.Inside.{made_from}
 use Rattle.tlv_cut.proofs.ExtractLemmas.Elements.{IsTextOf, makes_text}
@@ -36,7 +38,8 @@ begin_found n only position.Before h b = absurd (cc (b))
 begin_found n only (position.Within level) h b = refl
 begin_found n only position.After h b = refl
 
-extract_begin_step-found : (s : ExtractState) (h : HeaderValue) → has_found s ≡ true → has_found (extract_begin_step s h).state ≡ true
+extract_begin_step-found : (s : ExtractState) (h : HeaderValue) → has_found s ≡ true
+    → has_found (extract_begin_step s h).state ≡ true
 extract_begin_step-found s h b = begin_found s.offset s.contents_only s.position h b
 
 end_found : (n : ℕ) (only : Bool) (w : Position) (octets : List ℕ) → has_found (at n only w) ≡ true
@@ -46,10 +49,12 @@ end_found n only (position.Within zero) octets b = refl
 end_found n only (position.Within (suc level)) octets b = refl
 end_found n only position.After octets b = refl
 
-extract_end_step-found : (s : ExtractState) (octets : List ℕ) → has_found s ≡ true → has_found (extract_end_step s octets).state ≡ true
+extract_end_step-found : (s : ExtractState) (octets : List ℕ) → has_found s ≡ true
+    → has_found (extract_end_step s octets).state ≡ true
 extract_end_step-found s octets b = end_found s.offset s.contents_only s.position octets b
 
-extract_step-found : (s : ExtractState) (e : EventValue) → has_found s ≡ true → has_found (extract_step s e).state ≡ true
+extract_step-found : (s : ExtractState) (e : EventValue) → has_found s ≡ true
+    → has_found (extract_step s e).state ≡ true
 extract_step-found s (Open h) b = extract_begin_step-found s h b
 extract_step-found s (Begin h) b = extract_begin_step-found s h b
 extract_step-found s (Enter h) b = extract_begin_step-found s h b
@@ -68,7 +73,8 @@ if_on-found : (g : Go) (t : Effect ExtractState) (f : ExtractState → Effect Ex
 if_on-found go.On t f b d = d
 if_on-found go.Enough t f b d = b
 
-made_from-found : (s : ExtractState) (es : List EventValue) → has_found s ≡ true → has_found (made_from s es).state ≡ true
+made_from-found : (s : ExtractState) (es : List EventValue) → has_found s ≡ true
+    → has_found (made_from s es).state ≡ true
 made_from-found s [] b = b
 made_from-found s (e ∷ es) b =
     let t = extract_step s e in
@@ -93,7 +99,8 @@ module _ (framing : Framing) (b c : List ℕ) (f g : Forest) (r : IsReading fram
   -- after them the same is made as of the events of the longer input
   longer : made_from (new_extract n only) (events g) ≡ made_from (new_extract n only) (events f ++ others.0)
   longer =
-      followed-alike extract_step (each_octet-joins extract_octet_step) (λ s. refl) (each_octet-goes_on extract_octet_step)
+      followed-alike extract_step (each_octet-joins extract_octet_step) (λ s. refl)
+          (each_octet-goes_on extract_octet_step)
       (λ s x y. refl) (λ s. refl) (λ s x. refl)
       (new_extract n only) (events g) (events f ++ others.0) others.1
 

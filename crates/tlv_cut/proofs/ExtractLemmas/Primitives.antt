@@ -8,13 +8,15 @@ use Rattle.tlv_walk.specs.declared.follow.Go.TheVariants.{On}
 use Rattle.tlv_io.specs.declared.out.Out.{Out}
 use Rattle.tlv_io.specs.Device.{DrainState}
 use Rattle.tlv_walk.specs.Events.{Begin, Bytes, End}
-use Rattle.tlv_walk.specs.Follow.{Effect, HasEffectOrNone, contents_in, effect_with, no_effect, put_if_followed, whole_events}
+use Rattle.tlv_walk.specs.Follow.{Effect, HasEffectOrNone, contents_in, effect_with, no_effect, put_if_followed}
+use Rattle.tlv_walk.specs.Follow.{whole_events}
 use Rattle.tlv_io.specs.Out.{Puts}
 use Rattle.tlv_walk.proofs.FollowerLemmas.Followed.{followed-one}
 use Rattle.tlv_io.proofs.Puts.{HasPut, puts_as, puts_failed_last, puts_nothing, puts_text}
 use Rattle.tlv_cut.specs.declared.extract_follower.Position.{Position}
 use Rattle.tlv_cut.specs.declared.extract_follower.Position.TheVariants.{Before, Within, After}
-use Rattle.tlv_cut.specs.ExtractStep.{ExtractState, extract_begin_step, extract_end_step, extract_step, outer_octets, extract_step_to}
+use Rattle.tlv_cut.specs.ExtractStep.{ExtractState, extract_begin_step, extract_end_step, extract_step, outer_octets}
+use Rattle.tlv_cut.specs.ExtractStep.{extract_step_to}
 use Rattle.tlv_cut.specs.ExtractStep.{wanted_octets}
 use Rattle.tlv_cut.proofs.ExtractLemmas.Inside.{made_from, made_from-begins, then_more, primitive_passed_on}
 
@@ -41,7 +43,8 @@ module _ (s : ExtractState) (h : HeaderValue) (o : List ℕ) where
       ∙ ap (effect_with s) all
 
   -- an element of which nothing is put
-  passed_by : extract_begin_step s h ≡ no_effect s → wanted_octets s.position c ≡ [] → extract_end_step s [] ≡ no_effect s → made ≡ no_effect s
+  passed_by : extract_begin_step s h ≡ no_effect s → wanted_octets s.position c ≡ []
+      → extract_end_step s [] ≡ no_effect s → made ≡ no_effect s
   passed_by b none n =
       then_more s s [] (Begin h ∷ Bytes c ∷ []) (End ∷ []) (made_from-begins s s [] h c b ∙ ap (effect_with s) none)
       ∙ followed-one extract_step s End

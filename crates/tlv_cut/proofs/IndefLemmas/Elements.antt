@@ -4,9 +4,11 @@ use Rattle.std.specs.Prelude.{◌≡◌, ℕ, ◌+◌, Bool, true, false, eqb, i
 use Rattle.std.specs.Prelude.{map, Option}
 use Rattle.std.proofs.lemmas.Grind.{flat_map-append}
 use Rattle.tlv_head.specs.Header.{HeaderValue, spell_indefinite, octets_of}
-use Rattle.tlv_walk.specs.Events.{Close, Enter, EventValue, Leave, Open, Unused, closing_event, end_offset, events, opening_events}
+use Rattle.tlv_walk.specs.Events.{Close, Enter, EventValue, Leave, Open, Unused, closing_event, end_offset, events}
+use Rattle.tlv_walk.specs.Events.{opening_events}
 use Rattle.tlv_walk.specs.Follow.{Effect, effect_of, effect_with}
-use Rattle.tlv_walk.specs.Forest.{Forest, NoMore, PaddingOctet, Primitive, Holder, OpenPrimitive, OpenHolder, OpenBitString, OpenHeader, OpenEndOctets}
+use Rattle.tlv_walk.specs.Forest.{Forest, NoMore, PaddingOctet, Primitive, Holder, OpenPrimitive, OpenHolder}
+use Rattle.tlv_walk.specs.Forest.{OpenBitString, OpenHeader, OpenEndOctets}
 use Rattle.tlv_walk.specs.Forest.{lead, opening, spelling}
 use Rattle.tlv_cut.specs.IndefText.{indef_text, indefinite_header, with_indefinite_lengths}
 use Rattle.tlv_cut.specs.IndefStep.{IndefState, indef_event_text, indef_step}
@@ -65,15 +67,18 @@ no_lead h e =
 -- the octets of an element that holds these, and of what follows it
 holder_spelled : (constructed : Bool) (h : HeaderValue) (inside rest : Forest) → h.constructed ≡ constructed
     → opening_by constructed h ++ (spelling inside ++ (end_by constructed ++ spelling rest))
-    ≡ spelling (if constructed then Holder (indefinite_header h) inside rest else Primitive h (lead h ++ spelling inside) rest)
-holder_spelled true h inside rest e = ap (λ (l : List ℕ). l ++ (spelling inside ++ (0 ∷ 0 ∷ spelling rest))) (no_lead h e)
+    ≡ spelling
+        (if constructed then Holder (indefinite_header h) inside rest else Primitive h (lead h ++ spelling inside) rest)
+holder_spelled true h inside rest e =
+    ap (λ (l : List ℕ). l ++ (spelling inside ++ (0 ∷ 0 ∷ spelling rest))) (no_lead h e)
 holder_spelled false h inside rest e =
     append_assoc (octets_of h) (lead h) (spelling inside ++ spelling rest)
     ∙ ap (λ (l : List ℕ). octets_of h ++ l) (sym (append_assoc (lead h) (spelling inside) (spelling rest)))
 
 open_holder_spelled : (constructed : Bool) (h : HeaderValue) (inside : Forest) → h.constructed ≡ constructed
     → opening_by constructed h ++ spelling inside
-    ≡ spelling (if constructed then OpenHolder (indefinite_header h) inside else OpenPrimitive h (lead h ++ spelling inside))
+    ≡ spelling
+        (if constructed then OpenHolder (indefinite_header h) inside else OpenPrimitive h (lead h ++ spelling inside))
 open_holder_spelled true h inside e = ap (λ (l : List ℕ). l ++ spelling inside) (no_lead h e)
 open_holder_spelled false h inside e = append_assoc (octets_of h) (lead h) (spelling inside)
 

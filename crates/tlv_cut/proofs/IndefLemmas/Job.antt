@@ -34,23 +34,28 @@ module _ (padding : Bool) (s t : IndefState) (old new : SourceState) (from to : 
   goes_on octets f few r = ap (λ (k : Effect IndefState). had_enough k.goes) (followed-indef_step s (events f))
 
   -- if it is done, what it wrote is read back
-  read_back : (e : Ending) (x : Runs (indef_job padding) (device_states old from) (device_states new to) (Ok e)) → e ≡ Done → IsReadBack padding x.reading x.sends.sent
+  read_back : (e : Ending) (x : Runs (indef_job padding) (device_states old from) (device_states new to) (Ok e))
+      → e ≡ Done → IsReadBack padding x.reading x.sends.sent
   read_back e x done =
       let w = indef_framing padding in
       let given : List ℕ = octets_given x.pieces in
       let octets : List ℕ = take (2 ^ 40) given in
       let k = returns (indef_job padding) given x.reading new (Ok e) x.comes in
-      let ends : IsEnding w octets k.0 = ends_with w octets false k.0 (Settled (indef_job padding) given x.reading new k.0) k.2 in
+      let ends : IsEnding w octets k.0 =
+          ends_with w octets false k.0 (Settled (indef_job padding) given x.reading new k.0) k.2 in
       let again = indef_text_is_read_back padding octets x.reading x.is_reading in
       let all : x.sends.sent ≡ indef_text x.reading =
       sym (append-nil x.sends.sent) ∙ ap (λ (l : List ℕ). x.sends.sent ++ l) (sym x.sends.all_sent) ∙ x.sends.prefix in
       subst (λ (l : List ℕ). IsReadBack padding x.reading l) (sym all) (record {
         is_reading = again.0;
-        is_done = indef_text_is_done padding octets x.reading x.is_reading (subst (λ (d : Ending). IsEnding w octets d) (sym k.1 ∙ done) ends);
+        is_done =
+            indef_text_is_done padding octets x.reading x.is_reading
+                (subst (λ (d : Ending). IsEnding w octets d) (sym k.1 ∙ done) ends);
         same_again = again.1;
       })
 
-  runs_ok : (run : Run) → Drives indef_step (indef_framing padding) (2 ^ 40) (drive_states s old from) (drive_states t new to) (Ok run)
+  runs_ok : (run : Run)
+      → Drives indef_step (indef_framing padding) (2 ^ 40) (drive_states s old from) (drive_states t new to) (Ok run)
       → Runs (indef_job padding) (device_states old from) (device_states new to) (Ok run.ending)
   runs_ok run x =
       jobs.runs_ok indef_step (indef_job padding) s text goes_on t old new from to run run.ending x
@@ -58,13 +63,16 @@ module _ (padding : Bool) (s t : IndefState) (old new : SourceState) (from to : 
       ∙ jobs.run-ending (indef_framing padding) f (followed_events indef_step s (events f))
       (effect_of indef_step s (events f)).goes e)
 
-  pub indef_ok : (run : Run) → Drives indef_step (indef_framing padding) (2 ^ 40) (drive_states s old from) (drive_states t new to) (Ok run)
+  pub indef_ok : (run : Run)
+      → Drives indef_step (indef_framing padding) (2 ^ 40) (drive_states s old from) (drive_states t new to) (Ok run)
       → RunsIndef padding (device_states old from) (device_states new to) (Ok run.ending)
   indef_ok run x =
-      let runs : Runs (indef_job padding) (device_states old from) (device_states new to) (Ok run.ending) = runs_ok run x in
+      let runs : Runs (indef_job padding) (device_states old from) (device_states new to) (Ok run.ending) =
+          runs_ok run x in
       record { runs = runs; read_back = λ is. read_back run.ending runs (cc (is)) }
 
-  pub indef_err : (e : DeviceFault) → Drives indef_step (indef_framing padding) (2 ^ 40) (drive_states s old from) (drive_states t new to) (Err e)
+  pub indef_err : (e : DeviceFault)
+      → Drives indef_step (indef_framing padding) (2 ^ 40) (drive_states s old from) (drive_states t new to) (Err e)
       → RunsIndef padding (device_states old from) (device_states new to) (Err e)
   indef_err e x = record {
     runs = jobs.runs_err indef_step (indef_job padding) s text goes_on t old new from to e x;

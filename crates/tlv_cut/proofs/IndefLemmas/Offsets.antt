@@ -4,7 +4,8 @@ use Rattle.std.proofs.Common.{length, refl, ap, ap₂, ◌∙◌}
 use Rattle.tlv_head.specs.declared.header.Class.{Class}
 use Rattle.tlv_head.specs.declared.header.Size.{Size}
 use Rattle.tlv_head.specs.Header.{HeaderValue, is_wrapper, octets_of}
-use Rattle.tlv_walk.specs.Forest.{Forest, NoMore, PaddingOctet, Primitive, Holder, OpenPrimitive, OpenHolder, OpenBitString, OpenHeader, OpenEndOctets}
+use Rattle.tlv_walk.specs.Forest.{Forest, NoMore, PaddingOctet, Primitive, Holder, OpenPrimitive, OpenHolder}
+use Rattle.tlv_walk.specs.Forest.{OpenBitString, OpenHeader, OpenEndOctets}
 use Rattle.tlv_walk.specs.Forest.{end_octets, extent, lead, opening, spelling}
 use Rattle.tlv_walk.specs.Inside.{is_among}
 use Rattle.tlv_walk.specs.Place.{IsHeaderAt, Place}
@@ -30,9 +31,11 @@ constructed_at p h e header =
 
 pub spelling-with_offsets_from : (offset : ℕ) (f : Forest) → spelling (with_offsets_from offset f) ≡ spelling f
 spelling-with_offsets_from offset NoMore = refl
-spelling-with_offsets_from offset (PaddingOctet rest) = ap (λ (l : List ℕ). 0 ∷ l) (spelling-with_offsets_from (offset + 1) rest)
+spelling-with_offsets_from offset (PaddingOctet rest) =
+    ap (λ (l : List ℕ). 0 ∷ l) (spelling-with_offsets_from (offset + 1) rest)
 spelling-with_offsets_from offset (Primitive h c rest) =
-    ap (λ (l : List ℕ). octets_of h ++ (c ++ l)) (spelling-with_offsets_from (offset + (length (octets_of h) + length c)) rest)
+    ap (λ (l : List ℕ). octets_of h ++ (c ++ l))
+        (spelling-with_offsets_from (offset + (length (octets_of h) + length c)) rest)
 spelling-with_offsets_from offset (Holder h inside rest) =
     ap₂ (λ (k l : List ℕ). opening h ++ (k ++ (end_octets h.size ++ l)))
     (spelling-with_offsets_from (offset + length (opening h)) inside)
@@ -58,7 +61,8 @@ holder_stays true h inside rest e i r offset =
     let g = record (indefinite_header h) { offset = offset } in
     let inner = with_offsets_from (offset + length (opening g)) inside in
     let others = with_offsets_from (offset + extent g inside) rest in
-    ap (λ (k : Bool). if k then Holder g (with_indefinite_lengths inner) (with_indefinite_lengths others) else Primitive g
+    ap (λ (k : Bool). if k then Holder g (with_indefinite_lengths inner) (with_indefinite_lengths others)
+        else Primitive g
     (lead g ++ spelling (with_indefinite_lengths inner)) (with_indefinite_lengths others)) e
     ∙ ap₂ (λ (j k : Forest). Holder g j k) (i (offset + length (opening g))) (r (offset + extent g inside))
 holder_stays false h inside rest e i r offset =
@@ -67,7 +71,8 @@ holder_stays false h inside rest e i r offset =
 
 open_holder_stays : (constructed : Bool) (h : HeaderValue) (inside : Forest) → h.constructed ≡ constructed
     → StaysAnywhere inside
-    → StaysAnywhere (if constructed then OpenHolder (indefinite_header h) inside else OpenPrimitive h (lead h ++ spelling inside))
+    → StaysAnywhere
+        (if constructed then OpenHolder (indefinite_header h) inside else OpenPrimitive h (lead h ++ spelling inside))
 open_holder_stays true h inside e i offset =
     let g = record (indefinite_header h) { offset = offset } in
     let inner = with_offsets_from (offset + length (opening g)) inside in
@@ -80,12 +85,14 @@ stays : (f : Forest) → StaysAnywhere (with_indefinite_lengths f)
 stays NoMore offset = refl
 stays (PaddingOctet rest) offset = ap (λ (f : Forest). PaddingOctet f) (stays rest (offset + 1))
 stays (Primitive h c rest) offset =
-    ap (λ (f : Forest). Primitive (record h { offset = offset }) c f) (stays rest (offset + (length (octets_of h) + length c)))
+    ap (λ (f : Forest). Primitive (record h { offset = offset }) c f)
+        (stays rest (offset + (length (octets_of h) + length c)))
 stays (Holder h inside rest) offset =
     holder_stays h.constructed h (with_indefinite_lengths inside) (with_indefinite_lengths rest) refl (stays inside)
     (stays rest) offset
 stays (OpenPrimitive h c) offset = refl
-stays (OpenHolder h inside) offset = open_holder_stays h.constructed h (with_indefinite_lengths inside) refl (stays inside) offset
+stays (OpenHolder h inside) offset =
+    open_holder_stays h.constructed h (with_indefinite_lengths inside) refl (stays inside) offset
 stays (OpenBitString h) offset = refl
 stays (OpenHeader octets) offset = refl
 stays OpenEndOctets offset = refl

@@ -6,7 +6,8 @@ use Rattle.std.specs.Prelude.{◌∷◌, ◌++◌, length, Option, Some, None, I
 use Rattle.tlv_head.specs.declared.header.Size.{Size}
 use Rattle.tlv_head.specs.declared.header.Size.TheVariants.{Indefinite}
 use Rattle.tlv_head.specs.Header.{AllowsSize, HeaderValue, announced_length, definite_length, is_wrapper, octets_of}
-use Rattle.tlv_walk.specs.Forest.{Forest, NoMore, PaddingOctet, Primitive, Holder, OpenPrimitive, OpenHolder, OpenBitString, OpenHeader, OpenEndOctets}
+use Rattle.tlv_walk.specs.Forest.{Forest, NoMore, PaddingOctet, Primitive, Holder, OpenPrimitive, OpenHolder}
+use Rattle.tlv_walk.specs.Forest.{OpenBitString, OpenHeader, OpenEndOctets}
 use Rattle.tlv_walk.specs.Forest.{extent, has_element, is_whole, lead, opening, spelling}
 use Rattle.tlv_walk.specs.Place.{Fits, IsHeaderAt, IsOpen, Place, place_after, place_of_children}
 use Rattle.tlv_cut.specs.IndefText.{with_indefinite_lengths, indefinite_header}
@@ -93,12 +94,14 @@ free_after p q m n k =
       definite = k.definite;
     }
 
-free_inside : (p q : Place) (h g : HeaderValue) → g.size ≡ Indefinite → IsFree p q → IsFree (place_of_children p h) (place_of_children q g)
+free_inside : (p q : Place) (h g : HeaderValue) → g.size ≡ Indefinite → IsFree p q
+    → IsFree (place_of_children p h) (place_of_children q g)
 free_inside p q h g e k = record {
   names = k.names;
   same_names = k.same_names;
   depth = ap (λ (d : ℕ). d + 1) k.depth;
-  bound = ap (λ (s : Size). option_map_or (λ n. Some (q.offset + length (octets_of g) + n)) (definite_length s) q.bound) e
+  bound =
+      ap (λ (s : Size). option_map_or (λ n. Some (q.offset + length (octets_of g) + n)) (definite_length s) q.bound) e
       ∙ k.bound;
   padding = λ z. absurd (cc);
   definite = λ z. absurd (cc);
@@ -118,7 +121,8 @@ primitive_at p q h k v = record {
 abbrev heading_at : Place → HeaderValue → HeaderValue
 heading_at q h = record (indefinite_header h) { offset = q.offset }
 
-constructed_header : (p q : Place) (h : HeaderValue) → IsFree p q → IsHeaderAt p true h → IsHeaderAt q true (heading_at q h)
+constructed_header : (p q : Place) (h : HeaderValue) → IsFree p q → IsHeaderAt p true h
+    → IsHeaderAt q true (heading_at q h)
 constructed_header p q h k v =
     let constructed = constructed_at p h k.names v in
     record {
@@ -194,7 +198,8 @@ is_open p q (Holder h inside rest) k v =
         tt,
       ),
       is_open (place_of_children p h) (place_of_children q header) inside (free_inside p q h header refl k) v.1,
-      follows q h offset (with_indefinite_lengths inside) (with_offsets_from (q.offset + n) (with_indefinite_lengths rest))
+      follows q h offset (with_indefinite_lengths inside)
+          (with_offsets_from (q.offset + n) (with_indefinite_lengths rest))
           (is_open (place_after p (extent h inside)) (place_after q n) rest (free_after p q (extent h inside) n k) v.2),
     )
 is_open p q (OpenPrimitive h c) k v = (

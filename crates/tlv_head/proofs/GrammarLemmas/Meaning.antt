@@ -11,7 +11,8 @@ use Rattle.tlv_head.specs.declared.header.Class.{Class}
 use Rattle.tlv_head.specs.declared.header.Class.TheVariants.{Universal, Application, Context, Private}
 use Rattle.tlv_head.specs.declared.header.Size.{Size}
 use Rattle.tlv_head.specs.declared.header.Size.TheVariants.{Definite, Indefinite}
-use Rattle.tlv_head.specs.Header.{AllowsSize, HeaderValue, IsHeader, IsIdentifier, IsLength, class_bits, identifier_octet}
+use Rattle.tlv_head.specs.Header.{AllowsSize, HeaderValue, IsHeader, IsIdentifier, IsLength, class_bits}
+use Rattle.tlv_head.specs.Header.{identifier_octet}
 use Rattle.tlv_head.specs.Header.{octets_of, value_of}
 use Rattle.tlv_head.specs.Refusal.{IsHeaderPrefix}
 use Rattle.tlv_head.specs.declared.fault.FaultCode.TheVariants.{IndefinitePrimitive}
@@ -59,28 +60,41 @@ leading-parts x a false e t = omega (arith, ltb-false 31 (x % 64) t)
 leading-of : (x : ℕ) → x < 256 → identifier_octet (class_of (x / 64)) (ltb 31 (x % 64)) (x % 32) ≡ x
 leading-of x h = leading-parts x _ (ltb 31 (x % 64)) (bits-class_of (x / 64) (omega arith)) refl
 
-reads-leads : (at : Origin) (x : ℕ) (c : Class) (k : Bool) (low : ℕ) → low < 32 → identifier_octet c k low ≡ x → x ≢ 0 → IsStateAfter at (leads x c k low) (x ∷ [])
+reads-leads : (at : Origin) (x : ℕ) (c : Class) (k : Bool) (low : ℕ) → low < 32 → identifier_octet c k low ≡ x → x ≢ 0
+    → IsStateAfter at (leads x c k low) (x ∷ [])
 reads-leads at x c k low h e nz = ⊎_elim
-    (λ (last : low ≡ 31). rw (eq-eqb low 31 last) (record { each = All-nil (λ d. d < 128); few = omega arith; octets = rw (← e, last) }))
-    (λ (other : low ≡ 31 → ⊥). rw (ne_eqb low 31 other) (inl (record { small = omega arith; octets_are = rw e; nonzero = rw e nz }), refl))
+    (λ (last : low ≡ 31). rw (eq-eqb low 31 last) (record {
+      each = All-nil (λ d. d < 128);
+      few = omega arith;
+      octets = rw (← e, last);
+    }))
+    (λ (other : low ≡ 31 → ⊥). rw (ne_eqb low 31 other)
+        (inl (record { small = omega arith; octets_are = rw e; nonzero = rw e nz }), refl))
     (cases_eq low 31)
 
 reads-first : (at : Origin) (x : ℕ) → x < 256 → IsStateAfter at (step at Fresh x) (x ∷ [])
 reads-first at x h = ⊎_elim
     (λ (z : x ≡ 0). rw (eq-eqb x 0 z) tt)
-    (λ (nz : x ≡ 0 → ⊥). rw (ne_eqb x 0 nz) (reads-leads at x (class_of (x / 64)) (ltb 31 (x % 64)) (x % 32) (omega arith) (leading-of x h) nz))
+    (λ (nz : x ≡ 0 → ⊥). rw (ne_eqb x 0 nz)
+        (reads-leads at x (class_of (x / 64)) (ltb 31 (x % 64)) (x % 32) (omega arith) (leading-of x h) nz))
     (cases_eq x 0)
 
-reads-high : (at : Origin) (x : ℕ) (c : Class) (k : Bool) (ds o : List ℕ) → x < 256 → IsHighState c k ds o → IsStateAfter at (step at (High c k ds) x) (o ++ x ∷ [])
+reads-high : (at : Origin) (x : ℕ) (c : Class) (k : Bool) (ds o : List ℕ) → x < 256 → IsHighState c k ds o
+    → IsStateAfter at (step at (High c k ds) x) (o ++ x ∷ [])
 reads-high at x c k ds o h s = ⊎_elim
     (λ (small : x < 128). rw (lt-ltb x 128 small)
-    (inr (record { digits = ds; last = x; each = s.each; last_digit = small; few = s.few; value = refl; octets_are = refl }), rw s.octets))
+    (inr
+        (record
+            { digits = ds; last = x; each = s.each; last_digit = small; few = s.few; value = refl; octets_are = refl
+            }),
+        rw s.octets))
     (λ (large : 128 ≤ x). ⊎_elim
     (λ (room : length ds < 8). rw (le-ltb x 128 large, lt-ltb (length ds) 8 room)
     (record {
       each = All-push (λ d. d < 128) ds (x - 128) s.each (omega arith);
       few = omega (arith, length-append ds ((x - 128) ∷ []));
-      octets = let back : 128 + (x - 128) ≡ x = omega arith in rw (s.octets, map_push (λ d. 128 + d) ds (x - 128), back);
+      octets =
+          let back : 128 + (x - 128) ≡ x = omega arith in rw (s.octets, map_push (λ d. 128 + d) ds (x - 128), back);
     }))
     (λ (full : 8 ≤ length ds). rw (le-ltb x 128 large, le-ltb (length ds) 8 full) tt)
     (cases_lt (length ds) 8))
@@ -91,18 +105,21 @@ allows_definite true n = refl
 allows_definite false n = refl
 
 reads-indefinite : (at : Origin) (x : ℕ) (c : Class) (k : Bool) (n : ℕ) (i : List ℕ) → IsIdentifier c k n i → x ≡ 128
-    → IsStateAfter at (cond k (Ready (head_of at c k n i Indefinite (x ∷ []))) (Stuck IndefinitePrimitive)) (i ++ x ∷ [])
+    → IsStateAfter at (cond k (Ready (head_of at c k n i Indefinite (x ∷ []))) (Stuck IndefinitePrimitive))
+        (i ++ x ∷ [])
 reads-indefinite at x c true n i id e = (record { identifier = id; lengths = rw e; allowed = refl }, refl, refl)
 reads-indefinite at x c false n i id e = tt
 
-reads-named : (at : Origin) (x : ℕ) (c : Class) (k : Bool) (n : ℕ) (i : List ℕ) → x < 256 → IsIdentifier c k n i → IsStateAfter at (step at (Named c k n i) x) (i ++ x ∷ [])
+reads-named : (at : Origin) (x : ℕ) (c : Class) (k : Bool) (n : ℕ) (i : List ℕ) → x < 256 → IsIdentifier c k n i
+    → IsStateAfter at (step at (Named c k n i) x) (i ++ x ∷ [])
 reads-named at x c k n i h id = ⊎_elim
     (λ (small : x < 128). rw (lt-ltb x 128 small)
     (record { identifier = id; lengths = inl (small, refl); allowed = allows_definite k x }, refl, refl))
     (λ (large : 128 ≤ x). ⊎_elim
     (λ (all : x ≡ 255). rw (le-ltb x 128 large, eq-eqb x 255 all) tt)
     (λ (below : x ≡ 255 → ⊥). ⊎_elim
-    (λ (mark : x ≡ 128). rw (le-ltb x 128 large, ne_eqb x 255 below, eq-eqb x 128 mark) (reads-indefinite at x c k n i id mark))
+    (λ (mark : x ≡ 128). rw (le-ltb x 128 large, ne_eqb x 255 below, eq-eqb x 128 mark)
+        (reads-indefinite at x c k n i id mark))
     (λ (above : x ≡ 128 → ⊥). rw (le-ltb x 128 large, ne_eqb x 255 below, ne_eqb x 128 above)
     (record {
       identifier = id;
@@ -127,7 +144,8 @@ limit-few v x (suc (suc (suc zero))) few small h = omega arith
 limit-few v x (suc (suc (suc (suc zero)))) few small h = omega arith
 limit-few v x (suc (suc (suc (suc (suc r))))) few small h = absurd (omega arith)
 
-limit-more : (ds : List ℕ) (x m : ℕ) → x < 256 → length ds < m → (x ≡ 0) ⊎ (m ≤ length ds + 5) → value_of 256 ds * 256 ^ (m - length ds) < 2 ^ 40
+limit-more : (ds : List ℕ) (x m : ℕ) → x < 256 → length ds < m → (x ≡ 0) ⊎ (m ≤ length ds + 5)
+    → value_of 256 ds * 256 ^ (m - length ds) < 2 ^ 40
     → value_of 256 (ds ++ x ∷ []) * 256 ^ (m - (length ds + 1)) < 2 ^ 40
 limit-more ds x m h short c limit =
     let one : m - length ds ≡ suc (m - (length ds + 1)) = omega arith in
@@ -143,12 +161,14 @@ long-cases x m ds e = ⊎_elim
     (λ z. inr (ltb-false _ _ z))
     (and_cases _ _ e)
 
-reads-long : (at : Origin) (x : ℕ) (c : Class) (k : Bool) (n : ℕ) (i : List ℕ) (m : ℕ) (ds o : List ℕ) → x < 256 → IsLongState c k n i m ds o
+reads-long : (at : Origin) (x : ℕ) (c : Class) (k : Bool) (n : ℕ) (i : List ℕ) (m : ℕ) (ds o : List ℕ) → x < 256
+    → IsLongState c k n i m ds o
     → IsStateAfter at (step at (Long c k n i m ds) x) (o ++ x ∷ [])
 reads-long at x c k n i m ds o h s = ⊎_elim
     (λ (bad : (not (eqb x 0) && ltb (length ds + 5) m) ≡ true). rw bad tt)
     (λ (good : (not (eqb x 0) && ltb (length ds + 5) m) ≡ false).
-    let limit : value_of 256 (ds ++ x ∷ []) * 256 ^ (m - (length ds + 1)) < 2 ^ 40 = limit-more ds x m h s.short (long-cases x m ds good) s.limit in
+    let limit : value_of 256 (ds ++ x ∷ []) * 256 ^ (m - (length ds + 1)) < 2 ^ 40 =
+        limit-more ds x m h s.short (long-cases x m ds good) s.limit in
     let longer : length (ds ++ x ∷ []) ≡ length ds + 1 = omega (arith, length-append ds (x ∷ [])) in
     ⊎_elim
     (λ (more : length ds + 1 < m). rw (good, lt-ltb (length ds + 1) m more)
@@ -168,7 +188,15 @@ reads-long at x c k n i m ds o h s = ⊎_elim
       record {
         identifier = s.identifier;
         allowed = allows_definite k 0;
-        lengths = inr (record { digits = ds ++ x ∷ []; each = All-push (λ d. d < 256) ds x s.each h; some = omega arith; few = omega (arith, s.few); value = refl; limit = omega arith; octets_are = rw is });
+        lengths = inr (record {
+          digits = ds ++ x ∷ [];
+          each = All-push (λ d. d < 256) ds x s.each h;
+          some = omega arith;
+          few = omega (arith, s.few);
+          value = refl;
+          limit = omega arith;
+          octets_are = rw is;
+        });
       },
       rw (s.octets, append_assoc i ((128 + m) ∷ ds) (x ∷ [])),
       refl,
@@ -177,7 +205,8 @@ reads-long at x c k n i m ds o h s = ⊎_elim
     (cases_Bool (not (eqb x 0) && ltb (length ds + 5) m))
 
 -- one more octet
-pub reads-step : (at : Origin) (x : ℕ) (s : Scan) (o : List ℕ) → x < 256 → IsStateAfter at s o → IsStateAfter at (step at s x) (o ++ x ∷ [])
+pub reads-step : (at : Origin) (x : ℕ) (s : Scan) (o : List ℕ) → x < 256 → IsStateAfter at s o
+    → IsStateAfter at (step at s x) (o ++ x ∷ [])
 reads-step at x Fresh o h r = rw r (reads-first at x h)
 reads-step at x (High c k ds) o h r = reads-high at x c k ds o h r
 reads-step at x (Named c k n i) o h r = rw (r.1) (reads-named at x c k n i h r.0)
@@ -186,18 +215,21 @@ reads-step at x (Ready head) o h r = tt
 reads-step at x (Stuck code) o h r = tt
 reads-step at x Over o h r = tt
 
-reads-scan_from : (at : Origin) (s : Scan) (o xs : List ℕ) → All (λ x. x < 256) xs → IsStateAfter at s o → IsStateAfter at (scan_from at s xs) (o ++ xs)
+reads-scan_from : (at : Origin) (s : Scan) (o xs : List ℕ) → All (λ x. x < 256) xs → IsStateAfter at s o
+    → IsStateAfter at (scan_from at s xs) (o ++ xs)
 reads-scan_from at s o [] each r = rw (append-nil o) r
 reads-scan_from at s o (x ∷ xs) each r =
     rw (append_assoc o (x ∷ []) xs) at
-    (reads-scan_from at (step at s x) (o ++ x ∷ []) xs (All-tail (λ x. x < 256) x xs each) (reads-step at x s o (All-head (λ x. x < 256) x xs each) r))
+    (reads-scan_from at (step at s x) (o ++ x ∷ []) xs (All-tail (λ x. x < 256) x xs each)
+        (reads-step at x s o (All-head (λ x. x < 256) x xs each) r))
 
 -- octets are what the state that they lead to says
 pub reads-scan : (at : Origin) (xs : List ℕ) → All (λ x. x < 256) xs → IsStateAfter at (scan at xs) xs
 reads-scan at xs each = reads-scan_from at Fresh [] xs each refl
 
 -- identifier octets, or the first of them, are a prefix of a header: its length may be 0
-named-prefix : (c : Class) (k : Bool) (n : ℕ) (i o more : List ℕ) → IsIdentifier c k n i → o ≢ [] → o ++ more ≡ i → IsHeaderPrefix o
+named-prefix : (c : Class) (k : Bool) (n : ℕ) (i o more : List ℕ) → IsIdentifier c k n i → o ≢ [] → o ++ more ≡ i
+    → IsHeaderPrefix o
 named-prefix c k n i o more id some e = record {
   header = head_of start c k n i (Definite 0) (0 ∷ []);
   more = more ++ 0 ∷ [];
@@ -207,11 +239,17 @@ named-prefix c k n i o more id some e = record {
 }
 
 -- octets up to digits of a length are a prefix of a header: its other digits may be zeros
-long-prefix : (c : Class) (k : Bool) (n : ℕ) (i : List ℕ) (m : ℕ) (ds o : List ℕ) → o ≢ [] → IsLongState c k n i m ds o → IsHeaderPrefix o
+long-prefix : (c : Class) (k : Bool) (n : ℕ) (i : List ℕ) (m : ℕ) (ds o : List ℕ) → o ≢ []
+    → IsLongState c k n i m ds o → IsHeaderPrefix o
 long-prefix c k n i m ds o some s =
-    let total : length (ds ++ replicate (m - length ds) 0) ≡ m = omega (arith, length-append ds (replicate (m - length ds) 0), length-replicate {A = ℕ} (m - length ds) 0, s.short) in
+    let total : length (ds ++ replicate (m - length ds) 0) ≡ m =
+        omega
+            (arith, length-append ds (replicate (m - length ds) 0), length-replicate {A = ℕ} (m - length ds) 0,
+                s.short) in
     record {
-      header = head_of start c k n i (Definite (value_of 256 (ds ++ replicate (m - length ds) 0))) ((128 + m) ∷ (ds ++ replicate (m - length ds) 0));
+      header =
+          head_of start c k n i (Definite (value_of 256 (ds ++ replicate (m - length ds) 0)))
+              ((128 + m) ∷ (ds ++ replicate (m - length ds) 0));
       more = replicate (m - length ds) 0;
       proper = λ z. omega (arith, ap length z, length-replicate {A = ℕ} (m - length ds) 0, s.short);
       valid = record {
@@ -231,10 +269,17 @@ long-prefix c k n i m ds o some s =
     }
 
 -- octets after which more are needed are a prefix of a header
-pub prefix-from_more : (at : Origin) (s : Scan) (o : List ℕ) → IsStateAfter at s o → o ≢ [] → is_more s ≡ true → IsHeaderPrefix o
+pub prefix-from_more : (at : Origin) (s : Scan) (o : List ℕ) → IsStateAfter at s o → o ≢ [] → is_more s ≡ true
+    → IsHeaderPrefix o
 prefix-from_more at Fresh o r some e = absurd (some r)
 prefix-from_more at (High c k ds) o r some e =
-    named-prefix c k _ _ o (0 ∷ []) (inr (record { digits = ds; last = 0; each = r.each; last_digit = omega arith; few = r.few; value = refl; octets_are = refl })) some (rw r.octets)
+    named-prefix c k _ _ o (0 ∷ [])
+        (inr
+            (record
+                { digits =
+                    ds; last = 0; each = r.each; last_digit = omega arith; few = r.few; value = refl; octets_are = refl
+                }))
+        some (rw r.octets)
 prefix-from_more at (Named c k n i) o r some e = named-prefix c k n i o [] r.0 some (append-nil o ∙ r.1)
 prefix-from_more at (Long c k n i m ds) o r some e = long-prefix c k n i m ds o some r
 prefix-from_more at (Ready h) o r some e = absurd (cc)
@@ -260,17 +305,22 @@ identifier-bytes c k n i (inr high) =
     let small : 31 < 32 = omega arith in
     rw high.octets_are (All-cons (λ x. x < 256) _ _ (leading-byte c k 31 small)
     (All-append (λ x. x < 256) (map (λ d. 128 + d) high.digits) (high.last ∷ [])
-    (All-map (λ x. x < 256) (λ d. 128 + d) high.digits (All-weaker (λ d. d < 128) (λ d. 128 + d < 256) (λ d h. omega arith) high.digits high.each))
+    (All-map (λ x. x < 256) (λ d. 128 + d) high.digits
+        (All-weaker (λ d. d < 128) (λ d. 128 + d < 256) (λ d h. omega arith) high.digits high.each))
     (All-cons (λ x. x < 256) high.last [] (omega (arith, high.last_digit)) (All-nil (λ x. x < 256)))))
 
 length-bytes : (s : Size) (l : List ℕ) → IsLength s l → All (λ x. x < 256) l
-length-bytes (Definite n) l (inl short) = rw (short.1) (All-cons (λ x. x < 256) n [] (omega (arith, short.0)) (All-nil (λ x. x < 256)))
-length-bytes (Definite n) l (inr long) = rw long.octets_are (All-cons (λ x. x < 256) _ _ (omega (arith, long.few)) long.each)
+length-bytes (Definite n) l (inl short) =
+    rw (short.1) (All-cons (λ x. x < 256) n [] (omega (arith, short.0)) (All-nil (λ x. x < 256)))
+length-bytes (Definite n) l (inr long) =
+    rw long.octets_are (All-cons (λ x. x < 256) _ _ (omega (arith, long.few)) long.each)
 length-bytes Indefinite l e = rw e (All-cons (λ x. x < 256) 128 [] (omega arith) (All-nil (λ x. x < 256)))
 
 header-bytes : (h : HeaderValue) → IsHeader h → All (λ x. x < 256) (octets_of h)
 header-bytes h valid =
-    All-append (λ x. x < 256) h.identifier h.lengths (identifier-bytes h.class h.constructed h.number h.identifier valid.identifier) (length-bytes h.size h.lengths valid.lengths)
+    All-append (λ x. x < 256) h.identifier h.lengths
+        (identifier-bytes h.class h.constructed h.number h.identifier valid.identifier)
+        (length-bytes h.size h.lengths valid.lengths)
 
 All-prefix : (xs ys : List ℕ) → All (λ x. x < 256) (xs ++ ys) → All (λ x. x < 256) xs
 All-prefix xs ys each k d h = rw (get_or_append_left xs ys d k h) at (each k d (omega (arith, length-append xs ys)))

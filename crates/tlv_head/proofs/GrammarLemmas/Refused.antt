@@ -43,18 +43,23 @@ prefix-none o code e = stuck-none start (Stuck code) o e refl (λ h z. cc)
 -- no header begins with such octets
 stuck-begins-none : (o : List ℕ) → IsStuckFrom start Fresh o → CannotBecomeHeader o
 stuck-begins-none o r = λ h more v e.
-    prefix-none r.prefix r.code r.stuck h (r.rest ++ more) v (sym (append_assoc r.prefix r.rest more) ∙ (ap (λ z. z ++ more) (sym r.octets) ∙ e))
+    prefix-none r.prefix r.code r.stuck h (r.rest ++ more) v
+        (sym (append_assoc r.prefix r.rest more) ∙ (ap (λ z. z ++ more) (sym r.octets) ∙ e))
 
-past-header : (at : Origin) (h : HeaderValue) (z : List ℕ) (code : FaultCode) → scan_from at (Ready h) z ≡ Stuck code → ⊥
+past-header : (at : Origin) (h : HeaderValue) (z : List ℕ) (code : FaultCode) → scan_from at (Ready h) z ≡ Stuck code
+    → ⊥
 past-header at h [] code e = cc
 past-header at h (y ∷ z) code e = let over : scan_from at Over z ≡ Over = scan_from-over at z in cc
 
 -- octets that are refused at the last of them begin with no header
-header-not_stuck : (h : HeaderValue) (z o : List ℕ) (code : FaultCode) → IsHeader h → octets_of h ++ z ≡ o → scan start o ≡ Stuck code → ⊥
+header-not_stuck : (h : HeaderValue) (z o : List ℕ) (code : FaultCode) → IsHeader h → octets_of h ++ z ≡ o
+    → scan start o ≡ Stuck code → ⊥
 header-not_stuck h z o code v e s =
     let whole : scan start (octets_of h ++ z) ≡ Stuck code = ap (scan start) e ∙ s in
-    let split : scan_from start (scan start (octets_of h)) z ≡ Stuck code = sym (scan_from-append start Fresh (octets_of h) z) ∙ whole in
-    past-header start (moved start h) z code (ap (λ (t : Scan). scan_from start t z) (sym (scan-moved start h v)) ∙ split)
+    let split : scan_from start (scan start (octets_of h)) z ≡ Stuck code =
+        sym (scan_from-append start Fresh (octets_of h) z) ∙ whole in
+    past-header start (moved start h) z code
+        (ap (λ (t : Scan). scan_from start t z) (sym (scan-moved start h v)) ∙ split)
 
 stuck-begins_with-none : (o : List ℕ) → IsStuckFrom start Fresh o → BeginsWithNoHeader o
 stuck-begins_with-none o r = λ h rest v e. elim (prefixes r.prefix (octets_of h) r.rest rest (sym r.octets ∙ e)) [
@@ -63,7 +68,8 @@ stuck-begins_with-none o r = λ h rest v e. elim (prefixes r.prefix (octets_of h
 ]
 
 -- one octet after those that were read
-scan-step : (at : Origin) (o : List ℕ) (x : ℕ) (s : Scan) (code : FaultCode) → scan at o ≡ s → step at s x ≡ Stuck code → scan at (o ++ x ∷ []) ≡ Stuck code
+scan-step : (at : Origin) (o : List ℕ) (x : ℕ) (s : Scan) (code : FaultCode) → scan at o ≡ s
+    → step at s x ≡ Stuck code → scan at (o ++ x ∷ []) ≡ Stuck code
 scan-step at o x s code e f = rw (scan_from-append at Fresh o (x ∷ []), e) f
 
 -- subsequent identifier octets with bit 8 set
@@ -76,9 +82,11 @@ scan-flagged at c k ds (e ∷ es) each few =
     let room : length ds < 8 = omega arith in
     let back : 128 + e - 128 ≡ e = omega arith in
     let fewer : length (ds ++ e ∷ []) + length es ≤ 8 = omega (arith, length-append ds (e ∷ [])) in
-    let one : step at (High c k ds) (128 + e) ≡ High c k (ds ++ e ∷ []) = rw (le-ltb (128 + e) 128 more, lt-ltb (length ds) 8 room, back) in
+    let one : step at (High c k ds) (128 + e) ≡ High c k (ds ++ e ∷ []) =
+        rw (le-ltb (128 + e) 128 more, lt-ltb (length ds) 8 room, back) in
     ap (λ (s : Scan). scan_from at s (with_bit_8 es)) one
-    ∙ rw (append_assoc ds (e ∷ []) es) at (scan-flagged at c k (ds ++ e ∷ []) es (All-tail (λ d. d < 128) e es each) fewer)
+    ∙ rw (append_assoc ds (e ∷ []) es) at
+        (scan-flagged at c k (ds ++ e ∷ []) es (All-tail (λ d. d < 128) e es each) fewer)
 
 -- a ninth such octet
 too_long-stuck : (at : Origin) (c : Class) (k : Bool) (ds o : List ℕ) (x : ℕ) → All (λ d. d < 128) ds → length ds ≡ 8
@@ -93,15 +101,20 @@ too_long-stuck at c k ds o x each eight octets flag =
     (rw (le-ltb x 128 flag, le-ltb (length ds) 8 (omega (arith, eight))))
 
 -- a first length octet ff
-reserved-stuck : (at : Origin) (c : Class) (k : Bool) (n : ℕ) (o : List ℕ) (x : ℕ) → IsIdentifier c k n o → x ≡ 255 → scan at (o ++ x ∷ []) ≡ Stuck ReservedLength
-reserved-stuck at c k n o x i e = scan-step at o x (Named c k n o) ReservedLength (scan-identifier at c k n o i) (rw e refl)
+reserved-stuck : (at : Origin) (c : Class) (k : Bool) (n : ℕ) (o : List ℕ) (x : ℕ) → IsIdentifier c k n o → x ≡ 255
+    → scan at (o ++ x ∷ []) ≡ Stuck ReservedLength
+reserved-stuck at c k n o x i e =
+    scan-step at o x (Named c k n o) ReservedLength (scan-identifier at c k n o i) (rw e refl)
 
 -- a first length octet 80 of a primitive
-primitive-stuck : (at : Origin) (c : Class) (n : ℕ) (o : List ℕ) (x : ℕ) → IsIdentifier c false n o → x ≡ 128 → scan at (o ++ x ∷ []) ≡ Stuck IndefinitePrimitive
-primitive-stuck at c n o x i e = scan-step at o x (Named c false n o) IndefinitePrimitive (scan-identifier at c false n o i) (rw e refl)
+primitive-stuck : (at : Origin) (c : Class) (n : ℕ) (o : List ℕ) (x : ℕ) → IsIdentifier c false n o → x ≡ 128
+    → scan at (o ++ x ∷ []) ≡ Stuck IndefinitePrimitive
+primitive-stuck at c n o x i e =
+    scan-step at o x (Named c false n o) IndefinitePrimitive (scan-identifier at c false n o i) (rw e refl)
 
 -- the digits of an unfinished length are read, or one of them is refused
-long-or-stuck : (at : Origin) (c : Class) (k : Bool) (n : ℕ) (i : List ℕ) (m : ℕ) (ds es : List ℕ) → length ds + length es < m
+long-or-stuck : (at : Origin) (c : Class) (k : Bool) (n : ℕ) (i : List ℕ) (m : ℕ) (ds es : List ℕ)
+    → length ds + length es < m
     → (scan_from at (Long c k n i m ds) es ≡ Long c k n i m (ds ++ es)) ⊎ IsStuckFrom at (Long c k n i m ds) es
 long-or-stuck at c k n i m ds [] h = inl (ap (Long c k n i m) (sym (append-nil ds)))
 long-or-stuck at c k n i m ds (e ∷ es) h = ⊎_elim
@@ -109,18 +122,28 @@ long-or-stuck at c k n i m ds (e ∷ es) h = ⊎_elim
     inr (record { prefix = e ∷ []; rest = es; code = LengthTooLarge; stuck = rw bad refl; octets = refl }))
     (λ (good : (not (eqb e 0) && ltb (length ds + 5) m) ≡ false).
     let room : length ds + 1 < m = omega arith in
-    let one : step at (Long c k n i m ds) e ≡ Long c k n i m (ds ++ e ∷ []) = rw (good, lt-ltb (length ds + 1) m room) in
+    let one : step at (Long c k n i m ds) e ≡ Long c k n i m (ds ++ e ∷ []) =
+        rw (good, lt-ltb (length ds + 1) m room) in
     let fewer : length (ds ++ e ∷ []) + length es < m = omega (arith, length-append ds (e ∷ [])) in
     ⊎_elim
-    (λ (on : scan_from at (Long c k n i m (ds ++ e ∷ [])) es ≡ Long c k n i m ((ds ++ e ∷ []) ++ es)). inl (rw (one, sym (append_assoc ds (e ∷ []) es)) on))
+    (λ (on : scan_from at (Long c k n i m (ds ++ e ∷ [])) es ≡ Long c k n i m ((ds ++ e ∷ []) ++ es)). inl
+        (rw (one, sym (append_assoc ds (e ∷ []) es)) on))
     (λ (r : IsStuckFrom at (Long c k n i m (ds ++ e ∷ [])) es).
-    inr (record { prefix = e ∷ r.prefix; rest = r.rest; code = r.code; stuck = ap (λ (s : Scan). scan_from at s r.prefix) one ∙ r.stuck; octets = ap (λ z. e ∷ z) r.octets }))
+    inr (record {
+      prefix = e ∷ r.prefix;
+      rest = r.rest;
+      code = r.code;
+      stuck = ap (λ (s : Scan). scan_from at s r.prefix) one ∙ r.stuck;
+      octets = ap (λ z. e ∷ z) r.octets;
+    }))
     (long-or-stuck at c k n i m (ds ++ e ∷ []) es fewer))
     (cases_Bool (not (eqb e 0) && ltb (length ds + 5) m))
 
 -- a length octet that makes the length too large is refused, or one before it is
-too_large-stuck : (at : Origin) (c : Class) (k : Bool) (n : ℕ) (x left : ℕ) (i ds o : List ℕ) → IsIdentifier c k n i → 6 ≤ left → length ds + left ≤ 126
-    → o ≡ i ++ (128 + (length ds + left)) ∷ ds → x ≢ 0 → (scan at (o ++ x ∷ []) ≡ Stuck LengthTooLarge) ⊎ IsStuckFrom at Fresh o
+too_large-stuck : (at : Origin) (c : Class) (k : Bool) (n : ℕ) (x left : ℕ) (i ds o : List ℕ) → IsIdentifier c k n i
+    → 6 ≤ left → length ds + left ≤ 126
+    → o ≡ i ++ (128 + (length ds + left)) ∷ ds → x ≢ 0
+        → (scan at (o ++ x ∷ []) ≡ Stuck LengthTooLarge) ⊎ IsStuckFrom at Fresh o
 too_large-stuck at c k n x left i ds o id many few octets nonzero =
     let m : ℕ = length ds + left in
     let above : 128 ≤ 128 + m = omega arith in
@@ -151,15 +174,18 @@ too_large-stuck at c k n x left i ds o id many few octets nonzero =
 -- the last octet is refused with this code, or one before it is refused
 refused-last : (at : Origin) (code : FaultCode) (o : List ℕ) (x : ℕ) → IsRefusedOctet o x code
     → (scan at (o ++ x ∷ []) ≡ Stuck code) ⊎ ((code ≡ LengthTooLarge) × IsStuckFrom at Fresh o)
-refused-last at code o x (tag_too_long c k prefix eight flag) = inl (too_long-stuck at c k prefix.digits o x prefix.each eight prefix.octets_are flag)
+refused-last at code o x (tag_too_long c k prefix eight flag) =
+    inl (too_long-stuck at c k prefix.digits o x prefix.each eight prefix.octets_are flag)
 refused-last at code o x (reserved_length c k n i e) = inl (reserved-stuck at c k n o x i e)
 refused-last at code o x (indefinite_primitive c n i e) = inl (primitive-stuck at c n o x i e)
 refused-last at code o x (length_too_large c k n left prefix many nonzero) = ⊎_elim
     (λ (e : scan at (o ++ x ∷ []) ≡ Stuck LengthTooLarge). inl e)
     (λ (s : IsStuckFrom at Fresh o). inr (refl, s))
-    (too_large-stuck at c k n x left prefix.identifier prefix.digits o prefix.identified many prefix.few prefix.octets_are nonzero)
+    (too_large-stuck at c k n x left prefix.identifier prefix.digits o prefix.identified many prefix.few
+        prefix.octets_are nonzero)
 
-refused-stuck_from : (code : FaultCode) (o : List ℕ) (x : ℕ) → IsRefusedOctet o x code → IsStuckFrom start Fresh (o ++ x ∷ [])
+refused-stuck_from : (code : FaultCode) (o : List ℕ) (x : ℕ) → IsRefusedOctet o x code
+    → IsStuckFrom start Fresh (o ++ x ∷ [])
 refused-stuck_from code o x r = ⊎_elim
     (λ (e : scan start (o ++ x ∷ []) ≡ Stuck code). stuck-last start (o ++ x ∷ []) code e)
     (λ (s : (code ≡ LengthTooLarge) × IsStuckFrom start Fresh o). stuck-longer start Fresh o (x ∷ []) s.1)
@@ -170,9 +196,11 @@ pub refused-none : (code : FaultCode) (o : List ℕ) (x : ℕ) → IsRefusedOcte
 refused-none code o x r = stuck-begins-none (o ++ x ∷ []) (refused-stuck_from code o x r)
 
 -- nor do they begin with one, whatever follows
-pub refused-with_none : (code : FaultCode) (o : List ℕ) (x : ℕ) (more : List ℕ) → IsRefusedOctet o x code → BeginsWithNoHeader ((o ++ x ∷ []) ++ more)
+pub refused-with_none : (code : FaultCode) (o : List ℕ) (x : ℕ) (more : List ℕ) → IsRefusedOctet o x code
+    → BeginsWithNoHeader ((o ++ x ∷ []) ++ more)
 refused-with_none code o x more r =
-    stuck-begins_with-none ((o ++ x ∷ []) ++ more) (stuck-longer start Fresh (o ++ x ∷ []) more (refused-stuck_from code o x r))
+    stuck-begins_with-none ((o ++ x ∷ []) ++ more)
+        (stuck-longer start Fresh (o ++ x ∷ []) more (refused-stuck_from code o x r))
 
 past-stuck : (at : Origin) (code : FaultCode) (z : List ℕ) → is_more (scan_from at (Stuck code) z) ≡ false
 past-stuck at code [] = refl
@@ -181,11 +209,13 @@ past-stuck at code (y ∷ z) = ap is_more (scan_from-over at z)
 stuck-no_more : (at : Origin) (o : List ℕ) → IsStuckFrom at Fresh o → is_more (scan at o) ≡ false
 stuck-no_more at o r =
     let split : scan at o ≡ scan_from at (Stuck r.code) r.rest =
-    ap (scan at) r.octets ∙ (scan_from-append at Fresh r.prefix r.rest ∙ ap (λ (s : Scan). scan_from at s r.rest) r.stuck) in
+    ap (scan at) r.octets
+        ∙ (scan_from-append at Fresh r.prefix r.rest ∙ ap (λ (s : Scan). scan_from at s r.rest) r.stuck) in
     ap is_more split ∙ past-stuck at r.code r.rest
 
 -- after a prefix of a header an octet is refused with this code
-pub refused-stuck : (at : Origin) (code : FaultCode) (o : List ℕ) (x : ℕ) → IsHeaderPrefix o → IsRefusedOctet o x code → scan at (o ++ x ∷ []) ≡ Stuck code
+pub refused-stuck : (at : Origin) (code : FaultCode) (o : List ℕ) (x : ℕ) → IsHeaderPrefix o → IsRefusedOctet o x code
+    → scan at (o ++ x ∷ []) ≡ Stuck code
 refused-stuck at code o x prefix r = ⊎_elim
     (λ (e : scan at (o ++ x ∷ []) ≡ Stuck code). e)
     (λ (s : (code ≡ LengthTooLarge) × IsStuckFrom at Fresh o).
@@ -194,9 +224,11 @@ refused-stuck at code o x prefix r = ⊎_elim
 
 stuck-or_over : (at : Origin) (s : Scan) (o : List ℕ) (x : ℕ) → IsStuckFrom at s o → scan_from at s (o ++ x ∷ []) ≡ Over
 stuck-or_over at s o x r =
-    let whole : o ++ x ∷ [] ≡ r.prefix ++ (r.rest ++ x ∷ []) = ap (λ z. z ++ x ∷ []) r.octets ∙ append_assoc r.prefix r.rest (x ∷ []) in
+    let whole : o ++ x ∷ [] ≡ r.prefix ++ (r.rest ++ x ∷ []) =
+        ap (λ z. z ++ x ∷ []) r.octets ∙ append_assoc r.prefix r.rest (x ∷ []) in
     ap (scan_from at s) whole
-    ∙ (scan_from-append at s r.prefix (r.rest ++ x ∷ []) ∙ (ap (λ (t : Scan). scan_from at t (r.rest ++ x ∷ [])) r.stuck ∙ over r.rest))
+    ∙ (scan_from-append at s r.prefix (r.rest ++ x ∷ [])
+        ∙ (ap (λ (t : Scan). scan_from at t (r.rest ++ x ∷ [])) r.stuck ∙ over r.rest))
   where
     over : (z : List ℕ) → scan_from at (Stuck r.code) (z ++ x ∷ []) ≡ Over
     over [] = refl

@@ -10,7 +10,8 @@ use Rattle.tlv_head.specs.declared.header.Class.{Class}
 use Rattle.tlv_head.specs.declared.header.Class.TheVariants.{Universal, Application, Context, Private}
 use Rattle.tlv_head.specs.declared.header.Size.{Size}
 use Rattle.tlv_head.specs.declared.header.Size.TheVariants.{Definite, Indefinite}
-use Rattle.tlv_head.specs.Header.{AllowsSize, HeaderValue, IsHeader, IsIdentifier, IsLength, class_bits, identifier_octet}
+use Rattle.tlv_head.specs.Header.{AllowsSize, HeaderValue, IsHeader, IsIdentifier, IsLength, class_bits}
+use Rattle.tlv_head.specs.Header.{identifier_octet}
 use Rattle.tlv_head.specs.Header.{octets_of, value_of}
 use Rattle.tlv_head.specs.Refusal.{IsHeaderPrefix}
 use Rattle.tlv_head.specs.declared.fault.FaultCode.{FaultCode}
@@ -56,17 +57,45 @@ leads x class constructed low = cond (eqb low 31) (High class constructed []) (N
 abbrev pub step : Origin → Scan → ℕ → Scan
 step at Fresh x = cond (eqb x 0) (Stuck StrayEnd) (leads x (class_of (x / 64)) (ltb 31 (x % 64)) (x % 32))
 step at (High c k ds) x =
-    cond (ltb x 128) (Named c k (value_of 128 (ds ++ x ∷ [])) (identifier_octet c k 31 ∷ (map (λ d. 128 + d) ds ++ x ∷ [])))
+    cond (ltb x 128)
+        (Named c k (value_of 128 (ds ++ x ∷ [])) (identifier_octet c k 31 ∷ (map (λ d. 128 + d) ds ++ x ∷ [])))
     (cond (ltb (length ds) 8) (High c k (ds ++ (x - 128) ∷ [])) (Stuck TagTooLong))
 step at (Named c k n i) x =
-    cond (ltb x 128) (Ready (record { offset = at.offset; named = at.named; class = c; constructed = k; number = n; size = Definite x; identifier = i; lengths = x ∷ [] }))
+    cond (ltb x 128) (Ready (record {
+      offset = at.offset;
+      named = at.named;
+      class = c;
+      constructed = k;
+      number = n;
+      size = Definite x;
+      identifier = i;
+      lengths = x ∷ [];
+    }))
     (cond (eqb x 255) (Stuck ReservedLength)
-    (cond (eqb x 128) (cond k (Ready (record { offset = at.offset; named = at.named; class = c; constructed = k; number = n; size = Indefinite; identifier = i; lengths = x ∷ [] })) (Stuck IndefinitePrimitive))
+    (cond (eqb x 128)
+        (cond k
+            (Ready
+                (record
+                    { offset =
+                        at.offset; named =
+                            at.named; class =
+                                c; constructed = k; number = n; size = Indefinite; identifier = i; lengths = x ∷ []
+                    }))
+            (Stuck IndefinitePrimitive))
     (Long c k n i (x - 128) [])))
 step at (Long c k n i m ds) x =
     cond (not (eqb x 0) && ltb (length ds + 5) m) (Stuck LengthTooLarge)
     (cond (ltb (length ds + 1) m) (Long c k n i m (ds ++ x ∷ []))
-    (Ready (record { offset = at.offset; named = at.named; class = c; constructed = k; number = n; size = Definite (value_of 256 (ds ++ x ∷ [])); identifier = i; lengths = (128 + m) ∷ (ds ++ x ∷ []) })))
+    (Ready (record {
+      offset = at.offset;
+      named = at.named;
+      class = c;
+      constructed = k;
+      number = n;
+      size = Definite (value_of 256 (ds ++ x ∷ []));
+      identifier = i;
+      lengths = (128 + m) ∷ (ds ++ x ∷ []);
+    })))
 step at (Ready h) x = Over
 step at (Stuck code) x = Over
 step at Over x = Over
@@ -79,7 +108,8 @@ abbrev pub scan : Origin → List ℕ → Scan
 scan at xs = scan_from at Fresh xs
 
 -- octets are read one after another, wherever they are cut
-pub scan_from-append : (at : Origin) (s : Scan) (xs ys : List ℕ) → scan_from at s (xs ++ ys) ≡ scan_from at (scan_from at s xs) ys
+pub scan_from-append : (at : Origin) (s : Scan) (xs ys : List ℕ)
+    → scan_from at s (xs ++ ys) ≡ scan_from at (scan_from at s xs) ys
 scan_from-append at s [] ys = refl
 scan_from-append at s (x ∷ xs) ys = scan_from-append at (step at s x) xs ys
 
@@ -101,16 +131,22 @@ leading-low : (c : Class) (k : Bool) (n : ℕ) → n < 32 → identifier_octet c
 leading-low c true n h = omega arith
 leading-low c false n h = omega arith
 
-leads-first : (at : Origin) (x : ℕ) (c : Class) (k : Bool) (n : ℕ) → x ≢ 0 → x / 64 ≡ class_bits c → ltb 31 (x % 64) ≡ k → x % 32 ≡ n → step at Fresh x ≡ leads x c k n
+leads-first : (at : Origin) (x : ℕ) (c : Class) (k : Bool) (n : ℕ) → x ≢ 0 → x / 64 ≡ class_bits c
+    → ltb 31 (x % 64) ≡ k → x % 32 ≡ n → step at Fresh x ≡ leads x c k n
 leads-first at x c k n nz ec ek en = rw (ne_eqb x 0 nz, ec, ek, en, class_of-bits c)
 
-pub step-leading : (at : Origin) (c : Class) (k : Bool) (n : ℕ) → n < 32 → identifier_octet c k n ≢ 0 → step at Fresh (identifier_octet c k n) ≡ leads (identifier_octet c k n) c k n
-step-leading at c k n h nz = leads-first at (identifier_octet c k n) c k n nz (leading-class c k n h) (leading-form c k n h) (leading-low c k n h)
+pub step-leading : (at : Origin) (c : Class) (k : Bool) (n : ℕ) → n < 32 → identifier_octet c k n ≢ 0
+    → step at Fresh (identifier_octet c k n) ≡ leads (identifier_octet c k n) c k n
+step-leading at c k n h nz =
+    leads-first at (identifier_octet c k n) c k n nz (leading-class c k n h) (leading-form c k n h)
+        (leading-low c k n h)
 
 -- more digits of a number, up to the last
-scan-high : (at : Origin) (c : Class) (k : Bool) (ds es : List ℕ) (l : ℕ) → All (λ d. d < 128) es → l < 128 → length ds + length es ≤ 8
+scan-high : (at : Origin) (c : Class) (k : Bool) (ds es : List ℕ) (l : ℕ) → All (λ d. d < 128) es → l < 128
+    → length ds + length es ≤ 8
     → scan_from at (High c k ds) (map (λ d. 128 + d) es ++ l ∷ [])
-    ≡ Named c k (value_of 128 ((ds ++ es) ++ l ∷ [])) (identifier_octet c k 31 ∷ (map (λ d. 128 + d) (ds ++ es) ++ l ∷ []))
+    ≡ Named c k (value_of 128 ((ds ++ es) ++ l ∷ []))
+        (identifier_octet c k 31 ∷ (map (λ d. 128 + d) (ds ++ es) ++ l ∷ []))
 scan-high at c k ds [] l each small few = rw (append-nil ds, lt-ltb l 128 small)
 scan-high at c k ds (e ∷ es) l each small few =
     let here : e < 128 = All-head (λ d. d < 128) e es each in
@@ -118,11 +154,14 @@ scan-high at c k ds (e ∷ es) l each small few =
     let room : length ds < 8 = omega arith in
     let back : 128 + e - 128 ≡ e = omega arith in
     let fewer : length (ds ++ e ∷ []) + length es ≤ 8 = omega (arith, length-append ds (e ∷ [])) in
-    let one : step at (High c k ds) (128 + e) ≡ High c k (ds ++ e ∷ []) = rw (le-ltb (128 + e) 128 more, lt-ltb (length ds) 8 room, back) in
+    let one : step at (High c k ds) (128 + e) ≡ High c k (ds ++ e ∷ []) =
+        rw (le-ltb (128 + e) 128 more, lt-ltb (length ds) 8 room, back) in
     ap (λ (s : Scan). scan_from at s (map (λ d. 128 + d) es ++ l ∷ [])) one
-    ∙ rw (append_assoc ds (e ∷ []) es) at (scan-high at c k (ds ++ e ∷ []) es l (All-tail (λ d. d < 128) e es each) small fewer)
+    ∙ rw (append_assoc ds (e ∷ []) es) at
+        (scan-high at c k (ds ++ e ∷ []) es l (All-tail (λ d. d < 128) e es each) small fewer)
 
-pub scan-identifier : (at : Origin) (c : Class) (k : Bool) (n : ℕ) (i : List ℕ) → IsIdentifier c k n i → scan at i ≡ Named c k n i
+pub scan-identifier : (at : Origin) (c : Class) (k : Bool) (n : ℕ) (i : List ℕ) → IsIdentifier c k n i
+    → scan at i ≡ Named c k n i
 scan-identifier at c k n i (inl low) =
     let small : n < 32 = omega (arith, low.small) in
     let apart : n ≡ 31 → ⊥ = omega (arith, low.small) in
@@ -131,7 +170,8 @@ scan-identifier at c k n i (inr high) =
     let nonzero : identifier_octet c k 31 ≢ 0 = omega arith in
     let below : 31 < 32 = omega arith in
     rw (high.octets_are, high.value)
-    (ap (λ (s : Scan). scan_from at s (map (λ d. 128 + d) high.digits ++ high.last ∷ [])) (step-leading at c k 31 below nonzero)
+    (ap (λ (s : Scan). scan_from at s (map (λ d. 128 + d) high.digits ++ high.last ∷ []))
+        (step-leading at c k 31 below nonzero)
     ∙ scan-high at c k [] high.digits high.last high.each high.last_digit (omega (arith, high.few)))
 
 pow-le : (i j : ℕ) → i ≤ j → 256 ^ i ≤ 256 ^ j
@@ -145,7 +185,8 @@ high-value ds e es some many =
     omega (arith, value_of-append-le 256 ds (e ∷ es))
 
 -- so a length below 2^40 has none
-long-test : (ds : List ℕ) (e : ℕ) (es : List ℕ) (m : ℕ) → length ds + suc (length es) ≡ m → value_of 256 (ds ++ e ∷ es) < 2 ^ 40
+long-test : (ds : List ℕ) (e : ℕ) (es : List ℕ) (m : ℕ) → length ds + suc (length es) ≡ m
+    → value_of 256 (ds ++ e ∷ es) < 2 ^ 40
     → (not (eqb e 0) && ltb (length ds + 5) m) ≡ false
 long-test ds e es m total limit = ⊎_elim
     (λ (z : e ≡ 0). rw (eq-eqb e 0 z))
@@ -156,9 +197,19 @@ long-test ds e es m total limit = ⊎_elim
     (cases_eq e 0)
 
 abbrev long_head : Origin → Class → Bool → ℕ → List ℕ → ℕ → List ℕ → HeaderValue
-long_head at c k n i m ds = record { offset = at.offset; named = at.named; class = c; constructed = k; number = n; size = Definite (value_of 256 ds); identifier = i; lengths = (128 + m) ∷ ds }
+long_head at c k n i m ds = record {
+  offset = at.offset;
+  named = at.named;
+  class = c;
+  constructed = k;
+  number = n;
+  size = Definite (value_of 256 ds);
+  identifier = i;
+  lengths = (128 + m) ∷ ds;
+}
 
-scan-long : (at : Origin) (c : Class) (k : Bool) (n : ℕ) (i : List ℕ) (m : ℕ) (ds : List ℕ) (e : ℕ) (es : List ℕ) → length ds + suc (length es) ≡ m → value_of 256 (ds ++ e ∷ es) < 2 ^ 40
+scan-long : (at : Origin) (c : Class) (k : Bool) (n : ℕ) (i : List ℕ) (m : ℕ) (ds : List ℕ) (e : ℕ) (es : List ℕ)
+    → length ds + suc (length es) ≡ m → value_of 256 (ds ++ e ∷ es) < 2 ^ 40
     → scan_from at (Long c k n i m ds) (e ∷ es) ≡ Ready (long_head at c k n i m (ds ++ e ∷ es))
 scan-long at c k n i m ds e [] total limit =
     rw (long-test ds e [] m total limit, le-ltb (length ds + 1) m (omega arith))
@@ -170,9 +221,19 @@ scan-long at c k n i m ds e (f ∷ es) total limit =
 
 -- the header with these octets, read at that place
 abbrev pub head_of : Origin → Class → Bool → ℕ → List ℕ → Size → List ℕ → HeaderValue
-head_of at c k n i size l = record { offset = at.offset; named = at.named; class = c; constructed = k; number = n; size = size; identifier = i; lengths = l }
+head_of at c k n i size l = record {
+  offset = at.offset;
+  named = at.named;
+  class = c;
+  constructed = k;
+  number = n;
+  size = size;
+  identifier = i;
+  lengths = l;
+}
 
-scan-digits : (at : Origin) (c : Class) (k : Bool) (n : ℕ) (i : List ℕ) (ds : List ℕ) → 1 ≤ length ds → length ds ≤ 126 → value_of 256 ds < 2 ^ 40
+scan-digits : (at : Origin) (c : Class) (k : Bool) (n : ℕ) (i : List ℕ) (ds : List ℕ) → 1 ≤ length ds
+    → length ds ≤ 126 → value_of 256 ds < 2 ^ 40
     → scan_from at (Named c k n i) ((128 + length ds) ∷ ds) ≡ Ready (long_head at c k n i (length ds) ds)
 scan-digits at c k n i [] some few limit = absurd (omega arith)
 scan-digits at c k n i (d ∷ ds) some few limit =
@@ -180,9 +241,11 @@ scan-digits at c k n i (d ∷ ds) some few limit =
     let apart : 128 + length (d ∷ ds) ≡ 255 → ⊥ = omega arith in
     let other : 128 + length (d ∷ ds) ≡ 128 → ⊥ = omega arith in
     let back : 128 + length (d ∷ ds) - 128 ≡ length (d ∷ ds) = omega arith in
-    rw (le-ltb _ 128 above, ne_eqb _ 255 apart, ne_eqb _ 128 other, back) (scan-long at c k n i (length (d ∷ ds)) [] d ds (omega arith) limit)
+    rw (le-ltb _ 128 above, ne_eqb _ 255 apart, ne_eqb _ 128 other, back)
+        (scan-long at c k n i (length (d ∷ ds)) [] d ds (omega arith) limit)
 
-scan-length : (at : Origin) (c : Class) (k : Bool) (n : ℕ) (i : List ℕ) (size : Size) (l : List ℕ) → IsLength size l → AllowsSize k size
+scan-length : (at : Origin) (c : Class) (k : Bool) (n : ℕ) (i : List ℕ) (size : Size) (l : List ℕ) → IsLength size l
+    → AllowsSize k size
     → scan_from at (Named c k n i) l ≡ Ready (head_of at c k n i size l)
 scan-length at c k n i (Definite a) l (inl short) allowed = rw (short.1, lt-ltb a 128 short.0)
 scan-length at c k n i (Definite a) l (inr long) allowed =
@@ -194,7 +257,8 @@ scan-length at c false n i Indefinite l e allowed = absurd (cc (allowed))
 -- the octets of a header are read as this header
 pub scan-header : (h : HeaderValue) → IsHeader h → scan (origin_of h) (octets_of h) ≡ Ready h
 scan-header h valid =
-    rw (scan_from-append (origin_of h) Fresh h.identifier h.lengths, scan-identifier (origin_of h) h.class h.constructed h.number h.identifier valid.identifier)
+    rw (scan_from-append (origin_of h) Fresh h.identifier h.lengths,
+        scan-identifier (origin_of h) h.class h.constructed h.number h.identifier valid.identifier)
     (scan-length (origin_of h) h.class h.constructed h.number h.identifier h.size h.lengths valid.lengths valid.allowed)
 
 -- more octets are needed
@@ -221,7 +285,8 @@ scan_from-over at [] = refl
 scan_from-over at (x ∷ xs) = scan_from-over at xs
 
 -- nothing may follow a header or a refusal
-pub scan_from-past : (at : Origin) (s : Scan) (xs : List ℕ) (h : HeaderValue) → is_more s ≡ false → xs ≢ [] → scan_from at s xs ≡ Ready h → ⊥
+pub scan_from-past : (at : Origin) (s : Scan) (xs : List ℕ) (h : HeaderValue) → is_more s ≡ false → xs ≢ []
+    → scan_from at s xs ≡ Ready h → ⊥
 scan_from-past at s [] h e some r = some refl
 scan_from-past at Fresh (x ∷ xs) h e some r = cc
 scan_from-past at (High c k ds) (x ∷ xs) h e some r = cc
@@ -236,9 +301,14 @@ abbrev pub moved : Origin → HeaderValue → HeaderValue
 moved at h = head_of at h.class h.constructed h.number h.identifier h.size h.lengths
 
 pub scan-moved : (at : Origin) (h : HeaderValue) → IsHeader h → scan at (octets_of h) ≡ Ready (moved at h)
-scan-moved at h valid = scan-header (moved at h) (record { identifier = valid.identifier; lengths = valid.lengths; allowed = valid.allowed })
+scan-moved at h valid = scan-header (moved at h) (record {
+  identifier = valid.identifier;
+  lengths = valid.lengths;
+  allowed = valid.allowed;
+})
 
-more-cases : (at : Origin) (s : Scan) (xs : List ℕ) (h : HeaderValue) → xs ≢ [] → scan_from at s xs ≡ Ready h → (t : Bool) → is_more s ≡ t → is_more s ≡ true
+more-cases : (at : Origin) (s : Scan) (xs : List ℕ) (h : HeaderValue) → xs ≢ [] → scan_from at s xs ≡ Ready h
+    → (t : Bool) → is_more s ≡ t → is_more s ≡ true
 more-cases at s xs h some r true e = e
 more-cases at s xs h some r false e = absurd (scan_from-past at s xs h e some r)
 
@@ -246,18 +316,23 @@ more-cases at s xs h some r false e = absurd (scan_from-past at s xs h e some r)
 pub more-from_prefix : (at : Origin) (o : List ℕ) → IsHeaderPrefix o → is_more (scan at o) ≡ true
 more-from_prefix at o f =
     let whole : scan at (o ++ f.more) ≡ Ready (moved at f.header) = rw f.prefix (scan-moved at f.header f.valid) in
-    more-cases at (scan at o) f.more (moved at f.header) f.proper (rw (scan_from-append at Fresh o f.more) at whole) (is_more (scan at o)) refl
+    more-cases at (scan at o) f.more (moved at f.header) f.proper (rw (scan_from-append at Fresh o f.more) at whole)
+        (is_more (scan at o)) refl
 
 -- a header is no proper prefix of another
-pub no-prefix : (h g : HeaderValue) (xs : List ℕ) → IsHeader h → IsHeader g → xs ≢ [] → octets_of h ++ xs ≡ octets_of g → ⊥
+pub no-prefix : (h g : HeaderValue) (xs : List ℕ) → IsHeader h → IsHeader g → xs ≢ []
+    → octets_of h ++ xs ≡ octets_of g → ⊥
 no-prefix h g xs vh vg some e =
     let whole : scan start (octets_of h ++ xs) ≡ Ready (moved start g) = rw e (scan-moved start g vg) in
-    let split : scan_from start (scan start (octets_of h)) xs ≡ Ready (moved start g) = rw (scan_from-append start Fresh (octets_of h) xs) at whole in
-    let past : scan_from start (Ready (moved start h)) xs ≡ Ready (moved start g) = rw (scan-moved start h vh) at split in
+    let split : scan_from start (scan start (octets_of h)) xs ≡ Ready (moved start g) =
+        rw (scan_from-append start Fresh (octets_of h) xs) at whole in
+    let past : scan_from start (Ready (moved start h)) xs ≡ Ready (moved start g) =
+        rw (scan-moved start h vh) at split in
     scan_from-past start (Ready (moved start h)) xs (moved start g) refl some past
 
 -- two headers at one place with the same octets are one
-pub same-header : (h g : HeaderValue) → IsHeader h → IsHeader g → origin_of h ≡ origin_of g → octets_of h ≡ octets_of g → h ≡ g
+pub same-header : (h g : HeaderValue) → IsHeader h → IsHeader g → origin_of h ≡ origin_of g
+    → octets_of h ≡ octets_of g → h ≡ g
 same-header h g vh vg o e =
     let left : scan (origin_of h) (octets_of h) ≡ Ready h = scan-header h vh in
     let right : scan (origin_of h) (octets_of g) ≡ Ready g = rw o (scan-header g vg) in

@@ -20,7 +20,9 @@ digit-lt b d p v h g = grind (arith)
 pub value_of-lt : (b : ℕ) (ds : List ℕ) → 0 < b → All (λ x. x < b) ds → value_of b ds < b ^ length ds
 value_of-lt b [] s h = rw (pow-zero b) (omega arith)
 value_of-lt b (x ∷ ds) s h =
-    rw (pow-suc b (length ds)) (digit-lt b x (b ^ length ds) (value_of b ds) (All-head (λ x. x < b) x ds h) (value_of-lt b ds s (All-tail (λ x. x < b) x ds h)))
+    rw (pow-suc b (length ds))
+        (digit-lt b x (b ^ length ds) (value_of b ds) (All-head (λ x. x < b) x ds h)
+            (value_of-lt b ds s (All-tail (λ x. x < b) x ds h)))
 
 -- digits in front make no number less
 pub value_of-append-le : (b : ℕ) (xs ys : List ℕ) → value_of b ys ≤ value_of b (xs ++ ys)
@@ -29,7 +31,8 @@ value_of-append-le b (x ∷ xs) ys = omega (arith, value_of-append-le b xs ys)
 
 value_of-append : (b : ℕ) (xs ys : List ℕ) → value_of b (xs ++ ys) ≡ value_of b xs * b ^ length ys + value_of b ys
 value_of-append b [] ys = omega (arith, zero-mul (b ^ length ys))
-value_of-append b (x ∷ xs) ys = rw (length-append xs ys, pow-add b (length xs) (length ys)) (omega (arith, value_of-append b xs ys))
+value_of-append b (x ∷ xs) ys =
+    rw (length-append xs ys, pow-add b (length xs) (length ys)) (omega (arith, value_of-append b xs ys))
 
 value_of-replicate : (b r : ℕ) → value_of b (replicate r 0) ≡ 0
 value_of-replicate b zero = refl
@@ -37,4 +40,5 @@ value_of-replicate b (suc r) = omega (arith, value_of-replicate b r, zero-mul (b
 
 -- digits, and zeros after them
 pub value_of-zeros : (b : ℕ) (ds : List ℕ) (r : ℕ) → value_of b (ds ++ replicate r 0) ≡ value_of b ds * b ^ r
-value_of-zeros b ds r = rw (value_of-append b ds (replicate r 0), value_of-replicate b r, length-replicate {A = ℕ} r 0) (omega arith)
+value_of-zeros b ds r =
+    rw (value_of-append b ds (replicate r 0), value_of-replicate b r, length-replicate {A = ℕ} r 0) (omega arith)

@@ -31,7 +31,8 @@ forms-apart c d false true n h e = omega (arith, e)
 forms-apart c d false false n h e = omega (arith, e)
 
 -- digits with bit 8 set end at the first octet without it
-flagged-end : (ds es : List ℕ) (l m : ℕ) (x y : List ℕ) → l < 128 → m < 128 → (with_bit_8 ds ++ l ∷ []) ++ x ≡ (with_bit_8 es ++ m ∷ []) ++ y
+flagged-end : (ds es : List ℕ) (l m : ℕ) (x y : List ℕ) → l < 128 → m < 128
+    → (with_bit_8 ds ++ l ∷ []) ++ x ≡ (with_bit_8 es ++ m ∷ []) ++ y
     → with_bit_8 ds ++ l ∷ [] ≡ with_bit_8 es ++ m ∷ []
 flagged-end [] [] l m x y h k e = let same : l ≡ m = cc in ap (λ (u : ℕ). u ∷ []) same
 flagged-end [] (b ∷ es) l m x y h k e = let same : l ≡ 128 + b = cc in absurd (omega arith)
@@ -39,12 +40,15 @@ flagged-end (a ∷ ds) [] l m x y h k e = let same : 128 + a ≡ m = cc in absur
 flagged-end (a ∷ ds) (b ∷ es) l m x y h k e =
     let same : 128 + a ≡ 128 + b = cc in
     let rest : (with_bit_8 ds ++ l ∷ []) ++ x ≡ (with_bit_8 es ++ m ∷ []) ++ y = cc in
-    ap (λ (u : ℕ). u ∷ (with_bit_8 ds ++ l ∷ [])) same ∙ ap (λ (t : List ℕ). (128 + b) ∷ t) (flagged-end ds es l m x y h k rest)
+    ap (λ (u : ℕ). u ∷ (with_bit_8 ds ++ l ∷ [])) same
+        ∙ ap (λ (t : List ℕ). (128 + b) ∷ t) (flagged-end ds es l m x y h k rest)
 
 -- octets begin with at most one identifier
-one-identifier : (c d : Class) (k j : Bool) (n m : ℕ) (i o x y : List ℕ) → IsIdentifier c k n i → IsIdentifier d j m o → i ++ x ≡ o ++ y → i ≡ o
+one-identifier : (c d : Class) (k j : Bool) (n m : ℕ) (i o x y : List ℕ) → IsIdentifier c k n i → IsIdentifier d j m o
+    → i ++ x ≡ o ++ y → i ≡ o
 one-identifier c d k j n m i o x y (inl p) (inl q) e =
-    let whole : identifier_octet c k n ∷ x ≡ identifier_octet d j m ∷ y = ap (λ (z : List ℕ). z ++ x) (sym p.octets_are) ∙ (e ∙ ap (λ (z : List ℕ). z ++ y) q.octets_are) in
+    let whole : identifier_octet c k n ∷ x ≡ identifier_octet d j m ∷ y =
+        ap (λ (z : List ℕ). z ++ x) (sym p.octets_are) ∙ (e ∙ ap (λ (z : List ℕ). z ++ y) q.octets_are) in
     let same : identifier_octet c k n ≡ identifier_octet d j m = cc in
     p.octets_are ∙ (ap (λ (u : ℕ). u ∷ []) same ∙ sym q.octets_are)
 one-identifier c d k j n m i o x y (inl p) (inr q) e =
@@ -56,15 +60,20 @@ one-identifier c d k j n m i o x y (inr p) (inl q) e =
     ap (λ (z : List ℕ). z ++ y) (sym q.octets_are) ∙ (sym e ∙ ap (λ (z : List ℕ). z ++ x) p.octets_are) in
     absurd (forms-apart d c j k m q.small (cc))
 one-identifier c d k j n m i o x y (inr p) (inr q) e =
-    let whole : identifier_octet c k 31 ∷ ((with_bit_8 p.digits ++ p.last ∷ []) ++ x) ≡ identifier_octet d j 31 ∷ ((with_bit_8 q.digits ++ q.last ∷ []) ++ y) =
+    let whole : identifier_octet c k 31 ∷ ((with_bit_8 p.digits ++ p.last ∷ []) ++ x)
+        ≡ identifier_octet d j 31 ∷ ((with_bit_8 q.digits ++ q.last ∷ []) ++ y) =
     ap (λ (z : List ℕ). z ++ x) (sym p.octets_are) ∙ (e ∙ ap (λ (z : List ℕ). z ++ y) q.octets_are) in
     let same : identifier_octet c k 31 ≡ identifier_octet d j 31 = cc in
     let rest : (with_bit_8 p.digits ++ p.last ∷ []) ++ x ≡ (with_bit_8 q.digits ++ q.last ∷ []) ++ y = cc in
-    let digits : with_bit_8 p.digits ++ p.last ∷ [] ≡ with_bit_8 q.digits ++ q.last ∷ [] = flagged-end p.digits q.digits p.last q.last x y p.last_digit q.last_digit rest in
-    p.octets_are ∙ (ap (λ (u : ℕ). u ∷ (with_bit_8 p.digits ++ p.last ∷ [])) same ∙ (ap (λ (t : List ℕ). identifier_octet d j 31 ∷ t) digits ∙ sym q.octets_are))
+    let digits : with_bit_8 p.digits ++ p.last ∷ [] ≡ with_bit_8 q.digits ++ q.last ∷ [] =
+        flagged-end p.digits q.digits p.last q.last x y p.last_digit q.last_digit rest in
+    p.octets_are
+        ∙ (ap (λ (u : ℕ). u ∷ (with_bit_8 p.digits ++ p.last ∷ [])) same
+            ∙ (ap (λ (t : List ℕ). identifier_octet d j 31 ∷ t) digits ∙ sym q.octets_are))
 
 -- and it has one form: primitive or constructed
-one-form : (c d : Class) (k j : Bool) (n m : ℕ) (i o : List ℕ) → IsIdentifier c k n i → IsIdentifier d j m o → i ≡ o → k ≡ j
+one-form : (c d : Class) (k j : Bool) (n m : ℕ) (i o : List ℕ) → IsIdentifier c k n i → IsIdentifier d j m o → i ≡ o
+    → k ≡ j
 one-form c d k j n m i o p q e =
     let left : scan start i ≡ Named c k n i = scan-identifier start c k n i p in
     let right : scan start o ≡ Named d j m o = scan-identifier start d j m o q in
@@ -96,36 +105,47 @@ snoc≢nil [] x e = cc
 snoc≢nil (y ∷ os) x e = cc
 
 -- a high form that has not ended has no identifier as a prefix
-unended : (id : Identifier) (o : List ℕ) (c : Class) (k : Bool) (n : ℕ) (i z : List ℕ) → CarriesNumber id o → IsIdentifier c k n i → o ≡ i ++ z → ⊥
+unended : (id : Identifier) (o : List ℕ) (c : Class) (k : Bool) (n : ℕ) (i z : List ℕ) → CarriesNumber id o
+    → IsIdentifier c k n i → o ≡ i ++ z → ⊥
 unended id o c k n i z h p e =
-    let ended : CarriesIdentifier (record { class = id.class; constructed = id.constructed; number = id.number * 128 + 0; octets = id.octets + 1 }) (o ++ 0 ∷ []) =
+    let ended : CarriesIdentifier
+        (record { class = id.class; constructed = id.constructed; number = id.number * 128 + 0; octets = id.octets + 1
+            })
+        (o ++ 0 ∷ []) =
     ends_number id 0 0 o h refl (lit< tt) in
-    let whole : (o ++ 0 ∷ []) ++ [] ≡ i ++ (z ++ 0 ∷ []) = append-nil (o ++ 0 ∷ []) ∙ (ap (λ (s : List ℕ). s ++ 0 ∷ []) e ∙ append_assoc i z (0 ∷ [])) in
+    let whole : (o ++ 0 ∷ []) ++ [] ≡ i ++ (z ++ 0 ∷ []) =
+        append-nil (o ++ 0 ∷ []) ∙ (ap (λ (s : List ℕ). s ++ 0 ∷ []) e ∙ append_assoc i z (0 ∷ [])) in
     let same : o ++ 0 ∷ [] ≡ i = one-identifier _ c _ k _ n (o ++ 0 ∷ []) i [] (z ++ 0 ∷ []) ended.identified p whole in
     omega (arith, ap length same, length-append o (0 ∷ []), ap length e, length-append i z)
 
 -- nor is one a prefix of it and another octet, if octets are left for a length
-unended-length : (id : Identifier) (o : List ℕ) (x : ℕ) (c : Class) (k : Bool) (n : ℕ) (i l : List ℕ) → CarriesNumber id o → IsIdentifier c k n i → 1 ≤ length l
+unended-length : (id : Identifier) (o : List ℕ) (x : ℕ) (c : Class) (k : Bool) (n : ℕ) (i l : List ℕ)
+    → CarriesNumber id o → IsIdentifier c k n i → 1 ≤ length l
     → o ++ x ∷ [] ≡ i ++ l → ⊥
 unended-length id o x c k n i l h p some e =
     let r = within-prefix o i (x ∷ []) l (omega (arith, ap length e, length-append o (x ∷ []), length-append i l)) e in
     unended id o c k n i r.0 h p r.1
 
 -- after the high form so far no octet is refused, if there are at most seven digits
-unrefused : (code : FaultCode) (id : Identifier) (o : List ℕ) (x : ℕ) → CarriesNumber id o → length o ≤ 8 → IsRefusedOctet o x code → ⊥
+unrefused : (code : FaultCode) (id : Identifier) (o : List ℕ) (x : ℕ) → CarriesNumber id o → length o ≤ 8
+    → IsRefusedOctet o x code → ⊥
 unrefused code id o x h few (tag_too_long c k prefix eight flag) =
-    let size : length o ≡ length prefix.digits + 1 = rw prefix.octets_are (omega (arith, length-map prefix.digits (λ d. 128 + d))) in
+    let size : length o ≡ length prefix.digits + 1 =
+        rw prefix.octets_are (omega (arith, length-map prefix.digits (λ d. 128 + d))) in
     omega (arith, eight)
 unrefused code id o x h few (reserved_length c k n i all) = unended id o c k n o [] h i (sym (append-nil o))
 unrefused code id o x h few (indefinite_primitive c n i mark) = unended id o c false n o [] h i (sym (append-nil o))
-unrefused code id o x h few (length_too_large c k n left prefix many nonzero) = unended id o c k n prefix.identifier _ h prefix.identified prefix.octets_are
+unrefused code id o x h few (length_too_large c k n left prefix many nonzero) =
+    unended id o c k n prefix.identifier _ h prefix.identified prefix.octets_are
 
 -- so an octet is read, and makes no header
-pub always-unfinished : (r : Next) (id : Identifier) (o : List ℕ) (x : ℕ) → CarriesNumber id o → length o ≤ 8 → MakesNext o x r
+pub always-unfinished : (r : Next) (id : Identifier) (o : List ℕ) (x : ℕ) → CarriesNumber id o → length o ≤ 8
+    → MakesNext o x r
     → ((p : Part) → r ≡ Unfinished p → ⊥) → ⊥
 always-unfinished (Unfinished p) id o x h few f not = not p refl
 always-unfinished (Finished d size) id o x h few f not =
-    unended-length id o x d.class d.constructed d.number f.identifier f.lengths h f.identified.identified f.some f.octets_are
+    unended-length id o x d.class d.constructed d.number f.identifier f.lengths h f.identified.identified f.some
+        f.octets_are
 always-unfinished (Refused code) id o x h few f not = unrefused code id o x h few f
 
 -- what is returned is what the octets are
@@ -133,7 +153,8 @@ followed : (r : Next) (p : Part) (o : List ℕ) (x : ℕ) → MakesNext o x r �
 followed r p o x f e = subst (MakesNext o x) e f
 
 -- the high form goes on
-pub still-high : (r : Next) (p : Part) (d : Identifier) (o : List ℕ) (x : ℕ) → MakesNext o x r → r ≡ Unfinished p → p ≡ Number d → CarriesNumber d (o ++ x ∷ [])
+pub still-high : (r : Next) (p : Part) (d : Identifier) (o : List ℕ) (x : ℕ) → MakesNext o x r → r ≡ Unfinished p
+    → p ≡ Number d → CarriesNumber d (o ++ x ∷ [])
 still-high r p d o x f e g = followed r (Number d) o x f (e ∙ ap (λ (q : Part). Unfinished q) g)
 
 -- octets of the high form, which has not ended
@@ -147,24 +168,29 @@ carried-on Start id o x h f not = absurd (snoc≢nil o x f)
 carried-on (Number d) id o x h f not = (d, refl, f)
 carried-on (Length d) id o x h f not = absurd (not d refl)
 carried-on (Digits d n left) id o x h f not =
-    absurd (unended-length id o x d.class d.constructed d.number f.prefix.identifier _ h f.prefix.identified (omega arith) f.prefix.octets_are)
+    absurd (unended-length id o x d.class d.constructed d.number f.prefix.identifier _ h f.prefix.identified
+        (omega arith) f.prefix.octets_are)
 carried-on Done id o x h f not = absurd (snoc≢nil o x f)
 
-pub goes-on : (r : Next) (p : Part) (id : Identifier) (o : List ℕ) (x : ℕ) → CarriesNumber id o → MakesNext o x r → r ≡ Unfinished p
+pub goes-on : (r : Next) (p : Part) (id : Identifier) (o : List ℕ) (x : ℕ) → CarriesNumber id o → MakesNext o x r
+    → r ≡ Unfinished p
     → ((d : Identifier) → p ≡ Length d → ⊥) → IsUnended (o ++ x ∷ [])
 goes-on r p id o x h f e not = let on = carried-on p id o x h (followed r p o x f e) not in (on.0, on.2)
 
-pub no-other : (r : Next) (p : Part) (id : Identifier) (o : List ℕ) (x : ℕ) → CarriesNumber id o → MakesNext o x r → r ≡ Unfinished p
+pub no-other : (r : Next) (p : Part) (id : Identifier) (o : List ℕ) (x : ℕ) → CarriesNumber id o → MakesNext o x r
+    → r ≡ Unfinished p
     → ((d : Identifier) → p ≡ Length d → ⊥) → ((d : Identifier) → p ≡ Number d → ⊥) → ⊥
 no-other r p id o x h f e not nor = let on = carried-on p id o x h (followed r p o x f e) not in nor on.0 on.1
 
 -- the first octet is an identifier, or begins the high form
-pub leads-on : (p : Part) (x : ℕ) → Carries p (x ∷ []) → ((d : Identifier) → p ≡ Length d → ⊥) → ((d : Identifier) → p ≡ Number d → ⊥) → ⊥
+pub leads-on : (p : Part) (x : ℕ) → Carries p (x ∷ []) → ((d : Identifier) → p ≡ Length d → ⊥)
+    → ((d : Identifier) → p ≡ Number d → ⊥) → ⊥
 leads-on Start x h not nor = let none : x ∷ [] ≡ [] = h in cc
 leads-on (Number d) x h not nor = nor d refl
 leads-on (Length d) x h not nor = not d refl
 leads-on (Digits d n left) x h not nor =
-    some-identifier d.class d.constructed d.number h.prefix.identifier h.prefix.identified (short_prefix h.prefix.identifier _ _ x h.prefix.octets_are)
+    some-identifier d.class d.constructed d.number h.prefix.identifier h.prefix.identified
+        (short_prefix h.prefix.identifier _ _ x h.prefix.octets_are)
   where
     short_prefix : (i : List ℕ) (y : ℕ) (l : List ℕ) (x : ℕ) → x ∷ [] ≡ i ++ y ∷ l → i ≡ []
     short_prefix [] y l x e = refl
@@ -172,22 +198,27 @@ leads-on (Digits d n left) x h not nor =
 leads-on Done x h not nor = let none : x ∷ [] ≡ [] = h in cc
 
 -- octets that begin with the high form so far begin with no identifier that ends within it
-none-after : (id : Identifier) (o more : List ℕ) (c : Class) (k : Bool) (n : ℕ) (i rest : List ℕ) → CarriesNumber id o → IsIdentifier c k n i
+none-after : (id : Identifier) (o more : List ℕ) (c : Class) (k : Bool) (n : ℕ) (i rest : List ℕ) → CarriesNumber id o
+    → IsIdentifier c k n i
     → length i ≤ length o → o ++ more ≡ i ++ rest → ⊥
-none-after id o more c k n i rest h p few e = let r = within-prefix o i more rest few e in unended id o c k n i r.0 h p r.1
+none-after id o more c k n i rest h p few e =
+    let r = within-prefix o i more rest few e in unended id o c k n i r.0 h p r.1
 
 -- the high form has not ended with the third octet
-pub no-third : (xs : List ℕ) (id : Identifier) → CarriesNumber id (get_or xs 0 0 ∷ get_or xs 1 0 ∷ get_or xs 2 0 ∷ []) → 3 ≤ length xs → BeginsWithNoIdentifier xs
+pub no-third : (xs : List ℕ) (id : Identifier) → CarriesNumber id (get_or xs 0 0 ∷ get_or xs 1 0 ∷ get_or xs 2 0 ∷ [])
+    → 3 ≤ length xs → BeginsWithNoIdentifier xs
 no-third [] id h some = absurd (omega arith)
 no-third (x ∷ []) id h some = absurd (omega arith)
 no-third (x ∷ y ∷ []) id h some = absurd (omega arith)
-no-third (x ∷ y ∷ z ∷ xs) id h some = λ c k n i rest p few more e. none-after id (x ∷ y ∷ z ∷ []) xs c k n i rest h p few e
+no-third (x ∷ y ∷ z ∷ xs) id h some =
+    λ c k n i rest p few more e. none-after id (x ∷ y ∷ z ∷ []) xs c k n i rest h p few e
 
 -- a header begins with an identifier, and has an octet after it
 pub no-short_identifier : (os : List ℕ) → BeginsWithNoIdentifier os → BeginsWithNoShortHeader os
 no-short_identifier os none = λ h rest v e few less.
     none h.class h.constructed h.number h.identifier (h.lengths ++ rest) v.identifier few
-    (λ z. some-length h.size h.lengths v.lengths (prefix-nil h.lengths rest z)) (e ∙ append_assoc h.identifier h.lengths rest)
+    (λ z. some-length h.size h.lengths v.lengths (prefix-nil h.lengths rest z))
+        (e ∙ append_assoc h.identifier h.lengths rest)
   where
     prefix-nil : (a b : List ℕ) → a ++ b ≡ [] → a ≡ []
     prefix-nil [] b e = refl
@@ -199,10 +230,16 @@ pub no-short_length : (os : List ℕ) (id : Identifier) (id_len : ℕ) → Begin
 no-short_length os id id_len b at none = λ h rest v e few less.
     let cut : os ≡ h.identifier ++ (h.lengths ++ rest) = e ∙ append_assoc h.identifier h.lengths rest in
     let prefix : take id.octets os ≡ h.identifier =
-    one-identifier _ h.class _ h.constructed _ h.number (take id.octets os) h.identifier (drop id.octets os) (h.lengths ++ rest) b.carried.identified v.identifier
+    one-identifier _ h.class _ h.constructed _ h.number (take id.octets os) h.identifier (drop id.octets os)
+        (h.lengths ++ rest) b.carried.identified v.identifier
     (take-append-drop id.octets os ∙ cut) in
-    let form : id.constructed ≡ h.constructed = one-form _ h.class _ h.constructed _ h.number (take id.octets os) h.identifier b.carried.identified v.identifier prefix in
+    let form : id.constructed ≡ h.constructed =
+        one-form _ h.class _ h.constructed _ h.number (take id.octets os) h.identifier b.carried.identified
+            v.identifier prefix in
     let count : id_len ≡ length h.identifier = at ∙ (b.carried.count ∙ ap length prefix) in
-    let back : drop id_len os ≡ h.lengths ++ rest = rw (cut, count) (drop-append_seam h.identifier (h.lengths ++ rest)) in
-    let all : take (length os - id_len) (drop id_len os) ≡ drop id_len os = take_all (length os - id_len) (drop id_len os) (omega (arith, length-drop id_len os)) in
-    none h.size h.lengths rest v.lengths (subst (λ (k : Bool). AllowsSize k h.size) (sym form) v.allowed) less (all ∙ back)
+    let back : drop id_len os ≡ h.lengths ++ rest =
+        rw (cut, count) (drop-append_seam h.identifier (h.lengths ++ rest)) in
+    let all : take (length os - id_len) (drop id_len os) ≡ drop id_len os =
+        take_all (length os - id_len) (drop id_len os) (omega (arith, length-drop id_len os)) in
+    none h.size h.lengths rest v.lengths (subst (λ (k : Bool). AllowsSize k h.size) (sym form) v.allowed) less
+        (all ∙ back)

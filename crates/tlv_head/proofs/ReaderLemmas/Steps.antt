@@ -18,7 +18,8 @@ use Rattle.tlv_head.proofs.NumberLemmas.Digits.{value_of-snoc, value_of-lt}
 use Rattle.tlv_head.proofs.GrammarLemmas.Meaning.{allows_definite}
 
 -- the limit on a length so far, as an octet is added and one fewer is to follow
-small-step : (n x left : ℕ) → 1 ≤ left → n < 256 ^ (5 - left) → x < 256 → (x ≡ 0) ⊎ (left - 1 < 5) → n * 256 + x < 256 ^ (5 - (left - 1))
+small-step : (n x left : ℕ) → 1 ≤ left → n < 256 ^ (5 - left) → x < 256 → (x ≡ 0) ⊎ (left - 1 < 5)
+    → n * 256 + x < 256 ^ (5 - (left - 1))
 small-step n x left some small below h = elim (cases_lt (left - 1) 5) [
   | inl k ↦
       let e : 5 - (left - 1) ≡ suc (5 - left) = omega arith in
@@ -40,7 +41,8 @@ length-lt n left some small =
 
 pub number-lt : (id : Identifier) (octets : List ℕ) → CarriesNumber id octets → id.number < 2 ^ 56
 number-lt id octets h =
-    let v : value_of 128 h.prefix.digits < 128 ^ length h.prefix.digits = value_of-lt 128 h.prefix.digits (lit< tt) h.prefix.each in
+    let v : value_of 128 h.prefix.digits < 128 ^ length h.prefix.digits =
+        value_of-lt 128 h.prefix.digits (lit< tt) h.prefix.each in
     let p : 128 ^ length h.prefix.digits ≤ 128 ^ 8 = pow-le-pow_right {n = 128} (lit< tt) h.few in
     omega (arith, h.value)
 
@@ -48,7 +50,8 @@ number-lt id octets h =
 prefix-snoc : (i ds os : List ℕ) (a b x : ℕ) → os ≡ i ++ a ∷ ds → b ≡ a → os ++ x ∷ [] ≡ i ++ (b ∷ (ds ++ x ∷ []))
 prefix-snoc i ds os a b x e f = rw (e, f) (append_assoc i (a ∷ ds) (x ∷ []))
 
-pub begins_length : (id : Identifier) (octets : List ℕ) (x : ℕ) → CarriesIdentifier id octets → 128 < x → x < 255 → CarriesLength id 0 (x - 128) (octets ++ x ∷ [])
+pub begins_length : (id : Identifier) (octets : List ℕ) (x : ℕ) → CarriesIdentifier id octets → 128 < x → x < 255
+    → CarriesLength id 0 (x - 128) (octets ++ x ∷ [])
 begins_length id octets x h low high = record {
   prefix = record {
     identifier = octets;
@@ -65,11 +68,13 @@ begins_length id octets x h low high = record {
   small = one-le-pow (5 - (x - 128)) 256 (lit< tt);
 }
 
-pub more_length : (id : Identifier) (n left x r : ℕ) (octets : List ℕ) → CarriesLength id n left octets → r ≡ x → x < 256
+pub more_length : (id : Identifier) (n left x r : ℕ) (octets : List ℕ) → CarriesLength id n left octets → r ≡ x
+    → x < 256
     → (x ≡ 0) ⊎ (left - 1 < 5) → left - 1 ≢ 0 → CarriesLength id (n * 256 + r) (left - 1) (octets ++ x ∷ [])
 more_length id n left x r octets h e below zero_or_few rest =
     let some : 1 ≤ left = h.prefix.some in
-    let len : length (h.prefix.digits ++ x ∷ []) ≡ length h.prefix.digits + 1 = omega (arith, length-append h.prefix.digits (x ∷ [])) in
+    let len : length (h.prefix.digits ++ x ∷ []) ≡ length h.prefix.digits + 1 =
+        omega (arith, length-append h.prefix.digits (x ∷ [])) in
     let few : length h.prefix.digits + left ≤ 126 = h.prefix.few in
     record {
       prefix = record {
@@ -87,11 +92,13 @@ more_length id n left x r octets h e below zero_or_few rest =
       small = rw e (small-step n x left some h.small below zero_or_few);
     }
 
-pub ends_length : (id : Identifier) (n left x r : ℕ) (octets : List ℕ) → CarriesLength id n left octets → r ≡ x → x < 256
+pub ends_length : (id : Identifier) (n left x r : ℕ) (octets : List ℕ) → CarriesLength id n left octets → r ≡ x
+    → x < 256
     → (x ≡ 0) ⊎ (left - 1 < 5) → left - 1 ≡ 0 → MakesHeader id (Definite (n * 256 + r)) (octets ++ x ∷ [])
 ends_length id n left x r octets h e below zero_or_few rest =
     let some : 1 ≤ left = h.prefix.some in
-    let len : length (h.prefix.digits ++ x ∷ []) ≡ length h.prefix.digits + 1 = omega (arith, length-append h.prefix.digits (x ∷ [])) in
+    let len : length (h.prefix.digits ++ x ∷ []) ≡ length h.prefix.digits + 1 =
+        omega (arith, length-append h.prefix.digits (x ∷ [])) in
     let few : length h.prefix.digits + left ≤ 126 = h.prefix.few in
     let one : left ≡ 1 = omega arith in
     let small : n < 256 ^ (5 - 1) = subst (λ m. n < 256 ^ (5 - m)) one h.small in
@@ -115,7 +122,8 @@ ends_length id n left x r octets h e below zero_or_few rest =
     }
 
 -- a first octet with bits 5 to 1 set: no digits so far
-pub begins_number : (id : Identifier) (x : ℕ) → id.number ≡ 0 → id.octets ≡ 1 → x ≡ identifier_octet id.class id.constructed 31 → CarriesNumber id (x ∷ [])
+pub begins_number : (id : Identifier) (x : ℕ) → id.number ≡ 0 → id.octets ≡ 1
+    → x ≡ identifier_octet id.class id.constructed 31 → CarriesNumber id (x ∷ [])
 begins_number id x none first e = record {
   prefix = record { digits = []; each = All-nil (λ d. d < 128); octets_are = ap (λ (y : ℕ). y ∷ []) e };
   count = first;
@@ -123,10 +131,15 @@ begins_number id x none first e = record {
   value = none;
 }
 
-pub more_number : (id : Identifier) (x r : ℕ) (octets : List ℕ) → CarriesNumber id octets → x ≡ 128 + r → r < 128 → id.octets < 9
-    → CarriesNumber (record { class = id.class; constructed = id.constructed; number = id.number * 128 + r; octets = id.octets + 1 }) (octets ++ x ∷ [])
+pub more_number : (id : Identifier) (x r : ℕ) (octets : List ℕ) → CarriesNumber id octets → x ≡ 128 + r → r < 128
+    → id.octets < 9
+    → CarriesNumber
+        (record { class = id.class; constructed = id.constructed; number = id.number * 128 + r; octets = id.octets + 1
+            })
+        (octets ++ x ∷ [])
 more_number id x r octets h e below few =
-    let len : length (h.prefix.digits ++ r ∷ []) ≡ length h.prefix.digits + 1 = omega (arith, length-append h.prefix.digits (r ∷ [])) in
+    let len : length (h.prefix.digits ++ r ∷ []) ≡ length h.prefix.digits + 1 =
+        omega (arith, length-append h.prefix.digits (r ∷ [])) in
     let count : id.octets ≡ length h.prefix.digits + 1 = h.count in
     record {
       prefix = record {
@@ -140,10 +153,14 @@ more_number id x r octets h e below few =
     }
 
 pub ends_number : (id : Identifier) (x r : ℕ) (octets : List ℕ) → CarriesNumber id octets → r ≡ x → x < 128
-    → CarriesIdentifier (record { class = id.class; constructed = id.constructed; number = id.number * 128 + r; octets = id.octets + 1 }) (octets ++ x ∷ [])
+    → CarriesIdentifier
+        (record { class = id.class; constructed = id.constructed; number = id.number * 128 + r; octets = id.octets + 1
+            })
+        (octets ++ x ∷ [])
 ends_number id x r octets h e below =
     let count : id.octets ≡ length h.prefix.digits + 1 = h.count in
-    let size : length octets ≡ length h.prefix.digits + 1 = rw h.prefix.octets_are (omega (arith, length-map h.prefix.digits (λ d. 128 + d))) in
+    let size : length octets ≡ length h.prefix.digits + 1 =
+        rw h.prefix.octets_are (omega (arith, length-map h.prefix.digits (λ d. 128 + d))) in
     let few : length h.prefix.digits ≤ 8 = h.few in
     record {
       identified = inr (record {
@@ -160,18 +177,25 @@ ends_number id x r octets h e below =
     }
 
 -- a ninth subsequent identifier octet that is not the last
-pub ninth_number : (id : Identifier) (octets : List ℕ) (x : ℕ) → CarriesNumber id octets → 9 ≤ id.octets → 128 ≤ x → IsRefusedOctet octets x TagTooLong
-ninth_number id octets x h many flag = tag_too_long id.class id.constructed h.prefix (omega (arith, h.few, h.count)) flag
+pub ninth_number : (id : Identifier) (octets : List ℕ) (x : ℕ) → CarriesNumber id octets → 9 ≤ id.octets → 128 ≤ x
+    → IsRefusedOctet octets x TagTooLong
+ninth_number id octets x h many flag =
+    tag_too_long id.class id.constructed h.prefix (omega (arith, h.few, h.count)) flag
 
 -- a first length octet ff
-pub all_ones : (id : Identifier) (octets : List ℕ) (x : ℕ) → CarriesIdentifier id octets → x ≡ 255 → IsRefusedOctet octets x ReservedLength
+pub all_ones : (id : Identifier) (octets : List ℕ) (x : ℕ) → CarriesIdentifier id octets → x ≡ 255
+    → IsRefusedOctet octets x ReservedLength
 all_ones id octets x h e = reserved_length id.class id.constructed id.number h.identified e
 
 -- a first length octet 80 of a primitive
-pub unallowed : (id : Identifier) (octets : List ℕ) (x : ℕ) → CarriesIdentifier id octets → id.constructed ≡ false → x ≡ 128 → IsRefusedOctet octets x IndefinitePrimitive
-unallowed id octets x h form e = indefinite_primitive id.class id.number (subst (λ (k : Bool). IsIdentifier id.class k id.number octets) form h.identified) e
+pub unallowed : (id : Identifier) (octets : List ℕ) (x : ℕ) → CarriesIdentifier id octets → id.constructed ≡ false
+    → x ≡ 128 → IsRefusedOctet octets x IndefinitePrimitive
+unallowed id octets x h form e =
+    indefinite_primitive id.class id.number
+        (subst (λ (k : Bool). IsIdentifier id.class k id.number octets) form h.identified) e
 
 -- a length octet that makes the length too large
-pub too_large : (id : Identifier) (n left : ℕ) (octets : List ℕ) (x : ℕ) → CarriesLength id n left octets → 6 ≤ left → x ≢ 0 → IsRefusedOctet octets x LengthTooLarge
+pub too_large : (id : Identifier) (n left : ℕ) (octets : List ℕ) (x : ℕ) → CarriesLength id n left octets → 6 ≤ left
+    → x ≢ 0 → IsRefusedOctet octets x LengthTooLarge
 too_large id n left octets x h many nonzero =
     length_too_large id.class id.constructed id.number left h.prefix many nonzero

@@ -30,11 +30,13 @@ length-carried (Digits id n left) os h =
     let few : length h.prefix.identifier ≤ 10 = h.few in
     let some : 1 ≤ left = h.prefix.some in
     let most : length h.prefix.digits + left ≤ 126 = h.prefix.few in
-    rw h.prefix.octets_are (omega (arith, length-append h.prefix.identifier ((128 + (length h.prefix.digits + left)) ∷ h.prefix.digits)))
+    rw h.prefix.octets_are
+        (omega (arith, length-append h.prefix.identifier ((128 + (length h.prefix.digits + left)) ∷ h.prefix.digits)))
 length-carried Done os h = rw h (omega arith)
 
 -- the header that is made
-abbrev pub made : (at : ℕ) (named : Bool) (id : Identifier) (size : Size) (os : List ℕ) → MakesHeader id size os → HeaderValue
+abbrev pub made : (at : ℕ) (named : Bool) (id : Identifier) (size : Size) (os : List ℕ) → MakesHeader id size os
+    → HeaderValue
 made at named id size os m = record {
   offset = at;
   named = named;
@@ -46,10 +48,17 @@ made at named id size os m = record {
   lengths = m.lengths;
 }
 
-made-valid : (at : ℕ) (named : Bool) (id : Identifier) (size : Size) (os : List ℕ) (m : MakesHeader id size os) → IsHeader (made at named id size os m)
-made-valid at named id size os m = record { identifier = m.identified.identified; lengths = m.sized; allowed = m.allowed }
+made-valid : (at : ℕ) (named : Bool) (id : Identifier) (size : Size) (os : List ℕ) (m : MakesHeader id size os)
+    → IsHeader (made at named id size os m)
+made-valid at named id size os m = record {
+  identifier = m.identified.identified;
+  lengths = m.sized;
+  allowed = m.allowed;
+}
 
-made_completes : (r : HeadReaderState) (id : Identifier) (size : Size) (os : List ℕ) (x : ℕ) (m : MakesHeader id size (os ++ x ∷ [])) → os ≡ r.octets
+made_completes : (r : HeadReaderState) (id : Identifier) (size : Size) (os : List ℕ) (x : ℕ)
+    (m : MakesHeader id size (os ++ x ∷ []))
+    → os ≡ r.octets
     → Completes r (x ∷ []) (made r.offset r.named id size (os ++ x ∷ []) m)
 made_completes r id size os x m e = record {
   valid = made-valid r.offset r.named id size _ m;
@@ -58,16 +67,24 @@ made_completes r id size os x m e = record {
   octets = sym m.octets_are ∙ ap (λ s. s ++ x ∷ []) e;
 }
 
-pub made_too_deep : (r : HeadReaderState) (id : Identifier) (size : Size) (os : List ℕ) (x depth : ℕ) (room : Option ℕ) → room ≢ Some 0 → MakesHeader id size (os ++ x ∷ []) → os ≡ r.octets
-    → (id.constructed || is_wrapper r.named id.class id.constructed id.number size) ≡ true → 128 ≤ depth → IsRefusedPush r x room depth TooDeep
-made_too_deep r id size os x depth room n m e c low = too_deep n (made r.offset r.named id size (os ++ x ∷ []) m) (made_completes r id size os x m e) c low
+pub made_too_deep : (r : HeadReaderState) (id : Identifier) (size : Size) (os : List ℕ) (x depth : ℕ) (room : Option ℕ)
+    → room ≢ Some 0 → MakesHeader id size (os ++ x ∷ []) → os ≡ r.octets
+    → (id.constructed || is_wrapper r.named id.class id.constructed id.number size) ≡ true → 128 ≤ depth
+        → IsRefusedPush r x room depth TooDeep
+made_too_deep r id size os x depth room n m e c low =
+    too_deep n (made r.offset r.named id size (os ++ x ∷ []) m) (made_completes r id size os x m e) c low
 
-pub made_overrun : (r : HeadReaderState) (id : Identifier) (size : Size) (os : List ℕ) (x depth : ℕ) (room : Option ℕ) → room ≢ Some 0 → MakesHeader id size (os ++ x ∷ []) → os ≡ r.octets
-    → ((id.constructed || is_wrapper r.named id.class id.constructed id.number size) ≡ true → depth < 128) → (ContentsFit size room → ⊥) → IsRefusedPush r x room depth Overrun
-made_overrun r id size os x depth room n m e c past = overrun n (made r.offset r.named id size (os ++ x ∷ []) m) (made_completes r id size os x m e) c past
+pub made_overrun : (r : HeadReaderState) (id : Identifier) (size : Size) (os : List ℕ) (x depth : ℕ) (room : Option ℕ)
+    → room ≢ Some 0 → MakesHeader id size (os ++ x ∷ []) → os ≡ r.octets
+    → ((id.constructed || is_wrapper r.named id.class id.constructed id.number size) ≡ true → depth < 128)
+        → (ContentsFit size room → ⊥) → IsRefusedPush r x room depth Overrun
+made_overrun r id size os x depth room n m e c past =
+    overrun n (made r.offset r.named id size (os ++ x ∷ []) m) (made_completes r id size os x m e) c past
 
 -- the octets that make a header, cut after its identifier
-pub made_whole : (r : HeadReaderState) (id : Identifier) (size : Size) (os : List ℕ) (x : ℕ) (m : MakesHeader id size (os ++ x ∷ [])) → os ≡ r.octets
+pub made_whole : (r : HeadReaderState) (id : Identifier) (size : Size) (os : List ℕ) (x : ℕ)
+    (m : MakesHeader id size (os ++ x ∷ []))
+    → os ≡ r.octets
     → Completes r (x ∷ []) (record {
       offset = r.offset;
       named = r.named;
@@ -80,7 +97,8 @@ pub made_whole : (r : HeadReaderState) (id : Identifier) (size : Size) (os : Lis
     })
 made_whole r id size os x m e =
     let count : id.octets ≡ length m.identifier = m.identified.count in
-    rw (m.octets_are, count, take-append_seam m.identifier m.lengths, drop-append_seam m.identifier m.lengths) (made_completes r id size os x m e)
+    rw (m.octets_are, count, take-append_seam m.identifier m.lengths, drop-append_seam m.identifier m.lengths)
+        (made_completes r id size os x m e)
 
 cons≢nil : (x : ℕ) (xs : List ℕ) → x ∷ xs ≢ []
 cons≢nil x xs e = cc
@@ -119,18 +137,23 @@ unfinished_identifier id os h = zero_ends id (Definite 0) os (record {
 pub unfinished_number : (id : Identifier) (os : List ℕ) → CarriesNumber id os → IsHeaderPrefix os
 unfinished_number id os h = zero_after os (unfinished_identifier _ _ (ends_number id 0 0 os h refl (lit< tt)))
 
-pub unfinished_length : (k : ℕ) (id : Identifier) (n left : ℕ) (os : List ℕ) → left ≤ k → CarriesLength id n left os → IsHeaderPrefix os
+pub unfinished_length : (k : ℕ) (id : Identifier) (n left : ℕ) (os : List ℕ) → left ≤ k → CarriesLength id n left os
+    → IsHeaderPrefix os
 unfinished_length zero id n left os below h = let some : 1 ≤ left = h.prefix.some in absurd (omega arith)
 unfinished_length (suc k) id n left os below h = elim (cases_eq (left - 1) 0) [
   | inl e ↦ zero_ends id (Definite (n * 256 + 0)) os (ends_length id n left 0 0 os h refl (lit< tt) (inl refl) e)
-  | inr e ↦ zero_after os (unfinished_length k id (n * 256 + 0) (left - 1) _ (omega arith) (more_length id n left 0 0 os h refl (lit< tt) (inl refl) e))
+  | inr e ↦
+      zero_after os
+          (unfinished_length k id (n * 256 + 0) (left - 1) _ (omega arith)
+              (more_length id n left 0 0 os h refl (lit< tt) (inl refl) e))
 ]
 
 snoc≢nil : (os : List ℕ) (x : ℕ) → os ++ x ∷ [] ≢ []
 snoc≢nil [] x e = cc
 snoc≢nil (y ∷ os) x e = cc
 
-pub unfinished_part : (p : Part) (os : List ℕ) (x : ℕ) → Carries p (os ++ x ∷ []) → IsHeaderPrefix (os ++ x ∷ []) × (is_done p ≡ false)
+pub unfinished_part : (p : Part) (os : List ℕ) (x : ℕ) → Carries p (os ++ x ∷ [])
+    → IsHeaderPrefix (os ++ x ∷ []) × (is_done p ≡ false)
 unfinished_part Start os x h = absurd (snoc≢nil os x h)
 unfinished_part (Number id) os x h = (unfinished_number id _ h, refl)
 unfinished_part (Length id) os x h = (unfinished_identifier id _ h, refl)

@@ -18,11 +18,17 @@ record HasDigits (k n : ℕ) : Type 0 where
   pub value : value_of 256 digits ≡ n
 
 digits-of : (k n : ℕ) → n < 256 ^ k → HasDigits k n
-digits-of zero n below = record { digits = []; each = All-nil (λ d. d < 256); count = refl; value = let b : n < 1 = rw (pow-zero 256) at below in omega arith }
+digits-of zero n below = record {
+  digits = [];
+  each = All-nil (λ d. d < 256);
+  count = refl;
+  value = let b : n < 1 = rw (pow-zero 256) at below in omega arith;
+}
 digits-of (suc k) n below =
     let b : n < 256 ^ k * 256 = rw (pow-suc 256 k) at below in
     let leading : HasDigits k (n / 256) = digits-of k (n / 256) (omega (arith, b)) in
-    let value : value_of 256 (leading.digits ++ n % 256 ∷ []) ≡ value_of 256 leading.digits * 256 + n % 256 = value_of-snoc 256 leading.digits (n % 256) in
+    let value : value_of 256 (leading.digits ++ n % 256 ∷ []) ≡ value_of 256 leading.digits * 256 + n % 256 =
+        value_of-snoc 256 leading.digits (n % 256) in
     record {
       digits = leading.digits ++ n % 256 ∷ [];
       each = All-push (λ d. d < 256) leading.digits (n % 256) leading.each (omega arith);
@@ -36,7 +42,10 @@ pub record FewLengths (size : Size) : Type 0 where
   pub few : length short.octets ≤ 6
 
 pub few-lengths : (size : Size) → announced_length size < 2 ^ 40 → FewLengths size
-few-lengths Indefinite below = record { short = record { octets = 128 ∷ []; valid = refl; shortest = one-octet 0 128 }; few = omega arith }
+few-lengths Indefinite below = record {
+  short = record { octets = 128 ∷ []; valid = refl; shortest = one-octet 0 128 };
+  few = omega arith;
+}
 few-lengths (Definite n) below =
     let five : HasDigits 5 n = digits-of 5 n (omega (arith, below)) in
     let valid : IsLength (Definite n) ((128 + length five.digits) ∷ five.digits) =
@@ -52,5 +61,9 @@ few-lengths (Definite n) below =
     let short : ShortLength (Definite n) = short-length (Definite n) ((128 + length five.digits) ∷ five.digits) valid in
     record {
       short = short;
-      few = omega (arith, five.count, length-le (Definite n) short.octets ((128 + length five.digits) ∷ five.digits) short.valid valid short.shortest);
+      few =
+          omega
+              (arith, five.count,
+                  length-le (Definite n) short.octets ((128 + length five.digits) ∷ five.digits) short.valid valid
+                      short.shortest);
     }

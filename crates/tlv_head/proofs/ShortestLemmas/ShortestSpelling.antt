@@ -32,7 +32,13 @@ strip b (zero ∷ digits) tail each =
       value = omega (arith, r.value, zero-mul (b ^ length (digits ++ tail)));
       first = r.first;
     }
-strip b (suc d ∷ digits) tail each = record { kept = suc d ∷ digits; each = each; fewer = le_refl _; value = refl; first = inr (λ z. omega (arith, z)) }
+strip b (suc d ∷ digits) tail each = record {
+  kept = suc d ∷ digits;
+  each = each;
+  fewer = le_refl _;
+  value = refl;
+  first = inr (λ z. omega (arith, z));
+}
 
 -- ---- identifier octets
 
@@ -41,7 +47,8 @@ pub record ShortIdentifier (class : Class) (constructed : Bool) (n : ℕ) : Type
   pub valid : IsIdentifier class constructed n octets
   pub shortest : IsShortestIdentifier n octets
 
-low-form : (class : Class) (constructed : Bool) (n : ℕ) → n < 31 → identifier_octet class constructed n ≢ 0 → ShortIdentifier class constructed n
+low-form : (class : Class) (constructed : Bool) (n : ℕ) → n < 31 → identifier_octet class constructed n ≢ 0
+    → ShortIdentifier class constructed n
 low-form class constructed n small nonzero = record {
   octets = identifier_octet class constructed n ∷ [];
   valid = inl (record { small = small; octets_are = refl; nonzero = nonzero });
@@ -57,7 +64,8 @@ first-kept kept last n large e (inl none) = λ z.
     omega (arith, value, zero_last, large)
 first-kept kept last n large e (inr first) = first
 
-high-form : (class : Class) (constructed : Bool) (n : ℕ) (digits : List ℕ) (last : ℕ) → 31 ≤ n → All (λ d. d < 128) digits → last < 128 → length digits ≤ 8
+high-form : (class : Class) (constructed : Bool) (n : ℕ) (digits : List ℕ) (last : ℕ) → 31 ≤ n
+    → All (λ d. d < 128) digits → last < 128 → length digits ≤ 8
     → n ≡ value_of 128 (digits ++ last ∷ []) → ShortIdentifier class constructed n
 high-form class constructed n digits last large each below few e =
     let r : Stripped 128 digits (last ∷ []) = strip 128 digits (last ∷ []) each in
@@ -65,14 +73,24 @@ high-form class constructed n digits last large each below few e =
     let nonzero : slice_index (r.kept ++ last ∷ []) 0 ≢ 0 = first-kept r.kept last n large value r.first in
     record {
       octets = identifier_octet class constructed 31 ∷ (with_bit_8 r.kept ++ last ∷ []);
-      valid = inr (record { digits = r.kept; last = last; each = r.each; last_digit = below; few = omega (arith, r.fewer); value = value; octets_are = refl });
+      valid = inr (record {
+        digits = r.kept;
+        last = last;
+        each = r.each;
+        last_digit = below;
+        few = omega (arith, r.fewer);
+        value = value;
+        octets_are = refl;
+      });
       shortest = record {
         single = λ small. absurd (omega (arith, small, large));
-        leading = λ more z. nonzero (sym (high-first (identifier_octet class constructed 31) r.kept last r.each below) ∙ z);
+        leading =
+            λ more z. nonzero (sym (high-first (identifier_octet class constructed 31) r.kept last r.each below) ∙ z);
       };
     }
 
-pub short-identifier : (class : Class) (constructed : Bool) (n : ℕ) (octets : List ℕ) → IsIdentifier class constructed n octets
+pub short-identifier : (class : Class) (constructed : Bool) (n : ℕ) (octets : List ℕ)
+    → IsIdentifier class constructed n octets
     → identifier_octet class constructed n ≢ 0 → ShortIdentifier class constructed n
 short-identifier class constructed n octets (inl f) nonzero = low-form class constructed n f.small nonzero
 short-identifier class constructed n octets (inr f) nonzero = elim (cases_lt n 31) [
@@ -90,7 +108,8 @@ pub record ShortLength (size : Size) : Type 0 where
 pub one-octet : (n x : ℕ) → IsShortestLength n (x ∷ [])
 one-octet n x = record { single = λ s. refl; leading = λ more. absurd (omega (arith, more)) }
 
-first-of_length : (kept : List ℕ) (n : ℕ) → 128 ≤ n → n ≡ value_of 256 (kept ++ []) → (kept ≡ []) ⊎ (slice_index (kept ++ []) 0 ≢ 0)
+first-of_length : (kept : List ℕ) (n : ℕ) → 128 ≤ n → n ≡ value_of 256 (kept ++ [])
+    → (kept ≡ []) ⊎ (slice_index (kept ++ []) 0 ≢ 0)
     → (1 ≤ length kept) × (slice_index kept 0 ≢ 0)
 first-of_length [] n large e first = absurd (omega (arith, e, large))
 first-of_length (x ∷ kept) n large e (inl none) = absurd (omega (arith, ap length none))
@@ -126,7 +145,10 @@ short-length (Definite n) octets (inr f) = elim (cases_lt n 128) [
 
 -- ---- headers
 
-with_identifier : (h : HeaderValue) → IsHeader h → (i : ShortIdentifier h.class h.constructed h.number) → IsHeader (record h { identifier = i.octets })
+with_identifier : (h : HeaderValue) → IsHeader h → (i : ShortIdentifier h.class h.constructed h.number)
+    → IsHeader (record h {
+  identifier = i.octets;
+})
 with_identifier h valid i = record { identifier = i.valid; lengths = valid.lengths; allowed = valid.allowed }
 
 with_lengths : (h : HeaderValue) → IsHeader h → (l : ShortLength h.size) → IsHeader (record h { lengths = l.octets })
@@ -134,7 +156,8 @@ with_lengths h valid l = record { identifier = valid.identifier; lengths = l.val
 
 pub shortest-there : HeadersHaveAShortest
 shortest-there h valid nonzero =
-    let i : ShortIdentifier h.class h.constructed h.number = short-identifier h.class h.constructed h.number h.identifier valid.identifier nonzero in
+    let i : ShortIdentifier h.class h.constructed h.number =
+        short-identifier h.class h.constructed h.number h.identifier valid.identifier nonzero in
     let l : ShortLength h.size = short-length h.size h.lengths valid.lengths in (
       record h { identifier = i.octets; lengths = l.octets },
       record { identifier = i.valid; lengths = l.valid; allowed = valid.allowed },
@@ -147,7 +170,8 @@ shortest-there h valid nonzero =
 pub shorter-identifier : (h : HeaderValue) → IsHeader h → identifier_octet h.class h.constructed h.number ≢ 0
     → (IsShortestIdentifier h.number h.identifier → ⊥) → HasShorter (λ k. k.identifier) h
 shorter-identifier h valid nonzero none =
-    let i : ShortIdentifier h.class h.constructed h.number = short-identifier h.class h.constructed h.number h.identifier valid.identifier nonzero in
+    let i : ShortIdentifier h.class h.constructed h.number =
+        short-identifier h.class h.constructed h.number h.identifier valid.identifier nonzero in
     elim (cases_lt (length i.octets) (length h.identifier)) [
       | inl fewer ↦ record {
         other = record h { identifier = i.octets };
@@ -160,11 +184,13 @@ shorter-identifier h valid nonzero none =
           let ge : length i.octets ≤ length h.identifier =
           identifier-le h.class h.constructed h.number i.octets h.identifier i.valid valid.identifier i.shortest in
           let same : i.octets ≡ h.identifier =
-          identifier-same h.class h.constructed h.number i.octets h.identifier i.valid valid.identifier (omega (arith, le, ge)) in
+          identifier-same h.class h.constructed h.number i.octets h.identifier i.valid valid.identifier
+              (omega (arith, le, ge)) in
           absurd (none (subst (IsShortestIdentifier h.number) same i.shortest))
     ]
 
-pub shorter-length : (h : HeaderValue) → IsHeader h → (IsShortestLength (announced_length h.size) h.lengths → ⊥) → HasShorter (λ k. k.lengths) h
+pub shorter-length : (h : HeaderValue) → IsHeader h → (IsShortestLength (announced_length h.size) h.lengths → ⊥)
+    → HasShorter (λ k. k.lengths) h
 shorter-length h valid none =
     let l : ShortLength h.size = short-length h.size h.lengths valid.lengths in
     elim (cases_lt (length l.octets) (length h.lengths)) [
@@ -176,14 +202,18 @@ shorter-length h valid none =
         fewer = fewer;
       }
       | inr le ↦
-          let ge : length l.octets ≤ length h.lengths = length-le h.size l.octets h.lengths l.valid valid.lengths l.shortest in
-          let same : l.octets ≡ h.lengths = length-same h.size l.octets h.lengths l.valid valid.lengths (omega (arith, le, ge)) in
+          let ge : length l.octets ≤ length h.lengths =
+              length-le h.size l.octets h.lengths l.valid valid.lengths l.shortest in
+          let same : l.octets ≡ h.lengths =
+              length-same h.size l.octets h.lengths l.valid valid.lengths (omega (arith, le, ge)) in
           absurd (none (subst (IsShortestLength (announced_length h.size)) same l.shortest))
     ]
 
 -- and one that is as short as it can be has none
-pub no-shorter_identifier : (h : HeaderValue) → IsHeader h → IsShortestIdentifier h.number h.identifier → HasShorter (λ k. k.identifier) h → ⊥
+pub no-shorter_identifier : (h : HeaderValue) → IsHeader h → IsShortestIdentifier h.number h.identifier
+    → HasShorter (λ k. k.identifier) h → ⊥
 no-shorter_identifier h valid s r = omega (arith, r.fewer, shortest-identifier h r.other valid r.valid r.tag s)
 
-pub no-shorter_length : (h : HeaderValue) → IsHeader h → IsShortestLength (announced_length h.size) h.lengths → HasShorter (λ k. k.lengths) h → ⊥
+pub no-shorter_length : (h : HeaderValue) → IsHeader h → IsShortestLength (announced_length h.size) h.lengths
+    → HasShorter (λ k. k.lengths) h → ⊥
 no-shorter_length h valid s r = omega (arith, r.fewer, shortest-length h r.other valid r.valid r.size s)

@@ -25,4 +25,5 @@ one_on s (Pad octets) = each_octet-goes_on lines_padding_step s octets
 pub all_on : (s : LinesState) (es : List EventValue) → (effect_of lines_step s es).goes ≡ go.On
 all_on s [] = refl
 all_on s (e ∷ es) =
-    ap (λ (g : Go). (if_on g (lines_step s e) (λ u. effect_of lines_step u es)).goes) (one_on s e) ∙ all_on (lines_step s e).state es
+    ap (λ (g : Go). (if_on g (lines_step s e) (λ u. effect_of lines_step u es)).goes) (one_on s e)
+        ∙ all_on (lines_step s e).state es

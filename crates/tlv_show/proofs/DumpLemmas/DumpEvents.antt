@@ -1,5 +1,6 @@
 -- What a dump makes of the events of one element, by its lines and by its findings.
-use Rattle.std.proofs.Common.{◌≡◌, ℕ, Bool, true, false, if◌then◌else◌, List, [], ◌∷◌, ◌++◌, length, map, refl, sym, ap, ap₂, ◌∙◌, append_assoc, append-nil}
+use Rattle.std.proofs.Common.{◌≡◌, ℕ, Bool, true, false, if◌then◌else◌, List, [], ◌∷◌, ◌++◌, length, map, refl, sym, ap}
+use Rattle.std.proofs.Common.{ap₂, ◌∙◌, append_assoc, append-nil}
 use Rattle.std.specs.Prelude.{Option, Some, None}
 use Rattle.tlv_head.specs.Header.{HeaderValue}
 use Rattle.tlv_value.specs.declared.layout.Layout.{Layout}
@@ -10,7 +11,8 @@ use Rattle.tlv_show.specs.declared.finding_lines.Style.TheVariants.{Dump}
 use Rattle.tlv_show.specs.FindingLines.{last_finding_lines}
 use Rattle.tlv_show.specs.LinesStep.{LinesState, lines_octet_step, lines_step, lines_after_header}
 use Rattle.tlv_show.specs.DumpStep.{DumpState, dump_step}
-use Rattle.tlv_show.specs.FinderState.{FinderState, FinderReport, finder_begin_step, finder_bytes_step, finder_close_step, finder_end_step, finder_open_step}
+use Rattle.tlv_show.specs.FinderState.{FinderState, FinderReport, finder_begin_step, finder_bytes_step}
+use Rattle.tlv_show.specs.FinderState.{finder_close_step, finder_end_step, finder_open_step}
 use Rattle.tlv_show.specs.Laws.{PrimitivesAreShown}
 use Rattle.tlv_show.specs.LinesStep.{value_after, value_contents_lines}
 use Rattle.tlv_show.proofs.DumpLemmas.Dumped.{dumped_bytes, of_bytes, rested-new}
@@ -24,12 +26,16 @@ use Rattle.tlv_show.specs.SaturatingSum.{saturating_sum}
 abbrev pub pair : LinesState → FinderState → DumpState
 pair l f = record { lines = l; finder = f }
 
-shown-more : (s : DumpState) (xs ys : List EventValue) → effect_of dump_step s (xs ++ ys) ≡ and_then (effect_of dump_step s xs) (λ u. effect_of dump_step u ys)
+shown-more : (s : DumpState) (xs ys : List EventValue)
+    → effect_of dump_step s (xs ++ ys) ≡ and_then (effect_of dump_step s xs) (λ u. effect_of dump_step u ys)
 shown-more s xs ys = followed-more dump_step s xs ys (all_on s xs)
 
-pub then_shown : (s t : DumpState) (put : List ℕ) (xs ys : List EventValue) → effect_of dump_step s xs ≡ effect_with t put
-    → effect_of dump_step s (xs ++ ys) ≡ record (effect_of dump_step t ys) { put = put ++ (effect_of dump_step t ys).put }
-then_shown s t put xs ys e = shown-more s xs ys ∙ ap (λ (k : Effect DumpState). and_then k (λ u. effect_of dump_step u ys)) e
+pub then_shown : (s t : DumpState) (put : List ℕ) (xs ys : List EventValue)
+    → effect_of dump_step s xs ≡ effect_with t put
+    → effect_of dump_step s (xs ++ ys)
+        ≡ record (effect_of dump_step t ys) { put = put ++ (effect_of dump_step t ys).put }
+then_shown s t put xs ys e =
+    shown-more s xs ys ∙ ap (λ (k : Effect DumpState). and_then k (λ u. effect_of dump_step u ys)) e
 
 -- the lines of what is found, as a dump in this layout puts them
 abbrev pub texts : Layout → FinderReport → List ℕ
@@ -38,12 +44,19 @@ texts layout f = last_finding_lines (Dump layout.pure) f
 -- ---- an element that holds others
 
 pub opens-by : (l : LinesState) (s : FinderState) (h : HeaderValue) (k three : Bool)
-    → effect_of dump_step (pair l s) ((if k then Open h else Enter h) ∷ map {A = ℕ} (λ z. Unused) (if k then [] else (if three then 0 ∷ [] else [])))
-    ≡ (let d = effect_of lines_step l ((if k then Open h else Enter h) ∷ map {A = ℕ} (λ z. Unused) (if k then [] else (if three then 0 ∷ [] else []))) in
+    → effect_of dump_step (pair l s)
+        ((if k then Open h else Enter h) ∷ map {A = ℕ} (λ z. Unused) (if k then [] else (if three then 0 ∷ [] else [])))
+    ≡ (let d =
+        effect_of lines_step l
+            ((if k then Open h else Enter h)
+                ∷ map {A = ℕ} (λ z. Unused) (if k then [] else (if three then 0 ∷ [] else []))) in
     effect_with (pair d.state (finder_open_step s h).state) (texts l.layout (finder_open_step s h) ++ d.put))
-opens-by l s h true three = ap (effect_with _) (append_assoc (texts l.layout (finder_open_step s h)) (lines_step l (Open h)).put [])
-opens-by l s h false true = ap (effect_with _) (append_assoc (texts l.layout (finder_open_step s h)) (lines_step l (Enter h)).put [])
-opens-by l s h false false = ap (effect_with _) (append_assoc (texts l.layout (finder_open_step s h)) (lines_step l (Enter h)).put [])
+opens-by l s h true three =
+    ap (effect_with _) (append_assoc (texts l.layout (finder_open_step s h)) (lines_step l (Open h)).put [])
+opens-by l s h false true =
+    ap (effect_with _) (append_assoc (texts l.layout (finder_open_step s h)) (lines_step l (Enter h)).put [])
+opens-by l s h false false =
+    ap (effect_with _) (append_assoc (texts l.layout (finder_open_step s h)) (lines_step l (Enter h)).put [])
 
 again : (a b : List ℕ) → (a ++ b) ++ [] ≡ (a ++ []) ++ b
 again a b = append-nil (a ++ b) ∙ ap (λ (x : List ℕ). x ++ b) (sym (append-nil a))
@@ -52,8 +65,10 @@ pub closes-by : (l : LinesState) (s : FinderState) (offset : Option ℕ) (k : Bo
     → effect_of dump_step (pair l s) ((if k then Close offset else Leave) ∷ [])
     ≡ (let d = effect_of lines_step l ((if k then Close offset else Leave) ∷ []) in
     effect_with (pair d.state (finder_close_step s).state) (d.put ++ texts l.layout (finder_close_step s)))
-closes-by l s None true = ap (effect_with _) (again (lines_step l (Close None)).put (texts l.layout (finder_close_step s)))
-closes-by l s (Some offset) true = ap (effect_with _) (again (lines_step l (Close (Some offset))).put (texts l.layout (finder_close_step s)))
+closes-by l s None true =
+    ap (effect_with _) (again (lines_step l (Close None)).put (texts l.layout (finder_close_step s)))
+closes-by l s (Some offset) true =
+    ap (effect_with _) (again (lines_step l (Close (Some offset))).put (texts l.layout (finder_close_step s)))
 closes-by l s offset false = ap (effect_with _) (again (lines_step l Leave).put (texts l.layout (finder_close_step s)))
 
 -- ---- a primitive
@@ -73,10 +88,17 @@ primitive-by l s h c =
     let u : FinderState = finder_bytes_step (finder_begin_step s h).state c in
     let f = finder_end_step u in
     let first = texts l.layout (finder_begin_step s h) in
-    let whole : Effect LinesState → Effect DumpState = λ k. effect_with (pair (lines_step k.state End).state f.state) ((first ++ b.put) ++ (k.put ++ (((lines_step k.state End).put ++ texts k.state.layout f) ++ []))) in
+    let whole : Effect LinesState
+        → Effect DumpState =
+            λ k. effect_with (pair (lines_step k.state End).state f.state)
+                ((first ++ b.put) ++ (k.put ++ (((lines_step k.state End).put ++ texts k.state.layout f) ++ []))) in
     let parts : Effect LinesState → Effect DumpState =
-    λ k. let d = and_then b (λ z. if_on k.goes k (λ w. effect_of lines_step w (End ∷ []))) in effect_with (pair d.state f.state) (first ++ (d.put ++ texts l.layout f)) in
-    let o : Effect LinesState = of_bytes b.state (saturating_sum b.state.offset (length c)) (value_after b.state.open_text c) (value_contents_lines b.state.open_text c) in
+    λ k. let d =
+        and_then b (λ z. if_on k.goes k (λ w. effect_of lines_step w (End ∷ []))) in effect_with
+            (pair d.state f.state) (first ++ (d.put ++ texts l.layout f)) in
+    let o : Effect LinesState =
+        of_bytes b.state (saturating_sum b.state.offset (length c)) (value_after b.state.open_text c)
+            (value_contents_lines b.state.open_text c) in
     let is : m ≡ o = dumped_bytes b.state c (λ e. rested-new h l.layout) in
     ap (λ (k : Effect DumpState). record {
       state = (if_on k.goes k (λ w. effect_of dump_step w (End ∷ []))).state;
@@ -85,31 +107,43 @@ primitive-by l s h c =
     })
     (each-shown (pair b.state (finder_begin_step s h).state) c)
     ∙ ap whole is
-    ∙ ap (effect_with (pair (lines_step o.state End).state f.state)) (around first b.put o.put (lines_step o.state End).put (texts l.layout f))
+    ∙ ap (effect_with (pair (lines_step o.state End).state f.state))
+        (around first b.put o.put (lines_step o.state End).put (texts l.layout f))
     ∙ sym (ap parts is)
 
 pub primitives_are_shown : PrimitivesAreShown
 primitives_are_shown s h c size =
     let d = primitives_shown s.lines h c size in
     let f = primitive-found s.finder h c (sym size) in
-    let l : LinesState = record (lines_after_header s.lines h) { offset = saturating_sum (lines_after_header s.lines h).offset (length c); open_text = None } in (
+    let l : LinesState =
+        record (lines_after_header s.lines h)
+            { offset = saturating_sum (lines_after_header s.lines h).offset (length c); open_text = None } in (
       pair l f.0,
       refl,
       f.1,
       primitive-by s.lines s.finder h c
-          ∙ ap₂ (λ (d : Effect LinesState) (f : FinderReport). effect_with (pair d.state f.state) (texts s.lines.layout (finder_begin_step s.finder h) ++ (d.put ++ texts s.lines.layout f))) d f.2,
+          ∙ ap₂
+              (λ (d : Effect LinesState) (f : FinderReport). effect_with (pair d.state f.state)
+                  (texts s.lines.layout (finder_begin_step s.finder h) ++ (d.put ++ texts s.lines.layout f)))
+              d f.2,
     )
 
 -- a primitive that is open
 pub part-by : (l : LinesState) (s : FinderState) (h : HeaderValue) (c : List ℕ)
-    → (effect_of dump_step (pair l s) (Begin h ∷ Bytes c ∷ [])).put ≡ texts l.layout (finder_begin_step s h) ++ (effect_of lines_step l (Begin h ∷ Bytes c ∷ [])).put
+    → (effect_of dump_step (pair l s) (Begin h ∷ Bytes c ∷ [])).put
+        ≡ texts l.layout (finder_begin_step s h) ++ (effect_of lines_step l (Begin h ∷ Bytes c ∷ [])).put
 part-by l s h c =
     let b = lines_step l (Begin h) in
     let m = each_octet lines_octet_step b.state c in
     let first = texts l.layout (finder_begin_step s h) in
-    let o : Effect LinesState = of_bytes b.state (saturating_sum b.state.offset (length c)) (value_after b.state.open_text c) (value_contents_lines b.state.open_text c) in
+    let o : Effect LinesState =
+        of_bytes b.state (saturating_sum b.state.offset (length c)) (value_after b.state.open_text c)
+            (value_contents_lines b.state.open_text c) in
     let is : m ≡ o = dumped_bytes b.state c (λ e. rested-new h l.layout) in
-    ap (λ (k : Effect DumpState). (first ++ b.put) ++ (if_on k.goes k (λ w. effect_of dump_step w [])).put) (each-shown (pair b.state (finder_begin_step s h).state) c)
+    ap (λ (k : Effect DumpState). (first ++ b.put) ++ (if_on k.goes k (λ w. effect_of dump_step w [])).put)
+        (each-shown (pair b.state (finder_begin_step s h).state) c)
     ∙ append_assoc first b.put (m.put ++ [])
     ∙ ap (λ (k : Effect LinesState). first ++ (b.put ++ (k.put ++ []))) is
-    ∙ sym (ap (λ (k : Effect LinesState). first ++ (and_then b (λ z. if_on k.goes k (λ w. effect_of lines_step w []))).put) is)
+    ∙ sym (ap
+        (λ (k : Effect LinesState). first ++ (and_then b (λ z. if_on k.goes k (λ w. effect_of lines_step w []))).put)
+        is)

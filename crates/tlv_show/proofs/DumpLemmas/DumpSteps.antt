@@ -22,7 +22,10 @@ use Rattle.tlv_show.proofs.FindingLemmas.CheckLaws.{found-join, last-same}
 pub each-shown : (s : DumpState) (octets : List ℕ)
     → each_octet dump_octet_step s octets
     ≡ record {
-      state = record { lines = (each_octet lines_octet_step s.lines octets).state; finder = finder_bytes_step s.finder octets };
+      state = record {
+        lines = (each_octet lines_octet_step s.lines octets).state;
+        finder = finder_bytes_step s.finder octets;
+      };
       put = (each_octet lines_octet_step s.lines octets).put;
       goes = go.On;
     }
@@ -31,7 +34,11 @@ each-shown s (x ∷ octets) =
     let d = lines_octet_step s.lines x in
     let u : DumpState = record { lines = d.state; finder = finder_bytes_step s.finder (x ∷ []) } in
     ap (λ (k : Effect DumpState). record { state = k.state; put = d.put ++ k.put; goes = k.goes }) (each-shown u octets)
-    ∙ ap (λ (f : FinderState). record { state = record { lines = (each_octet lines_octet_step d.state octets).state; finder = f }; put = d.put ++ (each_octet lines_octet_step d.state octets).put; goes = go.On })
+    ∙ ap (λ (f : FinderState). record {
+      state = record { lines = (each_octet lines_octet_step d.state octets).state; finder = f };
+      put = d.put ++ (each_octet lines_octet_step d.state octets).put;
+      goes = go.On;
+    })
     (sym (found-join s.finder (x ∷ []) octets))
 
 pub each-filled : (s : DumpState) (octets : List ℕ)
@@ -44,7 +51,8 @@ pub each-filled : (s : DumpState) (octets : List ℕ)
 each-filled s [] = refl
 each-filled s (x ∷ octets) =
     let d = lines_padding_step s.lines x in
-    ap (λ (k : Effect DumpState). record { state = k.state; put = d.put ++ k.put; goes = k.goes }) (each-filled (record { lines = d.state; finder = s.finder }) octets)
+    ap (λ (k : Effect DumpState). record { state = k.state; put = d.put ++ k.put; goes = k.goes })
+        (each-filled (record { lines = d.state; finder = s.finder }) octets)
 
 pub one_on : (s : DumpState) (e : EventValue) → (dump_step s e).goes ≡ go.On
 one_on s (Open h) = refl
@@ -60,26 +68,42 @@ one_on s (Pad octets) = ap (λ (t : Effect DumpState). t.goes) (each-filled s oc
 -- a dump always wants more
 pub all_on : (s : DumpState) (es : List EventValue) → (effect_of dump_step s es).goes ≡ go.On
 all_on s [] = refl
-all_on s (e ∷ es) = ap (λ (g : Go). (if_on g (dump_step s e) (λ u. effect_of dump_step u es)).goes) (one_on s e) ∙ all_on (dump_step s e).state es
+all_on s (e ∷ es) =
+    ap (λ (g : Go). (if_on g (dump_step s e) (λ u. effect_of dump_step u es)).goes) (one_on s e)
+        ∙ all_on (dump_step s e).state es
 
 -- ---- findings are put before the lines, or after them
 
-module _ {D : Type 0} (taken : D → DrainState) (s : DumpState) (f last : FinderReport) (has_findings : Bool) (style : Style) where
-  lines-last : style ≡ Dump s.lines.layout.pure → ReportsFindings f last has_findings → last_finding_lines style (with_findings_if has_findings last) ≡ finding_lines s f
-  lines-last is says = ap (λ (y : Style). last_finding_lines y (with_findings_if has_findings last)) is ∙ last-same (Dump s.lines.layout.pure) f last has_findings says
+module _ {D : Type 0} (taken : D → DrainState) (s : DumpState) (f last : FinderReport) (has_findings : Bool)
+    (style : Style) where
+  lines-last : style ≡ Dump s.lines.layout.pure → ReportsFindings f last has_findings
+      → last_finding_lines style (with_findings_if has_findings last) ≡ finding_lines s f
+  lines-last is says =
+      ap (λ (y : Style). last_finding_lines y (with_findings_if has_findings last)) is
+          ∙ last-same (Dump s.lines.layout.pure) f last has_findings says
 
   module _ {T U E : Type 0} where
-    pub found_failed : (a b : Out D) (put : List ℕ) (e : E) (r : Result U E) → style ≡ Dump s.lines.layout.pure → ReportsFindings f last has_findings
-        → Puts {T = T} {E = E} taken a b (last_finding_lines style (with_findings_if has_findings last)) (Err e) → IsErr r → Puts taken a b (finding_lines s f ++ put) r
-    found_failed a b put e r is says failed err = puts_failed taken a b _ put e r (puts_text taken a b _ _ (Err e) (lines-last is says) failed) err
+    pub found_failed : (a b : Out D) (put : List ℕ) (e : E) (r : Result U E) → style ≡ Dump s.lines.layout.pure
+        → ReportsFindings f last has_findings
+        → Puts {T = T} {E = E} taken a b (last_finding_lines style (with_findings_if has_findings last)) (Err e)
+            → IsErr r → Puts taken a b (finding_lines s f ++ put) r
+    found_failed a b put e r is says failed err =
+        puts_failed taken a b _ put e r (puts_text taken a b _ _ (Err e) (lines-last is says) failed) err
 
-    pub found_first : (a b c : Out D) (put : List ℕ) (x : T) (r : Result U E) → style ≡ Dump s.lines.layout.pure → ReportsFindings f last has_findings
-        → Puts {T = T} {E = E} taken a b (last_finding_lines style (with_findings_if has_findings last)) (Ok x) → Puts taken b c put r → Puts taken a c (finding_lines s f ++ put) r
-    found_first a b c put x r is says found lines = puts_then taken a b c _ put x r (puts_text taken a b _ _ (Ok x) (lines-last is says) found) lines
+    pub found_first : (a b c : Out D) (put : List ℕ) (x : T) (r : Result U E) → style ≡ Dump s.lines.layout.pure
+        → ReportsFindings f last has_findings
+        → Puts {T = T} {E = E} taken a b (last_finding_lines style (with_findings_if has_findings last)) (Ok x)
+            → Puts taken b c put r → Puts taken a c (finding_lines s f ++ put) r
+    found_first a b c put x r is says found lines =
+        puts_then taken a b c _ put x r (puts_text taken a b _ _ (Ok x) (lines-last is says) found) lines
 
-    pub found_last : (a b c : Out D) (put : List ℕ) (x : T) (r : Result U E) → style ≡ Dump s.lines.layout.pure → ReportsFindings f last has_findings
-        → Puts {T = T} {E = E} taken a b put (Ok x) → Puts taken b c (last_finding_lines style (with_findings_if has_findings last)) r → Puts taken a c (put ++ finding_lines s f) r
-    found_last a b c put x r is says lines found = puts_then taken a b c put _ x r lines (puts_text taken b c _ _ r (lines-last is says) found)
+    pub found_last : (a b c : Out D) (put : List ℕ) (x : T) (r : Result U E) → style ≡ Dump s.lines.layout.pure
+        → ReportsFindings f last has_findings
+        → Puts {T = T} {E = E} taken a b put (Ok x)
+            → Puts taken b c (last_finding_lines style (with_findings_if has_findings last)) r
+            → Puts taken a c (put ++ finding_lines s f) r
+    found_last a b c put x r is says lines found =
+        puts_then taken a b c put _ x r lines (puts_text taken b c _ _ r (lines-last is says) found)
 
 pub where_ok : {T E P Q : Type 0} (r : Result T E) → (P → Q) → OnOk r P → OnOk r Q
 where_ok (Ok x) f p = f p

@@ -11,7 +11,8 @@ use Rattle.tlv_walk.specs.declared.follow.Go.TheVariants as go
 use Rattle.tlv_io.specs.declared.out.Out.{Out}
 use Rattle.tlv_io.specs.Device.{DrainState}
 use Rattle.tlv_walk.specs.Events.{Bytes, End}
-use Rattle.tlv_walk.specs.Follow.{Effect, HasEffectOrNone, contents_in, effect_of, if_on, no_effect, put_if_followed, whole_events}
+use Rattle.tlv_walk.specs.Follow.{Effect, HasEffectOrNone, contents_in, effect_of, if_on, no_effect, put_if_followed}
+use Rattle.tlv_walk.specs.Follow.{whole_events}
 use Rattle.tlv_io.specs.Out.{Puts}
 use Rattle.tlv_walk.proofs.FollowerLemmas.Followed.{followed-one}
 use Rattle.tlv_io.proofs.Puts.{puts_nothing, puts_text}
@@ -49,18 +50,41 @@ outside w size unused e = ap (λ (b : Bool). if b then frame_after_segment w tru
 abbrev without_primitive : FinderState → FinderState
 without_primitive s = record s { open_primitive = None }
 
-pub passed : (s : FinderState) (h : HeaderValue) (c : List ℕ) → announced_length h.size ≡ length c → s.holders.frame.has_segments ≡ false
+pub passed : (s : FinderState) (h : HeaderValue) (c : List ℕ) → announced_length h.size ≡ length c
+    → s.holders.frame.has_segments ≡ false
     → header_findings s.rules (surroundings_in s.holders.frame) h ≡ [] → findings_on_contents h c ≡ []
-    → finder_whole_step s h c ≡ record { state = without_primitive s; level = length s.holders.outer; offset = h.offset; found = [] }
+    → finder_whole_step s h c ≡ record {
+      state = without_primitive s;
+      level = length s.holders.outer;
+      offset = h.offset;
+      found = [];
+    }
 passed s h c size w header contents =
-    let made : SiblingFrame → ℕ → List Finding → FinderReport = λ (f : SiblingFrame) (n : ℕ) (fs : List Finding). record { state = check_between s.rules f s.holders.outer (saturating_sum n (length fs)); level = length s.holders.outer; offset = h.offset; found = fs } in
+    let made : SiblingFrame → ℕ → List Finding
+        → FinderReport = λ (f : SiblingFrame) (n : ℕ) (fs : List Finding). record {
+      state = check_between s.rules f s.holders.outer (saturating_sum n (length fs));
+      level = length s.holders.outer;
+      offset = h.offset;
+      found = fs;
+    } in
     primitive-find s.rules s.holders.frame s.holders.outer s.count h c (sym size)
-    ∙ ap (λ (fs : List Finding). made (after_primitive s.rules s.holders.frame h c) (saturating_sum s.count (length (header_findings s.rules (surroundings_in s.holders.frame) h))) (filter (is_shown s.rules) fs)) contents
-    ∙ ap (λ (fs : List Finding). made (after_primitive s.rules s.holders.frame h c) (saturating_sum s.count (length fs)) []) header
+    ∙ ap (λ (fs : List Finding). made (after_primitive s.rules s.holders.frame h c)
+        (saturating_sum s.count (length (header_findings s.rules (surroundings_in s.holders.frame) h)))
+        (filter (is_shown s.rules) fs))
+        contents
+    ∙ ap (λ (fs : List Finding). made (after_primitive s.rules s.holders.frame h c)
+        (saturating_sum s.count (length fs)) [])
+        header
     ∙ ap (λ (f : SiblingFrame). made f (saturating_sum s.count 0) []) (outside s.holders.frame _ _ w)
-    ∙ ap (λ (n : ℕ). record { state = check_between s.rules s.holders.frame s.holders.outer n; level = length s.holders.outer; offset = h.offset; found = [] }) (none-counted (saturating_sum s.count 0) ∙ none-counted s.count)
+    ∙ ap (λ (n : ℕ).
+        record { state =
+            check_between s.rules s.holders.frame s.holders.outer n; level =
+                length s.holders.outer; offset = h.offset; found = []
+        })
+        (none-counted (saturating_sum s.count 0) ∙ none-counted s.count)
 
-pub passes : (old new : FinderReport) (h : HeaderValue) (c : List ℕ) → announced_length h.size ≡ length c → old.state.holders.frame.has_segments ≡ false
+pub passes : (old new : FinderReport) (h : HeaderValue) (c : List ℕ) → announced_length h.size ≡ length c
+    → old.state.holders.frame.has_segments ≡ false
     → header_findings old.state.rules (surroundings_in old.state.holders.frame) h ≡ [] → findings_on_contents h c ≡ []
     → new ≡ with_state (without_primitive old.state) old → PassesPrimitive old new h c
 passes old new h c size w header contents e =
@@ -74,30 +98,41 @@ passes old new h c size w header contents e =
 -- ---- a check
 
 lists-none : (f : FinderReport) → f.found ≡ [] → findings_effect f ≡ no_effect f.state
-lists-none f e = ap (λ (l : List Finding). record { state = f.state; put = styled_lines Check f.level f.offset l; goes = go.On }) e
+lists-none f e =
+    ap (λ (l : List Finding). record { state = f.state; put = styled_lines Check f.level f.offset l; goes = go.On }) e
 
-whole-checked : (s : FinderState) (h : HeaderValue) (o : List ℕ) → (finder_begin_step s h).found ≡ [] → (finder_whole_step s h (contents_in h o)).found ≡ []
+whole-checked : (s : FinderState) (h : HeaderValue) (o : List ℕ) → (finder_begin_step s h).found ≡ []
+    → (finder_whole_step s h (contents_in h o)).found ≡ []
     → effect_of check_step s (whole_events h o) ≡ no_effect (finder_whole_step s h (contents_in h o)).state
 whole-checked s h o begins ends =
     let c : List ℕ = contents_in h o in
     let t : FinderState = (finder_begin_step s h).state in
-    ap (λ (k : Effect FinderState). if_on k.goes k (λ u. effect_of check_step u (Bytes c ∷ End ∷ []))) (lists-none (finder_begin_step s h) begins)
+    ap (λ (k : Effect FinderState). if_on k.goes k (λ u. effect_of check_step u (Bytes c ∷ End ∷ [])))
+        (lists-none (finder_begin_step s h) begins)
     ∙ ap (λ (k : Effect FinderState). if_on k.goes k (λ u. effect_of check_step u (End ∷ []))) (each-found t c)
     ∙ followed-one check_step (finder_bytes_step t c) End
     ∙ lists-none (finder_whole_step s h c) ends
 
-module _ {D : Type 0} (state_of : D → DrainState) (a : Out D) (s : FinderState) (old new : FinderReport) (h : HeaderValue) (o : List ℕ) where
+module _ {D : Type 0} (state_of : D → DrainState) (a : Out D) (s : FinderState) (old new : FinderReport)
+    (h : HeaderValue) (o : List ℕ) where
   pub whole-put : (x : Bool) (c : List ℕ) → s ≡ old.state → c ≡ contents_in h o → PassesOrStays old new h c x
-      → Puts {T = Bool} {E = WriteFault} state_of a a (put_if_followed {E = WriteFault} (Ok x) (effect_of check_step s (whole_events h o)).put) (Ok x)
+      → Puts {T = Bool} {E = WriteFault} state_of a a
+          (put_if_followed {E = WriteFault} (Ok x) (effect_of check_step s (whole_events h o)).put) (Ok x)
   whole-put false c e same p = puts_nothing state_of a false
   whole-put true c e same q =
       let p = subst (λ (l : List ℕ). PassesPrimitive old new h l) same q in
-      rw e (puts_text state_of a a [] _ (Ok true) (sym (ap (λ (k : Effect FinderState). k.put) (whole-checked old.state h o p.begins p.ends))) (puts_nothing state_of a true))
+      rw e
+          (puts_text state_of a a [] _ (Ok true)
+              (sym (ap (λ (k : Effect FinderState). k.put) (whole-checked old.state h o p.begins p.ends)))
+              (puts_nothing state_of a true))
 
-pub whole-state : (s t : FinderState) (old new : FinderReport) (h : HeaderValue) (o c : List ℕ) (x : Bool) → s ≡ old.state → t ≡ new.state → c ≡ contents_in h o → PassesOrStays old new h c x
+pub whole-state : (s t : FinderState) (old new : FinderReport) (h : HeaderValue) (o c : List ℕ) (x : Bool)
+    → s ≡ old.state → t ≡ new.state → c ≡ contents_in h o → PassesOrStays old new h c x
     → HasEffectOrNone {E = WriteFault} (effect_of check_step s (whole_events h o)) s t (Ok x)
 whole-state s t old new h o c false e f same p = f ∙ ap (λ (u : FinderReport). u.state) p ∙ sym e
 whole-state s t old new h o c true e f same q =
     let p = subst (λ (l : List ℕ). PassesPrimitive old new h l) same q in
     let all = whole-checked old.state h o p.begins p.ends in
-    rw (e, f) (ap (λ (u : FinderReport). u.state) p.state ∙ sym (ap (λ (k : Effect FinderState). k.state) all), ap (λ (k : Effect FinderState). k.goes) all)
+    rw (e, f)
+        (ap (λ (u : FinderReport). u.state) p.state ∙ sym (ap (λ (k : Effect FinderState). k.state) all),
+            ap (λ (k : Effect FinderState). k.goes) all)

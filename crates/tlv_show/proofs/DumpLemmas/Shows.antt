@@ -29,19 +29,25 @@ showing framing text count = record {
 }
 
 -- a follower, and what it makes of readings: a text, and a count in its state
-pub record Shower {S : Type 0} (next : S → EventValue → Effect S) (first : S) (framing : Framing) (text : Forest → List ℕ) (count : Forest → ℕ) (count_in : S → ℕ) : Type 0 where
+pub record Shower {S : Type 0} (next : S → EventValue → Effect S) (first : S) (framing : Framing)
+    (text : Forest → List ℕ) (count : Forest → ℕ) (count_in : S → ℕ) : Type 0 where
   pub goes_on : (s : S) (es : List EventValue) → (effect_of next s es).goes ≡ go.On
-  pub put : (octets : List ℕ) (f : Forest) → length octets ≤ 2 ^ 40 → IsReading framing octets f → (effect_of next first (events f)).put ≡ text f
-  pub counts : (octets : List ℕ) (f : Forest) → length octets ≤ 2 ^ 40 → IsReading framing octets f → count_in (effect_of next first (events f)).state ≡ count f
+  pub put : (octets : List ℕ) (f : Forest) → length octets ≤ 2 ^ 40 → IsReading framing octets f
+      → (effect_of next first (events f)).put ≡ text f
+  pub counts : (octets : List ℕ) (f : Forest) → length octets ≤ 2 ^ 40 → IsReading framing octets f
+      → count_in (effect_of next first (events f)).state ≡ count f
 
-module _ {S : Type 0} (next : S → EventValue → Effect S) (first : S) (framing : Framing) (text : Forest → List ℕ) (count : Forest → ℕ) (count_in : S → ℕ)
+module _ {S : Type 0} (next : S → EventValue → Effect S) (first : S) (framing : Framing) (text : Forest → List ℕ)
+    (count : Forest → ℕ) (count_in : S → ℕ)
     (w : Shower next first framing text count count_in) (t : S) (old new : SourceState) (from to : DrainState) where
   -- it never has enough
-  goes_on : (octets : List ℕ) (f : Forest) → length octets ≤ 2 ^ 40 → IsReading framing octets f → had_enough (effect_of next first (events f)).goes ≡ false
+  goes_on : (octets : List ℕ) (f : Forest) → length octets ≤ 2 ^ 40 → IsReading framing octets f
+      → had_enough (effect_of next first (events f)).goes ≡ false
   goes_on octets f few r = ap had_enough (w.goes_on first (events f))
 
   -- an outcome with these values
-  outcome_is : (outcome : Outcome) (e : Ending) (n : ℕ) (unused : Option ℕ) → outcome.ending ≡ e → outcome.findings ≡ n → outcome.unused ≡ unused
+  outcome_is : (outcome : Outcome) (e : Ending) (n : ℕ) (unused : Option ℕ) → outcome.ending ≡ e
+      → outcome.findings ≡ n → outcome.unused ≡ unused
       → outcome ≡ record { ending = e; findings = n; unused = unused }
   outcome_is outcome e n unused p q r =
       ap (λ (x : Ending). record { ending = x; findings = outcome.findings; unused = outcome.unused }) p
@@ -49,12 +55,21 @@ module _ {S : Type 0} (next : S → EventValue → Effect S) (first : S) (framin
       ∙ ap (λ (x : Option ℕ). record { ending = e; findings = n; unused = x }) r
 
   -- the run over all events
-  run_on : (f : Forest) (e : Ending) → run_over framing f (followed_events next first (events f)) (effect_of next first (events f)).goes e
-      ≡ record { ending = e; octets = length (spelling f); enough = false; unused = first_without_wrapper framing.inside f }
-  run_on f e = ap (λ (g : Go). run_over framing f (followed_events next first (events f)) g e) (w.goes_on first (events f))
+  run_on : (f : Forest) (e : Ending)
+      → run_over framing f (followed_events next first (events f)) (effect_of next first (events f)).goes e
+      ≡ record {
+        ending = e;
+        octets = length (spelling f);
+        enough = false;
+        unused = first_without_wrapper framing.inside f;
+      }
+  run_on f e =
+      ap (λ (g : Go). run_over framing f (followed_events next first (events f)) g e) (w.goes_on first (events f))
 
-  pub shows_ok : (run : Run) (outcome : Outcome) → outcome.ending ≡ run.ending → outcome.findings ≡ count_in t → outcome.unused ≡ run.unused
-      → Drives next framing (2 ^ 40) (drive_states first old from) (drive_states t new to) (Ok run) → Runs (showing framing text count) (device_states old from) (device_states new to) (Ok outcome)
+  pub shows_ok : (run : Run) (outcome : Outcome) → outcome.ending ≡ run.ending → outcome.findings ≡ count_in t
+      → outcome.unused ≡ run.unused
+      → Drives next framing (2 ^ 40) (drive_states first old from) (drive_states t new to) (Ok run)
+          → Runs (showing framing text count) (device_states old from) (device_states new to) (Ok outcome)
   shows_ok run outcome ending findings unused x =
       jobs.runs_ok next (showing framing text count) first w.put goes_on t old new from to run outcome x
       (λ octets f e few r state is. outcome_is outcome e (count f) (first_without_wrapper framing.inside f)
@@ -62,5 +77,7 @@ module _ {S : Type 0} (next : S → EventValue → Effect S) (first : S) (framin
       (findings ∙ ap count_in state ∙ w.counts octets f few r)
       (unused ∙ ap (λ (k : Run). k.unused) (is ∙ run_on f e)))
 
-  pub shows_err : (e : DeviceFault) → Drives next framing (2 ^ 40) (drive_states first old from) (drive_states t new to) (Err e) → Runs (showing framing text count) (device_states old from) (device_states new to) (Err e)
+  pub shows_err : (e : DeviceFault)
+      → Drives next framing (2 ^ 40) (drive_states first old from) (drive_states t new to) (Err e)
+      → Runs (showing framing text count) (device_states old from) (device_states new to) (Err e)
   shows_err e x = jobs.runs_err next (showing framing text count) first w.put goes_on t old new from to e x

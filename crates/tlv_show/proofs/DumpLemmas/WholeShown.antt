@@ -10,7 +10,8 @@ use Rattle.tlv_io.specs.declared.drain.WriteFault.{WriteFault}
 use Rattle.tlv_io.specs.declared.out.Out.{Out}
 use Rattle.tlv_io.specs.Device.{DrainState}
 use Rattle.tlv_walk.specs.Events.{Begin, Bytes, End}
-use Rattle.tlv_walk.specs.Follow.{Effect, HasEffectOrNone, IsWholeElement, contents_in, effect_of, effect_with, put_if_followed, whole_events}
+use Rattle.tlv_walk.specs.Follow.{Effect, HasEffectOrNone, IsWholeElement, contents_in, effect_of, effect_with}
+use Rattle.tlv_walk.specs.Follow.{put_if_followed, whole_events}
 use Rattle.tlv_io.specs.Out.{Puts}
 use Rattle.tlv_io.proofs.Puts.{HasPut, puts_as, puts_failed_last, puts_text}
 use Rattle.tlv_show.specs.declared.finding_lines.Style.TheVariants.{Dump}
@@ -29,29 +30,40 @@ lines_of s h c = whole_lines (finite.get s.lines.names) h s.lines.layout c
 abbrev pub after_whole : DumpState → HeaderValue → List ℕ → DumpState
 after_whole s h c = pair (lines_after_primitive s.lines h c) (finder_whole_step s.finder h c).state
 
-pub whole_is : (s : DumpState) (h : HeaderValue) (c : List ℕ) → announced_length h.size ≡ length c → (finder_begin_step s.finder h).found ≡ [] → (finder_whole_step s.finder h c).found ≡ []
+pub whole_is : (s : DumpState) (h : HeaderValue) (c : List ℕ) → announced_length h.size ≡ length c
+    → (finder_begin_step s.finder h).found ≡ [] → (finder_whole_step s.finder h c).found ≡ []
     → effect_of dump_step s (Begin h ∷ Bytes c ∷ End ∷ []) ≡ effect_with (after_whole s h c) (lines_of s h c)
 whole_is s h c size begins ends =
     let b : FinderReport = finder_begin_step s.finder h in
     let f : FinderReport = finder_whole_step s.finder h c in
     let style = Dump s.lines.layout.pure in
     primitive-by s.lines s.finder h c
-    ∙ ap (λ (d : Effect LinesState). effect_with (pair d.state f.state) (texts s.lines.layout b ++ (d.put ++ texts s.lines.layout f))) (primitives_shown s.lines h c size)
-    ∙ ap₂ (λ (k l : List Finding). effect_with (after_whole s h c) (styled_lines style b.level b.offset k ++ (lines_of s h c ++ styled_lines style f.level f.offset l))) begins ends
+    ∙ ap (λ (d : Effect LinesState). effect_with (pair d.state f.state)
+        (texts s.lines.layout b ++ (d.put ++ texts s.lines.layout f)))
+        (primitives_shown s.lines h c size)
+    ∙ ap₂
+        (λ (k l : List Finding). effect_with (after_whole s h c)
+            (styled_lines style b.level b.offset k ++ (lines_of s h c ++ styled_lines style f.level f.offset l)))
+        begins ends
     ∙ ap (effect_with (after_whole s h c)) (append-nil (lines_of s h c))
 
 -- the events of its octets
-pub octets_are : (s : DumpState) (h : HeaderValue) (o c : List ℕ) → c ≡ contents_in h o → announced_length h.size ≡ length c → (finder_begin_step s.finder h).found ≡ [] → (finder_whole_step s.finder h c).found ≡ []
+pub octets_are : (s : DumpState) (h : HeaderValue) (o c : List ℕ) → c ≡ contents_in h o
+    → announced_length h.size ≡ length c → (finder_begin_step s.finder h).found ≡ []
+    → (finder_whole_step s.finder h c).found ≡ []
     → effect_of dump_step s (whole_events h o) ≡ effect_with (after_whole s h c) (lines_of s h c)
 octets_are s h o c same size begins ends =
-    ap (λ (l : List ℕ). effect_of dump_step s (Begin h ∷ Bytes l ∷ End ∷ [])) (sym same) ∙ whole_is s h c size begins ends
+    ap (λ (l : List ℕ). effect_of dump_step s (Begin h ∷ Bytes l ∷ End ∷ [])) (sym same)
+        ∙ whole_is s h c size begins ends
 
 -- if a finder took the primitive
-took : (old new : FinderReport) (h : HeaderValue) (c : List ℕ) (x : Bool) → x ≡ true → PassesOrStays old new h c x → PassesPrimitive old new h c
+took : (old new : FinderReport) (h : HeaderValue) (c : List ℕ) (x : Bool) → x ≡ true → PassesOrStays old new h c x
+    → PassesPrimitive old new h c
 took old new h c true e p = p
 took old new h c false e p = absurd (true≢false (sym e))
 
-module _ (s u : DumpState) (old new : FinderReport) (h : HeaderValue) (o c : List ℕ) (x : Bool) (is : u ≡ s) (finder : u.finder ≡ old.state) (same : c ≡ contents_in h o) (whole : IsWholeElement h o)
+module _ (s u : DumpState) (old new : FinderReport) (h : HeaderValue) (o c : List ℕ) (x : Bool) (is : u ≡ s)
+    (finder : u.finder ≡ old.state) (same : c ≡ contents_in h o) (whole : IsWholeElement h o)
     (on : x ≡ true) (passes : PassesOrStays old new h c x) where
   pub made_is : effect_of dump_step s (whole_events h o) ≡ effect_with (after_whole u h c) (lines_of u h c)
   made_is =
@@ -62,17 +74,27 @@ module _ (s u : DumpState) (old new : FinderReport) (h : HeaderValue) (o c : Lis
   pub stands_after : (l : LinesState) → l ≡ lines_after_primitive u.lines h c → pair l new.state ≡ after_whole u h c
   stands_after l e =
       let p = took old new h c x on passes in
-      ap₂ pair e (ap (λ (f : FinderReport). f.state) p.state ∙ ap (λ (f : FinderState). (finder_whole_step f h c).state) (sym finder))
+      ap₂ pair e
+          (ap (λ (f : FinderReport). f.state) p.state
+              ∙ ap (λ (f : FinderState). (finder_whole_step f h c).state) (sym finder))
 
 -- ---- by a call that may leave them to others
 
-module _ {D : Type 0} (state_of : D → DrainState) (a b : Out D) (m : Effect DumpState) (s : DumpState) (put : List ℕ) (is : m ≡ effect_with s put) where
-  pub shown-put : HasPut state_of a b put → Puts {T = Bool} {E = WriteFault} state_of a b (put_if_followed {E = WriteFault} (Ok true) m.put) (Ok true)
+module _ {D : Type 0} (state_of : D → DrainState) (a b : Out D) (m : Effect DumpState) (s : DumpState) (put : List ℕ)
+    (is : m ≡ effect_with s put) where
+  pub shown-put : HasPut state_of a b put
+      → Puts {T = Bool} {E = WriteFault} state_of a b (put_if_followed {E = WriteFault} (Ok true) m.put) (Ok true)
   shown-put p = puts_as state_of a b put m.put tt true p (sym (ap (λ (k : Effect DumpState). k.put) is))
 
-  pub shown-failed : (e : WriteFault) (r : Result Bool WriteFault) → Puts {T = ⊤} {E = WriteFault} state_of a b put (Err e) → IsErr r → Puts state_of a b (put_if_followed r m.put) r
+  pub shown-failed : (e : WriteFault) (r : Result Bool WriteFault)
+      → Puts {T = ⊤} {E = WriteFault} state_of a b put (Err e) → IsErr r
+      → Puts state_of a b (put_if_followed r m.put) r
   shown-failed e (Ok x) p h = absurd (true≢false (sym h))
-  shown-failed e (Err f) p h = puts_text state_of a b put m.put (Err f) (sym (ap (λ (k : Effect DumpState). k.put) is)) (puts_failed_last state_of a b put e (Err f) p h)
+  shown-failed e (Err f) p h =
+      puts_text state_of a b put m.put (Err f) (sym (ap (λ (k : Effect DumpState). k.put) is))
+          (puts_failed_last state_of a b put e (Err f) p h)
 
-pub shown-state : (m : Effect DumpState) (old new s : DumpState) (put : List ℕ) → m ≡ effect_with s put → new ≡ s → HasEffectOrNone {E = WriteFault} m old new (Ok true)
-shown-state m old new s put is e = (e ∙ sym (ap (λ (k : Effect DumpState). k.state) is), ap (λ (k : Effect DumpState). k.goes) is)
+pub shown-state : (m : Effect DumpState) (old new s : DumpState) (put : List ℕ) → m ≡ effect_with s put → new ≡ s
+    → HasEffectOrNone {E = WriteFault} m old new (Ok true)
+shown-state m old new s put is e =
+    (e ∙ sym (ap (λ (k : Effect DumpState). k.state) is), ap (λ (k : Effect DumpState). k.goes) is)

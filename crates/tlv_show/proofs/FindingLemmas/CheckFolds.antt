@@ -1,5 +1,6 @@
 -- What a check makes of the events of elements is their findings' lines, and their number.
-use Rattle.std.proofs.Common.{◌≡◌, ℕ, ◌+◌, ◌-◌, ◌*◌, ◌^◌, ◌≤◌, ◌==◌, Bool, true, false, if◌then◌else◌, List, [], ◌∷◌, ◌++◌, length, refl, sym, ap, ◌∙◌, arith, length-append}
+use Rattle.std.proofs.Common.{◌≡◌, ℕ, ◌+◌, ◌-◌, ◌*◌, ◌^◌, ◌≤◌, ◌==◌, Bool, true, false, if◌then◌else◌, List, [], ◌∷◌}
+use Rattle.std.proofs.Common.{◌++◌, length, refl, sym, ap, ◌∙◌, arith, length-append}
 use Rattle.std.proofs.lemmas.Grind.{flat_map-append}
 use Rattle.std.proofs.lemmas.List.{length-map}
 use Rattle.std.proofs.lemmas.List.Elements.{filter-append}
@@ -11,9 +12,11 @@ use Rattle.tlv_value.specs.declared.finding.Finding.{Finding}
 use Rattle.tlv_value.specs.Checks.{contents_conditions, findings_by}
 use Rattle.tlv_walk.specs.declared.follow.Go.TheVariants as go
 use Rattle.tlv_walk.specs.declared.framing.Framing.{Framing}
-use Rattle.tlv_walk.specs.Events.{Begin, Bytes, Close, End, Enter, EventValue, Leave, Open, Pad, Unused, end_place, events}
+use Rattle.tlv_walk.specs.Events.{Begin, Bytes, Close, End, Enter, EventValue, Leave, Open, Pad, Unused, end_place}
+use Rattle.tlv_walk.specs.Events.{events}
 use Rattle.tlv_walk.specs.Follow.{Effect, effect_of, if_on}
-use Rattle.tlv_walk.specs.Forest.{Forest, NoMore, PaddingOctet, Primitive, Holder, OpenPrimitive, OpenHolder, OpenBitString, OpenHeader, OpenEndOctets, extent, opening, spelling}
+use Rattle.tlv_walk.specs.Forest.{Forest, NoMore, PaddingOctet, Primitive, Holder, OpenPrimitive, OpenHolder}
+use Rattle.tlv_walk.specs.Forest.{OpenBitString, OpenHeader, OpenEndOctets, extent, opening, spelling}
 use Rattle.tlv_walk.specs.Place.{IsOpen, Place, place_after, place_of_children, top_place}
 use Rattle.tlv_walk.specs.Reading.{IsReading}
 use Rattle.tlv_walk.proofs.GrammarLemmas.PopHeaders.{header-length}
@@ -25,11 +28,13 @@ use Rattle.tlv_show.specs.CheckJob.{check_job}
 use Rattle.tlv_show.specs.CheckStep.{check_step}
 use Rattle.tlv_show.specs.FindingLines.{styled_lines}
 use Rattle.tlv_show.specs.Conditions.{end_conditions, header_conditions, segments_of, surroundings_of}
-use Rattle.tlv_show.specs.FinderState.{FinderState, FinderReport, OpenPrimitiveState, finder_frame_end_step, finder_primitive_end_step, new_check, open_primitive_after}
+use Rattle.tlv_show.specs.FinderState.{FinderState, FinderReport, OpenPrimitiveState, finder_frame_end_step}
+use Rattle.tlv_show.specs.FinderState.{finder_primitive_end_step, new_check, open_primitive_after}
 use Rattle.tlv_show.specs.NestingState.{top_frame}
 use Rattle.tlv_show.specs.Private.FinderState.{finder_step}
 use Rattle.tlv_show.specs.Found.{contents_findings, header_findings, is_shown, end_findings}
-use Rattle.tlv_show.specs.Items.{Item, FindingAt, OpeningLine, ClosingLine, PrimitiveLines, OpenPrimitiveLines, PaddingLine, headers, items}
+use Rattle.tlv_show.specs.Items.{Item, FindingAt, OpeningLine, ClosingLine, PrimitiveLines, OpenPrimitiveLines}
+use Rattle.tlv_show.specs.Items.{PaddingLine, headers, items}
 use Rattle.tlv_show.proofs.FindingLemmas.ElementItems.{findings_at}
 use Rattle.tlv_show.specs.Site.{Site, is_padding, site_of_children, top_site}
 use Rattle.tlv_show.proofs.FindingLemmas.SitesAfter.{site_after, site_after_holder, site_after_padding}
@@ -41,9 +46,11 @@ use Rattle.tlv_show.specs.SaturatingSum.{saturating_sum}
 
 -- ---- lines
 
-written-items : (level offset : ℕ) (fs : List Finding) → flat_map check_line (findings_at level offset fs) ≡ styled_lines Check level offset fs
+written-items : (level offset : ℕ) (fs : List Finding)
+    → flat_map check_line (findings_at level offset fs) ≡ styled_lines Check level offset fs
 written-items level offset [] = refl
-written-items level offset (f ∷ fs) = ap (λ (l : List ℕ). check_line (FindingAt level offset f) ++ l) (written-items level offset fs)
+written-items level offset (f ∷ fs) =
+    ap (λ (l : List ℕ). check_line (FindingAt level offset f) ++ l) (written-items level offset fs)
 
 -- what a check makes of events: what the finder reports of them, listed
 abbrev pub listed_run : Step → Effect FinderState
@@ -54,14 +61,16 @@ followed-run s [] = refl
 followed-run s (e ∷ es) =
     let f : FinderReport = finder_step s e in
     ap (λ (t : Effect FinderState). if_on t.goes t (λ u. effect_of check_step u es)) (step-is s e)
-    ∙ ap (λ (t : Effect FinderState). record t { put = styled_lines Check f.level f.offset f.found ++ t.put }) (followed-run f.state es)
+    ∙ ap (λ (t : Effect FinderState). record t { put = styled_lines Check f.level f.offset f.found ++ t.put })
+        (followed-run f.state es)
     ∙ ap (λ (l : List ℕ). record { state = (run f.state es).state; put = l; goes = go.On })
     (ap (λ (l : List ℕ). l ++ flat_map check_line (run f.state es).put) (sym (written-items f.level f.offset f.found))
     ∙ sym (flat_map-append check_line (found_items f) (run f.state es).put))
 
 pub only-written : (l : List Item) → flat_map check_line (only l) ≡ flat_map check_line l
 only-written [] = refl
-only-written (FindingAt level offset finding ∷ l) = ap (λ (t : List ℕ). check_line (FindingAt level offset finding) ++ t) (only-written l)
+only-written (FindingAt level offset finding ∷ l) =
+    ap (λ (t : List ℕ). check_line (FindingAt level offset finding) ++ t) (only-written l)
 only-written (OpeningLine level h ∷ l) = only-written l
 only-written (ClosingLine level offset ∷ l) = only-written l
 only-written (PrimitiveLines level h c ∷ l) = only-written l
@@ -80,19 +89,27 @@ either-count : (a b : FinderState) (k : Bool) → a.count ≡ b.count → (if k 
 either-count a b true e = sym e
 either-count a b false e = refl
 
-by-primitive : (s : FinderState) (v : Option OpenPrimitiveState) → (finder_primitive_end_step s v).state.count ≡ saturating_sum s.count (length (finder_primitive_end_step s v).found)
+by-primitive : (s : FinderState) (v : Option OpenPrimitiveState)
+    → (finder_primitive_end_step s v).state.count
+        ≡ saturating_sum s.count (length (finder_primitive_end_step s v).found)
 by-primitive s None = count-none s.count
 by-primitive s (Some v) = refl
 
-by-frames : (s : FinderState) (outer : List SiblingFrame) → (finder_frame_end_step s outer).state.count ≡ saturating_sum s.count (length (finder_frame_end_step s outer).found)
+by-frames : (s : FinderState) (outer : List SiblingFrame)
+    → (finder_frame_end_step s outer).state.count
+        ≡ saturating_sum s.count (length (finder_frame_end_step s outer).found)
 by-frames s [] = count-none s.count
 by-frames s (w ∷ outer) = refl
 
 -- an event's findings are counted
-counted-one : (s : FinderState) (e : EventValue) → (finder_step s e).state.count ≡ saturating_sum s.count (length (finder_step s e).found)
+counted-one : (s : FinderState) (e : EventValue)
+    → (finder_step s e).state.count ≡ saturating_sum s.count (length (finder_step s e).found)
 counted-one s (Open h) = refl
 counted-one s (Begin h) = refl
-counted-one s (Bytes octets) = either-count (record s { open_primitive = open_primitive_after s.open_primitive octets }) s (length octets == 0) refl ∙ count-none s.count
+counted-one s (Bytes octets) =
+    either-count (record s { open_primitive = open_primitive_after s.open_primitive octets }) s (length octets == 0)
+        refl
+        ∙ count-none s.count
 counted-one s End = by-primitive s s.open_primitive
 counted-one s (Close offset) = by-frames s s.holders.outer
 counted-one s (Enter h) = refl
@@ -100,39 +117,50 @@ counted-one s Unused = count-none s.count
 counted-one s Leave = by-frames s s.holders.outer
 counted-one s (Pad octets) = count-none s.count
 
-pub counted-all : (s : FinderState) (es : List EventValue) → (run s es).state.count ≡ saturating_sum s.count (length (run s es).put)
+pub counted-all : (s : FinderState) (es : List EventValue)
+    → (run s es).state.count ≡ saturating_sum s.count (length (run s es).put)
 counted-all s [] = count-none s.count
 counted-all s (e ∷ es) =
     let f : FinderReport = finder_step s e in
     counted-all f.state es
     ∙ ap (λ (n : ℕ). saturating_sum n (length (run f.state es).put)) (counted-one s e)
     ∙ count-more s.count (length f.found) (length (run f.state es).put)
-    ∙ ap (saturating_sum s.count) (omega (arith, length-append (found_items f) (run f.state es).put, length-map f.found (FindingAt f.level f.offset)))
+    ∙ ap (saturating_sum s.count)
+        (omega
+            (arith, length-append (found_items f) (run f.state es).put,
+                length-map f.found (FindingAt f.level f.offset)))
 
 -- ---- no count stops
 
 -- of each condition one finding at most
-held-few : (rules : Rules) (rows : List (Bool × Finding)) → length (filter (is_shown rules) (findings_by rows)) ≤ length rows
+held-few : (rules : Rules) (rows : List (Bool × Finding))
+    → length (filter (is_shown rules) (findings_by rows)) ≤ length rows
 held-few rules [] = omega arith
 held-few rules (row ∷ rows) = let e = one-few row.0 (held-few rules rows) in omega (arith, e)
   where
-    kept-few : (k : Bool) (f : Finding) (l : List Finding) (n : ℕ) → length l ≤ n → length (if k then f ∷ l else l) ≤ n + 1
+    kept-few : (k : Bool) (f : Finding) (l : List Finding) (n : ℕ) → length l ≤ n
+        → length (if k then f ∷ l else l) ≤ n + 1
     kept-few true f l n e = omega (arith, e)
     kept-few false f l n e = omega (arith, e)
 
-    one-few : (b : Bool) → length (filter (is_shown rules) (findings_by rows)) ≤ length rows → length (filter (is_shown rules) ((if b then row.1 ∷ [] else []) ++ findings_by rows)) ≤ length rows + 1
+    one-few : (b : Bool) → length (filter (is_shown rules) (findings_by rows)) ≤ length rows
+        → length (filter (is_shown rules) ((if b then row.1 ∷ [] else []) ++ findings_by rows)) ≤ length rows + 1
     one-few true e = kept-few (is_shown rules row.1) row.1 (filter (is_shown rules) (findings_by rows)) (length rows) e
     one-few false e = omega (arith, e)
 
 module _ (rules : Rules) where
-  few-at : (level offset : ℕ) (fs : List Finding) (rest : List Item) (n m : ℕ) → length fs ≤ n → length (only rest) ≤ m → length (only (findings_at level offset fs ++ rest)) ≤ n + m
+  few-at : (level offset : ℕ) (fs : List Finding) (rest : List Item) (n m : ℕ) → length fs ≤ n
+      → length (only rest) ≤ m → length (only (findings_at level offset fs ++ rest)) ≤ n + m
   few-at level offset [] rest n m e f = omega (arith, e, f)
-  few-at level offset (x ∷ fs) rest n m e f = let g = few-after (few-at level offset fs rest (n - 1) m (omega (arith, e)) f) in omega (arith, g)
+  few-at level offset (x ∷ fs) rest n m e f =
+      let g = few-after (few-at level offset fs rest (n - 1) m (omega (arith, e)) f) in omega (arith, g)
     where
-      few-after : length (only (findings_at level offset fs ++ rest)) ≤ n - 1 + m → length (only (findings_at level offset fs ++ rest)) + 1 ≤ n + m
+      few-after : length (only (findings_at level offset fs ++ rest)) ≤ n - 1 + m
+          → length (only (findings_at level offset fs ++ rest)) + 1 ≤ n + m
       few-after g = omega (arith, g, e)
 
-  few-pads : (k : Bool) (level offset : ℕ) (l : List Item) → length (only ((if k then [] else PaddingLine level offset ∷ []) ++ l)) ≡ length (only l)
+  few-pads : (k : Bool) (level offset : ℕ) (l : List Item)
+      → length (only ((if k then [] else PaddingLine level offset ∷ []) ++ l)) ≡ length (only l)
   few-pads true level offset l = refl
   few-pads false level offset l = refl
 
@@ -146,36 +174,64 @@ module _ (rules : Rules) where
   few-end h inside = held-few rules (end_conditions (segments_of h (headers inside)))
 
   -- at most 16 findings for each octet
-  pub few : (p : Place) (s : Site) (f : Forest) → IsOpen p f → length (only (items rules s f)) ≤ 16 * length (spelling f)
+  pub few : (p : Place) (s : Site) (f : Forest) → IsOpen p f
+      → length (only (items rules s f)) ≤ 16 * length (spelling f)
   few p s NoMore v = omega arith
   few p s (PaddingOctet rest) v =
-      omega (arith, few-pads (is_padding s.previous) s.level s.offset (items rules (site_after_padding s) rest), few (place_after p 1) (site_after_padding s) rest v.1)
+      omega
+          (arith, few-pads (is_padding s.previous) s.level s.offset (items rules (site_after_padding s) rest),
+              few (place_after p 1) (site_after_padding s) rest v.1)
   few p s (Primitive h c rest) v =
       let r = few (place_after p (length (octets_of h) + length c)) (site_after s h c) rest v.1 in
-      let inner : List Item = findings_at s.level h.offset (contents_findings rules h c) ++ items rules (site_after s h c) rest in
-      let b = few-at s.level h.offset (contents_findings rules h c) (items rules (site_after s h c) rest) 15 _ (few-contents h c) r in
-      let a = few-at s.level h.offset (header_findings rules (surroundings_of s) h) (PrimitiveLines s.level h c ∷ inner) 14 _ (few-header s h) b in
+      let inner : List Item =
+          findings_at s.level h.offset (contents_findings rules h c) ++ items rules (site_after s h c) rest in
+      let b =
+          few-at s.level h.offset (contents_findings rules h c) (items rules (site_after s h c) rest) 15
+              _ (few-contents h c) r in
+      let a =
+          few-at s.level h.offset (header_findings rules (surroundings_of s) h) (PrimitiveLines s.level h c ∷ inner)
+              14 _ (few-header s h) b in
       omega (arith, a, header-length h v.0.0.header.valid, length-primitive h c rest)
   few p s (Holder h inside rest) v =
       let i = few (place_of_children p h) (site_of_children s h) inside v.1 in
       let r = few (place_after p (extent h inside)) (site_after_holder s h inside) rest v.2 in
-      let last : List Item = findings_at s.level h.offset (end_findings rules (segments_of h (headers inside))) ++ items rules (site_after_holder s h inside) rest in
-      let b = few-at s.level h.offset (end_findings rules (segments_of h (headers inside))) (items rules (site_after_holder s h inside) rest) 2 _ (few-end h inside) r in
-      let m = few-both (items rules (site_of_children s h) inside) (ClosingLine s.level (if h.constructed then end_place h inside else None) ∷ last) _ _ i b in
-      let a = few-at s.level h.offset (header_findings rules (surroundings_of s) h) (OpeningLine s.level h ∷ (items rules (site_of_children s h) inside ++ ClosingLine s.level (if h.constructed then end_place h inside else None) ∷ last)) 14 _ (few-header s h) m in
+      let last : List Item =
+          findings_at s.level h.offset (end_findings rules (segments_of h (headers inside)))
+              ++ items rules (site_after_holder s h inside) rest in
+      let b =
+          few-at s.level h.offset (end_findings rules (segments_of h (headers inside)))
+              (items rules (site_after_holder s h inside) rest) 2 _ (few-end h inside) r in
+      let m =
+          few-both (items rules (site_of_children s h) inside)
+              (ClosingLine s.level (if h.constructed then end_place h inside else None) ∷ last) _ _ i b in
+      let a =
+          few-at s.level h.offset (header_findings rules (surroundings_of s) h)
+              (OpeningLine s.level h
+                  ∷ (items rules (site_of_children s h) inside
+                      ++ ClosingLine s.level (if h.constructed then end_place h inside else None) ∷ last))
+              14 _ (few-header s h) m in
       omega (arith, a, header-length h v.0.0.header.valid, length-holder h inside rest, length-opening h)
     where
-      few-both : (xs ys : List Item) (n m : ℕ) → length (only xs) ≤ n → length (only ys) ≤ m → length (only (xs ++ ys)) ≤ n + m
-      few-both xs ys n m e f = omega (arith, e, f, ap length (filter-append is_finding xs ys), length-append (only xs) (only ys))
+      few-both : (xs ys : List Item) (n m : ℕ) → length (only xs) ≤ n → length (only ys) ≤ m
+          → length (only (xs ++ ys)) ≤ n + m
+      few-both xs ys n m e f =
+          omega (arith, e, f, ap length (filter-append is_finding xs ys), length-append (only xs) (only ys))
   few p s (OpenPrimitive h c) v =
-      let a = few-at s.level h.offset (header_findings rules (surroundings_of s) h) (OpenPrimitiveLines s.level h c ∷ []) 14 0 (few-header s h) (omega arith) in
+      let a =
+          few-at s.level h.offset (header_findings rules (surroundings_of s) h) (OpenPrimitiveLines s.level h c ∷ [])
+              14 0 (few-header s h) (omega arith) in
       omega (arith, a, header-length h v.0.header.valid, length-append (octets_of h) c)
   few p s (OpenHolder h inside) v =
       let i = few (place_of_children p h) (site_of_children s h) inside v.1 in
-      let a = few-at s.level h.offset (header_findings rules (surroundings_of s) h) (OpeningLine s.level h ∷ items rules (site_of_children s h) inside) 14 _ (few-header s h) i in
-      omega (arith, a, header-length h v.0.0.header.valid, length-append (opening h) (spelling inside), length-opening h)
+      let a =
+          few-at s.level h.offset (header_findings rules (surroundings_of s) h)
+              (OpeningLine s.level h ∷ items rules (site_of_children s h) inside) 14 _ (few-header s h) i in
+      omega
+          (arith, a, header-length h v.0.0.header.valid, length-append (opening h) (spelling inside), length-opening h)
   few p s (OpenBitString h) v =
-      let a = few-at s.level h.offset (header_findings rules (surroundings_of s) h) (OpeningLine s.level h ∷ []) 14 0 (few-header s h) (omega arith) in
+      let a =
+          few-at s.level h.offset (header_findings rules (surroundings_of s) h) (OpeningLine s.level h ∷ []) 14 0
+              (few-header s h) (omega arith) in
       omega (arith, a, header-length h v.0.header.valid)
   few p s (OpenHeader octets) v = omega arith
   few p s OpenEndOctets v = omega arith
@@ -185,19 +241,24 @@ module _ (rules : Rules) where
   abbrev start : FinderState
   start = new_check rules
 
-  module _ (framing : Framing) (octets : List ℕ) (f : Forest) (short : length octets ≤ 2 ^ 40) (r : IsReading framing octets f) where
+  module _ (framing : Framing) (octets : List ℕ) (f : Forest) (short : length octets ≤ 2 ^ 40)
+      (r : IsReading framing octets f) where
     put-is : (run start (events f)).put ≡ only (items rules top_site f)
     put-is = (finds_forest rules (top_place framing) top_site top_frame [] f r.is_open refl refl refl (λ e. refl)).put 0
 
     pub text-made : (effect_of check_step start (events f)).put ≡ (check_job rules framing).text f
-    text-made = ap (λ (t : Effect FinderState). t.put) (followed-run start (events f)) ∙ ap (flat_map check_line) put-is ∙ only-written (items rules top_site f)
+    text-made =
+        ap (λ (t : Effect FinderState). t.put) (followed-run start (events f)) ∙ ap (flat_map check_line) put-is
+            ∙ only-written (items rules top_site f)
 
     pub count-run : (run start (events f)).state.count ≡ finding_count rules f
     count-run =
         let n = length-filter is_finding (items rules top_site f) in
         counted-all start (events f)
         ∙ ap (λ (l : List Item). saturating_sum 0 (length l)) put-is
-        ∙ omega (arith, few (top_place framing) top_site f r.is_open, short, n, ap length r.is_prefix.1, length-append (spelling f) r.is_prefix.0)
+        ∙ omega
+            (arith, few (top_place framing) top_site f r.is_open, short, n, ap length r.is_prefix.1,
+                length-append (spelling f) r.is_prefix.0)
 
     pub count-made : (effect_of check_step start (events f)).state.count ≡ finding_count rules f
     count-made = ap (λ (t : Effect FinderState). t.state.count) (followed-run start (events f)) ∙ count-run
@@ -206,5 +267,11 @@ module _ (rules : Rules) where
 pub all_on : (s : FinderState) (es : List EventValue) → (effect_of check_step s es).goes ≡ go.On
 all_on s es = ap (λ (t : Effect FinderState). t.goes) (followed-run s es)
 
-pub checks : (rules : Rules) (framing : Framing) → Shower check_step (new_check rules) framing (check_job rules framing).text (finding_count rules) (λ (s : FinderState). s.count)
-checks rules framing = record { goes_on = all_on; put = λ octets f few r. text-made rules framing octets f few r; counts = λ octets f few r. count-made rules framing octets f few r }
+pub checks : (rules : Rules) (framing : Framing)
+    → Shower check_step (new_check rules) framing (check_job rules framing).text (finding_count rules)
+        (λ (s : FinderState). s.count)
+checks rules framing = record {
+  goes_on = all_on;
+  put = λ octets f few r. text-made rules framing octets f few r;
+  counts = λ octets f few r. count-made rules framing octets f few r;
+}

@@ -1,5 +1,6 @@
 -- Contents in pieces are checked as contents at once.
-use Rattle.std.proofs.Common.{◌≡◌, ◌-◌, ◌==◌, Bool, true, false, ℕ, List, [], ◌∷◌, ◌++◌, length, take, refl, sym, ap, ◌∙◌, arith, append-nil}
+use Rattle.std.proofs.Common.{◌≡◌, ◌-◌, ◌==◌, Bool, true, false, ℕ, List, [], ◌∷◌, ◌++◌, length, take, refl, sym, ap}
+use Rattle.std.proofs.Common.{◌∙◌, arith, append-nil}
 use Rattle.std.proofs.lemmas.Bool.Decides.{nat_tests}
 use Rattle.std.specs.Prelude.{Option, Some, None}
 use Rattle.tlv_value.specs.ValueCheckState.{ValueCheckState, value_check_after}
@@ -11,30 +12,38 @@ use Rattle.tlv_show.specs.declared.finding_lines.Style.{Style}
 use Rattle.tlv_show.specs.declared.finding_lines.Style.TheVariants.{Check}
 use Rattle.tlv_show.specs.CheckStep.{check_octet_step, check_step, findings_effect}
 use Rattle.tlv_show.specs.FindingLines.{last_finding_lines, styled_lines}
-use Rattle.tlv_show.specs.FinderState.{FinderState, FinderReport, OpenPrimitiveState, finder_bytes_step, open_primitive_after}
+use Rattle.tlv_show.specs.FinderState.{FinderState, FinderReport, OpenPrimitiveState, finder_bytes_step}
+use Rattle.tlv_show.specs.FinderState.{open_primitive_after}
 use Rattle.tlv_show.specs.Private.FinderState.{ReportsFindings, finder_step, with_findings_if}
 use Rattle.tlv_show.proofs.DumpLemmas.Dumped.{take-both}
 
-primitive-join : (v : Option OpenPrimitiveState) (x y : List ℕ) → open_primitive_after (open_primitive_after v x) y ≡ open_primitive_after v (x ++ y)
+primitive-join : (v : Option OpenPrimitiveState) (x y : List ℕ)
+    → open_primitive_after (open_primitive_after v x) y ≡ open_primitive_after v (x ++ y)
 primitive-join None x y = refl
 primitive-join (Some v) x y =
     ap (λ (t : ValueCheckState). Some (record v { check = t }))
-    (checks-join v.check (take v.check.left x) (take (v.check.left - length (take v.check.left x)) y) ∙ ap (value_check_after v.check) (sym (take-both v.check.left x y)))
+    (checks-join v.check (take v.check.left x) (take (v.check.left - length (take v.check.left x)) y)
+        ∙ ap (value_check_after v.check) (sym (take-both v.check.left x y)))
 
 pub one-or-more : (x : ℕ) (octets : List ℕ) → (length (x ∷ octets) == 0) ≡ false
 one-or-more x octets = grind (arith, nat_tests)
 
-pub found-join : (s : FinderState) (x y : List ℕ) → finder_bytes_step s (x ++ y) ≡ finder_bytes_step (finder_bytes_step s x) y
+pub found-join : (s : FinderState) (x y : List ℕ)
+    → finder_bytes_step s (x ++ y) ≡ finder_bytes_step (finder_bytes_step s x) y
 found-join s [] y = refl
 found-join s (a ∷ x) [] = ap (λ (l : List ℕ). finder_bytes_step s (a ∷ l)) (append-nil x)
 found-join s (a ∷ x) (b ∷ y) =
     rw (one-or-more a (x ++ b ∷ y), one-or-more a x, one-or-more b y)
-    (ap (λ (v : Option OpenPrimitiveState). record s { open_primitive = v }) (sym (primitive-join s.open_primitive (a ∷ x) (b ∷ y))))
+    (ap (λ (v : Option OpenPrimitiveState). record s { open_primitive = v })
+        (sym (primitive-join s.open_primitive (a ∷ x) (b ∷ y))))
 
 -- octet by octet
-pub each-found : (s : FinderState) (octets : List ℕ) → each_octet check_octet_step s octets ≡ no_effect (finder_bytes_step s octets)
+pub each-found : (s : FinderState) (octets : List ℕ)
+    → each_octet check_octet_step s octets ≡ no_effect (finder_bytes_step s octets)
 each-found s [] = refl
-each-found s (x ∷ octets) = each-found (finder_bytes_step s (x ∷ [])) octets ∙ ap (λ (u : FinderState). no_effect u) (sym (found-join s (x ∷ []) octets))
+each-found s (x ∷ octets) =
+    each-found (finder_bytes_step s (x ∷ [])) octets
+        ∙ ap (λ (u : FinderState). no_effect u) (sym (found-join s (x ∷ []) octets))
 
 -- an event is what the finder makes of it, listed
 pub step-is : (s : FinderState) (e : EventValue) → check_step s e ≡ findings_effect (finder_step s e)
@@ -49,7 +58,8 @@ step-is s Leave = refl
 step-is s (Pad octets) = refl
 
 -- what was reported, if anything was, is all that there is
-pub last-same : (style : Style) (f v : FinderReport) (has_findings : Bool) → ReportsFindings f v has_findings → last_finding_lines style (with_findings_if has_findings v) ≡ last_finding_lines style f
+pub last-same : (style : Style) (f v : FinderReport) (has_findings : Bool) → ReportsFindings f v has_findings
+    → last_finding_lines style (with_findings_if has_findings v) ≡ last_finding_lines style f
 last-same style f v true e = ap (last_finding_lines style) e
 last-same style f v false e = sym (ap (styled_lines style f.level f.offset) e.1)
 
@@ -59,8 +69,13 @@ last-state f v false e = e.0
 
 -- what was reported and put is what the step says
 module _ (s t : FinderState) (v : FinderReport) (has_findings : Bool) (e : EventValue) where
-  pub step-text : s ≡ t → ReportsFindings (finder_step t e) v has_findings → last_finding_lines Check (with_findings_if has_findings v) ≡ (check_step s e).put
-  step-text i f = rw i (last-same Check (finder_step t e) v has_findings f ∙ ap (λ (k : Effect FinderState). k.put) (sym (step-is t e)))
+  pub step-text : s ≡ t → ReportsFindings (finder_step t e) v has_findings
+      → last_finding_lines Check (with_findings_if has_findings v) ≡ (check_step s e).put
+  step-text i f =
+      rw i
+          (last-same Check (finder_step t e) v has_findings f
+              ∙ ap (λ (k : Effect FinderState). k.put) (sym (step-is t e)))
 
-  pub step-state : s ≡ t → ReportsFindings (finder_step t e) v has_findings → (v.state ≡ (check_step s e).state) × (go.On ≡ (check_step s e).goes)
+  pub step-state : s ≡ t → ReportsFindings (finder_step t e) v has_findings
+      → (v.state ≡ (check_step s e).state) × (go.On ≡ (check_step s e).goes)
   step-state i f = rw i (rw (step-is t e) (last-state (finder_step t e) v has_findings f, refl))

@@ -15,7 +15,8 @@ any_of test rules [] = false
 any_of test rules (row ∷ rows) = (if is_shown rules row.1 && test row.1 then row.0 else false) || any_of test rules rows
 
 -- one condition, and the findings of others
-one-found : (test : Finding → Bool) (rules : Rules) (there shown asked : Bool) (f : Finding) (fs : List Finding) → is_shown rules f ≡ shown → test f ≡ asked
+one-found : (test : Finding → Bool) (rules : Rules) (there shown asked : Bool) (f : Finding) (fs : List Finding)
+    → is_shown rules f ≡ shown → test f ≡ asked
     → list_any test (filter (is_shown rules) ((if there then f ∷ [] else []) ++ fs))
     ≡ ((if shown && asked then there else false) || list_any test (filter (is_shown rules) fs))
 one-found test rules false true true f fs s t = refl

@@ -1,15 +1,18 @@
 -- What a frame says of the elements around, after each element.
-use Rattle.std.proofs.Common.{◌≡◌, ℕ, ◌&&◌, ◌||◌, ◌==◌, not, Bool, true, false, if◌then◌else◌, List, [], ◌∷◌, refl, sym, subst, ap, ap₂, ◌∙◌}
+use Rattle.std.proofs.Common.{◌≡◌, ℕ, ◌&&◌, ◌||◌, ◌==◌, not, Bool, true, false, if◌then◌else◌, List, [], ◌∷◌, refl, sym}
+use Rattle.std.proofs.Common.{subst, ap, ap₂, ◌∙◌}
 use Rattle.std.proofs.lemmas.Bool.{eqb-true}
 use Rattle.std.specs.Prelude.{Option, None, eqb, Some}
 use Rattle.tlv_head.specs.Header.{HeaderValue, announced_length, is_universal}
-use Rattle.tlv_value.specs.ValueCheckState.{value_check_after, has_unused_bits, begins_nonzero, new_value_check, new_value_check_of}
+use Rattle.tlv_value.specs.ValueCheckState.{value_check_after, has_unused_bits, begins_nonzero, new_value_check}
+use Rattle.tlv_value.specs.ValueCheckState.{new_value_check_of}
 use Rattle.tlv_head.specs.UniversalTypes.{bit_string, octet_string}
 use Rattle.tlv_value.specs.Types.{has_segments, is_a, is_primitive, type_number}
 use Rattle.tlv_value.proofs.CheckLemmas.CheckPieces.{checked-none}
 use Rattle.tlv_show.specs.declared.sibling_frame.SiblingFrame.{SiblingFrame}
 use Rattle.tlv_show.specs.Conditions.{follows_unused_bits, is_not_full, Surroundings}
-use Rattle.tlv_show.specs.NestingState.{frame_after, frame_after_segment, frame_of, frame_under, top_frame, surroundings_in}
+use Rattle.tlv_show.specs.NestingState.{frame_after, frame_after_segment, frame_of, frame_under, top_frame}
+use Rattle.tlv_show.specs.NestingState.{surroundings_in}
 use Rattle.tlv_show.specs.Site.{Sibling, Site, in_bit_string, in_string, site_of_children, Previous, Padding, Start}
 use Rattle.tlv_show.proofs.FindingLemmas.SitesAfter.{site_after_padding}
 use Rattle.tlv_show.proofs.FindingLemmas.SiteWords.{first_octet, is_held_by}
@@ -26,9 +29,12 @@ around holder previous =
     (is_held_by (λ h. has_segments h && is_a bit_string h) holder && follows_unused_bits previous)
     (is_held_by has_segments holder && is_not_full previous)
 
-no-string : (h : HeaderValue) (previous : Previous) → has_segments h ≡ false → around (Some h) previous ≡ surroundings_in top_frame
+no-string : (h : HeaderValue) (previous : Previous) → has_segments h ≡ false
+    → around (Some h) previous ≡ surroundings_in top_frame
 no-string h previous e =
-    ap (λ (k : Bool). made k (k && is_a bit_string h) ((k && is_a bit_string h) && follows_unused_bits previous) (k && is_not_full previous)) e
+    ap (λ (k : Bool). made k (k && is_a bit_string h) ((k && is_a bit_string h) && follows_unused_bits previous)
+        (k && is_not_full previous))
+        e
 
 -- outside of strings
 around-none : (holder : Option HeaderValue) (previous : Previous) → is_held_by has_segments holder ≡ false
@@ -36,7 +42,8 @@ around-none : (holder : Option HeaderValue) (previous : Previous) → is_held_by
 around-none None previous e = refl
 around-none (Some h) previous e = no-string h previous e
 
-in-its-own : (k b : Bool) → made k (k && (k && b)) ((k && (k && b)) && false) (k && false) ≡ made k (k && b) ((k && b) && false) (k && false)
+in-its-own : (k b : Bool)
+    → made k (k && (k && b)) ((k && (k && b)) && false) (k && false) ≡ made k (k && b) ((k && b) && false) (k && false)
 in-its-own true b = refl
 in-its-own false b = refl
 
@@ -46,7 +53,8 @@ knows-inside w s h = by w.has_segments (has_segments h) refl
     of-string : Knows (frame_of h) (site_of_children s h)
     of-string = in-its-own (has_segments h) (is_a bit_string h)
 
-    by : (outside inside : Bool) → has_segments h ≡ inside → Knows (if outside || inside then frame_of h else top_frame) (site_of_children s h)
+    by : (outside inside : Bool) → has_segments h ≡ inside
+        → Knows (if outside || inside then frame_of h else top_frame) (site_of_children s h)
     by true inside e = of-string
     by false true e = of-string
     by false false e = sym (no-string h Start e)
@@ -56,15 +64,21 @@ full-or-not : (k e : Bool) → not (not k && e) ≡ (k || not e)
 full-or-not true e = refl
 full-or-not false e = refl
 
-unused-at : (k : Bool) (n size x : ℕ) (c : List ℕ) → eqb n bit_string ≡ k → has_unused_bits (value_check_after (new_value_check_of n size) (x ∷ c)) ≡ (k && not (x == 0))
-unused-at true n size x c e = subst (λ (m : ℕ). has_unused_bits (value_check_after (new_value_check_of m size) (x ∷ c)) ≡ not (x == 0)) (sym (eqb-true n bit_string e)) refl
-unused-at false n size x c e = ap (λ (k : Bool). k && begins_nonzero (value_check_after (new_value_check_of n size) (x ∷ c)).first_octets) e
+unused-at : (k : Bool) (n size x : ℕ) (c : List ℕ) → eqb n bit_string ≡ k
+    → has_unused_bits (value_check_after (new_value_check_of n size) (x ∷ c)) ≡ (k && not (x == 0))
+unused-at true n size x c e =
+    subst (λ (m : ℕ). has_unused_bits (value_check_after (new_value_check_of m size) (x ∷ c)) ≡ not (x == 0))
+        (sym (eqb-true n bit_string e)) refl
+unused-at false n size x c e =
+    ap (λ (k : Bool). k && begins_nonzero (value_check_after (new_value_check_of n size) (x ∷ c)).first_octets) e
 
-type-is : (universal : Bool) (n : ℕ) → eqb (if universal then n else octet_string) bit_string ≡ (universal && n == bit_string)
+type-is : (universal : Bool) (n : ℕ)
+    → eqb (if universal then n else octet_string) bit_string ≡ (universal && n == bit_string)
 type-is true n = refl
 type-is false n = refl
 
-pub unused-of : (h : HeaderValue) (c : List ℕ) → h.constructed ≡ false → has_unused_bits (value_check_after (new_value_check h) c) ≡ follows_unused_bits (Sibling h (first_octet c))
+pub unused-of : (h : HeaderValue) (c : List ℕ) → h.constructed ≡ false
+    → has_unused_bits (value_check_after (new_value_check h) c) ≡ follows_unused_bits (Sibling h (first_octet c))
 unused-of h [] e = ap has_unused_bits (checked-none h) ∙ by-none (eqb (type_number h) bit_string)
   where
     by-none : (a : Bool) → (a && false) ≡ false
@@ -72,13 +86,16 @@ unused-of h [] e = ap has_unused_bits (checked-none h) ∙ by-none (eqb (type_nu
     by-none false = refl
 unused-of h (x ∷ c) e =
     let t : eqb (type_number h) bit_string ≡ is_a bit_string h = type-is (is_universal h.class) h.number in
-    unused-at (is_a bit_string h) (type_number h) (announced_length h.size) x c t ∙ ap (λ (k : Bool). not k && is_a bit_string h && not (x == 0)) (sym e)
+    unused-at (is_a bit_string h) (type_number h) (announced_length h.size) x c t
+        ∙ ap (λ (k : Bool). not k && is_a bit_string h && not (x == 0)) (sym e)
 
 made-eq : (a a' b b' c c' d d' : Bool) → a ≡ a' → b ≡ b' → c ≡ c' → d ≡ d' → made a b c d ≡ made a' b' c' d'
 made-eq a a' b b' c c' d d' e f g h = rw (e, f, g, h) refl
 
-pub knows-after : (w : SiblingFrame) (s t : Site) (h : HeaderValue) (first : Option ℕ) (unused : Bool) → Knows w s → t.holder ≡ s.holder → t.previous ≡ Sibling h first
-    → unused ≡ follows_unused_bits (Sibling h first) → Knows (frame_after w (is_primitive h) (announced_length h.size) unused) t
+pub knows-after : (w : SiblingFrame) (s t : Site) (h : HeaderValue) (first : Option ℕ) (unused : Bool) → Knows w s
+    → t.holder ≡ s.holder → t.previous ≡ Sibling h first
+    → unused ≡ follows_unused_bits (Sibling h first)
+        → Knows (frame_after w (is_primitive h) (announced_length h.size) unused) t
 knows-after w s t h first unused k e b u = by-segments w.has_segments refl
   where
     same : surroundings_in w ≡ around t.holder s.previous
@@ -95,11 +112,13 @@ knows-after w s t h first unused k e b u = by-segments w.has_segments refl
     by-segments true c =
         made-eq _ _ _ _ _ _ _ _ segments bits
         (ap₂ (λ (x y : Bool). x && y) bits (u ∙ ap follows_unused_bits (sym b)))
-        (ap₂ (λ (x y : Bool). x && y) segments (full-or-not h.constructed (announced_length h.size == 1000) ∙ ap is_not_full (sym b)))
+        (ap₂ (λ (x y : Bool). x && y) segments
+            (full-or-not h.constructed (announced_length h.size == 1000) ∙ ap is_not_full (sym b)))
     by-segments false c =
         let none : in_string t ≡ false = sym segments ∙ c in
         same ∙ around-none t.holder s.previous none ∙ sym (around-none t.holder t.previous none)
 
 pub knows-padding : (w : SiblingFrame) (s : Site) → Knows w s → s.holder ≡ None → Knows w (site_after_padding s)
 knows-padding w s k e =
-    k ∙ ap (λ (o : Option HeaderValue). around o s.previous) e ∙ sym (ap (λ (o : Option HeaderValue). around o Padding) e)
+    k ∙ ap (λ (o : Option HeaderValue). around o s.previous) e
+        ∙ sym (ap (λ (o : Option HeaderValue). around o Padding) e)

@@ -1,5 +1,6 @@
 -- What is found with a header and with an end, by a frame, is what their conditions say.
-use Rattle.std.proofs.Common.{◌≡◌, ℕ, ◌+◌, ◌≤◌, ◌&&◌, Bool, true, false, nat_le, min, if◌then◌else◌, List, [], ◌∷◌, ◌++◌, refl, ap, ◌∙◌, arith}
+use Rattle.std.proofs.Common.{◌≡◌, ℕ, ◌+◌, ◌≤◌, ◌&&◌, Bool, true, false, nat_le, min, if◌then◌else◌, List, [], ◌∷◌}
+use Rattle.std.proofs.Common.{◌++◌, refl, ap, ◌∙◌, arith}
 use Rattle.std.proofs.lemmas.Bool.Decides.{nat_tests}
 use Rattle.std.proofs.lemmas.Grind.{flat_map-append}
 use Rattle.std.specs.List.{filter}
@@ -10,7 +11,8 @@ use Rattle.tlv_value.specs.Checks.{findings_by}
 use Rattle.tlv_show.specs.declared.sibling_frame.SiblingFrame.{SiblingFrame}
 use Rattle.tlv_show.specs.declared.rules.Rules.{Rules}
 use Rattle.tlv_show.specs.declared.rules.Rules.TheVariants.{Ber, Der, Cer}
-use Rattle.tlv_show.specs.Conditions.{header_conditions, Surroundings, basic_conditions, cer_conditions, der_conditions, length_conditions, surroundings_of}
+use Rattle.tlv_show.specs.Conditions.{header_conditions, Surroundings, basic_conditions, cer_conditions, der_conditions}
+use Rattle.tlv_show.specs.Conditions.{length_conditions, surroundings_of}
 use Rattle.tlv_show.specs.NestingState.{surroundings_in}
 use Rattle.tlv_show.specs.Found.{header_findings, is_shown, shown_findings}
 use Rattle.tlv_show.specs.Site.{Site}
@@ -34,7 +36,8 @@ one-shown rules false true f rows e h = rw e h
 one-shown rules false false f rows e h = rw e h
 
 -- what is found by conditions, of which the rules show some
-pub by-shown : (rules : Rules) (rows : List (Bool × Finding)) → shown_findings rules rows ≡ findings_by (shown_conditions rules rows)
+pub by-shown : (rules : Rules) (rows : List (Bool × Finding))
+    → shown_findings rules rows ≡ findings_by (shown_conditions rules rows)
 by-shown rules [] = refl
 by-shown rules (row ∷ rows) = one-shown rules row.0 (is_shown rules row.1) row.1 rows refl (by-shown rules rows)
 
@@ -52,7 +55,8 @@ pub der-found : (s : Surroundings) (h : HeaderValue)
 der-found s h =
     by-shown Der (header_conditions s h)
     ∙ found-more (basic_conditions s h ++ length_conditions h) (der_conditions h)
-    ∙ ap (λ (l : List Finding). l ++ findings_by (der_conditions h)) (found-more (basic_conditions s h) (length_conditions h))
+    ∙ ap (λ (l : List Finding). l ++ findings_by (der_conditions h))
+        (found-more (basic_conditions s h) (length_conditions h))
 
 pub cer-found : (s : Surroundings) (h : HeaderValue)
     → header_findings Cer s h
@@ -60,7 +64,8 @@ pub cer-found : (s : Surroundings) (h : HeaderValue)
 cer-found s h =
     by-shown Cer (header_conditions s h)
     ∙ found-more (basic_conditions s h ++ length_conditions h) (cer_conditions s h)
-    ∙ ap (λ (l : List Finding). l ++ findings_by (cer_conditions s h)) (found-more (basic_conditions s h) (length_conditions h))
+    ∙ ap (λ (l : List Finding). l ++ findings_by (cer_conditions s h))
+        (found-more (basic_conditions s h) (length_conditions h))
 
 pub header-same : (rules : Rules) (w : SiblingFrame) (s : Site) (h : HeaderValue) → Knows w s
     → header_findings rules (surroundings_in w) h ≡ header_findings rules (surroundings_of s) h

@@ -1,20 +1,26 @@
 -- The frames that are kept stand for all frames.
-use Rattle.std.proofs.Common.{zero, suc, ◌≡◌, ℕ, ◌+◌, ◌-◌, ◌<◌, ◌≤◌, ◌||◌, Bool, true, false, nat_lt, if◌then◌else◌, List, [], ◌∷◌, length, None, refl, sym, ap, ap₂, subst, ◌∙◌, arith, ◌&&◌}
+use Rattle.std.proofs.Common.{zero, suc, ◌≡◌, ℕ, ◌+◌, ◌-◌, ◌<◌, ◌≤◌, ◌||◌, Bool, true, false, nat_lt, if◌then◌else◌}
+use Rattle.std.proofs.Common.{List, [], ◌∷◌, length, None, refl, sym, ap, ap₂, subst, ◌∙◌, arith, ◌&&◌}
 use Rattle.std.proofs.lemmas.Bool.Decides.{nat_tests}
 use Rattle.tlv_head.specs.Header.{HeaderValue}
 use Rattle.tlv_value.specs.Types.{has_segments}
 use Rattle.tlv_show.specs.declared.sibling_frame.SiblingFrame.{SiblingFrame}
 use Rattle.tlv_show.specs.declared.sibling_frame.KeptFrame.{KeptFrame}
-use Rattle.tlv_show.specs.NestingState.{NestingState, frame_after, frame_after_segment, frame_of, frame_under, nesting_around, nesting_close_step, nesting_open_step, surroundings_in, top_frame}
-use Rattle.tlv_show.specs.Private.Nesting.{AreKept, IsKept, TakesBack, all_frames, frames_with, innermost_frame, outer_frames, segments_by, segments_left}
+use Rattle.tlv_show.specs.NestingState.{NestingState, frame_after, frame_after_segment, frame_of, frame_under}
+use Rattle.tlv_show.specs.NestingState.{nesting_around, nesting_close_step, nesting_open_step, surroundings_in}
+use Rattle.tlv_show.specs.NestingState.{top_frame}
+use Rattle.tlv_show.specs.Private.Nesting.{AreKept, IsKept, TakesBack, all_frames, frames_with, innermost_frame}
+use Rattle.tlv_show.specs.Private.Nesting.{outer_frames, segments_by, segments_left}
 
 -- ---- how many there are
 
-length-all : (w : SiblingFrame) (n : ℕ) (outer : List SiblingFrame) → length (frames_with w n outer) ≡ n + length outer + 1
+length-all : (w : SiblingFrame) (n : ℕ) (outer : List SiblingFrame)
+    → length (frames_with w n outer) ≡ n + length outer + 1
 length-all w zero outer = omega arith
 length-all w (suc n) outer = let e = length-all w n outer in omega (arith, e)
 
-pub length-outside : (w : SiblingFrame) (n : ℕ) (outer : List SiblingFrame) → length (outer_frames w n outer) ≡ n + length outer
+pub length-outside : (w : SiblingFrame) (n : ℕ) (outer : List SiblingFrame)
+    → length (outer_frames w n outer) ≡ n + length outer
 length-outside w zero outer = omega arith
 length-outside w (suc n) outer = let e = length-all w n outer in omega (arith, e)
 
@@ -45,7 +51,8 @@ nest w n outer = record { frame = innermost_frame w n; outer = outer_frames w n 
 abbrev seen : SiblingFrame → ℕ → ℕ → List KeptFrame → NestingState
 seen w floor level outer = nest w (level - floor) (all_frames floor outer)
 
-split : (w : SiblingFrame) (n : ℕ) (outer : List SiblingFrame) → frames_with w n outer ≡ innermost_frame w n ∷ outer_frames w n outer
+split : (w : SiblingFrame) (n : ℕ) (outer : List SiblingFrame)
+    → frames_with w n outer ≡ innermost_frame w n ∷ outer_frames w n outer
 split w zero outer = refl
 split w (suc n) outer = refl
 
@@ -62,7 +69,8 @@ around-same w (suc n) kept =
 
 -- ---- an element begins
 
-opened-is : (w : SiblingFrame) (n : ℕ) (outer : List SiblingFrame) (h : HeaderValue) → length (outer_frames w n outer) < 128
+opened-is : (w : SiblingFrame) (n : ℕ) (outer : List SiblingFrame) (h : HeaderValue)
+    → length (outer_frames w n outer) < 128
     → nesting_open_step (nest w n outer) h
     ≡ record { frame = frame_under (innermost_frame w n) h; outer = innermost_frame w n ∷ outer_frames w n outer }
 opened-is w n outer h few =
@@ -73,17 +81,21 @@ neither : (a b : Bool) → (a || b) ≡ false → (a ≡ false) × (b ≡ false)
 neither true b e = absurd (cc (e))
 neither false b e = (refl, e)
 
-opened-without_frame : (w : SiblingFrame) (n : ℕ) (outer : List SiblingFrame) (h : HeaderValue) → length (outer_frames w n outer) < 128
-    → IsKept w n → (w.has_segments || has_segments h) ≡ false → nest w (suc n) outer ≡ nesting_open_step (nest w n outer) h
+opened-without_frame : (w : SiblingFrame) (n : ℕ) (outer : List SiblingFrame) (h : HeaderValue)
+    → length (outer_frames w n outer) < 128
+    → IsKept w n → (w.has_segments || has_segments h) ≡ false
+        → nest w (suc n) outer ≡ nesting_open_step (nest w n outer) h
 opened-without_frame w n outer h few kept none =
     let e : w.has_segments ≡ false = (neither w.has_segments (has_segments h) none).0 in
     let f : has_segments h ≡ false = (neither w.has_segments (has_segments h) none).1 in
     ap₂ (λ (a b : Bool). record { frame = if a || b then frame_of h else top_frame; outer = frames_with w n outer })
     (sym (kept ∙ e)) (sym f)
-    ∙ ap (λ (l : List SiblingFrame). record { frame = frame_under (innermost_frame w n) h; outer = l }) (split w n outer)
+    ∙ ap (λ (l : List SiblingFrame). record { frame = frame_under (innermost_frame w n) h; outer = l })
+        (split w n outer)
     ∙ sym (opened-is w n outer h few)
 
-opened-frame : (w : SiblingFrame) (n : ℕ) (outer : List SiblingFrame) (h : HeaderValue) → length (outer_frames w n outer) < 128
+opened-frame : (w : SiblingFrame) (n : ℕ) (outer : List SiblingFrame) (h : HeaderValue)
+    → length (outer_frames w n outer) < 128
     → IsKept w n → (w.has_segments || has_segments h) ≡ true
     → nest (frame_of h) 0 (frames_with w n outer) ≡ nesting_open_step (nest w n outer) h
 opened-frame w n outer h few kept one =
@@ -158,7 +170,8 @@ module _ (w : SiblingFrame) (floor level : ℕ) (outer : List KeptFrame) where
       closed-top (innermost_frame w (level - floor)) (outer_frames w (level - floor) (all_frames floor outer))
       (one_each w floor level outer inside others ∙ top)
 
-pub closes-frame : (w : SiblingFrame) (floor level : ℕ) (outer : List KeptFrame) → AreKept floor outer → floor ≡ level → 0 < level
+pub closes-frame : (w : SiblingFrame) (floor level : ℕ) (outer : List KeptFrame) → AreKept floor outer → floor ≡ level
+    → 0 < level
     → (v : SiblingFrame) (lower : ℕ) (rest : List KeptFrame) → TakesBack w outer v lower rest
     → seen v lower (level - 1) rest ≡ nesting_close_step (seen w floor level outer)
 closes-frame w floor level [] none at_floor any v lower rest back = absurd (omega arith)

@@ -1,5 +1,6 @@
 -- Findings on the number of identifier and length octets come exactly if fewer octets say the same.
-use Rattle.std.proofs.Common.{◌≡◌, ◌≢◌, ℕ, ◌==◌, ◌<◌, ◌≤◌, ◌&&◌, ◌||◌, nat_lt, Bool, true, false, inl, inr, length, refl, sym, ap, ◌∙◌, arith}
+use Rattle.std.proofs.Common.{◌≡◌, ◌≢◌, ℕ, ◌==◌, ◌<◌, ◌≤◌, ◌&&◌, ◌||◌, nat_lt, Bool, true, false, inl, inr, length}
+use Rattle.std.proofs.Common.{refl, sym, ap, ◌∙◌, arith}
 use Rattle.std.proofs.lemmas.Bool.{cases_lt, or_from, or_parts, true≢false}
 use Rattle.std.proofs.lemmas.Bool.Decides.{nat_tests}
 use Rattle.std.proofs.Math.Bool.{and-false, or-false}
@@ -7,10 +8,12 @@ use Rattle.std.specs.List.{list_any}
 use Rattle.tlv_head.specs.Header.{HeaderValue, IsHeader, announced_length}
 use Rattle.tlv_head.specs.Shortest.{IsShortestIdentifier, IsShortestLength}
 use Rattle.tlv_head.proofs.ShortestLemmas.Shortest.{identifier-from, lengths-from}
-use Rattle.tlv_head.proofs.ShortestLemmas.ShortestSpelling.{no-shorter_identifier, no-shorter_length, shorter-identifier, shorter-length}
+use Rattle.tlv_head.proofs.ShortestLemmas.ShortestSpelling.{no-shorter_identifier, no-shorter_length}
+use Rattle.tlv_head.proofs.ShortestLemmas.ShortestSpelling.{shorter-identifier, shorter-length}
 use Rattle.tlv_show.specs.declared.rules.Rules.{Rules}
 use Rattle.tlv_show.specs.declared.rules.Rules.TheVariants.{Ber, Der, Cer}
-use Rattle.tlv_show.specs.Conditions.{length_octet, has_high_form, has_long_form, header_conditions, number_bits, Surroundings}
+use Rattle.tlv_show.specs.Conditions.{length_octet, has_high_form, has_long_form, header_conditions, number_bits}
+use Rattle.tlv_show.specs.Conditions.{Surroundings}
 use Rattle.tlv_show.specs.Found.{header_findings}
 use Rattle.tlv_show.specs.Spellings.{LongerIdentifiersAreFound, LongerLengthsAreFound, is_on_identifier, is_on_lengths}
 use Rattle.tlv_show.proofs.FindingLemmas.FindingsOfHeaders.{any_of, found-with_header}
@@ -31,13 +34,18 @@ from-absurd false none = absurd (none refl)
 abbrev pub longer_identifier : HeaderValue → Bool
 longer_identifier h = (has_high_form h && nat_lt h.number 31) || (has_high_form h && number_bits h == 0)
 
-on-identifier : (rules : Rules) (s : Surroundings) (h : HeaderValue) → any_of is_on_identifier rules (header_conditions s h) ≡ longer_identifier h
-on-identifier Ber s h = ap (λ (b : Bool). (has_high_form h && nat_lt h.number 31) || b) (or-false (has_high_form h && number_bits h == 0))
-on-identifier Der s h = ap (λ (b : Bool). (has_high_form h && nat_lt h.number 31) || b) (or-false (has_high_form h && number_bits h == 0))
-on-identifier Cer s h = ap (λ (b : Bool). (has_high_form h && nat_lt h.number 31) || b) (or-false (has_high_form h && number_bits h == 0))
+on-identifier : (rules : Rules) (s : Surroundings) (h : HeaderValue)
+    → any_of is_on_identifier rules (header_conditions s h) ≡ longer_identifier h
+on-identifier Ber s h =
+    ap (λ (b : Bool). (has_high_form h && nat_lt h.number 31) || b) (or-false (has_high_form h && number_bits h == 0))
+on-identifier Der s h =
+    ap (λ (b : Bool). (has_high_form h && nat_lt h.number 31) || b) (or-false (has_high_form h && number_bits h == 0))
+on-identifier Cer s h =
+    ap (λ (b : Bool). (has_high_form h && nat_lt h.number 31) || b) (or-false (has_high_form h && number_bits h == 0))
 
 -- an identifier as short as it can be has none of them
-pub longer_identifier-absent : (h : HeaderValue) → IsShortestIdentifier h.number h.identifier → longer_identifier h ≡ false
+pub longer_identifier-absent : (h : HeaderValue) → IsShortestIdentifier h.number h.identifier
+    → longer_identifier h ≡ false
 longer_identifier-absent h s = elim (cases_lt 1 (length h.identifier)) [
   | inl more ↦
       let large : 31 ≤ h.number = at-least h.number 31 (λ small. omega (arith, more, s.single small)) in
@@ -52,9 +60,11 @@ longer_identifier-absent h s = elim (cases_lt 1 (length h.identifier)) [
 ]
 
 -- and one that has none is as short as it can be
-identifier-shortest : (h : HeaderValue) → IsHeader h → longer_identifier h ≡ false → IsShortestIdentifier h.number h.identifier
+identifier-shortest : (h : HeaderValue) → IsHeader h → longer_identifier h ≡ false
+    → IsShortestIdentifier h.number h.identifier
 identifier-shortest h valid e =
-    let both : ((has_high_form h && nat_lt h.number 31) ≡ false) × ((has_high_form h && number_bits h == 0) ≡ false) = or_parts _ _ e in
+    let both : ((has_high_form h && nat_lt h.number 31) ≡ false) × ((has_high_form h && number_bits h == 0) ≡ false) =
+        or_parts _ _ e in
     identifier-from h valid (high-form h both.0 both.1)
 
 pub identifiers-found : LongerIdentifiersAreFound
@@ -62,7 +72,8 @@ identifiers-found rules s h valid nonzero =
     let same : list_any is_on_identifier (header_findings rules s h) ≡ longer_identifier h =
     found-with_header is_on_identifier rules s h ∙ on-identifier rules s h in (
       (λ e. shorter-identifier h valid nonzero (λ t. true≢false (sym e ∙ same ∙ longer_identifier-absent h t))),
-      (λ r. same ∙ from-absurd (longer_identifier h) (λ e. no-shorter_identifier h valid (identifier-shortest h valid e) r)),
+      (λ r. same
+          ∙ from-absurd (longer_identifier h) (λ e. no-shorter_identifier h valid (identifier-shortest h valid e) r)),
     )
 
 -- ---- length octets
@@ -70,15 +81,18 @@ identifiers-found rules s h valid nonzero =
 abbrev pub longer_lengths : HeaderValue → Bool
 longer_lengths h = has_long_form h && (nat_lt (announced_length h.size) 128 || length_octet h == 0)
 
-on-lengths : (rules : Rules) (s : Surroundings) (h : HeaderValue) → rules ≢ Ber → any_of is_on_lengths rules (header_conditions s h) ≡ longer_lengths h
+on-lengths : (rules : Rules) (s : Surroundings) (h : HeaderValue) → rules ≢ Ber
+    → any_of is_on_lengths rules (header_conditions s h) ≡ longer_lengths h
 on-lengths Ber s h strict = absurd (strict refl)
 on-lengths Der s h strict = or-false (longer_lengths h)
 on-lengths Cer s h strict = or-false (longer_lengths h)
 
-pub longer_lengths-absent : (h : HeaderValue) → IsShortestLength (announced_length h.size) h.lengths → longer_lengths h ≡ false
+pub longer_lengths-absent : (h : HeaderValue) → IsShortestLength (announced_length h.size) h.lengths
+    → longer_lengths h ≡ false
 longer_lengths-absent h s = elim (cases_lt 1 (length h.lengths)) [
   | inl more ↦
-      let large : 128 ≤ announced_length h.size = at-least (announced_length h.size) 128 (λ small. omega (arith, more, s.single small)) in
+      let large : 128 ≤ announced_length h.size =
+          at-least (announced_length h.size) 128 (λ small. omega (arith, more, s.single small)) in
       let number : nat_lt (announced_length h.size) 128 ≡ false = grind (arith, nat_tests) in
       let nonzero : length_octet h ≢ 0 = s.leading more in
       let first : (length_octet h == 0) ≡ false = grind (arith, nat_tests) in
@@ -93,5 +107,6 @@ lengths-found rules s h strict valid =
     let same : list_any is_on_lengths (header_findings rules s h) ≡ longer_lengths h =
     found-with_header is_on_lengths rules s h ∙ on-lengths rules s h strict in (
       (λ e. shorter-length h valid (λ t. true≢false (sym e ∙ same ∙ longer_lengths-absent h t))),
-      (λ r. same ∙ from-absurd (longer_lengths h) (λ e. no-shorter_length h valid (lengths-from h valid (long-form h e)) r)),
+      (λ r. same
+          ∙ from-absurd (longer_lengths h) (λ e. no-shorter_length h valid (lengths-from h valid (long-form h e)) r)),
     )

@@ -1,6 +1,8 @@
--- Sound elements with headers as short as they can be, and lengths of one form, have no findings on their spelling; so each sound
--- input has a spelling without them.
-use Rattle.std.proofs.Common.{◌≡◌, ◌≢◌, inl, inr, ◌&&◌, ◌||◌, not, nat_lt, ◌==◌, eqb, ℕ, ◌+◌, ◌^◌, ◌<◌, ◌≤◌, Bool, true, false, List, [], ◌∷◌, ◌++◌, length, refl, sym, ap, ◌∙◌, arith, subst, length-append, ne_eqb}
+-- Sound elements with headers as short as they can be, and lengths of one form, have no findings on their spelling;
+-- so each sound input has a spelling without them.
+use Rattle.std.proofs.Common.{◌≡◌, ◌≢◌, inl, inr, ◌&&◌, ◌||◌, not, nat_lt, ◌==◌, eqb, ℕ, ◌+◌, ◌^◌, ◌<◌, ◌≤◌, Bool, true}
+use Rattle.std.proofs.Common.{false, List, [], ◌∷◌, ◌++◌, length, refl, sym, ap, ◌∙◌, arith, subst, length-append}
+use Rattle.std.proofs.Common.{ne_eqb}
 use Rattle.std.proofs.lemmas.Bool.{or_from, true≢false}
 use Rattle.std.proofs.lemmas.Bool.Decides.{eqb_tells}
 use Rattle.std.proofs.lemmas.List.Folds.{list_any-append}
@@ -11,7 +13,8 @@ use Rattle.tlv_value.specs.Checks.{contents_conditions}
 use Rattle.tlv_walk.specs.declared.framing.Framing.{Framing}
 use Rattle.tlv_walk.specs.Alike.{AreAlike, holders, nothing, padding, primitives}
 use Rattle.tlv_walk.specs.Events.{end_place}
-use Rattle.tlv_walk.specs.Forest.{Forest, NoMore, PaddingOctet, Primitive, Holder, OpenPrimitive, OpenHolder, OpenBitString, OpenHeader, OpenEndOctets, extent, has_element, spelling}
+use Rattle.tlv_walk.specs.Forest.{Forest, NoMore, PaddingOctet, Primitive, Holder, OpenPrimitive, OpenHolder}
+use Rattle.tlv_walk.specs.Forest.{OpenBitString, OpenHeader, OpenEndOctets, extent, has_element, spelling}
 use Rattle.tlv_walk.specs.Inside.{can_name, is_among}
 use Rattle.tlv_walk.proofs.EventLemmas.Named.{AreRising, can-from, can-to}
 use Rattle.tlv_walk.specs.Place.{IsOpen, Place, is_indefinite, place_after, place_of_children, top_place}
@@ -24,7 +27,8 @@ use Rattle.tlv_walk.proofs.GrammarLemmas.Respelled.{SpelledAt, Spelling, respell
 use Rattle.tlv_walk.proofs.EventLemmas.Wrappers.{AreNamed, Rise, wrapper_offsets-named, wrapper_offsets-rise}
 use Rattle.tlv_show.specs.declared.rules.Rules.{Rules}
 use Rattle.tlv_show.specs.declared.rules.Rules.TheVariants.{Ber, Der, Cer}
-use Rattle.tlv_show.specs.Conditions.{Segments, end_conditions, has_high_form, header_conditions, number_bits, segments_of, surroundings_of}
+use Rattle.tlv_show.specs.Conditions.{Segments, end_conditions, has_high_form, header_conditions, number_bits}
+use Rattle.tlv_show.specs.Conditions.{segments_of, surroundings_of}
 use Rattle.tlv_show.specs.Found.{contents_findings, header_findings, end_findings}
 use Rattle.tlv_show.specs.Items.{Item, OpeningLine, ClosingLine, PrimitiveLines, PaddingLine, headers, items}
 use Rattle.tlv_show.proofs.FindingLemmas.ElementItems.{on_contents, on_end, on_header}
@@ -44,7 +48,8 @@ four-absent false true c d e f g = absurd (cc (e))
 four-absent false false true d e f g = absurd (cc (f))
 four-absent false false false true e f g = absurd (cc (g))
 
-constructed-absent : (constructed indefinite : Bool) → indefinite ≡ constructed → (constructed && not indefinite) ≡ false
+constructed-absent : (constructed indefinite : Bool) → indefinite ≡ constructed
+    → (constructed && not indefinite) ≡ false
 constructed-absent true true e = refl
 constructed-absent true false e = absurd (cc (e))
 constructed-absent false indefinite e = refl
@@ -53,14 +58,17 @@ header-absent : (rules : Rules) (s : Site) (h : HeaderValue) → rules ≢ Ber �
     → any_of is_on_spelling rules (header_conditions (surroundings_of s) h) ≡ false
 header-absent Ber s h strict r = absurd (strict refl)
 header-absent Der s h strict r =
-    four-absent (has_high_form h && nat_lt h.number 31) (has_high_form h && number_bits h == 0) (longer_lengths h) (is_indefinite h.size)
+    four-absent (has_high_form h && nat_lt h.number 31) (has_high_form h && number_bits h == 0) (longer_lengths h)
+        (is_indefinite h.size)
     (longer_identifier-absent h r.shortest.identifier) (longer_lengths-absent h r.shortest.lengths) r.by_form
 header-absent Cer s h strict r =
     four-absent (has_high_form h && nat_lt h.number 31) (has_high_form h && number_bits h == 0) (longer_lengths h)
-    (h.constructed && not (is_indefinite h.size)) (longer_identifier-absent h r.shortest.identifier) (longer_lengths-absent h r.shortest.lengths)
+    (h.constructed && not (is_indefinite h.size)) (longer_identifier-absent h r.shortest.identifier)
+        (longer_lengths-absent h r.shortest.lengths)
     (constructed-absent h.constructed (is_indefinite h.size) r.by_form)
 
-contents-absent : (rules : Rules) (h : HeaderValue) (c : List ℕ) → any_of is_on_spelling rules (contents_conditions h c) ≡ false
+contents-absent : (rules : Rules) (h : HeaderValue) (c : List ℕ)
+    → any_of is_on_spelling rules (contents_conditions h c) ≡ false
 contents-absent Ber h c = refl
 contents-absent Der h c = refl
 contents-absent Cer h c = refl
@@ -72,41 +80,59 @@ end-absent Cer s = refl
 
 -- ---- items
 
-both-none : (xs ys : List Item) → list_any is_item_on_spelling xs ≡ false → list_any is_item_on_spelling ys ≡ false → list_any is_item_on_spelling (xs ++ ys) ≡ false
+both-none : (xs ys : List Item) → list_any is_item_on_spelling xs ≡ false → list_any is_item_on_spelling ys ≡ false
+    → list_any is_item_on_spelling (xs ++ ys) ≡ false
 both-none xs ys e f = list_any-append is_item_on_spelling xs ys ∙ or_from _ _ e f
 
-padding-none : (k : Bool) (level offset : ℕ) → list_any is_item_on_spelling (if k then [] else PaddingLine level offset ∷ []) ≡ false
+padding-none : (k : Bool) (level offset : ℕ)
+    → list_any is_item_on_spelling (if k then [] else PaddingLine level offset ∷ []) ≡ false
 padding-none true level offset = refl
 padding-none false level offset = refl
 
 module _ (rules : Rules) (strict : rules ≢ Ber) where
-  header-none : (s : Site) (h : HeaderValue) → IsRegular (form_by rules) h → list_any is_item_on_spelling (on_header rules s h) ≡ false
-  header-none s h r = items-found s.level h.offset (header_findings rules (surroundings_of s) h) ∙ found-with_header is_on_spelling rules (surroundings_of s) h ∙ header-absent rules s h strict r
+  header-none : (s : Site) (h : HeaderValue) → IsRegular (form_by rules) h
+      → list_any is_item_on_spelling (on_header rules s h) ≡ false
+  header-none s h r =
+      items-found s.level h.offset (header_findings rules (surroundings_of s) h)
+          ∙ found-with_header is_on_spelling rules (surroundings_of s) h ∙ header-absent rules s h strict r
 
-  contents-none : (s : Site) (h : HeaderValue) (c : List ℕ) → list_any is_item_on_spelling (on_contents rules s h c) ≡ false
+  contents-none : (s : Site) (h : HeaderValue) (c : List ℕ)
+      → list_any is_item_on_spelling (on_contents rules s h c) ≡ false
   contents-none s h c =
-      items-found s.level h.offset (contents_findings rules h c) ∙ all-found is_on_spelling rules (contents_conditions h c)
+      items-found s.level h.offset (contents_findings rules h c)
+          ∙ all-found is_on_spelling rules (contents_conditions h c)
       ∙ contents-absent rules h c
 
-  end-none : (s : Site) (h : HeaderValue) (inside : Forest) → list_any is_item_on_spelling (on_end rules s h inside) ≡ false
+  end-none : (s : Site) (h : HeaderValue) (inside : Forest)
+      → list_any is_item_on_spelling (on_end rules s h inside) ≡ false
   end-none s h inside =
-      items-found s.level h.offset (end_findings rules (segments_of h (headers inside))) ∙ all-found is_on_spelling rules (end_conditions (segments_of h (headers inside)))
+      items-found s.level h.offset (end_findings rules (segments_of h (headers inside)))
+          ∙ all-found is_on_spelling rules (end_conditions (segments_of h (headers inside)))
       ∙ end-absent rules (segments_of h (headers inside))
 
-  none-found : (p : Place) (s : Site) (f : Forest) → IsSound p f → AreRegular (form_by rules) f → list_any is_item_on_spelling (items rules s f) ≡ false
+  none-found : (p : Place) (s : Site) (f : Forest) → IsSound p f → AreRegular (form_by rules) f
+      → list_any is_item_on_spelling (items rules s f) ≡ false
   none-found p s NoMore u r = refl
   none-found p s (PaddingOctet rest) u r =
-      both-none (if is_padding s.previous then [] else PaddingLine s.level s.offset ∷ []) (items rules (site_after_padding s) rest)
-      (padding-none (is_padding s.previous) s.level s.offset) (none-found (place_after p 1) (site_after_padding s) rest u.1 r)
+      both-none (if is_padding s.previous then [] else PaddingLine s.level s.offset ∷ [])
+          (items rules (site_after_padding s) rest)
+      (padding-none (is_padding s.previous) s.level s.offset)
+          (none-found (place_after p 1) (site_after_padding s) rest u.1 r)
   none-found p s (Primitive h c rest) u r =
-      both-none (on_header rules s h) (PrimitiveLines s.level h c ∷ (on_contents rules s h c ++ items rules (site_after s h c) rest)) (header-none s h r.0)
+      both-none (on_header rules s h)
+          (PrimitiveLines s.level h c ∷ (on_contents rules s h c ++ items rules (site_after s h c) rest))
+          (header-none s h r.0)
       (both-none (on_contents rules s h c) (items rules (site_after s h c) rest) (contents-none s h c)
       (none-found (place_after p (length (octets_of h) + length c)) (site_after s h c) rest u.2 r.1))
   none-found p s (Holder h inside rest) u r =
       let last : List Item = on_end rules s h inside ++ items rules (site_after_holder s h inside) rest in
       let held : List Item = items rules (site_of_children s h) inside in
-      both-none (on_header rules s h) (OpeningLine s.level h ∷ (held ++ ClosingLine s.level (if h.constructed then end_place h inside else None) ∷ last)) (header-none s h r.0)
-      (both-none held (ClosingLine s.level (if h.constructed then end_place h inside else None) ∷ last) (none-found (place_of_children p h) (site_of_children s h) inside u.3 r.1)
+      both-none (on_header rules s h)
+          (OpeningLine s.level h
+              ∷ (held ++ ClosingLine s.level (if h.constructed then end_place h inside else None) ∷ last))
+          (header-none s h r.0)
+      (both-none held (ClosingLine s.level (if h.constructed then end_place h inside else None) ∷ last)
+          (none-found (place_of_children p h) (site_of_children s h) inside u.3 r.1)
       (both-none (on_end rules s h inside) (items rules (site_after_holder s h inside) rest) (end-none s h inside)
       (none-found (place_after p (extent h inside)) (site_after_holder s h inside) rest u.4 r.2)))
   none-found p s (OpenPrimitive h c) u r = absurd u
@@ -123,7 +149,8 @@ rise-le least end (n ∷ ns) r = omega (arith, r.0, rise-le (n + 1) end ns r.1)
 
 rising-of : (least end : ℕ) (ns : List ℕ) → end ≤ 2 ^ 40 → Rise least end ns → AreRising least ns
 rising-of least end [] few r = tt
-rising-of least end (n ∷ ns) few r = (r.0, omega (arith, few, rise-le (n + 1) end ns r.1), rising-of (n + 1) end ns few r.1)
+rising-of least end (n ∷ ns) few r =
+    (r.0, omega (arith, few, rise-le (n + 1) end ns r.1), rising-of (n + 1) end ns few r.1)
 
 -- an offset that is not the first is among the others
 among-others : (n x : ℕ) (ns : List ℕ) → eqb n x ≡ false → is_among x (n ∷ ns) ≡ true → is_among x ns ≡ true
@@ -145,20 +172,28 @@ among-least least x (n ∷ ns) rising e = elim (eqb_tells n x) [
 ]
 
 -- offsets that rise, each among others that rise, are no more than those
-fewer : (inside xs : List ℕ) (low least end : ℕ) → AreRising low inside → Rise least end xs → AreNamed inside xs → length xs ≤ length inside
+fewer : (inside xs : List ℕ) (low least end : ℕ) → AreRising low inside → Rise least end xs → AreNamed inside xs
+    → length xs ≤ length inside
 fewer [] [] low least end rising r named = omega arith
 fewer (n ∷ ns) [] low least end rising r named = omega arith
 fewer [] (x ∷ xs) low least end rising r named = absurd (true≢false (sym named.0))
 fewer (n ∷ ns) (x ∷ xs) low least end rising r named = elim (eqb_tells n x) [
   | inl same ↦
-      omega (arith, fewer ns xs (n + 1) (x + 1) end rising.2 r.1 (among-later n (x + 1) end ns xs (omega (arith, same.1)) r.1 named.1))
+      omega
+          (arith,
+              fewer ns xs (n + 1) (x + 1) end rising.2 r.1
+                  (among-later n (x + 1) end ns xs (omega (arith, same.1)) r.1 named.1))
   | inr apart ↦
       let here : is_among x ns ≡ true = among-others n x ns apart.0 named.0 in
       let above : n + 1 ≤ x = among-least (n + 1) x ns rising.2 here in
-      omega (arith, fewer ns (x ∷ xs) (n + 1) least end rising.2 r (here, among-later n (x + 1) end ns xs (omega (arith, above)) r.1 named.1))
+      omega
+          (arith,
+              fewer ns (x ∷ xs) (n + 1) least end rising.2 r
+                  (here, among-later n (x + 1) end ns xs (omega (arith, above)) r.1 named.1))
 ]
 
-one-name : (a b : Bool) (m n : ℕ) → a ≡ b → length {A = ℕ} (if a then [] else m ∷ []) ≡ length {A = ℕ} (if b then [] else n ∷ [])
+one-name : (a b : Bool) (m n : ℕ) → a ≡ b
+    → length {A = ℕ} (if a then [] else m ∷ []) ≡ length {A = ℕ} (if b then [] else n ∷ [])
 one-name true true m n e = refl
 one-name false false m n e = refl
 one-name true false m n e = absurd (cc (e))
@@ -180,16 +215,19 @@ as-many f g (holders h k inside within a b tag held rest) =
       length-append (wrapper_offsets within) (wrapper_offsets b),
     )
 
-can-name : (framing other : Framing) (f g : Forest) → IsOpen (top_place framing) f → IsOpen (top_place other) g → AreAlike f g
+can-name : (framing other : Framing) (f g : Forest) → IsOpen (top_place framing) f → IsOpen (top_place other) g
+    → AreAlike f g
     → length (spelling g) ≤ 2 ^ 40 → can_name framing.inside ≡ true → can_name (wrapper_offsets g) ≡ true
 can-name framing other f g u v alike few named = let can = can-to framing.inside named in can-from (wrapper_offsets g) (
   omega (
     arith,
     can.0,
     as-many f g alike,
-    fewer framing.inside (wrapper_offsets f) 0 0 (0 + length (spelling f)) can.1 (wrapper_offsets-rise (top_place framing) f u) (wrapper_offsets-named (top_place framing) f u),
+    fewer framing.inside (wrapper_offsets f) 0 0 (0 + length (spelling f)) can.1
+        (wrapper_offsets-rise (top_place framing) f u) (wrapper_offsets-named (top_place framing) f u),
   ),
-  rising-of 0 (0 + length (spelling g)) (wrapper_offsets g) (omega (arith, few)) (wrapper_offsets-rise (top_place other) g v),
+  rising-of 0 (0 + length (spelling g)) (wrapper_offsets g) (omega (arith, few))
+      (wrapper_offsets-rise (top_place other) g v),
 )
 
 -- ---- the law
@@ -209,15 +247,19 @@ pub some-spelling : SomeSpelling
 some-spelling rules framing b f strict few ending reading low =
     let it : IsSoundReading framing b f = sound-reading_of framing b f ending reading in
     let elements : IsSoundList framing b = done-sound framing b ending in
-    let same : elements.forest ≡ f = reading-unique framing b elements.forest f (sound-reading framing b elements) reading in
+    let same : elements.forest ≡ f =
+        reading-unique framing b elements.forest f (sound-reading framing b elements) reading in
     let chosen : Spelling (form_by rules) (top_place framing) f =
-    respelled (form_by rules) (by-definite rules) (top_place framing) f (omega (arith, few, ap length it.octets)) it.sound low in
+    respelled (form_by rules) (by-definite rules) (top_place framing) f (omega (arith, few, ap length it.octets))
+        it.sound low in
     let by_names : Framing = record { inside = chosen.names 0; padding = framing.padding } in
     let at_top : SpelledAt (form_by rules) (top_place by_names) f chosen.octets (chosen.names 0) =
     chosen.there (top_place by_names) (record { padding = refl; depth = refl }) (λ i least most. refl) in
     let other : Framing = record { inside = wrapper_offsets at_top.forest; padding = framing.padding } in
-    let named : by_names ≡ other = ap (λ (names : List ℕ). record { inside = names; padding = framing.padding }) (sym at_top.names_are) in
-    let sound : IsSound (top_place other) at_top.forest = subst (λ (k : Framing). IsSound (top_place k) at_top.forest) named at_top.sound in
+    let named : by_names ≡ other =
+        ap (λ (names : List ℕ). record { inside = names; padding = framing.padding }) (sym at_top.names_are) in
+    let sound : IsSound (top_place other) at_top.forest =
+        subst (λ (k : Framing). IsSound (top_place k) at_top.forest) named at_top.sound in
     let list : IsSoundList other chosen.octets = record {
       forest = at_top.forest;
       sound = sound;
@@ -225,7 +267,8 @@ some-spelling rules framing b f strict few ending reading low =
       octets = at_top.spelled;
     } in
     let there : IsReading other chosen.octets at_top.forest = sound-reading other chosen.octets list in
-    let small : length (spelling at_top.forest) ≤ 2 ^ 40 = omega (arith, ap length at_top.spelled, chosen.short, few, ap length it.octets) in (
+    let small : length (spelling at_top.forest) ≤ 2 ^ 40 =
+        omega (arith, ap length at_top.spelled, chosen.short, few, ap length it.octets) in (
       chosen.octets,
       at_top.forest,
       record {

@@ -1,5 +1,6 @@
 -- Elements without findings on their spelling have headers as short as they can be, and lengths of one form.
-use Rattle.std.proofs.Common.{◌≡◌, ◌≢◌, ℕ, ◌+◌, ◌%◌, ◌==◌, ◌<◌, ◌≤◌, ◌&&◌, ◌||◌, not, nat_lt, Bool, true, false, List, [], ◌∷◌, ◌++◌, length, refl, sym, ap, subst, ◌∙◌, arith}
+use Rattle.std.proofs.Common.{◌≡◌, ◌≢◌, ℕ, ◌+◌, ◌%◌, ◌==◌, ◌<◌, ◌≤◌, ◌&&◌, ◌||◌, not, nat_lt, Bool, true, false, List}
+use Rattle.std.proofs.Common.{[], ◌∷◌, ◌++◌, length, refl, sym, ap, subst, ◌∙◌, arith}
 use Rattle.std.proofs.lemmas.Bool.{or_parts}
 use Rattle.std.proofs.lemmas.Bool.Decides.{nat_tests}
 use Rattle.std.proofs.lemmas.List.Folds.{list_any-append}
@@ -15,7 +16,8 @@ use Rattle.tlv_walk.specs.declared.ending.Ending.TheVariants.{Done}
 use Rattle.tlv_walk.specs.declared.framing.Framing.{Framing}
 use Rattle.tlv_walk.specs.Ending.{IsEnding}
 use Rattle.tlv_walk.specs.Events.{end_place}
-use Rattle.tlv_walk.specs.Forest.{Forest, NoMore, PaddingOctet, Primitive, Holder, OpenPrimitive, OpenHolder, OpenBitString, OpenHeader, OpenEndOctets, extent, spelling}
+use Rattle.tlv_walk.specs.Forest.{Forest, NoMore, PaddingOctet, Primitive, Holder, OpenPrimitive, OpenHolder}
+use Rattle.tlv_walk.specs.Forest.{OpenBitString, OpenHeader, OpenEndOctets, extent, spelling}
 use Rattle.tlv_walk.specs.Place.{Place, is_indefinite, place_after, place_of_children, top_place}
 use Rattle.tlv_walk.specs.Reading.{IsReading, IsSound, IsSoundList}
 use Rattle.tlv_walk.proofs.GrammarLemmas.Alike.{AreRegular, IsRegular, one_spelling}
@@ -23,7 +25,8 @@ use Rattle.tlv_walk.proofs.GrammarLemmas.Endings.{done-sound, sound-reading}
 use Rattle.tlv_walk.proofs.GrammarLemmas.Readings.{reading-unique}
 use Rattle.tlv_show.specs.declared.rules.Rules.{Rules}
 use Rattle.tlv_show.specs.declared.rules.Rules.TheVariants.{Ber, Der, Cer}
-use Rattle.tlv_show.specs.Conditions.{length_octet, has_high_form, has_long_form, header_conditions, number_bits, surroundings_of}
+use Rattle.tlv_show.specs.Conditions.{length_octet, has_high_form, has_long_form, header_conditions, number_bits}
+use Rattle.tlv_show.specs.Conditions.{surroundings_of}
 use Rattle.tlv_show.specs.Found.{header_findings}
 use Rattle.tlv_show.specs.Items.{Item, OpeningLine, ClosingLine, PrimitiveLines, PaddingLine, items}
 use Rattle.tlv_show.proofs.FindingLemmas.ElementItems.{findings_at, on_contents, on_end, on_header}
@@ -34,16 +37,20 @@ use Rattle.tlv_show.proofs.FindingLemmas.FindingsOfHeaders.{any_of, found-with_h
 
 -- ---- conditions whose findings are not reported
 
-pub items-found : (level offset : ℕ) (fs : List Finding) → list_any is_item_on_spelling (findings_at level offset fs) ≡ list_any is_on_spelling fs
+pub items-found : (level offset : ℕ) (fs : List Finding)
+    → list_any is_item_on_spelling (findings_at level offset fs) ≡ list_any is_on_spelling fs
 items-found level offset [] = refl
 items-found level offset (f ∷ fs) = ap (λ (b : Bool). is_on_spelling f || b) (items-found level offset fs)
 
 absent : (rules : Rules) (s : Site) (h : HeaderValue) → list_any is_item_on_spelling (on_header rules s h) ≡ false
     → any_of is_on_spelling rules (header_conditions (surroundings_of s) h) ≡ false
-absent rules s h e = sym (found-with_header is_on_spelling rules (surroundings_of s) h) ∙ sym (items-found s.level h.offset (header_findings rules (surroundings_of s) h)) ∙ e
+absent rules s h e =
+    sym (found-with_header is_on_spelling rules (surroundings_of s) h)
+        ∙ sym (items-found s.level h.offset (header_findings rules (surroundings_of s) h)) ∙ e
 
 -- of four tests none holds
-none-of_four : (a b c d : Bool) → (a || (b || (c || (d || false)))) ≡ false → (a ≡ false) × (b ≡ false) × (c ≡ false) × (d ≡ false)
+none-of_four : (a b c d : Bool) → (a || (b || (c || (d || false)))) ≡ false
+    → (a ≡ false) × (b ≡ false) × (c ≡ false) × (d ≡ false)
 none-of_four false false false false e = (refl, refl, refl, refl)
 none-of_four true b c d e = absurd (cc (e))
 none-of_four false true c d e = absurd (cc (e))
@@ -52,7 +59,8 @@ none-of_four false false false true e = absurd (cc (e))
 
 -- ---- what they say of a header
 
-pub high-form : (h : HeaderValue) → (has_high_form h && nat_lt h.number 31) ≡ false → (has_high_form h && number_bits h == 0) ≡ false
+pub high-form : (h : HeaderValue) → (has_high_form h && nat_lt h.number 31) ≡ false
+    → (has_high_form h && number_bits h == 0) ≡ false
     → 1 < length h.identifier → (31 ≤ h.number) × (slice_index h.identifier 1 % 128 ≢ 0)
 high-form h a b more =
     let high : nat_lt 1 (length h.identifier) ≡ true = grind (arith, nat_tests) in
@@ -60,19 +68,25 @@ high-form h a b more =
     let nonzero : (number_bits h == 0) ≡ false = rw high at b in
     (grind (arith, nat_tests), grind (arith, nat_tests))
 
-pub long-form : (h : HeaderValue) → (has_long_form h && (nat_lt (announced_length h.size) 128 || length_octet h == 0)) ≡ false
+pub long-form : (h : HeaderValue)
+    → (has_long_form h && (nat_lt (announced_length h.size) 128 || length_octet h == 0)) ≡ false
     → 1 < length h.lengths → (128 ≤ announced_length h.size) × (slice_index h.lengths 1 ≢ 0)
 long-form h a more =
     let long : nat_lt 1 (length h.lengths) ≡ true = grind (arith, nat_tests) in
     let neither : (nat_lt (announced_length h.size) 128 || length_octet h == 0) ≡ false = rw long at a in
-    let both : (nat_lt (announced_length h.size) 128 ≡ false) × ((length_octet h == 0) ≡ false) = or_parts _ _ neither in
+    let both : (nat_lt (announced_length h.size) 128 ≡ false) × ((length_octet h == 0) ≡ false) =
+        or_parts _ _ neither in
     let large : nat_lt (announced_length h.size) 128 ≡ false = both.0 in
     let nonzero : (length_octet h == 0) ≡ false = both.1 in
     (grind (arith, nat_tests), grind (arith, nat_tests))
 
-shortest : (h : HeaderValue) → IsHeader h → (has_high_form h && nat_lt h.number 31) ≡ false → (has_high_form h && number_bits h == 0) ≡ false
+shortest : (h : HeaderValue) → IsHeader h → (has_high_form h && nat_lt h.number 31) ≡ false
+    → (has_high_form h && number_bits h == 0) ≡ false
     → (has_long_form h && (nat_lt (announced_length h.size) 128 || length_octet h == 0)) ≡ false → IsShortest h
-shortest h valid a b c = record { identifier = identifier-from h valid (high-form h a b); lengths = lengths-from h valid (long-form h c) }
+shortest h valid a b c = record {
+  identifier = identifier-from h valid (high-form h a b);
+  lengths = lengths-from h valid (long-form h c);
+}
 
 -- whether the length of an element of that form is indefinite: by DER never, by CER if it is constructed
 abbrev pub form_by : Rules → Bool → Bool
@@ -81,24 +95,31 @@ form_by Der constructed = false
 form_by Cer constructed = constructed
 
 -- 8.1.3.2 a)
-by-form : (constructed : Bool) (size : Size) → AllowsSize constructed size → (constructed && not (is_indefinite size)) ≡ false
+by-form : (constructed : Bool) (size : Size) → AllowsSize constructed size
+    → (constructed && not (is_indefinite size)) ≡ false
     → is_indefinite size ≡ constructed
 by-form true (Definite n) a e = absurd (cc (e))
 by-form true Indefinite a e = refl
 by-form false (Definite n) a e = refl
 by-form false Indefinite a e = absurd (cc (a))
 
-regular : (rules : Rules) (s : Site) (h : HeaderValue) → rules ≢ Ber → IsHeader h → list_any is_item_on_spelling (on_header rules s h) ≡ false
+regular : (rules : Rules) (s : Site) (h : HeaderValue) → rules ≢ Ber → IsHeader h
+    → list_any is_item_on_spelling (on_header rules s h) ≡ false
     → IsRegular (form_by rules) h
 regular Ber s h strict valid e = absurd (strict refl)
 regular Der s h strict valid e =
     let none = none-of_four (has_high_form h && nat_lt h.number 31) (has_high_form h && number_bits h == 0)
-    (has_long_form h && (nat_lt (announced_length h.size) 128 || length_octet h == 0)) (is_indefinite h.size) (absent Der s h e) in
+    (has_long_form h && (nat_lt (announced_length h.size) 128 || length_octet h == 0)) (is_indefinite h.size)
+        (absent Der s h e) in
     record { shortest = shortest h valid none.0 none.1 none.2; by_form = none.3 }
 regular Cer s h strict valid e =
     let none = none-of_four (has_high_form h && nat_lt h.number 31) (has_high_form h && number_bits h == 0)
-    (has_long_form h && (nat_lt (announced_length h.size) 128 || length_octet h == 0)) (h.constructed && not (is_indefinite h.size)) (absent Cer s h e) in
-    record { shortest = shortest h valid none.0 none.1 none.2; by_form = by-form h.constructed h.size valid.allowed none.3 }
+    (has_long_form h && (nat_lt (announced_length h.size) 128 || length_octet h == 0))
+        (h.constructed && not (is_indefinite h.size)) (absent Cer s h e) in
+    record {
+      shortest = shortest h valid none.0 none.1 none.2;
+      by_form = by-form h.constructed h.size valid.allowed none.3;
+    }
 
 -- ---- elements
 
@@ -107,20 +128,29 @@ none-in : (xs ys : List Item) → list_any is_item_on_spelling (xs ++ ys) ≡ fa
 none-in xs ys e = or_parts _ _ (sym (list_any-append is_item_on_spelling xs ys) ∙ e)
 
 module _ (rules : Rules) (strict : rules ≢ Ber) where
-  all-regular : (p : Place) (s : Site) (f : Forest) → IsSound p f → list_any is_item_on_spelling (items rules s f) ≡ false → AreRegular (form_by rules) f
+  all-regular : (p : Place) (s : Site) (f : Forest) → IsSound p f
+      → list_any is_item_on_spelling (items rules s f) ≡ false → AreRegular (form_by rules) f
   all-regular p s NoMore u e = tt
   all-regular p s (PaddingOctet rest) u e =
       all-regular (place_after p 1) (site_after_padding s) rest u.1
-      (none-in (if is_padding s.previous then [] else PaddingLine s.level s.offset ∷ []) (items rules (site_after_padding s) rest) e).1
+      (none-in (if is_padding s.previous then [] else PaddingLine s.level s.offset ∷ [])
+          (items rules (site_after_padding s) rest) e).1
   all-regular p s (Primitive h c rest) u e =
-      let header = none-in (on_header rules s h) (PrimitiveLines s.level h c ∷ (on_contents rules s h c ++ items rules (site_after s h c) rest)) e in
+      let header =
+          none-in (on_header rules s h)
+              (PrimitiveLines s.level h c ∷ (on_contents rules s h c ++ items rules (site_after s h c) rest)) e in
       let others = none-in (on_contents rules s h c) (items rules (site_after s h c) rest) header.1 in
-      (regular rules s h strict u.0.valid header.0, all-regular (place_after p (length (octets_of h) + length c)) (site_after s h c) rest u.2 others.1)
+      (regular rules s h strict u.0.valid header.0,
+          all-regular (place_after p (length (octets_of h) + length c)) (site_after s h c) rest u.2 others.1)
   all-regular p s (Holder h inside rest) u e =
       let last : List Item = on_end rules s h inside ++ items rules (site_after_holder s h inside) rest in
-      let held_and_last : List Item = items rules (site_of_children s h) inside ++ ClosingLine s.level (if h.constructed then end_place h inside else None) ∷ last in
+      let held_and_last : List Item =
+          items rules (site_of_children s h) inside
+              ++ ClosingLine s.level (if h.constructed then end_place h inside else None) ∷ last in
       let header = none-in (on_header rules s h) (OpeningLine s.level h ∷ held_and_last) e in
-      let held = none-in (items rules (site_of_children s h) inside) (ClosingLine s.level (if h.constructed then end_place h inside else None) ∷ last) header.1 in
+      let held =
+          none-in (items rules (site_of_children s h) inside)
+              (ClosingLine s.level (if h.constructed then end_place h inside else None) ∷ last) header.1 in
       let others = none-in (on_end rules s h inside) (items rules (site_after_holder s h inside) rest) held.1 in (
         regular rules s h strict u.0.valid header.0,
         all-regular (place_of_children p h) (site_of_children s h) inside u.3 held.0,
@@ -139,11 +169,16 @@ pub record IsSoundReading (framing : Framing) (b : List ℕ) (f : Forest) : Type
   pub sound : IsSound (top_place framing) f
   pub octets : spelling f ≡ b
 
-pub sound-reading_of : (framing : Framing) (b : List ℕ) (f : Forest) → IsEnding framing b Done → IsReading framing b f → IsSoundReading framing b f
+pub sound-reading_of : (framing : Framing) (b : List ℕ) (f : Forest) → IsEnding framing b Done → IsReading framing b f
+    → IsSoundReading framing b f
 sound-reading_of framing b f ending reading =
     let elements : IsSoundList framing b = done-sound framing b ending in
-    let same : elements.forest ≡ f = reading-unique framing b elements.forest f (sound-reading framing b elements) reading in
-    record { sound = subst (IsSound (top_place framing)) same elements.sound; octets = ap spelling (sym same) ∙ elements.octets }
+    let same : elements.forest ≡ f =
+        reading-unique framing b elements.forest f (sound-reading framing b elements) reading in
+    record {
+      sound = subst (IsSound (top_place framing)) same elements.sound;
+      octets = ap spelling (sym same) ∙ elements.octets;
+    }
 
 pub spelled-alike : OneSpelling
 spelled-alike rules framing other b c f g strict r t alike =

@@ -1,4 +1,5 @@
--- Under BER nothing is found with the header of a usual element, outside of strings, whose tag has a form as it has to be.
+-- Under BER nothing is found with the header of a usual element, outside of strings, whose tag has a form as it has
+-- to be.
 use Rattle.std.proofs.Common.{◌≡◌, ◌&&◌, ◌==◌, not, nat_lt, Bool, false, [], ◌∷◌, refl, ap, ◌∙◌}
 use Rattle.tlv_head.specs.Header.{HeaderValue}
 use Rattle.tlv_value.specs.declared.finding.Finding.TheVariants.{B01, B02, B03, B04, B05, B16, B17}
@@ -12,7 +13,8 @@ use Rattle.tlv_show.specs.Found.{header_findings}
 use Rattle.tlv_show.specs.Private.UsualTypes.{IsUsual}
 use Rattle.tlv_show.proofs.FindingLemmas.HeaderFindings.{basic-found}
 
-none-of_seven : (a b c d e f g : Bool) → a ≡ false → b ≡ false → c ≡ false → d ≡ false → e ≡ false → f ≡ false → g ≡ false
+none-of_seven : (a b c d e f g : Bool) → a ≡ false → b ≡ false → c ≡ false → d ≡ false → e ≡ false → f ≡ false
+    → g ≡ false
     → findings_by ((a, B01) ∷ (b, B02) ∷ (c, B03) ∷ (d, B04) ∷ (e, B05) ∷ (f, B16) ∷ (g, B17) ∷ []) ≡ []
 none-of_seven a b c d e f g p q r s t u v = rw (p, q, r, s, t, u, v) refl
 

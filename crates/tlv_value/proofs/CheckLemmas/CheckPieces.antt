@@ -1,5 +1,6 @@
 -- What is found on contents in pieces.
-use Rattle.std.proofs.Common.{◌≡◌, ℕ, zero, suc, ◌-◌, Bool, true, false, List, [], ◌∷◌, ◌++◌, length, take, refl, sym, ap, ◌∙◌, arith, append_assoc, length-append}
+use Rattle.std.proofs.Common.{◌≡◌, ℕ, zero, suc, ◌-◌, Bool, true, false, List, [], ◌∷◌, ◌++◌, length, take, refl, sym}
+use Rattle.std.proofs.Common.{ap, ◌∙◌, arith, append_assoc, length-append}
 use Rattle.std.proofs.lemmas.List.Folds.{list_all-append}
 use Rattle.std.specs.List.{list_all}
 use Rattle.std.specs.Prelude.{◌&&◌, ◌||◌, eqb, nat_lt, if◌then◌else◌}
@@ -7,8 +8,11 @@ use Rattle.std.specs.Str.{is_utf8}
 use Rattle.tlv_head.specs.Header.{HeaderValue, announced_length}
 use Rattle.tlv_value.specs.declared.kind.Kind.TheVariants.{Utf8}
 use Rattle.tlv_value.specs.CheckLaws.{ChecksJoin, FindingsEnd}
-use Rattle.tlv_value.specs.ValueCheckState.{ValueCheckState, all_utf8, value_check_after, new_value_check, new_value_check_of, notes_each, notes_first, facts_in, notes_time, with_each_noted, with_first_noted, with_octets_noted, with_time_noted}
-use Rattle.tlv_value.specs.Checks.{ContentsFacts, allows_octet, findings_by, is_padded_after, last_octet, type_conditions}
+use Rattle.tlv_value.specs.ValueCheckState.{ValueCheckState, all_utf8, value_check_after, new_value_check}
+use Rattle.tlv_value.specs.ValueCheckState.{new_value_check_of, notes_each, notes_first, facts_in, notes_time}
+use Rattle.tlv_value.specs.ValueCheckState.{with_each_noted, with_first_noted, with_octets_noted, with_time_noted}
+use Rattle.tlv_value.specs.Checks.{ContentsFacts, allows_octet, findings_by, is_padded_after, last_octet}
+use Rattle.tlv_value.specs.Checks.{type_conditions}
 use Rattle.tlv_value.specs.Types.{is_number_of, object_types, type_number}
 use Rattle.tlv_value.specs.Rows.{full_rows, open_row}
 use Rattle.tlv_value.proofs.CheckLemmas.NotedFacts.{noted-same}
@@ -26,14 +30,17 @@ or-assoc : (a b c : Bool) → ((a || b) || c) ≡ (a || (b || c))
 or-assoc true b c = refl
 or-assoc false b c = refl
 
-padded-join : (previous : ℕ) (x y : List ℕ) → (is_padded_after previous x || is_padded_after (last_octet previous x) y) ≡ is_padded_after previous (x ++ y)
+padded-join : (previous : ℕ) (x y : List ℕ)
+    → (is_padded_after previous x || is_padded_after (last_octet previous x) y) ≡ is_padded_after previous (x ++ y)
 padded-join previous [] y = refl
 padded-join previous (z ∷ x) y =
-    or-assoc (nat_lt previous 128 && eqb z 128) (is_padded_after z x) (is_padded_after (last_octet z x) y) ∙ ap (λ (b : Bool). (nat_lt previous 128 && eqb z 128) || b) (padded-join z x y)
+    or-assoc (nat_lt previous 128 && eqb z 128) (is_padded_after z x) (is_padded_after (last_octet z x) y)
+        ∙ ap (λ (b : Bool). (nat_lt previous 128 && eqb z 128) || b) (padded-join z x y)
 
 utf8-join : (rows more : List (List ℕ)) → (all_utf8 rows && all_utf8 more) ≡ all_utf8 (rows ++ more)
 utf8-join [] more = refl
-utf8-join (row ∷ rows) more = and-assoc (is_utf8 row) (all_utf8 rows) (all_utf8 more) ∙ ap (λ (b : Bool). is_utf8 row && b) (utf8-join rows more)
+utf8-join (row ∷ rows) more =
+    and-assoc (is_utf8 row) (all_utf8 rows) (all_utf8 more) ∙ ap (λ (b : Bool). is_utf8 row && b) (utf8-join rows more)
 
 take-twice : (n : ℕ) (xs ys : List ℕ) → take n (take n xs ++ ys) ≡ take n (xs ++ ys)
 take-twice zero xs ys = refl
@@ -44,21 +51,31 @@ take-join : (n : ℕ) (prefix x y : List ℕ) → take n (take n (prefix ++ x) +
 take-join n prefix x y = take-twice n (prefix ++ x) y ∙ ap (take n) (append_assoc prefix x y)
 
 padded-at : (b padded : Bool) (previous : ℕ) (x y : List ℕ)
-    → (if b then (if b then padded || is_padded_after previous x else padded) || is_padded_after (last_octet previous x) y else (if b then padded || is_padded_after previous x else padded))
+    → (if b
+        then (if b then padded || is_padded_after previous x else padded) || is_padded_after (last_octet previous x) y
+        else (if b then padded || is_padded_after previous x else padded))
     ≡ (if b then padded || is_padded_after previous (x ++ y) else padded)
 padded-at true padded previous x y =
-    or-assoc padded (is_padded_after previous x) (is_padded_after (last_octet previous x) y) ∙ ap (λ (b : Bool). padded || b) (padded-join previous x y)
+    or-assoc padded (is_padded_after previous x) (is_padded_after (last_octet previous x) y)
+        ∙ ap (λ (b : Bool). padded || b) (padded-join previous x y)
 padded-at false padded previous x y = refl
 
 formed-at : (b formed : Bool) (row x y : List ℕ)
-    → (if b then (if b then formed && all_utf8 (full_rows Utf8 row x) else formed) && all_utf8 (full_rows Utf8 (if b then open_row Utf8 row x else row) y) else (if b then formed && all_utf8 (full_rows Utf8 row x) else formed))
+    → (if b
+        then (if b then formed && all_utf8 (full_rows Utf8 row x) else formed)
+            && all_utf8 (full_rows Utf8 (if b then open_row Utf8 row x else row) y)
+        else (if b then formed && all_utf8 (full_rows Utf8 row x) else formed))
     ≡ (if b then formed && all_utf8 (full_rows Utf8 row (x ++ y)) else formed)
 formed-at true formed row x y =
     and-assoc formed (all_utf8 (full_rows Utf8 row x)) (all_utf8 (full_rows Utf8 (open_row Utf8 row x) y))
-    ∙ ap (λ (b : Bool). formed && b) (utf8-join (full_rows Utf8 row x) (full_rows Utf8 (open_row Utf8 row x) y) ∙ ap all_utf8 (sym (rows-join Utf8 row x y).0))
+    ∙ ap (λ (b : Bool). formed && b)
+        (utf8-join (full_rows Utf8 row x) (full_rows Utf8 (open_row Utf8 row x) y)
+            ∙ ap all_utf8 (sym (rows-join Utf8 row x y).0))
 formed-at false formed row x y = refl
 
-row-at : (b : Bool) (row x y : List ℕ) → (if b then open_row Utf8 (if b then open_row Utf8 row x else row) y else (if b then open_row Utf8 row x else row)) ≡ (if b then open_row Utf8 row (x ++ y) else row)
+row-at : (b : Bool) (row x y : List ℕ)
+    → (if b then open_row Utf8 (if b then open_row Utf8 row x else row) y else (if b then open_row Utf8 row x else row))
+        ≡ (if b then open_row Utf8 row (x ++ y) else row)
 row-at true row x y = sym (rows-join Utf8 row x y).1
 row-at false row x y = refl
 
@@ -76,7 +93,9 @@ built s left first_octets last allowed padded formed row time = record {
   time = time;
 }
 
-built-eq : (s : ValueCheckState) (l l' : ℕ) (f f' : List ℕ) (t t' : ℕ) (a a' p p' m m' : Bool) (r r' i i' : List ℕ) → l ≡ l' → f ≡ f' → t ≡ t' → a ≡ a' → p ≡ p' → m ≡ m' → r ≡ r' → i ≡ i' → built s l f t a p m r i ≡ built s l' f' t' a' p' m' r' i'
+built-eq : (s : ValueCheckState) (l l' : ℕ) (f f' : List ℕ) (t t' : ℕ) (a a' p p' m m' : Bool) (r r' i i' : List ℕ)
+    → l ≡ l' → f ≡ f' → t ≡ t' → a ≡ a' → p ≡ p' → m ≡ m' → r ≡ r' → i ≡ i'
+    → built s l f t a p m r i ≡ built s l' f' t' a' p' m' r' i'
 built-eq s l l' f f' t t' a a' p p' m m' r r' i i' e1 e2 e3 e4 e5 e6 e7 e8 = rw (e1, e2, e3, e4, e5, e6, e7, e8) refl
 
 -- what is noted, by what the type asks for
@@ -88,26 +107,35 @@ noted_by first each time s octets =
     else s
 
 abbrev by_kind : Bool → Bool → Bool → ValueCheckState → List ℕ → ValueCheckState
-by_kind f e t s octets = record (noted_by f e t s octets) { number = s.number; size = s.size; left = s.left - length octets }
+by_kind f e t s octets =
+    record (noted_by f e t s octets) { number = s.number; size = s.size; left = s.left - length octets }
 
-join-by : (f e t : Bool) (s : ValueCheckState) (x y : List ℕ) → by_kind f e t (by_kind f e t s x) y ≡ by_kind f e t s (x ++ y)
+join-by : (f e t : Bool) (s : ValueCheckState) (x y : List ℕ)
+    → by_kind f e t (by_kind f e t s x) y ≡ by_kind f e t s (x ++ y)
 join-by true e t s x y =
     let l : s.left - length x - length y ≡ s.left - length (x ++ y) = omega (arith, length-append x y) in
-    built-eq s (s.left - length x - length y) (s.left - length (x ++ y)) (take 2 (take 2 (s.first_octets ++ x) ++ y)) (take 2 (s.first_octets ++ (x ++ y))) (last_octet (last_octet s.last x) y) (last_octet s.last (x ++ y))
+    built-eq s (s.left - length x - length y) (s.left - length (x ++ y)) (take 2 (take 2 (s.first_octets ++ x) ++ y))
+        (take 2 (s.first_octets ++ (x ++ y))) (last_octet (last_octet s.last x) y) (last_octet s.last (x ++ y))
     s.allowed s.allowed s.padded s.padded s.formed s.formed s.row s.row s.time s.time
     l (take-join 2 s.first_octets x y) (last-join s.last x y) refl refl refl refl refl
 join-by false true t s x y =
     let l : s.left - length x - length y ≡ s.left - length (x ++ y) = omega (arith, length-append x y) in
-    built-eq s (s.left - length x - length y) (s.left - length (x ++ y)) s.first_octets s.first_octets (last_octet (last_octet s.last x) y) (last_octet s.last (x ++ y))
-    (with_each_noted (with_each_noted s x) y).allowed (with_each_noted s (x ++ y)).allowed (with_each_noted (with_each_noted s x) y).padded (with_each_noted s (x ++ y)).padded (with_each_noted (with_each_noted s x) y).formed (with_each_noted s (x ++ y)).formed
+    built-eq s (s.left - length x - length y) (s.left - length (x ++ y)) s.first_octets s.first_octets
+        (last_octet (last_octet s.last x) y) (last_octet s.last (x ++ y))
+    (with_each_noted (with_each_noted s x) y).allowed (with_each_noted s (x ++ y)).allowed
+        (with_each_noted (with_each_noted s x) y).padded (with_each_noted s (x ++ y)).padded
+        (with_each_noted (with_each_noted s x) y).formed (with_each_noted s (x ++ y)).formed
     (with_each_noted (with_each_noted s x) y).row (with_each_noted s (x ++ y)).row s.time s.time
     l refl (last-join s.last x y)
-    (and-assoc s.allowed (list_all (allows_octet s.number) x) (list_all (allows_octet s.number) y) ∙ ap (λ (b : Bool). s.allowed && b) (sym (list_all-append (allows_octet s.number) x y)))
-    (padded-at (is_number_of object_types s.number) s.padded s.last x y) (formed-at (eqb s.number 12) s.formed s.row x y) (row-at (eqb s.number 12) s.row x y) refl
+    (and-assoc s.allowed (list_all (allows_octet s.number) x) (list_all (allows_octet s.number) y)
+        ∙ ap (λ (b : Bool). s.allowed && b) (sym (list_all-append (allows_octet s.number) x y)))
+    (padded-at (is_number_of object_types s.number) s.padded s.last x y)
+        (formed-at (eqb s.number 12) s.formed s.row x y) (row-at (eqb s.number 12) s.row x y) refl
 join-by false false true s x y =
     let l : s.left - length x - length y ≡ s.left - length (x ++ y) = omega (arith, length-append x y) in
     built-eq s (s.left - length x - length y) (s.left - length (x ++ y)) s.first_octets s.first_octets s.last s.last
-    s.allowed s.allowed s.padded s.padded s.formed s.formed s.row s.row (take 64 (take 64 (s.time ++ x) ++ y)) (take 64 (s.time ++ (x ++ y)))
+    s.allowed s.allowed s.padded s.padded s.formed s.formed s.row s.row (take 64 (take 64 (s.time ++ x) ++ y))
+        (take 64 (s.time ++ (x ++ y)))
     l refl refl refl refl refl refl (take-join 64 s.time x y)
 join-by false false false s x y =
     let l : s.left - length x - length y ≡ s.left - length (x ++ y) = omega (arith, length-append x y) in
@@ -118,7 +146,8 @@ checks-join s x y = join-by (notes_first s.number) (notes_each s.number) (notes_
 
 -- what is noted at the end
 
-noted-left : (f e t : Bool) (s : ValueCheckState) (c : List ℕ) → facts_in (by_kind f e t s c) ≡ facts_in (noted_by f e t s c)
+noted-left : (f e t : Bool) (s : ValueCheckState) (c : List ℕ)
+    → facts_in (by_kind f e t s c) ≡ facts_in (noted_by f e t s c)
 noted-left true e t s c = refl
 noted-left false true t s c = refl
 noted-left false false true s c = refl
@@ -140,8 +169,11 @@ same-in-both false x = refl
 none-by : (f e t : Bool) (n size : ℕ) → by_kind f e t (new_value_check_of n size) [] ≡ new_value_check_of n size
 none-by true e t n size = ap (λ (l : ℕ). record (new_value_check_of n size) { left = l }) (omega arith)
 none-by false true t n size =
-    built-eq (new_value_check_of n size) (size - 0) size [] [] 0 0 true true (if is_number_of object_types n then false else false) false (if eqb n 12 then true else true) true (if eqb n 12 then [] else []) [] [] []
-    (omega arith) refl refl refl (same-in-both (is_number_of object_types n) false) (same-in-both (eqb n 12) true) (same-in-both (eqb n 12) []) refl
+    built-eq (new_value_check_of n size) (size - 0) size [] [] 0 0 true true
+        (if is_number_of object_types n then false else false) false (if eqb n 12 then true else true) true
+        (if eqb n 12 then [] else []) [] [] []
+    (omega arith) refl refl refl (same-in-both (is_number_of object_types n) false) (same-in-both (eqb n 12) true)
+        (same-in-both (eqb n 12) []) refl
 none-by false false true n size = ap (λ (l : ℕ). record (new_value_check_of n size) { left = l }) (omega arith)
 none-by false false false n size = ap (λ (l : ℕ). record (new_value_check_of n size) { left = l }) (omega arith)
 

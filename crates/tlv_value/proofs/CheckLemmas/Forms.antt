@@ -1,5 +1,6 @@
 -- Forms, part by part.
-use Rattle.std.proofs.Common.{◌≡◌, ℕ, Bool, true, false, ◌||◌, List, [], ◌∷◌, ◌++◌, refl, sym, ap, ◌∙◌, append_assoc, append-nil}
+use Rattle.std.proofs.Common.{◌≡◌, ℕ, Bool, true, false, ◌||◌, List, [], ◌∷◌, ◌++◌, refl, sym, ap, ◌∙◌, append_assoc}
+use Rattle.std.proofs.Common.{append-nil}
 use Rattle.std.specs.Prelude.{Option, Some, None, flat_map, option_to_list}
 use Rattle.tlv_value.specs.Times.{Form, is_rest_empty, has_form, ◌then◌, ◌or◌, maybe}
 
@@ -14,17 +15,22 @@ empty-append ([] ∷ xs) ys = refl
 empty-append ((x ∷ r) ∷ xs) ys = empty-append xs ys
 
 -- one part, and what is left
-pub form-then : (f g : Form) (c : List ℕ) (o : Option (List ℕ)) → option_to_list o ≡ f c → has_form (f then g) c ≡ holds_of (has_form g) o
+pub form-then : (f g : Form) (c : List ℕ) (o : Option (List ℕ)) → option_to_list o ≡ f c
+    → has_form (f then g) c ≡ holds_of (has_form g) o
 form-then f g c None e = ap (λ (rests : List (List ℕ)). is_rest_empty (flat_map g rests)) (sym e)
-form-then f g c (Some rest) e = ap (λ (rests : List (List ℕ)). is_rest_empty (flat_map g rests)) (sym e) ∙ ap is_rest_empty (append-nil (g rest))
+form-then f g c (Some rest) e =
+    ap (λ (rests : List (List ℕ)). is_rest_empty (flat_map g rests)) (sym e) ∙ ap is_rest_empty (append-nil (g rest))
 
 flat_map-append : (g : Form) (xs ys : List (List ℕ)) → flat_map g (xs ++ ys) ≡ flat_map g xs ++ flat_map g ys
 flat_map-append g [] ys = refl
-flat_map-append g (x ∷ xs) ys = ap (λ (t : List (List ℕ)). g x ++ t) (flat_map-append g xs ys) ∙ sym (append_assoc (g x) (flat_map g xs) (flat_map g ys))
+flat_map-append g (x ∷ xs) ys =
+    ap (λ (t : List (List ℕ)). g x ++ t) (flat_map-append g xs ys)
+        ∙ sym (append_assoc (g x) (flat_map g xs) (flat_map g ys))
 
 flat_map-twice : (f g : Form) (xs : List (List ℕ)) → flat_map g (flat_map f xs) ≡ flat_map (f then g) xs
 flat_map-twice f g [] = refl
-flat_map-twice f g (x ∷ xs) = flat_map-append g (f x) (flat_map f xs) ∙ ap (λ (t : List (List ℕ)). flat_map g (f x) ++ t) (flat_map-twice f g xs)
+flat_map-twice f g (x ∷ xs) =
+    flat_map-append g (f x) (flat_map f xs) ∙ ap (λ (t : List (List ℕ)). flat_map g (f x) ++ t) (flat_map-twice f g xs)
 
 -- parts may be put together
 pub form-three : (f g h : Form) (c : List ℕ) → has_form ((f then g) then h) c ≡ has_form (f then (g then h)) c
@@ -32,13 +38,16 @@ form-three f g h c = ap is_rest_empty (flat_map-twice g h (f c))
 
 pub form-maybe : (f g : Form) (c : List ℕ) → has_form (maybe f then g) c ≡ (has_form (f then g) c || has_form g c)
 form-maybe f g c =
-    ap is_rest_empty (flat_map-append g (f c) (c ∷ []) ∙ ap (λ (t : List (List ℕ)). flat_map g (f c) ++ t) (append-nil (g c)))
+    ap is_rest_empty
+        (flat_map-append g (f c) (c ∷ []) ∙ ap (λ (t : List (List ℕ)). flat_map g (f c) ++ t) (append-nil (g c)))
     ∙ empty-append (flat_map g (f c)) (g c)
 
 -- a part that may be left out, and is there
-pub maybe-there : (f g : Form) (c : List ℕ) (r : Bool) → r ≡ has_form (f then g) c → r ≡ true → r ≡ has_form (maybe f then g) c
+pub maybe-there : (f g : Form) (c : List ℕ) (r : Bool) → r ≡ has_form (f then g) c → r ≡ true
+    → r ≡ has_form (maybe f then g) c
 maybe-there f g c r e h = rw (form-maybe f g c, ← e, h) refl
 
 -- a part that may be left out, and is not there
-pub maybe-left : (f g : Form) (c : List ℕ) (r s : Bool) → r ≡ has_form (f then g) c → r ≡ false → s ≡ has_form g c → s ≡ has_form (maybe f then g) c
+pub maybe-left : (f g : Form) (c : List ℕ) (r s : Bool) → r ≡ has_form (f then g) c → r ≡ false → s ≡ has_form g c
+    → s ≡ has_form (maybe f then g) c
 maybe-left f g c r s e h q = rw (form-maybe f g c, ← e, h) q

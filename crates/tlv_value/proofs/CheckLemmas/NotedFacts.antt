@@ -1,21 +1,25 @@
 -- What is found by what was noted of contents is what is found by the whole contents.
-use Rattle.std.proofs.Common.{◌≡◌, ℕ, Bool, true, false, ◌&&◌, ◌||◌, ◌==◌, ◌%◌, ◌^◌, not, eqb, ◌≤◌, nat_le, nat_lt, if◌then◌else◌, List, [], ◌∷◌, ◌++◌, length, take, refl, sym, ap, ◌∙◌, subst, arith}
+use Rattle.std.proofs.Common.{◌≡◌, ℕ, Bool, true, false, ◌&&◌, ◌||◌, ◌==◌, ◌%◌, ◌^◌, not, eqb, ◌≤◌, nat_le, nat_lt}
+use Rattle.std.proofs.Common.{if◌then◌else◌, List, [], ◌∷◌, ◌++◌, length, take, refl, sym, ap, ◌∙◌, subst, arith}
 use Rattle.std.proofs.lemmas.Bool.{eqb-true, leb-true}
 use Rattle.std.proofs.lemmas.Grind.{common_steps}
 use Rattle.std.specs.List.{list_all}
 use Rattle.std.specs.Prelude.{slice_index}
 use Rattle.tlv_value.specs.declared.finding.Finding.{Finding}
 use Rattle.tlv_value.specs.declared.finding.Finding.TheVariants.{B06, B07, B08, B13, B14, B15, B18, B19, S02, S03, S04}
-use Rattle.tlv_value.specs.Checks.{ContentsFacts, allows, allows_octet, facts_of, finding_if, findings_by, is_padded_integer, last_octet, type_conditions, type_findings}
+use Rattle.tlv_value.specs.Checks.{ContentsFacts, allows, allows_octet, facts_of, finding_if, findings_by}
+use Rattle.tlv_value.specs.Checks.{is_padded_integer, last_octet, type_conditions, type_findings}
 use Rattle.tlv_value.specs.Types.{character_types, is_number_of}
 use Rattle.tlv_value.proofs.CheckLemmas.CheckWords.{allows_both}
-use Rattle.tlv_value.specs.ValueCheckState.{all_utf8, facts_in, is_allowed, new_value_check_of, notes_each, with_each_noted, with_octets_noted}
+use Rattle.tlv_value.specs.ValueCheckState.{all_utf8, facts_in, is_allowed, new_value_check_of, notes_each}
+use Rattle.tlv_value.specs.ValueCheckState.{with_each_noted, with_octets_noted}
 use Rattle.tlv_value.specs.Rows.{full_rows, open_row}
 use Rattle.tlv_value.specs.declared.kind.Kind.TheVariants.{Utf8}
 use Rattle.std.specs.Str.{is_utf8}
 use Rattle.tlv_value.proofs.CheckLemmas.EachNoted.{nothing-noted}
 use Rattle.tlv_value.proofs.CheckLemmas.Formed.{rows-formed_at}
-use Rattle.tlv_value.specs.Times.{Form, canonical_generalized_time_form, canonical_utc_time_form, generalized_time_form, has_form, utc_time_form}
+use Rattle.tlv_value.specs.Times.{Form, canonical_generalized_time_form, canonical_utc_time_form, generalized_time_form}
+use Rattle.tlv_value.specs.Times.{has_form, utc_time_form}
 
 -- what is noted of all contents of the type with this number
 abbrev pub noted : ℕ → List ℕ → ContentsFacts
@@ -45,33 +49,44 @@ all-is test e (x ∷ c) = rw (e x) (all-is test e c)
 
 boolean-same : (c : List ℕ) → Same 1 c
 boolean-same c =
-    ap (λ (x : ℕ). finding_if (not (length c == 1)) B06 ++ (finding_if (length c == 1 && not (x == 0 || x == 255)) S02 ++ [])) (first-noted c)
+    ap (λ (x : ℕ). finding_if (not (length c == 1)) B06
+        ++ (finding_if (length c == 1 && not (x == 0 || x == 255)) S02 ++ []))
+        (first-noted c)
 
-integer-by : (c : List ℕ) → finding_if (length c == 0) B07 ++ (finding_if (is_padded_integer c) B08 ++ []) ≡ finding_if (length c == 0) B07 ++ (finding_if (is_padded_integer (take 2 c)) B08 ++ [])
+integer-by : (c : List ℕ)
+    → finding_if (length c == 0) B07 ++ (finding_if (is_padded_integer c) B08 ++ [])
+        ≡ finding_if (length c == 0) B07 ++ (finding_if (is_padded_integer (take 2 c)) B08 ++ [])
 integer-by c = ap (λ (k : Bool). finding_if (length c == 0) B07 ++ (finding_if k B08 ++ [])) (padded-noted c)
 
 bits-same : (c : List ℕ) → Same 3 c
 bits-same c =
     ap (λ (x : ℕ).
-    finding_if (length c == 0) B13 ++ (finding_if (nat_lt 7 x) B14 ++ (finding_if (length c == 1 && nat_le 1 x && nat_le x 7) B15
+    finding_if (length c == 0) B13
+        ++ (finding_if (nat_lt 7 x) B14 ++ (finding_if (length c == 1 && nat_le 1 x && nat_le x 7) B15
     ++ (finding_if (nat_le 2 (length c) && nat_le x 7 && not (last_octet 0 c % 2 ^ x == 0)) S03 ++ []))))
     (first-noted c)
 
 -- a time of at most 64 octets is noted as it is
 time-by : (short : Bool) (form canonical : Form) (c noted : List ℕ) → (short ≡ true → noted ≡ c)
-    → finding_if (short && not (has_form form c)) B19 ++ (finding_if (short && has_form form c && not (has_form canonical c)) S04 ++ [])
-    ≡ finding_if (short && not (has_form form noted)) B19 ++ (finding_if (short && has_form form noted && not (has_form canonical noted)) S04 ++ [])
+    → finding_if (short && not (has_form form c)) B19
+        ++ (finding_if (short && has_form form c && not (has_form canonical c)) S04 ++ [])
+    ≡ finding_if (short && not (has_form form noted)) B19
+        ++ (finding_if (short && has_form form noted && not (has_form canonical noted)) S04 ++ [])
 time-by false form canonical c noted e = refl
 time-by true form canonical c noted e =
-    ap (λ (d : List ℕ). finding_if (not (has_form form d)) B19 ++ (finding_if (has_form form d && not (has_form canonical d)) S04 ++ [])) (sym (e refl))
+    ap (λ (d : List ℕ). finding_if (not (has_form form d)) B19
+        ++ (finding_if (has_form form d && not (has_form canonical d)) S04 ++ []))
+        (sym (e refl))
 
 utc-same : (c : List ℕ) → Same 23 c
 utc-same c =
-    time-by (nat_le (length c) 64) utc_time_form canonical_utc_time_form c (take 64 c) (λ e. take-all 64 c (leb-true (length c) 64 e))
+    time-by (nat_le (length c) 64) utc_time_form canonical_utc_time_form c (take 64 c)
+        (λ e. take-all 64 c (leb-true (length c) 64 e))
 
 general-same : (c : List ℕ) → Same 24 c
 general-same c =
-    time-by (nat_le (length c) 64) generalized_time_form canonical_generalized_time_form c (take 64 c) (λ e. take-all 64 c (leb-true (length c) 64 e))
+    time-by (nat_le (length c) 64) generalized_time_form canonical_generalized_time_form c (take 64 c)
+        (λ e. take-all 64 c (leb-true (length c) 64 e))
 
 -- what the contents have as a whole, and what each octet has
 both-at : (n k : ℕ) (c : List ℕ) → eqb n k ≡ true → allows_both k c ≡ allows k c → allows_both n c ≡ allows n c
@@ -82,17 +97,21 @@ with-each true test e c = all-is test e c
 with-each false test e c = refl
 
 allows-both : (n : ℕ) (c : List ℕ) → allows_both n c ≡ allows n c
-allows-both n c = at (eqb n 12) (eqb n 18) (eqb n 19) (eqb n 22) (eqb n 26) (eqb n 28) (eqb n 30) refl refl refl refl refl refl refl
+allows-both n c =
+    at (eqb n 12) (eqb n 18) (eqb n 19) (eqb n 22) (eqb n 26) (eqb n 28) (eqb n 30) refl refl refl refl refl refl refl
   where
-    at : (p q r s t u v : Bool) → eqb n 12 ≡ p → eqb n 18 ≡ q → eqb n 19 ≡ r → eqb n 22 ≡ s → eqb n 26 ≡ t → eqb n 28 ≡ u → eqb n 30 ≡ v
+    at : (p q r s t u v : Bool) → eqb n 12 ≡ p → eqb n 18 ≡ q → eqb n 19 ≡ r → eqb n 22 ≡ s → eqb n 26 ≡ t
+        → eqb n 28 ≡ u → eqb n 30 ≡ v
         → allows_both n c ≡ allows n c
     at true q r s t u v e f g h i j k = both-at n 12 c e (with-each (is_utf8 c) (allows_octet 12) (λ x. refl) c)
     at false true r s t u v e f g h i j k = both-at n 18 c f refl
     at false false true s t u v e f g h i j k = both-at n 19 c g refl
     at false false false true t u v e f g h i j k = both-at n 22 c h refl
     at false false false false true u v e f g h i j k = both-at n 26 c i refl
-    at false false false false false true v e f g h i j k = both-at n 28 c j (with-each (eqb (length c % 4) 0) (allows_octet 28) (λ x. refl) c)
-    at false false false false false false true e f g h i j k = both-at n 30 c k (with-each (eqb (length c % 2) 0) (allows_octet 30) (λ x. refl) c)
+    at false false false false false true v e f g h i j k =
+        both-at n 28 c j (with-each (eqb (length c % 4) 0) (allows_octet 28) (λ x. refl) c)
+    at false false false false false false true e f g h i j k =
+        both-at n 30 c k (with-each (eqb (length c % 2) 0) (allows_octet 30) (λ x. refl) c)
     at false false false false false false false e f g h i j k =
         let l : allows_both n c ≡ true = rw (e, j, k) (all-is (allows_octet n) (λ x. rw (f, g, h, i) refl) c) in
         let r : allows n c ≡ true = rw (e, f, g, h, i, j, k) refl in
@@ -100,7 +119,9 @@ allows-both n c = at (eqb n 12) (eqb n 18) (eqb n 19) (eqb n 22) (eqb n 26) (eqb
 
 -- any other type
 allowed-each : (n : ℕ) (c : List ℕ) (text : Bool)
-    → ((if text then (if text then true && all_utf8 (full_rows Utf8 [] c) else true) && is_utf8 (if text then open_row Utf8 [] c else [])
+    → ((if text
+        then (if text then true && all_utf8 (full_rows Utf8 [] c) else true)
+            && is_utf8 (if text then open_row Utf8 [] c else [])
     else if eqb n 30 then eqb (length c % 2) 0
     else if eqb n 28 then eqb (length c % 4) 0
     else true)
@@ -113,22 +134,28 @@ allowed-each : (n : ℕ) (c : List ℕ) (text : Bool)
 allowed-each n c true = ap (λ (f : Bool). f && list_all (allows_octet n) c) (rows-formed_at c)
 allowed-each n c false = refl
 
-other-allowed : (n : ℕ) (c : List ℕ) → eqb n 1 ≡ false → eqb n 2 ≡ false → eqb n 3 ≡ false → eqb n 10 ≡ false → eqb n 23 ≡ false → eqb n 24 ≡ false
+other-allowed : (n : ℕ) (c : List ℕ) → eqb n 1 ≡ false → eqb n 2 ≡ false → eqb n 3 ≡ false → eqb n 10 ≡ false
+    → eqb n 23 ≡ false → eqb n 24 ≡ false
     → is_allowed (with_octets_noted (new_value_check_of n (length c)) c) ≡ allows n c
 other-allowed n c e1 e2 e3 e10 e23 e24 = rw (e1, e2, e3, e10, e23, e24) (by (notes_each n) refl) ∙ allows-both n c
   where
-    by : (k : Bool) → notes_each n ≡ k → is_allowed (if k then with_each_noted (new_value_check_of n (length c)) c else new_value_check_of n (length c)) ≡ allows_both n c
+    by : (k : Bool) → notes_each n ≡ k
+        → is_allowed
+            (if k then with_each_noted (new_value_check_of n (length c)) c else new_value_check_of n (length c))
+            ≡ allows_both n c
     by true e = allowed-each n c (eqb n 12)
     by false e = ap is_allowed (sym (nothing-noted (new_value_check_of n (length c)) c e)) ∙ allowed-each n c (eqb n 12)
 
 abbrev on_characters : ℕ → Bool → List Finding
 on_characters n allowed = finding_if (is_number_of character_types n && not allowed) B18 ++ []
 
-other-by : (n : ℕ) (c : ContentsFacts) → eqb n 1 ≡ false → eqb n 2 ≡ false → eqb n 3 ≡ false → eqb n 5 ≡ false → eqb n 6 ≡ false → eqb n 10 ≡ false → eqb n 13 ≡ false → eqb n 23 ≡ false → eqb n 24 ≡ false
+other-by : (n : ℕ) (c : ContentsFacts) → eqb n 1 ≡ false → eqb n 2 ≡ false → eqb n 3 ≡ false → eqb n 5 ≡ false
+    → eqb n 6 ≡ false → eqb n 10 ≡ false → eqb n 13 ≡ false → eqb n 23 ≡ false → eqb n 24 ≡ false
     → findings_by (type_conditions n c) ≡ on_characters n c.is_allowed
 other-by n c e1 e2 e3 e5 e6 e10 e13 e23 e24 = rw (e1, e2, e3, e5, e6, e10, e13, e23, e24) refl
 
-other-same : (n : ℕ) (c : List ℕ) → eqb n 1 ≡ false → eqb n 2 ≡ false → eqb n 3 ≡ false → eqb n 5 ≡ false → eqb n 6 ≡ false → eqb n 10 ≡ false → eqb n 13 ≡ false → eqb n 23 ≡ false → eqb n 24 ≡ false
+other-same : (n : ℕ) (c : List ℕ) → eqb n 1 ≡ false → eqb n 2 ≡ false → eqb n 3 ≡ false → eqb n 5 ≡ false
+    → eqb n 6 ≡ false → eqb n 10 ≡ false → eqb n 13 ≡ false → eqb n 23 ≡ false → eqb n 24 ≡ false
     → Same n c
 other-same n c e1 e2 e3 e5 e6 e10 e13 e23 e24 =
     other-by n (facts_of n c) e1 e2 e3 e5 e6 e10 e13 e23 e24
@@ -140,27 +167,33 @@ other-same n c e1 e2 e3 e5 e6 e10 e13 e23 e24 =
 by-number : (n k : ℕ) (c : List ℕ) → Same k c → eqb n k ≡ true → Same n c
 by-number n k c same e = subst (λ (m : ℕ). Same m c) (sym (eqb-true n k e)) same
 
-from-24 : (n : ℕ) (c : List ℕ) (test : Bool) → eqb n 24 ≡ test → eqb n 1 ≡ false → eqb n 2 ≡ false → eqb n 3 ≡ false → eqb n 5 ≡ false → eqb n 6 ≡ false → eqb n 10 ≡ false → eqb n 13 ≡ false → eqb n 23 ≡ false → Same n c
+from-24 : (n : ℕ) (c : List ℕ) (test : Bool) → eqb n 24 ≡ test → eqb n 1 ≡ false → eqb n 2 ≡ false → eqb n 3 ≡ false
+    → eqb n 5 ≡ false → eqb n 6 ≡ false → eqb n 10 ≡ false → eqb n 13 ≡ false → eqb n 23 ≡ false → Same n c
 from-24 n c true e e1 e2 e3 e5 e6 e10 e13 e23 = by-number n 24 c (general-same c) e
 from-24 n c false e e1 e2 e3 e5 e6 e10 e13 e23 = other-same n c e1 e2 e3 e5 e6 e10 e13 e23 e
 
-from-23 : (n : ℕ) (c : List ℕ) (test : Bool) → eqb n 23 ≡ test → eqb n 1 ≡ false → eqb n 2 ≡ false → eqb n 3 ≡ false → eqb n 5 ≡ false → eqb n 6 ≡ false → eqb n 10 ≡ false → eqb n 13 ≡ false → Same n c
+from-23 : (n : ℕ) (c : List ℕ) (test : Bool) → eqb n 23 ≡ test → eqb n 1 ≡ false → eqb n 2 ≡ false → eqb n 3 ≡ false
+    → eqb n 5 ≡ false → eqb n 6 ≡ false → eqb n 10 ≡ false → eqb n 13 ≡ false → Same n c
 from-23 n c true e e1 e2 e3 e5 e6 e10 e13 = by-number n 23 c (utc-same c) e
 from-23 n c false e e1 e2 e3 e5 e6 e10 e13 = from-24 n c (eqb n 24) refl e1 e2 e3 e5 e6 e10 e13 e
 
-from-13 : (n : ℕ) (c : List ℕ) (test : Bool) → eqb n 13 ≡ test → eqb n 1 ≡ false → eqb n 2 ≡ false → eqb n 3 ≡ false → eqb n 5 ≡ false → eqb n 6 ≡ false → eqb n 10 ≡ false → Same n c
+from-13 : (n : ℕ) (c : List ℕ) (test : Bool) → eqb n 13 ≡ test → eqb n 1 ≡ false → eqb n 2 ≡ false → eqb n 3 ≡ false
+    → eqb n 5 ≡ false → eqb n 6 ≡ false → eqb n 10 ≡ false → Same n c
 from-13 n c true e e1 e2 e3 e5 e6 e10 = by-number n 13 c refl e
 from-13 n c false e e1 e2 e3 e5 e6 e10 = from-23 n c (eqb n 23) refl e1 e2 e3 e5 e6 e10 e
 
-from-10 : (n : ℕ) (c : List ℕ) (test : Bool) → eqb n 10 ≡ test → eqb n 1 ≡ false → eqb n 2 ≡ false → eqb n 3 ≡ false → eqb n 5 ≡ false → eqb n 6 ≡ false → Same n c
+from-10 : (n : ℕ) (c : List ℕ) (test : Bool) → eqb n 10 ≡ test → eqb n 1 ≡ false → eqb n 2 ≡ false → eqb n 3 ≡ false
+    → eqb n 5 ≡ false → eqb n 6 ≡ false → Same n c
 from-10 n c true e e1 e2 e3 e5 e6 = by-number n 10 c (integer-by c) e
 from-10 n c false e e1 e2 e3 e5 e6 = from-13 n c (eqb n 13) refl e1 e2 e3 e5 e6 e
 
-from-6 : (n : ℕ) (c : List ℕ) (test : Bool) → eqb n 6 ≡ test → eqb n 1 ≡ false → eqb n 2 ≡ false → eqb n 3 ≡ false → eqb n 5 ≡ false → Same n c
+from-6 : (n : ℕ) (c : List ℕ) (test : Bool) → eqb n 6 ≡ test → eqb n 1 ≡ false → eqb n 2 ≡ false → eqb n 3 ≡ false
+    → eqb n 5 ≡ false → Same n c
 from-6 n c true e e1 e2 e3 e5 = by-number n 6 c refl e
 from-6 n c false e e1 e2 e3 e5 = from-10 n c (eqb n 10) refl e1 e2 e3 e5 e
 
-from-5 : (n : ℕ) (c : List ℕ) (test : Bool) → eqb n 5 ≡ test → eqb n 1 ≡ false → eqb n 2 ≡ false → eqb n 3 ≡ false → Same n c
+from-5 : (n : ℕ) (c : List ℕ) (test : Bool) → eqb n 5 ≡ test → eqb n 1 ≡ false → eqb n 2 ≡ false → eqb n 3 ≡ false
+    → Same n c
 from-5 n c true e e1 e2 e3 = by-number n 5 c refl e
 from-5 n c false e e1 e2 e3 = from-6 n c (eqb n 6) refl e1 e2 e3 e
 

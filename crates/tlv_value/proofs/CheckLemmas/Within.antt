@@ -1,12 +1,16 @@
 -- One form of text within another, and a canonical time within its grammar.
-use Rattle.std.proofs.Common.{◌≡◌, ℕ, ◌+◌, ◌-◌, ◌*◌, ◌≤◌, Bool, true, false, ◌&&◌, ◌||◌, nat_le, if◌then◌else◌, List, [], ◌∷◌, length, eqb, refl, sym, ap, ◌∙◌, ◌⊎◌, inl, inr, append-nil, arith}
+use Rattle.std.proofs.Common.{◌≡◌, ℕ, ◌+◌, ◌-◌, ◌*◌, ◌≤◌, Bool, true, false, ◌&&◌, ◌||◌, nat_le, if◌then◌else◌, List}
+use Rattle.std.proofs.Common.{[], ◌∷◌, length, eqb, refl, sym, ap, ◌∙◌, ◌⊎◌, inl, inr, append-nil, arith}
 use Rattle.std.specs.Prelude.{flat_map}
 use Rattle.std.specs.List.{list_any}
 use Rattle.std.proofs.lemmas.Bool.{or_cases, leb-true, le-leb}
 use Rattle.std.proofs.lemmas.Bool.Decides.{nat_tests}
 use Rattle.std.proofs.lemmas.List.Folds.{list_any-append}
 use Rattle.std.specs.Char.{is_ascii_digit}
-use Rattle.tlv_value.specs.Times.{◌then◌, ◌or◌, Form, canonical_fraction, canonical_generalized_time_form, canonical_utc_time_form, day, digits, fraction, generalized_time_form, generalized_zone, has_form, hour, is_rest_empty, mark, maybe, minute, no_octets, one, second, sign, two, utc_time_form}
+use Rattle.tlv_value.specs.Times.{◌then◌, ◌or◌, Form, canonical_fraction, canonical_generalized_time_form}
+use Rattle.tlv_value.specs.Times.{canonical_utc_time_form, day, digits, fraction, generalized_time_form}
+use Rattle.tlv_value.specs.Times.{generalized_zone, has_form, hour, is_rest_empty, mark, maybe, minute, no_octets, one}
+use Rattle.tlv_value.specs.Times.{second, sign, two, utc_time_form}
 use Rattle.tlv_value.specs.Private.Checks.{generalized_time_findings, time_findings, utc_time_findings}
 
 abbrev is_nil : List ℕ → Bool
@@ -16,7 +20,8 @@ is_nil (x ∷ xs) = false
 -- whatever the octets, the second form leaves each rest that the first leaves: if a rest of the first passes a test,
 -- one of the second does
 record Within (f g : Form) : Type 0 where
-  pub leaves : (test : List ℕ → Bool) (octets : List ℕ) → list_any test (f octets) ≡ true → list_any test (g octets) ≡ true
+  pub leaves : (test : List ℕ → Bool) (octets : List ℕ) → list_any test (f octets) ≡ true
+      → list_any test (g octets) ≡ true
 
 or-left : (a b : Bool) → a ≡ true → (a || b) ≡ true
 or-left true b h = refl
@@ -35,7 +40,8 @@ and-last true b c f h = f h
 and-last false b c f h = h
 
 any-weaker :
-    (p q : List ℕ → Bool) → ((x : List ℕ) → p x ≡ true → q x ≡ true) → (xs : List (List ℕ)) → list_any p xs ≡ true → list_any q xs ≡ true
+    (p q : List ℕ → Bool) → ((x : List ℕ) → p x ≡ true → q x ≡ true) → (xs : List (List ℕ)) → list_any p xs ≡ true
+        → list_any q xs ≡ true
 any-weaker p q w [] h = h
 any-weaker p q w (x ∷ xs) h = or-both (p x) (list_any p xs) (q x) (list_any q xs) (w x) (any-weaker p q w xs) h
 
@@ -43,9 +49,11 @@ any-same : (p q : List ℕ → Bool) → ((x : List ℕ) → p x ≡ q x) → (x
 any-same p q e [] = refl
 any-same p q e (x ∷ xs) = ap (λ (b : Bool). b || list_any p xs) (e x) ∙ ap (λ (b : Bool). q x || b) (any-same p q e xs)
 
-any-flat_map : (p : List ℕ → Bool) (g : Form) (xs : List (List ℕ)) → list_any p (flat_map g xs) ≡ list_any (λ (x : List ℕ). list_any p (g x)) xs
+any-flat_map : (p : List ℕ → Bool) (g : Form) (xs : List (List ℕ))
+    → list_any p (flat_map g xs) ≡ list_any (λ (x : List ℕ). list_any p (g x)) xs
 any-flat_map p g [] = refl
-any-flat_map p g (x ∷ xs) = list_any-append p (g x) (flat_map g xs) ∙ ap (λ (b : Bool). list_any p (g x) || b) (any-flat_map p g xs)
+any-flat_map p g (x ∷ xs) =
+    list_any-append p (g x) (flat_map g xs) ∙ ap (λ (b : Bool). list_any p (g x) || b) (any-flat_map p g xs)
 
 within-same : (f : Form) → Within f f
 within-same f = record { leaves = λ test octets h. h }
@@ -54,20 +62,24 @@ within-then : {f g h k : Form} → Within f h → Within g k → Within (f then 
 within-then {f} {g} {h} {k} v w = record {
   leaves = λ test octets e.
       any-flat_map test k (h octets)
-      ∙ any-weaker (λ (x : List ℕ). list_any test (g x)) (λ (x : List ℕ). list_any test (k x)) (w.leaves test) (h octets)
+      ∙ any-weaker (λ (x : List ℕ). list_any test (g x)) (λ (x : List ℕ). list_any test (k x)) (w.leaves test)
+          (h octets)
       (v.leaves (λ (x : List ℕ). list_any test (g x)) octets (sym (any-flat_map test g (f octets)) ∙ e));
 }
 
 within-first : {f g : Form} (h : Form) → Within f g → Within f (g or h)
 within-first {f} {g} h v = record {
-  leaves = λ test octets e. list_any-append test (g octets) (h octets) ∙ or-left (list_any test (g octets)) (list_any test (h octets)) (v.leaves test octets e);
+  leaves =
+      λ test octets e. list_any-append test (g octets) (h octets)
+          ∙ or-left (list_any test (g octets)) (list_any test (h octets)) (v.leaves test octets e);
 }
 
 within-or : {f g h k : Form} → Within f h → Within g k → Within (f or g) (h or k)
 within-or {f} {g} {h} {k} v w = record {
   leaves = λ test octets e.
       list_any-append test (h octets) (k octets)
-      ∙ or-both (list_any test (f octets)) (list_any test (g octets)) (list_any test (h octets)) (list_any test (k octets)) (v.leaves test octets)
+      ∙ or-both (list_any test (f octets)) (list_any test (g octets)) (list_any test (h octets))
+          (list_any test (k octets)) (v.leaves test octets)
       (w.leaves test octets) (sym (list_any-append test (f octets) (g octets)) ∙ e);
 }
 
@@ -78,7 +90,8 @@ together :
 together test f g h octets =
     any-flat_map test h (flat_map g (f octets))
     ∙ any-flat_map (λ (x : List ℕ). list_any test (h x)) g (f octets)
-    ∙ any-same (λ (x : List ℕ). list_any (λ (y : List ℕ). list_any test (h y)) (g x)) (λ (x : List ℕ). list_any test ((g then h) x))
+    ∙ any-same (λ (x : List ℕ). list_any (λ (y : List ℕ). list_any test (h y)) (g x))
+        (λ (x : List ℕ). list_any test ((g then h) x))
     (λ (x : List ℕ). sym (any-flat_map test h (g x))) (f octets)
     ∙ sym (any-flat_map test (g then h) (f octets))
 
@@ -89,7 +102,8 @@ within-prefix {f} g h m v w = record {
 }
 
 -- the same, with a second form of three parts
-within-prefixes : {f k : Form} (g h m n : Form) → Within f k → Within (g then h) (m then n) → Within ((f then g) then h) ((k then m) then n)
+within-prefixes : {f k : Form} (g h m n : Form) → Within f k → Within (g then h) (m then n)
+    → Within ((f then g) then h) ((k then m) then n)
 within-prefixes {f} {k} g h m n v w = record {
   leaves = λ test octets e. together test k m n octets ∙ (within-prefix g h (m then n) v w).leaves test octets e;
 }
@@ -119,12 +133,16 @@ within-two low high more le = record { leaves = leave }
     leave test (x ∷ y ∷ rest) h =
         let n : ℕ = 10 * (x - 48) + (y - 48) in
         let at_least : Bool = is_ascii_digit x && is_ascii_digit y && nat_le low n in
-        if-within test (at_least && nat_le n high) (at_least && nat_le n more) (rest ∷ []) (and-last at_least (nat_le n high) (nat_le n more) (greater n)) h
+        if-within test (at_least && nat_le n high) (at_least && nat_le n more) (rest ∷ [])
+            (and-last at_least (nat_le n high) (nat_le n more) (greater n)) h
 
 -- there may be no digits: then all is left
-no-digits : (test : List ℕ → Bool) (octets : List ℕ) → list_any test (octets ∷ []) ≡ true → list_any test (digits octets) ≡ true
+no-digits : (test : List ℕ → Bool) (octets : List ℕ) → list_any test (octets ∷ []) ≡ true
+    → list_any test (digits octets) ≡ true
 no-digits test [] h = h
-no-digits test (x ∷ xs) h = or-both (test (x ∷ xs)) false (test (x ∷ xs)) (list_any test (if is_ascii_digit x then digits xs else [])) (λ e. e) (λ e. absurd cc) h
+no-digits test (x ∷ xs) h =
+    or-both (test (x ∷ xs)) false (test (x ∷ xs)) (list_any test (if is_ascii_digit x then digits xs else []))
+        (λ e. e) (λ e. absurd cc) h
 
 -- something is left only if the test passes
 there :
@@ -153,10 +171,17 @@ digit-first test x xs more h =
     let second : List (List ℕ) = flat_map (one 49 57) (if is_ascii_digit x then digits xs else []) in
     go (or_cases (list_any test first) (list_any test second) (sym (list_any-append test first second) ∙ h))
   where
-    go : (list_any test (one 49 57 (x ∷ xs)) ≡ true) ⊎ (list_any test (flat_map (one 49 57) (if is_ascii_digit x then digits xs else [])) ≡ true)
+    go : (list_any test (one 49 57 (x ∷ xs)) ≡ true)
+        ⊎ (list_any test (flat_map (one 49 57) (if is_ascii_digit x then digits xs else [])) ≡ true)
         → (is_ascii_digit x ≡ true) × (list_any test (digits xs) ≡ true)
-    go (inl e) = let t = there (list_any test) (nat_le 49 x && nat_le x 57) (xs ∷ []) refl e in (not-zero x t.0, no-digits test xs t.1)
-    go (inr e) = let t = there (λ (rests : List (List ℕ)). list_any test (flat_map (one 49 57) rests)) (is_ascii_digit x) (digits xs) refl e in (t.0, more t.1)
+    go (inl e) =
+        let t =
+            there (list_any test) (nat_le 49 x && nat_le x 57) (xs ∷ []) refl e in
+                (not-zero x t.0, no-digits test xs t.1)
+    go (inr e) =
+        let t =
+            there (λ (rests : List (List ℕ)). list_any test (flat_map (one 49 57) rests)) (is_ascii_digit x)
+                (digits xs) refl e in (t.0, more t.1)
 
 digits-more : (test : List ℕ → Bool) (octets : List ℕ) → IsMore test octets
 digits-more test [] h = absurd cc
@@ -173,7 +198,8 @@ within-digits = record { leaves = leave }
         → list_any test ((digits then one 49 57) octets) ≡ true
         → list_any test ((one 48 57 then digits) octets) ≡ true
     leave test [] h = absurd cc
-    leave test (x ∷ xs) h = let t = digit-first test x xs (digits-more test xs) h in rw (t.0, append-nil (digits xs)) t.1
+    leave test (x ∷ xs) h =
+        let t = digit-first test x xs (digits-more test xs) h in rw (t.0, append-nil (digits xs)) t.1
 
 within-hour : Within (two 0 23) hour
 within-hour = within-two 0 23 24 (omega arith)
@@ -184,8 +210,10 @@ within-second w = within-then (within-first no_octets (within-same second)) w
 -- 11.8
 utc-within : Within canonical_utc_time_form utc_time_form
 utc-within =
-    within-prefixes _ _ _ _ (within-same (two 0 99)) (within-prefixes _ _ _ _ (within-same day) (within-prefixes _ _ _ _ within-hour
-    (within-prefix _ _ _ (within-same minute) (within-second (within-first (sign then hour then minute) (within-same (mark 90)))))))
+    within-prefixes _ _ _ _ (within-same (two 0 99))
+        (within-prefixes _ _ _ _ (within-same day) (within-prefixes _ _ _ _ within-hour
+    (within-prefix _ _ _ (within-same minute)
+        (within-second (within-first (sign then hour then minute) (within-same (mark 90)))))))
 
 generalized-tail : Within (maybe canonical_fraction then mark 90) (maybe fraction then maybe generalized_zone)
 generalized-tail =
@@ -196,9 +224,12 @@ generalized-tail =
 -- 11.7
 generalized-within : Within canonical_generalized_time_form generalized_time_form
 generalized-within =
-    within-prefixes _ _ _ _ (within-same (two 0 99)) (within-prefixes _ _ _ _ (within-same (two 0 99)) (within-prefixes _ _ _ _ (within-same day)
+    within-prefixes _ _ _ _ (within-same (two 0 99))
+        (within-prefixes _ _ _ _ (within-same (two 0 99)) (within-prefixes _ _ _ _ (within-same day)
     (within-prefix _ _ _ within-hour
-    (within-then (within-first no_octets (within-then (within-same minute) (within-first no_octets (within-same second)))) generalized-tail))))
+    (within-then
+        (within-first no_octets (within-then (within-same minute) (within-first no_octets (within-same second))))
+        generalized-tail))))
 
 empty-any : (rests : List (List ℕ)) → is_rest_empty rests ≡ list_any is_nil rests
 empty-any [] = refl
@@ -207,9 +238,11 @@ empty-any ((x ∷ xs) ∷ rests) = empty-any rests
 
 -- if the canonical form is within the grammar, nothing is found exactly on contents of the canonical form
 clear-within :
-    {f g : Form} → Within f g → (octets : List ℕ) → has_form f octets ≡ eqb (length (time_findings (has_form g octets) (has_form f octets))) 0
+    {f g : Form} → Within f g → (octets : List ℕ)
+        → has_form f octets ≡ eqb (length (time_findings (has_form g octets) (has_form f octets))) 0
 clear-within {f} {g} w octets =
-    go (has_form f octets) (has_form g octets) (λ h. empty-any (g octets) ∙ w.leaves is_nil octets (sym (empty-any (f octets)) ∙ h))
+    go (has_form f octets) (has_form g octets)
+        (λ h. empty-any (g octets) ∙ w.leaves is_nil octets (sym (empty-any (f octets)) ∙ h))
   where
     go : (a b : Bool) → (a ≡ true → b ≡ true) → a ≡ eqb (length (time_findings b a)) 0
     go true true v = refl

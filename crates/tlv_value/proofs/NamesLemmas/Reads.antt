@@ -1,5 +1,6 @@
 -- Octets read one piece after another.
-use Rattle.std.proofs.Common.{◌≡◌, inl, inr, ℕ, ◌+◌, ◌-◌, ◌<◌, ◌≤◌, List, [], ◌++◌, length, take, refl, sym, ap, ◌∙◌, subst, arith, append-nil, length-append}
+use Rattle.std.proofs.Common.{◌≡◌, inl, inr, ℕ, ◌+◌, ◌-◌, ◌<◌, ◌≤◌, List, [], ◌++◌, length, take, refl, sym, ap, ◌∙◌}
+use Rattle.std.proofs.Common.{subst, arith, append-nil, length-append}
 use Rattle.std.specs.Prelude.{Option, Some, None, Vec, Result, Ok, Err}
 use Rattle.std.specs.Io.KnownBytes.{Consumes, Keeps}
 use Rattle.std.proofs.lemmas.List.{length-take-le}
@@ -8,7 +9,8 @@ use Rattle.std.specs.List.{concat}
 use Rattle.tlv_io.specs.Device.{Pieces, ReadsOnce, SourceState, gave, next_count, octets_given}
 use Rattle.tlv_io.proofs.Pieces.{Gathered, gathered_more, pieces_all, together_more}
 use Rattle.tlv_value.specs.declared.names.fault.NamesFault.{NamesFault}
-use Rattle.tlv_value.specs.declared.names.fault.NamesFault.TheVariants.{BadOid, BadName, Repeated, TooLarge, ReadFailed, Memory}
+use Rattle.tlv_value.specs.declared.names.fault.NamesFault.TheVariants.{BadOid, BadName, Repeated, TooLarge, ReadFailed}
+use Rattle.tlv_value.specs.declared.names.fault.NamesFault.TheVariants.{Memory}
 use Rattle.std.specs.BTreeMap.{BTreeMap}
 use Rattle.tlv_value.specs.Names.{NamesTable, names_of}
 use Rattle.tlv_value.specs.NamesReading.{IsWholeFile, ReadsFrom, names_limit}
@@ -20,12 +22,19 @@ pub record Given (old new : SourceState) (octets : List ℕ) : Type 0 where
   pub gathered : Gathered old new
   pub are : concat gathered.pieces ≡ octets
 
-module _ (old middle new : SourceState) (octets : List ℕ) (x : Given old middle octets) (most : length octets ≤ names_limit) (failures : middle.failures ≡ old.failures) (piece : List ℕ) (room : length piece ≡ 4096) where
+module _ (old middle new : SourceState) (octets : List ℕ) (x : Given old middle octets)
+    (most : length octets ≤ names_limit) (failures : middle.failures ≡ old.failures) (piece : List ℕ)
+    (room : length piece ≡ 4096) where
   -- a read that failed
-  pub gives_failed : {Z : Type 0} → (e : ReadFault) → ReadsOnce middle new (Err e) piece → Gives {Z = Z} old new (Err ReadFailed)
+  pub gives_failed : {Z : Type 0} → (e : ReadFault) → ReadsOnce middle new (Err e) piece
+      → Gives {Z = Z} old new (Err ReadFailed)
   gives_failed e r = record {
-    pieces = pieces_all old middle new x.gathered [] (consumes_kept middle.left new.left r.octets) r.reads (inr (r.last, refl)) (omega arith);
-    gives = (r.last, subst (λ (l : List ℕ). length l ≤ names_limit) (sym (append-nil (concat x.gathered.pieces) ∙ x.are)) most);
+    pieces =
+        pieces_all old middle new x.gathered [] (consumes_kept middle.left new.left r.octets) r.reads
+            (inr (r.last, refl)) (omega arith);
+    gives =
+        (r.last,
+            subst (λ (l : List ℕ). length l ≤ names_limit) (sym (append-nil (concat x.gathered.pieces) ∙ x.are)) most);
     failures = r.failures ∙ ap next_count failures;
   }
     where
@@ -46,7 +55,9 @@ module _ (old middle new : SourceState) (octets : List ℕ) (x : Given old middl
 
     -- and these are all
     abbrev pub pieces_so : Pieces old new
-    pieces_so = pieces_all old middle new x.gathered (take n piece) r.octets.0 r.reads (inl (r.last ∙ ap gave (sym r_length))) few
+    pieces_so =
+        pieces_all old middle new x.gathered (take n piece) r.octets.0 r.reads (inl (r.last ∙ ap gave (sym r_length)))
+            few
 
     length_all : length (concat x.gathered.pieces ++ take n piece) ≡ length octets + n
     length_all = ap length all_are ∙ length-append octets (take n piece) ∙ ap (λ (k : ℕ). length octets + k) r_length
@@ -57,7 +68,9 @@ module _ (old middle new : SourceState) (octets : List ℕ) (x : Given old middl
     pub gives_end : {Z : Type 0} → n ≡ 0 → (v : Vec ℕ Z) → v.items ≡ octets → Gives {Z = Z} old new (Ok v)
     gives_end z v is = record {
       pieces = pieces_so;
-      gives = (all_are ∙ ap (λ (k : ℕ). octets ++ take k piece) z ∙ none_taken ∙ sym is, r.last ∙ ap gave z, r.octets.1 z (omega (arith, room)), subst (λ (l : List ℕ). length l ≤ names_limit) (sym is) most);
+      gives =
+          (all_are ∙ ap (λ (k : ℕ). octets ++ take k piece) z ∙ none_taken ∙ sym is, r.last ∙ ap gave z,
+              r.octets.1 z (omega (arith, room)), subst (λ (l : List ℕ). length l ≤ names_limit) (sym is) most);
       failures = same_failures;
     }
       where
@@ -77,19 +90,26 @@ module _ (old middle new : SourceState) (octets : List ℕ) (x : Given old middl
     }
 
     pub gives_memory : {Z : Type 0} → n ≤ names_limit - length octets → Gives {Z = Z} old new (Err Memory)
-    gives_memory less = record { pieces = pieces_so; gives = omega (arith, less, most, length_all); failures = same_failures }
+    gives_memory less = record {
+      pieces = pieces_so;
+      gives = omega (arith, less, most, length_all);
+      failures = same_failures;
+    }
 
     -- or there are more
     pub given_more : (n ≡ 0 → ⊥) → (more : List ℕ) → more ≡ octets ++ take n piece → Given old new more
     given_more some more is = record {
-      gathered = gathered_more old middle new x.gathered (take n piece) r.octets.0 r.reads (omega (arith, some, r_length), few);
+      gathered =
+          gathered_more old middle new x.gathered (take n piece) r.octets.0 r.reads
+              (omega (arith, some, r_length), few);
       are = together_more x.gathered.pieces (take n piece) ∙ all_are ∙ sym is;
     }
 
 -- ---- what is made of all of them
 
 -- the octets that were read say the result
-said : {Z : Type 0} (new : SourceState) (octets : List ℕ) (v : Vec ℕ Z) (r : Result NamesTable NamesFault) → GivesAll new octets (Ok v) → names_of v.items ≡ r → IsWholeFile new octets r
+said : {Z : Type 0} (new : SourceState) (octets : List ℕ) (v : Vec ℕ Z) (r : Result NamesTable NamesFault)
+    → GivesAll new octets (Ok v) → names_of v.items ≡ r → IsWholeFile new octets r
 said new octets v r x n = record {
   ended = x.1;
   at_end = x.2;
@@ -97,17 +117,44 @@ said new octets v r x n = record {
   result_is = ap names_of x.0 ∙ n;
 }
 
-pub judged : {Y Z : Type 0} (old new : SourceState) (v : Vec ℕ Y) (result : Result (BTreeMap (Vec ℕ Z) (Vec ℕ Z)) NamesFault) → Gives old new (Ok v) → IsTableOf v.items result → ReadsFrom old new (result_in result)
-judged old new v (Ok m) x n = record { pieces = x.pieces; result_is = said new (octets_given x.pieces) v (Ok (table_in m)) x.gives n; failures = x.failures }
-judged old new v (Err (BadOid k)) x n = record { pieces = x.pieces; result_is = said new (octets_given x.pieces) v (Err (BadOid k)) x.gives n; failures = x.failures }
-judged old new v (Err (BadName k)) x n = record { pieces = x.pieces; result_is = said new (octets_given x.pieces) v (Err (BadName k)) x.gives n; failures = x.failures }
-judged old new v (Err (Repeated k)) x n = record { pieces = x.pieces; result_is = said new (octets_given x.pieces) v (Err (Repeated k)) x.gives n; failures = x.failures }
-judged old new v (Err TooLarge) x n = record { pieces = x.pieces; result_is = inl (said new (octets_given x.pieces) v (Err TooLarge) x.gives n); failures = x.failures }
+pub judged : {Y Z : Type 0} (old new : SourceState) (v : Vec ℕ Y)
+    (result : Result (BTreeMap (Vec ℕ Z) (Vec ℕ Z)) NamesFault)
+    → Gives old new (Ok v) → IsTableOf v.items result → ReadsFrom old new (result_in result)
+judged old new v (Ok m) x n = record {
+  pieces = x.pieces;
+  result_is = said new (octets_given x.pieces) v (Ok (table_in m)) x.gives n;
+  failures = x.failures;
+}
+judged old new v (Err (BadOid k)) x n = record {
+  pieces = x.pieces;
+  result_is = said new (octets_given x.pieces) v (Err (BadOid k)) x.gives n;
+  failures = x.failures;
+}
+judged old new v (Err (BadName k)) x n = record {
+  pieces = x.pieces;
+  result_is = said new (octets_given x.pieces) v (Err (BadName k)) x.gives n;
+  failures = x.failures;
+}
+judged old new v (Err (Repeated k)) x n = record {
+  pieces = x.pieces;
+  result_is = said new (octets_given x.pieces) v (Err (Repeated k)) x.gives n;
+  failures = x.failures;
+}
+judged old new v (Err TooLarge) x n = record {
+  pieces = x.pieces;
+  result_is = inl (said new (octets_given x.pieces) v (Err TooLarge) x.gives n);
+  failures = x.failures;
+}
 judged old new v (Err ReadFailed) x n = absurd n
-judged old new v (Err Memory) x n = record { pieces = x.pieces; result_is = subst (λ (l : List ℕ). length l ≤ names_limit) (sym x.gives.0) x.gives.3; failures = x.failures }
+judged old new v (Err Memory) x n = record {
+  pieces = x.pieces;
+  result_is = subst (λ (l : List ℕ). length l ≤ names_limit) (sym x.gives.0) x.gives.3;
+  failures = x.failures;
+}
 
 -- the octets could not be read
-pub unread : {Z : Type 0} (old new : SourceState) (e : NamesFault) → Gives {Z = Z} old new (Err e) → ReadsFrom old new (Err e)
+pub unread : {Z : Type 0} (old new : SourceState) (e : NamesFault) → Gives {Z = Z} old new (Err e)
+    → ReadsFrom old new (Err e)
 unread old new (BadOid k) x = absurd x.gives
 unread old new (BadName k) x = absurd x.gives
 unread old new (Repeated k) x = absurd x.gives

@@ -17,6 +17,7 @@ abbrev pub row_begun : Kind → List ℕ → List ℕ → List ℕ
 row_begun kind row octets = row_begun_by (row_size kind) (character_length kind) row octets
 
 -- the rows of octets are those, and a last one
-pub rows-filled : (kind : Kind) (octets : List ℕ) → rows_of kind octets ≡ rows_filled kind [] octets ++ last_rows (row_begun kind [] octets)
+pub rows-filled : (kind : Kind) (octets : List ℕ)
+    → rows_of kind octets ≡ rows_filled kind [] octets ++ last_rows (row_begun kind [] octets)
 rows-filled Utf8 octets = refl
 rows-filled kind octets = refl

@@ -1,5 +1,7 @@
 -- Full rows of pairs of digits, from where their octets are.
-use Rattle.std.proofs.Common.{◌≡◌, inl, ℕ, zero, suc, ◌+◌, ◌-◌, ◌*◌, ◌/◌, ◌<◌, ◌≤◌, false, true, List, [], ◌∷◌, ◌++◌, length, take, drop, get_or, refl, sym, ap, ap₂, ◌∙◌, arith, append_assoc, append-nil, length-append, length-drop, take-append-drop}
+use Rattle.std.proofs.Common.{◌≡◌, inl, ℕ, zero, suc, ◌+◌, ◌-◌, ◌*◌, ◌/◌, ◌<◌, ◌≤◌, false, true, List, [], ◌∷◌, ◌++◌}
+use Rattle.std.proofs.Common.{length, take, drop, get_or, refl, sym, ap, ap₂, ◌∙◌, arith, append_assoc, append-nil}
+use Rattle.std.proofs.Common.{length-append, length-drop, take-append-drop}
 use Rattle.std.specs.Prelude.{None, eqb}
 use Rattle.std.proofs.lemmas.Bool.Decides.{nat_tests}
 use Rattle.std.proofs.lemmas.List.{drop-drop, replicate_more, take_more}
@@ -7,7 +9,8 @@ use Rattle.std.proofs.lemmas.Grind.{flat_map-append}
 use Rattle.std.specs.Simd.{first_chunks}
 use Rattle.tlv_io.specs.Cuts.{last_rows}
 use Rattle.tlv_value.specs.declared.kind.Kind.{Kind}
-use Rattle.tlv_value.specs.declared.kind.Kind.TheVariants.{Octets, Boolean, Integer, Bits, Object, Relative, Text, Utf8, Ucs2, Ucs4}
+use Rattle.tlv_value.specs.declared.kind.Kind.TheVariants.{Octets, Boolean, Integer, Bits, Object, Relative, Text, Utf8}
+use Rattle.tlv_value.specs.declared.kind.Kind.TheVariants.{Ucs2, Ucs4}
 use Rattle.tlv_value.specs.declared.layout.Layout.{Layout}
 use Rattle.tlv_value.specs.RowSizes.{character_length, row_size}
 use Rattle.tlv_value.specs.Kind.{is_text}
@@ -51,21 +54,32 @@ module _ (kind : Kind) (short : row_size kind ≡ 16) where
   room : (n : ℕ) (octets : List ℕ) → n ≤ 16 → HaveRoom kind 0 octets n
   room n octets few i h = rw (one_each kind (get_or octets i 0) short, short) (grind (arith, nat_tests))
 
-  first_row : (octets : List ℕ) → 16 ≤ length octets → (rows_filled kind [] octets ≡ take 16 octets ∷ rows_filled kind [] (drop 16 octets)) × (row_begun kind [] octets ≡ row_begun kind [] (drop 16 octets))
-  first_row octets h = turn kind [] 16 octets (room 16 octets (omega arith)) (omega (arith, short)) h (omega (arith, short)) (inl (omega (arith, short)))
+  first_row : (octets : List ℕ) → 16 ≤ length octets
+      → (rows_filled kind [] octets ≡ take 16 octets ∷ rows_filled kind [] (drop 16 octets))
+          × (row_begun kind [] octets ≡ row_begun kind [] (drop 16 octets))
+  first_row octets h =
+      turn kind [] 16 octets (room 16 octets (omega arith)) (omega (arith, short)) h (omega (arith, short))
+          (inl (omega (arith, short)))
 
   -- so many rows
   rows_first : (n : ℕ) (octets : List ℕ) → n * 16 ≤ length octets
-      → (rows_filled kind [] octets ≡ first_chunks 16 n octets ++ rows_filled kind [] (drop (n * 16) octets)) × (row_begun kind [] octets ≡ row_begun kind [] (drop (n * 16) octets))
+      → (rows_filled kind [] octets ≡ first_chunks 16 n octets ++ rows_filled kind [] (drop (n * 16) octets))
+          × (row_begun kind [] octets ≡ row_begun kind [] (drop (n * 16) octets))
   rows_first zero octets h = (refl, refl)
   rows_first (suc n) octets h =
       let t = first_row octets (omega (arith, h)) in
       let more = rows_first n (drop 16 octets) (omega (arith, h, length-drop 16 octets)) in
-      let e : drop (n * 16) (drop 16 octets) ≡ drop (suc n * 16) octets = drop-drop (n * 16) 16 octets ∙ ap (λ (k : ℕ). drop k octets) (omega arith) in
-      (t.0 ∙ ap (λ (l : List (List ℕ)). take 16 octets ∷ l) (more.0 ∙ ap (λ (l : List ℕ). first_chunks 16 n (drop 16 octets) ++ rows_filled kind [] l) e), t.1 ∙ more.1 ∙ ap (row_begun kind []) e)
+      let e : drop (n * 16) (drop 16 octets) ≡ drop (suc n * 16) octets =
+          drop-drop (n * 16) 16 octets ∙ ap (λ (k : ℕ). drop k octets) (omega arith) in
+      (t.0
+          ∙ ap (λ (l : List (List ℕ)). take 16 octets ∷ l)
+              (more.0 ∙ ap (λ (l : List ℕ). first_chunks 16 n (drop 16 octets) ++ rows_filled kind [] l) e),
+          t.1 ∙ more.1 ∙ ap (row_begun kind []) e)
 
   -- all rows: the full ones, and the last
-  pub rows_cut : (octets : List ℕ) → rows_of kind octets ≡ first_chunks 16 (length octets / 16) octets ++ last_rows (drop (length octets / 16 * 16) octets)
+  pub rows_cut : (octets : List ℕ)
+      → rows_of kind octets
+          ≡ first_chunks 16 (length octets / 16) octets ++ last_rows (drop (length octets / 16 * 16) octets)
   rows_cut octets =
       let n : ℕ = length octets / 16 in
       let more : List ℕ = drop (n * 16) octets in
@@ -73,7 +87,8 @@ module _ (kind : Kind) (short : row_size kind ≡ 16) where
       let t = rows_first n octets (omega arith) in
       let k = keep kind [] more (room (length more) more (omega (arith, l))) (omega (arith, l, short)) in
       rows-filled kind octets
-      ∙ ap (λ (r : List (List ℕ)). r ++ last_rows (row_begun kind [] octets)) (t.0 ∙ ap (λ (r : List (List ℕ)). first_chunks 16 n octets ++ r) k.0 ∙ append-nil (first_chunks 16 n octets))
+      ∙ ap (λ (r : List (List ℕ)). r ++ last_rows (row_begun kind [] octets))
+          (t.0 ∙ ap (λ (r : List (List ℕ)). first_chunks 16 n octets ++ r) k.0 ∙ append-nil (first_chunks 16 n octets))
       ∙ ap (λ (r : List ℕ). first_chunks 16 n octets ++ last_rows r) (t.1 ∙ k.1)
 
   module _ (layout : Layout) (endless : layout.limit ≡ None) where
@@ -81,27 +96,37 @@ module _ (kind : Kind) (short : row_size kind ≡ 16) where
     lines_of : (i : ℕ) (rows : List (List ℕ)) → row_lines kind layout i rows ≡ full_lines layout rows
     lines_of i [] = refl
     lines_of i (row ∷ rows) =
-        let one : row_line layout i (row_text kind row) ≡ full_line layout row = rw (endless, not_text kind short) refl in
+        let one : row_line layout i (row_text kind row) ≡ full_line layout row =
+            rw (endless, not_text kind short) refl in
         ap₂ (λ (k l : List ℕ). k ++ l) one (lines_of (i + 1) rows)
 
     -- the full rows of octets, and what is left of them
     abbrev pub Turned : ℕ → List ℕ → List (List ℕ) → List ℕ → Type 0
-    Turned i octets rows more = (row_lines kind layout i (rows_filled kind [] octets) ≡ full_lines layout rows ++ row_lines kind layout (i + length rows) (rows_filled kind [] more))
-        × (row_begun kind [] octets ≡ row_begun kind [] more) × (length (rows_filled kind [] octets) ≡ length rows + length (rows_filled kind [] more))
+    Turned i octets rows more =
+        (row_lines kind layout i (rows_filled kind [] octets)
+            ≡ full_lines layout rows ++ row_lines kind layout (i + length rows) (rows_filled kind [] more))
+        × (row_begun kind [] octets ≡ row_begun kind [] more)
+            × (length (rows_filled kind [] octets) ≡ length rows + length (rows_filled kind [] more))
 
-    pub rows_turned : (i : ℕ) (octets : List ℕ) (rows : List (List ℕ)) (more : List ℕ) → rows ≡ first_chunks 16 (length octets / 16) octets → more ≡ drop (length octets / 16 * 16) octets → Turned i octets rows more
+    pub rows_turned : (i : ℕ) (octets : List ℕ) (rows : List (List ℕ)) (more : List ℕ)
+        → rows ≡ first_chunks 16 (length octets / 16) octets → more ≡ drop (length octets / 16 * 16) octets
+        → Turned i octets rows more
     rows_turned i octets rows more e f =
         let t = rows_first (length octets / 16) octets (omega arith) in
         let all : rows_filled kind [] octets ≡ rows ++ rows_filled kind [] more = rw (e, f) t.0 in (
-          ap (row_lines kind layout i) all ∙ row_lines-append kind layout i rows (rows_filled kind [] more) ∙ ap (λ (l : List ℕ). l ++ row_lines kind layout (i + length rows) (rows_filled kind [] more)) (lines_of i rows),
+          ap (row_lines kind layout i) all ∙ row_lines-append kind layout i rows (rows_filled kind [] more)
+              ∙ ap (λ (l : List ℕ). l ++ row_lines kind layout (i + length rows) (rows_filled kind [] more))
+                  (lines_of i rows),
           rw f t.1,
           ap length all ∙ length-append rows (rows_filled kind [] more),
         )
 
 -- the lines of all rows, if there is no limit to them
-pub pair_lines : (kind : Kind) → row_size kind ≡ 16 → (layout : Layout) → layout.limit ≡ None → (octets : List ℕ) → full_lines layout (rows_of Octets octets) ≡ row_lines kind layout 0 (rows_of kind octets)
+pub pair_lines : (kind : Kind) → row_size kind ≡ 16 → (layout : Layout) → layout.limit ≡ None → (octets : List ℕ)
+    → full_lines layout (rows_of Octets octets) ≡ row_lines kind layout 0 (rows_of kind octets)
 pair_lines kind short layout endless octets =
-    ap (full_lines layout) (rows_cut Octets refl octets ∙ sym (rows_cut kind short octets)) ∙ sym (lines_of kind short layout endless 0 (rows_of kind octets))
+    ap (full_lines layout) (rows_cut Octets refl octets ∙ sym (rows_cut kind short octets))
+        ∙ sym (lines_of kind short layout endless 0 (rows_of kind octets))
 
 -- ---- the line of a full row
 
@@ -109,31 +134,38 @@ pair_lines kind short layout endless octets =
 pairs_joined : (x : ℕ) (xs : List ℕ) → spaced_pairs (x ∷ xs) ≡ 32 ∷ row_text Octets (x ∷ xs)
 pairs_joined x xs = refl
 
-pub full_line_added : (layout : Layout) (old row : List ℕ) (n : ℕ) → spaces n ≡ margin layout.pure no_columns (layout.level + 1) → 2 ≤ n → length row ≡ 16
+pub full_line_added : (layout : Layout) (old row : List ℕ) (n : ℕ)
+    → spaces n ≡ margin layout.pure no_columns (layout.level + 1) → 2 ≤ n → length row ≡ 16
     → old ++ spaces (n - 1) ++ spaced_pairs row ++ 10 ∷ [] ≡ old ++ full_line layout row
 full_line_added layout old [] n e some whole = absurd (omega (arith, whole))
 full_line_added layout old (x ∷ xs) n e some whole =
     let text : List ℕ = row_text Octets (x ∷ xs) in
-    let indent : spaces (n - 1) ++ 32 ∷ [] ≡ margin layout.pure no_columns (layout.level + 1) = replicate_more (n - 1) 32 ∙ ap spaces (omega (arith, some)) ∙ e in
+    let indent : spaces (n - 1) ++ 32 ∷ [] ≡ margin layout.pure no_columns (layout.level + 1) =
+        replicate_more (n - 1) 32 ∙ ap spaces (omega (arith, some)) ∙ e in
     ap (λ (l : List ℕ). old ++ spaces (n - 1) ++ l ++ 10 ∷ []) (pairs_joined x xs)
     ∙ joined (spaces (n - 1)) text
     ∙ ap (λ (l : List ℕ). old ++ (l ++ text ++ 10 ∷ [])) indent
   where
-    joined : (indent text : List ℕ) → old ++ indent ++ (32 ∷ text) ++ 10 ∷ [] ≡ old ++ (indent ++ 32 ∷ [] ++ text ++ 10 ∷ [])
+    joined : (indent text : List ℕ)
+        → old ++ indent ++ (32 ∷ text) ++ 10 ∷ [] ≡ old ++ (indent ++ 32 ∷ [] ++ text ++ 10 ∷ [])
     joined indent text = simp append_assoc refl
 
 -- the lines of the full rows, and that of the last
-pub lines_cut : (layout : Layout) (octets : List ℕ) (rows : List (List ℕ)) (more : List ℕ) → rows ≡ first_chunks 16 (length octets / 16) octets → more ≡ drop (length octets / 16 * 16) octets
+pub lines_cut : (layout : Layout) (octets : List ℕ) (rows : List (List ℕ)) (more : List ℕ)
+    → rows ≡ first_chunks 16 (length octets / 16) octets → more ≡ drop (length octets / 16 * 16) octets
     → full_lines layout rows ++ full_lines layout (last_rows more) ≡ full_lines layout (rows_of Octets octets)
 lines_cut layout octets rows more e f =
-    sym (flat_map-append (full_line layout) rows (last_rows more)) ∙ ap (full_lines layout) (rw (e, f) (sym (rows_cut Octets refl octets)))
+    sym (flat_map-append (full_line layout) rows (last_rows more))
+        ∙ ap (full_lines layout) (rw (e, f) (sym (rows_cut Octets refl octets)))
 
 -- the line of the last, if there is one
-pub last_line : (layout : Layout) (row : List ℕ) → eqb (length row) 0 ≡ false → full_line layout row ≡ full_lines layout (last_rows row)
+pub last_line : (layout : Layout) (row : List ℕ) → eqb (length row) 0 ≡ false
+    → full_line layout row ≡ full_lines layout (last_rows row)
 last_line layout [] some = absurd (grind (arith, nat_tests))
 last_line layout (x ∷ xs) some = sym (append-nil (full_line layout (x ∷ xs)))
 
-pub no_last_line : (layout : Layout) (shown row : List ℕ) → eqb (length row) 0 ≡ true → shown ≡ shown ++ full_lines layout (last_rows row)
+pub no_last_line : (layout : Layout) (shown row : List ℕ) → eqb (length row) 0 ≡ true
+    → shown ≡ shown ++ full_lines layout (last_rows row)
 no_last_line layout shown [] none = sym (append-nil shown)
 no_last_line layout shown (x ∷ xs) none = absurd (grind (arith, nat_tests))
 
@@ -141,12 +173,16 @@ no_last_line layout shown (x ∷ xs) none = absurd (grind (arith, nat_tests))
 
 module _ (layout : Layout) where
   -- one row more
-  pub lines_more : (rows : List (List ℕ)) (i : ℕ) → i < length rows → full_lines layout (take i rows) ++ full_line layout (get_or rows i []) ≡ full_lines layout (take (i + 1) rows)
+  pub lines_more : (rows : List (List ℕ)) (i : ℕ) → i < length rows
+      → full_lines layout (take i rows) ++ full_line layout (get_or rows i []) ≡ full_lines layout (take (i + 1) rows)
   lines_more rows i h =
       sym (ap (full_lines layout) (take_more rows i [] h)
       ∙ flat_map-append (full_line layout) (take i rows) (get_or rows i [] ∷ [])
       ∙ ap (λ (l : List ℕ). full_lines layout (take i rows) ++ l) (append-nil (full_line layout (get_or rows i []))))
 
   -- the first rows, and those after them
-  pub lines_split : (rows : List (List ℕ)) (i : ℕ) → full_lines layout (take i rows) ++ full_lines layout (drop i rows) ≡ full_lines layout rows
-  lines_split rows i = sym (flat_map-append (full_line layout) (take i rows) (drop i rows)) ∙ ap (full_lines layout) (take-append-drop i rows)
+  pub lines_split : (rows : List (List ℕ)) (i : ℕ)
+      → full_lines layout (take i rows) ++ full_lines layout (drop i rows) ≡ full_lines layout rows
+  lines_split rows i =
+      sym (flat_map-append (full_line layout) (take i rows) (drop i rows))
+          ∙ ap (full_lines layout) (take-append-drop i rows)

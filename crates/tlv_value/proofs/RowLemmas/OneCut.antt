@@ -1,6 +1,7 @@
 -- Contents are cut into rows in one way alone: the rows of a cut are those that octets fill one after another. So what
 -- is kept of them between pieces can be said of the cut.
-use Rattle.std.proofs.Common.{◌≡◌, inl, inr, ℕ, ◌+◌, ◌<◌, ◌≤◌, Bool, true, false, List, [], ◌∷◌, ◌++◌, length, get_or, refl, sym, ap, ap₂, ◌∙◌, arith, append_assoc, append-nil, length-append}
+use Rattle.std.proofs.Common.{◌≡◌, inl, inr, ℕ, ◌+◌, ◌<◌, ◌≤◌, Bool, true, false, List, [], ◌∷◌, ◌++◌, length, get_or}
+use Rattle.std.proofs.Common.{refl, sym, ap, ap₂, ◌∙◌, arith, append_assoc, append-nil, length-append}
 use Rattle.std.proofs.Math.Seq.{drop-append_seam, get_or-append_seam, take-append_seam}
 use Rattle.std.proofs.lemmas.Bool.{eqb-true}
 use Rattle.std.proofs.lemmas.Bool.Decides.{nat_tests}
@@ -15,7 +16,8 @@ use Rattle.tlv_value.specs.OpenRow.{IsOpenRow}
 use Rattle.tlv_value.specs.Private.Room.{HaveRoom}
 use Rattle.tlv_value.proofs.RowLemmas.FilledRows.{row_begun, rows-filled, rows_filled}
 use Rattle.tlv_value.specs.Rows.{cut_of_contents, full_rows, full_rows_in, open_row, open_row_in, rows_of}
-use Rattle.tlv_value.proofs.RowLemmas.RowSteps.{IsFilled, begun-open, keep, none-open, one_fits, open-room, steps-join, turn}
+use Rattle.tlv_value.proofs.RowLemmas.RowSteps.{IsFilled, begun-open, keep, none-open, one_fits, open-room, steps-join}
+use Rattle.tlv_value.proofs.RowLemmas.RowSteps.{turn}
 
 last-row : (row : List ℕ) → 1 ≤ length row → last_rows row ≡ row ∷ []
 last-row [] h = absurd (omega arith)
@@ -26,18 +28,21 @@ module _ (kind : Kind) where
   has-octet row r = nil-or row r.some
 
   -- each octet of a row has room after those before it
-  row-room : (row rest : List ℕ) → IsRow (row_size kind) (character_length kind) row → HaveRoom kind 0 (row ++ rest) (length row)
+  row-room : (row rest : List ℕ) → IsRow (row_size kind) (character_length kind) row
+      → HaveRoom kind 0 (row ++ rest) (length row)
   row-room row rest r i h =
       let same : get_or (row ++ rest) i 0 ≡ get_or row i 0 = get_or_append_left row rest 0 i h in
       let room = r.whole i h in
       rw same (grind (arith, nat_tests))
 
   -- a row that is full by the condition on rows
-  as-filled : (row next rest : List ℕ) → 1 ≤ length next → IsFull (row_size kind) (character_length kind) row next → IsFilled kind [] (length row) (row ++ (next ++ rest))
+  as-filled : (row next rest : List ℕ) → 1 ≤ length next → IsFull (row_size kind) (character_length kind) row next
+      → IsFilled kind [] (length row) (row ++ (next ++ rest))
   as-filled row next rest h (inl e) = inl (omega arith)
   as-filled row [] rest h (inr f) = absurd (omega arith)
   as-filled row (x ∷ next) rest h (inr f) =
-      let next-octet : get_or (row ++ x ∷ (next ++ rest)) (length row) 0 ≡ x = get_or-append_seam row x (next ++ rest) 0 in
+      let next-octet : get_or (row ++ x ∷ (next ++ rest)) (length row) 0 ≡ x =
+          get_or-append_seam row x (next ++ rest) 0 in
       let place : 0 + length row ≡ length row = omega arith in
       inr (omega (arith, length-append row (x ∷ (next ++ rest))), rw (place, next-octet) (grind (arith, nat_tests)))
 
@@ -46,16 +51,22 @@ module _ (kind : Kind) where
   AreParts octets rows row = (rows_filled kind [] octets ≡ rows) × (row_begun kind [] octets ≡ row)
 
   -- a full row, and the rows of the octets after it
-  parts-first : (row rest : List ℕ) (rows : List (List ℕ)) (last : List ℕ) → IsRow (row_size kind) (character_length kind) row → IsFilled kind [] (length row) (row ++ rest) → AreParts rest rows last
+  parts-first : (row rest : List ℕ) (rows : List (List ℕ)) (last : List ℕ)
+      → IsRow (row_size kind) (character_length kind) row → IsFilled kind [] (length row) (row ++ rest)
+      → AreParts rest rows last
       → AreParts (row ++ rest) (row ∷ rows) last
   parts-first row rest rows last r f more =
       let z = one_fits kind in
       let s = r.short in
-      let t = turn kind [] (length row) (row ++ rest) (row-room row rest r) (omega arith) (omega (arith, length-append row rest)) (omega arith) f in
-      rw (t.0, t.1, take-append_seam row rest, drop-append_seam row rest) (ap (λ (x : List (List ℕ)). row ∷ x) more.0, more.1)
+      let t =
+          turn kind [] (length row) (row ++ rest) (row-room row rest r) (omega arith)
+              (omega (arith, length-append row rest)) (omega arith) f in
+      rw (t.0, t.1, take-append_seam row rest, drop-append_seam row rest)
+          (ap (λ (x : List (List ℕ)). row ∷ x) more.0, more.1)
 
   -- a last row
-  parts-last : (row : List ℕ) (full : Bool) → eqb (length row) (row_size kind) ≡ full → IsRow (row_size kind) (character_length kind) row
+  parts-last : (row : List ℕ) (full : Bool) → eqb (length row) (row_size kind) ≡ full
+      → IsRow (row_size kind) (character_length kind) row
       → AreParts (row ++ []) (if full then row ∷ [] else []) (if full then [] else row)
   parts-last row true e r =
       let n : length row ≡ row_size kind = eqb-true (length row) (row_size kind) e in
@@ -67,18 +78,25 @@ module _ (kind : Kind) where
       rw (append-nil row) (keep kind [] row room (omega arith))
 
   -- the parts of a cut
-  parts : (rows : List (List ℕ)) → AreRows (row_size kind) (character_length kind) rows → AreFull (row_size kind) (character_length kind) rows → AreParts (octets_of_rows rows) (full_rows_in kind rows) (open_row_in kind rows)
+  parts : (rows : List (List ℕ)) → AreRows (row_size kind) (character_length kind) rows
+      → AreFull (row_size kind) (character_length kind) rows
+      → AreParts (octets_of_rows rows) (full_rows_in kind rows) (open_row_in kind rows)
   parts [] each full = (refl, refl)
   parts (row ∷ []) each full = parts-last row (eqb (length row) (row_size kind)) refl each.0
   parts (row ∷ next ∷ rows) each full =
-      parts-first row (octets_of_rows (next ∷ rows)) (full_rows_in kind (next ∷ rows)) (open_row_in kind (next ∷ rows)) each.0 (as-filled row next (octets_of_rows rows) (has-octet next each.1.0) full.0) (parts (next ∷ rows) each.1 full.1)
+      parts-first row (octets_of_rows (next ∷ rows)) (full_rows_in kind (next ∷ rows))
+          (open_row_in kind (next ∷ rows)) each.0
+          (as-filled row next (octets_of_rows rows) (has-octet next each.1.0) full.0)
+          (parts (next ∷ rows) each.1 full.1)
 
   -- its full rows and the octets of the last one are all of it
-  last-part : (row : List ℕ) (full : Bool) → 1 ≤ length row → (if full then row ∷ [] else []) ++ last_rows (if full then [] else row) ≡ row ∷ []
+  last-part : (row : List ℕ) (full : Bool) → 1 ≤ length row
+      → (if full then row ∷ [] else []) ++ last_rows (if full then [] else row) ≡ row ∷ []
   last-part row true h = refl
   last-part row false h = last-row row h
 
-  all-parts : (rows : List (List ℕ)) → AreRows (row_size kind) (character_length kind) rows → full_rows_in kind rows ++ last_rows (open_row_in kind rows) ≡ rows
+  all-parts : (rows : List (List ℕ)) → AreRows (row_size kind) (character_length kind) rows
+      → full_rows_in kind rows ++ last_rows (open_row_in kind rows) ≡ rows
   all-parts [] each = refl
   all-parts (row ∷ []) each = last-part row (eqb (length row) (row_size kind)) (has-octet row each.0)
   all-parts (row ∷ next ∷ rows) each = ap (λ (x : List (List ℕ)). row ∷ x) (all-parts (next ∷ rows) each.1)
@@ -86,23 +104,28 @@ module _ (kind : Kind) where
 pub rows-one-cut : RowsHaveOneCut
 rows-one-cut kind octets rows cut =
     let p = rw cut.together at (parts kind rows cut.each cut.full) in
-    sym (all-parts kind rows cut.each) ∙ ap₂ (λ (full : List (List ℕ)) (last : List ℕ). full ++ last_rows last) (sym p.0) (sym p.1)
+    sym (all-parts kind rows cut.each)
+        ∙ ap₂ (λ (full : List (List ℕ)) (last : List ℕ). full ++ last_rows last) (sym p.0) (sym p.1)
     ∙ sym (rows-filled kind octets)
 
 -- ---- what is kept between pieces
 
 -- the rows that octets fill, and the row that they then begin, are the full rows of the cut and its last one
-pub cut-parts : (kind : Kind) (octets : List ℕ) → (rows_filled kind [] octets ≡ full_rows_in kind (rows_of kind octets)) × (row_begun kind [] octets ≡ open_row_in kind (rows_of kind octets))
+pub cut-parts : (kind : Kind) (octets : List ℕ)
+    → (rows_filled kind [] octets ≡ full_rows_in kind (rows_of kind octets))
+        × (row_begun kind [] octets ≡ open_row_in kind (rows_of kind octets))
 cut-parts kind octets =
     let cut = (cut_of_contents kind octets).is_cut in
     rw cut.together at (parts kind (rows_of kind octets) cut.each cut.full)
 
 -- all rows: the full ones, and the last
-pub rows-parts : (kind : Kind) (octets : List ℕ) → rows_of kind octets ≡ full_rows kind [] octets ++ last_rows (open_row kind [] octets)
+pub rows-parts : (kind : Kind) (octets : List ℕ)
+    → rows_of kind octets ≡ full_rows kind [] octets ++ last_rows (open_row kind [] octets)
 rows-parts kind octets = sym (all-parts kind (rows_of kind octets) (cut_of_contents kind octets).is_cut.each)
 
 -- so it is after an open row
-pub open-parts : (kind : Kind) (row octets : List ℕ) → IsOpenRow kind row → (rows_filled kind row octets ≡ full_rows kind row octets) × (row_begun kind row octets ≡ open_row kind row octets)
+pub open-parts : (kind : Kind) (row octets : List ℕ) → IsOpenRow kind row
+    → (rows_filled kind row octets ≡ full_rows kind row octets) × (row_begun kind row octets ≡ open_row kind row octets)
 open-parts kind row octets begun =
     let short = begun.short in
     let k = keep kind [] row (open-room kind row begun) (omega arith) in
@@ -113,7 +136,9 @@ open-parts kind row octets begun =
     (sym (j.0 ∙ filled) ∙ p.0, sym (j.1 ∙ last) ∙ p.1)
 
 -- two pieces in order have the rows of one
-pub rows-join : (kind : Kind) (row x y : List ℕ) → (full_rows kind row (x ++ y) ≡ full_rows kind row x ++ full_rows kind (open_row kind row x) y) × (open_row kind row (x ++ y) ≡ open_row kind (open_row kind row x) y)
+pub rows-join : (kind : Kind) (row x y : List ℕ)
+    → (full_rows kind row (x ++ y) ≡ full_rows kind row x ++ full_rows kind (open_row kind row x) y)
+        × (open_row kind row (x ++ y) ≡ open_row kind (open_row kind row x) y)
 rows-join kind row x y =
     let cut = cut-parts kind (row ++ x) in
     let all = cut-parts kind ((row ++ x) ++ y) in

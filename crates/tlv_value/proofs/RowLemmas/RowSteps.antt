@@ -1,11 +1,14 @@
 -- Rows as octets fill them, part by part.
-use Rattle.std.proofs.Common.{◌≡◌, ◌⊎◌, inl, inr, ℕ, zero, suc, ◌+◌, ◌<◌, ◌≤◌, Bool, true, false, List, [], ◌∷◌, ◌++◌, length, take, drop, get_or, refl, sym, ap, ◌∙◌, arith, append_assoc, append-nil, length-append}
+use Rattle.std.proofs.Common.{◌≡◌, ◌⊎◌, inl, inr, ℕ, zero, suc, ◌+◌, ◌<◌, ◌≤◌, Bool, true, false, List, [], ◌∷◌, ◌++◌}
+use Rattle.std.proofs.Common.{length, take, drop, get_or, refl, sym, ap, ◌∙◌, arith, append_assoc, append-nil}
+use Rattle.std.proofs.Common.{length-append}
 use Rattle.std.proofs.lemmas.Bool.Decides.{nat_tests}
 use Rattle.std.proofs.lemmas.List.{take_all}
 use Rattle.std.specs.Prelude.{eqb, if◌then◌else◌}
 use Rattle.tlv_io.proofs.CutOf.{character-fits, fit-more, room-first, row-some}
 use Rattle.tlv_value.specs.declared.kind.Kind.{Kind}
-use Rattle.tlv_value.specs.declared.kind.Kind.TheVariants.{Octets, Boolean, Integer, Bits, Object, Relative, Text, Utf8, Ucs2, Ucs4}
+use Rattle.tlv_value.specs.declared.kind.Kind.TheVariants.{Octets, Boolean, Integer, Bits, Object, Relative, Text, Utf8}
+use Rattle.tlv_value.specs.declared.kind.Kind.TheVariants.{Ucs2, Ucs4}
 use Rattle.tlv_value.specs.RowSizes.{character_length, row_size}
 use Rattle.tlv_value.specs.Kind.{is_text}
 use Rattle.tlv_value.specs.OpenRow.{IsOpenRow}
@@ -47,12 +50,17 @@ module _ (kind : Kind) where
 
   -- the row is full with these octets, or has no room for the octet after them
   abbrev pub IsFilled : List ℕ → ℕ → List ℕ → Type 0
-  IsFilled row m rest = (length row + m ≡ row_size kind) ⊎ ((m < length rest) × (has_room kind (length row + m) (get_or rest m 0) ≡ false))
+  IsFilled row m rest =
+      (length row + m ≡ row_size kind)
+          ⊎ ((m < length rest) × (has_room kind (length row + m) (get_or rest m 0) ≡ false))
 
   abbrev Turned : List ℕ → ℕ → List ℕ → Type 0
-  Turned row m rest = (rows_filled kind row rest ≡ (row ++ take m rest) ∷ rows_filled kind [] (drop m rest)) × (row_begun kind row rest ≡ row_begun kind [] (drop m rest))
+  Turned row m rest =
+      (rows_filled kind row rest ≡ (row ++ take m rest) ∷ rows_filled kind [] (drop m rest))
+          × (row_begun kind row rest ≡ row_begun kind [] (drop m rest))
 
-  pub shift-room : (row : List ℕ) (m x : ℕ) (xs : List ℕ) → HaveRoom kind (length row) (x ∷ xs) (suc m) → HaveRoom kind (length (row ++ x ∷ [])) xs m
+  pub shift-room : (row : List ℕ) (m x : ℕ) (xs : List ℕ) → HaveRoom kind (length row) (x ∷ xs) (suc m)
+      → HaveRoom kind (length (row ++ x ∷ [])) xs m
   shift-room row m x xs room i h =
       let l : length (row ++ x ∷ []) + i ≡ length row + suc i = omega (arith, length-append row (x ∷ [])) in
       rw l (room (suc i) (omega arith))
@@ -73,7 +81,8 @@ module _ (kind : Kind) where
       (rw (r, append-nil row, filled-begins x xs) refl, rw (r, begun-begins x xs) refl)
 
   -- the first octet, if it is the last of the row and if it is not
-  turn-one : (row : List ℕ) (m x : ℕ) (xs : List ℕ) (last : Bool) → eqb (length row + 1) (row_size kind) ≡ last → has_room kind (length row) x ≡ true
+  turn-one : (row : List ℕ) (m x : ℕ) (xs : List ℕ) (last : Bool) → eqb (length row + 1) (row_size kind) ≡ last
+      → has_room kind (length row) x ≡ true
       → length row + suc m ≤ row_size kind
       → (length row + 1 < row_size kind → Turned (row ++ x ∷ []) m xs)
       → Turned row (suc m) (x ∷ xs)
@@ -82,27 +91,32 @@ module _ (kind : Kind) where
       rw (r, e, z) (refl, refl)
   turn-one row m x xs false e r h more =
       let t = more (grind (arith, nat_tests)) in
-      rw (r, e) (t.0 ∙ ap (λ (y : List ℕ). y ∷ rows_filled kind [] (drop m xs)) (append_assoc row (x ∷ []) (take m xs)), t.1)
+      rw (r, e)
+          (t.0 ∙ ap (λ (y : List ℕ). y ∷ rows_filled kind [] (drop m xs)) (append_assoc row (x ∷ []) (take m xs)), t.1)
 
   -- a row is filled: it is put, and the next begins
-  pub turn : (row : List ℕ) (m : ℕ) (rest : List ℕ) → HaveRoom kind (length row) rest m → length row + m ≤ row_size kind → m ≤ length rest → length row < row_size kind
+  pub turn : (row : List ℕ) (m : ℕ) (rest : List ℕ) → HaveRoom kind (length row) rest m
+      → length row + m ≤ row_size kind → m ≤ length rest → length row < row_size kind
       → IsFilled row m rest → Turned row m rest
   turn row zero rest room h w b f = turn-none row rest b f
   turn row (suc m) [] room h w b f = absurd (omega arith)
   turn row (suc m) (x ∷ xs) room h w b f =
       let l : length row + 0 ≡ length row = omega arith in
       turn-one row m x xs (eqb (length row + 1) (row_size kind)) refl (rw l at (room 0 (omega arith))) h
-      (λ more. turn (row ++ x ∷ []) m xs (shift-room row m x xs room) (omega (arith, length-append row (x ∷ []))) (omega arith) (omega (arith, length-append row (x ∷ []))) (shift-filled row m x xs f))
+      (λ more. turn (row ++ x ∷ []) m xs (shift-room row m x xs room) (omega (arith, length-append row (x ∷ [])))
+          (omega arith) (omega (arith, length-append row (x ∷ []))) (shift-filled row m x xs f))
 
   -- all of the octets stay in the row that has begun
-  pub keep : (row rest : List ℕ) → HaveRoom kind (length row) rest (length rest) → length row + length rest < row_size kind
+  pub keep : (row rest : List ℕ) → HaveRoom kind (length row) rest (length rest)
+      → length row + length rest < row_size kind
       → (rows_filled kind row rest ≡ []) × (row_begun kind row rest ≡ row ++ rest)
   keep row [] room h = (refl, sym (append-nil row))
   keep row (x ∷ xs) room h =
       let l : length row + 0 ≡ length row = omega arith in
       let r : has_room kind (length row) x ≡ true = rw l at (room 0 (omega arith)) in
       let e : eqb (length row + 1) (row_size kind) ≡ false = grind (arith, nat_tests) in
-      let t = keep (row ++ x ∷ []) xs (shift-room row (length xs) x xs room) (omega (arith, length-append row (x ∷ []))) in
+      let t =
+          keep (row ++ x ∷ []) xs (shift-room row (length xs) x xs room) (omega (arith, length-append row (x ∷ []))) in
       rw (r, e) (t.0, t.1 ∙ append_assoc row (x ∷ []) xs)
 
   filled : (row : List ℕ) (m : ℕ) (rest : List ℕ) → (length row + m ≡ row_size kind) ⊎ (m < length rest)
@@ -111,15 +125,20 @@ module _ (kind : Kind) where
   filled row m rest (inr h) next = inr (h, next h)
 
   -- a row is filled, as the loop has it
-  pub turned : (n : ℕ) (row : List ℕ) (m : ℕ) (rest part more : List ℕ) → n ≡ length row → part ≡ take m rest → more ≡ drop m rest
+  pub turned : (n : ℕ) (row : List ℕ) (m : ℕ) (rest part more : List ℕ) → n ≡ length row → part ≡ take m rest
+      → more ≡ drop m rest
       → HaveRoom kind n rest m → n + m ≤ row_size kind → m ≤ length rest → n < row_size kind
-      → (m < length rest → has_room kind (n + m) (get_or rest m 0) ≡ false) → (n + m ≡ row_size kind) ⊎ (m < length rest)
-      → (rows_filled kind row rest ≡ (row ++ part) ∷ rows_filled kind [] more) × (row_begun kind row rest ≡ row_begun kind [] more)
+      → (m < length rest → has_room kind (n + m) (get_or rest m 0) ≡ false)
+          → (n + m ≡ row_size kind) ⊎ (m < length rest)
+      → (rows_filled kind row rest ≡ (row ++ part) ∷ rows_filled kind [] more)
+          × (row_begun kind row rest ≡ row_begun kind [] more)
   turned n row m rest part more e p q room h w b next f =
-      rw (p, q) (turn row m rest (rw e at room) (rw e at h) w (rw e at b) (filled row m rest (rw e at f) (rw e at next)))
+      rw (p, q)
+          (turn row m rest (rw e at room) (rw e at h) w (rw e at b) (filled row m rest (rw e at f) (rw e at next)))
 
   -- the row that has begun goes on, as the loop has it
-  pub kept : (n : ℕ) (row : List ℕ) (m : ℕ) (rest part : List ℕ) → n ≡ length row → part ≡ take m rest → HaveRoom kind n rest m → length rest ≤ m → m ≤ length rest → n + m < row_size kind
+  pub kept : (n : ℕ) (row : List ℕ) (m : ℕ) (rest part : List ℕ) → n ≡ length row → part ≡ take m rest
+      → HaveRoom kind n rest m → length rest ≤ m → m ≤ length rest → n + m < row_size kind
       → (rows_filled kind row rest ≡ []) × (row_begun kind row rest ≡ row ++ part)
   kept n row m rest part e p room h g w =
       let all : part ≡ rest = p ∙ take_all m rest h in
@@ -129,7 +148,9 @@ module _ (kind : Kind) where
       (t.0, t.1 ∙ ap (λ (x : List ℕ). row ++ x) (sym all))
 
   -- a row that is filled has octets
-  pub progress : (n m : ℕ) (rest : List ℕ) → n < row_size kind → (m < length rest → has_room kind (n + m) (get_or rest m 0) ≡ false) → (n + m ≡ row_size kind) ⊎ (m < length rest) → 1 ≤ n + m
+  pub progress : (n m : ℕ) (rest : List ℕ) → n < row_size kind
+      → (m < length rest → has_room kind (n + m) (get_or rest m 0) ≡ false)
+      → (n + m ≡ row_size kind) ⊎ (m < length rest) → 1 ≤ n + m
   progress n m rest b next (inl e) = omega arith
   progress zero zero rest b next (inr h) = let r = first-room kind (get_or rest 0 0) in let f = next h in cc
   progress zero (suc m) rest b next (inr h) = omega arith
@@ -138,22 +159,37 @@ module _ (kind : Kind) where
   -- ---- two pieces
 
   abbrev AreStepsJoined : List ℕ → List ℕ → List ℕ → Type 0
-  AreStepsJoined row x y = (rows_filled kind row (x ++ y) ≡ rows_filled kind row x ++ rows_filled kind (row_begun kind row x) y) × (row_begun kind row (x ++ y) ≡ row_begun kind (row_begun kind row x) y)
+  AreStepsJoined row x y =
+      (rows_filled kind row (x ++ y) ≡ rows_filled kind row x ++ rows_filled kind (row_begun kind row x) y)
+          × (row_begun kind row (x ++ y) ≡ row_begun kind (row_begun kind row x) y)
 
   -- one octet of the first piece
   steps-join_at : (row : List ℕ) (z : ℕ) (x y : List ℕ) (room last : Bool) → ((r : List ℕ) → AreStepsJoined r x y)
-      → ((if room then (if last then (row ++ z ∷ []) ∷ rows_filled kind [] (x ++ y) else rows_filled kind (row ++ z ∷ []) (x ++ y)) else row ∷ rows_filled kind (z ∷ []) (x ++ y))
-      ≡ (if room then (if last then (row ++ z ∷ []) ∷ rows_filled kind [] x else rows_filled kind (row ++ z ∷ []) x) else row ∷ rows_filled kind (z ∷ []) x)
-      ++ rows_filled kind (if room then (if last then row_begun kind [] x else row_begun kind (row ++ z ∷ []) x) else row_begun kind (z ∷ []) x) y)
-      × ((if room then (if last then row_begun kind [] (x ++ y) else row_begun kind (row ++ z ∷ []) (x ++ y)) else row_begun kind (z ∷ []) (x ++ y))
-      ≡ row_begun kind (if room then (if last then row_begun kind [] x else row_begun kind (row ++ z ∷ []) x) else row_begun kind (z ∷ []) x) y)
+      → ((if room
+          then (if last then (row ++ z ∷ []) ∷ rows_filled kind [] (x ++ y)
+              else rows_filled kind (row ++ z ∷ []) (x ++ y))
+          else row ∷ rows_filled kind (z ∷ []) (x ++ y))
+      ≡ (if room then (if last then (row ++ z ∷ []) ∷ rows_filled kind [] x else rows_filled kind (row ++ z ∷ []) x)
+          else row ∷ rows_filled kind (z ∷ []) x)
+      ++ rows_filled kind
+          (if room then (if last then row_begun kind [] x else row_begun kind (row ++ z ∷ []) x)
+              else row_begun kind (z ∷ []) x)
+          y)
+      × ((if room then (if last then row_begun kind [] (x ++ y) else row_begun kind (row ++ z ∷ []) (x ++ y))
+          else row_begun kind (z ∷ []) (x ++ y))
+      ≡ row_begun kind
+          (if room then (if last then row_begun kind [] x else row_begun kind (row ++ z ∷ []) x)
+              else row_begun kind (z ∷ []) x)
+          y)
   steps-join_at row z x y true true more = (ap (λ (t : List (List ℕ)). (row ++ z ∷ []) ∷ t) (more []).0, (more []).1)
   steps-join_at row z x y true false more = more (row ++ z ∷ [])
   steps-join_at row z x y false last more = (ap (λ (t : List (List ℕ)). row ∷ t) (more (z ∷ [])).0, (more (z ∷ [])).1)
 
   pub steps-join : (row x y : List ℕ) → AreStepsJoined row x y
   steps-join row [] y = (refl, refl)
-  steps-join row (z ∷ x) y = steps-join_at row z x y (has_room kind (length row) z) (eqb (length row + 1) (row_size kind)) (λ r. steps-join r x y)
+  steps-join row (z ∷ x) y =
+      steps-join_at row z x y (has_room kind (length row) z) (eqb (length row + 1) (row_size kind))
+          (λ r. steps-join r x y)
 
   -- ---- a row that has begun
 
@@ -166,7 +202,8 @@ module _ (kind : Kind) where
   open-room row o i h = let room = o.whole i h in grind (arith, nat_tests)
 
   -- one octet more
-  open-one : (row : List ℕ) (x : ℕ) → IsOpenRow kind row → has_room kind (length row) x ≡ true → length row + 1 < row_size kind → IsOpenRow kind (row ++ x ∷ [])
+  open-one : (row : List ℕ) (x : ℕ) → IsOpenRow kind row → has_room kind (length row) x ≡ true
+      → length row + 1 < row_size kind → IsOpenRow kind (row ++ x ∷ [])
   open-one row x o room h = record {
     short = omega (arith, length-append row (x ∷ []));
     whole = fit-more (row_size kind) (character_length kind) row x o.whole room;
@@ -180,16 +217,20 @@ module _ (kind : Kind) where
       open-one [] x none-open (first-room kind x) (grind (arith, nat_tests))
 
   -- more octets, if they have room
-  open-more : (row rest : List ℕ) → IsOpenRow kind row → HaveRoom kind (length row) rest (length rest) → length row + length rest < row_size kind → IsOpenRow kind (row ++ rest)
+  open-more : (row rest : List ℕ) → IsOpenRow kind row → HaveRoom kind (length row) rest (length rest)
+      → length row + length rest < row_size kind → IsOpenRow kind (row ++ rest)
   open-more row [] o room h = rw (append-nil row) o
   open-more row (x ∷ xs) o room h =
       let l : length row + 0 ≡ length row = omega arith in
       let r : has_room kind (length row) x ≡ true = rw l at (room 0 (omega arith)) in
       let one = open-one row x o r (omega arith) in
-      rw (← append_assoc row (x ∷ []) xs) (open-more (row ++ x ∷ []) xs one (shift-room row (length xs) x xs room) (omega (arith, length-append row (x ∷ []))))
+      rw (← append_assoc row (x ∷ []) xs)
+          (open-more (row ++ x ∷ []) xs one (shift-room row (length xs) x xs room)
+              (omega (arith, length-append row (x ∷ []))))
 
   -- the same, as the loop has it
-  pub kept-open : (n : ℕ) (row : List ℕ) (m : ℕ) (rest part : List ℕ) → IsOpenRow kind row → n ≡ length row → part ≡ take m rest → HaveRoom kind n rest m → length rest ≤ m → m ≤ length rest → n + m < row_size kind
+  pub kept-open : (n : ℕ) (row : List ℕ) (m : ℕ) (rest part : List ℕ) → IsOpenRow kind row → n ≡ length row
+      → part ≡ take m rest → HaveRoom kind n rest m → length rest ≤ m → m ≤ length rest → n + m < row_size kind
       → IsOpenRow kind (row ++ part)
   kept-open n row m rest part o e p room h g w =
       let all : part ≡ rest = p ∙ take_all m rest h in
@@ -197,9 +238,12 @@ module _ (kind : Kind) where
       let r : HaveRoom kind (length row) rest (length rest) = rw (e, l) at room in
       rw all (open-more row rest o r (omega arith))
 
-  begun-open_at : (row : List ℕ) (x : ℕ) (xs : List ℕ) (room last : Bool) → has_room kind (length row) x ≡ room → eqb (length row + 1) (row_size kind) ≡ last → IsOpenRow kind row
+  begun-open_at : (row : List ℕ) (x : ℕ) (xs : List ℕ) (room last : Bool) → has_room kind (length row) x ≡ room
+      → eqb (length row + 1) (row_size kind) ≡ last → IsOpenRow kind row
       → ((r : List ℕ) → IsOpenRow kind r → IsOpenRow kind (row_begun kind r xs))
-      → IsOpenRow kind (if room then (if last then row_begun kind [] xs else row_begun kind (row ++ x ∷ []) xs) else row_begun kind (x ∷ []) xs)
+      → IsOpenRow kind
+          (if room then (if last then row_begun kind [] xs else row_begun kind (row ++ x ∷ []) xs)
+              else row_begun kind (x ∷ []) xs)
   begun-open_at row x xs true true r l o more = more [] none-open
   begun-open_at row x xs true false r l o more =
       let h = o.short in
@@ -209,4 +253,6 @@ module _ (kind : Kind) where
   -- the row that octets after it begin is open too
   pub begun-open : (row xs : List ℕ) → IsOpenRow kind row → IsOpenRow kind (row_begun kind row xs)
   begun-open row [] o = o
-  begun-open row (x ∷ xs) o = begun-open_at row x xs (has_room kind (length row) x) (eqb (length row + 1) (row_size kind)) refl refl o (λ r q. begun-open r xs q)
+  begun-open row (x ∷ xs) o =
+      begun-open_at row x xs (has_room kind (length row) x) (eqb (length row + 1) (row_size kind)) refl refl o
+          (λ r q. begun-open r xs q)

@@ -1,11 +1,13 @@
 -- What the calls put is what the definitions say.
-use Rattle.std.proofs.Common.{◌≡◌, ℕ, ◌+◌, ◌≤◌, Bool, true, false, List, [], ◌∷◌, ◌++◌, length, refl, sym, ap, ◌∙◌, arith, append_assoc, append-nil}
+use Rattle.std.proofs.Common.{◌≡◌, ℕ, ◌+◌, ◌≤◌, Bool, true, false, List, [], ◌∷◌, ◌++◌, length, refl, sym, ap, ◌∙◌}
+use Rattle.std.proofs.Common.{arith, append_assoc, append-nil}
 use Rattle.std.specs.Prelude.{nat_le, if◌then◌else◌}
 use Rattle.std.proofs.lemmas.Bool.Decides.{nat_tests}
 use Rattle.tlv_head.specs.Tag.{tag_text}
 use Rattle.std.specs.Prelude.{decimal}
 use Rattle.tlv_value.specs.declared.kind.Kind.{Kind}
-use Rattle.tlv_value.specs.declared.kind.Kind.TheVariants.{Octets, Boolean, Integer, Bits, Object, Relative, Text, Utf8, Ucs2, Ucs4}
+use Rattle.tlv_value.specs.declared.kind.Kind.TheVariants.{Octets, Boolean, Integer, Bits, Object, Relative, Text, Utf8}
+use Rattle.tlv_value.specs.declared.kind.Kind.TheVariants.{Ucs2, Ucs4}
 use Rattle.tlv_value.specs.declared.layout.Layout.{Layout}
 use Rattle.tlv_value.specs.Layout.{columns, margin, row_line}
 use Rattle.tlv_value.specs.Private.ObjectLines.{object_lines, rest_of_lines}
@@ -13,54 +15,91 @@ use Rattle.tlv_value.specs.Private.PrimitiveLines.{line_prefix}
 use Rattle.tlv_value.specs.declared.primitive.Primitive.{Primitive}
 use Rattle.tlv_value.specs.Rows.{full_rows}
 use Rattle.tlv_value.specs.ValueLines.{row_lines}
-use Rattle.tlv_value.specs.ValueTextState.{RowsState, ValueTextState, contents_lines, end_lines, primitive_line, primitive_lines}
-use Rattle.tlv_value.specs.Value.{NameOf, Value, bit_count, bits_value, boolean_value, integer_value, is_long, is_readable, long_text, most_on_line, no_names, octets_value, row_octets, row_text, short_value, used_digits, value_on_line}
+use Rattle.tlv_value.specs.ValueTextState.{RowsState, ValueTextState, contents_lines, end_lines, primitive_line}
+use Rattle.tlv_value.specs.ValueTextState.{primitive_lines}
+use Rattle.tlv_value.specs.Value.{NameOf, Value, bit_count, bits_value, boolean_value, integer_value, is_long}
+use Rattle.tlv_value.specs.Value.{is_readable, long_text, most_on_line, no_names, octets_value, row_octets, row_text}
+use Rattle.tlv_value.specs.Value.{short_value, used_digits, value_on_line}
 use Rattle.tlv_value.specs.Private.UndottedText.{undotted_text}
 
 -- rows of octets are the same for an object identifier
-object-rows : (layout : Layout) (i : ℕ) (rows : List (List ℕ)) → row_lines Object layout i rows ≡ row_lines Octets layout i rows
+object-rows : (layout : Layout) (i : ℕ) (rows : List (List ℕ))
+    → row_lines Object layout i rows ≡ row_lines Octets layout i rows
 object-rows layout i [] = refl
-object-rows layout i (row ∷ rows) = ap (λ (t : List ℕ). row_line layout i (row_text Octets row) ++ t) (object-rows layout (i + 1) rows)
+object-rows layout i (row ∷ rows) =
+    ap (λ (t : List ℕ). row_line layout i (row_text Octets row) ++ t) (object-rows layout (i + 1) rows)
 
-relative-rows : (layout : Layout) (i : ℕ) (rows : List (List ℕ)) → row_lines Relative layout i rows ≡ row_lines Octets layout i rows
+relative-rows : (layout : Layout) (i : ℕ) (rows : List (List ℕ))
+    → row_lines Relative layout i rows ≡ row_lines Octets layout i rows
 relative-rows layout i [] = refl
-relative-rows layout i (row ∷ rows) = ap (λ (t : List ℕ). row_line layout i (row_text Octets row) ++ t) (relative-rows layout (i + 1) rows)
+relative-rows layout i (row ∷ rows) =
+    ap (λ (t : List ℕ). row_line layout i (row_text Octets row) ++ t) (relative-rows layout (i + 1) rows)
 
 -- a line in parts, and rows after it
-line-prefix : (margin tag text rows : List ℕ) → (margin ++ tag) ++ ((text ++ 10 ∷ []) ++ rows) ≡ ((margin ++ (tag ++ text)) ++ 10 ∷ []) ++ rows
+line-prefix : (margin tag text rows : List ℕ)
+    → (margin ++ tag) ++ ((text ++ 10 ∷ []) ++ rows) ≡ ((margin ++ (tag ++ text)) ++ 10 ∷ []) ++ rows
 line-prefix margin tag text rows =
-    sym (append_assoc (margin ++ tag) (text ++ 10 ∷ []) rows) ∙ ap (λ (t : List ℕ). t ++ rows) (sym (append_assoc (margin ++ tag) text (10 ∷ [])) ∙ ap (λ (t : List ℕ). t ++ 10 ∷ []) (append_assoc margin tag text))
+    sym (append_assoc (margin ++ tag) (text ++ 10 ∷ []) rows)
+        ∙ ap (λ (t : List ℕ). t ++ rows)
+            (sym (append_assoc (margin ++ tag) text (10 ∷ []))
+                ∙ ap (λ (t : List ℕ). t ++ 10 ∷ []) (append_assoc margin tag text))
 
-prefix-line : (p : Primitive) (v : Value) → line_prefix p ++ rest_of_lines p.layout [] v ≡ primitive_line p v.text ++ row_lines Octets p.layout 0 v.rows
-prefix-line p v = line-prefix (margin p.layout.pure (columns p.offset (decimal p.size)) p.layout.level) (tag_text p.class p.number) v.text (row_lines Octets p.layout 0 v.rows)
+prefix-line : (p : Primitive) (v : Value)
+    → line_prefix p ++ rest_of_lines p.layout [] v ≡ primitive_line p v.text ++ row_lines Octets p.layout 0 v.rows
+prefix-line p v =
+    line-prefix (margin p.layout.pure (columns p.offset (decimal p.size)) p.layout.level) (tag_text p.class p.number)
+        v.text (row_lines Octets p.layout 0 v.rows)
 
 -- what the line of a primitive begins with, and the rest of its lines
 pub shown-prefix : (name_of : NameOf) (p : Primitive) (octets : List ℕ)
-    → line_prefix p ++ (((short_value name_of p.kind octets).text ++ 10 ∷ []) ++ row_lines p.kind p.layout 0 (short_value name_of p.kind octets).rows) ≡ primitive_lines name_of p octets
+    → line_prefix p
+        ++ (((short_value name_of p.kind octets).text ++ 10 ∷ [])
+            ++ row_lines p.kind p.layout 0 (short_value name_of p.kind octets).rows)
+        ≡ primitive_lines name_of p octets
 shown-prefix name_of p octets =
     let v : Value = short_value name_of p.kind octets in
-    line-prefix (margin p.layout.pure (columns p.offset (decimal p.size)) p.layout.level) (tag_text p.class p.number) v.text (row_lines p.kind p.layout 0 v.rows)
+    line-prefix (margin p.layout.pure (columns p.offset (decimal p.size)) p.layout.level) (tag_text p.class p.number)
+        v.text (row_lines p.kind p.layout 0 v.rows)
 
 module _ (name_of : NameOf) (layout : Layout) (line : List ℕ → List ℕ) (octets : List ℕ) where
   abbrev shown_by : Kind → List ℕ
-  shown_by kind = line (short_value name_of kind octets).text ++ row_lines kind layout 0 (short_value name_of kind octets).rows
+  shown_by kind =
+      line (short_value name_of kind octets).text ++ row_lines kind layout 0 (short_value name_of kind octets).rows
 
-  object_at : (kind : Kind) → kind ≡ Object → line (short_value name_of Object octets).text ++ row_lines Octets layout 0 (short_value name_of Object octets).rows ≡ shown_by kind
-  object_at kind e = rw e (ap (λ (t : List ℕ). line (short_value name_of Object octets).text ++ t) (sym (object-rows layout 0 (short_value name_of Object octets).rows)))
+  object_at : (kind : Kind) → kind ≡ Object
+      → line (short_value name_of Object octets).text
+          ++ row_lines Octets layout 0 (short_value name_of Object octets).rows
+          ≡ shown_by kind
+  object_at kind e =
+      rw e
+          (ap (λ (t : List ℕ). line (short_value name_of Object octets).text ++ t)
+              (sym (object-rows layout 0 (short_value name_of Object octets).rows)))
 
-  relative_at : (kind : Kind) → kind ≡ Relative → line (short_value name_of Relative octets).text ++ row_lines Octets layout 0 (short_value name_of Relative octets).rows ≡ shown_by kind
-  relative_at kind e = rw e (ap (λ (t : List ℕ). line (short_value name_of Relative octets).text ++ t) (sym (relative-rows layout 0 (short_value name_of Relative octets).rows)))
+  relative_at : (kind : Kind) → kind ≡ Relative
+      → line (short_value name_of Relative octets).text
+          ++ row_lines Octets layout 0 (short_value name_of Relative octets).rows
+          ≡ shown_by kind
+  relative_at kind e =
+      rw e
+          (ap (λ (t : List ℕ). line (short_value name_of Relative octets).text ++ t)
+              (sym (relative-rows layout 0 (short_value name_of Relative octets).rows)))
 
-pub shown-object : (name_of : NameOf) (p : Primitive) (octets : List ℕ) → p.kind ≡ Object → line_prefix p ++ object_lines name_of p.layout [] false octets ≡ primitive_lines name_of p octets
-shown-object name_of p octets e = prefix-line p (short_value name_of Object octets) ∙ object_at name_of p.layout (primitive_line p) octets p.kind e
+pub shown-object : (name_of : NameOf) (p : Primitive) (octets : List ℕ) → p.kind ≡ Object
+    → line_prefix p ++ object_lines name_of p.layout [] false octets ≡ primitive_lines name_of p octets
+shown-object name_of p octets e =
+    prefix-line p (short_value name_of Object octets) ∙ object_at name_of p.layout (primitive_line p) octets p.kind e
 
-pub shown-relative : (name_of : NameOf) (p : Primitive) (octets : List ℕ) → p.kind ≡ Relative → line_prefix p ++ object_lines no_names p.layout [] true octets ≡ primitive_lines name_of p octets
-shown-relative name_of p octets e = prefix-line p (short_value name_of Relative octets) ∙ relative_at name_of p.layout (primitive_line p) octets p.kind e
+pub shown-relative : (name_of : NameOf) (p : Primitive) (octets : List ℕ) → p.kind ≡ Relative
+    → line_prefix p ++ object_lines no_names p.layout [] true octets ≡ primitive_lines name_of p octets
+shown-relative name_of p octets e =
+    prefix-line p (short_value name_of Relative octets)
+        ∙ relative_at name_of p.layout (primitive_line p) octets p.kind e
 
 -- held values without rows
 
 abbrev IsUndotted : NameOf → Kind → List ℕ → Type 0
-IsUndotted name_of kind row = ((short_value name_of kind row).text ≡ undotted_text kind row) × ((short_value name_of kind row).rows ≡ [])
+IsUndotted name_of kind row =
+    ((short_value name_of kind row).text ≡ undotted_text kind row) × ((short_value name_of kind row).rows ≡ [])
 
 octets-rows : (row : List ℕ) → length row ≤ 16 → (octets_value row).rows ≡ []
 octets-rows row h = let b : nat_le (length row) 16 ≡ true = grind (arith, nat_tests) in rw b refl
@@ -84,9 +123,11 @@ if-rows false x y e f = f
 bits-rows : (row : List ℕ) → length row ≤ 9 → (bits_value row).rows ≡ []
 bits-rows [] h = refl
 bits-rows (u ∷ row) h =
-    if-rows (is_readable u (length row)) (value_on_line (bit_count u (length row) ++ used_digits u row)) (octets_value (u ∷ row)) refl (octets-rows (u ∷ row) (omega arith))
+    if-rows (is_readable u (length row)) (value_on_line (bit_count u (length row) ++ used_digits u row))
+        (octets_value (u ∷ row)) refl (octets-rows (u ∷ row) (omega arith))
 
-pub held-undotted : (name_of : NameOf) (kind : Kind) (row : List ℕ) → (kind ≡ Object → ⊥) → (kind ≡ Relative → ⊥) → length row ≤ most_on_line kind → IsUndotted name_of kind row
+pub held-undotted : (name_of : NameOf) (kind : Kind) (row : List ℕ) → (kind ≡ Object → ⊥) → (kind ≡ Relative → ⊥)
+    → length row ≤ most_on_line kind → IsUndotted name_of kind row
 held-undotted name_of Octets row o r h = octets-text name_of row h
 held-undotted name_of Boolean row o r h = (refl, boolean-rows row h)
 held-undotted name_of Integer row o r h = (refl, integer-rows row h)
@@ -99,12 +140,19 @@ held-undotted name_of Ucs2 row o r h = (refl, refl)
 held-undotted name_of Ucs4 row o r h = (refl, refl)
 
 undotted_at : (name_of : NameOf) (kind : Kind) (layout : Layout) (line row : List ℕ) → IsUndotted name_of kind row
-    → line ++ (undotted_text kind row ++ 10 ∷ []) ≡ line ++ (((short_value name_of kind row).text ++ 10 ∷ []) ++ row_lines kind layout 0 (short_value name_of kind row).rows)
-undotted_at name_of kind layout line row p = rw (p.0, p.1) (ap (λ (t : List ℕ). line ++ t) (sym (append-nil (undotted_text kind row ++ 10 ∷ []))))
+    → line ++ (undotted_text kind row ++ 10 ∷ [])
+        ≡ line
+            ++ (((short_value name_of kind row).text ++ 10 ∷ [])
+                ++ row_lines kind layout 0 (short_value name_of kind row).rows)
+undotted_at name_of kind layout line row p =
+    rw (p.0, p.1) (ap (λ (t : List ℕ). line ++ t) (sym (append-nil (undotted_text kind row ++ 10 ∷ []))))
 
-pub shown-undotted : (name_of : NameOf) (p : Primitive) (octets : List ℕ) → (p.kind ≡ Object → ⊥) → (p.kind ≡ Relative → ⊥) → length octets ≤ most_on_line p.kind
+pub shown-undotted : (name_of : NameOf) (p : Primitive) (octets : List ℕ) → (p.kind ≡ Object → ⊥)
+    → (p.kind ≡ Relative → ⊥) → length octets ≤ most_on_line p.kind
     → line_prefix p ++ (undotted_text p.kind octets ++ 10 ∷ []) ≡ primitive_lines name_of p octets
-shown-undotted name_of p octets o r h = undotted_at name_of p.kind p.layout (line_prefix p) octets (held-undotted name_of p.kind octets o r h) ∙ shown-prefix name_of p octets
+shown-undotted name_of p octets o r h =
+    undotted_at name_of p.kind p.layout (line_prefix p) octets (held-undotted name_of p.kind octets o r h)
+        ∙ shown-prefix name_of p octets
 
 abbrev pub state_by : Primitive → ℕ → RowsState → ValueTextState
 state_by p left kept = record { primitive = p; left = left; kept = kept }
@@ -116,18 +164,31 @@ ended-shown name_of p left kept l = rw l refl
 
 -- the first contents octet of a long BIT STRING
 
-new-first_at : (kind : Kind) (wrote_line : Bool) (size : ℕ) (layout : Layout) (line : List ℕ → List ℕ) (x : ℕ) (rest rows_part : List ℕ) → kind ≡ Bits → wrote_line ≡ false → is_long kind size ≡ true
-    → (if is_long kind size then (if wrote_line then rows_part else (line (long_text kind size (x ∷ [])) ++ row_lines kind layout 0 (full_rows kind (row_octets kind (x ∷ [])) rest))) else [])
+new-first_at : (kind : Kind) (wrote_line : Bool) (size : ℕ) (layout : Layout) (line : List ℕ → List ℕ) (x : ℕ)
+    (rest rows_part : List ℕ)
+    → kind ≡ Bits → wrote_line ≡ false → is_long kind size ≡ true
+    → (if is_long kind size
+        then (if wrote_line then rows_part
+            else (line (long_text kind size (x ∷ []))
+                ++ row_lines kind layout 0 (full_rows kind (row_octets kind (x ∷ [])) rest)))
+        else [])
     ≡ line (long_text Bits size (x ∷ [])) ++ row_lines Bits layout 0 (full_rows Bits (row_octets Bits (x ∷ [])) rest)
 new-first_at kind wrote_line size layout line x rest rows_part e u l = rw (l, u, e) refl
 
-pub new-first : (s : ValueTextState) (x : ℕ) (rest : List ℕ) → s.primitive.kind ≡ Bits → s.kept.wrote_line ≡ false → is_long s.primitive.kind s.primitive.size ≡ true
-    → contents_lines s (x ∷ rest) ≡ primitive_line s.primitive (long_text Bits s.primitive.size (x ∷ [])) ++ row_lines Bits s.primitive.layout 0 (full_rows Bits (row_octets Bits (x ∷ [])) rest)
+pub new-first : (s : ValueTextState) (x : ℕ) (rest : List ℕ) → s.primitive.kind ≡ Bits → s.kept.wrote_line ≡ false
+    → is_long s.primitive.kind s.primitive.size ≡ true
+    → contents_lines s (x ∷ rest)
+        ≡ primitive_line s.primitive (long_text Bits s.primitive.size (x ∷ []))
+            ++ row_lines Bits s.primitive.layout 0 (full_rows Bits (row_octets Bits (x ∷ [])) rest)
 new-first s x rest e u l =
-    new-first_at s.primitive.kind s.kept.wrote_line s.primitive.size s.primitive.layout (primitive_line s.primitive) x rest (row_lines s.primitive.kind s.primitive.layout s.kept.rows (full_rows s.primitive.kind s.kept.row (x ∷ rest))) e u l
+    new-first_at s.primitive.kind s.kept.wrote_line s.primitive.size s.primitive.layout (primitive_line s.primitive) x
+        rest
+        (row_lines s.primitive.kind s.primitive.layout s.kept.rows (full_rows s.primitive.kind s.kept.row (x ∷ rest)))
+        e u l
 
 -- the rows after it
-pub rows-first : (kind : Kind) (layout : Layout) (n : ℕ) (row begun rest : List ℕ) → kind ≡ Bits → n ≡ 0 → row ≡ begun → row_lines kind layout n (full_rows kind row rest) ≡ row_lines Bits layout 0 (full_rows Bits begun rest)
+pub rows-first : (kind : Kind) (layout : Layout) (n : ℕ) (row begun rest : List ℕ) → kind ≡ Bits → n ≡ 0 → row ≡ begun
+    → row_lines kind layout n (full_rows kind row rest) ≡ row_lines Bits layout 0 (full_rows Bits begun rest)
 rows-first kind layout n row begun rest e z r = rw (e, z, r) refl
 
 -- a held value has few octets

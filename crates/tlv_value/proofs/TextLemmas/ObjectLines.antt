@@ -1,5 +1,6 @@
 -- The lines of a held object identifier, as they are put.
-use Rattle.std.proofs.Common.{◌≡◌, ◌≤◌, ℕ, ◌+◌, ◌-◌, Bool, true, false, List, [], ◌∷◌, ◌++◌, length, take, drop, refl, sym, ap, ◌∙◌, arith, append_assoc, append-nil}
+use Rattle.std.proofs.Common.{◌≡◌, ◌≤◌, ℕ, ◌+◌, ◌-◌, Bool, true, false, List, [], ◌∷◌, ◌++◌, length, take, drop, refl}
+use Rattle.std.proofs.Common.{sym, ap, ◌∙◌, arith, append_assoc, append-nil}
 use Rattle.std.specs.Prelude.{Option, Some, None, is_some, unwrap_or, nat_le}
 use Rattle.std.proofs.Math.ListN.{length-drop}
 use Rattle.std.proofs.Math.Seq.{drop-append-add}
@@ -23,9 +24,11 @@ no_text None e = refl
 no_text (Some text) e = cc (e)
 
 -- what was added after a space
-pub after_space : (old new text : List ℕ) (n : ℕ) → new ≡ old ++ 32 ∷ text → n ≡ length old + 1 → take (length new - n) (drop n new) ≡ text
+pub after_space : (old new text : List ℕ) (n : ℕ) → new ≡ old ++ 32 ∷ text → n ≡ length old + 1
+    → take (length new - n) (drop n new) ≡ text
 after_space old new text n e at =
-    take_all (length new - n) (drop n new) (omega (arith, length-drop n new)) ∙ ap (λ (l : List ℕ). drop n l) e ∙ ap (λ (k : ℕ). drop k (old ++ 32 ∷ text)) at ∙ drop-append-add old (32 ∷ text) 1
+    take_all (length new - n) (drop n new) (omega (arith, length-drop n new)) ∙ ap (λ (l : List ℕ). drop n l) e
+        ∙ ap (λ (k : ℕ). drop k (old ++ 32 ∷ text)) at ∙ drop-append-add old (32 ∷ text) 1
 
 module _ (name_of : NameOf) (layout : Layout) (relative : Bool) (contents : List ℕ) where
   -- a dotted text with a name
@@ -38,17 +41,27 @@ module _ (name_of : NameOf) (layout : Layout) (relative : Bool) (contents : List
       ∙ ap (λ (l : List ℕ). (32 ∷ text) ++ (32 ∷ 40 ∷ l)) (append_assoc name (41 ∷ []) (10 ∷ []))))
 
   -- without a name
-  pub object_unnamed : (text : List ℕ) → dotted_of relative contents ≡ Some text → name_of text ≡ None → (32 ∷ text) ++ 10 ∷ [] ≡ object_lines name_of layout [] relative contents
-  object_unnamed text d n = rw (d, n) (sym (append-nil ((32 ∷ (text ++ [])) ++ 10 ∷ []) ∙ ap (λ (l : List ℕ). (32 ∷ l) ++ 10 ∷ []) (append-nil text)))
+  pub object_unnamed : (text : List ℕ) → dotted_of relative contents ≡ Some text → name_of text ≡ None
+      → (32 ∷ text) ++ 10 ∷ [] ≡ object_lines name_of layout [] relative contents
+  object_unnamed text d n =
+      rw (d, n)
+          (sym
+              (append-nil ((32 ∷ (text ++ [])) ++ 10 ∷ [])
+                  ∙ ap (λ (l : List ℕ). (32 ∷ l) ++ 10 ∷ []) (append-nil text)))
 
   -- no dotted text
-  pub object_octets : dotted_of relative contents ≡ None → octets_lines layout [] contents ≡ object_lines name_of layout [] relative contents
+  pub object_octets : dotted_of relative contents ≡ None
+      → octets_lines layout [] contents ≡ object_lines name_of layout [] relative contents
   object_octets d = rw d refl
 
 -- octets on the line
-pub octets_short : (layout : Layout) (contents : List ℕ) → length contents ≤ 16 → spaced_pairs contents ++ 10 ∷ [] ≡ octets_lines layout [] contents
-octets_short layout contents few = let b : nat_le (length contents) 16 ≡ true = grind (arith, nat_tests) in rw b (sym (append-nil (spaced_pairs contents ++ 10 ∷ [])))
+pub octets_short : (layout : Layout) (contents : List ℕ) → length contents ≤ 16
+    → spaced_pairs contents ++ 10 ∷ [] ≡ octets_lines layout [] contents
+octets_short layout contents few =
+    let b : nat_le (length contents) 16 ≡ true =
+        grind (arith, nat_tests) in rw b (sym (append-nil (spaced_pairs contents ++ 10 ∷ [])))
 
 -- and in rows
-pub octets_long : (layout : Layout) (contents : List ℕ) → 17 ≤ length contents → (10 ∷ []) ++ row_lines Octets layout 0 (rows_of Octets contents) ≡ octets_lines layout [] contents
+pub octets_long : (layout : Layout) (contents : List ℕ) → 17 ≤ length contents
+    → (10 ∷ []) ++ row_lines Octets layout 0 (rows_of Octets contents) ≡ octets_lines layout [] contents
 octets_long layout contents many = let b : nat_le (length contents) 16 ≡ false = grind (arith, nat_tests) in rw b refl

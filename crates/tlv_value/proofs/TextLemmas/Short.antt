@@ -1,5 +1,6 @@
 -- No text of a row is longer than its line has room.
-use Rattle.std.proofs.Common.{◌≡◌, ℕ, zero, suc, ◌+◌, ◌-◌, ◌*◌, ◌^◌, ◌<◌, ◌≤◌, Bool, true, false, List, [], ◌∷◌, ◌++◌, length, take, refl, ap, ◌∙◌, arith, length-append}
+use Rattle.std.proofs.Common.{◌≡◌, ℕ, zero, suc, ◌+◌, ◌-◌, ◌*◌, ◌^◌, ◌<◌, ◌≤◌, Bool, true, false, List, [], ◌∷◌, ◌++◌}
+use Rattle.std.proofs.Common.{length, take, refl, ap, ◌∙◌, arith, length-append}
 use Rattle.std.proofs.lemmas.Bool.Decides.{nat_tests}
 use Rattle.std.proofs.lemmas.Bool.{leb-true}
 use Rattle.std.proofs.lemmas.Fmt.{length-decimal-le_wide}
@@ -17,10 +18,13 @@ use Rattle.std.specs.Str.{is_utf8}
 use Rattle.hex.specs.Hex.{encode_lower, lower_digits}
 use Rattle.hex.proofs.HexLemmas.{length-encode_with}
 use Rattle.tlv_value.specs.declared.kind.Kind.{Kind}
-use Rattle.tlv_value.specs.declared.kind.Kind.TheVariants.{Octets, Boolean, Integer, Bits, Object, Relative, Text, Utf8, Ucs2, Ucs4}
+use Rattle.tlv_value.specs.declared.kind.Kind.TheVariants.{Octets, Boolean, Integer, Bits, Object, Relative, Text, Utf8}
+use Rattle.tlv_value.specs.declared.kind.Kind.TheVariants.{Ucs2, Ucs4}
 use Rattle.tlv_io.specs.Cuts.{utf8_length}
-use Rattle.tlv_value.specs.Units.{escaped_number, escaped_octet, is_printable, octet_text, printable_text, quoted_text, three_octets, unit_size, unit_text, units, utf8_number, without_zeros}
-use Rattle.tlv_value.specs.Value.{Value, bit_count, bits_value, boolean_value, integer_value, is_readable, joined_pairs, octets_value, spaced_pairs, used_digits, value_on_line}
+use Rattle.tlv_value.specs.Units.{escaped_number, escaped_octet, is_printable, octet_text, printable_text, quoted_text}
+use Rattle.tlv_value.specs.Units.{three_octets, unit_size, unit_text, units, utf8_number, without_zeros}
+use Rattle.tlv_value.specs.Value.{Value, bit_count, bits_value, boolean_value, integer_value, is_readable, joined_pairs}
+use Rattle.tlv_value.specs.Value.{octets_value, spaced_pairs, used_digits, value_on_line}
 
 -- what was added is at most so long
 pub grown : (old new text : List ℕ) (n : ℕ) → new ≡ old ++ text → length text ≤ n → length new ≤ length old + n
@@ -39,18 +43,23 @@ escaped-short : (x : ℕ) → length (escaped_octet x) ≤ 4
 escaped-short x = omega (arith, pair-length x)
 
 octet-short : (x : ℕ) → length (octet_text x) ≤ 4
-octet-short x = elim (is_printable x) as (λ b. length (if b then printable_text x else escaped_octet x) ≤ 4) [ true ↦ printable-short x | false ↦ escaped-short x ]
+octet-short x =
+    elim (is_printable x) as (λ b. length (if b then printable_text x else escaped_octet x) ≤ 4)
+        [ true ↦ printable-short x | false ↦ escaped-short x ]
 
 zeros-short : (ds : List ℕ) → length (without_zeros ds) ≤ length ds
 zeros-short [] = omega arith
 zeros-short (d ∷ []) = omega arith
 zeros-short (d ∷ e ∷ ds) =
     let more = zeros-short (e ∷ ds) in
-    elim (eqb d 0x30) as (λ b. length (if b then without_zeros (e ∷ ds) else d ∷ e ∷ ds) ≤ length (d ∷ e ∷ ds)) [ true ↦ omega (arith, more) | false ↦ omega arith ]
+    elim (eqb d 0x30) as (λ b. length (if b then without_zeros (e ∷ ds) else d ∷ e ∷ ds) ≤ length (d ∷ e ∷ ds))
+        [ true ↦ omega (arith, more) | false ↦ omega arith ]
 
 number-short : (octets : List ℕ) → length (escaped_number octets) ≤ 4 + 2 * length octets
 number-short octets =
-    omega (arith, length-append (without_zeros (encode_lower octets)) (125 ∷ []), zeros-short (encode_lower octets), length-encode_with lower_digits octets)
+    omega
+        (arith, length-append (without_zeros (encode_lower octets)) (125 ∷ []), zeros-short (encode_lower octets),
+            length-encode_with lower_digits octets)
 
 if-short : (b : Bool) (x y : List ℕ) (n : ℕ) → length x ≤ n → length y ≤ n → length (if b then x else y) ≤ n
 if-short true x y n h g = h
@@ -60,7 +69,8 @@ ucs2-short : (unit : List ℕ) → 1 ≤ length unit → length (unit_text Ucs2 
 ucs2-short [] h = absurd (omega arith)
 ucs2-short (a ∷ []) h = omega (arith, escaped-short a)
 ucs2-short (a ∷ b ∷ []) h =
-    if-short (eqb a 0 && is_printable b) (printable_text b) (escaped_number (a ∷ b ∷ [])) 10 (omega (arith, printable-short b)) (omega (arith, number-short (a ∷ b ∷ [])))
+    if-short (eqb a 0 && is_printable b) (printable_text b) (escaped_number (a ∷ b ∷ [])) 10
+        (omega (arith, printable-short b)) (omega (arith, number-short (a ∷ b ∷ [])))
 ucs2-short (a ∷ b ∷ c ∷ unit) h = omega (arith, escaped-short a)
 
 ucs4-short : (unit : List ℕ) → 1 ≤ length unit → length (unit_text Ucs4 unit) ≤ 5 * length unit
@@ -69,7 +79,9 @@ ucs4-short (a ∷ []) h = omega (arith, escaped-short a)
 ucs4-short (a ∷ b ∷ []) h = omega (arith, escaped-short a)
 ucs4-short (a ∷ b ∷ c ∷ []) h = omega (arith, escaped-short a)
 ucs4-short (a ∷ b ∷ c ∷ d ∷ []) h =
-    if-short (eqb a 0 && eqb b 0 && eqb c 0 && is_printable d) (printable_text d) (escaped_number (a ∷ b ∷ c ∷ d ∷ [])) 20 (omega (arith, printable-short d)) (omega (arith, number-short (a ∷ b ∷ c ∷ d ∷ [])))
+    if-short (eqb a 0 && eqb b 0 && eqb c 0 && is_printable d) (printable_text d)
+        (escaped_number (a ∷ b ∷ c ∷ d ∷ [])) 20 (omega (arith, printable-short d))
+        (omega (arith, number-short (a ∷ b ∷ c ∷ d ∷ [])))
 ucs4-short (a ∷ b ∷ c ∷ d ∷ e ∷ unit) h = omega (arith, escaped-short a)
 
 utf8-short : (unit : List ℕ) → 1 ≤ length unit → length (unit_text Utf8 unit) ≤ 5 * length unit
@@ -93,15 +105,18 @@ unit-short Ucs4 (a ∷ unit) h = ucs4-short (a ∷ unit) h
 utf8_length-some : (x : ℕ) → 1 ≤ utf8_length x
 utf8_length-some x = grind (arith, nat_tests)
 
-if-within : (b : Bool) (m k n : ℕ) → (1 ≤ m) × (m ≤ n) → (1 ≤ k) × (k ≤ n) → (1 ≤ (if b then m else k)) × ((if b then m else k) ≤ n)
+if-within : (b : Bool) (m k n : ℕ) → (1 ≤ m) × (m ≤ n) → (1 ≤ k) × (k ≤ n)
+    → (1 ≤ (if b then m else k)) × ((if b then m else k) ≤ n)
 if-within true m k n h g = h
 if-within false m k n h g = g
 
-ucs-within : (b : Bool) (m n : ℕ) → nat_le m n ≡ b → 1 ≤ m → 1 ≤ n → (1 ≤ (if b then m else 1)) × ((if b then m else 1) ≤ n)
+ucs-within : (b : Bool) (m n : ℕ) → nat_le m n ≡ b → 1 ≤ m → 1 ≤ n
+    → (1 ≤ (if b then m else 1)) × ((if b then m else 1) ≤ n)
 ucs-within true m n e h g = (h, grind (arith, nat_tests))
 ucs-within false m n e h g = (omega arith, g)
 
-size-within : (kind : Kind) (x : ℕ) (xs : List ℕ) → (1 ≤ unit_size kind (x ∷ xs)) × (unit_size kind (x ∷ xs) ≤ length (x ∷ xs))
+size-within : (kind : Kind) (x : ℕ) (xs : List ℕ)
+    → (1 ≤ unit_size kind (x ∷ xs)) × (unit_size kind (x ∷ xs) ≤ length (x ∷ xs))
 size-within Octets x xs = (omega arith, omega arith)
 size-within Boolean x xs = (omega arith, omega arith)
 size-within Integer x xs = (omega arith, omega arith)
@@ -112,11 +127,13 @@ size-within Text x xs = (omega arith, omega arith)
 size-within Utf8 x xs =
     let l = length-take (utf8_length x) (x ∷ xs) in
     let s = utf8_length-some x in
-    if-within (is_utf8 (take (utf8_length x) (x ∷ xs))) (length (take (utf8_length x) (x ∷ xs))) 1 (length (x ∷ xs)) (omega arith, omega arith) (omega arith, omega arith)
+    if-within (is_utf8 (take (utf8_length x) (x ∷ xs))) (length (take (utf8_length x) (x ∷ xs))) 1 (length (x ∷ xs))
+        (omega arith, omega arith) (omega arith, omega arith)
 size-within Ucs2 x xs = ucs-within (nat_le 2 (length (x ∷ xs))) 2 (length (x ∷ xs)) refl (omega arith) (omega arith)
 size-within Ucs4 x xs = ucs-within (nat_le 4 (length (x ∷ xs))) 4 (length (x ∷ xs)) refl (omega arith) (omega arith)
 
-pub units-short : (kind : Kind) (skipped : ℕ) (xs : List ℕ) → length (flat_map (unit_text kind) (units kind skipped xs)) ≤ 5 * (length xs - skipped)
+pub units-short : (kind : Kind) (skipped : ℕ) (xs : List ℕ)
+    → length (flat_map (unit_text kind) (units kind skipped xs)) ≤ 5 * (length xs - skipped)
 units-short kind skipped [] = omega arith
 units-short kind (suc skipped) (x ∷ xs) = omega (arith, units-short kind skipped xs)
 units-short kind zero (x ∷ xs) =
@@ -125,24 +142,31 @@ units-short kind zero (x ∷ xs) =
     let l : length (take m (x ∷ xs)) ≡ m = length-take m (x ∷ xs) ∙ omega arith in
     let u = unit-short kind (take m (x ∷ xs)) (omega (arith, l, w.0)) in
     let r = units-short kind (m - 1) xs in
-    omega (arith, length-append (unit_text kind (take m (x ∷ xs))) (flat_map (unit_text kind) (units kind (m - 1) xs)), u, r, l, w.0, w.1)
+    omega
+        (arith, length-append (unit_text kind (take m (x ∷ xs))) (flat_map (unit_text kind) (units kind (m - 1) xs)),
+            u, r, l, w.0, w.1)
 
 pub quoted-short : (kind : Kind) (row : List ℕ) → length (quoted_text kind row) ≤ 5 * length row + 2
-quoted-short kind row = omega (arith, length-append (flat_map (unit_text kind) (units kind 0 row)) (34 ∷ []), units-short kind 0 row)
+quoted-short kind row =
+    omega (arith, length-append (flat_map (unit_text kind) (units kind 0 row)) (34 ∷ []), units-short kind 0 row)
 
 pub spaced-short : (octets : List ℕ) → length (spaced_pairs octets) ≡ 3 * length octets
 spaced-short [] = refl
-spaced-short (x ∷ xs) = omega (arith, length-append (32 ∷ encode_lower (x ∷ [])) (spaced_pairs xs), pair-length x, spaced-short xs)
+spaced-short (x ∷ xs) =
+    omega (arith, length-append (32 ∷ encode_lower (x ∷ [])) (spaced_pairs xs), pair-length x, spaced-short xs)
 
 pub joined-short : (octets : List ℕ) → length (joined_pairs octets) ≤ 5 * length octets + 2
 joined-short [] = omega arith
-joined-short (x ∷ xs) = omega (arith, length-append (encode_lower (x ∷ [])) (spaced_pairs xs), pair-length x, spaced-short xs)
+joined-short (x ∷ xs) =
+    omega (arith, length-append (encode_lower (x ∷ [])) (spaced_pairs xs), pair-length x, spaced-short xs)
 
 -- held values
 
 octets-text-short : (octets : List ℕ) → length (octets_value octets).text ≤ 330
 octets-text-short octets =
-    elim (nat_le (length octets) 16) as (λ b. nat_le (length octets) 16 ≡ b → length (if b then value_with (spaced_pairs octets) [] else value_with [] (rows_of Octets octets)).text ≤ 330) [
+    elim (nat_le (length octets) 16) as (λ b. nat_le (length octets) 16 ≡ b
+        → length (if b then value_with (spaced_pairs octets) [] else value_with [] (rows_of Octets octets)).text ≤ 330)
+        [
       | true ↦ λ e. let h : length octets ≤ 16 = leb-true (length octets) 16 e in omega (arith, spaced-short octets)
       | false ↦ λ e. omega arith
     ] refl
@@ -156,7 +180,9 @@ signed-short (negsuc n) h = omega (arith, digits-short (suc n) (omega arith))
 
 pub boolean-short : (octets : List ℕ) → length octets ≤ 16 → length (boolean_value octets).text ≤ 330
 boolean-short [] h = omega arith
-boolean-short (x ∷ []) h = elim (eqb x 0) as (λ b. length (32 ∷ (if b then codes "FALSE" else codes "TRUE")) ≤ 330) [ true ↦ omega arith | false ↦ omega arith ]
+boolean-short (x ∷ []) h =
+    elim (eqb x 0) as (λ b. length (32 ∷ (if b then codes "FALSE" else codes "TRUE")) ≤ 330)
+        [ true ↦ omega arith | false ↦ omega arith ]
 boolean-short (x ∷ y ∷ octets) h = octets-text-short (x ∷ y ∷ octets)
 
 pub integer-short : (octets : List ℕ) → length octets ≤ 16 → length (integer_value octets).text ≤ 330
@@ -169,16 +195,28 @@ used-short : (unused : ℕ) (octets : List ℕ) → length octets ≤ 8 → leng
 used-short unused [] h = omega arith
 used-short unused (x ∷ octets) h =
     let n : ℕ = 8 * length (x ∷ octets) - unused in
-    omega (arith, length-map (take n (bits_of (x ∷ octets))) (λ bit. 48 + bit), length-take n (bits_of (x ∷ octets)), length-bits (x ∷ octets))
+    omega
+        (arith, length-map (take n (bits_of (x ∷ octets))) (λ bit. 48 + bit), length-take n (bits_of (x ∷ octets)),
+            length-bits (x ∷ octets))
 
 pub count-short : (unused octets : ℕ) → octets < 2 ^ 64 → length (bit_count unused octets) ≤ 44
-count-short unused octets h = omega (arith, length-append (decimal (8 * octets - unused)) (codes " bits"), digits-short (8 * octets - unused) (omega arith))
+count-short unused octets h =
+    omega
+        (arith, length-append (decimal (8 * octets - unused)) (codes " bits"),
+            digits-short (8 * octets - unused) (omega arith))
 
 pub bits-short : (octets : List ℕ) → length octets ≤ 9 → length (bits_value octets).text ≤ 330
 bits-short [] h = omega arith
 bits-short (unused ∷ octets) h =
-    elim (is_readable unused (length octets)) as (λ b. length (if b then value_on_line (bit_count unused (length octets) ++ used_digits unused octets) else octets_value (unused ∷ octets)).text ≤ 330) [
-      | true ↦ omega (arith, length-append (bit_count unused (length octets)) (used_digits unused octets), count-short unused (length octets) (omega arith), used-short unused octets (omega arith))
+    elim (is_readable unused (length octets)) as (λ b. length
+        (if b then value_on_line (bit_count unused (length octets) ++ used_digits unused octets)
+            else octets_value (unused ∷ octets)).text
+        ≤ 330)
+        [
+      | true ↦
+          omega
+              (arith, length-append (bit_count unused (length octets)) (used_digits unused octets),
+                  count-short unused (length octets) (omega arith), used-short unused octets (omega arith))
       | false ↦ octets-text-short (unused ∷ octets)
     ]
 

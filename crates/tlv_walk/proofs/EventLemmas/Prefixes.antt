@@ -1,5 +1,6 @@
 -- The events of a longer input go on from those of the shorter.
-use Rattle.std.proofs.Common.{◌≡◌, ℕ, zero, suc, List, [], ◌∷◌, ◌++◌, length, refl, sym, ap, ◌∙◌, arith, append_assoc, append-nil, length-append}
+use Rattle.std.proofs.Common.{◌≡◌, ℕ, zero, suc, List, [], ◌∷◌, ◌++◌, length, refl, sym, ap, ◌∙◌, arith, append_assoc}
+use Rattle.std.proofs.Common.{append-nil, length-append}
 use Rattle.tlv_walk.specs.declared.framing.Framing.{Framing}
 use Rattle.tlv_walk.specs.Forest.{Forest, spelling}
 use Rattle.tlv_walk.specs.Place.{IsOpen, Place, top_place}
@@ -18,17 +19,22 @@ pub record GoesOn (xs ys : List EventValue) : Type 0 where
   pub more : single_octets ys ≡ single_octets (xs ++ others)
 
 -- events that go on, and go on further
-goes-on-after : (xs ys zs new : List EventValue) → GoesOn xs ys → single_octets zs ≡ single_octets (ys ++ new) → GoesOn xs zs
+goes-on-after : (xs ys zs new : List EventValue) → GoesOn xs ys → single_octets zs ≡ single_octets (ys ++ new)
+    → GoesOn xs zs
 goes-on-after xs ys zs new r e = record {
   others = r.others ++ new;
   more = e ∙ apart-before ys (xs ++ r.others) new r.more ∙ ap single_octets (append_assoc xs r.others new);
 }
 
 -- `events-go_on`, by the number of octets between
-forest-goes_on : (p : Place) (n : ℕ) (f g : Forest) (t : List ℕ) → length t ≡ n → IsOpen p f → IsOpen p g → spelling g ≡ spelling f ++ t → GoesOn (events f) (events g)
+forest-goes_on : (p : Place) (n : ℕ) (f g : Forest) (t : List ℕ) → length t ≡ n → IsOpen p f → IsOpen p g
+    → spelling g ≡ spelling f ++ t → GoesOn (events f) (events g)
 forest-goes_on p zero f g [] l w v e =
     let same : g ≡ f = unique p g f v w (e ∙ append-nil (spelling f)) in
-    record { others = []; more = ap (λ (f : Forest). single_octets (events f)) same ∙ sym (ap single_octets (append-nil (events f))) }
+    record {
+      others = [];
+      more = ap (λ (f : Forest). single_octets (events f)) same ∙ sym (ap single_octets (append-nil (events f)));
+    }
 forest-goes_on p zero f g (x ∷ t) l w v e = absurd (omega arith)
 forest-goes_on p (suc n) f g t l w v e = elim (back t) [
   | is_nil z ↦ absurd (omega (arith, ap length z))
@@ -38,21 +44,28 @@ forest-goes_on p (suc n) f g t l w v e = elim (back t) [
       let brings : Brings (events q.popped.from ++ gained p q.popped.from q.popped.last) (Grown g) =
       rw (q.popped.pushed) at (push-brings p q.popped.from q.popped.last q.popped.is_open) in
       goes-on-after (events f) (events q.popped.from) (events g) (gained p q.popped.from q.popped.last)
-      (forest-goes_on p n f q.popped.from ys (omega (arith, ap length z, length-append ys (y ∷ []))) w q.popped.is_open q.spelled) brings
+      (forest-goes_on p n f q.popped.from ys (omega (arith, ap length z, length-append ys (y ∷ []))) w
+          q.popped.is_open q.spelled)
+          brings
 ]
 
 -- of two open forests at one place, if one spelling goes on from the other the events do
-pub events-go_on : (p : Place) (f g : Forest) (t : List ℕ) → IsOpen p f → IsOpen p g → spelling g ≡ spelling f ++ t → GoesOn (events f) (events g)
+pub events-go_on : (p : Place) (f g : Forest) (t : List ℕ) → IsOpen p f → IsOpen p g → spelling g ≡ spelling f ++ t
+    → GoesOn (events f) (events g)
 events-go_on p f g t w v e = forest-goes_on p (length t) f g t refl w v e
 
 -- the reading of a longer input goes on from that of the shorter
-pub reading-goes_on : (w : Framing) (b c : List ℕ) (f g : Forest) → IsReading w b f → IsReading w (b ++ c) g → (t : List ℕ) × (spelling g ≡ spelling f ++ t)
+pub reading-goes_on : (w : Framing) (b c : List ℕ) (f g : Forest) → IsReading w b f → IsReading w (b ++ c) g
+    → (t : List ℕ) × (spelling g ≡ spelling f ++ t)
 reading-goes_on w b c f g r s =
-    let front : spelling f ++ (r.is_prefix.0 ++ c) ≡ b ++ c = sym (append_assoc (spelling f) r.is_prefix.0 c) ∙ ap (λ (t : List ℕ). t ++ c) r.is_prefix.1 in
-    front-of (spelling f) (spelling g) (r.is_prefix.0 ++ c) s.is_prefix.0 (front ∙ sym s.is_prefix.1) (s.longest f r.is_open (r.is_prefix.0 ++ c, front))
+    let front : spelling f ++ (r.is_prefix.0 ++ c) ≡ b ++ c =
+        sym (append_assoc (spelling f) r.is_prefix.0 c) ∙ ap (λ (t : List ℕ). t ++ c) r.is_prefix.1 in
+    front-of (spelling f) (spelling g) (r.is_prefix.0 ++ c) s.is_prefix.0 (front ∙ sym s.is_prefix.1)
+        (s.longest f r.is_open (r.is_prefix.0 ++ c, front))
 
 -- the events of a longer input begin, joined, with those of the shorter
-pub events-prefix : (w : Framing) (b c : List ℕ) (f g : Forest) → IsReading w b f → IsReading w (b ++ c) g → (es : List EventValue) × AreEqualJoined (events g) (events f ++ es)
+pub events-prefix : (w : Framing) (b c : List ℕ) (f g : Forest) → IsReading w b f → IsReading w (b ++ c) g
+    → (es : List EventValue) × AreEqualJoined (events g) (events f ++ es)
 events-prefix w b c f g r s =
     let t : (t : List ℕ) × (spelling g ≡ spelling f ++ t) = reading-goes_on w b c f g r s in
     let on : GoesOn (events f) (events g) = events-go_on (top_place w) f g t.0 r.is_open s.is_open t.1 in

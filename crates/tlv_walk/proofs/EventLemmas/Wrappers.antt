@@ -1,11 +1,14 @@
 -- Wrappers by the events that enter them, and that their offsets rise.
-use Rattle.std.proofs.Common.{◌≡◌, inl, inr, ℕ, ◌+◌, ◌<◌, ◌≤◌, Bool, true, false, ◌||◌, if◌then◌else◌, List, [], ◌∷◌, ◌++◌, length, map, refl, sym, ap, ◌∙◌, arith, length-append}
+use Rattle.std.proofs.Common.{◌≡◌, inl, inr, ℕ, ◌+◌, ◌<◌, ◌≤◌, Bool, true, false, ◌||◌, if◌then◌else◌, List, [], ◌∷◌}
+use Rattle.std.proofs.Common.{◌++◌, length, map, refl, sym, ap, ◌∙◌, arith, length-append}
 use Rattle.std.proofs.lemmas.Bool.{cases_Bool, true≢false}
 use Rattle.tlv_head.specs.Header.{HeaderValue, is_wrapper, octets_of}
-use Rattle.tlv_walk.specs.Forest.{Forest, NoMore, PaddingOctet, Primitive, Holder, OpenPrimitive, OpenHolder, OpenBitString, OpenHeader, OpenEndOctets, extent, lead, opening, spelling}
+use Rattle.tlv_walk.specs.Forest.{Forest, NoMore, PaddingOctet, Primitive, Holder, OpenPrimitive, OpenHolder}
+use Rattle.tlv_walk.specs.Forest.{OpenBitString, OpenHeader, OpenEndOctets, extent, lead, opening, spelling}
 use Rattle.tlv_walk.specs.Inside.{is_among}
 use Rattle.tlv_walk.specs.Place.{IsHeaderAt, IsOpen, Place, place_after, place_of_children}
-use Rattle.tlv_walk.specs.Events.{Begin, Bytes, Close, End, Enter, EventValue, Leave, Open, Pad, Unused, closing_event, events, opening_events, single_octets}
+use Rattle.tlv_walk.specs.Events.{Begin, Bytes, Close, End, Enter, EventValue, Leave, Open, Pad, Unused, closing_event}
+use Rattle.tlv_walk.specs.Events.{events, opening_events, single_octets}
 use Rattle.tlv_walk.specs.Wrappers.{wrapper_at, entered_offsets, wrapper_offsets}
 use Rattle.tlv_walk.proofs.GrammarLemmas.Spellings.{length-holder, length-opening, length-primitive}
 use Rattle.tlv_walk.proofs.GrammarLemmas.PopHeaders.{header-length}
@@ -24,12 +27,14 @@ enters-append (Leave ∷ es) ys = enters-append es ys
 enters-append (Pad c ∷ es) ys = enters-append es ys
 
 -- contents octets enter none
-enters-bytes : (c : List ℕ) (es : List EventValue) → entered_offsets (map (λ x. Bytes (x ∷ [])) c ++ es) ≡ entered_offsets es
+enters-bytes : (c : List ℕ) (es : List EventValue)
+    → entered_offsets (map (λ x. Bytes (x ∷ [])) c ++ es) ≡ entered_offsets es
 enters-bytes [] es = refl
 enters-bytes (x ∷ c) es = enters-bytes c es
 
 -- padding enters none
-enters-pad : (c : List ℕ) (es : List EventValue) → entered_offsets (map (λ x. Pad (x ∷ [])) c ++ es) ≡ entered_offsets es
+enters-pad : (c : List ℕ) (es : List EventValue)
+    → entered_offsets (map (λ x. Pad (x ∷ [])) c ++ es) ≡ entered_offsets es
 enters-pad [] es = refl
 enters-pad (x ∷ c) es = enters-pad c es
 
@@ -52,18 +57,22 @@ enters-unused [] es = refl
 enters-unused (x ∷ l) es = enters-unused l es
 
 -- the first event of an element that holds others, by its form
-enters-first : (h : HeaderValue) (constructed : Bool) (es : List EventValue) → entered_offsets ((if constructed then Open h else Enter h) ∷ es) ≡ (if constructed then [] else h.offset ∷ []) ++ entered_offsets es
+enters-first : (h : HeaderValue) (constructed : Bool) (es : List EventValue)
+    → entered_offsets ((if constructed then Open h else Enter h) ∷ es)
+        ≡ (if constructed then [] else h.offset ∷ []) ++ entered_offsets es
 enters-first h true es = refl
 enters-first h false es = refl
 
 -- the beginning of an element that holds others enters it, if it is a wrapper
-enters-opens : (h : HeaderValue) (es : List EventValue) → entered_offsets (opening_events h ++ es) ≡ wrapper_at h ++ entered_offsets es
+enters-opens : (h : HeaderValue) (es : List EventValue)
+    → entered_offsets (opening_events h ++ es) ≡ wrapper_at h ++ entered_offsets es
 enters-opens h es =
     enters-first h h.constructed (map (λ z. Unused) (lead h) ++ es)
     ∙ ap (λ (t : List ℕ). wrapper_at h ++ t) (enters-unused (lead h) es)
 
 -- the end of an element that holds others enters none
-enters-closes : (h : HeaderValue) (inside : Forest) (es : List EventValue) → entered_offsets (closing_event h inside ∷ es) ≡ entered_offsets es
+enters-closes : (h : HeaderValue) (inside : Forest) (es : List EventValue)
+    → entered_offsets (closing_event h inside ∷ es) ≡ entered_offsets es
 enters-closes h inside es = elim (cases_Bool h.constructed) [
   | inl e ↦ rw e
   | inr e ↦ rw e
@@ -80,15 +89,21 @@ waiting-wraps h e = elim (cases_Bool h.constructed) [
 pub wrapper_offsets-entered : (p : Place) (f : Forest) → IsOpen p f → wrapper_offsets f ≡ entered_offsets (events f)
 wrapper_offsets-entered p NoMore w = refl
 wrapper_offsets-entered p (PaddingOctet rest) w = wrapper_offsets-entered (place_after p 1) rest w.1
-wrapper_offsets-entered p (Primitive h c rest) w = wrapper_offsets-entered (place_after p (length (octets_of h) + length c)) rest w.1
+wrapper_offsets-entered p (Primitive h c rest) w =
+    wrapper_offsets-entered (place_after p (length (octets_of h) + length c)) rest w.1
 wrapper_offsets-entered p (Holder h inside rest) w = sym
     (enters-opens h (events inside ++ closing_event h inside ∷ events rest)
     ∙ ap (λ (t : List ℕ). wrapper_at h ++ t)
     (enters-append (events inside) (closing_event h inside ∷ events rest)
-    ∙ (ap (λ (t : List ℕ). t ++ entered_offsets (closing_event h inside ∷ events rest)) (sym (wrapper_offsets-entered (place_of_children p h) inside w.1))
-    ∙ ap (λ (t : List ℕ). wrapper_offsets inside ++ t) (enters-closes h inside (events rest) ∙ sym (wrapper_offsets-entered (place_after p (extent h inside)) rest w.2)))))
+    ∙ (ap (λ (t : List ℕ). t ++ entered_offsets (closing_event h inside ∷ events rest))
+        (sym (wrapper_offsets-entered (place_of_children p h) inside w.1))
+    ∙ ap (λ (t : List ℕ). wrapper_offsets inside ++ t)
+        (enters-closes h inside (events rest)
+            ∙ sym (wrapper_offsets-entered (place_after p (extent h inside)) rest w.2)))))
 wrapper_offsets-entered p (OpenPrimitive h c) w = refl
-wrapper_offsets-entered p (OpenHolder h inside) w = sym (enters-opens h (events inside) ∙ ap (λ (t : List ℕ). wrapper_at h ++ t) (sym (wrapper_offsets-entered (place_of_children p h) inside w.1)))
+wrapper_offsets-entered p (OpenHolder h inside) w =
+    sym (enters-opens h (events inside)
+        ∙ ap (λ (t : List ℕ). wrapper_at h ++ t) (sym (wrapper_offsets-entered (place_of_children p h) inside w.1)))
 wrapper_offsets-entered p (OpenBitString h) w = waiting-wraps h w.1
 wrapper_offsets-entered p (OpenHeader octets) w = refl
 wrapper_offsets-entered p OpenEndOctets w = refl
@@ -125,27 +140,38 @@ wrapper-rises a b h e l = elim (cases_Bool h.constructed) [
 ]
 
 -- the offsets of the wrappers rise, and are those of octets of the forest
-pub wrapper_offsets-rise : (p : Place) (f : Forest) → IsOpen p f → Rise p.offset (p.offset + length (spelling f)) (wrapper_offsets f)
+pub wrapper_offsets-rise : (p : Place) (f : Forest) → IsOpen p f
+    → Rise p.offset (p.offset + length (spelling f)) (wrapper_offsets f)
 wrapper_offsets-rise p NoMore w = omega arith
-wrapper_offsets-rise p (PaddingOctet rest) w = rise-within _ _ _ _ (wrapper_offsets rest) (omega arith) (omega arith) (wrapper_offsets-rise (place_after p 1) rest w.1)
+wrapper_offsets-rise p (PaddingOctet rest) w =
+    rise-within _ _ _ _ (wrapper_offsets rest) (omega arith) (omega arith)
+        (wrapper_offsets-rise (place_after p 1) rest w.1)
 wrapper_offsets-rise p (Primitive h c rest) w =
     rise-within _ _ _ _ (wrapper_offsets rest) (omega arith) (omega (arith, length-primitive h c rest))
     (wrapper_offsets-rise (place_after p (length (octets_of h) + length c)) rest w.1)
 wrapper_offsets-rise p (Holder h inside rest) w =
     let two : 2 ≤ length (octets_of h) = header-length h w.0.0.header.valid in
-    let size : length (spelling (Holder h inside rest)) ≡ extent h inside + length (spelling rest) = length-holder h inside rest in
-    rise-append p.offset (p.offset + length (opening h)) _ (wrapper_at h) (wrapper_offsets inside ++ wrapper_offsets rest)
+    let size : length (spelling (Holder h inside rest)) ≡ extent h inside + length (spelling rest) =
+        length-holder h inside rest in
+    rise-append p.offset (p.offset + length (opening h)) _ (wrapper_at h)
+        (wrapper_offsets inside ++ wrapper_offsets rest)
     (wrapper-rises p.offset (p.offset + length (opening h)) h w.0.0.header.offset (omega (arith, length-opening h)))
-    (rise-append (p.offset + length (opening h)) (p.offset + extent h inside) _ (wrapper_offsets inside) (wrapper_offsets rest)
-    (rise-within _ _ _ _ (wrapper_offsets inside) (omega arith) (omega arith) (wrapper_offsets-rise (place_of_children p h) inside w.1))
-    (rise-within _ _ _ _ (wrapper_offsets rest) (omega arith) (omega arith) (wrapper_offsets-rise (place_after p (extent h inside)) rest w.2)))
+    (rise-append (p.offset + length (opening h)) (p.offset + extent h inside) _ (wrapper_offsets inside)
+        (wrapper_offsets rest)
+    (rise-within _ _ _ _ (wrapper_offsets inside) (omega arith) (omega arith)
+        (wrapper_offsets-rise (place_of_children p h) inside w.1))
+    (rise-within _ _ _ _ (wrapper_offsets rest) (omega arith) (omega arith)
+        (wrapper_offsets-rise (place_after p (extent h inside)) rest w.2)))
 wrapper_offsets-rise p (OpenPrimitive h c) w = omega arith
 wrapper_offsets-rise p (OpenHolder h inside) w =
     let two : 2 ≤ length (octets_of h) = header-length h w.0.0.header.valid in
     rise-append p.offset (p.offset + length (opening h)) _ (wrapper_at h) (wrapper_offsets inside)
     (wrapper-rises p.offset (p.offset + length (opening h)) h w.0.0.header.offset (omega (arith, length-opening h)))
-    (rise-within _ _ _ _ (wrapper_offsets inside) (omega arith) (omega (arith, length-append (opening h) (spelling inside))) (wrapper_offsets-rise (place_of_children p h) inside w.1))
-wrapper_offsets-rise p (OpenBitString h) w = wrapper-rises p.offset _ h w.0.header.offset (omega (arith, header-length h w.0.header.valid))
+    (rise-within _ _ _ _ (wrapper_offsets inside) (omega arith)
+        (omega (arith, length-append (opening h) (spelling inside)))
+        (wrapper_offsets-rise (place_of_children p h) inside w.1))
+wrapper_offsets-rise p (OpenBitString h) w =
+    wrapper-rises p.offset _ h w.0.header.offset (omega (arith, header-length h w.0.header.valid))
 wrapper_offsets-rise p (OpenHeader octets) w = omega arith
 wrapper_offsets-rise p OpenEndOctets w = omega arith
 
@@ -160,7 +186,8 @@ named-append inside [] ys r s = s
 named-append inside (n ∷ xs) ys r s = (r.0, named-append inside xs ys r.1 s)
 
 -- only what is named is a wrapper
-wraps-named : (constructed named : Bool) (h : HeaderValue) → constructed ≡ false → (constructed || is_wrapper named h.class constructed h.number h.size) ≡ true → named ≡ true
+wraps-named : (constructed named : Bool) (h : HeaderValue) → constructed ≡ false
+    → (constructed || is_wrapper named h.class constructed h.number h.size) ≡ true → named ≡ true
 wraps-named true named h c e = absurd (true≢false c)
 wraps-named false true h c e = refl
 wraps-named false false h c e = absurd (cc)
@@ -171,7 +198,8 @@ wrapper-named p h header = elim (cases_Bool h.constructed) [
   | inl c ↦ rw c tt
   | inr c ↦
       let named : is_among h.offset p.inside ≡ true =
-      ap (λ (n : ℕ). is_among n p.inside) header.offset ∙ (sym header.named ∙ wraps-named h.constructed h.named h c header.form) in
+      ap (λ (n : ℕ). is_among n p.inside) header.offset
+          ∙ (sym header.named ∙ wraps-named h.constructed h.named h c header.form) in
       rw c (named, tt)
 ]
 
@@ -179,13 +207,18 @@ wrapper-named p h header = elim (cases_Bool h.constructed) [
 pub wrapper_offsets-named : (p : Place) (f : Forest) → IsOpen p f → AreNamed p.inside (wrapper_offsets f)
 wrapper_offsets-named p NoMore w = tt
 wrapper_offsets-named p (PaddingOctet rest) w = wrapper_offsets-named (place_after p 1) rest w.1
-wrapper_offsets-named p (Primitive h c rest) w = wrapper_offsets-named (place_after p (length (octets_of h) + length c)) rest w.1
+wrapper_offsets-named p (Primitive h c rest) w =
+    wrapper_offsets-named (place_after p (length (octets_of h) + length c)) rest w.1
 wrapper_offsets-named p (Holder h inside rest) w =
-    named-append p.inside (wrapper_at h) (wrapper_offsets inside ++ wrapper_offsets rest) (wrapper-named p h w.0.0.header)
-    (named-append p.inside (wrapper_offsets inside) (wrapper_offsets rest) (wrapper_offsets-named (place_of_children p h) inside w.1) (wrapper_offsets-named (place_after p (extent h inside)) rest w.2))
+    named-append p.inside (wrapper_at h) (wrapper_offsets inside ++ wrapper_offsets rest)
+        (wrapper-named p h w.0.0.header)
+    (named-append p.inside (wrapper_offsets inside) (wrapper_offsets rest)
+        (wrapper_offsets-named (place_of_children p h) inside w.1)
+        (wrapper_offsets-named (place_after p (extent h inside)) rest w.2))
 wrapper_offsets-named p (OpenPrimitive h c) w = tt
 wrapper_offsets-named p (OpenHolder h inside) w =
-    named-append p.inside (wrapper_at h) (wrapper_offsets inside) (wrapper-named p h w.0.0.header) (wrapper_offsets-named (place_of_children p h) inside w.1)
+    named-append p.inside (wrapper_at h) (wrapper_offsets inside) (wrapper-named p h w.0.0.header)
+        (wrapper_offsets-named (place_of_children p h) inside w.1)
 wrapper_offsets-named p (OpenBitString h) w = wrapper-named p h w.0.header
 wrapper_offsets-named p (OpenHeader octets) w = tt
 wrapper_offsets-named p OpenEndOctets w = tt

@@ -1,5 +1,6 @@
 -- A walk over all that a source gives, turn by turn.
-use Rattle.std.proofs.Common.{◌≡◌, ◌≢◌, ◌⊎◌, inl, inr, ℕ, ◌≤◌, ◌<◌, Bool, true, false, List, [], ◌∷◌, ◌++◌, length, take, flat_map, refl, sym, ap, ◌∙◌, subst, arith, append-nil}
+use Rattle.std.proofs.Common.{◌≡◌, ◌≢◌, ◌⊎◌, inl, inr, ℕ, ◌≤◌, ◌<◌, Bool, true, false, List, [], ◌∷◌, ◌++◌, length}
+use Rattle.std.proofs.Common.{take, flat_map, refl, sym, ap, ◌∙◌, subst, arith, append-nil}
 use Rattle.std.proofs.lemmas.List.{take_all}
 use Rattle.std.proofs.lemmas.List.Elements.{All-append}
 use Rattle.std.specs.Prelude.{Result, Ok, Err, ⊤}
@@ -21,11 +22,13 @@ use Rattle.tlv_walk.specs.Follow.{Effect, GoesOn, Joins, IgnoresEmpty, effect_of
 use Rattle.tlv_walk.specs.FollowsEvents.{FollowsEvents}
 use Rattle.tlv_walk.specs.Forest.{Forest, spelling}
 use Rattle.tlv_walk.specs.Ending.{IsFinalEnding}
-use Rattle.tlv_walk.specs.Job.{ComesTo, EndsWith, Runs, WantMore, device_states, drain_result, read_failed, source_result, too_long, write_failed}
+use Rattle.tlv_walk.specs.Job.{ComesTo, EndsWith, Runs, WantMore, device_states, drain_result, read_failed}
+use Rattle.tlv_walk.specs.Job.{source_result, too_long, write_failed}
 use Rattle.tlv_io.specs.Out.{Sends}
 use Rattle.tlv_walk.specs.Reading.{AreOctets, IsReading}
 use Rattle.tlv_walk.specs.Stands.{Stands}
-use Rattle.tlv_walk.specs.OneTurn.{EndsIn, FollowsMore, FollowsOneRead, LastReadWas, LastReadGaveUpTo, HasEnoughIn, TurnStates, TurnsTo, WalkEnds, at_enough, at_fault, at_input_end, last_octets}
+use Rattle.tlv_walk.specs.OneTurn.{EndsIn, FollowsMore, FollowsOneRead, LastReadWas, LastReadGaveUpTo, HasEnoughIn}
+use Rattle.tlv_walk.specs.OneTurn.{TurnStates, TurnsTo, WalkEnds, at_enough, at_fault, at_input_end, last_octets}
 use Rattle.tlv_walk.specs.Wrappers.{first_other, entered_offsets}
 use Rattle.tlv_walk.proofs.FollowerLemmas.Followed.{events_enough, followed-alike, followed-enough, kept-alike}
 use Rattle.tlv_walk.proofs.FollowerLemmas.Following.{made_both, made_put}
@@ -42,14 +45,18 @@ module _ {S : Type 0} (next : S → EventValue → Effect S)
   alike : (s : S) (es fs : List EventValue) → AreEqualJoined es fs → effect_of next s es ≡ effect_of next s fs
   alike = followed-alike next bytes_join bytes_empty bytes_go_on pad_join pad_empty pad_go_on
 
-  octets_alike : (s : S) (es fs : List EventValue) → AreEqualJoined es fs → flat_map event_octets (followed_events next s es) ≡ flat_map event_octets (followed_events next s fs)
+  octets_alike : (s : S) (es fs : List EventValue) → AreEqualJoined es fs
+      → flat_map event_octets (followed_events next s es) ≡ flat_map event_octets (followed_events next s fs)
   octets_alike s es fs e =
-      kept-alike next bytes_join bytes_empty bytes_go_on pad_join pad_empty pad_go_on event_octets (λ x y. refl) refl (λ x y. refl) refl s es fs e
+      kept-alike next bytes_join bytes_empty bytes_go_on pad_join pad_empty pad_go_on event_octets (λ x y. refl) refl
+          (λ x y. refl) refl s es fs e
 
-  enters_alike : (s : S) (es fs : List EventValue) → AreEqualJoined es fs → entered_offsets (followed_events next s es) ≡ entered_offsets (followed_events next s fs)
+  enters_alike : (s : S) (es fs : List EventValue) → AreEqualJoined es fs
+      → entered_offsets (followed_events next s es) ≡ entered_offsets (followed_events next s fs)
   enters_alike s es fs e =
       enters_each (followed_events next s es)
-      ∙ kept-alike next bytes_join bytes_empty bytes_go_on pad_join pad_empty pad_go_on (λ e. entered_offsets (e ∷ [])) (λ x y. refl) refl (λ x y. refl) refl s es fs e
+      ∙ kept-alike next bytes_join bytes_empty bytes_go_on pad_join pad_empty pad_go_on
+          (λ e. entered_offsets (e ∷ [])) (λ x y. refl) refl (λ x y. refl) refl s es fs e
       ∙ sym (enters_each (followed_events next s fs))
 
   -- what was made of all events of a forest
@@ -58,7 +65,8 @@ module _ {S : Type 0} (next : S → EventValue → Effect S)
     pub goes_so : (effect_of next s (events f)).goes ≡ goes
     pub text_is : text ≡ (effect_of next s (events f)).put
 
-  made_all : (s t : S) (es : List EventValue) (f : Forest) (goes : Go) → FollowsEvents next s t es goes → AreEqualJoined es (events f) → MadeAll s t f goes (effect_of next s es).put
+  made_all : (s t : S) (es : List EventValue) (f : Forest) (goes : Go) → FollowsEvents next s t es goes
+      → AreEqualJoined es (events f) → MadeAll s t f goes (effect_of next s es).put
   made_all s t es f goes m e =
       let same : effect_of next s es ≡ effect_of next s (events f) = alike s es (events f) e in record {
         state = m.state ∙ ap (λ (k : Effect S). k.state) same;
@@ -67,43 +75,58 @@ module _ {S : Type 0} (next : S → EventValue → Effect S)
       }
 
   -- if there was enough before the last of them
-  made_enough : (s t : S) (es others : List EventValue) (f : Forest) → FollowsEvents next s t es go.Enough → AreEqualJoined (es ++ others) (events f) → MadeAll s t f go.Enough (effect_of next s es).put
+  made_enough : (s t : S) (es others : List EventValue) (f : Forest) → FollowsEvents next s t es go.Enough
+      → AreEqualJoined (es ++ others) (events f) → MadeAll s t f go.Enough (effect_of next s es).put
   made_enough s t es others f m e =
-      let same : effect_of next s es ≡ effect_of next s (events f) = sym (followed-enough next s es others m.goes_so) ∙ alike s (es ++ others) (events f) e in record {
+      let same : effect_of next s es ≡ effect_of next s (events f) =
+          sym (followed-enough next s es others m.goes_so) ∙ alike s (es ++ others) (events f) e in record {
         state = m.state ∙ ap (λ (k : Effect S). k.state) same;
         goes_so = sym (ap (λ (k : Effect S). k.goes) same) ∙ m.goes_so;
         text_is = ap (λ (k : Effect S). k.put) same;
       }
 
   -- the events followed are then these
-  enough_events : (s t : S) (es others : List EventValue) → FollowsEvents next s t es go.Enough → followed_events next s (es ++ others) ≡ es
+  enough_events : (s t : S) (es others : List EventValue) → FollowsEvents next s t es go.Enough
+      → followed_events next s (es ++ others) ≡ es
   enough_events s t es others m = events_enough next s es others m.goes_so ∙ m.all
 
-  enough_octets : (s t : S) (es others : List EventValue) (f : Forest) → FollowsEvents next s t es go.Enough → AreEqualJoined (es ++ others) (events f) → flat_map event_octets es ≡ flat_map event_octets (followed_events next s (events f))
-  enough_octets s t es others f m e = ap (flat_map event_octets) (sym (enough_events s t es others m)) ∙ octets_alike s (es ++ others) (events f) e
+  enough_octets : (s t : S) (es others : List EventValue) (f : Forest) → FollowsEvents next s t es go.Enough
+      → AreEqualJoined (es ++ others) (events f)
+      → flat_map event_octets es ≡ flat_map event_octets (followed_events next s (events f))
+  enough_octets s t es others f m e =
+      ap (flat_map event_octets) (sym (enough_events s t es others m)) ∙ octets_alike s (es ++ others) (events f) e
 
-  enough_enters : (s t : S) (es others : List EventValue) (f : Forest) → FollowsEvents next s t es go.Enough → AreEqualJoined (es ++ others) (events f) → entered_offsets es ≡ entered_offsets (followed_events next s (events f))
-  enough_enters s t es others f m e = ap entered_offsets (sym (enough_events s t es others m)) ∙ enters_alike s (es ++ others) (events f) e
+  enough_enters : (s t : S) (es others : List EventValue) (f : Forest) → FollowsEvents next s t es go.Enough
+      → AreEqualJoined (es ++ others) (events f)
+      → entered_offsets es ≡ entered_offsets (followed_events next s (events f))
+  enough_enters s t es others f m e =
+      ap entered_offsets (sym (enough_events s t es others m)) ∙ enters_alike s (es ++ others) (events f) e
 
-  module _ (framing : Framing) (limit : ℕ) (s : S) (old : SourceState) (from : DrainState) (now : TurnStates S) (x : Walking next framing s old from now) where
+  module _ (framing : Framing) (limit : ℕ) (s : S) (old : SourceState) (from : DrainState) (now : TurnStates S)
+      (x : Walking next framing s old from now) where
     abbrev b : List ℕ
     b = concat x.gathered.pieces
 
     first_reading : IsReading framing b x.stands.has_events.reading
-    first_reading = subst (λ (g : Framing). IsReading g b x.stands.has_events.reading) x.same x.stands.has_events.is_reading
+    first_reading =
+        subst (λ (g : Framing). IsReading g b x.stands.has_events.reading) x.same x.stands.has_events.is_reading
 
     first_made : MadeAll s now.follower x.stands.has_events.reading go.On (effect_of next s x.yielded).put
     first_made =
-        made_all s now.follower x.yielded x.stands.has_events.reading go.On x.made (stands_yielded now.walker b x.yielded x.stands.has_events.reading x.stands x.idle x.stands.has_events.is_reading)
+        made_all s now.follower x.yielded x.stands.has_events.reading go.On x.made
+            (stands_yielded now.walker b x.yielded x.stands.has_events.reading x.stands x.idle
+                x.stands.has_events.is_reading)
 
     first_spelled : spelling x.stands.has_events.reading ≡ b
-    first_spelled = stands_spelled now.walker b x.yielded x.stands.has_events.reading x.stands x.stands.has_events.is_reading
+    first_spelled =
+        stands_spelled now.walker b x.yielded x.stands.has_events.reading x.stands x.stands.has_events.is_reading
 
     -- the octets so far hold neither a fault nor enough
     first_wants : WantMore (drive_job next framing limit s) b
     first_wants = (x.stands.has_events.reading, first_reading, first_spelled, ap had_enough first_made.goes_so)
 
-    module _ (new : TurnStates S) (piece : List ℕ) (result : Result Turn DeviceFault) (read : FollowsOneRead next now new limit piece result)
+    module _ (new : TurnStates S) (piece : List ℕ) (result : Result Turn DeviceFault)
+        (read : FollowsOneRead next now new limit piece result)
         (room : length piece ≡ 4096) (below : now.walker.offset ≤ limit) where
       abbrev r : List ℕ
       r = last_octets new.devices.source.last piece
@@ -122,30 +145,47 @@ module _ {S : Type 0} (next : S → EventValue → Effect S)
       walked = take limit (b ++ r)
 
       turned : (answer : Result Turn DeviceFault) → result ≡ answer → TurnsTo next now new limit b x.yielded r answer
-      turned answer is = subst (λ (k : Result Turn DeviceFault). TurnsTo next now new limit b x.yielded r k) is (read.turned b x.yielded x.stands)
+      turned answer is =
+          subst (λ (k : Result Turn DeviceFault). TurnsTo next now new limit b x.yielded r k) is
+              (read.turned b x.yielded x.stands)
 
-      gave_so : (answer : Result Turn DeviceFault) → result ≡ answer → LastReadWas (length piece) answer new.devices.source.last
-      gave_so answer is = subst (λ (k : Result Turn DeviceFault). LastReadWas (length piece) k new.devices.source.last) is read.calls.last
+      gave_so : (answer : Result Turn DeviceFault) → result ≡ answer
+          → LastReadWas (length piece) answer new.devices.source.last
+      gave_so answer is =
+          subst (λ (k : Result Turn DeviceFault). LastReadWas (length piece) k new.devices.source.last) is
+              read.calls.last
 
-      failed_so : (answer : Result Turn DeviceFault) → result ≡ answer → new.devices.source.failures ≡ failures_after (source_result answer) old.failures
+      failed_so : (answer : Result Turn DeviceFault) → result ≡ answer
+          → new.devices.source.failures ≡ failures_after (source_result answer) old.failures
       failed_so answer is =
-          read.calls.failed_reads ∙ ap (λ (k : Result Turn DeviceFault). failures_after (source_result k) now.devices.source.failures) is
+          read.calls.failed_reads
+              ∙ ap (λ (k : Result Turn DeviceFault). failures_after (source_result k) now.devices.source.failures) is
           ∙ ap (failures_after (source_result answer)) x.failures
 
       -- what was sent before and in this turn
-      sent : (more : List EventValue) (result : Result ⊤ DeviceFault) → Sends now.devices.drain new.devices.drain (effect_of next now.follower more).put result
+      sent : (more : List EventValue) (result : Result ⊤ DeviceFault)
+          → Sends now.devices.drain new.devices.drain (effect_of next now.follower more).put result
           → Sends from new.devices.drain (effect_of next s (x.yielded ++ more)).put result
       sent more result k =
-          subst (λ (l : List ℕ). Sends from new.devices.drain l result) (made_put next s now.follower x.yielded more x.made)
-          (sends_then from now.devices.drain new.devices.drain (effect_of next s x.yielded).put (effect_of next now.follower more).put tt result x.sends k)
+          subst (λ (l : List ℕ). Sends from new.devices.drain l result)
+              (made_put next s now.follower x.yielded more x.made)
+          (sends_then from now.devices.drain new.devices.drain (effect_of next s x.yielded).put
+              (effect_of next now.follower more).put tt result x.sends k)
 
       -- all events that were followed, and what was sent of them
-      followed : (all : List EventValue) (goes : Go) → FollowsMore next now new x.yielded all goes → FollowsEvents next s new.follower all goes
+      followed : (all : List EventValue) (goes : Go) → FollowsMore next now new x.yielded all goes
+          → FollowsEvents next s new.follower all goes
       followed all goes k =
-          subst (λ (es : List EventValue). FollowsEvents next s new.follower es goes) k.all_is (made_both next s now.follower new.follower x.yielded k.more goes x.made k.made)
+          subst (λ (es : List EventValue). FollowsEvents next s new.follower es goes) k.all_is
+              (made_both next s now.follower new.follower x.yielded k.more goes x.made k.made)
 
-      sent_all : (all : List EventValue) (goes : Go) → FollowsMore next now new x.yielded all goes → Sends {T = ⊤} {E = DeviceFault} from new.devices.drain (effect_of next s all).put (Ok tt)
-      sent_all all goes k = subst (λ (es : List EventValue). Sends {T = ⊤} {E = DeviceFault} from new.devices.drain (effect_of next s es).put (Ok tt)) k.all_is (sent k.more (Ok tt) k.put)
+      sent_all : (all : List EventValue) (goes : Go) → FollowsMore next now new x.yielded all goes
+          → Sends {T = ⊤} {E = DeviceFault} from new.devices.drain (effect_of next s all).put (Ok tt)
+      sent_all all goes k =
+          subst
+              (λ (es : List EventValue). Sends {T = ⊤} {E = DeviceFault} from new.devices.drain
+                  (effect_of next s es).put (Ok tt))
+              k.all_is (sent k.more (Ok tt) k.put)
 
       some_octets : (o : List ℕ) → o ≢ [] → 0 < length o
       some_octets [] n = absurd (n refl)
@@ -156,29 +196,43 @@ module _ {S : Type 0} (next : S → EventValue → Effect S)
       walking_on is =
           let y = turned (Ok Again) is in
           let all : List EventValue = y.stands.all in record {
-            gathered = gathered_more old now.devices.source new.devices.source x.gathered r read.calls.octets read.calls.reads (some_octets r y.some, few);
+            gathered =
+                gathered_more old now.devices.source new.devices.source x.gathered r read.calls.octets
+                    read.calls.reads (some_octets r y.some, few);
             octets = subst AreOctets (sym (together_more x.gathered.pieces r)) all_octets;
             failures = failed_so (Ok Again) is;
             yielded = all;
             made = followed all go.On y.stands.follows;
             sends = sent_all all go.On y.stands.follows;
             same = y.stands.follows.framing ∙ x.same;
-            stands = subst (λ (o : List ℕ). Stands new.walker o all) (sym (together_more x.gathered.pieces r)) y.stands.stands;
+            stands =
+                subst (λ (o : List ℕ). Stands new.walker o all) (sym (together_more x.gathered.pieces r))
+                    y.stands.stands;
             idle = y.stands.idle;
           }
 
       -- ---- the walk has ended
 
       abbrev Driven : Result Run DeviceFault → Type 0
-      Driven answer = Drives next framing limit (drive_states s old from) (drive_states new.follower new.devices.source new.devices.drain) answer
+      Driven answer =
+          Drives next framing limit (drive_states s old from)
+              (drive_states new.follower new.devices.source new.devices.drain) answer
 
-      runs_by : (answer : Result Run DeviceFault) (f : Forest) → GaveLast new.devices.source.last r → IsReading framing walked f → (es : List EventValue) → (goes : Go) (k : MadeAll s new.follower f goes (effect_of next s es).put)
-          → source_result answer ≡ source_result result → Sends from new.devices.drain (effect_of next s es).put (drain_result answer) → ComesTo (drive_job next framing limit s) (b ++ r) f new.devices.source answer
+      runs_by : (answer : Result Run DeviceFault) (f : Forest) → GaveLast new.devices.source.last r
+          → IsReading framing walked f → (es : List EventValue)
+          → (goes : Go) (k : MadeAll s new.follower f goes (effect_of next s es).put)
+          → source_result answer ≡ source_result result
+              → Sends from new.devices.drain (effect_of next s es).put (drain_result answer)
+              → ComesTo (drive_job next framing limit s) (b ++ r) f new.devices.source answer
           → Runs (drive_job next framing limit s) (device_states old from) new.devices answer
       runs_by answer f last is_reading es goes k same sends comes = record {
-        pieces = pieces_all old now.devices.source new.devices.source x.gathered r read.calls.octets read.calls.reads last few;
+        pieces =
+            pieces_all old now.devices.source new.devices.source x.gathered r read.calls.octets read.calls.reads last
+                few;
         failures =
-            read.calls.failed_reads ∙ ap (λ (k : Result ⊤ DeviceFault). failures_after k now.devices.source.failures) (sym same) ∙ ap (failures_after (source_result answer)) x.failures;
+            read.calls.failed_reads
+                ∙ ap (λ (k : Result ⊤ DeviceFault). failures_after k now.devices.source.failures) (sym same)
+                ∙ ap (failures_after (source_result answer)) x.failures;
         wants_more = first_wants;
         within = within;
         reading = f;
@@ -187,64 +241,89 @@ module _ {S : Type 0} (next : S → EventValue → Effect S)
         comes = comes;
       }
 
-      is_enough_so : (f : Forest) (goes : Go) (text : List ℕ) → MadeAll s new.follower f goes text → had_enough (effect_of next s (events f)).goes ≡ had_enough goes
+      is_enough_so : (f : Forest) (goes : Go) (text : List ℕ) → MadeAll s new.follower f goes text
+          → had_enough (effect_of next s (events f)).goes ≡ had_enough goes
       is_enough_so f goes text k = ap had_enough k.goes_so
 
       -- with a fault or the end of the input
       ends_without : (run : Run) → result ≡ Ok (Ended run) → EndsIn next now new walked x.yielded run
-          → IsFinalEnding run.ending ⊎ ((new.devices.source.last ≡ gave 0) × IsAtEnd new.devices.source.left) → Driven (Ok run)
+          → IsFinalEnding run.ending ⊎ ((new.devices.source.last ≡ gave 0) × IsAtEnd new.devices.source.left)
+              → Driven (Ok run)
       unfolding runs_by
       ends_without run is y ended =
           let g : LastReadGaveUpTo (length piece) new.devices.source.last = gave_so (Ok (Ended run)) is in
           let es : List EventValue = y.all in
           let f : Forest = y.has_events.reading in
-          let is_reading : IsReading framing walked f = subst (λ (k : Framing). IsReading k walked f) x.same y.has_events.is_reading in
+          let is_reading : IsReading framing walked f =
+              subst (λ (k : Framing). IsReading k walked f) x.same y.has_events.is_reading in
           let made : FollowsEvents next s new.follower es go.On = followed es go.On y.follows in
-          let k : MadeAll s new.follower f go.On (effect_of next s es).put = made_all s new.follower es f go.On made y.has_events.all_events in
-          let answer : run ≡ run_over framing f (followed_events next s (events f)) (effect_of next s (events f)).goes run.ending =
+          let k : MadeAll s new.follower f go.On (effect_of next s es).put =
+              made_all s new.follower es f go.On made y.has_events.all_events in
+          let answer : run
+              ≡ run_over framing f (followed_events next s (events f)) (effect_of next s (events f)).goes run.ending =
           y.run_is ∙ ap (λ (k : Framing). run_over k f es go.On run.ending) x.same
           ∙ ap (λ (g : Go). run_over framing f (followed_events next s (events f)) g run.ending) (sym k.goes_so) in
           let ends : EndsWith framing walked (had_enough (effect_of next s (events f)).goes) run.ending =
-          subst (λ (b : Bool). EndsWith framing walked b run.ending) (sym (is_enough_so f go.On (effect_of next s es).put k))
+          subst (λ (b : Bool). EndsWith framing walked b run.ending)
+              (sym (is_enough_so f go.On (effect_of next s es).put k))
           (subst (λ (k : Framing). EndsWith k walked false run.ending) x.same y.ending) in record {
-            runs = runs_by (Ok run) f (gave_last new.devices.source.last piece g) is_reading es go.On k (ap source_result (sym is)) (sent_all es go.On y.follows) (comes_to (drive_job next framing limit s) (b ++ r) f new.devices.source (Ok run) (
+            runs =
+                runs_by (Ok run) f (gave_last new.devices.source.last piece g) is_reading es go.On k
+                    (ap source_result (sym is)) (sent_all es go.On y.follows)
+                    (comes_to (drive_job next framing limit s) (b ++ r) f new.devices.source (Ok run) (
               run.ending,
               answer,
               ends_so framing walked (had_enough (effect_of next s (events f)).goes) run.ending
-                  (IsFinalEnding run.ending ⊎ ((new.devices.source.last ≡ gave 0) × IsAtEnd new.devices.source.left)) ends (inr ended),
+                  (IsFinalEnding run.ending ⊎ ((new.devices.source.last ≡ gave 0) × IsAtEnd new.devices.source.left))
+                      ends (inr ended),
             ));
             state = k.state;
           }
 
       -- with enough
-      ends_with : (run : Run) → result ≡ Ok (Ended run) → HasEnoughIn next now new walked x.yielded run → Driven (Ok run)
+      ends_with : (run : Run) → result ≡ Ok (Ended run) → HasEnoughIn next now new walked x.yielded run
+          → Driven (Ok run)
       unfolding runs_by
       ends_with run is y =
           let g : LastReadGaveUpTo (length piece) new.devices.source.last = gave_so (Ok (Ended run)) is in
           let es : List EventValue = y.all in
           let f : Forest = y.has_events.reading in
-          let is_reading : IsReading framing walked f = subst (λ (k : Framing). IsReading k walked f) x.same y.has_events.is_reading in
-          let others : (others : List EventValue) × AreEqualJoined (es ++ others) (events f) = (y.others, y.has_events.all_events) in
+          let is_reading : IsReading framing walked f =
+              subst (λ (k : Framing). IsReading k walked f) x.same y.has_events.is_reading in
+          let others : (others : List EventValue) × AreEqualJoined (es ++ others) (events f) =
+              (y.others, y.has_events.all_events) in
           let made : FollowsEvents next s new.follower es go.Enough = followed es go.Enough y.follows in
-          let k : MadeAll s new.follower f go.Enough (effect_of next s es).put = made_enough s new.follower es others.0 f made others.1 in
+          let k : MadeAll s new.follower f go.Enough (effect_of next s es).put =
+              made_enough s new.follower es others.0 f made others.1 in
           let ending_is : run.ending ≡ Done = ap (λ (k : Run). k.ending) y.run_is in
-          let answer : run ≡ run_over framing f (followed_events next s (events f)) (effect_of next s (events f)).goes run.ending =
-          run_is run run.ending (length (flat_map event_octets (followed_events next s (events f)))) true (first_other framing.inside (entered_offsets (followed_events next s (events f)))) refl
-          (ap (λ (k : Run). k.octets) y.run_is ∙ ap length (enough_octets s new.follower es others.0 f made others.1)) (ap (λ (k : Run). k.enough) y.run_is)
-          (ap (λ (k : Run). k.unused) y.run_is ∙ ap (λ (k : Framing). first_other k.inside (entered_offsets es)) x.same ∙ ap (first_other framing.inside) (enough_enters s new.follower es others.0 f made others.1))
+          let answer : run
+              ≡ run_over framing f (followed_events next s (events f)) (effect_of next s (events f)).goes run.ending =
+          run_is run run.ending (length (flat_map event_octets (followed_events next s (events f)))) true
+              (first_other framing.inside (entered_offsets (followed_events next s (events f)))) refl
+          (ap (λ (k : Run). k.octets) y.run_is ∙ ap length (enough_octets s new.follower es others.0 f made others.1))
+              (ap (λ (k : Run). k.enough) y.run_is)
+          (ap (λ (k : Run). k.unused) y.run_is
+              ∙ ap (λ (k : Framing). first_other k.inside (entered_offsets es)) x.same
+              ∙ ap (first_other framing.inside) (enough_enters s new.follower es others.0 f made others.1))
           ∙ ap (λ (g : Go). run_over framing f (followed_events next s (events f)) g run.ending) (sym k.goes_so) in
-          let enough : had_enough (effect_of next s (events f)).goes ≡ true = is_enough_so f go.Enough (effect_of next s es).put k in record {
-            runs = runs_by (Ok run) f (gave_last new.devices.source.last piece g) is_reading es go.Enough k (ap source_result (sym is)) (sent_all es go.Enough y.follows)
-                (comes_to (drive_job next framing limit s) (b ++ r) f new.devices.source (Ok run) (run.ending, answer, inl (enough, ending_is)));
+          let enough : had_enough (effect_of next s (events f)).goes ≡ true =
+              is_enough_so f go.Enough (effect_of next s es).put k in record {
+            runs =
+                runs_by (Ok run) f (gave_last new.devices.source.last piece g) is_reading es go.Enough k
+                    (ap source_result (sym is)) (sent_all es go.Enough y.follows)
+                (comes_to (drive_job next framing limit s) (b ++ r) f new.devices.source (Ok run)
+                    (run.ending, answer, inl (enough, ending_is)));
             state = k.state;
           }
 
       -- by why it ends
-      ends_so_far : (run : Run) → result ≡ Ok (Ended run) → WalkEnds next now new limit b x.yielded r run → Driven (Ok run)
+      ends_so_far : (run : Run) → result ≡ Ok (Ended run) → WalkEnds next now new limit b x.yielded r run
+          → Driven (Ok run)
       ends_so_far run is (at_enough y) = ends_with run is y
       ends_so_far run is (at_fault y final) = ends_without run is y (inl final)
       ends_so_far run is (at_input_end y none) =
-          let last : new.devices.source.last ≡ gave 0 = gave_none new.devices.source.last piece (gave_so (Ok (Ended run)) is) none in
+          let last : new.devices.source.last ≡ gave 0 =
+              gave_none new.devices.source.last piece (gave_so (Ok (Ended run)) is) none in
           ends_without run is y (inr (last, read.calls.at_end last))
 
       pub drives_ended : (run : Run) → result ≡ Ok (Ended run) → Driven (Ok run)
@@ -257,12 +336,24 @@ module _ {S : Type 0} (next : S → EventValue → Effect S)
           let last : new.devices.source.last ≡ failed = gave_so (Err ReadFailed) is in
           let none : r ≡ [] = ap (λ (l : LastReadValue). last_octets l piece) last in
           let f : Forest = x.stands.has_events.reading in
-          let all : b ≡ walked = sym (ap (λ (o : List ℕ). take limit (b ++ o)) none ∙ ap (λ (o : List ℕ). take limit o) (append-nil b) ∙ take_all limit b within) in
-          let k : MadeAll s new.follower f go.On (effect_of next s x.yielded).put = record { state = y.same.follower ∙ first_made.state; goes_so = first_made.goes_so; text_is = first_made.text_is } in
+          let all : b ≡ walked =
+              sym (ap (λ (o : List ℕ). take limit (b ++ o)) none ∙ ap (λ (o : List ℕ). take limit o) (append-nil b)
+                  ∙ take_all limit b within) in
+          let k : MadeAll s new.follower f go.On (effect_of next s x.yielded).put = record {
+            state = y.same.follower ∙ first_made.state;
+            goes_so = first_made.goes_so;
+            text_is = first_made.text_is;
+          } in
           let put : Sends from new.devices.drain (effect_of next s x.yielded).put (Ok tt) =
-          sends_ok {T = ⊤} {U = ⊤} {E = DeviceFault} {F = DeviceFault} from new.devices.drain ((effect_of next s x.yielded).put ++ []) (effect_of next s x.yielded).put tt tt
-          (sends_then from now.devices.drain new.devices.drain (effect_of next s x.yielded).put [] tt (Ok tt) x.sends y.put) (append-nil _) in record {
-            runs = runs_by (Err ReadFailed) f (inr (last, none)) (subst (λ (o : List ℕ). IsReading framing o f) all first_reading) x.yielded go.On k (ap source_result (sym is)) put (read_failed last);
+          sends_ok {T = ⊤} {U = ⊤} {E = DeviceFault} {F = DeviceFault} from new.devices.drain
+              ((effect_of next s x.yielded).put ++ []) (effect_of next s x.yielded).put tt tt
+          (sends_then from now.devices.drain new.devices.drain (effect_of next s x.yielded).put [] tt (Ok tt) x.sends
+              y.put)
+              (append-nil _) in record {
+            runs =
+                runs_by (Err ReadFailed) f (inr (last, none))
+                    (subst (λ (o : List ℕ). IsReading framing o f) all first_reading) x.yielded go.On k
+                    (ap source_result (sym is)) put (read_failed last);
             state = k.state;
           }
 
@@ -272,15 +363,20 @@ module _ {S : Type 0} (next : S → EventValue → Effect S)
           let g : LastReadGaveUpTo (length piece) new.devices.source.last = gave_so (Err WriteFailed) is in
           let f : Forest = y.has_events.reading in
           let es : List EventValue = x.yielded ++ y.more in
-          let same : effect_of next s es ≡ effect_of next s (events f) = alike s es (events f) y.has_events.all_events in record {
+          let same : effect_of next s es ≡ effect_of next s (events f) =
+              alike s es (events f) y.has_events.all_events in record {
             runs = record {
-              pieces = pieces_all old now.devices.source new.devices.source x.gathered r read.calls.octets read.calls.reads (gave_last new.devices.source.last piece g) few;
+              pieces =
+                  pieces_all old now.devices.source new.devices.source x.gathered r read.calls.octets read.calls.reads
+                      (gave_last new.devices.source.last piece g) few;
               failures = failed_so (Err WriteFailed) is;
               wants_more = first_wants;
               within = within;
               reading = f;
               is_reading = subst (λ (k : Framing). IsReading k walked f) x.same y.has_events.is_reading;
-              sends = subst (λ (l : List ℕ). Sends {T = ⊤} {E = DeviceFault} from new.devices.drain l (Err WriteFailed)) (ap (λ (k : Effect S). k.put) same) (sent y.more (Err WriteFailed) y.put);
+              sends =
+                  subst (λ (l : List ℕ). Sends {T = ⊤} {E = DeviceFault} from new.devices.drain l (Err WriteFailed))
+                      (ap (λ (k : Effect S). k.put) same) (sent y.more (Err WriteFailed) y.put);
               comes = write_failed;
             };
             state = tt;
@@ -294,12 +390,19 @@ module _ {S : Type 0} (next : S → EventValue → Effect S)
           let z = y.stands in
           let es : List EventValue = z.all in
           let f : Forest = z.stands.has_events.reading in
-          let is_reading : IsReading framing walked f = subst (λ (k : Framing). IsReading k walked f) (z.follows.framing ∙ x.same) z.stands.has_events.is_reading in
+          let is_reading : IsReading framing walked f =
+              subst (λ (k : Framing). IsReading k walked f) (z.follows.framing ∙ x.same)
+                  z.stands.has_events.is_reading in
           let k : MadeAll s new.follower f go.On (effect_of next s es).put =
-          made_all s new.follower es f go.On (followed es go.On z.follows) (stands_yielded new.walker walked es f z.stands z.idle z.stands.has_events.is_reading) in
+          made_all s new.follower es f go.On (followed es go.On z.follows)
+              (stands_yielded new.walker walked es f z.stands z.idle z.stands.has_events.is_reading) in
           let wants : WantMore (drive_job next framing limit s) walked =
-          (f, is_reading, stands_spelled new.walker walked es f z.stands z.stands.has_events.is_reading, is_enough_so f go.On (effect_of next s es).put k) in record {
-            runs = runs_by (Err InputTooLong) f (gave_last new.devices.source.last piece g) is_reading es go.On k (ap source_result (sym is)) (sent_all es go.On z.follows) (too_long y.beyond wants);
+          (f, is_reading, stands_spelled new.walker walked es f z.stands z.stands.has_events.is_reading,
+              is_enough_so f go.On (effect_of next s es).put k) in
+              record {
+            runs =
+                runs_by (Err InputTooLong) f (gave_last new.devices.source.last piece g) is_reading es go.On k
+                    (ap source_result (sym is)) (sent_all es go.On z.follows) (too_long y.beyond wants);
             state = k.state;
           }
 

@@ -21,7 +21,8 @@ use Rattle.tlv_io.specs.Out.{Sends}
 use Rattle.tlv_walk.specs.Reading.{IsReading}
 
 -- a run has the ending that it came to, and if it did not end with enough the first named offset that is no wrapper's
-pub run-ending : (framing : Framing) (f : Forest) (es : List EventValue) (g : Go) (e : Ending) → (run_over framing f es g e).ending ≡ e
+pub run-ending : (framing : Framing) (f : Forest) (es : List EventValue) (g : Go) (e : Ending)
+    → (run_over framing f es g e).ending ≡ e
 run-ending framing f es go.On e = refl
 run-ending framing f es go.Enough e = refl
 
@@ -30,27 +31,37 @@ had-goes true = refl
 had-goes false = refl
 
 module _ {S A : Type 0} (next : S → EventValue → Effect S) (job : Job A) (s : S)
-    (text : (octets : List ℕ) (f : Forest) → length octets ≤ job.limit → IsReading job.framing octets f → (effect_of next s (events f)).put ≡ job.text f)
-    (enough : (octets : List ℕ) (f : Forest) → length octets ≤ job.limit → IsReading job.framing octets f → had_enough (effect_of next s (events f)).goes ≡ job.is_enough f)
+    (text : (octets : List ℕ) (f : Forest) → length octets ≤ job.limit → IsReading job.framing octets f
+        → (effect_of next s (events f)).put ≡ job.text f)
+    (enough : (octets : List ℕ) (f : Forest) → length octets ≤ job.limit → IsReading job.framing octets f
+        → had_enough (effect_of next s (events f)).goes ≡ job.is_enough f)
     (t : S) (old new : SourceState) (from to : DrainState) where
   within_limit : (given : List ℕ) → length (take job.limit given) ≤ job.limit
   within_limit given = omega (arith, length-take job.limit given)
 
-  wants_as : (octets : List ℕ) → length octets ≤ job.limit → WantMore (drive_job next job.framing job.limit s) octets → WantMore job octets
+  wants_as : (octets : List ℕ) → length octets ≤ job.limit → WantMore (drive_job next job.framing job.limit s) octets
+      → WantMore job octets
   wants_as octets few x = (x.0, x.1, x.2, sym (enough octets x.0 few x.1) ∙ x.3)
 
   -- what the walk sent is the job's text
-  sent_as : {E : Type 0} (given : List ℕ) (f : Forest) (result : Result ⊤ E) → IsReading job.framing (take job.limit given) f → Sends from to (effect_of next s (events f)).put result → Sends from to (job.text f) result
-  sent_as given f result r x = subst (λ (l : List ℕ). Sends from to l result) (text (take job.limit given) f (within_limit given) r) x
+  sent_as : {E : Type 0} (given : List ℕ) (f : Forest) (result : Result ⊤ E)
+      → IsReading job.framing (take job.limit given) f → Sends from to (effect_of next s (events f)).put result
+      → Sends from to (job.text f) result
+  sent_as given f result r x =
+      subst (λ (l : List ℕ). Sends from to l result) (text (take job.limit given) f (within_limit given) r) x
 
-  pub runs_ok : (run : Run) (a : A) → Drives next job.framing job.limit (drive_states s old from) (drive_states t new to) (Ok run)
-      → ((octets : List ℕ) (f : Forest) (e : Ending) → length octets ≤ job.limit → IsReading job.framing octets f → t ≡ (effect_of next s (events f)).state → run ≡ (drive_job next job.framing job.limit s).returned f e → a ≡ job.returned f e)
+  pub runs_ok : (run : Run) (a : A)
+      → Drives next job.framing job.limit (drive_states s old from) (drive_states t new to) (Ok run)
+      → ((octets : List ℕ) (f : Forest) (e : Ending) → length octets ≤ job.limit → IsReading job.framing octets f
+          → t ≡ (effect_of next s (events f)).state → run ≡ (drive_job next job.framing job.limit s).returned f e
+          → a ≡ job.returned f e)
       → Runs job (device_states old from) (device_states new to) (Ok a)
   runs_ok run a x answer =
       let w = x.runs in
       let given : List ℕ = octets_given w.pieces in
       let same = enough (take job.limit given) w.reading (within_limit given) w.is_reading in
-      let k : Returns (drive_job next job.framing job.limit s) given w.reading new (Ok run) = returns (drive_job next job.framing job.limit s) given w.reading new (Ok run) w.comes in record {
+      let k : Returns (drive_job next job.framing job.limit s) given w.reading new (Ok run) =
+          returns (drive_job next job.framing job.limit s) given w.reading new (Ok run) w.comes in record {
         pieces = w.pieces;
         failures = w.failures;
         wants_more = wants_as (concat w.pieces.pieces) w.within w.wants_more;
@@ -61,11 +72,14 @@ module _ {S A : Type 0} (next : S → EventValue → Effect S) (job : Job A) (s 
         comes = comes_to job given w.reading new (Ok a) (
           k.0,
           answer (take job.limit given) w.reading k.0 (within_limit given) w.is_reading x.state k.1,
-          subst (λ (y : Bool). EndsSo job.framing (take job.limit given) y k.0 (Settled job given w.reading new k.0)) same k.2,
+          subst (λ (y : Bool). EndsSo job.framing (take job.limit given) y k.0 (Settled job given w.reading new k.0))
+              same k.2,
         );
       }
 
-  pub runs_err : (e : DeviceFault) → Drives next job.framing job.limit (drive_states s old from) (drive_states t new to) (Err e) → Runs job (device_states old from) (device_states new to) (Err e)
+  pub runs_err : (e : DeviceFault)
+      → Drives next job.framing job.limit (drive_states s old from) (drive_states t new to) (Err e)
+      → Runs job (device_states old from) (device_states new to) (Err e)
   runs_err ReadFailed x =
       let w = x.runs in record {
         pieces = w.pieces;
@@ -75,7 +89,10 @@ module _ {S A : Type 0} (next : S → EventValue → Effect S) (job : Job A) (s 
         reading = w.reading;
         is_reading = w.is_reading;
         sends = sent_as (octets_given w.pieces) w.reading (Ok tt) w.is_reading w.sends;
-        comes = read_failed (returns (drive_job next job.framing job.limit s) (octets_given w.pieces) w.reading new (Err ReadFailed) w.comes);
+        comes =
+            read_failed
+                (returns (drive_job next job.framing job.limit s) (octets_given w.pieces) w.reading new
+                    (Err ReadFailed) w.comes);
       }
   runs_err WriteFailed x =
       let w = x.runs in record {
@@ -90,7 +107,9 @@ module _ {S A : Type 0} (next : S → EventValue → Effect S) (job : Job A) (s 
       }
   runs_err InputTooLong x =
       let w = x.runs in
-      let k = returns (drive_job next job.framing job.limit s) (octets_given w.pieces) w.reading new (Err InputTooLong) w.comes in record {
+      let k =
+          returns (drive_job next job.framing job.limit s) (octets_given w.pieces) w.reading new (Err InputTooLong)
+              w.comes in record {
         pieces = w.pieces;
         failures = w.failures;
         wants_more = wants_as (concat w.pieces.pieces) w.within w.wants_more;
@@ -98,5 +117,6 @@ module _ {S A : Type 0} (next : S → EventValue → Effect S) (job : Job A) (s 
         reading = w.reading;
         is_reading = w.is_reading;
         sends = sent_as (octets_given w.pieces) w.reading (Ok tt) w.is_reading w.sends;
-        comes = too_long k.0 (wants_as (take job.limit (octets_given w.pieces)) (within_limit (octets_given w.pieces)) k.1);
+        comes =
+            too_long k.0 (wants_as (take job.limit (octets_given w.pieces)) (within_limit (octets_given w.pieces)) k.1);
       }

@@ -1,5 +1,6 @@
 -- Parts of a piece, followed: one after another.
-use Rattle.std.proofs.Common.{◌≡◌, ℕ, ◌+◌, Bool, true, false, List, [], ◌∷◌, ◌++◌, length, take, drop, refl, sym, ap, ap₂, ◌∙◌, subst, append_assoc, append-nil}
+use Rattle.std.proofs.Common.{◌≡◌, ℕ, ◌+◌, Bool, true, false, List, [], ◌∷◌, ◌++◌, length, take, drop, refl, sym, ap}
+use Rattle.std.proofs.Common.{ap₂, ◌∙◌, subst, append_assoc, append-nil}
 use Rattle.std.proofs.lemmas.Bool.{true≢false}
 use Rattle.std.proofs.lemmas.List.{take-append-drop}
 use Rattle.std.specs.Prelude.{Ok, Err}
@@ -15,7 +16,8 @@ use Rattle.tlv_walk.specs.Follow.{Effect, effect_of, followed_events, if_more, i
 use Rattle.tlv_walk.specs.FollowsEvents.{FollowsEvents}
 use Rattle.tlv_walk.specs.WalkerState.{WalkerState}
 use Rattle.tlv_io.specs.Out.{Puts}
-use Rattle.tlv_walk.specs.Private.FollowsPiece.{FollowsPart, FollowsPiece, GoesOnIn, TakesNone, TakesPart, TakesPartOrNone, FollowStates, WalksOver}
+use Rattle.tlv_walk.specs.Private.FollowsPiece.{FollowsPart, FollowsPiece, GoesOnIn, TakesNone, TakesPart}
+use Rattle.tlv_walk.specs.Private.FollowsPiece.{TakesPartOrNone, FollowStates, WalksOver}
 use Rattle.tlv_walk.specs.Private.WalkerState.{CanPass, Passes, header_at}
 use Rattle.tlv_walk.specs.Private.Yields.{YieldsEvents}
 use Rattle.tlv_walk.proofs.FollowerLemmas.Following.{HasFollowed, made_both, made_put, walked_both, walked_goes_on}
@@ -34,21 +36,26 @@ walked_primitive w piece p can = stands_all w _ piece (drop p.octets piece) _ (r
 
 module _ {S : Type 0} (next : S → EventValue → Effect S) where
   -- if more is wanted at the end, more was wanted after each event
-  all_rest : (x : Go) (t : Effect S) (es : List EventValue) → ((s : S) → (effect_of next s es).goes ≡ go.On → followed_events next s es ≡ es)
-      → (if_on x t (λ u. effect_of next u es)).goes ≡ go.On → t.goes ≡ x → if_more x (followed_events next t.state es) ≡ es
+  all_rest : (x : Go) (t : Effect S) (es : List EventValue)
+      → ((s : S) → (effect_of next s es).goes ≡ go.On → followed_events next s es ≡ es)
+      → (if_on x t (λ u. effect_of next u es)).goes ≡ go.On → t.goes ≡ x
+          → if_more x (followed_events next t.state es) ≡ es
   all_rest go.On t es rest g k = rest t.state g
   all_rest go.Enough t es rest g k = absurd (cc (sym k ∙ g))
 
   all_followed : (s : S) (es : List EventValue) → (effect_of next s es).goes ≡ go.On → followed_events next s es ≡ es
   all_followed s [] g = refl
-  all_followed s (e ∷ es) g = ap (λ (l : List EventValue). e ∷ l) (all_rest (next s e).goes (next s e) es (λ u. all_followed u es) g refl)
+  all_followed s (e ∷ es) g =
+      ap (λ (l : List EventValue). e ∷ l) (all_rest (next s e).goes (next s e) es (λ u. all_followed u es) g refl)
 
-  pub made_all : (s t : S) (es : List EventValue) → t ≡ (effect_of next s es).state → (effect_of next s es).goes ≡ go.On → FollowsEvents next s t es go.On
+  pub made_all : (s t : S) (es : List EventValue) → t ≡ (effect_of next s es).state
+      → (effect_of next s es).goes ≡ go.On → FollowsEvents next s t es go.On
   made_all s t es e g = record { state = e; goes_so = g; all = all_followed s es g }
 
   module _ {D : Type 0} (state_of : D → DrainState) where
     -- the drain failed after what was followed
-    pub fails_part : (x y z : FollowStates S D) (piece rest left : List ℕ) (e f : WriteFault) → HasFollowed next state_of x y piece rest go.On
+    pub fails_part : (x y z : FollowStates S D) (piece rest left : List ℕ) (e f : WriteFault)
+        → HasFollowed next state_of x y piece rest go.On
         → FollowsPart next state_of y z rest left (Err e) → FollowsPiece next state_of x z piece (Err f)
     fails_part x y z piece rest left e f h p = record {
       more = h.more ++ p.more;
@@ -56,73 +63,111 @@ module _ {S : Type 0} (next : S → EventValue → Effect S) where
         yields = λ o es st.
             let walked : WalksOver x.walker y.walker piece rest h.more = h.follows.walked in
             subst (λ (g : Framing). GoesOnIn g (o ++ piece) (es ++ (h.more ++ p.more))) walked.framing
-            (subst (λ (l : List ℕ). GoesOnIn y.walker.framing l (es ++ (h.more ++ p.more))) (append_assoc o walked.taken rest ∙ ap (λ (l : List ℕ). o ++ l) (sym walked.piece_is))
-            (subst (λ (l : List EventValue). GoesOnIn y.walker.framing ((o ++ walked.taken) ++ rest) l) (append_assoc es h.more p.more) (p.takes.yields (o ++ walked.taken) (es ++ h.more) (walked.stands o es st))));
+            (subst (λ (l : List ℕ). GoesOnIn y.walker.framing l (es ++ (h.more ++ p.more)))
+                (append_assoc o walked.taken rest ∙ ap (λ (l : List ℕ). o ++ l) (sym walked.piece_is))
+            (subst (λ (l : List EventValue). GoesOnIn y.walker.framing ((o ++ walked.taken) ++ rest) l)
+                (append_assoc es h.more p.more)
+                (p.takes.yields (o ++ walked.taken) (es ++ h.more) (walked.stands o es st))));
       };
       puts = puts_failed_last state_of x.out z.out _ e (Err f)
-          (puts_then_as state_of x.out y.out z.out (effect_of next x.follower h.more).put (effect_of next y.follower p.more).put (effect_of next x.follower (h.more ++ p.more)).put tt (Err e) h.puts p.puts (made_put next x.follower y.follower h.more p.more h.follows.made)) refl;
+          (puts_then_as state_of x.out y.out z.out (effect_of next x.follower h.more).put
+              (effect_of next y.follower p.more).put (effect_of next x.follower (h.more ++ p.more)).put tt (Err e)
+              h.puts p.puts (made_put next x.follower y.follower h.more p.more h.follows.made))
+              refl;
     }
 
     -- a primitive that lies whole at the front of a piece was followed
-    pub part_whole : {T : Type 0} (x y : FollowStates S D) (piece rest : List ℕ) (p : WholePrimitive) (h : HeaderValue) (r : T) → h ≡ header_at p piece
-        → y.follower ≡ (effect_of next x.follower (whole_events h (take p.octets piece))).state → (effect_of next x.follower (whole_events h (take p.octets piece))).goes ≡ go.On
-        → Puts {T = T} {E = WriteFault} state_of x.out y.out (effect_of next x.follower (whole_events h (take p.octets piece))).put (Ok r)
-        → YieldsEvents x.walker y.walker piece rest (whole_events (header_at p piece) (take p.octets piece)) → Passes x.walker y.walker piece rest
+    pub part_whole : {T : Type 0} (x y : FollowStates S D) (piece rest : List ℕ) (p : WholePrimitive)
+        (h : HeaderValue) (r : T)
+        → h ≡ header_at p piece
+        → y.follower ≡ (effect_of next x.follower (whole_events h (take p.octets piece))).state
+            → (effect_of next x.follower (whole_events h (take p.octets piece))).goes ≡ go.On
+        → Puts {T = T} {E = WriteFault} state_of x.out y.out
+            (effect_of next x.follower (whole_events h (take p.octets piece))).put (Ok r)
+        → YieldsEvents x.walker y.walker piece rest (whole_events (header_at p piece) (take p.octets piece))
+            → Passes x.walker y.walker piece rest
         → FollowsPart next state_of x y piece rest (Ok true)
-    part_whole x y piece rest p h r same state goes put yields passes = let all : List EventValue = whole_events h (take p.octets piece) in record {
+    part_whole x y piece rest p h r same state goes put yields passes =
+        let all : List EventValue = whole_events h (take p.octets piece) in record {
       more = all;
       takes = record {
         follows = record {
           made = made_all x.follower y.follower all state goes;
-          walked = stands_all x.walker y.walker piece rest all (subst (λ (g : HeaderValue). YieldsEvents x.walker y.walker piece rest (whole_events g (take p.octets piece))) (sym same) yields);
+          walked =
+              stands_all x.walker y.walker piece rest all
+                  (subst
+                      (λ (g : HeaderValue). YieldsEvents x.walker y.walker piece rest
+                          (whole_events g (take p.octets piece)))
+                      (sym same) yields);
         };
         passes = passes;
       };
-      puts = puts_as state_of x.out y.out (effect_of next x.follower all).put (effect_of next x.follower all).put r true put refl;
+      puts =
+          puts_as state_of x.out y.out (effect_of next x.follower all).put (effect_of next x.follower all).put r true
+              put refl;
     }
 
     -- the drain failed at it
-    pub part_fails : {T : Type 0} (x y : FollowStates S D) (piece rest : List ℕ) (p : WholePrimitive) (h : HeaderValue) (e f : WriteFault) → CanPass x.walker piece p → h ≡ header_at p piece
-        → Puts {T = T} {E = WriteFault} state_of x.out y.out (effect_of next x.follower (whole_events h (take p.octets piece))).put (Err e)
+    pub part_fails : {T : Type 0} (x y : FollowStates S D) (piece rest : List ℕ) (p : WholePrimitive)
+        (h : HeaderValue) (e f : WriteFault)
+        → CanPass x.walker piece p → h ≡ header_at p piece
+        → Puts {T = T} {E = WriteFault} state_of x.out y.out
+            (effect_of next x.follower (whole_events h (take p.octets piece))).put (Err e)
         → FollowsPart next state_of x y piece rest (Err f)
     part_fails x y piece rest p h e f can same put = record {
       more = whole_events h (take p.octets piece);
       takes = record {
-        yields = walked_goes_on x.walker (passed x.walker p 0) piece (drop p.octets piece) (whole_events h (take p.octets piece))
-            (subst (λ (g : HeaderValue). WalksOver x.walker (passed x.walker p 0) piece (drop p.octets piece) (whole_events g (take p.octets piece))) (sym same) (walked_primitive x.walker piece p can));
+        yields =
+            walked_goes_on x.walker (passed x.walker p 0) piece (drop p.octets piece)
+                (whole_events h (take p.octets piece))
+            (subst
+                (λ (g : HeaderValue). WalksOver x.walker (passed x.walker p 0) piece (drop p.octets piece)
+                    (whole_events g (take p.octets piece)))
+                (sym same) (walked_primitive x.walker piece p can));
       };
       puts = puts_failed_last state_of x.out y.out _ e (Err f) put refl;
     }
 
     -- ---- a part after what was followed
 
-    part_some : (y z : FollowStates S D) (rest left : List ℕ) (more : List EventValue) (k : Bool) → k ≡ true → TakesPartOrNone next y z rest left more (Ok k) → TakesPart next y z rest left more
+    part_some : (y z : FollowStates S D) (rest left : List ℕ) (more : List EventValue) (k : Bool) → k ≡ true
+        → TakesPartOrNone next y z rest left more (Ok k) → TakesPart next y z rest left more
     part_some y z rest left more true e p = p
     part_some y z rest left more false e p = absurd (true≢false (sym e))
 
-    part_none : (y z : FollowStates S D) (rest left : List ℕ) (more : List EventValue) (k : Bool) → k ≡ false → TakesPartOrNone next y z rest left more (Ok k) → TakesNone next y z rest left more
+    part_none : (y z : FollowStates S D) (rest left : List ℕ) (more : List EventValue) (k : Bool) → k ≡ false
+        → TakesPartOrNone next y z rest left more (Ok k) → TakesNone next y z rest left more
     part_none y z rest left more false e p = p
     part_none y z rest left more true e p = absurd (true≢false e)
 
     -- it was followed
-    pub follows_part : (x y z : FollowStates S D) (piece rest left : List ℕ) (k : Bool) → HasFollowed next state_of x y piece rest go.On → k ≡ true
+    pub follows_part : (x y z : FollowStates S D) (piece rest left : List ℕ) (k : Bool)
+        → HasFollowed next state_of x y piece rest go.On → k ≡ true
         → FollowsPart next state_of y z rest left (Ok k) → HasFollowed next state_of x z piece left go.On
     follows_part x y z piece rest left k h e p =
         let t : TakesPart next y z rest left p.more = part_some y z rest left p.more k e p.takes in record {
           more = h.more ++ p.more;
           follows = record {
             made = made_both next x.follower y.follower z.follower h.more p.more go.On h.follows.made t.follows.made;
-            walked = walked_both x.walker y.walker z.walker piece rest left h.more p.more h.follows.walked t.follows.walked;
+            walked =
+                walked_both x.walker y.walker z.walker piece rest left h.more p.more h.follows.walked t.follows.walked;
           };
-          puts = puts_then_as state_of x.out y.out z.out (effect_of next x.follower h.more).put (effect_of next y.follower p.more).put (effect_of next x.follower (h.more ++ p.more)).put tt (Ok tt) h.puts
-              (puts_as state_of y.out z.out (effect_of next y.follower p.more).put (effect_of next y.follower p.more).put k tt p.puts refl) (made_put next x.follower y.follower h.more p.more h.follows.made);
+          puts =
+              puts_then_as state_of x.out y.out z.out (effect_of next x.follower h.more).put
+                  (effect_of next y.follower p.more).put (effect_of next x.follower (h.more ++ p.more)).put tt (Ok tt)
+                  h.puts
+              (puts_as state_of y.out z.out (effect_of next y.follower p.more).put
+                  (effect_of next y.follower p.more).put k tt p.puts refl)
+                  (made_put next x.follower y.follower h.more p.more h.follows.made);
         }
 
-    pub part_passes : (y z : FollowStates S D) (rest left : List ℕ) (k : Bool) → k ≡ true → FollowsPart next state_of y z rest left (Ok k) → Passes y.walker z.walker rest left
+    pub part_passes : (y z : FollowStates S D) (rest left : List ℕ) (k : Bool) → k ≡ true
+        → FollowsPart next state_of y z rest left (Ok k) → Passes y.walker z.walker rest left
     part_passes y z rest left k e p = (part_some y z rest left p.more k e p.takes).passes
 
     -- nothing of it was taken
-    pub follows_left : (x y z : FollowStates S D) (piece rest left : List ℕ) (k : Bool) → HasFollowed next state_of x y piece rest go.On → k ≡ false
+    pub follows_left : (x y z : FollowStates S D) (piece rest left : List ℕ) (k : Bool)
+        → HasFollowed next state_of x y piece rest go.On → k ≡ false
         → FollowsPart next state_of y z rest left (Ok k) → HasFollowed next state_of x z piece left go.On
     follows_left x y z piece rest left k h e p =
         let n : TakesNone next y z rest left p.more = part_none y z rest left p.more k e p.takes in record {
@@ -133,11 +178,18 @@ module _ {S : Type 0} (next : S → EventValue → Effect S) where
                 subst (λ (m : WalkerState). WalksOver x.walker m piece left h.more) (sym n.walker)
                 (subst (λ (l : List ℕ). WalksOver x.walker y.walker piece l h.more) (sym n.all_left) h.follows.walked);
           };
-          puts = puts_then_as state_of x.out y.out z.out (effect_of next x.follower h.more).put [] (effect_of next x.follower h.more).put tt (Ok tt) h.puts
-              (puts_as state_of y.out z.out (effect_of next y.follower p.more).put [] k tt p.puts (ap (λ (es : List EventValue). (effect_of next y.follower es).put) n.no_event)) (append-nil (effect_of next x.follower h.more).put);
+          puts =
+              puts_then_as state_of x.out y.out z.out (effect_of next x.follower h.more).put []
+                  (effect_of next x.follower h.more).put tt (Ok tt) h.puts
+              (puts_as state_of y.out z.out (effect_of next y.follower p.more).put [] k tt p.puts
+                  (ap (λ (es : List EventValue). (effect_of next y.follower es).put) n.no_event))
+                  (append-nil (effect_of next x.follower h.more).put);
         }
 
-    pub left_walked : (y z : FollowStates S D) (rest left : List ℕ) (k : Bool) → k ≡ false → FollowsPart next state_of y z rest left (Ok k)
+    pub left_walked : (y z : FollowStates S D) (rest left : List ℕ) (k : Bool) → k ≡ false
+        → FollowsPart next state_of y z rest left (Ok k)
         → z.walker.offset + length left ≡ y.walker.offset + length rest
     left_walked y z rest left k e p =
-        let n : TakesNone next y z rest left p.more = part_none y z rest left p.more k e p.takes in ap₂ (λ (m : WalkerState) (o : List ℕ). m.offset + length o) n.walker n.all_left
+        let n : TakesNone next y z rest left p.more =
+            part_none y z rest left p.more k e p.takes in ap₂ (λ (m : WalkerState) (o : List ℕ). m.offset + length o)
+                n.walker n.all_left

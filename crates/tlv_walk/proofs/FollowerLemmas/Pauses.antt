@@ -9,7 +9,8 @@ use Rattle.tlv_walk.specs.declared.one_turn.Pause.TheVariants as pause
 use Rattle.tlv_io.specs.Device.{DrainState}
 use Rattle.tlv_walk.specs.Events.{AreEqualJoined, EventValue, events}
 use Rattle.tlv_walk.specs.Follow.{Effect, effect_of}
-use Rattle.tlv_walk.specs.Private.FollowsPiece.{Fails, FollowsAndFlushes, FollowsPiece, FollowsToFault, GoesOnIn, Pauses, FollowStates, WalksTo, follow_states}
+use Rattle.tlv_walk.specs.Private.FollowsPiece.{Fails, FollowsAndFlushes, FollowsPiece, FollowsToFault, GoesOnIn}
+use Rattle.tlv_walk.specs.Private.FollowsPiece.{Pauses, FollowStates, WalksTo, follow_states}
 use Rattle.tlv_walk.specs.Forest.{Forest, spelling}
 use Rattle.tlv_walk.specs.declared.framing.Framing.{Framing}
 use Rattle.tlv_walk.specs.HasRead.{IsRefusedAfter}
@@ -30,81 +31,122 @@ use Rattle.tlv_walk.proofs.WalkerLemmas.Zipper.{reading_of}
 -- ---- what a walker stands for
 
 -- a walker that stands for octets has read them all
-pub stands_spelled : (v : WalkerState) (b : List ℕ) (yielded : List EventValue) (f : Forest) → Stands v b yielded → IsReading v.framing b f → spelling f ≡ b
+pub stands_spelled : (v : WalkerState) (b : List ℕ) (yielded : List EventValue) (f : Forest) → Stands v b yielded
+    → IsReading v.framing b f → spelling f ≡ b
 stands_spelled v b yielded f st r =
-    let spells : Spells (top_place v.framing) b (reading_of st.private_state.state) = state-spells v b yielded st.private_state.state st.private_state.has_state in
-    ap spelling (reading-unique v.framing b f (reading_of st.private_state.state) r (state-reading v b yielded st.private_state.state st.private_state.has_state)) ∙ spells.spelled
+    let spells : Spells (top_place v.framing) b (reading_of st.private_state.state) =
+        state-spells v b yielded st.private_state.state st.private_state.has_state in
+    ap spelling
+        (reading-unique v.framing b f (reading_of st.private_state.state) r
+            (state-reading v b yielded st.private_state.state st.private_state.has_state))
+        ∙ spells.spelled
 
 -- if nothing waits, all events of the reading were yielded
-pub stands_yielded : (v : WalkerState) (b : List ℕ) (yielded : List EventValue) (f : Forest) → Stands v b yielded → waiting_events v ≡ [] → IsReading v.framing b f → AreEqualJoined yielded (events f)
+pub stands_yielded : (v : WalkerState) (b : List ℕ) (yielded : List EventValue) (f : Forest) → Stands v b yielded
+    → waiting_events v ≡ [] → IsReading v.framing b f → AreEqualJoined yielded (events f)
 stands_yielded v b yielded f st idle r =
     let all : AreEqualJoined (yielded ++ waiting_events v) (events st.has_events.reading) = st.has_events.all_events in
-    subst (λ (es : List EventValue). AreEqualJoined es (events f)) (ap (λ (es : List EventValue). yielded ++ es) idle ∙ append-nil yielded)
-    (subst (λ (g : Forest). AreEqualJoined (yielded ++ waiting_events v) (events g)) (reading-unique v.framing b st.has_events.reading f st.has_events.is_reading r) all)
+    subst (λ (es : List EventValue). AreEqualJoined es (events f))
+        (ap (λ (es : List EventValue). yielded ++ es) idle ∙ append-nil yielded)
+    (subst (λ (g : Forest). AreEqualJoined (yielded ++ waiting_events v) (events g))
+        (reading-unique v.framing b st.has_events.reading f st.has_events.is_reading r) all)
 
 -- ---- an octet that is refused
 
-pub fault_octets : (w v : WalkerState) (b piece : List ℕ) (yielded more : List EventValue) (e : Fault) → (k : WalksTo w v piece more e b yielded) → (b ++ k.taken) ++ k.octet ∷ k.others ≡ b ++ piece
-fault_octets w v b piece yielded more e k = append_assoc b k.taken (k.octet ∷ k.others) ∙ ap (λ (o : List ℕ). b ++ o) (sym k.piece_is)
+pub fault_octets : (w v : WalkerState) (b piece : List ℕ) (yielded more : List EventValue) (e : Fault)
+    → (k : WalksTo w v piece more e b yielded) → (b ++ k.taken) ++ k.octet ∷ k.others ≡ b ++ piece
+fault_octets w v b piece yielded more e k =
+    append_assoc b k.taken (k.octet ∷ k.others) ∙ ap (λ (o : List ℕ). b ++ o) (sym k.piece_is)
 
 -- the octet is refused by the framing that the walker had before
-pub walked_refused : (w v : WalkerState) (b piece : List ℕ) (yielded more : List EventValue) (e : Fault) → (k : WalksTo w v piece more e b yielded)
-    → (r : IsRefusedAfter w.framing (b ++ k.taken) k.octet (yielded ++ more) e) × (first_without_wrapper_in v ≡ first_without_wrapper w.framing.inside r.reading)
+pub walked_refused : (w v : WalkerState) (b piece : List ℕ) (yielded more : List EventValue) (e : Fault)
+    → (k : WalksTo w v piece more e b yielded)
+    → (r : IsRefusedAfter w.framing (b ++ k.taken) k.octet (yielded ++ more) e)
+        × (first_without_wrapper_in v ≡ first_without_wrapper w.framing.inside r.reading)
 walked_refused w v b piece yielded more e k =
-    subst (λ (g : Framing). (r : IsRefusedAfter g (b ++ k.taken) k.octet (yielded ++ more) e) × (first_without_wrapper_in v ≡ first_without_wrapper g.inside r.reading))
+    subst
+        (λ (g : Framing). (r : IsRefusedAfter g (b ++ k.taken) k.octet (yielded ++ more) e)
+            × (first_without_wrapper_in v ≡ first_without_wrapper g.inside r.reading))
     k.framing (k.stands.refused, k.stands.unused)
 
-pub fault_is_reading : (w v : WalkerState) (b piece : List ℕ) (yielded more : List EventValue) (e : Fault) → (k : WalksTo w v piece more e b yielded)
+pub fault_is_reading : (w v : WalkerState) (b piece : List ℕ) (yielded more : List EventValue) (e : Fault)
+    → (k : WalksTo w v piece more e b yielded)
     → IsReading w.framing (b ++ piece) (walked_refused w v b piece yielded more e k).0.reading
 fault_is_reading w v b piece yielded more e k =
-    let r : IsRefusedAfter w.framing (b ++ k.taken) k.octet (yielded ++ more) e = (walked_refused w v b piece yielded more e k).0 in
-    subst (λ (o : List ℕ). IsReading w.framing o r.reading) (fault_octets w v b piece yielded more e k) (r.stays k.others)
+    let r : IsRefusedAfter w.framing (b ++ k.taken) k.octet (yielded ++ more) e =
+        (walked_refused w v b piece yielded more e k).0 in
+    subst (λ (o : List ℕ). IsReading w.framing o r.reading) (fault_octets w v b piece yielded more e k)
+        (r.stays k.others)
 
-fault_reading : (w v : WalkerState) (b piece : List ℕ) (yielded more : List EventValue) (e : Fault) (f : Forest) → (k : WalksTo w v piece more e b yielded) → IsReading w.framing (b ++ piece) f
+fault_reading : (w v : WalkerState) (b piece : List ℕ) (yielded more : List EventValue) (e : Fault) (f : Forest)
+    → (k : WalksTo w v piece more e b yielded) → IsReading w.framing (b ++ piece) f
     → (walked_refused w v b piece yielded more e k).0.reading ≡ f
 fault_reading w v b piece yielded more e f k r =
-    reading-unique w.framing (b ++ piece) (walked_refused w v b piece yielded more e k).0.reading f (fault_is_reading w v b piece yielded more e k) r
+    reading-unique w.framing (b ++ piece) (walked_refused w v b piece yielded more e k).0.reading f
+        (fault_is_reading w v b piece yielded more e k) r
 
 module _ {S : Type 0} (next : S → EventValue → Effect S) where
   -- ---- what was put is flushed, or cannot be
 
   module _ {D : Type 0} where
-    fault_goes_on : (x y : FollowStates S D) (piece : List ℕ) (more : List EventValue) (e : Fault) → FollowsToFault next x y piece more e → (b : List ℕ) (yielded : List EventValue) → Stands x.walker b yielded
+    fault_goes_on : (x y : FollowStates S D) (piece : List ℕ) (more : List EventValue) (e : Fault)
+        → FollowsToFault next x y piece more e → (b : List ℕ) (yielded : List EventValue) → Stands x.walker b yielded
         → GoesOnIn x.walker.framing (b ++ piece) (yielded ++ more)
     fault_goes_on x y piece more e to b yielded st f r =
         let k : WalksTo x.walker y.walker piece more e b yielded = to.walked b yielded st in (
           [],
           subst (λ (es : List EventValue). AreEqualJoined es (events f)) (sym (append-nil (yielded ++ more)))
-              (subst (λ (g : Forest). AreEqualJoined (yielded ++ more) (events g)) (fault_reading x.walker y.walker b piece yielded more e f k r)
+              (subst (λ (g : Forest). AreEqualJoined (yielded ++ more) (events g))
+                  (fault_reading x.walker y.walker b piece yielded more e f k r)
               (walked_refused x.walker y.walker b piece yielded more e k).0.all_events),
         )
 
-    pauses_failing : (x y : FollowStates S D) (piece : List ℕ) (more : List EventValue) (why : Pause) → Pauses next x y piece more (Ok why) → Fails next x y piece more
-    pauses_failing x y piece more pause.UsedUp k = record { yields = walked_goes_on x.walker y.walker piece [] more k.follows.walked }
+    pauses_failing : (x y : FollowStates S D) (piece : List ℕ) (more : List EventValue) (why : Pause)
+        → Pauses next x y piece more (Ok why) → Fails next x y piece more
+    pauses_failing x y piece more pause.UsedUp k = record {
+      yields = walked_goes_on x.walker y.walker piece [] more k.follows.walked;
+    }
     pauses_failing x y piece more (pause.Fault f) k = record { yields = fault_goes_on x y piece more f k }
-    pauses_failing x y piece more pause.Enough k = record { yields = walked_goes_on x.walker y.walker piece k.rest more k.follows.walked }
+    pauses_failing x y piece more pause.Enough k = record {
+      yields = walked_goes_on x.walker y.walker piece k.rest more k.follows.walked;
+    }
 
     -- the walker and the follower are the same, and so is where the piece is followed no further
-    pauses_same : (x y : FollowStates S D) (c : Out D) (piece : List ℕ) (more : List EventValue) (why : Pause) → Pauses next x y piece more (Ok why) → Pauses next x (follow_states y.walker y.follower c) piece more (Ok why)
-    pauses_same x y c piece more pause.UsedUp k = record { follows = record { made = k.follows.made; walked = k.follows.walked }; offset = k.offset; ready = k.ready }
+    pauses_same : (x y : FollowStates S D) (c : Out D) (piece : List ℕ) (more : List EventValue) (why : Pause)
+        → Pauses next x y piece more (Ok why)
+        → Pauses next x (follow_states y.walker y.follower c) piece more (Ok why)
+    pauses_same x y c piece more pause.UsedUp k = record {
+      follows = record { made = k.follows.made; walked = k.follows.walked };
+      offset = k.offset;
+      ready = k.ready;
+    }
     pauses_same x y c piece more (pause.Fault f) k = record { made = k.made; walked = k.walked }
-    pauses_same x y c piece more pause.Enough k = record { rest = k.rest; follows = record { made = k.follows.made; walked = k.follows.walked }; after_event = k.after_event }
+    pauses_same x y c piece more pause.Enough k = record {
+      rest = k.rest;
+      follows = record { made = k.follows.made; walked = k.follows.walked };
+      after_event = k.after_event;
+    }
 
-    module _ (state_of : D → DrainState) (x y : FollowStates S D) (c : Out D) (piece : List ℕ) (octets : AreOctets piece) (none : held_octets x.out ≡ []) where
+    module _ (state_of : D → DrainState) (x y : FollowStates S D) (c : Out D) (piece : List ℕ)
+        (octets : AreOctets piece) (none : held_octets x.out ≡ []) where
       -- the piece was followed, and what was put was flushed
-      pub pauses_flushed : (why : Pause) → FollowsPiece next state_of x y piece (Ok why) → Puts {T = ⊤} {E = WriteFault} state_of y.out c [] (Ok tt) → held_octets c ≡ []
+      pub pauses_flushed : (why : Pause) → FollowsPiece next state_of x y piece (Ok why)
+          → Puts {T = ⊤} {E = WriteFault} state_of y.out c [] (Ok tt) → held_octets c ≡ []
           → FollowsAndFlushes next state_of x (follow_states y.walker y.follower c) piece (Ok why)
       pauses_flushed why k flushed empty = record {
         octets = octets;
         more = k.more;
         pauses = pauses_same x y c piece k.more why k.pauses;
-        sends = sends_flushed state_of x.out y.out c (drain_of x.out).now (drain_of c).now (effect_of next x.follower k.more).put why tt refl none refl k.puts flushed empty;
+        sends =
+            sends_flushed state_of x.out y.out c (drain_of x.out).now (drain_of c).now
+                (effect_of next x.follower k.more).put why tt refl none refl k.puts flushed empty;
         same_reference = flushed.same_reference ∙ k.puts.same_reference;
         empty = empty;
       }
 
       -- or could not be flushed
-      pub pauses_unflushed : (why : Pause) (e f : WriteFault) → FollowsPiece next state_of x y piece (Ok why) → Puts {T = ⊤} {E = WriteFault} state_of y.out c [] (Err e)
+      pub pauses_unflushed : (why : Pause) (e f : WriteFault) → FollowsPiece next state_of x y piece (Ok why)
+          → Puts {T = ⊤} {E = WriteFault} state_of y.out c [] (Err e)
           → FollowsAndFlushes next state_of x (follow_states y.walker y.follower c) piece (Err f)
       pauses_unflushed why e f k unflushed =
           let text : List ℕ = (effect_of next x.follower k.more).put in record {
@@ -112,20 +154,26 @@ module _ {S : Type 0} (next : S → EventValue → Effect S) where
             more = k.more;
             pauses = record { yields = (pauses_failing x y piece k.more why k.pauses).yields };
             sends = sends_puts state_of x.out c (drain_of x.out).now (drain_of c).now text (Err f) refl none refl
-                (puts_failed_last state_of x.out c text e (Err f) (puts_then_as state_of x.out y.out c text [] text why (Err e) k.puts unflushed (append-nil text)) refl) tt;
+                (puts_failed_last state_of x.out c text e (Err f)
+                    (puts_then_as state_of x.out y.out c text [] text why (Err e) k.puts unflushed (append-nil text))
+                    refl)
+                    tt;
             same_reference = unflushed.same_reference ∙ k.puts.same_reference;
             empty = tt;
           }
 
     -- the drain failed before
-    pub fails_sent : (state_of : D → DrainState) (x y : FollowStates S D) (piece : List ℕ) → AreOctets piece → held_octets x.out ≡ [] → (e f : WriteFault) → FollowsPiece next state_of x y piece (Err e)
+    pub fails_sent : (state_of : D → DrainState) (x y : FollowStates S D) (piece : List ℕ) → AreOctets piece
+        → held_octets x.out ≡ [] → (e f : WriteFault) → FollowsPiece next state_of x y piece (Err e)
         → FollowsAndFlushes next state_of x y piece (Err f)
     fails_sent state_of x y piece octets none e f k =
         let text : List ℕ = (effect_of next x.follower k.more).put in record {
           octets = octets;
           more = k.more;
           pauses = k.pauses;
-          sends = sends_puts state_of x.out y.out (drain_of x.out).now (drain_of y.out).now text (Err f) refl none refl (puts_failed_last state_of x.out y.out text e (Err f) k.puts refl) tt;
+          sends =
+              sends_puts state_of x.out y.out (drain_of x.out).now (drain_of y.out).now text (Err f) refl none refl
+                  (puts_failed_last state_of x.out y.out text e (Err f) k.puts refl) tt;
           same_reference = k.puts.same_reference;
           empty = tt;
         }

@@ -1,5 +1,6 @@
 -- A walk so far: what its reads gave, and what was yielded and kept of these.
-use Rattle.std.proofs.Common.{◌≡◌, inl, ℕ, ◌-◌, ◌≤◌, ◌<◌, List, [], ◌∷◌, ◌++◌, length, take, flat_map, refl, sym, ap, ◌∙◌, arith}
+use Rattle.std.proofs.Common.{◌≡◌, inl, ℕ, ◌-◌, ◌≤◌, ◌<◌, List, [], ◌∷◌, ◌++◌, length, take, flat_map, refl, sym, ap}
+use Rattle.std.proofs.Common.{◌∙◌, arith}
 use Rattle.std.proofs.lemmas.List.{length-take}
 use Rattle.std.proofs.lemmas.List.Elements.{All-nil, All-take}
 use Rattle.std.proofs.Math.Seq.{take-append-add}
@@ -25,17 +26,20 @@ use Rattle.tlv_io.proofs.Sends.{sends_nothing}
 -- ---- reads
 
 -- what the last read gave
-pub gave_last : (last : LastReadValue) (piece : List ℕ) → LastReadGaveUpTo (length piece) last → GaveLast last (last_octets last piece)
+pub gave_last : (last : LastReadValue) (piece : List ℕ) → LastReadGaveUpTo (length piece) last
+    → GaveLast last (last_octets last piece)
 gave_last never piece g = absurd g
 gave_last (gave n) piece g = inl (ap gave (sym (length-take n piece ∙ omega (arith, g))))
 gave_last failed piece g = absurd g
 
-pub gave_none : (last : LastReadValue) (piece : List ℕ) → LastReadGaveUpTo (length piece) last → last_octets last piece ≡ [] → last ≡ gave 0
+pub gave_none : (last : LastReadValue) (piece : List ℕ) → LastReadGaveUpTo (length piece) last
+    → last_octets last piece ≡ [] → last ≡ gave 0
 gave_none never piece g e = absurd g
 gave_none (gave n) piece g e = ap gave (omega (arith, g, length-take n piece, ap length e))
 gave_none failed piece g e = absurd g
 
-pub given_short : (last : LastReadValue) (piece : List ℕ) (room : ℕ) → length piece ≤ room → length (last_octets last piece) ≤ room
+pub given_short : (last : LastReadValue) (piece : List ℕ) (room : ℕ) → length piece ≤ room
+    → length (last_octets last piece) ≤ room
 given_short never piece room h = omega arith
 given_short (gave n) piece room h = omega (arith, h, length-take n piece)
 given_short failed piece room h = omega arith
@@ -47,7 +51,8 @@ given_octets failed piece a = All-nil (λ x. x < 256)
 
 -- of octets after others as many as the limit leaves
 pub limit_after : (limit : ℕ) (b r : List ℕ) → length b ≤ limit → b ++ take (limit - length b) r ≡ take limit (b ++ r)
-limit_after limit b r h = sym (take-append-add b r (limit - length b)) ∙ ap (λ (k : ℕ). take k (b ++ r)) (omega (arith, h))
+limit_after limit b r h =
+    sym (take-append-add b r (limit - length b)) ∙ ap (λ (k : ℕ). take k (b ++ r)) (omega (arith, h))
 
 -- ---- what is kept of events
 
@@ -65,7 +70,8 @@ enters_each (Pad c ∷ es) = enters_each es
 
 module _ {S : Type 0} (next : S → EventValue → Effect S) where
   -- the walk so far: the octets given, the events yielded of them, and what was made of these
-  pub record Walking (framing : Framing) (s : S) (old : SourceState) (from : DrainState) (now : TurnStates S) : Type 0 where
+  pub record Walking (framing : Framing) (s : S) (old : SourceState) (from : DrainState) (now : TurnStates S) : Type
+      0 where
     pub gathered : Gathered old now.devices.source
     pub octets : AreOctets (concat gathered.pieces)
     pub failures : now.devices.source.failures ≡ old.failures
@@ -76,7 +82,8 @@ module _ {S : Type 0} (next : S → EventValue → Effect S) where
     pub stands : Stands now.walker (concat gathered.pieces) yielded
     pub idle : IsIdle now.walker
 
-  pub walking_none : (framing : Framing) (s : S) (old : SourceState) (from : DrainState) → Stands (new_walker framing) [] []
+  pub walking_none : (framing : Framing) (s : S) (old : SourceState) (from : DrainState)
+      → Stands (new_walker framing) [] []
       → Walking framing s old from (turn_states (new_walker framing) s old from)
   walking_none framing s old from st = record {
     gathered = gathered_none old;

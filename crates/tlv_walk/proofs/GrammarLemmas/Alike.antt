@@ -6,7 +6,9 @@ use Rattle.tlv_head.specs.Header.{HeaderValue, IsHeader, octets_of}
 use Rattle.tlv_head.specs.Shortest.{HaveOneTag, IsShortest}
 use Rattle.tlv_head.proofs.ShortestLemmas.Shortest.{shortest_are_one}
 use Rattle.tlv_walk.specs.Alike.{AreAlike, holders, nothing, padding, primitives}
-use Rattle.tlv_walk.specs.Forest.{Forest, Holder, NoMore, OpenBitString, OpenEndOctets, OpenHeader, OpenHolder, OpenPrimitive, PaddingOctet, Primitive, contents_length, end_octets, extent, lead, opening, spelling}
+use Rattle.tlv_walk.specs.Forest.{Forest, Holder, NoMore, OpenBitString, OpenEndOctets, OpenHeader, OpenHolder}
+use Rattle.tlv_walk.specs.Forest.{OpenPrimitive, PaddingOctet, Primitive, contents_length, end_octets, extent, lead}
+use Rattle.tlv_walk.specs.Forest.{opening, spelling}
 use Rattle.tlv_walk.specs.Place.{Place, is_indefinite, place_after, place_of_children}
 use Rattle.tlv_walk.proofs.GrammarLemmas.Lengths.{HasLength}
 use Rattle.tlv_walk.specs.Reading.{IsSound}
@@ -35,7 +37,8 @@ same-size (Definite a) Indefinite m e u v = absurd (cc (e))
 same-size Indefinite (Definite b) m e u v = absurd (cc (e))
 same-size Indefinite Indefinite m e u v = refl
 
-same-octets : (h k : HeaderValue) → IsHeader h → IsHeader k → HaveOneTag h k → h.size ≡ k.size → IsShortest h → IsShortest k → octets_of h ≡ octets_of k
+same-octets : (h k : HeaderValue) → IsHeader h → IsHeader k → HaveOneTag h k → h.size ≡ k.size → IsShortest h
+    → IsShortest k → octets_of h ≡ octets_of k
 same-octets h k u v tag size s t =
     let both : (h.identifier ≡ k.identifier) × (h.lengths ≡ k.lengths) = shortest_are_one h k u v tag size s t in
     ap₂ (λ (a b : List ℕ). a ++ b) both.0 both.1
@@ -43,25 +46,34 @@ same-octets h k u v tag size s t =
 same-lead : (h k : HeaderValue) → HaveOneTag h k → lead h ≡ lead k
 same-lead h k tag = rw (tag.constructed, tag.number) refl
 
-same-form : (form : Bool → Bool) (h k : HeaderValue) → HaveOneTag h k → IsRegular form h → IsRegular form k → is_indefinite h.size ≡ is_indefinite k.size
+same-form : (form : Bool → Bool) (h k : HeaderValue) → HaveOneTag h k → IsRegular form h → IsRegular form k
+    → is_indefinite h.size ≡ is_indefinite k.size
 same-form form h k tag r s = r.by_form ∙ ap form tag.constructed ∙ sym s.by_form
 
 module _ (form : Bool → Bool) where
-  pub one_spelling : (p q : Place) (f g : Forest) → AreAlike f g → IsSound p f → IsSound q g → AreRegular form f → AreRegular form g → spelling f ≡ spelling g
+  pub one_spelling : (p q : Place) (f g : Forest) → AreAlike f g → IsSound p f → IsSound q g → AreRegular form f
+      → AreRegular form g → spelling f ≡ spelling g
   one_spelling p q f g nothing u v r s = refl
-  one_spelling p q f g (padding a b rest) u v r s = ap (λ (l : List ℕ). 0 ∷ l) (one_spelling (place_after p 1) (place_after q 1) a b rest u.1 v.1 r s)
+  one_spelling p q f g (padding a b rest) u v r s =
+      ap (λ (l : List ℕ). 0 ∷ l) (one_spelling (place_after p 1) (place_after q 1) a b rest u.1 v.1 r s)
   one_spelling p q f g (primitives h k c a b tag rest) u v r s =
       let size : h.size ≡ k.size = u.1 ∙ sym v.1 in
       let header : octets_of h ≡ octets_of k = same-octets h k u.0.valid v.0.valid tag size r.0.shortest s.0.shortest in
       let others : spelling a ≡ spelling b =
-      one_spelling (place_after p (length (octets_of h) + length c)) (place_after q (length (octets_of k) + length c)) a b rest u.2 v.2 r.1 s.1 in
+      one_spelling (place_after p (length (octets_of h) + length c)) (place_after q (length (octets_of k) + length c))
+          a b rest u.2 v.2 r.1 s.1 in
       ap₂ (λ (x y : List ℕ). x ++ (c ++ y)) header others
   one_spelling p q f g (holders h k inside within a b tag held rest) u v r s =
-      let contents : spelling inside ≡ spelling within = one_spelling (place_of_children p h) (place_of_children q k) inside within held u.3 v.3 r.1 s.1 in
-      let others : spelling a ≡ spelling b = one_spelling (place_after p (extent h inside)) (place_after q (extent k within)) a b rest u.4 v.4 r.2 s.2 in
-      let count : contents_length h inside ≡ contents_length k within = ap₂ (λ (x y : List ℕ). length x + length y) (same-lead h k tag) contents in
-      let size : h.size ≡ k.size = same-size h.size k.size (contents_length h inside) (same-form form h k tag r.0 s.0) u.1 (rw count v.1) in
+      let contents : spelling inside ≡ spelling within =
+          one_spelling (place_of_children p h) (place_of_children q k) inside within held u.3 v.3 r.1 s.1 in
+      let others : spelling a ≡ spelling b =
+          one_spelling (place_after p (extent h inside)) (place_after q (extent k within)) a b rest u.4 v.4 r.2 s.2 in
+      let count : contents_length h inside ≡ contents_length k within =
+          ap₂ (λ (x y : List ℕ). length x + length y) (same-lead h k tag) contents in
+      let size : h.size ≡ k.size =
+          same-size h.size k.size (contents_length h inside) (same-form form h k tag r.0 s.0) u.1 (rw count v.1) in
       let header : octets_of h ≡ octets_of k = same-octets h k u.0.valid v.0.valid tag size r.0.shortest s.0.shortest in
       let begins : opening h ≡ opening k = ap₂ (λ (x y : List ℕ). x ++ y) header (same-lead h k tag) in
-      let ends : end_octets h.size ++ spelling a ≡ end_octets k.size ++ spelling b = ap₂ (λ (z : Size) (y : List ℕ). end_octets z ++ y) size others in
+      let ends : end_octets h.size ++ spelling a ≡ end_octets k.size ++ spelling b =
+          ap₂ (λ (z : Size) (y : List ℕ). end_octets z ++ y) size others in
       ap₂ (λ (x y : List ℕ). x ++ y) begins (ap₂ (λ (x y : List ℕ). x ++ y) contents ends)

@@ -1,5 +1,7 @@
 -- Bounds and lengths as tests, and what they say of an element's contents.
-use Rattle.std.proofs.Common.{◌≡◌, inl, inr, ℕ, ◌+◌, ◌≤◌, Bool, true, false, not, ◌||◌, eqb, leb, if◌then◌else◌, List, [], ◌∷◌, length, Option, Some, None, IfSome, refl, arith, eq-eqb, ne_eqb, eqb-true, le-leb, leb-true}
+use Rattle.std.proofs.Common.{◌≡◌, inl, inr, ℕ, ◌+◌, ◌≤◌, Bool, true, false, not, ◌||◌, eqb, leb, if◌then◌else◌, List}
+use Rattle.std.proofs.Common.{[], ◌∷◌, length, Option, Some, None, IfSome, refl, arith, eq-eqb, ne_eqb, eqb-true}
+use Rattle.std.proofs.Common.{le-leb, leb-true}
 use Rattle.std.proofs.lemmas.Bool.{cases_Bool, eqb-false, not-true}
 use Rattle.tlv_head.specs.declared.header.Class.{Class}
 use Rattle.tlv_head.specs.declared.header.Class.TheVariants.{Universal, Application, Context, Private}
@@ -48,7 +50,11 @@ pub record IsFull (s : Size) (m : ℕ) : Type 0 where
 
 -- what the test says
 pub length-full : (s : Size) (m : ℕ) → has_length s m ≡ true → IsFull s m
-length-full (Definite n) m e = let same : m ≡ n = eqb-true m n e in record { filled = same; ends = refl; all = omega arith }
+length-full (Definite n) m e = let same : m ≡ n = eqb-true m n e in record {
+  filled = same;
+  ends = refl;
+  all = omega arith;
+}
 length-full Indefinite m e = absurd (cc)
 
 -- an indefinite length says nothing of the contents, and end-of-contents octets follow them
@@ -60,29 +66,40 @@ pub record IsEndless (s : Size) (start : ℕ) (outside : Option ℕ) (m : ℕ) :
   pub none : announced_length s ≡ 0
 
 -- what an indefinite length says
-pub indefinite-endless : (s : Size) (start : ℕ) (outside : Option ℕ) (m : ℕ) → is_indefinite s ≡ true → IsEndless s start outside m
+pub indefinite-endless : (s : Size) (start : ℕ) (outside : Option ℕ) (m : ℕ) → is_indefinite s ≡ true
+    → IsEndless s start outside m
 indefinite-endless (Definite n) start outside m e = absurd (cc)
-indefinite-endless Indefinite start outside m e = record { filled = tt; ends = refl; bound = refl; lacks = λ k. tt; none = refl }
+indefinite-endless Indefinite start outside m e = record {
+  filled = tt;
+  ends = refl;
+  bound = refl;
+  lacks = λ k. tt;
+  none = refl;
+}
 
 -- contents within the length announced, and that within the bound, are within the bound inside
-pub contents-within : (s : Size) (start : ℕ) (outside : Option ℕ) (m : ℕ) → m ≤ announced_length s → IfSome outside (λ b. start + announced_length s ≤ b)
+pub contents-within : (s : Size) (start : ℕ) (outside : Option ℕ) (m : ℕ) → m ≤ announced_length s
+    → IfSome outside (λ b. start + announced_length s ≤ b)
     → IfSome (bound_in s start outside) (λ b. start + m ≤ b)
 contents-within (Definite n) start outside m h f = omega arith
 contents-within Indefinite start outside m h f = within-le outside _ _ (omega arith) f
 
 -- what is within the bound inside is within that outside
-pub within-outside : (s : Size) (start : ℕ) (outside : Option ℕ) (m : ℕ) → IfSome outside (λ b. start + announced_length s ≤ b)
+pub within-outside : (s : Size) (start : ℕ) (outside : Option ℕ) (m : ℕ)
+    → IfSome outside (λ b. start + announced_length s ≤ b)
     → IfSome (bound_in s start outside) (λ b. start + m ≤ b) → IfSome outside (λ b. start + m ≤ b)
 within-outside (Definite n) start outside m f g = within-le outside _ _ (omega arith) f
 within-outside Indefinite start outside m f g = g
 
 -- contents within the bound inside that are not all announced lack octets
-pub length-lacks : (s : Size) (start : ℕ) (outside : Option ℕ) (m : ℕ) → IfSome (bound_in s start outside) (λ b. start + m ≤ b) → has_length s m ≡ false → LacksOctets s m
+pub length-lacks : (s : Size) (start : ℕ) (outside : Option ℕ) (m : ℕ)
+    → IfSome (bound_in s start outside) (λ b. start + m ≤ b) → has_length s m ≡ false → LacksOctets s m
 length-lacks (Definite n) start outside m f e = let apart : m ≡ n → ⊥ = eqb-false m n e in omega arith
 length-lacks Indefinite start outside m f e = tt
 
 -- contents that another octet may follow within the bound inside lack octets
-pub within-lacks : (s : Size) (start : ℕ) (outside : Option ℕ) (m : ℕ) → IfSome (bound_in s start outside) (λ b. start + (m + 1) ≤ b) → LacksOctets s m
+pub within-lacks : (s : Size) (start : ℕ) (outside : Option ℕ) (m : ℕ)
+    → IfSome (bound_in s start outside) (λ b. start + (m + 1) ≤ b) → LacksOctets s m
 within-lacks (Definite n) start outside m f = omega arith
 within-lacks Indefinite start outside m f = tt
 
@@ -97,12 +114,14 @@ definite-length (Definite n) m e same = eq-eqb m n same
 definite-length Indefinite m e same = absurd (cc)
 
 -- contents of the length announced are within the bound inside
-pub filled-within : (s : Size) (start : ℕ) (outside : Option ℕ) (m : ℕ) → HasLength s m → IfSome outside (λ b. start + m ≤ b) → IfSome (bound_in s start outside) (λ b. start + m ≤ b)
+pub filled-within : (s : Size) (start : ℕ) (outside : Option ℕ) (m : ℕ) → HasLength s m
+    → IfSome outside (λ b. start + m ≤ b) → IfSome (bound_in s start outside) (λ b. start + m ≤ b)
 filled-within (Definite n) start outside m same f = omega arith
 filled-within Indefinite start outside m same f = f
 
 -- contents of definite length that lack octets may be followed by another
-pub lacks-within : (s : Size) (start : ℕ) (outside : Option ℕ) (m : ℕ) → is_indefinite s ≡ false → LacksOctets s m → IfSome (bound_in s start outside) (λ b. start + (m + 1) ≤ b)
+pub lacks-within : (s : Size) (start : ℕ) (outside : Option ℕ) (m : ℕ) → is_indefinite s ≡ false → LacksOctets s m
+    → IfSome (bound_in s start outside) (λ b. start + (m + 1) ≤ b)
 lacks-within (Definite n) start outside m e less = omega arith
 lacks-within Indefinite start outside m e less = absurd (cc)
 
@@ -111,7 +130,8 @@ abbrev lead_of : Bool → ℕ → List ℕ
 lead_of constructed number = if constructed then [] else (if eqb number 3 then 0 ∷ [] else [])
 
 -- `lead-announced`, by the fields
-lead-least : (constructed named : Bool) (class : Class) (number : ℕ) (size : Size) → (constructed || is_wrapper named class constructed number size) ≡ true
+lead-least : (constructed named : Bool) (class : Class) (number : ℕ) (size : Size)
+    → (constructed || is_wrapper named class constructed number size) ≡ true
     → length (lead_of constructed number) ≤ announced_length size
 lead-least true named class number size e = omega arith
 lead-least false false class number size e = absurd (cc)
@@ -131,7 +151,8 @@ pub lead-announced_length : (h : HeaderValue) → holds h ≡ true → length (l
 lead-announced_length h e = lead-least h.constructed h.named h.class h.number h.size e
 
 -- `lead-zero`, by the fields
-lead-cases : (constructed : Bool) (number x : ℕ) (xs : List ℕ) → lead_of constructed number ≡ x ∷ xs → lead_of constructed number ≡ 0 ∷ []
+lead-cases : (constructed : Bool) (number x : ℕ) (xs : List ℕ) → lead_of constructed number ≡ x ∷ xs
+    → lead_of constructed number ≡ 0 ∷ []
 lead-cases true number x xs e = absurd (cc)
 lead-cases false number x xs e = elim (cases_Bool (eqb number 3)) [
   | inl three ↦ rw three
@@ -143,7 +164,9 @@ pub lead-zero : (h : HeaderValue) (x : ℕ) (xs : List ℕ) → lead h ≡ x ∷
 lead-zero h x xs e = lead-cases h.constructed h.number x xs e
 
 -- the bound is not before the first element that an element holds
-pub fits-inside : (p : Place) (h : HeaderValue) → holds h ≡ true → Fits p (length (octets_of h) + announced_length h.size) → Fits (place_of_children p h) 0
+pub fits-inside : (p : Place) (h : HeaderValue) → holds h ≡ true
+    → Fits p (length (octets_of h) + announced_length h.size) → Fits (place_of_children p h) 0
 fits-inside p h e f =
     within-le (place_of_children p h).bound _ _ (omega (arith, length-opening h))
-    (contents-within h.size (p.offset + length (octets_of h)) p.bound (length (lead h)) (lead-announced_length h e) (within-le p.bound _ _ (omega arith) f))
+    (contents-within h.size (p.offset + length (octets_of h)) p.bound (length (lead h)) (lead-announced_length h e)
+        (within-le p.bound _ _ (omega arith) f))

@@ -1,5 +1,6 @@
 -- Each input of octets has an ending: it is `Done` if the input is sound, and no fault is a false alarm.
-use Rattle.std.proofs.Common.{◌≡◌, ◌≢◌, ◌⊎◌, inl, inr, ℕ, ◌<◌, ◌≤◌, true, cond, List, [], ◌∷◌, ◌++◌, length, All, refl, sym, ap, ◌∙◌, subst, arith, append-nil, length-append}
+use Rattle.std.proofs.Common.{◌≡◌, ◌≢◌, ◌⊎◌, inl, inr, ℕ, ◌<◌, ◌≤◌, true, cond, List, [], ◌∷◌, ◌++◌, length, All, refl}
+use Rattle.std.proofs.Common.{sym, ap, ◌∙◌, subst, arith, append-nil, length-append}
 use Rattle.std.proofs.lemmas.Bool.{cases_Bool}
 use Rattle.std.proofs.lemmas.List.{get_or_at}
 use Rattle.tlv_head.specs.declared.fault.Fault.{Fault as FaultOf}
@@ -13,7 +14,8 @@ use Rattle.tlv_walk.specs.Place.{top_place}
 use Rattle.tlv_walk.specs.Reading.{IsReading, IsSoundList}
 use Rattle.tlv_walk.specs.Ending.{IsEnding, IsFault, done, empty, fault_ending, refused, short, tip}
 use Rattle.tlv_walk.proofs.GrammarLemmas.PushSteps.{Spells}
-use Rattle.tlv_walk.proofs.GrammarLemmas.Readings.{Run, Going, Halted, IsHalt, IsRun, halt-longer, halt-longest, is-run, run, run-reading, unique}
+use Rattle.tlv_walk.proofs.GrammarLemmas.Readings.{Run, Going, Halted, IsHalt, IsRun, halt-longer, halt-longest, is-run}
+use Rattle.tlv_walk.proofs.GrammarLemmas.Readings.{run, run-reading, unique}
 use Rattle.tlv_walk.proofs.GrammarLemmas.Spellings.{front-same}
 use Rattle.tlv_walk.proofs.GrammarLemmas.Sound.{open-sound, sound-open_top, sound-whole}
 use Rattle.tlv_walk.proofs.GrammarLemmas.Faults.{fault-refused, refused-fault}
@@ -34,7 +36,8 @@ octet-small s x rest b e each =
     rw (← e, get_or_at s x rest 0 (length s) refl) at (each (length s) 0 there)
 
 -- if no octet is refused, the ending says what is open
-going-ending : (w : Framing) (f : Forest) (b : List ℕ) → Spells (top_place w) b f → IsEnding w b (ending_of (length b) (Going f))
+going-ending : (w : Framing) (f : Forest) (b : List ℕ) → Spells (top_place w) b f
+    → IsEnding w b (ending_of (length b) (Going f))
 going-ending w f b r =
     let reading : IsReading w b f = run-reading w (Going f) b r in
     elim (cases_Bool (has_element f)) [
@@ -46,14 +49,18 @@ going-ending w f b r =
     ]
 
 -- an octet that is refused gives an ending, whatever follows
-pub halt-ending : (w : Framing) (f : Forest) (code : FaultCode) (b : List ℕ) → (r : IsHalt w f code b) → IsFault (tip (top_place w) f).0 r.octet (tip (top_place w) f).1 code → IsEnding w b (fault_ending code (length (spelling f)))
+pub halt-ending : (w : Framing) (f : Forest) (code : FaultCode) (b : List ℕ) → (r : IsHalt w f code b)
+    → IsFault (tip (top_place w) f).0 r.octet (tip (top_place w) f).1 code
+    → IsEnding w b (fault_ending code (length (spelling f)))
 halt-ending w f code b r k = refused f r.octet r.rest code (run-reading w (Halted f code) b r) r.front k
 
 -- a right run has the ending that it gives
-run-ending : (w : Framing) (r : Run) (b : List ℕ) → All (λ x. x < 256) b → IsRun w r b → IsEnding w b (ending_of (length b) r)
+run-ending : (w : Framing) (r : Run) (b : List ℕ) → All (λ x. x < 256) b → IsRun w r b
+    → IsEnding w b (ending_of (length b) r)
 run-ending w (Going f) b each r = going-ending w f b r
 run-ending w (Halted f code) b each r =
-    halt-ending w f code b r (refused-fault w f r.octet code (octet-small (spelling f) r.octet r.rest b r.front each) r.is_open r.refused)
+    halt-ending w f code b r
+        (refused-fault w f r.octet code (octet-small (spelling f) r.octet r.rest b r.front each) r.is_open r.refused)
 
 -- an input of octets has an ending
 pub is-ending : (w : Framing) (b : List ℕ) → All (λ x. x < 256) b → IsEnding w b (ending w b)
@@ -86,16 +93,28 @@ Says w b (Fault f) = IsEarly f.code ⊎ IsRefused w b f.code f.offset
 pub ending-says : (w : Framing) (b : List ℕ) (e : Ending) → IsEnding w b e → Says w b e
 ending-says w b e (empty f r s n) = inl (inl refl)
 ending-says w b e (short f r s p) = inl (inr refl)
-ending-says w b e (done f r s n t) = record { forest = f; spells = record { is_open = r.is_open; spelled = s }; some = n; whole = t }
+ending-says w b e (done f r s n t) = record {
+  forest = f;
+  spells = record { is_open = r.is_open; spelled = s };
+  some = n;
+  whole = t;
+}
 ending-says w b e (refused f x rest code r s k) = inr (record {
   forest = f;
-  halt = record { is_open = r.is_open; octet = x; rest = rest; front = s; refused = fault-refused w f x code r.is_open k };
+  halt = record {
+    is_open = r.is_open;
+    octet = x;
+    rest = rest;
+    front = s;
+    refused = fault-refused w f x code r.is_open k;
+  };
   fault = k;
   there = refl;
 })
 
 -- after a fault other than F01 and F02 an octet is refused
-pub fault-halt : (w : Framing) (b : List ℕ) (code : FaultCode) (offset : ℕ) → code ≢ Empty → code ≢ Short → IsEnding w b (fault_ending code offset) → IsRefused w b code offset
+pub fault-halt : (w : Framing) (b : List ℕ) (code : FaultCode) (offset : ℕ) → code ≢ Empty → code ≢ Short
+    → IsEnding w b (fault_ending code offset) → IsRefused w b code offset
 fault-halt w b code offset a d e = elim (ending-says w b (fault_ending code offset) e) [
   | inl early ↦ elim early [
     | inl z ↦ absurd (a z)
@@ -107,11 +126,14 @@ fault-halt w b code offset a d e = elim (ending-says w b (fault_ending code offs
 -- no input in which an octet is refused is sound
 pub halt-unsound : (w : Framing) (b : List ℕ) (f : Forest) (code : FaultCode) → IsHalt w f code b → IsSoundList w b → ⊥
 halt-unsound w b f code r s =
-    let most : length (spelling s.forest) ≤ length (spelling f) = halt-longest w f code b r s.forest (sound-open_top w s.forest s.sound) ([], append-nil (spelling s.forest) ∙ s.octets) in
+    let most : length (spelling s.forest) ≤ length (spelling f) =
+        halt-longest w f code b r s.forest (sound-open_top w s.forest s.sound)
+            ([], append-nil (spelling s.forest) ∙ s.octets) in
     omega (arith, ap length s.octets, ap length r.front, length-append (spelling f) (r.octet ∷ r.rest))
 
 -- no false alarm: after a fault other than F01 and F02 no input that goes on is sound
-pub no-false-alarm : (w : Framing) (b c : List ℕ) (code : FaultCode) (offset : ℕ) → code ≢ Empty → code ≢ Short → IsEnding w b (fault_ending code offset) → IsSoundList w (b ++ c) → ⊥
+pub no-false-alarm : (w : Framing) (b c : List ℕ) (code : FaultCode) (offset : ℕ) → code ≢ Empty → code ≢ Short
+    → IsEnding w b (fault_ending code offset) → IsSoundList w (b ++ c) → ⊥
 no-false-alarm w b c code offset a d e s =
     let r : IsRefused w b code offset = fault-halt w b code offset a d e in
     halt-unsound w (b ++ c) r.forest code (halt-longer w r.forest code b c r.halt) s
@@ -120,11 +142,19 @@ no-false-alarm w b c code offset a d e s =
 pub done-sound : (w : Framing) (b : List ℕ) → IsEnding w b Done → IsSoundList w b
 done-sound w b e =
     let d : IsDone w b = ending-says w b Done e in
-    record { forest = d.forest; sound = open-sound (top_place w) d.forest d.spells.is_open d.whole; some = d.some; octets = d.spells.spelled }
+    record {
+      forest = d.forest;
+      sound = open-sound (top_place w) d.forest d.spells.is_open d.whole;
+      some = d.some;
+      octets = d.spells.spelled;
+    }
 
 -- the reading of a sound input is its elements
 pub sound-reading : (w : Framing) (b : List ℕ) → (s : IsSoundList w b) → IsReading w b s.forest
-sound-reading w b s = run-reading w (Going s.forest) b (record { is_open = sound-open_top w s.forest s.sound; spelled = s.octets })
+sound-reading w b s = run-reading w (Going s.forest) b (record {
+  is_open = sound-open_top w s.forest s.sound;
+  spelled = s.octets;
+})
 
 -- the ending of a sound input is `Done`
 pub sound-done : (w : Framing) (b : List ℕ) → IsSoundList w b → IsEnding w b Done
@@ -143,10 +173,14 @@ fault-place w b e f (done g r s n t) i = absurd (cc (i))
 fault-place w b e f (refused g x rest code r s k) i = inr (g, r, sym (ap offset_in i))
 
 -- if the octet after p is refused and p is the spelling of an open forest, that is the reading
-pub refused-reading : (w : Framing) (p : List ℕ) (x : ℕ) (c : List ℕ) (f : FaultOf) (g : Forest) → Spells (top_place w) p g → f.offset ≡ length p → IsEnding w (p ++ x ∷ c) (Fault f) → IsReading w (p ++ x ∷ c) g
+pub refused-reading : (w : Framing) (p : List ℕ) (x : ℕ) (c : List ℕ) (f : FaultOf) (g : Forest)
+    → Spells (top_place w) p g → f.offset ≡ length p → IsEnding w (p ++ x ∷ c) (Fault f) → IsReading w (p ++ x ∷ c) g
 refused-reading w p x c f g v there e = elim (fault-place w (p ++ x ∷ c) (Fault f) f e refl) [
   | inl end ↦ absurd (omega (arith, end, there, length-append p (x ∷ c)))
   | inr r ↦
-      let same : spelling r.0 ≡ spelling g = front-same (spelling r.0) (spelling g) (r.1.is_prefix.0) (x ∷ c) (r.1.is_prefix.1 ∙ ap (λ (o : List ℕ). o ++ x ∷ c) (sym v.spelled)) (sym r.2 ∙ there ∙ ap length (sym v.spelled)) in
+      let same : spelling r.0 ≡ spelling g =
+          front-same (spelling r.0) (spelling g) (r.1.is_prefix.0) (x ∷ c)
+              (r.1.is_prefix.1 ∙ ap (λ (o : List ℕ). o ++ x ∷ c) (sym v.spelled))
+              (sym r.2 ∙ there ∙ ap length (sym v.spelled)) in
       subst (λ (h : Forest). IsReading w (p ++ x ∷ c) h) (unique (top_place w) r.0 g r.1.is_open v.is_open same) r.1
 ]

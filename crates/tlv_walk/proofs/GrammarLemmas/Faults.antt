@@ -1,20 +1,25 @@
 -- An octet is refused if it has a fault of the list, with that code.
-use Rattle.std.proofs.Common.{◌≡◌, inl, inr, ℕ, ◌+◌, ◌<◌, Bool, true, false, ◌&&◌, ◌||◌, leb, List, [], ◌∷◌, ◌++◌, length, Option, Some, None, refl, sym, ap, ◌∙◌, eq-eqb, ne_eqb, le-leb, leb-true, leb-false}
+use Rattle.std.proofs.Common.{◌≡◌, inl, inr, ℕ, ◌+◌, ◌<◌, Bool, true, false, ◌&&◌, ◌||◌, leb, List, [], ◌∷◌, ◌++◌}
+use Rattle.std.proofs.Common.{length, Option, Some, None, refl, sym, ap, ◌∙◌, eq-eqb, ne_eqb, le-leb, leb-true}
+use Rattle.std.proofs.Common.{leb-false}
 use Rattle.std.proofs.lemmas.Bool.{cases_Bool, cases_eq, and_parts, and_cases, and_from, lt-leb, true≢false}
 use Rattle.tlv_head.specs.declared.fault.FaultCode.{FaultCode}
 use Rattle.tlv_head.specs.declared.fault.FaultCode.TheVariants.{StrayEnd}
 use Rattle.tlv_head.specs.Header.{HeaderValue, announced_length, holds, is_wrapper, octets_of}
 use Rattle.tlv_head.specs.Refusal.{IsRefusedOctet}
-use Rattle.tlv_head.proofs.GrammarLemmas.Scan.{Origin, Scan, Fresh, High, Named, Long, Ready, Stuck, Over, moved, step, scan, scan-moved, more-from_prefix}
+use Rattle.tlv_head.proofs.GrammarLemmas.Scan.{Origin, Scan, Fresh, High, Named, Long, Ready, Stuck, Over, moved, step}
+use Rattle.tlv_head.proofs.GrammarLemmas.Scan.{scan, scan-moved, more-from_prefix}
 use Rattle.tlv_head.proofs.GrammarLemmas.Meaning.{IsStateAfter, reads-step, reads-scan, prefix-bytes}
 use Rattle.tlv_head.proofs.GrammarLemmas.Headers.{IsHeadRefusal, Explains, explains}
 use Rattle.tlv_head.proofs.GrammarLemmas.Refused.{refused-stuck}
 use Rattle.tlv_walk.specs.declared.framing.Framing.{Framing}
 use Rattle.tlv_walk.specs.Forest.{Forest, NoMore, OpenPrimitive, OpenBitString, OpenHeader, OpenEndOctets}
 use Rattle.tlv_walk.specs.Place.{Fits, IsHeaderAt, IsOpen, Place, top_place}
-use Rattle.tlv_walk.specs.Ending.{IsFault, bad_inside, missing_end, bad_end, no_room, refused_octet, too_deep, overrun, no_end, stray_end, tip}
+use Rattle.tlv_walk.specs.Ending.{IsFault, bad_inside, missing_end, bad_end, no_room, refused_octet, too_deep, overrun}
+use Rattle.tlv_walk.specs.Ending.{no_end, stray_end, tip}
 use Rattle.tlv_walk.proofs.GrammarLemmas.Bounds.{fits, fits-within, within-fits}
-use Rattle.tlv_walk.proofs.GrammarLemmas.PushSteps.{Step, Grown, Ended, Refused, begin, complete, origin, push, zero_between}
+use Rattle.tlv_walk.proofs.GrammarLemmas.PushSteps.{Step, Grown, Ended, Refused, begin, complete, origin, push}
+use Rattle.tlv_walk.proofs.GrammarLemmas.PushSteps.{zero_between}
 use Rattle.tlv_walk.proofs.GrammarLemmas.PopHeaders.{push-scan}
 use Rattle.tlv_walk.proofs.GrammarLemmas.Tips.{IsTip, push-tip, refusal, tip-fact}
 
@@ -35,7 +40,8 @@ Blames p e x None = Unit {0}
 Blames p e x (Some code) = IsFault p x e code
 
 -- an octet 00 between encodings is refused as a stray end
-zero-blames : (p : Place) (x : ℕ) (i a : Bool) → p.indefinite ≡ i → p.padding ≡ a → x ≡ 0 → Blames p NoMore x (refusal (zero_between i a))
+zero-blames : (p : Place) (x : ℕ) (i a : Bool) → p.indefinite ≡ i → p.padding ≡ a → x ≡ 0
+    → Blames p NoMore x (refusal (zero_between i a))
 zero-blames p x true a e d z = tt
 zero-blames p x false true e d z = tt
 zero-blames p x false false e d z = stray_end e d z
@@ -54,7 +60,8 @@ between-blames p x room = elim (cases_Bool (fits p 1)) [
 ]
 
 -- before the first contents octet of a wrapping BIT STRING
-unused-blames : (p : Place) (h : HeaderValue) (x : ℕ) → Blames p (OpenBitString h) x (refusal (push p (OpenBitString h) x))
+unused-blames : (p : Place) (h : HeaderValue) (x : ℕ)
+    → Blames p (OpenBitString h) x (refusal (push p (OpenBitString h) x))
 unused-blames p h x = elim (cases_eq x 0) [
   | inl e ↦ rw (eq-eqb x 0 e) tt
   | inr e ↦ rw (ne_eqb x 0 e) (bad_inside e)
@@ -71,7 +78,8 @@ end-blames p x = elim (cases_Bool (fits p 2)) [
 ]
 
 -- what is refused for the octets of a header alone has that fault
-octet-blames : (p : Place) (o : List ℕ) (x : ℕ) (code : FaultCode) → (o ≡ [] → ⊥) → Fits p (length o + 1) → IsHeadRefusal code o x → IsFault p x (OpenHeader o) code
+octet-blames : (p : Place) (o : List ℕ) (x : ℕ) (code : FaultCode) → (o ≡ [] → ⊥) → Fits p (length o + 1)
+    → IsHeadRefusal code o x → IsFault p x (OpenHeader o) code
 octet-blames p o x StrayEnd some room r = absurd (some r.0)
 octet-blames p o x code some room r = refused_octet room r
 
@@ -83,12 +91,18 @@ shallow t d e k = elim (and_cases t (leb 128 d) e) [
 ]
 
 -- a header that is complete and refused is too deep, or its contents pass the bound
-complete-blames : (p : Place) (o : List ℕ) (x : ℕ) (h : HeaderValue) → Fits p (length o + 1) → IsHeaderAt p (holds h) h → octets_of h ≡ o ++ x ∷ []
+complete-blames : (p : Place) (o : List ℕ) (x : ℕ) (h : HeaderValue) → Fits p (length o + 1)
+    → IsHeaderAt p (holds h) h → octets_of h ≡ o ++ x ∷ []
     → Blames p (OpenHeader o) x (refusal (complete p h))
 complete-blames p o x h room s octets = elim (cases_Bool (holds h && leb 128 p.depth)) [
   | inl deep ↦
       let parts : (holds h ≡ true) × (leb 128 p.depth ≡ true) = and_parts _ _ deep in
-      let there : IsHeaderAt p true h = record { valid = s.valid; offset = s.offset; named = s.named; form = parts.0 } in
+      let there : IsHeaderAt p true h = record {
+        valid = s.valid;
+        offset = s.offset;
+        named = s.named;
+        form = parts.0;
+      } in
       rw deep (too_deep room h there octets (leb-true _ _ parts.1))
   | inr not_deep ↦ elim (cases_Bool (fits p (length (octets_of h) + announced_length h.size))) [
     | inl f ↦ rw (not_deep, f) tt
@@ -97,19 +111,26 @@ complete-blames p o x h room s octets = elim (cases_Bool (holds h && leb 128 p.d
 ]
 
 -- octets of a header, by what they say
-begin-blames : (p : Place) (o : List ℕ) (x : ℕ) (s : Scan) → (o ≡ [] → ⊥) → Fits p (length o + 1) → Explains s o x → IsStateAfter (origin p) s (o ++ x ∷ [])
+begin-blames : (p : Place) (o : List ℕ) (x : ℕ) (s : Scan) → (o ≡ [] → ⊥) → Fits p (length o + 1) → Explains s o x
+    → IsStateAfter (origin p) s (o ++ x ∷ [])
     → Blames p (OpenHeader o) x (refusal (begin p (o ++ x ∷ []) s))
 begin-blames p o x Fresh some below w r = tt
 begin-blames p o x (High c k ds) some below w r = tt
 begin-blames p o x (Named c k n i) some below w r = tt
 begin-blames p o x (Long c k n i m ds) some below w r = tt
 begin-blames p o x (Ready h) some below w r =
-    complete-blames p o x h below (record { valid = r.0; offset = ap (λ (a : Origin). a.offset) r.2; named = ap (λ (a : Origin). a.named) r.2; form = refl }) (sym r.1)
+    complete-blames p o x h below
+        (record
+            { valid =
+                r.0; offset = ap (λ (a : Origin). a.offset) r.2; named = ap (λ (a : Origin). a.named) r.2; form = refl
+            })
+        (sym r.1)
 begin-blames p o x (Stuck code) some below w r = octet-blames p o x code some below w
 begin-blames p o x Over some below w r = absurd w
 
 -- inside a header
-header-blames : (p : Place) (o : List ℕ) (x : ℕ) → x < 256 → IsOpen p (OpenHeader o) → Blames p (OpenHeader o) x (refusal (push p (OpenHeader o) x))
+header-blames : (p : Place) (o : List ℕ) (x : ℕ) → x < 256 → IsOpen p (OpenHeader o)
+    → Blames p (OpenHeader o) x (refusal (push p (OpenHeader o) x))
 header-blames p o x h w =
     let at : Origin = origin p in
     let now : IsStateAfter at (scan at o) o = reads-scan at o (prefix-bytes o w.1) in
@@ -130,17 +151,22 @@ blames p OpenEndOctets x h t = end-blames p x
 blames p f x h t = absurd t
 
 -- an octet that is refused for the octets of a header alone is refused there
-stuck-refusal : (p : Place) (o : List ℕ) (x : ℕ) (code : FaultCode) → IsOpen p (OpenHeader o) → Fits p (length o + 1) → IsRefusedOctet o x code → refusal (push p (OpenHeader o) x) ≡ Some code
-stuck-refusal p o x code t room r = ap refusal (push-scan p o x (Stuck code) room (refused-stuck (origin p) code o x t.1 r))
+stuck-refusal : (p : Place) (o : List ℕ) (x : ℕ) (code : FaultCode) → IsOpen p (OpenHeader o) → Fits p (length o + 1)
+    → IsRefusedOctet o x code → refusal (push p (OpenHeader o) x) ≡ Some code
+stuck-refusal p o x code t room r =
+    ap refusal (push-scan p o x (Stuck code) room (refused-stuck (origin p) code o x t.1 r))
 
 -- the header as it is read there
-read-there : (p : Place) (o : List ℕ) (x : ℕ) (h : HeaderValue) (t : Bool) → Fits p (length o + 1) → IsHeaderAt p t h → octets_of h ≡ o ++ x ∷ [] → push p (OpenHeader o) x ≡ complete p (moved (origin p) h)
+read-there : (p : Place) (o : List ℕ) (x : ℕ) (h : HeaderValue) (t : Bool) → Fits p (length o + 1) → IsHeaderAt p t h
+    → octets_of h ≡ o ++ x ∷ [] → push p (OpenHeader o) x ≡ complete p (moved (origin p) h)
 read-there p o x h t room s octets =
-    push-scan p o x (Ready (moved (origin p) h)) room (ap (scan (origin p)) (sym octets) ∙ scan-moved (origin p) h s.valid)
+    push-scan p o x (Ready (moved (origin p) h)) room
+        (ap (scan (origin p)) (sym octets) ∙ scan-moved (origin p) h s.valid)
 
 -- the header as it is read there holds others if the header does
 holds-there : (p : Place) (h : HeaderValue) (t : Bool) → IsHeaderAt p t h → holds (moved (origin p) h) ≡ holds h
-holds-there p h t s = ap (λ (named : Bool). h.constructed || is_wrapper named h.class h.constructed h.number h.size) (sym s.named)
+holds-there p h t s =
+    ap (λ (named : Bool). h.constructed || is_wrapper named h.class h.constructed h.number h.size) (sym s.named)
 
 -- if the element is not too deep, the test of the depth fails
 pub not-deep : (t : Bool) (d : ℕ) → (t ≡ true → d < 128) → (t && leb 128 d) ≡ false
@@ -148,17 +174,20 @@ not-deep true d f = lt-leb 128 d (f refl)
 not-deep false d f = refl
 
 -- a fault of the list is refused at the open end, with that code
-pub fault-refusal : (p : Place) (f : Forest) (x : ℕ) (code : FaultCode) → IsTip p f → IsFault p x f code → refusal (push p f x) ≡ Some code
+pub fault-refusal : (p : Place) (f : Forest) (x : ℕ) (code : FaultCode) → IsTip p f → IsFault p x f code
+    → refusal (push p f x) ≡ Some code
 fault-refusal p f x code t (bad_inside nz) = rw (ne_eqb x 0 nz)
 fault-refusal p f x code t (missing_end a) = rw (no-fit p 2 a)
 fault-refusal p f x code t (bad_end room nz) = rw (fits-within p.bound (p.offset + 2) room, ne_eqb x 0 nz)
 fault-refusal p f x code t (no_room {o = o} a) = rw (no-fit p (length o + 1) a)
 fault-refusal p f x code t (refused_octet {o = o} room r) = stuck-refusal p o x code t room r
 fault-refusal p f x code t (too_deep {o = o} room h s octets deep) =
-    let test : (holds (moved (origin p) h) && leb 128 p.depth) ≡ true = and_from _ _ (holds-there p h true s ∙ s.form) (le-leb 128 p.depth deep) in
+    let test : (holds (moved (origin p) h) && leb 128 p.depth) ≡ true =
+        and_from _ _ (holds-there p h true s ∙ s.form) (le-leb 128 p.depth deep) in
     ap refusal (read-there p o x h true room s octets) ∙ rw test
 fault-refusal p f x code t (overrun {o = o} room h s octets k past) =
-    let test : (holds (moved (origin p) h) && leb 128 p.depth) ≡ false = not-deep _ p.depth (λ q. k (sym (holds-there p h (holds h) s) ∙ q)) in
+    let test : (holds (moved (origin p) h) && leb 128 p.depth) ≡ false =
+        not-deep _ p.depth (λ q. k (sym (holds-there p h (holds h) s) ∙ q)) in
     let none : fits p (length (octets_of h) + announced_length h.size) ≡ false = no-fit p _ past in
     ap refusal (read-there p o x h (holds h) room s octets) ∙ rw (test, none)
 fault-refusal p f x code t (no_end i a) = rw (no-fit p 1 a)
@@ -175,19 +204,25 @@ tip-top : (w : Framing) (f : Forest) → IsOpen (top_place w) f → IsTip (tip (
 tip-top w f v = tip-fact (top_place w) f tt (λ _ _. tt) v
 
 -- an octet that is refused has a fault of the list, with that code
-pub refused-fault : (w : Framing) (f : Forest) (x : ℕ) (code : FaultCode) → x < 256 → IsOpen (top_place w) f → push (top_place w) f x ≡ Refused code → IsFault (tip (top_place w) f).0 x (tip (top_place w) f).1 code
+pub refused-fault : (w : Framing) (f : Forest) (x : ℕ) (code : FaultCode) → x < 256 → IsOpen (top_place w) f
+    → push (top_place w) f x ≡ Refused code → IsFault (tip (top_place w) f).0 x (tip (top_place w) f).1 code
 refused-fault w f x code h v e =
-    let same : refusal (push (tip (top_place w) f).0 (tip (top_place w) f).1 x) ≡ Some code = sym (push-tip (top_place w) f x) ∙ ap refusal e in
+    let same : refusal (push (tip (top_place w) f).0 (tip (top_place w) f).1 x) ≡ Some code =
+        sym (push-tip (top_place w) f x) ∙ ap refusal e in
     rw same at (blames (tip (top_place w) f).0 (tip (top_place w) f).1 x h (tip-top w f v))
 
 -- an octet with a fault of the list is refused, with that code
-pub fault-refused : (w : Framing) (f : Forest) (x : ℕ) (code : FaultCode) → IsOpen (top_place w) f → IsFault (tip (top_place w) f).0 x (tip (top_place w) f).1 code → push (top_place w) f x ≡ Refused code
+pub fault-refused : (w : Framing) (f : Forest) (x : ℕ) (code : FaultCode) → IsOpen (top_place w) f
+    → IsFault (tip (top_place w) f).0 x (tip (top_place w) f).1 code → push (top_place w) f x ≡ Refused code
 fault-refused w f x code v k =
     refusal-code (push (top_place w) f x) code
-    (push-tip (top_place w) f x ∙ fault-refusal (tip (top_place w) f).0 (tip (top_place w) f).1 x code (tip-top w f v) k)
+    (push-tip (top_place w) f x
+        ∙ fault-refusal (tip (top_place w) f).0 (tip (top_place w) f).1 x code (tip-top w f v) k)
 
 -- an octet has one fault
-pub fault-unique : (w : Framing) (f : Forest) (x : ℕ) (c d : FaultCode) → IsOpen (top_place w) f → IsFault (tip (top_place w) f).0 x (tip (top_place w) f).1 c → IsFault (tip (top_place w) f).0 x (tip (top_place w) f).1 d → c ≡ d
+pub fault-unique : (w : Framing) (f : Forest) (x : ℕ) (c d : FaultCode) → IsOpen (top_place w) f
+    → IsFault (tip (top_place w) f).0 x (tip (top_place w) f).1 c
+    → IsFault (tip (top_place w) f).0 x (tip (top_place w) f).1 d → c ≡ d
 fault-unique w f x c d v a b =
     let left : push (top_place w) f x ≡ Refused c = fault-refused w f x c v a in
     let right : push (top_place w) f x ≡ Refused d = fault-refused w f x d v b in

@@ -3,11 +3,13 @@ use Rattle.std.proofs.Common.{◌≡◌, ◌≢◌, ℕ, List, ◌∷◌, ◌++�
 use Rattle.tlv_head.specs.declared.fault.Fault.{Fault as FaultOf}
 use Rattle.tlv_head.specs.declared.fault.FaultCode.{FaultCode}
 use Rattle.tlv_head.specs.declared.fault.FaultCode.TheVariants.{Empty}
-use Rattle.tlv_head.specs.Refusal.{IsRefusedOctet, tag_too_long, reserved_length, indefinite_primitive, length_too_large}
+use Rattle.tlv_head.specs.Refusal.{IsRefusedOctet, tag_too_long, reserved_length, indefinite_primitive}
+use Rattle.tlv_head.specs.Refusal.{length_too_large}
 use Rattle.tlv_walk.specs.declared.ending.Ending.{Ending}
 use Rattle.tlv_walk.specs.declared.ending.Ending.TheVariants.{Done, Fault}
 use Rattle.tlv_walk.specs.declared.framing.Framing.{Framing}
-use Rattle.tlv_walk.specs.Ending.{IsEnding, IsFault, IsFinalCode, bad_inside, missing_end, bad_end, no_room, refused_octet, too_deep, overrun, no_end, stray_end, done, empty, refused, short}
+use Rattle.tlv_walk.specs.Ending.{IsEnding, IsFault, IsFinalCode, bad_inside, missing_end, bad_end, no_room}
+use Rattle.tlv_walk.specs.Ending.{refused_octet, too_deep, overrun, no_end, stray_end, done, empty, refused, short}
 use Rattle.tlv_walk.specs.Forest.{Forest}
 use Rattle.tlv_walk.specs.Place.{Place}
 use Rattle.tlv_walk.proofs.GrammarLemmas.Endings.{offset_in}
@@ -37,12 +39,15 @@ code_in Done = Empty
 code_in (Fault f) = f.code
 
 -- a fault that comes before the end of the input is final
-pub early-final : (w : Framing) (b : List ℕ) (e : Ending) (f : FaultOf) → IsEnding w b e → e ≡ Fault f → f.offset ≢ length b → IsFinalCode f.code
+pub early-final : (w : Framing) (b : List ℕ) (e : Ending) (f : FaultOf) → IsEnding w b e → e ≡ Fault f
+    → f.offset ≢ length b → IsFinalCode f.code
 early-final w b e f (empty g r s n) i k = absurd (k (sym (ap offset_in i)))
 early-final w b e f (short g r s n) i k = absurd (k (sym (ap offset_in i)))
 early-final w b e f (done g r s n t) i k = absurd (cc (i))
 early-final w b e f (refused g x rest code r s c) i k = rw (← ap code_in i) (cause-final _ x _ code c)
 
 -- the octet after p is refused
-pub refused-final : (w : Framing) (p : List ℕ) (x : ℕ) (rest : List ℕ) (f : FaultOf) → f.offset ≡ length p → IsEnding w (p ++ x ∷ rest) (Fault f) → IsFinalCode f.code
-refused-final w p x rest f there e = early-final w (p ++ x ∷ rest) (Fault f) f e refl (λ n. omega (arith, n, there, length-append p (x ∷ rest)))
+pub refused-final : (w : Framing) (p : List ℕ) (x : ℕ) (rest : List ℕ) (f : FaultOf) → f.offset ≡ length p
+    → IsEnding w (p ++ x ∷ rest) (Fault f) → IsFinalCode f.code
+refused-final w p x rest f there e =
+    early-final w (p ++ x ∷ rest) (Fault f) f e refl (λ n. omega (arith, n, there, length-append p (x ∷ rest)))

@@ -1,16 +1,19 @@
 -- An open forest that ends in a header, or in the front of one, is a shorter one and the octet pushed.
-use Rattle.std.proofs.Common.{◌≡◌, ◌≢◌, inl, inr, ℕ, ◌+◌, ◌≤◌, Bool, true, false, ◌&&◌, leb, List, [], ◌∷◌, ◌++◌, length, refl, sym, ap, ◌∙◌, arith, append_assoc, append-nil, length-append, ne_eqb}
+use Rattle.std.proofs.Common.{◌≡◌, ◌≢◌, inl, inr, ℕ, ◌+◌, ◌≤◌, Bool, true, false, ◌&&◌, leb, List, [], ◌∷◌, ◌++◌}
+use Rattle.std.proofs.Common.{length, refl, sym, ap, ◌∙◌, arith, append_assoc, append-nil, length-append, ne_eqb}
 use Rattle.std.proofs.lemmas.Bool.{lt-leb}
 use Rattle.tlv_head.specs.declared.header.Class.{Class}
 use Rattle.tlv_head.specs.declared.header.Size.{Size}
 use Rattle.tlv_head.specs.declared.header.Size.TheVariants.{Definite, Indefinite}
 use Rattle.tlv_head.specs.Header.{HeaderValue, IsHeader, IsIdentifier, IsLength, announced_length, holds, octets_of}
 use Rattle.tlv_head.specs.Refusal.{IsHeaderPrefix}
-use Rattle.tlv_head.proofs.GrammarLemmas.Scan.{Origin, Scan, Fresh, High, Named, Long, Ready, Stuck, Over, origin_of, scan, scan_from-append, scan-header, is_more, more-from_prefix}
+use Rattle.tlv_head.proofs.GrammarLemmas.Scan.{Origin, Scan, Fresh, High, Named, Long, Ready, Stuck, Over, origin_of}
+use Rattle.tlv_head.proofs.GrammarLemmas.Scan.{scan, scan_from-append, scan-header, is_more, more-from_prefix}
 use Rattle.tlv_walk.specs.Forest.{Forest, NoMore, OpenBitString, OpenHeader, lead, opening, spelling}
 use Rattle.tlv_walk.specs.Place.{Fits, IsEntry, IsHeaderAt, IsOpen, Place}
 use Rattle.tlv_walk.proofs.GrammarLemmas.Bounds.{fits-within, lead-zero, within-le}
-use Rattle.tlv_walk.proofs.GrammarLemmas.PushSteps.{Grown, begin, complete, element_begun, holder_begun, holder_so_far, origin, push}
+use Rattle.tlv_walk.proofs.GrammarLemmas.PushSteps.{Grown, begin, complete, element_begun, holder_begun, holder_so_far}
+use Rattle.tlv_walk.proofs.GrammarLemmas.PushSteps.{origin, push}
 use Rattle.tlv_walk.proofs.GrammarLemmas.Push.{element_begun-sound, holder_so_far-sound}
 
 -- a list is empty, or has a last element
@@ -50,14 +53,20 @@ lengths-some Indefinite l e = rw e (omega arith)
 -- a header has at least two octets
 pub header-length : (h : HeaderValue) → IsHeader h → 2 ≤ length (octets_of h)
 header-length h valid =
-    omega (arith, length-append h.identifier h.lengths, identifier-some h.class h.constructed h.number h.identifier valid.identifier, lengths-some h.size h.lengths valid.lengths)
+    omega
+        (arith, length-append h.identifier h.lengths,
+            identifier-some h.class h.constructed h.number h.identifier valid.identifier,
+            lengths-some h.size h.lengths valid.lengths)
 
 -- an octet after the front of a header, by what all of them say
-pub push-scan : (p : Place) (o : List ℕ) (x : ℕ) (s : Scan) → Fits p (length o + 1) → scan (origin p) (o ++ x ∷ []) ≡ s → push p (OpenHeader o) x ≡ begin p (o ++ x ∷ []) s
-push-scan p o x s f e = rw (fits-within p.bound _ f) (ap (begin p (o ++ x ∷ [])) (sym (scan_from-append (origin p) Fresh o (x ∷ [])) ∙ e))
+pub push-scan : (p : Place) (o : List ℕ) (x : ℕ) (s : Scan) → Fits p (length o + 1)
+    → scan (origin p) (o ++ x ∷ []) ≡ s → push p (OpenHeader o) x ≡ begin p (o ++ x ∷ []) s
+push-scan p o x s f e =
+    rw (fits-within p.bound _ f) (ap (begin p (o ++ x ∷ [])) (sym (scan_from-append (origin p) Fresh o (x ∷ [])) ∙ e))
 
 -- an octet that completes a header
-pub push-header : (p : Place) (h : HeaderValue) (o : List ℕ) (x : ℕ) → IsHeader h → origin_of h ≡ origin p → octets_of h ≡ o ++ x ∷ [] → Fits p (length o + 1)
+pub push-header : (p : Place) (h : HeaderValue) (o : List ℕ) (x : ℕ) → IsHeader h → origin_of h ≡ origin p
+    → octets_of h ≡ o ++ x ∷ [] → Fits p (length o + 1)
     → push p (OpenHeader o) x ≡ complete p h
 push-header p h o x valid at e f =
     push-scan p o x (Ready h) f
@@ -74,11 +83,14 @@ begin-more p o (Stuck code) e = absurd (cc)
 begin-more p o Over e = absurd (cc)
 
 -- an octet that makes a longer front of a header
-pub push-front : (p : Place) (o : List ℕ) (x : ℕ) → IsHeaderPrefix (o ++ x ∷ []) → Fits p (length o + 1) → push p (OpenHeader o) x ≡ Grown (OpenHeader (o ++ x ∷ []))
-push-front p o x front f = push-scan p o x _ f refl ∙ begin-more p (o ++ x ∷ []) _ (more-from_prefix (origin p) (o ++ x ∷ []) front)
+pub push-front : (p : Place) (o : List ℕ) (x : ℕ) → IsHeaderPrefix (o ++ x ∷ []) → Fits p (length o + 1)
+    → push p (OpenHeader o) x ≡ Grown (OpenHeader (o ++ x ∷ []))
+push-front p o x front f =
+    push-scan p o x _ f refl ∙ begin-more p (o ++ x ∷ []) _ (more-from_prefix (origin p) (o ++ x ∷ []) front)
 
 -- a header that may be there is a forest
-pub complete-element_begun : (p : Place) (h : HeaderValue) (k : Bool) → holds h ≡ k → (k && leb 128 p.depth) ≡ false → Fits p (length (octets_of h) + announced_length h.size) → complete p h ≡ Grown (element_begun k h)
+pub complete-element_begun : (p : Place) (h : HeaderValue) (k : Bool) → holds h ≡ k → (k && leb 128 p.depth) ≡ false
+    → Fits p (length (octets_of h) + announced_length h.size) → complete p h ≡ Grown (element_begun k h)
 complete-element_begun p h k e d f = rw (e, d, fits-within p.bound _ f)
 
 -- a header that is there begins there
@@ -86,7 +98,8 @@ pub header-origin : (p : Place) (k : Bool) (h : HeaderValue) → IsHeaderAt p k 
 header-origin p k h header = λ i. record { offset = header.offset i; named = header.named i }
 
 -- a header alone is popped by its last octet
-pub header-popped : (p : Place) (h : HeaderValue) (k : Bool) → IsHeaderAt p k h → (k && leb 128 p.depth) ≡ false → Fits p (length (octets_of h) + announced_length h.size) → Popped p (element_begun k h)
+pub header-popped : (p : Place) (h : HeaderValue) (k : Bool) → IsHeaderAt p k h → (k && leb 128 p.depth) ≡ false
+    → Fits p (length (octets_of h) + announced_length h.size) → Popped p (element_begun k h)
 header-popped p h k header d f = elim (back (octets_of h)) [
   | is_nil e ↦ absurd (omega (arith, ap length e, header-length h header.valid))
   | is_push o x e ↦
@@ -97,7 +110,13 @@ header-popped p h k header d f = elim (back (octets_of h)) [
         last = x;
         is_open = (
           λ z. omega (arith, ap length z),
-          record { header = h; more = x ∷ []; valid = header.valid; proper = λ z. omega (arith, ap length z); prefix = sym e },
+          record {
+            header = h;
+            more = x ∷ [];
+            valid = header.valid;
+            proper = λ z. omega (arith, ap length z);
+            prefix = sym e;
+          },
           within-le p.bound _ _ (omega arith) f,
         );
         spelled = (element_begun-sound p h k header d f).spelled ∙ e;
@@ -107,13 +126,16 @@ header-popped p h k header d f = elim (back (octets_of h)) [
 ]
 
 -- an element that holds none yet is popped by the last octet of its header
-pub holder_begun-popped : (p : Place) (h : HeaderValue) (l : List ℕ) → lead h ≡ l → IsEntry p true h → Popped p (holder_begun h l)
+pub holder_begun-popped : (p : Place) (h : HeaderValue) (l : List ℕ) → lead h ≡ l → IsEntry p true h
+    → Popped p (holder_begun h l)
 holder_begun-popped p h l e entry =
-    let r : Popped p (holder_begun h (lead h)) = header-popped p h true entry.header (lt-leb 128 p.depth (entry.shallow refl)) entry.fits in
+    let r : Popped p (holder_begun h (lead h)) =
+        header-popped p h true entry.header (lt-leb 128 p.depth (entry.shallow refl)) entry.fits in
     rw (ap (holder_begun h) e) at r
 
 -- an element that holds none yet
-pub lead-popped : (p : Place) (h : HeaderValue) (l : List ℕ) → lead h ≡ l → IsEntry p true h → Popped p (holder_so_far h NoMore)
+pub lead-popped : (p : Place) (h : HeaderValue) (l : List ℕ) → lead h ≡ l → IsEntry p true h
+    → Popped p (holder_so_far h NoMore)
 lead-popped p h [] e entry = holder_begun-popped p h [] e entry
 lead-popped p h (x ∷ xs) e entry =
     let one : lead h ≡ 0 ∷ [] = lead-zero h x xs e in
@@ -121,7 +143,9 @@ lead-popped p h (x ∷ xs) e entry =
       from = OpenBitString h;
       last = 0;
       is_open = (entry, one);
-      spelled = (holder_so_far-sound p h NoMore entry tt).spelled ∙ append-nil (opening h) ∙ ap (λ (t : List ℕ). octets_of h ++ t) one;
+      spelled =
+          (holder_so_far-sound p h NoMore entry tt).spelled ∙ append-nil (opening h)
+              ∙ ap (λ (t : List ℕ). octets_of h ++ t) one;
       pushed = refl;
     }
 
@@ -130,10 +154,17 @@ more-nonzero : (at : Origin) (x : ℕ) → is_more (scan at (x ∷ [])) ≡ true
 more-nonzero at x e z = let e' : is_more (scan at (0 ∷ [])) ≡ true = rw z at e in cc
 
 -- the front of a header is popped
-pub front-popped : (p : Place) (o : List ℕ) (x : ℕ) → IsHeaderPrefix (o ++ x ∷ []) → Fits p (length (o ++ x ∷ [])) → Popped p (OpenHeader (o ++ x ∷ []))
+pub front-popped : (p : Place) (o : List ℕ) (x : ℕ) → IsHeaderPrefix (o ++ x ∷ []) → Fits p (length (o ++ x ∷ []))
+    → Popped p (OpenHeader (o ++ x ∷ []))
 front-popped p [] x front f =
     let nz : x ≢ 0 = more-nonzero (origin p) x (more-from_prefix (origin p) (x ∷ []) front) in
-    record { from = NoMore; last = x; is_open = tt; spelled = refl; pushed = rw (fits-within p.bound (p.offset + 1) f, ne_eqb x 0 nz) }
+    record {
+      from = NoMore;
+      last = x;
+      is_open = tt;
+      spelled = refl;
+      pushed = rw (fits-within p.bound (p.offset + 1) f, ne_eqb x 0 nz);
+    }
 front-popped p (y ∷ o) x front f = record {
   from = OpenHeader (y ∷ o);
   last = x;

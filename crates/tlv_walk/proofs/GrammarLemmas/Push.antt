@@ -1,47 +1,67 @@
 -- One more octet after an open forest gives what is right.
-use Rattle.std.proofs.Common.{◌≡◌, ◌≢◌, inl, inr, ℕ, ◌+◌, ◌<◌, ◌≤◌, Bool, true, false, ◌&&◌, ◌||◌, leb, List, [], ◌∷◌, ◌++◌, length, refl, sym, ap, ◌∙◌, arith, append_assoc, append-nil, length-append, eq-eqb, ne_eqb, leb-false}
+use Rattle.std.proofs.Common.{◌≡◌, ◌≢◌, inl, inr, ℕ, ◌+◌, ◌<◌, ◌≤◌, Bool, true, false, ◌&&◌, ◌||◌, leb, List, [], ◌∷◌}
+use Rattle.std.proofs.Common.{◌++◌, length, refl, sym, ap, ◌∙◌, arith, append_assoc, append-nil, length-append, eq-eqb}
+use Rattle.std.proofs.Common.{ne_eqb, leb-false}
 use Rattle.std.proofs.lemmas.Bool.{cases_eq, cases_Bool, and_parts, true≢false}
 use Rattle.tlv_head.specs.declared.header.Size.{Size}
 use Rattle.tlv_head.specs.declared.header.Size.TheVariants.{Definite, Indefinite}
 use Rattle.tlv_head.specs.Header.{AllowsSize, HeaderValue, IsHeader, announced_length, holds, octets_of, wraps}
 use Rattle.tlv_head.specs.Refusal.{IsHeaderPrefix}
-use Rattle.tlv_head.proofs.GrammarLemmas.Scan.{Origin, Scan, Fresh, High, Named, Long, Ready, Stuck, Over, origin_of, step, scan, first-more}
+use Rattle.tlv_head.proofs.GrammarLemmas.Scan.{Origin, Scan, Fresh, High, Named, Long, Ready, Stuck, Over, origin_of}
+use Rattle.tlv_head.proofs.GrammarLemmas.Scan.{step, scan, first-more}
 use Rattle.tlv_head.proofs.GrammarLemmas.Meaning.{IsStateAfter, reads-step, reads-scan, prefix-from_more, prefix-bytes}
-use Rattle.tlv_walk.specs.Forest.{Forest, Holder, NoMore, OpenBitString, OpenEndOctets, OpenHeader, OpenHolder, OpenPrimitive, PaddingOctet, Primitive, contents_length, end_octets, extent, is_whole, lead, opening, spelling}
+use Rattle.tlv_walk.specs.Forest.{Forest, Holder, NoMore, OpenBitString, OpenEndOctets, OpenHeader, OpenHolder}
+use Rattle.tlv_walk.specs.Forest.{OpenPrimitive, PaddingOctet, Primitive, contents_length, end_octets, extent, is_whole}
+use Rattle.tlv_walk.specs.Forest.{lead, opening, spelling}
 use Rattle.tlv_walk.specs.Place.{Fits, IsEntry, IsHeaderAt, IsOpen, Place, place_after, place_of_children}
 use Rattle.tlv_walk.proofs.GrammarLemmas.Lengths.{LacksOctets}
-use Rattle.tlv_walk.proofs.GrammarLemmas.Bounds.{IsEndless, IsFull, fits, fits-inside, has_length, indefinite-endless, lead-zero, length-full, length-lacks, within-fits, within-le, within-outside}
-use Rattle.tlv_walk.proofs.GrammarLemmas.Spellings.{append_assoc-3, append_assoc-4, length-holder, length-opening, length-primitive}
-use Rattle.tlv_walk.proofs.GrammarLemmas.PushSteps.{IsWholePrimitive, IsWholeHolder, Step, origin, is_filled_by, holder_so_far, primitive_so_far, holder_begun, element_begun, complete, begin, zero_between, follow, settle, push, Spells, IsStep, Grown, Ended, Refused}
+use Rattle.tlv_walk.proofs.GrammarLemmas.Bounds.{IsEndless, IsFull, fits, fits-inside, has_length, indefinite-endless}
+use Rattle.tlv_walk.proofs.GrammarLemmas.Bounds.{lead-zero, length-full, length-lacks, within-fits, within-le}
+use Rattle.tlv_walk.proofs.GrammarLemmas.Bounds.{within-outside}
+use Rattle.tlv_walk.proofs.GrammarLemmas.Spellings.{append_assoc-3, append_assoc-4, length-holder, length-opening}
+use Rattle.tlv_walk.proofs.GrammarLemmas.Spellings.{length-primitive}
+use Rattle.tlv_walk.proofs.GrammarLemmas.PushSteps.{IsWholePrimitive, IsWholeHolder, Step, origin, is_filled_by}
+use Rattle.tlv_walk.proofs.GrammarLemmas.PushSteps.{holder_so_far, primitive_so_far, holder_begun, element_begun}
+use Rattle.tlv_walk.proofs.GrammarLemmas.PushSteps.{complete, begin, zero_between, follow, settle, push, Spells, IsStep}
+use Rattle.tlv_walk.proofs.GrammarLemmas.PushSteps.{Grown, Ended, Refused}
 
 -- if what an element holds ends within the bound inside, the element so far ends within that outside
-reaches-open_holder : (p : Place) (h : HeaderValue) (inside : Forest) → Fits p (length (octets_of h) + announced_length h.size) → Fits (place_of_children p h) (length (spelling inside))
+reaches-open_holder : (p : Place) (h : HeaderValue) (inside : Forest)
+    → Fits p (length (octets_of h) + announced_length h.size)
+    → Fits (place_of_children p h) (length (spelling inside))
     → Fits p (length (opening h ++ spelling inside))
 reaches-open_holder p h inside f g =
-    let size : length (opening h ++ spelling inside) ≡ length (octets_of h) + (length (lead h) + length (spelling inside)) = omega (arith, length-append (opening h) (spelling inside), length-opening h) in
+    let size : length (opening h ++ spelling inside)
+        ≡ length (octets_of h) + (length (lead h) + length (spelling inside)) =
+        omega (arith, length-append (opening h) (spelling inside), length-opening h) in
     within-le p.bound _ _ (omega arith)
-    (within-outside h.size (p.offset + length (octets_of h)) p.bound (length (lead h) + length (spelling inside)) (within-le p.bound _ _ (omega arith) f)
+    (within-outside h.size (p.offset + length (octets_of h)) p.bound (length (lead h) + length (spelling inside))
+        (within-le p.bound _ _ (omega arith) f)
     (within-le (place_of_children p h).bound _ _ (omega (arith, length-opening h)) g))
 
 -- an open forest ends within the bound
 pub reaches : (p : Place) (f : Forest) → Fits p 0 → IsOpen p f → Fits p (length (spelling f))
 reaches p NoMore z w = z
-reaches p (PaddingOctet rest) z w = within-le p.bound _ _ (omega arith) (reaches (place_after p 1) rest (within-le p.bound _ _ (omega arith) w.0.2) w.1)
+reaches p (PaddingOctet rest) z w =
+    within-le p.bound _ _ (omega arith) (reaches (place_after p 1) rest (within-le p.bound _ _ (omega arith) w.0.2) w.1)
 reaches p (Primitive h c rest) z w =
     within-le p.bound _ _ (omega (arith, length-primitive h c rest))
-    (reaches (place_after p (length (octets_of h) + length c)) rest (within-le p.bound _ _ (omega arith) w.0.0.fits) w.1)
+    (reaches (place_after p (length (octets_of h) + length c)) rest (within-le p.bound _ _ (omega arith) w.0.0.fits)
+        w.1)
 reaches p (Holder h inside rest) z w =
     within-le p.bound _ _ (omega (arith, length-holder h inside rest))
     (reaches (place_after p (extent h inside)) rest (within-le p.bound _ _ (omega arith) w.0.0.fits) w.2)
 reaches p (OpenPrimitive h c) z w = within-le p.bound _ _ (omega (arith, length-append (octets_of h) c, w.1)) w.0.fits
 reaches p (OpenHolder h inside) z w =
-    reaches-open_holder p h inside w.0.0.fits (reaches (place_of_children p h) inside (fits-inside p h w.0.0.header.form w.0.0.fits) w.1)
+    reaches-open_holder p h inside w.0.0.fits
+        (reaches (place_of_children p h) inside (fits-inside p h w.0.0.header.form w.0.0.fits) w.1)
 reaches p (OpenBitString h) z w = within-le p.bound _ _ (omega arith) w.0.fits
 reaches p (OpenHeader o) z w = w.2
 reaches p OpenEndOctets z w = w.1
 
 -- 8.1.3.2 a): the length of a primitive is definite
-definite-primitive : (constructed : Bool) (s : Size) → constructed ≡ false → AllowsSize constructed s → (n : ℕ) × (s ≡ Definite n)
+definite-primitive : (constructed : Bool) (s : Size) → constructed ≡ false → AllowsSize constructed s
+    → (n : ℕ) × (s ≡ Definite n)
 definite-primitive true s e a = absurd (true≢false e)
 definite-primitive false (Definite n) e a = (n, refl)
 definite-primitive false Indefinite e a = absurd (cc (a))
@@ -56,77 +76,106 @@ pub size-definite : (h : HeaderValue) → IsHeader h → holds h ≡ false → (
 size-definite h valid e = definite-primitive h.constructed h.size (not-holding h.constructed (wraps h) e) valid.allowed
 
 -- contents octets of a primitive, no more than announced
-primitive_so_far-sound : (p : Place) (h : HeaderValue) (c : List ℕ) (n : ℕ) → IsHeaderAt p false h → h.size ≡ Definite n → length c ≤ n → Fits p (length (octets_of h) + n)
+primitive_so_far-sound : (p : Place) (h : HeaderValue) (c : List ℕ) (n : ℕ) → IsHeaderAt p false h
+    → h.size ≡ Definite n → length c ≤ n → Fits p (length (octets_of h) + n)
     → Spells p (octets_of h ++ c) (primitive_so_far h c)
 primitive_so_far-sound p h c n header e most f =
     let all : announced_length h.size ≡ n = ap announced_length e in
     elim (cases_eq (length c) n) [
       | inl full ↦ rw (eq-eqb (length c) (announced_length h.size) (full ∙ sym all)) (record {
-        is_open = ((record { header = header; shallow = λ e. absurd (cc (e)); fits = rw full f }, e ∙ ap Definite (sym full)), tt);
+        is_open =
+            ((record { header = header; shallow = λ e. absurd (cc (e)); fits = rw full f }, e ∙ ap Definite (sym full)),
+                tt);
         spelled = ap (λ (t : List ℕ). octets_of h ++ t) (append-nil c);
       })
       | inr less ↦ rw (ne_eqb (length c) (announced_length h.size) (λ z. less (z ∙ all))) (record {
-        is_open = (record { header = header; shallow = λ e. absurd (cc (e)); fits = within-le p.bound _ _ (omega arith) f }, omega arith);
+        is_open =
+            (record { header = header; shallow = λ e. absurd (cc (e)); fits = within-le p.bound _ _ (omega arith) f },
+                omega arith);
         spelled = refl;
       })
     ]
 
 -- an element that holds others, with all its contents octets by its definite length
-pub holder-sound : (p : Place) (h : HeaderValue) (g : Forest) → IsEntry p true h → IsOpen (place_of_children p h) g → is_whole g ≡ true → IsFull h.size (contents_length h g)
+pub holder-sound : (p : Place) (h : HeaderValue) (g : Forest) → IsEntry p true h → IsOpen (place_of_children p h) g
+    → is_whole g ≡ true → IsFull h.size (contents_length h g)
     → Spells p (opening h ++ spelling g) (Holder h g NoMore)
 holder-sound p h g entry w whole full =
     let none : length (end_octets h.size) ≡ 0 = ap length full.ends in
     record {
       is_open = (
         (
-          record { header = entry.header; shallow = entry.shallow; fits = within-le p.bound _ _ (omega (arith, full.all, length-opening h)) entry.fits },
+          record {
+            header = entry.header;
+            shallow = entry.shallow;
+            fits = within-le p.bound _ _ (omega (arith, full.all, length-opening h)) entry.fits;
+          },
           whole,
           full.filled,
         ),
         w,
         tt,
       );
-      spelled = ap (λ (t : List ℕ). opening h ++ (spelling g ++ (t ++ []))) full.ends ∙ ap (λ (t : List ℕ). opening h ++ t) (append-nil (spelling g));
+      spelled =
+          ap (λ (t : List ℕ). opening h ++ (spelling g ++ (t ++ []))) full.ends
+              ∙ ap (λ (t : List ℕ). opening h ++ t) (append-nil (spelling g));
     }
 
 -- an element that is not filled lacks octets, if what it holds is whole
-pub unfilled-lacks : (p : Place) (h : HeaderValue) (g : Forest) → is_filled_by h g ≡ false → is_whole g ≡ true → Fits (place_of_children p h) (length (spelling g)) → LacksOctets h.size (contents_length h g)
+pub unfilled-lacks : (p : Place) (h : HeaderValue) (g : Forest) → is_filled_by h g ≡ false → is_whole g ≡ true
+    → Fits (place_of_children p h) (length (spelling g)) → LacksOctets h.size (contents_length h g)
 unfilled-lacks p h g e whole there =
     let short : has_length h.size (contents_length h g) ≡ false = rw whole at e in
-    length-lacks h.size (p.offset + length (octets_of h)) p.bound _ (within-le (place_of_children p h).bound _ _ (omega (arith, length-opening h)) there) short
+    length-lacks h.size (p.offset + length (octets_of h)) p.bound
+        _ (within-le (place_of_children p h).bound _ _ (omega (arith, length-opening h)) there) short
 
 -- what an element holds is open: so is the element
-pub holder_so_far-sound : (p : Place) (h : HeaderValue) (g : Forest) → IsEntry p true h → IsOpen (place_of_children p h) g → Spells p (opening h ++ spelling g) (holder_so_far h g)
+pub holder_so_far-sound : (p : Place) (h : HeaderValue) (g : Forest) → IsEntry p true h
+    → IsOpen (place_of_children p h) g → Spells p (opening h ++ spelling g) (holder_so_far h g)
 holder_so_far-sound p h g entry w = elim (cases_Bool (is_filled_by h g)) [
   | inl e ↦
       let parts : (is_whole g ≡ true) × (has_length h.size (contents_length h g) ≡ true) = and_parts _ _ e in
       rw e (holder-sound p h g entry w parts.0 (length-full h.size _ parts.1))
   | inr e ↦
-      let there : Fits (place_of_children p h) (length (spelling g)) = reaches (place_of_children p h) g (fits-inside p h entry.header.form entry.fits) w in
+      let there : Fits (place_of_children p h) (length (spelling g)) =
+          reaches (place_of_children p h) g (fits-inside p h entry.header.form entry.fits) w in
       rw e (record { is_open = ((entry, λ whole. unfilled-lacks p h g e whole there), w); spelled = refl })
 ]
 
 -- an element that holds none yet
-holder_begun-sound : (p : Place) (h : HeaderValue) (l : List ℕ) → lead h ≡ l → IsEntry p true h → Spells p (octets_of h) (holder_begun h l)
+holder_begun-sound : (p : Place) (h : HeaderValue) (l : List ℕ) → lead h ≡ l → IsEntry p true h
+    → Spells p (octets_of h) (holder_begun h l)
 holder_begun-sound p h [] e entry =
     let r : Spells p (opening h ++ []) (holder_so_far h NoMore) = holder_so_far-sound p h NoMore entry tt in
-    let none : opening h ++ [] ≡ octets_of h = append-nil (opening h) ∙ ap (λ (t : List ℕ). octets_of h ++ t) e ∙ append-nil (octets_of h) in
+    let none : opening h ++ [] ≡ octets_of h =
+        append-nil (opening h) ∙ ap (λ (t : List ℕ). octets_of h ++ t) e ∙ append-nil (octets_of h) in
     record { is_open = r.is_open; spelled = r.spelled ∙ none }
 holder_begun-sound p h (x ∷ xs) e entry = record { is_open = (entry, lead-zero h x xs e); spelled = refl }
 
 -- a header where one may be is an open forest
-pub element_begun-sound : (p : Place) (h : HeaderValue) (k : Bool) → IsHeaderAt p k h → (k && leb 128 p.depth) ≡ false → Fits p (length (octets_of h) + announced_length h.size)
+pub element_begun-sound : (p : Place) (h : HeaderValue) (k : Bool) → IsHeaderAt p k h → (k && leb 128 p.depth) ≡ false
+    → Fits p (length (octets_of h) + announced_length h.size)
     → Spells p (octets_of h) (element_begun k h)
-element_begun-sound p h true header d f = holder_begun-sound p h (lead h) refl (record { header = header; shallow = λ _. leb-false 128 p.depth d; fits = f })
+element_begun-sound p h true header d f = holder_begun-sound p h (lead h) refl (record {
+  header = header;
+  shallow = λ _. leb-false 128 p.depth d;
+  fits = f;
+})
 element_begun-sound p h false header d f =
     let n : (n : ℕ) × (h.size ≡ Definite n) = size-definite h header.valid header.form in
     let f' : Fits p (length (octets_of h) + n.0) = rw (ap announced_length n.1) at f in
     rw (append-nil (octets_of h)) at (primitive_so_far-sound p h [] n.0 header n.1 (omega arith) f')
 
 -- a header that is complete
-complete-sound : (p : Place) (h : HeaderValue) → IsHeader h → origin_of h ≡ origin p → IsStep p (octets_of h) (complete p h)
+complete-sound : (p : Place) (h : HeaderValue) → IsHeader h → origin_of h ≡ origin p
+    → IsStep p (octets_of h) (complete p h)
 complete-sound p h valid at =
-    let header : IsHeaderAt p (holds h) h = record { valid = valid; offset = ap (λ (o : Origin). o.offset) at; named = ap (λ (o : Origin). o.named) at; form = refl } in
+    let header : IsHeaderAt p (holds h) h = record {
+      valid = valid;
+      offset = ap (λ (o : Origin). o.offset) at;
+      named = ap (λ (o : Origin). o.named) at;
+      form = refl;
+    } in
     elim (cases_Bool (holds h && leb 128 p.depth)) [
       | inl deep ↦ rw deep tt
       | inr room ↦ elim (cases_Bool (fits p (length (octets_of h) + announced_length h.size))) [
@@ -140,11 +189,15 @@ front-sound : (p : Place) (o : List ℕ) → o ≢ [] → IsHeaderPrefix o → F
 front-sound p o some front f = record { is_open = (some, front, f); spelled = refl }
 
 -- octets of a header, by what they say
-begin-sound : (p : Place) (o : List ℕ) (s : Scan) → IsStateAfter (origin p) s o → o ≢ [] → Fits p (length o) → IsStep p o (begin p o s)
+begin-sound : (p : Place) (o : List ℕ) (s : Scan) → IsStateAfter (origin p) s o → o ≢ [] → Fits p (length o)
+    → IsStep p o (begin p o s)
 begin-sound p o Fresh r some f = absurd (some r)
-begin-sound p o (High c k ds) r some f = front-sound p o some (prefix-from_more (origin p) (High c k ds) o r some refl) f
-begin-sound p o (Named c k n i) r some f = front-sound p o some (prefix-from_more (origin p) (Named c k n i) o r some refl) f
-begin-sound p o (Long c k n i m ds) r some f = front-sound p o some (prefix-from_more (origin p) (Long c k n i m ds) o r some refl) f
+begin-sound p o (High c k ds) r some f =
+    front-sound p o some (prefix-from_more (origin p) (High c k ds) o r some refl) f
+begin-sound p o (Named c k n i) r some f =
+    front-sound p o some (prefix-from_more (origin p) (Named c k n i) o r some refl) f
+begin-sound p o (Long c k n i m ds) r some f =
+    front-sound p o some (prefix-from_more (origin p) (Long c k n i m ds) o r some refl) f
 begin-sound p o (Ready h) r some f = rw (r.1) (complete-sound p h r.0 r.2)
 begin-sound p o (Stuck code) r some f = tt
 begin-sound p o Over r some f = tt
@@ -154,16 +207,20 @@ pub push≢nil : (o : List ℕ) (x : ℕ) → o ++ x ∷ [] ≢ []
 push≢nil o x e = omega (arith, ap length e, length-append o (x ∷ []))
 
 -- after the front of a header
-front-step : (p : Place) (o : List ℕ) (x : ℕ) → x < 256 → IsHeaderPrefix o → IsStep p (o ++ x ∷ []) (push p (OpenHeader o) x)
+front-step : (p : Place) (o : List ℕ) (x : ℕ) → x < 256 → IsHeaderPrefix o
+    → IsStep p (o ++ x ∷ []) (push p (OpenHeader o) x)
 front-step p o x h front = elim (cases_Bool (fits p (length o + 1))) [
   | inl f ↦ rw f
-      (begin-sound p (o ++ x ∷ []) (step (origin p) (scan (origin p) o) x) (reads-step (origin p) x (scan (origin p) o) o h (reads-scan (origin p) o (prefix-bytes o front))) (push≢nil o x)
+      (begin-sound p (o ++ x ∷ []) (step (origin p) (scan (origin p) o) x)
+          (reads-step (origin p) x (scan (origin p) o) o h (reads-scan (origin p) o (prefix-bytes o front)))
+          (push≢nil o x)
       (within-le p.bound _ _ (omega (arith, length-append o (x ∷ []))) (within-fits p.bound _ f)))
   | inr f ↦ rw f tt
 ]
 
 -- an octet 00 between encodings
-zero-sound : (p : Place) (i a : Bool) → p.indefinite ≡ i → p.padding ≡ a → Fits p 1 → IsStep p (0 ∷ []) (zero_between i a)
+zero-sound : (p : Place) (i a : Bool) → p.indefinite ≡ i → p.padding ≡ a → Fits p 1
+    → IsStep p (0 ∷ []) (zero_between i a)
 zero-sound p true a e d f = record { is_open = (e, f); spelled = refl }
 zero-sound p false true e d f = record { is_open = ((d, e, f), tt); spelled = refl }
 zero-sound p false false e d f = tt
@@ -175,7 +232,8 @@ no_more-step p x h = elim (cases_Bool (fits p 1)) [
     | inl z ↦ rw (f, eq-eqb x 0 z, z) (zero-sound p p.indefinite p.padding refl refl (within-fits p.bound _ f))
     | inr nz ↦ rw (f, ne_eqb x 0 nz)
         (front-sound p (x ∷ []) (push≢nil [] x)
-        (prefix-from_more (origin p) (step (origin p) Fresh x) (x ∷ []) (reads-step (origin p) x Fresh [] h refl) (push≢nil [] x) (first-more (origin p) x nz))
+        (prefix-from_more (origin p) (step (origin p) Fresh x) (x ∷ []) (reads-step (origin p) x Fresh [] h refl)
+            (push≢nil [] x) (first-more (origin p) x nz))
         (within-fits p.bound _ f))
   ]
   | inr f ↦ rw f tt
@@ -185,80 +243,112 @@ no_more-step p x h = elim (cases_Bool (fits p 1)) [
 end_octets-step : (p : Place) (x : ℕ) → p.indefinite ≡ true → IsStep p (0 ∷ x ∷ []) (push p OpenEndOctets x)
 end_octets-step p x i = elim (cases_Bool (fits p 2)) [
   | inl f ↦ elim (cases_eq x 0) [
-    | inl z ↦ rw (f, eq-eqb x 0 z, z) (record { is_open = tt; whole = refl; indefinite = i; spelled = refl; fits = within-fits p.bound _ f })
+    | inl z ↦ rw (f, eq-eqb x 0 z, z) (record {
+      is_open = tt;
+      whole = refl;
+      indefinite = i;
+      spelled = refl;
+      fits = within-fits p.bound _ f;
+    })
     | inr nz ↦ rw (f, ne_eqb x 0 nz) tt
   ]
   | inr f ↦ rw f tt
 ]
 
 -- inside the contents of a primitive
-open_primitive-step : (p : Place) (h : HeaderValue) (c : List ℕ) (x : ℕ) → IsOpen p (OpenPrimitive h c) → IsStep p ((octets_of h ++ c) ++ x ∷ []) (push p (OpenPrimitive h c) x)
+open_primitive-step : (p : Place) (h : HeaderValue) (c : List ℕ) (x : ℕ) → IsOpen p (OpenPrimitive h c)
+    → IsStep p ((octets_of h ++ c) ++ x ∷ []) (push p (OpenPrimitive h c) x)
 open_primitive-step p h c x w =
     let n : (n : ℕ) × (h.size ≡ Definite n) = size-definite h w.0.header.valid w.0.header.form in
     let all : announced_length h.size ≡ n.0 = ap announced_length n.1 in
     rw (append_assoc (octets_of h) c (x ∷ []))
-    (primitive_so_far-sound p h (c ++ x ∷ []) n.0 w.0.header n.1 (omega (arith, length-append c (x ∷ []), w.1)) (within-le p.bound _ _ (omega arith) w.0.fits))
+    (primitive_so_far-sound p h (c ++ x ∷ []) n.0 w.0.header n.1 (omega (arith, length-append c (x ∷ []), w.1))
+        (within-le p.bound _ _ (omega arith) w.0.fits))
 
 -- before the first contents octet of a wrapping BIT STRING
-open_bit_string-step : (p : Place) (h : HeaderValue) (x : ℕ) → IsOpen p (OpenBitString h) → IsStep p (octets_of h ++ x ∷ []) (push p (OpenBitString h) x)
+open_bit_string-step : (p : Place) (h : HeaderValue) (x : ℕ) → IsOpen p (OpenBitString h)
+    → IsStep p (octets_of h ++ x ∷ []) (push p (OpenBitString h) x)
 open_bit_string-step p h x w = elim (cases_eq x 0) [
   | inl z ↦
       let r : Spells p (opening h ++ []) (holder_so_far h NoMore) = holder_so_far-sound p h NoMore w.0 tt in
-      rw (eq-eqb x 0 z, z) (record { is_open = r.is_open; spelled = r.spelled ∙ append-nil (opening h) ∙ ap (λ (t : List ℕ). octets_of h ++ t) w.1 })
+      rw (eq-eqb x 0 z, z) (record {
+        is_open = r.is_open;
+        spelled = r.spelled ∙ append-nil (opening h) ∙ ap (λ (t : List ℕ). octets_of h ++ t) w.1;
+      })
   | inr nz ↦ rw (ne_eqb x 0 nz) tt
 ]
 
 -- a step of what follows padding
-padding-step : (p : Place) (o : List ℕ) (s : Step) → (p.padding ≡ true) × (p.indefinite ≡ false) × Fits p 1 → IsStep (place_after p 1) o s → IsStep p (0 ∷ o) (follow PaddingOctet s)
+padding-step : (p : Place) (o : List ℕ) (s : Step) → (p.padding ≡ true) × (p.indefinite ≡ false) × Fits p 1
+    → IsStep (place_after p 1) o s → IsStep p (0 ∷ o) (follow PaddingOctet s)
 padding-step p o (Grown g) w r = record { is_open = (w, r.is_open); spelled = ap (λ (t : List ℕ). 0 ∷ t) r.spelled }
 padding-step p o (Ended g) w r = absurd (true≢false (sym r.indefinite ∙ w.1))
 padding-step p o (Refused code) w r = tt
 
 -- a step of what follows a primitive
-primitive-step : (p : Place) (h : HeaderValue) (c o : List ℕ) (s : Step) → IsWholePrimitive p h c → IsStep (place_after p (length (octets_of h) + length c)) o s
+primitive-step : (p : Place) (h : HeaderValue) (c o : List ℕ) (s : Step) → IsWholePrimitive p h c
+    → IsStep (place_after p (length (octets_of h) + length c)) o s
     → IsStep p (octets_of h ++ (c ++ o)) (follow (Primitive h c) s)
-primitive-step p h c o (Grown g) w r = record { is_open = (w, r.is_open); spelled = ap (λ (t : List ℕ). octets_of h ++ (c ++ t)) r.spelled }
+primitive-step p h c o (Grown g) w r = record {
+  is_open = (w, r.is_open);
+  spelled = ap (λ (t : List ℕ). octets_of h ++ (c ++ t)) r.spelled;
+}
 primitive-step p h c o (Ended g) w r = record {
   is_open = (w, r.is_open);
   whole = r.whole;
   indefinite = r.indefinite;
-  spelled = append_assoc-3 (octets_of h) c (spelling g) (0 ∷ 0 ∷ []) ∙ ap (λ (t : List ℕ). octets_of h ++ (c ++ t)) r.spelled;
+  spelled =
+      append_assoc-3 (octets_of h) c (spelling g) (0 ∷ 0 ∷ []) ∙ ap (λ (t : List ℕ). octets_of h ++ (c ++ t)) r.spelled;
   fits = within-le p.bound _ _ (omega (arith, length-primitive h c g)) r.fits;
 }
 primitive-step p h c o (Refused code) w r = tt
 
 -- a step of what follows an element that holds others
-holder-step : (p : Place) (h : HeaderValue) (inside : Forest) (o : List ℕ) (s : Step) → IsWholeHolder p h inside → IsOpen (place_of_children p h) inside → IsStep (place_after p (extent h inside)) o s
+holder-step : (p : Place) (h : HeaderValue) (inside : Forest) (o : List ℕ) (s : Step) → IsWholeHolder p h inside
+    → IsOpen (place_of_children p h) inside → IsStep (place_after p (extent h inside)) o s
     → IsStep p (opening h ++ (spelling inside ++ (end_octets h.size ++ o))) (follow (Holder h inside) s)
-holder-step p h inside o (Grown g) w v r = record { is_open = (w, v, r.is_open); spelled = ap (λ (t : List ℕ). opening h ++ (spelling inside ++ (end_octets h.size ++ t))) r.spelled }
+holder-step p h inside o (Grown g) w v r = record {
+  is_open = (w, v, r.is_open);
+  spelled = ap (λ (t : List ℕ). opening h ++ (spelling inside ++ (end_octets h.size ++ t))) r.spelled;
+}
 holder-step p h inside o (Ended g) w v r = record {
   is_open = (w, v, r.is_open);
   whole = r.whole;
   indefinite = r.indefinite;
-  spelled = append_assoc-4 (opening h) (spelling inside) (end_octets h.size) (spelling g) (0 ∷ 0 ∷ []) ∙ ap (λ (t : List ℕ). opening h ++ (spelling inside ++ (end_octets h.size ++ t))) r.spelled;
+  spelled =
+      append_assoc-4 (opening h) (spelling inside) (end_octets h.size) (spelling g) (0 ∷ 0 ∷ [])
+          ∙ ap (λ (t : List ℕ). opening h ++ (spelling inside ++ (end_octets h.size ++ t))) r.spelled;
   fits = within-le p.bound _ _ (omega (arith, length-holder h inside g)) r.fits;
 }
 holder-step p h inside o (Refused code) w v r = tt
 
 -- a step of what an element holds
-open_holder-step : (p : Place) (h : HeaderValue) (o : List ℕ) (s : Step) → IsEntry p true h → IsStep (place_of_children p h) o s → IsStep p (opening h ++ o) (settle h s)
+open_holder-step : (p : Place) (h : HeaderValue) (o : List ℕ) (s : Step) → IsEntry p true h
+    → IsStep (place_of_children p h) o s → IsStep p (opening h ++ o) (settle h s)
 open_holder-step p h o (Grown g) entry r =
     let e : Spells p (opening h ++ spelling g) (holder_so_far h g) = holder_so_far-sound p h g entry r.is_open in
     record { is_open = e.is_open; spelled = e.spelled ∙ ap (λ (t : List ℕ). opening h ++ t) r.spelled }
 open_holder-step p h o (Ended g) entry r =
-    let e : IsEndless h.size (p.offset + length (octets_of h)) p.bound (contents_length h g) = indefinite-endless h.size _ p.bound _ r.indefinite in
+    let e : IsEndless h.size (p.offset + length (octets_of h)) p.bound (contents_length h g) =
+        indefinite-endless h.size _ p.bound _ r.indefinite in
     let two : length (end_octets h.size) ≡ 2 = ap length e.ends in
     record {
       is_open = (
         (
-          record { header = entry.header; shallow = entry.shallow; fits = within-le p.bound _ _ (omega arith) (rw e.bound at r.fits) },
+          record {
+            header = entry.header;
+            shallow = entry.shallow;
+            fits = within-le p.bound _ _ (omega arith) (rw e.bound at r.fits);
+          },
           r.whole,
           e.filled,
         ),
         r.is_open,
         tt,
       );
-      spelled = ap (λ (t : List ℕ). opening h ++ (spelling g ++ (t ++ []))) e.ends ∙ ap (λ (t : List ℕ). opening h ++ t) r.spelled;
+      spelled =
+          ap (λ (t : List ℕ). opening h ++ (spelling g ++ (t ++ []))) e.ends
+              ∙ ap (λ (t : List ℕ). opening h ++ t) r.spelled;
     }
 open_holder-step p h o (Refused code) entry r = tt
 

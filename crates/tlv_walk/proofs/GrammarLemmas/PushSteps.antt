@@ -1,11 +1,14 @@
 -- What one more octet makes of an open forest, and when that is right.
 use Rattle.std.proofs.Common.{◌≡◌, ℕ, ◌+◌, Bool, true, false, cond, ◌&&◌, eqb, leb, List, [], ◌∷◌, ◌++◌, length}
 use Rattle.tlv_head.specs.declared.fault.FaultCode.{FaultCode}
-use Rattle.tlv_head.specs.declared.fault.FaultCode.TheVariants.{StrayEnd, BadEnd, MissingEnd, TooDeep, Overrun, BadInside}
+use Rattle.tlv_head.specs.declared.fault.FaultCode.TheVariants.{StrayEnd, BadEnd, MissingEnd, TooDeep, Overrun}
+use Rattle.tlv_head.specs.declared.fault.FaultCode.TheVariants.{BadInside}
 use Rattle.tlv_head.specs.declared.header.Size.TheVariants.{Definite}
 use Rattle.tlv_head.specs.Header.{HeaderValue, announced_length, holds, octets_of}
 use Rattle.tlv_head.proofs.GrammarLemmas.Scan.{Origin, Scan, Fresh, High, Named, Long, Ready, Stuck, Over, step, scan}
-use Rattle.tlv_walk.specs.Forest.{Forest, Holder, NoMore, OpenBitString, OpenEndOctets, OpenHeader, OpenHolder, OpenPrimitive, PaddingOctet, Primitive, contents_length, extent, is_whole, lead, spelling}
+use Rattle.tlv_walk.specs.Forest.{Forest, Holder, NoMore, OpenBitString, OpenEndOctets, OpenHeader, OpenHolder}
+use Rattle.tlv_walk.specs.Forest.{OpenPrimitive, PaddingOctet, Primitive, contents_length, extent, is_whole, lead}
+use Rattle.tlv_walk.specs.Forest.{spelling}
 use Rattle.tlv_walk.specs.Inside.{is_among}
 use Rattle.tlv_walk.specs.Place.{Fits, IsElementAt, IsOpen, Place, place_after, place_of_children}
 use Rattle.tlv_walk.proofs.GrammarLemmas.Lengths.{HasLength}
@@ -17,7 +20,8 @@ IsWholePrimitive p h c = IsElementAt p false h (length (octets_of h) + length c)
 
 -- an element that holds others and has ended
 abbrev pub IsWholeHolder : Place → HeaderValue → Forest → Type 0
-IsWholeHolder p h inside = IsElementAt p true h (extent h inside) × (is_whole inside ≡ true) × HasLength h.size (contents_length h inside)
+IsWholeHolder p h inside =
+    IsElementAt p true h (extent h inside) × (is_whole inside ≡ true) × HasLength h.size (contents_length h inside)
 
 -- what an octet makes of an open forest
 pub data Step : Type 0 where
@@ -56,7 +60,8 @@ element_begun false h = primitive_so_far h []
 -- a header is complete
 abbrev pub complete : Place → HeaderValue → Step
 complete p h = cond (holds h && leb 128 p.depth) (Refused TooDeep)
-    (cond (fits p (length (octets_of h) + announced_length h.size)) (Grown (element_begun (holds h) h)) (Refused Overrun))
+    (cond (fits p (length (octets_of h) + announced_length h.size)) (Grown (element_begun (holds h) h))
+        (Refused Overrun))
 
 -- octets of a header, by what they say
 abbrev pub begin : Place → List ℕ → Scan → Step
@@ -88,14 +93,17 @@ settle h (Refused code) = Refused code
 
 -- the octet x after an open forest
 abbrev pub push : Place → Forest → ℕ → Step
-push p NoMore x = cond (fits p 1) (cond (eqb x 0) (zero_between p.indefinite p.padding) (Grown (OpenHeader (x ∷ [])))) (Refused MissingEnd)
+push p NoMore x =
+    cond (fits p 1) (cond (eqb x 0) (zero_between p.indefinite p.padding) (Grown (OpenHeader (x ∷ []))))
+        (Refused MissingEnd)
 push p (PaddingOctet rest) x = follow PaddingOctet (push (place_after p 1) rest x)
 push p (Primitive h c rest) x = follow (Primitive h c) (push (place_after p (length (octets_of h) + length c)) rest x)
 push p (Holder h inside rest) x = follow (Holder h inside) (push (place_after p (extent h inside)) rest x)
 push p (OpenPrimitive h c) x = Grown (primitive_so_far h (c ++ x ∷ []))
 push p (OpenHolder h inside) x = settle h (push (place_of_children p h) inside x)
 push p (OpenBitString h) x = cond (eqb x 0) (Grown (holder_so_far h NoMore)) (Refused BadInside)
-push p (OpenHeader o) x = cond (fits p (length o + 1)) (begin p (o ++ x ∷ []) (step (origin p) (scan (origin p) o) x)) (Refused Overrun)
+push p (OpenHeader o) x =
+    cond (fits p (length o + 1)) (begin p (o ++ x ∷ []) (step (origin p) (scan (origin p) o) x)) (Refused Overrun)
 push p OpenEndOctets x = cond (fits p 2) (cond (eqb x 0) (Ended NoMore) (Refused BadEnd)) (Refused MissingEnd)
 
 -- an open forest there spells the octets

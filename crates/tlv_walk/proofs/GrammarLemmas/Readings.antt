@@ -1,5 +1,6 @@
 -- Open forests by their spellings, and the reading of an input.
-use Rattle.std.proofs.Common.{◌≡◌, inl, inr, ℕ, zero, suc, ◌<◌, ◌≤◌, List, [], ◌∷◌, ◌++◌, length, All, refl, sym, ap, ◌∙◌, arith, append_assoc, append-nil, length-append}
+use Rattle.std.proofs.Common.{◌≡◌, inl, inr, ℕ, zero, suc, ◌<◌, ◌≤◌, List, [], ◌∷◌, ◌++◌, length, All, refl, sym, ap}
+use Rattle.std.proofs.Common.{◌∙◌, arith, append_assoc, append-nil, length-append}
 use Rattle.std.proofs.lemmas.Bool.{cases_lt, true≢false}
 use Rattle.std.proofs.lemmas.List.{same_from_push}
 use Rattle.std.proofs.lemmas.List.Elements.{All-head, All-tail}
@@ -24,14 +25,16 @@ pub record PoppedBy (p : Place) (f : Forest) (o : List ℕ) (x : ℕ) : Type 0 w
 -- it is popped by the last octet of its spelling
 pub popped-by : (p : Place) (f : Forest) (o : List ℕ) (x : ℕ) → IsOpen p f → spelling f ≡ o ++ x ∷ [] → PoppedBy p f o x
 popped-by p f o x w e = elim (pop p f w) [
-  | inl stop ↦ let e' : [] ≡ o ++ x ∷ [] = rw stop at e in absurd (omega (arith, ap length e', length-append o (x ∷ [])))
+  | inl stop ↦ let e' : [] ≡ o ++ x ∷ [] =
+      rw stop at e in absurd (omega (arith, ap length e', length-append o (x ∷ [])))
   | inr q ↦
       let same : (spelling q.from ≡ o) × (q.last ≡ x) = same_from_push _ _ _ _ (sym q.spelled ∙ e) in
       record { popped = q; spelled = same.0; octet = same.1 }
 ]
 
 -- `prefix`, by the number of octets that are cut off
-prefix-within : (p : Place) (n : ℕ) (f : Forest) (s t : List ℕ) → length t ≡ n → IsOpen p f → spelling f ≡ s ++ t → (g : Forest) × Spells p s g
+prefix-within : (p : Place) (n : ℕ) (f : Forest) (s t : List ℕ) → length t ≡ n → IsOpen p f → spelling f ≡ s ++ t
+    → (g : Forest) × Spells p s g
 prefix-within p zero f s [] l w e = (f, record { is_open = w; spelled = e ∙ append-nil s })
 prefix-within p zero f s (x ∷ t) l w e = absurd (omega arith)
 prefix-within p (suc n) f s t l w e = elim (back t) [
@@ -39,7 +42,8 @@ prefix-within p (suc n) f s t l w e = elim (back t) [
   | is_push ys y z ↦
       let e' : spelling f ≡ (s ++ ys) ++ y ∷ [] = rw (append_assoc s ys (y ∷ [])) (rw z at e) in
       let q : PoppedBy p f (s ++ ys) y = popped-by p f (s ++ ys) y w e' in
-      prefix-within p n q.popped.from s ys (omega (arith, ap length z, length-append ys (y ∷ []))) q.popped.is_open q.spelled
+      prefix-within p n q.popped.from s ys (omega (arith, ap length z, length-append ys (y ∷ []))) q.popped.is_open
+          q.spelled
 ]
 
 -- each front of an open forest's spelling is an open forest's spelling
@@ -61,7 +65,8 @@ unique-empty p f w e = elim (pop p f w) [
 ]
 
 -- `unique`, by the number of octets
-unique-within : (p : Place) (n : ℕ) (f g : Forest) (o : List ℕ) → length o ≡ n → IsOpen p f → IsOpen p g → spelling f ≡ o → spelling g ≡ o → f ≡ g
+unique-within : (p : Place) (n : ℕ) (f g : Forest) (o : List ℕ) → length o ≡ n → IsOpen p f → IsOpen p g
+    → spelling f ≡ o → spelling g ≡ o → f ≡ g
 unique-within p zero f g [] l w v e d = unique-empty p f w e ∙ sym (unique-empty p g v d)
 unique-within p zero f g (x ∷ o) l w v e d = absurd (omega arith)
 unique-within p (suc n) f g o l w v e d = elim (back o) [
@@ -70,7 +75,8 @@ unique-within p (suc n) f g o l w v e d = elim (back o) [
       let q : PoppedBy p f ys y = popped-by p f ys y w (e ∙ z) in
       let r : PoppedBy p g ys y = popped-by p g ys y v (d ∙ z) in
       let same : q.popped.from ≡ r.popped.from =
-      unique-within p n q.popped.from r.popped.from ys (omega (arith, ap length z, length-append ys (y ∷ []))) q.popped.is_open r.popped.is_open q.spelled r.spelled in
+      unique-within p n q.popped.from r.popped.from ys (omega (arith, ap length z, length-append ys (y ∷ [])))
+          q.popped.is_open r.popped.is_open q.spelled r.spelled in
       same-pushed p f g q.popped r.popped same (q.octet ∙ sym r.octet)
 ]
 
@@ -79,7 +85,8 @@ pub unique : (p : Place) (f g : Forest) → IsOpen p f → IsOpen p g → spelli
 unique p f g w v e = unique-within p (length (spelling g)) f g (spelling g) refl w v e refl
 
 -- the octet that leads from one open forest to another is pushed
-pub push-complete : (p : Place) (f g : Forest) (x : ℕ) → IsOpen p f → IsOpen p g → spelling g ≡ spelling f ++ x ∷ [] → push p f x ≡ Grown g
+pub push-complete : (p : Place) (f g : Forest) (x : ℕ) → IsOpen p f → IsOpen p g → spelling g ≡ spelling f ++ x ∷ []
+    → push p f x ≡ Grown g
 push-complete p f g x w v e =
     let q : PoppedBy p g (spelling f) x = popped-by p g (spelling f) x v e in
     rw (unique p q.popped.from f q.popped.is_open w q.spelled, q.octet) at q.popped.pushed
@@ -132,42 +139,58 @@ IsRun w (Going f) b = Spells (top_place w) b f
 IsRun w (Halted f code) b = IsHalt w f code b
 
 -- a step of a run is right
-took-run : (w : Framing) (f : Forest) (x : ℕ) (s : Step) → IsOpen (top_place w) f → push (top_place w) f x ≡ s → IsStep (top_place w) (spelling f ++ x ∷ []) s → IsRun w (took f s) (spelling f ++ x ∷ [])
+took-run : (w : Framing) (f : Forest) (x : ℕ) (s : Step) → IsOpen (top_place w) f → push (top_place w) f x ≡ s
+    → IsStep (top_place w) (spelling f ++ x ∷ []) s → IsRun w (took f s) (spelling f ++ x ∷ [])
 took-run w f x (Grown g) v e r = r
 took-run w f x (Ended g) v e r = absurd (true≢false (sym r.indefinite))
 took-run w f x (Refused code) v e r = record { is_open = v; octet = x; rest = []; front = refl; refused = e }
 
 -- further octets do not change a halt
-abbrev pub halt-longer : (w : Framing) (f : Forest) (code : FaultCode) (b c : List ℕ) → IsHalt w f code b → IsHalt w f code (b ++ c)
+abbrev pub halt-longer : (w : Framing) (f : Forest) (code : FaultCode) (b c : List ℕ) → IsHalt w f code b
+    → IsHalt w f code (b ++ c)
 halt-longer w f code b c r =
-    record { is_open = r.is_open; octet = r.octet; rest = r.rest ++ c; front = rw (← r.front, append_assoc (spelling f) (r.octet ∷ r.rest) c); refused = r.refused }
+    record {
+      is_open = r.is_open;
+      octet = r.octet;
+      rest = r.rest ++ c;
+      front = rw (← r.front, append_assoc (spelling f) (r.octet ∷ r.rest) c);
+      refused = r.refused;
+    }
 
 -- a run that is right is so after one more octet
 turn-run : (w : Framing) (r : Run) (b : List ℕ) (x : ℕ) → x < 256 → IsRun w r b → IsRun w (turn w r x) (b ++ x ∷ [])
-turn-run w (Going f) b x h r = rw (← r.spelled) (took-run w f x (push (top_place w) f x) r.is_open refl (push-sound (top_place w) f x h r.is_open))
+turn-run w (Going f) b x h r =
+    rw (← r.spelled) (took-run w f x (push (top_place w) f x) r.is_open refl (push-sound (top_place w) f x h r.is_open))
 turn-run w (Halted f code) b x h r = halt-longer w f code b (x ∷ []) r
 
 -- and after more octets
-run_from-run : (w : Framing) (r : Run) (b xs : List ℕ) → All (λ x. x < 256) xs → IsRun w r b → IsRun w (run_from w r xs) (b ++ xs)
+run_from-run : (w : Framing) (r : Run) (b xs : List ℕ) → All (λ x. x < 256) xs → IsRun w r b
+    → IsRun w (run_from w r xs) (b ++ xs)
 run_from-run w r b [] each v = rw (append-nil b) v
 run_from-run w r b (x ∷ xs) each v =
     rw (append_assoc b (x ∷ []) xs) at
-    (run_from-run w (turn w r x) (b ++ x ∷ []) xs (All-tail (λ x. x < 256) x xs each) (turn-run w r b x (All-head (λ x. x < 256) x xs each) v))
+    (run_from-run w (turn w r x) (b ++ x ∷ []) xs (All-tail (λ x. x < 256) x xs each)
+        (turn-run w r b x (All-head (λ x. x < 256) x xs each) v))
 
 -- the run over an input is right
 pub is-run : (w : Framing) (b : List ℕ) → All (λ x. x < 256) b → IsRun w (run w b) b
 is-run w b each = run_from-run w (Going NoMore) [] b each (record { is_open = tt; spelled = refl })
 
 -- no open forest spells the octet that is refused
-pub halt-longest : (w : Framing) (f : Forest) (code : FaultCode) (b : List ℕ) → IsHalt w f code b → (g : Forest) → IsOpen (top_place w) g → IsPrefixOf (spelling g) b
+pub halt-longest : (w : Framing) (f : Forest) (code : FaultCode) (b : List ℕ) → IsHalt w f code b → (g : Forest)
+    → IsOpen (top_place w) g → IsPrefixOf (spelling g) b
     → length (spelling g) ≤ length (spelling f)
 halt-longest w f code b r g v q = elim (cases_lt (length (spelling f)) (length (spelling g))) [
   | inl more ↦
-      let end : (spelling f ++ r.octet ∷ []) ++ r.rest ≡ spelling g ++ q.0 = append_assoc (spelling f) (r.octet ∷ []) r.rest ∙ (r.front ∙ sym q.1) in
+      let end : (spelling f ++ r.octet ∷ []) ++ r.rest ≡ spelling g ++ q.0 =
+          append_assoc (spelling f) (r.octet ∷ []) r.rest ∙ (r.front ∙ sym q.1) in
       let u : (u : List ℕ) × (spelling g ≡ (spelling f ++ r.octet ∷ []) ++ u) =
-      front-of (spelling f ++ r.octet ∷ []) (spelling g) r.rest q.0 end (omega (arith, length-append (spelling f) (r.octet ∷ []))) in
-      let k : (k : Forest) × Spells (top_place w) (spelling f ++ r.octet ∷ []) k = prefix (top_place w) g (spelling f ++ r.octet ∷ []) u.0 v u.1 in
-      let grown : push (top_place w) f r.octet ≡ Grown k.0 = push-complete (top_place w) f k.0 r.octet r.is_open k.1.is_open k.1.spelled in
+      front-of (spelling f ++ r.octet ∷ []) (spelling g) r.rest q.0 end
+          (omega (arith, length-append (spelling f) (r.octet ∷ []))) in
+      let k : (k : Forest) × Spells (top_place w) (spelling f ++ r.octet ∷ []) k =
+          prefix (top_place w) g (spelling f ++ r.octet ∷ []) u.0 v u.1 in
+      let grown : push (top_place w) f r.octet ≡ Grown k.0 =
+          push-complete (top_place w) f k.0 r.octet r.is_open k.1.is_open k.1.spelled in
       let refused : push (top_place w) f r.octet ≡ Refused code = r.refused in
       absurd (cc (grown, refused))
   | inr less ↦ less
@@ -180,21 +203,31 @@ run-reading w (Going f) b r = record {
   is_prefix = ([], append-nil (spelling f) ∙ r.spelled);
   longest = λ g v q. omega (arith, ap length q.1, ap length r.spelled, length-append (spelling g) q.0);
 }
-run-reading w (Halted f code) b r = record { is_open = r.is_open; is_prefix = (r.octet ∷ r.rest, r.front); longest = halt-longest w f code b r }
+run-reading w (Halted f code) b r = record {
+  is_open = r.is_open;
+  is_prefix = (r.octet ∷ r.rest, r.front);
+  longest = halt-longest w f code b r;
+}
 
 -- an input of octets has a reading
 pub is-reading : (w : Framing) (b : List ℕ) → All (λ x. x < 256) b → IsReading w b (reading w b)
 is-reading w b each = run-reading w (run w b) b (is-run w b each)
 
 -- after octets that are all read others can be read too
-pub reading-longer : (w : Framing) (f : Forest) (b xs : List ℕ) → All (λ x. x < 256) xs → IsReading w b f → spelling f ≡ b → (g : Forest) × IsReading w (b ++ xs) g
+pub reading-longer : (w : Framing) (f : Forest) (b xs : List ℕ) → All (λ x. x < 256) xs → IsReading w b f
+    → spelling f ≡ b → (g : Forest) × IsReading w (b ++ xs) g
 reading-longer w f b xs each r e =
     let k : Run = run_from w (Going f) xs in
-    (forest_of k, run-reading w k (b ++ xs) (run_from-run w (Going f) b xs each (record { is_open = r.is_open; spelled = e })))
+    (forest_of k, run-reading w k (b ++ xs) (run_from-run w (Going f) b xs each (record {
+      is_open = r.is_open;
+      spelled = e;
+    })))
 
 -- an input has one reading
 pub reading-unique : (w : Framing) (b : List ℕ) (f g : Forest) → IsReading w b f → IsReading w b g → f ≡ g
 reading-unique w b f g r s =
     let most : length (spelling f) ≤ length (spelling g) = s.longest f r.is_open r.is_prefix in
     let most' : length (spelling g) ≤ length (spelling f) = r.longest g s.is_open s.is_prefix in
-    unique (top_place w) f g r.is_open s.is_open (front-same (spelling f) (spelling g) (r.is_prefix.0) (s.is_prefix.0) (r.is_prefix.1 ∙ sym s.is_prefix.1) (omega arith))
+    unique (top_place w) f g r.is_open s.is_open
+        (front-same (spelling f) (spelling g) (r.is_prefix.0) (s.is_prefix.0) (r.is_prefix.1 ∙ sym s.is_prefix.1)
+            (omega arith))

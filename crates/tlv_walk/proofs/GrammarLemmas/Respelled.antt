@@ -1,12 +1,14 @@
--- Sound elements can be spelled with headers as short as they can be, and lengths of one form; the strings that hold elements are
--- named where they then are.
-use Rattle.std.proofs.Common.{◌≡◌, ◌≢◌, not, ℕ, ◌+◌, ◌*◌, ◌^◌, ◌<◌, ◌≤◌, Bool, true, false, List, [], ◌∷◌, ◌++◌, length, refl, sym, ap, ap₂, ◌∙◌, arith, subst, length-append}
+-- Sound elements can be spelled with headers as short as they can be, and lengths of one form; the strings that
+-- hold elements are named where they then are.
+use Rattle.std.proofs.Common.{◌≡◌, ◌≢◌, not, ℕ, ◌+◌, ◌*◌, ◌^◌, ◌<◌, ◌≤◌, Bool, true, false, List, [], ◌∷◌, ◌++◌, length}
+use Rattle.std.proofs.Common.{refl, sym, ap, ap₂, ◌∙◌, arith, subst, length-append}
 use Rattle.tlv_head.specs.declared.header.Size.{Size}
 use Rattle.tlv_head.specs.declared.header.Size.TheVariants.{Definite}
 use Rattle.tlv_head.specs.Header.{HeaderValue, IsHeader, is_wrapper, identifier_octet, octets_of}
 use Rattle.tlv_head.proofs.ShortestLemmas.Shortest.{identifier-some, lengths-some}
 use Rattle.tlv_walk.specs.Alike.{AreAlike, HaveNoUniversalZero, holders, nothing, padding, primitives}
-use Rattle.tlv_walk.specs.Forest.{Forest, NoMore, PaddingOctet, Primitive, Holder, OpenPrimitive, OpenHolder, OpenBitString, OpenHeader, OpenEndOctets, end_octets, extent, lead, opening, spelling}
+use Rattle.tlv_walk.specs.Forest.{Forest, NoMore, PaddingOctet, Primitive, Holder, OpenPrimitive, OpenHolder}
+use Rattle.tlv_walk.specs.Forest.{OpenBitString, OpenHeader, OpenEndOctets, end_octets, extent, lead, opening, spelling}
 use Rattle.tlv_walk.specs.Inside.{is_among}
 use Rattle.tlv_walk.specs.Place.{Place, place_after, place_of_children}
 use Rattle.tlv_walk.specs.Reading.{IsSound}
@@ -14,7 +16,11 @@ use Rattle.tlv_walk.specs.Wrappers.{wrapper_offsets}
 use Rattle.tlv_walk.proofs.GrammarLemmas.Alike.{AreRegular}
 use Rattle.tlv_walk.proofs.GrammarLemmas.PopHeaders.{header-length}
 use Rattle.tlv_walk.proofs.GrammarLemmas.Spellings.{length-holder, length-opening, length-primitive}
-use Rattle.tlv_walk.proofs.GrammarLemmas.ShortHeaders.{Octets, header_of, octets-in, header-valid, header-shortest, octets-for, header-some, size-for, size-below, size-form, size-length, allows-size, lead-for, lead-short, own, own-there, own-apart, in-first, in-second, in-third, not-holding, Holds, holds-again, moved}
+use Rattle.tlv_walk.proofs.GrammarLemmas.ShortHeaders.{Octets, header_of, octets-in, header-valid, header-shortest}
+use Rattle.tlv_walk.proofs.GrammarLemmas.ShortHeaders.{octets-for, header-some, size-for, size-below, size-form}
+use Rattle.tlv_walk.proofs.GrammarLemmas.ShortHeaders.{size-length, allows-size, lead-for, lead-short, own, own-there}
+use Rattle.tlv_walk.proofs.GrammarLemmas.ShortHeaders.{own-apart, in-first, in-second, in-third, not-holding, Holds}
+use Rattle.tlv_walk.proofs.GrammarLemmas.ShortHeaders.{holds-again, moved}
 
 -- a place of the same rules, whatever is named
 pub record IsLike (p q : Place) : Type 0 where
@@ -49,12 +55,14 @@ pub record Spelling (form : Bool → Bool) (p : Place) (f : Forest) : Type 0 whe
   pub short : length octets ≤ 4 * length (spelling f)
   pub names_after : ComeAfter names
   pub names_within : AreWithin names (length octets)
-  pub there : (q : Place) → IsLike p q → Agrees q (names q.offset) (length octets) → SpelledAt form q f octets (names q.offset)
+  pub there : (q : Place) → IsLike p q → Agrees q (names q.offset) (length octets)
+      → SpelledAt form q f octets (names q.offset)
 
 -- what is named of an element that holds others and of those after it, by where it is: what it holds is `begins` octets
 -- on, and what is after it `far` octets on
 abbrev joined : (constructed : Bool) (inner others : ℕ → List ℕ) (begins far : ℕ) → ℕ → List ℕ
-joined constructed inner others begins far offset = own constructed offset ++ (inner (offset + begins) ++ others (offset + far))
+joined constructed inner others begins far offset =
+    own constructed offset ++ (inner (offset + begins) ++ others (offset + far))
 
 -- if it holds `count` octets, and `rest` octets are after it
 record Joins (constructed : Bool) (inner others : ℕ → List ℕ) (begins count far rest : ℕ) : Type 0 where
@@ -63,33 +71,42 @@ record Joins (constructed : Bool) (inner others : ℕ → List ℕ) (begins coun
   pub of_own : (offset : ℕ) → is_among offset (joined constructed inner others begins far offset) ≡ not constructed
   pub of_inner : (offset i : ℕ) → offset + begins ≤ i → i < offset + begins + count
       → is_among i (joined constructed inner others begins far offset) ≡ is_among i (inner (offset + begins))
-  pub of_others : (offset i : ℕ) → offset + far ≤ i → is_among i (joined constructed inner others begins far offset) ≡ is_among i (others (offset + far))
+  pub of_others : (offset i : ℕ) → offset + far ≤ i
+      → is_among i (joined constructed inner others begins far offset) ≡ is_among i (others (offset + far))
 
 joins : (constructed : Bool) (inner others : ℕ → List ℕ) (begins count far rest : ℕ) → 1 ≤ begins → begins + count ≤ far
-    → ComeAfter inner → AreWithin inner count → ComeAfter others → AreWithin others rest → Joins constructed inner others begins count far rest
-joins constructed inner others begins count far rest some on inner_after inner_within others_after others_within = record {
+    → ComeAfter inner → AreWithin inner count → ComeAfter others → AreWithin others rest
+        → Joins constructed inner others begins count far rest
+joins constructed inner others begins count far rest some on inner_after inner_within others_after others_within =
+    record {
   after = λ offset i less.
-      in-third i (own constructed offset) (inner (offset + begins)) (others (offset + far)) (own-apart constructed offset i (λ e. omega (arith, less, e)))
+      in-third i (own constructed offset) (inner (offset + begins)) (others (offset + far))
+          (own-apart constructed offset i (λ e. omega (arith, less, e)))
       (inner_after (offset + begins) i (omega (arith, less)))
       ∙ others_after (offset + far) i (omega (arith, less));
   within = λ offset i more.
-      in-third i (own constructed offset) (inner (offset + begins)) (others (offset + far)) (own-apart constructed offset i (λ e. omega (arith, more, e, some, on)))
+      in-third i (own constructed offset) (inner (offset + begins)) (others (offset + far))
+          (own-apart constructed offset i (λ e. omega (arith, more, e, some, on)))
       (inner_within (offset + begins) i (omega (arith, more, on)))
       ∙ others_within (offset + far) i (omega (arith, more));
   of_own = λ offset.
-      in-first offset (own constructed offset) (inner (offset + begins)) (others (offset + far)) (inner_after (offset + begins) offset (omega (arith, some)))
+      in-first offset (own constructed offset) (inner (offset + begins)) (others (offset + far))
+          (inner_after (offset + begins) offset (omega (arith, some)))
       (others_after (offset + far) offset (omega (arith, some, on)))
       ∙ own-there constructed offset;
   of_inner = λ offset i least most.
-      in-second i (own constructed offset) (inner (offset + begins)) (others (offset + far)) (own-apart constructed offset i (λ e. omega (arith, least, some, e)))
+      in-second i (own constructed offset) (inner (offset + begins)) (others (offset + far))
+          (own-apart constructed offset i (λ e. omega (arith, least, some, e)))
       (others_after (offset + far) i (omega (arith, most, on)));
   of_others = λ offset i least.
-      in-third i (own constructed offset) (inner (offset + begins)) (others (offset + far)) (own-apart constructed offset i (λ e. omega (arith, least, some, on, e)))
+      in-third i (own constructed offset) (inner (offset + begins)) (others (offset + far))
+          (own-apart constructed offset i (λ e. omega (arith, least, some, on, e)))
       (inner_within (offset + begins) i (omega (arith, least, on)));
 }
 
 module _ (form : Bool → Bool) (definite : form false ≡ false) where
-  spelling-padding : (p : Place) (rest : Forest) → p.padding ≡ true → Spelling form (place_after p 1) rest → Spelling form p (PaddingOctet rest)
+  spelling-padding : (p : Place) (rest : Forest) → p.padding ≡ true → Spelling form (place_after p 1) rest
+      → Spelling form p (PaddingOctet rest)
   spelling-padding p rest allowed r = record {
     octets = 0 ∷ r.octets;
     names = λ offset. r.names (offset + 1);
@@ -98,7 +115,8 @@ module _ (form : Bool → Bool) (definite : form false ≡ false) where
     names_within = λ offset i more. r.names_within (offset + 1) i (omega (arith, more));
     there = λ q like agrees.
         let t : SpelledAt form (place_after q 1) rest r.octets (r.names (q.offset + 1)) =
-        r.there (place_after q 1) (record { padding = like.padding; depth = like.depth }) (λ i least most. agrees i (omega (arith, least)) (omega (arith, most))) in
+        r.there (place_after q 1) (record { padding = like.padding; depth = like.depth })
+            (λ i least most. agrees i (omega (arith, least)) (omega (arith, most))) in
         record {
           forest = PaddingOctet t.forest;
           alike = padding rest t.forest t.alike;
@@ -109,7 +127,8 @@ module _ (form : Bool → Bool) (definite : form false ≡ false) where
         };
   }
 
-  spelling-primitive : (p : Place) (h : HeaderValue) (c : List ℕ) (rest : Forest) → h.constructed ≡ false → IsHeader h → (o : Octets h false (Definite (length c)))
+  spelling-primitive : (p : Place) (h : HeaderValue) (c : List ℕ) (rest : Forest) → h.constructed ≡ false → IsHeader h
+      → (o : Octets h false (Definite (length c)))
       → Spelling form (place_after p (length (octets_of h) + length c)) rest → Spelling form p (Primitive h c rest)
   spelling-primitive p h c rest primitive valid o r =
       let header : List ℕ = octets-in h false (Definite (length c)) o in
@@ -120,7 +139,8 @@ module _ (form : Bool → Bool) (definite : form false ≡ false) where
         octets = header ++ (c ++ r.octets);
         names = λ offset. r.names (offset + (length header + length c));
         short =
-            let id : 1 ≤ length h.identifier = identifier-some h.class h.constructed h.number h.identifier valid.identifier in
+            let id : 1 ≤ length h.identifier =
+                identifier-some h.class h.constructed h.number h.identifier valid.identifier in
             let len : 1 ≤ length h.lengths = lengths-some h.size h.lengths valid.lengths in
             omega (
               arith,
@@ -135,7 +155,8 @@ module _ (form : Bool → Bool) (definite : form false ≡ false) where
               length-append o.identifier.octets o.lengths.octets,
             );
         names_after = λ offset i less. r.names_after (offset + (length header + length c)) i (omega (arith, less));
-        names_within = λ offset i more. r.names_within (offset + (length header + length c)) i (omega (arith, more, total));
+        names_within =
+            λ offset i more. r.names_within (offset + (length header + length c)) i (omega (arith, more, total));
         there = λ q like agrees.
             let k : HeaderValue = header_of h false false (Definite (length c)) o q.offset in
             let next : ℕ = q.offset + (length header + length c) in
@@ -143,25 +164,40 @@ module _ (form : Bool → Bool) (definite : form false ≡ false) where
             r.there (place_after q (length header + length c)) (record { padding = like.padding; depth = like.depth })
             (λ i least most. agrees i (omega (arith, least)) (omega (arith, most, total))) in
             let unnamed : is_among q.offset q.inside ≡ false =
-            agrees q.offset (omega arith) (omega (arith, total, some)) ∙ r.names_after next q.offset (omega (arith, some)) in
+            agrees q.offset (omega arith) (omega (arith, total, some))
+                ∙ r.names_after next q.offset (omega (arith, some)) in
             record {
               forest = Primitive k c t.forest;
-              alike = primitives h k c rest t.forest (record { class = refl; constructed = primitive; number = refl }) t.alike;
+              alike =
+                  primitives h k c rest t.forest (record { class = refl; constructed = primitive; number = refl })
+                      t.alike;
               sound = (
-                record { valid = header-valid h false false (Definite (length c)) o q.offset; offset = refl; named = sym unnamed; form = refl },
+                record {
+                  valid = header-valid h false false (Definite (length c)) o q.offset;
+                  offset = refl;
+                  named = sym unnamed;
+                  form = refl;
+                },
                 refl,
                 t.sound,
               );
-              regular = (record { shortest = header-shortest h false false (Definite (length c)) o q.offset; by_form = sym definite }, t.regular);
+              regular =
+                  (record
+                      { shortest =
+                          header-shortest h false false (Definite (length c)) o q.offset; by_form = sym definite
+                      },
+                      t.regular);
               spelled = ap (λ (l : List ℕ). header ++ (c ++ l)) t.spelled;
               names_are = t.names_are;
             };
       }
 
-  spelling-holder : (p : Place) (h : HeaderValue) (inside rest : Forest) (constructed : Bool) → h.constructed ≡ constructed → IsHeader h → p.depth < 128
+  spelling-holder : (p : Place) (h : HeaderValue) (inside rest : Forest) (constructed : Bool)
+      → h.constructed ≡ constructed → IsHeader h → p.depth < 128
       → (held : Spelling form (place_of_children p h) inside)
       → Holds h constructed (form constructed) (length held.octets)
-      → (o : Octets h constructed (size-for (form constructed) (length (lead-for constructed h.number) + length held.octets)))
+      → (o : Octets h constructed
+          (size-for (form constructed) (length (lead-for constructed h.number) + length held.octets)))
       → Spelling form (place_after p (extent h inside)) rest → Spelling form p (Holder h inside rest)
   spelling-holder p h inside rest constructed is valid few held holding o r =
       let first : List ℕ = lead-for constructed h.number in
@@ -169,9 +205,13 @@ module _ (form : Bool → Bool) (definite : form false ≡ false) where
       let size : Size = size-for (form constructed) m in
       let begins : List ℕ = octets-in h constructed size o ++ first in
       let ends : List ℕ = end_octets size in
-      let some : 1 ≤ length begins = omega (arith, header-some h constructed size o, length-append (octets-in h constructed size o) first) in
-      let total : length (begins ++ (held.octets ++ (ends ++ r.octets))) ≡ length begins + (length held.octets + (length ends + length r.octets)) =
-      omega (arith, length-append begins (held.octets ++ (ends ++ r.octets)), length-append held.octets (ends ++ r.octets), length-append ends r.octets) in
+      let some : 1 ≤ length begins =
+          omega (arith, header-some h constructed size o, length-append (octets-in h constructed size o) first) in
+      let total : length (begins ++ (held.octets ++ (ends ++ r.octets)))
+          ≡ length begins + (length held.octets + (length ends + length r.octets)) =
+      omega
+          (arith, length-append begins (held.octets ++ (ends ++ r.octets)),
+              length-append held.octets (ends ++ r.octets), length-append ends r.octets) in
       let far : ℕ = length begins + (length held.octets + length ends) in
       let joint : Joins constructed held.names r.names (length begins) (length held.octets) far (length r.octets) =
       joins constructed held.names r.names (length begins) (length held.octets) far (length r.octets) some (omega arith)
@@ -181,7 +221,8 @@ module _ (form : Bool → Bool) (definite : form false ≡ false) where
         octets = begins ++ (held.octets ++ (ends ++ r.octets));
         names = joined constructed held.names r.names (length begins) far;
         short =
-            let id : 1 ≤ length h.identifier = identifier-some h.class h.constructed h.number h.identifier valid.identifier in
+            let id : 1 ≤ length h.identifier =
+                identifier-some h.class h.constructed h.number h.identifier valid.identifier in
             let len : 1 ≤ length h.lengths = lengths-some h.size h.lengths valid.lengths in
             omega (
               arith,
@@ -207,53 +248,87 @@ module _ (form : Bool → Bool) (definite : form false ≡ false) where
             agrees q.offset (omega arith) (omega (arith, total, some)) ∙ joint.of_own q.offset in
             let i : SpelledAt form (place_of_children q k) inside held.octets (held.names (q.offset + length begins)) =
             held.there (place_of_children q k) (record { padding = refl; depth = ap (λ (d : ℕ). d + 1) like.depth })
-            (λ j least most. agrees j (omega (arith, least)) (omega (arith, most, total)) ∙ joint.of_inner q.offset j least most) in
-            let next_is : extent k i.forest ≡ far = ap (λ (l : List ℕ). length begins + (length l + length ends)) i.spelled in
-            let t : SpelledAt form (place_after q (extent k i.forest)) rest r.octets (r.names (q.offset + extent k i.forest)) =
+            (λ j least most. agrees j (omega (arith, least)) (omega (arith, most, total))
+                ∙ joint.of_inner q.offset j least most) in
+            let next_is : extent k i.forest ≡ far =
+                ap (λ (l : List ℕ). length begins + (length l + length ends)) i.spelled in
+            let t : SpelledAt form (place_after q (extent k i.forest)) rest r.octets
+                (r.names (q.offset + extent k i.forest)) =
             r.there (place_after q (extent k i.forest)) (record { padding = like.padding; depth = like.depth })
             (λ j least most.
             agrees j (omega (arith, least)) (omega (arith, most, next_is, total))
             ∙ joint.of_others q.offset j (omega (arith, least, next_is))
             ∙ ap (λ (n : ℕ). is_among j (r.names (q.offset + n))) (sym next_is)) in
-            let others_are : wrapper_offsets t.forest ≡ r.names (q.offset + far) = t.names_are ∙ ap (λ (n : ℕ). r.names (q.offset + n)) next_is in
+            let others_are : wrapper_offsets t.forest ≡ r.names (q.offset + far) =
+                t.names_are ∙ ap (λ (n : ℕ). r.names (q.offset + n)) next_is in
             record {
               forest = Holder k i.forest t.forest;
-              alike = holders h k inside i.forest rest t.forest (record { class = refl; constructed = is; number = refl }) i.alike t.alike;
+              alike =
+                  holders h k inside i.forest rest t.forest (record { class = refl; constructed = is; number = refl })
+                      i.alike t.alike;
               sound = (
-                record { valid = header-valid h (not constructed) constructed size o q.offset; offset = refl; named = sym named; form = holding.again },
-                size-length (form constructed) m (length first + length (spelling i.forest)) (omega (arith, ap length i.spelled)),
+                record {
+                  valid = header-valid h (not constructed) constructed size o q.offset;
+                  offset = refl;
+                  named = sym named;
+                  form = holding.again;
+                },
+                size-length (form constructed) m (length first + length (spelling i.forest))
+                    (omega (arith, ap length i.spelled)),
                 omega (arith, like.depth, few),
                 i.sound,
                 t.sound,
               );
-              regular = (record { shortest = header-shortest h (not constructed) constructed size o q.offset; by_form = size-form (form constructed) m }, i.regular, t.regular);
+              regular =
+                  (record
+                      { shortest =
+                          header-shortest h (not constructed) constructed size o q.offset; by_form =
+                              size-form (form constructed) m
+                      },
+                      i.regular, t.regular);
               spelled = ap₂ (λ (x y : List ℕ). begins ++ (x ++ (ends ++ y))) i.spelled t.spelled;
               names_are = ap₂ (λ (x y : List ℕ). own constructed q.offset ++ (x ++ y)) i.names_are others_are;
             };
       }
 
-  pub respelled : (p : Place) (f : Forest) → length (spelling f) ≤ 2 ^ 38 → IsSound p f → HaveNoUniversalZero f → Spelling form p f
+  pub respelled : (p : Place) (f : Forest) → length (spelling f) ≤ 2 ^ 38 → IsSound p f → HaveNoUniversalZero f
+      → Spelling form p f
   respelled p NoMore few u low = record {
     octets = [];
     names = λ offset. [];
     short = omega arith;
     names_after = λ offset i less. refl;
     names_within = λ offset i more. refl;
-    there = λ q like agrees. record { forest = NoMore; alike = nothing; sound = tt; regular = tt; spelled = refl; names_are = refl };
+    there = λ q like agrees. record {
+      forest = NoMore;
+      alike = nothing;
+      sound = tt;
+      regular = tt;
+      spelled = refl;
+      names_are = refl;
+    };
   }
-  respelled p (PaddingOctet rest) few u low = spelling-padding p rest u.0 (respelled (place_after p 1) rest (omega (arith, few)) u.1 low)
+  respelled p (PaddingOctet rest) few u low =
+      spelling-padding p rest u.0 (respelled (place_after p 1) rest (omega (arith, few)) u.1 low)
   respelled p (Primitive h c rest) few u low =
-      let count : length (spelling (Primitive h c rest)) ≡ length (octets_of h) + length c + length (spelling rest) = length-primitive h c rest in
-      let primitive : h.constructed ≡ false = not-holding h.constructed (is_wrapper h.named h.class h.constructed h.number h.size) u.0.form in
+      let count : length (spelling (Primitive h c rest)) ≡ length (octets_of h) + length c + length (spelling rest) =
+          length-primitive h c rest in
+      let primitive : h.constructed ≡ false =
+          not-holding h.constructed (is_wrapper h.named h.class h.constructed h.number h.size) u.0.form in
       let o : Octets h false (Definite (length c)) =
-      octets-for h false (Definite (length c)) (moved h.class h.constructed false h.number h.identifier primitive u.0.valid.identifier)
-      (subst (λ (k : Bool). identifier_octet h.class k h.number ≢ 0) primitive low.0) refl (omega (arith, count, few)) in
-      spelling-primitive p h c rest primitive u.0.valid o (respelled (place_after p (length (octets_of h) + length c)) rest (omega (arith, count, few)) u.2 low.1)
+      octets-for h false (Definite (length c))
+          (moved h.class h.constructed false h.number h.identifier primitive u.0.valid.identifier)
+      (subst (λ (k : Bool). identifier_octet h.class k h.number ≢ 0) primitive low.0) refl
+          (omega (arith, count, few)) in
+      spelling-primitive p h c rest primitive u.0.valid o
+          (respelled (place_after p (length (octets_of h) + length c)) rest (omega (arith, count, few)) u.2 low.1)
   respelled p (Holder h inside rest) few u low =
-      let count : length (spelling (Holder h inside rest)) ≡ extent h inside + length (spelling rest) = length-holder h inside rest in
+      let count : length (spelling (Holder h inside rest)) ≡ extent h inside + length (spelling rest) =
+          length-holder h inside rest in
       let begins : length (opening h) ≡ length (octets_of h) + length (lead h) = length-opening h in
       let some : 2 ≤ length (octets_of h) = header-length h u.0.valid in
-      let held : Spelling form (place_of_children p h) inside = respelled (place_of_children p h) inside (omega (arith, count, few)) u.3 low.0 in
+      let held : Spelling form (place_of_children p h) inside =
+          respelled (place_of_children p h) inside (omega (arith, count, few)) u.3 low.0 in
       let m : ℕ = length (lead h) + length held.octets in
       let below : m < 2 ^ 40 = omega (arith, held.short, count, begins, some, few, lead-short h.constructed h.number) in
       let primitive : h.constructed ≡ false → form h.constructed ≡ false = λ e. ap form e ∙ definite in
@@ -263,7 +338,8 @@ module _ (form : Bool → Bool) (definite : form false ≡ false) where
       octets-for h h.constructed (size-for (form h.constructed) m) u.0.valid.identifier holding.nonzero
       (allows-size h.constructed (form h.constructed) m primitive)
       (size-below (form h.constructed) m below) in
-      spelling-holder p h inside rest h.constructed refl u.0.valid u.2 held holding o (respelled (place_after p (extent h inside)) rest (omega (arith, count, few)) u.4 low.1)
+      spelling-holder p h inside rest h.constructed refl u.0.valid u.2 held holding o
+          (respelled (place_after p (extent h inside)) rest (omega (arith, count, few)) u.4 low.1)
   respelled p (OpenPrimitive h c) few u low = absurd u
   respelled p (OpenHolder h inside) few u low = absurd u
   respelled p (OpenBitString h) few u low = absurd u

@@ -1,12 +1,15 @@
 -- Headers as short as they can be, in place of those of an element, and with a length of either form.
-use Rattle.std.proofs.Common.{◌≡◌, ◌≢◌, ◌⊎◌, inl, inr, ◌&&◌, ◌||◌, not, eqb, ℕ, ◌+◌, ◌^◌, ◌<◌, ◌≤◌, Bool, true, false, List, [], ◌∷◌, ◌++◌, length, refl, sym, ap, ap₂, ◌∙◌, arith, subst, length-append, eq-eqb, eqb-true, ne_eqb}
+use Rattle.std.proofs.Common.{◌≡◌, ◌≢◌, ◌⊎◌, inl, inr, ◌&&◌, ◌||◌, not, eqb, ℕ, ◌+◌, ◌^◌, ◌<◌, ◌≤◌, Bool, true, false}
+use Rattle.std.proofs.Common.{List, [], ◌∷◌, ◌++◌, length, refl, sym, ap, ap₂, ◌∙◌, arith, subst, length-append, eq-eqb}
+use Rattle.std.proofs.Common.{eqb-true, ne_eqb}
 use Rattle.std.proofs.lemmas.Bool.{and_parts, or_from, true≢false}
 use Rattle.std.proofs.lemmas.List.Folds.{list_any-append}
 use Rattle.std.specs.Prelude.{if◌then◌else◌}
 use Rattle.tlv_head.specs.declared.header.Class.{Class}
 use Rattle.tlv_head.specs.declared.header.Size.{Size}
 use Rattle.tlv_head.specs.declared.header.Size.TheVariants.{Definite, Indefinite}
-use Rattle.tlv_head.specs.Header.{AllowsSize, HeaderValue, IsHeader, IsIdentifier, announced_length, is_universal, is_wrapper, identifier_octet}
+use Rattle.tlv_head.specs.Header.{AllowsSize, HeaderValue, IsHeader, IsIdentifier, announced_length, is_universal}
+use Rattle.tlv_head.specs.Header.{is_wrapper, identifier_octet}
 use Rattle.tlv_head.specs.Shortest.{IsShortest}
 use Rattle.tlv_head.proofs.ShortestLemmas.LengthOctets.{FewLengths, few-lengths}
 use Rattle.tlv_head.proofs.ShortestLemmas.Shortest.{identifier-le, identifier-some}
@@ -27,7 +30,8 @@ pub record Octets (h : HeaderValue) (constructed : Bool) (size : Size) : Type 0 
   pub few_lengths : length lengths.octets + length (end_octets size) ≤ 6
 
 -- the header, named if it is to be that of a wrapper
-abbrev pub header_of : (h : HeaderValue) (named constructed : Bool) (size : Size) → Octets h constructed size → ℕ → HeaderValue
+abbrev pub header_of : (h : HeaderValue) (named constructed : Bool) (size : Size) → Octets h constructed size → ℕ
+    → HeaderValue
 header_of h named constructed size o offset = record {
   offset = offset;
   named = named;
@@ -42,21 +46,34 @@ header_of h named constructed size o offset = record {
 abbrev pub octets-in : (h : HeaderValue) (constructed : Bool) (size : Size) → Octets h constructed size → List ℕ
 octets-in h constructed size o = o.identifier.octets ++ o.lengths.octets
 
-pub header-valid : (h : HeaderValue) (named constructed : Bool) (size : Size) (o : Octets h constructed size) (offset : ℕ) → IsHeader (header_of h named constructed size o offset)
-header-valid h named constructed size o offset = record { identifier = o.identifier.valid; lengths = o.lengths.valid; allowed = o.allowed }
+pub header-valid : (h : HeaderValue) (named constructed : Bool) (size : Size) (o : Octets h constructed size)
+    (offset : ℕ)
+    → IsHeader (header_of h named constructed size o offset)
+header-valid h named constructed size o offset = record {
+  identifier = o.identifier.valid;
+  lengths = o.lengths.valid;
+  allowed = o.allowed;
+}
 
-pub header-shortest : (h : HeaderValue) (named constructed : Bool) (size : Size) (o : Octets h constructed size) (offset : ℕ) → IsShortest (header_of h named constructed size o offset)
-header-shortest h named constructed size o offset = record { identifier = o.identifier.shortest; lengths = o.lengths.shortest }
+pub header-shortest : (h : HeaderValue) (named constructed : Bool) (size : Size) (o : Octets h constructed size)
+    (offset : ℕ)
+    → IsShortest (header_of h named constructed size o offset)
+header-shortest h named constructed size o offset = record {
+  identifier = o.identifier.shortest;
+  lengths = o.lengths.shortest;
+}
 
 few-octets : (size : Size) (l : ShortLength size) → length l.octets ≤ 6 → length l.octets + length (end_octets size) ≤ 6
 few-octets (Definite n) l few = omega (arith, few)
 few-octets Indefinite l few = omega (arith, ap length l.valid)
 
-pub octets-for : (h : HeaderValue) (constructed : Bool) (size : Size) → IsIdentifier h.class constructed h.number h.identifier
+pub octets-for : (h : HeaderValue) (constructed : Bool) (size : Size)
+    → IsIdentifier h.class constructed h.number h.identifier
     → identifier_octet h.class constructed h.number ≢ 0
     → AllowsSize constructed size → announced_length size < 2 ^ 40 → Octets h constructed size
 octets-for h constructed size valid nonzero allowed below =
-    let i : ShortIdentifier h.class constructed h.number = short-identifier h.class constructed h.number h.identifier valid nonzero in
+    let i : ShortIdentifier h.class constructed h.number =
+        short-identifier h.class constructed h.number h.identifier valid nonzero in
     let l : FewLengths size = few-lengths size below in
     record {
       identifier = i;
@@ -66,7 +83,8 @@ octets-for h constructed size valid nonzero allowed below =
       few_lengths = few-octets size l.short l.few;
     }
 
-pub header-some : (h : HeaderValue) (constructed : Bool) (size : Size) (o : Octets h constructed size) → 1 ≤ length (octets-in h constructed size o)
+pub header-some : (h : HeaderValue) (constructed : Bool) (size : Size) (o : Octets h constructed size)
+    → 1 ≤ length (octets-in h constructed size o)
 header-some h constructed size o =
     omega (
       arith,
@@ -94,7 +112,8 @@ size-length true m n e = tt
 size-length false m n e = e
 
 -- a primitive has a definite length
-pub allows-size : (constructed t : Bool) (m : ℕ) → (constructed ≡ false → t ≡ false) → AllowsSize constructed (size-for t m)
+pub allows-size : (constructed t : Bool) (m : ℕ) → (constructed ≡ false → t ≡ false)
+    → AllowsSize constructed (size-for t m)
 allows-size true t m e = refl
 allows-size false false m e = refl
 allows-size false true m e = absurd (true≢false (e refl))
@@ -132,16 +151,23 @@ or-false true = refl
 or-false false = refl
 
 -- an offset that is in none but one of three lists
-pub in-first : (i : ℕ) (a b c : List ℕ) → is_among i b ≡ false → is_among i c ≡ false → is_among i (a ++ (b ++ c)) ≡ is_among i a
+pub in-first : (i : ℕ) (a b c : List ℕ) → is_among i b ≡ false → is_among i c ≡ false
+    → is_among i (a ++ (b ++ c)) ≡ is_among i a
 in-first i a b c e f =
-    is_among-append i a (b ++ c) ∙ ap (λ k. is_among i a || k) (is_among-append i b c ∙ or_from (is_among i b) (is_among i c) e f) ∙ or-false (is_among i a)
+    is_among-append i a (b ++ c)
+        ∙ ap (λ k. is_among i a || k) (is_among-append i b c ∙ or_from (is_among i b) (is_among i c) e f)
+        ∙ or-false (is_among i a)
 
-pub in-second : (i : ℕ) (a b c : List ℕ) → is_among i a ≡ false → is_among i c ≡ false → is_among i (a ++ (b ++ c)) ≡ is_among i b
+pub in-second : (i : ℕ) (a b c : List ℕ) → is_among i a ≡ false → is_among i c ≡ false
+    → is_among i (a ++ (b ++ c)) ≡ is_among i b
 in-second i a b c e f =
-    is_among-append i a (b ++ c) ∙ ap₂ (λ k l. k || l) e (is_among-append i b c ∙ ap (λ k. is_among i b || k) f) ∙ or-false (is_among i b)
+    is_among-append i a (b ++ c) ∙ ap₂ (λ k l. k || l) e (is_among-append i b c ∙ ap (λ k. is_among i b || k) f)
+        ∙ or-false (is_among i b)
 
-pub in-third : (i : ℕ) (a b c : List ℕ) → is_among i a ≡ false → is_among i b ≡ false → is_among i (a ++ (b ++ c)) ≡ is_among i c
-in-third i a b c e f = is_among-append i a (b ++ c) ∙ ap₂ (λ k l. k || l) e (is_among-append i b c ∙ ap (λ k. k || is_among i c) f)
+pub in-third : (i : ℕ) (a b c : List ℕ) → is_among i a ≡ false → is_among i b ≡ false
+    → is_among i (a ++ (b ++ c)) ≡ is_among i c
+in-third i a b c e f =
+    is_among-append i a (b ++ c) ∙ ap₂ (λ k l. k || l) e (is_among-append i b c ∙ ap (λ k. k || is_among i c) f)
 
 -- ---- what holds others
 
@@ -163,14 +189,17 @@ number-of number some e = elim (cases (eqb number 4) (eqb number 3 && some) e) [
   cases true y e = inl refl
   cases false y e = inr e
 
-string-of : (named : Bool) (class : Class) (number : ℕ) (size : Size) → is_wrapper named class false number size ≡ true → IsString class number
+string-of : (named : Bool) (class : Class) (number : ℕ) (size : Size)
+    → is_wrapper named class false number size ≡ true → IsString class number
 string-of true class number size e =
-    let parts = and_parts (is_universal class) (eqb number 4 || (eqb number 3 && not (eqb (announced_length size) 0))) e in
+    let parts =
+        and_parts (is_universal class) (eqb number 4 || (eqb number 3 && not (eqb (announced_length size) 0))) e in
     record { universal = parts.0; kind = number-of number (not (eqb (announced_length size) 0)) parts.1 }
 string-of false class number size e = absurd (true≢false (sym e))
 
 string-nonzero : (class : Class) (number : ℕ) → IsString class number → identifier_octet class false number ≢ 0
-string-nonzero class number s z = elim s.kind [ inl four ↦ omega (arith, z, four) | inr three ↦ omega (arith, z, three) ]
+string-nonzero class number s z =
+    elim s.kind [ inl four ↦ omega (arith, z, four) | inr three ↦ omega (arith, z, three) ]
 
 -- with as many contents octets as it has before what it holds, and more
 string-wraps : (class : Class) (number : ℕ) (t : Bool) (n : ℕ) → IsString class number → t ≡ false
@@ -187,7 +216,10 @@ constructed-nonzero class n z = omega (arith, z)
 -- what was held is so again
 pub record Holds (h : HeaderValue) (constructed : Bool) (t : Bool) (n : ℕ) : Type 0 where
   pub nonzero : identifier_octet h.class constructed h.number ≢ 0
-  pub again : (constructed || is_wrapper (not constructed) h.class constructed h.number (size-for t (length (lead-for constructed h.number) + n))) ≡ true
+  pub again : (constructed
+      || is_wrapper (not constructed) h.class constructed h.number
+          (size-for t (length (lead-for constructed h.number) + n)))
+      ≡ true
 
 pub holds-again : (h : HeaderValue) (constructed t : Bool) (n : ℕ) → (constructed ≡ false → t ≡ false)
     → (constructed || is_wrapper h.named h.class constructed h.number h.size) ≡ true → Holds h constructed t n
@@ -196,5 +228,6 @@ holds-again h false t n e holding =
     let s : IsString h.class h.number = string-of h.named h.class h.number h.size holding in
     record { nonzero = string-nonzero h.class h.number s; again = string-wraps h.class h.number t n s (e refl) }
 
-pub moved : (class : Class) (a b : Bool) (n : ℕ) (octets : List ℕ) → a ≡ b → IsIdentifier class a n octets → IsIdentifier class b n octets
+pub moved : (class : Class) (a b : Bool) (n : ℕ) (octets : List ℕ) → a ≡ b → IsIdentifier class a n octets
+    → IsIdentifier class b n octets
 moved class a b n octets e v = subst (λ (k : Bool). IsIdentifier class k n octets) e v

@@ -2,7 +2,8 @@
 use Rattle.std.proofs.Common.{◌≡◌, ◌+◌, true, false, length, refl, arith}
 use Rattle.tlv_head.specs.Header.{HeaderValue, octets_of}
 use Rattle.tlv_walk.specs.declared.framing.Framing.{Framing}
-use Rattle.tlv_walk.specs.Forest.{Forest, Holder, NoMore, OpenBitString, OpenEndOctets, OpenHeader, OpenHolder, OpenPrimitive, PaddingOctet, Primitive, contents_length, extent, is_whole, spelling}
+use Rattle.tlv_walk.specs.Forest.{Forest, Holder, NoMore, OpenBitString, OpenEndOctets, OpenHeader, OpenHolder}
+use Rattle.tlv_walk.specs.Forest.{OpenPrimitive, PaddingOctet, Primitive, contents_length, extent, is_whole, spelling}
 use Rattle.tlv_walk.specs.Place.{Fits, IsOpen, Place, place_after, place_of_children, top_place}
 use Rattle.tlv_walk.proofs.GrammarLemmas.Lengths.{HasLength}
 use Rattle.tlv_walk.specs.Reading.{IsSound}
@@ -22,28 +23,36 @@ sound-whole p (OpenHeader octets) s = absurd s
 sound-whole p OpenEndOctets s = absurd s
 
 -- the contents of an element within the bound are within the bound inside
-fits-contents : (p : Place) (h : HeaderValue) (inside : Forest) → HasLength h.size (contents_length h inside) → Fits p (extent h inside) → Fits (place_of_children p h) (length (spelling inside))
+fits-contents : (p : Place) (h : HeaderValue) (inside : Forest) → HasLength h.size (contents_length h inside)
+    → Fits p (extent h inside) → Fits (place_of_children p h) (length (spelling inside))
 fits-contents p h inside same f =
     within-le (place_of_children p h).bound _ _ (omega (arith, length-opening h))
     (filled-within h.size (p.offset + length (octets_of h)) p.bound (contents_length h inside) same
     (within-le p.bound _ _ (omega (arith, length-opening h)) f))
 
 -- sound elements that end within the bound are an open forest
-pub sound-open : (p : Place) (f : Forest) → (p.padding ≡ true → p.indefinite ≡ false) → Fits p (length (spelling f)) → IsSound p f → IsOpen p f
+pub sound-open : (p : Place) (f : Forest) → (p.padding ≡ true → p.indefinite ≡ false) → Fits p (length (spelling f))
+    → IsSound p f → IsOpen p f
 sound-open p NoMore d z s = tt
 sound-open p (PaddingOctet rest) d z s = (
   (s.0, d s.0, within-le p.bound _ _ (omega arith) z),
   sound-open (place_after p 1) rest d (within-le p.bound _ _ (omega arith) z) s.1,
 )
 sound-open p (Primitive h c rest) d z s = (
-  (record { header = s.0; shallow = λ e. absurd (cc (e)); fits = within-le p.bound _ _ (omega (arith, length-primitive h c rest)) z }, s.1),
-  sound-open (place_after p (length (octets_of h) + length c)) rest d (within-le p.bound _ _ (omega (arith, length-primitive h c rest)) z) s.2,
+  (record
+      { header =
+          s.0; shallow = λ e. absurd (cc (e)); fits = within-le p.bound _ _ (omega (arith, length-primitive h c rest)) z
+      },
+      s.1),
+  sound-open (place_after p (length (octets_of h) + length c)) rest d
+      (within-le p.bound _ _ (omega (arith, length-primitive h c rest)) z) s.2,
 )
 sound-open p (Holder h inside rest) d z s =
     let f : Fits p (extent h inside) = within-le p.bound _ _ (omega (arith, length-holder h inside rest)) z in (
       (record { header = s.0; shallow = λ _. s.2; fits = f }, sound-whole (place_of_children p h) inside s.3, s.1),
       sound-open (place_of_children p h) inside (λ e. absurd (cc)) (fits-contents p h inside s.1 f) s.3,
-      sound-open (place_after p (extent h inside)) rest d (within-le p.bound _ _ (omega (arith, length-holder h inside rest)) z) s.4,
+      sound-open (place_after p (extent h inside)) rest d
+          (within-le p.bound _ _ (omega (arith, length-holder h inside rest)) z) s.4,
     )
 sound-open p (OpenPrimitive h c) d z s = absurd s
 sound-open p (OpenHolder h inside) d z s = absurd s
@@ -55,9 +64,11 @@ sound-open p OpenEndOctets d z s = absurd s
 pub open-sound : (p : Place) (f : Forest) → IsOpen p f → is_whole f ≡ true → IsSound p f
 open-sound p NoMore w t = tt
 open-sound p (PaddingOctet rest) w t = (w.0.0, open-sound (place_after p 1) rest w.1 t)
-open-sound p (Primitive h c rest) w t = (w.0.0.header, w.0.1, open-sound (place_after p (length (octets_of h) + length c)) rest w.1 t)
+open-sound p (Primitive h c rest) w t =
+    (w.0.0.header, w.0.1, open-sound (place_after p (length (octets_of h) + length c)) rest w.1 t)
 open-sound p (Holder h inside rest) w t =
-    (w.0.0.header, w.0.2, w.0.0.shallow refl, open-sound (place_of_children p h) inside w.1 w.0.1, open-sound (place_after p (extent h inside)) rest w.2 t)
+    (w.0.0.header, w.0.2, w.0.0.shallow refl, open-sound (place_of_children p h) inside w.1 w.0.1,
+        open-sound (place_after p (extent h inside)) rest w.2 t)
 open-sound p (OpenPrimitive h c) w t = absurd (cc)
 open-sound p (OpenHolder h inside) w t = absurd (cc)
 open-sound p (OpenBitString h) w t = absurd (cc)

@@ -1,5 +1,6 @@
 -- Spellings: how long they are, and how they are regrouped.
-use Rattle.std.proofs.Common.{◌≡◌, ℕ, ◌+◌, ◌≤◌, List, [], ◌∷◌, ◌++◌, length, ap, ◌∙◌, arith, append_assoc, length-append, refl, sym}
+use Rattle.std.proofs.Common.{◌≡◌, ℕ, ◌+◌, ◌≤◌, List, [], ◌∷◌, ◌++◌, length, ap, ◌∙◌, arith, append_assoc}
+use Rattle.std.proofs.Common.{length-append, refl, sym}
 use Rattle.tlv_head.specs.Header.{HeaderValue, octets_of}
 use Rattle.tlv_walk.specs.Forest.{Forest, Primitive, Holder, end_octets, extent, lead, opening, spelling}
 
@@ -8,13 +9,19 @@ pub length-opening : (h : HeaderValue) → length (opening h) ≡ length (octets
 length-opening h = length-append (octets_of h) (lead h)
 
 -- a primitive, and what follows it
-pub length-primitive : (h : HeaderValue) (c : List ℕ) (rest : Forest) → length (spelling (Primitive h c rest)) ≡ length (octets_of h) + length c + length (spelling rest)
-length-primitive h c rest = omega (arith, length-append (octets_of h) (c ++ spelling rest), length-append c (spelling rest))
+pub length-primitive : (h : HeaderValue) (c : List ℕ) (rest : Forest)
+    → length (spelling (Primitive h c rest)) ≡ length (octets_of h) + length c + length (spelling rest)
+length-primitive h c rest =
+    omega (arith, length-append (octets_of h) (c ++ spelling rest), length-append c (spelling rest))
 
 -- an element that holds others, and what follows it
-pub length-holder : (h : HeaderValue) (inside rest : Forest) → length (spelling (Holder h inside rest)) ≡ extent h inside + length (spelling rest)
+pub length-holder : (h : HeaderValue) (inside rest : Forest)
+    → length (spelling (Holder h inside rest)) ≡ extent h inside + length (spelling rest)
 length-holder h inside rest =
-    omega (arith, length-append (opening h) (spelling inside ++ (end_octets h.size ++ spelling rest)), length-append (spelling inside) (end_octets h.size ++ spelling rest), length-append (end_octets h.size) (spelling rest))
+    omega
+        (arith, length-append (opening h) (spelling inside ++ (end_octets h.size ++ spelling rest)),
+            length-append (spelling inside) (end_octets h.size ++ spelling rest),
+            length-append (end_octets h.size) (spelling rest))
 
 -- octets after a list of three pieces are after the last of them
 pub append_assoc-3 : (a b s t : List ℕ) → (a ++ (b ++ s)) ++ t ≡ a ++ (b ++ (s ++ t))

@@ -2,7 +2,8 @@
 use Rattle.std.proofs.Common.{◌≡◌, ℕ, ◌+◌, true, false, length, Option, Some, None, refl, ◌∙◌, arith}
 use Rattle.tlv_head.specs.declared.fault.FaultCode.{FaultCode}
 use Rattle.tlv_head.specs.Header.{HeaderValue, octets_of}
-use Rattle.tlv_walk.specs.Forest.{Forest, Holder, NoMore, OpenBitString, OpenEndOctets, OpenHeader, OpenHolder, OpenPrimitive, PaddingOctet, Primitive, contents_length, extent, is_whole, spelling}
+use Rattle.tlv_walk.specs.Forest.{Forest, Holder, NoMore, OpenBitString, OpenEndOctets, OpenHeader, OpenHolder}
+use Rattle.tlv_walk.specs.Forest.{OpenPrimitive, PaddingOctet, Primitive, contents_length, extent, is_whole, spelling}
 use Rattle.tlv_walk.specs.Place.{Fits, IsOpen, Place, place_after, place_of_children}
 use Rattle.tlv_walk.specs.Ending.{tip}
 use Rattle.tlv_walk.proofs.GrammarLemmas.Bounds.{fits-inside, lacks-within, within-le}
@@ -30,11 +31,17 @@ refusal-settle h (Refused code) = refl
 -- a refusal after a forest is that at its tip
 pub push-tip : (p : Place) (f : Forest) (x : ℕ) → refusal (push p f x) ≡ refusal (push (tip p f).0 (tip p f).1 x)
 push-tip p NoMore x = refl
-push-tip p (PaddingOctet rest) x = refusal-follow PaddingOctet (push (place_after p 1) rest x) ∙ push-tip (place_after p 1) rest x
-push-tip p (Primitive h c rest) x = refusal-follow (Primitive h c) (push (place_after p (length (octets_of h) + length c)) rest x) ∙ push-tip (place_after p (length (octets_of h) + length c)) rest x
-push-tip p (Holder h inside rest) x = refusal-follow (Holder h inside) (push (place_after p (extent h inside)) rest x) ∙ push-tip (place_after p (extent h inside)) rest x
+push-tip p (PaddingOctet rest) x =
+    refusal-follow PaddingOctet (push (place_after p 1) rest x) ∙ push-tip (place_after p 1) rest x
+push-tip p (Primitive h c rest) x =
+    refusal-follow (Primitive h c) (push (place_after p (length (octets_of h) + length c)) rest x)
+        ∙ push-tip (place_after p (length (octets_of h) + length c)) rest x
+push-tip p (Holder h inside rest) x =
+    refusal-follow (Holder h inside) (push (place_after p (extent h inside)) rest x)
+        ∙ push-tip (place_after p (extent h inside)) rest x
 push-tip p (OpenPrimitive h c) x = refl
-push-tip p (OpenHolder h inside) x = refusal-settle h (push (place_of_children p h) inside x) ∙ push-tip (place_of_children p h) inside x
+push-tip p (OpenHolder h inside) x =
+    refusal-settle h (push (place_of_children p h) inside x) ∙ push-tip (place_of_children p h) inside x
 push-tip p (OpenBitString h) x = refl
 push-tip p (OpenHeader o) x = refl
 push-tip p OpenEndOctets x = refl
@@ -53,11 +60,13 @@ IsTip p OpenEndOctets = Fits p 1
 IsTip p f = ⊥
 
 -- what has room has room at its end
-room-after : (p : Place) (n : ℕ) (f g : Forest) → length (spelling g) ≡ n + length (spelling f) → (is_whole f ≡ true → is_whole g ≡ true) → HasRoom p g → HasRoom (place_after p n) f
+room-after : (p : Place) (n : ℕ) (f g : Forest) → length (spelling g) ≡ n + length (spelling f)
+    → (is_whole f ≡ true → is_whole g ≡ true) → HasRoom p g → HasRoom (place_after p n) f
 room-after p n f g size whole r i w = within-le p.bound _ _ (omega arith) (r i (whole w))
 
 -- what an element holds has room, if octets are lacking
-room-inside : (p : Place) (h : HeaderValue) (inside : Forest) → IsOpen p (OpenHolder h inside) → HasRoom (place_of_children p h) inside
+room-inside : (p : Place) (h : HeaderValue) (inside : Forest) → IsOpen p (OpenHolder h inside)
+    → HasRoom (place_of_children p h) inside
 room-inside p h inside e i w =
     within-le (place_of_children p h).bound _ _ (omega (arith, length-opening h))
     (lacks-within h.size (p.offset + length (octets_of h)) p.bound (contents_length h inside) i (e.0.1 w))
@@ -66,14 +75,18 @@ room-inside p h inside e i w =
 pub tip-fact : (p : Place) (f : Forest) → Fits p 0 → HasRoom p f → IsOpen p f → IsTip (tip p f).0 (tip p f).1
 tip-fact p NoMore z r w = (z, λ i. r i refl)
 tip-fact p (PaddingOctet rest) z r w =
-    tip-fact (place_after p 1) rest (within-le p.bound _ _ (omega arith) w.0.2) (room-after p 1 rest (PaddingOctet rest) (omega arith) (λ t. t) r) w.1
+    tip-fact (place_after p 1) rest (within-le p.bound _ _ (omega arith) w.0.2)
+        (room-after p 1 rest (PaddingOctet rest) (omega arith) (λ t. t) r) w.1
 tip-fact p (Primitive h c rest) z r w =
-    tip-fact (place_after p (length (octets_of h) + length c)) rest (within-le p.bound _ _ (omega arith) w.0.0.fits) (room-after p _ rest (Primitive h c rest) (length-primitive h c rest) (λ t. t) r) w.1
+    tip-fact (place_after p (length (octets_of h) + length c)) rest (within-le p.bound _ _ (omega arith) w.0.0.fits)
+        (room-after p _ rest (Primitive h c rest) (length-primitive h c rest) (λ t. t) r) w.1
 tip-fact p (Holder h inside rest) z r w =
-    tip-fact (place_after p (extent h inside)) rest (within-le p.bound _ _ (omega arith) w.0.0.fits) (room-after p _ rest (Holder h inside rest) (length-holder h inside rest) (λ t. t) r) w.2
+    tip-fact (place_after p (extent h inside)) rest (within-le p.bound _ _ (omega arith) w.0.0.fits)
+        (room-after p _ rest (Holder h inside rest) (length-holder h inside rest) (λ t. t) r) w.2
 tip-fact p (OpenPrimitive h c) z r w = tt
 tip-fact p (OpenHolder h inside) z r w =
-    tip-fact (place_of_children p h) inside (fits-inside p h w.0.0.header.form w.0.0.fits) (room-inside p h inside w) w.1
+    tip-fact (place_of_children p h) inside (fits-inside p h w.0.0.header.form w.0.0.fits) (room-inside p h inside w)
+        w.1
 tip-fact p (OpenBitString h) z r w = tt
 tip-fact p (OpenHeader o) z r w = w
 tip-fact p OpenEndOctets z r w = w.1

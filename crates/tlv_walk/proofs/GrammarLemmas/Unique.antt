@@ -1,5 +1,6 @@
 -- An input has one ending, and a fault that an octet has is final. What an ending shows of soundness.
-use Rattle.std.proofs.Common.{◌≡◌, ◌≢◌, ℕ, Bool, true, false, List, ◌∷◌, ◌++◌, length, refl, sym, ap, ◌∙◌, subst, arith, length-append}
+use Rattle.std.proofs.Common.{◌≡◌, ◌≢◌, ℕ, Bool, true, false, List, ◌∷◌, ◌++◌, length, refl, sym, ap, ◌∙◌, subst, arith}
+use Rattle.std.proofs.Common.{length-append}
 use Rattle.std.proofs.lemmas.Bool.{true≢false}
 use Rattle.std.proofs.lemmas.List.{append_cancel_left}
 use Rattle.tlv_head.specs.declared.fault.FaultCode.{FaultCode}
@@ -7,13 +8,16 @@ use Rattle.tlv_head.specs.declared.fault.FaultCode.TheVariants.{Empty, Short}
 use Rattle.tlv_walk.specs.declared.ending.Ending.{Ending}
 use Rattle.tlv_walk.specs.declared.ending.Ending.TheVariants.{Done, Fault}
 use Rattle.tlv_walk.specs.declared.framing.Framing.{Framing}
-use Rattle.tlv_walk.specs.Forest.{Forest, NoMore, PaddingOctet, Primitive, Holder, OpenPrimitive, OpenHolder, OpenBitString, OpenHeader, OpenEndOctets, has_element, is_whole, spelling}
+use Rattle.tlv_walk.specs.Forest.{Forest, NoMore, PaddingOctet, Primitive, Holder, OpenPrimitive, OpenHolder}
+use Rattle.tlv_walk.specs.Forest.{OpenBitString, OpenHeader, OpenEndOctets, has_element, is_whole, spelling}
 use Rattle.tlv_walk.specs.Place.{top_place}
 use Rattle.tlv_walk.specs.Reading.{CannotBecomeSound, IsReading, IsSoundList}
-use Rattle.tlv_walk.specs.Ending.{IsEnding, IsFault, IsFinalEnding, ShowsSoundness, done, empty, fault_ending, refused, short, tip}
+use Rattle.tlv_walk.specs.Ending.{IsEnding, IsFault, IsFinalEnding, ShowsSoundness, done, empty, fault_ending, refused}
+use Rattle.tlv_walk.specs.Ending.{short, tip}
 use Rattle.tlv_walk.proofs.GrammarLemmas.Readings.{Halted, IsHalt, halt-longer, reading-unique, run-reading}
 use Rattle.tlv_walk.proofs.GrammarLemmas.Faults.{fault-unique}
-use Rattle.tlv_walk.proofs.GrammarLemmas.Endings.{IsRefused, done-sound, fault-halt, halt-ending, no-false-alarm, sound-done}
+use Rattle.tlv_walk.proofs.GrammarLemmas.Endings.{IsRefused, done-sound, fault-halt, halt-ending, no-false-alarm}
+use Rattle.tlv_walk.proofs.GrammarLemmas.Endings.{sound-done}
 
 -- without an octet of an element nothing is open
 none-whole : (f : Forest) → has_element f ≡ false → is_whole f ≡ true
@@ -28,25 +32,32 @@ none-whole (OpenHeader octets) e = absurd (cc)
 none-whole OpenEndOctets e = absurd (cc)
 
 -- a test of the reading has one result
-test-apart : (w : Framing) (b : List ℕ) (f g : Forest) (test : Forest → Bool) → IsReading w b f → IsReading w b g → test f ≡ true → test g ≡ false → ⊥
+test-apart : (w : Framing) (b : List ℕ) (f g : Forest) (test : Forest → Bool) → IsReading w b f → IsReading w b g
+    → test f ≡ true → test g ≡ false → ⊥
 test-apart w b f g test r s t u = true≢false (sym t ∙ ap test (reading-unique w b f g r s) ∙ u)
 
 -- the whole input is read, or an octet is refused
-read-apart : (w : Framing) (b : List ℕ) (f g : Forest) (x : ℕ) (rest : List ℕ) → IsReading w b f → IsReading w b g → spelling f ≡ b → spelling g ++ x ∷ rest ≡ b → ⊥
+read-apart : (w : Framing) (b : List ℕ) (f g : Forest) (x : ℕ) (rest : List ℕ) → IsReading w b f → IsReading w b g
+    → spelling f ≡ b → spelling g ++ x ∷ rest ≡ b → ⊥
 read-apart w b f g x rest r s e d =
-    let same : length (spelling f) ≡ length (spelling g) = ap (λ (f : Forest). length (spelling f)) (reading-unique w b f g r s) in
+    let same : length (spelling f) ≡ length (spelling g) =
+        ap (λ (f : Forest). length (spelling f)) (reading-unique w b f g r s) in
     omega (arith, ap length e, ap length d, length-append (spelling g) (x ∷ rest))
 
 -- an octet that is refused is one octet, with one code
-refused-same : (w : Framing) (b : List ℕ) (f g : Forest) (x y : ℕ) (r s : List ℕ) (c d : FaultCode) → IsReading w b f → IsReading w b g → spelling f ++ x ∷ r ≡ b → spelling g ++ y ∷ s ≡ b
-    → IsFault (tip (top_place w) f).0 x (tip (top_place w) f).1 c → IsFault (tip (top_place w) g).0 y (tip (top_place w) g).1 d → fault_ending c (length (spelling f)) ≡ fault_ending d (length (spelling g))
+refused-same : (w : Framing) (b : List ℕ) (f g : Forest) (x y : ℕ) (r s : List ℕ) (c d : FaultCode) → IsReading w b f
+    → IsReading w b g → spelling f ++ x ∷ r ≡ b → spelling g ++ y ∷ s ≡ b
+    → IsFault (tip (top_place w) f).0 x (tip (top_place w) f).1 c
+        → IsFault (tip (top_place w) g).0 y (tip (top_place w) g).1 d
+        → fault_ending c (length (spelling f)) ≡ fault_ending d (length (spelling g))
 refused-same w b f g x y r s c d u v e e' k l =
     let same : f ≡ g = reading-unique w b f g u v in
     let tails : x ∷ r ≡ y ∷ s = append_cancel_left (spelling g) (x ∷ r) (y ∷ s) (rw same at (e ∙ sym e')) in
     let octet : x ≡ y = cc in
     let k' : IsFault (tip (top_place w) g).0 y (tip (top_place w) g).1 c = rw (same, octet) at k in
     let code : c ≡ d = fault-unique w g y c d v.is_open k' l in
-    ap (λ (c : FaultCode). fault_ending c (length (spelling f))) code ∙ ap (λ (f : Forest). fault_ending d (length (spelling f))) same
+    ap (λ (c : FaultCode). fault_ending c (length (spelling f))) code
+        ∙ ap (λ (f : Forest). fault_ending d (length (spelling f))) same
 
 -- an input has one ending
 pub ending-unique : (w : Framing) (b : List ℕ) (e d : Ending) → IsEnding w b e → IsEnding w b d → e ≡ d
@@ -65,17 +76,20 @@ ending-unique w b e d (done f r s n q) (refused g y rest c u t k) = absurd (read
 ending-unique w b e d (refused f x rest c r s k) (empty g u t m) = absurd (read-apart w b g f x rest u r t s)
 ending-unique w b e d (refused f x rest c r s k) (short g u t p) = absurd (read-apart w b g f x rest u r t s)
 ending-unique w b e d (refused f x rest c r s k) (done g u t m q) = absurd (read-apart w b g f x rest u r t s)
-ending-unique w b e d (refused f x rest c r s k) (refused g y more m u t l) = refused-same w b f g x y rest more c m r u s t k l
+ending-unique w b e d (refused f x rest c r s k) (refused g y more m u t l) =
+    refused-same w b f g x y rest more c m r u s t k l
 
 -- a fault other than F01 and F02 is final: no continuation changes the reading or the ending
-pub refused-for-good : (w : Framing) (b c : List ℕ) (code : FaultCode) (offset : ℕ) (f : Forest) → code ≢ Empty → code ≢ Short → IsEnding w b (fault_ending code offset) → IsReading w b f
+pub refused-for-good : (w : Framing) (b c : List ℕ) (code : FaultCode) (offset : ℕ) (f : Forest) → code ≢ Empty
+    → code ≢ Short → IsEnding w b (fault_ending code offset) → IsReading w b f
     → IsReading w (b ++ c) f × IsEnding w (b ++ c) (fault_ending code offset)
 refused-for-good w b c code offset f a d e r =
     let k : IsRefused w b code offset = fault-halt w b code offset a d e in
     let longer : IsHalt w k.forest code (b ++ c) = halt-longer w k.forest code b c k.halt in
     let same : k.forest ≡ f = reading-unique w b k.forest f (run-reading w (Halted k.forest code) b k.halt) r in
     let reading : IsReading w (b ++ c) k.forest = run-reading w (Halted k.forest code) (b ++ c) longer in
-    let end : IsEnding w (b ++ c) (fault_ending code (length (spelling k.forest))) = halt-ending w k.forest code (b ++ c) longer k.fault in
+    let end : IsEnding w (b ++ c) (fault_ending code (length (spelling k.forest))) =
+        halt-ending w k.forest code (b ++ c) longer k.fault in
     (rw same at reading, rw (← k.there) at end)
 
 -- whatever follows an ending that is final, no input that goes on is sound

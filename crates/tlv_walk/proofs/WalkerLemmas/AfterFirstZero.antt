@@ -1,5 +1,6 @@
 -- A step after the first of the end-of-contents octets is one of both.
-use Rattle.std.proofs.Common.{◌≡◌, inl, inr, ℕ, ◌+◌, ◌-◌, Option, Some, None, arith, List, [], ◌∷◌, ◌++◌, ap, ◌∙◌, subst, append_assoc, append-nil}
+use Rattle.std.proofs.Common.{◌≡◌, inl, inr, ℕ, ◌+◌, ◌-◌, Option, Some, None, arith, List, [], ◌∷◌, ◌++◌, ap, ◌∙◌}
+use Rattle.std.proofs.Common.{subst, append_assoc, append-nil}
 use Rattle.tlv_head.specs.declared.fault.Fault.{Fault}
 use Rattle.tlv_walk.specs.declared.ending.Ending.TheVariants as ending
 use Rattle.tlv_walk.specs.declared.event.Step.{Step}
@@ -16,12 +17,19 @@ use Rattle.tlv_walk.specs.HasRead.{event_value_of}
 use Rattle.tlv_walk.specs.Private.Yields.{Continues, RefusesOctet, YieldsEvent, YieldsFault, YieldsStep}
 use Rattle.tlv_walk.proofs.WalkerLemmas.Moves.{continues_both}
 
-module _ (old middle new : WalkerState) (x : ℕ) (first : Continues old middle (x ∷ []) []) (same : middle.framing ≡ old.framing) (kept : middle.stack ≡ old.stack) where
-  event_after : (piece rest : List ℕ) (e : EventValue) → YieldsEvent middle new piece rest e → YieldsEvent old new (x ∷ piece) rest e
+module _ (old middle new : WalkerState) (x : ℕ) (first : Continues old middle (x ∷ []) [])
+    (same : middle.framing ≡ old.framing) (kept : middle.stack ≡ old.stack) where
+  event_after : (piece rest : List ℕ) (e : EventValue) → YieldsEvent middle new piece rest e
+      → YieldsEvent old new (x ∷ piece) rest e
   event_after piece rest e t =
-      record { taken = x ∷ t.taken; piece_is = ap (λ (o : List ℕ). x ∷ o) t.piece_is; continues = continues_both old middle new (x ∷ []) t.taken [] (e ∷ []) first t.continues }
+      record {
+        taken = x ∷ t.taken;
+        piece_is = ap (λ (o : List ℕ). x ∷ o) t.piece_is;
+        continues = continues_both old middle new (x ∷ []) t.taken [] (e ∷ []) first t.continues;
+      }
 
-  refused_after : (piece rest : List ℕ) (f : Fault) → RefusesOctet middle piece rest f → RefusesOctet old (x ∷ piece) rest f
+  refused_after : (piece rest : List ℕ) (f : Fault) → RefusesOctet middle piece rest f
+      → RefusesOctet old (x ∷ piece) rest f
   refused_after piece rest f r = record {
     taken = x ∷ r.taken;
     octet = r.octet;
@@ -35,21 +43,25 @@ module _ (old middle new : WalkerState) (x : ℕ) (first : Continues old middle 
           walker = two.walker;
           state = two.state;
           has_state = subst (λ (o : List ℕ). HasZipper two.walker o yielded two.state) spelled
-              (subst (λ (es : List EventValue). HasZipper two.walker ((b ++ x ∷ []) ++ r.taken) es two.state) (append-nil yielded) two.has_state);
+              (subst (λ (es : List EventValue). HasZipper two.walker ((b ++ x ∷ []) ++ r.taken) es two.state)
+                  (append-nil yielded) two.has_state);
           idle = two.idle;
           offset = two.offset;
           ends = λ c. subst (λ (w : Framing). IsEnding w ((b ++ x ∷ r.taken) ++ r.octet ∷ c) (ending.Fault f)) same
-              (subst (λ (o : List ℕ). IsEnding middle.framing (o ++ r.octet ∷ c) (ending.Fault f)) spelled (two.ends c));
+              (subst (λ (o : List ℕ). IsEnding middle.framing (o ++ r.octet ∷ c) (ending.Fault f)) spelled
+                  (two.ends c));
           framing = two.framing ∙ same;
           stack = two.stack ∙ kept;
         };
   }
 
-  fault_after : (piece rest : List ℕ) (f : Fault) → middle.phase ≡ phase.InEndOctets → YieldsFault middle new piece rest f → YieldsFault old new (x ∷ piece) rest f
+  fault_after : (piece rest : List ℕ) (f : Fault) → middle.phase ≡ phase.InEndOctets
+      → YieldsFault middle new piece rest f → YieldsFault old new (x ∷ piece) rest f
   fault_after piece rest f z (inl r) = inl (refused_after piece rest f r)
   fault_after piece rest f z (inr r) = absurd (cc (z, r.refused))
 
-  pub step_after : (piece rest : List ℕ) (m : Step) → middle.phase ≡ phase.InEndOctets → YieldsStep middle new piece rest m → YieldsStep old new (x ∷ piece) rest m
+  pub step_after : (piece rest : List ℕ) (m : Step) → middle.phase ≡ phase.InEndOctets
+      → YieldsStep middle new piece rest m → YieldsStep old new (x ∷ piece) rest m
   step_after piece rest (step.Event e) z t = event_after piece rest (event_value_of e) t
   step_after piece rest step.NeedMore z t = continues_both old middle new (x ∷ []) piece [] [] first t
   step_after piece rest (step.Fault f) z t = fault_after piece rest f z t

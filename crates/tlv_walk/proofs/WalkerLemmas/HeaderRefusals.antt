@@ -1,12 +1,14 @@
 -- What is refused after octets of a header is a fault, whatever follows.
-use Rattle.std.proofs.Common.{◌≡◌, ◌≢◌, inl, inr, ℕ, ◌+◌, ◌<◌, ◌≤◌, Bool, true, false, List, [], ◌∷◌, ◌++◌, length, Option, Some, None, refl, sym, ap, ◌∙◌, subst, arith, append-nil, length-append}
+use Rattle.std.proofs.Common.{◌≡◌, ◌≢◌, inl, inr, ℕ, ◌+◌, ◌<◌, ◌≤◌, Bool, true, false, List, [], ◌∷◌, ◌++◌, length}
+use Rattle.std.proofs.Common.{Option, Some, None, refl, sym, ap, ◌∙◌, subst, arith, append-nil, length-append}
 use Rattle.tlv_head.specs.declared.fault.Fault.{Fault}
 use Rattle.tlv_head.specs.declared.fault.FaultCode.{FaultCode}
 use Rattle.tlv_head.specs.declared.header.Class.{Class}
 use Rattle.tlv_head.specs.declared.header.Size.{Size}
 use Rattle.tlv_head.specs.declared.header.Size.TheVariants.{Definite, Indefinite}
 use Rattle.tlv_head.specs.Header.{HeaderValue, IsIdentifier, announced_length, holds, octets_of}
-use Rattle.tlv_head.specs.Refusal.{IsRefusedOctet, tag_too_long, reserved_length, indefinite_primitive, length_too_large}
+use Rattle.tlv_head.specs.Refusal.{IsRefusedOctet, tag_too_long, reserved_length, indefinite_primitive}
+use Rattle.tlv_head.specs.Refusal.{length_too_large}
 use Rattle.tlv_head.specs.HeadReaderState.{ContentsFit, HeadReaderState}
 use Rattle.tlv_head.specs.Push as push
 use Rattle.tlv_head.specs.Push.{Completes, IsRefusedPush}
@@ -45,14 +47,18 @@ completes-two r x h c e =
 
 -- what is refused for the octets of a header has octets before it
 refused-after : (o : List ℕ) (x : ℕ) (code : FaultCode) → IsRefusedOctet o x code → o ≡ [] → ⊥
-refused-after o x code (tag_too_long c k front eight flag) e = let z : [] ≡ _ ∷ _ = sym e ∙ front.octets_are in absurd (cc)
+refused-after o x code (tag_too_long c k front eight flag) e =
+    let z : [] ≡ _ ∷ _ = sym e ∙ front.octets_are in absurd (cc)
 refused-after o x code (reserved_length c k n i ones) e = identifier-nil c k n o i e
 refused-after o x code (indefinite_primitive c n i mark) e = identifier-nil c false n o i e
 refused-after o x code (length_too_large c k n left front many nonzero) e =
-    omega (arith, ap length (sym e ∙ front.octets_are), length-append front.identifier ((128 + (length front.digits + left)) ∷ front.digits))
+    omega
+        (arith, ap length (sym e ∙ front.octets_are),
+            length-append front.identifier ((128 + (length front.digits + left)) ∷ front.digits))
 
 -- so a refusal has octets before it, or no room
-pub refused-some : (code : FaultCode) (r : HeadReaderState) (x : ℕ) (room : Option ℕ) (depth : ℕ) → IsRefusedPush r x room depth code → room ≢ Some 0 → r.octets ≡ [] → ⊥
+pub refused-some : (code : FaultCode) (r : HeadReaderState) (x : ℕ) (room : Option ℕ) (depth : ℕ)
+    → IsRefusedPush r x room depth code → room ≢ Some 0 → r.octets ≡ [] → ⊥
 refused-some code r x room depth (push.no_room none) some e = some none
 refused-some code r x room depth (push.refused_octet left octet) some e = refused-after r.octets x code octet e
 refused-some code r x room depth (push.too_deep left h completes holding deep) some e = completes-two r x h completes e
@@ -61,7 +67,8 @@ refused-some code r x room depth (push.overrun left h completes shallow past) so
 -- ---- what a reader refuses is a fault there
 
 -- the contents end past the bound
-past_bound : (size : Size) (b : Option ℕ) (n m : ℕ) → (ContentsFit size (room_to b n) → ⊥) → n + 1 + announced_length size ≤ m → IsWithin b m → ⊥
+past_bound : (size : Size) (b : Option ℕ) (n m : ℕ) → (ContentsFit size (room_to b n) → ⊥)
+    → n + 1 + announced_length size ≤ m → IsWithin b m → ⊥
 past_bound (Definite k) None n m past h f = past tt
 past_bound Indefinite None n m past h f = past tt
 past_bound (Definite k) (Some b) n m past h f = past (omega arith)
@@ -76,23 +83,38 @@ pub record IsReader (p : Place) (q : HeadReaderState) (room : Option ℕ) (depth
   pub within : IsWithin p.bound (p.offset + length q.octets)
 
 -- a header that its octets make
-header_there : (p : Place) (q : HeadReaderState) (room : Option ℕ) (depth x : ℕ) (h : HeaderValue) (t : Bool) → holds h ≡ t → IsReader p q room depth → Completes q (x ∷ []) h → IsHeaderAt p t h
-header_there p q room depth x h t e k c = record { valid = c.valid; offset = c.offset ∙ k.offset; named = c.named ∙ k.named; form = e }
+header_there : (p : Place) (q : HeadReaderState) (room : Option ℕ) (depth x : ℕ) (h : HeaderValue) (t : Bool)
+    → holds h ≡ t → IsReader p q room depth → Completes q (x ∷ []) h → IsHeaderAt p t h
+header_there p q room depth x h t e k c = record {
+  valid = c.valid;
+  offset = c.offset ∙ k.offset;
+  named = c.named ∙ k.named;
+  form = e;
+}
 
 -- there is room
-room_there : (p : Place) (q : HeadReaderState) (room : Option ℕ) (depth : ℕ) → IsReader p q room depth → room ≢ Some 0 → Fits p (length q.octets + 1)
-room_there p q room depth k some = left_some p.bound (p.offset + length q.octets) (p.offset + (length q.octets + 1)) (λ e. some (k.left ∙ e)) (omega arith)
+room_there : (p : Place) (q : HeadReaderState) (room : Option ℕ) (depth : ℕ) → IsReader p q room depth → room ≢ Some 0
+    → Fits p (length q.octets + 1)
+room_there p q room depth k some =
+    left_some p.bound (p.offset + length q.octets) (p.offset + (length q.octets + 1)) (λ e. some (k.left ∙ e))
+        (omega arith)
 
 -- each cause of a reader is a line of the faults
-pub refused_fault : (p : Place) (q : HeadReaderState) (room : Option ℕ) (depth x : ℕ) (code : FaultCode) → IsReader p q room depth → IsRefusedPush q x room depth code → IsFault p x (OpenHeader q.octets) code
+pub refused_fault : (p : Place) (q : HeadReaderState) (room : Option ℕ) (depth x : ℕ) (code : FaultCode)
+    → IsReader p q room depth → IsRefusedPush q x room depth code → IsFault p x (OpenHeader q.octets) code
 refused_fault p q room depth x code k (push.no_room none) =
-    no_room (left_none p.bound (p.offset + length q.octets) (p.offset + (length q.octets + 1)) (sym k.left ∙ none) (omega arith))
-refused_fault p q room depth x code k (push.refused_octet left octet) = refused_octet (room_there p q room depth k left) octet
+    no_room
+        (left_none p.bound (p.offset + length q.octets) (p.offset + (length q.octets + 1)) (sym k.left ∙ none)
+            (omega arith))
+refused_fault p q room depth x code k (push.refused_octet left octet) =
+    refused_octet (room_there p q room depth k left) octet
 refused_fault p q room depth x code k (push.too_deep left h completes holding deep) =
-    too_deep (room_there p q room depth k left) h (header_there p q room depth x h true holding k completes) completes.octets
+    too_deep (room_there p q room depth k left) h (header_there p q room depth x h true holding k completes)
+        completes.octets
     (subst (λ (n : ℕ). 128 ≤ n) k.depths deep)
 refused_fault p q room depth x code k (push.overrun left h completes shallow past) =
-    overrun (room_there p q room depth k left) h (header_there p q room depth x h (holds h) refl k completes) completes.octets
+    overrun (room_there p q room depth k left) h (header_there p q room depth x h (holds h) refl k completes)
+        completes.octets
     (λ e. subst (λ (n : ℕ). n < 128) k.depths (shallow e))
     (past_bound h.size p.bound (p.offset + length q.octets) _ (λ f. past (subst (ContentsFit h.size) (sym k.left) f))
     (omega (arith, ap length completes.octets, length-append q.octets (x ∷ []))))
@@ -100,7 +122,8 @@ refused_fault p q room depth x code k (push.overrun left h completes shallow pas
 -- ---- a walker refuses it
 
 -- the reader of a walker inside a header is where its state says
-reader_there : (w : WalkerState) (b : List ℕ) (yielded : List EventValue) (s : Zipper) (q : HeadReaderState) (depth : ℕ) → w.phase ≡ phase.InHeader q → HasZipper w b yielded (with_tail s (HeaderTail q.octets)) → depth ≡ length w.stack
+reader_there : (w : WalkerState) (b : List ℕ) (yielded : List EventValue) (s : Zipper) (q : HeadReaderState) (depth : ℕ)
+    → w.phase ≡ phase.InHeader q → HasZipper w b yielded (with_tail s (HeaderTail q.octets)) → depth ≡ length w.stack
     → IsReader (place_of w.framing s) q (room_to (bound_of w.stack) (q.offset + length q.octets)) depth
 reader_there w b yielded s q depth e has d =
     let p : Place = place_of w.framing s in
@@ -110,14 +133,19 @@ reader_there w b yielded s q depth e has d =
       offset = at.1;
       named = at.2;
       depths = d ∙ ap length has.stack ∙ sym (place-depth w.framing s.layers);
-      left = ap (λ (o : Option ℕ). room_to o (q.offset + length q.octets)) bound ∙ ap (λ (n : ℕ). room_to p.bound (n + length q.octets)) at.1;
+      left =
+          ap (λ (o : Option ℕ). room_to o (q.offset + length q.octets)) bound
+              ∙ ap (λ (n : ℕ). room_to p.bound (n + length q.octets)) at.1;
       within = at.3.2;
     }
 
 -- the octet that its reader refuses
-pub refuses_header : (w u : WalkerState) (r q : HeadReaderState) (piece rest others : List ℕ) (x depth offset : ℕ) (f : Fault) → HandsOver w u r → HasTaken r q piece rest → rest ≡ x ∷ others
+pub refuses_header : (w u : WalkerState) (r q : HeadReaderState) (piece rest others : List ℕ) (x depth offset : ℕ)
+    (f : Fault)
+    → HandsOver w u r → HasTaken r q piece rest → rest ≡ x ∷ others
     → IsWithin (bound_of u.stack) offset → q.offset + length q.octets ≡ offset → depth ≡ length u.stack
-    → (q.octets ≡ [] → room_to (bound_of u.stack) offset ≢ Some 0) → IsRefusedPush q x (room_to (bound_of u.stack) offset) depth f.code → f.offset ≡ q.offset + length q.octets
+    → (q.octets ≡ [] → room_to (bound_of u.stack) offset ≢ Some 0)
+        → IsRefusedPush q x (room_to (bound_of u.stack) offset) depth f.code → f.offset ≡ q.offset + length q.octets
     → RefusesOctet w piece rest f
 refuses_header w u r q piece rest others x depth offset f over k e within place deep room refused there =
     let some : q.octets ≡ [] → ⊥ = λ none. refused-some f.code q x _ depth refused (room none) none in record {
@@ -127,22 +155,32 @@ refuses_header w u r q piece rest others x depth offset f over k e within place 
       piece_is = k.piece_is ∙ ap (λ (l : List ℕ). k.taken ++ l) e;
       rest_is = e;
       refuses = λ b yielded s has.
-          let t : TakenState w u q k.taken b yielded = taken_state w u r q piece rest over k some (subst (IsWithin (bound_of u.stack)) (sym place) within) b yielded s has in
+          let t : TakenState w u q k.taken b yielded =
+              taken_state w u r q piece rest over k some (subst (IsWithin (bound_of u.stack)) (sym place) within) b
+                  yielded s has in
           let has' : HasZipper (in_header w q) (b ++ k.taken) yielded (with_tail t.state (HeaderTail q.octets)) =
-          subst (λ (es : List EventValue). HasZipper (in_header w q) (b ++ k.taken) es (with_tail t.state (HeaderTail q.octets))) (append-nil yielded) t.has in
+          subst
+              (λ (es : List EventValue). HasZipper (in_header w q) (b ++ k.taken) es
+                  (with_tail t.state (HeaderTail q.octets)))
+              (append-nil yielded) t.has in
           let same : u.stack ≡ w.stack = ap (λ (m : WalkerState). m.stack) t.same in
           let left : room_to (bound_of u.stack) offset ≡ room_to (bound_of w.stack) (q.offset + length q.octets) =
-          ap (λ (fs : List FrameValue). room_to (bound_of fs) offset) same ∙ ap (room_to (bound_of w.stack)) (sym place) in
+          ap (λ (fs : List FrameValue). room_to (bound_of fs) offset) same
+              ∙ ap (room_to (bound_of w.stack)) (sym place) in
           let faulty : IsFault (place_of w.framing t.state) x (OpenHeader q.octets) f.code =
-          refused_fault _ q _ depth x f.code (reader_there (in_header w q) (b ++ k.taken) yielded t.state q depth refl has' (deep ∙ ap length same))
+          refused_fault _ q _ depth x f.code
+              (reader_there (in_header w q) (b ++ k.taken) yielded t.state q depth refl has' (deep ∙ ap length same))
           (subst (λ (o : Option ℕ). IsRefusedPush q x o depth f.code) left refused) in record {
             walker = in_header w q;
             state = with_tail t.state (HeaderTail q.octets);
             has_state = has';
             idle = refl;
             offset = there;
-            ends = λ c. subst (λ (n : ℕ). IsEnding w.framing ((b ++ k.taken) ++ x ∷ c) (fault_ending f.code n)) (sym has'.offset ∙ sym there)
-                (state-fault (in_header w q) (b ++ k.taken) yielded (with_tail t.state (HeaderTail q.octets)) x c f.code has' (λ z. z) faulty);
+            ends =
+                λ c. subst (λ (n : ℕ). IsEnding w.framing ((b ++ k.taken) ++ x ∷ c) (fault_ending f.code n))
+                    (sym has'.offset ∙ sym there)
+                (state-fault (in_header w q) (b ++ k.taken) yielded (with_tail t.state (HeaderTail q.octets)) x c
+                    f.code has' (λ z. z) faulty);
             framing = refl;
             stack = refl;
           };

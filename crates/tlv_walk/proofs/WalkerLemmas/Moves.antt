@@ -1,5 +1,6 @@
 -- Each move of a walker, on its state.
-use Rattle.std.proofs.Common.{◌≡◌, ℕ, ◌+◌, ◌-◌, ◌≤◌, Bool, true, ◌||◌, List, [], ◌∷◌, ◌++◌, length, map, refl, sym, ap, ap₂, ◌∙◌, subst, arith, append_assoc, append-nil, length-append}
+use Rattle.std.proofs.Common.{◌≡◌, ℕ, ◌+◌, ◌-◌, ◌≤◌, Bool, true, ◌||◌, List, [], ◌∷◌, ◌++◌, length, map, refl, sym, ap}
+use Rattle.std.proofs.Common.{ap₂, ◌∙◌, subst, arith, append_assoc, append-nil, length-append}
 use Rattle.std.proofs.lemmas.List.{map-append}
 use Rattle.std.proofs.Math.Bool.{or-true}
 use Rattle.tlv_head.specs.declared.header.Size.TheVariants.{Definite, Indefinite}
@@ -7,7 +8,8 @@ use Rattle.tlv_head.specs.Header.{HeaderValue, octets_of}
 use Rattle.tlv_walk.specs.Phase.{PhaseValue}
 use Rattle.tlv_walk.specs.Phase as phase
 use Rattle.tlv_walk.specs.Events.{AreEqualJoined, Begin, Bytes, End, EventValue, events, single_octets}
-use Rattle.tlv_walk.specs.Forest.{Forest, NoMore, PaddingOctet, Primitive, Holder, OpenPrimitive, OpenHolder, OpenBitString, OpenHeader, OpenEndOctets, has_element, is_whole, spelling}
+use Rattle.tlv_walk.specs.Forest.{Forest, NoMore, PaddingOctet, Primitive, Holder, OpenPrimitive, OpenHolder}
+use Rattle.tlv_walk.specs.Forest.{OpenBitString, OpenHeader, OpenEndOctets, has_element, is_whole, spelling}
 use Rattle.tlv_walk.specs.declared.framing.Framing.{Framing}
 use Rattle.tlv_walk.specs.WalkerState.{WalkerState}
 use Rattle.tlv_walk.specs.Private.WrapperCount.{next_wrapper, wrappers_after}
@@ -15,7 +17,9 @@ use Rattle.tlv_walk.specs.Wrappers.{entered_offsets}
 use Rattle.tlv_walk.proofs.EventLemmas.Wrappers.{enters-append}
 use Rattle.tlv_walk.specs.Place.{Fits, IsOpen, IsWithin, Place, is_indefinite, place_after}
 use Rattle.tlv_walk.specs.Stack.{FrameValue, IsInIndefinite, bound_of}
-use Rattle.tlv_walk.specs.Private.Zipper.{AreWhole, BitStringTail, NoTail, HasZipper, PrimitiveTail, EndOctetsTail, HeaderTail, IsContents, IsPhaseOf, Layer, Tail, Zipper, begins_among, events_of_layers, frames_of, place_in, place_of, spelling_of_layers}
+use Rattle.tlv_walk.specs.Private.Zipper.{AreWhole, BitStringTail, NoTail, HasZipper, PrimitiveTail, EndOctetsTail}
+use Rattle.tlv_walk.specs.Private.Zipper.{HeaderTail, IsContents, IsPhaseOf, Layer, Tail, Zipper, begins_among}
+use Rattle.tlv_walk.specs.Private.Zipper.{events_of_layers, frames_of, place_in, place_of, spelling_of_layers}
 use Rattle.tlv_walk.specs.Private.Yields.{Continues}
 use Rattle.tlv_walk.proofs.EventLemmas.Joined.{apart-before, apart-from_joined, apart-more, joined-from_apart}
 use Rattle.tlv_walk.proofs.GrammarLemmas.Spellings.{append_assoc-3}
@@ -24,22 +28,29 @@ use Rattle.tlv_walk.proofs.WalkerLemmas.Zipper.{followed_by, open-followed_by, s
 use Rattle.tlv_walk.proofs.WalkerLemmas.ZipperEvents.{events-followed_by}
 
 -- events yielded one after another
-pub yielded_more : (yielded es new es' : List EventValue) → AreEqualJoined yielded es → single_octets es' ≡ single_octets (es ++ new) → AreEqualJoined (yielded ++ new) es'
-yielded_more yielded es new es' h e = joined-from_apart (yielded ++ new) es' (apart-before yielded es new (apart-from_joined yielded es h) ∙ sym e)
+pub yielded_more : (yielded es new es' : List EventValue) → AreEqualJoined yielded es
+    → single_octets es' ≡ single_octets (es ++ new) → AreEqualJoined (yielded ++ new) es'
+yielded_more yielded es new es' h e =
+    joined-from_apart (yielded ++ new) es' (apart-before yielded es new (apart-from_joined yielded es h) ∙ sym e)
 
 -- wrappers found one after another
-pub found_in-append : (inside : List ℕ) (k : ℕ) (xs ys : List ℕ) → wrappers_after inside k (xs ++ ys) ≡ wrappers_after inside (wrappers_after inside k xs) ys
+pub found_in-append : (inside : List ℕ) (k : ℕ) (xs ys : List ℕ)
+    → wrappers_after inside k (xs ++ ys) ≡ wrappers_after inside (wrappers_after inside k xs) ys
 found_in-append inside k [] ys = refl
 found_in-append inside k (x ∷ xs) ys = found_in-append inside (next_wrapper inside k x) xs ys
 
-found_both : (u v w : WalkerState) (d e : List EventValue) → v.framing ≡ u.framing → v.wrapper_count ≡ wrappers_after u.framing.inside u.wrapper_count (entered_offsets d) → w.wrapper_count ≡ wrappers_after v.framing.inside v.wrapper_count (entered_offsets e)
+found_both : (u v w : WalkerState) (d e : List EventValue) → v.framing ≡ u.framing
+    → v.wrapper_count ≡ wrappers_after u.framing.inside u.wrapper_count (entered_offsets d)
+    → w.wrapper_count ≡ wrappers_after v.framing.inside v.wrapper_count (entered_offsets e)
     → w.wrapper_count ≡ wrappers_after u.framing.inside u.wrapper_count (entered_offsets (d ++ e))
 found_both u v w d e same p q =
     q
     ∙ ap₂ (λ (f : Framing) (k : ℕ). wrappers_after f.inside k (entered_offsets e)) same p
-    ∙ sym (ap (wrappers_after u.framing.inside u.wrapper_count) (enters-append d e) ∙ found_in-append u.framing.inside u.wrapper_count (entered_offsets d) (entered_offsets e))
+    ∙ sym (ap (wrappers_after u.framing.inside u.wrapper_count) (enters-append d e)
+        ∙ found_in-append u.framing.inside u.wrapper_count (entered_offsets d) (entered_offsets e))
 
-pub continues_both : (u v w : WalkerState) (s t : List ℕ) (d e : List EventValue) → Continues u v s d → Continues v w t e → Continues u w (s ++ t) (d ++ e)
+pub continues_both : (u v w : WalkerState) (s t : List ℕ) (d e : List EventValue) → Continues u v s d
+    → Continues v w t e → Continues u w (s ++ t) (d ++ e)
 continues_both u v w s t d e f g = record {
   framing = g.framing ∙ f.framing;
   found = found_both u v w d e f.framing f.found g.found;
@@ -53,36 +64,53 @@ continues_both u v w s t d e f g = record {
 }
 
 -- the events of a state, if the open end goes on
-pub yielded_after : (yielded : List EventValue) (ls : List Layer) (here : Forest) (old new more : List EventValue) → AreEqualJoined yielded (events_of_layers ls ++ (events here ++ old))
-    → single_octets new ≡ single_octets (old ++ more) → AreEqualJoined (yielded ++ more) (events_of_layers ls ++ (events here ++ new))
+pub yielded_after : (yielded : List EventValue) (ls : List Layer) (here : Forest) (old new more : List EventValue)
+    → AreEqualJoined yielded (events_of_layers ls ++ (events here ++ old))
+    → single_octets new ≡ single_octets (old ++ more)
+        → AreEqualJoined (yielded ++ more) (events_of_layers ls ++ (events here ++ new))
 yielded_after yielded ls here old new more h e =
-    yielded_more yielded (events_of_layers ls ++ (events here ++ old)) more (events_of_layers ls ++ (events here ++ new)) h
-    (apart-more (events_of_layers ls) (events here ++ new) (events here ++ old) more (apart-more (events here) new old more e))
+    yielded_more yielded (events_of_layers ls ++ (events here ++ old)) more
+        (events_of_layers ls ++ (events here ++ new)) h
+    (apart-more (events_of_layers ls) (events here ++ new) (events here ++ old) more
+        (apart-more (events here) new old more e))
 
 -- its octets likewise
-pub spelled_after : (ls : List Layer) (here : Forest) (old new t b : List ℕ) → new ≡ old ++ t → spelling_of_layers ls ++ (spelling here ++ old) ≡ b
+pub spelled_after : (ls : List Layer) (here : Forest) (old new t b : List ℕ) → new ≡ old ++ t
+    → spelling_of_layers ls ++ (spelling here ++ old) ≡ b
     → spelling_of_layers ls ++ (spelling here ++ new) ≡ b ++ t
 spelled_after ls here old new t b e f =
-    ap (λ (s : List ℕ). spelling_of_layers ls ++ (spelling here ++ s)) e ∙ (sym (append_assoc-3 (spelling_of_layers ls) (spelling here) old t) ∙ ap (λ (s : List ℕ). s ++ t) f)
+    ap (λ (s : List ℕ). spelling_of_layers ls ++ (spelling here ++ s)) e
+        ∙ (sym (append_assoc-3 (spelling_of_layers ls) (spelling here) old t) ∙ ap (λ (s : List ℕ). s ++ t) f)
 
 -- the same, if the open end is whole now
-pub yielded_whole : (yielded : List EventValue) (ls : List Layer) (here new : Forest) (old more : List EventValue) → is_whole here ≡ true → AreEqualJoined yielded (events_of_layers ls ++ (events here ++ old))
-    → single_octets (events new) ≡ single_octets (old ++ more) → AreEqualJoined (yielded ++ more) (events_of_layers ls ++ (events (followed_by here new) ++ []))
+pub yielded_whole : (yielded : List EventValue) (ls : List Layer) (here new : Forest) (old more : List EventValue)
+    → is_whole here ≡ true → AreEqualJoined yielded (events_of_layers ls ++ (events here ++ old))
+    → single_octets (events new) ≡ single_octets (old ++ more)
+        → AreEqualJoined (yielded ++ more) (events_of_layers ls ++ (events (followed_by here new) ++ []))
 yielded_whole yielded ls here new old more whole h e =
-    subst (λ (es : List EventValue). AreEqualJoined (yielded ++ more) (events_of_layers ls ++ es)) (sym (append-nil (events (followed_by here new)) ∙ events-followed_by here new whole))
+    subst (λ (es : List EventValue). AreEqualJoined (yielded ++ more) (events_of_layers ls ++ es))
+        (sym (append-nil (events (followed_by here new)) ∙ events-followed_by here new whole))
     (yielded_after yielded ls here old (events new) more h e)
 
-pub spelled_whole : (ls : List Layer) (here more : Forest) (old t b : List ℕ) → is_whole here ≡ true → spelling more ≡ old ++ t → spelling_of_layers ls ++ (spelling here ++ old) ≡ b
+pub spelled_whole : (ls : List Layer) (here more : Forest) (old t b : List ℕ) → is_whole here ≡ true
+    → spelling more ≡ old ++ t → spelling_of_layers ls ++ (spelling here ++ old) ≡ b
     → spelling_of_layers ls ++ (spelling (followed_by here more) ++ []) ≡ b ++ t
 spelled_whole ls here more old t b whole e f =
-    ap (λ (s : List ℕ). spelling_of_layers ls ++ s) (append-nil (spelling (followed_by here more)) ∙ spelling-followed_by here more whole) ∙ spelled_after ls here old (spelling more) t b e f
+    ap (λ (s : List ℕ). spelling_of_layers ls ++ s)
+        (append-nil (spelling (followed_by here more)) ∙ spelling-followed_by here more whole)
+        ∙ spelled_after ls here old (spelling more) t b e f
 
 -- whole elements, and then one more
-pub are_whole : (p : Place) (here more : Forest) → AreWhole p here → IsOpen (place_after p (length (spelling here))) more → is_whole more ≡ true → AreWhole p (followed_by here more)
-are_whole p here more h o w = record { is_open = open-followed_by p here more h o; whole = whole-followed_by here more h.whole ∙ w }
+pub are_whole : (p : Place) (here more : Forest) → AreWhole p here
+    → IsOpen (place_after p (length (spelling here))) more → is_whole more ≡ true → AreWhole p (followed_by here more)
+are_whole p here more h o w = record {
+  is_open = open-followed_by p here more h o;
+  whole = whole-followed_by here more h.whole ∙ w;
+}
 
 -- an element came
-pub element-either : (f g : Forest) → is_whole f ≡ true → has_element (followed_by f g) ≡ (has_element f || has_element g)
+pub element-either : (f g : Forest) → is_whole f ≡ true
+    → has_element (followed_by f g) ≡ (has_element f || has_element g)
 element-either NoMore g e = refl
 element-either (PaddingOctet rest) g e = element-either rest g e
 element-either (Primitive h c rest) g e = refl
@@ -93,37 +121,46 @@ element-either (OpenBitString h) g e = absurd (cc)
 element-either (OpenHeader octets) g e = absurd (cc)
 element-either OpenEndOctets g e = absurd (cc)
 
-pub began : (ls : List Layer) (here more : Forest) → is_whole here ≡ true → has_element more ≡ true → begins_among ls (followed_by here more) ≡ true
-began [] here more w e = element-either here more w ∙ (ap (λ (k : Bool). has_element here || k) e ∙ or-true (has_element here))
+pub began : (ls : List Layer) (here more : Forest) → is_whole here ≡ true → has_element more ≡ true
+    → begins_among ls (followed_by here more) ≡ true
+began [] here more w e =
+    element-either here more w ∙ (ap (λ (k : Bool). has_element here || k) e ∙ or-true (has_element here))
 began (l ∷ ls) here more w e = refl
 
 -- a state with this tail
 abbrev pub with_tail : Zipper → Tail → Zipper
 with_tail s t = record { layers = s.layers; here = s.here; tail = t }
 
-pub tail_state : (w : WalkerState) (b : List ℕ) (yielded : List EventValue) (s : Zipper) (t : Tail) → s.tail ≡ t → HasZipper w b yielded s → HasZipper w b yielded (with_tail s t)
+pub tail_state : (w : WalkerState) (b : List ℕ) (yielded : List EventValue) (s : Zipper) (t : Tail) → s.tail ≡ t
+    → HasZipper w b yielded s → HasZipper w b yielded (with_tail s t)
 tail_state w b yielded s t e has = subst (λ (u : Tail). HasZipper w b yielded (with_tail s u)) e has
 
-pub phase_at : (w : WalkerState) (b : List ℕ) (yielded : List EventValue) (s : Zipper) (f : PhaseValue) → w.phase ≡ f → HasZipper w b yielded s → IsPhaseOf f s.tail (place_of w.framing s)
+pub phase_at : (w : WalkerState) (b : List ℕ) (yielded : List EventValue) (s : Zipper) (f : PhaseValue) → w.phase ≡ f
+    → HasZipper w b yielded s → IsPhaseOf f s.tail (place_of w.framing s)
 phase_at w b yielded s f e has = subst (λ (g : PhaseValue). IsPhaseOf g s.tail (place_of w.framing s)) e has.phase
 
 -- contents of a primitive
-contents_tail : (left : ℕ) (t : Tail) (p : Place) → IsPhaseOf (phase.InPrimitive left) t p → (h : HeaderValue) × (c : List ℕ) × (t ≡ PrimitiveTail h c)
+contents_tail : (left : ℕ) (t : Tail) (p : Place) → IsPhaseOf (phase.InPrimitive left) t p
+    → (h : HeaderValue) × (c : List ℕ) × (t ≡ PrimitiveTail h c)
 contents_tail left NoTail p x = absurd x
 contents_tail left (PrimitiveTail h c) p x = (h, c, refl)
 contents_tail left (BitStringTail h) p x = absurd x
 contents_tail left (HeaderTail o) p x = absurd x
 contents_tail left EndOctetsTail p x = absurd x
 
-contents_state : (w : WalkerState) (b : List ℕ) (yielded : List EventValue) (s : Zipper) (h : HeaderValue) (c t : List ℕ) (left : ℕ)
+contents_state : (w : WalkerState) (b : List ℕ) (yielded : List EventValue) (s : Zipper) (h : HeaderValue)
+    (c t : List ℕ) (left : ℕ)
     → HasZipper w b yielded (with_tail s (PrimitiveTail h c)) → w.phase ≡ phase.InPrimitive left → length t ≤ left
-    → HasZipper (record w { phase = phase.InPrimitive (left - length t); offset = w.offset + length t; events = w.events + 1 }) (b ++ t) (yielded ++ Bytes t ∷ [])
+    → HasZipper
+        (record w { phase = phase.InPrimitive (left - length t); offset = w.offset + length t; events = w.events + 1 })
+        (b ++ t) (yielded ++ Bytes t ∷ [])
     (with_tail s (PrimitiveTail h (c ++ t)))
 contents_state w b yielded s h c t left has e most =
     let k : IsContents (place_of w.framing s) h c left = phase_at w b yielded _ _ e has in
     let same : length c + left ≡ length (c ++ t) + (left - length t) = omega (arith, length-append c t) in
     record {
-      spelled = spelled_after s.layers s.here (octets_of h ++ c) _ t b (sym (append_assoc (octets_of h) c t)) has.spelled;
+      spelled =
+          spelled_after s.layers s.here (octets_of h ++ c) _ t b (sym (append_assoc (octets_of h) c t)) has.spelled;
       offset = omega (arith, has.offset, length-append b t);
       stack = has.stack;
       layers = has.layers;
@@ -133,17 +170,29 @@ contents_state w b yielded s h c t left has e most =
         size = k.size ∙ ap Definite same;
         fits = subst (λ (n : ℕ). Fits (place_of w.framing s) (length (octets_of h) + n)) same k.fits;
       };
-      same_events = yielded_after yielded s.layers s.here (Begin h ∷ Bytes c ∷ []) (Begin h ∷ Bytes (c ++ t) ∷ []) (Bytes t ∷ []) has.same_events (bytes_more h c t);
+      same_events =
+          yielded_after yielded s.layers s.here (Begin h ∷ Bytes c ∷ []) (Begin h ∷ Bytes (c ++ t) ∷ [])
+              (Bytes t ∷ []) has.same_events (bytes_more h c t);
       element = has.element;
     }
   where
-    bytes_more : (h : HeaderValue) (c t : List ℕ) → single_octets (Begin h ∷ Bytes (c ++ t) ∷ []) ≡ single_octets (Begin h ∷ Bytes c ∷ Bytes t ∷ [])
-    bytes_more h c t = ap (λ (es : List EventValue). Begin h ∷ es) (ap (λ (es : List EventValue). es ++ []) (map-append (λ x. Bytes (x ∷ [])) c t) ∙ append_assoc (map (λ x. Bytes (x ∷ [])) c) _ [])
+    bytes_more : (h : HeaderValue) (c t : List ℕ)
+        → single_octets (Begin h ∷ Bytes (c ++ t) ∷ []) ≡ single_octets (Begin h ∷ Bytes c ∷ Bytes t ∷ [])
+    bytes_more h c t =
+        ap (λ (es : List EventValue). Begin h ∷ es)
+            (ap (λ (es : List EventValue). es ++ []) (map-append (λ x. Bytes (x ∷ [])) c t)
+                ∙ append_assoc (map (λ x. Bytes (x ∷ [])) c) _ [])
 
-pub yields_contents : (w : WalkerState) (left : ℕ) (t : List ℕ) (n : ℕ) → w.phase ≡ phase.InPrimitive left → length t ≤ left → n ≡ length t
-    → Continues w (record w { phase = phase.InPrimitive (left - n); offset = w.offset + n; events = w.events + 1 }) t (Bytes t ∷ [])
+pub yields_contents : (w : WalkerState) (left : ℕ) (t : List ℕ) (n : ℕ) → w.phase ≡ phase.InPrimitive left
+    → length t ≤ left → n ≡ length t
+    → Continues w (record w { phase = phase.InPrimitive (left - n); offset = w.offset + n; events = w.events + 1 }) t
+        (Bytes t ∷ [])
 yields_contents w left t n e most len =
-    subst (λ (m : ℕ). Continues w (record w { phase = phase.InPrimitive (left - m); offset = w.offset + m; events = w.events + 1 }) t (Bytes t ∷ [])) (sym len) (record {
+    subst
+        (λ (m : ℕ). Continues w
+            (record w { phase = phase.InPrimitive (left - m); offset = w.offset + m; events = w.events + 1 }) t
+            (Bytes t ∷ []))
+        (sym len) (record {
       framing = refl;
       found = refl;
       goes = λ b yielded s has.
@@ -152,7 +201,8 @@ yields_contents w left t n e most len =
     })
 
 -- the end of a primitive
-end_state : (w : WalkerState) (b : List ℕ) (yielded : List EventValue) (s : Zipper) (h : HeaderValue) (c : List ℕ) → HasZipper w b yielded (with_tail s (PrimitiveTail h c)) → w.phase ≡ phase.InPrimitive 0
+end_state : (w : WalkerState) (b : List ℕ) (yielded : List EventValue) (s : Zipper) (h : HeaderValue) (c : List ℕ)
+    → HasZipper w b yielded (with_tail s (PrimitiveTail h c)) → w.phase ≡ phase.InPrimitive 0
     → HasZipper (record w { phase = phase.Between; events = w.events + 1 }) (b ++ []) (yielded ++ End ∷ [])
     (record { layers = s.layers; here = followed_by s.here (Primitive h c NoMore); tail = NoTail })
 end_state w b yielded s h c has e =
@@ -160,17 +210,32 @@ end_state w b yielded s h c has e =
     let k : IsContents p h c 0 = phase_at w b yielded _ _ e has in
     let same : length c + 0 ≡ length c = omega arith in
     record {
-      spelled = spelled_whole s.layers s.here (Primitive h c NoMore) (octets_of h ++ c) [] b has.here.whole (ap (λ (x : List ℕ). octets_of h ++ x) (append-nil c) ∙ sym (append-nil (octets_of h ++ c))) has.spelled;
+      spelled =
+          spelled_whole s.layers s.here (Primitive h c NoMore) (octets_of h ++ c) [] b has.here.whole
+              (ap (λ (x : List ℕ). octets_of h ++ x) (append-nil c) ∙ sym (append-nil (octets_of h ++ c)))
+              has.spelled;
       offset = omega (arith, has.offset, ap length (append-nil b));
       stack = has.stack;
       layers = has.layers;
-      here = are_whole _ s.here (Primitive h c NoMore) has.here ((record { header = k.header; shallow = λ e. absurd (cc (e)); fits = subst (λ (n : ℕ). Fits p (length (octets_of h) + n)) same k.fits }, k.size ∙ ap Definite same), tt) refl;
+      here =
+          are_whole _ s.here (Primitive h c NoMore) has.here
+              ((record
+                  { header =
+                      k.header; shallow =
+                          λ e. absurd (cc (e)); fits = subst (λ (n : ℕ). Fits p (length (octets_of h) + n)) same k.fits
+                  },
+                  k.size ∙ ap Definite same),
+                  tt)
+              refl;
       phase = tt;
-      same_events = yielded_whole yielded s.layers s.here (Primitive h c NoMore) (Begin h ∷ Bytes c ∷ []) (End ∷ []) has.here.whole has.same_events refl;
+      same_events =
+          yielded_whole yielded s.layers s.here (Primitive h c NoMore) (Begin h ∷ Bytes c ∷ []) (End ∷ [])
+              has.here.whole has.same_events refl;
       element = has.element ∙ sym (began s.layers s.here (Primitive h c NoMore) has.here.whole refl);
     }
 
-pub yields_end : (w : WalkerState) → w.phase ≡ phase.InPrimitive 0 → Continues w (record w { phase = phase.Between; events = w.events + 1 }) [] (End ∷ [])
+pub yields_end : (w : WalkerState) → w.phase ≡ phase.InPrimitive 0
+    → Continues w (record w { phase = phase.Between; events = w.events + 1 }) [] (End ∷ [])
 yields_end w e = record {
   framing = refl;
   found = refl;
@@ -204,8 +269,13 @@ closed_here l inside = followed_by l.before (Holder l.header inside NoMore)
 
 -- the first of the end-of-contents octets
 zero_state : (w : WalkerState) (b : List ℕ) (yielded : List EventValue) (s : Zipper) (l : Layer) (ls : List Layer)
-    → HasZipper w b yielded (record { layers = l ∷ ls; here = s.here; tail = NoTail }) → l.header.size ≡ Indefinite → Fits (place_after (place_in w.framing (l ∷ ls)) (length (spelling s.here))) 1
-    → HasZipper (record w { phase = phase.InEndOctets; offset = w.offset + 1 }) (b ++ 0 ∷ []) (yielded ++ []) (record { layers = l ∷ ls; here = s.here; tail = EndOctetsTail })
+    → HasZipper w b yielded (record { layers = l ∷ ls; here = s.here; tail = NoTail }) → l.header.size ≡ Indefinite
+        → Fits (place_after (place_in w.framing (l ∷ ls)) (length (spelling s.here))) 1
+    → HasZipper (record w { phase = phase.InEndOctets; offset = w.offset + 1 }) (b ++ 0 ∷ []) (yielded ++ []) (record {
+      layers = l ∷ ls;
+      here = s.here;
+      tail = EndOctetsTail;
+    })
 zero_state w b yielded s l ls has e f = record {
   spelled = spelled_after (l ∷ ls) s.here [] (0 ∷ []) (0 ∷ []) b refl has.spelled;
   offset = omega (arith, has.offset, length-append b (0 ∷ []));
@@ -217,7 +287,8 @@ zero_state w b yielded s l ls has e f = record {
   element = has.element;
 }
 
-pub yields_zero : (w : WalkerState) → w.phase ≡ phase.Between → IsInIndefinite w.stack → IsWithin (bound_of w.stack) (w.offset + 1)
+pub yields_zero : (w : WalkerState) → w.phase ≡ phase.Between → IsInIndefinite w.stack
+    → IsWithin (bound_of w.stack) (w.offset + 1)
     → Continues w (record w { phase = phase.InEndOctets; offset = w.offset + 1 }) (0 ∷ []) []
 yields_zero w e i f = record {
   framing = refl;
@@ -228,20 +299,27 @@ yields_zero w e i f = record {
       zero_from w b yielded s s.layers refl has' i f;
 }
   where
-    zero_from : (w : WalkerState) (b : List ℕ) (yielded : List EventValue) (s : Zipper) (ls : List Layer) → s.layers ≡ ls → HasZipper w b yielded (with_layers s ls NoTail) → IsInIndefinite w.stack
-        → IsWithin (bound_of w.stack) (w.offset + 1) → (t : Zipper) × HasZipper (record w { phase = phase.InEndOctets; offset = w.offset + 1 }) (b ++ 0 ∷ []) (yielded ++ []) t
+    zero_from : (w : WalkerState) (b : List ℕ) (yielded : List EventValue) (s : Zipper) (ls : List Layer)
+        → s.layers ≡ ls → HasZipper w b yielded (with_layers s ls NoTail) → IsInIndefinite w.stack
+        → IsWithin (bound_of w.stack) (w.offset + 1)
+            → (t : Zipper)
+                × HasZipper (record w { phase = phase.InEndOctets; offset = w.offset + 1 }) (b ++ 0 ∷ [])
+                    (yielded ++ []) t
     zero_from w b yielded s [] q has i f = absurd (subst IsInIndefinite has.stack i)
     zero_from w b yielded s (l ∷ ls) q has i f =
         let inside : IsInIndefinite (frames_of w.framing (l ∷ ls)) = subst IsInIndefinite has.stack i in
-        let fits : IsWithin (place_in w.framing (l ∷ ls)).bound (w.offset + 1) = subst (λ (fs : List FrameValue). IsWithin (bound_of fs) (w.offset + 1)) has.stack f in
-        let at : w.offset ≡ (place_of w.framing (with_layers s (l ∷ ls) NoTail)).offset + 0 = walker-offset w b yielded _ has in (
+        let fits : IsWithin (place_in w.framing (l ∷ ls)).bound (w.offset + 1) =
+            subst (λ (fs : List FrameValue). IsWithin (bound_of fs) (w.offset + 1)) has.stack f in
+        let at : w.offset ≡ (place_of w.framing (with_layers s (l ∷ ls) NoTail)).offset + 0 =
+            walker-offset w b yielded _ has in (
           _,
           zero_state w b yielded s l ls has (indefinite-size l.header.size _ inside)
               (subst (λ (n : ℕ). IsWithin (place_in w.framing (l ∷ ls)).bound n) (omega (arith, at)) fits),
         )
 
 -- all contents that are to come, and the end
-counted_state : (w : WalkerState) (n : ℕ) (b : List ℕ) (yielded : List EventValue) (s : Zipper) → HasZipper w b yielded s → HasZipper (record w { events = n }) b yielded s
+counted_state : (w : WalkerState) (n : ℕ) (b : List ℕ) (yielded : List EventValue) (s : Zipper)
+    → HasZipper w b yielded s → HasZipper (record w { events = n }) b yielded s
 counted_state w n b yielded s has = record {
   spelled = has.spelled;
   offset = has.offset;
@@ -257,11 +335,20 @@ pub yields_passed : (w : WalkerState) (t : List ℕ) (n : ℕ) → w.phase ≡ p
     → Continues w (record w { phase = phase.Between; offset = w.offset + length t; events = n }) t (Bytes t ∷ End ∷ [])
 yields_passed w t n e =
     let left : ℕ = length t in
-    let u : WalkerState = record w { phase = phase.InPrimitive (left - left); offset = w.offset + left; events = w.events + 1 } in
+    let u : WalkerState = record w {
+      phase = phase.InPrimitive (left - left);
+      offset = w.offset + left;
+      events = w.events + 1;
+    } in
     let none : left - left ≡ 0 = omega arith in
     let one : Continues w u t (Bytes t ∷ []) = yields_contents w left t left e (omega arith) refl in
-    let two : Continues u (record u { phase = phase.Between; events = u.events + 1 }) [] (End ∷ []) = yields_end u (ap phase.InPrimitive none) in
-    let both = subst (λ (o : List ℕ). Continues w (record u { phase = phase.Between; events = u.events + 1 }) o (Bytes t ∷ End ∷ [])) (append-nil t) (continues_both w u _ t [] (Bytes t ∷ []) (End ∷ []) one two) in
+    let two : Continues u (record u { phase = phase.Between; events = u.events + 1 }) [] (End ∷ []) =
+        yields_end u (ap phase.InPrimitive none) in
+    let both =
+        subst
+            (λ (o : List ℕ). Continues w (record u { phase = phase.Between; events = u.events + 1 }) o
+                (Bytes t ∷ End ∷ []))
+            (append-nil t) (continues_both w u _ t [] (Bytes t ∷ []) (End ∷ []) one two) in
     record {
       framing = both.framing;
       found = both.found;

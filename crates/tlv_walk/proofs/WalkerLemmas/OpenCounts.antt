@@ -4,12 +4,14 @@ use Rattle.std.proofs.lemmas.Bool.{true≢false}
 use Rattle.tlv_walk.specs.Stack.{FrameValue}
 use Rattle.tlv_walk.specs.declared.framing.Framing.{Framing}
 use Rattle.tlv_walk.specs.Events.{EventValue}
-use Rattle.tlv_walk.specs.Forest.{Forest, NoMore, PaddingOctet, Primitive, Holder, OpenPrimitive, OpenHolder, OpenBitString, OpenHeader, OpenEndOctets, is_whole}
+use Rattle.tlv_walk.specs.Forest.{Forest, NoMore, PaddingOctet, Primitive, Holder, OpenPrimitive, OpenHolder}
+use Rattle.tlv_walk.specs.Forest.{OpenBitString, OpenHeader, OpenEndOctets, is_whole}
 use Rattle.tlv_walk.specs.WalkerState.{WalkerState}
 use Rattle.tlv_walk.proofs.WalkerLemmas.Waiting.{EventWaits}
 use Rattle.tlv_walk.specs.OpenCount.{open_count}
 use Rattle.tlv_walk.specs.Place.{Place}
-use Rattle.tlv_walk.specs.Private.Zipper.{AreLayers, BitStringTail, NoTail, HasZipper, PrimitiveTail, EndOctetsTail, HeaderTail, Layer, Tail, Zipper, frames_of, place_of, stack_of}
+use Rattle.tlv_walk.specs.Private.Zipper.{AreLayers, BitStringTail, NoTail, HasZipper, PrimitiveTail, EndOctetsTail}
+use Rattle.tlv_walk.specs.Private.Zipper.{HeaderTail, Layer, Tail, Zipper, frames_of, place_of, stack_of}
 use Rattle.tlv_walk.proofs.WalkerLemmas.ZipperEndings.{forest_of, state-within}
 use Rattle.tlv_walk.proofs.WalkerLemmas.Zipper.{followed_by, reading_of, within}
 
@@ -26,10 +28,13 @@ count-after (OpenHeader octets) g e = absurd (true≢false (sym e))
 count-after OpenEndOctets g e = absurd (true≢false (sym e))
 
 -- each layer is open
-pub count-within : (w : Framing) (ls : List Layer) (f : Forest) → AreLayers w ls → open_count (within ls f) ≡ length ls + open_count f
+pub count-within : (w : Framing) (ls : List Layer) (f : Forest) → AreLayers w ls
+    → open_count (within ls f) ≡ length ls + open_count f
 count-within w [] f a = omega arith
 count-within w (l ∷ ls) f a =
-    omega (arith, count-within w ls (followed_by l.before (OpenHolder l.header f)) a.0, count-after l.before (OpenHolder l.header f) a.1.whole)
+    omega
+        (arith, count-within w ls (followed_by l.before (OpenHolder l.header f)) a.0,
+            count-after l.before (OpenHolder l.header f) a.1.whole)
 
 -- each layer has a frame
 length-frames : (w : Framing) (ls : List Layer) → length (frames_of w ls) ≡ length ls
@@ -37,7 +42,8 @@ length-frames w [] = refl
 length-frames w (l ∷ ls) = ap suc (length-frames w ls)
 
 -- and so has a wrapping BIT STRING before its first contents octet
-length-stack : (w : Framing) (ls : List Layer) (p : Place) (t : Tail) → length (stack_of w ls p t) ≡ length ls + open_count (forest_of t)
+length-stack : (w : Framing) (ls : List Layer) (p : Place) (t : Tail)
+    → length (stack_of w ls p t) ≡ length ls + open_count (forest_of t)
 length-stack w ls p NoTail = omega (arith, length-frames w ls)
 length-stack w ls p (PrimitiveTail h c) = omega (arith, length-frames w ls)
 length-stack w ls p (BitStringTail h) = omega (arith, length-frames w ls)
@@ -45,9 +51,11 @@ length-stack w ls p (HeaderTail octets) = omega (arith, length-frames w ls)
 length-stack w ls p EndOctetsTail = omega (arith, length-frames w ls)
 
 -- the frames of a walker are as many as the open elements of its reading that hold others
-pub state-depth : (w : WalkerState) (b : List ℕ) (yielded : List EventValue) (s : Zipper) → HasZipper w b yielded s → (EventWaits w → ⊥) → length w.stack ≡ open_count (reading_of s)
+pub state-depth : (w : WalkerState) (b : List ℕ) (yielded : List EventValue) (s : Zipper) → HasZipper w b yielded s
+    → (EventWaits w → ⊥) → length w.stack ≡ open_count (reading_of s)
 state-depth w b yielded s h n =
     ap (λ (stack : List FrameValue). length stack) h.stack
     ∙ length-stack w.framing s.layers (place_of w.framing s) s.tail
-    ∙ sym (ap open_count (state-within w b yielded s h n) ∙ count-within w.framing s.layers (followed_by s.here (forest_of s.tail)) h.layers
+    ∙ sym (ap open_count (state-within w b yielded s h n)
+        ∙ count-within w.framing s.layers (followed_by s.here (forest_of s.tail)) h.layers
     ∙ ap (λ (k : ℕ). length s.layers + k) (count-after s.here (forest_of s.tail) h.here.whole))

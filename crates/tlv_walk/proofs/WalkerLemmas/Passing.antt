@@ -1,5 +1,6 @@
 -- A walker takes a primitive at once: its header, its contents and its end.
-use Rattle.std.proofs.Common.{◌≡◌, ℕ, ◌+◌, Bool, true, false, ◌||◌, List, [], ◌∷◌, ◌++◌, length, take, drop, refl, sym, ap, ap₂, ◌∙◌, subst, arith}
+use Rattle.std.proofs.Common.{◌≡◌, ℕ, ◌+◌, Bool, true, false, ◌||◌, List, [], ◌∷◌, ◌++◌, length, take, drop, refl, sym}
+use Rattle.std.proofs.Common.{ap, ap₂, ◌∙◌, subst, arith}
 use Rattle.std.proofs.lemmas.Bool.{true≢false}
 use Rattle.std.proofs.lemmas.List.{length-drop, length-take-le, take-append-drop}
 use Rattle.std.proofs.Math.Seq.{drop-append_seam, take-add}
@@ -25,25 +26,34 @@ abbrev contents_at : WholePrimitive → List ℕ → List ℕ
 contents_at p piece = take (announced_length p.fields.size) (drop p.header piece)
 
 -- the octets are those of its header, and its contents
-whole_octets : (w : WalkerState) (piece : List ℕ) (p : WholePrimitive) → CanPass w piece p → take p.octets piece ≡ take p.header piece ++ contents_at p piece
-whole_octets w piece p can = ap (λ (n : ℕ). take n piece) can.octets ∙ take-add p.header (announced_length p.fields.size) piece
+whole_octets : (w : WalkerState) (piece : List ℕ) (p : WholePrimitive) → CanPass w piece p
+    → take p.octets piece ≡ take p.header piece ++ contents_at p piece
+whole_octets w piece p can =
+    ap (λ (n : ℕ). take n piece) can.octets ∙ take-add p.header (announced_length p.fields.size) piece
 
-contents_length : (w : WalkerState) (piece : List ℕ) (p : WholePrimitive) → CanPass w piece p → length (contents_at p piece) ≡ announced_length p.fields.size
+contents_length : (w : WalkerState) (piece : List ℕ) (p : WholePrimitive) → CanPass w piece p
+    → length (contents_at p piece) ≡ announced_length p.fields.size
 contents_length w piece p can =
-    length-take-le (announced_length p.fields.size) (drop p.header piece) (omega (arith, can.octets, can.within, length-drop p.header piece))
+    length-take-le (announced_length p.fields.size) (drop p.header piece)
+        (omega (arith, can.octets, can.within, length-drop p.header piece))
 
 contents_after : (f : HeaderFields) (o c : List ℕ) → contents_in (new_header f o) (o ++ c) ≡ c
-contents_after f o c = ap (λ (l : List ℕ). drop (length l) (o ++ c)) (take-append-drop f.id_len o) ∙ drop-append_seam o c
+contents_after f o c =
+    ap (λ (l : List ℕ). drop (length l) (o ++ c)) (take-append-drop f.id_len o) ∙ drop-append_seam o c
 
-contents_whole : (w : WalkerState) (piece : List ℕ) (p : WholePrimitive) → CanPass w piece p → contents_in (header_at p piece) (take p.octets piece) ≡ contents_at p piece
+contents_whole : (w : WalkerState) (piece : List ℕ) (p : WholePrimitive) → CanPass w piece p
+    → contents_in (header_at p piece) (take p.octets piece) ≡ contents_at p piece
 contents_whole w piece p can =
-    ap (contents_in (header_at p piece)) (whole_octets w piece p can) ∙ contents_after p.fields (take p.header piece) (contents_at p piece)
+    ap (contents_in (header_at p piece)) (whole_octets w piece p can)
+        ∙ contents_after p.fields (take p.header piece) (contents_at p piece)
 
 -- all of its octets are there
-pub is_whole : (w : WalkerState) (piece : List ℕ) (p : WholePrimitive) → CanPass w piece p → IsWholeElement (header_at p piece) (take p.octets piece)
+pub is_whole : (w : WalkerState) (piece : List ℕ) (p : WholePrimitive) → CanPass w piece p
+    → IsWholeElement (header_at p piece) (take p.octets piece)
 is_whole w piece p can = record {
   header =
-      ap₂ (λ (l r : List ℕ). l ++ r) (take-append-drop p.fields.id_len (take p.header piece)) (contents_whole w piece p can)
+      ap₂ (λ (l r : List ℕ). l ++ r) (take-append-drop p.fields.id_len (take p.header piece))
+          (contents_whole w piece p can)
       ∙ sym (whole_octets w piece p can);
   contents = sym (ap length (contents_whole w piece p can) ∙ contents_length w piece p can);
 }
@@ -54,14 +64,19 @@ passed w p n = record w { offset = w.offset + p.octets; events = n; has_element 
 
 -- its header begins a primitive
 yields_header : (w : WalkerState) (piece : List ℕ) (p : WholePrimitive) → CanPass w piece p
-    → Continues w (after_header w (phase.InPrimitive (announced_length p.fields.size)) (p.fields.offset + length (take p.header piece))) (take p.header piece) (Begin (header_at p piece) ∷ [])
+    → Continues w
+        (after_header w (phase.InPrimitive (announced_length p.fields.size))
+            (p.fields.offset + length (take p.header piece)))
+        (take p.header piece) (Begin (header_at p piece) ∷ [])
 yields_header w piece p can =
     let f : HeaderFields = p.fields in
     let o : List ℕ = take p.header piece in
     let form : (f.constructed || is_wrapper f.named f.class f.constructed f.number f.size) ≡ false =
     ap₂ (λ (c n : Bool). c || is_wrapper n f.class c f.number f.size) can.primitive can.begins.begins.named in
-    let end : w.offset + p.octets ≡ f.offset + length o + announced_length f.size = omega (arith, can.begins.begins.place, can.octets, length-take-le p.header piece can.begins.within) in
-    fast_enters w _ piece false f p.header o kind.Primitive can.phase can.begins refl (sym can.unnamed) (λ e. absurd (true≢false (sym e ∙ form)))
+    let end : w.offset + p.octets ≡ f.offset + length o + announced_length f.size =
+        omega (arith, can.begins.begins.place, can.octets, length-take-le p.header piece can.begins.within) in
+    fast_enters w _ piece false f p.header o kind.Primitive can.phase can.begins refl (sym can.unnamed)
+        (λ e. absurd (true≢false (sym e ∙ form)))
     (subst (IsWithin (bound_of w.stack)) end can.fits) (form, refl)
 
 pub yields_primitive : (w : WalkerState) (piece : List ℕ) (p : WholePrimitive) (n : ℕ) → CanPass w piece p
@@ -74,10 +89,25 @@ yields_primitive w piece p n can =
     let offset : ℕ = f.offset + length o in
     let u : WalkerState = after_header w (phase.InPrimitive (announced_length f.size)) offset in
     let v : PhaseValue → ℕ → WalkerState = λ q k. record w { phase = q; offset = k; events = n; has_element = true } in
-    let end : offset + length c ≡ w.offset + p.octets = omega (arith, can.begins.begins.place, can.octets, length-take-le p.header piece can.begins.within, size) in
-    let both : Continues w (v phase.Between (offset + length c)) (o ++ c) (Begin (header_at p piece) ∷ Bytes c ∷ End ∷ []) =
-    continues_both w u _ o c (Begin (header_at p piece) ∷ []) (Bytes c ∷ End ∷ []) (yields_header w piece p can) (yields_passed u c n (ap phase.InPrimitive (sym size))) in
-    subst (λ (q : PhaseValue). Continues w (v q (w.offset + p.octets)) (take p.octets piece) (whole_events (header_at p piece) (take p.octets piece))) (sym can.phase)
-    (subst (λ (k : ℕ). Continues w (v phase.Between k) (take p.octets piece) (whole_events (header_at p piece) (take p.octets piece))) end
-    (subst (λ (l : List ℕ). Continues w (v phase.Between (offset + length c)) (take p.octets piece) (Begin (header_at p piece) ∷ Bytes l ∷ End ∷ [])) (sym (contents_whole w piece p can))
-    (subst (λ (l : List ℕ). Continues w (v phase.Between (offset + length c)) l (Begin (header_at p piece) ∷ Bytes c ∷ End ∷ [])) (sym (whole_octets w piece p can)) both)))
+    let end : offset + length c ≡ w.offset + p.octets =
+        omega (arith, can.begins.begins.place, can.octets, length-take-le p.header piece can.begins.within, size) in
+    let both : Continues w (v phase.Between (offset + length c)) (o ++ c)
+        (Begin (header_at p piece) ∷ Bytes c ∷ End ∷ []) =
+    continues_both w u _ o c (Begin (header_at p piece) ∷ []) (Bytes c ∷ End ∷ []) (yields_header w piece p can)
+        (yields_passed u c n (ap phase.InPrimitive (sym size))) in
+    subst
+        (λ (q : PhaseValue). Continues w (v q (w.offset + p.octets)) (take p.octets piece)
+            (whole_events (header_at p piece) (take p.octets piece)))
+        (sym can.phase)
+    (subst
+        (λ (k : ℕ). Continues w (v phase.Between k) (take p.octets piece)
+            (whole_events (header_at p piece) (take p.octets piece)))
+        end
+    (subst
+        (λ (l : List ℕ). Continues w (v phase.Between (offset + length c)) (take p.octets piece)
+            (Begin (header_at p piece) ∷ Bytes l ∷ End ∷ []))
+        (sym (contents_whole w piece p can))
+    (subst
+        (λ (l : List ℕ). Continues w (v phase.Between (offset + length c)) l
+            (Begin (header_at p piece) ∷ Bytes c ∷ End ∷ []))
+        (sym (whole_octets w piece p can)) both)))

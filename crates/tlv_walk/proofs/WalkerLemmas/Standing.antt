@@ -1,5 +1,6 @@
 -- What a step yields, of what a walker stands for.
-use Rattle.std.proofs.Common.{◌≡◌, ◌⊎◌, inl, inr, ℕ, ◌+◌, true, List, [], ◌∷◌, ◌++◌, length, refl, sym, ap, ◌∙◌, subst, arith, append-nil, length-append}
+use Rattle.std.proofs.Common.{◌≡◌, ◌⊎◌, inl, inr, ℕ, ◌+◌, true, List, [], ◌∷◌, ◌++◌, length, refl, sym, ap, ◌∙◌, subst}
+use Rattle.std.proofs.Common.{arith, append-nil, length-append}
 use Rattle.tlv_head.specs.declared.fault.Fault.{Fault}
 use Rattle.tlv_walk.specs.Stack.{FrameValue}
 use Rattle.tlv_walk.specs.declared.event.Event.{Event}
@@ -36,66 +37,96 @@ use Rattle.tlv_walk.proofs.WalkerLemmas.ZipperReading.{stands, state-events, sta
 use Rattle.tlv_walk.proofs.WalkerLemmas.Zipper.{reading_of}
 
 -- the wrappers found are those of the events yielded
-found_on : (old new : WalkerState) (yielded more : List EventValue) → new.framing ≡ old.framing → old.wrapper_count ≡ wrappers_after old.framing.inside 0 (entered_offsets yielded) → new.wrapper_count ≡ wrappers_after old.framing.inside old.wrapper_count (entered_offsets more)
+found_on : (old new : WalkerState) (yielded more : List EventValue) → new.framing ≡ old.framing
+    → old.wrapper_count ≡ wrappers_after old.framing.inside 0 (entered_offsets yielded)
+    → new.wrapper_count ≡ wrappers_after old.framing.inside old.wrapper_count (entered_offsets more)
     → new.wrapper_count ≡ wrappers_after new.framing.inside 0 (entered_offsets (yielded ++ more))
 found_on old new yielded more same p q =
     q
     ∙ ap (λ (k : ℕ). wrappers_after old.framing.inside k (entered_offsets more)) p
-    ∙ sym (ap (wrappers_after old.framing.inside 0) (enters-append yielded more) ∙ found_in-append old.framing.inside 0 (entered_offsets yielded) (entered_offsets more))
+    ∙ sym (ap (wrappers_after old.framing.inside 0) (enters-append yielded more)
+        ∙ found_in-append old.framing.inside 0 (entered_offsets yielded) (entered_offsets more))
     ∙ ap (λ (f : Framing). wrappers_after f.inside 0 (entered_offsets (yielded ++ more))) (sym same)
 
-pub stands_all : (old new : WalkerState) (piece rest : List ℕ) (es : List EventValue) → YieldsEvents old new piece rest es → WalksOver old new piece rest es
+pub stands_all : (old new : WalkerState) (piece rest : List ℕ) (es : List EventValue)
+    → YieldsEvents old new piece rest es → WalksOver old new piece rest es
 stands_all old new piece rest es t = let k = t.continues in record {
   taken = t.taken;
   piece_is = t.piece_is;
   framing = k.framing;
   stands = λ b yielded st. let u = k.goes b yielded st.private_state.state st.private_state.has_state in
-      stands new (b ++ t.taken) (yielded ++ es) u.0 u.1 (subst (λ (f : Framing). can_name f.inside ≡ true) (sym k.framing) st.private_state.named) (found_on old new yielded es k.framing st.private_state.found k.found);
+      stands new (b ++ t.taken) (yielded ++ es) u.0 u.1
+          (subst (λ (f : Framing). can_name f.inside ≡ true) (sym k.framing) st.private_state.named)
+          (found_on old new yielded es k.framing st.private_state.found k.found);
 }
 
 -- the reading after which the octet is refused
-abbrev refused_reading : (old : WalkerState) (g : Framing) (piece rest : List ℕ) (f : Fault) → g ≡ old.framing → (r : RefusesOctet old piece rest f) → (b : List ℕ) (yielded : List EventValue) → Stands old b yielded
+abbrev refused_reading : (old : WalkerState) (g : Framing) (piece rest : List ℕ) (f : Fault) → g ≡ old.framing
+    → (r : RefusesOctet old piece rest f) → (b : List ℕ) (yielded : List EventValue) → Stands old b yielded
     → IsRefusedAfter g (b ++ r.taken) r.octet yielded f
 refused_reading old g piece rest f same r b yielded st =
     let u = r.refuses b yielded st.private_state.state st.private_state.has_state in
-    let all : AreEqualJoined (yielded ++ waiting_events u.walker) (events (reading_of u.state)) = state-events u.walker (b ++ r.taken) yielded u.state u.has_state in
-    let spells : Spells (top_place u.walker.framing) (b ++ r.taken) (reading_of u.state) = state-spells u.walker (b ++ r.taken) yielded u.state u.has_state in
+    let all : AreEqualJoined (yielded ++ waiting_events u.walker) (events (reading_of u.state)) =
+        state-events u.walker (b ++ r.taken) yielded u.state u.has_state in
+    let spells : Spells (top_place u.walker.framing) (b ++ r.taken) (reading_of u.state) =
+        state-spells u.walker (b ++ r.taken) yielded u.state u.has_state in
     let there : f.offset ≡ length (b ++ r.taken) = u.offset ∙ u.has_state.offset in
-    let is_open : IsOpen (top_place old.framing) (reading_of u.state) = subst (λ (w : Framing). IsOpen (top_place w) (reading_of u.state)) u.framing spells.is_open in
+    let is_open : IsOpen (top_place old.framing) (reading_of u.state) =
+        subst (λ (w : Framing). IsOpen (top_place w) (reading_of u.state)) u.framing spells.is_open in
     record {
       reading = reading_of u.state;
       spelled = spells.spelled;
       offset = there;
-      all_events = subst (λ (es : List EventValue). AreEqualJoined es (events (reading_of u.state))) (ap (λ (es : List EventValue). yielded ++ es) u.idle ∙ append-nil yielded) all;
+      all_events =
+          subst (λ (es : List EventValue). AreEqualJoined es (events (reading_of u.state)))
+              (ap (λ (es : List EventValue). yielded ++ es) u.idle ∙ append-nil yielded) all;
       stays = λ c. subst (λ (w : Framing). IsReading w ((b ++ r.taken) ++ r.octet ∷ c) (reading_of u.state)) (sym same)
-          (refused-reading old.framing (b ++ r.taken) r.octet c f (reading_of u.state) (record { is_open = is_open; spelled = spells.spelled }) there (u.ends c));
-      ends = λ c. subst (λ (w : Framing). IsEnding w ((b ++ r.taken) ++ r.octet ∷ c) (ending.Fault f)) (sym same) (u.ends c);
+          (refused-reading old.framing (b ++ r.taken) r.octet c f (reading_of u.state)
+              (record { is_open = is_open; spelled = spells.spelled }) there (u.ends c));
+      ends =
+          λ c. subst (λ (w : Framing). IsEnding w ((b ++ r.taken) ++ r.octet ∷ c) (ending.Fault f)) (sym same)
+              (u.ends c);
       never_sound = subst (λ (w : Framing). CannotBecomeSound w ((b ++ r.taken) ++ r.octet ∷ [])) (sym same)
-          (never-sound old.framing ((b ++ r.taken) ++ r.octet ∷ []) (ending.Fault f) (u.ends []) (refused-final old.framing (b ++ r.taken) r.octet [] f there (u.ends [])));
+          (never-sound old.framing ((b ++ r.taken) ++ r.octet ∷ []) (ending.Fault f) (u.ends [])
+              (refused-final old.framing (b ++ r.taken) r.octet [] f there (u.ends [])));
     }
 
 -- the walker after the octet that it refused
-refused_walker : (old new : WalkerState) (piece rest : List ℕ) (f : Fault) → Refuses old new piece rest f → (r : RefusesOctet old piece rest f) → (b : List ℕ) (yielded : List EventValue) → Stands old b yielded
+refused_walker : (old new : WalkerState) (piece rest : List ℕ) (f : Fault) → Refuses old new piece rest f
+    → (r : RefusesOctet old piece rest f) → (b : List ℕ) (yielded : List EventValue) → Stands old b yielded
     → StandsRefused new (b ++ r.taken) r.octet yielded f
 refused_walker old new piece rest f k r b yielded st =
     let u = r.refuses b yielded st.private_state.state st.private_state.has_state in
     let framing : new.framing ≡ old.framing = k.framing in
-    let named : can_name new.framing.inside ≡ true = subst (λ (g : Framing). can_name g.inside ≡ true) (sym framing) st.private_state.named in
-    let there : IsRefusedAfter new.framing (b ++ r.taken) r.octet yielded f = refused_reading old new.framing piece rest f framing r b yielded st in
-    let found : new.wrapper_count ≡ wrappers_after new.framing.inside 0 (entered_offsets yielded) = k.wrapper_count ∙ st.private_state.found ∙ ap (λ (g : Framing). wrappers_after g.inside 0 (entered_offsets yielded)) (sym framing) in
+    let named : can_name new.framing.inside ≡ true =
+        subst (λ (g : Framing). can_name g.inside ≡ true) (sym framing) st.private_state.named in
+    let there : IsRefusedAfter new.framing (b ++ r.taken) r.octet yielded f =
+        refused_reading old new.framing piece rest f framing r b yielded st in
+    let found : new.wrapper_count ≡ wrappers_after new.framing.inside 0 (entered_offsets yielded) =
+        k.wrapper_count ∙ st.private_state.found
+            ∙ ap (λ (g : Framing). wrappers_after g.inside 0 (entered_offsets yielded)) (sym framing) in
     record {
       refused = there;
       phase = k.phase;
-      offset = omega (arith, k.taken, st.private_state.has_state.offset, ap length r.piece_is, ap length r.rest_is, length-append r.taken (r.octet ∷ r.others), length-append b r.taken);
-      depth = ap (λ (fs : List FrameValue). length fs) (k.stack ∙ sym u.stack) ∙ state-depth u.walker (b ++ r.taken) yielded u.state u.has_state (idle u.walker u.idle);
-      unused = ap (slice_get new.framing.inside) found ∙ yielded_unused new.framing yielded [] there.reading named (there.stays []).is_open refl
-          (subst (λ (es : List EventValue). AreEqualJoined es (events there.reading)) (sym (append-nil yielded)) there.all_events);
+      offset =
+          omega
+              (arith, k.taken, st.private_state.has_state.offset, ap length r.piece_is, ap length r.rest_is,
+                  length-append r.taken (r.octet ∷ r.others), length-append b r.taken);
+      depth =
+          ap (λ (fs : List FrameValue). length fs) (k.stack ∙ sym u.stack)
+              ∙ state-depth u.walker (b ++ r.taken) yielded u.state u.has_state (idle u.walker u.idle);
+      unused =
+          ap (slice_get new.framing.inside) found
+              ∙ yielded_unused new.framing yielded [] there.reading named (there.stays []).is_open refl
+          (subst (λ (es : List EventValue). AreEqualJoined es (events there.reading)) (sym (append-nil yielded))
+              there.all_events);
     }
 
 -- ---- what a step comes to
 
 -- an event
-reports : (old new : WalkerState) (piece rest : List ℕ) (e : Event) → HasNotRefused old → YieldsOne old new piece rest → HasOctets e → YieldsEvent old new piece rest (event_value_of e) → YieldsNext old new piece rest e
+reports : (old new : WalkerState) (piece rest : List ℕ) (e : Event) → HasNotRefused old → YieldsOne old new piece rest
+    → HasOctets e → YieldsEvent old new piece rest (event_value_of e) → YieldsNext old new piece rest e
 reports old new piece rest e n k has t =
     let walked = stands_all old new piece rest (event_value_of e ∷ []) t in record {
       takes = record {
@@ -113,7 +144,8 @@ reports old new piece rest e n k has t =
     }
 
 -- more is needed
-uses_up : (old new : WalkerState) (piece rest : List ℕ) → HasNotRefused old → TakesAll old new piece rest → Continues old new piece [] → UsesUpPiece old new piece rest
+uses_up : (old new : WalkerState) (piece rest : List ℕ) → HasNotRefused old → TakesAll old new piece rest
+    → Continues old new piece [] → UsesUpPiece old new piece rest
 uses_up old new piece rest n k t =
     record {
       takes = record {
@@ -128,19 +160,23 @@ uses_up old new piece rest n k t =
       stands = λ b yielded st.
           let u = t.goes b yielded st.private_state.state st.private_state.has_state in
           subst (λ (es : List EventValue). Stands new (b ++ piece) es) (append-nil yielded)
-          (stands new (b ++ piece) (yielded ++ []) u.0 u.1 (subst (λ (f : Framing). can_name f.inside ≡ true) (sym t.framing) st.private_state.named) (found_on old new yielded [] t.framing st.private_state.found t.found));
+          (stands new (b ++ piece) (yielded ++ []) u.0 u.1
+              (subst (λ (f : Framing). can_name f.inside ≡ true) (sym t.framing) st.private_state.named)
+              (found_on old new yielded [] t.framing st.private_state.found t.found));
       ready = k.ready;
     }
 
 -- an octet is refused
-refuses_now : (old new : WalkerState) (piece rest : List ℕ) (f : Fault) → HasNotRefused old → Refuses old new piece rest f → RefusesOctet old piece rest f → RefusesNext old new piece rest f
+refuses_now : (old new : WalkerState) (piece rest : List ℕ) (f : Fault) → HasNotRefused old
+    → Refuses old new piece rest f → RefusesOctet old piece rest f → RefusesNext old new piece rest f
 refuses_now old new piece rest f n k r = record {
   takes = record {
     not_refused = n;
     taken = r.taken;
     piece_is = r.piece_is ∙ ap (λ (o : List ℕ). r.taken ++ o) (sym r.rest_is);
     framing = k.framing;
-    offset = omega (arith, k.taken, ap length r.piece_is, ap length r.rest_is, length-append r.taken (r.octet ∷ r.others));
+    offset =
+        omega (arith, k.taken, ap length r.piece_is, ap length r.rest_is, length-append r.taken (r.octet ∷ r.others));
     events = omega (arith, k.events);
   };
   octet = r.octet;
@@ -161,31 +197,45 @@ refused_before InBitString = inr (λ f e. cc)
 refused_before InEndOctets = inr (λ f e. cc)
 refused_before (Refused f) = inl (f, refl)
 
-fault_now : (old new : WalkerState) (piece rest : List ℕ) (f : Fault) → HasNotRefused old → Refuses old new piece rest f → YieldsFault old new piece rest f
+fault_now : (old new : WalkerState) (piece rest : List ℕ) (f : Fault) → HasNotRefused old
+    → Refuses old new piece rest f → YieldsFault old new piece rest f
     → StepsTo old new piece rest (step.Fault f)
 fault_now old new piece rest f n k (inl r) = inl (refuses_now old new piece rest f n k r)
 fault_now old new piece rest f n k (inr r) = absurd (n f r.refused)
 
-steps_now : (old new : WalkerState) (piece rest : List ℕ) (s : Step) → HasNotRefused old → CountsStep old new piece rest s → YieldsStep old new piece rest s → StepsTo old new piece rest s
+steps_now : (old new : WalkerState) (piece rest : List ℕ) (s : Step) → HasNotRefused old
+    → CountsStep old new piece rest s → YieldsStep old new piece rest s → StepsTo old new piece rest s
 steps_now old new piece rest (step.Event e) n k t = reports old new piece rest e n k.0 k.1 t
 steps_now old new piece rest step.NeedMore n k t = uses_up old new piece rest n k t
 steps_now old new piece rest (step.Fault f) n k t = fault_now old new piece rest f n k t
 
-steps_by : (old new : WalkerState) (piece rest : List ℕ) (s : Step) → CountsStep old new piece rest s → YieldsStep old new piece rest s
-    → ((f : Fault) → old.phase ≡ Refused f → (s ≡ step.Fault f) × RefusesAgain old new piece rest f) → ((f : Fault) × (old.phase ≡ Refused f)) ⊎ HasNotRefused old
+steps_by : (old new : WalkerState) (piece rest : List ℕ) (s : Step) → CountsStep old new piece rest s
+    → YieldsStep old new piece rest s
+    → ((f : Fault) → old.phase ≡ Refused f → (s ≡ step.Fault f) × RefusesAgain old new piece rest f)
+        → ((f : Fault) × (old.phase ≡ Refused f)) ⊎ HasNotRefused old
     → StepsTo old new piece rest s
 steps_by old new piece rest s k t again (inl x) =
     let a = again x.0 x.1 in subst (λ (r : Step). StepsTo old new piece rest r) (sym a.0) (inr a.1)
 steps_by old new piece rest s k t again (inr n) = steps_now old new piece rest s n k t
 
-pub steps_to : (old new : WalkerState) (piece rest : List ℕ) (s : Step) → CountsStep old new piece rest s → YieldsStep old new piece rest s
-    → ((f : Fault) → old.phase ≡ Refused f → (s ≡ step.Fault f) × RefusesAgain old new piece rest f) → StepsTo old new piece rest s
+pub steps_to : (old new : WalkerState) (piece rest : List ℕ) (s : Step) → CountsStep old new piece rest s
+    → YieldsStep old new piece rest s
+    → ((f : Fault) → old.phase ≡ Refused f → (s ≡ step.Fault f) × RefusesAgain old new piece rest f)
+        → StepsTo old new piece rest s
 steps_to old new piece rest s k t again = steps_by old new piece rest s k t again (refused_before old.phase)
 
 -- ---- what is known of a step that yielded an event
 
-pub walked_event : (old new : WalkerState) (piece rest : List ℕ) (e : Event) → YieldsNext old new piece rest e → WalksOver old new piece rest (event_value_of e ∷ [])
-walked_event old new piece rest e x = record { taken = x.takes.taken; piece_is = x.takes.piece_is; framing = x.takes.framing; stands = x.stands }
+pub walked_event : (old new : WalkerState) (piece rest : List ℕ) (e : Event) → YieldsNext old new piece rest e
+    → WalksOver old new piece rest (event_value_of e ∷ [])
+walked_event old new piece rest e x = record {
+  taken = x.takes.taken;
+  piece_is = x.takes.piece_is;
+  framing = x.takes.framing;
+  stands = x.stands;
+}
 
-pub event_offset : (old new : WalkerState) (piece rest : List ℕ) (e : Event) → YieldsNext old new piece rest e → new.offset + length rest ≡ old.offset + length piece
-event_offset old new piece rest e x = omega (arith, x.takes.offset, ap length x.takes.piece_is, length-append x.takes.taken rest)
+pub event_offset : (old new : WalkerState) (piece rest : List ℕ) (e : Event) → YieldsNext old new piece rest e
+    → new.offset + length rest ≡ old.offset + length piece
+event_offset old new piece rest e x =
+    omega (arith, x.takes.offset, ap length x.takes.piece_is, length-append x.takes.taken rest)

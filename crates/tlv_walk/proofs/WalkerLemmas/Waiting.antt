@@ -1,5 +1,6 @@
 -- Whether an event waits, by the code's tests and by the list of those that do.
-use Rattle.std.proofs.Common.{◌≡◌, ℕ, Bool, true, false, eqb, if◌then◌else◌, List, [], ◌∷◌, Option, Some, None, refl, ap, ◌∙◌, ne_eqb, eq-eqb, IsTrue, ◌↔◌}
+use Rattle.std.proofs.Common.{◌≡◌, ℕ, Bool, true, false, eqb, if◌then◌else◌, List, [], ◌∷◌, Option, Some, None, refl}
+use Rattle.std.proofs.Common.{ap, ◌∙◌, ne_eqb, eq-eqb, IsTrue, ◌↔◌}
 use Rattle.tlv_walk.specs.Phase.{PhaseValue}
 use Rattle.tlv_walk.specs.Phase as phase
 use Rattle.tlv_walk.specs.Events.{End, EventValue}
@@ -22,16 +23,19 @@ EventWaits w = EventWaitsIn w.phase w.stack w.offset
 -- if nothing waits no events do
 no_endings : (offset : ℕ) (fs : List FrameValue) → (IsFilled fs offset → ⊥) → filled_ends offset fs ≡ []
 no_endings offset [] n = refl
-no_endings offset (f ∷ fs) n = ap (λ (k : Bool). if k then filled_end f ∷ filled_ends offset fs else []) (unfilled f.end n)
+no_endings offset (f ∷ fs) n =
+    ap (λ (k : Bool). if k then filled_end f ∷ filled_ends offset fs else []) (unfilled f.end n)
   where
     unfilled : (e : Option ℕ) → (e ≡ Some offset → ⊥) → is_end_at e offset ≡ false
     unfilled None n = refl
     unfilled (Some m) n = ne_eqb m offset (λ e. n (ap Some e))
 
-quiet_in : (f : PhaseValue) (stack : List FrameValue) (offset : ℕ) → (EventWaitsIn f stack offset → ⊥) → waiting_events_in f stack offset ≡ []
+quiet_in : (f : PhaseValue) (stack : List FrameValue) (offset : ℕ) → (EventWaitsIn f stack offset → ⊥)
+    → waiting_events_in f stack offset ≡ []
 quiet_in phase.Between stack offset n = no_endings offset stack n
 quiet_in (phase.InHeader r) stack offset n = refl
-quiet_in (phase.InPrimitive left) stack offset n = ap (λ (k : Bool). if k then End ∷ filled_ends offset stack else []) (ne_eqb left 0 n)
+quiet_in (phase.InPrimitive left) stack offset n =
+    ap (λ (k : Bool). if k then End ∷ filled_ends offset stack else []) (ne_eqb left 0 n)
 quiet_in phase.InBitString stack offset n = refl
 quiet_in phase.InEndOctets stack offset n = refl
 quiet_in (phase.Refused fault) stack offset n = refl
@@ -44,11 +48,15 @@ no_more : (e : EventValue) (es : List EventValue) (k : Bool) → k ≡ true → 
 no_more e es true t n = cc
 no_more e es false t n = absurd (cc)
 
-loud_in : (f : PhaseValue) (stack : List FrameValue) (offset : ℕ) → EventWaitsIn f stack offset → waiting_events_in f stack offset ≡ [] → ⊥
+loud_in : (f : PhaseValue) (stack : List FrameValue) (offset : ℕ) → EventWaitsIn f stack offset
+    → waiting_events_in f stack offset ≡ [] → ⊥
 loud_in phase.Between [] offset i n = i
-loud_in phase.Between (f ∷ fs) offset i n = no_more (filled_end f) (filled_ends offset fs) (is_end_at f.end offset) (ap (λ (e : Option ℕ). is_end_at e offset) i ∙ eq-eqb offset offset refl) n
+loud_in phase.Between (f ∷ fs) offset i n =
+    no_more (filled_end f) (filled_ends offset fs) (is_end_at f.end offset)
+        (ap (λ (e : Option ℕ). is_end_at e offset) i ∙ eq-eqb offset offset refl) n
 loud_in (phase.InHeader r) stack offset i n = i
-loud_in (phase.InPrimitive left) stack offset i n = no_more End (filled_ends offset stack) (eqb left 0) (eq-eqb left 0 i) n
+loud_in (phase.InPrimitive left) stack offset i n =
+    no_more End (filled_ends offset stack) (eqb left 0) (eq-eqb left 0 i) n
 loud_in phase.InBitString stack offset i n = i
 loud_in phase.InEndOctets stack offset i n = i
 loud_in (phase.Refused fault) stack offset i n = i

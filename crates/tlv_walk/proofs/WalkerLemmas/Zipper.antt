@@ -1,16 +1,20 @@
 -- A walker's state is an open forest, seen from its open end.
-use Rattle.std.proofs.Common.{◌≡◌, ◌↔◌, ℕ, ◌+◌, Bool, true, false, cond, eqb, List, [], ◌∷◌, ◌++◌, length, None, refl, sym, ap, ◌∙◌, subst, arith, append_assoc}
+use Rattle.std.proofs.Common.{◌≡◌, ◌↔◌, ℕ, ◌+◌, Bool, true, false, cond, eqb, List, [], ◌∷◌, ◌++◌, length, None, refl}
+use Rattle.std.proofs.Common.{sym, ap, ◌∙◌, subst, arith, append_assoc}
 use Rattle.std.proofs.lemmas.Bool.{true≢false}
 use Rattle.tlv_head.specs.declared.header.Size.{Size}
 use Rattle.tlv_head.specs.declared.header.Size.TheVariants.{Definite, Indefinite}
 use Rattle.tlv_head.specs.Header.{HeaderValue, announced_length, octets_of}
 use Rattle.tlv_walk.specs.declared.framing.Framing.{Framing}
 use Rattle.tlv_walk.specs.Ending.{tip}
-use Rattle.tlv_walk.specs.Forest.{Forest, Holder, NoMore, OpenBitString, OpenEndOctets, OpenHeader, OpenHolder, OpenPrimitive, PaddingOctet, Primitive, contents_length, end_octets, extent, is_whole, opening, spelling}
+use Rattle.tlv_walk.specs.Forest.{Forest, Holder, NoMore, OpenBitString, OpenEndOctets, OpenHeader, OpenHolder}
+use Rattle.tlv_walk.specs.Forest.{OpenPrimitive, PaddingOctet, Primitive, contents_length, end_octets, extent, is_whole}
+use Rattle.tlv_walk.specs.Forest.{opening, spelling}
 use Rattle.tlv_walk.specs.Place.{IsOpen, Place, bound_in, is_indefinite, place_after, top_place}
 use Rattle.tlv_walk.proofs.GrammarLemmas.Lengths.{LacksOctets}
 use Rattle.tlv_walk.specs.Stack.{IsInIndefinite}
-use Rattle.tlv_walk.specs.Private.Zipper.{AreLayers, AreWhole, BitStringTail, NoTail, PrimitiveTail, EndOctetsTail, HeaderTail, Layer, Tail, Zipper, frames_of, place_in, spelling_of_layers}
+use Rattle.tlv_walk.specs.Private.Zipper.{AreLayers, AreWhole, BitStringTail, NoTail, PrimitiveTail, EndOctetsTail}
+use Rattle.tlv_walk.specs.Private.Zipper.{HeaderTail, Layer, Tail, Zipper, frames_of, place_in, spelling_of_layers}
 use Rattle.tlv_walk.proofs.GrammarLemmas.PushSteps.{is_filled_by}
 use Rattle.tlv_walk.proofs.GrammarLemmas.Spellings.{append_assoc-3, append_assoc-4, length-holder, length-primitive}
 
@@ -34,7 +38,8 @@ within (l ∷ ls) f = within ls (followed_by l.before (OpenHolder l.header f))
 -- the same, where each element that is filled ends
 abbrev pub settled : List Layer → Forest → Forest
 settled [] f = f
-settled (l ∷ ls) f = cond (is_filled_by l.header f) (settled ls (followed_by l.before (Holder l.header f NoMore))) (within (l ∷ ls) f)
+settled (l ∷ ls) f =
+    cond (is_filled_by l.header f) (settled ls (followed_by l.before (Holder l.header f NoMore))) (within (l ∷ ls) f)
 
 abbrev pub primitive_in : List Layer → Forest → HeaderValue → List ℕ → Bool → Forest
 primitive_in ls here h c true = settled ls (followed_by here (Primitive h c NoMore))
@@ -55,14 +60,16 @@ reading_of s = reading_in s.layers s.here s.tail
 
 -- a place after one that is after another
 after-after : (p : Place) (m n k : ℕ) → m + n ≡ k → place_after (place_after p m) n ≡ place_after p k
-after-after p m n k e = let same : (p.offset + m) + n ≡ p.offset + k = omega arith in ap (λ (i : ℕ). record p { offset = i }) same
+after-after p m n k e =
+    let same : (p.offset + m) + n ≡ p.offset + k = omega arith in ap (λ (i : ℕ). record p { offset = i }) same
 
 -- no octets on
 pub after-none : (p : Place) → place_after p 0 ≡ p
 after-none p = let same : p.offset + 0 ≡ p.offset = omega arith in ap (λ (i : ℕ). record p { offset = i }) same
 
 -- what is open there is so by either way to the place
-open-after : (p : Place) (m n k : ℕ) (g : Forest) → m + n ≡ k → IsOpen (place_after p k) g → IsOpen (place_after (place_after p m) n) g
+open-after : (p : Place) (m n k : ℕ) (g : Forest) → m + n ≡ k → IsOpen (place_after p k) g
+    → IsOpen (place_after (place_after p m) n) g
 open-after p m n k g e w = subst (λ (q : Place). IsOpen q g) (sym (after-after p m n k e)) w
 
 -- ---- whole elements, and then others
@@ -72,7 +79,8 @@ pub spelling-followed_by : (f g : Forest) → is_whole f ≡ true → spelling (
 spelling-followed_by NoMore g e = refl
 spelling-followed_by (PaddingOctet rest) g e = ap (λ (t : List ℕ). 0 ∷ t) (spelling-followed_by rest g e)
 spelling-followed_by (Primitive h c rest) g e =
-    ap (λ (t : List ℕ). octets_of h ++ (c ++ t)) (spelling-followed_by rest g e) ∙ sym (append_assoc-3 (octets_of h) c (spelling rest) (spelling g))
+    ap (λ (t : List ℕ). octets_of h ++ (c ++ t)) (spelling-followed_by rest g e)
+        ∙ sym (append_assoc-3 (octets_of h) c (spelling rest) (spelling g))
 spelling-followed_by (Holder h inside rest) g e =
     ap (λ (t : List ℕ). opening h ++ (spelling inside ++ (end_octets h.size ++ t))) (spelling-followed_by rest g e)
     ∙ sym (append_assoc-4 (opening h) (spelling inside) (end_octets h.size) (spelling rest) (spelling g))
@@ -95,13 +103,19 @@ whole-followed_by (OpenHeader octets) g e = absurd (true≢false (sym e))
 whole-followed_by OpenEndOctets g e = absurd (true≢false (sym e))
 
 -- they are open if the others are, after them
-pub open-followed_by : (p : Place) (f g : Forest) → AreWhole p f → IsOpen (place_after p (length (spelling f))) g → IsOpen p (followed_by f g)
+pub open-followed_by : (p : Place) (f g : Forest) → AreWhole p f → IsOpen (place_after p (length (spelling f))) g
+    → IsOpen p (followed_by f g)
 open-followed_by p NoMore g a w = subst (λ (q : Place). IsOpen q g) (after-none p) w
 open-followed_by p (PaddingOctet rest) g a w =
-    (a.is_open.0, open-followed_by (place_after p 1) rest g (record { is_open = a.is_open.1; whole = a.whole }) (open-after p 1 (length (spelling rest)) _ g (omega arith) w))
+    (a.is_open.0,
+        open-followed_by (place_after p 1) rest g (record { is_open = a.is_open.1; whole = a.whole })
+            (open-after p 1 (length (spelling rest)) _ g (omega arith) w))
 open-followed_by p (Primitive h c rest) g a w = (
   a.is_open.0,
-  open-followed_by (place_after p (length (octets_of h) + length c)) rest g (record { is_open = a.is_open.1; whole = a.whole })
+  open-followed_by (place_after p (length (octets_of h) + length c)) rest g (record {
+    is_open = a.is_open.1;
+    whole = a.whole;
+  })
       (open-after p (length (octets_of h) + length c) (length (spelling rest)) _ g (sym (length-primitive h c rest)) w),
 )
 open-followed_by p (Holder h inside rest) g a w = (
@@ -117,17 +131,22 @@ open-followed_by p (OpenHeader octets) g a w = absurd (true≢false (sym a.whole
 open-followed_by p OpenEndOctets g a w = absurd (true≢false (sym a.whole))
 
 -- a tip by either way to the place
-tip-after : (p : Place) (m n k : ℕ) (g : Forest) → m + n ≡ k → tip (place_after (place_after p m) n) g ≡ tip (place_after p k) g
+tip-after : (p : Place) (m n k : ℕ) (g : Forest) → m + n ≡ k
+    → tip (place_after (place_after p m) n) g ≡ tip (place_after p k) g
 tip-after p m n k g e = ap (λ (q : Place). tip q g) (after-after p m n k e)
 
 -- the open end is that of the others
-pub tip-followed_by : (p : Place) (f g : Forest) → is_whole f ≡ true → tip p (followed_by f g) ≡ tip (place_after p (length (spelling f))) g
+pub tip-followed_by : (p : Place) (f g : Forest) → is_whole f ≡ true
+    → tip p (followed_by f g) ≡ tip (place_after p (length (spelling f))) g
 tip-followed_by p NoMore g e = ap (λ (q : Place). tip q g) (sym (after-none p))
-tip-followed_by p (PaddingOctet rest) g e = tip-followed_by (place_after p 1) rest g e ∙ tip-after p 1 (length (spelling rest)) _ g (omega arith)
+tip-followed_by p (PaddingOctet rest) g e =
+    tip-followed_by (place_after p 1) rest g e ∙ tip-after p 1 (length (spelling rest)) _ g (omega arith)
 tip-followed_by p (Primitive h c rest) g e =
-    tip-followed_by (place_after p (length (octets_of h) + length c)) rest g e ∙ tip-after p (length (octets_of h) + length c) (length (spelling rest)) _ g (sym (length-primitive h c rest))
+    tip-followed_by (place_after p (length (octets_of h) + length c)) rest g e
+        ∙ tip-after p (length (octets_of h) + length c) (length (spelling rest)) _ g (sym (length-primitive h c rest))
 tip-followed_by p (Holder h inside rest) g e =
-    tip-followed_by (place_after p (extent h inside)) rest g e ∙ tip-after p (extent h inside) (length (spelling rest)) _ g (sym (length-holder h inside rest))
+    tip-followed_by (place_after p (extent h inside)) rest g e
+        ∙ tip-after p (extent h inside) (length (spelling rest)) _ g (sym (length-holder h inside rest))
 tip-followed_by p (OpenPrimitive h c) g e = absurd (true≢false (sym e))
 tip-followed_by p (OpenHolder h inside) g e = absurd (true≢false (sym e))
 tip-followed_by p (OpenBitString h) g e = absurd (true≢false (sym e))
@@ -154,18 +173,22 @@ indefinite-endless (Definite n) start = (λ e. absurd (cc), λ e. absurd (cc))
 indefinite-endless Indefinite start = (λ e. refl, λ e. refl)
 
 -- in an element of indefinite length if the innermost frame's is
-pub place-indefinite : (w : Framing) (ls : List Layer) → ((place_in w ls).indefinite ≡ true) ↔ IsInIndefinite (frames_of w ls)
+pub place-indefinite : (w : Framing) (ls : List Layer)
+    → ((place_in w ls).indefinite ≡ true) ↔ IsInIndefinite (frames_of w ls)
 place-indefinite w [] = (λ e. absurd (true≢false (sym e)), λ e. absurd e)
 place-indefinite w (l ∷ ls) = indefinite-endless l.header.size _
 
 -- ---- elements in the innermost open one
 
 -- their octets, after those of the layers
-pub spelling-within : (w : Framing) (ls : List Layer) (f : Forest) → AreLayers w ls → spelling (within ls f) ≡ spelling_of_layers ls ++ spelling f
+pub spelling-within : (w : Framing) (ls : List Layer) (f : Forest) → AreLayers w ls
+    → spelling (within ls f) ≡ spelling_of_layers ls ++ spelling f
 spelling-within w [] f a = refl
 spelling-within w (l ∷ ls) f a =
     spelling-within w ls (followed_by l.before (OpenHolder l.header f)) a.0
-    ∙ ap (λ (t : List ℕ). spelling_of_layers ls ++ t) (spelling-followed_by l.before (OpenHolder l.header f) a.1.whole ∙ sym (append_assoc (spelling l.before) (opening l.header) (spelling f)))
+    ∙ ap (λ (t : List ℕ). spelling_of_layers ls ++ t)
+        (spelling-followed_by l.before (OpenHolder l.header f) a.1.whole
+            ∙ sym (append_assoc (spelling l.before) (opening l.header) (spelling f)))
     ∙ sym (append_assoc (spelling_of_layers ls) (spelling l.before ++ opening l.header) (spelling f))
 
 -- if they are whole, contents octets of the innermost open element are lacking
@@ -179,7 +202,8 @@ room-if_open [] f e = tt
 room-if_open (l ∷ ls) f e = λ whole. absurd (true≢false (sym whole ∙ e))
 
 -- they are open where they are, and so is the whole
-pub open-within : (w : Framing) (ls : List Layer) (f : Forest) → AreLayers w ls → IsOpen (place_in w ls) f → HasRoomIn ls f → IsOpen (top_place w) (within ls f)
+pub open-within : (w : Framing) (ls : List Layer) (f : Forest) → AreLayers w ls → IsOpen (place_in w ls) f
+    → HasRoomIn ls f → IsOpen (top_place w) (within ls f)
 open-within w [] f a v r = v
 open-within w (l ∷ ls) f a v r =
     open-within w ls (followed_by l.before (OpenHolder l.header f)) a.0
@@ -187,11 +211,17 @@ open-within w (l ∷ ls) f a v r =
     (room-if_open ls _ (whole-followed_by l.before (OpenHolder l.header f) a.1.whole))
 
 -- the open end is theirs
-pub tip-within : (w : Framing) (ls : List Layer) (f : Forest) → AreLayers w ls → tip (top_place w) (within ls f) ≡ tip (place_in w ls) f
+pub tip-within : (w : Framing) (ls : List Layer) (f : Forest) → AreLayers w ls
+    → tip (top_place w) (within ls f) ≡ tip (place_in w ls) f
 tip-within w [] f a = refl
-tip-within w (l ∷ ls) f a = tip-within w ls (followed_by l.before (OpenHolder l.header f)) a.0 ∙ tip-followed_by (place_in w ls) l.before (OpenHolder l.header f) a.1.whole
+tip-within w (l ∷ ls) f a =
+    tip-within w ls (followed_by l.before (OpenHolder l.header f)) a.0
+        ∙ tip-followed_by (place_in w ls) l.before (OpenHolder l.header f) a.1.whole
 
 -- inside a layer something is open
-pub whole-within : (w : Framing) (ls : List Layer) (f : Forest) → AreLayers w ls → (ls ≡ [] → is_whole f ≡ false) → is_whole (within ls f) ≡ false
+pub whole-within : (w : Framing) (ls : List Layer) (f : Forest) → AreLayers w ls → (ls ≡ [] → is_whole f ≡ false)
+    → is_whole (within ls f) ≡ false
 whole-within w [] f a e = e refl
-whole-within w (l ∷ ls) f a e = whole-within w ls (followed_by l.before (OpenHolder l.header f)) a.0 (λ _. whole-followed_by l.before (OpenHolder l.header f) a.1.whole)
+whole-within w (l ∷ ls) f a e =
+    whole-within w ls (followed_by l.before (OpenHolder l.header f)) a.0
+        (λ _. whole-followed_by l.before (OpenHolder l.header f) a.1.whole)

@@ -9,11 +9,14 @@ use Rattle.tlv_walk.specs.Phase.{PhaseValue}
 use Rattle.tlv_walk.specs.Phase as phase
 use Rattle.tlv_walk.specs.Ending.{IsEnding, IsFault, done, empty, fault_ending, short, tip}
 use Rattle.tlv_walk.specs.Events.{EventValue}
-use Rattle.tlv_walk.specs.Forest.{Forest, NoMore, OpenPrimitive, OpenBitString, OpenHeader, OpenEndOctets, has_element, is_whole, spelling}
+use Rattle.tlv_walk.specs.Forest.{Forest, NoMore, OpenPrimitive, OpenBitString, OpenHeader, OpenEndOctets, has_element}
+use Rattle.tlv_walk.specs.Forest.{is_whole, spelling}
 use Rattle.tlv_walk.specs.WalkerState.{WalkerState}
 use Rattle.tlv_walk.proofs.WalkerLemmas.Waiting.{EventWaits, EventWaitsIn}
 use Rattle.tlv_walk.specs.Place.{Place, top_place}
-use Rattle.tlv_walk.specs.Private.Zipper.{BitStringTail, NoTail, HasZipper, PrimitiveTail, EndOctetsTail, HeaderTail, IsPhaseOf, Layer, Tail, Zipper, begins_element, frames_of, place_in, place_of, spelling_of_tail, stack_of}
+use Rattle.tlv_walk.specs.Private.Zipper.{BitStringTail, NoTail, HasZipper, PrimitiveTail, EndOctetsTail, HeaderTail}
+use Rattle.tlv_walk.specs.Private.Zipper.{IsPhaseOf, Layer, Tail, Zipper, begins_element, frames_of, place_in, place_of}
+use Rattle.tlv_walk.specs.Private.Zipper.{spelling_of_tail, stack_of}
 use Rattle.tlv_walk.proofs.GrammarLemmas.Endings.{halt-ending}
 use Rattle.tlv_walk.proofs.GrammarLemmas.Faults.{fault-refused}
 use Rattle.tlv_walk.proofs.GrammarLemmas.PushSteps.{Spells}
@@ -21,7 +24,8 @@ use Rattle.tlv_walk.proofs.GrammarLemmas.Readings.{IsHalt}
 use Rattle.tlv_walk.proofs.GrammarLemmas.Settled.{end_in, settled-within}
 use Rattle.tlv_walk.proofs.WalkerLemmas.Places.{walker-offset}
 use Rattle.tlv_walk.proofs.WalkerLemmas.ZipperReading.{contents-less, later_place, state-reading, state-spells}
-use Rattle.tlv_walk.proofs.WalkerLemmas.Zipper.{followed_by, followed_by-none, reading_in, reading_of, tip-followed_by, tip-within, whole-followed_by, whole-within, within}
+use Rattle.tlv_walk.proofs.WalkerLemmas.Zipper.{followed_by, followed_by-none, reading_in, reading_of, tip-followed_by}
+use Rattle.tlv_walk.proofs.WalkerLemmas.Zipper.{tip-within, whole-followed_by, whole-within, within}
 
 -- what is open after the whole elements, as a forest: of a primitive, one that lacks contents octets
 abbrev pub forest_of : Tail → Forest
@@ -32,23 +36,31 @@ forest_of (HeaderTail octets) = OpenHeader octets
 forest_of EndOctetsTail = OpenEndOctets
 
 -- the whole elements end at the offset: no element is filled there
-filled-at : (w : Framing) (ls : List Layer) (here : Forest) (offset : ℕ) → offset ≡ end_in w ls here + 0 → (EventWaitsIn phase.Between (frames_of w ls) offset → ⊥) → EventWaitsIn phase.Between (frames_of w ls) (end_in w ls here) → ⊥
-filled-at w ls here offset e n f = let there : end_in w ls here ≡ offset = omega arith in n (subst (λ (k : ℕ). EventWaitsIn phase.Between (frames_of w ls) k) there f)
+filled-at : (w : Framing) (ls : List Layer) (here : Forest) (offset : ℕ) → offset ≡ end_in w ls here + 0
+    → (EventWaitsIn phase.Between (frames_of w ls) offset → ⊥)
+    → EventWaitsIn phase.Between (frames_of w ls) (end_in w ls here) → ⊥
+filled-at w ls here offset e n f =
+    let there : end_in w ls here ≡ offset =
+        omega arith in n (subst (λ (k : ℕ). EventWaitsIn phase.Between (frames_of w ls) k) there f)
 
 -- if nothing is waiting, no element has ended
-reading-within : (w : Framing) (ls : List Layer) (here : Forest) (f : PhaseValue) (t : Tail) (offset : ℕ) → IsPhaseOf f t (later_place w ls here)
-    → offset ≡ (later_place w ls here).offset + length (spelling_of_tail t) → (EventWaitsIn f (stack_of w ls (later_place w ls here) t) offset → ⊥)
+reading-within : (w : Framing) (ls : List Layer) (here : Forest) (f : PhaseValue) (t : Tail) (offset : ℕ)
+    → IsPhaseOf f t (later_place w ls here)
+    → offset ≡ (later_place w ls here).offset + length (spelling_of_tail t)
+        → (EventWaitsIn f (stack_of w ls (later_place w ls here) t) offset → ⊥)
     → reading_in ls here t ≡ within ls (followed_by here (forest_of t))
 reading-within w ls here phase.Between NoTail offset j e n =
     settled-within w ls here (filled-at w ls here offset e n) ∙ ap (within ls) (sym (followed_by-none here))
-reading-within w ls here (phase.InPrimitive left) (PrimitiveTail h c) offset j e n = rw (contents-less _ h c left j n) refl
+reading-within w ls here (phase.InPrimitive left) (PrimitiveTail h c) offset j e n =
+    rw (contents-less _ h c left j n) refl
 reading-within w ls here (phase.InHeader r) (HeaderTail octets) offset j e n = refl
 reading-within w ls here phase.InBitString (BitStringTail h) offset j e n = refl
 reading-within w ls here phase.InEndOctets EndOctetsTail offset j e n = refl
 reading-within w ls here f t offset j e n = absurd j
 
 -- so what a walker with nothing waiting has read is its layers, its whole elements and what is open
-pub state-within : (w : WalkerState) (b : List ℕ) (yielded : List EventValue) (s : Zipper) → HasZipper w b yielded s → (EventWaits w → ⊥) → reading_of s ≡ within s.layers (followed_by s.here (forest_of s.tail))
+pub state-within : (w : WalkerState) (b : List ℕ) (yielded : List EventValue) (s : Zipper) → HasZipper w b yielded s
+    → (EventWaits w → ⊥) → reading_of s ≡ within s.layers (followed_by s.here (forest_of s.tail))
 state-within w b yielded s h n =
     reading-within w.framing s.layers s.here w.phase s.tail w.offset h.phase (walker-offset w b yielded s h)
     (λ i. n (subst (λ (stack : List FrameValue). EventWaitsIn w.phase stack w.offset) (sym h.stack) i))
@@ -64,7 +76,8 @@ tip-tail p (HeaderTail octets) = refl
 tip-tail p EndOctetsTail = refl
 
 -- the open end of the reading is that of the state
-pub state-tip : (w : WalkerState) (b : List ℕ) (yielded : List EventValue) (s : Zipper) → HasZipper w b yielded s → (EventWaits w → ⊥)
+pub state-tip : (w : WalkerState) (b : List ℕ) (yielded : List EventValue) (s : Zipper) → HasZipper w b yielded s
+    → (EventWaits w → ⊥)
     → tip (top_place w.framing) (reading_of s) ≡ (place_of w.framing s, forest_of s.tail)
 state-tip w b yielded s h n =
     ap (λ (f : Forest). tip (top_place w.framing) f) (state-within w b yielded s h n)
@@ -73,26 +86,40 @@ state-tip w b yielded s h n =
     ∙ tip-tail (place_of w.framing s) s.tail
 
 -- an octet with a fault of the list at the open end gives the ending, whatever follows
-pub state-fault : (w : WalkerState) (b : List ℕ) (yielded : List EventValue) (s : Zipper) (x : ℕ) (rest : List ℕ) (code : FaultCode) → HasZipper w b yielded s → (EventWaits w → ⊥)
-    → IsFault (place_of w.framing s) x (forest_of s.tail) code → IsEnding w.framing (b ++ x ∷ rest) (fault_ending code (length b))
+pub state-fault : (w : WalkerState) (b : List ℕ) (yielded : List EventValue) (s : Zipper) (x : ℕ) (rest : List ℕ)
+    (code : FaultCode)
+    → HasZipper w b yielded s → (EventWaits w → ⊥)
+    → IsFault (place_of w.framing s) x (forest_of s.tail) code
+        → IsEnding w.framing (b ++ x ∷ rest) (fault_ending code (length b))
 state-fault w b yielded s x rest code h n k =
     let r : Spells (top_place w.framing) b (reading_of s) = state-spells w b yielded s h in
-    let there : IsFault (tip (top_place w.framing) (reading_of s)).0 x (tip (top_place w.framing) (reading_of s)).1 code = subst (λ (t : Place × Forest). IsFault t.0 x t.1 code) (sym (state-tip w b yielded s h n)) k in
+    let there : IsFault (tip (top_place w.framing) (reading_of s)).0 x (tip (top_place w.framing) (reading_of s)).1
+        code =
+        subst (λ (t : Place × Forest). IsFault t.0 x t.1 code) (sym (state-tip w b yielded s h n)) k in
     let halt : IsHalt w.framing (reading_of s) code (b ++ x ∷ rest) =
-    record { is_open = r.is_open; octet = x; rest = rest; front = ap (λ (o : List ℕ). o ++ x ∷ rest) r.spelled; refused = fault-refused w.framing (reading_of s) x code r.is_open there } in
-    subst (λ (o : List ℕ). IsEnding w.framing (b ++ x ∷ rest) (fault_ending code (length o))) r.spelled (halt-ending w.framing (reading_of s) code (b ++ x ∷ rest) halt there)
+    record {
+      is_open = r.is_open;
+      octet = x;
+      rest = rest;
+      front = ap (λ (o : List ℕ). o ++ x ∷ rest) r.spelled;
+      refused = fault-refused w.framing (reading_of s) x code r.is_open there;
+    } in
+    subst (λ (o : List ℕ). IsEnding w.framing (b ++ x ∷ rest) (fault_ending code (length o))) r.spelled
+        (halt-ending w.framing (reading_of s) code (b ++ x ∷ rest) halt there)
 
 -- ---- the end of the input
 
 -- outside all elements that hold others, between encodings, the whole elements are the reading
-outermost-reading : (w : Framing) (ls : List Layer) (here : Forest) (t : Tail) → IsPhaseOf phase.Between t (later_place w ls here) → stack_of w ls (later_place w ls here) t ≡ []
+outermost-reading : (w : Framing) (ls : List Layer) (here : Forest) (t : Tail)
+    → IsPhaseOf phase.Between t (later_place w ls here) → stack_of w ls (later_place w ls here) t ≡ []
     → reading_in ls here t ≡ here
 outermost-reading w [] here NoTail j e = refl
 outermost-reading w (l ∷ ls) here NoTail j e = absurd (cc)
 outermost-reading w ls here t j e = absurd j
 
 -- there an octet of an element came if one is in the reading
-outermost-element : (w : Framing) (ls : List Layer) (here : Forest) (t : Tail) → IsPhaseOf phase.Between t (later_place w ls here) → stack_of w ls (later_place w ls here) t ≡ []
+outermost-element : (w : Framing) (ls : List Layer) (here : Forest) (t : Tail)
+    → IsPhaseOf phase.Between t (later_place w ls here) → stack_of w ls (later_place w ls here) t ≡ []
     → begins_element ls here t ≡ has_element here
 outermost-element w [] here NoTail j e = refl
 outermost-element w (l ∷ ls) here NoTail j e = absurd (cc)
@@ -105,9 +132,11 @@ record IsOutermost (w : WalkerState) (b : List ℕ) (s : Zipper) : Type 0 where
   spelled : spelling (reading_of s) ≡ b
 
 -- it is the whole elements there
-state-outermost : (w : WalkerState) (b : List ℕ) (yielded : List EventValue) (s : Zipper) → HasZipper w b yielded s → w.phase ≡ phase.Between → w.stack ≡ [] → IsOutermost w b s
+state-outermost : (w : WalkerState) (b : List ℕ) (yielded : List EventValue) (s : Zipper) → HasZipper w b yielded s
+    → w.phase ≡ phase.Between → w.stack ≡ [] → IsOutermost w b s
 state-outermost w b yielded s h e none =
-    let j : IsPhaseOf phase.Between s.tail (place_of w.framing s) = subst (λ (f : PhaseValue). IsPhaseOf f s.tail (place_of w.framing s)) e h.phase in
+    let j : IsPhaseOf phase.Between s.tail (place_of w.framing s) =
+        subst (λ (f : PhaseValue). IsPhaseOf f s.tail (place_of w.framing s)) e h.phase in
     let empty : stack_of w.framing s.layers (place_of w.framing s) s.tail ≡ [] = sym h.stack ∙ none in
     let r : Spells (top_place w.framing) b (reading_of s) = state-spells w b yielded s h in
     record {
@@ -117,21 +146,25 @@ state-outermost w b yielded s h e none =
     }
 
 -- there, after an octet of an element, the input is done
-pub state-done : (w : WalkerState) (b : List ℕ) (yielded : List EventValue) (s : Zipper) → HasZipper w b yielded s → w.phase ≡ phase.Between → w.stack ≡ [] → w.has_element ≡ true
+pub state-done : (w : WalkerState) (b : List ℕ) (yielded : List EventValue) (s : Zipper) → HasZipper w b yielded s
+    → w.phase ≡ phase.Between → w.stack ≡ [] → w.has_element ≡ true
     → IsEnding w.framing b Done
 state-done w b yielded s h e none some =
     let o : IsOutermost w b s = state-outermost w b yielded s h e none in
-    done (reading_of s) (state-reading w b yielded s h) o.spelled (ap has_element o.reading ∙ o.element ∙ some) (ap is_whole o.reading ∙ h.here.whole)
+    done (reading_of s) (state-reading w b yielded s h) o.spelled (ap has_element o.reading ∙ o.element ∙ some)
+        (ap is_whole o.reading ∙ h.here.whole)
 
 -- and if no octet of an element came, there is none
-pub state-empty : (w : WalkerState) (b : List ℕ) (yielded : List EventValue) (s : Zipper) → HasZipper w b yielded s → w.phase ≡ phase.Between → w.stack ≡ [] → w.has_element ≡ false
+pub state-empty : (w : WalkerState) (b : List ℕ) (yielded : List EventValue) (s : Zipper) → HasZipper w b yielded s
+    → w.phase ≡ phase.Between → w.stack ≡ [] → w.has_element ≡ false
     → IsEnding w.framing b (fault_ending Empty (length b))
 state-empty w b yielded s h e none no_element =
     let o : IsOutermost w b s = state-outermost w b yielded s h e none in
     empty (reading_of s) (state-reading w b yielded s h) o.spelled (ap has_element o.reading ∙ o.element ∙ no_element)
 
 -- elsewhere something is open: an element that holds others, or what is after the whole elements
-open-elsewhere : (w : Framing) (ls : List Layer) (here : Forest) (f : PhaseValue) (t : Tail) → IsPhaseOf f t (later_place w ls here)
+open-elsewhere : (w : Framing) (ls : List Layer) (here : Forest) (f : PhaseValue) (t : Tail)
+    → IsPhaseOf f t (later_place w ls here)
     → (f ≡ phase.Between → stack_of w ls (later_place w ls here) t ≡ [] → ⊥) → ls ≡ [] → is_whole (forest_of t) ≡ false
 open-elsewhere w ls here phase.Between NoTail j n e = absurd (n refl (ap (frames_of w) e))
 open-elsewhere w ls here (phase.InHeader r) (HeaderTail octets) j n e = refl
@@ -141,11 +174,13 @@ open-elsewhere w ls here phase.InEndOctets EndOctetsTail j n e = refl
 open-elsewhere w ls here f t j n e = absurd j
 
 -- there the input is too short
-pub state-short : (w : WalkerState) (b : List ℕ) (yielded : List EventValue) (s : Zipper) → HasZipper w b yielded s → (EventWaits w → ⊥) → (w.phase ≡ phase.Between → w.stack ≡ [] → ⊥)
+pub state-short : (w : WalkerState) (b : List ℕ) (yielded : List EventValue) (s : Zipper) → HasZipper w b yielded s
+    → (EventWaits w → ⊥) → (w.phase ≡ phase.Between → w.stack ≡ [] → ⊥)
     → IsEnding w.framing b (fault_ending Short (length b))
 state-short w b yielded s h n outside =
     let r : Spells (top_place w.framing) b (reading_of s) = state-spells w b yielded s h in
     let part : is_whole (within s.layers (followed_by s.here (forest_of s.tail))) ≡ false =
     whole-within w.framing s.layers (followed_by s.here (forest_of s.tail)) h.layers
-    (λ e. whole-followed_by s.here (forest_of s.tail) h.here.whole ∙ open-elsewhere w.framing s.layers s.here w.phase s.tail h.phase (λ p q. outside p (h.stack ∙ q)) e) in
+    (λ e. whole-followed_by s.here (forest_of s.tail) h.here.whole
+        ∙ open-elsewhere w.framing s.layers s.here w.phase s.tail h.phase (λ p q. outside p (h.stack ∙ q)) e) in
     short (reading_of s) (state-reading w b yielded s h) r.spelled (ap is_whole (state-within w b yielded s h n) ∙ part)

@@ -13,10 +13,12 @@ overflow_add-length c =
     omega (arith, c.from.ensures)
 
 pub returns-then-left-eq0 : goal.returns-then-left-eq0
-returns-then-left-eq0 c = λ octets h. ends_length _ _ _ _ _ _ h (search rules) (search rules) (grind arith) (search rules)
+returns-then-left-eq0 c =
+    λ octets h. ends_length _ _ _ _ _ _ h (search rules) (search rules) (grind arith) (search rules)
 
 pub returns-else-left-eq0 : goal.returns-else-left-eq0
-returns-else-left-eq0 c = λ octets h. more_length _ _ _ _ _ _ h (search rules) (search rules) (grind arith) (search rules)
+returns-else-left-eq0 c =
+    λ octets h. more_length _ _ _ _ _ _ h (search rules) (search rules) (grind arith) (search rules)
 
 pub returns-then-left-ge5 : goal.returns-then-left-ge5
 returns-then-left-ge5 c = λ octets h. too_large _ _ _ _ _ h (grind arith) (search rules)

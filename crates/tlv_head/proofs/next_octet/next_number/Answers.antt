@@ -14,7 +14,8 @@ overflow_add-identifier c =
     grind (arith, and_numeral)
 
 pub returns-then-octet-ge128-2 : goal.returns-then-octet-ge128-2
-returns-then-octet-ge128-2 c = λ octets h. more_number _ _ _ _ h (grind (arith, and_numeral)) (grind (arith, and_numeral)) (grind arith)
+returns-then-octet-ge128-2 c =
+    λ octets h. more_number _ _ _ _ h (grind (arith, and_numeral)) (grind (arith, and_numeral)) (grind arith)
 
 pub returns-else-octet-ge128-2 : goal.returns-else-octet-ge128-2
 returns-else-octet-ge128-2 c = λ octets h. ends_number _ _ _ _ h (grind (arith, and_numeral)) (search rules)

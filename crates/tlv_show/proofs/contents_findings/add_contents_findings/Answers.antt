@@ -1,4 +1,5 @@
-use Rattle.std.proofs.Common.{◌≡◌, ◌+◌, ◌<◌, ◌≤◌, ◌++◌, ◌∷◌, ◌∙◌, ℕ, Bool, true, false, if◌then◌else◌, List, [], length, take, get_or, ap, sym, arith, append-nil}
+use Rattle.std.proofs.Common.{◌≡◌, ◌+◌, ◌<◌, ◌≤◌, ◌++◌, ◌∷◌, ◌∙◌, ℕ, Bool, true, false, if◌then◌else◌, List, [], length}
+use Rattle.std.proofs.Common.{take, get_or, ap, sym, arith, append-nil}
 use Rattle.std.proofs.lemmas.List.{take_more}
 use Rattle.std.proofs.lemmas.List.Elements.{filter-append}
 use Rattle.std.specs.List.{filter}
@@ -8,15 +9,18 @@ use Rattle.tlv_show.proofs.contents_findings.add_contents_findings.Goals as goal
 use Rattle.tlv_show.proofs.contents_findings.add_contents_findings.Goals.{then-is_shown, else-is_shown}
 
 -- one finding more is looked at
-module _ (test : Finding → Bool) (l old : List Finding) (i : ℕ) (x : Finding) (h : i < length l) (e : old ≡ filter test (take i l)) where
-  looked : (b : Bool) → test (get_or l i x) ≡ b → old ++ (if b then get_or l i x ∷ [] else []) ≡ filter test (take (i + 1) l)
+module _ (test : Finding → Bool) (l old : List Finding) (i : ℕ) (x : Finding) (h : i < length l)
+    (e : old ≡ filter test (take i l)) where
+  looked : (b : Bool) → test (get_or l i x) ≡ b
+      → old ++ (if b then get_or l i x ∷ [] else []) ≡ filter test (take (i + 1) l)
   looked b t =
       ap (λ (k : Bool). old ++ (if k then get_or l i x ∷ [] else [])) (sym t)
       ∙ ap (λ (s : List Finding). s ++ filter test (get_or l i x ∷ [])) e
       ∙ sym (filter-append test (take i l) (get_or l i x ∷ []))
       ∙ ap (filter test) (sym (take_more l i x h))
 
-  kept : (new : List Finding) → test (get_or l i x) ≡ true → new ≡ old ++ get_or l i x ∷ [] → new ≡ filter test (take (i + 1) l)
+  kept : (new : List Finding) → test (get_or l i x) ≡ true → new ≡ old ++ get_or l i x ∷ []
+      → new ≡ filter test (take (i + 1) l)
   kept new t is = is ∙ looked true t
 
   passed : test (get_or l i x) ≡ false → old ≡ filter test (take (i + 1) l)
@@ -36,7 +40,9 @@ loop-finding-preserved c =
       | then-is_shown w ↦
           rw w.found-is
           (record {
-            kept = kept (is_shown c.args.rules) l _ c.loop-finding.finding-index _ c.loop-finding-test.true old.kept _ (sym c.is_shown.ensures ∙ w.if-is_shown.true) w.push.ensures.items;
+            kept =
+                kept (is_shown c.args.rules) l _ c.loop-finding.finding-index _ c.loop-finding-test.true old.kept
+                    _ (sym c.is_shown.ensures ∙ w.if-is_shown.true) w.push.ensures.items;
             few = more _ _ _ old.few w.push.ensures.len;
             all = old.all;
             fits = old.fits;
@@ -44,7 +50,9 @@ loop-finding-preserved c =
       | else-is_shown w ↦
           rw w.found-is
           (record {
-            kept = passed (is_shown c.args.rules) l _ c.loop-finding.finding-index _ c.loop-finding-test.true old.kept (sym c.is_shown.ensures ∙ w.if-is_shown.false);
+            kept =
+                passed (is_shown c.args.rules) l _ c.loop-finding.finding-index _ c.loop-finding-test.true old.kept
+                    (sym c.is_shown.ensures ∙ w.if-is_shown.false);
             few = same _ _ old.few;
             all = old.all;
             fits = old.fits;

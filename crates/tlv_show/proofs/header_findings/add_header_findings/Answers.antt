@@ -19,7 +19,8 @@ returns-in-Der c =
     rw c.in-Der.is
     (c.add_der_findings.ensures
     ∙ ap (λ (l : List Finding). l ++ findings_by (der_conditions h))
-    (c.add_length_findings.ensures.items ∙ ap (λ (l : List Finding). l ++ findings_by (length_conditions h)) c.add_basic_findings.ensures.items)
+    (c.add_length_findings.ensures.items
+        ∙ ap (λ (l : List Finding). l ++ findings_by (length_conditions h)) c.add_basic_findings.ensures.items)
     ∙ sym (der-found s h))
 
 pub returns-in-Cer : goal.returns-in-Cer
@@ -29,5 +30,6 @@ returns-in-Cer c =
     rw c.in-Cer.is
     (c.add_cer_findings.ensures
     ∙ ap (λ (l : List Finding). l ++ findings_by (cer_conditions s h))
-    (c.add_length_findings-in-Cer.ensures.items ∙ ap (λ (l : List Finding). l ++ findings_by (length_conditions h)) c.add_basic_findings.ensures.items)
+    (c.add_length_findings-in-Cer.ensures.items
+        ∙ ap (λ (l : List Finding). l ++ findings_by (length_conditions h)) c.add_basic_findings.ensures.items)
     ∙ sym (cer-found s h))

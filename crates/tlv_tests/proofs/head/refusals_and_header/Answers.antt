@@ -7,7 +7,8 @@ use Rattle.tlv_tests.proofs.head.refusals_and_header.Goals as goal
 use Rattle.tlv_tests.proofs.head.refusals_and_header.Goals.{in-More, in_default}
 
 -- a reader that took an octet, and is to take another
-goes_on : (old new : HeadReaderState) (x y : ℕ) → Pushes old x None 0 new More → old.offset ≤ 2 ^ 40 → CanPush new y None 0
+goes_on : (old new : HeadReaderState) (x y : ℕ) → Pushes old x None 0 new More → old.offset ≤ 2 ^ 40
+    → CanPush new y None 0
 goes_on old new x y p few = elim p [
   | more some front same ↦ subst (λ (r : HeadReaderState). CanPush r y None 0) (sym same) (record {
     unfinished = refl;
@@ -20,7 +21,9 @@ goes_on old new x y p few = elim p [
 pub push-requires-3 : goal.push-requires-3
 push-requires-3 c =
     let begun : CanPush c.push.new.self 255 None 0 = elim c.match-matches.branch [
-      | in-More w ↦ goes_on c.new-reader.result c.push.new.self 4 255 w.in-More.ensures.pushes (omega (arith, ap (λ (r : HeadReaderState). r.offset) c.new-reader.ensures))
+      | in-More w ↦
+          goes_on c.new-reader.result c.push.new.self 4 255 w.in-More.ensures.pushes
+              (omega (arith, ap (λ (r : HeadReaderState). r.offset) c.new-reader.ensures))
       | in_default w ↦ absurd (true≢false (sym c.if-not-matches.false ∙ w.matches-is))
     ] in
     elim c.in-Refused.ensures.pushes [
@@ -30,7 +33,9 @@ push-requires-3 c =
 pub push-requires-4 : goal.push-requires-4
 push-requires-4 c =
     let begun : CanPush c.push.new.self 0 None 0 = elim c.match-matches.branch [
-      | in-More w ↦ goes_on c.new-reader.result c.push.new.self 4 0 w.in-More.ensures.pushes (omega (arith, ap (λ (r : HeadReaderState). r.offset) c.new-reader.ensures))
+      | in-More w ↦
+          goes_on c.new-reader.result c.push.new.self 4 0 w.in-More.ensures.pushes
+              (omega (arith, ap (λ (r : HeadReaderState). r.offset) c.new-reader.ensures))
       | in_default w ↦ absurd (true≢false (sym c.if-not-matches.false ∙ w.matches-is))
     ] in
     elim c.in-Refused.ensures.pushes [

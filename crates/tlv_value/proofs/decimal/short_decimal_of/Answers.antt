@@ -1,4 +1,5 @@
-use Rattle.std.proofs.Common.{length-take, ◌≡◌, ◌+◌, ◌<◌, ℕ, get_or, take, arith, sym, refl, ap, ◌∙◌, to_z, of_z, add-one, FitsSigned, rules}
+use Rattle.std.proofs.Common.{length-take, ◌≡◌, ◌+◌, ◌<◌, ℕ, get_or, take, arith, sym, refl, ap, ◌∙◌, to_z, of_z}
+use Rattle.std.proofs.Common.{add-one, FitsSigned, rules}
 use Rattle.std.proofs.lemmas.Grind.{common_steps}
 use Rattle.std.specs.Prelude.{ℤ, pos, ◌+ℤ◌, ◌*ℤ◌}
 use Rattle.std.proofs.lemmas.Int.{to_z-of_z}
@@ -8,7 +9,8 @@ use Rattle.tlv_value.specs.Number.{twos_complement}
 use Rattle.tlv_value.proofs.TextLemmas.Numbers.{twos-fits_64, twos-fits_all_64, twos-more}
 use Rattle.tlv_value.proofs.decimal.short_decimal_of.Goals as goal
 
-stepped : (n from sum next : ℤ) (x : ℕ) → x < 256 → FitsSigned w64 (n *ℤ pos 256) → FitsSigned w64 next → n ≡ sum → from ≡ pos x → next ≡ sum *ℤ pos 256 +ℤ pos x
+stepped : (n from sum next : ℤ) (x : ℕ) → x < 256 → FitsSigned w64 (n *ℤ pos 256) → FitsSigned w64 next → n ≡ sum
+    → from ≡ pos x → next ≡ sum *ℤ pos 256 +ℤ pos x
     → to_z w64 (of_z w64 (to_z w64 (of_z w64 (n *ℤ pos 256)) +ℤ to_z w64 (of_z w64 from))) ≡ next
 stepped n from sum next x small f g e h m =
     let a : to_z w64 (of_z w64 (n *ℤ pos 256)) ≡ n *ℤ pos 256 = to_z-of_z w64 (n *ℤ pos 256) f in
@@ -21,23 +23,32 @@ stepped n from sum next x small f g e h m =
 
 pub overflow_mul-number : goal.overflow_mul-number
 overflow_mul-number c =
-    let e : to_z w64 c.loop-octet.number-bits ≡ twos_complement (take (c.loop-octet.octet-index + 1) c.args.contents.now) = c.loop-octet.invariant in
+    let e : to_z w64 c.loop-octet.number-bits
+        ≡ twos_complement (take (c.loop-octet.octet-index + 1) c.args.contents.now) =
+        c.loop-octet.invariant in
     let first = c.in_ok-first.ensures.cases in
     rw e (twos-fits_64 (take (c.loop-octet.octet-index + 1) c.args.contents.now) (omega (arith, length-take {A = ℕ})))
 
 pub loop-octet-preserved : goal.loop-octet-preserved
 loop-octet-preserved c =
     let i : ℕ = c.loop-octet.octet-index in
-    let e : to_z w64 c.loop-octet.number-bits ≡ twos_complement (take (i + 1) c.args.contents.now) = c.loop-octet.invariant in
+    let e : to_z w64 c.loop-octet.number-bits ≡ twos_complement (take (i + 1) c.args.contents.now) =
+        c.loop-octet.invariant in
     let x : ℕ = get_or c.args.contents.now (i + 1) 0 in
     let first = c.in_ok-first.ensures.cases in
     let same : get_or c.in_ok-first.rest.now i 0 ≡ x = rw (first.0, add-one) refl in
-    let m : twos_complement (take (i + 1 + 1) c.args.contents.now) ≡ twos_complement (take (i + 1) c.args.contents.now) *ℤ pos 256 +ℤ pos x =
-    ap twos_complement (take_more c.args.contents.now (i + 1) 0 (omega arith)) ∙ twos-more (take (i + 1) c.args.contents.now) x (omega (arith, length-take {A = ℕ})) (c.type_inv.contents (i + 1)).fits in
-    let f : FitsSigned w64 (to_z w64 c.loop-octet.number-bits *ℤ pos 256) = rw e (twos-fits_64 (take (i + 1) c.args.contents.now) (omega (arith, length-take {A = ℕ}))) in
-    let g : FitsSigned w64 (twos_complement (take (i + 1 + 1) c.args.contents.now)) = twos-fits_all_64 (take (i + 1 + 1) c.args.contents.now) (omega (arith, length-take {A = ℕ})) in
+    let m : twos_complement (take (i + 1 + 1) c.args.contents.now)
+        ≡ twos_complement (take (i + 1) c.args.contents.now) *ℤ pos 256 +ℤ pos x =
+    ap twos_complement (take_more c.args.contents.now (i + 1) 0 (omega arith))
+        ∙ twos-more (take (i + 1) c.args.contents.now) x (omega (arith, length-take {A = ℕ}))
+            (c.type_inv.contents (i + 1)).fits in
+    let f : FitsSigned w64 (to_z w64 c.loop-octet.number-bits *ℤ pos 256) =
+        rw e (twos-fits_64 (take (i + 1) c.args.contents.now) (omega (arith, length-take {A = ℕ}))) in
+    let g : FitsSigned w64 (twos_complement (take (i + 1 + 1) c.args.contents.now)) =
+        twos-fits_all_64 (take (i + 1 + 1) c.args.contents.now) (omega (arith, length-take {A = ℕ})) in
     let from : c.from.result ≡ pos x = c.from.ensures ∙ ap pos same in
-    stepped (to_z w64 c.loop-octet.number-bits) c.from.result (twos_complement (take (i + 1) c.args.contents.now)) (twos_complement (take (i + 1 + 1) c.args.contents.now)) x (c.type_inv.contents (i + 1)).fits f g e from m
+    stepped (to_z w64 c.loop-octet.number-bits) c.from.result (twos_complement (take (i + 1) c.args.contents.now))
+        (twos_complement (take (i + 1 + 1) c.args.contents.now)) x (c.type_inv.contents (i + 1)).fits f g e from m
 
 pub loop-octet-init : goal.loop-octet-init
 loop-octet-init c = search rules

@@ -1,4 +1,5 @@
-use Rattle.std.proofs.Common.{◌≡◌, ℕ, ◌+◌, ◌*◌, ◌%◌, ◌++◌, ◌∷◌, true, List, get_or, refl, sym, ap, ◌∙◌, arith, append_assoc, rules}
+use Rattle.std.proofs.Common.{◌≡◌, ℕ, ◌+◌, ◌*◌, ◌%◌, ◌++◌, ◌∷◌, true, List, get_or, refl, sym, ap, ◌∙◌, arith}
+use Rattle.std.proofs.Common.{append_assoc, rules}
 use Rattle.std.proofs.lemmas.Grind.{common_steps}
 use Rattle.tlv_value.specs.Arcs.{is_finished}
 use Rattle.tlv_value.specs.Private.Arcs.{arcs_text}
@@ -10,7 +11,9 @@ pub returns-then-number-clause-exists : goal.returns-then-number-clause-exists
 returns-then-number-clause-exists c =
     let f : is_finished c.args.contents.now ≡ true = grind (arith, common_steps) in
     let (text, held, room, same) = c.loop-octet.invariant in
-    rw (run-none c.args.relative c.args.contents.now text c.loop-octet.first c.loop-octet.number c.loop-octet.octet-index f (omega arith) (omega arith) (omega arith) same) refl
+    rw (run-none c.args.relative c.args.contents.now text c.loop-octet.first c.loop-octet.number
+        c.loop-octet.octet-index f (omega arith) (omega arith) (omega arith) same)
+        refl
 
 pub loop-octet-preserved : goal.loop-octet-preserved
 loop-octet-preserved c =
@@ -23,17 +26,25 @@ loop-octet-preserved c =
       | then-octet-lt128 w ↦
           let part : List ℕ = arcs_text c.loop-octet.first c.args.relative n in (
             text ++ part,
-            w.held-is ∙ w.write_arcs.ensures ∙ ap (λ (t : List ℕ). t ++ part) held ∙ append_assoc c.args.held.now (32 ∷ text) part,
-            rw (w.first-is, w.number-is) (room-last text c.loop-octet.first c.args.relative c.loop-octet.number x n i v (omega arith) room),
+            w.held-is ∙ w.write_arcs.ensures ∙ ap (λ (t : List ℕ). t ++ part) held
+                ∙ append_assoc c.args.held.now (32 ∷ text) part,
             rw (w.first-is, w.number-is)
-                (sym (run-last text c.loop-octet.first c.args.relative c.loop-octet.number n c.args.contents.now i v c.loop-octet-test.true (omega arith) w.if-octet-lt128.true) ∙ same),
+                (room-last text c.loop-octet.first c.args.relative c.loop-octet.number x n i v (omega arith) room),
+            rw (w.first-is, w.number-is)
+                (sym
+                    (run-last text c.loop-octet.first c.args.relative c.loop-octet.number n c.args.contents.now i v
+                        c.loop-octet-test.true (omega arith) w.if-octet-lt128.true)
+                    ∙ same),
           )
       | else-octet-lt128 w ↦ (
         text,
         w.held-is ∙ held,
         rw (w.first-is, w.number-is) (room-within text c.loop-octet.first c.loop-octet.number x n i v room),
         rw (w.first-is, w.number-is)
-            (sym (run-within text c.loop-octet.first c.args.relative c.loop-octet.number n c.args.contents.now i v c.loop-octet-test.true (omega arith) w.if-octet-lt128.false) ∙ same),
+            (sym
+                (run-within text c.loop-octet.first c.args.relative c.loop-octet.number n c.args.contents.now i v
+                    c.loop-octet-test.true (omega arith) w.if-octet-lt128.false)
+                ∙ same),
       )
     ]
 
@@ -41,13 +52,17 @@ pub returns-clause-exists : goal.returns-clause-exists
 returns-clause-exists c =
     let f : is_finished c.args.contents.now ≡ true = grind (arith, common_steps) in
     let (text, held, room, same) = c.loop-octet.invariant in
-    rw (run-end c.args.relative c.args.contents.now text c.loop-octet.first c.loop-octet.number c.loop-octet.octet-index f (omega arith) (omega arith) same) refl
+    rw (run-end c.args.relative c.args.contents.now text c.loop-octet.first c.loop-octet.number
+        c.loop-octet.octet-index f (omega arith) (omega arith) same)
+        refl
 
 pub returns-clause-text : goal.returns-clause-text
 returns-clause-text c =
     let f : is_finished c.args.contents.now ≡ true = grind (arith, common_steps) in
     let (text, held, room, same) = c.loop-octet.invariant in
-    rw (run-end c.args.relative c.args.contents.now text c.loop-octet.first c.loop-octet.number c.loop-octet.octet-index f (omega arith) (omega arith) same) held
+    rw (run-end c.args.relative c.args.contents.now text c.loop-octet.first c.loop-octet.number
+        c.loop-octet.octet-index f (omega arith) (omega arith) same)
+        held
 
 pub truncate-requires : goal.truncate-requires
 truncate-requires c = grind (arith, common_steps)

@@ -1,6 +1,7 @@
 use Rattle.std.proofs.Common.{◌≡◌, ℕ, ◌+◌, ◌*◌, ◌%◌, ◌++◌, ◌∷◌, List, get_or, refl, sym, ap, ◌∙◌, arith, append_assoc}
 use Rattle.tlv_value.specs.Private.Arcs.{arcs_text}
-use Rattle.tlv_value.proofs.TextLemmas.Arcs.{few-bits, none-yet, one-more, room-last, room-within, run-end, run-last, run-within}
+use Rattle.tlv_value.proofs.TextLemmas.Arcs.{few-bits, none-yet, one-more, room-last, room-within, run-end, run-last}
+use Rattle.tlv_value.proofs.TextLemmas.Arcs.{run-within}
 use Rattle.tlv_value.proofs.dotted.write_short.Goals.{then-octet-lt128, else-octet-lt128}
 use Rattle.tlv_value.proofs.dotted.write_short.Goals as goal
 
@@ -18,10 +19,16 @@ loop-octet-preserved c =
           let u : m ≡ c.loop-octet.number * 128 + x % 128 = w.from-then-octet-lt128.ensures ∙ v in
           let part : List ℕ = arcs_text c.loop-octet.first c.args.relative m in (
             text ++ part,
-            w.held-is ∙ w.write_arcs.ensures ∙ ap (λ (t : List ℕ). t ++ part) held ∙ append_assoc c.args.held.now (32 ∷ text) part,
-            rw (w.first-is, w.number-is) (room-last text c.loop-octet.first c.args.relative c.loop-octet.number x m i u (omega (arith, few, u)) room),
+            w.held-is ∙ w.write_arcs.ensures ∙ ap (λ (t : List ℕ). t ++ part) held
+                ∙ append_assoc c.args.held.now (32 ∷ text) part,
             rw (w.first-is, w.number-is)
-                (sym (run-last text c.loop-octet.first c.args.relative c.loop-octet.number m c.args.contents.now i u c.loop-octet-test.true (omega (arith, few)) w.if-octet-lt128.true) ∙ same),
+                (room-last text c.loop-octet.first c.args.relative c.loop-octet.number x m i u (omega (arith, few, u))
+                    room),
+            rw (w.first-is, w.number-is)
+                (sym
+                    (run-last text c.loop-octet.first c.args.relative c.loop-octet.number m c.args.contents.now i u
+                        c.loop-octet-test.true (omega (arith, few)) w.if-octet-lt128.true)
+                    ∙ same),
             rw w.number-is (none-yet (i + 1)),
           )
       | else-octet-lt128 w ↦ (
@@ -29,7 +36,10 @@ loop-octet-preserved c =
         w.held-is ∙ held,
         rw (w.first-is, w.number-is) (room-within text c.loop-octet.first c.loop-octet.number x n i v room),
         rw (w.first-is, w.number-is)
-            (sym (run-within text c.loop-octet.first c.args.relative c.loop-octet.number n c.args.contents.now i v c.loop-octet-test.true (omega (arith, few)) w.if-octet-lt128.false) ∙ same),
+            (sym
+                (run-within text c.loop-octet.first c.args.relative c.loop-octet.number n c.args.contents.now i v
+                    c.loop-octet-test.true (omega (arith, few)) w.if-octet-lt128.false)
+                ∙ same),
         rw w.number-is (one-more c.loop-octet.number x n i v small),
       )
     ]
@@ -37,19 +47,31 @@ loop-octet-preserved c =
 pub overflow_mul-number : goal.overflow_mul-number
 overflow_mul-number c =
     let (text, held, room, same, small) = c.loop-octet.invariant in
-    omega (arith, few-bits c.loop-octet.number c.loop-octet.octet-index small (omega (arith, c.loop-octet-test.true, c.requires.short)))
+    omega
+        (arith,
+            few-bits c.loop-octet.number c.loop-octet.octet-index small
+                (omega (arith, c.loop-octet-test.true, c.requires.short)))
 
 pub overflow_add-number : goal.overflow_add-number
 overflow_add-number c =
     let (text, held, room, same, small) = c.loop-octet.invariant in
-    omega (arith, c.from.ensures, few-bits c.loop-octet.number c.loop-octet.octet-index small (omega (arith, c.loop-octet-test.true, c.requires.short)))
+    omega
+        (arith, c.from.ensures,
+            few-bits c.loop-octet.number c.loop-octet.octet-index small
+                (omega (arith, c.loop-octet-test.true, c.requires.short)))
 
 pub returns-clause-exists : goal.returns-clause-exists
 returns-clause-exists c =
     let (text, held, room, same, small) = c.loop-octet.invariant in
-    rw (run-end c.args.relative c.args.contents.now text c.loop-octet.first c.loop-octet.number c.loop-octet.octet-index c.requires.finished (omega (arith, c.requires.short)) (omega (arith, c.loop-octet-test.false)) same) refl
+    rw (run-end c.args.relative c.args.contents.now text c.loop-octet.first c.loop-octet.number
+        c.loop-octet.octet-index c.requires.finished (omega (arith, c.requires.short))
+        (omega (arith, c.loop-octet-test.false)) same)
+        refl
 
 pub returns-clause-text : goal.returns-clause-text
 returns-clause-text c =
     let (text, held, room, same, small) = c.loop-octet.invariant in
-    rw (run-end c.args.relative c.args.contents.now text c.loop-octet.first c.loop-octet.number c.loop-octet.octet-index c.requires.finished (omega (arith, c.requires.short)) (omega (arith, c.loop-octet-test.false)) same) held
+    rw (run-end c.args.relative c.args.contents.now text c.loop-octet.first c.loop-octet.number
+        c.loop-octet.octet-index c.requires.finished (omega (arith, c.requires.short))
+        (omega (arith, c.loop-octet-test.false)) same)
+        held

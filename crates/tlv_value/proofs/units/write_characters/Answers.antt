@@ -12,7 +12,8 @@ returns-then-are_unescaped c =
     ∙ unescaped-prefix (length row) _ (sym c.are_unescaped.ensures ∙ c.if-are_unescaped.true) in
     c.add_prefix.ensures
     ∙ ap (λ (l : List ℕ). c.args.held.now ++ l)
-    (c.block_of-block.ensures ∙ sym (unescaped-row c.args.kind row (sym c.has_ascii.ensures ∙ c.if-has_ascii.true) unescaped))
+    (c.block_of-block.ensures
+        ∙ sym (unescaped-row c.args.kind row (sym c.has_ascii.ensures ∙ c.if-has_ascii.true) unescaped))
 
 pub returns : goal.returns
 returns c = c.write_units.ensures

@@ -10,7 +10,8 @@ returns-then-unescaped-gt0-clause-text c =
     let unescaped = c.unescaped_size-unescaped.ensures.unescaped in (
       take n c.args.octets.now,
       (λ h. c.add_if_room.ensures.added h),
-      unescaped-units c.args.kind n c.args.octets.now c.unescaped_size-unescaped.ensures.within (unescaped.0 c.if-unescaped-gt0.true) unescaped.1,
+      unescaped-units c.args.kind n c.args.octets.now c.unescaped_size-unescaped.ensures.within
+          (unescaped.0 c.if-unescaped-gt0.true) unescaped.1,
     )
 
 pub returns-clause-text : goal.returns-clause-text
@@ -18,5 +19,6 @@ returns-clause-text c =
     let n : ℕ = c.unit_size-size.result in (
       unit_text c.args.kind (take n c.args.octets.now),
       (λ h. c.write_unit.ensures h),
-      units-step c.args.kind n c.args.octets.now c.unit_size-size.ensures.value c.unit_size-size.ensures.some c.requires,
+      units-step c.args.kind n c.args.octets.now c.unit_size-size.ensures.value c.unit_size-size.ensures.some
+          c.requires,
     )

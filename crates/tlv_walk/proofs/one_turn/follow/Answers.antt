@@ -8,10 +8,14 @@ use Rattle.tlv_walk.specs.Events.{EventValue}
 use Rattle.tlv_walk.specs.WalkerState.{WalkerState}
 use Rattle.tlv_walk.specs.StepsTo.{StepsTo}
 use Rattle.tlv_walk.specs.Private.FollowsPiece.{WalksOver}
-use Rattle.tlv_walk.proofs.FollowerLemmas.Following.{fails_event, follows_event, follows_none, pauses_enough, pauses_fault, pauses_used_up}
+use Rattle.tlv_walk.proofs.FollowerLemmas.Following.{fails_event, follows_event, follows_none, pauses_enough}
+use Rattle.tlv_walk.proofs.FollowerLemmas.Following.{pauses_fault, pauses_used_up}
 use Rattle.tlv_walk.proofs.FollowerLemmas.Parts.{fails_part, follows_left, follows_part, left_walked, part_passes}
 use Rattle.tlv_walk.proofs.WalkerLemmas.Standing.{event_offset, stands_all, walked_event}
-use Rattle.tlv_walk.proofs.one_turn.follow.Goals.{in-Some+in_ok-go-in-Some, in-None+in-Some-constructed+in_ok-go-in-Some-constructed, in-None+in-None-constructed+in-Some-contents_event+in_ok-go-in-Some-contents_event, in-None+in-None-constructed+in-None-contents_event+in-Event+in_ok-go-in-Event}
+use Rattle.tlv_walk.proofs.one_turn.follow.Goals.{in-Some+in_ok-go-in-Some}
+use Rattle.tlv_walk.proofs.one_turn.follow.Goals.{in-None+in-Some-constructed+in_ok-go-in-Some-constructed}
+use Rattle.tlv_walk.proofs.one_turn.follow.Goals.{in-None+in-None-constructed+in-Some-contents_event+in_ok-go-in-Some-contents_event}
+use Rattle.tlv_walk.proofs.one_turn.follow.Goals.{in-None+in-None-constructed+in-None-contents_event+in-Event+in_ok-go-in-Event}
 use Rattle.tlv_walk.proofs.one_turn.follow.Goals as goal
 
 -- nothing was taken
@@ -19,11 +23,16 @@ unmoved : (v w : WalkerState) (xs ys : List ℕ) → v ≡ w → xs ≡ ys → v
 unmoved v w xs ys e f = ap₂ (λ (m : WalkerState) (o : List ℕ). m.offset + length o) e f
 
 -- so the next step is the first
-unmoved_event : (v w u : WalkerState) (xs ys rest : List ℕ) (e : EventValue) → v ≡ w → xs ≡ ys → WalksOver v u xs rest (e ∷ []) → WalksOver w u ys rest (e ∷ [])
-unmoved_event v w u xs ys rest e p q t = subst (λ (o : List ℕ). WalksOver w u o rest (e ∷ [])) q (subst (λ (m : WalkerState). WalksOver m u xs rest (e ∷ [])) p t)
+unmoved_event : (v w u : WalkerState) (xs ys rest : List ℕ) (e : EventValue) → v ≡ w → xs ≡ ys
+    → WalksOver v u xs rest (e ∷ []) → WalksOver w u ys rest (e ∷ [])
+unmoved_event v w u xs ys rest e p q t =
+    subst (λ (o : List ℕ). WalksOver w u o rest (e ∷ [])) q
+        (subst (λ (m : WalkerState). WalksOver m u xs rest (e ∷ [])) p t)
 
-unmoved_step : (v w u : WalkerState) (xs ys rest : List ℕ) (s : Step) → v ≡ w → xs ≡ ys → StepsTo v u xs rest s → StepsTo w u ys rest s
-unmoved_step v w u xs ys rest s p q t = subst (λ (o : List ℕ). StepsTo w u o rest s) q (subst (λ (m : WalkerState). StepsTo m u xs rest s) p t)
+unmoved_step : (v w u : WalkerState) (xs ys rest : List ℕ) (s : Step) → v ≡ w → xs ≡ ys → StepsTo v u xs rest s
+    → StepsTo w u ys rest s
+unmoved_step v w u xs ys rest s p q t =
+    subst (λ (o : List ℕ). StepsTo w u o rest s) q (subst (λ (m : WalkerState). StepsTo m u xs rest s) p t)
 
 not_enough : (g : Go) → (g ≡ go.Enough → ⊥) → g ≡ go.On
 not_enough go.On n = refl
@@ -38,88 +47,216 @@ events-init g c = record { follows = follows_none g.F.Follow.next g.D.Drain.stat
 
 pub events-preserved-then-branch : goal.events-preserved-then-branch
 events-preserved-then-branch g c = record {
-  follows = follows_part g.F.Follow.next g.D.Drain.state _ _ _ _ _ _ _ c.events.invariant.follows c.if-branch.true c.in_ok-follow_primitive.ensures;
-  walked = (part_passes g.F.Follow.next g.D.Drain.state _ _ _ _ _ c.if-branch.true c.in_ok-follow_primitive.ensures).taken ∙ c.events.invariant.walked;
+  follows =
+      follows_part g.F.Follow.next g.D.Drain.state _ _ _ _ _ _ _ c.events.invariant.follows c.if-branch.true
+          c.in_ok-follow_primitive.ensures;
+  walked =
+      (part_passes g.F.Follow.next g.D.Drain.state _ _ _ _ _ c.if-branch.true c.in_ok-follow_primitive.ensures).taken
+          ∙ c.events.invariant.walked;
 }
 
 pub events-preserved : goal.events-preserved
 events-preserved g c =
     let on : c.match-close.go ≡ go.On = not_enough _ (search rules) in
-    let left = follows_left g.F.Follow.next g.D.Drain.state _ _ _ _ _ _ _ c.events.invariant.follows c.if-branch.false c.in_ok-follow_primitive.ensures in
+    let left =
+        follows_left g.F.Follow.next g.D.Drain.state _ _ _ _ _ _ _ c.events.invariant.follows c.if-branch.false
+            c.in_ok-follow_primitive.ensures in
     elim c.match-close.branch [
       | in-Some+in_ok-go-in-Some w ↦ record {
-        follows = rw (w.out-is, w.follower-is, w.walker-is, w.rest-is, ← on, w.go-is) (follows_event g.F.Follow.next g.D.Drain.state _ _ _ _ _ _ _ _ left (stands_all _ _ _ _ _ w.in-Some.ensures.yields) w.in_ok-go-in-Some.ensures.state _ w.in_ok-go-in-Some.ensures.puts);
-        walked = rw (w.walker-is, w.rest-is) (w.in-Some.ensures.steps.0.taken ∙ left_walked g.F.Follow.next g.D.Drain.state _ _ _ _ _ c.if-branch.false c.in_ok-follow_primitive.ensures ∙ c.events.invariant.walked);
+        follows =
+            rw (w.out-is, w.follower-is, w.walker-is, w.rest-is, ← on, w.go-is)
+                (follows_event g.F.Follow.next g.D.Drain.state _ _ _ _ _ _ _ _ left
+                    (stands_all _ _ _ _ _ w.in-Some.ensures.yields) w.in_ok-go-in-Some.ensures.state
+                    _ w.in_ok-go-in-Some.ensures.puts);
+        walked =
+            rw (w.walker-is, w.rest-is)
+                (w.in-Some.ensures.steps.0.taken
+                    ∙ left_walked g.F.Follow.next g.D.Drain.state _ _ _ _ _ c.if-branch.false
+                        c.in_ok-follow_primitive.ensures
+                    ∙ c.events.invariant.walked);
       }
       | in-None+in-Some-constructed+in_ok-go-in-Some-constructed w ↦ record {
-        follows = rw (w.out-is, w.follower-is, w.walker-is, w.rest-is, ← on, w.go-is) (follows_event g.F.Follow.next g.D.Drain.state _ _ _ _ _ _ _ _ left (unmoved_event _ _ _ _ _ _ _ (w.in-None.ensures.steps.0) (w.in-None.ensures.steps.1) (stands_all _ _ _ _ _ w.in-Some-constructed.ensures.yields)) w.in_ok-go-in-Some-constructed.ensures.state _ w.in_ok-go-in-Some-constructed.ensures.puts);
-        walked = rw (w.walker-is, w.rest-is) (w.in-Some-constructed.ensures.steps.0.taken ∙ unmoved _ _ _ _ (w.in-None.ensures.steps.0) (w.in-None.ensures.steps.1) ∙ left_walked g.F.Follow.next g.D.Drain.state _ _ _ _ _ c.if-branch.false c.in_ok-follow_primitive.ensures ∙ c.events.invariant.walked);
+        follows =
+            rw (w.out-is, w.follower-is, w.walker-is, w.rest-is, ← on, w.go-is)
+                (follows_event g.F.Follow.next g.D.Drain.state _ _ _ _ _ _ _ _ left
+                    (unmoved_event _ _ _ _ _ _ _ (w.in-None.ensures.steps.0) (w.in-None.ensures.steps.1)
+                        (stands_all _ _ _ _ _ w.in-Some-constructed.ensures.yields))
+                    w.in_ok-go-in-Some-constructed.ensures.state _ w.in_ok-go-in-Some-constructed.ensures.puts);
+        walked =
+            rw (w.walker-is, w.rest-is)
+                (w.in-Some-constructed.ensures.steps.0.taken
+                    ∙ unmoved _ _ _ _ (w.in-None.ensures.steps.0) (w.in-None.ensures.steps.1)
+                    ∙ left_walked g.F.Follow.next g.D.Drain.state _ _ _ _ _ c.if-branch.false
+                        c.in_ok-follow_primitive.ensures
+                    ∙ c.events.invariant.walked);
       }
       | in-None+in-None-constructed+in-Some-contents_event+in_ok-go-in-Some-contents_event w ↦ record {
-        follows = rw (w.out-is, w.follower-is, w.walker-is, w.rest-is, ← on, w.go-is) (follows_event g.F.Follow.next g.D.Drain.state _ _ _ _ _ _ _ _ left (unmoved_event _ _ _ _ _ _ _ (w.in-None-constructed.ensures.steps.0 ∙ w.in-None.ensures.steps.0) (w.in-None-constructed.ensures.steps.1 ∙ w.in-None.ensures.steps.1) (stands_all _ _ _ _ _ w.in-Some-contents_event.ensures.yields)) w.in_ok-go-in-Some-contents_event.ensures.state _ w.in_ok-go-in-Some-contents_event.ensures.puts);
-        walked = rw (w.walker-is, w.rest-is) (w.in-Some-contents_event.ensures.steps.0.taken ∙ unmoved _ _ _ _ (w.in-None-constructed.ensures.steps.0 ∙ w.in-None.ensures.steps.0) (w.in-None-constructed.ensures.steps.1 ∙ w.in-None.ensures.steps.1) ∙ left_walked g.F.Follow.next g.D.Drain.state _ _ _ _ _ c.if-branch.false c.in_ok-follow_primitive.ensures ∙ c.events.invariant.walked);
+        follows =
+            rw (w.out-is, w.follower-is, w.walker-is, w.rest-is, ← on, w.go-is)
+                (follows_event g.F.Follow.next g.D.Drain.state _ _ _ _ _ _ _ _ left
+                    (unmoved_event _ _ _ _ _ _ _ (w.in-None-constructed.ensures.steps.0 ∙ w.in-None.ensures.steps.0)
+                        (w.in-None-constructed.ensures.steps.1 ∙ w.in-None.ensures.steps.1)
+                        (stands_all _ _ _ _ _ w.in-Some-contents_event.ensures.yields))
+                    w.in_ok-go-in-Some-contents_event.ensures.state _ w.in_ok-go-in-Some-contents_event.ensures.puts);
+        walked =
+            rw (w.walker-is, w.rest-is)
+                (w.in-Some-contents_event.ensures.steps.0.taken
+                    ∙ unmoved _ _ _ _ (w.in-None-constructed.ensures.steps.0 ∙ w.in-None.ensures.steps.0)
+                        (w.in-None-constructed.ensures.steps.1 ∙ w.in-None.ensures.steps.1)
+                    ∙ left_walked g.F.Follow.next g.D.Drain.state _ _ _ _ _ c.if-branch.false
+                        c.in_ok-follow_primitive.ensures
+                    ∙ c.events.invariant.walked);
       }
       | in-None+in-None-constructed+in-None-contents_event+in-Event+in_ok-go-in-Event w ↦ record {
-        follows = rw (w.out-is, w.follower-is, w.walker-is, w.rest-is, ← on, w.go-is) (follows_event g.F.Follow.next g.D.Drain.state _ _ _ _ _ _ _ _ left (unmoved_event _ _ _ _ _ _ _ (w.in-None-contents_event.ensures.steps.0 ∙ w.in-None-constructed.ensures.steps.0 ∙ w.in-None.ensures.steps.0) (w.in-None-contents_event.ensures.steps.1 ∙ w.in-None-constructed.ensures.steps.1 ∙ w.in-None.ensures.steps.1) (walked_event _ _ _ _ _ w.in-Event.ensures)) w.in_ok-go-in-Event.ensures.state _ w.in_ok-go-in-Event.ensures.puts);
-        walked = rw (w.walker-is, w.rest-is) (event_offset _ _ _ _ _ w.in-Event.ensures ∙ unmoved _ _ _ _ (w.in-None-contents_event.ensures.steps.0 ∙ w.in-None-constructed.ensures.steps.0 ∙ w.in-None.ensures.steps.0) (w.in-None-contents_event.ensures.steps.1 ∙ w.in-None-constructed.ensures.steps.1 ∙ w.in-None.ensures.steps.1) ∙ left_walked g.F.Follow.next g.D.Drain.state _ _ _ _ _ c.if-branch.false c.in_ok-follow_primitive.ensures ∙ c.events.invariant.walked);
+        follows =
+            rw (w.out-is, w.follower-is, w.walker-is, w.rest-is, ← on, w.go-is)
+                (follows_event g.F.Follow.next g.D.Drain.state _ _ _ _ _ _ _ _ left
+                    (unmoved_event
+                        _ _ _ _ _ _ _ (w.in-None-contents_event.ensures.steps.0
+                            ∙ w.in-None-constructed.ensures.steps.0 ∙ w.in-None.ensures.steps.0)
+                        (w.in-None-contents_event.ensures.steps.1 ∙ w.in-None-constructed.ensures.steps.1
+                            ∙ w.in-None.ensures.steps.1)
+                        (walked_event _ _ _ _ _ w.in-Event.ensures))
+                    w.in_ok-go-in-Event.ensures.state _ w.in_ok-go-in-Event.ensures.puts);
+        walked =
+            rw (w.walker-is, w.rest-is)
+                (event_offset _ _ _ _ _ w.in-Event.ensures
+                    ∙ unmoved
+                        _ _ _ _ (w.in-None-contents_event.ensures.steps.0 ∙ w.in-None-constructed.ensures.steps.0
+                            ∙ w.in-None.ensures.steps.0)
+                        (w.in-None-contents_event.ensures.steps.1 ∙ w.in-None-constructed.ensures.steps.1
+                            ∙ w.in-None.ensures.steps.1)
+                    ∙ left_walked g.F.Follow.next g.D.Drain.state _ _ _ _ _ c.if-branch.false
+                        c.in_ok-follow_primitive.ensures
+                    ∙ c.events.invariant.walked);
       }
     ]
 
 pub returns-in_err-follow_primitive : goal.returns-in_err-follow_primitive
 returns-in_err-follow_primitive g c =
     let p = err_from_is_err_and c.from_residual.result c.from_residual.ensures.1 in rw p.1
-    (fails_part g.F.Follow.next g.D.Drain.state _ _ _ _ _ _ _ _ c.events.invariant.follows c.in_err-follow_primitive.ensures)
+    (fails_part g.F.Follow.next g.D.Drain.state _ _ _ _ _ _ _ _ c.events.invariant.follows
+        c.in_err-follow_primitive.ensures)
 
 pub returns-in_err-go-in-Some : goal.returns-in_err-go-in-Some
 returns-in_err-go-in-Some g c =
     let p = err_from_is_err_and c.from_residual-in_err-go-in-Some.result c.from_residual-in_err-go-in-Some.ensures.1 in
-    let left = follows_left g.F.Follow.next g.D.Drain.state _ _ _ _ _ _ _ c.events.invariant.follows c.if-branch.false c.in_ok-follow_primitive.ensures in
+    let left =
+        follows_left g.F.Follow.next g.D.Drain.state _ _ _ _ _ _ _ c.events.invariant.follows c.if-branch.false
+            c.in_ok-follow_primitive.ensures in
     rw p.1
-    (fails_event g.F.Follow.next g.D.Drain.state _ _ _ _ _ _ _ _ left (stands_all _ _ _ _ _ c.in-Some.ensures.yields) _ _ c.in_err-go-in-Some.ensures.puts)
+    (fails_event g.F.Follow.next g.D.Drain.state _ _ _ _ _ _ _ _ left (stands_all _ _ _ _ _ c.in-Some.ensures.yields)
+        _ _ c.in_err-go-in-Some.ensures.puts)
 
 pub returns-in_err-go-in-Some-constructed : goal.returns-in_err-go-in-Some-constructed
 returns-in_err-go-in-Some-constructed g c =
-    let p = err_from_is_err_and c.from_residual-in_err-go-in-Some-constructed.result c.from_residual-in_err-go-in-Some-constructed.ensures.1 in
-    let left = follows_left g.F.Follow.next g.D.Drain.state _ _ _ _ _ _ _ c.events.invariant.follows c.if-branch.false c.in_ok-follow_primitive.ensures in
+    let p =
+        err_from_is_err_and c.from_residual-in_err-go-in-Some-constructed.result
+            c.from_residual-in_err-go-in-Some-constructed.ensures.1 in
+    let left =
+        follows_left g.F.Follow.next g.D.Drain.state _ _ _ _ _ _ _ c.events.invariant.follows c.if-branch.false
+            c.in_ok-follow_primitive.ensures in
     rw p.1
-    (fails_event g.F.Follow.next g.D.Drain.state _ _ _ _ _ _ _ _ left (unmoved_event _ _ _ _ _ _ _ (c.in-None.ensures.steps.0) (c.in-None.ensures.steps.1) (stands_all _ _ _ _ _ c.in-Some-constructed.ensures.yields)) _ _ c.in_err-go-in-Some-constructed.ensures.puts)
+    (fails_event g.F.Follow.next g.D.Drain.state _ _ _ _ _ _ _ _ left
+        (unmoved_event _ _ _ _ _ _ _ (c.in-None.ensures.steps.0) (c.in-None.ensures.steps.1)
+            (stands_all _ _ _ _ _ c.in-Some-constructed.ensures.yields))
+        _ _ c.in_err-go-in-Some-constructed.ensures.puts)
 
 pub returns-in_err-go-in-Some-contents_event : goal.returns-in_err-go-in-Some-contents_event
 returns-in_err-go-in-Some-contents_event g c =
-    let p = err_from_is_err_and c.from_residual-in_err-go-in-Some-contents_event.result c.from_residual-in_err-go-in-Some-contents_event.ensures.1 in
-    let left = follows_left g.F.Follow.next g.D.Drain.state _ _ _ _ _ _ _ c.events.invariant.follows c.if-branch.false c.in_ok-follow_primitive.ensures in
+    let p =
+        err_from_is_err_and c.from_residual-in_err-go-in-Some-contents_event.result
+            c.from_residual-in_err-go-in-Some-contents_event.ensures.1 in
+    let left =
+        follows_left g.F.Follow.next g.D.Drain.state _ _ _ _ _ _ _ c.events.invariant.follows c.if-branch.false
+            c.in_ok-follow_primitive.ensures in
     rw p.1
-    (fails_event g.F.Follow.next g.D.Drain.state _ _ _ _ _ _ _ _ left (unmoved_event _ _ _ _ _ _ _ (c.in-None-constructed.ensures.steps.0 ∙ c.in-None.ensures.steps.0) (c.in-None-constructed.ensures.steps.1 ∙ c.in-None.ensures.steps.1) (stands_all _ _ _ _ _ c.in-Some-contents_event.ensures.yields)) _ _ c.in_err-go-in-Some-contents_event.ensures.puts)
+    (fails_event g.F.Follow.next g.D.Drain.state _ _ _ _ _ _ _ _ left
+        (unmoved_event _ _ _ _ _ _ _ (c.in-None-constructed.ensures.steps.0 ∙ c.in-None.ensures.steps.0)
+            (c.in-None-constructed.ensures.steps.1 ∙ c.in-None.ensures.steps.1)
+            (stands_all _ _ _ _ _ c.in-Some-contents_event.ensures.yields))
+        _ _ c.in_err-go-in-Some-contents_event.ensures.puts)
 
 pub returns-in_err-go-in-Event : goal.returns-in_err-go-in-Event
 returns-in_err-go-in-Event g c =
-    let p = err_from_is_err_and c.from_residual-in_err-go-in-Event.result c.from_residual-in_err-go-in-Event.ensures.1 in
-    let left = follows_left g.F.Follow.next g.D.Drain.state _ _ _ _ _ _ _ c.events.invariant.follows c.if-branch.false c.in_ok-follow_primitive.ensures in
+    let p =
+        err_from_is_err_and c.from_residual-in_err-go-in-Event.result c.from_residual-in_err-go-in-Event.ensures.1 in
+    let left =
+        follows_left g.F.Follow.next g.D.Drain.state _ _ _ _ _ _ _ c.events.invariant.follows c.if-branch.false
+            c.in_ok-follow_primitive.ensures in
     rw p.1
-    (fails_event g.F.Follow.next g.D.Drain.state _ _ _ _ _ _ _ _ left (unmoved_event _ _ _ _ _ _ _ (c.in-None-contents_event.ensures.steps.0 ∙ c.in-None-constructed.ensures.steps.0 ∙ c.in-None.ensures.steps.0) (c.in-None-contents_event.ensures.steps.1 ∙ c.in-None-constructed.ensures.steps.1 ∙ c.in-None.ensures.steps.1) (walked_event _ _ _ _ _ c.in-Event.ensures)) _ _ c.in_err-go-in-Event.ensures.puts)
+    (fails_event g.F.Follow.next g.D.Drain.state _ _ _ _ _ _ _ _ left
+        (unmoved_event
+            _ _ _ _ _ _ _ (c.in-None-contents_event.ensures.steps.0 ∙ c.in-None-constructed.ensures.steps.0
+                ∙ c.in-None.ensures.steps.0)
+            (c.in-None-contents_event.ensures.steps.1 ∙ c.in-None-constructed.ensures.steps.1
+                ∙ c.in-None.ensures.steps.1)
+            (walked_event _ _ _ _ _ c.in-Event.ensures))
+        _ _ c.in_err-go-in-Event.ensures.puts)
 
 pub returns-in-NeedMore : goal.returns-in-NeedMore
 returns-in-NeedMore g c =
-    pauses_used_up g.F.Follow.next g.D.Drain.state _ _ _ _ _ _ (follows_left g.F.Follow.next g.D.Drain.state _ _ _ _ _ _ _ c.events.invariant.follows c.if-branch.false c.in_ok-follow_primitive.ensures)
-    (unmoved_step c.contents_event.new.self _ c.step-next.new.self c.contents_event.new.piece.now _ c.step-next.new.piece.now step.NeedMore (c.in-None-contents_event.ensures.steps.0 ∙ c.in-None-constructed.ensures.steps.0 ∙ c.in-None.ensures.steps.0) (c.in-None-contents_event.ensures.steps.1 ∙ c.in-None-constructed.ensures.steps.1 ∙ c.in-None.ensures.steps.1) c.in-NeedMore.ensures)
-    (left_walked g.F.Follow.next g.D.Drain.state _ _ _ _ _ c.if-branch.false c.in_ok-follow_primitive.ensures ∙ c.events.invariant.walked)
+    pauses_used_up g.F.Follow.next g.D.Drain.state
+        _ _ _ _ _ _ (follows_left g.F.Follow.next g.D.Drain.state _ _ _ _ _ _ _ c.events.invariant.follows
+            c.if-branch.false c.in_ok-follow_primitive.ensures)
+    (unmoved_step c.contents_event.new.self _ c.step-next.new.self c.contents_event.new.piece.now
+        _ c.step-next.new.piece.now step.NeedMore
+        (c.in-None-contents_event.ensures.steps.0 ∙ c.in-None-constructed.ensures.steps.0 ∙ c.in-None.ensures.steps.0)
+        (c.in-None-contents_event.ensures.steps.1 ∙ c.in-None-constructed.ensures.steps.1 ∙ c.in-None.ensures.steps.1)
+        c.in-NeedMore.ensures)
+    (left_walked g.F.Follow.next g.D.Drain.state _ _ _ _ _ c.if-branch.false c.in_ok-follow_primitive.ensures
+        ∙ c.events.invariant.walked)
 
 pub returns-in-Fault : goal.returns-in-Fault
 returns-in-Fault g c =
-    pauses_fault g.F.Follow.next g.D.Drain.state _ _ _ _ _ _ _ (follows_left g.F.Follow.next g.D.Drain.state _ _ _ _ _ _ _ c.events.invariant.follows c.if-branch.false c.in_ok-follow_primitive.ensures)
-    (unmoved_step c.contents_event.new.self _ c.step-next.new.self c.contents_event.new.piece.now _ c.step-next.new.piece.now (step.Fault c.in-Fault.fault) (c.in-None-contents_event.ensures.steps.0 ∙ c.in-None-constructed.ensures.steps.0 ∙ c.in-None.ensures.steps.0) (c.in-None-contents_event.ensures.steps.1 ∙ c.in-None-constructed.ensures.steps.1 ∙ c.in-None.ensures.steps.1) c.in-Fault.ensures)
+    pauses_fault g.F.Follow.next g.D.Drain.state
+        _ _ _ _ _ _ _ (follows_left g.F.Follow.next g.D.Drain.state _ _ _ _ _ _ _ c.events.invariant.follows
+            c.if-branch.false c.in_ok-follow_primitive.ensures)
+    (unmoved_step c.contents_event.new.self _ c.step-next.new.self c.contents_event.new.piece.now
+        _ c.step-next.new.piece.now (step.Fault c.in-Fault.fault)
+        (c.in-None-contents_event.ensures.steps.0 ∙ c.in-None-constructed.ensures.steps.0 ∙ c.in-None.ensures.steps.0)
+        (c.in-None-contents_event.ensures.steps.1 ∙ c.in-None-constructed.ensures.steps.1 ∙ c.in-None.ensures.steps.1)
+        c.in-Fault.ensures)
 
 pub returns-then-eq : goal.returns-then-eq
 returns-then-eq g c =
     let enough : c.match-close.go ≡ go.Enough = not_on _ (search rules) in
-    let left = follows_left g.F.Follow.next g.D.Drain.state _ _ _ _ _ _ _ c.events.invariant.follows c.if-branch.false c.in_ok-follow_primitive.ensures in
+    let left =
+        follows_left g.F.Follow.next g.D.Drain.state _ _ _ _ _ _ _ c.events.invariant.follows c.if-branch.false
+            c.in_ok-follow_primitive.ensures in
     elim c.match-close.branch [
       | in-Some+in_ok-go-in-Some w ↦ rw (w.out-is, w.follower-is, w.walker-is)
-          (pauses_enough g.F.Follow.next g.D.Drain.state _ _ _ _ _ (follows_event g.F.Follow.next g.D.Drain.state _ _ _ _ _ _ _ _ left (stands_all _ _ _ _ _ w.in-Some.ensures.yields) w.in_ok-go-in-Some.ensures.state _ w.in_ok-go-in-Some.ensures.puts) (sym w.go-is ∙ enough) w.in-Some.ensures.steps.0.after_event)
+          (pauses_enough g.F.Follow.next g.D.Drain.state
+              _ _ _ _ _ (follows_event g.F.Follow.next g.D.Drain.state _ _ _ _ _ _ _ _ left
+                  (stands_all _ _ _ _ _ w.in-Some.ensures.yields) w.in_ok-go-in-Some.ensures.state
+                  _ w.in_ok-go-in-Some.ensures.puts)
+              (sym w.go-is ∙ enough) w.in-Some.ensures.steps.0.after_event)
       | in-None+in-Some-constructed+in_ok-go-in-Some-constructed w ↦ rw (w.out-is, w.follower-is, w.walker-is)
-          (pauses_enough g.F.Follow.next g.D.Drain.state _ _ _ _ _ (follows_event g.F.Follow.next g.D.Drain.state _ _ _ _ _ _ _ _ left (unmoved_event _ _ _ _ _ _ _ (w.in-None.ensures.steps.0) (w.in-None.ensures.steps.1) (stands_all _ _ _ _ _ w.in-Some-constructed.ensures.yields)) w.in_ok-go-in-Some-constructed.ensures.state _ w.in_ok-go-in-Some-constructed.ensures.puts) (sym w.go-is ∙ enough) w.in-Some-constructed.ensures.steps.0.after_event)
-      | in-None+in-None-constructed+in-Some-contents_event+in_ok-go-in-Some-contents_event w ↦ rw (w.out-is, w.follower-is, w.walker-is)
-          (pauses_enough g.F.Follow.next g.D.Drain.state _ _ _ _ _ (follows_event g.F.Follow.next g.D.Drain.state _ _ _ _ _ _ _ _ left (unmoved_event _ _ _ _ _ _ _ (w.in-None-constructed.ensures.steps.0 ∙ w.in-None.ensures.steps.0) (w.in-None-constructed.ensures.steps.1 ∙ w.in-None.ensures.steps.1) (stands_all _ _ _ _ _ w.in-Some-contents_event.ensures.yields)) w.in_ok-go-in-Some-contents_event.ensures.state _ w.in_ok-go-in-Some-contents_event.ensures.puts) (sym w.go-is ∙ enough) w.in-Some-contents_event.ensures.steps.0.after_event)
-      | in-None+in-None-constructed+in-None-contents_event+in-Event+in_ok-go-in-Event w ↦ rw (w.out-is, w.follower-is, w.walker-is)
-          (pauses_enough g.F.Follow.next g.D.Drain.state _ _ _ _ _ (follows_event g.F.Follow.next g.D.Drain.state _ _ _ _ _ _ _ _ left (unmoved_event _ _ _ _ _ _ _ (w.in-None-contents_event.ensures.steps.0 ∙ w.in-None-constructed.ensures.steps.0 ∙ w.in-None.ensures.steps.0) (w.in-None-contents_event.ensures.steps.1 ∙ w.in-None-constructed.ensures.steps.1 ∙ w.in-None.ensures.steps.1) (walked_event _ _ _ _ _ w.in-Event.ensures)) w.in_ok-go-in-Event.ensures.state _ w.in_ok-go-in-Event.ensures.puts) (sym w.go-is ∙ enough) w.in-Event.ensures.phase)
+          (pauses_enough g.F.Follow.next g.D.Drain.state
+              _ _ _ _ _ (follows_event g.F.Follow.next g.D.Drain.state _ _ _ _ _ _ _ _ left
+                  (unmoved_event _ _ _ _ _ _ _ (w.in-None.ensures.steps.0) (w.in-None.ensures.steps.1)
+                      (stands_all _ _ _ _ _ w.in-Some-constructed.ensures.yields))
+                  w.in_ok-go-in-Some-constructed.ensures.state _ w.in_ok-go-in-Some-constructed.ensures.puts)
+              (sym w.go-is ∙ enough) w.in-Some-constructed.ensures.steps.0.after_event)
+      | in-None+in-None-constructed+in-Some-contents_event+in_ok-go-in-Some-contents_event w ↦
+          rw (w.out-is, w.follower-is, w.walker-is)
+          (pauses_enough g.F.Follow.next g.D.Drain.state
+              _ _ _ _ _ (follows_event g.F.Follow.next g.D.Drain.state _ _ _ _ _ _ _ _ left
+                  (unmoved_event _ _ _ _ _ _ _ (w.in-None-constructed.ensures.steps.0 ∙ w.in-None.ensures.steps.0)
+                      (w.in-None-constructed.ensures.steps.1 ∙ w.in-None.ensures.steps.1)
+                      (stands_all _ _ _ _ _ w.in-Some-contents_event.ensures.yields))
+                  w.in_ok-go-in-Some-contents_event.ensures.state _ w.in_ok-go-in-Some-contents_event.ensures.puts)
+              (sym w.go-is ∙ enough) w.in-Some-contents_event.ensures.steps.0.after_event)
+      | in-None+in-None-constructed+in-None-contents_event+in-Event+in_ok-go-in-Event w ↦
+          rw (w.out-is, w.follower-is, w.walker-is)
+          (pauses_enough g.F.Follow.next g.D.Drain.state
+              _ _ _ _ _ (follows_event g.F.Follow.next g.D.Drain.state _ _ _ _ _ _ _ _ left
+                  (unmoved_event
+                      _ _ _ _ _ _ _ (w.in-None-contents_event.ensures.steps.0 ∙ w.in-None-constructed.ensures.steps.0
+                          ∙ w.in-None.ensures.steps.0)
+                      (w.in-None-contents_event.ensures.steps.1 ∙ w.in-None-constructed.ensures.steps.1
+                          ∙ w.in-None.ensures.steps.1)
+                      (walked_event _ _ _ _ _ w.in-Event.ensures))
+                  w.in_ok-go-in-Event.ensures.state _ w.in_ok-go-in-Event.ensures.puts)
+              (sym w.go-is ∙ enough) w.in-Event.ensures.phase)
     ]

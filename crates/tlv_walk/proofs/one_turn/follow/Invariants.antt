@@ -6,7 +6,9 @@ use Rattle.tlv_walk.proofs.one_turn.follow.Given as goal
 
 abbrev pub invariant-events : goal.invariant-events
 invariant-events g l = record {
-  follows : HasFollowed g.F.Follow.next g.D.Drain.state (follow_states l.initial.walker l.initial.follower l.initial.out) (follow_states l.walker l.follower l.out) l.piece l.rest On;
+  follows : HasFollowed g.F.Follow.next g.D.Drain.state
+      (follow_states l.initial.walker l.initial.follower l.initial.out) (follow_states l.walker l.follower l.out)
+      l.piece l.rest On;
   walked : l.walker.offset + length l.rest ≡ l.initial.walker.offset + length l.piece;
 }
 

@@ -5,14 +5,18 @@ use Rattle.tlv_walk.proofs.WalkerLemmas.Passing.{is_whole}
 use Rattle.tlv_walk.proofs.one_turn.follow_found.Goals as goal
 
 pub whole-requires : goal.whole-requires
-whole-requires g c = rw c.new-header.ensures (record { whole = is_whole c.args.walker.now c.args.piece.now.now c.args.primitive.now c.requires.can })
+whole-requires g c = rw c.new-header.ensures (record {
+  whole = is_whole c.args.walker.now c.args.piece.now.now c.args.primitive.now c.requires.can;
+})
 
 pub returns-in_err-whole : goal.returns-in_err-whole
 returns-in_err-whole g c =
     let p = err_from_is_err_and c.from_residual.result c.from_residual.ensures.1 in rw p.1
-    (part_fails g.F.Follow.next g.D.Drain.state _ _ _ _ c.args.primitive.now c.new-header.result _ _ c.requires.can c.new-header.ensures c.in_err-whole.ensures.puts)
+    (part_fails g.F.Follow.next g.D.Drain.state _ _ _ _ c.args.primitive.now c.new-header.result _ _ c.requires.can
+        c.new-header.ensures c.in_err-whole.ensures.puts)
 
 pub returns : goal.returns
 returns g c =
-    part_whole g.F.Follow.next g.D.Drain.state _ _ c.args.piece.now.now _ c.args.primitive.now c.new-header.result true c.new-header.ensures
+    part_whole g.F.Follow.next g.D.Drain.state _ _ c.args.piece.now.now _ c.args.primitive.now c.new-header.result
+        true c.new-header.ensures
     (search rules) (search rules) (search rules) c.pass.ensures.yields c.pass.ensures.passes

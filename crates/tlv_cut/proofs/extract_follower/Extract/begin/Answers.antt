@@ -11,7 +11,8 @@ same : (m n : ℕ) → m ≡ n → (m == n) ≡ true
 same m n e = search rules
 
 -- the element that is wanted begins
-extract_begin_step_at-wanted : (s : ExtractState) (offset : ℕ) (octets : List ℕ) → s.position ≡ Before → offset ≡ s.offset
+extract_begin_step_at-wanted : (s : ExtractState) (offset : ℕ) (octets : List ℕ) → s.position ≡ Before
+    → offset ≡ s.offset
     → extract_begin_step_at s offset octets ≡ extract_step_to s (Within 0) (outer_octets s.contents_only octets) On
 extract_begin_step_at-wanted s offset octets b e =
     let at = λ (w : Position). record s { position = w } in

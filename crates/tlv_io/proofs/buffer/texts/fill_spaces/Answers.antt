@@ -10,4 +10,5 @@ pub copy_from_slice-requires : goal.copy_from_slice-requires
 copy_from_slice-requires c = length-take-le 32 c.args.to.now (omega (arith, c.requires))
 
 pub returns-else-count-gt32-clause-text : goal.returns-else-count-gt32-clause-text
-returns-else-count-gt32-clause-text c = spaces_prefix c.args.count c.copy_from_slice.new.self _ c.copy_from_slice.ensures.after c.if-count-gt32.false
+returns-else-count-gt32-clause-text c =
+    spaces_prefix c.args.count c.copy_from_slice.new.self _ c.copy_from_slice.ensures.after c.if-count-gt32.false

@@ -11,7 +11,8 @@ returns-clause-state g c =
     let s : DumpState = record { lines = c.self.inside.lines; finder = c.self.inside.finder.state } in
     rw (← c.self.view_is, each-shown s c.args.octets.now)
     (on_ok_weaker c.bytes-2.result
-    (λ e. ap₂ (λ (l : LinesState) (f : FinderState). record { lines = l; finder = f }) e (ap (λ (u : FinderReport). u.state) c.bytes.ensures))
+    (λ e. ap₂ (λ (l : LinesState) (f : FinderState). record { lines = l; finder = f }) e
+        (ap (λ (u : FinderReport). u.state) c.bytes.ensures))
     c.bytes-2.ensures.state)
 
 pub returns-clause-puts : goal.returns-clause-puts

@@ -4,4 +4,5 @@ use Rattle.tlv_value.proofs.CheckLemmas.CheckPieces.{findings-end}
 use Rattle.tlv_value.proofs.check.ValueCheck.end.Goals as goal
 
 pub returns-clause-whole : goal.returns-clause-whole
-returns-clause-whole c h octets e size = c.findings.ensures ∙ ap (λ (s : ValueCheckState). findings_in s) e ∙ findings-end h octets size
+returns-clause-whole c h octets e size =
+    c.findings.ensures ∙ ap (λ (s : ValueCheckState). findings_in s) e ∙ findings-end h octets size

@@ -15,7 +15,9 @@ pub loop-count-preserved : goal.loop-count-preserved
 loop-count-preserved g c =
     let i = c.loop-count.invariant in
     record {
-      given = given_more _ _ _ _ i.given i.most i.failures c.read.new.to (search rules) c.in-Ok.count c.in-Ok.ensures (search rules) _ (search rules);
+      given =
+          given_more _ _ _ _ i.given i.most i.failures c.read.new.to (search rules) c.in-Ok.count c.in-Ok.ensures
+              (search rules) _ (search rules);
       most = search rules;
       piece = search rules;
       failures = search rules;
@@ -29,14 +31,17 @@ returns-in_default g c =
 pub returns-then-count-eq0 : goal.returns-then-count-eq0
 returns-then-count-eq0 g c =
     let i = c.loop-count.invariant in
-    gives_end _ _ _ _ i.given i.most i.failures c.read.new.to (search rules) c.in-Ok.count c.in-Ok.ensures (search rules) _ refl
+    gives_end _ _ _ _ i.given i.most i.failures c.read.new.to (search rules) c.in-Ok.count c.in-Ok.ensures
+        (search rules) _ refl
 
 pub returns-then-count-len : goal.returns-then-count-len
 returns-then-count-len g c =
     let i = c.loop-count.invariant in
-    gives_long _ _ _ _ i.given i.most i.failures c.read.new.to (search rules) c.in-Ok.count c.in-Ok.ensures (omega (arith, c.len.ensures, c.if-count-len.true))
+    gives_long _ _ _ _ i.given i.most i.failures c.read.new.to (search rules) c.in-Ok.count c.in-Ok.ensures
+        (omega (arith, c.len.ensures, c.if-count-len.true))
 
 pub returns-then-is_err : goal.returns-then-is_err
 returns-then-is_err g c =
     let i = c.loop-count.invariant in
-    gives_memory _ _ _ _ i.given i.most i.failures c.read.new.to (search rules) c.in-Ok.count c.in-Ok.ensures (omega (arith, c.len.ensures, c.if-count-len.false))
+    gives_memory _ _ _ _ i.given i.most i.failures c.read.new.to (search rules) c.in-Ok.count c.in-Ok.ensures
+        (omega (arith, c.len.ensures, c.if-count-len.false))

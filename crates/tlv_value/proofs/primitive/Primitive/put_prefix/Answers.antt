@@ -3,7 +3,9 @@ use Rattle.tlv_io.proofs.Puts.{puts_line, puts_no_room}
 use Rattle.tlv_value.proofs.primitive.Primitive.put_prefix.Goals as goal
 
 pub returns-in_err-make_room-clause-puts : goal.returns-in_err-make_room-clause-puts
-returns-in_err-make_room-clause-puts g c = puts_no_room g.D.Drain.state _ _ _ _ _ c.in_err-make_room.ensures.puts (search rules)
+returns-in_err-make_room-clause-puts g c =
+    puts_no_room g.D.Drain.state _ _ _ _ _ c.in_err-make_room.ensures.puts (search rules)
 
 pub returns-clause-puts : goal.returns-clause-puts
-returns-clause-puts g c = puts_line g.D.Drain.state _ _ _ _ _ _ c.in_ok-make_room.ensures.puts refl c.write_prefix.ensures.text
+returns-clause-puts g c =
+    puts_line g.D.Drain.state _ _ _ _ _ _ c.in_ok-make_room.ensures.puts refl c.write_prefix.ensures.text

@@ -9,4 +9,6 @@ pub returns-in_err-make_room : goal.returns-in_err-make_room
 returns-in_err-make_room g c = puts_no_room g.D.Drain.state _ _ _ _ _ c.in_err-make_room.ensures.puts (search rules)
 
 pub returns : goal.returns
-returns g c = rw c.if-not-is_first.false (puts_line g.D.Drain.state _ _ _ _ _ _ c.in_ok-make_room.ensures.puts refl c.write_dots.ensures)
+returns g c =
+    rw c.if-not-is_first.false
+        (puts_line g.D.Drain.state _ _ _ _ _ _ c.in_ok-make_room.ensures.puts refl c.write_dots.ensures)

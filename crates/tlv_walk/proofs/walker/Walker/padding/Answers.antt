@@ -6,5 +6,8 @@ pub returns-clause-event : goal.returns-clause-event
 returns-clause-event c = record {
   taken = c.split_at.result.0.now;
   piece_is = search rules;
-  continues = rw (← c.self.view_is) (yields_pad _ c.split_at.result.0.now c.zeros-count.result (search rules) (search rules) (search rules) (search rules) (search rules));
+  continues =
+      rw (← c.self.view_is)
+          (yields_pad _ c.split_at.result.0.now c.zeros-count.result (search rules) (search rules) (search rules)
+              (search rules) (search rules));
 }
