@@ -3,7 +3,7 @@ have no definition that no contract reaches."""
 import os
 import re
 
-from parts.words import DEFINITION, specs, without_comment
+from parts.words import DEFINITION, files, without_comment
 
 IMPORT = re.compile(r"^\s*(?:pub |ghost )*use Rattle\.(tlv_\w+)\.specs\.([\w.]+?)(?:\.\{([^}]*)\}| as (\w+))?;?$", re.M)
 TOKEN = re.compile(r"[^\s(){}\[\];,λ:]+")
@@ -34,7 +34,7 @@ class Definitions:
 
     def __init__(self, root):
         self.homes, self.texts, self.imports = {}, {}, {}
-        for path, text in specs(root):
+        for path, text in files(root, "specs"):
             file = path.split("/", 1)[1].removesuffix(".antt").replace("/specs/", ".").replace("/", ".")
             self.imports[file] = IMPORT.findall(text)
             for name, block in blocks(text):

@@ -22,7 +22,7 @@ NAMES = {
     "Rattle.tlv_show.specs.declared.rules.Rules.TheVariants": "Ber Der Cer",
     "Rattle.tlv_value.specs.Names": "names_of",
     "Rattle.tlv_run.proofs.RowWords": "check clean_with dump extract faulty framed indef lines named nameless "
-    "names_in noted octets plain result result_with",
+    "entries_table noted octets plain result result_with",
 }
 CODES = {
     "F01": "Empty",
@@ -151,7 +151,7 @@ def read_names(name, row):
     """That the table of these entries is what the row's names file gives."""
     text = "lines " + in_brackets(list_of(string(line) for line in row.names.decode().splitlines()))
     proof = f"{name}-names = refl\n"
-    return join_texts(f"{name}-names : names_of ({text})", f"≡ Ok (names_in {entries(row)})\n{proof}")
+    return join_texts(f"{name}-names : names_of ({text})", f"≡ Ok (entries_table {entries(row)})\n{proof}")
 
 
 def statement(number, row):
@@ -160,7 +160,7 @@ def statement(number, row):
     proof, result = "refl", "result"
     if row.names is not None:
         proof = join_texts(f"named {entries(row)}", f"{asked[5:]} {given}")
-        result = f"result_with (names_in {entries(row)})"
+        result = f"result_with (entries_table {entries(row)})"
     elif b"OBJECT IDENTIFIER" in row.out:
         proof = join_texts(f"nameless {asked[5:]}", given)
     title = f"-- {row.title}\n" if row.title else ""

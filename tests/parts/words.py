@@ -1,6 +1,6 @@
-"""The words of specs: each has one definition in the repository, so that no reader meets one with two meanings. And no file of
-specs calls a tactic: what a reader has to believe is written out. And each edit that the prover must refuse is named by a function
-of the file that it changes."""
+"""The words of specs: each has one definition in the repository, those of proofs included, so that no reader meets one with two
+meanings. And no file of specs calls a tactic: what a reader has to believe is written out. And each edit that the prover must
+refuse is named by a function of the file that it changes."""
 import os
 import re
 
@@ -8,6 +8,8 @@ CODE = re.compile(r'(?:"(?:\\.|[^"\\])*"|(?!--).)*')
 TACTIC = re.compile(r"\b(?:omega|grind|search|simp|cc|ground|assumption)\b")
 EDIT = re.compile(r"(?:[A-Z]\w*\.)?(\w+)\.\w+\.edit")
 DEFINITION = re.compile(r"^(\s*)(?:(?:abbrev|unfoldable) )?pub (?:(record|data) )?([A-Za-z_◌][\w'◌-]*)")
+OF_PROOFS = re.compile(
+    r"(?:abbrev |unfoldable )?(?:pub )?(?:(?:record|data) ([A-Za-z_◌][\w'◌-]*)|([A-Za-z_◌][\w'◌-]*) :(?: |$))")
 
 
 def without_comment(line):
@@ -30,10 +32,23 @@ def definitions(text):
         yield found.group(3)
 
 
-def specs(root):
-    """Yields the path of each file of specs below the root, and its text."""
+def definitions_of_proofs(text):
+    """Yields the names that a file of proofs defines, on its top level and in its modules: no field, and nothing that stands by
+    itself in a lemma."""
+    in_module = False
+    for line in text.split("\n"):
+        depth = len(line) - len(line.lstrip())
+        if line.strip() and depth == 0:
+            in_module = line.startswith("module ")
+        found = OF_PROOFS.match(line.strip())
+        if found and (depth == 0 or (depth == 2 and in_module)):
+            yield found.group(1) or found.group(2)
+
+
+def files(root, folder):
+    """Yields the path of each file in folders of this name below the root, and its text."""
     for crate in sorted(os.listdir(os.path.join(root, "crates"))):
-        for at, _, names in sorted(os.walk(os.path.join(root, "crates", crate, "specs"))):
+        for at, _, names in sorted(os.walk(os.path.join(root, "crates", crate, folder))):
             for name in sorted(names):
                 path = os.path.join(at, name)
                 with open(path, encoding="utf-8") as file:
@@ -55,13 +70,17 @@ def edits(root):
 def test(part):
     """Counts a test for each word, one for each file, and one for each edit."""
     homes = {}
-    for path, text in specs(part.root):
+    for path, text in files(part.root, "specs"):
         for word in definitions(text):
             homes.setdefault(word, []).append(path)
         tactics = [line for line in text.split("\n") if TACTIC.search(without_comment(line))]
         part.expect(f"{path} calls no tactic", not tactics, *tactics)
-    for word, files in sorted(homes.items()):
-        part.expect(f"the word {word} of specs has one definition", len(files) == 1, *files)
+    for path, text in files(part.root, "proofs"):
+        for word in definitions_of_proofs(text):
+            if word in homes:
+                homes[word].append(path)
+    for word, found in sorted(homes.items()):
+        part.expect(f"the word {word} of specs has one definition", len(found) == 1, *found)
     part.expect("specs define words", len(homes) > 500)
     for path, function, source in edits(part.root):
         part.expect(f"{path} is named by a function of the file", re.search(rf"\bfn {function}\b", source))

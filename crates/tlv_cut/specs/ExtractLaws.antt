@@ -15,10 +15,10 @@ use Rattle.tlv_cut.specs.ExtractStep.{ExtractState, extract_step, has_found, new
 -- a header, contents and, if the element is whole, end-of-contents octets
 pub record IsInInput (b : List ℕ) (n : ℕ) (f : Forest) : Type 0 where
   -- the octets before the element, and those after what is written of it
-  pub front : List ℕ
-  pub rest : List ℕ
-  pub octets : front ++ (extract_text n false f ++ rest) ≡ b
-  pub place : length front ≡ n
+  pub before : List ℕ
+  pub after : List ℕ
+  pub octets : before ++ (extract_text n false f ++ after) ≡ b
+  pub begins : length before ≡ n
   -- its header
   pub header : HeaderValue
   pub valid : IsHeader header

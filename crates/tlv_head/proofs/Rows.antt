@@ -29,8 +29,8 @@ octet-string : IsIdentifier Universal false 4 (0x04 ∷ [])
 octet-string = inl (record { small = lit< tt; octets_are = refl; nonzero = omega arith })
 
 -- 30: SEQUENCE, constructed
-sequence : IsIdentifier Universal true 16 (0x30 ∷ [])
-sequence = inl (record { small = lit< tt; octets_are = refl; nonzero = omega arith })
+sequence_identifier : IsIdentifier Universal true 16 (0x30 ∷ [])
+sequence_identifier = inl (record { small = lit< tt; octets_are = refl; nonzero = omega arith })
 
 -- 20: an element may have the number 0 if the octet is not 00
 constructed-zero : IsIdentifier Universal true 0 (0x20 ∷ [])
@@ -167,7 +167,7 @@ octet-string_header = record { identifier = octet-string; lengths = padded-128; 
 
 -- 30 80: a SEQUENCE up to the end-of-contents octets
 sequence-header : IsHeader (first Universal true 16 Indefinite (0x30 ∷ []) (0x80 ∷ []))
-sequence-header = record { identifier = sequence; lengths = refl; allowed = refl }
+sequence-header = record { identifier = sequence_identifier; lengths = refl; allowed = refl }
 
 -- 9f 81, seven 80, 00, fe, 125 octets 00 and 01: one contents octet, announced by the longest header there is
 abbrev longest : HeaderValue
@@ -270,7 +270,7 @@ prefix-high_form = record {
 -- 30 80 00 00: a header and two octets
 begins-sequence : BeginsWith (0x30 ∷ 0x80 ∷ 0x00 ∷ 0x00 ∷ []) 0 false
     (first Universal true 16 Indefinite (0x30 ∷ []) (0x80 ∷ []))
-begins-sequence = record { valid = sequence-header; place = refl; named = refl; rest = 0x00 ∷ 0x00 ∷ []; octets = refl }
+begins-sequence = record { valid = sequence-header; offset = refl; named = refl; rest = 0x00 ∷ 0x00 ∷ []; octets = refl }
 
 -- bf 1f 82 01 00, with the indefinite form
 respelled : spell_indefinite (first Context true 31 (Definite 256) (0xbf ∷ 0x1f ∷ []) (0x82 ∷ 0x01 ∷ 0x00 ∷ []))

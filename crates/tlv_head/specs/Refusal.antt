@@ -19,9 +19,9 @@ abbrev pub CannotBecomeHeader : List ℕ → Type 0
 CannotBecomeHeader octets = (h : HeaderValue) (more : List ℕ) → IsHeader h → octets ++ more ≡ octets_of h → ⊥
 
 -- the octets begin with this header, which is at that offset
-pub record BeginsWith (input : List ℕ) (offset : ℕ) (is_named : Bool) (h : HeaderValue) : Type 0 where
+pub record BeginsWith (input : List ℕ) (start : ℕ) (is_named : Bool) (h : HeaderValue) : Type 0 where
   pub valid : IsHeader h
-  pub place : h.offset ≡ offset
+  pub offset : h.offset ≡ start
   pub named : h.named ≡ is_named
   pub rest : List ℕ
   pub octets : input ≡ octets_of h ++ rest

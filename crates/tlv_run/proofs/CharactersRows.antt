@@ -9,7 +9,7 @@ use lib.Utf8.{encode}
 use Rattle.tlv_show.specs.declared.rules.Rules.TheVariants.{Ber}
 use Rattle.tlv_value.specs.Names.{names_of}
 use Rattle.tlv_run.proofs.RowWords.{clean_with, dump, lines, named, nameless}
-use Rattle.tlv_run.proofs.RowWords.{names_in, noted, octets, plain, result, result_with}
+use Rattle.tlv_run.proofs.RowWords.{entries_table, noted, octets, plain, result, result_with}
 
 -- an OBJECT IDENTIFIER
 row-1 : result (dump Ber None false plain) (octets "06 03 2a 86 48")
@@ -51,17 +51,17 @@ unfolding digits encode_with is_utf8 chars encode
 row-5 = nameless Ber None false plain (octets "06 14 2a 83" ++ replicate 17 0xff ++ octets "7f")
 
 -- with its name
-row-6 : result_with (names_in ((codes "1.2.840", codes "us") ∷ [])) (dump Ber None false plain)
+row-6 : result_with (entries_table ((codes "1.2.840", codes "us") ∷ [])) (dump Ber None false plain)
     (octets "06 03 2a 86 48")
     ≡ clean_with (lines (
     "       0      3: OBJECT IDENTIFIER 1.2.840 (us)" ∷ []))
 unfolding digits encode_with is_utf8 chars encode
 row-6 = named ((codes "1.2.840", codes "us") ∷ []) Ber None false plain (octets "06 03 2a 86 48")
 
-row-6-names : names_of (lines ("1.2.840 us" ∷ [])) ≡ Ok (names_in ((codes "1.2.840", codes "us") ∷ []))
+row-6-names : names_of (lines ("1.2.840 us" ∷ [])) ≡ Ok (entries_table ((codes "1.2.840", codes "us") ∷ []))
 row-6-names = refl
 
-row-7 : result_with (names_in ((codes "1.2.840", codes "us") ∷ [])) (dump Ber None false plain)
+row-7 : result_with (entries_table ((codes "1.2.840", codes "us") ∷ [])) (dump Ber None false plain)
     (octets "06 02 2a 03 06 04 2a 86 48 01")
     ≡ clean_with (lines (
     "       0      2: OBJECT IDENTIFIER 1.2.3" ∷
@@ -69,11 +69,11 @@ row-7 : result_with (names_in ((codes "1.2.840", codes "us") ∷ [])) (dump Ber 
 unfolding digits encode_with is_utf8 chars encode
 row-7 = named ((codes "1.2.840", codes "us") ∷ []) Ber None false plain (octets "06 02 2a 03 06 04 2a 86 48 01")
 
-row-7-names : names_of (lines ("1.2.840 us" ∷ [])) ≡ Ok (names_in ((codes "1.2.840", codes "us") ∷ []))
+row-7-names : names_of (lines ("1.2.840 us" ∷ [])) ≡ Ok (entries_table ((codes "1.2.840", codes "us") ∷ []))
 row-7-names = refl
 
 -- A relative identifier gets no name
-row-8 : result_with (names_in ((codes "1.2.840", codes "us") ∷ (codes "2.5", codes "relative") ∷ []))
+row-8 : result_with (entries_table ((codes "1.2.840", codes "us") ∷ (codes "2.5", codes "relative") ∷ []))
     (dump Ber None false plain)
     (octets "0d 02 02 05")
     ≡ clean_with (lines (
@@ -83,7 +83,7 @@ row-8 = named ((codes "1.2.840", codes "us") ∷ (codes "2.5", codes "relative")
     Ber None false plain (octets "0d 02 02 05")
 
 row-8-names : names_of (lines ("1.2.840 us" ∷ "2.5 relative" ∷ []))
-    ≡ Ok (names_in ((codes "1.2.840", codes "us") ∷ (codes "2.5", codes "relative") ∷ []))
+    ≡ Ok (entries_table ((codes "1.2.840", codes "us") ∷ (codes "2.5", codes "relative") ∷ []))
 row-8-names = refl
 
 row-9 : result (dump Ber None false plain) (octets "0c 00 13 02 6f 6b 16 03 61 40 62")

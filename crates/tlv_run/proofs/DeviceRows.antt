@@ -177,37 +177,37 @@ abbrev write_failed_report : ReportValue
 write_failed_report = report_with 3 (codes "E2 write failed")
 
 -- a NULL has a line of 22 octets
-abbrev null : List ℕ
-null = octets "05 00"
+abbrev null_element : List ℕ
+null_element = octets "05 00"
 
 abbrev null_lines : List ℕ
 null_lines = lines ("       0      0: NULL" ∷ [])
 
-null-made : result plain_dump null ≡ clean_with null_lines
+null-made : result plain_dump null_element ≡ clean_with null_lines
 unfolding digits
 null-made = refl
 
 -- the input ends: just enough room
-null-1 : Writes plain_dump null false 22 null_lines (report_with 0 [])
-null-1 = to-end plain_dump null (clean_with null_lines) refl refl refl null-made 22 refl
+null-1 : Writes plain_dump null_element false 22 null_lines (report_with 0 [])
+null-1 = to-end plain_dump null_element (clean_with null_lines) refl refl refl null-made 22 refl
 
 -- the same with more room
-null-2 : Writes plain_dump null false 1000 null_lines (report_with 0 [])
-null-2 = to-end plain_dump null (clean_with null_lines) refl refl refl null-made 1000 refl
+null-2 : Writes plain_dump null_element false 1000 null_lines (report_with 0 [])
+null-2 = to-end plain_dump null_element (clean_with null_lines) refl refl refl null-made 1000 refl
 
 -- a read fails: the line was written before
-null-3 : Writes plain_dump null true 22 null_lines read_failed_report
+null-3 : Writes plain_dump null_element true 22 null_lines read_failed_report
 null-3 =
-    to-failure plain_dump null (clean_with null_lines) refl refl refl null-made 22 refl
-    (open-yet plain_dump null (clean_with null_lines) never-enough (λ final. final))
+    to-failure plain_dump null_element (clean_with null_lines) refl refl refl null-made 22 refl
+    (open-yet plain_dump null_element (clean_with null_lines) never-enough (λ final. final))
 
 -- an octet too little room, whatever comes after the octets
-null-4 : (fails : Bool) → Writes plain_dump null fails 21 (codes "       0      0: NULL") write_failed_report
-null-4 fails = little-room plain_dump null (clean_with null_lines) refl refl refl null-made fails 21 refl
+null-4 : (fails : Bool) → Writes plain_dump null_element fails 21 (codes "       0      0: NULL") write_failed_report
+null-4 fails = little-room plain_dump null_element (clean_with null_lines) refl refl refl null-made fails 21 refl
 
 -- no room
-null-5 : (fails : Bool) → Writes plain_dump null fails 0 [] write_failed_report
-null-5 fails = little-room plain_dump null (clean_with null_lines) refl refl refl null-made fails 0 refl
+null-5 : (fails : Bool) → Writes plain_dump null_element fails 0 [] write_failed_report
+null-5 fails = little-room plain_dump null_element (clean_with null_lines) refl refl refl null-made fails 0 refl
 
 -- an unfinished header in a SEQUENCE, whose line has 28 octets
 abbrev unfinished : List ℕ

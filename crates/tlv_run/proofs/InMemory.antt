@@ -40,8 +40,8 @@ use Rattle.tlv_run.specs.Results.{CommandResult, IsJobResult, IsSettled, command
 use Rattle.tlv_run.specs.RunsAndReports.{RunsAndReports}
 
 -- what a slice holds of numbers that fit an octet
-octets_of : (xs : List ℕ) → ((i : ℕ) → Fits w8 (slice_index_or xs i 0)) → AreOctets xs
-octets_of xs fits k d less = below (slice_index_or xs k d) (rw (get_or_default xs k d 0 less) (fits k)) where
+octets_fit : (xs : List ℕ) → ((i : ℕ) → Fits w8 (slice_index_or xs i 0)) → AreOctets xs
+octets_fit xs fits k d less = below (slice_index_or xs k d) (rw (get_or_default xs k d 0 less) (fits k)) where
   below : (x : ℕ) → Fits w8 x → x < 256
   below x f = omega (arith, f)
 
@@ -340,7 +340,7 @@ module _ (command : Command) (names : NamesTable) (octets : List ℕ)
       → RunsOctets (command_job command names) octets false room (record { written = written.items; report = report })
   to_end old new e x =
       runs_octets (command_job command names) (stays_for command names) (text_on command names) octets
-      (octets_of octets fit) false
+      (octets_fit octets fit) false
       old (ending_source_state new) from (bounded_drain_state room kept.items failures) room written.items
       (ap (λ (s : SourceState). s.left) e) (ap (λ (s : SourceState). s.failures) e) (λ k. absurd (cc (k))) (λ _ _. refl)
       (ap (λ (t : DrainState). t.octets) from_is) (ap (λ (t : DrainState). t.failures) from_is)
@@ -352,7 +352,7 @@ module _ (command : Command) (names : NamesTable) (octets : List ℕ)
       → RunsOctets (command_job command names) octets true room (record { written = written.items; report = report })
   until_failure old new failed_reads e x =
       runs_octets (command_job command names) (stays_for command names) (text_on command names) octets
-      (octets_of octets fit) true
+      (octets_fit octets fit) true
       old (failing_source_state new failed_reads) from (bounded_drain_state room kept.items failures) room written.items
       (ap (λ (s : SourceState). s.left) e) (ap (λ (s : SourceState). s.failures) e)
           (λ k. (refl, spent new failed_reads k)) (λ _ k. absurd (gave_some new.log.last k))

@@ -26,13 +26,13 @@ module _ (job : Job ReportValue) (stays : Stays job) (octets : List ℕ) (all : 
     (few : length octets ≤ job.limit)
     (old new : DeviceStates) (known : old.source.left ≡ Some octets) where
   -- the result of the octets was written, and this is reported
-  Gives : ReportValue → Type 0
-  Gives report =
+  GivesReport : ReportValue → Type 0
+  GivesReport report =
       (made : CommandResult) × IsJobResult job octets made × Appends old.drain.octets new.drain.octets made.output
           × (report ≡ made.report)
 
-  gives_ok : (report : ReportValue) → Runs job old new (Ok report) → Gives report
-  unfolding Gives
+  gives_ok : (report : ReportValue) → Runs job old new (Ok report) → GivesReport report
+  unfolding GivesReport
   gives_ok report x =
       let given : List ℕ = octets_given x.pieces in
       let left = left_of old.source.left new.source.left octets given known x.pieces.consumed in
@@ -52,7 +52,7 @@ module _ (job : Job ReportValue) (stays : Stays job) (octets : List ℕ) (all : 
       } in
       let sent : Appends old.drain.octets new.drain.octets m.output =
           sends_appends old.drain new.drain (job.text x.reading) tt x.sends in
-      let final : IsSettled y → Gives report = λ (z : IsSettled y).
+      let final : IsSettled y → GivesReport report = λ (z : IsSettled y).
       let z = settled_stays job stays (take job.limit given) left.0 m (subst AreOctets is all) y z in
       (m, subst (λ (o : List ℕ). IsJobResult job o m) (sym is) z.0, sent, k.1) in
       elim (settled_by job.framing (take job.limit given) (job.is_enough x.reading) e
@@ -72,7 +72,7 @@ module _ (job : Job ReportValue) (stays : Stays job) (octets : List ℕ) (all : 
   gives : old.source.failures < 2 ^ 64 - 1 → new.source.failures ≡ old.source.failures
       → old.drain.failures < 2 ^ 64 - 1 → new.drain.failures ≡ old.drain.failures
       → (result : Result ReportValue DeviceFault) → Runs job old new result
-          → Gives (report_of (λ (of_input : ReportValue). of_input) result)
+          → GivesReport (report_of (λ (of_input : ReportValue). of_input) result)
   gives old_few quiet from_few took (Ok report) x = gives_ok report x
   gives old_few quiet from_few took (Err ReadFailed) x =
       absurd (goes_up old.source.failures old_few (sym x.failures ∙ quiet))
@@ -85,7 +85,7 @@ module _ (job : Job ReportValue) (stays : Stays job) (octets : List ℕ) (all : 
               ap length left.2, length-append (octets_given x.pieces) left.0))
 
 pub run_results : RunsAreResults
-unfolding Gives
+unfolding GivesReport
 run_results command names octets before after report input nowhere x =
     let job = command_job command names in
     let few : length octets ≤ job.limit =

@@ -26,13 +26,13 @@ use Rattle.tlv_run.specs.declared.command.Command.TheVariants.{Check, Dump, Extr
 
 -- ---- octets
 
-abbrev digit : ℕ → ℕ
-digit code = if nat_le code 57 then code - 48 else (code - 87)
+abbrev code_digit : ℕ → ℕ
+code_digit code = if nat_le code 57 then code - 48 else (code - 87)
 
 -- the octets of a text of pairs of hexadecimal digits, with a space between two of them
 abbrev octets_in : List ℕ → List ℕ
-octets_in (high ∷ low ∷ []) = (16 * digit high + digit low) ∷ []
-octets_in (high ∷ low ∷ space ∷ rest) = (16 * digit high + digit low) ∷ octets_in rest
+octets_in (high ∷ low ∷ []) = (16 * code_digit high + code_digit low) ∷ []
+octets_in (high ∷ low ∷ space ∷ rest) = (16 * code_digit high + code_digit low) ∷ octets_in rest
 octets_in codes = []
 
 abbrev pub octets : String → List ℕ
@@ -118,8 +118,8 @@ nameless rules limit pure framing =
     by_names rules limit pure framing finite.empty no_names (λ i text. finite.get-empty (slice_cmp nat_cmp) text i)
 
 -- the table of a names file with these entries
-abbrev pub names_in : List (List ℕ × List ℕ) → NamesTable
-names_in entries = finite.from_entries entries
+abbrev pub entries_table : List (List ℕ × List ℕ) → NamesTable
+entries_table entries = finite.from_entries entries
 
 abbrev name_in : List (List ℕ × List ℕ) → NameOf
 name_in entries text = finite.find (slice_cmp nat_cmp) text entries
@@ -127,8 +127,8 @@ name_in entries text = finite.find (slice_cmp nat_cmp) text entries
 pub named : (entries : List (List ℕ × List ℕ)) (rules : Rules) (limit : Option ℕ) (pure : Bool) (framing : Framing)
     (octets : List ℕ)
     →
-    result_with (names_in entries) (dump rules limit pure framing) octets
+    result_with (entries_table entries) (dump rules limit pure framing) octets
         ≡ dumped_by rules limit pure framing (name_in entries) octets
 named entries rules limit pure framing =
-    by_names rules limit pure framing (names_in entries) (name_in entries)
+    by_names rules limit pure framing (entries_table entries) (name_in entries)
         (λ i text. finite.get-from_entries nat_list_cmp_total entries text i)

@@ -23,21 +23,21 @@ abbrev pub pads : List ℕ → List ℕ
 pads octets = flat_map (λ x. codes "pad\n") octets
 
 -- an offset as a space and its last four decimal digits
-abbrev pub place : ℕ → List ℕ
-place n = 32 ∷ digit (n / 1000 % 10) ∷ digit (n / 100 % 10) ∷ digit (n / 10 % 10) ∷ digit (n % 10) ∷ []
+abbrev pub offset_text : ℕ → List ℕ
+offset_text n = 32 ∷ digit (n / 1000 % 10) ∷ digit (n / 100 % 10) ∷ digit (n / 10 % 10) ∷ digit (n % 10) ∷ []
 
 -- the line of a header: a word, where the header is, and its octets
 abbrev pub header_line : List ℕ → HeaderValue → List ℕ
-header_line word h = word ++ place h.offset ++ pairs (octets_of h) ++ 10 ∷ []
+header_line word h = word ++ offset_text h.offset ++ pairs (octets_of h) ++ 10 ∷ []
 
 -- the line of the end of a constructed element, with the offset of its end-of-contents octets, if it has them
 abbrev pub test_close_line : Option ℕ → List ℕ
 test_close_line None = codes "close\n"
-test_close_line (Some offset) = codes "close" ++ place offset ++ 10 ∷ []
+test_close_line (Some offset) = codes "close" ++ offset_text offset ++ 10 ∷ []
 
--- an element ends: n is how many ends are to come up to the one that is enough, or 0 if none is
-abbrev pub ends : ℕ → List ℕ → Effect ℕ
-ends n octets = record { state = n - 1; put = octets; goes = if n == 1 then Enough else On }
+-- an element end: n is how many end are to come up to the one that is enough, or 0 if none is
+abbrev pub end : ℕ → List ℕ → Effect ℕ
+end n octets = record { state = n - 1; put = octets; goes = if n == 1 then Enough else On }
 
 -- an event
 abbrev pub test_step : ℕ → EventValue → Effect ℕ
@@ -47,6 +47,6 @@ test_step n (Enter h) = effect_with n (header_line (codes "enter") h)
 test_step n (Bytes octets) = effect_with n (pairs octets)
 test_step n (Pad octets) = effect_with n (pads octets)
 test_step n Unused = effect_with n (codes "unused\n")
-test_step n End = ends n (codes " end\n")
-test_step n Leave = ends n (codes "leave\n")
-test_step n (Close at) = ends n (test_close_line at)
+test_step n End = end n (codes " end\n")
+test_step n Leave = end n (codes "leave\n")
+test_step n (Close at) = end n (test_close_line at)

@@ -15,8 +15,8 @@ use Rattle.tlv_value.specs.Times.{canonical_generalized_time_form, canonical_utc
 use Rattle.tlv_value.specs.Times.{has_form, utc_time_form}
 use Rattle.tlv_value.specs.Value.{used_digits}
 
-enumerated : kind_of Universal 10 ≡ Integer
-enumerated = refl
+enumerated-kind : kind_of Universal 10 ≡ Integer
+enumerated-kind = refl
 
 tagged : kind_of Context 2 ≡ Octets
 tagged = refl

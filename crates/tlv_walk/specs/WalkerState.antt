@@ -34,11 +34,11 @@ new_walker framing = record {
   wrapper_count = 0;
 }
 
--- a header's octets so far are before the offset
+-- a header's octets so far end at the offset
 pub record IsInHeader (r : HeadReaderState) (offset : ℕ) : Type 0 where
   pub unfinished : r.done ≡ false
   pub some : r.octets ≢ []
-  pub place : r.offset + length r.octets ≡ offset
+  pub end : r.offset + length r.octets ≡ offset
 
 -- by phase: an open element, a header that has begun and a first 00 without the second have octets that no event was
 -- yielded for

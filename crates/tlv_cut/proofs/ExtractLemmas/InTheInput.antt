@@ -25,9 +25,9 @@ front_of_rest : (f rest : Forest) (o : List ℕ) → spelling f ≡ o ++ spellin
     → octets_so_far f ≡ o ++ octets_so_far rest
     → is_whole f ≡ is_whole rest → IsFrontOf rest → IsFrontOf f
 front_of_rest f rest o all keeps whole r = record {
-  rest = r.rest;
-  octets = all ∙ ap (λ (l : List ℕ). o ++ l) r.octets ∙ sym (append_assoc o (octets_so_far rest) r.rest)
-      ∙ ap (λ (l : List ℕ). l ++ r.rest) (sym keeps);
+  rest = r.after;
+  octets = all ∙ ap (λ (l : List ℕ). o ++ l) r.octets ∙ sym (append_assoc o (octets_so_far rest) r.after)
+      ∙ ap (λ (l : List ℕ). l ++ r.after) (sym keeps);
   all = λ w. all ∙ ap (λ (l : List ℕ). o ++ l) (r.all (sym whole ∙ w)) ∙ sym keeps;
 }
 
@@ -66,10 +66,10 @@ module _ (n : ℕ) where
 
   -- an element of a forest, at the offset n: its octets, and its header, contents and end-of-contents octets
   pub record IsFoundIn (p : Place) (f e : Forest) : Type 0 where
-    pub front : List ℕ
-    pub rest : List ℕ
-    pub octets : spelling f ≡ front ++ (octets_so_far e ++ rest)
-    pub place : p.offset + length front ≡ n
+    pub before : List ℕ
+    pub after : List ℕ
+    pub octets : spelling f ≡ before ++ (octets_so_far e ++ after)
+    pub begins : p.offset + length before ≡ n
     pub header : HeaderValue
     pub valid : IsHeader header
     pub offset : header.offset ≡ n
@@ -82,10 +82,10 @@ module _ (n : ℕ) where
       → octets_so_far e ≡ octets_of h ++ (contents_so_far e ++ (if is_whole e then end_octets h.size else []))
       → IsFoundIn p f e
   first p k h f e rest at is octets parts = record {
-    front = [];
-    rest = rest;
+    before = [];
+    after = rest;
     octets = octets;
-    place = omega (arith, at.offset, eqb-true h.offset n is);
+    begins = omega (arith, at.offset, eqb-true h.offset n is);
     header = h;
     valid = at.valid;
     offset = eqb-true h.offset n is;
@@ -97,13 +97,13 @@ module _ (n : ℕ) where
       → q.offset ≡ p.offset + length o
       → IsFoundIn q g e → IsFoundIn p f e
   further p q f g e o t all at r = record {
-    front = o ++ r.front;
-    rest = r.rest ++ t;
+    before = o ++ r.before;
+    after = r.after ++ t;
     octets =
         all ∙ ap (λ (l : List ℕ). o ++ (l ++ t)) r.octets
-        ∙ ap (λ (l : List ℕ). o ++ l) (append_assoc-3 r.front (octets_so_far e) r.rest t)
-        ∙ sym (append_assoc o r.front (octets_so_far e ++ (r.rest ++ t)));
-    place = omega (arith, at, r.place, length-append o r.front);
+        ∙ ap (λ (l : List ℕ). o ++ l) (append_assoc-3 r.before (octets_so_far e) r.after t)
+        ∙ sym (append_assoc o r.before (octets_so_far e ++ (r.after ++ t)));
+    begins = omega (arith, at, r.begins, length-append o r.before);
     header = r.header;
     valid = r.valid;
     offset = r.offset;

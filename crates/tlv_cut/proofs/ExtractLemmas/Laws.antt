@@ -31,13 +31,13 @@ extract_text_is_in_the_input framing b f r n some =
     let written : extract_text n false f ≡ octets_so_far there.0 =
     ap (λ (o : Option Forest). option_map_or octets_so_far o []) there.1 in
     record {
-      front = e.front;
-      rest = e.rest ++ r.is_prefix.0;
+      before = e.before;
+      after = e.after ++ r.is_prefix.0;
       octets =
-          ap (λ (l : List ℕ). e.front ++ (l ++ (e.rest ++ r.is_prefix.0))) written
-          ∙ sym (append_assoc-3 e.front (octets_so_far there.0) e.rest r.is_prefix.0)
+          ap (λ (l : List ℕ). e.before ++ (l ++ (e.after ++ r.is_prefix.0))) written
+          ∙ sym (append_assoc-3 e.before (octets_so_far there.0) e.after r.is_prefix.0)
           ∙ ap (λ (l : List ℕ). l ++ r.is_prefix.0) (sym e.octets) ∙ r.is_prefix.1;
-      place = omega (arith, e.place);
+      begins = omega (arith, e.begins);
       header = e.header;
       valid = e.valid;
       offset = e.offset;

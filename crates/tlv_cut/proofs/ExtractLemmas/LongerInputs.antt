@@ -104,38 +104,38 @@ module _ (framing : Framing) (b c : List ℕ) (f g : Forest) (r : IsReading fram
       (λ s x y. refl) (λ s. refl) (λ s x. refl)
       (new_extract n only) (events g) (events f ++ others.0) others.1
 
-  short_text : IsTextOf n only (element_at n f) (made_from (new_extract n only) (events f))
-  short_text = makes_text n only (top_place framing) f r.is_open (omega arith)
+  shorter_text : IsTextOf n only (element_at n f) (made_from (new_extract n only) (events f))
+  shorter_text = makes_text n only (top_place framing) f r.is_open (omega arith)
 
-  long_text : IsTextOf n only (element_at n g) (made_from (new_extract n only) (events g))
-  long_text = makes_text n only (top_place framing) g s.is_open (omega arith)
+  longer_text : IsTextOf n only (element_at n g) (made_from (new_extract n only) (events g))
+  longer_text = makes_text n only (top_place framing) g s.is_open (omega arith)
 
   pub extract_text_goes_on : IsPrefixOf (extract_text n only f) (extract_text n only g)
   extract_text_goes_on =
       let front = followed-front extract_step (new_extract n only) (events f) others.0 in (
         front.0,
-        sym (sym long_text.put ∙ ap (λ (t : Effect ExtractState). t.put) longer ∙ front.1
-            ∙ ap (λ (l : List ℕ). l ++ front.0) short_text.put),
+        sym (sym longer_text.put ∙ ap (λ (t : Effect ExtractState). t.put) longer ∙ front.1
+            ∙ ap (λ (l : List ℕ). l ++ front.0) shorter_text.put),
       )
 
   pub found_elements_stay : has_element_at n f ≡ true → has_element_at n g ≡ true
   found_elements_stay e =
-      sym long_text.found ∙ ap (λ (t : Effect ExtractState). has_found t.state) longer
-      ∙ made_from-found_more (new_extract n only) (events f) others.0 (short_text.found ∙ e)
+      sym longer_text.found ∙ ap (λ (t : Effect ExtractState). has_found t.state) longer
+      ∙ made_from-found_more (new_extract n only) (events f) others.0 (shorter_text.found ∙ e)
 
   same : has_whole_element_at n f ≡ true
       → made_from (new_extract n only) (events g) ≡ made_from (new_extract n only) (events f)
   same e = longer
-      ∙ followed-enough extract_step (new_extract n only) (events f) others.0 (short_text.goes ∙ ap go_of e)
+      ∙ followed-enough extract_step (new_extract n only) (events f) others.0 (shorter_text.goes ∙ ap go_of e)
 
   pub same_extract_text : has_whole_element_at n f ≡ true → extract_text n only g ≡ extract_text n only f
-  same_extract_text e = sym long_text.put ∙ ap (λ (t : Effect ExtractState). t.put) (same e) ∙ short_text.put
+  same_extract_text e = sym longer_text.put ∙ ap (λ (t : Effect ExtractState). t.put) (same e) ∙ shorter_text.put
 
   pub same_found : has_whole_element_at n f ≡ true → has_element_at n g ≡ has_element_at n f
   same_found e =
-      sym long_text.found ∙ ap (λ (t : Effect ExtractState). has_found t.state) (same e) ∙ short_text.found
+      sym longer_text.found ∙ ap (λ (t : Effect ExtractState). has_found t.state) (same e) ∙ shorter_text.found
 
   pub same_whole : has_whole_element_at n f ≡ true → has_whole_element_at n g ≡ has_whole_element_at n f
   same_whole e =
       goes_alike (has_whole_element_at n g) (has_whole_element_at n f)
-      (sym long_text.goes ∙ ap (λ (t : Effect ExtractState). t.goes) (same e) ∙ short_text.goes)
+      (sym longer_text.goes ∙ ap (λ (t : Effect ExtractState). t.goes) (same e) ∙ shorter_text.goes)

@@ -148,13 +148,13 @@ stuck-none at s o e m n h (x ∷ more) v f =
         (rw (scan_from-append at Fresh o (x ∷ more), e) at ready)
 
 -- one more octet makes a prefix of a header, or a header, or begins none
-pub data Next (o : List ℕ) (x : ℕ) : Type 0 where
-  continues : IsHeaderPrefix (o ++ x ∷ []) → Next o x
-  completes : (h : HeaderValue) → IsHeader h → octets_of h ≡ o ++ x ∷ [] → Next o x
-  refuses : (code : FaultCode) → IsHeadRefusal code o x → CannotBecomeHeader (o ++ x ∷ []) → Next o x
+pub data AfterOctet (o : List ℕ) (x : ℕ) : Type 0 where
+  continues : IsHeaderPrefix (o ++ x ∷ []) → AfterOctet o x
+  completes : (h : HeaderValue) → IsHeader h → octets_of h ≡ o ++ x ∷ [] → AfterOctet o x
+  refuses : (code : FaultCode) → IsHeadRefusal code o x → CannotBecomeHeader (o ++ x ∷ []) → AfterOctet o x
 
 next-from : (o : List ℕ) (x : ℕ) (s : Scan) → scan start (o ++ x ∷ []) ≡ s → IsStateAfter start s (o ++ x ∷ [])
-    → Explains s o x → Next o x
+    → Explains s o x → AfterOctet o x
 next-from o x Fresh e r w = absurd (omega (arith, ap length r, length-append o (x ∷ [])))
 next-from o x (High c k ds) e r w =
     continues
@@ -171,12 +171,12 @@ next-from o x (Stuck code) e r w = refuses code w (stuck-none start (Stuck code)
 next-from o x Over e r w = absurd w
 
 next-more : (o : List ℕ) (x : ℕ) → x < 256 → is_more (scan start o) ≡ true → IsStateAfter start (scan start o) o
-    → Next o x
+    → AfterOctet o x
 next-more o x h m r =
     next-from o x (step start (scan start o) x) (scan_from-append start Fresh o (x ∷ []))
         (reads-step start x (scan start o) o h r) (explains start x (scan start o) o m r)
 
-pub next : (o : List ℕ) (x : ℕ) → x < 256 → (o ≡ []) ⊎ IsHeaderPrefix o → Next o x
+pub next : (o : List ℕ) (x : ℕ) → x < 256 → (o ≡ []) ⊎ IsHeaderPrefix o → AfterOctet o x
 next o x h (inl e) = rw e (next-more [] x h refl refl)
 next o x h (inr f) = next-more o x h (more-from_prefix start o f) (reads-scan start o (prefix-bytes o f))
 
@@ -186,7 +186,7 @@ refused-octet StrayEnd o x first r = absurd (first r.0 r.1)
 refused-octet code o x first r = r
 
 -- a first octet other than 00 is refused for the octets alone
-pub classified : (o : List ℕ) (x : ℕ) → (o ≡ [] → x ≢ 0) → Next o x
+pub classified : (o : List ℕ) (x : ℕ) → (o ≡ [] → x ≢ 0) → AfterOctet o x
     → IsHeaderPrefix (o ++ x ∷ []) ⊎ (AreHeaderOctets (o ++ x ∷ []) ⊎ IsRefusable o x)
 classified o x first (continues f) = inl f
 classified o x first (completes h v e) = inr (inl (h, v, e))

@@ -29,7 +29,7 @@ one-reading octets offset named f g m n p q =
     let k : HeaderValue = new_header g (take n octets) in
     let origin : origin_of h ≡ origin_of k =
     (λ i. record {
-      offset = (p.begins.place ∙ sym q.begins.place) i;
+      offset = (p.begins.offset ∙ sym q.begins.offset) i;
       named = (p.begins.named ∙ sym q.begins.named) i;
     }) in
     let same : h ≡ k =

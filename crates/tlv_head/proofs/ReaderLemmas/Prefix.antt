@@ -108,7 +108,7 @@ made_begins os rest offset named id size m =
         lengths = m.sized;
         allowed = m.allowed;
       });
-      place = refl;
+      offset = refl;
       named = refl;
       rest = rest;
       octets = rw (prefix, back, m.octets_are) refl;

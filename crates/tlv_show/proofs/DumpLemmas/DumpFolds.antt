@@ -19,7 +19,7 @@ use Rattle.tlv_show.specs.Texts.{finding_count}
 use Rattle.tlv_show.proofs.FindingLemmas.CheckFolds.{count-run}
 use Rattle.tlv_show.proofs.DumpLemmas.DumpShown.{shows_forest}
 use Rattle.tlv_show.proofs.DumpLemmas.DumpSteps.{all_on, each-filled, each-shown, one_on}
-use Rattle.tlv_show.proofs.FindingLemmas.FinderItems.{run}
+use Rattle.tlv_show.proofs.FindingLemmas.FinderItems.{run_finder}
 use Rattle.tlv_show.proofs.DumpLemmas.Shows.{Shower}
 
 -- the finder of a dump goes by the events alone
@@ -34,12 +34,12 @@ finder-by s Unused = refl
 finder-by s Leave = refl
 finder-by s (Pad octets) = ap (λ (t : Effect DumpState). t.state.finder) (each-filled s octets)
 
-finder-run : (s : DumpState) (es : List EventValue) → (effect_of dump_step s es).state.finder ≡ (run s.finder es).state
+finder-run : (s : DumpState) (es : List EventValue) → (effect_of dump_step s es).state.finder ≡ (run_finder s.finder es).state
 finder-run s [] = refl
 finder-run s (e ∷ es) =
     ap (λ (g : Go). (if_on g (dump_step s e) (λ u. effect_of dump_step u es)).state.finder) (one_on s e)
     ∙ finder-run (dump_step s e).state es
-    ∙ ap (λ (u : FinderState). (run u es).state) (finder-by s e)
+    ∙ ap (λ (u : FinderState). (run_finder u es).state) (finder-by s e)
 
 module _ (options : Options) (names : NamesTable) (octets : List ℕ) (f : Forest) (short : length octets ≤ 2 ^ 40)
     (r : IsReading options.framing octets f) where

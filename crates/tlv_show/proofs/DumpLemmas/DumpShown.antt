@@ -37,7 +37,7 @@ use Rattle.tlv_show.specs.Lines.{closing_line, opening_line, padding_line, openi
 use Rattle.tlv_show.proofs.DumpLemmas.HolderLine.{holder_line}
 use Rattle.tlv_show.specs.Site.{Previous, Padding, Sibling, Site, Start, is_padding, site_of_children}
 use Rattle.tlv_show.proofs.FindingLemmas.SitesAfter.{site_after, site_after_holder, site_after_padding}
-use Rattle.tlv_show.proofs.FindingLemmas.SiteWords.{first_octet}
+use Rattle.tlv_show.proofs.FindingLemmas.SiteWords.{first_contents_octet}
 use Rattle.tlv_show.specs.Texts.{item_text}
 use Rattle.tlv_show.proofs.DumpLemmas.DumpSteps.{all_on}
 use Rattle.tlv_show.proofs.DumpLemmas.DumpTexts.{at_level, closer_shown, fill_shown, holder_shown, no_padding}
@@ -47,7 +47,7 @@ use Rattle.tlv_show.proofs.FindingLemmas.FramesAround.{knows-after, knows-inside
 use Rattle.tlv_show.proofs.FindingLemmas.FinderItems.{after_contents, after_end, later_header, after_primitive}
 use Rattle.tlv_show.proofs.FindingLemmas.FinderItems.{closed-find, opened-find, primitive-find, check_between}
 use Rattle.tlv_show.proofs.FindingLemmas.HeaderFindings.{Knows, header-same}
-use Rattle.tlv_show.proofs.DumpLemmas.DumpEvents.{pair, then_shown, texts, opens-by, closes-by, primitive-by, part-by}
+use Rattle.tlv_show.proofs.DumpLemmas.DumpEvents.{dump_state, then_shown, texts, opens-by, closes-by, primitive-by, part-by}
 use Rattle.tlv_show.specs.Conditions.{surroundings_of, segments_of}
 
 -- ---- elements, in this style, with these names and rules
@@ -55,40 +55,40 @@ module _ (style : Layout) (names : NamesTable) (rules : Rules) where
   abbrev item : Item → List ℕ
   item i = item_text (finite.get names) style i
 
-  abbrev texts_of : List Item → List ℕ
-  texts_of l = flat_map item l
+  abbrev item_texts : List Item → List ℕ
+  item_texts l = flat_map item l
 
   abbrev site : Place → Option HeaderValue → Previous → Site
   site p holder previous = record { offset = p.offset; level = p.depth; holder = holder; previous = previous }
 
   lines_of : (level offset : ℕ) (fs : List Finding)
-      → styled_lines (Dump style.pure) level offset fs ≡ texts_of (findings_at level offset fs)
+      → styled_lines (Dump style.pure) level offset fs ≡ item_texts (findings_at level offset fs)
   lines_of level offset [] = refl
   lines_of level offset (f ∷ fs) = ap (λ (l : List ℕ). item (FindingAt level offset f) ++ l) (lines_of level offset fs)
 
-  split : (xs ys : List Item) → texts_of (xs ++ ys) ≡ texts_of xs ++ texts_of ys
+  split : (xs ys : List Item) → item_texts (xs ++ ys) ≡ item_texts xs ++ item_texts ys
   split xs ys = flat_map-append item xs ys
 
   -- findings, and then other lines
   found-first : (n level offset : ℕ) (gs fs : List Finding) (more : List ℕ) (rest : List Item) → n ≡ level → gs ≡ fs
-      → more ≡ texts_of rest
-      → styled_lines (Dump style.pure) n offset gs ++ more ≡ texts_of (findings_at level offset fs ++ rest)
+      → more ≡ item_texts rest
+      → styled_lines (Dump style.pure) n offset gs ++ more ≡ item_texts (findings_at level offset fs ++ rest)
   found-first n level offset gs fs more rest e f g =
       ap₂ (λ (k : ℕ) (hs : List Finding). styled_lines (Dump style.pure) k offset hs ++ more) e f
       ∙ ap₂ (λ (a b : List ℕ). a ++ b) (lines_of level offset fs) g
       ∙ sym (split (findings_at level offset fs) rest)
 
   abbrev start : Place → Bool → SiblingFrame → List SiblingFrame → ℕ → DumpState
-  start p padded w outer n = pair (lines_between style names p.depth p.offset padded) (check_between rules w outer n)
+  start p padded w outer n = dump_state (lines_between style names p.depth p.offset padded) (check_between rules w outer n)
 
   pub record IsShown (p : Place) (holder : Option HeaderValue) (previous : Previous) (w : SiblingFrame)
       (outer : List SiblingFrame) (f : Forest) : Type 0 where
     pub text : (n : ℕ)
         → (effect_of dump_step (start p (is_padding previous) w outer n) (events f)).put
-            ≡ texts_of (items rules (site p holder previous) f)
+            ≡ item_texts (items rules (site p holder previous) f)
     pub after : (n : ℕ) → is_whole f ≡ true → (m : ℕ)
         × ((effect_of dump_step (start p (is_padding previous) w outer n) (events f)).state
-        ≡ pair
+        ≡ dump_state
             (lines_between style names p.depth (p.offset + length (spelling f))
                 (later_padded style names (is_padding previous) f))
             (check_between rules (noted_all w f) outer m))
@@ -102,7 +102,7 @@ module _ (style : Layout) (names : NamesTable) (rules : Rules) where
           → IsShown q holder previous v outer rest
       → effect_of dump_step (start p padded w outer n) (es ++ events rest)
       ≡ record (effect_of dump_step (start q (is_padding previous) v outer m) (events rest))
-          { put = put ++ texts_of (items rules (site q holder previous) rest) }
+          { put = put ++ item_texts (items rules (site q holder previous) rest) }
   shown-after p q padded w outer n m v holder previous es put rest d e t =
       then_shown (start p padded w outer n) (start q (is_padding previous) v outer m) put es (events rest) e
       ∙ ap (λ (l : List ℕ). record (effect_of dump_step (start q (is_padding previous) v outer m) (events rest))
@@ -125,7 +125,7 @@ module _ (style : Layout) (names : NamesTable) (rules : Rules) where
   opened-shown p holder previous w outer n h k there low far =
       opens-by (lines_between style names p.depth p.offset (is_padding previous)) (check_between rules w outer n) h
           h.constructed (h.number == 3)
-      ∙ ap₂ (λ (d : Effect LinesState) (f : FinderReport). effect_with (pair d.state f.state) (texts style f ++ d.put))
+      ∙ ap₂ (λ (d : Effect LinesState) (f : FinderReport). effect_with (dump_state d.state f.state) (texts style f ++ d.put))
       (holder_shown style names p.depth p.offset (is_padding previous) h there (omega (arith, low)) far)
       (opened-find rules w outer n h (omega (arith, k.1, low)))
 
@@ -144,7 +144,7 @@ module _ (style : Layout) (names : NamesTable) (rules : Rules) where
   primitive-shown p padded w outer n h c there size far =
       primitive-by (lines_between style names p.depth p.offset padded) (check_between rules w outer n) h c
       ∙ ap₂
-          (λ (d : Effect LinesState) (f : FinderReport). effect_with (pair d.state f.state)
+          (λ (d : Effect LinesState) (f : FinderReport). effect_with (dump_state d.state f.state)
               (styled_lines (Dump style.pure) (length outer) h.offset (header_findings rules (surroundings_in w) h)
                   ++ (d.put ++ texts style f)))
       (primitive_shown style names p.depth p.offset padded h c there size far)
@@ -159,7 +159,7 @@ module _ (style : Layout) (names : NamesTable) (rules : Rules) where
     after =
         λ n
             e. (n,
-                ap (λ (offset : ℕ). pair (lines_between style names p.depth offset (is_padding previous))
+                ap (λ (offset : ℕ). dump_state (lines_between style names p.depth offset (is_padding previous))
                     (check_between rules w outer n))
                     (omega arith));
   }
@@ -172,7 +172,7 @@ module _ (style : Layout) (names : NamesTable) (rules : Rules) where
           → effect_of dump_step (start p (is_padding previous) w outer n) (Pad (0 ∷ []) ∷ [])
               ≡ effect_with (start (place_after p 1) true w outer n)
                   (if is_padding previous then [] else padding_line (at_level style names p.depth) p.offset) =
-      λ n. ap (λ (d : Effect LinesState). effect_with (pair d.state (check_between rules w outer n)) d.put)
+      λ n. ap (λ (d : Effect LinesState). effect_with (dump_state d.state (check_between rules w outer n)) d.put)
           (fill_shown style names p.depth p.offset (is_padding previous) (omega (arith, b))) in
       let all =
           λ (n : ℕ). shown-after p (place_after p 1) (is_padding previous) w outer n n w holder Padding
@@ -187,15 +187,15 @@ module _ (style : Layout) (names : NamesTable) (rules : Rules) where
             let r = t.after n e in
             (r.0,
                 ap (λ (x : Effect DumpState). x.state) (all n) ∙ r.1
-                    ∙ ap (λ (offset : ℕ). pair
+                    ∙ ap (λ (offset : ℕ). dump_state
                         (lines_between style names p.depth offset (later_padded style names true rest))
                         (check_between rules (noted_all w rest) outer r.0))
                         (omega arith));
       }
     where
       pads : (k : Bool) (level offset : ℕ) (l : List Item)
-          → (if k then [] else padding_line (at_level style names level) offset) ++ texts_of l
-              ≡ texts_of ((if k then [] else PaddingLine level offset ∷ []) ++ l)
+          → (if k then [] else padding_line (at_level style names level) offset) ++ item_texts l
+              ≡ item_texts ((if k then [] else PaddingLine level offset ∷ []) ++ l)
       pads true level offset l = refl
       pads false level offset l = refl
   shows_forest p holder previous w outer (Primitive h c rest) v b k =
@@ -206,13 +206,13 @@ module _ (style : Layout) (names : NamesTable) (rules : Rules) where
       let u : Bool = has_unused_bits (value_check_after (new_value_check h) c) in
       let known : Knows (after_primitive rules w h c) (site_after s h c) =
       subst (λ (x : Bool). Knows (frame_after w x (announced_length h.size) u) (site_after s h c)) (ap not form)
-          (knows-after w s (site_after s h c) h (first_octet c) u k.0 refl refl (unused-of h c form)) in
+          (knows-after w s (site_after s h c) h (first_contents_octet c) u k.0 refl refl (unused-of h c form)) in
       let t =
-          shows_forest q holder (Sibling h (first_octet c)) (after_primitive rules w h c) outer rest v.1
+          shows_forest q holder (Sibling h (first_contents_octet c)) (after_primitive rules w h c) outer rest v.1
               (omega (arith, b, length-primitive h c rest)) (known, k.1, k.2) in
       let all =
           λ (n : ℕ). shown-after p q (is_padding previous) w outer n (after_contents rules w h c n)
-              (after_primitive rules w h c) holder (Sibling h (first_octet c)) (Begin h ∷ Bytes c ∷ End ∷ []) _ rest
+              (after_primitive rules w h c) holder (Sibling h (first_contents_octet c)) (Begin h ∷ Bytes c ∷ End ∷ []) _ rest
               refl
       (primitive-shown p (is_padding previous) w outer n h c v.0.0.header.offset size
           (omega (arith, b, length-primitive h c rest)))
@@ -225,19 +225,19 @@ module _ (style : Layout) (names : NamesTable) (rules : Rules) where
                 (styled_lines (Dump style.pure) (length outer) h.offset (header_findings rules (surroundings_in w) h))
                 (whole_lines (finite.get names) h (at_level style names p.depth) c)
                 (styled_lines (Dump style.pure) (length outer) h.offset (contents_findings rules h c))
-                (texts_of others)
+                (item_texts others)
             ∙ found-first (length outer) p.depth h.offset (header_findings rules (surroundings_in w) h)
                 (header_findings rules (surroundings_of s) h)
                 _ (PrimitiveLines p.depth h c ∷ (findings_at p.depth h.offset (contents_findings rules h c) ++ others))
                 k.1 (header-same rules w s h k.0)
             (ap (λ (l : List ℕ). whole_lines (finite.get names) h (at_level style names p.depth) c ++ l)
                 (found-first (length outer) p.depth h.offset (contents_findings rules h c)
-                    (contents_findings rules h c) (texts_of others) others k.1 refl refl));
+                    (contents_findings rules h c) (item_texts others) others k.1 refl refl));
         after = λ n e.
             let r = t.after (after_contents rules w h c n) e in (
               r.0,
               ap (λ (x : Effect DumpState). x.state) (all n) ∙ r.1
-                  ∙ ap (λ (offset : ℕ). pair
+                  ∙ ap (λ (offset : ℕ). dump_state
                       (lines_between style names p.depth offset (later_padded style names false rest))
                       (check_between rules (noted_all (after_primitive rules w h c) rest) outer r.0))
                       (omega (arith, length-primitive h c rest)),
@@ -267,10 +267,10 @@ module _ (style : Layout) (names : NamesTable) (rules : Rules) where
       let last : List ℕ =
           styled_lines (Dump style.pure) (length outer) h.offset
               (end_findings rules (segments_of h (headers inside))) in
-      let held : List ℕ = texts_of (items rules (site_of_children s h) inside) in
+      let held : List ℕ = item_texts (items rules (site_of_children s h) inside) in
       let closes-shown : (m : ℕ)
           → effect_of dump_step
-              (pair (lines_between style names (p.depth + 1) end false)
+              (dump_state (lines_between style names (p.depth + 1) end false)
                   (check_between rules (noted_all (frame_under w h) inside) (w ∷ outer) m))
               (closing_event h inside ∷ [])
       ≡ effect_with
@@ -281,18 +281,18 @@ module _ (style : Layout) (names : NamesTable) (rules : Rules) where
       closes-by (lines_between style names (p.depth + 1) end false)
           (check_between rules (noted_all (frame_under w h) inside) (w ∷ outer) m)
           (end_offset h.size (h.offset + length (opening h) + length (spelling inside))) h.constructed
-      ∙ ap₂ (λ (d : Effect LinesState) (f : FinderReport). effect_with (pair d.state f.state) (d.put ++ texts style f))
+      ∙ ap₂ (λ (d : Effect LinesState) (f : FinderReport). effect_with (dump_state d.state f.state) (d.put ++ texts style f))
       (closer_shown style names p.depth end h inside (omega (arith, v.0.0.header.offset)) v.0.0.header.valid.allowed
           (omega (arith, b, size)))
       (closed-find rules i_place w outer m h inside v.1 v.0.1)
       ∙ ap (λ (l : List ℕ). effect_with
-          (pair (lines_between style names p.depth (end + length (end_octets h.size)) false)
+          (dump_state (lines_between style names p.depth (end + length (end_octets h.size)) false)
               (check_between rules (frame_after w (is_primitive h) (announced_length h.size) false) outer
                   (after_end rules h inside m)))
           (close ++ l))
       (offset-under rules i_place w h inside v.1 v.0.1 (styled_lines (Dump style.pure) (length outer)) (λ offset. refl))
       ∙ ap (λ (offset : ℕ). effect_with
-          (pair (lines_between style names p.depth offset false)
+          (dump_state (lines_between style names p.depth offset false)
               (check_between rules (frame_after w (is_primitive h) (announced_length h.size) false) outer
                   (after_end rules h inside m)))
           (close ++ last))
@@ -300,7 +300,7 @@ module _ (style : Layout) (names : NamesTable) (rules : Rules) where
       let held-shown : (m : ℕ)
           → (r : ℕ) × (effect_of dump_step (start i_place false (frame_under w h) (w ∷ outer) m) (events inside)
       ≡ effect_with
-          (pair (lines_between style names (p.depth + 1) end false)
+          (dump_state (lines_between style names (p.depth + 1) end false)
               (check_between rules (noted_all (frame_under w h) inside) (w ∷ outer) r))
           held) =
       λ m.
@@ -308,7 +308,7 @@ module _ (style : Layout) (names : NamesTable) (rules : Rules) where
         r.0,
         as_shows (start i_place false (frame_under w h) (w ∷ outer) m) _ (events inside) held
             (r.1
-                ∙ ap (λ (x : Bool). pair (lines_between style names (p.depth + 1) end x)
+                ∙ ap (λ (x : Bool). dump_state (lines_between style names (p.depth + 1) end x)
                     (check_between rules (noted_all (frame_under w h) inside) (w ∷ outer) r.0))
                     (no_padding style names i_place inside refl v.1))
                 (i.text m),
@@ -329,7 +329,7 @@ module _ (style : Layout) (names : NamesTable) (rules : Rules) where
                 (omega (arith, b, size)))
             ∙ ap (λ (x : Effect DumpState). record x { put = (first ++ line) ++ x.put })
             (then_shown (start i_place false (frame_under w h) (w ∷ outer) a)
-                (pair (lines_between style names (p.depth + 1) end false)
+                (dump_state (lines_between style names (p.depth + 1) end false)
                     (check_between rules (noted_all (frame_under w h) inside) (w ∷ outer) r.0))
                 held (events inside) (closing_event h inside ∷ []) r.1
             ∙ ap (λ (x : Effect DumpState). record x { put = held ++ x.put }) (closes-shown r.0)),
@@ -351,7 +351,7 @@ module _ (style : Layout) (names : NamesTable) (rules : Rules) where
       record {
         text = λ n.
             ap (λ (x : Effect DumpState). x.put) (all n)
-            ∙ six first line held close last (texts_of others)
+            ∙ six first line held close last (item_texts others)
             ∙ found-first (length outer) p.depth h.offset (header_findings rules (surroundings_in w) h)
                 (header_findings rules (surroundings_of s) h)
                 _ (OpeningLine p.depth h ∷ (items rules (site_of_children s h) inside ++ closing)) k.1
@@ -359,13 +359,13 @@ module _ (style : Layout) (names : NamesTable) (rules : Rules) where
             (ap (λ (l : List ℕ). line ++ l)
             (ap (λ (l : List ℕ). held ++ (close ++ l))
                 (found-first (length outer) p.depth h.offset (end_findings rules (segments_of h (headers inside)))
-                    (end_findings rules (segments_of h (headers inside))) (texts_of others) others k.1 refl refl)
+                    (end_findings rules (segments_of h (headers inside))) (item_texts others) others k.1 refl refl)
             ∙ sym (split (items rules (site_of_children s h) inside) closing)));
         after = λ n e.
             let r = t.after (element n).0 e in (
               r.0,
               ap (λ (x : Effect DumpState). x.state) (all n) ∙ r.1
-                  ∙ ap (λ (offset : ℕ). pair
+                  ∙ ap (λ (offset : ℕ). dump_state
                       (lines_between style names p.depth offset (later_padded style names false rest))
                       (check_between rules
                           (noted_all (frame_after w (is_primitive h) (announced_length h.size) false) rest) outer
@@ -412,7 +412,7 @@ module _ (style : Layout) (names : NamesTable) (rules : Rules) where
             (opened-shown p holder previous w outer n h k v.0.0.header.offset (v.0.0.shallow refl)
                 (omega (arith, b, size))))
             ∙ ap (λ (l : List ℕ). (first ++ line) ++ l) (i.text (later_header rules w h n))
-            ∙ append_assoc first line (texts_of (items rules (site_of_children s h) inside))
+            ∙ append_assoc first line (item_texts (items rules (site_of_children s h) inside))
             ∙ found-first (length outer) p.depth h.offset (header_findings rules (surroundings_in w) h)
                 (header_findings rules (surroundings_of s) h)
                 _ (OpeningLine p.depth h ∷ items rules (site_of_children s h) inside) k.1

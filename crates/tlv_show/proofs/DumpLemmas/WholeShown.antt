@@ -21,14 +21,14 @@ use Rattle.tlv_show.specs.Private.LinesStep.{lines_after_primitive}
 use Rattle.tlv_show.specs.DumpStep.{DumpState, dump_step}
 use Rattle.tlv_show.specs.FinderState.{FinderState, FinderReport, finder_begin_step}
 use Rattle.tlv_show.specs.Private.FinderState.{PassesOrStays, PassesPrimitive, finder_whole_step}
-use Rattle.tlv_show.proofs.DumpLemmas.DumpEvents.{pair, primitive-by, texts}
+use Rattle.tlv_show.proofs.DumpLemmas.DumpEvents.{dump_state, primitive-by, texts}
 use Rattle.tlv_show.proofs.DumpLemmas.DumpTexts.{primitives_shown}
 
 abbrev pub lines_of : DumpState → HeaderValue → List ℕ → List ℕ
 lines_of s h c = whole_lines (finite.get s.lines.names) h s.lines.layout c
 
 abbrev pub after_whole : DumpState → HeaderValue → List ℕ → DumpState
-after_whole s h c = pair (lines_after_primitive s.lines h c) (finder_whole_step s.finder h c).state
+after_whole s h c = dump_state (lines_after_primitive s.lines h c) (finder_whole_step s.finder h c).state
 
 pub whole_is : (s : DumpState) (h : HeaderValue) (c : List ℕ) → announced_length h.size ≡ length c
     → (finder_begin_step s.finder h).found ≡ [] → (finder_whole_step s.finder h c).found ≡ []
@@ -38,7 +38,7 @@ whole_is s h c size begins ends =
     let f : FinderReport = finder_whole_step s.finder h c in
     let style = Dump s.lines.layout.pure in
     primitive-by s.lines s.finder h c
-    ∙ ap (λ (d : Effect LinesState). effect_with (pair d.state f.state)
+    ∙ ap (λ (d : Effect LinesState). effect_with (dump_state d.state f.state)
         (texts s.lines.layout b ++ (d.put ++ texts s.lines.layout f)))
         (primitives_shown s.lines h c size)
     ∙ ap₂
@@ -71,10 +71,10 @@ module _ (s u : DumpState) (old new : FinderReport) (h : HeaderValue) (o c : Lis
       ap (λ (v : DumpState). effect_of dump_step v (whole_events h o)) (sym is)
       ∙ octets_are u h o c same (whole.contents ∙ ap length (sym same)) (rw finder p.begins) (rw finder p.ends)
 
-  pub stands_after : (l : LinesState) → l ≡ lines_after_primitive u.lines h c → pair l new.state ≡ after_whole u h c
+  pub stands_after : (l : LinesState) → l ≡ lines_after_primitive u.lines h c → dump_state l new.state ≡ after_whole u h c
   stands_after l e =
       let p = took old new h c x on passes in
-      ap₂ pair e
+      ap₂ dump_state e
           (ap (λ (f : FinderReport). f.state) p.state
               ∙ ap (λ (f : FinderState). (finder_whole_step f h c).state) (sym finder))
 

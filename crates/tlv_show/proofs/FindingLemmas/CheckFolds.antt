@@ -40,7 +40,7 @@ use Rattle.tlv_show.specs.Site.{Site, is_padding, site_of_children, top_site}
 use Rattle.tlv_show.proofs.FindingLemmas.SitesAfter.{site_after, site_after_holder, site_after_padding}
 use Rattle.tlv_show.specs.Texts.{check_line, finding_count, is_finding}
 use Rattle.tlv_show.proofs.FindingLemmas.CheckLaws.{step-is}
-use Rattle.tlv_show.proofs.FindingLemmas.FinderItems.{Step, finds_forest, found_items, only, run}
+use Rattle.tlv_show.proofs.FindingLemmas.FinderItems.{FinderRun, finds_forest, found_items, only, run_finder}
 use Rattle.tlv_show.proofs.DumpLemmas.Shows.{Shower}
 use Rattle.tlv_show.specs.SaturatingSum.{saturating_sum}
 
@@ -53,19 +53,19 @@ written-items level offset (f ∷ fs) =
     ap (λ (l : List ℕ). check_line (FindingAt level offset f) ++ l) (written-items level offset fs)
 
 -- what a check makes of events: what the finder reports of them, listed
-abbrev pub listed_run : Step → Effect FinderState
+abbrev pub listed_run : FinderRun → Effect FinderState
 listed_run u = record { state = u.state; put = flat_map check_line u.put; goes = go.On }
 
-pub followed-run : (s : FinderState) (es : List EventValue) → effect_of check_step s es ≡ listed_run (run s es)
+pub followed-run : (s : FinderState) (es : List EventValue) → effect_of check_step s es ≡ listed_run (run_finder s es)
 followed-run s [] = refl
 followed-run s (e ∷ es) =
     let f : FinderReport = finder_step s e in
     ap (λ (t : Effect FinderState). if_on t.goes t (λ u. effect_of check_step u es)) (step-is s e)
     ∙ ap (λ (t : Effect FinderState). record t { put = styled_lines Check f.level f.offset f.found ++ t.put })
         (followed-run f.state es)
-    ∙ ap (λ (l : List ℕ). record { state = (run f.state es).state; put = l; goes = go.On })
-    (ap (λ (l : List ℕ). l ++ flat_map check_line (run f.state es).put) (sym (written-items f.level f.offset f.found))
-    ∙ sym (flat_map-append check_line (found_items f) (run f.state es).put))
+    ∙ ap (λ (l : List ℕ). record { state = (run_finder f.state es).state; put = l; goes = go.On })
+    (ap (λ (l : List ℕ). l ++ flat_map check_line (run_finder f.state es).put) (sym (written-items f.level f.offset f.found))
+    ∙ sym (flat_map-append check_line (found_items f) (run_finder f.state es).put))
 
 pub only-written : (l : List Item) → flat_map check_line (only l) ≡ flat_map check_line l
 only-written [] = refl
@@ -118,16 +118,16 @@ counted-one s Leave = by-frames s s.holders.outer
 counted-one s (Pad octets) = count-none s.count
 
 pub counted-all : (s : FinderState) (es : List EventValue)
-    → (run s es).state.count ≡ saturating_sum s.count (length (run s es).put)
+    → (run_finder s es).state.count ≡ saturating_sum s.count (length (run_finder s es).put)
 counted-all s [] = count-none s.count
 counted-all s (e ∷ es) =
     let f : FinderReport = finder_step s e in
     counted-all f.state es
-    ∙ ap (λ (n : ℕ). saturating_sum n (length (run f.state es).put)) (counted-one s e)
-    ∙ count-more s.count (length f.found) (length (run f.state es).put)
+    ∙ ap (λ (n : ℕ). saturating_sum n (length (run_finder f.state es).put)) (counted-one s e)
+    ∙ count-more s.count (length f.found) (length (run_finder f.state es).put)
     ∙ ap (saturating_sum s.count)
         (omega
-            (arith, length-append (found_items f) (run f.state es).put,
+            (arith, length-append (found_items f) (run_finder f.state es).put,
                 length-map f.found (FindingAt f.level f.offset)))
 
 -- ---- no count stops
@@ -243,7 +243,7 @@ module _ (rules : Rules) where
 
   module _ (framing : Framing) (octets : List ℕ) (f : Forest) (short : length octets ≤ 2 ^ 40)
       (r : IsReading framing octets f) where
-    put-is : (run start (events f)).put ≡ only (items rules top_site f)
+    put-is : (run_finder start (events f)).put ≡ only (items rules top_site f)
     put-is = (finds_forest rules (top_place framing) top_site top_frame [] f r.is_open refl refl refl (λ e. refl)).put 0
 
     pub text-made : (effect_of check_step start (events f)).put ≡ (check_job rules framing).text f
@@ -251,7 +251,7 @@ module _ (rules : Rules) where
         ap (λ (t : Effect FinderState). t.put) (followed-run start (events f)) ∙ ap (flat_map check_line) put-is
             ∙ only-written (items rules top_site f)
 
-    pub count-run : (run start (events f)).state.count ≡ finding_count rules f
+    pub count-run : (run_finder start (events f)).state.count ≡ finding_count rules f
     count-run =
         let n = length-filter is_finding (items rules top_site f) in
         counted-all start (events f)

@@ -29,7 +29,7 @@ use Rattle.tlv_show.specs.Items.{PaddingLine, headers, items}
 use Rattle.tlv_show.proofs.FindingLemmas.ElementItems.{findings_at}
 use Rattle.tlv_show.specs.Site.{Site, is_padding, site_of_children}
 use Rattle.tlv_show.proofs.FindingLemmas.SitesAfter.{site_after, site_after_holder, site_after_padding}
-use Rattle.tlv_show.proofs.FindingLemmas.SiteWords.{first_octet}
+use Rattle.tlv_show.proofs.FindingLemmas.SiteWords.{first_contents_octet}
 use Rattle.tlv_show.specs.Texts.{is_finding}
 use Rattle.tlv_show.proofs.FindingLemmas.CheckLaws.{one-or-more}
 use Rattle.tlv_show.proofs.FindingLemmas.FinderFolds.{offset-under, not-constructed, noted-under, noted_all}
@@ -40,29 +40,29 @@ use Rattle.tlv_show.specs.Conditions.{surroundings_of, segments_of}
 use Rattle.tlv_show.specs.SaturatingSum.{saturating_sum}
 
 -- what becomes of a finder, and the items that it reported
-pub record Step : Type 0 where
+pub record FinderRun : Type 0 where
   pub state : FinderState
   pub put : List Item
 
 abbrev pub found_items : FinderReport → List Item
 found_items f = findings_at f.level f.offset f.found
 
-abbrev pub then_found : List Item → Step → Step
+abbrev pub then_found : List Item → FinderRun → FinderRun
 then_found put u = record { state = u.state; put = put ++ u.put }
 
-abbrev pub run : FinderState → List EventValue → Step
-run s [] = record { state = s; put = [] }
-run s (e ∷ es) = then_found (found_items (finder_step s e)) (run (finder_step s e).state es)
+abbrev pub run_finder : FinderState → List EventValue → FinderRun
+run_finder s [] = record { state = s; put = [] }
+run_finder s (e ∷ es) = then_found (found_items (finder_step s e)) (run_finder (finder_step s e).state es)
 
 pub run-more : (s : FinderState) (xs ys : List EventValue)
-    → run s (xs ++ ys) ≡ then_found (run s xs).put (run (run s xs).state ys)
+    → run_finder s (xs ++ ys) ≡ then_found (run_finder s xs).put (run_finder (run_finder s xs).state ys)
 run-more s [] ys = refl
 run-more s (x ∷ xs) ys =
     let u : FinderState = (finder_step s x).state in
     let put : List Item = found_items (finder_step s x) in
     ap (then_found put) (run-more u xs ys)
-    ∙ ap (λ (l : List Item). record { state = (run (run u xs).state ys).state; put = l })
-        (sym (append_assoc put (run u xs).put (run (run u xs).state ys).put))
+    ∙ ap (λ (l : List Item). record { state = (run_finder (run_finder u xs).state ys).state; put = l })
+        (sym (append_assoc put (run_finder u xs).put (run_finder (run_finder u xs).state ys).put))
 
 -- ---- contents
 
@@ -161,29 +161,29 @@ module _ (rules : Rules) where
       rw yes refl
 
   opened-by : (s : FinderState) (h : HeaderValue) (k three : Bool) (es : List EventValue)
-      → run s
+      → run_finder s
           (((if k then Open h else Enter h)
               ∷ map {A = ℕ} (λ z. Unused) (if k then [] else (if three then 0 ∷ [] else [])))
               ++ es)
-          ≡ then_found (found_items (finder_open_step s h)) (run (finder_open_step s h).state es)
+          ≡ then_found (found_items (finder_open_step s h)) (run_finder (finder_open_step s h).state es)
   opened-by s h true three es = refl
   opened-by s h false true es = refl
   opened-by s h false false es = refl
 
   pub opened : (w : SiblingFrame) (outer : List SiblingFrame) (n : ℕ) (h : HeaderValue) (es : List EventValue)
       → length outer < 128
-      → run (check_between w outer n) (opening_events h ++ es)
+      → run_finder (check_between w outer n) (opening_events h ++ es)
           ≡ then_found (findings_at (length outer) h.offset (header_findings rules (surroundings_in w) h))
-              (run (check_between (frame_under w h) (w ∷ outer) (later_header w h n)) es)
+              (run_finder (check_between (frame_under w h) (w ∷ outer) (later_header w h n)) es)
   opened w outer n h es few =
       opened-by (check_between w outer n) h h.constructed (h.number == 3) es
-      ∙ ap (λ (f : FinderReport). then_found (found_items f) (run f.state es)) (opened-find w outer n h few)
+      ∙ ap (λ (f : FinderReport). then_found (found_items f) (run_finder f.state es)) (opened-find w outer n h few)
 
   -- ---- and ends
 
   closed-by : (s : FinderState) (offset : Option ℕ) (k : Bool) (es : List EventValue)
-      → run s ((if k then Close offset else Leave) ∷ es)
-          ≡ then_found (found_items (finder_close_step s)) (run (finder_close_step s).state es)
+      → run_finder s ((if k then Close offset else Leave) ∷ es)
+          ≡ then_found (found_items (finder_close_step s)) (run_finder (finder_close_step s).state es)
   closed-by s offset true es = refl
   closed-by s offset false es = refl
 
@@ -193,9 +193,9 @@ module _ (rules : Rules) where
   pub closed : (p : Place) (w : SiblingFrame) (outer : List SiblingFrame) (n : ℕ) (h : HeaderValue) (inside : Forest)
       (es : List EventValue)
       → IsOpen p inside → is_whole inside ≡ true
-      → run (check_between (noted_all (frame_under w h) inside) (w ∷ outer) n) (closing_event h inside ∷ es)
+      → run_finder (check_between (noted_all (frame_under w h) inside) (w ∷ outer) n) (closing_event h inside ∷ es)
       ≡ then_found (findings_at (length outer) h.offset (end_findings rules (segments_of h (headers inside))))
-          (run
+          (run_finder
               (check_between (frame_after w (is_primitive h) (announced_length h.size) false) outer
                   (after_end h inside n))
               es)
@@ -204,11 +204,11 @@ module _ (rules : Rules) where
       closed-by (check_between f (w ∷ outer) n)
           (end_offset h.size (h.offset + length (opening h) + length (spelling inside))) h.constructed es
       ∙ ap (λ (fs : List Finding). then_found (findings_at (length outer) f.offset fs)
-          (run (check_between (frame_after w f.is_primitive f.size false) outer (saturating_sum n (length fs))) es))
+          (run_finder (check_between (frame_after w f.is_primitive f.size false) outer (saturating_sum n (length fs))) es))
           (summed-under rules p w h inside v whole)
       ∙ ap₂
           (λ (put : List Item) (t : SiblingFrame). then_found put
-              (run (check_between t outer (after_end h inside n)) es))
+              (run_finder (check_between t outer (after_end h inside n)) es))
           (offset-under rules p w h inside v whole (findings_at (length outer)) (λ offset. refl))
           (noted-under w h inside)
 
@@ -224,18 +224,18 @@ module _ (rules : Rules) where
   pub primitive : (w : SiblingFrame) (outer : List SiblingFrame) (n : ℕ) (h : HeaderValue) (c : List ℕ)
       (es : List EventValue)
       → length c ≡ announced_length h.size
-      → run (check_between w outer n) (Begin h ∷ Bytes c ∷ End ∷ es)
+      → run_finder (check_between w outer n) (Begin h ∷ Bytes c ∷ End ∷ es)
       ≡ then_found (findings_at (length outer) h.offset (header_findings rules (surroundings_in w) h))
       (then_found (findings_at (length outer) h.offset (contents_findings rules h c))
-          (run (check_between (after_primitive w h c) outer (after_contents w h c n)) es))
+          (run_finder (check_between (after_primitive w h c) outer (after_contents w h c n)) es))
   primitive w outer n h c es e =
       let put : List Item = findings_at (length outer) h.offset (header_findings rules (surroundings_in w) h) in
       let s : FinderState = check_between w outer (later_header w h n) in
-      ap (λ (u : FinderState). then_found put (then_found [] (run u (End ∷ es))))
+      ap (λ (u : FinderState). then_found put (then_found [] (run_finder u (End ∷ es))))
           (took s h.offset h c (omega (arith, e)))
       ∙ ap (λ (fs : List Finding). then_found put
           (then_found (findings_at (length outer) h.offset fs)
-              (run (check_between (after_primitive w h c) outer (saturating_sum (later_header w h n) (length fs))) es)))
+              (run_finder (check_between (after_primitive w h c) outer (saturating_sum (later_header w h n) (length fs))) es)))
           (ended rules h c e)
 
   -- ---- what a finder makes of each end by itself
@@ -288,9 +288,9 @@ module _ (rules : Rules) where
 
   -- what was reported of elements: the findings of their items; and if they are whole, the frame after them
   pub record IsFoundAs (s : Site) (w : SiblingFrame) (outer : List SiblingFrame) (f : Forest) : Type 0 where
-    pub put : (n : ℕ) → (run (check_between w outer n) (events f)).put ≡ only (items rules s f)
+    pub put : (n : ℕ) → (run_finder (check_between w outer n) (events f)).put ≡ only (items rules s f)
     pub after : (n : ℕ) → is_whole f ≡ true
-        → (m : ℕ) × ((run (check_between w outer n) (events f)).state ≡ check_between (noted_all w f) outer m)
+        → (m : ℕ) × ((run_finder (check_between w outer n) (events f)).state ≡ check_between (noted_all w f) outer m)
 
   -- findings with a header, and then other items
   header-items : (s : Site) (w : SiblingFrame) (outer : List SiblingFrame) (h : HeaderValue) (found rest : List Item)
@@ -329,13 +329,13 @@ module _ (rules : Rules) where
       let u : Bool = has_unused_bits (value_check_after (new_value_check h) c) in
       let known : Knows (after_primitive w h c) (site_after s h c) =
       subst (λ (b : Bool). Knows (frame_after w b (announced_length h.size) u) (site_after s h c)) (ap not form)
-          (knows-after w s (site_after s h c) h (first_octet c) u k refl refl (unused-of h c form)) in
+          (knows-after w s (site_after s h c) h (first_contents_octet c) u k refl refl (unused-of h c form)) in
       let r =
           finds_forest (place_after p (length (octets_of h) + length c)) (site_after s h c) (after_primitive w h c)
               outer rest v.1 known l d free in
       record {
         put = λ n.
-            ap (λ (t : Step). t.put) (primitive w outer n h c (events rest) size)
+            ap (λ (t : FinderRun). t.put) (primitive w outer n h c (events rest) size)
             ∙ header-items s w outer h
                 _ (PrimitiveLines s.level h c
                     ∷ (findings_at s.level h.offset (contents_findings rules h c)
@@ -345,7 +345,7 @@ module _ (rules : Rules) where
                 (r.put (after_contents w h c n)));
         after = λ n e.
             let t = r.after (after_contents w h c n) e in
-            (t.0, ap (λ (x : Step). x.state) (primitive w outer n h c (events rest) size) ∙ t.1);
+            (t.0, ap (λ (x : FinderRun). x.state) (primitive w outer n h c (events rest) size) ∙ t.1);
       }
   finds_forest p s w outer (Holder h inside rest) v k l d free =
       let i =
@@ -357,11 +357,11 @@ module _ (rules : Rules) where
       (knows-after w s (site_after_holder s h inside) h None false k refl refl refl) l d free in
       let few : length outer < 128 = omega (arith, l, d, (v.0.0.shallow refl)) in
       let es : List EventValue = closing_event h inside ∷ events rest in
-      let all : (n : ℕ) → (m : ℕ) × (run (check_between w outer n) (events (Holder h inside rest))
+      let all : (n : ℕ) → (m : ℕ) × (run_finder (check_between w outer n) (events (Holder h inside rest))
       ≡ then_found (findings_at (length outer) h.offset (header_findings rules (surroundings_in w) h))
           (then_found (only (items rules (site_of_children s h) inside))
       (then_found (findings_at (length outer) h.offset (end_findings rules (segments_of h (headers inside))))
-          (run (check_between (frame_after w (is_primitive h) (announced_length h.size) false) outer m)
+          (run_finder (check_between (frame_after w (is_primitive h) (announced_length h.size) false) outer m)
               (events rest))))) =
       λ n.
       let a : ℕ = later_header w h n in
@@ -371,7 +371,7 @@ module _ (rules : Rules) where
         opened w outer n h (events inside ++ es) few
             ∙ ap (then_found put)
             (run-more (check_between (frame_under w h) (w ∷ outer) a) (events inside) es
-            ∙ ap₂ (λ (l : List Item) (x : FinderState). then_found l (run x es)) (i.put a) t.1
+            ∙ ap₂ (λ (l : List Item) (x : FinderState). then_found l (run_finder x es)) (i.put a) t.1
             ∙ ap (then_found (only (items rules (site_of_children s h) inside)))
                 (closed (place_of_children p h) w outer t.0 h inside (events rest) v.1 v.0.1)),
       ) in
@@ -382,7 +382,7 @@ module _ (rules : Rules) where
       record {
         put = λ n.
             let a = all n in
-            ap (λ (t : Step). t.put) a.1
+            ap (λ (t : FinderRun). t.put) a.1
             ∙ header-items s w outer h _ (OpeningLine s.level h ∷ (items rules (site_of_children s h) inside ++ last))
                 k l
             (ap (λ (t : List Item). only (items rules (site_of_children s h) inside) ++ t)
@@ -392,7 +392,7 @@ module _ (rules : Rules) where
         after = λ n e.
             let a = all n in
             let t = r.after a.0 e in
-            (t.0, ap (λ (x : Step). x.state) a.1 ∙ t.1);
+            (t.0, ap (λ (x : FinderRun). x.state) a.1 ∙ t.1);
       }
   finds_forest p s w outer (OpenPrimitive h c) v k l d free = record {
     put = λ n. header-items s w outer h [] (OpenPrimitiveLines s.level h c ∷ []) k l refl;
@@ -405,7 +405,7 @@ module _ (rules : Rules) where
       let few : length outer < 128 = omega (arith, l, d, v.0.0.shallow refl) in
       record {
         put = λ n.
-            ap (λ (t : Step). t.put) (opened w outer n h (events inside) few)
+            ap (λ (t : FinderRun). t.put) (opened w outer n h (events inside) few)
             ∙ header-items s w outer h _ (OpeningLine s.level h ∷ items rules (site_of_children s h) inside) k l
                 (i.put (later_header w h n));
         after = λ n e. absurd (cc (e));

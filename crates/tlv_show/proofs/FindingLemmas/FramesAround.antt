@@ -15,7 +15,7 @@ use Rattle.tlv_show.specs.NestingState.{frame_after, frame_after_segment, frame_
 use Rattle.tlv_show.specs.NestingState.{surroundings_in}
 use Rattle.tlv_show.specs.Site.{Sibling, Site, in_bit_string, in_string, site_of_children, Previous, Padding, Start}
 use Rattle.tlv_show.proofs.FindingLemmas.SitesAfter.{site_after_padding}
-use Rattle.tlv_show.proofs.FindingLemmas.SiteWords.{first_octet, is_held_by}
+use Rattle.tlv_show.proofs.FindingLemmas.SiteWords.{first_contents_octet, is_held_by}
 use Rattle.tlv_show.proofs.FindingLemmas.HeaderFindings.{Knows}
 
 abbrev made : Bool → Bool → Bool → Bool → Surroundings
@@ -78,7 +78,7 @@ type-is true n = refl
 type-is false n = refl
 
 pub unused-of : (h : HeaderValue) (c : List ℕ) → h.constructed ≡ false
-    → has_unused_bits (value_check_after (new_value_check h) c) ≡ follows_unused_bits (Sibling h (first_octet c))
+    → has_unused_bits (value_check_after (new_value_check h) c) ≡ follows_unused_bits (Sibling h (first_contents_octet c))
 unused-of h [] e = ap has_unused_bits (checked-none h) ∙ by-none (eqb (type_number h) bit_string)
   where
     by-none : (a : Bool) → (a && false) ≡ false

@@ -2,7 +2,7 @@
 ghost use Rattle.std.specs.Prelude.{◌≡◌, ◌+◌, ◌*◌, ◌≤◌, ◌++◌, length};
 ghost use Rattle.arrayvec.specs.ArrayVec.{array_vec_len};
 ghost use Rattle.tlv_walk.specs.Follow.{HasEffect};
-ghost use Rattle.tlv_tests.specs.TestStep.{ends, header_line, pads, pair, pairs, place, test_close_line};
+ghost use Rattle.tlv_tests.specs.TestStep.{end, header_line, offset_text, pads, pair, pairs, test_close_line};
 ghost use Rattle.tlv_io.specs.Out.{Puts};
 
 use arrayvec::ArrayVec;
@@ -36,7 +36,7 @@ impl Lines {
 
     /// An element ends.
     fn end<D: Drain>(&mut self, line: &[u8], out: &mut Out<'_, D>) -> Result<Go, WriteFault>
-        ensures state { HasEffect (ends self.old line.now) self.new result }
+        ensures state { HasEffect (end self.old line.now) self.new result }
         ensures puts { Puts D.state out.old out.new line.now result }
     {
         out.put(line)?;
@@ -58,8 +58,8 @@ fn pair(octet: u8) -> [u8; 3]
 }
 
 /// An offset as a space and its last four decimal digits.
-fn place(offset: u64) -> [u8; 5]
-    ensures { result ≡ place offset }
+fn offset_text(offset: u64) -> [u8; 5]
+    ensures { result ≡ offset_text offset }
 {
     [
         b' ',
@@ -90,7 +90,7 @@ fn header_line(word: &[u8], header: &Header) -> ArrayVec<u8, 512>
 {
     let mut line = ArrayVec::new();
     let _ = line.try_extend_from_slice(word);
-    let _ = line.try_extend_from_slice(&place(header.offset));
+    let _ = line.try_extend_from_slice(&offset_text(header.offset));
     push_pairs(&mut line, header.raw());
     line.push(b'\n');
     line
@@ -103,7 +103,7 @@ fn closing_line(at: Option<u64>) -> ArrayVec<u8, 11>
     let mut line = ArrayVec::new();
     let _ = line.try_extend_from_slice(b"close");
     if let Some(at) = at {
-        let _ = line.try_extend_from_slice(&place(at));
+        let _ = line.try_extend_from_slice(&offset_text(at));
     }
     line.push(b'\n');
     line

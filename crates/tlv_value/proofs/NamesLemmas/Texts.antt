@@ -321,11 +321,11 @@ full_text : (text : List ℕ) → 0 < length text → (get_or text 0 0 ≡ 35 �
 full_text [] some mark = absurd (omega arith)
 full_text (x ∷ xs) some mark = let e : (x == 35) ≡ false = ne_eqb x 35 mark in rw e refl
 
-pub full_line : (line text : List ℕ) (end : ℕ) → length line ≤ 400 → text ≡ without_outer_blanks (without_return line)
+pub full_entry : (line text : List ℕ) (end : ℕ) → length line ≤ 400 → text ≡ without_outer_blanks (without_return line)
     → 0 < length text → (get_or text 0 0 ≡ 35 → ⊥)
     → end ≡ position_or_len is_blank text
         → names_line line ≡ pair_line (take end text) (without_first_blanks (drop end text))
-full_line line text end h e some mark at =
+full_entry line text end h e some mark at =
     let short : nat_lt 400 (length line) ≡ false = le-ltb 400 (length line) h in
     rw (short, ← e, at, blanks_from_first text) (full_text text some mark)
 
@@ -335,7 +335,7 @@ pub full_pair : (line text name : List ℕ) (end : ℕ) → length line ≤ 400
         → names_line line ≡ pair_line (take end text) name
 full_pair line text name end h e some mark at n =
     let nonempty : length text ≡ 0 → ⊥ = eqb-false (length text) 0 some in
-    full_line line text end h e (omega arith) mark at
+    full_entry line text end h e (omega arith) mark at
         ∙ ap (pair_line (take end text)) (sym (n ∙ ap without_first_blanks (take_rest text end)))
 
 pub no_name_pair : (dotted name : List ℕ) → is_dotted dotted ≡ true → is_name name ≡ false

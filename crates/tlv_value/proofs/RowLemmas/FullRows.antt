@@ -22,7 +22,7 @@ use Rattle.tlv_value.proofs.RowLemmas.FilledRows.{row_begun, rows-filled, rows_f
 use Rattle.tlv_value.specs.ValueLines.{row_lines}
 use Rattle.tlv_value.specs.Value.{row_text, spaced_pairs}
 use Rattle.tlv_value.proofs.TextLemmas.Puts.{row_lines-append}
-use Rattle.tlv_value.proofs.RowLemmas.RowSteps.{keep, turn}
+use Rattle.tlv_value.proofs.RowLemmas.RowSteps.{keep, next_row}
 
 -- ---- kinds whose rows have 16 octets
 
@@ -58,7 +58,7 @@ module _ (kind : Kind) (short : row_size kind ≡ 16) where
       → (rows_filled kind [] octets ≡ take 16 octets ∷ rows_filled kind [] (drop 16 octets))
           × (row_begun kind [] octets ≡ row_begun kind [] (drop 16 octets))
   first_row octets h =
-      turn kind [] 16 octets (room 16 octets (omega arith)) (omega (arith, short)) h (omega (arith, short))
+      next_row kind [] 16 octets (room 16 octets (omega arith)) (omega (arith, short)) h (omega (arith, short))
           (inl (omega (arith, short)))
 
   -- so many rows

@@ -16,8 +16,8 @@ use Rattle.tlv_value.specs.OpenRow.{IsOpenRow}
 use Rattle.tlv_value.specs.Private.Room.{HaveRoom}
 use Rattle.tlv_value.proofs.RowLemmas.FilledRows.{row_begun, rows-filled, rows_filled}
 use Rattle.tlv_value.specs.Rows.{cut_of_contents, full_rows, full_rows_in, open_row, open_row_in, rows_of}
-use Rattle.tlv_value.proofs.RowLemmas.RowSteps.{IsFilled, begun-open, keep, none-open, one_fits, open-room, steps-join}
-use Rattle.tlv_value.proofs.RowLemmas.RowSteps.{turn}
+use Rattle.tlv_value.proofs.RowLemmas.RowSteps.{FillsRow, begun-open, keep, none-open, one_fits, open-room, steps-join}
+use Rattle.tlv_value.proofs.RowLemmas.RowSteps.{next_row}
 
 last-row : (row : List ℕ) → 1 ≤ length row → last_rows row ≡ row ∷ []
 last-row [] h = absurd (omega arith)
@@ -37,7 +37,7 @@ module _ (kind : Kind) where
 
   -- a row that is full by the condition on rows
   as-filled : (row next rest : List ℕ) → 1 ≤ length next → IsFull (row_size kind) (character_length kind) row next
-      → IsFilled kind [] (length row) (row ++ (next ++ rest))
+      → FillsRow kind [] (length row) (row ++ (next ++ rest))
   as-filled row next rest h (inl e) = inl (omega arith)
   as-filled row [] rest h (inr f) = absurd (omega arith)
   as-filled row (x ∷ next) rest h (inr f) =
@@ -52,14 +52,14 @@ module _ (kind : Kind) where
 
   -- a full row, and the rows of the octets after it
   parts-first : (row rest : List ℕ) (rows : List (List ℕ)) (last : List ℕ)
-      → IsRow (row_size kind) (character_length kind) row → IsFilled kind [] (length row) (row ++ rest)
+      → IsRow (row_size kind) (character_length kind) row → FillsRow kind [] (length row) (row ++ rest)
       → AreParts rest rows last
       → AreParts (row ++ rest) (row ∷ rows) last
   parts-first row rest rows last r f more =
       let z = one_fits kind in
       let s = r.short in
       let t =
-          turn kind [] (length row) (row ++ rest) (row-room row rest r) (omega arith)
+          next_row kind [] (length row) (row ++ rest) (row-room row rest r) (omega arith)
               (omega (arith, length-append row rest)) (omega arith) f in
       rw (t.0, t.1, take-append_seam row rest, drop-append_seam row rest)
           (ap (λ (x : List (List ℕ)). row ∷ x) more.0, more.1)

@@ -49,8 +49,8 @@ module _ (kind : Kind) where
   begun-begins x xs = rw (first-room kind x, first-open kind) refl
 
   -- the row is full with these octets, or has no room for the octet after them
-  abbrev pub IsFilled : List ℕ → ℕ → List ℕ → Type 0
-  IsFilled row m rest =
+  abbrev pub FillsRow : List ℕ → ℕ → List ℕ → Type 0
+  FillsRow row m rest =
       (length row + m ≡ row_size kind)
           ⊎ ((m < length rest) × (has_room kind (length row + m) (get_or rest m 0) ≡ false))
 
@@ -65,14 +65,14 @@ module _ (kind : Kind) where
       let l : length (row ++ x ∷ []) + i ≡ length row + suc i = omega (arith, length-append row (x ∷ [])) in
       rw l (room (suc i) (omega arith))
 
-  shift-filled : (row : List ℕ) (m x : ℕ) (xs : List ℕ) → IsFilled row (suc m) (x ∷ xs) → IsFilled (row ++ x ∷ []) m xs
+  shift-filled : (row : List ℕ) (m x : ℕ) (xs : List ℕ) → FillsRow row (suc m) (x ∷ xs) → FillsRow (row ++ x ∷ []) m xs
   shift-filled row m x xs (inl e) = inl (omega (arith, length-append row (x ∷ [])))
   shift-filled row m x xs (inr e) =
       let l : length (row ++ x ∷ []) + m ≡ length row + suc m = omega (arith, length-append row (x ∷ [])) in
       inr (omega arith, rw l e.1)
 
   -- none of the octets
-  turn-none : (row rest : List ℕ) → length row < row_size kind → IsFilled row 0 rest → Turned row 0 rest
+  turn-none : (row rest : List ℕ) → length row < row_size kind → FillsRow row 0 rest → Turned row 0 rest
   turn-none row rest h (inl e) = absurd (omega arith)
   turn-none row [] h (inr e) = absurd (omega arith)
   turn-none row (x ∷ xs) h (inr e) =
@@ -95,15 +95,15 @@ module _ (kind : Kind) where
           (t.0 ∙ ap (λ (y : List ℕ). y ∷ rows_filled kind [] (drop m xs)) (append_assoc row (x ∷ []) (take m xs)), t.1)
 
   -- a row is filled: it is put, and the next begins
-  pub turn : (row : List ℕ) (m : ℕ) (rest : List ℕ) → HaveRoom kind (length row) rest m
+  pub next_row : (row : List ℕ) (m : ℕ) (rest : List ℕ) → HaveRoom kind (length row) rest m
       → length row + m ≤ row_size kind → m ≤ length rest → length row < row_size kind
-      → IsFilled row m rest → Turned row m rest
-  turn row zero rest room h w b f = turn-none row rest b f
-  turn row (suc m) [] room h w b f = absurd (omega arith)
-  turn row (suc m) (x ∷ xs) room h w b f =
+      → FillsRow row m rest → Turned row m rest
+  next_row row zero rest room h w b f = turn-none row rest b f
+  next_row row (suc m) [] room h w b f = absurd (omega arith)
+  next_row row (suc m) (x ∷ xs) room h w b f =
       let l : length row + 0 ≡ length row = omega arith in
       turn-one row m x xs (eqb (length row + 1) (row_size kind)) refl (rw l at (room 0 (omega arith))) h
-      (λ more. turn (row ++ x ∷ []) m xs (shift-room row m x xs room) (omega (arith, length-append row (x ∷ [])))
+      (λ more. next_row (row ++ x ∷ []) m xs (shift-room row m x xs room) (omega (arith, length-append row (x ∷ [])))
           (omega arith) (omega (arith, length-append row (x ∷ []))) (shift-filled row m x xs f))
 
   -- all of the octets stay in the row that has begun
@@ -120,7 +120,7 @@ module _ (kind : Kind) where
       rw (r, e) (t.0, t.1 ∙ append_assoc row (x ∷ []) xs)
 
   filled : (row : List ℕ) (m : ℕ) (rest : List ℕ) → (length row + m ≡ row_size kind) ⊎ (m < length rest)
-      → (m < length rest → has_room kind (length row + m) (get_or rest m 0) ≡ false) → IsFilled row m rest
+      → (m < length rest → has_room kind (length row + m) (get_or rest m 0) ≡ false) → FillsRow row m rest
   filled row m rest (inl e) next = inl e
   filled row m rest (inr h) next = inr (h, next h)
 
@@ -134,7 +134,7 @@ module _ (kind : Kind) where
           × (row_begun kind row rest ≡ row_begun kind [] more)
   turned n row m rest part more e p q room h w b next f =
       rw (p, q)
-          (turn row m rest (rw e at room) (rw e at h) w (rw e at b) (filled row m rest (rw e at f) (rw e at next)))
+          (next_row row m rest (rw e at room) (rw e at h) w (rw e at b) (filled row m rest (rw e at f) (rw e at next)))
 
   -- the row that has begun goes on, as the loop has it
   pub kept : (n : ℕ) (row : List ℕ) (m : ℕ) (rest part : List ℕ) → n ≡ length row → part ≡ take m rest

@@ -17,12 +17,12 @@ use Rattle.tlv_value.specs.Private.Arcs.{arcs_text}
 use Rattle.tlv_value.proofs.TextLemmas.ArcWords.{after_dots, all_below}
 
 -- the text goes on with the subidentifiers of these octets, of which the first has begun with n
-abbrev pub run : List ℕ → Bool → Bool → ℕ → List ℕ → Option (List ℕ)
-run t first relative n [] = Some t
-run t first relative n (x ∷ xs) =
+abbrev pub arcs_run : List ℕ → Bool → Bool → ℕ → List ℕ → Option (List ℕ)
+arcs_run t first relative n [] = Some t
+arcs_run t first relative n (x ∷ xs) =
     if nat_lt n (2 ^ 121)
-    then (if nat_lt x 128 then run (t ++ arcs_text first relative (n * 128 + x % 128)) false relative 0 xs
-        else run t first relative (n * 128 + x % 128) xs)
+    then (if nat_lt x 128 then arcs_run (t ++ arcs_text first relative (n * 128 + x % 128)) false relative 0 xs
+        else arcs_run t first relative (n * 128 + x % 128) xs)
     else None
 
 -- the subidentifiers of these octets, of which the first has begun with n
@@ -31,9 +31,9 @@ carry n [] = []
 carry n (x ∷ xs) = if nat_lt x 128 then (n * 128 + x % 128) ∷ carry 0 xs else carry (n * 128 + x % 128) xs
 
 -- the octets end with a whole subidentifier; whether one has begun before them is given
-abbrev pub ends : Bool → List ℕ → Bool
-ends begun [] = not begun
-ends begun (x ∷ xs) = ends (not (nat_lt x 128)) xs
+abbrev pub ends_with_arc : Bool → List ℕ → Bool
+ends_with_arc begun [] = not begun
+ends_with_arc begun (x ∷ xs) = ends_with_arc (not (nat_lt x 128)) xs
 
 abbrev pub parts_text : Bool → Bool → List ℕ → List ℕ
 parts_text first relative [] = []
@@ -43,15 +43,15 @@ abbrev texts : List ℕ → Bool → Bool → List ℕ → Option (List ℕ)
 texts t first relative vs = if all_below (2 ^ 128) vs then Some (t ++ parts_text first relative vs) else None
 
 -- a number past the limit stays past it
-too-large-at : (n x : ℕ) (xs : List ℕ) (last : Bool) → nat_lt x 128 ≡ last → ends (not last) xs ≡ true → 2 ^ 128 ≤ n
-    → ((m : ℕ) → ends true xs ≡ true → 2 ^ 128 ≤ m → all_below (2 ^ 128) (carry m xs) ≡ false)
+too-large-at : (n x : ℕ) (xs : List ℕ) (last : Bool) → nat_lt x 128 ≡ last → ends_with_arc (not last) xs ≡ true → 2 ^ 128 ≤ n
+    → ((m : ℕ) → ends_with_arc true xs ≡ true → 2 ^ 128 ≤ m → all_below (2 ^ 128) (carry m xs) ≡ false)
     → all_below (2 ^ 128) (if last then (n * 128 + x % 128) ∷ carry 0 xs else carry (n * 128 + x % 128) xs) ≡ false
 too-large-at n x xs true e h g more =
     let v : nat_lt (n * 128 + x % 128) (2 ^ 128) ≡ false = grind (arith, nat_tests) in
     rw v refl
 too-large-at n x xs false e h g more = more (n * 128 + x % 128) h (omega arith)
 
-too-large : (n : ℕ) (xs : List ℕ) → ends true xs ≡ true → 2 ^ 128 ≤ n → all_below (2 ^ 128) (carry n xs) ≡ false
+too-large : (n : ℕ) (xs : List ℕ) → ends_with_arc true xs ≡ true → 2 ^ 128 ≤ n → all_below (2 ^ 128) (carry n xs) ≡ false
 too-large n [] e h = cc
 too-large n (x ∷ xs) e h = too-large-at n x xs (nat_lt x 128) refl e h (λ m. too-large m xs)
 
@@ -63,12 +63,12 @@ one-part t first relative v vs h =
 
 run-carry-at : (t : List ℕ) (first relative : Bool) (n x : ℕ) (xs : List ℕ) (last small : Bool) → nat_lt x 128 ≡ last
     → nat_lt n (2 ^ 121) ≡ small
-    → ends (not last) xs ≡ true → n < 2 ^ 128
-    → ((s : List ℕ) (f : Bool) (m : ℕ) (b : Bool) → ends b xs ≡ true → m < 2 ^ 128
-        → run s f relative m xs ≡ texts s f relative (carry m xs))
+    → ends_with_arc (not last) xs ≡ true → n < 2 ^ 128
+    → ((s : List ℕ) (f : Bool) (m : ℕ) (b : Bool) → ends_with_arc b xs ≡ true → m < 2 ^ 128
+        → arcs_run s f relative m xs ≡ texts s f relative (carry m xs))
     → (if small
-        then (if last then run (t ++ arcs_text first relative (n * 128 + x % 128)) false relative 0 xs
-            else run t first relative (n * 128 + x % 128) xs)
+        then (if last then arcs_run (t ++ arcs_text first relative (n * 128 + x % 128)) false relative 0 xs
+            else arcs_run t first relative (n * 128 + x % 128) xs)
         else None)
     ≡ texts t first relative (if last then (n * 128 + x % 128) ∷ carry 0 xs else carry (n * 128 + x % 128) xs)
 run-carry-at t first relative n x xs true true e f h g more =
@@ -84,8 +84,8 @@ run-carry-at t first relative n x xs false false e f h g more =
         too-large (n * 128 + x % 128) xs h (grind (arith, nat_tests)) in
     rw v refl
 
-run-carry : (t : List ℕ) (first relative : Bool) (n : ℕ) (xs : List ℕ) (begun : Bool) → ends begun xs ≡ true
-    → n < 2 ^ 128 → run t first relative n xs ≡ texts t first relative (carry n xs)
+run-carry : (t : List ℕ) (first relative : Bool) (n : ℕ) (xs : List ℕ) (begun : Bool) → ends_with_arc begun xs ≡ true
+    → n < 2 ^ 128 → arcs_run t first relative n xs ≡ texts t first relative (carry n xs)
 run-carry t first relative n [] begun e h = ap Some (sym (append-nil t))
 run-carry t first relative n (x ∷ xs) begun e h =
     run-carry-at t first relative n x xs (nat_lt x 128) (nat_lt n (2 ^ 121)) refl refl e h
@@ -115,14 +115,14 @@ onto-some : (x : ℕ) (ps : List (List ℕ)) → 1 ≤ length (onto_first x ps)
 onto-some x [] = omega arith
 onto-some x (p ∷ ps) = omega arith
 
-parts-some : (xs : List ℕ) → ends true xs ≡ true → 1 ≤ length (parts_of xs)
+parts-some : (xs : List ℕ) → ends_with_arc true xs ≡ true → 1 ≤ length (parts_of xs)
 parts-some [] e = cc
 parts-some (x ∷ xs) e =
     elim (nat_lt x 128) as (λ q. 1 ≤ length (if q then (x ∷ []) ∷ parts_of xs else onto_first x (parts_of xs)))
         [ true ↦ omega arith | false ↦ onto-some x (parts_of xs) ]
 
-carry-parts-at : (n x : ℕ) (xs : List ℕ) (last : Bool) → ends (not last) xs ≡ true
-    → ((m : ℕ) (b : Bool) → ends b xs ≡ true → carry m xs ≡ add_first m (parts_of xs))
+carry-parts-at : (n x : ℕ) (xs : List ℕ) (last : Bool) → ends_with_arc (not last) xs ≡ true
+    → ((m : ℕ) (b : Bool) → ends_with_arc b xs ≡ true → carry m xs ≡ add_first m (parts_of xs))
     → (if last then (n * 128 + x % 128) ∷ carry 0 xs else carry (n * 128 + x % 128) xs)
         ≡ add_first n (if last then (x ∷ []) ∷ parts_of xs else onto_first x (parts_of xs))
 carry-parts-at n x xs true e more =
@@ -132,11 +132,11 @@ carry-parts-at n x xs true e more =
 carry-parts-at n x xs false e more =
     more (n * 128 + x % 128) true e ∙ add_first-onto n x (parts_of xs) (parts-some xs e)
 
-carry-parts : (n : ℕ) (xs : List ℕ) (begun : Bool) → ends begun xs ≡ true → carry n xs ≡ add_first n (parts_of xs)
+carry-parts : (n : ℕ) (xs : List ℕ) (begun : Bool) → ends_with_arc begun xs ≡ true → carry n xs ≡ add_first n (parts_of xs)
 carry-parts n [] begun e = refl
 carry-parts n (x ∷ xs) begun e = carry-parts-at n x xs (nat_lt x 128) e (λ m b. carry-parts m xs b)
 
-pub carry-subidentifiers : (xs : List ℕ) → ends false xs ≡ true → carry 0 xs ≡ subidentifiers xs
+pub carry-subidentifiers : (xs : List ℕ) → ends_with_arc false xs ≡ true → carry 0 xs ≡ subidentifiers xs
 carry-subidentifiers xs e = carry-parts 0 xs false e ∙ add_first-zero (parts_of xs)
 
 parts_text-rest : (relative : Bool) (vs : List ℕ) → parts_text false relative vs ≡ after_dots vs
@@ -168,11 +168,11 @@ and_right true b e = e
 and_right false b e = cc
 
 ends-last : (begun : Bool) (x : ℕ) (xs : List ℕ) → nat_lt (get_or (x ∷ xs) (length xs) 0) 128 ≡ true
-    → ends begun (x ∷ xs) ≡ true
+    → ends_with_arc begun (x ∷ xs) ≡ true
 ends-last begun x [] e = rw e refl
 ends-last begun x (y ∷ xs) e = ends-last (not (nat_lt x 128)) y xs e
 
-pub ends-finished : (c : List ℕ) → is_finished c ≡ true → ends false c ≡ true
+pub ends-finished : (c : List ℕ) → is_finished c ≡ true → ends_with_arc false c ≡ true
 ends-finished [] e = cc
 ends-finished (x ∷ xs) e =
     let l : length (x ∷ xs) - 1 ≡ length xs = omega arith in
@@ -181,7 +181,7 @@ ends-finished (x ∷ xs) e =
 
 -- the dotted text of the definition
 pub run-dotted : (relative : Bool) (c : List ℕ) → is_finished c ≡ true → nat_le (length c) 64 ≡ true
-    → run [] true relative 0 c ≡ dotted_of relative c
+    → arcs_run [] true relative 0 c ≡ dotted_of relative c
 run-dotted relative c f l =
     let e = ends-finished c f in
     run-carry [] true relative 0 c false e (omega arith)
@@ -189,7 +189,7 @@ run-dotted relative c f l =
 
 -- a subidentifier that has grown too large leaves no text
 pub run-over : (t : List ℕ) (first relative : Bool) (n : ℕ) (xs : List ℕ) → 1 ≤ length xs → 2 ^ 121 ≤ n
-    → run t first relative n xs ≡ None
+    → arcs_run t first relative n xs ≡ None
 run-over t first relative n [] some h = absurd (omega arith)
 run-over t first relative n (x ∷ xs) some h =
     let b : nat_lt n (2 ^ 121) ≡ false = grind (arith, nat_tests) in
@@ -198,7 +198,7 @@ run-over t first relative n (x ∷ xs) some h =
 -- one octet more
 pub run-within : (t : List ℕ) (first relative : Bool) (n v : ℕ) (c : List ℕ) (i : ℕ)
     → v ≡ n * 128 + get_or c i 0 % 128 → i < length c → n < 2 ^ 121 → 128 ≤ get_or c i 0
-    → run t first relative n (drop i c) ≡ run t first relative v (drop (i + 1) c)
+    → arcs_run t first relative n (drop i c) ≡ arcs_run t first relative v (drop (i + 1) c)
 run-within t first relative n v c i e h g b =
     let small : nat_lt n (2 ^ 121) ≡ true = grind (arith, nat_tests) in
     let last : nat_lt (get_or c i 0) 128 ≡ false = grind (arith, nat_tests) in
@@ -206,7 +206,7 @@ run-within t first relative n v c i e h g b =
 
 pub run-last : (t : List ℕ) (first relative : Bool) (n v : ℕ) (c : List ℕ) (i : ℕ) → v ≡ n * 128 + get_or c i 0 % 128
     → i < length c → n < 2 ^ 121 → get_or c i 0 < 128
-    → run t first relative n (drop i c) ≡ run (t ++ arcs_text first relative v) false relative 0 (drop (i + 1) c)
+    → arcs_run t first relative n (drop i c) ≡ arcs_run (t ++ arcs_text first relative v) false relative 0 (drop (i + 1) c)
 run-last t first relative n v c i e h g b =
     let small : nat_lt n (2 ^ 121) ≡ true = grind (arith, nat_tests) in
     let last : nat_lt (get_or c i 0) 128 ≡ true = grind (arith, nat_tests) in
@@ -256,7 +256,7 @@ first-long-at v k false false vs s h g =
 -- at the end of the loop
 pub run-end : (relative : Bool) (c t : List ℕ) (first : Bool) (n i : ℕ) → is_finished c ≡ true → length c ≤ 64
     → length c ≤ i
-    → run t first relative n (drop i c) ≡ run [] true relative 0 c → dotted_of relative c ≡ Some t
+    → arcs_run t first relative n (drop i c) ≡ arcs_run [] true relative 0 c → dotted_of relative c ≡ Some t
 run-end relative c t first n i f l o e =
     let d : drop i c ≡ [] = nil_from_length (drop i c) (omega (arith, length-drop i c)) in
     sym (run-dotted relative c f (grind (arith, nat_tests))) ∙ sym e ∙ rw d refl
@@ -264,7 +264,7 @@ run-end relative c t first n i f l o e =
 -- what a subidentifier that is too large leaves
 pub run-none : (relative : Bool) (c t : List ℕ) (first : Bool) (n i : ℕ) → is_finished c ≡ true → length c ≤ 64
     → i < length c → 2 ^ 121 ≤ n
-    → run t first relative n (drop i c) ≡ run [] true relative 0 c → dotted_of relative c ≡ None
+    → arcs_run t first relative n (drop i c) ≡ arcs_run [] true relative 0 c → dotted_of relative c ≡ None
 run-none relative c t first n i f l o h e =
     sym (run-dotted relative c f (grind (arith, nat_tests))) ∙ sym e
         ∙ run-over t first relative n (drop i c) (omega (arith, length-drop i c)) h

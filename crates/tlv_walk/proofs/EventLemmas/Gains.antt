@@ -11,18 +11,18 @@ use Rattle.tlv_walk.specs.Place.{IsOpen, Place, place_after, place_of_children}
 use Rattle.tlv_walk.specs.Events.{Begin, Bytes, End, Enter, EventValue, Pad, Unused, closing_event, events}
 use Rattle.tlv_walk.specs.Events.{opening_events, single_octets}
 use Rattle.tlv_walk.proofs.GrammarLemmas.Bounds.{fits}
-use Rattle.tlv_walk.proofs.GrammarLemmas.PushSteps.{Step, Grown, Ended, Refused, holder_so_far, follow, is_filled_by}
+use Rattle.tlv_walk.proofs.GrammarLemmas.PushSteps.{PushStep, Grown, Ended, Refused, holder_so_far, push_after, is_filled_by}
 use Rattle.tlv_walk.proofs.GrammarLemmas.PushSteps.{primitive_so_far, push, settle}
 use Rattle.tlv_walk.proofs.EventLemmas.Joined.{apart-before, apart-more, bytes_apart}
 
 -- the events of what a step gives
-abbrev pub step_events : Step → List EventValue
+abbrev pub step_events : PushStep → List EventValue
 step_events (Grown g) = events g
 step_events (Ended g) = events g
 step_events (Refused code) = []
 
 -- the end of an element that holds others, if a step of what it holds is its last
-abbrev pub closing : HeaderValue → Step → List EventValue
+abbrev pub closing : HeaderValue → PushStep → List EventValue
 closing h (Grown g) = cond (is_filled_by h g) (closing_event h g ∷ []) []
 closing h (Ended g) = closing_event h g ∷ []
 closing h (Refused code) = []
@@ -42,13 +42,13 @@ gained p (OpenHeader o) x = step_events (push p (OpenHeader o) x)
 gained p OpenEndOctets x = []
 
 -- the events of a step's forest are these, each octet by itself
-abbrev pub Brings : List EventValue → Step → Type 0
+abbrev pub Brings : List EventValue → PushStep → Type 0
 Brings es (Grown g) = single_octets (events g) ≡ single_octets es
 Brings es (Ended g) = single_octets (events g) ≡ single_octets es
 Brings es (Refused code) = Unit {0}
 
 -- a step brings its events
-step-brings : (s : Step) → Brings (step_events s) s
+step-brings : (s : PushStep) → Brings (step_events s) s
 step-brings (Grown g) = refl
 step-brings (Ended g) = refl
 step-brings (Refused code) = tt
@@ -60,9 +60,9 @@ end_octets-brings true false = tt
 end_octets-brings false b = tt
 
 -- events that a step brings are brought after others
-follow-brings : (f : Forest → Forest) (earlier yielded more : List EventValue) (s : Step)
+follow-brings : (f : Forest → Forest) (earlier yielded more : List EventValue) (s : PushStep)
     → ((g : Forest) → events (f g) ≡ earlier ++ events g) → Brings (yielded ++ more) s
-    → Brings ((earlier ++ yielded) ++ more) (follow f s)
+    → Brings ((earlier ++ yielded) ++ more) (push_after f s)
 follow-brings f earlier yielded more (Grown g) split e =
     ap single_octets (split g) ∙ apart-more earlier (events g) yielded more e
 follow-brings f earlier yielded more (Ended g) split e =
@@ -102,7 +102,7 @@ holder_so_far-brings h yielded more g e = elim (cases_Bool (is_filled_by h g)) [
 ]
 
 -- a step of what an element holds
-settle-brings : (h : HeaderValue) (yielded more : List EventValue) (s : Step) → Brings (yielded ++ more) s
+settle-brings : (h : HeaderValue) (yielded more : List EventValue) (s : PushStep) → Brings (yielded ++ more) s
     → Brings ((opening_events h ++ yielded) ++ (more ++ closing h s)) (settle h s)
 settle-brings h yielded more (Grown g) e = holder_so_far-brings h yielded more g e
 settle-brings h yielded more (Ended g) e = holder-brings h yielded more g e

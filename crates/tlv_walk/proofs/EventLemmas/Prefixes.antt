@@ -14,13 +14,13 @@ use Rattle.tlv_walk.proofs.EventLemmas.Joined.{apart-before, joined-from_apart}
 use Rattle.tlv_walk.proofs.EventLemmas.Gains.{Brings, gained, push-brings}
 
 -- the events are those, each octet by itself, and then others
-pub record GoesOn (xs ys : List EventValue) : Type 0 where
+pub record GoesFurther (xs ys : List EventValue) : Type 0 where
   pub others : List EventValue
   pub more : single_octets ys ≡ single_octets (xs ++ others)
 
 -- events that go on, and go on further
-goes-on-after : (xs ys zs new : List EventValue) → GoesOn xs ys → single_octets zs ≡ single_octets (ys ++ new)
-    → GoesOn xs zs
+goes-on-after : (xs ys zs new : List EventValue) → GoesFurther xs ys → single_octets zs ≡ single_octets (ys ++ new)
+    → GoesFurther xs zs
 goes-on-after xs ys zs new r e = record {
   others = r.others ++ new;
   more = e ∙ apart-before ys (xs ++ r.others) new r.more ∙ ap single_octets (append_assoc xs r.others new);
@@ -28,7 +28,7 @@ goes-on-after xs ys zs new r e = record {
 
 -- `events-go_on`, by the number of octets between
 forest-goes_on : (p : Place) (n : ℕ) (f g : Forest) (t : List ℕ) → length t ≡ n → IsOpen p f → IsOpen p g
-    → spelling g ≡ spelling f ++ t → GoesOn (events f) (events g)
+    → spelling g ≡ spelling f ++ t → GoesFurther (events f) (events g)
 forest-goes_on p zero f g [] l w v e =
     let same : g ≡ f = unique p g f v w (e ∙ append-nil (spelling f)) in
     record {
@@ -51,7 +51,7 @@ forest-goes_on p (suc n) f g t l w v e = elim (back t) [
 
 -- of two open forests at one place, if one spelling goes on from the other the events do
 pub events-go_on : (p : Place) (f g : Forest) (t : List ℕ) → IsOpen p f → IsOpen p g → spelling g ≡ spelling f ++ t
-    → GoesOn (events f) (events g)
+    → GoesFurther (events f) (events g)
 events-go_on p f g t w v e = forest-goes_on p (length t) f g t refl w v e
 
 -- the reading of a longer input goes on from that of the shorter
@@ -68,5 +68,5 @@ pub events-prefix : (w : Framing) (b c : List ℕ) (f g : Forest) → IsReading 
     → (es : List EventValue) × AreEqualJoined (events g) (events f ++ es)
 events-prefix w b c f g r s =
     let t : (t : List ℕ) × (spelling g ≡ spelling f ++ t) = reading-goes_on w b c f g r s in
-    let on : GoesOn (events f) (events g) = events-go_on (top_place w) f g t.0 r.is_open s.is_open t.1 in
+    let on : GoesFurther (events f) (events g) = events-go_on (top_place w) f g t.0 r.is_open s.is_open t.1 in
     (on.others, joined-from_apart (events g) (events f ++ on.others) on.more)

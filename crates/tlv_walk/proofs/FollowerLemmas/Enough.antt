@@ -44,14 +44,14 @@ module _ {A : Type 0} (job : Job A) (given : List ℕ) (f : Forest) (new : Sourc
   Settled e = IsFinalEnding e ⊎ ((new.last ≡ gave 0) × IsAtEnd new.left)
 
   -- what `ComesTo` says of each result
-  abbrev pub Returns : Result A DeviceFault → Type 0
-  Returns (Ok a) =
+  abbrev pub ComesToResult : Result A DeviceFault → Type 0
+  ComesToResult (Ok a) =
       (e : Ending) × (a ≡ job.returned f e) × EndsSo job.framing (take job.limit given) (job.is_enough f) e (Settled e)
-  Returns (Err ReadFailed) = new.last ≡ failed
-  Returns (Err WriteFailed) = ⊤
-  Returns (Err InputTooLong) = (job.limit < length given) × WantMore job (take job.limit given)
+  ComesToResult (Err ReadFailed) = new.last ≡ failed
+  ComesToResult (Err WriteFailed) = ⊤
+  ComesToResult (Err InputTooLong) = (job.limit < length given) × WantMore job (take job.limit given)
 
-  pub returns : (result : Result A DeviceFault) → ComesTo job given f new result → Returns result
+  pub returns : (result : Result A DeviceFault) → ComesTo job given f new result → ComesToResult result
   returns result (was_enough k) = (Done, refl, inl (k, refl))
   returns result (refused e k final) = (e, refl, inr (k.not_enough, k.is_ending, inl final))
   returns result (ended e k last end) = (e, refl, inr (k.not_enough, k.is_ending, inr (last, end)))
@@ -74,7 +74,7 @@ module _ {A : Type 0} (job : Job A) (given : List ℕ) (f : Forest) (new : Sourc
   comes_ok e (inr (k, x, inl final)) = refused e (has_ending e k x) final
   comes_ok e (inr (k, x, inr end)) = ended e (has_ending e k x) end.0 end.1
 
-  pub comes_to : (result : Result A DeviceFault) → Returns result → ComesTo job given f new result
+  pub comes_to : (result : Result A DeviceFault) → ComesToResult result → ComesTo job given f new result
   comes_to (Ok a) x = subst (λ (k : A). ComesTo job given f new (Ok k)) (sym x.1) (comes_ok x.0 x.2)
   comes_to (Err ReadFailed) x = read_failed x
   comes_to (Err WriteFailed) x = write_failed

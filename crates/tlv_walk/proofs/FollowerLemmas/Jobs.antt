@@ -16,7 +16,7 @@ use Rattle.tlv_walk.specs.Events.{EventValue, events}
 use Rattle.tlv_walk.specs.Follow.{Effect, effect_of, go_of}
 use Rattle.tlv_walk.specs.Forest.{Forest}
 use Rattle.tlv_walk.specs.Job.{Job, Runs, WantMore, device_states, read_failed, too_long, write_failed}
-use Rattle.tlv_walk.proofs.FollowerLemmas.Enough.{EndsSo, Returns, Settled, comes_to, returns}
+use Rattle.tlv_walk.proofs.FollowerLemmas.Enough.{EndsSo, ComesToResult, Settled, comes_to, returns}
 use Rattle.tlv_io.specs.Out.{Sends}
 use Rattle.tlv_walk.specs.Reading.{IsReading}
 
@@ -60,7 +60,7 @@ module _ {S A : Type 0} (next : S → EventValue → Effect S) (job : Job A) (s 
       let w = x.runs in
       let given : List ℕ = octets_given w.pieces in
       let same = enough (take job.limit given) w.reading (within_limit given) w.is_reading in
-      let k : Returns (drive_job next job.framing job.limit s) given w.reading new (Ok run) =
+      let k : ComesToResult (drive_job next job.framing job.limit s) given w.reading new (Ok run) =
           returns (drive_job next job.framing job.limit s) given w.reading new (Ok run) w.comes in record {
         pieces = w.pieces;
         failures = w.failures;

@@ -14,20 +14,20 @@ use Rattle.tlv_walk.specs.Place.{top_place}
 use Rattle.tlv_walk.specs.Reading.{IsReading, IsSoundList}
 use Rattle.tlv_walk.specs.Ending.{IsEnding, IsFault, done, empty, fault_ending, refused, short, tip}
 use Rattle.tlv_walk.proofs.GrammarLemmas.PushSteps.{Spells}
-use Rattle.tlv_walk.proofs.GrammarLemmas.Readings.{Run, Going, Halted, IsHalt, IsRun, halt-longer, halt-longest, is-run}
-use Rattle.tlv_walk.proofs.GrammarLemmas.Readings.{run, run-reading, unique}
+use Rattle.tlv_walk.proofs.GrammarLemmas.Readings.{PushRun, Going, Halted, IsHalt, IsRightRun, halt-longer, halt-longest, is-run}
+use Rattle.tlv_walk.proofs.GrammarLemmas.Readings.{push_all, run-reading, unique}
 use Rattle.tlv_walk.proofs.GrammarLemmas.Spellings.{front-same}
 use Rattle.tlv_walk.proofs.GrammarLemmas.Sound.{open-sound, sound-open_top, sound-whole}
 use Rattle.tlv_walk.proofs.GrammarLemmas.Faults.{fault-refused, refused-fault}
 
--- the ending of a run over n octets
-abbrev pub ending_of : ℕ → Run → Ending
+-- the ending of a push_all over n octets
+abbrev pub ending_of : ℕ → PushRun → Ending
 ending_of n (Going f) = cond (has_element f) (cond (is_whole f) Done (fault_ending Short n)) (fault_ending Empty n)
 ending_of n (Halted f code) = fault_ending code (length (spelling f))
 
 -- the ending that pushing gives
 abbrev pub ending : Framing → List ℕ → Ending
-ending w b = ending_of (length b) (run w b)
+ending w b = ending_of (length b) (push_all w b)
 
 -- an octet of the input is below 256
 octet-small : (s : List ℕ) (x : ℕ) (rest b : List ℕ) → s ++ x ∷ rest ≡ b → All (λ x. x < 256) b → x < 256
@@ -54,8 +54,8 @@ pub halt-ending : (w : Framing) (f : Forest) (code : FaultCode) (b : List ℕ) �
     → IsEnding w b (fault_ending code (length (spelling f)))
 halt-ending w f code b r k = refused f r.octet r.rest code (run-reading w (Halted f code) b r) r.front k
 
--- a right run has the ending that it gives
-run-ending : (w : Framing) (r : Run) (b : List ℕ) → All (λ x. x < 256) b → IsRun w r b
+-- a right push_all has the ending that it gives
+run-ending : (w : Framing) (r : PushRun) (b : List ℕ) → All (λ x. x < 256) b → IsRightRun w r b
     → IsEnding w b (ending_of (length b) r)
 run-ending w (Going f) b each r = going-ending w f b r
 run-ending w (Halted f code) b each r =
@@ -64,7 +64,7 @@ run-ending w (Halted f code) b each r =
 
 -- an input of octets has an ending
 pub is-ending : (w : Framing) (b : List ℕ) → All (λ x. x < 256) b → IsEnding w b (ending w b)
-is-ending w b each = run-ending w (run w b) b each (is-run w b each)
+is-ending w b each = run-ending w (push_all w b) b each (is-run w b each)
 
 -- the input is the spelling of an open forest with one or more elements in which nothing is open
 pub record IsDone (w : Framing) (b : List ℕ) : Type 0 where

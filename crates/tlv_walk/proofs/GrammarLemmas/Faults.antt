@@ -18,7 +18,7 @@ use Rattle.tlv_walk.specs.Place.{Fits, IsHeaderAt, IsOpen, Place, top_place}
 use Rattle.tlv_walk.specs.Ending.{IsFault, bad_inside, missing_end, bad_end, no_room, refused_octet, too_deep, overrun}
 use Rattle.tlv_walk.specs.Ending.{no_end, stray_end, tip}
 use Rattle.tlv_walk.proofs.GrammarLemmas.Bounds.{fits, fits-within, within-fits}
-use Rattle.tlv_walk.proofs.GrammarLemmas.PushSteps.{Step, Grown, Ended, Refused, begin, complete, origin, push}
+use Rattle.tlv_walk.proofs.GrammarLemmas.PushSteps.{PushStep, Grown, Ended, Refused, begin, complete, origin, push}
 use Rattle.tlv_walk.proofs.GrammarLemmas.PushSteps.{zero_between}
 use Rattle.tlv_walk.proofs.GrammarLemmas.PopHeaders.{push-scan}
 use Rattle.tlv_walk.proofs.GrammarLemmas.Tips.{IsTip, push-tip, refusal, tip-fact}
@@ -194,7 +194,7 @@ fault-refusal p f x code t (no_end i a) = rw (no-fit p 1 a)
 fault-refusal p f x code t (stray_end i d z) = rw (fits-within p.bound (p.offset + 1) (t.1 i), eq-eqb x 0 z, i, d)
 
 -- a step with a code is that refusal
-refusal-code : (s : Step) (code : FaultCode) → refusal s ≡ Some code → s ≡ Refused code
+refusal-code : (s : PushStep) (code : FaultCode) → refusal s ≡ Some code → s ≡ Refused code
 refusal-code (Grown g) code e = absurd (cc)
 refusal-code (Ended g) code e = absurd (cc)
 refusal-code (Refused c) code e = let same : c ≡ code = cc in ap Refused same

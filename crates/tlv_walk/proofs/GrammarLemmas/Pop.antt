@@ -10,13 +10,13 @@ use Rattle.tlv_walk.specs.Forest.{lead, opening, spelling}
 use Rattle.tlv_walk.specs.Place.{Fits, IsEntry, IsHeaderAt, IsOpen, Place, is_indefinite, place_after}
 use Rattle.tlv_walk.specs.Place.{place_of_children}
 use Rattle.tlv_walk.proofs.GrammarLemmas.Lengths.{LacksOctets}
-use Rattle.tlv_walk.proofs.GrammarLemmas.Bounds.{IsEndless, IsFull, definite-length, fits-inside, fits-within}
+use Rattle.tlv_walk.proofs.GrammarLemmas.Bounds.{IsEndless, HasAllContents, definite-length, fits-inside, fits-within}
 use Rattle.tlv_walk.proofs.GrammarLemmas.Bounds.{has_length, indefinite-endless, lacks-length, length-full}
 use Rattle.tlv_walk.proofs.GrammarLemmas.Bounds.{within-lacks, within-le}
 use Rattle.tlv_walk.proofs.GrammarLemmas.Spellings.{append_assoc-3, append_assoc-4, length-holder, length-opening}
 use Rattle.tlv_walk.proofs.GrammarLemmas.Spellings.{length-primitive}
 use Rattle.tlv_walk.proofs.GrammarLemmas.PushSteps.{IsWholeHolder, IsWholePrimitive, Grown, Ended, holder_so_far}
-use Rattle.tlv_walk.proofs.GrammarLemmas.PushSteps.{follow, is_filled_by, primitive_so_far, push, settle}
+use Rattle.tlv_walk.proofs.GrammarLemmas.PushSteps.{push_after, is_filled_by, primitive_so_far, push, settle}
 use Rattle.tlv_walk.proofs.GrammarLemmas.Push.{reaches, size-definite}
 use Rattle.tlv_walk.proofs.GrammarLemmas.PopHeaders.{back, Popped, header-popped, holder_begun-popped, lead-popped}
 use Rattle.tlv_walk.proofs.GrammarLemmas.PopHeaders.{front-popped, is_nil, is_push}
@@ -148,7 +148,7 @@ has-first_end_octet p (Primitive h c rest) w whole i f =
     record {
       is_open = (w.0, r.is_open);
       spelled = rw (r.spelled, append_assoc-3 (octets_of h) c (spelling rest) (0 ∷ []));
-      pushed = ap (follow (Primitive h c)) r.pushed;
+      pushed = ap (push_after (Primitive h c)) r.pushed;
     }
 has-first_end_octet p (Holder h inside rest) w whole i f =
     let r : HasFirstEndOctet (place_after p (extent h inside)) rest (with_first_end_octet rest) =
@@ -158,7 +158,7 @@ has-first_end_octet p (Holder h inside rest) w whole i f =
       is_open = (w.0, w.1, r.is_open);
       spelled =
           rw (r.spelled, append_assoc-4 (opening h) (spelling inside) (end_octets h.size) (spelling rest) (0 ∷ []));
-      pushed = ap (follow (Holder h inside)) r.pushed;
+      pushed = ap (push_after (Holder h inside)) r.pushed;
     }
 has-first_end_octet p (OpenPrimitive h c) w whole i f = absurd (cc)
 has-first_end_octet p (OpenHolder h inside) w whole i f = absurd (cc)
@@ -200,7 +200,7 @@ definite-popped : (p : Place) (h : HeaderValue) (inside : Forest) → is_indefin
     → (inside ≡ NoMore) ⊎ Popped (place_of_children p h) inside → Popped p (Holder h inside NoMore)
 definite-popped p h inside i w v below =
     let test : has_length h.size (contents_length h inside) ≡ true = definite-length h.size _ i w.2 in
-    let full : IsFull h.size (contents_length h inside) = length-full h.size _ test in
+    let full : HasAllContents h.size (contents_length h inside) = length-full h.size _ test in
     let none : length (end_octets h.size) ≡ 0 = ap length full.ends in
     let entry : IsEntry p true h = record {
       header = w.0.header;
@@ -234,7 +234,7 @@ padding-popped p w = record {
 -- what follows an element is popped: so are both
 followed : (p q : Place) (f : Forest → Forest) (o : List ℕ) (rest : Forest) → (r : Popped q rest)
     → IsOpen p (f r.from) → ((g : Forest) → spelling (f g) ≡ o ++ spelling g)
-    → ((x : ℕ) → push p (f r.from) x ≡ follow f (push q r.from x)) → Popped p (f rest)
+    → ((x : ℕ) → push p (f r.from) x ≡ push_after f (push q r.from x)) → Popped p (f rest)
 followed p q f o rest r w spelled pushed = record {
   from = f r.from;
   last = r.last;
@@ -242,7 +242,7 @@ followed p q f o rest r w spelled pushed = record {
   spelled =
       spelled rest ∙ ap (λ (t : List ℕ). o ++ t) r.spelled ∙ sym (append_assoc o (spelling r.from) (r.last ∷ []))
           ∙ ap (λ (t : List ℕ). t ++ r.last ∷ []) (sym (spelled r.from));
-  pushed = pushed r.last ∙ ap (follow f) r.pushed;
+  pushed = pushed r.last ∙ ap (push_after f) r.pushed;
 }
 
 -- an open forest has no octet, or is a shorter one and the octet pushed

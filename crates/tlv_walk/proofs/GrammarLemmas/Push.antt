@@ -15,14 +15,14 @@ use Rattle.tlv_walk.specs.Forest.{OpenPrimitive, PaddingOctet, Primitive, conten
 use Rattle.tlv_walk.specs.Forest.{lead, opening, spelling}
 use Rattle.tlv_walk.specs.Place.{Fits, IsEntry, IsHeaderAt, IsOpen, Place, place_after, place_of_children}
 use Rattle.tlv_walk.proofs.GrammarLemmas.Lengths.{LacksOctets}
-use Rattle.tlv_walk.proofs.GrammarLemmas.Bounds.{IsEndless, IsFull, fits, fits-inside, has_length, indefinite-endless}
+use Rattle.tlv_walk.proofs.GrammarLemmas.Bounds.{IsEndless, HasAllContents, fits, fits-inside, has_length, indefinite-endless}
 use Rattle.tlv_walk.proofs.GrammarLemmas.Bounds.{lead-zero, length-full, length-lacks, within-fits, within-le}
 use Rattle.tlv_walk.proofs.GrammarLemmas.Bounds.{within-outside}
 use Rattle.tlv_walk.proofs.GrammarLemmas.Spellings.{append_assoc-3, append_assoc-4, length-holder, length-opening}
 use Rattle.tlv_walk.proofs.GrammarLemmas.Spellings.{length-primitive}
-use Rattle.tlv_walk.proofs.GrammarLemmas.PushSteps.{IsWholePrimitive, IsWholeHolder, Step, origin, is_filled_by}
+use Rattle.tlv_walk.proofs.GrammarLemmas.PushSteps.{IsWholePrimitive, IsWholeHolder, PushStep, origin, is_filled_by}
 use Rattle.tlv_walk.proofs.GrammarLemmas.PushSteps.{holder_so_far, primitive_so_far, holder_begun, element_begun}
-use Rattle.tlv_walk.proofs.GrammarLemmas.PushSteps.{complete, begin, zero_between, follow, settle, push, Spells, IsStep}
+use Rattle.tlv_walk.proofs.GrammarLemmas.PushSteps.{complete, begin, zero_between, push_after, settle, push, Spells, IsStep}
 use Rattle.tlv_walk.proofs.GrammarLemmas.PushSteps.{Grown, Ended, Refused}
 
 -- if what an element holds ends within the bound inside, the element so far ends within that outside
@@ -98,7 +98,7 @@ primitive_so_far-sound p h c n header e most f =
 
 -- an element that holds others, with all its contents octets by its definite length
 pub holder-sound : (p : Place) (h : HeaderValue) (g : Forest) → IsEntry p true h → IsOpen (place_of_children p h) g
-    → is_whole g ≡ true → IsFull h.size (contents_length h g)
+    → is_whole g ≡ true → HasAllContents h.size (contents_length h g)
     → Spells p (opening h ++ spelling g) (Holder h g NoMore)
 holder-sound p h g entry w whole full =
     let none : length (end_octets h.size) ≡ 0 = ap length full.ends in
@@ -279,16 +279,16 @@ open_bit_string-step p h x w = elim (cases_eq x 0) [
 ]
 
 -- a step of what follows padding
-padding-step : (p : Place) (o : List ℕ) (s : Step) → (p.padding ≡ true) × (p.indefinite ≡ false) × Fits p 1
-    → IsStep (place_after p 1) o s → IsStep p (0 ∷ o) (follow PaddingOctet s)
+padding-step : (p : Place) (o : List ℕ) (s : PushStep) → (p.padding ≡ true) × (p.indefinite ≡ false) × Fits p 1
+    → IsStep (place_after p 1) o s → IsStep p (0 ∷ o) (push_after PaddingOctet s)
 padding-step p o (Grown g) w r = record { is_open = (w, r.is_open); spelled = ap (λ (t : List ℕ). 0 ∷ t) r.spelled }
 padding-step p o (Ended g) w r = absurd (true≢false (sym r.indefinite ∙ w.1))
 padding-step p o (Refused code) w r = tt
 
 -- a step of what follows a primitive
-primitive-step : (p : Place) (h : HeaderValue) (c o : List ℕ) (s : Step) → IsWholePrimitive p h c
+primitive-step : (p : Place) (h : HeaderValue) (c o : List ℕ) (s : PushStep) → IsWholePrimitive p h c
     → IsStep (place_after p (length (octets_of h) + length c)) o s
-    → IsStep p (octets_of h ++ (c ++ o)) (follow (Primitive h c) s)
+    → IsStep p (octets_of h ++ (c ++ o)) (push_after (Primitive h c) s)
 primitive-step p h c o (Grown g) w r = record {
   is_open = (w, r.is_open);
   spelled = ap (λ (t : List ℕ). octets_of h ++ (c ++ t)) r.spelled;
@@ -304,9 +304,9 @@ primitive-step p h c o (Ended g) w r = record {
 primitive-step p h c o (Refused code) w r = tt
 
 -- a step of what follows an element that holds others
-holder-step : (p : Place) (h : HeaderValue) (inside : Forest) (o : List ℕ) (s : Step) → IsWholeHolder p h inside
+holder-step : (p : Place) (h : HeaderValue) (inside : Forest) (o : List ℕ) (s : PushStep) → IsWholeHolder p h inside
     → IsOpen (place_of_children p h) inside → IsStep (place_after p (extent h inside)) o s
-    → IsStep p (opening h ++ (spelling inside ++ (end_octets h.size ++ o))) (follow (Holder h inside) s)
+    → IsStep p (opening h ++ (spelling inside ++ (end_octets h.size ++ o))) (push_after (Holder h inside) s)
 holder-step p h inside o (Grown g) w v r = record {
   is_open = (w, v, r.is_open);
   spelled = ap (λ (t : List ℕ). opening h ++ (spelling inside ++ (end_octets h.size ++ t))) r.spelled;
@@ -323,7 +323,7 @@ holder-step p h inside o (Ended g) w v r = record {
 holder-step p h inside o (Refused code) w v r = tt
 
 -- a step of what an element holds
-open_holder-step : (p : Place) (h : HeaderValue) (o : List ℕ) (s : Step) → IsEntry p true h
+open_holder-step : (p : Place) (h : HeaderValue) (o : List ℕ) (s : PushStep) → IsEntry p true h
     → IsStep (place_of_children p h) o s → IsStep p (opening h ++ o) (settle h s)
 open_holder-step p h o (Grown g) entry r =
     let e : Spells p (opening h ++ spelling g) (holder_so_far h g) = holder_so_far-sound p h g entry r.is_open in

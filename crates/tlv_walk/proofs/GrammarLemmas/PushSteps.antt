@@ -24,12 +24,12 @@ IsWholeHolder p h inside =
     IsElementAt p true h (extent h inside) × (is_whole inside ≡ true) × HasLength h.size (contents_length h inside)
 
 -- what an octet makes of an open forest
-pub data Step : Type 0 where
+pub data PushStep : Type 0 where
   -- this forest
-  Grown : (grown : Forest) → Step
+  Grown : (grown : Forest) → PushStep
   -- the end of the contents, which are these elements
-  Ended : (contents : Forest) → Step
-  Refused : (code : FaultCode) → Step
+  Ended : (contents : Forest) → PushStep
+  Refused : (code : FaultCode) → PushStep
 
 -- where a header that begins there begins
 abbrev pub origin : Place → Origin
@@ -58,13 +58,13 @@ element_begun true h = holder_begun h (lead h)
 element_begun false h = primitive_so_far h []
 
 -- a header is complete
-abbrev pub complete : Place → HeaderValue → Step
+abbrev pub complete : Place → HeaderValue → PushStep
 complete p h = cond (holds h && leb 128 p.depth) (Refused TooDeep)
     (cond (fits p (length (octets_of h) + announced_length h.size)) (Grown (element_begun (holds h) h))
         (Refused Overrun))
 
 -- octets of a header, by what they say
-abbrev pub begin : Place → List ℕ → Scan → Step
+abbrev pub begin : Place → List ℕ → Scan → PushStep
 begin p o Fresh = Grown (OpenHeader o)
 begin p o (High c k ds) = Grown (OpenHeader o)
 begin p o (Named c k n i) = Grown (OpenHeader o)
@@ -74,31 +74,31 @@ begin p o (Stuck code) = Refused code
 begin p o Over = Refused StrayEnd
 
 -- an octet 00 between encodings: inside an element of indefinite length, or if there is padding, or neither
-abbrev pub zero_between : Bool → Bool → Step
+abbrev pub zero_between : Bool → Bool → PushStep
 zero_between true padding = Grown OpenEndOctets
 zero_between false true = Grown (PaddingOctet NoMore)
 zero_between false false = Refused StrayEnd
 
 -- a step of what follows an element is a step of both
-abbrev pub follow : (Forest → Forest) → Step → Step
-follow f (Grown g) = Grown (f g)
-follow f (Ended g) = Ended (f g)
-follow f (Refused code) = Refused code
+abbrev pub push_after : (Forest → Forest) → PushStep → PushStep
+push_after f (Grown g) = Grown (f g)
+push_after f (Ended g) = Ended (f g)
+push_after f (Refused code) = Refused code
 
 -- a step of what an element holds is a step of the element
-abbrev pub settle : HeaderValue → Step → Step
+abbrev pub settle : HeaderValue → PushStep → PushStep
 settle h (Grown g) = Grown (holder_so_far h g)
 settle h (Ended g) = Grown (Holder h g NoMore)
 settle h (Refused code) = Refused code
 
 -- the octet x after an open forest
-abbrev pub push : Place → Forest → ℕ → Step
+abbrev pub push : Place → Forest → ℕ → PushStep
 push p NoMore x =
     cond (fits p 1) (cond (eqb x 0) (zero_between p.indefinite p.padding) (Grown (OpenHeader (x ∷ []))))
         (Refused MissingEnd)
-push p (PaddingOctet rest) x = follow PaddingOctet (push (place_after p 1) rest x)
-push p (Primitive h c rest) x = follow (Primitive h c) (push (place_after p (length (octets_of h) + length c)) rest x)
-push p (Holder h inside rest) x = follow (Holder h inside) (push (place_after p (extent h inside)) rest x)
+push p (PaddingOctet rest) x = push_after PaddingOctet (push (place_after p 1) rest x)
+push p (Primitive h c rest) x = push_after (Primitive h c) (push (place_after p (length (octets_of h) + length c)) rest x)
+push p (Holder h inside rest) x = push_after (Holder h inside) (push (place_after p (extent h inside)) rest x)
 push p (OpenPrimitive h c) x = Grown (primitive_so_far h (c ++ x ∷ []))
 push p (OpenHolder h inside) x = settle h (push (place_of_children p h) inside x)
 push p (OpenBitString h) x = cond (eqb x 0) (Grown (holder_so_far h NoMore)) (Refused BadInside)
@@ -120,7 +120,7 @@ pub record Ends (p : Place) (o : List ℕ) (g : Forest) : Type 0 where
   pub fits : Fits p (length (spelling g) + 2)
 
 -- a step is right
-abbrev pub IsStep : Place → List ℕ → Step → Type 0
+abbrev pub IsStep : Place → List ℕ → PushStep → Type 0
 IsStep p o (Grown g) = Spells p o g
 IsStep p o (Ended g) = Ends p o g
 IsStep p o (Refused code) = Unit {0}

@@ -11,7 +11,7 @@ use Rattle.tlv_walk.specs.Forest.{Forest, NoMore, spelling}
 use Rattle.tlv_walk.specs.Place.{IsOpen, Place, top_place}
 use Rattle.tlv_walk.specs.Reading.{IsPrefixOf, IsReading}
 use Rattle.tlv_walk.proofs.GrammarLemmas.Spellings.{front-of, front-same}
-use Rattle.tlv_walk.proofs.GrammarLemmas.PushSteps.{Step, Grown, Ended, Refused, IsStep, Spells, push}
+use Rattle.tlv_walk.proofs.GrammarLemmas.PushSteps.{PushStep, Grown, Ended, Refused, IsStep, Spells, push}
 use Rattle.tlv_walk.proofs.GrammarLemmas.Push.{push-sound}
 use Rattle.tlv_walk.proofs.GrammarLemmas.PopHeaders.{Popped, back, is_nil, is_push}
 use Rattle.tlv_walk.proofs.GrammarLemmas.Pop.{pop}
@@ -92,38 +92,38 @@ push-complete p f g x w v e =
     rw (unique p q.popped.from f q.popped.is_open w q.spelled, q.octet) at q.popped.pushed
 
 -- one octet after another, up to the first that is refused
-pub data Run : Type 0 where
-  Going : (forest : Forest) → Run
-  Halted : (forest : Forest) (code : FaultCode) → Run
+pub data PushRun : Type 0 where
+  Going : (forest : Forest) → PushRun
+  Halted : (forest : Forest) (code : FaultCode) → PushRun
 
 -- at the top no contents end
-abbrev pub took : Forest → Step → Run
+abbrev pub took : Forest → PushStep → PushRun
 took f (Grown g) = Going g
 took f (Ended g) = Halted f StrayEnd
 took f (Refused code) = Halted f code
 
--- a run over one more octet
-abbrev pub turn : Framing → Run → ℕ → Run
-turn w (Going f) x = took f (push (top_place w) f x)
-turn w (Halted f code) x = Halted f code
+-- a push_all over one more octet
+abbrev pub push_next : Framing → PushRun → ℕ → PushRun
+push_next w (Going f) x = took f (push (top_place w) f x)
+push_next w (Halted f code) x = Halted f code
 
--- a run over more octets
-abbrev pub run_from : Framing → Run → List ℕ → Run
-run_from w r [] = r
-run_from w r (x ∷ xs) = run_from w (turn w r x) xs
+-- a push_all over more octets
+abbrev pub push_all_from : Framing → PushRun → List ℕ → PushRun
+push_all_from w r [] = r
+push_all_from w r (x ∷ xs) = push_all_from w (push_next w r x) xs
 
--- the run over an input
-abbrev pub run : Framing → List ℕ → Run
-run w b = run_from w (Going NoMore) b
+-- the push_all over an input
+abbrev pub push_all : Framing → List ℕ → PushRun
+push_all w b = push_all_from w (Going NoMore) b
 
 -- what was taken
-abbrev pub forest_of : Run → Forest
+abbrev pub forest_of : PushRun → Forest
 forest_of (Going f) = f
 forest_of (Halted f code) = f
 
 -- what pushing gives, up to the first octet that is refused
 abbrev pub reading : Framing → List ℕ → Forest
-reading w b = forest_of (run w b)
+reading w b = forest_of (push_all w b)
 
 -- the octet after the forest is refused
 pub record IsHalt (w : Framing) (f : Forest) (code : FaultCode) (b : List ℕ) : Type 0 where
@@ -133,14 +133,14 @@ pub record IsHalt (w : Framing) (f : Forest) (code : FaultCode) (b : List ℕ) :
   pub front : spelling f ++ octet ∷ rest ≡ b
   pub refused : push (top_place w) f octet ≡ Refused code
 
--- a run is right
-abbrev pub IsRun : Framing → Run → List ℕ → Type 0
-IsRun w (Going f) b = Spells (top_place w) b f
-IsRun w (Halted f code) b = IsHalt w f code b
+-- a push_all is right
+abbrev pub IsRightRun : Framing → PushRun → List ℕ → Type 0
+IsRightRun w (Going f) b = Spells (top_place w) b f
+IsRightRun w (Halted f code) b = IsHalt w f code b
 
--- a step of a run is right
-took-run : (w : Framing) (f : Forest) (x : ℕ) (s : Step) → IsOpen (top_place w) f → push (top_place w) f x ≡ s
-    → IsStep (top_place w) (spelling f ++ x ∷ []) s → IsRun w (took f s) (spelling f ++ x ∷ [])
+-- a step of a push_all is right
+took-run : (w : Framing) (f : Forest) (x : ℕ) (s : PushStep) → IsOpen (top_place w) f → push (top_place w) f x ≡ s
+    → IsStep (top_place w) (spelling f ++ x ∷ []) s → IsRightRun w (took f s) (spelling f ++ x ∷ [])
 took-run w f x (Grown g) v e r = r
 took-run w f x (Ended g) v e r = absurd (true≢false (sym r.indefinite))
 took-run w f x (Refused code) v e r = record { is_open = v; octet = x; rest = []; front = refl; refused = e }
@@ -157,23 +157,23 @@ halt-longer w f code b c r =
       refused = r.refused;
     }
 
--- a run that is right is so after one more octet
-turn-run : (w : Framing) (r : Run) (b : List ℕ) (x : ℕ) → x < 256 → IsRun w r b → IsRun w (turn w r x) (b ++ x ∷ [])
+-- a push_all that is right is so after one more octet
+turn-run : (w : Framing) (r : PushRun) (b : List ℕ) (x : ℕ) → x < 256 → IsRightRun w r b → IsRightRun w (push_next w r x) (b ++ x ∷ [])
 turn-run w (Going f) b x h r =
     rw (← r.spelled) (took-run w f x (push (top_place w) f x) r.is_open refl (push-sound (top_place w) f x h r.is_open))
 turn-run w (Halted f code) b x h r = halt-longer w f code b (x ∷ []) r
 
 -- and after more octets
-run_from-run : (w : Framing) (r : Run) (b xs : List ℕ) → All (λ x. x < 256) xs → IsRun w r b
-    → IsRun w (run_from w r xs) (b ++ xs)
+run_from-run : (w : Framing) (r : PushRun) (b xs : List ℕ) → All (λ x. x < 256) xs → IsRightRun w r b
+    → IsRightRun w (push_all_from w r xs) (b ++ xs)
 run_from-run w r b [] each v = rw (append-nil b) v
 run_from-run w r b (x ∷ xs) each v =
     rw (append_assoc b (x ∷ []) xs) at
-    (run_from-run w (turn w r x) (b ++ x ∷ []) xs (All-tail (λ x. x < 256) x xs each)
+    (run_from-run w (push_next w r x) (b ++ x ∷ []) xs (All-tail (λ x. x < 256) x xs each)
         (turn-run w r b x (All-head (λ x. x < 256) x xs each) v))
 
--- the run over an input is right
-pub is-run : (w : Framing) (b : List ℕ) → All (λ x. x < 256) b → IsRun w (run w b) b
+-- the push_all over an input is right
+pub is-run : (w : Framing) (b : List ℕ) → All (λ x. x < 256) b → IsRightRun w (push_all w b) b
 is-run w b each = run_from-run w (Going NoMore) [] b each (record { is_open = tt; spelled = refl })
 
 -- no open forest spells the octet that is refused
@@ -196,8 +196,8 @@ halt-longest w f code b r g v q = elim (cases_lt (length (spelling f)) (length (
   | inr less ↦ less
 ]
 
--- a right run holds the reading
-pub run-reading : (w : Framing) (r : Run) (b : List ℕ) → IsRun w r b → IsReading w b (forest_of r)
+-- a right push_all holds the reading
+pub run-reading : (w : Framing) (r : PushRun) (b : List ℕ) → IsRightRun w r b → IsReading w b (forest_of r)
 run-reading w (Going f) b r = record {
   is_open = r.is_open;
   is_prefix = ([], append-nil (spelling f) ∙ r.spelled);
@@ -211,13 +211,13 @@ run-reading w (Halted f code) b r = record {
 
 -- an input of octets has a reading
 pub is-reading : (w : Framing) (b : List ℕ) → All (λ x. x < 256) b → IsReading w b (reading w b)
-is-reading w b each = run-reading w (run w b) b (is-run w b each)
+is-reading w b each = run-reading w (push_all w b) b (is-run w b each)
 
 -- after octets that are all read others can be read too
 pub reading-longer : (w : Framing) (f : Forest) (b xs : List ℕ) → All (λ x. x < 256) xs → IsReading w b f
     → spelling f ≡ b → (g : Forest) × IsReading w (b ++ xs) g
 reading-longer w f b xs each r e =
-    let k : Run = run_from w (Going f) xs in
+    let k : PushRun = push_all_from w (Going f) xs in
     (forest_of k, run-reading w k (b ++ xs) (run_from-run w (Going f) b xs each (record {
       is_open = r.is_open;
       spelled = e;

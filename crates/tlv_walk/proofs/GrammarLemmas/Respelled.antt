@@ -65,7 +65,7 @@ joined constructed inner others begins far offset =
     own constructed offset ++ (inner (offset + begins) ++ others (offset + far))
 
 -- if it holds `count` octets, and `rest` octets are after it
-record Joins (constructed : Bool) (inner others : ℕ → List ℕ) (begins count far rest : ℕ) : Type 0 where
+record JoinsOffsets (constructed : Bool) (inner others : ℕ → List ℕ) (begins count far rest : ℕ) : Type 0 where
   pub after : ComeAfter (joined constructed inner others begins far)
   pub within : AreWithin (joined constructed inner others begins far) (far + rest)
   pub of_own : (offset : ℕ) → is_among offset (joined constructed inner others begins far offset) ≡ not constructed
@@ -76,7 +76,7 @@ record Joins (constructed : Bool) (inner others : ℕ → List ℕ) (begins coun
 
 joins : (constructed : Bool) (inner others : ℕ → List ℕ) (begins count far rest : ℕ) → 1 ≤ begins → begins + count ≤ far
     → ComeAfter inner → AreWithin inner count → ComeAfter others → AreWithin others rest
-        → Joins constructed inner others begins count far rest
+        → JoinsOffsets constructed inner others begins count far rest
 joins constructed inner others begins count far rest some on inner_after inner_within others_after others_within =
     record {
   after = λ offset i less.
@@ -213,7 +213,7 @@ module _ (form : Bool → Bool) (definite : form false ≡ false) where
           (arith, length-append begins (held.octets ++ (ends ++ r.octets)),
               length-append held.octets (ends ++ r.octets), length-append ends r.octets) in
       let far : ℕ = length begins + (length held.octets + length ends) in
-      let joint : Joins constructed held.names r.names (length begins) (length held.octets) far (length r.octets) =
+      let joint : JoinsOffsets constructed held.names r.names (length begins) (length held.octets) far (length r.octets) =
       joins constructed held.names r.names (length begins) (length held.octets) far (length r.octets) some (omega arith)
       held.names_after held.names_within r.names_after r.names_within in
       let lead_is : length first ≡ length (lead h) = ap (λ (k : Bool). length (lead-for k h.number)) (sym is) in

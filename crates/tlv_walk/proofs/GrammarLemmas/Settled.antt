@@ -12,7 +12,7 @@ use Rattle.tlv_walk.specs.Place.{Fits, IsOpen, Place, bound_in, place_after, pla
 use Rattle.tlv_walk.specs.Stack.{IsFilled}
 use Rattle.tlv_walk.specs.Private.Zipper.{AreLayers, AreWhole, Layer, frames_of, place_in, spelling_of_layers}
 use Rattle.tlv_walk.specs.Stands.{is_end_at}
-use Rattle.tlv_walk.proofs.GrammarLemmas.Bounds.{IsFull, fits-inside, has_length, length-full}
+use Rattle.tlv_walk.proofs.GrammarLemmas.Bounds.{HasAllContents, fits-inside, has_length, length-full}
 use Rattle.tlv_walk.proofs.GrammarLemmas.PushSteps.{Spells, is_filled_by}
 use Rattle.tlv_walk.proofs.GrammarLemmas.Push.{holder-sound, reaches, unfilled-lacks}
 use Rattle.tlv_walk.proofs.GrammarLemmas.Spellings.{length-opening}
@@ -31,7 +31,7 @@ pub record IsEnded (w : Framing) (l : Layer) (ls : List Layer) (f : Forest) : Ty
   pub same_end : end_in w ls (followed_by l.before (Holder l.header f NoMore)) ≡ end_in w (l ∷ ls) f
 
 -- what is filled has all its contents octets
-pub filled-full : (h : HeaderValue) (f : Forest) → is_filled_by h f ≡ true → IsFull h.size (contents_length h f)
+pub filled-full : (h : HeaderValue) (f : Forest) → is_filled_by h f ≡ true → HasAllContents h.size (contents_length h f)
 filled-full h f e =
     let parts : (is_whole f ≡ true) × (has_length h.size (contents_length h f) ≡ true) = and_parts _ _ e in
     length-full h.size _ parts.1

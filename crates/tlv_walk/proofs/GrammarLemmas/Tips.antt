@@ -8,22 +8,22 @@ use Rattle.tlv_walk.specs.Place.{Fits, IsOpen, Place, place_after, place_of_chil
 use Rattle.tlv_walk.specs.Ending.{tip}
 use Rattle.tlv_walk.proofs.GrammarLemmas.Bounds.{fits-inside, lacks-within, within-le}
 use Rattle.tlv_walk.proofs.GrammarLemmas.Spellings.{length-holder, length-opening, length-primitive}
-use Rattle.tlv_walk.proofs.GrammarLemmas.PushSteps.{Step, Grown, Ended, Refused, follow, push, settle}
+use Rattle.tlv_walk.proofs.GrammarLemmas.PushSteps.{PushStep, Grown, Ended, Refused, push_after, push, settle}
 
 -- the code of a refusal
-abbrev pub refusal : Step → Option FaultCode
+abbrev pub refusal : PushStep → Option FaultCode
 refusal (Grown g) = None
 refusal (Ended g) = None
 refusal (Refused code) = Some code
 
 -- a step of what follows an element is refused if that of both is
-refusal-follow : (f : Forest → Forest) (s : Step) → refusal (follow f s) ≡ refusal s
+refusal-follow : (f : Forest → Forest) (s : PushStep) → refusal (push_after f s) ≡ refusal s
 refusal-follow f (Grown g) = refl
 refusal-follow f (Ended g) = refl
 refusal-follow f (Refused code) = refl
 
 -- a step of what an element holds is refused if that of the element is
-refusal-settle : (h : HeaderValue) (s : Step) → refusal (settle h s) ≡ refusal s
+refusal-settle : (h : HeaderValue) (s : PushStep) → refusal (settle h s) ≡ refusal s
 refusal-settle h (Grown g) = refl
 refusal-settle h (Ended g) = refl
 refusal-settle h (Refused code) = refl

@@ -199,7 +199,7 @@ fast_enters w v piece named f count o k e begins front name shallow fits enter =
     let completed : Completed w r o h = record {
       valid = begins'.valid;
       octets = whole;
-      offset = begins'.place;
+      offset = begins'.offset;
       named = begins'.named;
       shallow = shallow;
       fits =
@@ -226,7 +226,7 @@ fast_may_enter w piece named f count o begins front fewer limit shallow fits =
     let whole : octets_of h ≡ o = take-append-drop f.id_len o in
     let begins' : BeginsWith piece w.offset named h =
         subst (λ (x : List ℕ). BeginsWith piece w.offset named (new_header f x)) (sym front) begins.begins in
-    let there : h.offset ≡ w.offset = begins'.place in
+    let there : h.offset ≡ w.offset = begins'.offset in
     record {
       valid = begins'.valid;
       fewer = omega (arith, there);

@@ -210,9 +210,9 @@ used_up [] h = refl
 used_up (x ∷ p) h = absurd (omega arith)
 
 -- the first octet of a piece, and the others
-pub first_octet : (p : List ℕ) → 1 ≤ length p → p ≡ get_or p 0 0 ∷ take (length p - 1) (drop 1 p)
-first_octet [] h = absurd (omega arith)
-first_octet (x ∷ p) h = ap (λ (l : List ℕ). x ∷ l) (sym (take_all (length (x ∷ p) - 1) p (omega arith)))
+pub first_and_others : (p : List ℕ) → 1 ≤ length p → p ≡ get_or p 0 0 ∷ take (length p - 1) (drop 1 p)
+first_and_others [] h = absurd (omega arith)
+first_and_others (x ∷ p) h = ap (λ (l : List ℕ). x ∷ l) (sym (take_all (length (x ∷ p) - 1) p (omega arith)))
 
 -- an octet below the bound
 pub within_next : (b : Option ℕ) (n : ℕ) → IsWithin b n → room_to b n ≢ Some 0 → IsWithin b (n + 1)
@@ -282,9 +282,9 @@ give_some octets piece room (inl some) used = some
 give_some octets piece room (inr k) used = let z : [] ≡ k.0 ∷ k.1 = sym used ∙ k.2 in absurd (cc)
 
 -- with another octet
-pub pushed_place : (q p : HeadReaderState) (x offset : ℕ) → p ≡ with_octet q x → q.offset + length q.octets ≡ offset
+pub pushed_end : (q p : HeadReaderState) (x offset : ℕ) → p ≡ with_octet q x → q.offset + length q.octets ≡ offset
     → p.offset + length p.octets ≡ offset + 1
-pushed_place q p x offset e place =
+pushed_end q p x offset e place =
     omega
         (arith, ap (λ (r : HeadReaderState). r.offset) e, ap (λ (r : HeadReaderState). length r.octets) e,
             length-append q.octets (x ∷ []))

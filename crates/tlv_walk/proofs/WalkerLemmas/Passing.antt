@@ -31,9 +31,9 @@ whole_octets : (w : WalkerState) (piece : List ℕ) (p : WholePrimitive) → Can
 whole_octets w piece p can =
     ap (λ (n : ℕ). take n piece) can.octets ∙ take-add p.header (announced_length p.fields.size) piece
 
-contents_length : (w : WalkerState) (piece : List ℕ) (p : WholePrimitive) → CanPass w piece p
+passed_length : (w : WalkerState) (piece : List ℕ) (p : WholePrimitive) → CanPass w piece p
     → length (contents_at p piece) ≡ announced_length p.fields.size
-contents_length w piece p can =
+passed_length w piece p can =
     length-take-le (announced_length p.fields.size) (drop p.header piece)
         (omega (arith, can.octets, can.within, length-drop p.header piece))
 
@@ -48,14 +48,14 @@ contents_whole w piece p can =
         ∙ contents_after p.fields (take p.header piece) (contents_at p piece)
 
 -- all of its octets are there
-pub is_whole : (w : WalkerState) (piece : List ℕ) (p : WholePrimitive) → CanPass w piece p
+pub is_whole_element : (w : WalkerState) (piece : List ℕ) (p : WholePrimitive) → CanPass w piece p
     → IsWholeElement (header_at p piece) (take p.octets piece)
-is_whole w piece p can = record {
+is_whole_element w piece p can = record {
   header =
       ap₂ (λ (l r : List ℕ). l ++ r) (take-append-drop p.fields.id_len (take p.header piece))
           (contents_whole w piece p can)
       ∙ sym (whole_octets w piece p can);
-  contents = sym (ap length (contents_whole w piece p can) ∙ contents_length w piece p can);
+  contents = sym (ap length (contents_whole w piece p can) ∙ passed_length w piece p can);
 }
 
 -- what a walker becomes that took it, and has yielded so many events
@@ -74,7 +74,7 @@ yields_header w piece p can =
     let form : (f.constructed || is_wrapper f.named f.class f.constructed f.number f.size) ≡ false =
     ap₂ (λ (c n : Bool). c || is_wrapper n f.class c f.number f.size) can.primitive can.begins.begins.named in
     let end : w.offset + p.octets ≡ f.offset + length o + announced_length f.size =
-        omega (arith, can.begins.begins.place, can.octets, length-take-le p.header piece can.begins.within) in
+        omega (arith, can.begins.begins.offset, can.octets, length-take-le p.header piece can.begins.within) in
     fast_enters w _ piece false f p.header o kind.Primitive can.phase can.begins refl (sym can.unnamed)
         (λ e. absurd (true≢false (sym e ∙ form)))
     (subst (IsWithin (bound_of w.stack)) end can.fits) (form, refl)
@@ -85,12 +85,12 @@ yields_primitive w piece p n can =
     let f : HeaderFields = p.fields in
     let o : List ℕ = take p.header piece in
     let c : List ℕ = contents_at p piece in
-    let size : length c ≡ announced_length f.size = contents_length w piece p can in
+    let size : length c ≡ announced_length f.size = passed_length w piece p can in
     let offset : ℕ = f.offset + length o in
     let u : WalkerState = after_header w (phase.InPrimitive (announced_length f.size)) offset in
     let v : PhaseValue → ℕ → WalkerState = λ q k. record w { phase = q; offset = k; events = n; has_element = true } in
     let end : offset + length c ≡ w.offset + p.octets =
-        omega (arith, can.begins.begins.place, can.octets, length-take-le p.header piece can.begins.within, size) in
+        omega (arith, can.begins.begins.offset, can.octets, length-take-le p.header piece can.begins.within, size) in
     let both : Continues w (v phase.Between (offset + length c)) (o ++ c)
         (Begin (header_at p piece) ∷ Bytes c ∷ End ∷ []) =
     continues_both w u _ o c (Begin (header_at p piece) ∷ []) (Bytes c ∷ End ∷ []) (yields_header w piece p can)

@@ -27,8 +27,8 @@ use Rattle.tlv_walk.specs.Stands.{CanTake}
 use Rattle.tlv_walk.specs.WalkerState.{HasOctets, IsAfterEvent, WalkerState}
 
 -- an event was yielded, and the walker is at this offset
-pub record YieldsAt (old new : WalkerState) (offset : ℕ) : Type 0 where
-  pub place : new.offset ≡ offset
+pub record YieldsAt (old new : WalkerState) (end : ℕ) : Type 0 where
+  pub offset : new.offset ≡ end
   pub events : new.events ≡ old.events + 1
   pub within : new.events ≤ new.offset
   pub after_event : IsAfterEvent new.phase
@@ -58,7 +58,7 @@ CanRead w piece = CanBegin w piece ⊎ (HasBegunHeader w.phase × (piece ≢ [])
 -- the walker is after the octets that the reader has; if those are none, a header begins with the piece
 pub record CanReadOn (w : WalkerState) (r : HeadReaderState) (piece : List ℕ) : Type 0 where
   pub unfinished : r.done ≡ false
-  pub place : r.offset + length r.octets ≡ w.offset
+  pub end : r.offset + length r.octets ≡ w.offset
   pub fewer : w.events + length w.stack ≤ r.offset
   pub first : (r.octets ≢ []) ⊎ CanBegin w piece
 

@@ -6,5 +6,5 @@ use Rattle.tlv_head.proofs.laws.one_header.Goals as goal
 pub returns : goal.returns
 returns c = λ input offset named h g p q.
     let origin : origin_of h ≡ origin_of g =
-    (λ i. record { offset = (p.place ∙ sym q.place) i; named = (p.named ∙ sym q.named) i }) in
+    (λ i. record { offset = (p.offset ∙ sym q.offset) i; named = (p.named ∙ sym q.named) i }) in
     one-header h g p.rest q.rest p.valid q.valid origin (sym p.octets ∙ q.octets)

@@ -1,12 +1,12 @@
 use Rattle.std.proofs.Common.{rules, true}
 use Rattle.std.proofs.lemmas.Result.{err_from_is_err_and}
 use Rattle.tlv_walk.proofs.FollowerLemmas.Parts.{part_fails, part_whole}
-use Rattle.tlv_walk.proofs.WalkerLemmas.Passing.{is_whole}
+use Rattle.tlv_walk.proofs.WalkerLemmas.Passing.{is_whole_element}
 use Rattle.tlv_walk.proofs.one_turn.follow_found.Goals as goal
 
 pub whole-requires : goal.whole-requires
 whole-requires g c = rw c.new-header.ensures (record {
-  whole = is_whole c.args.walker.now c.args.piece.now.now c.args.primitive.now c.requires.can;
+  whole = is_whole_element c.args.walker.now c.args.piece.now.now c.args.primitive.now c.requires.can;
 })
 
 pub returns-in_err-whole : goal.returns-in_err-whole

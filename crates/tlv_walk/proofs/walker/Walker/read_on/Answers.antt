@@ -10,20 +10,20 @@ use Rattle.tlv_walk.specs.Private.Stack.{room_to}
 use Rattle.tlv_walk.specs.HasRead.{event_value_of}
 use Rattle.tlv_walk.specs.WalkerFields.{walker_state_of}
 use Rattle.tlv_walk.proofs.WalkerLemmas.HeaderRefusals.{refuses_header}
-use Rattle.tlv_walk.proofs.WalkerLemmas.HeaderSteps.{HasTaken, first_octet, give_room, give_some, pushed_place}
+use Rattle.tlv_walk.proofs.WalkerLemmas.HeaderSteps.{HasTaken, first_and_others, give_room, give_some, pushed_end}
 use Rattle.tlv_walk.proofs.WalkerLemmas.HeaderSteps.{pushed_some, taken_more, yields_unfinished, used_up, whole_enters}
 use Rattle.tlv_walk.proofs.WalkerLemmas.HeaderSteps.{whole_yields, within_next}
 use Rattle.tlv_walk.proofs.walker.Walker.read_on.Goals as goal
 
 pub loop-piece-preserved : goal.loop-piece-preserved
 loop-piece-preserved c =
-    let first = first_octet c.loop-piece.piece.now c.in-len1-up.len_at_least in
+    let first = first_and_others c.loop-piece.piece.now c.in-len1-up.len_at_least in
     elim c.in-More.ensures.pushes [
       | more some front same ↦ record {
         same = c.loop-piece.invariant.same;
         unfinished = ap (λ (r : HeadReaderState). r.done) same;
         start = ap (λ (r : HeadReaderState). r.offset) same ∙ c.loop-piece.invariant.start;
-        place = pushed_place c.loop-piece.reader _ _ _ same c.loop-piece.invariant.place;
+        end = pushed_end c.loop-piece.reader _ _ _ same c.loop-piece.invariant.end;
         taken = omega (arith, ap length first, c.loop-piece.invariant.taken);
         within =
             within_next c.bound-bound.result c.loop-piece.offset c.loop-piece.invariant.within
@@ -46,7 +46,7 @@ enter_slowly-requires-clause-enter c =
           whole_enters c.loop-piece.self c.loop-piece.reader _ c.len-depth.result c.loop-piece.offset c.in-Whole.header
           (subst (λ (m : WalkerState). m.events + length m.stack ≤ c.loop-piece.reader.offset) (sym i.same)
               (omega (arith, c.requires.read.fewer, i.start)))
-              i.place
+              i.end
           (omega (arith, c.requires.limit, i.taken, c.in-len1-up.len_at_least))
               (c.len-depth.ensures.value ∙ ap (λ (m : WalkerState). length m.stack) same) completes
           (subst (λ (o : Option ℕ). FitsThere c.in-Whole.header o c.len-depth.result) room there)
@@ -60,7 +60,7 @@ returns-in-Whole-clause-yields c = λ w over.
       | whole header completes there done ↦
           whole_yields w c.loop-piece.self c.enter_slowly.new.self c.args.reader c.loop-piece.reader
               _ c.loop-piece.piece.now _ _ c.in-Whole.header (event_value_of c.enter_slowly.result) over'
-          c.loop-piece.invariant.read (first_octet c.loop-piece.piece.now c.in-len1-up.len_at_least) completes
+          c.loop-piece.invariant.read (first_and_others c.loop-piece.piece.now c.in-len1-up.len_at_least) completes
               c.enter_slowly.ensures.enters
     ]
 
@@ -78,8 +78,8 @@ returns-in-Refused-clause-yields c = λ w over.
           inl
               (refuses_header w c.args.self.now c.args.reader c.loop-piece.reader c.args.piece.now.now
                   c.loop-piece.piece.now _ x c.len-depth.result c.loop-piece.offset c.in-Refused.fault over i.read
-          (first_octet c.loop-piece.piece.now c.in-len1-up.len_at_least)
-              (subst (λ (b : Option ℕ). IsWithin b c.loop-piece.offset) bound i.within) i.place
+          (first_and_others c.loop-piece.piece.now c.in-len1-up.len_at_least)
+              (subst (λ (b : Option ℕ). IsWithin b c.loop-piece.offset) bound i.within) i.end
           (c.len-depth.ensures.value ∙ ap (λ (m : WalkerState). length m.stack) c.self.view_is)
           (λ none e. give_room c.loop-piece.reader.octets c.loop-piece.piece.now
               (room_to c.bound-bound.result c.loop-piece.offset) i.first none (left ∙ e))
@@ -98,7 +98,7 @@ returns-clause-yields c = λ w over.
     yields_unfinished w (walker_state_of c.self-2.inside) c.args.reader c.loop-piece.reader c.args.piece.now.now
         c.loop-piece.offset (subst (λ (m : WalkerState). HandsOver w m c.args.reader) (sym same) over)
     (subst (HasTaken c.args.reader c.loop-piece.reader c.args.piece.now.now) used i.read)
-        (give_some c.loop-piece.reader.octets c.loop-piece.piece.now _ i.first used) i.place
+        (give_some c.loop-piece.reader.octets c.loop-piece.piece.now _ i.first used) i.end
     (subst (λ (b : Option ℕ). IsWithin b c.loop-piece.offset) bound i.within)
 
 pub returns-in-Refused-clause-steps : goal.returns-in-Refused-clause-steps
@@ -109,14 +109,14 @@ returns-in-Whole-clause-steps c =
     let i = c.loop-piece.invariant in
     let e = c.enter_slowly.ensures in
     let x : ℕ = get_or c.loop-piece.piece.now 0 0 in
-    let first = first_octet c.loop-piece.piece.now c.in-len1-up.len_at_least in
+    let first = first_and_others c.loop-piece.piece.now c.in-len1-up.len_at_least in
     elim c.in-Whole.ensures.pushes [
       | whole header completes there done ↦ (
         record {
           taken =
               omega
-                  (arith, e.yields.place, completes.offset, ap length completes.octets,
-                      length-append c.loop-piece.reader.octets (x ∷ []), i.place, i.taken, ap length first);
+                  (arith, e.yields.offset, completes.offset, ap length completes.octets,
+                      length-append c.loop-piece.reader.octets (x ∷ []), i.end, i.taken, ap length first);
           events = e.yields.events ∙ ap (λ (m : WalkerState). m.events + 1) i.same;
           within = e.yields.within;
           after_event = e.yields.after_event;

@@ -9,7 +9,7 @@ invariant-loop-piece l = record {
   same : l.self ≡ l.fn.self;
   unfinished : l.reader.done ≡ false;
   start : l.reader.offset ≡ l.fn.reader.offset;
-  place : l.reader.offset + length l.reader.octets ≡ l.offset;
+  end : l.reader.offset + length l.reader.octets ≡ l.offset;
   taken : l.offset + length l.piece.now ≡ l.fn.self.offset + length l.fn.piece.now;
   within : IsWithin l.bound l.offset;
   read : HasTaken l.fn.reader l.reader l.fn.piece.now l.piece.now;
