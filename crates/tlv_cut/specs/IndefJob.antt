@@ -1,9 +1,10 @@
 -- What a call of `indef` is to do.
-use Rattle.std.specs.Prelude.{◌^◌, Bool, false, []}
+use Rattle.std.specs.Prelude.{Bool, false, []}
 use Rattle.tlv_walk.specs.declared.ending.Ending.{Ending}
 use Rattle.tlv_walk.specs.declared.framing.Framing.{Framing}
 use Rattle.tlv_walk.specs.Job.{Job}
 use Rattle.tlv_cut.specs.IndefText.{indef_text}
+use Rattle.tlv_head.specs.InputLimit.{input_limit}
 
 -- no string is read as encodings, and padding may be between encodings, or not
 abbrev pub indef_framing : Bool → Framing
@@ -13,7 +14,7 @@ indef_framing padding = record { inside = []; padding = padding }
 abbrev pub indef_job : Bool → Job Ending
 indef_job padding = record {
   framing = indef_framing padding;
-  limit = 2 ^ 40;
+  limit = input_limit;
   text = indef_text;
   is_enough = λ f. false;
   returned = λ f e. e;

@@ -173,8 +173,8 @@ sequence-header = record { identifier = sequence_identifier; lengths = refl; all
 abbrev longest : HeaderValue
 longest =
     first Context false 72057594037927936 (Definite 1)
-        (0x9f ∷ 0x81 ∷ 0x80 ∷ 0x80 ∷ 0x80 ∷ 0x80 ∷ 0x80 ∷ 0x80 ∷ 0x80 ∷ 0x00 ∷ [])
-        (0xfe ∷ (replicate 125 0x00 ++ 0x01 ∷ []))
+    (0x9f ∷ 0x81 ∷ 0x80 ∷ 0x80 ∷ 0x80 ∷ 0x80 ∷ 0x80 ∷ 0x80 ∷ 0x80 ∷ 0x00 ∷ [])
+    (0xfe ∷ (replicate 125 0x00 ++ 0x01 ∷ []))
 
 longest-header : IsHeader longest
 longest-header = record {

@@ -1,7 +1,8 @@
 -- What contracts see of a `HeadReader`.
-use Rattle.std.specs.Prelude.{◌≡◌, ◌≢◌, ℕ, ◌^◌, ◌<◌, ◌≤◌, Bool, false, List, [], ◌∷◌, ◌++◌, Option, Some, IfSome}
+use Rattle.std.specs.Prelude.{◌≡◌, ◌≢◌, ℕ, ◌<◌, ◌≤◌, Bool, false, List, [], ◌∷◌, ◌++◌, Option, Some, IfSome}
 use Rattle.tlv_head.specs.declared.header.Size.{Size}
 use Rattle.tlv_head.specs.declared.header.Size.TheVariants.{Definite, Indefinite}
+use Rattle.tlv_head.specs.InputLimit.{input_limit}
 
 -- where the header begins, whether that offset is named, its octets so far, and whether it is whole
 pub record HeadReaderState : Type 0 where
@@ -15,7 +16,7 @@ pub record CanPush (r : HeadReaderState) (x : ℕ) (room : Option ℕ) (depth : 
   pub unfinished : r.done ≡ false
   pub first : r.octets ≡ [] → (x ≢ 0) × (room ≢ Some 0)
   pub within : depth ≤ 128
-  pub limit : r.offset ≤ 2 ^ 40
+  pub limit : r.offset ≤ input_limit
 
 -- the reader with another octet
 abbrev pub with_octet : HeadReaderState → ℕ → HeadReaderState

@@ -1,3 +1,4 @@
+pub mod InputLimit
 pub mod UniversalTypes
 pub mod Header
 pub mod StoredHeader

@@ -38,7 +38,7 @@ pub part_written : (old part text : List ℕ) (at n : ℕ) → at ≤ length old
 part_written old part text at n within e =
     let size : length (take at old) ≡ at = length-take-le at old within in
     ap (λ (k : ℕ). take (k + n) (take at old ++ part)) (sym size) ∙ take-append-add (take at old) part n
-        ∙ ap (λ (l : List ℕ). take at old ++ l) e
+    ∙ ap (λ (l : List ℕ). take at old ++ l) e
 
 -- of which more was lent than the text takes
 pub prefix_written : (old part tail text : List ℕ) (at n : ℕ) → at ≤ length old → n ≤ length part → take n part ≡ text
@@ -51,26 +51,26 @@ pub text_written : (new prefix text rest : List ℕ) (start n : ℕ) → take st
     → drop start new ≡ text ++ rest → n ≡ start + length text → take n new ≡ prefix ++ text
 text_written new prefix text rest start n kept written e =
     ap (λ (k : ℕ). take k new) e ∙ take-add start (length text) new
-        ∙ ap₂ (λ (k l : List ℕ). k ++ take (length text) l) kept written
-        ∙ ap (λ (l : List ℕ). prefix ++ l) (take-append_seam text rest)
+    ∙ ap₂ (λ (k l : List ℕ). k ++ take (length text) l) kept written
+    ∙ ap (λ (l : List ℕ). prefix ++ l) (take-append_seam text rest)
 
 -- spaces were written to so many places, and then a text to their right end
 pub right_written : (old new tail text rest pad : List ℕ) (at start places : ℕ) → at ≤ length old
     → length text ≤ places → start + length text ≡ at + places → pad ≡ spaces places
     → take start new ≡ take start (take at old ++ (pad ++ tail)) → drop start new ≡ text ++ rest
-        → take (at + places) new ≡ take at old ++ at_right places text
+    → take (at + places) new ≡ take at old ++ at_right places text
 right_written old new tail text rest pad at start places within short e is kept written =
     let left : ℕ = places - length text in
     let from : start ≡ at + left = omega (arith, e, short) in
     let size : length pad ≡ places = ap length is ∙ length-replicate places 32 in
     let blank : take left (pad ++ tail) ≡ spaces left =
-        take-append-le left pad tail (omega (arith, size)) ∙ ap (take left) is
-            ∙ take-replicate left places 32 (omega arith) in
+    take-append-le left pad tail (omega (arith, size)) ∙ ap (take left) is
+    ∙ take-replicate left places 32 (omega arith) in
     let taken : take start new ≡ take at old ++ spaces left =
-        kept ∙ ap (λ (k : ℕ). take k (take at old ++ (pad ++ tail))) from
-            ∙ part_written old (pad ++ tail) (spaces left) at left within blank in
+    kept ∙ ap (λ (k : ℕ). take k (take at old ++ (pad ++ tail))) from
+    ∙ part_written old (pad ++ tail) (spaces left) at left within blank in
     text_written new (take at old ++ spaces left) text rest start (at + places) taken written (sym e)
-        ∙ append_assoc (take at old) (spaces left) text
+    ∙ append_assoc (take at old) (spaces left) text
 
 -- a long text is as it is
 pub right_long : (places : ℕ) (text : List ℕ) → places ≤ length text → at_right places text ≡ text
@@ -108,19 +108,19 @@ spaces_of_more count done to more e =
 pub right_end : (old new prefix text tail : List ℕ) (start places : ℕ) → old ≡ prefix ++ (spaces places ++ tail)
     → length text ≤ places → start + length text ≡ length prefix + places
     → take start new ≡ take start old → drop start new ≡ text ++ drop (length prefix + places) old
-        → new ≡ prefix ++ (at_right places text ++ tail)
+    → new ≡ prefix ++ (at_right places text ++ tail)
 right_end old new prefix text tail start places is short e kept written =
     let left : ℕ = places - length text in
     let from : start ≡ length prefix + left = omega (arith, e, short) in
     let size : length (spaces places) ≡ places = length-replicate places 32 in
     let blank : take left (spaces places ++ tail) ≡ spaces left =
-        take-append-le left (spaces places) tail (omega (arith, size)) ∙ take-replicate left places 32 (omega arith) in
+    take-append-le left (spaces places) tail (omega (arith, size)) ∙ take-replicate left places 32 (omega arith) in
     let taken : take start old ≡ prefix ++ spaces left =
     ap (take start) is ∙ ap (λ (k : ℕ). take k (prefix ++ (spaces places ++ tail))) from
-        ∙ take-append-add prefix (spaces places ++ tail) left ∙ ap (λ (l : List ℕ). prefix ++ l) blank in
+    ∙ take-append-add prefix (spaces places ++ tail) left ∙ ap (λ (l : List ℕ). prefix ++ l) blank in
     let dropped : drop (length prefix + places) old ≡ tail =
     ap (drop (length prefix + places)) is ∙ drop-append-add prefix (spaces places ++ tail) places
-        ∙ ap (λ (k : ℕ). drop k (spaces places ++ tail)) (sym size) ∙ drop-append_seam (spaces places) tail in
+    ∙ ap (λ (k : ℕ). drop k (spaces places ++ tail)) (sym size) ∙ drop-append_seam (spaces places) tail in
     sym (take-append-drop start new)
     ∙ ap₂ (λ (k l : List ℕ). k ++ l) (kept ∙ taken) (written ∙ ap (λ (l : List ℕ). text ++ l) dropped)
     ∙ append_assoc prefix (spaces left) (text ++ tail)
@@ -130,15 +130,17 @@ right_end old new prefix text tail start places is short e kept written =
 right-size : (places : ℕ) (text : List ℕ) → length text ≤ places → length (at_right places text) ≡ places
 right-size places text short =
     omega
-        (arith, length-append (spaces (places - length text)) text, length-replicate {A = ℕ} (places - length text) 32)
+    (arith, length-append (spaces (places - length text)) text, length-replicate {A = ℕ} (places - length text) 32)
 
 -- and a number 20 at most
 pub right-short : (places n : ℕ) → places ≤ 20 → n < 2 ^ 64 → length (at_right places (decimal n)) ≤ 20
 right-short places n few fits =
-    omega
-        (arith, length-append (spaces (places - length (decimal n))) (decimal n),
-            length-replicate {A = ℕ} (places - length (decimal n)) 32,
-            length-decimal-le 20 n (omega arith) (omega arith) fits)
+    omega (
+      arith,
+      length-append (spaces (places - length (decimal n))) (decimal n),
+      length-replicate {A = ℕ} (places - length (decimal n)) 32,
+      length-decimal-le 20 n (omega arith) (omega arith) fits,
+    )
 
 -- a colon was written to spaces
 blank_columns : (prefix tail : List ℕ) (at : ℕ) → length prefix ≡ at
@@ -158,26 +160,30 @@ module _ (old first tail : List ℕ) (at : ℕ) (within : at ≤ length old) (sh
 
   pub first_column-size : length first_column ≡ at + 9
   first_column-size =
-      omega
-          (arith, length-append (take at old) (at_right 8 first ++ 32 ∷ []), length-take-le at old within,
-              length-append (at_right 8 first) (32 ∷ []), right-size 8 first short)
+      omega (
+        arith,
+        length-append (take at old) (at_right 8 first ++ 32 ∷ []),
+        length-take-le at old within,
+        length-append (at_right 8 first) (32 ∷ []),
+        right-size 8 first short,
+      )
 
   -- spaces and a colon are there, and an offset was written to them
   pub offset_written : (pad middle : List ℕ) (start : ℕ) → pad ≡ spaces 17 → start + length first ≡ at + 8
       → take start middle ≡ take start (set (take at old ++ (pad ++ tail)) (at + 15) 58)
-          → drop start middle ≡ first ++ drop (at + 8) (set (take at old ++ (pad ++ tail)) (at + 15) 58)
+      → drop start middle ≡ first ++ drop (at + 8) (set (take at old ++ (pad ++ tail)) (at + 15) 58)
       → middle ≡ first_column ++ (spaces 6 ++ 58 ∷ 32 ∷ tail)
   offset_written pad middle start blank e kept written =
       let size : length (take at old) ≡ at = length-take-le at old within in
       let there : List ℕ = set (take at old ++ (pad ++ tail)) (at + 15) 58 in
       let more : List ℕ = 32 ∷ (spaces 6 ++ 58 ∷ 32 ∷ tail) in
       let is =
-          ap (λ (l : List ℕ). set (take at old ++ (l ++ tail)) (at + 15) 58) blank
-              ∙ blank_columns (take at old) tail at size in
+      ap (λ (l : List ℕ). set (take at old ++ (l ++ tail)) (at + 15) 58) blank
+      ∙ blank_columns (take at old) tail at size in
       right_end there middle (take at old) first more start 8 is short (omega (arith, e, size)) kept
       (written ∙ ap (λ (n : ℕ). first ++ drop (n + 8) there) (sym size))
       ∙ ap (λ (l : List ℕ). take at old ++ l)
-          (sym (append_assoc (at_right 8 first) (32 ∷ []) (spaces 6 ++ 58 ∷ 32 ∷ tail)))
+      (sym (append_assoc (at_right 8 first) (32 ∷ []) (spaces 6 ++ 58 ∷ 32 ∷ tail)))
       ∙ sym (append_assoc (take at old) (at_right 8 first ++ 32 ∷ []) (spaces 6 ++ 58 ∷ 32 ∷ tail))
 
   -- both columns are there
@@ -187,12 +193,16 @@ module _ (old first tail : List ℕ) (at : ℕ) (within : at ≤ length old) (sh
       let whole : List ℕ = take at old ++ columns_of second in
       let same : new ≡ whole ++ tail = is ∙ simp append_assoc refl in
       let size : length (columns_of second) ≡ 17 =
-      omega
-          (arith, length-append (at_right 8 first ++ 32 ∷ [] ++ second) (58 ∷ 32 ∷ []),
-              length-append (at_right 8 first ++ 32 ∷ []) second, length-append (at_right 8 first) (32 ∷ []),
-              right-size 8 first short, six) in
+      omega (
+        arith,
+        length-append (at_right 8 first ++ 32 ∷ [] ++ second) (58 ∷ 32 ∷ []),
+        length-append (at_right 8 first ++ 32 ∷ []) second,
+        length-append (at_right 8 first) (32 ∷ []),
+        right-size 8 first short,
+        six,
+      ) in
       let all : length whole ≡ at + 17 =
-          omega (arith, length-append (take at old) (columns_of second), length-take-le at old within, size) in
+      omega (arith, length-append (take at old) (columns_of second), length-take-le at old within, size) in
       ap₂ take (sym all) same ∙ take-append_seam whole tail
 
   -- a size was written after the offset
@@ -203,21 +213,21 @@ module _ (old first tail : List ℕ) (at : ℕ) (within : at ≤ length old) (sh
   size_written middle new text start is few e kept written =
       columns_there new (at_right 6 text) (right-size 6 text few)
       (right_end middle new first_column text (58 ∷ 32 ∷ tail) start 6 is few (omega (arith, e, first_column-size))
-          kept (written ∙ ap (λ (n : ℕ). text ++ drop n middle) (omega (arith, first_column-size))))
+      kept (written ∙ ap (λ (n : ℕ). text ++ drop n middle) (omega (arith, first_column-size))))
 
   -- a word was written after the offset
   pub word_written : (middle there word : List ℕ) → middle ≡ first_column ++ (spaces 6 ++ 58 ∷ 32 ∷ tail)
       → length word ≡ 6 → there ≡ word
       → take (at + 17) (take (at + 9) middle ++ (there ++ drop (at + 15 - (at + 9)) (drop (at + 9) middle)))
-          ≡ take at old ++ columns_of (at_right 6 word)
+      ≡ take at old ++ columns_of (at_right 6 word)
   word_written middle there word is six same =
       let rest : List ℕ = spaces 6 ++ 58 ∷ 32 ∷ tail in
       let taken : take (at + 9) middle ≡ first_column =
-          ap₂ take (sym first_column-size) is ∙ take-append_seam first_column rest in
+      ap₂ take (sym first_column-size) is ∙ take-append_seam first_column rest in
       let dropped : drop (at + 15 - (at + 9)) (drop (at + 9) middle) ≡ 58 ∷ 32 ∷ tail =
       drop-drop (at + 15 - (at + 9)) (at + 9) middle
-          ∙ ap₂ (λ (n : ℕ) (l : List ℕ). drop n l) (omega (arith, first_column-size)) is
-          ∙ drop-append-add first_column rest 6 in
+      ∙ ap₂ (λ (n : ℕ) (l : List ℕ). drop n l) (omega (arith, first_column-size)) is
+      ∙ drop-append-add first_column rest 6 in
       let t = ap₂ (λ (k l : List ℕ). k ++ l) taken (ap₂ (λ (k l : List ℕ). k ++ l) same dropped) in
       columns_there (take (at + 9) middle ++ (there ++ drop (at + 15 - (at + 9)) (drop (at + 9) middle))) word six t
       ∙ ap (λ (l : List ℕ). take at old ++ columns_of l) (sym (right_long 6 word (omega (arith, six))))
@@ -235,9 +245,11 @@ digits_of_power k n fits from to = sym (by k n (omega arith) from to)
     by : (k n : ℕ) → n < 2 ^ 128 → 10 ^ k ≤ n → n < 10 * 10 ^ k → length (decimal n) ≡ k + 1
     by zero n fits from to = length_one n (omega arith)
     by (suc k) n fits from to =
-        omega
-            (arith, length_step_wide n (omega (arith, power_some k, from)) fits,
-                by k (n / 10) (omega arith) (omega (arith, from)) (omega (arith, to)))
+        omega (
+          arith,
+          length_step_wide n (omega (arith, power_some k, from)) fits,
+          by k (n / 10) (omega arith) (omega (arith, from)) (omega (arith, to)),
+        )
 
 -- a number of at least this power of ten has more digits
 pub long_number : (k n : ℕ) → n < 2 ^ 64 → 10 ^ k ≤ n → at_right k (decimal n) ≡ decimal n
@@ -247,9 +259,11 @@ long_number k n fits from = right_long k (decimal n) (by k n (omega arith) from)
     by zero n fits from = omega arith
     by (suc zero) n fits from = omega (arith, length_step_wide n from fits)
     by (suc (suc k)) n fits from =
-        omega
-            (arith, length_step_wide n (omega (arith, power_some k, from)) fits,
-                by (suc k) (n / 10) (omega arith) (omega (arith, from)))
+        omega (
+          arith,
+          length_step_wide n (omega (arith, power_some k, from)) fits,
+          by (suc k) (n / 10) (omega arith) (omega (arith, from)),
+        )
 
 -- ---- pairs of digits
 
@@ -257,7 +271,7 @@ pairs-append : (xs ys : List ℕ) → spaced_pairs (xs ++ ys) ≡ spaced_pairs x
 pairs-append [] ys = refl
 pairs-append (x ∷ xs) ys =
     ap (λ (l : List ℕ). (32 ∷ encode_lower (x ∷ [])) ++ l) (pairs-append xs ys)
-        ∙ sym (append_assoc (32 ∷ encode_lower (x ∷ [])) (spaced_pairs xs) (spaced_pairs ys))
+    ∙ sym (append_assoc (32 ∷ encode_lower (x ∷ [])) (spaced_pairs xs) (spaced_pairs ys))
 
 -- one pair more
 pairs-more : (octets : List ℕ) (i : ℕ) → i < length octets
@@ -271,29 +285,32 @@ pairs-more octets i h =
 pub pairs-size : (octets : List ℕ) → length (spaced_pairs octets) ≡ 3 * length octets
 pairs-size [] = refl
 pairs-size (x ∷ xs) =
-    omega
-        (arith, length-append (32 ∷ encode_lower (x ∷ [])) (spaced_pairs xs),
-            length-encode_with lower_digits (x ∷ []), pairs-size xs)
+    omega (
+      arith,
+      length-append (32 ∷ encode_lower (x ∷ [])) (spaced_pairs xs),
+      length-encode_with lower_digits (x ∷ []),
+      pairs-size xs,
+    )
 
 -- the pair of octet i, in place of the spaces after the one before it
 pub row_step : (octets to new pair rest : List ℕ) (i : ℕ) → i < 16 → length octets ≡ 16
     → to ≡ spaced_pairs (take i octets) ++ (spaces (48 - 3 * i) ++ rest)
     → pair ≡ encode_lower (get_or octets i 0 ∷ [])
-        → new ≡ take (3 * i + 1) to ++ (pair ++ drop (3 * i + 3 - (3 * i + 1)) (drop (3 * i + 1) to))
+    → new ≡ take (3 * i + 1) to ++ (pair ++ drop (3 * i + 3 - (3 * i + 1)) (drop (3 * i + 1) to))
     → new ≡ spaced_pairs (take (i + 1) octets) ++ (spaces (48 - 3 * (i + 1)) ++ rest)
 row_step octets to new pair rest i few whole is p e =
     let prefix : List ℕ = spaced_pairs (take i octets) in
     let tail : List ℕ = spaces (48 - 3 * (i + 1)) ++ rest in
     let size : length prefix ≡ 3 * i =
-        pairs-size (take i octets) ∙ ap (λ (n : ℕ). 3 * n) (length-take-le i octets (omega arith)) in
+    pairs-size (take i octets) ∙ ap (λ (n : ℕ). 3 * n) (length-take-le i octets (omega arith)) in
     let three : 48 - 3 * i ≡ suc (suc (suc (48 - 3 * (i + 1)))) = omega (arith, few) in
     let t : to ≡ prefix ++ (32 ∷ 32 ∷ 32 ∷ tail) = is ∙ ap (λ (n : ℕ). prefix ++ (spaces n ++ rest)) three in
     let taken : take (3 * i + 1) to ≡ prefix ++ 32 ∷ [] =
-        ap₂ (λ (n : ℕ) (l : List ℕ). take (n + 1) l) (sym size) t ∙ take-append-add prefix (32 ∷ 32 ∷ 32 ∷ tail) 1 in
+    ap₂ (λ (n : ℕ) (l : List ℕ). take (n + 1) l) (sym size) t ∙ take-append-add prefix (32 ∷ 32 ∷ 32 ∷ tail) 1 in
     let dropped : drop (3 * i + 3 - (3 * i + 1)) (drop (3 * i + 1) to) ≡ tail =
     drop-drop (3 * i + 3 - (3 * i + 1)) (3 * i + 1) to
-        ∙ ap₂ (λ (n : ℕ) (l : List ℕ). drop n l) (omega (arith, size)) t
-        ∙ drop-append-add prefix (32 ∷ 32 ∷ 32 ∷ tail) 3 in
+    ∙ ap₂ (λ (n : ℕ) (l : List ℕ). drop n l) (omega (arith, size)) t
+    ∙ drop-append-add prefix (32 ∷ 32 ∷ 32 ∷ tail) 3 in
     e
     ∙ ap₂ (λ (k l : List ℕ). k ++ (pair ++ l)) taken dropped
     ∙ ap (λ (l : List ℕ). (prefix ++ 32 ∷ []) ++ (l ++ tail)) p
@@ -309,7 +326,7 @@ row_whole octets to rest i last whole is =
     let none : 48 - 3 * i ≡ 0 = omega (arith, last) in
     let size : length (spaced_pairs octets) ≡ 48 = omega (arith, pairs-size octets, whole) in
     ap₂ take (sym size) (is ∙ ap₂ (λ (l : List ℕ) (n : ℕ). spaced_pairs l ++ (spaces n ++ rest)) all none)
-        ∙ take-append_seam (spaced_pairs octets) rest
+    ∙ take-append_seam (spaced_pairs octets) rest
 
 -- the pair of octet i, after the pairs before it
 pub pairs_step : (octets to pair tail : List ℕ) (i : ℕ) → i < length octets → 3 * i + 3 ≤ length to
@@ -318,10 +335,10 @@ pub pairs_step : (octets to pair tail : List ℕ) (i : ℕ) → i < length octet
 pairs_step octets to pair tail i more within t e =
     let prefix : List ℕ = spaced_pairs (take i octets) in
     let taken : take (3 * i + 1) (set to (3 * i) 32) ≡ prefix ++ 32 ∷ [] =
-        take_more_set to (3 * i) 32 (omega (arith, within)) ∙ ap (λ (l : List ℕ). l ++ 32 ∷ []) t in
+    take_more_set to (3 * i) 32 (omega (arith, within)) ∙ ap (λ (l : List ℕ). l ++ 32 ∷ []) t in
     let size : length (take (3 * i + 1) (set to (3 * i) 32)) ≡ 3 * i + 1 =
-        ap length taken ∙ length-append prefix (32 ∷ []) ∙ ap (λ (l : List ℕ). length l + 1) (sym t)
-            ∙ ap (λ (n : ℕ). n + 1) (length-take-le (3 * i) to (omega (arith, within))) in
+    ap length taken ∙ length-append prefix (32 ∷ []) ∙ ap (λ (l : List ℕ). length l + 1) (sym t)
+    ∙ ap (λ (n : ℕ). n + 1) (length-take-le (3 * i) to (omega (arith, within))) in
     let two : length pair ≡ 2 = ap length e ∙ length-encode_with lower_digits (get_or octets i 0 ∷ []) in
     let whole : 3 * (i + 1) ≡ length (take (3 * i + 1) (set to (3 * i) 32)) + length pair = omega (arith, size, two) in
     ap (λ (n : ℕ). take n (take (3 * i + 1) (set to (3 * i) 32) ++ (pair ++ tail))) whole

@@ -148,7 +148,7 @@ module _ (size : ℕ) (wanted : ℕ → ℕ) (some : 1 ≤ size) (fits : (x : �
       → CutOn row (x ∷ xs)
       ((if room
       then (if last then (row ++ x ∷ []) ∷ rows_filled_by size wanted [] xs
-          else rows_filled_by size wanted (row ++ x ∷ []) xs)
+      else rows_filled_by size wanted (row ++ x ∷ []) xs)
       else row ∷ rows_filled_by size wanted (x ∷ []) xs)
       ++ last_rows (if room
       then (if last then row_begun_by size wanted [] xs else row_begun_by size wanted (row ++ x ∷ []) xs)

@@ -58,7 +58,7 @@ module _ {D : Type 0} (state_of : D → DrainState) where
           ∙ ap (λ (l : List ℕ). held_octets a ++ l) e;
       took =
           Appends-trans (state_of (drain_of a).now).octets (state_of (drain_of b).now).octets
-              (state_of (drain_of c).now).octets p.sent q.sent p.took q.took;
+          (state_of (drain_of c).now).octets p.sent q.sent p.took q.took;
       held = q.held;
       lost = q.lost;
       failures = q.failures ∙ ap (failures_after r) p.failures;
@@ -78,7 +78,7 @@ module _ {D : Type 0} (state_of : D → DrainState) where
       left = p.left ++ z.rest;
       prefix =
           sym (append_assoc p.sent p.left z.rest) ∙ ap (λ (l : List ℕ). l ++ z.rest) p.prefix
-              ∙ append_assoc (held_octets a) xs z.rest ∙ ap (λ (l : List ℕ). held_octets a ++ l) z.is;
+          ∙ append_assoc (held_octets a) xs z.rest ∙ ap (λ (l : List ℕ). held_octets a ++ l) z.is;
       took = p.took;
       held = tt;
       lost = more_left p.left z.rest p.lost;
@@ -141,7 +141,7 @@ module _ {D : Type 0} (state_of : D → DrainState) where
       prefix = more;
       took =
           subst (λ (l : MutBor D). Appends (state_of (drain_of a).now).octets (state_of l.now).octets []) (sym same)
-              (Appends-nil (state_of (drain_of a).now).octets);
+          (Appends-nil (state_of (drain_of a).now).octets);
       held = refl;
       lost = tt;
       failures = ap (λ (l : MutBor D). (state_of l.now).failures) same;
@@ -168,7 +168,7 @@ module _ {D : Type 0} (state_of : D → DrainState) where
         → drain_of c ≡ drain_of b → held_octets c ≡ held_octets b ++ xs → Puts {T = U} {E = E} state_of a c xs (Ok y)
     puts_line a b c xs x y p same more =
         puts_then_as {T = T} {U = U} {E = E} a b c [] xs xs x (Ok y) p (puts_held {T = U} {E = E} b c xs y same more)
-            refl
+        refl
 
 -- what a function that makes a line where an `Out` holds it needs
 pub ruleset lines = (puts_line, puts_no_room)
@@ -190,19 +190,19 @@ module _ {D : Type 0} (state_of : D → DrainState) (text : ℕ → List ℕ) wh
   -- the text of an octet more was put
   pub puts_octet : (a b c : Out D) (xs : List ℕ) (i : ℕ) → i < length xs
       → HasPut state_of a b (flat_map text (take i xs)) → HasPut state_of b c (text (get_or xs i 0))
-          → HasPut state_of a c (flat_map text (take (i + 1) xs))
+      → HasPut state_of a c (flat_map text (take (i + 1) xs))
   puts_octet a b c xs i h p q = puts_then_as state_of a b c _ _ _ tt (Ok tt) p q (text_more text xs i h)
 
   -- it could not be put
   pub fails_octet : (a b c : Out D) (xs : List ℕ) (i : ℕ) (e : WriteFault) (r : Result ⊤ WriteFault) → i < length xs
       → HasPut state_of a b (flat_map text (take i xs))
-          → Puts {T = ⊤} {E = WriteFault} state_of b c (text (get_or xs i 0)) (Err e) → IsErr r
-          → Puts state_of a c (flat_map text xs) r
+      → Puts {T = ⊤} {E = WriteFault} state_of b c (text (get_or xs i 0)) (Err e) → IsErr r
+      → Puts state_of a c (flat_map text xs) r
   fails_octet a b c xs i e r h p q f =
       puts_failed_in state_of a c _ _ e r (puts_then_as state_of a b c _ _ _ tt (Err e) p q (text_more text xs i h)) f
-          record {
+      record {
         rest = flat_map text (drop (i + 1) xs);
         is =
             sym (flat_map-append text (take (i + 1) xs) (drop (i + 1) xs))
-                ∙ ap (flat_map text) (take-append-drop (i + 1) xs);
+            ∙ ap (flat_map text) (take-append-drop (i + 1) xs);
       }

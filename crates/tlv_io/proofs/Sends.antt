@@ -29,7 +29,7 @@ appends_more (Some x) None c xs rest i n e p q = absurd p
 appends_more (Some x) (Some y) None xs rest i n e p q = absurd q
 appends_more (Some x) (Some y) (Some z) xs rest i n e p q =
     q ∙ ap (λ l. l ++ take n rest) p ∙ append_assoc x _ _ ∙ ap (λ l. x ++ (take i xs ++ take n l)) e
-        ∙ ap (λ l. x ++ l) (sym (take-add i n xs))
+    ∙ ap (λ l. x ++ l) (sym (take-add i n xs))
 
 -- octets are left after the first i, if there are more than i
 some_left : (i : ℕ) (xs : List ℕ) → i < length xs → drop i xs ≢ []
@@ -40,7 +40,7 @@ module _ {T E : Type 0} (result : Result T E) where
   pub sends_part : (old middle new : DrainState) (octets : List ℕ) (i : ℕ)
       → Appends old.octets middle.octets (take i octets) → middle.failures ≡ old.failures
       → Keeps middle.octets new.octets → new.failures ≡ failures_after result middle.failures
-          → OnOk result (drop i octets ≡ []) → OnErr result (i < length octets)
+      → OnOk result (drop i octets ≡ []) → OnErr result (i < length octets)
       → Sends old new octets result
   sends_part old middle new octets i took failures kept failed all some = record {
     sent = take i octets;
@@ -65,7 +65,7 @@ module _ {T U E : Type 0} where
         append_assoc p.sent q.sent q.left
         ∙ ap (λ (l : List ℕ). p.sent ++ l) q.prefix
         ∙ ap (λ (l : List ℕ). l ++ ys)
-            (sym (append-nil p.sent) ∙ ap (λ (l : List ℕ). p.sent ++ l) (sym p.all_sent) ∙ p.prefix);
+        (sym (append-nil p.sent) ∙ ap (λ (l : List ℕ). p.sent ++ l) (sym p.all_sent) ∙ p.prefix);
     took = Appends-trans a.octets b.octets c.octets p.sent q.sent p.took q.took;
     all_sent = q.all_sent;
     not_all = q.not_all;
@@ -105,7 +105,7 @@ module _ {T E : Type 0} where
       → Appends a.octets b.octets xs
   sends_appends a b xs x p =
       subst (Appends a.octets b.octets)
-          (sym (append-nil p.sent) ∙ ap (λ (l : List ℕ). p.sent ++ l) (sym p.all_sent) ∙ p.prefix) p.took
+      (sym (append-nil p.sent) ∙ ap (λ (l : List ℕ). p.sent ++ l) (sym p.all_sent) ∙ p.prefix) p.took
 
   -- nothing is sent
   pub sends_nothing : (a : DrainState) (x : T) → Sends {T = T} {E = E} a a [] (Ok x)
@@ -129,7 +129,7 @@ module _ {D : Type 0} (state_of : D → DrainState) where
         → Puts state_of a c xs r → OnOk r (held_octets c ≡ []) → Sends (state_of d) (state_of d') xs r
     sends_puts a c d d' xs r from none to p empty =
         subst (λ (x : D). Sends (state_of x) (state_of d') xs r) from
-            (subst (λ (x : D). Sends (state_of (drain_of a).now) (state_of x) xs r) (sym to) record {
+        (subst (λ (x : D). Sends (state_of (drain_of a).now) (state_of x) xs r) (sym to) record {
           sent = p.sent;
           left = p.left;
           prefix = p.prefix ∙ ap (λ (l : List ℕ). l ++ xs) none;
@@ -148,22 +148,22 @@ module _ {D : Type 0} (state_of : D → DrainState) where
     pub sends_flushed : (a b c : Out D) (d d' : D) (xs : List ℕ) (x : T) (y : U) → (drain_of a).now ≡ d
         → held_octets a ≡ [] → d' ≡ (drain_of c).now
         → Puts {T = T} {E = E} state_of a b xs (Ok x) → Puts {T = U} {E = E} state_of b c [] (Ok y)
-            → held_octets c ≡ [] → Sends {T = T} {E = E} (state_of d) (state_of d') xs (Ok x)
+        → held_octets c ≡ [] → Sends {T = T} {E = E} (state_of d) (state_of d') xs (Ok x)
     sends_flushed a b c d d' xs x y from none to p f empty =
         sends_puts a c d d' xs (Ok x) from none to
-            (puts_as state_of a c xs xs y x (puts_then_as state_of a b c xs [] xs x (Ok y) p f (append-nil xs)) refl)
-            empty
+        (puts_as state_of a c xs xs y x (puts_then_as state_of a b c xs [] xs x (Ok y) p f (append-nil xs)) refl)
+        empty
 
     -- it could not be flushed
     pub sends_failed : (a b c : Out D) (d d' : D) (xs : List ℕ) (x : T) (e : E) (r : Result T E)
         → (drain_of a).now ≡ d → held_octets a ≡ [] → d' ≡ (drain_of c).now
         → Puts {T = T} {E = E} state_of a b xs (Ok x) → Puts {T = U} {E = E} state_of b c [] (Err e) → IsErr r
-            → Sends (state_of d) (state_of d') xs r
+        → Sends (state_of d) (state_of d') xs r
     sends_failed a b c d d' xs x e r from none to p f err =
         sends_puts a c d d' xs r from none to
-            (puts_failed_last state_of a c xs e r (puts_then_as state_of a b c xs [] xs x (Err e) p f (append-nil xs))
-                err)
-            (no_ok r err)
+        (puts_failed_last state_of a c xs e r (puts_then_as state_of a b c xs [] xs x (Err e) p f (append-nil xs))
+        err)
+        (no_ok r err)
       where
         no_ok : (r : Result T E) → IsErr r → OnOk r (held_octets c ≡ [])
         no_ok (Ok x) h = absurd (true≢false (sym h))

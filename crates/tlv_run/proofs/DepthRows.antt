@@ -21,7 +21,7 @@ abbrev openings : ℕ → ℕ → List ℕ
 openings zero level = []
 openings (suc n) level =
     right (2 * level) ++ codes "  indef: " ++ replicate (2 * level) 32 ++ codes "SEQUENCE {"
-        ++ 10 ∷ openings n (level + 1)
+    ++ 10 ∷ openings n (level + 1)
 
 -- the lines of the ends of so many elements, the first of them at this offset
 abbrev closings : ℕ → ℕ → List ℕ
@@ -50,6 +50,6 @@ string-too_deep = refl
 -- 128 times 30 80, and 04 00: if it is not named it is a primitive
 string-not-named : result (dump Ber None false plain) (begun 128 ++ 0x04 ∷ 0x00 ∷ [])
     ≡ faulty 0 Short 258 "fault at 258: F02 input ends inside an encoding"
-        (openings 128 0 ++ right 256 ++ codes "      0: " ++ replicate 256 32 ++ codes "OCTET STRING" ++ 10 ∷ [])
+    (openings 128 0 ++ right 256 ++ codes "      0: " ++ replicate 256 32 ++ codes "OCTET STRING" ++ 10 ∷ [])
 unfolding digits
 string-not-named = refl

@@ -45,7 +45,7 @@ job_of command = command_job command finite.empty
 abbrev Writes : Command → List ℕ → Bool → ℕ → List ℕ → ReportValue → Type 0
 Writes command b fails room written report =
     (w : List ℕ) (r : ReportValue) → RunsOctets (job_of command) b fails room (record { written = w; report = r })
-        → (w ≡ written) × (r ≡ report)
+    → (w ≡ written) × (r ≡ report)
 
 module _ (command : Command) (b : List ℕ) where
   abbrev job : Job ReportValue
@@ -85,8 +85,8 @@ module _ (command : Command) (b : List ℕ) where
     is-made : (made : CommandResult) → Makes made → made ≡ m
     is-made made y =
         makes_unique job b made (result command b) (subst (λ (o : List ℕ). IsJobResult job o made) whole y)
-            (is_result job b are)
-            ∙ row
+        (is_result job b are)
+        ∙ row
 
     output-is : (fails : Bool) (room : ℕ) (w : List ℕ) (r : ReportValue)
         (x : RunsOctets job b fails room (record { written = w; report = r }))
@@ -100,7 +100,7 @@ module _ (command : Command) (b : List ℕ) where
       output-is fails room w r x,
       x.without_room
           (subst (λ (n : CommandResult). room < length n.output) (sym (is-made x.made x.is_made))
-              (ltb-true room (length m.output) less)),
+          (ltb-true room (length m.output) less)),
     )
 
     module _ (room : ℕ) (fits : leb (length m.output) room ≡ true) where
@@ -109,8 +109,8 @@ module _ (command : Command) (b : List ℕ) where
           → IsReport job b fails x.is_made r
       report-of fails w r x =
           x.with_room
-              (subst (λ (n : CommandResult). length n.output ≤ room) (sym (is-made x.made x.is_made))
-                  (leb-true (length m.output) room fits))
+          (subst (λ (n : CommandResult). length n.output ≤ room) (sym (is-made x.made x.is_made))
+          (leb-true (length m.output) room fits))
 
       -- the input ends with the octets
       to-end : Writes command b false room (take room m.output) m.report
@@ -145,8 +145,8 @@ module _ (command : Command) (b : List ℕ) where
       to-enough enough w r x =
           let read = subst (λ (o : List ℕ). IsReading job.framing o x.is_made.reading) whole x.is_made.is_reading in
           let same =
-              reading-unique job.framing b (reading job.framing b) x.is_made.reading (is-reading job.framing b are)
-                  read in (
+          reading-unique job.framing b (reading job.framing b) x.is_made.reading (is-reading job.framing b are)
+          read in (
             output-is true room w r x,
             settled-at true x.made x.is_made r (inl (subst (λ (f : Forest). job.is_enough f ≡ true) same enough))
                 (report-of true w r x)
@@ -160,7 +160,7 @@ open-yet : (command : Command) (b : List ℕ) (m : CommandResult)
 open-yet command b m never unfinished made y e s =
     ⊎_elim (λ (enough : (job_of command).is_enough y.reading ≡ true). never y.reading enough)
     (λ (final : IsFinalEnding made.ending). unfinished (subst (λ (n : CommandResult). IsFinalEnding n.ending) e final))
-        s
+    s
 
 -- ---- rows
 

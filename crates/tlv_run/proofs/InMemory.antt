@@ -78,17 +78,21 @@ spelled_on framing b f ending.Done r s x final = absurd final
 spelled_on framing b f (ending.Fault k) r s x final =
     let y : IsRefused framing b k.code k.offset = fault-halt framing b k.code k.offset final.0 final.1 x in
     let most : length (spelling f) ≤ length (spelling y.forest) =
-        halt-longest framing y.forest k.code b y.halt f r.is_open ([], append-nil (spelling f) ∙ s) in
-    omega
-        (arith, most, ap length s, ap length y.halt.front,
-            length-append (spelling y.forest) (y.halt.octet ∷ y.halt.rest))
+    halt-longest framing y.forest k.code b y.halt f r.is_open ([], append-nil (spelling f) ∙ s) in
+    omega (
+      arith,
+      most,
+      ap length s,
+      ap length y.halt.front,
+      length-append (spelling y.forest) (y.halt.octet ∷ y.halt.rest),
+    )
 
 -- what was sent of a text, and what is after it in a longer one
 front_and_rest : (written sent left text rest longer : List ℕ)
     → written ≡ sent → sent ++ left ≡ text → text ++ rest ≡ longer → longer ≡ written ++ (left ++ rest)
 front_and_rest written sent left text rest longer w t l =
     sym l ∙ ap (λ (xs : List ℕ). xs ++ rest) (sym t) ∙ append_assoc sent left rest
-        ∙ ap (λ (xs : List ℕ). xs ++ (left ++ rest)) (sym w)
+    ∙ ap (λ (xs : List ℕ). xs ++ (left ++ rest)) (sym w)
 
 pub gave_none : (l : LastReadValue) (xs : List ℕ) → l ≡ gave 0 → GaveLast l xs → xs ≡ []
 gave_none l xs e (inr g) = g.1
@@ -122,7 +126,7 @@ module _ (job : Job ReportValue) (stays : Stays job)
         | inl enough ↦ true≢false (sym enough ∙ not_enough)
         | inr final ↦
             let ends : IsEnding job.framing b made.ending =
-                subst (λ (k : Bool). EndsWith job.framing b k made.ending) not_enough x.ends in
+            subst (λ (k : Bool). EndsWith job.framing b k made.ending) not_enough x.ends in
             spelled_on job.framing b s.0 made.ending s.1 s.2 ends final
       ]
 
@@ -132,7 +136,7 @@ module _ (job : Job ReportValue) (stays : Stays job)
       (ends : new.failures ≡ 0 → new.last ≡ gave 0 → read_fails ≡ false)
       (empty : from.octets ≡ Some []) (unfailed : from.failures ≡ 0)
       (took : to.octets ≡ Some written) (fits : length written ≤ room)
-          (full : to.failures ≡ 1 → length written ≡ room) where
+      (full : to.failures ≡ 1 → length written ≡ room) where
     -- the run comes to what was written and this report
     abbrev Comes : ReportValue → Type 0
     Comes report = RunsOctets job octets read_fails room (record { written = written; report = report })
@@ -158,7 +162,7 @@ module _ (job : Job ReportValue) (stays : Stays job)
           sym (take-append_seam written rest) ∙ ap (λ (k : ℕ). take k (written ++ rest)) n ∙ ap (take room) (sym e);
       with_room =
           λ fits. absurd (more
-              (nil_from_length rest (omega (arith, ap length e, length-append written rest, n, fits))));
+          (nil_from_length rest (omega (arith, ap length e, length-append written rest, n, fits))));
       without_room = λ _. refl;
     }
 
@@ -190,12 +194,12 @@ module _ (job : Job ReportValue) (stays : Stays job)
         let is : seen ≡ b ++ front.0 = ap (take job.limit) left.2 ∙ front.1 in
         let final : IsSettled y → Comes report = λ (z : IsSettled y).
         let z =
-            settled_stays job stays b front.0 m (subst AreOctets is (All-take (λ x. x < 256) job.limit octets all)) y
-                z in
+        settled_stays job stays b front.0 m (subst AreOctets is (All-take (λ x. x < 256) job.limit octets all)) y
+        z in
         let z' : (z : IsJobResult job seen m) × IsSettled z =
-            subst (λ (o : List ℕ). (z : IsJobResult job o m) × IsSettled z) (sym is) z in
+        subst (λ (o : List ℕ). (z : IsJobResult job o m) × IsSettled z) (sym is) z in
         whole m report z'.0 sent
-            (subst (λ (s : ReportValue). IsReport job octets read_fails z'.0 s) same (settled z'.1)) in
+        (subst (λ (s : ReportValue). IsReport job octets read_fails z'.0 s) same (settled z'.1)) in
         elim (settled_by job.framing b (job.is_enough x.reading) e (Settled job given x.reading new e) k.2) [
           | inl enough ↦ final (inl enough)
           | inr rest ↦ elim rest [
@@ -205,14 +209,18 @@ module _ (job : Job ReportValue) (stays : Stays job)
                 let whole_given : octets ≡ given = left.2 ∙ ap (λ (l : List ℕ). given ++ l) none ∙ append-nil given in
                 let last : x.pieces.last ≡ [] = gave_none new.last x.pieces.last end.0 x.pieces.gave_last in
                 let few : length octets ≤ job.limit =
-                omega
-                    (arith, x.within, ap length whole_given, length-append (concat x.pieces.pieces) x.pieces.last,
-                        ap length last) in
+                omega (
+                  arith,
+                  x.within,
+                  ap length whole_given,
+                  length-append (concat x.pieces.pieces) x.pieces.last,
+                  ap length last,
+                ) in
                 let z : IsJobResult job seen m =
-                    subst (λ (o : List ℕ). IsJobResult job o m) (sym (ap (take job.limit) whole_given)) y in
+                subst (λ (o : List ℕ). IsJobResult job o m) (sym (ap (take job.limit) whole_given)) y in
                 whole m report z sent
-                    (subst (λ (s : ReportValue). IsReport job octets read_fails z s) same
-                        (ended (ends (x.failures ∙ quiet) end.0) few))
+                (subst (λ (s : ReportValue). IsReport job octets read_fails z s) same
+                (ended (ends (x.failures ∙ quiet) end.0) few))
           ]
         ]
 
@@ -220,13 +228,13 @@ module _ (job : Job ReportValue) (stays : Stays job)
     unsettled_all : (f : Forest) (report : ReportValue) → IsReading job.framing seen f → WantMore job seen
         → written ≡ job.text f
         → ((made : CommandResult) → (x : IsJobResult job seen made) → (IsSettled x → ⊥)
-            → IsReport job octets read_fails x report)
+        → IsReport job octets read_fails x report)
         → Comes report
     unsettled_all f report r s sent says =
         let one = one_made job seen (All-take (λ x. x < 256) job.limit octets all) in
         let same : f ≡ one.1.reading = reading-unique job.framing seen f one.1.reading r one.1.is_reading in
         whole one.0 report one.1 (sent ∙ ap job.text same ∙ sym (ap (λ (m : CommandResult). m.output) one.1.is_made))
-            (says one.0 one.1 (unsettled seen one.0 one.1 s))
+        (says one.0 one.1 (unsettled seen one.0 one.1 s))
 
     run_read_failed : Runs job (device_states old from) (device_states new to) (Err ReadFailed)
         → Comes (device_report ReadFailed)
@@ -237,8 +245,8 @@ module _ (job : Job ReportValue) (stays : Stays job)
         let after = fails (x.failures ∙ ap next_count quiet ∙ one_failure) in
         let none : left.0 ≡ [] = at_end new.left left.0 left.1 after.1 in
         let last : x.pieces.last ≡ [] =
-            failed_none new.last x.pieces.last (returns job given x.reading new (Err ReadFailed) x.comes)
-                x.pieces.gave_last in
+        failed_none new.last x.pieces.last (returns job given x.reading new (Err ReadFailed) x.comes)
+        x.pieces.gave_last in
         let given_before : given ≡ before = ap (λ (l : List ℕ). before ++ l) last ∙ append-nil before in
         let is_given : octets ≡ given = left.2 ∙ ap (λ (l : List ℕ). given ++ l) none ∙ append-nil given in
         let few : length octets ≤ job.limit = omega (arith, x.within, ap length is_given, ap length given_before) in
@@ -257,7 +265,7 @@ module _ (job : Job ReportValue) (stays : Stays job)
         let k = returns job given x.reading new (Err InputTooLong) x.comes in
         let many : job.limit < length given = k.0 in
         let is : seen ≡ take job.limit given =
-            ap (take job.limit) left.2 ∙ take-append-le job.limit given left.0 (omega (arith, many)) in
+        ap (take job.limit) left.2 ∙ take-append-le job.limit given left.0 (omega (arith, many)) in
         let more : job.limit < length octets = omega (arith, many, ap length left.2, length-append given left.0) in
         unsettled_all x.reading (device_report InputTooLong)
         (subst (λ (o : List ℕ). IsReading job.framing o x.reading) (sym is) x.is_reading)
@@ -276,17 +284,17 @@ module _ (job : Job ReportValue) (stays : Stays job)
         let one = one_made job seen (All-take (λ x. x < 256) job.limit octets all) in
         let few : length (b ++ front.0) ≤ job.limit = omega (arith, length-take job.limit octets, ap length is) in
         let reads : IsReading job.framing (b ++ front.0) one.1.reading =
-            subst (λ (o : List ℕ). IsReading job.framing o one.1.reading) is one.1.is_reading in
+        subst (λ (o : List ℕ). IsReading job.framing o one.1.reading) is one.1.is_reading in
         let on = goes_on b front.0 x.reading one.1.reading few x.is_reading reads in
         let sent : written ≡ x.sends.sent =
-            taken_of from.octets to.octets written x.sends.sent empty took x.sends.took in
+        taken_of from.octets to.octets written x.sends.sent empty took x.sends.took in
         let text : job.text x.reading ++ on.0 ≡ one.0.output =
-            on.1 ∙ sym (ap (λ (m : CommandResult). m.output) one.1.is_made) in
+        on.1 ∙ sym (ap (λ (m : CommandResult). m.output) one.1.is_made) in
         let output : one.0.output ≡ written ++ (x.sends.left ++ on.0) =
         front_and_rest written x.sends.sent x.sends.left (job.text x.reading) on.0 one.0.output sent x.sends.prefix
-            text in
+        text in
         short one.0 (x.sends.left ++ on.0) one.1 output (more_left x.sends.left on.0 x.sends.not_all)
-            (full (x.sends.failures ∙ ap next_count unfailed ∙ one_failure))
+        (full (x.sends.failures ∙ ap next_count unfailed ∙ one_failure))
 
     run_in : (result : Result ReportValue DeviceFault)
         → Runs job (device_states old from) (device_states new to) result
@@ -306,7 +314,7 @@ full_drain : (room : ℕ) (xs : List ℕ) (failures : ℕ) → (bounded_drain_st
 full_drain room xs failures e few = elim (cases_lt (length xs) room) [
   | inl less ↦
       absurd (apart ((bounded_drain_state room xs failures).failures)
-          (ap (λ (k : Bool). if k then 0 else failures) (lt-ltb (length xs) room less)) e)
+      (ap (λ (k : Bool). if k then 0 else failures) (lt-ltb (length xs) room less)) e)
   | inr more ↦ omega (arith, few, more)
 ] where
   apart : (n : ℕ) → n ≡ 0 → n ≡ 1 → ⊥
@@ -344,7 +352,7 @@ module _ (command : Command) (names : NamesTable) (octets : List ℕ)
       old (ending_source_state new) from (bounded_drain_state room kept.items failures) room written.items
       (ap (λ (s : SourceState). s.left) e) (ap (λ (s : SourceState). s.failures) e) (λ k. absurd (cc (k))) (λ _ _. refl)
       (ap (λ (t : DrainState). t.octets) from_is) (ap (λ (t : DrainState). t.failures) from_is)
-          (ap Some (sym kept_is)) fits filled report x
+      (ap Some (sym kept_is)) fits filled report x
 
   pub until_failure : (old : SourceState) (new : MemSourceState) (failed_reads : ℕ) → old ≡ new_source (Some octets)
       → RunsAndReports (command_job command names) (device_states old from)
@@ -355,6 +363,6 @@ module _ (command : Command) (names : NamesTable) (octets : List ℕ)
       (octets_fit octets fit) true
       old (failing_source_state new failed_reads) from (bounded_drain_state room kept.items failures) room written.items
       (ap (λ (s : SourceState). s.left) e) (ap (λ (s : SourceState). s.failures) e)
-          (λ k. (refl, spent new failed_reads k)) (λ _ k. absurd (gave_some new.log.last k))
+      (λ k. (refl, spent new failed_reads k)) (λ _ k. absurd (gave_some new.log.last k))
       (ap (λ (t : DrainState). t.octets) from_is) (ap (λ (t : DrainState). t.failures) from_is)
-          (ap Some (sym kept_is)) fits filled report x
+      (ap Some (sym kept_is)) fits filled report x

@@ -29,7 +29,7 @@ module _ (job : Job ReportValue) (stays : Stays job) (octets : List ℕ) (all : 
   GivesReport : ReportValue → Type 0
   GivesReport report =
       (made : CommandResult) × IsJobResult job octets made × Appends old.drain.octets new.drain.octets made.output
-          × (report ≡ made.report)
+      × (report ≡ made.report)
 
   gives_ok : (report : ReportValue) → Runs job old new (Ok report) → GivesReport report
   unfolding GivesReport
@@ -41,30 +41,29 @@ module _ (job : Job ReportValue) (stays : Stays job) (octets : List ℕ) (all : 
       let m : CommandResult = command_result job x.reading e in
       let short : length given ≤ job.limit = omega (arith, few, ap length left.2, length-append given left.0) in
       let is : octets ≡ take job.limit given ++ left.0 =
-          left.2 ∙ ap (λ (l : List ℕ). l ++ left.0) (sym (take_all job.limit given short)) in
+      left.2 ∙ ap (λ (l : List ℕ). l ++ left.0) (sym (take_all job.limit given short)) in
       let y : IsJobResult job (take job.limit given) m = record {
         reading = x.reading;
         is_reading = x.is_reading;
         ends =
             ends_with job.framing (take job.limit given) (job.is_enough x.reading) e
-                (Settled job given x.reading new.source e) k.2;
+            (Settled job given x.reading new.source e) k.2;
         is_made = refl;
       } in
       let sent : Appends old.drain.octets new.drain.octets m.output =
-          sends_appends old.drain new.drain (job.text x.reading) tt x.sends in
+      sends_appends old.drain new.drain (job.text x.reading) tt x.sends in
       let final : IsSettled y → GivesReport report = λ (z : IsSettled y).
       let z = settled_stays job stays (take job.limit given) left.0 m (subst AreOctets is all) y z in
       (m, subst (λ (o : List ℕ). IsJobResult job o m) (sym is) z.0, sent, k.1) in
       elim (settled_by job.framing (take job.limit given) (job.is_enough x.reading) e
-          (Settled job given x.reading new.source e) k.2)
-          [
+      (Settled job given x.reading new.source e) k.2) [
         | inl enough ↦ final (inl enough)
         | inr rest ↦ elim rest [
           | inl refused ↦ final (inr refused)
           | inr end ↦
               let none : left.0 ≡ [] = at_end new.source.left left.0 left.1 end.1 in
               let same : octets ≡ take job.limit given =
-                  is ∙ ap (λ (l : List ℕ). take job.limit given ++ l) none ∙ append-nil (take job.limit given) in
+              is ∙ ap (λ (l : List ℕ). take job.limit given ++ l) none ∙ append-nil (take job.limit given) in
               (m, subst (λ (o : List ℕ). IsJobResult job o m) (sym same) y, sent, k.1)
         ]
       ]
@@ -72,7 +71,7 @@ module _ (job : Job ReportValue) (stays : Stays job) (octets : List ℕ) (all : 
   gives : old.source.failures < 2 ^ 64 - 1 → new.source.failures ≡ old.source.failures
       → old.drain.failures < 2 ^ 64 - 1 → new.drain.failures ≡ old.drain.failures
       → (result : Result ReportValue DeviceFault) → Runs job old new result
-          → GivesReport (report_of (λ (of_input : ReportValue). of_input) result)
+      → GivesReport (report_of (λ (of_input : ReportValue). of_input) result)
   gives old_few quiet from_few took (Ok report) x = gives_ok report x
   gives old_few quiet from_few took (Err ReadFailed) x =
       absurd (goes_up old.source.failures old_few (sym x.failures ∙ quiet))
@@ -80,16 +79,20 @@ module _ (job : Job ReportValue) (stays : Stays job) (octets : List ℕ) (all : 
       absurd (goes_up old.drain.failures from_few (sym x.sends.failures ∙ took))
   gives old_few quiet from_few took (Err InputTooLong) x =
       let left = left_of old.source.left new.source.left octets (octets_given x.pieces) known x.pieces.consumed in
-      absurd (omega
-          (arith, few, (returns job (octets_given x.pieces) x.reading new.source (Err InputTooLong) x.comes).0,
-              ap length left.2, length-append (octets_given x.pieces) left.0))
+      absurd (omega (
+        arith,
+        few,
+        (returns job (octets_given x.pieces) x.reading new.source (Err InputTooLong) x.comes).0,
+        ap length left.2,
+        length-append (octets_given x.pieces) left.0,
+      ))
 
 pub run_results : RunsAreResults
 unfolding GivesReport
 run_results command names octets before after report input nowhere x =
     let job = command_job command names in
     let few : length octets ≤ job.limit =
-        subst (λ (n : ℕ). length octets ≤ n) (sym (limit_is command names)) input.within in
+    subst (λ (n : ℕ). length octets ≤ n) (sym (limit_is command names)) input.within in
     let y = gives job (stays_for command names) octets input.are_octets few before after input.left
     nowhere.counts_reads nowhere.no_failed_read nowhere.counts_writes nowhere.no_failed_write x.result x.runs in
     (y.0, y.1, y.2, x.report_is ∙ y.3)

@@ -61,9 +61,9 @@ module _ (job : Job ReportValue) where
       let here : EndsWith job.framing b (job.is_enough y.reading) m.ending =
       subst (λ (f : Forest). EndsWith job.framing b (job.is_enough f) m.ending) same x.ends in
       let end : m.ending ≡ n.ending =
-          end_unique job.framing b (job.is_enough y.reading) m.ending n.ending here y.ends in
+      end_unique job.framing b (job.is_enough y.reading) m.ending n.ending here y.ends in
       x.is_made ∙ ap (λ (f : Forest). command_result job f m.ending) same ∙ ap (command_result job y.reading) end
-          ∙ sym y.is_made
+      ∙ sym y.is_made
 
   -- the result, computed
   abbrev pub result_of : List ℕ → CommandResult
@@ -81,7 +81,7 @@ module _ (job : Job ReportValue) where
 
   pub one_made : (b : List ℕ) → AreOctets b
       → (made : CommandResult) × IsJobResult job b made
-          × ((other : CommandResult) → IsJobResult job b other → other ≡ made)
+      × ((other : CommandResult) → IsJobResult job b other → other ≡ made)
   one_made b octets =
       let x = is_result b octets in
       (result_of b, x, λ (other : CommandResult) y. makes_unique b other (result_of b) y x)
@@ -100,7 +100,7 @@ module _ (job : Job ReportValue) where
         let r : IsReading job.framing (b ++ c) g = is-reading job.framing (b ++ c) octets in
         let both = stays b c x.reading g x.is_reading r enough in
         let done : made.ending ≡ ending.Done =
-            subst (λ (k : Bool). EndsWith job.framing b k made.ending) enough x.ends in (
+        subst (λ (k : Bool). EndsWith job.framing b k made.ending) enough x.ends in (
           record {
             reading = g;
             is_reading = r;
@@ -111,7 +111,7 @@ module _ (job : Job ReportValue) where
         )
     | inr final ↦
         let both =
-            final_stays job.framing b c x.reading (job.is_enough x.reading) made.ending final x.is_reading x.ends in
+        final_stays job.framing b c x.reading (job.is_enough x.reading) made.ending final x.is_reading x.ends in
         (record { reading = x.reading; is_reading = both.0; ends = both.1; is_made = x.is_made }, inr final)
   ]
 
@@ -130,7 +130,7 @@ stays_for (Extract offset contents framing file) names b c f g r s e =
     let text : extract_text offset contents g ≡ extract_text offset contents f =
     same_extract_text framing b c f g r s offset contents e in
     let found : has_element_at offset g ≡ has_element_at offset f =
-        same_found framing b c f g r s offset contents e in (
+    same_found framing b c f g r s offset contents e in (
       same_whole framing b c f g r s offset contents e ∙ e,
       λ (d : Ending).
           ap (λ (t : List ℕ). made t d (cut_report offset (record { ending = d; found = has_element_at offset g })))
@@ -167,8 +167,8 @@ outputs_on command names b c made more few x y =
     let longer : (command_job command names).text y.reading ≡ more.output =
     sym (ap (λ (m : CommandResult). m.output) y.is_made) in
     let front =
-        text_on command names b c x.reading y.reading
-            (subst (λ (n : ℕ). length (b ++ c) ≤ n) (sym (limit_is command names)) few) x.is_reading y.is_reading in
+    text_on command names b c x.reading y.reading
+    (subst (λ (n : ℕ). length (b ++ c) ≤ n) (sym (limit_is command names)) few) x.is_reading y.is_reading in
     (front.0, ap (λ (l : List ℕ). l ++ front.0) (sym shorter) ∙ front.1 ∙ longer)
 
 pub second_indef : SecondIndefIsTheFirst

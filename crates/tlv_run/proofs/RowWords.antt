@@ -107,7 +107,7 @@ dumped_by rules limit pure framing name_of octets =
 by_names : (rules : Rules) (limit : Option ℕ) (pure : Bool) (framing : Framing) (names : NamesTable) (name_of : NameOf)
     →
     finite.get names ≡ name_of → (octets : List ℕ)
-        → result_with names (dump rules limit pure framing) octets ≡ dumped_by rules limit pure framing name_of octets
+    → result_with names (dump rules limit pure framing) octets ≡ dumped_by rules limit pure framing name_of octets
 by_names rules limit pure framing names name_of e octets =
     ap (λ (by : NameOf). dumped_by rules limit pure framing by octets) e
 
@@ -128,7 +128,7 @@ pub named : (entries : List (List ℕ × List ℕ)) (rules : Rules) (limit : Opt
     (octets : List ℕ)
     →
     result_with (entries_table entries) (dump rules limit pure framing) octets
-        ≡ dumped_by rules limit pure framing (name_in entries) octets
+    ≡ dumped_by rules limit pure framing (name_in entries) octets
 named entries rules limit pure framing =
     by_names rules limit pure framing (entries_table entries) (name_in entries)
-        (λ i text. finite.get-from_entries nat_list_cmp_total entries text i)
+    (λ i text. finite.get-from_entries nat_list_cmp_total entries text i)

@@ -54,14 +54,14 @@ pub statuses : StatusesShowSoundness
 statuses command names b made x open_ =
     let job = command_job command names in
     let ends : IsEnding job.framing b made.ending =
-        subst (λ (k : Bool). EndsWith job.framing b k made.ending) open_ x.ends in
+    subst (λ (k : Bool). EndsWith job.framing b k made.ending) open_ x.ends in
     let status : made.report.status ≡ (job.returned x.reading made.ending).status =
-        ap (λ (m : CommandResult). m.report.status) x.is_made in (
+    ap (λ (m : CommandResult). m.report.status) x.is_made in (
       λ two sound. done_quiet command names x.reading
           (ap (λ (e : Ending). (job.returned x.reading e).status)
-              (sym (ending-unique job.framing b made.ending ending.Done ends (sound-done job.framing b sound)))
-              ∙ sym status ∙ two),
+          (sym (ending-unique job.framing b made.ending ending.Done ends (sound-done job.framing b sound)))
+          ∙ sym status ∙ two),
       λ unsound. status
           ∙ fault_loud command names x.reading made.ending
-              (λ done. unsound (done-sound job.framing b (subst (IsEnding job.framing b) done ends))),
+          (λ done. unsound (done-sound job.framing b (subst (IsEnding job.framing b) done ends))),
     )

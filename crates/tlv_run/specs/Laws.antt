@@ -11,6 +11,7 @@ use Rattle.tlv_run.specs.Results.{CommandResult, IsCommandResult, IsSettled, com
 use Rattle.tlv_run.specs.RunsAndReports.{RunsAndReports}
 use Rattle.tlv_run.specs.declared.command.Command.{Command}
 use Rattle.tlv_run.specs.declared.command.Command.TheVariants.{Indef}
+use Rattle.tlv_head.specs.InputLimit.{input_limit}
 
 -- an input has a result, and no other
 abbrev pub InputsHaveOneResult : Type 0
@@ -29,7 +30,7 @@ SettledResultsStay =
 -- what is written of an input of at most 2^40 octets goes on from what is written of a prefix
 abbrev pub OutputsGoOn : Type 0
 OutputsGoOn =
-    (command : Command) (names : NamesTable) (b c : List ℕ) (made more : CommandResult) → length (b ++ c) ≤ 2 ^ 40
+    (command : Command) (names : NamesTable) (b c : List ℕ) (made more : CommandResult) → length (b ++ c) ≤ input_limit
     → IsCommandResult command names b made → IsCommandResult command names (b ++ c) more
     → IsPrefixOf made.output more.output
 
@@ -43,7 +44,7 @@ SecondIndefIsTheFirst =
 -- the source has these octets left, at most 2^40
 pub record HasInput (source : SourceState) (octets : List ℕ) : Type 0 where
   pub are_octets : AreOctets octets
-  pub within : length octets ≤ 2 ^ 40
+  pub within : length octets ≤ input_limit
   pub left : source.left ≡ Some octets
 
 -- neither device counted a failure, and each could have counted one: the count was below its end

@@ -29,8 +29,8 @@ b02-there = refl
 -- 1f 00 00
 b02-there-2 : checked plain Ber (31 ∷ 0 ∷ 0 ∷ [])
     ≡ says 3
-        (codes "0 B01 high form for a number below 31" ∷ codes "0 B02 tag number begins with zero bits"
-            ∷ codes "0 B03 unassigned universal number" ∷ [])
+    (codes "0 B01 high form for a number below 31" ∷ codes "0 B02 tag number begins with zero bits"
+    ∷ codes "0 B03 unassigned universal number" ∷ [])
 unfolding digits
 b02-there-2 = refl
 

@@ -107,8 +107,8 @@ c02-absent-2 = refl
 -- 24 82 03 ec 04 82 03 e8 1000 times 00
 c02-absent-3 : checked plain Cer ((36 ∷ 130 ∷ 3 ∷ 236 ∷ 4 ∷ 130 ∷ 3 ∷ 232 ∷ []) ++ replicate 1000 0)
     ≡ says 2
-        (codes "0 C01 definite length of a constructed element" ∷ codes "0 C05 constructed string fits in 1000 octets"
-            ∷ [])
+    (codes "0 C01 definite length of a constructed element" ∷ codes "0 C05 constructed string fits in 1000 octets"
+    ∷ [])
 unfolding digits
 c02-absent-3 = refl
 
@@ -133,16 +133,16 @@ c03-absent-2 = refl
 -- 24 80 04 01 00 04 01 00 00 00
 c04-there : checked plain Cer (36 ∷ 128 ∷ 4 ∷ 1 ∷ 0 ∷ 4 ∷ 1 ∷ 0 ∷ 0 ∷ 0 ∷ [])
     ≡ says 2
-        (codes "5 C04 segment follows one not of 1000 octets" ∷ codes "0 C05 constructed string fits in 1000 octets"
-            ∷ [])
+    (codes "5 C04 segment follows one not of 1000 octets" ∷ codes "0 C05 constructed string fits in 1000 octets"
+    ∷ [])
 unfolding digits
 c04-there = refl
 
 -- 24 80 24 80 00 00 04 01 00 00 00
 c04-there-2 : checked plain Cer (36 ∷ 128 ∷ 36 ∷ 128 ∷ 0 ∷ 0 ∷ 4 ∷ 1 ∷ 0 ∷ 0 ∷ 0 ∷ [])
     ≡ says 3
-        (codes "2 C03 segment is constructed" ∷ codes "2 C05 constructed string fits in 1000 octets"
-            ∷ codes "6 C04 segment follows one not of 1000 octets" ∷ [])
+    (codes "2 C03 segment is constructed" ∷ codes "2 C05 constructed string fits in 1000 octets"
+    ∷ codes "6 C04 segment follows one not of 1000 octets" ∷ [])
 unfolding digits
 c04-there-2 = refl
 
@@ -150,9 +150,9 @@ c04-there-2 = refl
 c04-there-3 : checked plain Cer
     ((36 ∷ 128 ∷ 36 ∷ 130 ∷ 3 ∷ 232 ∷ 4 ∷ 130 ∷ 3 ∷ 228 ∷ []) ++ replicate 996 0 ++ (4 ∷ 1 ∷ 0 ∷ 0 ∷ 0 ∷ []))
     ≡ says 4
-        (codes "2 C01 definite length of a constructed element" ∷ codes "2 C03 segment is constructed"
-            ∷ codes "2 C05 constructed string fits in 1000 octets"
-            ∷ codes "1006 C04 segment follows one not of 1000 octets" ∷ [])
+    (codes "2 C01 definite length of a constructed element" ∷ codes "2 C03 segment is constructed"
+    ∷ codes "2 C05 constructed string fits in 1000 octets"
+    ∷ codes "1006 C04 segment follows one not of 1000 octets" ∷ [])
 unfolding digits
 c04-there-3 = refl
 
@@ -186,8 +186,8 @@ c05-there-3 = refl
 -- 23 80 0c 00 00 00
 c05-there-4 : checked plain Cer (35 ∷ 128 ∷ 12 ∷ 0 ∷ 0 ∷ 0 ∷ [])
     ≡ says 3
-        (codes "2 B17 segment has another tag" ∷ codes "0 C05 constructed string fits in 1000 octets"
-            ∷ codes "0 C06 last segment is empty" ∷ [])
+    (codes "2 B17 segment has another tag" ∷ codes "0 C05 constructed string fits in 1000 octets"
+    ∷ codes "0 C06 last segment is empty" ∷ [])
 unfolding digits is_utf8 chars encode
 c05-there-4 = refl
 
@@ -221,8 +221,8 @@ c06-there = refl
 -- 24 80 04 01 00 04 00 00 00
 c06-there-2 : checked plain Cer (36 ∷ 128 ∷ 4 ∷ 1 ∷ 0 ∷ 4 ∷ 0 ∷ 0 ∷ 0 ∷ [])
     ≡ says 3
-        (codes "5 C04 segment follows one not of 1000 octets" ∷ codes "0 C05 constructed string fits in 1000 octets"
-            ∷ codes "0 C06 last segment is empty" ∷ [])
+    (codes "5 C04 segment follows one not of 1000 octets" ∷ codes "0 C05 constructed string fits in 1000 octets"
+    ∷ codes "0 C06 last segment is empty" ∷ [])
 unfolding digits
 c06-there-2 = refl
 
@@ -235,8 +235,8 @@ c06-absent = refl
 -- 24 80 04 00 04 01 00 00 00
 c06-absent-2 : checked plain Cer (36 ∷ 128 ∷ 4 ∷ 0 ∷ 4 ∷ 1 ∷ 0 ∷ 0 ∷ 0 ∷ [])
     ≡ says 2
-        (codes "4 C04 segment follows one not of 1000 octets" ∷ codes "0 C05 constructed string fits in 1000 octets"
-            ∷ [])
+    (codes "4 C04 segment follows one not of 1000 octets" ∷ codes "0 C05 constructed string fits in 1000 octets"
+    ∷ [])
 unfolding digits
 c06-absent-2 = refl
 

@@ -71,7 +71,7 @@ lengths_of_both-alike : AreAlike (reading plain (48 ∷ 3 ∷ 2 ∷ 1 ∷ 5 ∷ 
     (reading plain (48 ∷ 128 ∷ 2 ∷ 1 ∷ 5 ∷ 0 ∷ 0 ∷ []))
 lengths_of_both-alike =
     holders _ _ _ _ _ _ (one_tag _ _ refl refl refl)
-        (primitives _ _ (5 ∷ []) _ _ (one_tag _ _ refl refl refl) nothing) nothing
+    (primitives _ _ (5 ∷ []) _ _ (one_tag _ _ refl refl refl) nothing) nothing
 
 -- 04 02 05 00 and 04 81 02 05 00, read as encodings: a string that is named holds elements
 wrapper : misspelled (naming 0) Der (4 ∷ 2 ∷ 5 ∷ 0 ∷ []) ≡ false
@@ -84,7 +84,7 @@ wrapper_offsets-alike : AreAlike (reading (naming 0) (4 ∷ 2 ∷ 5 ∷ 0 ∷ []
     (reading (naming 0) (4 ∷ 129 ∷ 2 ∷ 5 ∷ 0 ∷ []))
 wrapper_offsets-alike =
     holders _ _ _ _ _ _ (one_tag _ _ refl refl refl) (primitives _ _ [] _ _ (one_tag _ _ refl refl refl) nothing)
-        nothing
+    nothing
 
 -- 05 00 00 00 and 05 81 00 00 00, each with two octets of padding
 padded-alike : AreAlike (reading padded (5 ∷ 0 ∷ 0 ∷ 0 ∷ [])) (reading padded (5 ∷ 129 ∷ 0 ∷ 0 ∷ 0 ∷ []))

@@ -1,5 +1,5 @@
 -- Laws of the texts of a dump and of a check.
-use Rattle.std.specs.Prelude.{◌≡◌, ℕ, ◌^◌, ◌≤◌, List, [], ◌∷◌, ◌++◌, length, None, Bool, false, flat_map}
+use Rattle.std.specs.Prelude.{◌≡◌, ℕ, ◌≤◌, List, [], ◌∷◌, ◌++◌, length, None, Bool, false, flat_map}
 use Rattle.std.specs.FinMap as finite
 use Rattle.std.specs.List.{filter}
 use Rattle.tlv_show.specs.Items.{Item, FindingAt, OpeningLine, ClosingLine, PrimitiveLines}
@@ -28,18 +28,19 @@ use Rattle.tlv_show.specs.FindingLines.{styled_lines}
 use Rattle.tlv_show.specs.DumpStep.{DumpState, dump_step, finding_lines}
 use Rattle.tlv_show.specs.FinderState.{finder_begin_step}
 use Rattle.tlv_show.specs.Found.{contents_findings, is_shown}
+use Rattle.tlv_head.specs.InputLimit.{input_limit}
 
 -- the text of a longer input, of no more octets than are dumped, begins with that of the shorter
 abbrev pub DumpsGoOn : Type 0
 DumpsGoOn =
-    (options : Options) (names : NamesTable) (b c : List ℕ) (f g : Forest) → length (b ++ c) ≤ 2 ^ 40
+    (options : Options) (names : NamesTable) (b c : List ℕ) (f g : Forest) → length (b ++ c) ≤ input_limit
     → IsReading options.framing b f → IsReading options.framing (b ++ c) g
     → IsPrefixOf ((dump_job options names).text f) ((dump_job options names).text g)
 
 -- likewise what a check lists
 abbrev pub ChecksGoOn : Type 0
 ChecksGoOn =
-    (rules : Rules) (framing : Framing) (b c : List ℕ) (f g : Forest) → length (b ++ c) ≤ 2 ^ 40
+    (rules : Rules) (framing : Framing) (b c : List ℕ) (f g : Forest) → length (b ++ c) ≤ input_limit
     → IsReading framing b f → IsReading framing (b ++ c) g
     → IsPrefixOf ((check_job rules framing).text f) ((check_job rules framing).text g)
 
@@ -67,7 +68,7 @@ PrimitivesAreShown =
 abbrev pub DumpsMakeTexts : Type 0
 DumpsMakeTexts =
     (options : Options) (names : NamesTable) (b : List ℕ) (f : Forest)
-    → length b ≤ 2 ^ 40 → IsReading options.framing b f
+    → length b ≤ input_limit → IsReading options.framing b f
     → let made = effect_of dump_step (new_dump options.rules (top_layout options) names) (events f) in
     (made.put ≡ (dump_job options names).text f)
     × (made.state.finder.count ≡ finding_count options.rules f)
@@ -76,7 +77,7 @@ DumpsMakeTexts =
 -- likewise a `Check`
 abbrev pub ChecksMakeTexts : Type 0
 ChecksMakeTexts =
-    (rules : Rules) (framing : Framing) (b : List ℕ) (f : Forest) → length b ≤ 2 ^ 40 → IsReading framing b f
+    (rules : Rules) (framing : Framing) (b : List ℕ) (f : Forest) → length b ≤ input_limit → IsReading framing b f
     → let made = effect_of check_step (new_check rules) (events f) in
     (made.put ≡ (check_job rules framing).text f)
     × (made.state.count ≡ finding_count rules f)

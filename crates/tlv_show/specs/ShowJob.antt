@@ -1,5 +1,5 @@
 -- What a command does that shows what a source gives, in one pass.
-use Rattle.std.specs.Prelude.{ℕ, ◌^◌, false, List, flat_map}
+use Rattle.std.specs.Prelude.{ℕ, false, List, flat_map}
 use Rattle.tlv_walk.specs.declared.framing.Framing.{Framing}
 use Rattle.tlv_walk.specs.Job.{Job}
 use Rattle.tlv_walk.specs.Wrappers.{first_without_wrapper}
@@ -8,13 +8,14 @@ use Rattle.tlv_show.specs.declared.rules.Rules.{Rules}
 use Rattle.tlv_show.specs.Items.{Item, items}
 use Rattle.tlv_show.specs.Site.{top_site}
 use Rattle.tlv_show.specs.Texts.{finding_count}
+use Rattle.tlv_head.specs.InputLimit.{input_limit}
 
 -- the items of all elements are written, each with this text, and the findings are counted, whether they are written
 -- or not
 abbrev pub show_job : Framing → Rules → (Item → List ℕ) → Job Outcome
 show_job framing rules text_of = record {
   framing = framing;
-  limit = 2 ^ 40;
+  limit = input_limit;
   text = λ f. flat_map text_of (items rules top_site f);
   is_enough = λ f. false;
   returned = λ f e. record {

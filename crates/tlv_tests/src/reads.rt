@@ -1,6 +1,7 @@
 //! Reads that are followed one by one.
-ghost use Rattle.std.specs.Prelude.{◌<◌, ◌≤◌, ◌^◌, length};
+ghost use Rattle.std.specs.Prelude.{◌<◌, ◌≤◌, length};
 ghost use Rattle.tlv_walk.specs.Stands.{CanTake};
+ghost use Rattle.tlv_head.specs.InputLimit.{input_limit};
 
 use crate::expect::expect_eq;
 use std::process::Abort;
@@ -21,7 +22,7 @@ pub(crate) fn expect_again<F: Follow>(
     written: &[u8],
 )
     requires piece { (0 < length piece.old) × (length piece.old ≤ 4096) }
-    requires limit { limit ≤ 2 ^ 40 }
+    requires limit { limit ≤ input_limit }
     requires taken { walker.old.offset ≤ limit }
     requires ready { CanTake walker.old }
     ensures taken { walker.new.offset ≤ limit }
@@ -45,7 +46,7 @@ pub(crate) fn expect_failure<F: Follow>(
     written: &[u8],
 )
     requires piece { (0 < length piece.old) × (length piece.old ≤ 4096) }
-    requires limit { limit ≤ 2 ^ 40 }
+    requires limit { limit ≤ input_limit }
     requires taken { walker.old.offset ≤ limit }
     requires ready { CanTake walker.old }
     ensures taken { walker.new.offset ≤ limit }

@@ -1,11 +1,12 @@
 -- The offsets that a user may name.
-use Rattle.std.specs.Prelude.{ℕ, ◌+◌, ◌^◌, Bool, true, ◌&&◌, eqb, nat_le, List, [], ◌∷◌, length}
+use Rattle.std.specs.Prelude.{ℕ, ◌+◌, Bool, true, ◌&&◌, eqb, nat_le, List, [], ◌∷◌, length}
 use Rattle.std.specs.List.{list_any}
+use Rattle.tlv_head.specs.InputLimit.{input_limit}
 
 -- each offset is larger than the one before, none is below `least`, and none is above 2^40
 abbrev pub are_rising : ℕ → List ℕ → Bool
 are_rising least [] = true
-are_rising least (n ∷ ns) = nat_le least n && (nat_le n (2 ^ 40) && are_rising (n + 1) ns)
+are_rising least (n ∷ ns) = nat_le least n && (nat_le n input_limit && are_rising (n + 1) ns)
 
 -- at most 16 rising offsets
 abbrev pub can_name : List ℕ → Bool

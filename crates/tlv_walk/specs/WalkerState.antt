@@ -1,5 +1,5 @@
 -- What contracts see of a `Walker`, which takes octets and yields events.
-use Rattle.std.specs.Prelude.{◌≡◌, ◌≢◌, ℕ, ◌+◌, ◌^◌, ◌≤◌, Bool, false, slice_get, List, [], length, Option}
+use Rattle.std.specs.Prelude.{◌≡◌, ◌≢◌, ℕ, ◌+◌, ◌≤◌, Bool, false, slice_get, List, [], length, Option}
 use Rattle.tlv_head.specs.declared.fault.Fault.{Fault}
 use Rattle.tlv_head.specs.HeadReaderState.{HeadReaderState}
 use Rattle.tlv_walk.specs.declared.event.Event.{Event}
@@ -8,6 +8,7 @@ use Rattle.tlv_walk.specs.declared.framing.Framing.{Framing}
 use Rattle.tlv_walk.specs.Phase.{PhaseValue, Between, InHeader, InPrimitive, InBitString, InEndOctets, Refused}
 use Rattle.tlv_walk.specs.Stack.{FrameValue, IsInIndefinite, IsInWrapper, IsNested, bound_of}
 use Rattle.tlv_walk.specs.Place.{IsWithin}
+use Rattle.tlv_head.specs.InputLimit.{input_limit}
 
 pub record WalkerState : Type 0 where
   -- the open elements, innermost first
@@ -55,7 +56,7 @@ IsPhase (Refused fault) stack offset events = events + length stack ≤ offset
 pub record IsWalkerState (w : WalkerState) : Type 0 where
   pub nested : IsNested w.stack
   pub within : IsWithin (bound_of w.stack) w.offset
-  pub limit : w.offset ≤ 2 ^ 40
+  pub limit : w.offset ≤ input_limit
   pub fewer : length w.stack ≤ 128
   pub phased : IsPhase w.phase w.stack w.offset w.events
   pub named : length w.framing.inside ≤ 16

@@ -1,6 +1,7 @@
 //! A walk over all that a source gives.
-ghost use Rattle.std.specs.Prelude.{◌≤◌, ◌^◌};
+ghost use Rattle.std.specs.Prelude.{◌≤◌};
 ghost use Rattle.tlv_walk.specs.DriveJob.{Drives, drive_states};
+ghost use Rattle.tlv_head.specs.InputLimit.{input_limit};
 
 use crate::one_turn::turn_to;
 use crate::{DeviceFault, Drain, Follow, Framing, INPUT_LIMIT, Out, Run, Source, Turn, Walker};
@@ -19,7 +20,7 @@ pub fn drive<S: Source, F: Follow, D: Drain>(
     drain: &mut D,
     framing: &Framing,
 ) -> Result<Run, DeviceFault>
-    ensures { Drives F.next framing.now (2 ^ 40)
+    ensures { Drives F.next framing.now input_limit
         (drive_states follower.old (S.state source.old) (D.state drain.old))
         (drive_states follower.new (S.state source.new) (D.state drain.new)) result }
 {
@@ -44,7 +45,7 @@ pub fn drive_up_to<S: Source, F: Follow, D: Drain>(
     limit: u64,
     framing: &Framing,
 ) -> Result<Run, DeviceFault>
-    requires { limit ≤ 2 ^ 40 }
+    requires { limit ≤ input_limit }
     ensures { Drives F.next framing.now limit
         (drive_states follower.old (S.state source.old) (D.state drain.old))
         (drive_states follower.new (S.state source.new) (D.state drain.new)) result }

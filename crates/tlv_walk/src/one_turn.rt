@@ -1,5 +1,5 @@
 //! One read of a source, followed.
-ghost use Rattle.std.specs.Prelude.{◌≡◌, [], ◌+◌, ◌<◌, ◌≤◌, ◌^◌, IfOk, length};
+ghost use Rattle.std.specs.Prelude.{◌≡◌, [], ◌+◌, ◌<◌, ◌≤◌, IfOk, length};
 ghost use Rattle.tlv_walk.specs.Follow.{HasEffect};
 ghost use Rattle.tlv_walk.specs.Private.ResultOfPause.{IsResultOfPause, IsRun};
 ghost use Rattle.tlv_walk.specs.Private.FollowsPiece.{FollowsAndFlushes, FollowsPart, FollowsPiece, follow_states};
@@ -8,6 +8,7 @@ ghost use Rattle.tlv_walk.specs.Stands.{CanTake};
 ghost use Rattle.tlv_io.specs.Out.{Puts, held_octets, drain_of};
 ghost use Rattle.tlv_walk.specs.HasRead.{event_value_of};
 ghost use Rattle.tlv_walk.specs.OneTurn.{FollowsOneRead, turn_states};
+ghost use Rattle.tlv_head.specs.InputLimit.{input_limit};
 
 use crate::walker::WholePrimitive;
 use crate::{
@@ -50,7 +51,7 @@ pub fn turn<F: Follow, S: Source, D: Drain>(
     limit: u64,
 ) -> Result<Turn, DeviceFault>
     requires piece { (0 < length piece.old) × (length piece.old ≤ 4096) }
-    requires limit { limit ≤ 2 ^ 40 }
+    requires limit { limit ≤ input_limit }
     requires taken { walker.old.offset ≤ limit }
     requires ready { CanTake walker.old }
     ensures { FollowsOneRead F.next
@@ -73,7 +74,7 @@ pub(crate) fn turn_to<F: Follow, S: Source, D: Drain>(
     limit: u64,
 ) -> Result<Turn, DeviceFault>
     requires piece { (0 < length piece.old) × (length piece.old ≤ 4096) }
-    requires limit { limit ≤ 2 ^ 40 }
+    requires limit { limit ≤ input_limit }
     requires taken { walker.old.offset ≤ limit }
     requires ready { CanTake walker.old }
     requires empty { held_octets out.old ≡ [] }
@@ -132,7 +133,7 @@ fn follow_and_flush<F: Follow, D: Drain>(
     piece: &[u8],
     out: &mut Out<'_, D>,
 ) -> Result<Pause, WriteFault>
-    requires limit { walker.old.offset + length piece.now ≤ 2 ^ 40 }
+    requires limit { walker.old.offset + length piece.now ≤ input_limit }
     requires empty { held_octets out.old ≡ [] }
     ensures { FollowsAndFlushes F.next D.state
         (follow_states walker.old follower.old out.old)
@@ -151,7 +152,7 @@ fn follow<F: Follow, D: Drain>(
     piece: &[u8],
     out: &mut Out<'_, D>,
 ) -> Result<Pause, WriteFault>
-    requires { walker.old.offset + length piece.now ≤ 2 ^ 40 }
+    requires { walker.old.offset + length piece.now ≤ input_limit }
     ensures { FollowsPiece F.next D.state
         (follow_states walker.old follower.old out.old)
         (follow_states walker.new follower.new out.new)
@@ -197,7 +198,7 @@ fn follow_primitive<F: Follow, D: Drain>(
     piece: &mut &[u8],
     out: &mut Out<'_, D>,
 ) -> Result<bool, WriteFault>
-    requires { walker.old.offset + length piece.old.now ≤ 2 ^ 40 }
+    requires { walker.old.offset + length piece.old.now ≤ input_limit }
     ensures { FollowsPart F.next D.state
         (follow_states walker.old follower.old out.old)
         (follow_states walker.new follower.new out.new)
@@ -225,7 +226,7 @@ fn follow_found<F: Follow, D: Drain>(
     out: &mut Out<'_, D>,
 ) -> Result<bool, WriteFault>
     requires can { CanPass walker.old piece.old.now primitive.now }
-    requires limit { walker.old.offset + length piece.old.now ≤ 2 ^ 40 }
+    requires limit { walker.old.offset + length piece.old.now ≤ input_limit }
     ensures { FollowsPart F.next D.state
         (follow_states walker.old follower.old out.old)
         (follow_states walker.new follower.new out.new)

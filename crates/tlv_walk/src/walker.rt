@@ -1,6 +1,6 @@
 //! A machine that takes an encoding in pieces, and keeps a frame for each open element that holds
 //! others.
-ghost use Rattle.std.specs.Prelude.{◌≡◌, ◌+◌, ◌^◌, ◌≤◌, ◌↔◌, IsTrue, length};
+ghost use Rattle.std.specs.Prelude.{◌≡◌, ◌+◌, ◌≤◌, ◌↔◌, IsTrue, length};
 
 mod contents;
 mod ends;
@@ -73,6 +73,7 @@ impl Walker {
     ghost use Rattle.tlv_walk.specs.StepsTo.{RefusesAgain, StepsTo};
     ghost use Rattle.tlv_walk.specs.HasRead.{IfAtEnd, IfRead};
     ghost use Rattle.tlv_walk.specs.Private.Yields.{YieldsStep};
+    ghost use Rattle.tlv_head.specs.InputLimit.{input_limit};
 
     /// A walker that has taken nothing.
     pub fn new(framing: &Framing) -> Walker
@@ -106,7 +107,7 @@ impl Walker {
     /// How many octets were taken.
     pub fn offset(&self) -> u64
         ensures value { result ≡ self.now.offset }
-        ensures within { result ≤ 2 ^ 40 }
+        ensures within { result ≤ input_limit }
         ensures taken { IfRead self.now (λ b f. result ≡ length b) }
     {
         self.offset
@@ -189,7 +190,7 @@ impl Walker {
     /// taken and the one refused is a sound list of encodings.
     #[inline(never)]
     pub fn step<'a>(&mut self, piece: &mut &'a [u8]) -> Step<'a>
-        requires { self.old.offset + length piece.old.now ≤ 2 ^ 40 }
+        requires { self.old.offset + length piece.old.now ≤ input_limit }
         ensures { StepsTo self.old self.new piece.old.now piece.new.now result }
     {
         self.take(piece)
@@ -197,7 +198,7 @@ impl Walker {
 
     /// What the next octets are, by what they belong to.
     fn take<'a>(&mut self, piece: &mut &'a [u8]) -> Step<'a>
-        requires { self.old.offset + length piece.old.now ≤ 2 ^ 40 }
+        requires { self.old.offset + length piece.old.now ≤ input_limit }
         ensures steps { CountsStep self.old self.new piece.old.now piece.new.now result }
         ensures yields { YieldsStep self.old self.new piece.old.now piece.new.now result }
         ensures again { IfRefused self.old (λ fault. (result ≡ Step.Fault fault)

@@ -10,6 +10,7 @@ use Rattle.clap.specs.Words.{Text}
 use Rattle.tlv_walk.specs.Inside.{can_name}
 use Rattle.tlv_show.specs.declared.rules.Rules.{Rules}
 use Rattle.tlv_show.specs.declared.rules.Rules.TheVariants.{Ber, Cer, Der}
+use Rattle.tlv_head.specs.InputLimit.{input_limit}
 
 -- ---- numbers
 
@@ -19,10 +20,6 @@ bounded_number text most =
     if nat_lt 0 (length text) && (nat_le (length text) 13
     && (list_all is_ascii_digit text && nat_le (digits_value 10 text) most))
     then Some (digits_value 10 text) else None
-
--- the largest offset, in octets
-abbrev pub most_offset : ℕ
-most_offset = 2 ^ 40
 
 -- ---- lists of offsets
 
@@ -35,7 +32,7 @@ abbrev pub part_offsets : List Text → Option (List ℕ)
 part_offsets [] = Some []
 part_offsets (part ∷ parts) =
     option_and_then (λ n. option_map (λ ns. n ∷ ns) (part_offsets parts))
-    (bounded_number part most_offset)
+    (bounded_number part input_limit)
 
 -- 1 to 16 rising offsets with commas between them
 abbrev pub offset_list : Text → Option (List ℕ)
@@ -60,7 +57,7 @@ limit_value (Some text) = option_map Some (bounded_number text (2 ^ 32 - 1))
 
 -- `--offset`: an offset, which must be given
 abbrev pub offset_value : Option Text → Option ℕ
-offset_value = option_and_then (λ text. bounded_number text most_offset)
+offset_value = option_and_then (λ text. bounded_number text input_limit)
 
 -- `--inside`: a list of offsets; without it there is none
 abbrev pub inside_value : Option Text → Option (List ℕ)

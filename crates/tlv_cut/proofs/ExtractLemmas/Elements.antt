@@ -106,7 +106,7 @@ module _ (n : ℕ) (only : Bool) where
 
   opens_wanted : (h : HeaderValue) → (h.offset == n) ≡ true
       → made_from before (opening_events h)
-          ≡ effect_with (state_inside n only 0) (outer_octets only (octets_of h) ++ lead h)
+      ≡ effect_with (state_inside n only 0) (outer_octets only (octets_of h) ++ lead h)
   opens_wanted h e =
       made_from-opens before (state_inside n only 0) (outer_octets only (octets_of h)) h (wanted_begins h e)
 
@@ -194,13 +194,13 @@ module _ (n : ℕ) (only : Bool) where
   whole_at p (PaddingOctet rest) v w = whole_at (place_after p 1) rest v.1 w
   whole_at p (Primitive h c rest) v w =
       either (h.offset == n) (Some (Primitive h c NoMore)) (element_at n rest) refl
-          (whole_at (place_after p _) rest v.1 w)
+      (whole_at (place_after p _) rest v.1 w)
   whole_at p (Holder h inside rest) v w =
       let a = element_at n inside in
       let b = element_at n rest in
       either (h.offset == n) (Some (Holder h inside NoMore)) (option_or a b) refl
       (either_there a b (whole_at (place_of_children p h) inside v.1 v.0.1)
-          (whole_at (place_after p (extent h inside)) rest v.2 w))
+      (whole_at (place_after p (extent h inside)) rest v.2 w))
   whole_at p (OpenPrimitive h c) v w = absurd (cc (w))
   whole_at p (OpenHolder h inside) v w = absurd (cc (w))
   whole_at p (OpenBitString h) v w = absurd (cc (w))
@@ -232,11 +232,11 @@ module _ (n : ℕ) (only : Bool) where
       let whole = there_whole (element_at n inside) e is (whole_at (place_of_children p h) inside v.1 v.0.1) in
       let on = i.goes ∙ ap go_of whole in
       let same =
-          opened ∙ followed-enough extract_step before (events inside) (closing_event h inside ∷ events rest) on in
+      opened ∙ followed-enough extract_step before (events inside) (closing_event h inside ∷ events rest) on in
       subst (IsTextOf (element_at n inside)) (sym same) i)
       (λ none.
       let same =
-          opened ∙ then_more before before [] (events inside) (closing_event h inside ∷ events rest) (i.misses none)
+      opened ∙ then_more before before [] (events inside) (closing_event h inside ∷ events rest) (i.misses none)
       ∙ then_more before before [] (closing_event h inside ∷ []) (events rest)
       (made_from-closes before h inside v.0.0.header.valid.allowed) in
       subst (IsTextOf (element_at n rest)) (sym same) r)
@@ -250,7 +250,7 @@ module _ (n : ℕ) (only : Bool) where
       let es = Begin h ∷ Bytes c ∷ End ∷ [] in
       choose (h.offset == n) (Some (Primitive h c NoMore)) (element_at n rest) (made_from before (es ++ events rest))
       (λ e. whole_text (Primitive h c NoMore) _ _ refl (whole_octets h c)
-          (enough es (events rest) _ (made_from-primitive h c e)))
+      (enough es (events rest) _ (made_from-primitive h c e)))
       (λ e. subst (IsTextOf (element_at n rest))
       (sym (then_more before before [] (Begin h ∷ Bytes c ∷ []) (End ∷ events rest)
       (made_from-begins before before [] h c (other_begins h e))))
@@ -261,12 +261,12 @@ module _ (n : ℕ) (only : Bool) where
       (made_from before (events (Holder h inside rest)))
       (λ e.
       let k =
-          passed_on n only (place_of_children p h) 0 inside v.1 (omega arith) (omega (arith, (v.0.0.shallow refl))) in
+      passed_on n only (place_of_children p h) 0 inside v.1 (omega arith) (omega (arith, (v.0.0.shallow refl))) in
       let all = enough es (events rest) _ (made_from-holder h inside e v.0.0.header.valid.allowed v.0.1 k) in
       whole_text (Holder h inside NoMore) _ _ refl (holder_octets h inside)
       (ap (made_from before) (events-holder h inside rest) ∙ all))
       (λ e. passed_by p h inside rest v e
-          (makes_text (place_of_children p h) inside v.1 (omega (arith, (v.0.0.shallow refl))))
+      (makes_text (place_of_children p h) inside v.1 (omega (arith, (v.0.0.shallow refl))))
       (makes_text (place_after p (extent h inside)) rest v.2 deep))
   makes_text p (OpenPrimitive h c) v deep =
       let es = Begin h ∷ Bytes c ∷ [] in
@@ -283,7 +283,7 @@ module _ (n : ℕ) (only : Bool) where
       (made_from before (opening_events h ++ events inside))
       (λ e.
       let k =
-          passed_on n only (place_of_children p h) 0 inside v.1 (omega arith) (omega (arith, (v.0.0.shallow refl))) in
+      passed_on n only (place_of_children p h) 0 inside v.1 (omega arith) (omega (arith, (v.0.0.shallow refl))) in
       let all =
       then_more before (state_inside n only 0) (outer_octets only (octets_of h) ++ lead h) (opening_events h)
       (events inside) (opens_wanted h e) in

@@ -197,7 +197,7 @@ module _ (n : ℕ) where
       (append_assoc (octets_of h) (lead h) (octets_so_far inside)
       ∙ ap (λ (l : List ℕ). octets_of h ++ l) (sym (append-nil (lead h ++ octets_so_far inside)))))
       (λ _ some. in_rest p (place_of_children p h) f inside d (opening h) refl refl
-          (find (place_of_children p h) inside v.1 d some))
+      (find (place_of_children p h) inside v.1 d some))
       some
   find p (OpenBitString h) v d some =
       choose p (OpenBitString h) (h.offset == n) (OpenBitString h) None d

@@ -78,11 +78,11 @@ made_from-closes s h inside allowed =
 -- the events of an element that has ended, and of what follows it
 pub events-holder : (h : HeaderValue) (inside rest : Forest)
     → events (Holder h inside rest)
-        ≡ (opening_events h ++ (events inside ++ closing_event h inside ∷ [])) ++ events rest
+    ≡ (opening_events h ++ (events inside ++ closing_event h inside ∷ [])) ++ events rest
 events-holder h inside rest =
     sym (append_assoc (opening_events h) (events inside ++ closing_event h inside ∷ []) (events rest)
     ∙ ap (λ (l : List EventValue). opening_events h ++ l)
-        (append_assoc (events inside) (closing_event h inside ∷ []) (events rest)))
+    (append_assoc (events inside) (closing_event h inside ∷ []) (events rest)))
 
 module _ (n : ℕ) (only : Bool) where
   -- an `Extract` in the element wanted, and in this many that it holds
@@ -129,7 +129,7 @@ module _ (n : ℕ) (only : Bool) where
   -- a primitive
   pub primitive_passed_on : (level : ℕ) (h : HeaderValue) (c : List ℕ) → level ≤ 254
       → made_from (state_inside level) (Begin h ∷ Bytes c ∷ End ∷ [])
-          ≡ effect_with (state_inside level) (octets_of h ++ c)
+      ≡ effect_with (state_inside level) (octets_of h ++ c)
   primitive_passed_on level h c low =
       then_more (state_inside level) (state_inside (suc level)) (octets_of h ++ c) (Begin h ∷ Bytes c ∷ []) (End ∷ [])
       (made_from-begins (state_inside level) (state_inside (suc level)) (octets_of h) h c (one_more level h low))
@@ -164,7 +164,7 @@ module _ (n : ℕ) (only : Bool) where
   passed_on p level (Holder h inside rest) v low deep =
       let i : IsPassedOn (suc level) inside =
       passed_on (place_of_children p h) (suc level) inside v.1 (omega (arith, low))
-          (omega (arith, (v.0.0.shallow refl))) in
+      (omega (arith, (v.0.0.shallow refl))) in
       passed_on_after level (opening_events h ++ (events inside ++ closing_event h inside ∷ []))
       (opening h ++ (octets_so_far inside ++ end_octets h.size)) (Holder h inside rest) rest
       (holder_passed_on level h inside (omega (arith, low, deep)) v.0.0.header.valid.allowed v.0.1 i)
@@ -186,7 +186,7 @@ module _ (n : ℕ) (only : Bool) where
   passed_on p level (OpenHolder h inside) v low deep =
       let i : IsPassedOn (suc level) inside =
       passed_on (place_of_children p h) (suc level) inside v.1 (omega (arith, low))
-          (omega (arith, (v.0.0.shallow refl))) in
+      (omega (arith, (v.0.0.shallow refl))) in
       let all = then_more (state_inside level) (state_inside (suc level)) (opening h) (opening_events h) (events inside)
       (made_from-opens (state_inside level) (state_inside (suc level)) (octets_of h) h
       (one_more level h (omega (arith, low, deep)))) in

@@ -52,7 +52,7 @@ module _ (framing : Framing) (n : ℕ) (only : Bool) (t : ExtractState) (old new
 
   pub extract_ok : (run : Run) (answer : Cut) → answer.ending ≡ run.ending → answer.found ≡ has_found t
       → Drives extract_step framing (2 ^ 40) (drive_states (new_extract n only) old from) (drive_states t new to)
-          (Ok run)
+      (Ok run)
       → Runs (extract_job framing n only) (device_states old from) (device_states new to) (Ok answer)
   extract_ok run answer ending found x =
       jobs.runs_ok extract_step (extract_job framing n only)
@@ -65,7 +65,7 @@ module _ (framing : Framing) (n : ℕ) (only : Bool) (t : ExtractState) (old new
 
   pub extract_err : (e : DeviceFault)
       → Drives extract_step framing (2 ^ 40) (drive_states (new_extract n only) old from) (drive_states t new to)
-          (Err e)
+      (Err e)
       → Runs (extract_job framing n only) (device_states old from) (device_states new to) (Err e)
   extract_err e x =
       jobs.runs_err extract_step (extract_job framing n only) (new_extract n only) text enough t old new from to e x

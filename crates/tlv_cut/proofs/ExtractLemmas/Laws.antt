@@ -66,8 +66,8 @@ begin_goes_on n only position.Before h = by (h.offset == n)
 
     by : (k : Bool)
         → (if k then extract_step_to s (position.Within 0) (outer_octets only (octets_of h)) go.On
-            else no_effect s).goes
-            ≡ go.On
+        else no_effect s).goes
+        ≡ go.On
     by true = refl
     by false = refl
 begin_goes_on n only (position.Within level) h = refl

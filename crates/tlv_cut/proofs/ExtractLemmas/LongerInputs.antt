@@ -100,7 +100,7 @@ module _ (framing : Framing) (b c : List ℕ) (f g : Forest) (r : IsReading fram
   longer : made_from (new_extract n only) (events g) ≡ made_from (new_extract n only) (events f ++ others.0)
   longer =
       followed-alike extract_step (each_octet-joins extract_octet_step) (λ s. refl)
-          (each_octet-goes_on extract_octet_step)
+      (each_octet-goes_on extract_octet_step)
       (λ s x y. refl) (λ s. refl) (λ s x. refl)
       (new_extract n only) (events g) (events f ++ others.0) others.1
 

@@ -68,7 +68,7 @@ no_lead h e =
 holder_spelled : (constructed : Bool) (h : HeaderValue) (inside rest : Forest) → h.constructed ≡ constructed
     → opening_by constructed h ++ (spelling inside ++ (end_by constructed ++ spelling rest))
     ≡ spelling
-        (if constructed then Holder (indefinite_header h) inside rest else Primitive h (lead h ++ spelling inside) rest)
+    (if constructed then Holder (indefinite_header h) inside rest else Primitive h (lead h ++ spelling inside) rest)
 holder_spelled true h inside rest e =
     ap (λ (l : List ℕ). l ++ (spelling inside ++ (0 ∷ 0 ∷ spelling rest))) (no_lead h e)
 holder_spelled false h inside rest e =
@@ -78,7 +78,7 @@ holder_spelled false h inside rest e =
 open_holder_spelled : (constructed : Bool) (h : HeaderValue) (inside : Forest) → h.constructed ≡ constructed
     → opening_by constructed h ++ spelling inside
     ≡ spelling
-        (if constructed then OpenHolder (indefinite_header h) inside else OpenPrimitive h (lead h ++ spelling inside))
+    (if constructed then OpenHolder (indefinite_header h) inside else OpenPrimitive h (lead h ++ spelling inside))
 open_holder_spelled true h inside e = ap (λ (l : List ℕ). l ++ spelling inside) (no_lead h e)
 open_holder_spelled false h inside e = append_assoc (octets_of h) (lead h) (spelling inside)
 

@@ -42,7 +42,7 @@ module _ (padding : Bool) (s t : IndefState) (old new : SourceState) (from to : 
       let octets : List ℕ = take (2 ^ 40) given in
       let k = returns (indef_job padding) given x.reading new (Ok e) x.comes in
       let ends : IsEnding w octets k.0 =
-          ends_with w octets false k.0 (Settled (indef_job padding) given x.reading new k.0) k.2 in
+      ends_with w octets false k.0 (Settled (indef_job padding) given x.reading new k.0) k.2 in
       let again = indef_text_is_read_back padding octets x.reading x.is_reading in
       let all : x.sends.sent ≡ indef_text x.reading =
       sym (append-nil x.sends.sent) ∙ ap (λ (l : List ℕ). x.sends.sent ++ l) (sym x.sends.all_sent) ∙ x.sends.prefix in
@@ -50,7 +50,7 @@ module _ (padding : Bool) (s t : IndefState) (old new : SourceState) (from to : 
         is_reading = again.0;
         is_done =
             indef_text_is_done padding octets x.reading x.is_reading
-                (subst (λ (d : Ending). IsEnding w octets d) (sym k.1 ∙ done) ends);
+            (subst (λ (d : Ending). IsEnding w octets d) (sym k.1 ∙ done) ends);
         same_again = again.1;
       })
 
@@ -68,7 +68,7 @@ module _ (padding : Bool) (s t : IndefState) (old new : SourceState) (from to : 
       → RunsIndef padding (device_states old from) (device_states new to) (Ok run.ending)
   indef_ok run x =
       let runs : Runs (indef_job padding) (device_states old from) (device_states new to) (Ok run.ending) =
-          runs_ok run x in
+      runs_ok run x in
       record { runs = runs; read_back = λ is. read_back run.ending runs (cc (is)) }
 
   pub indef_err : (e : DeviceFault)

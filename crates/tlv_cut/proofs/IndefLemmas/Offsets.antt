@@ -35,7 +35,7 @@ spelling-with_offsets_from offset (PaddingOctet rest) =
     ap (λ (l : List ℕ). 0 ∷ l) (spelling-with_offsets_from (offset + 1) rest)
 spelling-with_offsets_from offset (Primitive h c rest) =
     ap (λ (l : List ℕ). octets_of h ++ (c ++ l))
-        (spelling-with_offsets_from (offset + (length (octets_of h) + length c)) rest)
+    (spelling-with_offsets_from (offset + (length (octets_of h) + length c)) rest)
 spelling-with_offsets_from offset (Holder h inside rest) =
     ap₂ (λ (k l : List ℕ). opening h ++ (k ++ (end_octets h.size ++ l)))
     (spelling-with_offsets_from (offset + length (opening h)) inside)
@@ -62,7 +62,7 @@ holder_stays true h inside rest e i r offset =
     let inner = with_offsets_from (offset + length (opening g)) inside in
     let others = with_offsets_from (offset + extent g inside) rest in
     ap (λ (k : Bool). if k then Holder g (with_indefinite_lengths inner) (with_indefinite_lengths others)
-        else Primitive g
+    else Primitive g
     (lead g ++ spelling (with_indefinite_lengths inner)) (with_indefinite_lengths others)) e
     ∙ ap₂ (λ (j k : Forest). Holder g j k) (i (offset + length (opening g))) (r (offset + extent g inside))
 holder_stays false h inside rest e i r offset =
@@ -72,7 +72,7 @@ holder_stays false h inside rest e i r offset =
 open_holder_stays : (constructed : Bool) (h : HeaderValue) (inside : Forest) → h.constructed ≡ constructed
     → StaysAnywhere inside
     → StaysAnywhere
-        (if constructed then OpenHolder (indefinite_header h) inside else OpenPrimitive h (lead h ++ spelling inside))
+    (if constructed then OpenHolder (indefinite_header h) inside else OpenPrimitive h (lead h ++ spelling inside))
 open_holder_stays true h inside e i offset =
     let g = record (indefinite_header h) { offset = offset } in
     let inner = with_offsets_from (offset + length (opening g)) inside in
@@ -86,7 +86,7 @@ stays NoMore offset = refl
 stays (PaddingOctet rest) offset = ap (λ (f : Forest). PaddingOctet f) (stays rest (offset + 1))
 stays (Primitive h c rest) offset =
     ap (λ (f : Forest). Primitive (record h { offset = offset }) c f)
-        (stays rest (offset + (length (octets_of h) + length c)))
+    (stays rest (offset + (length (octets_of h) + length c)))
 stays (Holder h inside rest) offset =
     holder_stays h.constructed h (with_indefinite_lengths inside) (with_indefinite_lengths rest) refl (stays inside)
     (stays rest) offset

@@ -26,9 +26,9 @@ prefixes (c ∷ a) (d ∷ b) x y e =
     let same : c ≡ d = cc in
     ⊎_elim
     (λ (r : (z : List ℕ) × (a ++ z ≡ b) × (x ≡ z ++ y)). inl
-        (r.0, ap (λ (t : List ℕ). c ∷ t) r.1 ∙ ap (λ (u : ℕ). u ∷ b) same, r.2))
+    (r.0, ap (λ (t : List ℕ). c ∷ t) r.1 ∙ ap (λ (u : ℕ). u ∷ b) same, r.2))
     (λ (r : (z : List ℕ) × (b ++ z ≡ a) × (y ≡ z ++ x)). inr
-        (r.0, ap (λ (t : List ℕ). d ∷ t) r.1 ∙ ap (λ (u : ℕ). u ∷ a) (sym same), r.2))
+    (r.0, ap (λ (t : List ℕ). d ∷ t) r.1 ∙ ap (λ (u : ℕ). u ∷ a) (sym same), r.2))
     (prefixes a b x y (cc))
 
 -- octets that begin with a header begin with no other
@@ -94,10 +94,10 @@ explains-named at x c k n i o id e = ⊎_elim
     (λ (small : x < 128). rw (lt-ltb x 128 small) tt)
     (λ (large : 128 ≤ x). ⊎_elim
     (λ (all : x ≡ 255). rw (le-ltb x 128 large, eq-eqb x 255 all)
-        (reserved_length c k n (subst (IsIdentifier c k n) (sym e) id) all))
+    (reserved_length c k n (subst (IsIdentifier c k n) (sym e) id) all))
     (λ (below : x ≡ 255 → ⊥). ⊎_elim
     (λ (mark : x ≡ 128). rw (le-ltb x 128 large, ne_eqb x 255 below, eq-eqb x 128 mark)
-        (explains-mark at x c k n i o _ id e mark))
+    (explains-mark at x c k n i o _ id e mark))
     (λ (above : x ≡ 128 → ⊥). rw (le-ltb x 128 large, ne_eqb x 255 below, ne_eqb x 128 above) tt)
     (cases_eq x 128))
     (cases_eq x 255))
@@ -145,7 +145,7 @@ stuck-none at s o e m n h [] v f =
 stuck-none at s o e m n h (x ∷ more) v f =
     let ready : scan at (o ++ x ∷ more) ≡ Ready (moved at h) = rw f (scan-moved at h v) in
     scan_from-past at s (x ∷ more) (moved at h) m (λ z. omega (arith, ap length z))
-        (rw (scan_from-append at Fresh o (x ∷ more), e) at ready)
+    (rw (scan_from-append at Fresh o (x ∷ more), e) at ready)
 
 -- one more octet makes a prefix of a header, or a header, or begins none
 pub data AfterOctet (o : List ℕ) (x : ℕ) : Type 0 where
@@ -158,14 +158,14 @@ next-from : (o : List ℕ) (x : ℕ) (s : Scan) → scan start (o ++ x ∷ []) �
 next-from o x Fresh e r w = absurd (omega (arith, ap length r, length-append o (x ∷ [])))
 next-from o x (High c k ds) e r w =
     continues
-        (prefix-from_more start (High c k ds) _ r (λ z. omega (arith, ap length z, length-append o (x ∷ []))) refl)
+    (prefix-from_more start (High c k ds) _ r (λ z. omega (arith, ap length z, length-append o (x ∷ []))) refl)
 next-from o x (Named c k m i) e r w =
     continues
-        (prefix-from_more start (Named c k m i) _ r (λ z. omega (arith, ap length z, length-append o (x ∷ []))) refl)
+    (prefix-from_more start (Named c k m i) _ r (λ z. omega (arith, ap length z, length-append o (x ∷ []))) refl)
 next-from o x (Long c k m i j ds) e r w =
     continues
-        (prefix-from_more start (Long c k m i j ds) _ r (λ z. omega (arith, ap length z, length-append o (x ∷ [])))
-            refl)
+    (prefix-from_more start (Long c k m i j ds) _ r (λ z. omega (arith, ap length z, length-append o (x ∷ [])))
+    refl)
 next-from o x (Ready h) e r w = completes h r.0 (sym r.1)
 next-from o x (Stuck code) e r w = refuses code w (stuck-none start (Stuck code) _ e refl (λ h z. cc))
 next-from o x Over e r w = absurd w
@@ -174,7 +174,7 @@ next-more : (o : List ℕ) (x : ℕ) → x < 256 → is_more (scan start o) ≡ 
     → AfterOctet o x
 next-more o x h m r =
     next-from o x (step start (scan start o) x) (scan_from-append start Fresh o (x ∷ []))
-        (reads-step start x (scan start o) o h r) (explains start x (scan start o) o m r)
+    (reads-step start x (scan start o) o h r) (explains start x (scan start o) o m r)
 
 pub next : (o : List ℕ) (x : ℕ) → x < 256 → (o ≡ []) ⊎ IsHeaderPrefix o → AfterOctet o x
 next o x h (inl e) = rw e (next-more [] x h refl refl)

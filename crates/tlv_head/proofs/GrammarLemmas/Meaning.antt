@@ -69,25 +69,32 @@ reads-leads at x c k low h e nz = ⊎_elim
       octets = rw (← e, last);
     }))
     (λ (other : low ≡ 31 → ⊥). rw (ne_eqb low 31 other)
-        (inl (record { small = omega arith; octets_are = rw e; nonzero = rw e nz }), refl))
+    (inl (record { small = omega arith; octets_are = rw e; nonzero = rw e nz }), refl))
     (cases_eq low 31)
 
 reads-first : (at : Origin) (x : ℕ) → x < 256 → IsStateAfter at (step at Fresh x) (x ∷ [])
 reads-first at x h = ⊎_elim
     (λ (z : x ≡ 0). rw (eq-eqb x 0 z) tt)
     (λ (nz : x ≡ 0 → ⊥). rw (ne_eqb x 0 nz)
-        (reads-leads at x (class_of (x / 64)) (ltb 31 (x % 64)) (x % 32) (omega arith) (leading-of x h) nz))
+    (reads-leads at x (class_of (x / 64)) (ltb 31 (x % 64)) (x % 32) (omega arith) (leading-of x h) nz))
     (cases_eq x 0)
 
 reads-high : (at : Origin) (x : ℕ) (c : Class) (k : Bool) (ds o : List ℕ) → x < 256 → IsHighState c k ds o
     → IsStateAfter at (step at (High c k ds) x) (o ++ x ∷ [])
 reads-high at x c k ds o h s = ⊎_elim
-    (λ (small : x < 128). rw (lt-ltb x 128 small)
-    (inr
-        (record
-            { digits = ds; last = x; each = s.each; last_digit = small; few = s.few; value = refl; octets_are = refl
-            }),
-        rw s.octets))
+    (λ (small : x < 128). rw (lt-ltb x 128 small) (
+      inr
+          (record {
+            digits = ds;
+            last = x;
+            each = s.each;
+            last_digit = small;
+            few = s.few;
+            value = refl;
+            octets_are = refl;
+          }),
+      rw s.octets,
+    ))
     (λ (large : 128 ≤ x). ⊎_elim
     (λ (room : length ds < 8). rw (le-ltb x 128 large, lt-ltb (length ds) 8 room)
     (record {
@@ -106,7 +113,7 @@ allows_definite false n = refl
 
 reads-indefinite : (at : Origin) (x : ℕ) (c : Class) (k : Bool) (n : ℕ) (i : List ℕ) → IsIdentifier c k n i → x ≡ 128
     → IsStateAfter at (cond k (Ready (head_of at c k n i Indefinite (x ∷ []))) (Stuck IndefinitePrimitive))
-        (i ++ x ∷ [])
+    (i ++ x ∷ [])
 reads-indefinite at x c true n i id e = (record { identifier = id; lengths = rw e; allowed = refl }, refl, refl)
 reads-indefinite at x c false n i id e = tt
 
@@ -119,7 +126,7 @@ reads-named at x c k n i h id = ⊎_elim
     (λ (all : x ≡ 255). rw (le-ltb x 128 large, eq-eqb x 255 all) tt)
     (λ (below : x ≡ 255 → ⊥). ⊎_elim
     (λ (mark : x ≡ 128). rw (le-ltb x 128 large, ne_eqb x 255 below, eq-eqb x 128 mark)
-        (reads-indefinite at x c k n i id mark))
+    (reads-indefinite at x c k n i id mark))
     (λ (above : x ≡ 128 → ⊥). rw (le-ltb x 128 large, ne_eqb x 255 below, ne_eqb x 128 above)
     (record {
       identifier = id;
@@ -168,7 +175,7 @@ reads-long at x c k n i m ds o h s = ⊎_elim
     (λ (bad : (not (eqb x 0) && ltb (length ds + 5) m) ≡ true). rw bad tt)
     (λ (good : (not (eqb x 0) && ltb (length ds + 5) m) ≡ false).
     let limit : value_of 256 (ds ++ x ∷ []) * 256 ^ (m - (length ds + 1)) < 2 ^ 40 =
-        limit-more ds x m h s.short (long-cases x m ds good) s.limit in
+    limit-more ds x m h s.short (long-cases x m ds good) s.limit in
     let longer : length (ds ++ x ∷ []) ≡ length ds + 1 = omega (arith, length-append ds (x ∷ [])) in
     ⊎_elim
     (λ (more : length ds + 1 < m). rw (good, lt-ltb (length ds + 1) m more)
@@ -221,7 +228,7 @@ reads-scan_from at s o [] each r = rw (append-nil o) r
 reads-scan_from at s o (x ∷ xs) each r =
     rw (append_assoc o (x ∷ []) xs) at
     (reads-scan_from at (step at s x) (o ++ x ∷ []) xs (All-tail (λ x. x < 256) x xs each)
-        (reads-step at x s o (All-head (λ x. x < 256) x xs each) r))
+    (reads-step at x s o (All-head (λ x. x < 256) x xs each) r))
 
 -- octets are what the state that they lead to says
 pub reads-scan : (at : Origin) (xs : List ℕ) → All (λ x. x < 256) xs → IsStateAfter at (scan at xs) xs
@@ -243,13 +250,16 @@ long-prefix : (c : Class) (k : Bool) (n : ℕ) (i : List ℕ) (m : ℕ) (ds o : 
     → IsLongState c k n i m ds o → IsHeaderPrefix o
 long-prefix c k n i m ds o some s =
     let total : length (ds ++ replicate (m - length ds) 0) ≡ m =
-        omega
-            (arith, length-append ds (replicate (m - length ds) 0), length-replicate {A = ℕ} (m - length ds) 0,
-                s.short) in
+    omega (
+      arith,
+      length-append ds (replicate (m - length ds) 0),
+      length-replicate {A = ℕ} (m - length ds) 0,
+      s.short,
+    ) in
     record {
       header =
           head_of start c k n i (Definite (value_of 256 (ds ++ replicate (m - length ds) 0)))
-              ((128 + m) ∷ (ds ++ replicate (m - length ds) 0));
+          ((128 + m) ∷ (ds ++ replicate (m - length ds) 0));
       more = replicate (m - length ds) 0;
       proper = λ z. omega (arith, ap length z, length-replicate {A = ℕ} (m - length ds) 0, s.short);
       valid = record {
@@ -274,12 +284,18 @@ pub prefix-from_more : (at : Origin) (s : Scan) (o : List ℕ) → IsStateAfter 
 prefix-from_more at Fresh o r some e = absurd (some r)
 prefix-from_more at (High c k ds) o r some e =
     named-prefix c k _ _ o (0 ∷ [])
-        (inr
-            (record
-                { digits =
-                    ds; last = 0; each = r.each; last_digit = omega arith; few = r.few; value = refl; octets_are = refl
-                }))
-        some (rw r.octets)
+    (inr
+    (record {
+      digits =
+          ds;
+      last = 0;
+      each = r.each;
+      last_digit = omega arith;
+      few = r.few;
+      value = refl;
+      octets_are = refl;
+    }))
+    some (rw r.octets)
 prefix-from_more at (Named c k n i) o r some e = named-prefix c k n i o [] r.0 some (append-nil o ∙ r.1)
 prefix-from_more at (Long c k n i m ds) o r some e = long-prefix c k n i m ds o some r
 prefix-from_more at (Ready h) o r some e = absurd (cc)
@@ -306,7 +322,7 @@ identifier-bytes c k n i (inr high) =
     rw high.octets_are (All-cons (λ x. x < 256) _ _ (leading-byte c k 31 small)
     (All-append (λ x. x < 256) (map (λ d. 128 + d) high.digits) (high.last ∷ [])
     (All-map (λ x. x < 256) (λ d. 128 + d) high.digits
-        (All-weaker (λ d. d < 128) (λ d. 128 + d < 256) (λ d h. omega arith) high.digits high.each))
+    (All-weaker (λ d. d < 128) (λ d. 128 + d < 256) (λ d h. omega arith) high.digits high.each))
     (All-cons (λ x. x < 256) high.last [] (omega (arith, high.last_digit)) (All-nil (λ x. x < 256)))))
 
 length-bytes : (s : Size) (l : List ℕ) → IsLength s l → All (λ x. x < 256) l
@@ -319,8 +335,8 @@ length-bytes Indefinite l e = rw e (All-cons (λ x. x < 256) 128 [] (omega arith
 header-bytes : (h : HeaderValue) → IsHeader h → All (λ x. x < 256) (octets_of h)
 header-bytes h valid =
     All-append (λ x. x < 256) h.identifier h.lengths
-        (identifier-bytes h.class h.constructed h.number h.identifier valid.identifier)
-        (length-bytes h.size h.lengths valid.lengths)
+    (identifier-bytes h.class h.constructed h.number h.identifier valid.identifier)
+    (length-bytes h.size h.lengths valid.lengths)
 
 All-prefix : (xs ys : List ℕ) → All (λ x. x < 256) (xs ++ ys) → All (λ x. x < 256) xs
 All-prefix xs ys each k d h = rw (get_or_append_left xs ys d k h) at (each k d (omega (arith, length-append xs ys)))

@@ -44,7 +44,7 @@ prefix-none o code e = stuck-none start (Stuck code) o e refl (λ h z. cc)
 stuck-begins-none : (o : List ℕ) → IsStuckFrom start Fresh o → CannotBecomeHeader o
 stuck-begins-none o r = λ h more v e.
     prefix-none r.prefix r.code r.stuck h (r.rest ++ more) v
-        (sym (append_assoc r.prefix r.rest more) ∙ (ap (λ z. z ++ more) (sym r.octets) ∙ e))
+    (sym (append_assoc r.prefix r.rest more) ∙ (ap (λ z. z ++ more) (sym r.octets) ∙ e))
 
 past-header : (at : Origin) (h : HeaderValue) (z : List ℕ) (code : FaultCode) → scan_from at (Ready h) z ≡ Stuck code
     → ⊥
@@ -57,9 +57,9 @@ header-not_stuck : (h : HeaderValue) (z o : List ℕ) (code : FaultCode) → IsH
 header-not_stuck h z o code v e s =
     let whole : scan start (octets_of h ++ z) ≡ Stuck code = ap (scan start) e ∙ s in
     let split : scan_from start (scan start (octets_of h)) z ≡ Stuck code =
-        sym (scan_from-append start Fresh (octets_of h) z) ∙ whole in
+    sym (scan_from-append start Fresh (octets_of h) z) ∙ whole in
     past-header start (moved start h) z code
-        (ap (λ (t : Scan). scan_from start t z) (sym (scan-moved start h v)) ∙ split)
+    (ap (λ (t : Scan). scan_from start t z) (sym (scan-moved start h v)) ∙ split)
 
 stuck-begins_with-none : (o : List ℕ) → IsStuckFrom start Fresh o → BeginsWithNoHeader o
 stuck-begins_with-none o r = λ h rest v e. elim (prefixes r.prefix (octets_of h) r.rest rest (sym r.octets ∙ e)) [
@@ -83,10 +83,10 @@ scan-flagged at c k ds (e ∷ es) each few =
     let back : 128 + e - 128 ≡ e = omega arith in
     let fewer : length (ds ++ e ∷ []) + length es ≤ 8 = omega (arith, length-append ds (e ∷ [])) in
     let one : step at (High c k ds) (128 + e) ≡ High c k (ds ++ e ∷ []) =
-        rw (le-ltb (128 + e) 128 more, lt-ltb (length ds) 8 room, back) in
+    rw (le-ltb (128 + e) 128 more, lt-ltb (length ds) 8 room, back) in
     ap (λ (s : Scan). scan_from at s (with_bit_8 es)) one
     ∙ rw (append_assoc ds (e ∷ []) es) at
-        (scan-flagged at c k (ds ++ e ∷ []) es (All-tail (λ d. d < 128) e es each) fewer)
+    (scan-flagged at c k (ds ++ e ∷ []) es (All-tail (λ d. d < 128) e es each) fewer)
 
 -- a ninth such octet
 too_long-stuck : (at : Origin) (c : Class) (k : Bool) (ds o : List ℕ) (x : ℕ) → All (λ d. d < 128) ds → length ds ≡ 8
@@ -123,11 +123,11 @@ long-or-stuck at c k n i m ds (e ∷ es) h = ⊎_elim
     (λ (good : (not (eqb e 0) && ltb (length ds + 5) m) ≡ false).
     let room : length ds + 1 < m = omega arith in
     let one : step at (Long c k n i m ds) e ≡ Long c k n i m (ds ++ e ∷ []) =
-        rw (good, lt-ltb (length ds + 1) m room) in
+    rw (good, lt-ltb (length ds + 1) m room) in
     let fewer : length (ds ++ e ∷ []) + length es < m = omega (arith, length-append ds (e ∷ [])) in
     ⊎_elim
     (λ (on : scan_from at (Long c k n i m (ds ++ e ∷ [])) es ≡ Long c k n i m ((ds ++ e ∷ []) ++ es)). inl
-        (rw (one, sym (append_assoc ds (e ∷ []) es)) on))
+    (rw (one, sym (append_assoc ds (e ∷ []) es)) on))
     (λ (r : IsStuckFrom at (Long c k n i m (ds ++ e ∷ [])) es).
     inr (record {
       prefix = e ∷ r.prefix;
@@ -143,7 +143,7 @@ long-or-stuck at c k n i m ds (e ∷ es) h = ⊎_elim
 too_large-stuck : (at : Origin) (c : Class) (k : Bool) (n : ℕ) (x left : ℕ) (i ds o : List ℕ) → IsIdentifier c k n i
     → 6 ≤ left → length ds + left ≤ 126
     → o ≡ i ++ (128 + (length ds + left)) ∷ ds → x ≢ 0
-        → (scan at (o ++ x ∷ []) ≡ Stuck LengthTooLarge) ⊎ IsStuckFrom at Fresh o
+    → (scan at (o ++ x ∷ []) ≡ Stuck LengthTooLarge) ⊎ IsStuckFrom at Fresh o
 too_large-stuck at c k n x left i ds o id many few octets nonzero =
     let m : ℕ = length ds + left in
     let above : 128 ≤ 128 + m = omega arith in
@@ -182,7 +182,7 @@ refused-last at code o x (length_too_large c k n left prefix many nonzero) = ⊎
     (λ (e : scan at (o ++ x ∷ []) ≡ Stuck LengthTooLarge). inl e)
     (λ (s : IsStuckFrom at Fresh o). inr (refl, s))
     (too_large-stuck at c k n x left prefix.identifier prefix.digits o prefix.identified many prefix.few
-        prefix.octets_are nonzero)
+    prefix.octets_are nonzero)
 
 refused-stuck_from : (code : FaultCode) (o : List ℕ) (x : ℕ) → IsRefusedOctet o x code
     → IsStuckFrom start Fresh (o ++ x ∷ [])
@@ -200,7 +200,7 @@ pub refused-with_none : (code : FaultCode) (o : List ℕ) (x : ℕ) (more : List
     → BeginsWithNoHeader ((o ++ x ∷ []) ++ more)
 refused-with_none code o x more r =
     stuck-begins_with-none ((o ++ x ∷ []) ++ more)
-        (stuck-longer start Fresh (o ++ x ∷ []) more (refused-stuck_from code o x r))
+    (stuck-longer start Fresh (o ++ x ∷ []) more (refused-stuck_from code o x r))
 
 past-stuck : (at : Origin) (code : FaultCode) (z : List ℕ) → is_more (scan_from at (Stuck code) z) ≡ false
 past-stuck at code [] = refl
@@ -210,7 +210,7 @@ stuck-no_more : (at : Origin) (o : List ℕ) → IsStuckFrom at Fresh o → is_m
 stuck-no_more at o r =
     let split : scan at o ≡ scan_from at (Stuck r.code) r.rest =
     ap (scan at) r.octets
-        ∙ (scan_from-append at Fresh r.prefix r.rest ∙ ap (λ (s : Scan). scan_from at s r.rest) r.stuck) in
+    ∙ (scan_from-append at Fresh r.prefix r.rest ∙ ap (λ (s : Scan). scan_from at s r.rest) r.stuck) in
     ap is_more split ∙ past-stuck at r.code r.rest
 
 -- after a prefix of a header an octet is refused with this code
@@ -225,10 +225,10 @@ refused-stuck at code o x prefix r = ⊎_elim
 stuck-or_over : (at : Origin) (s : Scan) (o : List ℕ) (x : ℕ) → IsStuckFrom at s o → scan_from at s (o ++ x ∷ []) ≡ Over
 stuck-or_over at s o x r =
     let whole : o ++ x ∷ [] ≡ r.prefix ++ (r.rest ++ x ∷ []) =
-        ap (λ z. z ++ x ∷ []) r.octets ∙ append_assoc r.prefix r.rest (x ∷ []) in
+    ap (λ z. z ++ x ∷ []) r.octets ∙ append_assoc r.prefix r.rest (x ∷ []) in
     ap (scan_from at s) whole
     ∙ (scan_from-append at s r.prefix (r.rest ++ x ∷ [])
-        ∙ (ap (λ (t : Scan). scan_from at t (r.rest ++ x ∷ [])) r.stuck ∙ over r.rest))
+    ∙ (ap (λ (t : Scan). scan_from at t (r.rest ++ x ∷ [])) r.stuck ∙ over r.rest))
   where
     over : (z : List ℕ) → scan_from at (Stuck r.code) (z ++ x ∷ []) ≡ Over
     over [] = refl

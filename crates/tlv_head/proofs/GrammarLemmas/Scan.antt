@@ -58,7 +58,7 @@ abbrev pub step : Origin → Scan → ℕ → Scan
 step at Fresh x = cond (eqb x 0) (Stuck StrayEnd) (leads x (class_of (x / 64)) (ltb 31 (x % 64)) (x % 32))
 step at (High c k ds) x =
     cond (ltb x 128)
-        (Named c k (value_of 128 (ds ++ x ∷ [])) (identifier_octet c k 31 ∷ (map (λ d. 128 + d) ds ++ x ∷ [])))
+    (Named c k (value_of 128 (ds ++ x ∷ [])) (identifier_octet c k 31 ∷ (map (λ d. 128 + d) ds ++ x ∷ [])))
     (cond (ltb (length ds) 8) (High c k (ds ++ (x - 128) ∷ [])) (Stuck TagTooLong))
 step at (Named c k n i) x =
     cond (ltb x 128) (Ready (record {
@@ -73,15 +73,22 @@ step at (Named c k n i) x =
     }))
     (cond (eqb x 255) (Stuck ReservedLength)
     (cond (eqb x 128)
-        (cond k
-            (Ready
-                (record
-                    { offset =
-                        at.offset; named =
-                            at.named; class =
-                                c; constructed = k; number = n; size = Indefinite; identifier = i; lengths = x ∷ []
-                    }))
-            (Stuck IndefinitePrimitive))
+    (cond k
+    (Ready
+    (record {
+      offset =
+          at.offset;
+      named =
+          at.named;
+      class =
+          c;
+      constructed = k;
+      number = n;
+      size = Indefinite;
+      identifier = i;
+      lengths = x ∷ [];
+    }))
+    (Stuck IndefinitePrimitive))
     (Long c k n i (x - 128) [])))
 step at (Long c k n i m ds) x =
     cond (not (eqb x 0) && ltb (length ds + 5) m) (Stuck LengthTooLarge)
@@ -139,14 +146,14 @@ pub step-leading : (at : Origin) (c : Class) (k : Bool) (n : ℕ) → n < 32 →
     → step at Fresh (identifier_octet c k n) ≡ leads (identifier_octet c k n) c k n
 step-leading at c k n h nz =
     leads-first at (identifier_octet c k n) c k n nz (leading-class c k n h) (leading-form c k n h)
-        (leading-low c k n h)
+    (leading-low c k n h)
 
 -- more digits of a number, up to the last
 scan-high : (at : Origin) (c : Class) (k : Bool) (ds es : List ℕ) (l : ℕ) → All (λ d. d < 128) es → l < 128
     → length ds + length es ≤ 8
     → scan_from at (High c k ds) (map (λ d. 128 + d) es ++ l ∷ [])
     ≡ Named c k (value_of 128 ((ds ++ es) ++ l ∷ []))
-        (identifier_octet c k 31 ∷ (map (λ d. 128 + d) (ds ++ es) ++ l ∷ []))
+    (identifier_octet c k 31 ∷ (map (λ d. 128 + d) (ds ++ es) ++ l ∷ []))
 scan-high at c k ds [] l each small few = rw (append-nil ds, lt-ltb l 128 small)
 scan-high at c k ds (e ∷ es) l each small few =
     let here : e < 128 = All-head (λ d. d < 128) e es each in
@@ -155,10 +162,10 @@ scan-high at c k ds (e ∷ es) l each small few =
     let back : 128 + e - 128 ≡ e = omega arith in
     let fewer : length (ds ++ e ∷ []) + length es ≤ 8 = omega (arith, length-append ds (e ∷ [])) in
     let one : step at (High c k ds) (128 + e) ≡ High c k (ds ++ e ∷ []) =
-        rw (le-ltb (128 + e) 128 more, lt-ltb (length ds) 8 room, back) in
+    rw (le-ltb (128 + e) 128 more, lt-ltb (length ds) 8 room, back) in
     ap (λ (s : Scan). scan_from at s (map (λ d. 128 + d) es ++ l ∷ [])) one
     ∙ rw (append_assoc ds (e ∷ []) es) at
-        (scan-high at c k (ds ++ e ∷ []) es l (All-tail (λ d. d < 128) e es each) small fewer)
+    (scan-high at c k (ds ++ e ∷ []) es l (All-tail (λ d. d < 128) e es each) small fewer)
 
 pub scan-identifier : (at : Origin) (c : Class) (k : Bool) (n : ℕ) (i : List ℕ) → IsIdentifier c k n i
     → scan at i ≡ Named c k n i
@@ -171,7 +178,7 @@ scan-identifier at c k n i (inr high) =
     let below : 31 < 32 = omega arith in
     rw (high.octets_are, high.value)
     (ap (λ (s : Scan). scan_from at s (map (λ d. 128 + d) high.digits ++ high.last ∷ []))
-        (step-leading at c k 31 below nonzero)
+    (step-leading at c k 31 below nonzero)
     ∙ scan-high at c k [] high.digits high.last high.each high.last_digit (omega (arith, high.few)))
 
 pow-le : (i j : ℕ) → i ≤ j → 256 ^ i ≤ 256 ^ j
@@ -242,7 +249,7 @@ scan-digits at c k n i (d ∷ ds) some few limit =
     let other : 128 + length (d ∷ ds) ≡ 128 → ⊥ = omega arith in
     let back : 128 + length (d ∷ ds) - 128 ≡ length (d ∷ ds) = omega arith in
     rw (le-ltb _ 128 above, ne_eqb _ 255 apart, ne_eqb _ 128 other, back)
-        (scan-long at c k n i (length (d ∷ ds)) [] d ds (omega arith) limit)
+    (scan-long at c k n i (length (d ∷ ds)) [] d ds (omega arith) limit)
 
 scan-length : (at : Origin) (c : Class) (k : Bool) (n : ℕ) (i : List ℕ) (size : Size) (l : List ℕ) → IsLength size l
     → AllowsSize k size
@@ -257,8 +264,10 @@ scan-length at c false n i Indefinite l e allowed = absurd (cc (allowed))
 -- the octets of a header are read as this header
 pub scan-header : (h : HeaderValue) → IsHeader h → scan (origin_of h) (octets_of h) ≡ Ready h
 scan-header h valid =
-    rw (scan_from-append (origin_of h) Fresh h.identifier h.lengths,
-        scan-identifier (origin_of h) h.class h.constructed h.number h.identifier valid.identifier)
+    rw (
+      scan_from-append (origin_of h) Fresh h.identifier h.lengths,
+      scan-identifier (origin_of h) h.class h.constructed h.number h.identifier valid.identifier,
+    )
     (scan-length (origin_of h) h.class h.constructed h.number h.identifier h.size h.lengths valid.lengths valid.allowed)
 
 -- more octets are needed
@@ -317,7 +326,7 @@ pub more-from_prefix : (at : Origin) (o : List ℕ) → IsHeaderPrefix o → is_
 more-from_prefix at o f =
     let whole : scan at (o ++ f.more) ≡ Ready (moved at f.header) = rw f.prefix (scan-moved at f.header f.valid) in
     more-cases at (scan at o) f.more (moved at f.header) f.proper (rw (scan_from-append at Fresh o f.more) at whole)
-        (is_more (scan at o)) refl
+    (is_more (scan at o)) refl
 
 -- a header is no proper prefix of another
 pub no-prefix : (h g : HeaderValue) (xs : List ℕ) → IsHeader h → IsHeader g → xs ≢ []
@@ -325,9 +334,9 @@ pub no-prefix : (h g : HeaderValue) (xs : List ℕ) → IsHeader h → IsHeader 
 no-prefix h g xs vh vg some e =
     let whole : scan start (octets_of h ++ xs) ≡ Ready (moved start g) = rw e (scan-moved start g vg) in
     let split : scan_from start (scan start (octets_of h)) xs ≡ Ready (moved start g) =
-        rw (scan_from-append start Fresh (octets_of h) xs) at whole in
+    rw (scan_from-append start Fresh (octets_of h) xs) at whole in
     let past : scan_from start (Ready (moved start h)) xs ≡ Ready (moved start g) =
-        rw (scan-moved start h vh) at split in
+    rw (scan-moved start h vh) at split in
     scan_from-past start (Ready (moved start h)) xs (moved start g) refl some past
 
 -- two headers at one place with the same octets are one

@@ -21,8 +21,8 @@ pub value_of-lt : (b : ℕ) (ds : List ℕ) → 0 < b → All (λ x. x < b) ds �
 value_of-lt b [] s h = rw (pow-zero b) (omega arith)
 value_of-lt b (x ∷ ds) s h =
     rw (pow-suc b (length ds))
-        (digit-lt b x (b ^ length ds) (value_of b ds) (All-head (λ x. x < b) x ds h)
-            (value_of-lt b ds s (All-tail (λ x. x < b) x ds h)))
+    (digit-lt b x (b ^ length ds) (value_of b ds) (All-head (λ x. x < b) x ds h)
+    (value_of-lt b ds s (All-tail (λ x. x < b) x ds h)))
 
 -- digits in front make no number less
 pub value_of-append-le : (b : ℕ) (xs ys : List ℕ) → value_of b ys ≤ value_of b (xs ++ ys)

@@ -19,9 +19,9 @@ same-digits b (x ∷ xs) (y ∷ ys) some u v l e =
     let left : value_of b xs < b ^ length xs = value_of-lt b xs some (All-tail (λ d. d < b) x xs u) in
     let right : value_of b ys < b ^ length xs = rw count (value_of-lt b ys some (All-tail (λ d. d < b) y ys v)) in
     let e' : x * b ^ length xs + value_of b xs ≡ y * b ^ length xs + value_of b ys =
-        e ∙ ap (λ (n : ℕ). y * b ^ n + value_of b ys) (sym count) in
+    e ∙ ap (λ (n : ℕ). y * b ^ n + value_of b ys) (sym count) in
     let same : (x ≡ y) × (value_of b xs ≡ value_of b ys) =
-        same_from_place x (value_of b xs) y (value_of b ys) (b ^ length xs) left right e' in
+    same_from_place x (value_of b xs) y (value_of b ys) (b ^ length xs) left right e' in
     rw (same.0, same-digits b xs ys some (All-tail (λ d. d < b) x xs u) (All-tail (λ d. d < b) y ys v) count same.1)
 
 -- no digits of a number are fewer than those of which the first is not 0

@@ -20,8 +20,8 @@ pub completes_unique : (r : HeadReaderState) (x : ℕ) (g h : HeaderValue) → C
     → Completes r (x ∷ []) h → g ≡ h
 completes_unique r x g h p q =
     same-header g h p.valid q.valid
-        (λ i. record { offset = (p.offset ∙ sym q.offset) i; named = (p.named ∙ sym q.named) i })
-        (p.octets ∙ sym q.octets)
+    (λ i. record { offset = (p.offset ∙ sym q.offset) i; named = (p.named ∙ sym q.named) i })
+    (p.octets ∙ sym q.octets)
 
 -- a prefix of a header is no whole header
 pub prefix_not_whole : (r : HeadReaderState) (x : ℕ) (h : HeaderValue) → IsHeaderPrefix (r.octets ++ x ∷ [])
@@ -37,9 +37,9 @@ refused_completes_none code r x h p c =
 -- what is returned if an octet is refused
 pub refuses : (old : HeadReaderState) (x : ℕ) (room : Option ℕ) (depth : ℕ) (code : FaultCode) (offset : ℕ) (r : Head)
     → r ≡ Refused (record {
-  code = code;
-  offset = offset;
-})
+      code = code;
+      offset = offset;
+    })
     → IsRefusedPush old x room depth code → offset ≡ old.offset + length old.octets → Pushes old x room depth old r
 refuses old x room depth code offset r e cause at =
     subst (Pushes old x room depth old) (sym e) (refused _ cause at refl)

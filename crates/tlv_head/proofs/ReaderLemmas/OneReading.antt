@@ -33,11 +33,11 @@ one-reading octets offset named f g m n p q =
       named = (p.begins.named ∙ sym q.begins.named) i;
     }) in
     let same : h ≡ k =
-        (one-header h k p.begins.rest q.begins.rest p.begins.valid q.begins.valid origin
-            (sym p.begins.octets ∙ q.begins.octets)).0 in
+    (one-header h k p.begins.rest q.begins.rest p.begins.valid q.begins.valid origin
+    (sym p.begins.octets ∙ q.begins.octets)).0 in
     let count : f.id_len ≡ g.id_len =
     sym (identifier-count octets offset named f m p)
-        ∙ (ap (λ (x : HeaderValue). length x.identifier) same ∙ identifier-count octets offset named g n q) in (
+    ∙ (ap (λ (x : HeaderValue). length x.identifier) same ∙ identifier-count octets offset named g n q) in (
       (λ i. record {
         offset = (same i).offset;
         named = (same i).named;

@@ -69,10 +69,12 @@ length-some Indefinite l e = rw e (omega arith)
 -- a header has an identifier octet and a length octet at least
 pub header-two : (h : HeaderValue) → IsHeader h → 2 ≤ length (octets_of h)
 header-two h v =
-    omega
-        (arith, length-append h.identifier h.lengths,
-            identifier-some h.class h.constructed h.number h.identifier v.identifier,
-            length-some h.size h.lengths v.lengths)
+    omega (
+      arith,
+      length-append h.identifier h.lengths,
+      identifier-some h.class h.constructed h.number h.identifier v.identifier,
+      length-some h.size h.lengths v.lengths,
+    )
 
 -- by their number the octets may be those of the header that was made
 pub made_sized : (os : List ℕ) (f : HeaderFields) (id : Identifier) (size : Size) → MakesHeader id size os
@@ -83,25 +85,31 @@ made_sized os f id size m e =
     let most : length m.lengths ≤ 127 = m.few in
     let some : 1 ≤ length m.lengths = m.some in
     let all : length os ≡ length m.identifier + length m.lengths =
-        rw m.octets_are (length-append m.identifier m.lengths) in
+    rw m.octets_are (length-append m.identifier m.lengths) in
     record { identifier = omega (arith, e); few = omega (arith, e); room = omega arith }
 
 pub made_begins : (os rest : List ℕ) (offset : ℕ) (named : Bool) (id : Identifier) (size : Size)
     → MakesHeader id size os
     → BeginsWith (os ++ rest) offset named
-        (new_header
-            (record
-                { offset =
-                    offset; named =
-                        named; class =
-                            id.class; constructed = id.constructed; number = id.number; size = size; id_len = id.octets
-                })
-            os)
+    (new_header
+    (record {
+      offset =
+          offset;
+      named =
+          named;
+      class =
+          id.class;
+      constructed = id.constructed;
+      number = id.number;
+      size = size;
+      id_len = id.octets;
+    })
+    os)
 made_begins os rest offset named id size m =
     let prefix : take id.octets os ≡ m.identifier =
-        rw (m.octets_are, m.identified.count) (take-append_seam m.identifier m.lengths) in
+    rw (m.octets_are, m.identified.count) (take-append_seam m.identifier m.lengths) in
     let back : drop id.octets os ≡ m.lengths =
-        rw (m.octets_are, m.identified.count) (drop-append_seam m.identifier m.lengths) in
+    rw (m.octets_are, m.identified.count) (drop-append_seam m.identifier m.lengths) in
     record {
       valid = rw (prefix, back) (record {
         identifier = m.identified.identified;
@@ -119,18 +127,24 @@ pub begins_short : (os : List ℕ) (offset : ℕ) (named : Bool) (id : Identifie
     → BeginsWithIdentifier os id → id_len ≡ id.octets
     → BeginsWithLength (take (length os - id_len) (drop id_len os)) id.constructed size count
     → BeginsWithFields os offset named
-        (record
-            { offset =
-                offset; named =
-                    named; class =
-                        id.class; constructed = id.constructed; number = id.number; size = size; id_len = id.octets
-            })
-        (id_len + count)
+    (record {
+      offset =
+          offset;
+      named =
+          named;
+      class =
+          id.class;
+      constructed = id.constructed;
+      number = id.number;
+      size = size;
+      id_len = id.octets;
+    })
+    (id_len + count)
 begins_short os offset named id size id_len count i e l =
     let rest : take (length os - id_len) (drop id_len os) ≡ drop id_len os =
-        take_all (length os - id_len) (drop id_len os) (omega (arith, length-drop id_len os)) in
+    take_all (length os - id_len) (drop id_len os) (omega (arith, length-drop id_len os)) in
     let l' : BeginsWithLength (drop id_len os) id.constructed size count =
-        subst (λ (xs : List ℕ). BeginsWithLength xs id.constructed size count) rest l in
+    subst (λ (xs : List ℕ). BeginsWithLength xs id.constructed size count) rest l in
     let i' : BeginsWithIdentifier os id = i in
     let within : id_len + count ≤ length os = omega (arith, i'.within, l'.within, length-drop id_len os) in
     let made : MakesHeader id size (take (id_len + count) os) = record {
@@ -148,16 +162,22 @@ begins_short os offset named id size id_len count i e l =
       sized = made_sized (take (id_len + count) os) _ id size made refl;
       begins =
           subst
-              (λ (xs : List ℕ). BeginsWith xs offset named
-                  (new_header
-                      (record
-                          { offset =
-                              offset; named =
-                                  named; class =
-                                      id.class; constructed =
-                                          id.constructed; number = id.number; size = size; id_len = id.octets
-                          })
-                      (take (id_len + count) os)))
+          (λ (xs : List ℕ). BeginsWith xs offset named
+          (new_header
+          (record {
+            offset =
+                offset;
+            named =
+                named;
+            class =
+                id.class;
+            constructed =
+                id.constructed;
+            number = id.number;
+            size = size;
+            id_len = id.octets;
+          })
+          (take (id_len + count) os)))
           (take-append-drop (id_len + count) os)
-              (made_begins (take (id_len + count) os) (drop (id_len + count) os) offset named id size made);
+          (made_begins (take (id_len + count) os) (drop (id_len + count) os) offset named id size made);
     }

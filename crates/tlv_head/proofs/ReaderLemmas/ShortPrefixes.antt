@@ -41,14 +41,14 @@ flagged-end (a ∷ ds) (b ∷ es) l m x y h k e =
     let same : 128 + a ≡ 128 + b = cc in
     let rest : (with_bit_8 ds ++ l ∷ []) ++ x ≡ (with_bit_8 es ++ m ∷ []) ++ y = cc in
     ap (λ (u : ℕ). u ∷ (with_bit_8 ds ++ l ∷ [])) same
-        ∙ ap (λ (t : List ℕ). (128 + b) ∷ t) (flagged-end ds es l m x y h k rest)
+    ∙ ap (λ (t : List ℕ). (128 + b) ∷ t) (flagged-end ds es l m x y h k rest)
 
 -- octets begin with at most one identifier
 one-identifier : (c d : Class) (k j : Bool) (n m : ℕ) (i o x y : List ℕ) → IsIdentifier c k n i → IsIdentifier d j m o
     → i ++ x ≡ o ++ y → i ≡ o
 one-identifier c d k j n m i o x y (inl p) (inl q) e =
     let whole : identifier_octet c k n ∷ x ≡ identifier_octet d j m ∷ y =
-        ap (λ (z : List ℕ). z ++ x) (sym p.octets_are) ∙ (e ∙ ap (λ (z : List ℕ). z ++ y) q.octets_are) in
+    ap (λ (z : List ℕ). z ++ x) (sym p.octets_are) ∙ (e ∙ ap (λ (z : List ℕ). z ++ y) q.octets_are) in
     let same : identifier_octet c k n ≡ identifier_octet d j m = cc in
     p.octets_are ∙ (ap (λ (u : ℕ). u ∷ []) same ∙ sym q.octets_are)
 one-identifier c d k j n m i o x y (inl p) (inr q) e =
@@ -61,15 +61,15 @@ one-identifier c d k j n m i o x y (inr p) (inl q) e =
     absurd (forms-apart d c j k m q.small (cc))
 one-identifier c d k j n m i o x y (inr p) (inr q) e =
     let whole : identifier_octet c k 31 ∷ ((with_bit_8 p.digits ++ p.last ∷ []) ++ x)
-        ≡ identifier_octet d j 31 ∷ ((with_bit_8 q.digits ++ q.last ∷ []) ++ y) =
+    ≡ identifier_octet d j 31 ∷ ((with_bit_8 q.digits ++ q.last ∷ []) ++ y) =
     ap (λ (z : List ℕ). z ++ x) (sym p.octets_are) ∙ (e ∙ ap (λ (z : List ℕ). z ++ y) q.octets_are) in
     let same : identifier_octet c k 31 ≡ identifier_octet d j 31 = cc in
     let rest : (with_bit_8 p.digits ++ p.last ∷ []) ++ x ≡ (with_bit_8 q.digits ++ q.last ∷ []) ++ y = cc in
     let digits : with_bit_8 p.digits ++ p.last ∷ [] ≡ with_bit_8 q.digits ++ q.last ∷ [] =
-        flagged-end p.digits q.digits p.last q.last x y p.last_digit q.last_digit rest in
+    flagged-end p.digits q.digits p.last q.last x y p.last_digit q.last_digit rest in
     p.octets_are
-        ∙ (ap (λ (u : ℕ). u ∷ (with_bit_8 p.digits ++ p.last ∷ [])) same
-            ∙ (ap (λ (t : List ℕ). identifier_octet d j 31 ∷ t) digits ∙ sym q.octets_are))
+    ∙ (ap (λ (u : ℕ). u ∷ (with_bit_8 p.digits ++ p.last ∷ [])) same
+    ∙ (ap (λ (t : List ℕ). identifier_octet d j 31 ∷ t) digits ∙ sym q.octets_are))
 
 -- and it has one form: primitive or constructed
 one-form : (c d : Class) (k j : Bool) (n m : ℕ) (i o : List ℕ) → IsIdentifier c k n i → IsIdentifier d j m o → i ≡ o
@@ -109,12 +109,16 @@ unended : (id : Identifier) (o : List ℕ) (c : Class) (k : Bool) (n : ℕ) (i z
     → IsIdentifier c k n i → o ≡ i ++ z → ⊥
 unended id o c k n i z h p e =
     let ended : CarriesIdentifier
-        (record { class = id.class; constructed = id.constructed; number = id.number * 128 + 0; octets = id.octets + 1
-            })
-        (o ++ 0 ∷ []) =
+    (record {
+      class = id.class;
+      constructed = id.constructed;
+      number = id.number * 128 + 0;
+      octets = id.octets + 1;
+    })
+    (o ++ 0 ∷ []) =
     ends_number id 0 0 o h refl (lit< tt) in
     let whole : (o ++ 0 ∷ []) ++ [] ≡ i ++ (z ++ 0 ∷ []) =
-        append-nil (o ++ 0 ∷ []) ∙ (ap (λ (s : List ℕ). s ++ 0 ∷ []) e ∙ append_assoc i z (0 ∷ [])) in
+    append-nil (o ++ 0 ∷ []) ∙ (ap (λ (s : List ℕ). s ++ 0 ∷ []) e ∙ append_assoc i z (0 ∷ [])) in
     let same : o ++ 0 ∷ [] ≡ i = one-identifier _ c _ k _ n (o ++ 0 ∷ []) i [] (z ++ 0 ∷ []) ended.identified p whole in
     omega (arith, ap length same, length-append o (0 ∷ []), ap length e, length-append i z)
 
@@ -131,7 +135,7 @@ unrefused : (code : FaultCode) (id : Identifier) (o : List ℕ) (x : ℕ) → Ca
     → IsRefusedOctet o x code → ⊥
 unrefused code id o x h few (tag_too_long c k prefix eight flag) =
     let size : length o ≡ length prefix.digits + 1 =
-        rw prefix.octets_are (omega (arith, length-map prefix.digits (λ d. 128 + d))) in
+    rw prefix.octets_are (omega (arith, length-map prefix.digits (λ d. 128 + d))) in
     omega (arith, eight)
 unrefused code id o x h few (reserved_length c k n i all) = unended id o c k n o [] h i (sym (append-nil o))
 unrefused code id o x h few (indefinite_primitive c n i mark) = unended id o c false n o [] h i (sym (append-nil o))
@@ -145,7 +149,7 @@ pub always-unfinished : (r : Next) (id : Identifier) (o : List ℕ) (x : ℕ) �
 always-unfinished (Unfinished p) id o x h few f not = not p refl
 always-unfinished (Finished d size) id o x h few f not =
     unended-length id o x d.class d.constructed d.number f.identifier f.lengths h f.identified.identified f.some
-        f.octets_are
+    f.octets_are
 always-unfinished (Refused code) id o x h few f not = unrefused code id o x h few f
 
 -- what is returned is what the octets are
@@ -169,7 +173,7 @@ carried-on (Number d) id o x h f not = (d, refl, f)
 carried-on (Length d) id o x h f not = absurd (not d refl)
 carried-on (Digits d n left) id o x h f not =
     absurd (unended-length id o x d.class d.constructed d.number f.prefix.identifier _ h f.prefix.identified
-        (omega arith) f.prefix.octets_are)
+    (omega arith) f.prefix.octets_are)
 carried-on Done id o x h f not = absurd (snoc≢nil o x f)
 
 pub goes-on : (r : Next) (p : Part) (id : Identifier) (o : List ℕ) (x : ℕ) → CarriesNumber id o → MakesNext o x r
@@ -190,7 +194,7 @@ leads-on (Number d) x h not nor = nor d refl
 leads-on (Length d) x h not nor = not d refl
 leads-on (Digits d n left) x h not nor =
     some-identifier d.class d.constructed d.number h.prefix.identifier h.prefix.identified
-        (short_prefix h.prefix.identifier _ _ x h.prefix.octets_are)
+    (short_prefix h.prefix.identifier _ _ x h.prefix.octets_are)
   where
     short_prefix : (i : List ℕ) (y : ℕ) (l : List ℕ) (x : ℕ) → x ∷ [] ≡ i ++ y ∷ l → i ≡ []
     short_prefix [] y l x e = refl
@@ -218,7 +222,7 @@ pub no-short_identifier : (os : List ℕ) → BeginsWithNoIdentifier os → Begi
 no-short_identifier os none = λ h rest v e few less.
     none h.class h.constructed h.number h.identifier (h.lengths ++ rest) v.identifier few
     (λ z. some-length h.size h.lengths v.lengths (prefix-nil h.lengths rest z))
-        (e ∙ append_assoc h.identifier h.lengths rest)
+    (e ∙ append_assoc h.identifier h.lengths rest)
   where
     prefix-nil : (a b : List ℕ) → a ++ b ≡ [] → a ≡ []
     prefix-nil [] b e = refl
@@ -231,15 +235,15 @@ no-short_length os id id_len b at none = λ h rest v e few less.
     let cut : os ≡ h.identifier ++ (h.lengths ++ rest) = e ∙ append_assoc h.identifier h.lengths rest in
     let prefix : take id.octets os ≡ h.identifier =
     one-identifier _ h.class _ h.constructed _ h.number (take id.octets os) h.identifier (drop id.octets os)
-        (h.lengths ++ rest) b.carried.identified v.identifier
+    (h.lengths ++ rest) b.carried.identified v.identifier
     (take-append-drop id.octets os ∙ cut) in
     let form : id.constructed ≡ h.constructed =
-        one-form _ h.class _ h.constructed _ h.number (take id.octets os) h.identifier b.carried.identified
-            v.identifier prefix in
+    one-form _ h.class _ h.constructed _ h.number (take id.octets os) h.identifier b.carried.identified
+    v.identifier prefix in
     let count : id_len ≡ length h.identifier = at ∙ (b.carried.count ∙ ap length prefix) in
     let back : drop id_len os ≡ h.lengths ++ rest =
-        rw (cut, count) (drop-append_seam h.identifier (h.lengths ++ rest)) in
+    rw (cut, count) (drop-append_seam h.identifier (h.lengths ++ rest)) in
     let all : take (length os - id_len) (drop id_len os) ≡ drop id_len os =
-        take_all (length os - id_len) (drop id_len os) (omega (arith, length-drop id_len os)) in
+    take_all (length os - id_len) (drop id_len os) (omega (arith, length-drop id_len os)) in
     none h.size h.lengths rest v.lengths (subst (λ (k : Bool). AllowsSize k h.size) (sym form) v.allowed) less
-        (all ∙ back)
+    (all ∙ back)

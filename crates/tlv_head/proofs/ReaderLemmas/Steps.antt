@@ -42,7 +42,7 @@ length-lt n left some small =
 pub number-lt : (id : Identifier) (octets : List ℕ) → CarriesNumber id octets → id.number < 2 ^ 56
 number-lt id octets h =
     let v : value_of 128 h.prefix.digits < 128 ^ length h.prefix.digits =
-        value_of-lt 128 h.prefix.digits (lit< tt) h.prefix.each in
+    value_of-lt 128 h.prefix.digits (lit< tt) h.prefix.each in
     let p : 128 ^ length h.prefix.digits ≤ 128 ^ 8 = pow-le-pow_right {n = 128} (lit< tt) h.few in
     omega (arith, h.value)
 
@@ -74,7 +74,7 @@ pub more_length : (id : Identifier) (n left x r : ℕ) (octets : List ℕ) → C
 more_length id n left x r octets h e below zero_or_few rest =
     let some : 1 ≤ left = h.prefix.some in
     let len : length (h.prefix.digits ++ x ∷ []) ≡ length h.prefix.digits + 1 =
-        omega (arith, length-append h.prefix.digits (x ∷ [])) in
+    omega (arith, length-append h.prefix.digits (x ∷ [])) in
     let few : length h.prefix.digits + left ≤ 126 = h.prefix.few in
     record {
       prefix = record {
@@ -98,7 +98,7 @@ pub ends_length : (id : Identifier) (n left x r : ℕ) (octets : List ℕ) → C
 ends_length id n left x r octets h e below zero_or_few rest =
     let some : 1 ≤ left = h.prefix.some in
     let len : length (h.prefix.digits ++ x ∷ []) ≡ length h.prefix.digits + 1 =
-        omega (arith, length-append h.prefix.digits (x ∷ [])) in
+    omega (arith, length-append h.prefix.digits (x ∷ [])) in
     let few : length h.prefix.digits + left ≤ 126 = h.prefix.few in
     let one : left ≡ 1 = omega arith in
     let small : n < 256 ^ (5 - 1) = subst (λ m. n < 256 ^ (5 - m)) one h.small in
@@ -134,12 +134,16 @@ begins_number id x none first e = record {
 pub more_number : (id : Identifier) (x r : ℕ) (octets : List ℕ) → CarriesNumber id octets → x ≡ 128 + r → r < 128
     → id.octets < 9
     → CarriesNumber
-        (record { class = id.class; constructed = id.constructed; number = id.number * 128 + r; octets = id.octets + 1
-            })
-        (octets ++ x ∷ [])
+    (record {
+      class = id.class;
+      constructed = id.constructed;
+      number = id.number * 128 + r;
+      octets = id.octets + 1;
+    })
+    (octets ++ x ∷ [])
 more_number id x r octets h e below few =
     let len : length (h.prefix.digits ++ r ∷ []) ≡ length h.prefix.digits + 1 =
-        omega (arith, length-append h.prefix.digits (r ∷ [])) in
+    omega (arith, length-append h.prefix.digits (r ∷ [])) in
     let count : id.octets ≡ length h.prefix.digits + 1 = h.count in
     record {
       prefix = record {
@@ -154,13 +158,17 @@ more_number id x r octets h e below few =
 
 pub ends_number : (id : Identifier) (x r : ℕ) (octets : List ℕ) → CarriesNumber id octets → r ≡ x → x < 128
     → CarriesIdentifier
-        (record { class = id.class; constructed = id.constructed; number = id.number * 128 + r; octets = id.octets + 1
-            })
-        (octets ++ x ∷ [])
+    (record {
+      class = id.class;
+      constructed = id.constructed;
+      number = id.number * 128 + r;
+      octets = id.octets + 1;
+    })
+    (octets ++ x ∷ [])
 ends_number id x r octets h e below =
     let count : id.octets ≡ length h.prefix.digits + 1 = h.count in
     let size : length octets ≡ length h.prefix.digits + 1 =
-        rw h.prefix.octets_are (omega (arith, length-map h.prefix.digits (λ d. 128 + d))) in
+    rw h.prefix.octets_are (omega (arith, length-map h.prefix.digits (λ d. 128 + d))) in
     let few : length h.prefix.digits ≤ 8 = h.few in
     record {
       identified = inr (record {
@@ -192,7 +200,7 @@ pub unallowed : (id : Identifier) (octets : List ℕ) (x : ℕ) → CarriesIdent
     → x ≡ 128 → IsRefusedOctet octets x IndefinitePrimitive
 unallowed id octets x h form e =
     indefinite_primitive id.class id.number
-        (subst (λ (k : Bool). IsIdentifier id.class k id.number octets) form h.identified) e
+    (subst (λ (k : Bool). IsIdentifier id.class k id.number octets) form h.identified) e
 
 -- a length octet that makes the length too large
 pub too_large : (id : Identifier) (n left : ℕ) (octets : List ℕ) (x : ℕ) → CarriesLength id n left octets → 6 ≤ left

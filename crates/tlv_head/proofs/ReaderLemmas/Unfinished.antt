@@ -31,7 +31,7 @@ length-carried (Digits id n left) os h =
     let some : 1 ≤ left = h.prefix.some in
     let most : length h.prefix.digits + left ≤ 126 = h.prefix.few in
     rw h.prefix.octets_are
-        (omega (arith, length-append h.prefix.identifier ((128 + (length h.prefix.digits + left)) ∷ h.prefix.digits)))
+    (omega (arith, length-append h.prefix.identifier ((128 + (length h.prefix.digits + left)) ∷ h.prefix.digits)))
 length-carried Done os h = rw h (omega arith)
 
 -- the header that is made
@@ -70,14 +70,14 @@ made_completes r id size os x m e = record {
 pub made_too_deep : (r : HeadReaderState) (id : Identifier) (size : Size) (os : List ℕ) (x depth : ℕ) (room : Option ℕ)
     → room ≢ Some 0 → MakesHeader id size (os ++ x ∷ []) → os ≡ r.octets
     → (id.constructed || is_wrapper r.named id.class id.constructed id.number size) ≡ true → 128 ≤ depth
-        → IsRefusedPush r x room depth TooDeep
+    → IsRefusedPush r x room depth TooDeep
 made_too_deep r id size os x depth room n m e c low =
     too_deep n (made r.offset r.named id size (os ++ x ∷ []) m) (made_completes r id size os x m e) c low
 
 pub made_overrun : (r : HeadReaderState) (id : Identifier) (size : Size) (os : List ℕ) (x depth : ℕ) (room : Option ℕ)
     → room ≢ Some 0 → MakesHeader id size (os ++ x ∷ []) → os ≡ r.octets
     → ((id.constructed || is_wrapper r.named id.class id.constructed id.number size) ≡ true → depth < 128)
-        → (ContentsFit size room → ⊥) → IsRefusedPush r x room depth Overrun
+    → (ContentsFit size room → ⊥) → IsRefusedPush r x room depth Overrun
 made_overrun r id size os x depth room n m e c past =
     overrun n (made r.offset r.named id size (os ++ x ∷ []) m) (made_completes r id size os x m e) c past
 
@@ -98,7 +98,7 @@ pub made_whole : (r : HeadReaderState) (id : Identifier) (size : Size) (os : Lis
 made_whole r id size os x m e =
     let count : id.octets ≡ length m.identifier = m.identified.count in
     rw (m.octets_are, count, take-append_seam m.identifier m.lengths, drop-append_seam m.identifier m.lengths)
-        (made_completes r id size os x m e)
+    (made_completes r id size os x m e)
 
 cons≢nil : (x : ℕ) (xs : List ℕ) → x ∷ xs ≢ []
 cons≢nil x xs e = cc
@@ -144,8 +144,8 @@ unfinished_length (suc k) id n left os below h = elim (cases_eq (left - 1) 0) [
   | inl e ↦ zero_ends id (Definite (n * 256 + 0)) os (ends_length id n left 0 0 os h refl (lit< tt) (inl refl) e)
   | inr e ↦
       zero_after os
-          (unfinished_length k id (n * 256 + 0) (left - 1) _ (omega arith)
-              (more_length id n left 0 0 os h refl (lit< tt) (inl refl) e))
+      (unfinished_length k id (n * 256 + 0) (left - 1) _ (omega arith)
+      (more_length id n left 0 0 os h refl (lit< tt) (inl refl) e))
 ]
 
 snoc≢nil : (os : List ℕ) (x : ℕ) → os ++ x ∷ [] ≢ []

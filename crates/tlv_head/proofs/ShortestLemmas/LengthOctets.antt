@@ -28,7 +28,7 @@ digits-of (suc k) n below =
     let b : n < 256 ^ k * 256 = rw (pow-suc 256 k) at below in
     let leading : HasDigits k (n / 256) = digits-of k (n / 256) (omega (arith, b)) in
     let value : value_of 256 (leading.digits ++ n % 256 ∷ []) ≡ value_of 256 leading.digits * 256 + n % 256 =
-        value_of-snoc 256 leading.digits (n % 256) in
+    value_of-snoc 256 leading.digits (n % 256) in
     record {
       digits = leading.digits ++ n % 256 ∷ [];
       each = All-push (λ d. d < 256) leading.digits (n % 256) leading.each (omega arith);
@@ -62,8 +62,10 @@ few-lengths (Definite n) below =
     record {
       short = short;
       few =
-          omega
-              (arith, five.count,
-                  length-le (Definite n) short.octets ((128 + length five.digits) ∷ five.digits) short.valid valid
-                      short.shortest);
+          omega (
+            arith,
+            five.count,
+            length-le (Definite n) short.octets ((128 + length five.digits) ∷ five.digits) short.valid valid
+                short.shortest,
+          );
     }

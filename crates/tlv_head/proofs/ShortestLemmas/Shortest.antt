@@ -24,9 +24,13 @@ all_digits f = f.digits ++ f.last ∷ []
 count-high : (class : Class) (constructed : Bool) (n : ℕ) (octets : List ℕ) (f : IsHighForm class constructed n octets)
     → length octets ≡ 1 + length (all_digits f)
 count-high class constructed n octets f =
-    omega
-        (arith, ap length f.octets_are, length-append (with_bit_8 f.digits) (f.last ∷ []),
-            length-append f.digits (f.last ∷ []), length-map f.digits (λ d. 128 + d))
+    omega (
+      arith,
+      ap length f.octets_are,
+      length-append (with_bit_8 f.digits) (f.last ∷ []),
+      length-append f.digits (f.last ∷ []),
+      length-map f.digits (λ d. 128 + d),
+    )
 
 each-high : (class : Class) (constructed : Bool) (n : ℕ) (octets : List ℕ) (f : IsHighForm class constructed n octets)
     → All (λ d. d < 128) (all_digits f)
@@ -53,14 +57,14 @@ identifier-le class constructed n xs ys (inl f) (inr g) s =
 identifier-le class constructed n xs ys (inr f) (inl g) s = omega (arith, s.single g.small, ap length g.octets_are)
 identifier-le class constructed n xs ys (inr f) (inr g) s =
     let some : 1 < length xs =
-        omega (arith, count-high class constructed n xs f, length-append f.digits (f.last ∷ [])) in
+    omega (arith, count-high class constructed n xs f, length-append f.digits (f.last ∷ [])) in
     let nonzero : slice_index (all_digits f) 0 ≢ 0 =
     λ z. s.leading some
     (ap (λ (l : List ℕ). slice_index l 1 % 128) f.octets_are
-        ∙ high-first (identifier_octet class constructed 31) f.digits f.last f.each f.last_digit ∙ z) in
+    ∙ high-first (identifier_octet class constructed 31) f.digits f.last f.each f.last_digit ∙ z) in
     let fewer : length (all_digits f) ≤ length (all_digits g) =
     fewest 128 (all_digits f) (all_digits g) (lit< tt) nonzero (each-high class constructed n ys g)
-        (sym f.value ∙ g.value) in
+    (sym f.value ∙ g.value) in
     omega (arith, fewer, count-high class constructed n xs f, count-high class constructed n ys g)
 
 -- the same number of subsequent octets
@@ -69,16 +73,16 @@ high-same : (class : Class) (constructed : Bool) (n : ℕ) (xs ys : List ℕ) �
     → length xs ≡ length ys → xs ≡ ys
 high-same class constructed n xs ys f g e =
     let count : length (all_digits f) ≡ length (all_digits g) =
-        omega (arith, e, count-high class constructed n xs f, count-high class constructed n ys g) in
+    omega (arith, e, count-high class constructed n xs f, count-high class constructed n ys g) in
     let digits : all_digits f ≡ all_digits g =
     same-digits 128 (all_digits f) (all_digits g) (lit< tt) (each-high class constructed n xs f)
-        (each-high class constructed n ys g) count
+    (each-high class constructed n ys g) count
     (sym f.value ∙ g.value) in
     let parts : (f.digits ≡ g.digits) × (f.last ≡ g.last) = same_from_push f.digits g.digits f.last g.last digits in
     f.octets_are
-        ∙ ap₂ (λ (ds : List ℕ) (last : ℕ). identifier_octet class constructed 31 ∷ (with_bit_8 ds ++ last ∷ []))
-            parts.0 parts.1
-        ∙ sym g.octets_are
+    ∙ ap₂ (λ (ds : List ℕ) (last : ℕ). identifier_octet class constructed 31 ∷ (with_bit_8 ds ++ last ∷ []))
+    parts.0 parts.1
+    ∙ sym g.octets_are
 
 -- the same number of identifier octets
 pub identifier-same : (class : Class) (constructed : Bool) (n : ℕ) (xs ys : List ℕ)
@@ -87,10 +91,10 @@ pub identifier-same : (class : Class) (constructed : Bool) (n : ℕ) (xs ys : Li
 identifier-same class constructed n xs ys (inl f) (inl g) e = f.octets_are ∙ sym g.octets_are
 identifier-same class constructed n xs ys (inl f) (inr g) e =
     absurd (omega
-        (arith, e, ap length f.octets_are, count-high class constructed n ys g, length-append g.digits (g.last ∷ [])))
+    (arith, e, ap length f.octets_are, count-high class constructed n ys g, length-append g.digits (g.last ∷ [])))
 identifier-same class constructed n xs ys (inr f) (inl g) e =
     absurd (omega
-        (arith, e, ap length g.octets_are, count-high class constructed n xs f, length-append f.digits (f.last ∷ [])))
+    (arith, e, ap length g.octets_are, count-high class constructed n xs f, length-append f.digits (f.last ∷ [])))
 identifier-same class constructed n xs ys (inr f) (inr g) e = high-same class constructed n xs ys f g e
 
 -- ---- length octets
@@ -104,9 +108,9 @@ length-le (Definite n) xs ys (inr f) (inl g) s = omega (arith, s.single g.0, ap 
 length-le (Definite n) xs ys (inr f) (inr g) s =
     let some : 1 < length xs = omega (arith, ap length f.octets_are, f.some) in
     let nonzero : slice_index f.digits 0 ≢ 0 =
-        λ z. s.leading some (ap (λ (l : List ℕ). slice_index l 1) f.octets_are ∙ z) in
+    λ z. s.leading some (ap (λ (l : List ℕ). slice_index l 1) f.octets_are ∙ z) in
     let fewer : length f.digits ≤ length g.digits =
-        fewest 256 f.digits g.digits (lit< tt) nonzero g.each (sym f.value ∙ g.value) in
+    fewest 256 f.digits g.digits (lit< tt) nonzero g.each (sym f.value ∙ g.value) in
     omega (arith, fewer, ap length f.octets_are, ap length g.octets_are)
 
 -- the same number of length octets
@@ -120,7 +124,7 @@ length-same (Definite n) xs ys (inr f) (inl g) e =
 length-same (Definite n) xs ys (inr f) (inr g) e =
     let count : length f.digits ≡ length g.digits = omega (arith, e, ap length f.octets_are, ap length g.octets_are) in
     let digits : f.digits ≡ g.digits =
-        same-digits 256 f.digits g.digits (lit< tt) f.each g.each count (sym f.value ∙ g.value) in
+    same-digits 256 f.digits g.digits (lit< tt) f.each g.each count (sym f.value ∙ g.value) in
     f.octets_are ∙ ap (λ (ds : List ℕ). (128 + length ds) ∷ ds) digits ∙ sym g.octets_are
 
 -- ---- both
@@ -156,7 +160,7 @@ turned h g tag = record { class = sym tag.class; constructed = sym tag.construct
 pub shortest_are_one : ShortestHeadersAreOne
 shortest_are_one h g u v tag size s t =
     let le : (length h.identifier ≤ length g.identifier) × (length h.lengths ≤ length g.lengths) =
-        shortest_are_shortest h g u v tag size s in
+    shortest_are_shortest h g u v tag size s in
     let ge : (length g.identifier ≤ length h.identifier) × (length g.lengths ≤ length h.lengths) =
     shortest_are_shortest g h v u (turned h g tag) (sym size) t in (
       identifier-same h.class h.constructed h.number h.identifier g.identifier u.identifier
@@ -189,7 +193,7 @@ pub identifier-from : (h : HeaderValue) → IsHeader h
 identifier-from h valid high = record {
   single =
       single-octet (length h.identifier) h.number 31
-          (identifier-some h.class h.constructed h.number h.identifier valid.identifier) (λ more. (high more).0);
+      (identifier-some h.class h.constructed h.number h.identifier valid.identifier) (λ more. (high more).0);
   leading = λ more. (high more).1;
 }
 
@@ -199,6 +203,6 @@ pub lengths-from : (h : HeaderValue) → IsHeader h
 lengths-from h valid long = record {
   single =
       single-octet (length h.lengths) (announced_length h.size) 128 (lengths-some h.size h.lengths valid.lengths)
-          (λ more. (long more).0);
+      (λ more. (long more).0);
   leading = λ more. (long more).1;
 }

@@ -147,8 +147,8 @@ short-length (Definite n) octets (inr f) = elim (cases_lt n 128) [
 
 with_identifier : (h : HeaderValue) → IsHeader h → (i : ShortIdentifier h.class h.constructed h.number)
     → IsHeader (record h {
-  identifier = i.octets;
-})
+      identifier = i.octets;
+    })
 with_identifier h valid i = record { identifier = i.valid; lengths = valid.lengths; allowed = valid.allowed }
 
 with_lengths : (h : HeaderValue) → IsHeader h → (l : ShortLength h.size) → IsHeader (record h { lengths = l.octets })
@@ -157,7 +157,7 @@ with_lengths h valid l = record { identifier = valid.identifier; lengths = l.val
 pub shortest-there : HeadersHaveAShortest
 shortest-there h valid nonzero =
     let i : ShortIdentifier h.class h.constructed h.number =
-        short-identifier h.class h.constructed h.number h.identifier valid.identifier nonzero in
+    short-identifier h.class h.constructed h.number h.identifier valid.identifier nonzero in
     let l : ShortLength h.size = short-length h.size h.lengths valid.lengths in (
       record h { identifier = i.octets; lengths = l.octets },
       record { identifier = i.valid; lengths = l.valid; allowed = valid.allowed },
@@ -171,7 +171,7 @@ pub shorter-identifier : (h : HeaderValue) → IsHeader h → identifier_octet h
     → (IsShortestIdentifier h.number h.identifier → ⊥) → HasShorter (λ k. k.identifier) h
 shorter-identifier h valid nonzero none =
     let i : ShortIdentifier h.class h.constructed h.number =
-        short-identifier h.class h.constructed h.number h.identifier valid.identifier nonzero in
+    short-identifier h.class h.constructed h.number h.identifier valid.identifier nonzero in
     elim (cases_lt (length i.octets) (length h.identifier)) [
       | inl fewer ↦ record {
         other = record h { identifier = i.octets };
@@ -185,7 +185,7 @@ shorter-identifier h valid nonzero none =
           identifier-le h.class h.constructed h.number i.octets h.identifier i.valid valid.identifier i.shortest in
           let same : i.octets ≡ h.identifier =
           identifier-same h.class h.constructed h.number i.octets h.identifier i.valid valid.identifier
-              (omega (arith, le, ge)) in
+          (omega (arith, le, ge)) in
           absurd (none (subst (IsShortestIdentifier h.number) same i.shortest))
     ]
 
@@ -203,9 +203,9 @@ shorter-length h valid none =
       }
       | inr le ↦
           let ge : length l.octets ≤ length h.lengths =
-              length-le h.size l.octets h.lengths l.valid valid.lengths l.shortest in
+          length-le h.size l.octets h.lengths l.valid valid.lengths l.shortest in
           let same : l.octets ≡ h.lengths =
-              length-same h.size l.octets h.lengths l.valid valid.lengths (omega (arith, le, ge)) in
+          length-same h.size l.octets h.lengths l.valid valid.lengths (omega (arith, le, ge)) in
           absurd (none (subst (IsShortestLength (announced_length h.size)) same l.shortest))
     ]
 

@@ -26,4 +26,4 @@ pub all_on : (s : LinesState) (es : List EventValue) → (effect_of lines_step s
 all_on s [] = refl
 all_on s (e ∷ es) =
     ap (λ (g : Go). (if_on g (lines_step s e) (λ u. effect_of lines_step u es)).goes) (one_on s e)
-        ∙ all_on (lines_step s e).state es
+    ∙ all_on (lines_step s e).state es

@@ -33,7 +33,7 @@ shown-more s xs ys = followed-more dump_step s xs ys (all_on s xs)
 pub then_shown : (s t : DumpState) (put : List ℕ) (xs ys : List EventValue)
     → effect_of dump_step s xs ≡ effect_with t put
     → effect_of dump_step s (xs ++ ys)
-        ≡ record (effect_of dump_step t ys) { put = put ++ (effect_of dump_step t ys).put }
+    ≡ record (effect_of dump_step t ys) { put = put ++ (effect_of dump_step t ys).put }
 then_shown s t put xs ys e =
     shown-more s xs ys ∙ ap (λ (k : Effect DumpState). and_then k (λ u. effect_of dump_step u ys)) e
 
@@ -45,11 +45,11 @@ texts layout f = last_finding_lines (Dump layout.pure) f
 
 pub opens-by : (l : LinesState) (s : FinderState) (h : HeaderValue) (k three : Bool)
     → effect_of dump_step (dump_state l s)
-        ((if k then Open h else Enter h) ∷ map {A = ℕ} (λ z. Unused) (if k then [] else (if three then 0 ∷ [] else [])))
+    ((if k then Open h else Enter h) ∷ map {A = ℕ} (λ z. Unused) (if k then [] else (if three then 0 ∷ [] else [])))
     ≡ (let d =
-        effect_of lines_step l
-            ((if k then Open h else Enter h)
-                ∷ map {A = ℕ} (λ z. Unused) (if k then [] else (if three then 0 ∷ [] else []))) in
+    effect_of lines_step l
+    ((if k then Open h else Enter h)
+    ∷ map {A = ℕ} (λ z. Unused) (if k then [] else (if three then 0 ∷ [] else []))) in
     effect_with (dump_state d.state (finder_open_step s h).state) (texts l.layout (finder_open_step s h) ++ d.put))
 opens-by l s h true three =
     ap (effect_with _) (append_assoc (texts l.layout (finder_open_step s h)) (lines_step l (Open h)).put [])
@@ -89,16 +89,16 @@ primitive-by l s h c =
     let f = finder_end_step u in
     let first = texts l.layout (finder_begin_step s h) in
     let whole : Effect LinesState
-        → Effect DumpState =
-            λ k. effect_with (dump_state (lines_step k.state End).state f.state)
-                ((first ++ b.put) ++ (k.put ++ (((lines_step k.state End).put ++ texts k.state.layout f) ++ []))) in
+    → Effect DumpState =
+    λ k. effect_with (dump_state (lines_step k.state End).state f.state)
+    ((first ++ b.put) ++ (k.put ++ (((lines_step k.state End).put ++ texts k.state.layout f) ++ []))) in
     let parts : Effect LinesState → Effect DumpState =
     λ k. let d =
-        and_then b (λ z. if_on k.goes k (λ w. effect_of lines_step w (End ∷ []))) in effect_with
-            (dump_state d.state f.state) (first ++ (d.put ++ texts l.layout f)) in
+    and_then b (λ z. if_on k.goes k (λ w. effect_of lines_step w (End ∷ []))) in effect_with
+    (dump_state d.state f.state) (first ++ (d.put ++ texts l.layout f)) in
     let o : Effect LinesState =
-        of_bytes b.state (saturating_sum b.state.offset (length c)) (value_after b.state.open_text c)
-            (value_contents_lines b.state.open_text c) in
+    of_bytes b.state (saturating_sum b.state.offset (length c)) (value_after b.state.open_text c)
+    (value_contents_lines b.state.open_text c) in
     let is : m ≡ o = dumped_bytes b.state c (λ e. rested-new h l.layout) in
     ap (λ (k : Effect DumpState). record {
       state = (if_on k.goes k (λ w. effect_of dump_step w (End ∷ []))).state;
@@ -108,7 +108,7 @@ primitive-by l s h c =
     (each-shown (dump_state b.state (finder_begin_step s h).state) c)
     ∙ ap whole is
     ∙ ap (effect_with (dump_state (lines_step o.state End).state f.state))
-        (around first b.put o.put (lines_step o.state End).put (texts l.layout f))
+    (around first b.put o.put (lines_step o.state End).put (texts l.layout f))
     ∙ sym (ap parts is)
 
 pub primitives_are_shown : PrimitivesAreShown
@@ -116,34 +116,34 @@ primitives_are_shown s h c size =
     let d = primitives_shown s.lines h c size in
     let f = primitive-found s.finder h c (sym size) in
     let l : LinesState =
-        record (lines_after_header s.lines h)
-            { offset = saturating_sum (lines_after_header s.lines h).offset (length c); open_text = None } in (
+    record (lines_after_header s.lines h)
+    { offset = saturating_sum (lines_after_header s.lines h).offset (length c); open_text = None } in (
       dump_state l f.0,
       refl,
       f.1,
       primitive-by s.lines s.finder h c
           ∙ ap₂
-              (λ (d : Effect LinesState) (f : FinderReport). effect_with (dump_state d.state f.state)
-                  (texts s.lines.layout (finder_begin_step s.finder h) ++ (d.put ++ texts s.lines.layout f)))
-              d f.2,
+          (λ (d : Effect LinesState) (f : FinderReport). effect_with (dump_state d.state f.state)
+          (texts s.lines.layout (finder_begin_step s.finder h) ++ (d.put ++ texts s.lines.layout f)))
+          d f.2,
     )
 
 -- a primitive that is open
 pub part-by : (l : LinesState) (s : FinderState) (h : HeaderValue) (c : List ℕ)
     → (effect_of dump_step (dump_state l s) (Begin h ∷ Bytes c ∷ [])).put
-        ≡ texts l.layout (finder_begin_step s h) ++ (effect_of lines_step l (Begin h ∷ Bytes c ∷ [])).put
+    ≡ texts l.layout (finder_begin_step s h) ++ (effect_of lines_step l (Begin h ∷ Bytes c ∷ [])).put
 part-by l s h c =
     let b = lines_step l (Begin h) in
     let m = each_octet lines_octet_step b.state c in
     let first = texts l.layout (finder_begin_step s h) in
     let o : Effect LinesState =
-        of_bytes b.state (saturating_sum b.state.offset (length c)) (value_after b.state.open_text c)
-            (value_contents_lines b.state.open_text c) in
+    of_bytes b.state (saturating_sum b.state.offset (length c)) (value_after b.state.open_text c)
+    (value_contents_lines b.state.open_text c) in
     let is : m ≡ o = dumped_bytes b.state c (λ e. rested-new h l.layout) in
     ap (λ (k : Effect DumpState). (first ++ b.put) ++ (if_on k.goes k (λ w. effect_of dump_step w [])).put)
-        (each-shown (dump_state b.state (finder_begin_step s h).state) c)
+    (each-shown (dump_state b.state (finder_begin_step s h).state) c)
     ∙ append_assoc first b.put (m.put ++ [])
     ∙ ap (λ (k : Effect LinesState). first ++ (b.put ++ (k.put ++ []))) is
     ∙ sym (ap
-        (λ (k : Effect LinesState). first ++ (and_then b (λ z. if_on k.goes k (λ w. effect_of lines_step w []))).put)
-        is)
+    (λ (k : Effect LinesState). first ++ (and_then b (λ z. if_on k.goes k (λ w. effect_of lines_step w []))).put)
+    is)

@@ -47,7 +47,7 @@ module _ (options : Options) (names : NamesTable) (octets : List ℕ) (f : Fores
       ≡ (dump_job options names).text f
   text-made =
       (shows_forest (top_layout options) names options.rules (top_place options.framing) None Start top_frame [] f
-          r.is_open (omega (arith, short, ap length r.is_prefix.1, length-append (spelling f) r.is_prefix.0))
+      r.is_open (omega (arith, short, ap length r.is_prefix.1, length-append (spelling f) r.is_prefix.0))
       (refl, refl, λ e. refl)).text 0
 
   pub count-made : (effect_of dump_step (new_dump options.rules (top_layout options) names)
@@ -55,11 +55,11 @@ module _ (options : Options) (names : NamesTable) (octets : List ℕ) (f : Fores
       ≡ finding_count options.rules f
   count-made =
       ap (λ (u : FinderState). u.count) (finder-run (new_dump options.rules (top_layout options) names) (events f))
-          ∙ count-run options.rules options.framing octets f short r
+      ∙ count-run options.rules options.framing octets f short r
 
 pub dumps : (options : Options) (names : NamesTable)
     → Shower dump_step (new_dump options.rules (top_layout options) names) options.framing
-        (dump_job options names).text (finding_count options.rules) (λ (s : DumpState). s.finder.count)
+    (dump_job options names).text (finding_count options.rules) (λ (s : DumpState). s.finder.count)
 dumps options names = record {
   goes_on = all_on;
   put = λ octets f few r. text-made options names octets f few r;

@@ -85,13 +85,13 @@ module _ (style : Layout) (names : NamesTable) (rules : Rules) where
       (outer : List SiblingFrame) (f : Forest) : Type 0 where
     pub text : (n : ℕ)
         → (effect_of dump_step (start p (is_padding previous) w outer n) (events f)).put
-            ≡ item_texts (items rules (site p holder previous) f)
+        ≡ item_texts (items rules (site p holder previous) f)
     pub after : (n : ℕ) → is_whole f ≡ true → (m : ℕ)
         × ((effect_of dump_step (start p (is_padding previous) w outer n) (events f)).state
         ≡ dump_state
-            (lines_between style names p.depth (p.offset + length (spelling f))
-                (later_padded style names (is_padding previous) f))
-            (check_between rules (noted_all w f) outer m))
+        (lines_between style names p.depth (p.offset + length (spelling f))
+        (later_padded style names (is_padding previous) f))
+        (check_between rules (noted_all w f) outer m))
 
   -- elements after what was shown
   shown-after : (p q : Place) (padded : Bool) (w : SiblingFrame) (outer : List SiblingFrame) (n m : ℕ)
@@ -99,15 +99,15 @@ module _ (style : Layout) (names : NamesTable) (rules : Rules) where
       (rest : Forest)
       → q.depth ≡ p.depth
       → effect_of dump_step (start p padded w outer n) es ≡ effect_with (start q (is_padding previous) v outer m) put
-          → IsShown q holder previous v outer rest
+      → IsShown q holder previous v outer rest
       → effect_of dump_step (start p padded w outer n) (es ++ events rest)
       ≡ record (effect_of dump_step (start q (is_padding previous) v outer m) (events rest))
-          { put = put ++ item_texts (items rules (site q holder previous) rest) }
+      { put = put ++ item_texts (items rules (site q holder previous) rest) }
   shown-after p q padded w outer n m v holder previous es put rest d e t =
       then_shown (start p padded w outer n) (start q (is_padding previous) v outer m) put es (events rest) e
       ∙ ap (λ (l : List ℕ). record (effect_of dump_step (start q (is_padding previous) v outer m) (events rest))
-          { put = put ++ l })
-          (t.text m)
+      { put = put ++ l })
+      (t.text m)
 
   abbrev Known : Place → Option HeaderValue → Previous → SiblingFrame → List SiblingFrame → Type 0
   Known p holder previous w outer =
@@ -120,11 +120,11 @@ module _ (style : Layout) (names : NamesTable) (rules : Rules) where
       → h.offset ≡ p.offset → p.depth < 128 → p.offset + length (opening h) ≤ 2 ^ 64 - 1
       → effect_of dump_step (start p (is_padding previous) w outer n) (opening_events h)
       ≡ effect_with (start (place_of_children p h) false (frame_under w h) (w ∷ outer) (later_header rules w h n))
-          (styled_lines (Dump style.pure) (length outer) h.offset (header_findings rules (surroundings_in w) h)
-              ++ holder_line (at_level style names p.depth) h)
+      (styled_lines (Dump style.pure) (length outer) h.offset (header_findings rules (surroundings_in w) h)
+      ++ holder_line (at_level style names p.depth) h)
   opened-shown p holder previous w outer n h k there low far =
       opens-by (lines_between style names p.depth p.offset (is_padding previous)) (check_between rules w outer n) h
-          h.constructed (h.number == 3)
+      h.constructed (h.number == 3)
       ∙ ap₂ (λ (d : Effect LinesState) (f : FinderReport). effect_with (dump_state d.state f.state) (texts style f ++ d.put))
       (holder_shown style names p.depth p.offset (is_padding previous) h there (omega (arith, low)) far)
       (opened-find rules w outer n h (omega (arith, k.1, low)))
@@ -136,17 +136,17 @@ module _ (style : Layout) (names : NamesTable) (rules : Rules) where
       → p.offset + (length (octets_of h) + length c) ≤ 2 ^ 64 - 1
       → effect_of dump_step (start p padded w outer n) (Begin h ∷ Bytes c ∷ End ∷ [])
       ≡ effect_with
-          (start (place_after p (length (octets_of h) + length c)) false (after_primitive rules w h c) outer
-              (after_contents rules w h c n))
+      (start (place_after p (length (octets_of h) + length c)) false (after_primitive rules w h c) outer
+      (after_contents rules w h c n))
       (styled_lines (Dump style.pure) (length outer) h.offset (header_findings rules (surroundings_in w) h)
-          ++ (whole_lines (finite.get names) h (at_level style names p.depth) c
-              ++ styled_lines (Dump style.pure) (length outer) h.offset (contents_findings rules h c)))
+      ++ (whole_lines (finite.get names) h (at_level style names p.depth) c
+      ++ styled_lines (Dump style.pure) (length outer) h.offset (contents_findings rules h c)))
   primitive-shown p padded w outer n h c there size far =
       primitive-by (lines_between style names p.depth p.offset padded) (check_between rules w outer n) h c
       ∙ ap₂
-          (λ (d : Effect LinesState) (f : FinderReport). effect_with (dump_state d.state f.state)
-              (styled_lines (Dump style.pure) (length outer) h.offset (header_findings rules (surroundings_in w) h)
-                  ++ (d.put ++ texts style f)))
+      (λ (d : Effect LinesState) (f : FinderReport). effect_with (dump_state d.state f.state)
+      (styled_lines (Dump style.pure) (length outer) h.offset (header_findings rules (surroundings_in w) h)
+      ++ (d.put ++ texts style f)))
       (primitive_shown style names p.depth p.offset padded h c there size far)
       (primitive-find rules w outer n h c (sym size))
 
@@ -158,44 +158,47 @@ module _ (style : Layout) (names : NamesTable) (rules : Rules) where
     text = λ n. refl;
     after =
         λ n
-            e. (n,
-                ap (λ (offset : ℕ). dump_state (lines_between style names p.depth offset (is_padding previous))
-                    (check_between rules w outer n))
-                    (omega arith));
+        e. (
+          n,
+          ap (λ (offset : ℕ). dump_state (lines_between style names p.depth offset (is_padding previous))
+              (check_between rules w outer n))
+              (omega arith),
+        );
   }
   shows_forest p holder previous w outer (PaddingOctet rest) v b k =
       let s : Site = site p holder previous in
       let t =
-          shows_forest (place_after p 1) holder Padding w outer rest v.1 (omega (arith, b))
-              (knows-padding w s k.0 (k.2 v.0.0), k.1, k.2) in
+      shows_forest (place_after p 1) holder Padding w outer rest v.1 (omega (arith, b))
+      (knows-padding w s k.0 (k.2 v.0.0), k.1, k.2) in
       let one : (n : ℕ)
-          → effect_of dump_step (start p (is_padding previous) w outer n) (Pad (0 ∷ []) ∷ [])
-              ≡ effect_with (start (place_after p 1) true w outer n)
-                  (if is_padding previous then [] else padding_line (at_level style names p.depth) p.offset) =
+      → effect_of dump_step (start p (is_padding previous) w outer n) (Pad (0 ∷ []) ∷ [])
+      ≡ effect_with (start (place_after p 1) true w outer n)
+      (if is_padding previous then [] else padding_line (at_level style names p.depth) p.offset) =
       λ n. ap (λ (d : Effect LinesState). effect_with (dump_state d.state (check_between rules w outer n)) d.put)
-          (fill_shown style names p.depth p.offset (is_padding previous) (omega (arith, b))) in
+      (fill_shown style names p.depth p.offset (is_padding previous) (omega (arith, b))) in
       let all =
-          λ (n : ℕ). shown-after p (place_after p 1) (is_padding previous) w outer n n w holder Padding
-              (Pad (0 ∷ []) ∷ [])
-              (if is_padding previous then [] else padding_line (at_level style names p.depth) p.offset) rest refl
-              (one n) t in
+      λ (n : ℕ). shown-after p (place_after p 1) (is_padding previous) w outer n n w holder Padding
+      (Pad (0 ∷ []) ∷ [])
+      (if is_padding previous then [] else padding_line (at_level style names p.depth) p.offset) rest refl
+      (one n) t in
       record {
         text =
             λ n. ap (λ (x : Effect DumpState). x.put) (all n)
-                ∙ pads (is_padding previous) p.depth p.offset (items rules (site_after_padding s) rest);
+            ∙ pads (is_padding previous) p.depth p.offset (items rules (site_after_padding s) rest);
         after = λ n e.
-            let r = t.after n e in
-            (r.0,
-                ap (λ (x : Effect DumpState). x.state) (all n) ∙ r.1
-                    ∙ ap (λ (offset : ℕ). dump_state
-                        (lines_between style names p.depth offset (later_padded style names true rest))
-                        (check_between rules (noted_all w rest) outer r.0))
-                        (omega arith));
+            let r = t.after n e in (
+              r.0,
+              ap (λ (x : Effect DumpState). x.state) (all n) ∙ r.1
+                  ∙ ap (λ (offset : ℕ). dump_state
+                  (lines_between style names p.depth offset (later_padded style names true rest))
+                  (check_between rules (noted_all w rest) outer r.0))
+                  (omega arith),
+            );
       }
     where
       pads : (k : Bool) (level offset : ℕ) (l : List Item)
           → (if k then [] else padding_line (at_level style names level) offset) ++ item_texts l
-              ≡ item_texts ((if k then [] else PaddingLine level offset ∷ []) ++ l)
+          ≡ item_texts ((if k then [] else PaddingLine level offset ∷ []) ++ l)
       pads true level offset l = refl
       pads false level offset l = refl
   shows_forest p holder previous w outer (Primitive h c rest) v b k =
@@ -206,41 +209,41 @@ module _ (style : Layout) (names : NamesTable) (rules : Rules) where
       let u : Bool = has_unused_bits (value_check_after (new_value_check h) c) in
       let known : Knows (after_primitive rules w h c) (site_after s h c) =
       subst (λ (x : Bool). Knows (frame_after w x (announced_length h.size) u) (site_after s h c)) (ap not form)
-          (knows-after w s (site_after s h c) h (first_contents_octet c) u k.0 refl refl (unused-of h c form)) in
+      (knows-after w s (site_after s h c) h (first_contents_octet c) u k.0 refl refl (unused-of h c form)) in
       let t =
-          shows_forest q holder (Sibling h (first_contents_octet c)) (after_primitive rules w h c) outer rest v.1
-              (omega (arith, b, length-primitive h c rest)) (known, k.1, k.2) in
+      shows_forest q holder (Sibling h (first_contents_octet c)) (after_primitive rules w h c) outer rest v.1
+      (omega (arith, b, length-primitive h c rest)) (known, k.1, k.2) in
       let all =
-          λ (n : ℕ). shown-after p q (is_padding previous) w outer n (after_contents rules w h c n)
-              (after_primitive rules w h c) holder (Sibling h (first_contents_octet c)) (Begin h ∷ Bytes c ∷ End ∷ []) _ rest
-              refl
+      λ (n : ℕ). shown-after p q (is_padding previous) w outer n (after_contents rules w h c n)
+      (after_primitive rules w h c) holder (Sibling h (first_contents_octet c)) (Begin h ∷ Bytes c ∷ End ∷ []) _ rest
+      refl
       (primitive-shown p (is_padding previous) w outer n h c v.0.0.header.offset size
-          (omega (arith, b, length-primitive h c rest)))
-          t in
+      (omega (arith, b, length-primitive h c rest)))
+      t in
       let others : List Item = items rules (site_after s h c) rest in
       record {
         text = λ n.
             ap (λ (x : Effect DumpState). x.put) (all n)
             ∙ three
-                (styled_lines (Dump style.pure) (length outer) h.offset (header_findings rules (surroundings_in w) h))
-                (whole_lines (finite.get names) h (at_level style names p.depth) c)
-                (styled_lines (Dump style.pure) (length outer) h.offset (contents_findings rules h c))
-                (item_texts others)
+            (styled_lines (Dump style.pure) (length outer) h.offset (header_findings rules (surroundings_in w) h))
+            (whole_lines (finite.get names) h (at_level style names p.depth) c)
+            (styled_lines (Dump style.pure) (length outer) h.offset (contents_findings rules h c))
+            (item_texts others)
             ∙ found-first (length outer) p.depth h.offset (header_findings rules (surroundings_in w) h)
-                (header_findings rules (surroundings_of s) h)
-                _ (PrimitiveLines p.depth h c ∷ (findings_at p.depth h.offset (contents_findings rules h c) ++ others))
-                k.1 (header-same rules w s h k.0)
+            (header_findings rules (surroundings_of s) h)
+            _ (PrimitiveLines p.depth h c ∷ (findings_at p.depth h.offset (contents_findings rules h c) ++ others))
+            k.1 (header-same rules w s h k.0)
             (ap (λ (l : List ℕ). whole_lines (finite.get names) h (at_level style names p.depth) c ++ l)
-                (found-first (length outer) p.depth h.offset (contents_findings rules h c)
-                    (contents_findings rules h c) (item_texts others) others k.1 refl refl));
+            (found-first (length outer) p.depth h.offset (contents_findings rules h c)
+            (contents_findings rules h c) (item_texts others) others k.1 refl refl));
         after = λ n e.
             let r = t.after (after_contents rules w h c n) e in (
               r.0,
               ap (λ (x : Effect DumpState). x.state) (all n) ∙ r.1
                   ∙ ap (λ (offset : ℕ). dump_state
-                      (lines_between style names p.depth offset (later_padded style names false rest))
-                      (check_between rules (noted_all (after_primitive rules w h c) rest) outer r.0))
-                      (omega (arith, length-primitive h c rest)),
+                  (lines_between style names p.depth offset (later_padded style names false rest))
+                  (check_between rules (noted_all (after_primitive rules w h c) rest) outer r.0))
+                  (omega (arith, length-primitive h c rest)),
             );
       }
     where
@@ -252,73 +255,73 @@ module _ (style : Layout) (names : NamesTable) (rules : Rules) where
       let i_place : Place = place_of_children p h in
       let size = length-holder h inside rest in
       let i =
-          shows_forest i_place (Some h) Start (frame_under w h) (w ∷ outer) inside v.1 (omega (arith, b, size))
-              (knows-inside w s h, omega (arith, k.1), λ e. absurd (cc (e))) in
+      shows_forest i_place (Some h) Start (frame_under w h) (w ∷ outer) inside v.1 (omega (arith, b, size))
+      (knows-inside w s h, omega (arith, k.1), λ e. absurd (cc (e))) in
       let t =
-          shows_forest q holder (Sibling h None) (frame_after w (is_primitive h) (announced_length h.size) false)
-              outer rest v.2 (omega (arith, b, size))
+      shows_forest q holder (Sibling h None) (frame_after w (is_primitive h) (announced_length h.size) false)
+      outer rest v.2 (omega (arith, b, size))
       (knows-after w s (site_after_holder s h inside) h None false k.0 refl refl refl, k.1, k.2) in
       let end : ℕ = p.offset + length (opening h) + length (spelling inside) in
       let line : List ℕ = holder_line (at_level style names p.depth) h in
       let close : List ℕ =
-          closing_line (at_level style names p.depth) (if h.constructed then end_place h inside else None) in
+      closing_line (at_level style names p.depth) (if h.constructed then end_place h inside else None) in
       let first : List ℕ =
-          styled_lines (Dump style.pure) (length outer) h.offset (header_findings rules (surroundings_in w) h) in
+      styled_lines (Dump style.pure) (length outer) h.offset (header_findings rules (surroundings_in w) h) in
       let last : List ℕ =
-          styled_lines (Dump style.pure) (length outer) h.offset
-              (end_findings rules (segments_of h (headers inside))) in
+      styled_lines (Dump style.pure) (length outer) h.offset
+      (end_findings rules (segments_of h (headers inside))) in
       let held : List ℕ = item_texts (items rules (site_of_children s h) inside) in
       let closes-shown : (m : ℕ)
-          → effect_of dump_step
-              (dump_state (lines_between style names (p.depth + 1) end false)
-                  (check_between rules (noted_all (frame_under w h) inside) (w ∷ outer) m))
-              (closing_event h inside ∷ [])
+      → effect_of dump_step
+      (dump_state (lines_between style names (p.depth + 1) end false)
+      (check_between rules (noted_all (frame_under w h) inside) (w ∷ outer) m))
+      (closing_event h inside ∷ [])
       ≡ effect_with
-          (start q false (frame_after w (is_primitive h) (announced_length h.size) false) outer
-              (after_end rules h inside m))
-          (close ++ last) =
+      (start q false (frame_after w (is_primitive h) (announced_length h.size) false) outer
+      (after_end rules h inside m))
+      (close ++ last) =
       λ m.
       closes-by (lines_between style names (p.depth + 1) end false)
-          (check_between rules (noted_all (frame_under w h) inside) (w ∷ outer) m)
-          (end_offset h.size (h.offset + length (opening h) + length (spelling inside))) h.constructed
+      (check_between rules (noted_all (frame_under w h) inside) (w ∷ outer) m)
+      (end_offset h.size (h.offset + length (opening h) + length (spelling inside))) h.constructed
       ∙ ap₂ (λ (d : Effect LinesState) (f : FinderReport). effect_with (dump_state d.state f.state) (d.put ++ texts style f))
       (closer_shown style names p.depth end h inside (omega (arith, v.0.0.header.offset)) v.0.0.header.valid.allowed
-          (omega (arith, b, size)))
+      (omega (arith, b, size)))
       (closed-find rules i_place w outer m h inside v.1 v.0.1)
       ∙ ap (λ (l : List ℕ). effect_with
-          (dump_state (lines_between style names p.depth (end + length (end_octets h.size)) false)
-              (check_between rules (frame_after w (is_primitive h) (announced_length h.size) false) outer
-                  (after_end rules h inside m)))
-          (close ++ l))
+      (dump_state (lines_between style names p.depth (end + length (end_octets h.size)) false)
+      (check_between rules (frame_after w (is_primitive h) (announced_length h.size) false) outer
+      (after_end rules h inside m)))
+      (close ++ l))
       (offset-under rules i_place w h inside v.1 v.0.1 (styled_lines (Dump style.pure) (length outer)) (λ offset. refl))
       ∙ ap (λ (offset : ℕ). effect_with
-          (dump_state (lines_between style names p.depth offset false)
-              (check_between rules (frame_after w (is_primitive h) (announced_length h.size) false) outer
-                  (after_end rules h inside m)))
-          (close ++ last))
-          (omega arith) in
+      (dump_state (lines_between style names p.depth offset false)
+      (check_between rules (frame_after w (is_primitive h) (announced_length h.size) false) outer
+      (after_end rules h inside m)))
+      (close ++ last))
+      (omega arith) in
       let held-shown : (m : ℕ)
-          → (r : ℕ) × (effect_of dump_step (start i_place false (frame_under w h) (w ∷ outer) m) (events inside)
+      → (r : ℕ) × (effect_of dump_step (start i_place false (frame_under w h) (w ∷ outer) m) (events inside)
       ≡ effect_with
-          (dump_state (lines_between style names (p.depth + 1) end false)
-              (check_between rules (noted_all (frame_under w h) inside) (w ∷ outer) r))
-          held) =
+      (dump_state (lines_between style names (p.depth + 1) end false)
+      (check_between rules (noted_all (frame_under w h) inside) (w ∷ outer) r))
+      held) =
       λ m.
       let r = i.after m v.0.1 in (
         r.0,
         as_shows (start i_place false (frame_under w h) (w ∷ outer) m) _ (events inside) held
             (r.1
-                ∙ ap (λ (x : Bool). dump_state (lines_between style names (p.depth + 1) end x)
-                    (check_between rules (noted_all (frame_under w h) inside) (w ∷ outer) r.0))
-                    (no_padding style names i_place inside refl v.1))
-                (i.text m),
+            ∙ ap (λ (x : Bool). dump_state (lines_between style names (p.depth + 1) end x)
+            (check_between rules (noted_all (frame_under w h) inside) (w ∷ outer) r.0))
+            (no_padding style names i_place inside refl v.1))
+            (i.text m),
       ) in
       let element : (n : ℕ)
-          → (m : ℕ)
-              × (effect_of dump_step (start p (is_padding previous) w outer n)
-                  (opening_events h ++ (events inside ++ closing_event h inside ∷ []))
+      → (m : ℕ)
+      × (effect_of dump_step (start p (is_padding previous) w outer n)
+      (opening_events h ++ (events inside ++ closing_event h inside ∷ []))
       ≡ effect_with (start q false (frame_after w (is_primitive h) (announced_length h.size) false) outer m)
-          ((first ++ line) ++ (held ++ (close ++ last)))) =
+      ((first ++ line) ++ (held ++ (close ++ last)))) =
       λ n.
       let a : ℕ = later_header rules w h n in
       let r = held-shown a in (
@@ -326,51 +329,51 @@ module _ (style : Layout) (names : NamesTable) (rules : Rules) where
         then_shown (start p (is_padding previous) w outer n) (start i_place false (frame_under w h) (w ∷ outer) a)
             (first ++ line) (opening_events h) (events inside ++ closing_event h inside ∷ [])
             (opened-shown p holder previous w outer n h k v.0.0.header.offset (v.0.0.shallow refl)
-                (omega (arith, b, size)))
+            (omega (arith, b, size)))
             ∙ ap (λ (x : Effect DumpState). record x { put = (first ++ line) ++ x.put })
             (then_shown (start i_place false (frame_under w h) (w ∷ outer) a)
-                (dump_state (lines_between style names (p.depth + 1) end false)
-                    (check_between rules (noted_all (frame_under w h) inside) (w ∷ outer) r.0))
-                held (events inside) (closing_event h inside ∷ []) r.1
+            (dump_state (lines_between style names (p.depth + 1) end false)
+            (check_between rules (noted_all (frame_under w h) inside) (w ∷ outer) r.0))
+            held (events inside) (closing_event h inside ∷ []) r.1
             ∙ ap (λ (x : Effect DumpState). record x { put = held ++ x.put }) (closes-shown r.0)),
       ) in
       let es : List EventValue = opening_events h ++ (events inside ++ closing_event h inside ∷ []) in
       let joined : es ++ events rest ≡ opening_events h ++ (events inside ++ closing_event h inside ∷ events rest) =
       append_assoc (opening_events h) (events inside ++ closing_event h inside ∷ []) (events rest)
-          ∙ ap (λ (l : List EventValue). opening_events h ++ l)
-              (append_assoc (events inside) (closing_event h inside ∷ []) (events rest)) in
+      ∙ ap (λ (l : List EventValue). opening_events h ++ l)
+      (append_assoc (events inside) (closing_event h inside ∷ []) (events rest)) in
       let all = λ (n : ℕ).
       ap (effect_of dump_step (start p (is_padding previous) w outer n)) (sym joined)
       ∙ shown-after p q (is_padding previous) w outer n (element n).0
-          (frame_after w (is_primitive h) (announced_length h.size) false) holder (Sibling h None) es
-          ((first ++ line) ++ (held ++ (close ++ last))) rest refl (element n).1 t in
+      (frame_after w (is_primitive h) (announced_length h.size) false) holder (Sibling h None) es
+      ((first ++ line) ++ (held ++ (close ++ last))) rest refl (element n).1 t in
       let others : List Item = items rules (site_after_holder s h inside) rest in
       let closing : List Item =
-          ClosingLine p.depth (if h.constructed then end_place h inside else None)
-              ∷ (findings_at p.depth h.offset (end_findings rules (segments_of h (headers inside))) ++ others) in
+      ClosingLine p.depth (if h.constructed then end_place h inside else None)
+      ∷ (findings_at p.depth h.offset (end_findings rules (segments_of h (headers inside))) ++ others) in
       record {
         text = λ n.
             ap (λ (x : Effect DumpState). x.put) (all n)
             ∙ six first line held close last (item_texts others)
             ∙ found-first (length outer) p.depth h.offset (header_findings rules (surroundings_in w) h)
-                (header_findings rules (surroundings_of s) h)
-                _ (OpeningLine p.depth h ∷ (items rules (site_of_children s h) inside ++ closing)) k.1
-                (header-same rules w s h k.0)
+            (header_findings rules (surroundings_of s) h)
+            _ (OpeningLine p.depth h ∷ (items rules (site_of_children s h) inside ++ closing)) k.1
+            (header-same rules w s h k.0)
             (ap (λ (l : List ℕ). line ++ l)
             (ap (λ (l : List ℕ). held ++ (close ++ l))
-                (found-first (length outer) p.depth h.offset (end_findings rules (segments_of h (headers inside)))
-                    (end_findings rules (segments_of h (headers inside))) (item_texts others) others k.1 refl refl)
+            (found-first (length outer) p.depth h.offset (end_findings rules (segments_of h (headers inside)))
+            (end_findings rules (segments_of h (headers inside))) (item_texts others) others k.1 refl refl)
             ∙ sym (split (items rules (site_of_children s h) inside) closing)));
         after = λ n e.
             let r = t.after (element n).0 e in (
               r.0,
               ap (λ (x : Effect DumpState). x.state) (all n) ∙ r.1
                   ∙ ap (λ (offset : ℕ). dump_state
-                      (lines_between style names p.depth offset (later_padded style names false rest))
-                      (check_between rules
-                          (noted_all (frame_after w (is_primitive h) (announced_length h.size) false) rest) outer
-                          r.0))
-                      (omega (arith, size)),
+                  (lines_between style names p.depth offset (later_padded style names false rest))
+                  (check_between rules
+                  (noted_all (frame_after w (is_primitive h) (announced_length h.size) false) rest) outer
+                  r.0))
+                  (omega (arith, size)),
             );
       }
     where
@@ -381,52 +384,52 @@ module _ (style : Layout) (names : NamesTable) (rules : Rules) where
           → (effect_of dump_step s es).put ≡ put → effect_of dump_step s es ≡ effect_with t put
       as_shows s t es put e f =
           ap (λ (g : Go).
-              record { state = (effect_of dump_step s es).state; put = (effect_of dump_step s es).put; goes = g })
-              (all_on s es)
-              ∙ ap₂ (λ (u : DumpState) (l : List ℕ). effect_with u l) e f
+          record { state = (effect_of dump_step s es).state; put = (effect_of dump_step s es).put; goes = g })
+          (all_on s es)
+          ∙ ap₂ (λ (u : DumpState) (l : List ℕ). effect_with u l) e f
   shows_forest p holder previous w outer (OpenPrimitive h c) v b k = record {
     text = λ n.
         part-by (lines_between style names p.depth p.offset (is_padding previous)) (check_between rules w outer n) h c
         ∙ found-first (length outer) p.depth h.offset (header_findings rules (surroundings_in w) h)
-            (header_findings rules (surroundings_of (site p holder previous)) h)
-            _ (OpenPrimitiveLines p.depth h c ∷ []) k.1 (header-same rules w (site p holder previous) h k.0)
+        (header_findings rules (surroundings_of (site p holder previous)) h)
+        _ (OpenPrimitiveLines p.depth h c ∷ []) k.1 (header-same rules w (site p holder previous) h k.0)
         (part_shown style names p.depth p.offset (is_padding previous) h c (omega (arith, v.1))
-            ∙ sym (append-nil (open_lines h (at_level style names p.depth) c)));
+        ∙ sym (append-nil (open_lines h (at_level style names p.depth) c)));
     after = λ n e. absurd (cc (e));
   }
   shows_forest p holder previous w outer (OpenHolder h inside) v b k =
       let s : Site = site p holder previous in
       let size = length-append (opening h) (spelling inside) in
       let i =
-          shows_forest (place_of_children p h) (Some h) Start (frame_under w h) (w ∷ outer) inside v.1
-              (omega (arith, b, size)) (knows-inside w s h, omega (arith, k.1), λ e. absurd (cc (e))) in
+      shows_forest (place_of_children p h) (Some h) Start (frame_under w h) (w ∷ outer) inside v.1
+      (omega (arith, b, size)) (knows-inside w s h, omega (arith, k.1), λ e. absurd (cc (e))) in
       let first : List ℕ =
-          styled_lines (Dump style.pure) (length outer) h.offset (header_findings rules (surroundings_in w) h) in
+      styled_lines (Dump style.pure) (length outer) h.offset (header_findings rules (surroundings_in w) h) in
       let line : List ℕ = holder_line (at_level style names p.depth) h in
       record {
         text = λ n.
             ap (λ (x : Effect DumpState). x.put)
             (then_shown (start p (is_padding previous) w outer n)
-                (start (place_of_children p h) false (frame_under w h) (w ∷ outer) (later_header rules w h n))
-                (first ++ line) (opening_events h) (events inside)
+            (start (place_of_children p h) false (frame_under w h) (w ∷ outer) (later_header rules w h n))
+            (first ++ line) (opening_events h) (events inside)
             (opened-shown p holder previous w outer n h k v.0.0.header.offset (v.0.0.shallow refl)
-                (omega (arith, b, size))))
+            (omega (arith, b, size))))
             ∙ ap (λ (l : List ℕ). (first ++ line) ++ l) (i.text (later_header rules w h n))
             ∙ append_assoc first line (item_texts (items rules (site_of_children s h) inside))
             ∙ found-first (length outer) p.depth h.offset (header_findings rules (surroundings_in w) h)
-                (header_findings rules (surroundings_of s) h)
-                _ (OpeningLine p.depth h ∷ items rules (site_of_children s h) inside) k.1
-                (header-same rules w s h k.0) refl;
+            (header_findings rules (surroundings_of s) h)
+            _ (OpeningLine p.depth h ∷ items rules (site_of_children s h) inside) k.1
+            (header-same rules w s h k.0) refl;
         after = λ n e. absurd (cc (e));
       }
   shows_forest p holder previous w outer (OpenBitString h) v b k = record {
     text = λ n.
         append_assoc
-            (styled_lines (Dump style.pure) (length outer) h.offset (header_findings rules (surroundings_in w) h))
-            (opening_line (at_level style names p.depth) h (opening_word false)) []
+        (styled_lines (Dump style.pure) (length outer) h.offset (header_findings rules (surroundings_in w) h))
+        (opening_line (at_level style names p.depth) h (opening_word false)) []
         ∙ found-first (length outer) p.depth h.offset (header_findings rules (surroundings_in w) h)
-            (header_findings rules (surroundings_of (site p holder previous)) h) _ (OpeningLine p.depth h ∷ []) k.1
-            (header-same rules w (site p holder previous) h k.0)
+        (header_findings rules (surroundings_of (site p holder previous)) h) _ (OpeningLine p.depth h ∷ []) k.1
+        (header-same rules w (site p holder previous) h k.0)
         (ap (λ (l : List ℕ). l ++ []) (sym (awaiting p.depth h h.constructed v.1)));
     after = λ n e. absurd (cc (e));
   }
@@ -434,7 +437,7 @@ module _ (style : Layout) (names : NamesTable) (rules : Rules) where
       awaiting : (level : ℕ) (h : HeaderValue) (k : Bool)
           → (if k then [] else lead (record h { constructed = false })) ≡ 0 ∷ []
           → opening_line (at_level style names level) h (opening_word k)
-              ≡ opening_line (at_level style names level) h (opening_word false)
+          ≡ opening_line (at_level style names level) h (opening_word false)
       awaiting level h true e = absurd (cc (e))
       awaiting level h false e = refl
   shows_forest p holder previous w outer (OpenHeader octets) v b k = record {

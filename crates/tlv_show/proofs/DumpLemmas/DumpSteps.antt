@@ -52,7 +52,7 @@ each-filled s [] = refl
 each-filled s (x ∷ octets) =
     let d = lines_padding_step s.lines x in
     ap (λ (k : Effect DumpState). record { state = k.state; put = d.put ++ k.put; goes = k.goes })
-        (each-filled (record { lines = d.state; finder = s.finder }) octets)
+    (each-filled (record { lines = d.state; finder = s.finder }) octets)
 
 pub one_on : (s : DumpState) (e : EventValue) → (dump_step s e).goes ≡ go.On
 one_on s (Open h) = refl
@@ -70,7 +70,7 @@ pub all_on : (s : DumpState) (es : List EventValue) → (effect_of dump_step s e
 all_on s [] = refl
 all_on s (e ∷ es) =
     ap (λ (g : Go). (if_on g (dump_step s e) (λ u. effect_of dump_step u es)).goes) (one_on s e)
-        ∙ all_on (dump_step s e).state es
+    ∙ all_on (dump_step s e).state es
 
 -- ---- findings are put before the lines, or after them
 
@@ -80,28 +80,28 @@ module _ {D : Type 0} (taken : D → DrainState) (s : DumpState) (f last : Finde
       → last_finding_lines style (with_findings_if has_findings last) ≡ finding_lines s f
   lines-last is says =
       ap (λ (y : Style). last_finding_lines y (with_findings_if has_findings last)) is
-          ∙ last-same (Dump s.lines.layout.pure) f last has_findings says
+      ∙ last-same (Dump s.lines.layout.pure) f last has_findings says
 
   module _ {T U E : Type 0} where
     pub found_failed : (a b : Out D) (put : List ℕ) (e : E) (r : Result U E) → style ≡ Dump s.lines.layout.pure
         → ReportsFindings f last has_findings
         → Puts {T = T} {E = E} taken a b (last_finding_lines style (with_findings_if has_findings last)) (Err e)
-            → IsErr r → Puts taken a b (finding_lines s f ++ put) r
+        → IsErr r → Puts taken a b (finding_lines s f ++ put) r
     found_failed a b put e r is says failed err =
         puts_failed taken a b _ put e r (puts_text taken a b _ _ (Err e) (lines-last is says) failed) err
 
     pub found_first : (a b c : Out D) (put : List ℕ) (x : T) (r : Result U E) → style ≡ Dump s.lines.layout.pure
         → ReportsFindings f last has_findings
         → Puts {T = T} {E = E} taken a b (last_finding_lines style (with_findings_if has_findings last)) (Ok x)
-            → Puts taken b c put r → Puts taken a c (finding_lines s f ++ put) r
+        → Puts taken b c put r → Puts taken a c (finding_lines s f ++ put) r
     found_first a b c put x r is says found lines =
         puts_then taken a b c _ put x r (puts_text taken a b _ _ (Ok x) (lines-last is says) found) lines
 
     pub found_last : (a b c : Out D) (put : List ℕ) (x : T) (r : Result U E) → style ≡ Dump s.lines.layout.pure
         → ReportsFindings f last has_findings
         → Puts {T = T} {E = E} taken a b put (Ok x)
-            → Puts taken b c (last_finding_lines style (with_findings_if has_findings last)) r
-            → Puts taken a c (put ++ finding_lines s f) r
+        → Puts taken b c (last_finding_lines style (with_findings_if has_findings last)) r
+        → Puts taken a c (put ++ finding_lines s f) r
     found_last a b c put x r is says lines found =
         puts_then taken a b c put _ x r lines (puts_text taken b c _ _ r (lines-last is says) found)
 

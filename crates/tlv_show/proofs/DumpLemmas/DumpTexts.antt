@@ -42,7 +42,7 @@ both s xs ys = followed-more lines_step s xs ys (all_on s xs)
 -- what was made, and then more
 then_more : (s t : LinesState) (put : List ℕ) (xs ys : List EventValue) → effect_of lines_step s xs ≡ effect_with t put
     → effect_of lines_step s (xs ++ ys)
-        ≡ record (effect_of lines_step t ys) { put = put ++ (effect_of lines_step t ys).put }
+    ≡ record (effect_of lines_step t ys) { put = put ++ (effect_of lines_step t ys).put }
 then_more s t put xs ys e = both s xs ys ∙ ap (λ (k : Effect LinesState). and_then k (λ u. effect_of lines_step u ys)) e
 
 -- ---- what is reported of a primitive
@@ -53,13 +53,13 @@ take-all n c h = grind (arith, common_steps)
 -- with the header, with the contents octets, and with the end
 whole_shown : (name_of : NameOf) (h : HeaderValue) (layout : Layout) (c : List ℕ) → length c ≡ announced_length h.size
     → begin_lines (new_value_text h layout)
-        ++ (contents_lines (new_value_text h layout) c
-            ++ (end_lines name_of (value_text_after (new_value_text h layout) c) ++ []))
-        ≡ whole_lines name_of h layout c
+    ++ (contents_lines (new_value_text h layout) c
+    ++ (end_lines name_of (value_text_after (new_value_text h layout) c) ++ []))
+    ≡ whole_lines name_of h layout c
 whole_shown name_of h layout c e =
     let t : ValueTextState = new_value_text h layout in
     ap (λ (l : List ℕ). begin_lines t ++ (contents_lines t c ++ l))
-        (append-nil (end_lines name_of (value_text_after t c)))
+    (append-nil (end_lines name_of (value_text_after t c)))
     ∙ sym (append_assoc (begin_lines t) (contents_lines t c) (end_lines name_of (value_text_after t c)))
     ∙ ap (λ (l : List ℕ). l ++ end_lines name_of (value_text_after t c)) (sym (open-lines h layout c))
     ∙ sym (lines-end name_of h layout c e)
@@ -68,31 +68,31 @@ whole_shown name_of h layout c e =
 pub primitives_shown : (s : LinesState) (h : HeaderValue) (c : List ℕ) → announced_length h.size ≡ length c
     → effect_of lines_step s (Begin h ∷ Bytes c ∷ End ∷ [])
     ≡ effect_with
-        (record (lines_after_header s h)
-            { offset = saturating_sum (lines_after_header s h).offset (length c); open_text = None })
-        (whole_lines (finite.get s.names) h s.layout c)
+    (record (lines_after_header s h)
+    { offset = saturating_sum (lines_after_header s h).offset (length c); open_text = None })
+    (whole_lines (finite.get s.names) h s.layout c)
 primitives_shown s h c size =
     let t : ValueTextState = new_value_text h s.layout in
     let u : LinesState = record (lines_after_header s h) { open_text = Some t } in
     let place_after : LinesState =
-        record (lines_after_header s h)
-            { offset = saturating_sum (lines_after_header s h).offset (length c); open_text = None } in
+    record (lines_after_header s h)
+    { offset = saturating_sum (lines_after_header s h).offset (length c); open_text = None } in
     let took = take-all (announced_length h.size) c (omega (arith, size)) in
     let none : announced_length h.size - length c ≡ 0 = omega (arith, size) in
     ap (λ (k : Effect LinesState). after_put (begin_lines t) (if_on k.goes k (λ w. effect_of lines_step w (End ∷ []))))
-        (dumped_bytes u c (λ e. rested-new h s.layout))
+    (dumped_bytes u c (λ e. rested-new h s.layout))
     ∙ ap (λ (l : List ℕ). effect_with place_after
-        (begin_lines t
-            ++ (contents_lines t l
-                ++ ((if eqb (announced_length h.size - length l) 0
-                    then end_lines (finite.get s.names) (value_text_after t l) else [])
-                    ++ []))))
-        took
+    (begin_lines t
+    ++ (contents_lines t l
+    ++ ((if eqb (announced_length h.size - length l) 0
+    then end_lines (finite.get s.names) (value_text_after t l) else [])
+    ++ []))))
+    took
     ∙ ap (λ (n : ℕ). effect_with place_after
-        (begin_lines t
-            ++ (contents_lines t c
-                ++ ((if eqb n 0 then end_lines (finite.get s.names) (value_text_after t c) else []) ++ []))))
-        none
+    (begin_lines t
+    ++ (contents_lines t c
+    ++ ((if eqb n 0 then end_lines (finite.get s.names) (value_text_after t c) else []) ++ []))))
+    none
     ∙ ap (effect_with place_after) (whole_shown (finite.get s.names) h s.layout c (sym size))
 
 -- of elements in this style, with these names
@@ -115,35 +115,35 @@ module _ (style : Layout) (names : NamesTable) where
       → effect_with (lines_between l o k) put ≡ effect_with (lines_between m n j) put'
   settled l m o n k j put put' e f g i =
       ap₂ (λ (l : ℕ) (put : List ℕ). effect_with (lines_between l o k) put) e i
-          ∙ ap₂ (λ (o : ℕ) (k : Bool). effect_with (lines_between m o k) put') f g
+      ∙ ap₂ (λ (o : ℕ) (k : Bool). effect_with (lines_between m o k) put') f g
 
   -- ---- a primitive
 
   abbrev begun_in : ℕ → ℕ → Bool → HeaderValue → LinesState
   begun_in level offset padded h =
       record (lines_after_header (lines_between level offset padded) h)
-          { open_text = Some (new_value_text h (at_level level)) }
+      { open_text = Some (new_value_text h (at_level level)) }
 
   pub primitive_shown : (level offset : ℕ) (padded : Bool) (h : HeaderValue) (c : List ℕ) → h.offset ≡ offset
       → announced_length h.size ≡ length c → offset + (length (octets_of h) + length c) ≤ 2 ^ 64 - 1
       → effect_of lines_step (lines_between level offset padded) (Begin h ∷ Bytes c ∷ End ∷ [])
-          ≡ effect_with (lines_between level (offset + (length (octets_of h) + length c)) false)
-              (whole_lines (finite.get names) h (at_level level) c)
+      ≡ effect_with (lines_between level (offset + (length (octets_of h) + length c)) false)
+      (whole_lines (finite.get names) h (at_level level) c)
   primitive_shown level offset padded h c there size far_enough =
       primitives_shown (lines_between level offset padded) h c size
       ∙ settled level level (saturating_sum (saturating_sum h.offset (length (octets_of h))) (length c))
-          (offset + (length (octets_of h) + length c)) false false
-          _ (whole_lines (finite.get names) h (at_level level) c)
+      (offset + (length (octets_of h) + length c)) false false
+      _ (whole_lines (finite.get names) h (at_level level) c)
       refl (omega (arith, there, far_enough)) refl refl
 
   pub part_shown : (level offset : ℕ) (padded : Bool) (h : HeaderValue) (c : List ℕ)
       → length c ≤ announced_length h.size
       → (effect_of lines_step (lines_between level offset padded) (Begin h ∷ Bytes c ∷ [])).put
-          ≡ open_lines h (at_level level) c
+      ≡ open_lines h (at_level level) c
   part_shown level offset padded h c size =
       let t : ValueTextState = new_value_text h (at_level level) in
       ap (λ (k : Effect LinesState). (after_put (begin_lines t) (if_on k.goes k (λ w. effect_of lines_step w []))).put)
-          (dumped_bytes (begun_in level offset padded h) c (λ e. rested-new h (at_level level)))
+      (dumped_bytes (begun_in level offset padded h) c (λ e. rested-new h (at_level level)))
       ∙ ap (λ (l : List ℕ). begin_lines t ++ (contents_lines t l ++ [])) (take-all (announced_length h.size) c size)
       ∙ ap (λ (l : List ℕ). begin_lines t ++ l) (append-nil (contents_lines t c))
       ∙ sym (open-lines h (at_level level) c)
@@ -157,34 +157,34 @@ module _ (style : Layout) (names : NamesTable) where
   holder_by : (level offset : ℕ) (padded k three : Bool) (h : HeaderValue) → h.offset ≡ offset → level + 1 ≤ 255
       → offset + (length (octets_of h) + length (lead_by k three)) ≤ 2 ^ 64 - 1
       → effect_of lines_step (lines_between level offset padded)
-          ((if k then Open h else Enter h) ∷ map (λ z. Unused) (lead_by k three))
+      ((if k then Open h else Enter h) ∷ map (λ z. Unused) (lead_by k three))
       ≡ effect_with (lines_between (level + 1) (offset + (length (octets_of h) + length (lead_by k three))) false)
-          (opening_line (at_level level) h (opening_word k))
+      (opening_line (at_level level) h (opening_word k))
   holder_by level offset padded true three h there low far_enough =
       settled (min (level + 1) 255) (level + 1) (saturating_sum h.offset (length (octets_of h)))
-          (offset + (length (octets_of h) + 0)) false false _ (opening_line (at_level level) h (opening_word true))
+      (offset + (length (octets_of h) + 0)) false false _ (opening_line (at_level level) h (opening_word true))
       (omega (arith, low)) (omega (arith, there, far_enough)) refl
-          (append-nil (opening_line (at_level level) h (opening_word true)))
+      (append-nil (opening_line (at_level level) h (opening_word true)))
   holder_by level offset padded false true h there low far_enough =
       settled (min (level + 1) 255) (level + 1) (saturating_sum (saturating_sum h.offset (length (octets_of h))) 1)
-          (offset + (length (octets_of h) + 1)) false false _ (opening_line (at_level level) h (opening_word false))
+      (offset + (length (octets_of h) + 1)) false false _ (opening_line (at_level level) h (opening_word false))
       (omega (arith, low)) (omega (arith, there, far_enough)) refl
-          (append-nil (opening_line (at_level level) h (opening_word false)))
+      (append-nil (opening_line (at_level level) h (opening_word false)))
   holder_by level offset padded false false h there low far_enough =
       settled (min (level + 1) 255) (level + 1) (saturating_sum h.offset (length (octets_of h)))
-          (offset + (length (octets_of h) + 0)) false false _ (opening_line (at_level level) h (opening_word false))
+      (offset + (length (octets_of h) + 0)) false false _ (opening_line (at_level level) h (opening_word false))
       (omega (arith, low)) (omega (arith, there, far_enough)) refl
-          (append-nil (opening_line (at_level level) h (opening_word false)))
+      (append-nil (opening_line (at_level level) h (opening_word false)))
 
   pub holder_shown : (level offset : ℕ) (padded : Bool) (h : HeaderValue) → h.offset ≡ offset → level + 1 ≤ 255
       → offset + length (opening h) ≤ 2 ^ 64 - 1
       → effect_of lines_step (lines_between level offset padded) (opening_events h)
-          ≡ effect_with (lines_between (level + 1) (offset + length (opening h)) false) (holder_line (at_level level) h)
+      ≡ effect_with (lines_between (level + 1) (offset + length (opening h)) false) (holder_line (at_level level) h)
   holder_shown level offset padded h there low far_enough =
       holder_by level offset padded h.constructed (eqb h.number 3) h there low
-          (omega (arith, far_enough, length-opening h))
+      (omega (arith, far_enough, length-opening h))
       ∙ settled (level + 1) (level + 1) (offset + (length (octets_of h) + length (lead h)))
-          (offset + length (opening h)) false false (holder_line (at_level level) h) (holder_line (at_level level) h)
+      (offset + length (opening h)) false false (holder_line (at_level level) h) (holder_line (at_level level) h)
       refl (omega (arith, length-opening h)) refl refl
 
   -- ---- and ends
@@ -192,36 +192,36 @@ module _ (style : Layout) (names : NamesTable) where
   closer_by : (level o : ℕ) (k : Bool) (size : Size) → AllowsSize k size → o + length (end_octets size) ≤ 2 ^ 64 - 1
       → effect_of lines_step (lines_between (level + 1) o false) ((if k then Close (end_offset size o) else Leave) ∷ [])
       ≡ effect_with (lines_between level (o + length (end_octets size)) false)
-          (closing_line (at_level level) (if k then end_offset size o else None))
+      (closing_line (at_level level) (if k then end_offset size o else None))
   closer_by level o true (Definite n) allowed far_enough =
       settled (level + 1 - 1) level o (o + 0) false false _ (closing_line (at_level level) None) (omega arith)
-          (omega arith) refl
-          (append-nil (closing_line (at_level (level + 1 - 1)) None)
-              ∙ ap (λ (l : ℕ). closing_line (at_level l) None) (omega arith))
+      (omega arith) refl
+      (append-nil (closing_line (at_level (level + 1 - 1)) None)
+      ∙ ap (λ (l : ℕ). closing_line (at_level l) None) (omega arith))
   closer_by level o true Indefinite allowed far_enough =
       settled (level + 1 - 1) level (saturating_sum o 2) (o + 2) false false
-          _ (closing_line (at_level level) (Some o)) (omega arith) (omega (arith, far_enough)) refl
+      _ (closing_line (at_level level) (Some o)) (omega arith) (omega (arith, far_enough)) refl
       (append-nil (closing_line (at_level (level + 1 - 1)) (Some o))
-          ∙ ap (λ (l : ℕ). closing_line (at_level l) (Some o)) (omega arith))
+      ∙ ap (λ (l : ℕ). closing_line (at_level l) (Some o)) (omega arith))
   closer_by level o false (Definite n) allowed far_enough =
       settled (level + 1 - 1) level o (o + 0) false false _ (closing_line (at_level level) None) (omega arith)
-          (omega arith) refl
-          (append-nil (closing_line (at_level (level + 1 - 1)) None)
-              ∙ ap (λ (l : ℕ). closing_line (at_level l) None) (omega arith))
+      (omega arith) refl
+      (append-nil (closing_line (at_level (level + 1 - 1)) None)
+      ∙ ap (λ (l : ℕ). closing_line (at_level l) None) (omega arith))
   closer_by level o false Indefinite allowed far_enough = absurd (cc (allowed))
 
   pub closer_shown : (level o : ℕ) (h : HeaderValue) (inside : Forest)
       → h.offset + length (opening h) + length (spelling inside) ≡ o → AllowsSize h.constructed h.size
       → o + length (end_octets h.size) ≤ 2 ^ 64 - 1
       → effect_of lines_step (lines_between (level + 1) o false) (closing_event h inside ∷ [])
-          ≡ effect_with (lines_between level (o + length (end_octets h.size)) false)
-              (closing_line (at_level level) (if h.constructed then end_place h inside else None))
+      ≡ effect_with (lines_between level (o + length (end_octets h.size)) false)
+      (closing_line (at_level level) (if h.constructed then end_place h inside else None))
   closer_shown level o h inside there allowed far_enough =
       subst
-          (λ (n : ℕ). effect_of lines_step (lines_between (level + 1) o false)
-              ((if h.constructed then Close (end_offset h.size n) else Leave) ∷ [])
+      (λ (n : ℕ). effect_of lines_step (lines_between (level + 1) o false)
+      ((if h.constructed then Close (end_offset h.size n) else Leave) ∷ [])
       ≡ effect_with (lines_between level (o + length (end_octets h.size)) false)
-          (closing_line (at_level level) (if h.constructed then end_offset h.size n else None)))
+      (closing_line (at_level level) (if h.constructed then end_offset h.size n else None)))
       (sym there) (closer_by level o h.constructed h.size allowed far_enough)
 
   -- ---- elements
@@ -252,9 +252,9 @@ module _ (style : Layout) (names : NamesTable) where
 
   pub fill_shown : (level offset : ℕ) (padded : Bool) → offset + 1 ≤ 2 ^ 64 - 1
       → effect_of lines_step (lines_between level offset padded) (Pad (0 ∷ []) ∷ [])
-          ≡ effect_with (lines_between level (offset + 1) true)
-              (if padded then [] else padding_line (at_level level) offset)
+      ≡ effect_with (lines_between level (offset + 1) true)
+      (if padded then [] else padding_line (at_level level) offset)
   fill_shown level offset padded far_enough =
       let line = if padded then [] else padding_line (at_level level) offset in
       settled level level (saturating_sum offset 1) (offset + 1) true true ((line ++ []) ++ []) line refl
-          (far offset 1 far_enough) refl (append-nil (line ++ []) ∙ append-nil line)
+      (far offset 1 far_enough) refl (append-nil (line ++ []) ∙ append-nil line)

@@ -36,7 +36,7 @@ take-both (suc n) (z ∷ x) y =
 
 value-join : (v : Option ValueTextState) (x y : List ℕ)
     → (value_after (value_after v x) y ≡ value_after v (x ++ y))
-        × (value_contents_lines v (x ++ y) ≡ value_contents_lines v x ++ value_contents_lines (value_after v x) y)
+    × (value_contents_lines v (x ++ y) ≡ value_contents_lines v x ++ value_contents_lines (value_after v x) y)
 value-join None x y = (refl, refl)
 value-join (Some t) x y =
     let e = take-both t.left x y in
@@ -58,9 +58,10 @@ rested-after v x =
 -- it is so of a primitive that begins
 pub rested-new : (h : HeaderValue) (layout : Layout) → IsRested (Some (new_value_text h layout))
 rested-new h layout =
-    let t : ValueTextState = new_value_text h layout in
-    (ap (λ (u : ValueTextState). Some u) (ap (value_text_after t) (take-of-none t.left) ∙ after-nothing h layout),
-        ap (contents_lines t) (take-of-none t.left) ∙ new-nothing h layout)
+    let t : ValueTextState = new_value_text h layout in (
+      ap (λ (u : ValueTextState). Some u) (ap (value_text_after t) (take-of-none t.left) ∙ after-nothing h layout),
+      ap (contents_lines t) (take-of-none t.left) ∙ new-nothing h layout,
+    )
   where
     take-of-none : (n : ℕ) → take {A = ℕ} n [] ≡ []
     take-of-none n = grind (arith, common_steps)
@@ -75,22 +76,22 @@ of_bytes s offset text put = effect_with (record s { offset = offset; open_text 
 
 pub dumped_bytes : (s : LinesState) (xs : List ℕ) → (xs ≡ [] → IsRested s.open_text)
     → each_octet lines_octet_step s xs
-        ≡ of_bytes s (saturating_sum s.offset (length xs)) (value_after s.open_text xs)
-            (value_contents_lines s.open_text xs)
+    ≡ of_bytes s (saturating_sum s.offset (length xs)) (value_after s.open_text xs)
+    (value_contents_lines s.open_text xs)
 dumped_bytes s [] rested =
     let r = rested refl in
     ap (λ (n : ℕ). of_bytes s n s.open_text []) (sym (further-none s.offset))
     ∙ ap₂ (λ (v : Option ValueTextState) (put : List ℕ). of_bytes s (saturating_sum s.offset 0) v put) (sym r.0)
-        (sym r.1)
+    (sym r.1)
 dumped_bytes s (x ∷ xs) rested =
     let j = value-join s.open_text (x ∷ []) xs in
     ap (after_put (value_contents_lines s.open_text (x ∷ [])))
-        (dumped_bytes (lines_octet_step s x).state xs (λ e. rested-after s.open_text x))
+    (dumped_bytes (lines_octet_step s x).state xs (λ e. rested-after s.open_text x))
     ∙ ap (λ (n : ℕ). of_bytes s n (value_after (value_after s.open_text (x ∷ [])) xs)
-        (value_contents_lines s.open_text (x ∷ []) ++ value_contents_lines (value_after s.open_text (x ∷ [])) xs))
+    (value_contents_lines s.open_text (x ∷ []) ++ value_contents_lines (value_after s.open_text (x ∷ [])) xs))
     (further-more s.offset 1 (length xs) ∙ ap (saturating_sum s.offset) (omega arith))
     ∙ ap₂ (λ (v : Option ValueTextState) (put : List ℕ). of_bytes s (saturating_sum s.offset (length (x ∷ xs))) v put)
-        j.0 (sym j.1)
+    j.0 (sym j.1)
 
 -- ---- padding
 
@@ -101,38 +102,38 @@ padded_at s offset in_padding = record s { offset = offset; in_padding = in_padd
 -- it had its line
 pub more_pad : (s : LinesState) (offset : ℕ) (xs : List ℕ)
     → each_octet lines_padding_step (padded_at s offset true) xs
-        ≡ effect_with (padded_at s (saturating_sum offset (length xs)) true) []
+    ≡ effect_with (padded_at s (saturating_sum offset (length xs)) true) []
 more_pad s offset [] = ap (λ (o : ℕ). effect_with (padded_at s o true) []) (sym (further-none offset))
 more_pad s offset (x ∷ xs) =
     more_pad s (saturating_sum offset 1) xs
-        ∙ ap (λ (o : ℕ). effect_with (padded_at s o true) [])
-            (further-more offset 1 (length xs) ∙ ap (saturating_sum offset) (omega arith))
+    ∙ ap (λ (o : ℕ). effect_with (padded_at s o true) [])
+    (further-more offset 1 (length xs) ∙ ap (saturating_sum offset) (omega arith))
 
 more_by : (s : LinesState) (offset : ℕ) (in_padding : Bool) (xs : List ℕ) → in_padding ≡ true
     → each_octet lines_padding_step (padded_at s offset in_padding) xs
-        ≡ effect_with (padded_at s (saturating_sum offset (length xs)) in_padding) []
+    ≡ effect_with (padded_at s (saturating_sum offset (length xs)) in_padding) []
 more_by s offset true xs e = more_pad s offset xs
 more_by s offset false xs e = absurd (cc)
 
 pub padded_more : (s : LinesState) (xs : List ℕ) → s.in_padding ≡ true
     → each_octet lines_padding_step s xs
-        ≡ effect_with (padded_at s (saturating_sum s.offset (length xs)) s.in_padding) []
+    ≡ effect_with (padded_at s (saturating_sum s.offset (length xs)) s.in_padding) []
 padded_more s xs e = more_by s s.offset s.in_padding xs e
 
 -- it has its line with the first octet
 first_by : (s : LinesState) (offset : ℕ) (in_padding : Bool) (xs : List ℕ) → 0 < length xs → in_padding ≡ false
     → each_octet lines_padding_step (padded_at s offset in_padding) xs
-        ≡ effect_with (padded_at s (saturating_sum offset (length xs)) true) (padding_line s.layout offset)
+    ≡ effect_with (padded_at s (saturating_sum offset (length xs)) true) (padding_line s.layout offset)
 first_by s offset true xs some e = absurd (cc)
 first_by s offset false [] some e = absurd (omega (arith, some))
 first_by s offset false (x ∷ xs) some e =
     ap (after_put (padding_line s.layout offset)) (more_pad s (saturating_sum offset 1) xs)
     ∙ ap (λ (o : ℕ). effect_with (padded_at s o true) (padding_line s.layout offset ++ []))
-        (further-more offset 1 (length xs) ∙ ap (saturating_sum offset) (omega arith))
+    (further-more offset 1 (length xs) ∙ ap (saturating_sum offset) (omega arith))
     ∙ ap (effect_with (padded_at s (saturating_sum offset (length (x ∷ xs))) true))
-        (append-nil (padding_line s.layout offset))
+    (append-nil (padding_line s.layout offset))
 
 pub padded_first : (s : LinesState) (xs : List ℕ) → 0 < length xs → s.in_padding ≡ false
     → each_octet lines_padding_step s xs
-        ≡ effect_with (padded_at s (saturating_sum s.offset (length xs)) true) (padding_line s.layout s.offset)
+    ≡ effect_with (padded_at s (saturating_sum s.offset (length xs)) true) (padding_line s.layout s.offset)
 padded_first s xs some e = first_by s s.offset s.in_padding xs some e

@@ -21,34 +21,34 @@ module _ {S : Type 0} (next : S → EventValue → Effect S) (first : S) (framin
     (alike : (s : S) (xs ys : List EventValue) → AreEqualJoined xs ys → effect_of next s xs ≡ effect_of next s ys) where
   put_both : (s : S) (xs ys : List EventValue)
       → (effect_of next s (xs ++ ys)).put
-          ≡ (effect_of next s xs).put ++ (effect_of next (effect_of next s xs).state ys).put
+      ≡ (effect_of next s xs).put ++ (effect_of next (effect_of next s xs).state ys).put
   put_both s xs ys = ap (λ (t : Effect S). t.put) (followed-more next s xs ys (w.goes_on s xs))
 
   goes_on : (b c : List ℕ) (f g : Forest) → length (b ++ c) ≤ 2 ^ 40 → IsReading framing b f
       → IsReading framing (b ++ c) g → IsPrefixOf (text f) (text g)
   goes_on b c f g few r s =
       let more : (others : List EventValue) × AreEqualJoined (events g) (events f ++ others) =
-          events-prefix framing b c f g r s in
+      events-prefix framing b c f g r s in
       let rest : List ℕ = (effect_of next (effect_of next first (events f)).state more.0).put in
       let shorter : (effect_of next first (events f)).put ≡ text f =
-          w.put b f (omega (arith, few, length-append b c)) r in (
+      w.put b f (omega (arith, few, length-append b c)) r in (
         rest,
         ap (λ (l : List ℕ). l ++ rest) (sym shorter) ∙ sym (put_both first (events f) more.0)
             ∙ ap (λ (t : Effect S). t.put) (sym (alike first (events g) (events f ++ more.0) more.1))
-                ∙ w.put (b ++ c) g few s,
+            ∙ w.put (b ++ c) g few s,
       )
 
 pub dumps_on : DumpsGoOn
 dumps_on options names b c f g few r s =
     goes_on dump_step (new_dump options.rules (top_layout options) names) options.framing
-        (dump_job options names).text _ (λ (t : DumpState). t.finder.count) (dumps options names)
+    (dump_job options names).text _ (λ (t : DumpState). t.finder.count) (dumps options names)
     (followed-alike dump_step (each_octet-joins dump_octet_step) (λ s. refl) (each_octet-goes_on dump_octet_step)
-        (each_octet-joins dump_padding_step) (λ s. refl) (each_octet-goes_on dump_padding_step))
-        b c f g few r s
+    (each_octet-joins dump_padding_step) (λ s. refl) (each_octet-goes_on dump_padding_step))
+    b c f g few r s
 
 pub checks_on : ChecksGoOn
 checks_on rules framing b c f g few r s =
     goes_on check_step (new_check rules) framing _ _ (λ (t : FinderState). t.count) (checks rules framing)
     (followed-alike check_step (each_octet-joins check_octet_step) (λ s. refl) (each_octet-goes_on check_octet_step)
-        (λ s x y. refl) (λ s. refl) (λ s x. refl))
-        b c f g few r s
+    (λ s x y. refl) (λ s. refl) (λ s x. refl))
+    b c f g few r s

@@ -61,7 +61,7 @@ pub passed : (s : FinderState) (h : HeaderValue) (c : List ℕ) → announced_le
     }
 passed s h c size w header contents =
     let made : SiblingFrame → ℕ → List Finding
-        → FinderReport = λ (f : SiblingFrame) (n : ℕ) (fs : List Finding). record {
+    → FinderReport = λ (f : SiblingFrame) (n : ℕ) (fs : List Finding). record {
       state = check_between s.rules f s.holders.outer (saturating_sum n (length fs));
       level = length s.holders.outer;
       offset = h.offset;
@@ -69,19 +69,23 @@ passed s h c size w header contents =
     } in
     primitive-find s.rules s.holders.frame s.holders.outer s.count h c (sym size)
     ∙ ap (λ (fs : List Finding). made (after_primitive s.rules s.holders.frame h c)
-        (saturating_sum s.count (length (header_findings s.rules (surroundings_in s.holders.frame) h)))
-        (filter (is_shown s.rules) fs))
-        contents
+    (saturating_sum s.count (length (header_findings s.rules (surroundings_in s.holders.frame) h)))
+    (filter (is_shown s.rules) fs))
+    contents
     ∙ ap (λ (fs : List Finding). made (after_primitive s.rules s.holders.frame h c)
-        (saturating_sum s.count (length fs)) [])
-        header
+    (saturating_sum s.count (length fs)) [])
+    header
     ∙ ap (λ (f : SiblingFrame). made f (saturating_sum s.count 0) []) (outside s.holders.frame _ _ w)
     ∙ ap (λ (n : ℕ).
-        record { state =
-            check_between s.rules s.holders.frame s.holders.outer n; level =
-                length s.holders.outer; offset = h.offset; found = []
-        })
-        (none-counted (saturating_sum s.count 0) ∙ none-counted s.count)
+    record {
+      state =
+          check_between s.rules s.holders.frame s.holders.outer n;
+      level =
+          length s.holders.outer;
+      offset = h.offset;
+      found = [];
+    })
+    (none-counted (saturating_sum s.count 0) ∙ none-counted s.count)
 
 pub passes : (old new : FinderReport) (h : HeaderValue) (c : List ℕ) → announced_length h.size ≡ length c
     → old.state.holders.frame.has_segments ≡ false
@@ -108,7 +112,7 @@ whole-checked s h o begins ends =
     let c : List ℕ = contents_in h o in
     let t : FinderState = (finder_begin_step s h).state in
     ap (λ (k : Effect FinderState). if_on k.goes k (λ u. effect_of check_step u (Bytes c ∷ End ∷ [])))
-        (lists-none (finder_begin_step s h) begins)
+    (lists-none (finder_begin_step s h) begins)
     ∙ ap (λ (k : Effect FinderState). if_on k.goes k (λ u. effect_of check_step u (End ∷ []))) (each-found t c)
     ∙ followed-one check_step (finder_bytes_step t c) End
     ∙ lists-none (finder_whole_step s h c) ends
@@ -117,14 +121,14 @@ module _ {D : Type 0} (state_of : D → DrainState) (a : Out D) (s : FinderState
     (h : HeaderValue) (o : List ℕ) where
   pub whole-put : (x : Bool) (c : List ℕ) → s ≡ old.state → c ≡ contents_in h o → PassesOrStays old new h c x
       → Puts {T = Bool} {E = WriteFault} state_of a a
-          (put_if_followed {E = WriteFault} (Ok x) (effect_of check_step s (whole_events h o)).put) (Ok x)
+      (put_if_followed {E = WriteFault} (Ok x) (effect_of check_step s (whole_events h o)).put) (Ok x)
   whole-put false c e same p = puts_nothing state_of a false
   whole-put true c e same q =
       let p = subst (λ (l : List ℕ). PassesPrimitive old new h l) same q in
       rw e
-          (puts_text state_of a a [] _ (Ok true)
-              (sym (ap (λ (k : Effect FinderState). k.put) (whole-checked old.state h o p.begins p.ends)))
-              (puts_nothing state_of a true))
+      (puts_text state_of a a [] _ (Ok true)
+      (sym (ap (λ (k : Effect FinderState). k.put) (whole-checked old.state h o p.begins p.ends)))
+      (puts_nothing state_of a true))
 
 pub whole-state : (s t : FinderState) (old new : FinderReport) (h : HeaderValue) (o c : List ℕ) (x : Bool)
     → s ≡ old.state → t ≡ new.state → c ≡ contents_in h o → PassesOrStays old new h c x
@@ -133,6 +137,7 @@ whole-state s t old new h o c false e f same p = f ∙ ap (λ (u : FinderReport)
 whole-state s t old new h o c true e f same q =
     let p = subst (λ (l : List ℕ). PassesPrimitive old new h l) same q in
     let all = whole-checked old.state h o p.begins p.ends in
-    rw (e, f)
-        (ap (λ (u : FinderReport). u.state) p.state ∙ sym (ap (λ (k : Effect FinderState). k.state) all),
-            ap (λ (k : Effect FinderState). k.goes) all)
+    rw (e, f) (
+      ap (λ (u : FinderReport). u.state) p.state ∙ sym (ap (λ (k : Effect FinderState). k.state) all),
+      ap (λ (k : Effect FinderState). k.goes) all,
+    )

@@ -69,7 +69,7 @@ module _ {S : Type 0} (next : S → EventValue → Effect S) (first : S) (framin
   pub shows_ok : (run : Run) (outcome : Outcome) → outcome.ending ≡ run.ending → outcome.findings ≡ count_in t
       → outcome.unused ≡ run.unused
       → Drives next framing (2 ^ 40) (drive_states first old from) (drive_states t new to) (Ok run)
-          → Runs (showing framing text count) (device_states old from) (device_states new to) (Ok outcome)
+      → Runs (showing framing text count) (device_states old from) (device_states new to) (Ok outcome)
   shows_ok run outcome ending findings unused x =
       jobs.runs_ok next (showing framing text count) first w.put goes_on t old new from to run outcome x
       (λ octets f e few r state is. outcome_is outcome e (count f) (first_without_wrapper framing.inside f)

@@ -39,12 +39,12 @@ whole_is s h c size begins ends =
     let style = Dump s.lines.layout.pure in
     primitive-by s.lines s.finder h c
     ∙ ap (λ (d : Effect LinesState). effect_with (dump_state d.state f.state)
-        (texts s.lines.layout b ++ (d.put ++ texts s.lines.layout f)))
-        (primitives_shown s.lines h c size)
+    (texts s.lines.layout b ++ (d.put ++ texts s.lines.layout f)))
+    (primitives_shown s.lines h c size)
     ∙ ap₂
-        (λ (k l : List Finding). effect_with (after_whole s h c)
-            (styled_lines style b.level b.offset k ++ (lines_of s h c ++ styled_lines style f.level f.offset l)))
-        begins ends
+    (λ (k l : List Finding). effect_with (after_whole s h c)
+    (styled_lines style b.level b.offset k ++ (lines_of s h c ++ styled_lines style f.level f.offset l)))
+    begins ends
     ∙ ap (effect_with (after_whole s h c)) (append-nil (lines_of s h c))
 
 -- the events of its octets
@@ -54,7 +54,7 @@ pub octets_are : (s : DumpState) (h : HeaderValue) (o c : List ℕ) → c ≡ co
     → effect_of dump_step s (whole_events h o) ≡ effect_with (after_whole s h c) (lines_of s h c)
 octets_are s h o c same size begins ends =
     ap (λ (l : List ℕ). effect_of dump_step s (Begin h ∷ Bytes l ∷ End ∷ [])) (sym same)
-        ∙ whole_is s h c size begins ends
+    ∙ whole_is s h c size begins ends
 
 -- if a finder took the primitive
 took : (old new : FinderReport) (h : HeaderValue) (c : List ℕ) (x : Bool) → x ≡ true → PassesOrStays old new h c x
@@ -75,8 +75,8 @@ module _ (s u : DumpState) (old new : FinderReport) (h : HeaderValue) (o c : Lis
   stands_after l e =
       let p = took old new h c x on passes in
       ap₂ dump_state e
-          (ap (λ (f : FinderReport). f.state) p.state
-              ∙ ap (λ (f : FinderState). (finder_whole_step f h c).state) (sym finder))
+      (ap (λ (f : FinderReport). f.state) p.state
+      ∙ ap (λ (f : FinderState). (finder_whole_step f h c).state) (sym finder))
 
 -- ---- by a call that may leave them to others
 
@@ -92,7 +92,7 @@ module _ {D : Type 0} (state_of : D → DrainState) (a b : Out D) (m : Effect Du
   shown-failed e (Ok x) p h = absurd (true≢false (sym h))
   shown-failed e (Err f) p h =
       puts_text state_of a b put m.put (Err f) (sym (ap (λ (k : Effect DumpState). k.put) is))
-          (puts_failed_last state_of a b put e (Err f) p h)
+      (puts_failed_last state_of a b put e (Err f) p h)
 
 pub shown-state : (m : Effect DumpState) (old new s : DumpState) (put : List ℕ) → m ≡ effect_with s put → new ≡ s
     → HasEffectOrNone {E = WriteFault} m old new (Ok true)

@@ -39,7 +39,7 @@ module _ (rules : Rules) where
   -- findings, and then other items
   basic-found : (level offset : ℕ) (fs : List Finding) (rest : List Item)
       → basic (findings_at level offset (filter (is_shown rules) fs) ++ rest)
-          ≡ findings_at level offset (filter (is_shown Ber) fs) ++ basic rest
+      ≡ findings_at level offset (filter (is_shown Ber) fs) ++ basic rest
   basic-found level offset [] rest = refl
   basic-found level offset (x ∷ fs) rest =
       by-tests (is_shown Ber x) (is_shown rules x) refl refl (still-shown rules x) (basic-found level offset fs rest)
@@ -47,9 +47,9 @@ module _ (rules : Rules) where
       by-tests : (b r : Bool) → is_shown Ber x ≡ b → is_shown rules x ≡ r
           → (is_shown Ber x ≡ true → is_shown rules x ≡ true)
           → basic (findings_at level offset (filter (is_shown rules) fs) ++ rest)
-              ≡ findings_at level offset (filter (is_shown Ber) fs) ++ basic rest
+          ≡ findings_at level offset (filter (is_shown Ber) fs) ++ basic rest
           → basic (findings_at level offset (filter (is_shown rules) (x ∷ fs)) ++ rest)
-              ≡ findings_at level offset (filter (is_shown Ber) (x ∷ fs)) ++ basic rest
+          ≡ findings_at level offset (filter (is_shown Ber) (x ∷ fs)) ++ basic rest
       by-tests true true e f g h = rw (f, e) (ap (λ (l : List Item). FindingAt level offset x ∷ l) h)
       by-tests true false e f g h = absurd (cc (e, f, g e))
       by-tests false true e f g h = rw (f, e) h
@@ -57,15 +57,15 @@ module _ (rules : Rules) where
 
   same-found : (level offset : ℕ) (fs : List Finding) (xs ys : List Item) → only xs ≡ basic ys
       → only (findings_at level offset (filter (is_shown Ber) fs) ++ xs)
-          ≡ basic (findings_at level offset (filter (is_shown rules) fs) ++ ys)
+      ≡ basic (findings_at level offset (filter (is_shown rules) fs) ++ ys)
   same-found level offset fs xs ys e =
       only-findings_at level offset (filter (is_shown Ber) fs) xs
-          ∙ ap (λ (l : List Item). findings_at level offset (filter (is_shown Ber) fs) ++ l) e
-          ∙ sym (basic-found level offset fs ys)
+      ∙ ap (λ (l : List Item). findings_at level offset (filter (is_shown Ber) fs) ++ l) e
+      ∙ sym (basic-found level offset fs ys)
 
   same-pads : (k : Bool) (level offset : ℕ) (xs ys : List Item) → only xs ≡ basic ys
       → only ((if k then [] else PaddingLine level offset ∷ []) ++ xs)
-          ≡ basic ((if k then [] else PaddingLine level offset ∷ []) ++ ys)
+      ≡ basic ((if k then [] else PaddingLine level offset ∷ []) ++ ys)
   same-pads true level offset xs ys e = e
   same-pads false level offset xs ys e = e
 
@@ -74,35 +74,35 @@ module _ (rules : Rules) where
   same s (PaddingOctet rest) = same-pads (is_padding s.previous) s.level s.offset _ _ (same (site_after_padding s) rest)
   same s (Primitive h c rest) =
       same-found s.level h.offset (findings_by (header_conditions (surroundings_of s) h))
-          (PrimitiveLines s.level h c
-              ∷ (findings_at s.level h.offset (contents_findings Ber h c) ++ items Ber (site_after s h c) rest))
       (PrimitiveLines s.level h c
-          ∷ (findings_at s.level h.offset (contents_findings rules h c) ++ items rules (site_after s h c) rest))
+      ∷ (findings_at s.level h.offset (contents_findings Ber h c) ++ items Ber (site_after s h c) rest))
+      (PrimitiveLines s.level h c
+      ∷ (findings_at s.level h.offset (contents_findings rules h c) ++ items rules (site_after s h c) rest))
       (same-found s.level h.offset (findings_on_contents h c) _ _ (same (site_after s h c) rest))
   same s (Holder h inside rest) =
       let last : Rules
-          → List Item =
-              λ r. ClosingLine s.level (if h.constructed then end_place h inside else None)
-                  ∷ (findings_at s.level h.offset (end_findings r (segments_of h (headers inside)))
-                      ++ items r (site_after_holder s h inside) rest) in
+      → List Item =
+      λ r. ClosingLine s.level (if h.constructed then end_place h inside else None)
+      ∷ (findings_at s.level h.offset (end_findings r (segments_of h (headers inside)))
+      ++ items r (site_after_holder s h inside) rest) in
       same-found s.level h.offset (findings_by (header_conditions (surroundings_of s) h))
-          (OpeningLine s.level h ∷ (items Ber (site_of_children s h) inside ++ last Ber))
-          (OpeningLine s.level h ∷ (items rules (site_of_children s h) inside ++ last rules))
+      (OpeningLine s.level h ∷ (items Ber (site_of_children s h) inside ++ last Ber))
+      (OpeningLine s.level h ∷ (items rules (site_of_children s h) inside ++ last rules))
       (filter-append _ (items Ber (site_of_children s h) inside) (last Ber)
       ∙ ap₂ (λ (a b : List Item). a ++ b) (same (site_of_children s h) inside)
-          (same-found s.level h.offset (findings_by (end_conditions (segments_of h (headers inside))))
-              _ _ (same (site_after_holder s h inside) rest))
+      (same-found s.level h.offset (findings_by (end_conditions (segments_of h (headers inside))))
+      _ _ (same (site_after_holder s h inside) rest))
       ∙ sym (filter-append is_basic (items rules (site_of_children s h) inside) (last rules)))
   same s (OpenPrimitive h c) =
       same-found s.level h.offset (findings_by (header_conditions (surroundings_of s) h))
-          (OpenPrimitiveLines s.level h c ∷ []) (OpenPrimitiveLines s.level h c ∷ []) refl
+      (OpenPrimitiveLines s.level h c ∷ []) (OpenPrimitiveLines s.level h c ∷ []) refl
   same s (OpenHolder h inside) =
       same-found s.level h.offset (findings_by (header_conditions (surroundings_of s) h))
-          (OpeningLine s.level h ∷ items Ber (site_of_children s h) inside)
-          (OpeningLine s.level h ∷ items rules (site_of_children s h) inside) (same (site_of_children s h) inside)
+      (OpeningLine s.level h ∷ items Ber (site_of_children s h) inside)
+      (OpeningLine s.level h ∷ items rules (site_of_children s h) inside) (same (site_of_children s h) inside)
   same s (OpenBitString h) =
       same-found s.level h.offset (findings_by (header_conditions (surroundings_of s) h)) (OpeningLine s.level h ∷ [])
-          (OpeningLine s.level h ∷ []) refl
+      (OpeningLine s.level h ∷ []) refl
   same s (OpenHeader octets) = refl
   same s OpenEndOctets = refl
 

@@ -62,7 +62,7 @@ followed-run s (e ∷ es) =
     let f : FinderReport = finder_step s e in
     ap (λ (t : Effect FinderState). if_on t.goes t (λ u. effect_of check_step u es)) (step-is s e)
     ∙ ap (λ (t : Effect FinderState). record t { put = styled_lines Check f.level f.offset f.found ++ t.put })
-        (followed-run f.state es)
+    (followed-run f.state es)
     ∙ ap (λ (l : List ℕ). record { state = (run_finder f.state es).state; put = l; goes = go.On })
     (ap (λ (l : List ℕ). l ++ flat_map check_line (run_finder f.state es).put) (sym (written-items f.level f.offset f.found))
     ∙ sym (flat_map-append check_line (found_items f) (run_finder f.state es).put))
@@ -91,13 +91,13 @@ either-count a b false e = refl
 
 by-primitive : (s : FinderState) (v : Option OpenPrimitiveState)
     → (finder_primitive_end_step s v).state.count
-        ≡ saturating_sum s.count (length (finder_primitive_end_step s v).found)
+    ≡ saturating_sum s.count (length (finder_primitive_end_step s v).found)
 by-primitive s None = count-none s.count
 by-primitive s (Some v) = refl
 
 by-frames : (s : FinderState) (outer : List SiblingFrame)
     → (finder_frame_end_step s outer).state.count
-        ≡ saturating_sum s.count (length (finder_frame_end_step s outer).found)
+    ≡ saturating_sum s.count (length (finder_frame_end_step s outer).found)
 by-frames s [] = count-none s.count
 by-frames s (w ∷ outer) = refl
 
@@ -108,8 +108,8 @@ counted-one s (Open h) = refl
 counted-one s (Begin h) = refl
 counted-one s (Bytes octets) =
     either-count (record s { open_primitive = open_primitive_after s.open_primitive octets }) s (length octets == 0)
-        refl
-        ∙ count-none s.count
+    refl
+    ∙ count-none s.count
 counted-one s End = by-primitive s s.open_primitive
 counted-one s (Close offset) = by-frames s s.holders.outer
 counted-one s (Enter h) = refl
@@ -126,9 +126,11 @@ counted-all s (e ∷ es) =
     ∙ ap (λ (n : ℕ). saturating_sum n (length (run_finder f.state es).put)) (counted-one s e)
     ∙ count-more s.count (length f.found) (length (run_finder f.state es).put)
     ∙ ap (saturating_sum s.count)
-        (omega
-            (arith, length-append (found_items f) (run_finder f.state es).put,
-                length-map f.found (FindingAt f.level f.offset)))
+    (omega (
+      arith,
+      length-append (found_items f) (run_finder f.state es).put,
+      length-map f.found (FindingAt f.level f.offset),
+    ))
 
 -- ---- no count stops
 
@@ -178,38 +180,40 @@ module _ (rules : Rules) where
       → length (only (items rules s f)) ≤ 16 * length (spelling f)
   few p s NoMore v = omega arith
   few p s (PaddingOctet rest) v =
-      omega
-          (arith, few-pads (is_padding s.previous) s.level s.offset (items rules (site_after_padding s) rest),
-              few (place_after p 1) (site_after_padding s) rest v.1)
+      omega (
+        arith,
+        few-pads (is_padding s.previous) s.level s.offset (items rules (site_after_padding s) rest),
+        few (place_after p 1) (site_after_padding s) rest v.1,
+      )
   few p s (Primitive h c rest) v =
       let r = few (place_after p (length (octets_of h) + length c)) (site_after s h c) rest v.1 in
       let inner : List Item =
-          findings_at s.level h.offset (contents_findings rules h c) ++ items rules (site_after s h c) rest in
+      findings_at s.level h.offset (contents_findings rules h c) ++ items rules (site_after s h c) rest in
       let b =
-          few-at s.level h.offset (contents_findings rules h c) (items rules (site_after s h c) rest) 15
-              _ (few-contents h c) r in
+      few-at s.level h.offset (contents_findings rules h c) (items rules (site_after s h c) rest) 15
+      _ (few-contents h c) r in
       let a =
-          few-at s.level h.offset (header_findings rules (surroundings_of s) h) (PrimitiveLines s.level h c ∷ inner)
-              14 _ (few-header s h) b in
+      few-at s.level h.offset (header_findings rules (surroundings_of s) h) (PrimitiveLines s.level h c ∷ inner)
+      14 _ (few-header s h) b in
       omega (arith, a, header-length h v.0.0.header.valid, length-primitive h c rest)
   few p s (Holder h inside rest) v =
       let i = few (place_of_children p h) (site_of_children s h) inside v.1 in
       let r = few (place_after p (extent h inside)) (site_after_holder s h inside) rest v.2 in
       let last : List Item =
-          findings_at s.level h.offset (end_findings rules (segments_of h (headers inside)))
-              ++ items rules (site_after_holder s h inside) rest in
+      findings_at s.level h.offset (end_findings rules (segments_of h (headers inside)))
+      ++ items rules (site_after_holder s h inside) rest in
       let b =
-          few-at s.level h.offset (end_findings rules (segments_of h (headers inside)))
-              (items rules (site_after_holder s h inside) rest) 2 _ (few-end h inside) r in
+      few-at s.level h.offset (end_findings rules (segments_of h (headers inside)))
+      (items rules (site_after_holder s h inside) rest) 2 _ (few-end h inside) r in
       let m =
-          few-both (items rules (site_of_children s h) inside)
-              (ClosingLine s.level (if h.constructed then end_place h inside else None) ∷ last) _ _ i b in
+      few-both (items rules (site_of_children s h) inside)
+      (ClosingLine s.level (if h.constructed then end_place h inside else None) ∷ last) _ _ i b in
       let a =
-          few-at s.level h.offset (header_findings rules (surroundings_of s) h)
-              (OpeningLine s.level h
-                  ∷ (items rules (site_of_children s h) inside
-                      ++ ClosingLine s.level (if h.constructed then end_place h inside else None) ∷ last))
-              14 _ (few-header s h) m in
+      few-at s.level h.offset (header_findings rules (surroundings_of s) h)
+      (OpeningLine s.level h
+      ∷ (items rules (site_of_children s h) inside
+      ++ ClosingLine s.level (if h.constructed then end_place h inside else None) ∷ last))
+      14 _ (few-header s h) m in
       omega (arith, a, header-length h v.0.0.header.valid, length-holder h inside rest, length-opening h)
     where
       few-both : (xs ys : List Item) (n m : ℕ) → length (only xs) ≤ n → length (only ys) ≤ m
@@ -218,20 +222,20 @@ module _ (rules : Rules) where
           omega (arith, e, f, ap length (filter-append is_finding xs ys), length-append (only xs) (only ys))
   few p s (OpenPrimitive h c) v =
       let a =
-          few-at s.level h.offset (header_findings rules (surroundings_of s) h) (OpenPrimitiveLines s.level h c ∷ [])
-              14 0 (few-header s h) (omega arith) in
+      few-at s.level h.offset (header_findings rules (surroundings_of s) h) (OpenPrimitiveLines s.level h c ∷ [])
+      14 0 (few-header s h) (omega arith) in
       omega (arith, a, header-length h v.0.header.valid, length-append (octets_of h) c)
   few p s (OpenHolder h inside) v =
       let i = few (place_of_children p h) (site_of_children s h) inside v.1 in
       let a =
-          few-at s.level h.offset (header_findings rules (surroundings_of s) h)
-              (OpeningLine s.level h ∷ items rules (site_of_children s h) inside) 14 _ (few-header s h) i in
+      few-at s.level h.offset (header_findings rules (surroundings_of s) h)
+      (OpeningLine s.level h ∷ items rules (site_of_children s h) inside) 14 _ (few-header s h) i in
       omega
-          (arith, a, header-length h v.0.0.header.valid, length-append (opening h) (spelling inside), length-opening h)
+      (arith, a, header-length h v.0.0.header.valid, length-append (opening h) (spelling inside), length-opening h)
   few p s (OpenBitString h) v =
       let a =
-          few-at s.level h.offset (header_findings rules (surroundings_of s) h) (OpeningLine s.level h ∷ []) 14 0
-              (few-header s h) (omega arith) in
+      few-at s.level h.offset (header_findings rules (surroundings_of s) h) (OpeningLine s.level h ∷ []) 14 0
+      (few-header s h) (omega arith) in
       omega (arith, a, header-length h v.0.header.valid)
   few p s (OpenHeader octets) v = omega arith
   few p s OpenEndOctets v = omega arith
@@ -249,16 +253,21 @@ module _ (rules : Rules) where
     pub text-made : (effect_of check_step start (events f)).put ≡ (check_job rules framing).text f
     text-made =
         ap (λ (t : Effect FinderState). t.put) (followed-run start (events f)) ∙ ap (flat_map check_line) put-is
-            ∙ only-written (items rules top_site f)
+        ∙ only-written (items rules top_site f)
 
     pub count-run : (run_finder start (events f)).state.count ≡ finding_count rules f
     count-run =
         let n = length-filter is_finding (items rules top_site f) in
         counted-all start (events f)
         ∙ ap (λ (l : List Item). saturating_sum 0 (length l)) put-is
-        ∙ omega
-            (arith, few (top_place framing) top_site f r.is_open, short, n, ap length r.is_prefix.1,
-                length-append (spelling f) r.is_prefix.0)
+        ∙ omega (
+          arith,
+          few (top_place framing) top_site f r.is_open,
+          short,
+          n,
+          ap length r.is_prefix.1,
+          length-append (spelling f) r.is_prefix.0,
+        )
 
     pub count-made : (effect_of check_step start (events f)).state.count ≡ finding_count rules f
     count-made = ap (λ (t : Effect FinderState). t.state.count) (followed-run start (events f)) ∙ count-run
@@ -269,7 +278,7 @@ all_on s es = ap (λ (t : Effect FinderState). t.goes) (followed-run s es)
 
 pub checks : (rules : Rules) (framing : Framing)
     → Shower check_step (new_check rules) framing (check_job rules framing).text (finding_count rules)
-        (λ (s : FinderState). s.count)
+    (λ (s : FinderState). s.count)
 checks rules framing = record {
   goes_on = all_on;
   put = λ octets f few r. text-made rules framing octets f few r;

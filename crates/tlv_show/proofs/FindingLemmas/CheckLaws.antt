@@ -23,7 +23,7 @@ primitive-join None x y = refl
 primitive-join (Some v) x y =
     ap (λ (t : ValueCheckState). Some (record v { check = t }))
     (checks-join v.check (take v.check.left x) (take (v.check.left - length (take v.check.left x)) y)
-        ∙ ap (value_check_after v.check) (sym (take-both v.check.left x y)))
+    ∙ ap (value_check_after v.check) (sym (take-both v.check.left x y)))
 
 pub one-or-more : (x : ℕ) (octets : List ℕ) → (length (x ∷ octets) == 0) ≡ false
 one-or-more x octets = grind (arith, nat_tests)
@@ -35,7 +35,7 @@ found-join s (a ∷ x) [] = ap (λ (l : List ℕ). finder_bytes_step s (a ∷ l)
 found-join s (a ∷ x) (b ∷ y) =
     rw (one-or-more a (x ++ b ∷ y), one-or-more a x, one-or-more b y)
     (ap (λ (v : Option OpenPrimitiveState). record s { open_primitive = v })
-        (sym (primitive-join s.open_primitive (a ∷ x) (b ∷ y))))
+    (sym (primitive-join s.open_primitive (a ∷ x) (b ∷ y))))
 
 -- octet by octet
 pub each-found : (s : FinderState) (octets : List ℕ)
@@ -43,7 +43,7 @@ pub each-found : (s : FinderState) (octets : List ℕ)
 each-found s [] = refl
 each-found s (x ∷ octets) =
     each-found (finder_bytes_step s (x ∷ [])) octets
-        ∙ ap (λ (u : FinderState). no_effect u) (sym (found-join s (x ∷ []) octets))
+    ∙ ap (λ (u : FinderState). no_effect u) (sym (found-join s (x ∷ []) octets))
 
 -- an event is what the finder makes of it, listed
 pub step-is : (s : FinderState) (e : EventValue) → check_step s e ≡ findings_effect (finder_step s e)
@@ -73,8 +73,8 @@ module _ (s t : FinderState) (v : FinderReport) (has_findings : Bool) (e : Event
       → last_finding_lines Check (with_findings_if has_findings v) ≡ (check_step s e).put
   step-text i f =
       rw i
-          (last-same Check (finder_step t e) v has_findings f
-              ∙ ap (λ (k : Effect FinderState). k.put) (sym (step-is t e)))
+      (last-same Check (finder_step t e) v has_findings f
+      ∙ ap (λ (k : Effect FinderState). k.put) (sym (step-is t e)))
 
   pub step-state : s ≡ t → ReportsFindings (finder_step t e) v has_findings
       → (v.state ≡ (check_step s e).state) × (go.On ≡ (check_step s e).goes)

@@ -26,8 +26,8 @@ noted_all w NoMore = w
 noted_all w (PaddingOctet rest) = noted_all w rest
 noted_all w (Primitive h c rest) =
     noted_all
-        (frame_after w true (announced_length h.size) (has_unused_bits (value_check_after (new_value_check h) c)))
-        rest
+    (frame_after w true (announced_length h.size) (has_unused_bits (value_check_after (new_value_check h) c)))
+    rest
 noted_all w (Holder h inside rest) = noted_all (frame_after w (is_primitive h) (announced_length h.size) false) rest
 noted_all w (OpenPrimitive h c) = w
 noted_all w (OpenHolder h inside) = w
@@ -41,9 +41,9 @@ segments_noted w NoMore = w
 segments_noted w (PaddingOctet rest) = segments_noted w rest
 segments_noted w (Primitive h c rest) =
     segments_noted
-        (frame_after_segment w true (announced_length h.size)
-            (has_unused_bits (value_check_after (new_value_check h) c)))
-        rest
+    (frame_after_segment w true (announced_length h.size)
+    (has_unused_bits (value_check_after (new_value_check h) c)))
+    rest
 segments_noted w (Holder h inside rest) =
     segments_noted (frame_after_segment w (is_primitive h) (announced_length h.size) false) rest
 segments_noted w (OpenPrimitive h c) = w
@@ -66,10 +66,10 @@ all-in-string w (PaddingOctet rest) e = all-in-string w rest e
 all-in-string w (Primitive h c rest) e =
     let u : Bool = has_unused_bits (value_check_after (new_value_check h) c) in
     ap (λ (t : SiblingFrame). noted_all t rest) (in-string w true (announced_length h.size) u e)
-        ∙ all-in-string (frame_after_segment w true (announced_length h.size) u) rest e
+    ∙ all-in-string (frame_after_segment w true (announced_length h.size) u) rest e
 all-in-string w (Holder h inside rest) e =
     ap (λ (t : SiblingFrame). noted_all t rest) (in-string w (is_primitive h) (announced_length h.size) false e)
-        ∙ all-in-string (frame_after_segment w (is_primitive h) (announced_length h.size) false) rest e
+    ∙ all-in-string (frame_after_segment w (is_primitive h) (announced_length h.size) false) rest e
 all-in-string w (OpenPrimitive h c) e = refl
 all-in-string w (OpenHolder h inside) e = refl
 all-in-string w (OpenBitString h) e = refl
@@ -81,11 +81,11 @@ all-outside w NoMore e = refl
 all-outside w (PaddingOctet rest) e = all-outside w rest e
 all-outside w (Primitive h c rest) e =
     ap (λ (t : SiblingFrame). noted_all t rest)
-        (outside w true (announced_length h.size) (has_unused_bits (value_check_after (new_value_check h) c)) e)
-        ∙ all-outside w rest e
+    (outside w true (announced_length h.size) (has_unused_bits (value_check_after (new_value_check h) c)) e)
+    ∙ all-outside w rest e
 all-outside w (Holder h inside rest) e =
     ap (λ (t : SiblingFrame). noted_all t rest) (outside w (is_primitive h) (announced_length h.size) false e)
-        ∙ all-outside w rest e
+    ∙ all-outside w rest e
 all-outside w (OpenPrimitive h c) e = refl
 all-outside w (OpenHolder h inside) e = refl
 all-outside w (OpenBitString h) e = refl
@@ -114,13 +114,13 @@ stays w NoMore = record { offset = refl; size = refl; primitive = refl }
 stays w (PaddingOctet rest) = stays w rest
 stays w (Primitive h c rest) =
     stays-then
-        (stays-noted w true (announced_length h.size) (has_unused_bits (value_check_after (new_value_check h) c)))
-        (stays
-            (frame_after w true (announced_length h.size) (has_unused_bits (value_check_after (new_value_check h) c)))
-            rest)
+    (stays-noted w true (announced_length h.size) (has_unused_bits (value_check_after (new_value_check h) c)))
+    (stays
+    (frame_after w true (announced_length h.size) (has_unused_bits (value_check_after (new_value_check h) c)))
+    rest)
 stays w (Holder h inside rest) =
     stays-then (stays-noted w (is_primitive h) (announced_length h.size) false)
-        (stays (frame_after w (is_primitive h) (announced_length h.size) false) rest)
+    (stays (frame_after w (is_primitive h) (announced_length h.size) false) rest)
 stays w (OpenPrimitive h c) = record { offset = refl; size = refl; primitive = refl }
 stays w (OpenHolder h inside) = record { offset = refl; size = refl; primitive = refl }
 stays w (OpenBitString h) = record { offset = refl; size = refl; primitive = refl }
@@ -164,24 +164,24 @@ sums-up p w n (Primitive h c rest) v e o =
     let k : is_primitive h ≡ true = ap not (not-constructed h.constructed (wraps h) v.0.0.header.form) in
     let u : Bool = has_unused_bits (value_check_after (new_value_check h) c) in
     let r =
-        sums-up (place_after p (length (octets_of h) + length c))
-            (frame_after_segment w true (announced_length h.size) u) (n + d) rest v.1 e
-            (more-octets w.octets n d o) in
+    sums-up (place_after p (length (octets_of h) + length c))
+    (frame_after_segment w true (announced_length h.size) u) (n + d) rest v.1 e
+    (more-octets w.octets n d o) in
     record {
       segments = r.segments;
       bits = r.bits;
       all =
           r.all ∙ and_assoc w.all_primitive true (list_all is_primitive (headers rest))
-              ∙ ap (λ (b : Bool). w.all_primitive && (b && list_all is_primitive (headers rest))) (sym k);
+          ∙ ap (λ (b : Bool). w.all_primitive && (b && list_all is_primitive (headers rest))) (sym k);
       octets = r.octets;
       empty = r.empty ∙ ap (λ (b : Bool). ends_empty (b && announced_length h.size == 0) (headers rest)) (sym k);
     }
 sums-up p w n (Holder h inside rest) v e o =
     let d : ℕ = announced_length h.size - bit_of w.is_bit_string in
     let r =
-        sums-up (place_after p (extent h inside))
-            (frame_after_segment w (is_primitive h) (announced_length h.size) false) (n + d) rest v.2 e
-            (more-octets w.octets n d o) in
+    sums-up (place_after p (extent h inside))
+    (frame_after_segment w (is_primitive h) (announced_length h.size) false) (n + d) rest v.2 e
+    (more-octets w.octets n d o) in
     record {
       segments = r.segments;
       bits = r.bits;
@@ -198,7 +198,7 @@ sums-up p w n OpenEndOctets v e o = absurd (cc (e))
 segments-summed : (rules : Rules) (p : Place) (h : HeaderValue) (inside : Forest) → IsOpen p inside
     → is_whole inside ≡ true
     → end_findings rules (segments_in (segments_noted (frame_of h) inside))
-        ≡ end_findings rules (segments_of h (headers inside))
+    ≡ end_findings rules (segments_of h (headers inside))
 segments-summed rules p h inside v e =
     let r = sums-up p (frame_of h) 0 inside v e refl in
     let w : SiblingFrame = segments_noted (frame_of h) inside in
@@ -215,27 +215,27 @@ segments-summed rules p h inside v e =
 no-ends : (rules : Rules) (w : SiblingFrame) → w.has_segments ≡ false → end_findings rules (segments_in w) ≡ []
 no-ends rules w e =
     ap (λ (k : Bool). ends_by rules k w.all_primitive (nat_le ((if w.is_bit_string then 1 else 0) + w.octets) 1000)
-        w.ends_empty)
-        e
+    w.ends_empty)
+    e
 
 -- what is found with an end, by the frame of what was held
 summed : (rules : Rules) (p : Place) (h : HeaderValue) (inside : Forest) → IsOpen p inside → is_whole inside ≡ true
     → end_findings rules (segments_in (noted_all (frame_of h) inside))
-        ≡ end_findings rules (segments_of h (headers inside))
+    ≡ end_findings rules (segments_of h (headers inside))
 summed rules p h inside v e = by-segments (has_segments h) refl
   where
     by-segments : (k : Bool) → has_segments h ≡ k
         → end_findings rules (segments_in (noted_all (frame_of h) inside))
-            ≡ end_findings rules (segments_of h (headers inside))
+        ≡ end_findings rules (segments_of h (headers inside))
     by-segments true c =
         ap (λ (t : SiblingFrame). end_findings rules (segments_in t)) (all-in-string (frame_of h) inside c)
-            ∙ segments-summed rules p h inside v e
+        ∙ segments-summed rules p h inside v e
     by-segments false c =
         let r = sums-up p (frame_of h) 0 inside v e refl in
         ap (λ (t : SiblingFrame). end_findings rules (segments_in t)) (all-outside (frame_of h) inside c)
-            ∙ no-ends rules (frame_of h) c
+        ∙ no-ends rules (frame_of h) c
         ∙ sym (no-ends rules (segments_noted (frame_of h) inside) (r.segments ∙ c))
-            ∙ segments-summed rules p h inside v e
+        ∙ segments-summed rules p h inside v e
 
 -- ---- the same if nothing is to be known of what was held
 
@@ -245,8 +245,8 @@ module _ (rules : Rules) (p : Place) (w : SiblingFrame) (h : HeaderValue) (insid
   nothing-ends : has_segments h ≡ false → end_findings rules (segments_of h (headers inside)) ≡ []
   nothing-ends e =
       sym (summed rules p h inside v whole)
-          ∙ ap (λ (t : SiblingFrame). end_findings rules (segments_in t)) (all-outside (frame_of h) inside e)
-          ∙ no-ends rules (frame_of h) e
+      ∙ ap (λ (t : SiblingFrame). end_findings rules (segments_in t)) (all-outside (frame_of h) inside e)
+      ∙ no-ends rules (frame_of h) e
 
   pub summed-under : end_findings rules (segments_in (noted_all (frame_under w h) inside))
       ≡ end_findings rules (segments_of h (headers inside))
@@ -254,29 +254,29 @@ module _ (rules : Rules) (p : Place) (w : SiblingFrame) (h : HeaderValue) (insid
     where
       by : (outside inside_it : Bool) → has_segments h ≡ inside_it
           → end_findings rules (segments_in (noted_all (if outside || inside_it then frame_of h else top_frame) inside))
-              ≡ end_findings rules (segments_of h (headers inside))
+          ≡ end_findings rules (segments_of h (headers inside))
       by true inside_it e = summed rules p h inside v whole
       by false true e = summed rules p h inside v whole
       by false false e =
           ap (λ (t : SiblingFrame). end_findings rules (segments_in t)) (all-outside top_frame inside refl)
-              ∙ no-ends rules top_frame refl ∙ sym (nothing-ends e)
+          ∙ no-ends rules top_frame refl ∙ sym (nothing-ends e)
 
   -- where it begins does not matter if nothing is found
   pub offset-under : {T : Type 0} (put : ℕ → List Finding → List T) → ((offset : ℕ) → put offset [] ≡ [])
       → put (noted_all (frame_under w h) inside).offset (end_findings rules (segments_of h (headers inside)))
-          ≡ put h.offset (end_findings rules (segments_of h (headers inside)))
+      ≡ put h.offset (end_findings rules (segments_of h (headers inside)))
   offset-under put none = by w.has_segments (has_segments h) refl
     where
       kept : put (noted_all (frame_of h) inside).offset (end_findings rules (segments_of h (headers inside)))
           ≡ put h.offset (end_findings rules (segments_of h (headers inside)))
       kept =
           ap (λ (offset : ℕ). put offset (end_findings rules (segments_of h (headers inside))))
-              (stays (frame_of h) inside).offset
+          (stays (frame_of h) inside).offset
 
       by : (outside inside_it : Bool) → has_segments h ≡ inside_it
           → put (noted_all (if outside || inside_it then frame_of h else top_frame) inside).offset
-              (end_findings rules (segments_of h (headers inside)))
-              ≡ put h.offset (end_findings rules (segments_of h (headers inside)))
+          (end_findings rules (segments_of h (headers inside)))
+          ≡ put h.offset (end_findings rules (segments_of h (headers inside)))
       by true inside_it e = kept
       by false true e = kept
       by false false e =
@@ -286,16 +286,16 @@ module _ (rules : Rules) (p : Place) (w : SiblingFrame) (h : HeaderValue) (insid
 -- the holder of an element asks for its form and size only if it is a string
 pub noted-under : (w : SiblingFrame) (h : HeaderValue) (inside : Forest)
     → frame_after w (noted_all (frame_under w h) inside).is_primitive (noted_all (frame_under w h) inside).size false
-        ≡ frame_after w (is_primitive h) (announced_length h.size) false
+    ≡ frame_after w (is_primitive h) (announced_length h.size) false
 noted-under w h inside = by w.has_segments refl
   where
     by : (k : Bool) → w.has_segments ≡ k
         → frame_after w (noted_all (if k || has_segments h then frame_of h else top_frame) inside).is_primitive
-            (noted_all (if k || has_segments h then frame_of h else top_frame) inside).size false
-            ≡ frame_after w (is_primitive h) (announced_length h.size) false
+        (noted_all (if k || has_segments h then frame_of h else top_frame) inside).size false
+        ≡ frame_after w (is_primitive h) (announced_length h.size) false
     by true e =
         let r =
-            stays (frame_of h) inside in ap₂ (λ (b : Bool) (size : ℕ). frame_after w b size false) r.primitive r.size
+        stays (frame_of h) inside in ap₂ (λ (b : Bool) (size : ℕ). frame_after w b size false) r.primitive r.size
     by false e =
         let f : SiblingFrame = noted_all (if has_segments h then frame_of h else top_frame) inside in
         outside w f.is_primitive f.size false e ∙ sym (outside w (is_primitive h) (announced_length h.size) false e)

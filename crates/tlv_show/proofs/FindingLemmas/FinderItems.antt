@@ -62,7 +62,7 @@ run-more s (x ∷ xs) ys =
     let put : List Item = found_items (finder_step s x) in
     ap (then_found put) (run-more u xs ys)
     ∙ ap (λ (l : List Item). record { state = (run_finder (run_finder u xs).state ys).state; put = l })
-        (sym (append_assoc put (run_finder u xs).put (run_finder (run_finder u xs).state ys).put))
+    (sym (append_assoc put (run_finder u xs).put (run_finder (run_finder u xs).state ys).put))
 
 -- ---- contents
 
@@ -75,12 +75,12 @@ with_check s offset t = record s { open_primitive = Some (record { offset = offs
 
 took : (s : FinderState) (offset : ℕ) (h : HeaderValue) (c : List ℕ) → length c ≤ announced_length h.size
     → finder_bytes_step (with_check s offset (new_value_check h)) c
-        ≡ with_check s offset (value_check_after (new_value_check h) c)
+    ≡ with_check s offset (value_check_after (new_value_check h) c)
 took s offset h [] e = ap (with_check s offset) (sym (checked-none h))
 took s offset h (x ∷ c) e =
     rw (one-or-more x c)
-        (ap (λ (l : List ℕ). with_check s offset (value_check_after (new_value_check h) l))
-            (take-all (announced_length h.size) (x ∷ c) e))
+    (ap (λ (l : List ℕ). with_check s offset (value_check_after (new_value_check h) l))
+    (take-all (announced_length h.size) (x ∷ c) e))
 
 -- what is found at their end
 ended : (rules : Rules) (h : HeaderValue) (c : List ℕ) → length c ≡ announced_length h.size
@@ -88,8 +88,8 @@ ended : (rules : Rules) (h : HeaderValue) (c : List ℕ) → length c ≡ announ
 ended rules h c e =
     let none : (announced_length h.size - length c == 0) ≡ true = grind (arith, nat_tests) in
     ap (λ (b : Bool). if b then filter (is_shown rules) (findings_in (value_check_after (new_value_check h) c)) else [])
-        none
-        ∙ ap (filter (is_shown rules)) (findings-end h c e)
+    none
+    ∙ ap (filter (is_shown rules)) (findings-end h c e)
 
 -- ---- items
 
@@ -110,7 +110,7 @@ only-pads false level offset l = refl
 -- what a finder makes of a primitive
 pub primitive-found : (s : FinderState) (h : HeaderValue) (c : List ℕ) → length c ≡ announced_length h.size
     → (u : FinderState) × (u.open_primitive ≡ None)
-        × (finder_end_step (finder_bytes_step (finder_begin_step s h).state c) ≡ record {
+    × (finder_end_step (finder_bytes_step (finder_begin_step s h).state c) ≡ record {
       state = u;
       level = length s.holders.outer;
       offset = h.offset;
@@ -129,8 +129,8 @@ primitive-found s h c e =
       refl,
       ap finder_end_step (took (record s { count = n }) h.offset h c (omega (arith, e)))
           ∙ ap (λ (fs : List Finding).
-              record { state = site_after fs; level = length s.holders.outer; offset = h.offset; found = fs })
-              (ended s.rules h c e),
+          record { state = site_after fs; level = length s.holders.outer; offset = h.offset; found = fs })
+          (ended s.rules h c e),
     )
 
 module _ (rules : Rules) where
@@ -162,10 +162,10 @@ module _ (rules : Rules) where
 
   opened-by : (s : FinderState) (h : HeaderValue) (k three : Bool) (es : List EventValue)
       → run_finder s
-          (((if k then Open h else Enter h)
-              ∷ map {A = ℕ} (λ z. Unused) (if k then [] else (if three then 0 ∷ [] else [])))
-              ++ es)
-          ≡ then_found (found_items (finder_open_step s h)) (run_finder (finder_open_step s h).state es)
+      (((if k then Open h else Enter h)
+      ∷ map {A = ℕ} (λ z. Unused) (if k then [] else (if three then 0 ∷ [] else [])))
+      ++ es)
+      ≡ then_found (found_items (finder_open_step s h)) (run_finder (finder_open_step s h).state es)
   opened-by s h true three es = refl
   opened-by s h false true es = refl
   opened-by s h false false es = refl
@@ -173,8 +173,8 @@ module _ (rules : Rules) where
   pub opened : (w : SiblingFrame) (outer : List SiblingFrame) (n : ℕ) (h : HeaderValue) (es : List EventValue)
       → length outer < 128
       → run_finder (check_between w outer n) (opening_events h ++ es)
-          ≡ then_found (findings_at (length outer) h.offset (header_findings rules (surroundings_in w) h))
-              (run_finder (check_between (frame_under w h) (w ∷ outer) (later_header w h n)) es)
+      ≡ then_found (findings_at (length outer) h.offset (header_findings rules (surroundings_in w) h))
+      (run_finder (check_between (frame_under w h) (w ∷ outer) (later_header w h n)) es)
   opened w outer n h es few =
       opened-by (check_between w outer n) h h.constructed (h.number == 3) es
       ∙ ap (λ (f : FinderReport). then_found (found_items f) (run_finder f.state es)) (opened-find w outer n h few)
@@ -183,7 +183,7 @@ module _ (rules : Rules) where
 
   closed-by : (s : FinderState) (offset : Option ℕ) (k : Bool) (es : List EventValue)
       → run_finder s ((if k then Close offset else Leave) ∷ es)
-          ≡ then_found (found_items (finder_close_step s)) (run_finder (finder_close_step s).state es)
+      ≡ then_found (found_items (finder_close_step s)) (run_finder (finder_close_step s).state es)
   closed-by s offset true es = refl
   closed-by s offset false es = refl
 
@@ -195,22 +195,22 @@ module _ (rules : Rules) where
       → IsOpen p inside → is_whole inside ≡ true
       → run_finder (check_between (noted_all (frame_under w h) inside) (w ∷ outer) n) (closing_event h inside ∷ es)
       ≡ then_found (findings_at (length outer) h.offset (end_findings rules (segments_of h (headers inside))))
-          (run_finder
-              (check_between (frame_after w (is_primitive h) (announced_length h.size) false) outer
-                  (after_end h inside n))
-              es)
+      (run_finder
+      (check_between (frame_after w (is_primitive h) (announced_length h.size) false) outer
+      (after_end h inside n))
+      es)
   closed p w outer n h inside es v whole =
       let f : SiblingFrame = noted_all (frame_under w h) inside in
       closed-by (check_between f (w ∷ outer) n)
-          (end_offset h.size (h.offset + length (opening h) + length (spelling inside))) h.constructed es
+      (end_offset h.size (h.offset + length (opening h) + length (spelling inside))) h.constructed es
       ∙ ap (λ (fs : List Finding). then_found (findings_at (length outer) f.offset fs)
-          (run_finder (check_between (frame_after w f.is_primitive f.size false) outer (saturating_sum n (length fs))) es))
-          (summed-under rules p w h inside v whole)
+      (run_finder (check_between (frame_after w f.is_primitive f.size false) outer (saturating_sum n (length fs))) es))
+      (summed-under rules p w h inside v whole)
       ∙ ap₂
-          (λ (put : List Item) (t : SiblingFrame). then_found put
-              (run_finder (check_between t outer (after_end h inside n)) es))
-          (offset-under rules p w h inside v whole (findings_at (length outer)) (λ offset. refl))
-          (noted-under w h inside)
+      (λ (put : List Item) (t : SiblingFrame). then_found put
+      (run_finder (check_between t outer (after_end h inside n)) es))
+      (offset-under rules p w h inside v whole (findings_at (length outer)) (λ offset. refl))
+      (noted-under w h inside)
 
   -- ---- a primitive
 
@@ -227,16 +227,16 @@ module _ (rules : Rules) where
       → run_finder (check_between w outer n) (Begin h ∷ Bytes c ∷ End ∷ es)
       ≡ then_found (findings_at (length outer) h.offset (header_findings rules (surroundings_in w) h))
       (then_found (findings_at (length outer) h.offset (contents_findings rules h c))
-          (run_finder (check_between (after_primitive w h c) outer (after_contents w h c n)) es))
+      (run_finder (check_between (after_primitive w h c) outer (after_contents w h c n)) es))
   primitive w outer n h c es e =
       let put : List Item = findings_at (length outer) h.offset (header_findings rules (surroundings_in w) h) in
       let s : FinderState = check_between w outer (later_header w h n) in
       ap (λ (u : FinderState). then_found put (then_found [] (run_finder u (End ∷ es))))
-          (took s h.offset h c (omega (arith, e)))
+      (took s h.offset h c (omega (arith, e)))
       ∙ ap (λ (fs : List Finding). then_found put
-          (then_found (findings_at (length outer) h.offset fs)
-              (run_finder (check_between (after_primitive w h c) outer (saturating_sum (later_header w h n) (length fs))) es)))
-          (ended rules h c e)
+      (then_found (findings_at (length outer) h.offset fs)
+      (run_finder (check_between (after_primitive w h c) outer (saturating_sum (later_header w h n) (length fs))) es)))
+      (ended rules h c e)
 
   -- ---- what a finder makes of each end by itself
 
@@ -254,17 +254,25 @@ module _ (rules : Rules) where
   closed-find p w outer n h inside v whole =
       let f : SiblingFrame = noted_all (frame_under w h) inside in
       ap (λ (gs : List Finding).
-          record { state =
-              check_between (frame_after w f.is_primitive f.size false) outer (saturating_sum n (length gs)); level =
-                  length outer; offset = f.offset; found = gs
-          })
-          (summed-under rules p w h inside v whole)
+      record {
+        state =
+            check_between (frame_after w f.is_primitive f.size false) outer (saturating_sum n (length gs));
+        level =
+            length outer;
+        offset = f.offset;
+        found = gs;
+      })
+      (summed-under rules p w h inside v whole)
       ∙ ap (λ (t : SiblingFrame).
-          record { state =
-              check_between t outer (after_end h inside n); level =
-                  length outer; offset = f.offset; found = end_findings rules (segments_of h (headers inside))
-          })
-          (noted-under w h inside)
+      record {
+        state =
+            check_between t outer (after_end h inside n);
+        level =
+            length outer;
+        offset = f.offset;
+        found = end_findings rules (segments_of h (headers inside));
+      })
+      (noted-under w h inside)
 
   pub primitive-find : (w : SiblingFrame) (outer : List SiblingFrame) (n : ℕ) (h : HeaderValue) (c : List ℕ)
       → length c ≡ announced_length h.size
@@ -278,11 +286,15 @@ module _ (rules : Rules) where
   primitive-find w outer n h c e =
       ap finder_end_step (took (check_between w outer (later_header w h n)) h.offset h c (omega (arith, e)))
       ∙ ap (λ (fs : List Finding).
-          record { state =
-              check_between (after_primitive w h c) outer (saturating_sum (later_header w h n) (length fs)); level =
-                  length outer; offset = h.offset; found = fs
-          })
-          (ended rules h c e)
+      record {
+        state =
+            check_between (after_primitive w h c) outer (saturating_sum (later_header w h n) (length fs));
+        level =
+            length outer;
+        offset = h.offset;
+        found = fs;
+      })
+      (ended rules h c e)
 
   -- ---- elements
 
@@ -296,7 +308,7 @@ module _ (rules : Rules) where
   header-items : (s : Site) (w : SiblingFrame) (outer : List SiblingFrame) (h : HeaderValue) (found rest : List Item)
       → Knows w s → length outer ≡ s.level → found ≡ only rest
       → findings_at (length outer) h.offset (header_findings rules (surroundings_in w) h) ++ found
-          ≡ only (findings_at s.level h.offset (header_findings rules (surroundings_of s) h) ++ rest)
+      ≡ only (findings_at s.level h.offset (header_findings rules (surroundings_of s) h) ++ rest)
   header-items s w outer h found rest k l e =
       ap₂ (λ (n : ℕ) (fs : List Finding). findings_at n h.offset fs ++ found) l (header-same rules w s h k)
       ∙ ap (λ (t : List Item). findings_at s.level h.offset (header_findings rules (surroundings_of s) h) ++ t) e
@@ -315,12 +327,12 @@ module _ (rules : Rules) where
   finds_forest p s w outer NoMore v k l d free = record { put = λ n. refl; after = λ n e. (n, refl) }
   finds_forest p s w outer (PaddingOctet rest) v k l d free =
       let r =
-          finds_forest (place_after p 1) (site_after_padding s) w outer rest v.1 (knows-padding w s k (free v.0.0)) l
-              d free in
+      finds_forest (place_after p 1) (site_after_padding s) w outer rest v.1 (knows-padding w s k (free v.0.0)) l
+      d free in
       record {
         put =
             λ n. r.put n
-                ∙ sym (only-pads (is_padding s.previous) s.level s.offset (items rules (site_after_padding s) rest));
+            ∙ sym (only-pads (is_padding s.previous) s.level s.offset (items rules (site_after_padding s) rest));
         after = r.after;
       }
   finds_forest p s w outer (Primitive h c rest) v k l d free =
@@ -329,40 +341,40 @@ module _ (rules : Rules) where
       let u : Bool = has_unused_bits (value_check_after (new_value_check h) c) in
       let known : Knows (after_primitive w h c) (site_after s h c) =
       subst (λ (b : Bool). Knows (frame_after w b (announced_length h.size) u) (site_after s h c)) (ap not form)
-          (knows-after w s (site_after s h c) h (first_contents_octet c) u k refl refl (unused-of h c form)) in
+      (knows-after w s (site_after s h c) h (first_contents_octet c) u k refl refl (unused-of h c form)) in
       let r =
-          finds_forest (place_after p (length (octets_of h) + length c)) (site_after s h c) (after_primitive w h c)
-              outer rest v.1 known l d free in
+      finds_forest (place_after p (length (octets_of h) + length c)) (site_after s h c) (after_primitive w h c)
+      outer rest v.1 known l d free in
       record {
         put = λ n.
             ap (λ (t : FinderRun). t.put) (primitive w outer n h c (events rest) size)
             ∙ header-items s w outer h
-                _ (PrimitiveLines s.level h c
-                    ∷ (findings_at s.level h.offset (contents_findings rules h c)
-                        ++ items rules (site_after s h c) rest))
-                k l
+            _ (PrimitiveLines s.level h c
+            ∷ (findings_at s.level h.offset (contents_findings rules h c)
+            ++ items rules (site_after s h c) rest))
+            k l
             (more-items s outer h.offset (contents_findings rules h c) _ (items rules (site_after s h c) rest) l
-                (r.put (after_contents w h c n)));
+            (r.put (after_contents w h c n)));
         after = λ n e.
             let t = r.after (after_contents w h c n) e in
             (t.0, ap (λ (x : FinderRun). x.state) (primitive w outer n h c (events rest) size) ∙ t.1);
       }
   finds_forest p s w outer (Holder h inside rest) v k l d free =
       let i =
-          finds_forest (place_of_children p h) (site_of_children s h) (frame_under w h) (w ∷ outer) inside v.1
-              (knows-inside w s h) (omega (arith, l)) (omega (arith, d)) (λ e. absurd (cc (e))) in
+      finds_forest (place_of_children p h) (site_of_children s h) (frame_under w h) (w ∷ outer) inside v.1
+      (knows-inside w s h) (omega (arith, l)) (omega (arith, d)) (λ e. absurd (cc (e))) in
       let r =
-          finds_forest (place_after p (extent h inside)) (site_after_holder s h inside)
-              (frame_after w (is_primitive h) (announced_length h.size) false) outer rest v.2
+      finds_forest (place_after p (extent h inside)) (site_after_holder s h inside)
+      (frame_after w (is_primitive h) (announced_length h.size) false) outer rest v.2
       (knows-after w s (site_after_holder s h inside) h None false k refl refl refl) l d free in
       let few : length outer < 128 = omega (arith, l, d, (v.0.0.shallow refl)) in
       let es : List EventValue = closing_event h inside ∷ events rest in
       let all : (n : ℕ) → (m : ℕ) × (run_finder (check_between w outer n) (events (Holder h inside rest))
       ≡ then_found (findings_at (length outer) h.offset (header_findings rules (surroundings_in w) h))
-          (then_found (only (items rules (site_of_children s h) inside))
+      (then_found (only (items rules (site_of_children s h) inside))
       (then_found (findings_at (length outer) h.offset (end_findings rules (segments_of h (headers inside))))
-          (run_finder (check_between (frame_after w (is_primitive h) (announced_length h.size) false) outer m)
-              (events rest))))) =
+      (run_finder (check_between (frame_after w (is_primitive h) (announced_length h.size) false) outer m)
+      (events rest))))) =
       λ n.
       let a : ℕ = later_header w h n in
       let t = i.after a v.0.1 in
@@ -373,21 +385,21 @@ module _ (rules : Rules) where
             (run-more (check_between (frame_under w h) (w ∷ outer) a) (events inside) es
             ∙ ap₂ (λ (l : List Item) (x : FinderState). then_found l (run_finder x es)) (i.put a) t.1
             ∙ ap (then_found (only (items rules (site_of_children s h) inside)))
-                (closed (place_of_children p h) w outer t.0 h inside (events rest) v.1 v.0.1)),
+            (closed (place_of_children p h) w outer t.0 h inside (events rest) v.1 v.0.1)),
       ) in
       let last : List Item =
-          ClosingLine s.level (if h.constructed then end_place h inside else None)
-              ∷ (findings_at s.level h.offset (end_findings rules (segments_of h (headers inside)))
-                  ++ items rules (site_after_holder s h inside) rest) in
+      ClosingLine s.level (if h.constructed then end_place h inside else None)
+      ∷ (findings_at s.level h.offset (end_findings rules (segments_of h (headers inside)))
+      ++ items rules (site_after_holder s h inside) rest) in
       record {
         put = λ n.
             let a = all n in
             ap (λ (t : FinderRun). t.put) a.1
             ∙ header-items s w outer h _ (OpeningLine s.level h ∷ (items rules (site_of_children s h) inside ++ last))
-                k l
+            k l
             (ap (λ (t : List Item). only (items rules (site_of_children s h) inside) ++ t)
             (more-items s outer h.offset (end_findings rules (segments_of h (headers inside)))
-                _ (items rules (site_after_holder s h inside) rest) l (r.put a.0))
+            _ (items rules (site_after_holder s h inside) rest) l (r.put a.0))
             ∙ sym (filter-append is_finding (items rules (site_of_children s h) inside) last));
         after = λ n e.
             let a = all n in
@@ -400,14 +412,14 @@ module _ (rules : Rules) where
   }
   finds_forest p s w outer (OpenHolder h inside) v k l d free =
       let i =
-          finds_forest (place_of_children p h) (site_of_children s h) (frame_under w h) (w ∷ outer) inside v.1
-              (knows-inside w s h) (omega (arith, l)) (omega (arith, d)) (λ e. absurd (cc (e))) in
+      finds_forest (place_of_children p h) (site_of_children s h) (frame_under w h) (w ∷ outer) inside v.1
+      (knows-inside w s h) (omega (arith, l)) (omega (arith, d)) (λ e. absurd (cc (e))) in
       let few : length outer < 128 = omega (arith, l, d, v.0.0.shallow refl) in
       record {
         put = λ n.
             ap (λ (t : FinderRun). t.put) (opened w outer n h (events inside) few)
             ∙ header-items s w outer h _ (OpeningLine s.level h ∷ items rules (site_of_children s h) inside) k l
-                (i.put (later_header w h n));
+            (i.put (later_header w h n));
         after = λ n e. absurd (cc (e));
       }
   finds_forest p s w outer (OpenBitString h) v k l d free = record {

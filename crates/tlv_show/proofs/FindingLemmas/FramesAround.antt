@@ -33,8 +33,8 @@ no-string : (h : HeaderValue) (previous : Previous) → has_segments h ≡ false
     → around (Some h) previous ≡ surroundings_in top_frame
 no-string h previous e =
     ap (λ (k : Bool). made k (k && is_a bit_string h) ((k && is_a bit_string h) && follows_unused_bits previous)
-        (k && is_not_full previous))
-        e
+    (k && is_not_full previous))
+    e
 
 -- outside of strings
 around-none : (holder : Option HeaderValue) (previous : Previous) → is_held_by has_segments holder ≡ false
@@ -68,7 +68,7 @@ unused-at : (k : Bool) (n size x : ℕ) (c : List ℕ) → eqb n bit_string ≡ 
     → has_unused_bits (value_check_after (new_value_check_of n size) (x ∷ c)) ≡ (k && not (x == 0))
 unused-at true n size x c e =
     subst (λ (m : ℕ). has_unused_bits (value_check_after (new_value_check_of m size) (x ∷ c)) ≡ not (x == 0))
-        (sym (eqb-true n bit_string e)) refl
+    (sym (eqb-true n bit_string e)) refl
 unused-at false n size x c e =
     ap (λ (k : Bool). k && begins_nonzero (value_check_after (new_value_check_of n size) (x ∷ c)).first_octets) e
 
@@ -87,7 +87,7 @@ unused-of h [] e = ap has_unused_bits (checked-none h) ∙ by-none (eqb (type_nu
 unused-of h (x ∷ c) e =
     let t : eqb (type_number h) bit_string ≡ is_a bit_string h = type-is (is_universal h.class) h.number in
     unused-at (is_a bit_string h) (type_number h) (announced_length h.size) x c t
-        ∙ ap (λ (k : Bool). not k && is_a bit_string h && not (x == 0)) (sym e)
+    ∙ ap (λ (k : Bool). not k && is_a bit_string h && not (x == 0)) (sym e)
 
 made-eq : (a a' b b' c c' d d' : Bool) → a ≡ a' → b ≡ b' → c ≡ c' → d ≡ d' → made a b c d ≡ made a' b' c' d'
 made-eq a a' b b' c c' d d' e f g h = rw (e, f, g, h) refl
@@ -95,7 +95,7 @@ made-eq a a' b b' c c' d d' e f g h = rw (e, f, g, h) refl
 pub knows-after : (w : SiblingFrame) (s t : Site) (h : HeaderValue) (first : Option ℕ) (unused : Bool) → Knows w s
     → t.holder ≡ s.holder → t.previous ≡ Sibling h first
     → unused ≡ follows_unused_bits (Sibling h first)
-        → Knows (frame_after w (is_primitive h) (announced_length h.size) unused) t
+    → Knows (frame_after w (is_primitive h) (announced_length h.size) unused) t
 knows-after w s t h first unused k e b u = by-segments w.has_segments refl
   where
     same : surroundings_in w ≡ around t.holder s.previous
@@ -113,7 +113,7 @@ knows-after w s t h first unused k e b u = by-segments w.has_segments refl
         made-eq _ _ _ _ _ _ _ _ segments bits
         (ap₂ (λ (x y : Bool). x && y) bits (u ∙ ap follows_unused_bits (sym b)))
         (ap₂ (λ (x y : Bool). x && y) segments
-            (full-or-not h.constructed (announced_length h.size == 1000) ∙ ap is_not_full (sym b)))
+        (full-or-not h.constructed (announced_length h.size == 1000) ∙ ap is_not_full (sym b)))
     by-segments false c =
         let none : in_string t ≡ false = sym segments ∙ c in
         same ∙ around-none t.holder s.previous none ∙ sym (around-none t.holder t.previous none)
@@ -121,4 +121,4 @@ knows-after w s t h first unused k e b u = by-segments w.has_segments refl
 pub knows-padding : (w : SiblingFrame) (s : Site) → Knows w s → s.holder ≡ None → Knows w (site_after_padding s)
 knows-padding w s k e =
     k ∙ ap (λ (o : Option HeaderValue). around o s.previous) e
-        ∙ sym (ap (λ (o : Option HeaderValue). around o Padding) e)
+    ∙ sym (ap (λ (o : Option HeaderValue). around o Padding) e)

@@ -56,7 +56,7 @@ der-found s h =
     by-shown Der (header_conditions s h)
     ∙ found-more (basic_conditions s h ++ length_conditions h) (der_conditions h)
     ∙ ap (λ (l : List Finding). l ++ findings_by (der_conditions h))
-        (found-more (basic_conditions s h) (length_conditions h))
+    (found-more (basic_conditions s h) (length_conditions h))
 
 pub cer-found : (s : Surroundings) (h : HeaderValue)
     → header_findings Cer s h
@@ -65,7 +65,7 @@ cer-found s h =
     by-shown Cer (header_conditions s h)
     ∙ found-more (basic_conditions s h ++ length_conditions h) (cer_conditions s h)
     ∙ ap (λ (l : List Finding). l ++ findings_by (cer_conditions s h))
-        (found-more (basic_conditions s h) (length_conditions h))
+    (found-more (basic_conditions s h) (length_conditions h))
 
 pub header-same : (rules : Rules) (w : SiblingFrame) (s : Site) (h : HeaderValue) → Knows w s
     → header_findings rules (surroundings_in w) h ≡ header_findings rules (surroundings_of s) h

@@ -84,14 +84,14 @@ neither false b e = (refl, e)
 opened-without_frame : (w : SiblingFrame) (n : ℕ) (outer : List SiblingFrame) (h : HeaderValue)
     → length (outer_frames w n outer) < 128
     → IsKept w n → (w.has_segments || has_segments h) ≡ false
-        → nest w (suc n) outer ≡ nesting_open_step (nest w n outer) h
+    → nest w (suc n) outer ≡ nesting_open_step (nest w n outer) h
 opened-without_frame w n outer h few kept none =
     let e : w.has_segments ≡ false = (neither w.has_segments (has_segments h) none).0 in
     let f : has_segments h ≡ false = (neither w.has_segments (has_segments h) none).1 in
     ap₂ (λ (a b : Bool). record { frame = if a || b then frame_of h else top_frame; outer = frames_with w n outer })
     (sym (kept ∙ e)) (sym f)
     ∙ ap (λ (l : List SiblingFrame). record { frame = frame_under (innermost_frame w n) h; outer = l })
-        (split w n outer)
+    (split w n outer)
     ∙ sym (opened-is w n outer h few)
 
 opened-frame : (w : SiblingFrame) (n : ℕ) (outer : List SiblingFrame) (h : HeaderValue)

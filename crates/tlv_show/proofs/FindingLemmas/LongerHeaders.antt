@@ -64,7 +64,7 @@ identifier-shortest : (h : HeaderValue) → IsHeader h → longer_identifier h �
     → IsShortestIdentifier h.number h.identifier
 identifier-shortest h valid e =
     let both : ((has_high_form h && nat_lt h.number 31) ≡ false) × ((has_high_form h && number_bits h == 0) ≡ false) =
-        or_parts _ _ e in
+    or_parts _ _ e in
     identifier-from h valid (high-form h both.0 both.1)
 
 pub identifiers-found : LongerIdentifiersAreFound
@@ -92,7 +92,7 @@ pub longer_lengths-absent : (h : HeaderValue) → IsShortestLength (announced_le
 longer_lengths-absent h s = elim (cases_lt 1 (length h.lengths)) [
   | inl more ↦
       let large : 128 ≤ announced_length h.size =
-          at-least (announced_length h.size) 128 (λ small. omega (arith, more, s.single small)) in
+      at-least (announced_length h.size) 128 (λ small. omega (arith, more, s.single small)) in
       let number : nat_lt (announced_length h.size) 128 ≡ false = grind (arith, nat_tests) in
       let nonzero : length_octet h ≢ 0 = s.leading more in
       let first : (length_octet h == 0) ≡ false = grind (arith, nat_tests) in

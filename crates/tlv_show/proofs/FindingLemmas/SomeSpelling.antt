@@ -59,12 +59,12 @@ header-absent : (rules : Rules) (s : Site) (h : HeaderValue) → rules ≢ Ber �
 header-absent Ber s h strict r = absurd (strict refl)
 header-absent Der s h strict r =
     four-absent (has_high_form h && nat_lt h.number 31) (has_high_form h && number_bits h == 0) (longer_lengths h)
-        (is_indefinite h.size)
+    (is_indefinite h.size)
     (longer_identifier-absent h r.shortest.identifier) (longer_lengths-absent h r.shortest.lengths) r.by_form
 header-absent Cer s h strict r =
     four-absent (has_high_form h && nat_lt h.number 31) (has_high_form h && number_bits h == 0) (longer_lengths h)
     (h.constructed && not (is_indefinite h.size)) (longer_identifier-absent h r.shortest.identifier)
-        (longer_lengths-absent h r.shortest.lengths)
+    (longer_lengths-absent h r.shortest.lengths)
     (constructed-absent h.constructed (is_indefinite h.size) r.by_form)
 
 contents-absent : (rules : Rules) (h : HeaderValue) (c : List ℕ)
@@ -94,20 +94,20 @@ module _ (rules : Rules) (strict : rules ≢ Ber) where
       → list_any is_item_on_spelling (on_header rules s h) ≡ false
   header-none s h r =
       items-found s.level h.offset (header_findings rules (surroundings_of s) h)
-          ∙ found-with_header is_on_spelling rules (surroundings_of s) h ∙ header-absent rules s h strict r
+      ∙ found-with_header is_on_spelling rules (surroundings_of s) h ∙ header-absent rules s h strict r
 
   contents-none : (s : Site) (h : HeaderValue) (c : List ℕ)
       → list_any is_item_on_spelling (on_contents rules s h c) ≡ false
   contents-none s h c =
       items-found s.level h.offset (contents_findings rules h c)
-          ∙ all-found is_on_spelling rules (contents_conditions h c)
+      ∙ all-found is_on_spelling rules (contents_conditions h c)
       ∙ contents-absent rules h c
 
   end-none : (s : Site) (h : HeaderValue) (inside : Forest)
       → list_any is_item_on_spelling (on_end rules s h inside) ≡ false
   end-none s h inside =
       items-found s.level h.offset (end_findings rules (segments_of h (headers inside)))
-          ∙ all-found is_on_spelling rules (end_conditions (segments_of h (headers inside)))
+      ∙ all-found is_on_spelling rules (end_conditions (segments_of h (headers inside)))
       ∙ end-absent rules (segments_of h (headers inside))
 
   none-found : (p : Place) (s : Site) (f : Forest) → IsSound p f → AreRegular (form_by rules) f
@@ -115,24 +115,24 @@ module _ (rules : Rules) (strict : rules ≢ Ber) where
   none-found p s NoMore u r = refl
   none-found p s (PaddingOctet rest) u r =
       both-none (if is_padding s.previous then [] else PaddingLine s.level s.offset ∷ [])
-          (items rules (site_after_padding s) rest)
+      (items rules (site_after_padding s) rest)
       (padding-none (is_padding s.previous) s.level s.offset)
-          (none-found (place_after p 1) (site_after_padding s) rest u.1 r)
+      (none-found (place_after p 1) (site_after_padding s) rest u.1 r)
   none-found p s (Primitive h c rest) u r =
       both-none (on_header rules s h)
-          (PrimitiveLines s.level h c ∷ (on_contents rules s h c ++ items rules (site_after s h c) rest))
-          (header-none s h r.0)
+      (PrimitiveLines s.level h c ∷ (on_contents rules s h c ++ items rules (site_after s h c) rest))
+      (header-none s h r.0)
       (both-none (on_contents rules s h c) (items rules (site_after s h c) rest) (contents-none s h c)
       (none-found (place_after p (length (octets_of h) + length c)) (site_after s h c) rest u.2 r.1))
   none-found p s (Holder h inside rest) u r =
       let last : List Item = on_end rules s h inside ++ items rules (site_after_holder s h inside) rest in
       let held : List Item = items rules (site_of_children s h) inside in
       both-none (on_header rules s h)
-          (OpeningLine s.level h
-              ∷ (held ++ ClosingLine s.level (if h.constructed then end_place h inside else None) ∷ last))
-          (header-none s h r.0)
+      (OpeningLine s.level h
+      ∷ (held ++ ClosingLine s.level (if h.constructed then end_place h inside else None) ∷ last))
+      (header-none s h r.0)
       (both-none held (ClosingLine s.level (if h.constructed then end_place h inside else None) ∷ last)
-          (none-found (place_of_children p h) (site_of_children s h) inside u.3 r.1)
+      (none-found (place_of_children p h) (site_of_children s h) inside u.3 r.1)
       (both-none (on_end rules s h inside) (items rules (site_after_holder s h inside) rest) (end-none s h inside)
       (none-found (place_after p (extent h inside)) (site_after_holder s h inside) rest u.4 r.2)))
   none-found p s (OpenPrimitive h c) u r = absurd u
@@ -179,17 +179,19 @@ fewer (n ∷ ns) [] low least end rising r named = omega arith
 fewer [] (x ∷ xs) low least end rising r named = absurd (true≢false (sym named.0))
 fewer (n ∷ ns) (x ∷ xs) low least end rising r named = elim (eqb_tells n x) [
   | inl same ↦
-      omega
-          (arith,
-              fewer ns xs (n + 1) (x + 1) end rising.2 r.1
-                  (among-later n (x + 1) end ns xs (omega (arith, same.1)) r.1 named.1))
+      omega (
+        arith,
+        fewer ns xs (n + 1) (x + 1) end rising.2 r.1
+            (among-later n (x + 1) end ns xs (omega (arith, same.1)) r.1 named.1),
+      )
   | inr apart ↦
       let here : is_among x ns ≡ true = among-others n x ns apart.0 named.0 in
       let above : n + 1 ≤ x = among-least (n + 1) x ns rising.2 here in
-      omega
-          (arith,
-              fewer ns (x ∷ xs) (n + 1) least end rising.2 r
-                  (here, among-later n (x + 1) end ns xs (omega (arith, above)) r.1 named.1))
+      omega (
+        arith,
+        fewer ns (x ∷ xs) (n + 1) least end rising.2 r
+            (here, among-later n (x + 1) end ns xs (omega (arith, above)) r.1 named.1),
+      )
 ]
 
 one-name : (a b : Bool) (m n : ℕ) → a ≡ b
@@ -248,18 +250,18 @@ some-spelling rules framing b f strict few ending reading low =
     let it : IsSoundReading framing b f = sound-reading_of framing b f ending reading in
     let elements : IsSoundList framing b = done-sound framing b ending in
     let same : elements.forest ≡ f =
-        reading-unique framing b elements.forest f (sound-reading framing b elements) reading in
+    reading-unique framing b elements.forest f (sound-reading framing b elements) reading in
     let chosen : Spelling (form_by rules) (top_place framing) f =
     respelled (form_by rules) (by-definite rules) (top_place framing) f (omega (arith, few, ap length it.octets))
-        it.sound low in
+    it.sound low in
     let by_names : Framing = record { inside = chosen.names 0; padding = framing.padding } in
     let at_top : SpelledAt (form_by rules) (top_place by_names) f chosen.octets (chosen.names 0) =
     chosen.there (top_place by_names) (record { padding = refl; depth = refl }) (λ i least most. refl) in
     let other : Framing = record { inside = wrapper_offsets at_top.forest; padding = framing.padding } in
     let named : by_names ≡ other =
-        ap (λ (names : List ℕ). record { inside = names; padding = framing.padding }) (sym at_top.names_are) in
+    ap (λ (names : List ℕ). record { inside = names; padding = framing.padding }) (sym at_top.names_are) in
     let sound : IsSound (top_place other) at_top.forest =
-        subst (λ (k : Framing). IsSound (top_place k) at_top.forest) named at_top.sound in
+    subst (λ (k : Framing). IsSound (top_place k) at_top.forest) named at_top.sound in
     let list : IsSoundList other chosen.octets = record {
       forest = at_top.forest;
       sound = sound;
@@ -268,7 +270,7 @@ some-spelling rules framing b f strict few ending reading low =
     } in
     let there : IsReading other chosen.octets at_top.forest = sound-reading other chosen.octets list in
     let small : length (spelling at_top.forest) ≤ 2 ^ 40 =
-        omega (arith, ap length at_top.spelled, chosen.short, few, ap length it.octets) in (
+    omega (arith, ap length at_top.spelled, chosen.short, few, ap length it.octets) in (
       chosen.octets,
       at_top.forest,
       record {

@@ -46,7 +46,7 @@ absent : (rules : Rules) (s : Site) (h : HeaderValue) → list_any is_item_on_sp
     → any_of is_on_spelling rules (header_conditions (surroundings_of s) h) ≡ false
 absent rules s h e =
     sym (found-with_header is_on_spelling rules (surroundings_of s) h)
-        ∙ sym (items-found s.level h.offset (header_findings rules (surroundings_of s) h)) ∙ e
+    ∙ sym (items-found s.level h.offset (header_findings rules (surroundings_of s) h)) ∙ e
 
 -- of four tests none holds
 none-of_four : (a b c d : Bool) → (a || (b || (c || (d || false)))) ≡ false
@@ -75,7 +75,7 @@ long-form h a more =
     let long : nat_lt 1 (length h.lengths) ≡ true = grind (arith, nat_tests) in
     let neither : (nat_lt (announced_length h.size) 128 || length_octet h == 0) ≡ false = rw long at a in
     let both : (nat_lt (announced_length h.size) 128 ≡ false) × ((length_octet h == 0) ≡ false) =
-        or_parts _ _ neither in
+    or_parts _ _ neither in
     let large : nat_lt (announced_length h.size) 128 ≡ false = both.0 in
     let nonzero : (length_octet h == 0) ≡ false = both.1 in
     (grind (arith, nat_tests), grind (arith, nat_tests))
@@ -110,12 +110,12 @@ regular Ber s h strict valid e = absurd (strict refl)
 regular Der s h strict valid e =
     let none = none-of_four (has_high_form h && nat_lt h.number 31) (has_high_form h && number_bits h == 0)
     (has_long_form h && (nat_lt (announced_length h.size) 128 || length_octet h == 0)) (is_indefinite h.size)
-        (absent Der s h e) in
+    (absent Der s h e) in
     record { shortest = shortest h valid none.0 none.1 none.2; by_form = none.3 }
 regular Cer s h strict valid e =
     let none = none-of_four (has_high_form h && nat_lt h.number 31) (has_high_form h && number_bits h == 0)
     (has_long_form h && (nat_lt (announced_length h.size) 128 || length_octet h == 0))
-        (h.constructed && not (is_indefinite h.size)) (absent Cer s h e) in
+    (h.constructed && not (is_indefinite h.size)) (absent Cer s h e) in
     record {
       shortest = shortest h valid none.0 none.1 none.2;
       by_form = by-form h.constructed h.size valid.allowed none.3;
@@ -134,23 +134,24 @@ module _ (rules : Rules) (strict : rules ≢ Ber) where
   all-regular p s (PaddingOctet rest) u e =
       all-regular (place_after p 1) (site_after_padding s) rest u.1
       (none-in (if is_padding s.previous then [] else PaddingLine s.level s.offset ∷ [])
-          (items rules (site_after_padding s) rest) e).1
+      (items rules (site_after_padding s) rest) e).1
   all-regular p s (Primitive h c rest) u e =
       let header =
-          none-in (on_header rules s h)
-              (PrimitiveLines s.level h c ∷ (on_contents rules s h c ++ items rules (site_after s h c) rest)) e in
-      let others = none-in (on_contents rules s h c) (items rules (site_after s h c) rest) header.1 in
-      (regular rules s h strict u.0.valid header.0,
-          all-regular (place_after p (length (octets_of h) + length c)) (site_after s h c) rest u.2 others.1)
+      none-in (on_header rules s h)
+      (PrimitiveLines s.level h c ∷ (on_contents rules s h c ++ items rules (site_after s h c) rest)) e in
+      let others = none-in (on_contents rules s h c) (items rules (site_after s h c) rest) header.1 in (
+        regular rules s h strict u.0.valid header.0,
+        all-regular (place_after p (length (octets_of h) + length c)) (site_after s h c) rest u.2 others.1,
+      )
   all-regular p s (Holder h inside rest) u e =
       let last : List Item = on_end rules s h inside ++ items rules (site_after_holder s h inside) rest in
       let held_and_last : List Item =
-          items rules (site_of_children s h) inside
-              ++ ClosingLine s.level (if h.constructed then end_place h inside else None) ∷ last in
+      items rules (site_of_children s h) inside
+      ++ ClosingLine s.level (if h.constructed then end_place h inside else None) ∷ last in
       let header = none-in (on_header rules s h) (OpeningLine s.level h ∷ held_and_last) e in
       let held =
-          none-in (items rules (site_of_children s h) inside)
-              (ClosingLine s.level (if h.constructed then end_place h inside else None) ∷ last) header.1 in
+      none-in (items rules (site_of_children s h) inside)
+      (ClosingLine s.level (if h.constructed then end_place h inside else None) ∷ last) header.1 in
       let others = none-in (on_end rules s h inside) (items rules (site_after_holder s h inside) rest) held.1 in (
         regular rules s h strict u.0.valid header.0,
         all-regular (place_of_children p h) (site_of_children s h) inside u.3 held.0,
@@ -174,7 +175,7 @@ pub sound-reading_of : (framing : Framing) (b : List ℕ) (f : Forest) → IsEnd
 sound-reading_of framing b f ending reading =
     let elements : IsSoundList framing b = done-sound framing b ending in
     let same : elements.forest ≡ f =
-        reading-unique framing b elements.forest f (sound-reading framing b elements) reading in
+    reading-unique framing b elements.forest f (sound-reading framing b elements) reading in
     record {
       sound = subst (IsSound (top_place framing)) same elements.sound;
       octets = ap spelling (sym same) ∙ elements.octets;

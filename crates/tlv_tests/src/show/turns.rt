@@ -1,5 +1,6 @@
 //! Dumps walked turn by turn, and up to a limit of octets.
-ghost use Rattle.std.specs.Prelude.{◌≤◌, ◌^◌};
+ghost use Rattle.std.specs.Prelude.{◌≤◌};
+ghost use Rattle.tlv_head.specs.InputLimit.{input_limit};
 
 use super::plain;
 use crate::expect::expect_eq;
@@ -27,7 +28,7 @@ fn whole(octets: u64) -> Run {
 /// Expects the lines of the string read by read of four octets, each with its octets: 1 after the
 /// first, then 2, 4 and 4.
 fn expect_reads(rt: &impl Abort, limit: u64)
-    requires { limit ≤ 2 ^ 40 }
+    requires { limit ≤ input_limit }
 {
     let text = b"       0      9: VisibleString {
        2      3:   OCTET STRING 4a 6f 6e

@@ -35,7 +35,7 @@ padded-join : (previous : ℕ) (x y : List ℕ)
 padded-join previous [] y = refl
 padded-join previous (z ∷ x) y =
     or-assoc (nat_lt previous 128 && eqb z 128) (is_padded_after z x) (is_padded_after (last_octet z x) y)
-        ∙ ap (λ (b : Bool). (nat_lt previous 128 && eqb z 128) || b) (padded-join z x y)
+    ∙ ap (λ (b : Bool). (nat_lt previous 128 && eqb z 128) || b) (padded-join z x y)
 
 utf8-join : (rows more : List (List ℕ)) → (all_utf8 rows && all_utf8 more) ≡ all_utf8 (rows ++ more)
 utf8-join [] more = refl
@@ -52,30 +52,30 @@ take-join n prefix x y = take-twice n (prefix ++ x) y ∙ ap (take n) (append_as
 
 padded-at : (b padded : Bool) (previous : ℕ) (x y : List ℕ)
     → (if b
-        then (if b then padded || is_padded_after previous x else padded) || is_padded_after (last_octet previous x) y
-        else (if b then padded || is_padded_after previous x else padded))
+    then (if b then padded || is_padded_after previous x else padded) || is_padded_after (last_octet previous x) y
+    else (if b then padded || is_padded_after previous x else padded))
     ≡ (if b then padded || is_padded_after previous (x ++ y) else padded)
 padded-at true padded previous x y =
     or-assoc padded (is_padded_after previous x) (is_padded_after (last_octet previous x) y)
-        ∙ ap (λ (b : Bool). padded || b) (padded-join previous x y)
+    ∙ ap (λ (b : Bool). padded || b) (padded-join previous x y)
 padded-at false padded previous x y = refl
 
 formed-at : (b formed : Bool) (row x y : List ℕ)
     → (if b
-        then (if b then formed && all_utf8 (full_rows Utf8 row x) else formed)
-            && all_utf8 (full_rows Utf8 (if b then open_row Utf8 row x else row) y)
-        else (if b then formed && all_utf8 (full_rows Utf8 row x) else formed))
+    then (if b then formed && all_utf8 (full_rows Utf8 row x) else formed)
+    && all_utf8 (full_rows Utf8 (if b then open_row Utf8 row x else row) y)
+    else (if b then formed && all_utf8 (full_rows Utf8 row x) else formed))
     ≡ (if b then formed && all_utf8 (full_rows Utf8 row (x ++ y)) else formed)
 formed-at true formed row x y =
     and-assoc formed (all_utf8 (full_rows Utf8 row x)) (all_utf8 (full_rows Utf8 (open_row Utf8 row x) y))
     ∙ ap (λ (b : Bool). formed && b)
-        (utf8-join (full_rows Utf8 row x) (full_rows Utf8 (open_row Utf8 row x) y)
-            ∙ ap all_utf8 (sym (rows-join Utf8 row x y).0))
+    (utf8-join (full_rows Utf8 row x) (full_rows Utf8 (open_row Utf8 row x) y)
+    ∙ ap all_utf8 (sym (rows-join Utf8 row x y).0))
 formed-at false formed row x y = refl
 
 row-at : (b : Bool) (row x y : List ℕ)
     → (if b then open_row Utf8 (if b then open_row Utf8 row x else row) y else (if b then open_row Utf8 row x else row))
-        ≡ (if b then open_row Utf8 row (x ++ y) else row)
+    ≡ (if b then open_row Utf8 row (x ++ y) else row)
 row-at true row x y = sym (rows-join Utf8 row x y).1
 row-at false row x y = refl
 
@@ -115,27 +115,27 @@ join-by : (f e t : Bool) (s : ValueCheckState) (x y : List ℕ)
 join-by true e t s x y =
     let l : s.left - length x - length y ≡ s.left - length (x ++ y) = omega (arith, length-append x y) in
     built-eq s (s.left - length x - length y) (s.left - length (x ++ y)) (take 2 (take 2 (s.first_octets ++ x) ++ y))
-        (take 2 (s.first_octets ++ (x ++ y))) (last_octet (last_octet s.last x) y) (last_octet s.last (x ++ y))
+    (take 2 (s.first_octets ++ (x ++ y))) (last_octet (last_octet s.last x) y) (last_octet s.last (x ++ y))
     s.allowed s.allowed s.padded s.padded s.formed s.formed s.row s.row s.time s.time
     l (take-join 2 s.first_octets x y) (last-join s.last x y) refl refl refl refl refl
 join-by false true t s x y =
     let l : s.left - length x - length y ≡ s.left - length (x ++ y) = omega (arith, length-append x y) in
     built-eq s (s.left - length x - length y) (s.left - length (x ++ y)) s.first_octets s.first_octets
-        (last_octet (last_octet s.last x) y) (last_octet s.last (x ++ y))
+    (last_octet (last_octet s.last x) y) (last_octet s.last (x ++ y))
     (with_each_noted (with_each_noted s x) y).allowed (with_each_noted s (x ++ y)).allowed
-        (with_each_noted (with_each_noted s x) y).padded (with_each_noted s (x ++ y)).padded
-        (with_each_noted (with_each_noted s x) y).formed (with_each_noted s (x ++ y)).formed
+    (with_each_noted (with_each_noted s x) y).padded (with_each_noted s (x ++ y)).padded
+    (with_each_noted (with_each_noted s x) y).formed (with_each_noted s (x ++ y)).formed
     (with_each_noted (with_each_noted s x) y).row (with_each_noted s (x ++ y)).row s.time s.time
     l refl (last-join s.last x y)
     (and-assoc s.allowed (list_all (allows_octet s.number) x) (list_all (allows_octet s.number) y)
-        ∙ ap (λ (b : Bool). s.allowed && b) (sym (list_all-append (allows_octet s.number) x y)))
+    ∙ ap (λ (b : Bool). s.allowed && b) (sym (list_all-append (allows_octet s.number) x y)))
     (padded-at (is_number_of object_types s.number) s.padded s.last x y)
-        (formed-at (eqb s.number 12) s.formed s.row x y) (row-at (eqb s.number 12) s.row x y) refl
+    (formed-at (eqb s.number 12) s.formed s.row x y) (row-at (eqb s.number 12) s.row x y) refl
 join-by false false true s x y =
     let l : s.left - length x - length y ≡ s.left - length (x ++ y) = omega (arith, length-append x y) in
     built-eq s (s.left - length x - length y) (s.left - length (x ++ y)) s.first_octets s.first_octets s.last s.last
     s.allowed s.allowed s.padded s.padded s.formed s.formed s.row s.row (take 64 (take 64 (s.time ++ x) ++ y))
-        (take 64 (s.time ++ (x ++ y)))
+    (take 64 (s.time ++ (x ++ y)))
     l refl refl refl refl refl refl (take-join 64 s.time x y)
 join-by false false false s x y =
     let l : s.left - length x - length y ≡ s.left - length (x ++ y) = omega (arith, length-append x y) in
@@ -170,10 +170,10 @@ none-by : (f e t : Bool) (n size : ℕ) → by_kind f e t (new_value_check_of n 
 none-by true e t n size = ap (λ (l : ℕ). record (new_value_check_of n size) { left = l }) (omega arith)
 none-by false true t n size =
     built-eq (new_value_check_of n size) (size - 0) size [] [] 0 0 true true
-        (if is_number_of object_types n then false else false) false (if eqb n 12 then true else true) true
-        (if eqb n 12 then [] else []) [] [] []
+    (if is_number_of object_types n then false else false) false (if eqb n 12 then true else true) true
+    (if eqb n 12 then [] else []) [] [] []
     (omega arith) refl refl refl (same-in-both (is_number_of object_types n) false) (same-in-both (eqb n 12) true)
-        (same-in-both (eqb n 12) []) refl
+    (same-in-both (eqb n 12) []) refl
 none-by false false true n size = ap (λ (l : ℕ). record (new_value_check_of n size) { left = l }) (omega arith)
 none-by false false false n size = ap (λ (l : ℕ). record (new_value_check_of n size) { left = l }) (omega arith)
 

@@ -19,7 +19,7 @@ pub nothing-noted : (s : ValueCheckState) (octets : List ℕ) → notes_each s.n
 nothing-noted s octets none =
     let all : list_all (allows_octet s.number) octets ≡ true =
     all-other s.number octets (λ e. grind (arith, nat_tests, e, none)) (λ e. grind (arith, nat_tests, e, none))
-        (λ e. grind (arith, nat_tests, e, none)) (λ e. grind (arith, nat_tests, e, none)) in
+    (λ e. grind (arith, nat_tests, e, none)) (λ e. grind (arith, nat_tests, e, none)) in
     let object : is_number_of object_types s.number ≡ false = grind (arith, nat_tests) in
     let text : eqb s.number 12 ≡ false = grind (arith, nat_tests) in
     rw (all, object, text, and-true s.allowed) refl
@@ -27,26 +27,28 @@ nothing-noted s octets none =
 -- an object identifier
 pub object-noted : (s : ValueCheckState) (octets : List ℕ) → is_number_of object_types s.number ≡ true
     → record s { padded = s.padded || is_padded_after s.last octets; last = last_octet s.last octets }
-        ≡ with_each_noted s octets
+    ≡ with_each_noted s octets
 object-noted s octets object =
     let all : list_all (allows_octet s.number) octets ≡ true =
     all-other s.number octets (λ e. grind (arith, nat_tests, e, object)) (λ e. grind (arith, nat_tests, e, object))
-        (λ e. grind (arith, nat_tests, e, object)) (λ e. grind (arith, nat_tests, e, object)) in
+    (λ e. grind (arith, nat_tests, e, object)) (λ e. grind (arith, nat_tests, e, object)) in
     let text : eqb s.number 12 ≡ false = grind (arith, nat_tests) in
     rw (all, object, text, and-true s.allowed) refl
 
 -- a UTF8String
 pub text-noted : (s : ValueCheckState) (octets : List ℕ) → s.number ≡ 12
-    → record s
-        { formed =
-            s.formed && all_utf8 (full_rows Utf8 s.row octets); row =
-                open_row Utf8 s.row octets; last = last_octet s.last octets
-        }
-        ≡ with_each_noted s octets
+    → record s {
+      formed =
+          s.formed && all_utf8 (full_rows Utf8 s.row octets);
+      row =
+          open_row Utf8 s.row octets;
+      last = last_octet s.last octets;
+    }
+    ≡ with_each_noted s octets
 text-noted s octets is_text =
     let all : list_all (allows_octet s.number) octets ≡ true =
     all-other s.number octets (λ e. grind (arith, nat_tests, e, is_text)) (λ e. grind (arith, nat_tests, e, is_text))
-        (λ e. grind (arith, nat_tests, e, is_text)) (λ e. grind (arith, nat_tests, e, is_text)) in
+    (λ e. grind (arith, nat_tests, e, is_text)) (λ e. grind (arith, nat_tests, e, is_text)) in
     let object : is_number_of object_types s.number ≡ false = grind (arith, nat_tests) in
     let text : eqb s.number 12 ≡ true = grind (arith, nat_tests) in
     rw (all, object, text, and-true s.allowed) refl
@@ -55,5 +57,5 @@ text-noted s octets is_text =
 pub characters-noted : (s : ValueCheckState) (octets : List ℕ) → is_number_of object_types s.number ≡ false
     → eqb s.number 12 ≡ false
     → record s { allowed = s.allowed && list_all (allows_octet s.number) octets; last = last_octet s.last octets }
-        ≡ with_each_noted s octets
+    ≡ with_each_noted s octets
 characters-noted s octets object text = rw (object, text) refl

@@ -38,23 +38,23 @@ gathered row xs = IsUtf8 (row ++ xs)
 joined_at : (row : List ℕ) (x : ℕ) (xs : List ℕ) (room last : Bool)
     → ((r : List ℕ) → all_utf8 (rows_filled Utf8 r xs) ≡ true → IsUtf8 (row_begun Utf8 r xs) → IsUtf8 (r ++ xs))
     → all_utf8
-        (if room then (if last then (row ++ x ∷ []) ∷ rows_filled Utf8 [] xs else rows_filled Utf8 (row ++ x ∷ []) xs)
-            else row ∷ rows_filled Utf8 (x ∷ []) xs)
-        ≡ true
+    (if room then (if last then (row ++ x ∷ []) ∷ rows_filled Utf8 [] xs else rows_filled Utf8 (row ++ x ∷ []) xs)
+    else row ∷ rows_filled Utf8 (x ∷ []) xs)
+    ≡ true
     → IsUtf8
-        (if room then (if last then row_begun Utf8 [] xs else row_begun Utf8 (row ++ x ∷ []) xs)
-            else row_begun Utf8 (x ∷ []) xs)
+    (if room then (if last then row_begun Utf8 [] xs else row_begun Utf8 (row ++ x ∷ []) xs)
+    else row_begun Utf8 (x ∷ []) xs)
     → IsUtf8 (row ++ x ∷ xs)
 joined_at row x xs true true more e u =
     let first : IsUtf8 (row ++ x ∷ []) =
-        IsUtf8-from_is_utf8 (row ++ x ∷ [])
-            (and_left (is_utf8 (row ++ x ∷ [])) (all_utf8 (rows_filled Utf8 [] xs)) e) in
+    IsUtf8-from_is_utf8 (row ++ x ∷ [])
+    (and_left (is_utf8 (row ++ x ∷ [])) (all_utf8 (rows_filled Utf8 [] xs)) e) in
     let rest : IsUtf8 xs = more [] (and_right (is_utf8 (row ++ x ∷ [])) (all_utf8 (rows_filled Utf8 [] xs)) e) u in
     rw (← append_assoc row (x ∷ []) xs) (IsUtf8-append (row ++ x ∷ []) xs first rest)
 joined_at row x xs true false more e u = rw (← append_assoc row (x ∷ []) xs) (more (row ++ x ∷ []) e u)
 joined_at row x xs false last more e u =
     IsUtf8-append row (x ∷ xs)
-        (IsUtf8-from_is_utf8 row (and_left (is_utf8 row) (all_utf8 (rows_filled Utf8 (x ∷ []) xs)) e))
+    (IsUtf8-from_is_utf8 row (and_left (is_utf8 row) (all_utf8 (rows_filled Utf8 (x ∷ []) xs)) e))
     (more (x ∷ []) (and_right (is_utf8 row) (all_utf8 (rows_filled Utf8 (x ∷ []) xs)) e) u)
 
 joined : (row xs : List ℕ) → all_utf8 (rows_filled Utf8 row xs) ≡ true → IsUtf8 (row_begun Utf8 row xs)
@@ -107,10 +107,10 @@ lead4 c h g = grind (arith, nat_tests)
 
 encode-at : (c : ℕ) (a b d : Bool) → ltb c 128 ≡ a → ltb c 2048 ≡ b → ltb c 65536 ≡ d → c < 1114112
     → IsUnit
-        (cond a (c ∷ [])
-            (cond b ((192 + c / 64) ∷ (128 + c % 64) ∷ [])
-                (cond d ((224 + c / 4096) ∷ (128 + c / 64 % 64) ∷ (128 + c % 64) ∷ [])
-                    ((240 + c / 262144) ∷ (128 + c / 4096 % 64) ∷ (128 + c / 64 % 64) ∷ (128 + c % 64) ∷ []))))
+    (cond a (c ∷ [])
+    (cond b ((192 + c / 64) ∷ (128 + c % 64) ∷ [])
+    (cond d ((224 + c / 4096) ∷ (128 + c / 64 % 64) ∷ (128 + c % 64) ∷ [])
+    ((240 + c / 262144) ∷ (128 + c / 4096 % 64) ∷ (128 + c / 64 % 64) ∷ (128 + c % 64) ∷ []))))
 encode-at c true b d e f g h = record {
   first = c;
   tail = [];
@@ -134,7 +134,7 @@ encode-at c false false true e f g h = record {
   announced_length = lead3 c (grind (arith, nat_tests)) (ltb-true c 65536 g);
   quiet =
       tail-more (128 + c / 64 % 64) ((128 + c % 64) ∷ []) (tail-quiet (c / 64))
-          (tail-one (128 + c % 64) (tail-quiet c));
+      (tail-one (128 + c % 64) (tail-quiet c));
   few = omega arith;
 }
 encode-at c false false false e f g h = record {
@@ -144,8 +144,8 @@ encode-at c false false false e f g h = record {
   announced_length = lead4 c (grind (arith, nat_tests)) h;
   quiet =
       tail-more (128 + c / 4096 % 64) ((128 + c / 64 % 64) ∷ (128 + c % 64) ∷ []) (tail-quiet (c / 4096))
-          (tail-more (128 + c / 64 % 64) ((128 + c % 64) ∷ []) (tail-quiet (c / 64))
-              (tail-one (128 + c % 64) (tail-quiet c)));
+      (tail-more (128 + c / 64 % 64) ((128 + c % 64) ∷ []) (tail-quiet (c / 64))
+      (tail-one (128 + c % 64) (tail-quiet c)));
   few = omega arith;
 }
 
@@ -166,7 +166,7 @@ room-unit n x tail a q h (suc i) g = rw (q i (omega arith)) (grind (arith, nat_t
 abbrev Filling : List ℕ → List ℕ → List ℕ → Type 0
 Filling row part rest =
     (rows_filled Utf8 row (part ++ rest) ≡ rows_filled Utf8 (row ++ part) rest)
-        × (row_begun Utf8 row (part ++ rest) ≡ row_begun Utf8 (row ++ part) rest)
+    × (row_begun Utf8 row (part ++ rest) ≡ row_begun Utf8 (row ++ part) rest)
 
 fill : (row part rest : List ℕ) → HaveRoom Utf8 (length row) part (length part) → length row + length part < 64
     → Filling row part rest
@@ -176,15 +176,15 @@ fill row (x ∷ xs) rest room h =
     let r : has_room Utf8 (length row) x ≡ true = rw l at (room 0 (omega arith)) in
     let e : eqb (length row + 1) 64 ≡ false = grind (arith, nat_tests) in
     let t =
-        fill (row ++ x ∷ []) xs rest (shift-room Utf8 row (length xs) x xs room)
-            (omega (arith, length-append row (x ∷ []))) in
+    fill (row ++ x ∷ []) xs rest (shift-room Utf8 row (length xs) x xs room)
+    (omega (arith, length-append row (x ∷ []))) in
     let a = append_assoc row (x ∷ []) xs in
     rw (r, e) (t.0 ∙ ap (λ (w : List ℕ). rows_filled Utf8 w rest) a, t.1 ∙ ap (λ (w : List ℕ). row_begun Utf8 w rest) a)
 
 abbrev Filled : List ℕ → List ℕ → List ℕ → Type 0
 Filled row part rest =
     (rows_filled Utf8 row (part ++ rest) ≡ (row ++ part) ∷ rows_filled Utf8 [] rest)
-        × (row_begun Utf8 row (part ++ rest) ≡ row_begun Utf8 [] rest)
+    × (row_begun Utf8 row (part ++ rest) ≡ row_begun Utf8 [] rest)
 
 fill-up : (row part rest : List ℕ) → HaveRoom Utf8 (length row) part (length part) → length row + length part ≡ 64
     → 1 ≤ length part → Filled row part rest
@@ -199,8 +199,8 @@ fill-up row (x ∷ y ∷ xs) rest room h some =
     let r : has_room Utf8 (length row) x ≡ true = rw l at (room 0 (omega arith)) in
     let e : eqb (length row + 1) 64 ≡ false = grind (arith, nat_tests) in
     let t =
-        fill-up (row ++ x ∷ []) (y ∷ xs) rest (shift-room Utf8 row (length (y ∷ xs)) x (y ∷ xs) room)
-            (omega (arith, length-append row (x ∷ []))) (omega arith) in
+    fill-up (row ++ x ∷ []) (y ∷ xs) rest (shift-room Utf8 row (length (y ∷ xs)) x (y ∷ xs) room)
+    (omega (arith, length-append row (x ∷ []))) (omega arith) in
     let a = append_assoc row (x ∷ []) (y ∷ xs) in
     rw (r, e) (t.0 ∙ ap (λ (w : List ℕ). w ∷ rows_filled Utf8 [] rest) a, t.1)
 
@@ -215,27 +215,28 @@ put_row row rows all u e f = rw (f, is_utf8-from_IsUtf8 row u) e
 module _ (row : List ℕ) (x : ℕ) (tail rest : List ℕ) (announced_length : utf8_length x ≡ suc (length tail))
     (quiet : IsTail tail) (few : length tail ≤ 3)
     (v : IsUtf8 (x ∷ tail)) (u : IsUtf8 row) (h : length row < 64)
-        (more : (r : List ℕ) → IsUtf8 r → length r < 64 → AreFormed r rest) where
+    (more : (r : List ℕ) → IsUtf8 r → length r < 64 → AreFormed r rest) where
   -- a character after the row that has begun
   unit-within : (full : Bool) → eqb (length row + suc (length tail)) 64 ≡ full → length row + suc (length tail) ≤ 64
       → AreFormed row ((x ∷ tail) ++ rest)
   unit-within false e l =
       let f =
-          fill row (x ∷ tail) rest (room-unit (length row) x tail announced_length quiet l)
-              (grind (arith, nat_tests)) in
+      fill row (x ∷ tail) rest (room-unit (length row) x tail announced_length quiet l)
+      (grind (arith, nat_tests)) in
       let g =
-          more (row ++ x ∷ tail) (IsUtf8-append row (x ∷ tail) u v)
-              (let w : length row + suc (length tail) < 64 =
-                  grind (arith, nat_tests) in omega (arith, length-append row (x ∷ tail))) in
+      more (row ++ x ∷ tail) (IsUtf8-append row (x ∷ tail) u v)
+      (let w : length row + suc (length tail) < 64 =
+      grind (arith, nat_tests) in omega (arith, length-append row (x ∷ tail))) in
       (ap all_utf8 f.0 ∙ g.0, rw f.1 g.1)
   unit-within true e l =
       let f =
-          fill-up row (x ∷ tail) rest (room-unit (length row) x tail announced_length quiet l)
-              (grind (arith, nat_tests)) (omega arith) in
-      let g = more [] IsUtf8-nil (omega arith) in
-      (put_row (row ++ x ∷ tail) (rows_filled Utf8 [] rest) (rows_filled Utf8 row ((x ∷ tail) ++ rest))
-          (IsUtf8-append row (x ∷ tail) u v) g.0 f.0,
-          rw f.1 g.1)
+      fill-up row (x ∷ tail) rest (room-unit (length row) x tail announced_length quiet l)
+      (grind (arith, nat_tests)) (omega arith) in
+      let g = more [] IsUtf8-nil (omega arith) in (
+        put_row (row ++ x ∷ tail) (rows_filled Utf8 [] rest) (rows_filled Utf8 row ((x ∷ tail) ++ rest))
+            (IsUtf8-append row (x ∷ tail) u v) g.0 f.0,
+        rw f.1 g.1,
+      )
 
   -- a character that begins a row
   unit-after : has_room Utf8 (length row) x ≡ false → AreFormed row ((x ∷ tail) ++ rest)
@@ -243,9 +244,9 @@ module _ (row : List ℕ) (x : ℕ) (tail rest : List ℕ) (announced_length : u
       let f = fill [] (x ∷ tail) rest (room-unit 0 x tail announced_length quiet (omega arith)) (omega arith) in
       let g = more (x ∷ tail) v (omega arith) in
       let p : rows_filled Utf8 row ((x ∷ tail) ++ rest) ≡ row ∷ rows_filled Utf8 (x ∷ tail) rest =
-          rw r (ap (λ (t : List (List ℕ)). row ∷ t) (sym (filled-begins Utf8 x (tail ++ rest)) ∙ f.0)) in
+      rw r (ap (λ (t : List (List ℕ)). row ∷ t) (sym (filled-begins Utf8 x (tail ++ rest)) ∙ f.0)) in
       let q : row_begun Utf8 row ((x ∷ tail) ++ rest) ≡ row_begun Utf8 (x ∷ tail) rest =
-          rw r (sym (begun-begins Utf8 x (tail ++ rest)) ∙ f.1) in
+      rw r (sym (begun-begins Utf8 x (tail ++ rest)) ∙ f.1) in
       (put_row row (rows_filled Utf8 (x ∷ tail) rest) (rows_filled Utf8 row ((x ∷ tail) ++ rest)) u g.0 p, rw q g.1)
 
   unit-step : (room : Bool) → nat_le (length row + suc (length tail)) 64 ≡ room → AreFormed row ((x ∷ tail) ++ rest)
@@ -260,9 +261,9 @@ formed row (c ∷ cs) e u h =
     let w = encode-unit c one in
     let v : IsUtf8 (w.first ∷ w.tail) = rw (← w.octets) (IsUtf8-encode c one) in
     rw w.octets
-        (unit-step row w.first w.tail (encodes cs) w.announced_length w.quiet w.few v u h
-            (λ r v g. formed r cs (and_right (scalar c) (scalars cs) e) v g)
-            (nat_le (length row + suc (length w.tail)) 64) refl)
+    (unit-step row w.first w.tail (encodes cs) w.announced_length w.quiet w.few v u h
+    (λ r v g. formed r cs (and_right (scalar c) (scalars cs) e) v g)
+    (nat_le (length row + suc (length w.tail)) 64) refl)
 
 same-bool : (a b : Bool) → (a ≡ true → b ≡ true) → (b ≡ true → a ≡ true) → a ≡ b
 same-bool true true f g = refl
@@ -277,11 +278,11 @@ steps-formed : (c : List ℕ) → ((true && all_utf8 (rows_filled Utf8 [] c)) &&
 steps-formed c =
     same-bool (all_utf8 (rows_filled Utf8 [] c) && is_utf8 (row_begun Utf8 [] c)) (is_utf8 c)
     (λ e. is_utf8-from_IsUtf8 c
-        (joined [] c (and_left (all_utf8 (rows_filled Utf8 [] c)) (is_utf8 (row_begun Utf8 [] c)) e)
+    (joined [] c (and_left (all_utf8 (rows_filled Utf8 [] c)) (is_utf8 (row_begun Utf8 [] c)) e)
     (IsUtf8-from_is_utf8 (row_begun Utf8 [] c)
-        (and_right (all_utf8 (rows_filled Utf8 [] c)) (is_utf8 (row_begun Utf8 [] c)) e))))
+    (and_right (all_utf8 (rows_filled Utf8 [] c)) (is_utf8 (row_begun Utf8 [] c)) e))))
     (λ e. let a =
-        all-formed c (IsUtf8-from_is_utf8 c e) in rw (a.0, is_utf8-from_IsUtf8 (row_begun Utf8 [] c) a.1) refl)
+    all-formed c (IsUtf8-from_is_utf8 c e) in rw (a.0, is_utf8-from_IsUtf8 (row_begun Utf8 [] c) a.1) refl)
 
 -- the rows of all octets, and the last one, which need not be full
 pub rows-formed_at : (c : List ℕ)
@@ -294,7 +295,7 @@ utf8-append : (rows more : List (List ℕ)) → all_utf8 (rows ++ more) ≡ (all
 utf8-append [] more = refl
 utf8-append (row ∷ rows) more =
     ap (λ (b : Bool). is_utf8 row && b) (utf8-append rows more)
-        ∙ and-assoc (is_utf8 row) (all_utf8 rows) (all_utf8 more)
+    ∙ and-assoc (is_utf8 row) (all_utf8 rows) (all_utf8 more)
 
 last-formed : (row : List ℕ) → all_utf8 (last_rows row) ≡ is_utf8 row
 last-formed [] = sym (is_utf8-from_IsUtf8 [] IsUtf8-nil)
@@ -303,8 +304,8 @@ last-formed (x ∷ row) = and-true (is_utf8 (x ∷ row))
 rows-all : (c : List ℕ) → all_utf8 (rows_of Utf8 c) ≡ is_utf8 c
 rows-all c =
     utf8-append (rows_filled Utf8 [] c) (last_rows (row_begun Utf8 [] c))
-        ∙ ap (λ (b : Bool). all_utf8 (rows_filled Utf8 [] c) && b) (last-formed (row_begun Utf8 [] c))
-        ∙ steps-formed c
+    ∙ ap (λ (b : Bool). all_utf8 (rows_filled Utf8 [] c) && b) (last-formed (row_begun Utf8 [] c))
+    ∙ steps-formed c
 
 pub rows-formed : (octets : List ℕ) → IsUtf8 octets ↔ (all_utf8 (rows_of Utf8 octets) ≡ true)
 rows-formed octets =

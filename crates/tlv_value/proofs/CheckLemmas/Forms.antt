@@ -25,7 +25,7 @@ flat_map-append : (g : Form) (xs ys : List (List ℕ)) → flat_map g (xs ++ ys)
 flat_map-append g [] ys = refl
 flat_map-append g (x ∷ xs) ys =
     ap (λ (t : List (List ℕ)). g x ++ t) (flat_map-append g xs ys)
-        ∙ sym (append_assoc (g x) (flat_map g xs) (flat_map g ys))
+    ∙ sym (append_assoc (g x) (flat_map g xs) (flat_map g ys))
 
 flat_map-twice : (f g : Form) (xs : List (List ℕ)) → flat_map g (flat_map f xs) ≡ flat_map (f then g) xs
 flat_map-twice f g [] = refl
@@ -39,7 +39,7 @@ form-three f g h c = ap is_rest_empty (flat_map-twice g h (f c))
 pub form-maybe : (f g : Form) (c : List ℕ) → has_form (maybe f then g) c ≡ (has_form (f then g) c || has_form g c)
 form-maybe f g c =
     ap is_rest_empty
-        (flat_map-append g (f c) (c ∷ []) ∙ ap (λ (t : List (List ℕ)). flat_map g (f c) ++ t) (append-nil (g c)))
+    (flat_map-append g (f c) (c ∷ []) ∙ ap (λ (t : List (List ℕ)). flat_map g (f c) ++ t) (append-nil (g c)))
     ∙ empty-append (flat_map g (f c)) (g c)
 
 -- a part that may be left out, and is there

@@ -50,43 +50,43 @@ all-is test e (x ∷ c) = rw (e x) (all-is test e c)
 boolean-same : (c : List ℕ) → Same 1 c
 boolean-same c =
     ap (λ (x : ℕ). finding_if (not (length c == 1)) B06
-        ++ (finding_if (length c == 1 && not (x == 0 || x == 255)) S02 ++ []))
-        (first-noted c)
+    ++ (finding_if (length c == 1 && not (x == 0 || x == 255)) S02 ++ []))
+    (first-noted c)
 
 integer-by : (c : List ℕ)
     → finding_if (length c == 0) B07 ++ (finding_if (is_padded_integer c) B08 ++ [])
-        ≡ finding_if (length c == 0) B07 ++ (finding_if (is_padded_integer (take 2 c)) B08 ++ [])
+    ≡ finding_if (length c == 0) B07 ++ (finding_if (is_padded_integer (take 2 c)) B08 ++ [])
 integer-by c = ap (λ (k : Bool). finding_if (length c == 0) B07 ++ (finding_if k B08 ++ [])) (padded-noted c)
 
 bits-same : (c : List ℕ) → Same 3 c
 bits-same c =
     ap (λ (x : ℕ).
     finding_if (length c == 0) B13
-        ++ (finding_if (nat_lt 7 x) B14 ++ (finding_if (length c == 1 && nat_le 1 x && nat_le x 7) B15
+    ++ (finding_if (nat_lt 7 x) B14 ++ (finding_if (length c == 1 && nat_le 1 x && nat_le x 7) B15
     ++ (finding_if (nat_le 2 (length c) && nat_le x 7 && not (last_octet 0 c % 2 ^ x == 0)) S03 ++ []))))
     (first-noted c)
 
 -- a time of at most 64 octets is noted as it is
 time-by : (short : Bool) (form canonical : Form) (c noted : List ℕ) → (short ≡ true → noted ≡ c)
     → finding_if (short && not (has_form form c)) B19
-        ++ (finding_if (short && has_form form c && not (has_form canonical c)) S04 ++ [])
+    ++ (finding_if (short && has_form form c && not (has_form canonical c)) S04 ++ [])
     ≡ finding_if (short && not (has_form form noted)) B19
-        ++ (finding_if (short && has_form form noted && not (has_form canonical noted)) S04 ++ [])
+    ++ (finding_if (short && has_form form noted && not (has_form canonical noted)) S04 ++ [])
 time-by false form canonical c noted e = refl
 time-by true form canonical c noted e =
     ap (λ (d : List ℕ). finding_if (not (has_form form d)) B19
-        ++ (finding_if (has_form form d && not (has_form canonical d)) S04 ++ []))
-        (sym (e refl))
+    ++ (finding_if (has_form form d && not (has_form canonical d)) S04 ++ []))
+    (sym (e refl))
 
 utc-same : (c : List ℕ) → Same 23 c
 utc-same c =
     time-by (nat_le (length c) 64) utc_time_form canonical_utc_time_form c (take 64 c)
-        (λ e. take-all 64 c (leb-true (length c) 64 e))
+    (λ e. take-all 64 c (leb-true (length c) 64 e))
 
 general-same : (c : List ℕ) → Same 24 c
 general-same c =
     time-by (nat_le (length c) 64) generalized_time_form canonical_generalized_time_form c (take 64 c)
-        (λ e. take-all 64 c (leb-true (length c) 64 e))
+    (λ e. take-all 64 c (leb-true (length c) 64 e))
 
 -- what the contents have as a whole, and what each octet has
 both-at : (n k : ℕ) (c : List ℕ) → eqb n k ≡ true → allows_both k c ≡ allows k c → allows_both n c ≡ allows n c
@@ -120,8 +120,8 @@ allows-both n c =
 -- any other type
 allowed-each : (n : ℕ) (c : List ℕ) (text : Bool)
     → ((if text
-        then (if text then true && all_utf8 (full_rows Utf8 [] c) else true)
-            && is_utf8 (if text then open_row Utf8 [] c else [])
+    then (if text then true && all_utf8 (full_rows Utf8 [] c) else true)
+    && is_utf8 (if text then open_row Utf8 [] c else [])
     else if eqb n 30 then eqb (length c % 2) 0
     else if eqb n 28 then eqb (length c % 4) 0
     else true)
@@ -141,8 +141,8 @@ other-allowed n c e1 e2 e3 e10 e23 e24 = rw (e1, e2, e3, e10, e23, e24) (by (not
   where
     by : (k : Bool) → notes_each n ≡ k
         → is_allowed
-            (if k then with_each_noted (new_value_check_of n (length c)) c else new_value_check_of n (length c))
-            ≡ allows_both n c
+        (if k then with_each_noted (new_value_check_of n (length c)) c else new_value_check_of n (length c))
+        ≡ allows_both n c
     by true e = allowed-each n c (eqb n 12)
     by false e = ap is_allowed (sym (nothing-noted (new_value_check_of n (length c)) c e)) ∙ allowed-each n c (eqb n 12)
 

@@ -41,7 +41,7 @@ and-last false b c f h = h
 
 any-weaker :
     (p q : List ℕ → Bool) → ((x : List ℕ) → p x ≡ true → q x ≡ true) → (xs : List (List ℕ)) → list_any p xs ≡ true
-        → list_any q xs ≡ true
+    → list_any q xs ≡ true
 any-weaker p q w [] h = h
 any-weaker p q w (x ∷ xs) h = or-both (p x) (list_any p xs) (q x) (list_any q xs) (w x) (any-weaker p q w xs) h
 
@@ -63,7 +63,7 @@ within-then {f} {g} {h} {k} v w = record {
   leaves = λ test octets e.
       any-flat_map test k (h octets)
       ∙ any-weaker (λ (x : List ℕ). list_any test (g x)) (λ (x : List ℕ). list_any test (k x)) (w.leaves test)
-          (h octets)
+      (h octets)
       (v.leaves (λ (x : List ℕ). list_any test (g x)) octets (sym (any-flat_map test g (f octets)) ∙ e));
 }
 
@@ -71,7 +71,7 @@ within-first : {f g : Form} (h : Form) → Within f g → Within f (g or h)
 within-first {f} {g} h v = record {
   leaves =
       λ test octets e. list_any-append test (g octets) (h octets)
-          ∙ or-left (list_any test (g octets)) (list_any test (h octets)) (v.leaves test octets e);
+      ∙ or-left (list_any test (g octets)) (list_any test (h octets)) (v.leaves test octets e);
 }
 
 within-or : {f g h k : Form} → Within f h → Within g k → Within (f or g) (h or k)
@@ -79,7 +79,7 @@ within-or {f} {g} {h} {k} v w = record {
   leaves = λ test octets e.
       list_any-append test (h octets) (k octets)
       ∙ or-both (list_any test (f octets)) (list_any test (g octets)) (list_any test (h octets))
-          (list_any test (k octets)) (v.leaves test octets)
+      (list_any test (k octets)) (v.leaves test octets)
       (w.leaves test octets) (sym (list_any-append test (f octets) (g octets)) ∙ e);
 }
 
@@ -91,7 +91,7 @@ together test f g h octets =
     any-flat_map test h (flat_map g (f octets))
     ∙ any-flat_map (λ (x : List ℕ). list_any test (h x)) g (f octets)
     ∙ any-same (λ (x : List ℕ). list_any (λ (y : List ℕ). list_any test (h y)) (g x))
-        (λ (x : List ℕ). list_any test ((g then h) x))
+    (λ (x : List ℕ). list_any test ((g then h) x))
     (λ (x : List ℕ). sym (any-flat_map test h (g x))) (f octets)
     ∙ sym (any-flat_map test (g then h) (f octets))
 
@@ -134,7 +134,7 @@ within-two low high more le = record { leaves = leave }
         let n : ℕ = 10 * (x - 48) + (y - 48) in
         let at_least : Bool = is_ascii_digit x && is_ascii_digit y && nat_le low n in
         if-within test (at_least && nat_le n high) (at_least && nat_le n more) (rest ∷ [])
-            (and-last at_least (nat_le n high) (nat_le n more) (greater n)) h
+        (and-last at_least (nat_le n high) (nat_le n more) (greater n)) h
 
 -- there may be no digits: then all is left
 no-digits : (test : List ℕ → Bool) (octets : List ℕ) → list_any test (octets ∷ []) ≡ true
@@ -142,7 +142,7 @@ no-digits : (test : List ℕ → Bool) (octets : List ℕ) → list_any test (oc
 no-digits test [] h = h
 no-digits test (x ∷ xs) h =
     or-both (test (x ∷ xs)) false (test (x ∷ xs)) (list_any test (if is_ascii_digit x then digits xs else []))
-        (λ e. e) (λ e. absurd cc) h
+    (λ e. e) (λ e. absurd cc) h
 
 -- something is left only if the test passes
 there :
@@ -176,12 +176,12 @@ digit-first test x xs more h =
         → (is_ascii_digit x ≡ true) × (list_any test (digits xs) ≡ true)
     go (inl e) =
         let t =
-            there (list_any test) (nat_le 49 x && nat_le x 57) (xs ∷ []) refl e in
-                (not-zero x t.0, no-digits test xs t.1)
+        there (list_any test) (nat_le 49 x && nat_le x 57) (xs ∷ []) refl e in
+        (not-zero x t.0, no-digits test xs t.1)
     go (inr e) =
         let t =
-            there (λ (rests : List (List ℕ)). list_any test (flat_map (one 49 57) rests)) (is_ascii_digit x)
-                (digits xs) refl e in (t.0, more t.1)
+        there (λ (rests : List (List ℕ)). list_any test (flat_map (one 49 57) rests)) (is_ascii_digit x)
+        (digits xs) refl e in (t.0, more t.1)
 
 digits-more : (test : List ℕ → Bool) (octets : List ℕ) → IsMore test octets
 digits-more test [] h = absurd cc
@@ -211,9 +211,9 @@ within-second w = within-then (within-first no_octets (within-same second)) w
 utc-within : Within canonical_utc_time_form utc_time_form
 utc-within =
     within-prefixes _ _ _ _ (within-same (two 0 99))
-        (within-prefixes _ _ _ _ (within-same day) (within-prefixes _ _ _ _ within-hour
+    (within-prefixes _ _ _ _ (within-same day) (within-prefixes _ _ _ _ within-hour
     (within-prefix _ _ _ (within-same minute)
-        (within-second (within-first (sign then hour then minute) (within-same (mark 90)))))))
+    (within-second (within-first (sign then hour then minute) (within-same (mark 90)))))))
 
 generalized-tail : Within (maybe canonical_fraction then mark 90) (maybe fraction then maybe generalized_zone)
 generalized-tail =
@@ -225,11 +225,11 @@ generalized-tail =
 generalized-within : Within canonical_generalized_time_form generalized_time_form
 generalized-within =
     within-prefixes _ _ _ _ (within-same (two 0 99))
-        (within-prefixes _ _ _ _ (within-same (two 0 99)) (within-prefixes _ _ _ _ (within-same day)
+    (within-prefixes _ _ _ _ (within-same (two 0 99)) (within-prefixes _ _ _ _ (within-same day)
     (within-prefix _ _ _ within-hour
     (within-then
-        (within-first no_octets (within-then (within-same minute) (within-first no_octets (within-same second))))
-        generalized-tail))))
+    (within-first no_octets (within-then (within-same minute) (within-first no_octets (within-same second))))
+    generalized-tail))))
 
 empty-any : (rests : List (List ℕ)) → is_rest_empty rests ≡ list_any is_nil rests
 empty-any [] = refl
@@ -239,10 +239,10 @@ empty-any ((x ∷ xs) ∷ rests) = empty-any rests
 -- if the canonical form is within the grammar, nothing is found exactly on contents of the canonical form
 clear-within :
     {f g : Form} → Within f g → (octets : List ℕ)
-        → has_form f octets ≡ eqb (length (time_findings (has_form g octets) (has_form f octets))) 0
+    → has_form f octets ≡ eqb (length (time_findings (has_form g octets) (has_form f octets))) 0
 clear-within {f} {g} w octets =
     go (has_form f octets) (has_form g octets)
-        (λ h. empty-any (g octets) ∙ w.leaves is_nil octets (sym (empty-any (f octets)) ∙ h))
+    (λ h. empty-any (g octets) ∙ w.leaves is_nil octets (sym (empty-any (f octets)) ∙ h))
   where
     go : (a b : Bool) → (a ≡ true → b ≡ true) → a ≡ eqb (length (time_findings b a)) 0
     go true true v = refl

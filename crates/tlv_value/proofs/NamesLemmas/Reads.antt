@@ -31,10 +31,11 @@ module _ (old middle new : SourceState) (octets : List ℕ) (x : Given old middl
   gives_failed e r = record {
     pieces =
         pieces_all old middle new x.gathered [] (consumes_kept middle.left new.left r.octets) r.reads
-            (inr (r.last, refl)) (omega arith);
-    gives =
-        (r.last,
-            subst (λ (l : List ℕ). length l ≤ names_limit) (sym (append-nil (concat x.gathered.pieces) ∙ x.are)) most);
+        (inr (r.last, refl)) (omega arith);
+    gives = (
+      r.last,
+      subst (λ (l : List ℕ). length l ≤ names_limit) (sym (append-nil (concat x.gathered.pieces) ∙ x.are)) most,
+    );
     failures = r.failures ∙ ap next_count failures;
   }
     where
@@ -57,7 +58,7 @@ module _ (old middle new : SourceState) (octets : List ℕ) (x : Given old middl
     abbrev pub pieces_so : Pieces old new
     pieces_so =
         pieces_all old middle new x.gathered (take n piece) r.octets.0 r.reads (inl (r.last ∙ ap gave (sym r_length)))
-            few
+        few
 
     length_all : length (concat x.gathered.pieces ++ take n piece) ≡ length octets + n
     length_all = ap length all_are ∙ length-append octets (take n piece) ∙ ap (λ (k : ℕ). length octets + k) r_length
@@ -68,9 +69,12 @@ module _ (old middle new : SourceState) (octets : List ℕ) (x : Given old middl
     pub gives_end : {Z : Type 0} → n ≡ 0 → (v : Vec ℕ Z) → v.items ≡ octets → Gives {Z = Z} old new (Ok v)
     gives_end z v is = record {
       pieces = pieces_so;
-      gives =
-          (all_are ∙ ap (λ (k : ℕ). octets ++ take k piece) z ∙ none_taken ∙ sym is, r.last ∙ ap gave z,
-              r.octets.1 z (omega (arith, room)), subst (λ (l : List ℕ). length l ≤ names_limit) (sym is) most);
+      gives = (
+        all_are ∙ ap (λ (k : ℕ). octets ++ take k piece) z ∙ none_taken ∙ sym is,
+        r.last ∙ ap gave z,
+        r.octets.1 z (omega (arith, room)),
+        subst (λ (l : List ℕ). length l ≤ names_limit) (sym is) most,
+      );
       failures = same_failures;
     }
       where
@@ -101,7 +105,7 @@ module _ (old middle new : SourceState) (octets : List ℕ) (x : Given old middl
     given_more some more is = record {
       gathered =
           gathered_more old middle new x.gathered (take n piece) r.octets.0 r.reads
-              (omega (arith, some, r_length), few);
+          (omega (arith, some, r_length), few);
       are = together_more x.gathered.pieces (take n piece) ∙ all_are ∙ sym is;
     }
 

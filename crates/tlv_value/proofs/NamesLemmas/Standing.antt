@@ -44,7 +44,7 @@ entries-push : (above : List NamesLine) (line : NamesLine)
 entries-push [] line = append-nil (line_entries line)
 entries-push (x ∷ above) line =
     ap (λ (es : List Entry). line_entries x ++ es) (entries-push above line)
-        ∙ sym (append_assoc (line_entries x) (entries_of above) (line_entries line))
+    ∙ sym (append_assoc (line_entries x) (entries_of above) (line_entries line))
 
 judged-more : (above below : List NamesLine) (line : NamesLine) → line_refusal above line ≡ None
     → judged above (line ∷ below) ≡ judged (above ++ line ∷ []) below
@@ -61,7 +61,7 @@ pub start : {Z : Type 0} (octets : List ℕ) (m : BTreeMap (Vec ℕ Z) (Vec ℕ 
     → Standing octets octets 0 (texts_in m)
 start {Z} octets m e =
     start-at octets (texts_in m)
-        (ap (λ (es : List (Vec ℕ Z × Vec ℕ Z)). map {B = Entry} (λ e. (e.0.items, e.1.items)) es) e)
+    (ap (λ (es : List (Vec ℕ Z × Vec ℕ Z)). map {B = Entry} (λ e. (e.0.items, e.1.items)) es) e)
 
 pub done : (octets rest : List ℕ) (number : ℕ) (es : List Entry) → Standing octets rest number es → length rest ≡ 0
     → names_of octets ≡ Ok (finite.from_entries es)
@@ -71,14 +71,14 @@ done octets rest number es s h =
     ∙ ap (λ (ls : List NamesLine). Ok (finite.from_entries (entries_of ls))) (append-nil s.above)
     ∙ ap Ok (finite.same_map nat_list_cmp_total (finite.slice_cmp-IsAntisymmetric finite.nat_cmp-IsAntisymmetric) _ _
     (λ q. finite.get-from_entries nat_list_cmp_total (entries_of s.above) q ∙ sym (s.found q)
-        ∙ sym (finite.get-from_entries nat_list_cmp_total es q)))
+    ∙ sym (finite.get-from_entries nat_list_cmp_total es q)))
 
 -- the next line
 pub next_line : (rest : List ℕ) (end : ℕ) → 0 < length rest → end ≡ position_or_len (λ x. x == 10) rest
     → map names_line (file_lines rest) ≡ names_line (take end rest) ∷ map names_line (file_lines (drop (end + 1) rest))
 next_line rest end h e =
     ap (map names_line) (first_line rest h)
-        ∙ ap (λ n. names_line (take n rest) ∷ map names_line (file_lines (drop (n + 1) rest))) (sym e)
+    ∙ ap (λ n. names_line (take n rest) ∷ map names_line (file_lines (drop (n + 1) rest))) (sym e)
 
 none-from : {A : Type 0} (o : Option A) → is_some o ≡ false → o ≡ None
 none-from None h = refl
@@ -88,7 +88,7 @@ go-on : (octets rest below : List ℕ) (number : ℕ) (es new : List Entry) (lin
     (s : Standing octets rest number es)
     → map names_line (file_lines rest) ≡ line ∷ map names_line (file_lines below) → line_refusal s.above line ≡ None
     → ((q : List ℕ) → find q new ≡ find q (entries_of s.above ++ line_entries line))
-        → length new ≡ length (entries_of s.above ++ line_entries line)
+    → length new ≡ length (entries_of s.above ++ line_entries line)
     → Standing octets below (number + 1) new
 go-on octets rest below number es new line s e h f l = record {
   above = s.above ++ line ∷ [];
@@ -107,7 +107,7 @@ among-above octets rest number es s q =
 pub step : {T : Type 0} (octets rest below : List ℕ) (number : ℕ) (es new : List Entry) (u : T) (line : NamesLine)
     (s : Standing octets rest number es)
     → map names_line (file_lines rest) ≡ line ∷ map names_line (file_lines below)
-        → AddsLine (number + 1) line es new (Ok u) → Standing octets below (number + 1) new
+    → AddsLine (number + 1) line es new (Ok u) → Standing octets below (number + 1) new
 step octets rest below number es new u no_entry s e a =
     go-on octets rest below number es new no_entry s e refl
     (λ q. ap (find q) a.1 ∙ s.found q ∙ ap (find q) (sym (append-nil (entries_of s.above))))
@@ -115,15 +115,15 @@ step octets rest below number es new u no_entry s e a =
 step octets rest below number es new u (entry dotted name) s e a =
     let absent : has_entry dotted es ≡ false = a.0 in
     let few : nat_le most_names (length (entries_of s.above)) ≡ false =
-        lt-leb most_names (length (entries_of s.above)) (omega (arith, a.1, s.size)) in
+    lt-leb most_names (length (entries_of s.above)) (omega (arith, a.1, s.size)) in
     let none : is_some (find dotted (entries_of s.above)) ≡ false =
-        sym (among-find dotted (entries_of s.above)) ∙ among-above octets rest number es s dotted ∙ absent in
+    sym (among-find dotted (entries_of s.above)) ∙ among-above octets rest number es s dotted ∙ absent in
     go-on octets rest below number es new (entry dotted name) s e
     (rw (among-above octets rest number es s dotted, absent, few) refl)
     (λ q. ap (find q) a.2 ∙ entries.find-put (slice_cmp nat_cmp) nat_list_cmp_total q dotted name es
     ∙ ap (λ (o : Option (List ℕ)). if eq_by_cmp (slice_cmp nat_cmp) q dotted then Some name else o) (s.found q)
     ∙ sym (entries.find-append (slice_cmp nat_cmp) nat_list_cmp_total (entries_of s.above) dotted name q
-        (none-from (find dotted (entries_of s.above)) none)))
+    (none-from (find dotted (entries_of s.above)) none)))
     (a.3 ∙ ap (λ n. n + 1) s.size ∙ sym (length-append (entries_of s.above) ((dotted, name) ∷ [])))
 step octets rest below number es new u no_object_identifier s e a = absurd (cc)
 step octets rest below number es new u no_name s e a = absurd (cc)
@@ -132,7 +132,7 @@ step octets rest below number es new u long_line s e a = absurd (cc)
 refused : (octets rest below : List ℕ) (number : ℕ) (es : List Entry) (line : NamesLine) (fault : NamesFault)
     (s : Standing octets rest number es)
     → map names_line (file_lines rest) ≡ line ∷ map names_line (file_lines below)
-        → line_refusal s.above line ≡ Some fault → names_of octets ≡ Err fault
+    → line_refusal s.above line ≡ Some fault → names_of octets ≡ Err fault
 refused octets rest below number es line fault s e h =
     s.same ∙ ap (judged s.above) e ∙ judged-refused s.above (map names_line (file_lines below)) line fault h
 
@@ -143,7 +143,7 @@ same-fault a b e = cc
 pub stop : (Z T : Type 0) (octets rest below : List ℕ) (number : ℕ) (es new : List Entry) (fault : NamesFault)
     (line : NamesLine) (s : Standing octets rest number es)
     → map names_line (file_lines rest) ≡ line ∷ map names_line (file_lines below)
-        → AddsLine {T = T} (number + 1) line es new (Err fault) → IsTableOf {Z = Z} octets (Err fault)
+    → AddsLine {T = T} (number + 1) line es new (Err fault) → IsTableOf {Z = Z} octets (Err fault)
 stop Z T octets rest below number es new fault no_entry s e a = absurd (let h : false ≡ true = a.0 in cc)
 stop Z T octets rest below number es new (BadOid n) (entry dotted name) s e a = absurd a
 stop Z T octets rest below number es new (BadName n) (entry dotted name) s e a = absurd a
@@ -151,19 +151,19 @@ stop Z T octets rest below number es new (Repeated n) (entry dotted name) s e a 
     let known : has_entry dotted es ≡ true = a.0 in
     let line_number : length s.above + 1 ≡ n = ap (λ n. n + 1) s.count ∙ sym a.1 in
     refused octets rest below number es (entry dotted name) (Repeated n) s e
-        (rw (among-above octets rest number es s dotted, known, line_number) refl)
+    (rw (among-above octets rest number es s dotted, known, line_number) refl)
 stop Z T octets rest below number es new TooLarge (entry dotted name) s e a =
     let absent : has_entry dotted es ≡ false = a.0 in
     let many : nat_le most_names (length (entries_of s.above)) ≡ true =
-        le-leb most_names (length (entries_of s.above)) (omega (arith, a.1, s.size)) in
+    le-leb most_names (length (entries_of s.above)) (omega (arith, a.1, s.size)) in
     refused octets rest below number es (entry dotted name) TooLarge s e
-        (rw (among-above octets rest number es s dotted, absent, many) refl)
+    (rw (among-above octets rest number es s dotted, absent, many) refl)
 stop Z T octets rest below number es new ReadFailed (entry dotted name) s e a = absurd a
 stop Z T octets rest below number es new Memory (entry dotted name) s e a = tt
 stop Z T octets rest below number es new fault no_object_identifier s e a =
     subst (λ f. IsTableOf {Z = Z} octets (Err f)) (sym (same-fault fault (BadOid (number + 1)) a))
     (refused octets rest below number es no_object_identifier (BadOid (number + 1)) s e
-        (ap (λ n. Some (BadOid (n + 1))) s.count))
+    (ap (λ n. Some (BadOid (n + 1))) s.count))
 stop Z T octets rest below number es new fault no_name s e a =
     subst (λ f. IsTableOf {Z = Z} octets (Err f)) (sym (same-fault fault (BadName (number + 1)) a))
     (refused octets rest below number es no_name (BadName (number + 1)) s e (ap (λ n. Some (BadName (n + 1))) s.count))

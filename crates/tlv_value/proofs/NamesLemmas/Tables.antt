@@ -26,8 +26,8 @@ among-at : (q : List ℕ) (e : Entry) (found : Option (List ℕ)) (b : Bool) →
     → (bytes_eq q e.0 || b) ≡ is_some (cond (eq_by_cmp (slice_cmp nat_cmp) q e.0) (Some e.1) found)
 among-at q e found b h =
     rw (is_eq-slice_cmp q e.0, h)
-        (elim (bytes_eq q e.0) as (λ t. (t || is_some found) ≡ is_some (cond t (Some e.1) found))
-            [ true ↦ refl | false ↦ refl ])
+    (elim (bytes_eq q e.0) as (λ t. (t || is_some found) ≡ is_some (cond t (Some e.1) found))
+    [ true ↦ refl | false ↦ refl ])
 
 pub among-find : (q : List ℕ) (es : List Entry) → has_entry q es ≡ is_some (finite.find (slice_cmp nat_cmp) q es)
 among-find q [] = refl
@@ -35,13 +35,12 @@ among-find q (e ∷ es) = among-at q e (finite.find (slice_cmp nat_cmp) q es) (h
 
 pub lookup-texts : {Z : Type 0} (q : List ℕ) (es : List (Vec ℕ Z × Vec ℕ Z))
     → option_map (λ name. name.items) (lookup (λ k. is_eq (slice_cmp nat_cmp q k.items)) es)
-        ≡ finite.find (slice_cmp nat_cmp) q (map texts es)
+    ≡ finite.find (slice_cmp nat_cmp) q (map texts es)
 lookup-texts q [] = refl
 lookup-texts {Z} q (e ∷ es) =
     elim (is_eq (slice_cmp nat_cmp q e.0.items)) as (λ b. option_map (λ (name : Vec ℕ Z). name.items)
-        (cond b (Some e.1) (lookup (λ k. is_eq (slice_cmp nat_cmp q k.items)) es))
-        ≡ cond b (Some e.1.items) (finite.find (slice_cmp nat_cmp) q (map texts es)))
-        [
+    (cond b (Some e.1) (lookup (λ k. is_eq (slice_cmp nat_cmp q k.items)) es))
+    ≡ cond b (Some e.1.items) (finite.find (slice_cmp nat_cmp) q (map texts es))) [
       | true ↦ refl
       | false ↦ lookup-texts q es
     ]
@@ -51,10 +50,9 @@ pub put-texts : {Z : Type 0} (k v : Vec ℕ Z) (es : List (Vec ℕ Z × Vec ℕ 
 put-texts k v [] = refl
 put-texts {Z} k v (e ∷ es) =
     elim (slice_cmp nat_cmp k.items e.0.items) as (λ o. map texts
-        (match_ordering o ((k, v) ∷ e ∷ es) ((e.0, v) ∷ es) (e ∷ insert_entry key_cmp es k v))
-        ≡ entries.by_order o ((k.items, v.items) ∷ texts e ∷ map texts es) ((e.0.items, v.items) ∷ map texts es)
-            (texts e ∷ finite.put (slice_cmp nat_cmp) k.items v.items (map texts es)))
-        [
+    (match_ordering o ((k, v) ∷ e ∷ es) ((e.0, v) ∷ es) (e ∷ insert_entry key_cmp es k v))
+    ≡ entries.by_order o ((k.items, v.items) ∷ texts e ∷ map texts es) ((e.0.items, v.items) ∷ map texts es)
+    (texts e ∷ finite.put (slice_cmp nat_cmp) k.items v.items (map texts es))) [
       | Less ↦ refl
       | Equal ↦ refl
       | Greater ↦ ap (λ (rest : List Entry). texts e ∷ rest) (put-texts k v es)
@@ -81,22 +79,22 @@ pub put-entry : {Z : Type 0} (k v : Vec ℕ Z) (old new : BTreeMap (Vec ℕ Z) (
     → k.items ≡ dotted → v.items ≡ name → texts_in new ≡ finite.put (slice_cmp nat_cmp) dotted name (texts_in old)
 put-entry k v old new dotted name e d n =
     ap (map texts) e ∙ put-texts k v old.entries
-        ∙ ap (λ (q : List ℕ). finite.put (slice_cmp nat_cmp) q v.items (texts_in old)) d
+    ∙ ap (λ (q : List ℕ). finite.put (slice_cmp nat_cmp) q v.items (texts_in old)) d
     ∙ ap (λ (t : List ℕ). finite.put (slice_cmp nat_cmp) dotted t (texts_in old)) n
 
 -- a new key makes the map longer by one
 pub one-longer : {Z : Type 0} (k : Vec ℕ Z) (old new : BTreeMap (Vec ℕ Z) (Vec ℕ Z)) (dotted : List ℕ)
     (had : Option (Vec ℕ Z)) (b : Bool)
     → had ≡ get_by (key_cmp k) old → btree_map_len new ≡ btree_map_len old + (if is_some had then 0 else 1)
-        → k.items ≡ dotted
+    → k.items ≡ dotted
     → b ≡ is_some (get_by (λ y. slice_cmp nat_cmp dotted y.items) old) → b ≡ false
-        → length (texts_in new) ≡ length (texts_in old) + 1
+    → length (texts_in new) ≡ length (texts_in old) + 1
 one-longer {Z} k old new dotted had b h l d c e =
     let none : is_some had ≡ false =
-        ap is_some h ∙ ap (λ (q : List ℕ). is_some (get_by (λ (y : Vec ℕ Z). slice_cmp nat_cmp q y.items) old)) d
-            ∙ sym c ∙ e in
+    ap is_some h ∙ ap (λ (q : List ℕ). is_some (get_by (λ (y : Vec ℕ Z). slice_cmp nat_cmp q y.items) old)) d
+    ∙ sym c ∙ e in
     let more : btree_map_len new ≡ btree_map_len old + 1 =
-        l ∙ ap (λ t. btree_map_len old + (if t then 0 else 1)) none in
+    l ∙ ap (λ t. btree_map_len old + (if t then 0 else 1)) none in
     omega (arith, length-texts new, length-texts old)
 
 -- what a look-up returns
@@ -112,6 +110,6 @@ pub get-some : {Z : Type 0} (table : Option (BTreeMap (Vec ℕ Z) (Vec ℕ Z))) 
     (q : List ℕ) (o : Option (Vec ℕ Z))
     → table ≡ Some m
     → o ≡ get_by (λ k. slice_cmp nat_cmp q k.items) m
-        → option_map (λ name. name.items) o ≡ finite.get (names_in table) q
+    → option_map (λ name. name.items) o ≡ finite.get (names_in table) q
 get-some {Z} table m q o e h =
     ap (option_map (λ (name : Vec ℕ Z). name.items)) h ∙ get-texts m q ∙ ap (λ t. finite.get (names_in t) q) (sym e)

@@ -36,7 +36,7 @@ drop-one n x xs = let e : 1 + n ≡ suc n = omega arith in rw e refl
 line-at : (b : Bool) (x n : ℕ) (xs : List ℕ)
     → onto_first x (file_lines xs) ≡ (x ∷ take n xs) ∷ file_lines (drop (n + 1) xs)
     → cond b ([] ∷ file_lines xs) (onto_first x (file_lines xs))
-        ≡ take (cond (not b) (1 + n) 0) (x ∷ xs) ∷ file_lines (drop (cond (not b) (1 + n) 0 + 1) (x ∷ xs))
+    ≡ take (cond (not b) (1 + n) 0) (x ∷ xs) ∷ file_lines (drop (cond (not b) (1 + n) 0 + 1) (x ∷ xs))
 line-at true x n xs h = refl
 line-at false x n xs h = rw (take-more n x xs, drop-more n x xs) h
 
@@ -46,14 +46,14 @@ first_line [] some = absurd (omega arith)
 first_line (x ∷ []) some = line-at (x == 10) x 0 [] refl
 first_line (x ∷ y ∷ ys) some =
     line-at (x == 10) x (position_or_len (is_mark 10) (y ∷ ys)) (y ∷ ys)
-        (ap (onto_first x) (first_line (y ∷ ys) (omega arith)))
+    (ap (onto_first x) (first_line (y ∷ ys) (omega arith)))
 
 -- the blanks after the first
 
 blanks-at : (b : Bool) (x n : ℕ) (xs : List ℕ) → is_blank x ≡ b
     → without_first_blanks (drop n xs) ≡ without_first_blanks (drop (n + 1) xs)
     → without_first_blanks (drop (cond (not b) (1 + n) 0) (x ∷ xs))
-        ≡ without_first_blanks (drop (cond (not b) (1 + n) 0 + 1) (x ∷ xs))
+    ≡ without_first_blanks (drop (cond (not b) (1 + n) 0 + 1) (x ∷ xs))
 blanks-at true x n xs e h = rw e refl
 blanks-at false x n xs e h = rw (drop-one n x xs, drop-more n x xs) h
 
@@ -68,20 +68,20 @@ all-push : (xs : List ℕ) (x : ℕ) → list_all is_blank (xs ++ x ∷ []) ≡ 
 all-push [] x = elim (is_blank x) as (λ b. (b && true) ≡ (true && b)) [ true ↦ refl | false ↦ refl ]
 all-push (y ∷ xs) x =
     elim (is_blank y) as (λ b. (b && list_all is_blank (xs ++ x ∷ [])) ≡ ((b && list_all is_blank xs) && is_blank x))
-        [ true ↦ all-push xs x | false ↦ refl ]
+    [ true ↦ all-push xs x | false ↦ refl ]
 
 pub last_blank : (xs : List ℕ) (x : ℕ) → is_blank x ≡ true → without_last_blanks (xs ++ x ∷ []) ≡ without_last_blanks xs
 last_blank [] x e = rw e refl
 last_blank (y ∷ xs) x e =
     let same : list_all is_blank (xs ++ x ∷ []) ≡ list_all is_blank xs =
-        all-push xs x ∙ rw e (elim (list_all is_blank xs) as (λ b. (b && true) ≡ b) [ true ↦ refl | false ↦ refl ]) in
+    all-push xs x ∙ rw e (elim (list_all is_blank xs) as (λ b. (b && true) ≡ b) [ true ↦ refl | false ↦ refl ]) in
     rw (same, last_blank xs x e) refl
 
 pub last_no_blank : (xs : List ℕ) (x : ℕ) → is_blank x ≡ false → without_last_blanks (xs ++ x ∷ []) ≡ xs ++ x ∷ []
 last_no_blank [] x e = rw e refl
 last_no_blank (y ∷ xs) x e =
     let some : list_all is_blank (xs ++ x ∷ []) ≡ false =
-        all-push xs x ∙ and_right (list_all is_blank xs) (is_blank x) e in
+    all-push xs x ∙ and_right (list_all is_blank xs) (is_blank x) e in
     rw (some, and_right (is_blank y) false refl, last_no_blank xs x e) refl
 
 -- the arcs between dots
@@ -90,8 +90,7 @@ pub one_part : (xs : List ℕ) → length xs ≤ position_or_len (is_mark 46) xs
 one_part [] h = refl
 one_part (x ∷ xs) h =
     elim (x == 46) as (λ b. suc (length xs) ≤ cond (not b) (1 + position_or_len (is_mark 46) xs) 0
-        → cond b ([] ∷ dotted_parts xs) (std_list.onto_first x (dotted_parts xs)) ≡ (x ∷ xs) ∷ [])
-        [
+    → cond b ([] ∷ dotted_parts xs) (std_list.onto_first x (dotted_parts xs)) ≡ (x ∷ xs) ∷ []) [
       | true ↦ λ g. absurd (omega arith)
       | false ↦ λ g. ap (std_list.onto_first x) (one_part xs (omega arith))
     ] h
@@ -101,9 +100,8 @@ first_part [] = ([], refl)
 first_part (x ∷ xs) =
     let rest = first_part xs in
     elim (x == 46) as (λ b. (more : List (List ℕ))
-        × (cond b ([] ∷ dotted_parts xs) (std_list.onto_first x (dotted_parts xs))
-            ≡ take (cond (not b) (1 + position_or_len (is_mark 46) xs) 0) (x ∷ xs) ∷ more))
-        [
+    × (cond b ([] ∷ dotted_parts xs) (std_list.onto_first x (dotted_parts xs))
+    ≡ take (cond (not b) (1 + position_or_len (is_mark 46) xs) 0) (x ∷ xs) ∷ more)) [
       | true ↦ (dotted_parts xs, refl)
       | false ↦ (rest.0, rw (take-more (position_or_len (is_mark 46) xs) x xs) (ap (std_list.onto_first x) rest.1))
     ]
@@ -127,7 +125,7 @@ pub more_arcs : (xs : List ℕ) → position_or_len (is_mark 46) xs < length xs
     → list_all is_arc (dotted_parts xs) ≡ list_all is_arc (dotted_parts (after_first (is_mark 46) xs))
 more_arcs xs h a =
     let e : dotted_parts xs ≡ before_first (is_mark 46) xs ∷ dotted_parts (after_first (is_mark 46) xs) =
-        more_parts xs h in rw (e, a) refl
+    more_parts xs h in rw (e, a) refl
 
 -- what is known of an arc
 pub some_digit : (arc : List ℕ) → is_arc arc ≡ true → 0 < length arc
@@ -138,8 +136,8 @@ arc-parts : (arc : List ℕ) → is_arc arc ≡ true
     → (list_all is_ascii_digit arc ≡ true) × (((length arc == 1) || not (slice_index arc 0 == 48)) ≡ true)
 arc-parts arc h =
     let outer =
-        and_parts (not (length arc == 0) && list_all is_ascii_digit arc)
-            ((length arc == 1) || not (slice_index arc 0 == 48)) h in
+    and_parts (not (length arc == 0) && list_all is_ascii_digit arc)
+    ((length arc == 1) || not (slice_index arc 0 == 48)) h in
     ((and_parts (not (length arc == 0)) (list_all is_ascii_digit arc) outer.0).1, outer.1)
 
 digit-between : (x : ℕ) → is_ascii_digit x ≡ true → (48 ≤ x) × (x ≤ 57)
@@ -180,7 +178,7 @@ all-digits (d ∷ ds) h =
 weighed-arc : (arc : List ℕ) → is_arc arc ≡ true → weighed arc ≡ digits_value 10 arc
 weighed-arc arc a =
     (numerals_by_weight (AllDigits 10) tells_digits weighed (record { empty = refl; more = λ c cs k. refl })).same arc
-        (all-digits arc (arc-parts arc a).0)
+    (all-digits arc (arc-parts arc a).0)
 
 -- a number of one, two and more digits
 
@@ -232,9 +230,9 @@ forty_of_more (d ∷ e ∷ f ∷ ds) a h =
     let low : 1 ≤ 10 ^ n = one-le-pow n 10 (omega arith) in
     let same : 10 ^ suc (suc n) ≡ 10 * (10 * 10 ^ n) = pow-succ' 10 (suc n) ∙ ap (λ m. 10 * m) (pow-succ' 10 n) in
     let more : 100 ≤ (d - 48) * 10 ^ suc (suc n) =
-        rw same (larger d (10 ^ n) (long-arc d e (f ∷ ds) a).first_low low) in
+    rw same (larger d (10 ^ n) (long-arc d e (f ∷ ds) a).first_low low) in
     ap (λ (k : ℕ). nat_le k 39) (sym (weighed-arc (d ∷ e ∷ f ∷ ds) a))
-        ∙ lt-leb (weighed (d ∷ e ∷ f ∷ ds)) 39 (omega (arith, more))
+    ∙ lt-leb (weighed (d ∷ e ∷ f ∷ ds)) 39 (omega (arith, more))
 
 pub three_of_one : (arc : List ℕ) → is_arc arc ≡ true → length arc ≤ 1 → 50 < get_or arc 0 0 → 3 ≤ digits_value 10 arc
 three_of_one [] a h g = absurd (omega arith)
@@ -260,9 +258,9 @@ pub first_arc : (xs : List ℕ) (end : ℕ) → end ≡ position_or_len (is_mark
 first_arc xs end e h =
     let first = first_part xs in
     let all : list_all is_arc (before_first (is_mark 46) xs ∷ first.0) ≡ true =
-        subst (λ (ps : List (List ℕ)). list_all is_arc ps ≡ true) first.1 h in
+    subst (λ (ps : List (List ℕ)). list_all is_arc ps ≡ true) first.1 h in
     subst (λ n. is_arc (take n xs) ≡ true) (sym e)
-        (and_parts (is_arc (before_first (is_mark 46) xs)) (list_all is_arc first.0) all).0
+    (and_parts (is_arc (before_first (is_mark 46) xs)) (list_all is_arc first.0) all).0
 
 pub whole_arc : (xs : List ℕ) (end : ℕ) → end ≡ position_or_len (is_mark 46) xs → end ≡ length xs
     → is_arc (take end xs) ≡ true → list_all is_arc (dotted_parts xs) ≡ true
@@ -275,7 +273,7 @@ pub rest_arcs : (xs : List ℕ) (end : ℕ) → end ≡ position_or_len (is_mark
     → list_all is_arc (dotted_parts xs) ≡ list_all is_arc (dotted_parts (drop (end + 1) xs))
 rest_arcs xs end e l h =
     more_arcs xs (omega arith) (subst (λ n. is_arc (take n xs) ≡ true) e h)
-        ∙ ap (λ n. list_all is_arc (dotted_parts (drop (n + 1) xs))) (sym e)
+    ∙ ap (λ n. list_all is_arc (dotted_parts (drop (n + 1) xs))) (sym e)
 
 pub one_part_alone : (xs : List ℕ) (end : ℕ) → end ≡ position_or_len (is_mark 46) xs → end ≡ length xs
     → are_first_arcs (dotted_parts xs) ≡ false
@@ -286,10 +284,10 @@ pub two_parts : (xs : List ℕ) (end next : ℕ) → end ≡ position_or_len (is
     → may_begin (take end xs) (take next (drop (end + 1) xs)) ≡ are_first_arcs (dotted_parts xs)
 two_parts xs end next e l f =
     let first : dotted_parts xs ≡ take end xs ∷ dotted_parts (drop (end + 1) xs) =
-        more_parts xs (omega arith) ∙ ap (λ n. take n xs ∷ dotted_parts (drop (n + 1) xs)) (sym e) in
+    more_parts xs (omega arith) ∙ ap (λ n. take n xs ∷ dotted_parts (drop (n + 1) xs)) (sym e) in
     let second = first_part (drop (end + 1) xs) in
     let both : dotted_parts (drop (end + 1) xs) ≡ take next (drop (end + 1) xs) ∷ second.0 =
-        second.1 ∙ ap (λ n. take n (drop (end + 1) xs) ∷ second.0) (sym f) in
+    second.1 ∙ ap (λ n. take n (drop (end + 1) xs) ∷ second.0) (sym f) in
     sym (ap are_first_arcs (first ∙ ap (λ (ps : List (List ℕ)). take end xs ∷ ps) both))
 
 -- blanks taken from the end
@@ -309,7 +307,7 @@ pub last_end : (xs : List ℕ) (end : ℕ) → 0 < end → end ≤ length xs →
     → without_last_blanks (take end xs) ≡ take end xs
 last_end xs end h l b =
     ap without_last_blanks (one-more xs end h l) ∙ last_no_blank (take (end - 1) xs) (get_or xs (end - 1) 0) b
-        ∙ sym (one-more xs end h l)
+    ∙ sym (one-more xs end h l)
 
 pub empty_end : (xs : List ℕ) (end : ℕ) → end ≡ 0 → without_last_blanks (take end xs) ≡ take end xs
 empty_end xs end e = rw e refl
@@ -324,7 +322,7 @@ full_text (x ∷ xs) some mark = let e : (x == 35) ≡ false = ne_eqb x 35 mark 
 pub full_entry : (line text : List ℕ) (end : ℕ) → length line ≤ 400 → text ≡ without_outer_blanks (without_return line)
     → 0 < length text → (get_or text 0 0 ≡ 35 → ⊥)
     → end ≡ position_or_len is_blank text
-        → names_line line ≡ pair_line (take end text) (without_first_blanks (drop end text))
+    → names_line line ≡ pair_line (take end text) (without_first_blanks (drop end text))
 full_entry line text end h e some mark at =
     let short : nat_lt 400 (length line) ≡ false = le-ltb 400 (length line) h in
     rw (short, ← e, at, blanks_from_first text) (full_text text some mark)
@@ -332,11 +330,11 @@ full_entry line text end h e some mark at =
 pub full_pair : (line text name : List ℕ) (end : ℕ) → length line ≤ 400
     → text ≡ without_outer_blanks (without_return line) → (length text == 0) ≡ false → (get_or text 0 0 ≡ 35 → ⊥)
     → end ≡ position_or_len is_blank text → name ≡ without_first_blanks (take (length text - end) (drop end text))
-        → names_line line ≡ pair_line (take end text) name
+    → names_line line ≡ pair_line (take end text) name
 full_pair line text name end h e some mark at n =
     let nonempty : length text ≡ 0 → ⊥ = eqb-false (length text) 0 some in
     full_entry line text end h e (omega arith) mark at
-        ∙ ap (pair_line (take end text)) (sym (n ∙ ap without_first_blanks (take_rest text end)))
+    ∙ ap (pair_line (take end text)) (sym (n ∙ ap without_first_blanks (take_rest text end)))
 
 pub no_name_pair : (dotted name : List ℕ) → is_dotted dotted ≡ true → is_name name ≡ false
     → pair_line dotted name ≡ no_name

@@ -56,30 +56,31 @@ module _ (kind : Kind) (short : row_size kind ≡ 16) where
 
   first_row : (octets : List ℕ) → 16 ≤ length octets
       → (rows_filled kind [] octets ≡ take 16 octets ∷ rows_filled kind [] (drop 16 octets))
-          × (row_begun kind [] octets ≡ row_begun kind [] (drop 16 octets))
+      × (row_begun kind [] octets ≡ row_begun kind [] (drop 16 octets))
   first_row octets h =
       next_row kind [] 16 octets (room 16 octets (omega arith)) (omega (arith, short)) h (omega (arith, short))
-          (inl (omega (arith, short)))
+      (inl (omega (arith, short)))
 
   -- so many rows
   rows_first : (n : ℕ) (octets : List ℕ) → n * 16 ≤ length octets
       → (rows_filled kind [] octets ≡ first_chunks 16 n octets ++ rows_filled kind [] (drop (n * 16) octets))
-          × (row_begun kind [] octets ≡ row_begun kind [] (drop (n * 16) octets))
+      × (row_begun kind [] octets ≡ row_begun kind [] (drop (n * 16) octets))
   rows_first zero octets h = (refl, refl)
   rows_first (suc n) octets h =
       let t = first_row octets (omega (arith, h)) in
       let more = rows_first n (drop 16 octets) (omega (arith, h, length-drop 16 octets)) in
       let e : drop (n * 16) (drop 16 octets) ≡ drop (suc n * 16) octets =
-          drop-drop (n * 16) 16 octets ∙ ap (λ (k : ℕ). drop k octets) (omega arith) in
-      (t.0
-          ∙ ap (λ (l : List (List ℕ)). take 16 octets ∷ l)
-              (more.0 ∙ ap (λ (l : List ℕ). first_chunks 16 n (drop 16 octets) ++ rows_filled kind [] l) e),
-          t.1 ∙ more.1 ∙ ap (row_begun kind []) e)
+      drop-drop (n * 16) 16 octets ∙ ap (λ (k : ℕ). drop k octets) (omega arith) in (
+        t.0
+            ∙ ap (λ (l : List (List ℕ)). take 16 octets ∷ l)
+            (more.0 ∙ ap (λ (l : List ℕ). first_chunks 16 n (drop 16 octets) ++ rows_filled kind [] l) e),
+        t.1 ∙ more.1 ∙ ap (row_begun kind []) e,
+      )
 
   -- all rows: the full ones, and the last
   pub rows_cut : (octets : List ℕ)
       → rows_of kind octets
-          ≡ first_chunks 16 (length octets / 16) octets ++ last_rows (drop (length octets / 16 * 16) octets)
+      ≡ first_chunks 16 (length octets / 16) octets ++ last_rows (drop (length octets / 16 * 16) octets)
   rows_cut octets =
       let n : ℕ = length octets / 16 in
       let more : List ℕ = drop (n * 16) octets in
@@ -88,7 +89,7 @@ module _ (kind : Kind) (short : row_size kind ≡ 16) where
       let k = keep kind [] more (room (length more) more (omega (arith, l))) (omega (arith, l, short)) in
       rows-filled kind octets
       ∙ ap (λ (r : List (List ℕ)). r ++ last_rows (row_begun kind [] octets))
-          (t.0 ∙ ap (λ (r : List (List ℕ)). first_chunks 16 n octets ++ r) k.0 ∙ append-nil (first_chunks 16 n octets))
+      (t.0 ∙ ap (λ (r : List (List ℕ)). first_chunks 16 n octets ++ r) k.0 ∙ append-nil (first_chunks 16 n octets))
       ∙ ap (λ (r : List ℕ). first_chunks 16 n octets ++ last_rows r) (t.1 ∙ k.1)
 
   module _ (layout : Layout) (endless : layout.limit ≡ None) where
@@ -97,16 +98,16 @@ module _ (kind : Kind) (short : row_size kind ≡ 16) where
     lines_of i [] = refl
     lines_of i (row ∷ rows) =
         let one : row_line layout i (row_text kind row) ≡ full_line layout row =
-            rw (endless, not_text kind short) refl in
+        rw (endless, not_text kind short) refl in
         ap₂ (λ (k l : List ℕ). k ++ l) one (lines_of (i + 1) rows)
 
     -- the full rows of octets, and what is left of them
     abbrev pub Turned : ℕ → List ℕ → List (List ℕ) → List ℕ → Type 0
     Turned i octets rows more =
         (row_lines kind layout i (rows_filled kind [] octets)
-            ≡ full_lines layout rows ++ row_lines kind layout (i + length rows) (rows_filled kind [] more))
+        ≡ full_lines layout rows ++ row_lines kind layout (i + length rows) (rows_filled kind [] more))
         × (row_begun kind [] octets ≡ row_begun kind [] more)
-            × (length (rows_filled kind [] octets) ≡ length rows + length (rows_filled kind [] more))
+        × (length (rows_filled kind [] octets) ≡ length rows + length (rows_filled kind [] more))
 
     pub rows_turned : (i : ℕ) (octets : List ℕ) (rows : List (List ℕ)) (more : List ℕ)
         → rows ≡ first_chunks 16 (length octets / 16) octets → more ≡ drop (length octets / 16 * 16) octets
@@ -116,7 +117,7 @@ module _ (kind : Kind) (short : row_size kind ≡ 16) where
         let all : rows_filled kind [] octets ≡ rows ++ rows_filled kind [] more = rw (e, f) t.0 in (
           ap (row_lines kind layout i) all ∙ row_lines-append kind layout i rows (rows_filled kind [] more)
               ∙ ap (λ (l : List ℕ). l ++ row_lines kind layout (i + length rows) (rows_filled kind [] more))
-                  (lines_of i rows),
+              (lines_of i rows),
           rw f t.1,
           ap length all ∙ length-append rows (rows_filled kind [] more),
         )
@@ -126,7 +127,7 @@ pub pair_lines : (kind : Kind) → row_size kind ≡ 16 → (layout : Layout) �
     → full_lines layout (rows_of Octets octets) ≡ row_lines kind layout 0 (rows_of kind octets)
 pair_lines kind short layout endless octets =
     ap (full_lines layout) (rows_cut Octets refl octets ∙ sym (rows_cut kind short octets))
-        ∙ sym (lines_of kind short layout endless 0 (rows_of kind octets))
+    ∙ sym (lines_of kind short layout endless 0 (rows_of kind octets))
 
 -- ---- the line of a full row
 
@@ -141,7 +142,7 @@ full_line_added layout old [] n e some whole = absurd (omega (arith, whole))
 full_line_added layout old (x ∷ xs) n e some whole =
     let text : List ℕ = row_text Octets (x ∷ xs) in
     let indent : spaces (n - 1) ++ 32 ∷ [] ≡ margin layout.pure no_columns (layout.level + 1) =
-        replicate_more (n - 1) 32 ∙ ap spaces (omega (arith, some)) ∙ e in
+    replicate_more (n - 1) 32 ∙ ap spaces (omega (arith, some)) ∙ e in
     ap (λ (l : List ℕ). old ++ spaces (n - 1) ++ l ++ 10 ∷ []) (pairs_joined x xs)
     ∙ joined (spaces (n - 1)) text
     ∙ ap (λ (l : List ℕ). old ++ (l ++ text ++ 10 ∷ [])) indent
@@ -156,7 +157,7 @@ pub lines_cut : (layout : Layout) (octets : List ℕ) (rows : List (List ℕ)) (
     → full_lines layout rows ++ full_lines layout (last_rows more) ≡ full_lines layout (rows_of Octets octets)
 lines_cut layout octets rows more e f =
     sym (flat_map-append (full_line layout) rows (last_rows more))
-        ∙ ap (full_lines layout) (rw (e, f) (sym (rows_cut Octets refl octets)))
+    ∙ ap (full_lines layout) (rw (e, f) (sym (rows_cut Octets refl octets)))
 
 -- the line of the last, if there is one
 pub last_line : (layout : Layout) (row : List ℕ) → eqb (length row) 0 ≡ false
@@ -185,4 +186,4 @@ module _ (layout : Layout) where
       → full_lines layout (take i rows) ++ full_lines layout (drop i rows) ≡ full_lines layout rows
   lines_split rows i =
       sym (flat_map-append (full_line layout) (take i rows) (drop i rows))
-          ∙ ap (full_lines layout) (take-append-drop i rows)
+      ∙ ap (full_lines layout) (take-append-drop i rows)

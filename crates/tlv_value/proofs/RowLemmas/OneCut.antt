@@ -42,7 +42,7 @@ module _ (kind : Kind) where
   as-filled row [] rest h (inr f) = absurd (omega arith)
   as-filled row (x ∷ next) rest h (inr f) =
       let next-octet : get_or (row ++ x ∷ (next ++ rest)) (length row) 0 ≡ x =
-          get_or-append_seam row x (next ++ rest) 0 in
+      get_or-append_seam row x (next ++ rest) 0 in
       let place : 0 + length row ≡ length row = omega arith in
       inr (omega (arith, length-append row (x ∷ (next ++ rest))), rw (place, next-octet) (grind (arith, nat_tests)))
 
@@ -59,10 +59,10 @@ module _ (kind : Kind) where
       let z = one_fits kind in
       let s = r.short in
       let t =
-          next_row kind [] (length row) (row ++ rest) (row-room row rest r) (omega arith)
-              (omega (arith, length-append row rest)) (omega arith) f in
+      next_row kind [] (length row) (row ++ rest) (row-room row rest r) (omega arith)
+      (omega (arith, length-append row rest)) (omega arith) f in
       rw (t.0, t.1, take-append_seam row rest, drop-append_seam row rest)
-          (ap (λ (x : List (List ℕ)). row ∷ x) more.0, more.1)
+      (ap (λ (x : List (List ℕ)). row ∷ x) more.0, more.1)
 
   -- a last row
   parts-last : (row : List ℕ) (full : Bool) → eqb (length row) (row_size kind) ≡ full
@@ -85,9 +85,9 @@ module _ (kind : Kind) where
   parts (row ∷ []) each full = parts-last row (eqb (length row) (row_size kind)) refl each.0
   parts (row ∷ next ∷ rows) each full =
       parts-first row (octets_of_rows (next ∷ rows)) (full_rows_in kind (next ∷ rows))
-          (open_row_in kind (next ∷ rows)) each.0
-          (as-filled row next (octets_of_rows rows) (has-octet next each.1.0) full.0)
-          (parts (next ∷ rows) each.1 full.1)
+      (open_row_in kind (next ∷ rows)) each.0
+      (as-filled row next (octets_of_rows rows) (has-octet next each.1.0) full.0)
+      (parts (next ∷ rows) each.1 full.1)
 
   -- its full rows and the octets of the last one are all of it
   last-part : (row : List ℕ) (full : Bool) → 1 ≤ length row
@@ -105,7 +105,7 @@ pub rows-one-cut : RowsHaveOneCut
 rows-one-cut kind octets rows cut =
     let p = rw cut.together at (parts kind rows cut.each cut.full) in
     sym (all-parts kind rows cut.each)
-        ∙ ap₂ (λ (full : List (List ℕ)) (last : List ℕ). full ++ last_rows last) (sym p.0) (sym p.1)
+    ∙ ap₂ (λ (full : List (List ℕ)) (last : List ℕ). full ++ last_rows last) (sym p.0) (sym p.1)
     ∙ sym (rows-filled kind octets)
 
 -- ---- what is kept between pieces
@@ -113,7 +113,7 @@ rows-one-cut kind octets rows cut =
 -- the rows that octets fill, and the row that they then begin, are the full rows of the cut and its last one
 pub cut-parts : (kind : Kind) (octets : List ℕ)
     → (rows_filled kind [] octets ≡ full_rows_in kind (rows_of kind octets))
-        × (row_begun kind [] octets ≡ open_row_in kind (rows_of kind octets))
+    × (row_begun kind [] octets ≡ open_row_in kind (rows_of kind octets))
 cut-parts kind octets =
     let cut = (cut_of_contents kind octets).is_cut in
     rw cut.together at (parts kind (rows_of kind octets) cut.each cut.full)
@@ -138,7 +138,7 @@ open-parts kind row octets begun =
 -- two pieces in order have the rows of one
 pub rows-join : (kind : Kind) (row x y : List ℕ)
     → (full_rows kind row (x ++ y) ≡ full_rows kind row x ++ full_rows kind (open_row kind row x) y)
-        × (open_row kind row (x ++ y) ≡ open_row kind (open_row kind row x) y)
+    × (open_row kind row (x ++ y) ≡ open_row kind (open_row kind row x) y)
 rows-join kind row x y =
     let cut = cut-parts kind (row ++ x) in
     let all = cut-parts kind ((row ++ x) ++ y) in

@@ -52,12 +52,12 @@ module _ (kind : Kind) where
   abbrev pub FillsRow : List ℕ → ℕ → List ℕ → Type 0
   FillsRow row m rest =
       (length row + m ≡ row_size kind)
-          ⊎ ((m < length rest) × (has_room kind (length row + m) (get_or rest m 0) ≡ false))
+      ⊎ ((m < length rest) × (has_room kind (length row + m) (get_or rest m 0) ≡ false))
 
   abbrev Turned : List ℕ → ℕ → List ℕ → Type 0
   Turned row m rest =
       (rows_filled kind row rest ≡ (row ++ take m rest) ∷ rows_filled kind [] (drop m rest))
-          × (row_begun kind row rest ≡ row_begun kind [] (drop m rest))
+      × (row_begun kind row rest ≡ row_begun kind [] (drop m rest))
 
   pub shift-room : (row : List ℕ) (m x : ℕ) (xs : List ℕ) → HaveRoom kind (length row) (x ∷ xs) (suc m)
       → HaveRoom kind (length (row ++ x ∷ [])) xs m
@@ -92,7 +92,7 @@ module _ (kind : Kind) where
   turn-one row m x xs false e r h more =
       let t = more (grind (arith, nat_tests)) in
       rw (r, e)
-          (t.0 ∙ ap (λ (y : List ℕ). y ∷ rows_filled kind [] (drop m xs)) (append_assoc row (x ∷ []) (take m xs)), t.1)
+      (t.0 ∙ ap (λ (y : List ℕ). y ∷ rows_filled kind [] (drop m xs)) (append_assoc row (x ∷ []) (take m xs)), t.1)
 
   -- a row is filled: it is put, and the next begins
   pub next_row : (row : List ℕ) (m : ℕ) (rest : List ℕ) → HaveRoom kind (length row) rest m
@@ -104,7 +104,7 @@ module _ (kind : Kind) where
       let l : length row + 0 ≡ length row = omega arith in
       turn-one row m x xs (eqb (length row + 1) (row_size kind)) refl (rw l at (room 0 (omega arith))) h
       (λ more. next_row (row ++ x ∷ []) m xs (shift-room row m x xs room) (omega (arith, length-append row (x ∷ [])))
-          (omega arith) (omega (arith, length-append row (x ∷ []))) (shift-filled row m x xs f))
+      (omega arith) (omega (arith, length-append row (x ∷ []))) (shift-filled row m x xs f))
 
   -- all of the octets stay in the row that has begun
   pub keep : (row rest : List ℕ) → HaveRoom kind (length row) rest (length rest)
@@ -116,7 +116,7 @@ module _ (kind : Kind) where
       let r : has_room kind (length row) x ≡ true = rw l at (room 0 (omega arith)) in
       let e : eqb (length row + 1) (row_size kind) ≡ false = grind (arith, nat_tests) in
       let t =
-          keep (row ++ x ∷ []) xs (shift-room row (length xs) x xs room) (omega (arith, length-append row (x ∷ []))) in
+      keep (row ++ x ∷ []) xs (shift-room row (length xs) x xs room) (omega (arith, length-append row (x ∷ []))) in
       rw (r, e) (t.0, t.1 ∙ append_assoc row (x ∷ []) xs)
 
   filled : (row : List ℕ) (m : ℕ) (rest : List ℕ) → (length row + m ≡ row_size kind) ⊎ (m < length rest)
@@ -129,12 +129,12 @@ module _ (kind : Kind) where
       → more ≡ drop m rest
       → HaveRoom kind n rest m → n + m ≤ row_size kind → m ≤ length rest → n < row_size kind
       → (m < length rest → has_room kind (n + m) (get_or rest m 0) ≡ false)
-          → (n + m ≡ row_size kind) ⊎ (m < length rest)
+      → (n + m ≡ row_size kind) ⊎ (m < length rest)
       → (rows_filled kind row rest ≡ (row ++ part) ∷ rows_filled kind [] more)
-          × (row_begun kind row rest ≡ row_begun kind [] more)
+      × (row_begun kind row rest ≡ row_begun kind [] more)
   turned n row m rest part more e p q room h w b next f =
       rw (p, q)
-          (next_row row m rest (rw e at room) (rw e at h) w (rw e at b) (filled row m rest (rw e at f) (rw e at next)))
+      (next_row row m rest (rw e at room) (rw e at h) w (rw e at b) (filled row m rest (rw e at f) (rw e at next)))
 
   -- the row that has begun goes on, as the loop has it
   pub kept : (n : ℕ) (row : List ℕ) (m : ℕ) (rest part : List ℕ) → n ≡ length row → part ≡ take m rest
@@ -161,26 +161,26 @@ module _ (kind : Kind) where
   abbrev AreStepsJoined : List ℕ → List ℕ → List ℕ → Type 0
   AreStepsJoined row x y =
       (rows_filled kind row (x ++ y) ≡ rows_filled kind row x ++ rows_filled kind (row_begun kind row x) y)
-          × (row_begun kind row (x ++ y) ≡ row_begun kind (row_begun kind row x) y)
+      × (row_begun kind row (x ++ y) ≡ row_begun kind (row_begun kind row x) y)
 
   -- one octet of the first piece
   steps-join_at : (row : List ℕ) (z : ℕ) (x y : List ℕ) (room last : Bool) → ((r : List ℕ) → AreStepsJoined r x y)
       → ((if room
-          then (if last then (row ++ z ∷ []) ∷ rows_filled kind [] (x ++ y)
-              else rows_filled kind (row ++ z ∷ []) (x ++ y))
-          else row ∷ rows_filled kind (z ∷ []) (x ++ y))
+      then (if last then (row ++ z ∷ []) ∷ rows_filled kind [] (x ++ y)
+      else rows_filled kind (row ++ z ∷ []) (x ++ y))
+      else row ∷ rows_filled kind (z ∷ []) (x ++ y))
       ≡ (if room then (if last then (row ++ z ∷ []) ∷ rows_filled kind [] x else rows_filled kind (row ++ z ∷ []) x)
-          else row ∷ rows_filled kind (z ∷ []) x)
+      else row ∷ rows_filled kind (z ∷ []) x)
       ++ rows_filled kind
-          (if room then (if last then row_begun kind [] x else row_begun kind (row ++ z ∷ []) x)
-              else row_begun kind (z ∷ []) x)
-          y)
+      (if room then (if last then row_begun kind [] x else row_begun kind (row ++ z ∷ []) x)
+      else row_begun kind (z ∷ []) x)
+      y)
       × ((if room then (if last then row_begun kind [] (x ++ y) else row_begun kind (row ++ z ∷ []) (x ++ y))
-          else row_begun kind (z ∷ []) (x ++ y))
+      else row_begun kind (z ∷ []) (x ++ y))
       ≡ row_begun kind
-          (if room then (if last then row_begun kind [] x else row_begun kind (row ++ z ∷ []) x)
-              else row_begun kind (z ∷ []) x)
-          y)
+      (if room then (if last then row_begun kind [] x else row_begun kind (row ++ z ∷ []) x)
+      else row_begun kind (z ∷ []) x)
+      y)
   steps-join_at row z x y true true more = (ap (λ (t : List (List ℕ)). (row ++ z ∷ []) ∷ t) (more []).0, (more []).1)
   steps-join_at row z x y true false more = more (row ++ z ∷ [])
   steps-join_at row z x y false last more = (ap (λ (t : List (List ℕ)). row ∷ t) (more (z ∷ [])).0, (more (z ∷ [])).1)
@@ -189,7 +189,7 @@ module _ (kind : Kind) where
   steps-join row [] y = (refl, refl)
   steps-join row (z ∷ x) y =
       steps-join_at row z x y (has_room kind (length row) z) (eqb (length row + 1) (row_size kind))
-          (λ r. steps-join r x y)
+      (λ r. steps-join r x y)
 
   -- ---- a row that has begun
 
@@ -225,8 +225,8 @@ module _ (kind : Kind) where
       let r : has_room kind (length row) x ≡ true = rw l at (room 0 (omega arith)) in
       let one = open-one row x o r (omega arith) in
       rw (← append_assoc row (x ∷ []) xs)
-          (open-more (row ++ x ∷ []) xs one (shift-room row (length xs) x xs room)
-              (omega (arith, length-append row (x ∷ []))))
+      (open-more (row ++ x ∷ []) xs one (shift-room row (length xs) x xs room)
+      (omega (arith, length-append row (x ∷ []))))
 
   -- the same, as the loop has it
   pub kept-open : (n : ℕ) (row : List ℕ) (m : ℕ) (rest part : List ℕ) → IsOpenRow kind row → n ≡ length row
@@ -242,8 +242,8 @@ module _ (kind : Kind) where
       → eqb (length row + 1) (row_size kind) ≡ last → IsOpenRow kind row
       → ((r : List ℕ) → IsOpenRow kind r → IsOpenRow kind (row_begun kind r xs))
       → IsOpenRow kind
-          (if room then (if last then row_begun kind [] xs else row_begun kind (row ++ x ∷ []) xs)
-              else row_begun kind (x ∷ []) xs)
+      (if room then (if last then row_begun kind [] xs else row_begun kind (row ++ x ∷ []) xs)
+      else row_begun kind (x ∷ []) xs)
   begun-open_at row x xs true true r l o more = more [] none-open
   begun-open_at row x xs true false r l o more =
       let h = o.short in
@@ -255,4 +255,4 @@ module _ (kind : Kind) where
   begun-open row [] o = o
   begun-open row (x ∷ xs) o =
       begun-open_at row x xs (has_room kind (length row) x) (eqb (length row + 1) (row_size kind)) refl refl o
-          (λ r q. begun-open r xs q)
+      (λ r q. begun-open r xs q)

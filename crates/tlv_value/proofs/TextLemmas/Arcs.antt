@@ -22,7 +22,7 @@ arcs_run t first relative n [] = Some t
 arcs_run t first relative n (x ∷ xs) =
     if nat_lt n (2 ^ 121)
     then (if nat_lt x 128 then arcs_run (t ++ arcs_text first relative (n * 128 + x % 128)) false relative 0 xs
-        else arcs_run t first relative (n * 128 + x % 128) xs)
+    else arcs_run t first relative (n * 128 + x % 128) xs)
     else None
 
 -- the subidentifiers of these octets, of which the first has begun with n
@@ -65,11 +65,11 @@ run-carry-at : (t : List ℕ) (first relative : Bool) (n x : ℕ) (xs : List ℕ
     → nat_lt n (2 ^ 121) ≡ small
     → ends_with_arc (not last) xs ≡ true → n < 2 ^ 128
     → ((s : List ℕ) (f : Bool) (m : ℕ) (b : Bool) → ends_with_arc b xs ≡ true → m < 2 ^ 128
-        → arcs_run s f relative m xs ≡ texts s f relative (carry m xs))
+    → arcs_run s f relative m xs ≡ texts s f relative (carry m xs))
     → (if small
-        then (if last then arcs_run (t ++ arcs_text first relative (n * 128 + x % 128)) false relative 0 xs
-            else arcs_run t first relative (n * 128 + x % 128) xs)
-        else None)
+    then (if last then arcs_run (t ++ arcs_text first relative (n * 128 + x % 128)) false relative 0 xs
+    else arcs_run t first relative (n * 128 + x % 128) xs)
+    else None)
     ≡ texts t first relative (if last then (n * 128 + x % 128) ∷ carry 0 xs else carry (n * 128 + x % 128) xs)
 run-carry-at t first relative n x xs true true e f h g more =
     more (t ++ arcs_text first relative (n * 128 + x % 128)) false 0 false h (omega arith)
@@ -81,7 +81,7 @@ run-carry-at t first relative n x xs true false e f h g more =
     rw v refl
 run-carry-at t first relative n x xs false false e f h g more =
     let v : all_below (2 ^ 128) (carry (n * 128 + x % 128) xs) ≡ false =
-        too-large (n * 128 + x % 128) xs h (grind (arith, nat_tests)) in
+    too-large (n * 128 + x % 128) xs h (grind (arith, nat_tests)) in
     rw v refl
 
 run-carry : (t : List ℕ) (first relative : Bool) (n : ℕ) (xs : List ℕ) (begun : Bool) → ends_with_arc begun xs ≡ true
@@ -89,7 +89,7 @@ run-carry : (t : List ℕ) (first relative : Bool) (n : ℕ) (xs : List ℕ) (be
 run-carry t first relative n [] begun e h = ap Some (sym (append-nil t))
 run-carry t first relative n (x ∷ xs) begun e h =
     run-carry-at t first relative n x xs (nat_lt x 128) (nat_lt n (2 ^ 121)) refl refl e h
-        (λ s f m b. run-carry s f relative m xs b)
+    (λ s f m b. run-carry s f relative m xs b)
 
 -- the first part has begun with n
 abbrev add_first : ℕ → List (List ℕ) → List ℕ
@@ -109,7 +109,7 @@ add_first-onto : (n x : ℕ) (ps : List (List ℕ)) → 1 ≤ length ps
 add_first-onto n x [] some = absurd (omega arith)
 add_first-onto n x (p ∷ ps) some =
     ap (λ (v : ℕ). v ∷ map subidentifier ps)
-        (onto n (x % 128) (length p) (length (map (λ x. x % 128) p)) (subidentifier p) (length-map p (λ x. x % 128)))
+    (onto n (x % 128) (length p) (length (map (λ x. x % 128) p)) (subidentifier p) (length-map p (λ x. x % 128)))
 
 onto-some : (x : ℕ) (ps : List (List ℕ)) → 1 ≤ length (onto_first x ps)
 onto-some x [] = omega arith
@@ -119,12 +119,12 @@ parts-some : (xs : List ℕ) → ends_with_arc true xs ≡ true → 1 ≤ length
 parts-some [] e = cc
 parts-some (x ∷ xs) e =
     elim (nat_lt x 128) as (λ q. 1 ≤ length (if q then (x ∷ []) ∷ parts_of xs else onto_first x (parts_of xs)))
-        [ true ↦ omega arith | false ↦ onto-some x (parts_of xs) ]
+    [ true ↦ omega arith | false ↦ onto-some x (parts_of xs) ]
 
 carry-parts-at : (n x : ℕ) (xs : List ℕ) (last : Bool) → ends_with_arc (not last) xs ≡ true
     → ((m : ℕ) (b : Bool) → ends_with_arc b xs ≡ true → carry m xs ≡ add_first m (parts_of xs))
     → (if last then (n * 128 + x % 128) ∷ carry 0 xs else carry (n * 128 + x % 128) xs)
-        ≡ add_first n (if last then (x ∷ []) ∷ parts_of xs else onto_first x (parts_of xs))
+    ≡ add_first n (if last then (x ∷ []) ∷ parts_of xs else onto_first x (parts_of xs))
 carry-parts-at n x xs true e more =
     let one : n * 128 ^ 1 + (x % 128 * 128 ^ 0 + 0) ≡ n * 128 + x % 128 = omega arith in
     let rest : carry 0 xs ≡ map subidentifier (parts_of xs) = more 0 false e ∙ add_first-zero (parts_of xs) in
@@ -146,7 +146,7 @@ parts_text-rest relative (v ∷ vs) = ap (λ (t : List ℕ). (46 ∷ decimal v) 
 two-arcs : (a b : ℕ) (vs : List ℕ) → dotted_arcs (a ∷ b ∷ []) ++ after_dots vs ≡ dotted_arcs (a ∷ b ∷ vs)
 two-arcs a b vs =
     ap (λ (t : List ℕ). (decimal a ++ t) ++ after_dots vs) (append-nil (46 ∷ decimal b))
-        ∙ append_assoc (decimal a) (46 ∷ decimal b) (after_dots vs)
+    ∙ append_assoc (decimal a) (46 ∷ decimal b) (after_dots vs)
 
 arcs-at : (v : ℕ) (p q : Bool) (vs : List ℕ)
     → dotted_arcs (if p then 0 ∷ v ∷ [] else (if q then 1 ∷ (v - 40) ∷ [] else 2 ∷ (v - 80) ∷ [])) ++ after_dots vs
@@ -161,7 +161,7 @@ parts_text-first false [] = refl
 parts_text-first true (v ∷ vs) = ap (λ (t : List ℕ). decimal v ++ t) (parts_text-rest true vs)
 parts_text-first false (v ∷ vs) =
     ap (λ (t : List ℕ). dotted_arcs (first_arcs v) ++ t) (parts_text-rest false vs)
-        ∙ arcs-at v (nat_lt v 40) (nat_lt v 80) vs
+    ∙ arcs-at v (nat_lt v 40) (nat_lt v 80) vs
 
 pub and_right : (a b : Bool) → (a && b) ≡ true → b ≡ true
 and_right true b e = e
@@ -177,7 +177,7 @@ ends-finished [] e = cc
 ends-finished (x ∷ xs) e =
     let l : length (x ∷ xs) - 1 ≡ length xs = omega arith in
     ends-last false x xs
-        (rw l at (and_right (nat_le 1 (length (x ∷ xs))) (nat_lt (get_or (x ∷ xs) (length (x ∷ xs) - 1) 0) 128) e))
+    (rw l at (and_right (nat_le 1 (length (x ∷ xs))) (nat_lt (get_or (x ∷ xs) (length (x ∷ xs) - 1) 0) 128) e))
 
 -- the dotted text of the definition
 pub run-dotted : (relative : Bool) (c : List ℕ) → is_finished c ≡ true → nat_le (length c) 64 ≡ true
@@ -217,7 +217,7 @@ run-last t first relative n v c i e h g b =
 pub few-bits : (n i : ℕ) → n < 128 ^ i → i < 9 → n < 2 ^ 56
 few-bits n i h few =
     let e : 128 ^ i ≤ 128 ^ 8 =
-        pow-le-pow_right {n = 128} (omega arith) {i = i} {j = 8} (omega arith) in omega (arith, e, h)
+    pow-le-pow_right {n = 128} (omega arith) {i = i} {j = 8} (omega arith) in omega (arith, e, h)
 
 pub one-more : (n x v i : ℕ) → v ≡ n * 128 + x % 128 → n < 128 ^ i → v < 128 ^ (i + 1)
 one-more n x v i e h = let p : 128 ^ (i + 1) ≡ 128 ^ i * 128 = pow-add 128 i 1 in omega (arith, p, h, e)
@@ -233,7 +233,7 @@ long v k h g s = length-decimal-le_wide k v s g (omega arith)
 thousand : (n x k : ℕ) → n < 10 ^ (3 * k) → n * 128 + x % 128 < 10 ^ (3 * suc k)
 thousand n x k h =
     let e : 10 ^ (3 * suc k) ≡ 10 ^ (3 * k) * 1000 =
-        ap (λ m. 10 ^ m) (let l : 3 * suc k ≡ 3 * k + 3 = omega arith in l) ∙ pow-add 10 (3 * k) 3 in
+    ap (λ m. 10 ^ m) (let l : 3 * suc k ≡ 3 * k + 3 = omega arith in l) ∙ pow-add 10 (3 * k) 3 in
     rw e (omega arith)
 
 two-long : (a b k : ℕ) (vs : List ℕ) → length (decimal a) ≤ 1 → length (decimal b) ≤ 3 * k
@@ -243,15 +243,15 @@ two-long a b k vs e h =
 
 first-long-at : (v k : ℕ) (p q : Bool) (vs : List ℕ) → 1 ≤ k → v < 2 ^ 128 → v < 10 ^ (3 * k)
     → length (dotted_arcs ((if p then 0 ∷ v ∷ [] else (if q then 1 ∷ (v - 40) ∷ [] else 2 ∷ (v - 80) ∷ [])) ++ vs))
-        ≤ 3 * k + 2 + length (after_dots vs)
+    ≤ 3 * k + 2 + length (after_dots vs)
 first-long-at v k true q vs s h g =
     two-long 0 v k vs (long 0 1 (omega arith) (omega arith) (omega arith)) (long v (3 * k) h g (omega arith))
 first-long-at v k false true vs s h g =
     two-long 1 (v - 40) k vs (long 1 1 (omega arith) (omega arith) (omega arith))
-        (long (v - 40) (3 * k) (omega arith) (omega (arith, g)) (omega arith))
+    (long (v - 40) (3 * k) (omega arith) (omega (arith, g)) (omega arith))
 first-long-at v k false false vs s h g =
     two-long 2 (v - 80) k vs (long 2 1 (omega arith) (omega arith) (omega arith))
-        (long (v - 80) (3 * k) (omega arith) (omega (arith, g)) (omega arith))
+    (long (v - 80) (3 * k) (omega arith) (omega (arith, g)) (omega arith))
 
 -- at the end of the loop
 pub run-end : (relative : Bool) (c t : List ℕ) (first : Bool) (n i : ℕ) → is_finished c ≡ true → length c ≤ 64
@@ -267,7 +267,7 @@ pub run-none : (relative : Bool) (c t : List ℕ) (first : Bool) (n i : ℕ) →
     → arcs_run t first relative n (drop i c) ≡ arcs_run [] true relative 0 c → dotted_of relative c ≡ None
 run-none relative c t first n i f l o h e =
     sym (run-dotted relative c f (grind (arith, nat_tests))) ∙ sym e
-        ∙ run-over t first relative n (drop i c) (omega (arith, length-drop i c)) h
+    ∙ run-over t first relative n (drop i c) (omega (arith, length-drop i c)) h
 
 -- i octets of the contents were read, and there is room for what the others may add: n has up to three digits for each
 -- of its octets
@@ -278,9 +278,11 @@ part-long : (first relative : Bool) (v k : ℕ) → 1 ≤ k → v < 2 ^ 128 → 
     → length (arcs_text first relative v) ≤ 3 * k + 1 + (if first then 2 else 0)
 part-long true true v k s h g = omega (arith, long v (3 * k) h g (omega arith))
 part-long true false v k s h g =
-    omega
-        (arith, ap (λ (l : List ℕ). length (dotted_arcs l)) (append-nil (first_arcs v)),
-            first-long-at v k (nat_lt v 40) (nat_lt v 80) [] s h g)
+    omega (
+      arith,
+      ap (λ (l : List ℕ). length (dotted_arcs l)) (append-nil (first_arcs v)),
+      first-long-at v k (nat_lt v 40) (nat_lt v 80) [] s h g,
+    )
 part-long false relative v k s h g = omega (arith, long v (3 * k) h g (omega arith))
 
 -- an octet that does not end a subidentifier

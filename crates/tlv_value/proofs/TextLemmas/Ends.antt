@@ -40,26 +40,26 @@ line-prefix : (margin tag text rows : List ℕ)
     → (margin ++ tag) ++ ((text ++ 10 ∷ []) ++ rows) ≡ ((margin ++ (tag ++ text)) ++ 10 ∷ []) ++ rows
 line-prefix margin tag text rows =
     sym (append_assoc (margin ++ tag) (text ++ 10 ∷ []) rows)
-        ∙ ap (λ (t : List ℕ). t ++ rows)
-            (sym (append_assoc (margin ++ tag) text (10 ∷ []))
-                ∙ ap (λ (t : List ℕ). t ++ 10 ∷ []) (append_assoc margin tag text))
+    ∙ ap (λ (t : List ℕ). t ++ rows)
+    (sym (append_assoc (margin ++ tag) text (10 ∷ []))
+    ∙ ap (λ (t : List ℕ). t ++ 10 ∷ []) (append_assoc margin tag text))
 
 prefix-line : (p : Primitive) (v : Value)
     → line_prefix p ++ rest_of_lines p.layout [] v ≡ primitive_line p v.text ++ row_lines Octets p.layout 0 v.rows
 prefix-line p v =
     line-prefix (margin p.layout.pure (columns p.offset (decimal p.size)) p.layout.level) (tag_text p.class p.number)
-        v.text (row_lines Octets p.layout 0 v.rows)
+    v.text (row_lines Octets p.layout 0 v.rows)
 
 -- what the line of a primitive begins with, and the rest of its lines
 pub shown-prefix : (name_of : NameOf) (p : Primitive) (octets : List ℕ)
     → line_prefix p
-        ++ (((short_value name_of p.kind octets).text ++ 10 ∷ [])
-            ++ row_lines p.kind p.layout 0 (short_value name_of p.kind octets).rows)
-        ≡ primitive_lines name_of p octets
+    ++ (((short_value name_of p.kind octets).text ++ 10 ∷ [])
+    ++ row_lines p.kind p.layout 0 (short_value name_of p.kind octets).rows)
+    ≡ primitive_lines name_of p octets
 shown-prefix name_of p octets =
     let v : Value = short_value name_of p.kind octets in
     line-prefix (margin p.layout.pure (columns p.offset (decimal p.size)) p.layout.level) (tag_text p.class p.number)
-        v.text (row_lines p.kind p.layout 0 v.rows)
+    v.text (row_lines p.kind p.layout 0 v.rows)
 
 module _ (name_of : NameOf) (layout : Layout) (line : List ℕ → List ℕ) (octets : List ℕ) where
   abbrev shown_by : Kind → List ℕ
@@ -68,21 +68,21 @@ module _ (name_of : NameOf) (layout : Layout) (line : List ℕ → List ℕ) (oc
 
   object_at : (kind : Kind) → kind ≡ Object
       → line (short_value name_of Object octets).text
-          ++ row_lines Octets layout 0 (short_value name_of Object octets).rows
-          ≡ shown_by kind
+      ++ row_lines Octets layout 0 (short_value name_of Object octets).rows
+      ≡ shown_by kind
   object_at kind e =
       rw e
-          (ap (λ (t : List ℕ). line (short_value name_of Object octets).text ++ t)
-              (sym (object-rows layout 0 (short_value name_of Object octets).rows)))
+      (ap (λ (t : List ℕ). line (short_value name_of Object octets).text ++ t)
+      (sym (object-rows layout 0 (short_value name_of Object octets).rows)))
 
   relative_at : (kind : Kind) → kind ≡ Relative
       → line (short_value name_of Relative octets).text
-          ++ row_lines Octets layout 0 (short_value name_of Relative octets).rows
-          ≡ shown_by kind
+      ++ row_lines Octets layout 0 (short_value name_of Relative octets).rows
+      ≡ shown_by kind
   relative_at kind e =
       rw e
-          (ap (λ (t : List ℕ). line (short_value name_of Relative octets).text ++ t)
-              (sym (relative-rows layout 0 (short_value name_of Relative octets).rows)))
+      (ap (λ (t : List ℕ). line (short_value name_of Relative octets).text ++ t)
+      (sym (relative-rows layout 0 (short_value name_of Relative octets).rows)))
 
 pub shown-object : (name_of : NameOf) (p : Primitive) (octets : List ℕ) → p.kind ≡ Object
     → line_prefix p ++ object_lines name_of p.layout [] false octets ≡ primitive_lines name_of p octets
@@ -93,7 +93,7 @@ pub shown-relative : (name_of : NameOf) (p : Primitive) (octets : List ℕ) → 
     → line_prefix p ++ object_lines no_names p.layout [] true octets ≡ primitive_lines name_of p octets
 shown-relative name_of p octets e =
     prefix-line p (short_value name_of Relative octets)
-        ∙ relative_at name_of p.layout (primitive_line p) octets p.kind e
+    ∙ relative_at name_of p.layout (primitive_line p) octets p.kind e
 
 -- held values without rows
 
@@ -124,7 +124,7 @@ bits-rows : (row : List ℕ) → length row ≤ 9 → (bits_value row).rows ≡ 
 bits-rows [] h = refl
 bits-rows (u ∷ row) h =
     if-rows (is_readable u (length row)) (value_on_line (bit_count u (length row) ++ used_digits u row))
-        (octets_value (u ∷ row)) refl (octets-rows (u ∷ row) (omega arith))
+    (octets_value (u ∷ row)) refl (octets-rows (u ∷ row) (omega arith))
 
 pub held-undotted : (name_of : NameOf) (kind : Kind) (row : List ℕ) → (kind ≡ Object → ⊥) → (kind ≡ Relative → ⊥)
     → length row ≤ most_on_line kind → IsUndotted name_of kind row
@@ -141,9 +141,9 @@ held-undotted name_of Ucs4 row o r h = (refl, refl)
 
 undotted_at : (name_of : NameOf) (kind : Kind) (layout : Layout) (line row : List ℕ) → IsUndotted name_of kind row
     → line ++ (undotted_text kind row ++ 10 ∷ [])
-        ≡ line
-            ++ (((short_value name_of kind row).text ++ 10 ∷ [])
-                ++ row_lines kind layout 0 (short_value name_of kind row).rows)
+    ≡ line
+    ++ (((short_value name_of kind row).text ++ 10 ∷ [])
+    ++ row_lines kind layout 0 (short_value name_of kind row).rows)
 undotted_at name_of kind layout line row p =
     rw (p.0, p.1) (ap (λ (t : List ℕ). line ++ t) (sym (append-nil (undotted_text kind row ++ 10 ∷ []))))
 
@@ -152,7 +152,7 @@ pub shown-undotted : (name_of : NameOf) (p : Primitive) (octets : List ℕ) → 
     → line_prefix p ++ (undotted_text p.kind octets ++ 10 ∷ []) ≡ primitive_lines name_of p octets
 shown-undotted name_of p octets o r h =
     undotted_at name_of p.kind p.layout (line_prefix p) octets (held-undotted name_of p.kind octets o r h)
-        ∙ shown-prefix name_of p octets
+    ∙ shown-prefix name_of p octets
 
 abbrev pub state_by : Primitive → ℕ → RowsState → ValueTextState
 state_by p left kept = record { primitive = p; left = left; kept = kept }
@@ -168,23 +168,23 @@ new-first_at : (kind : Kind) (wrote_line : Bool) (size : ℕ) (layout : Layout) 
     (rest rows_part : List ℕ)
     → kind ≡ Bits → wrote_line ≡ false → is_long kind size ≡ true
     → (if is_long kind size
-        then (if wrote_line then rows_part
-            else (line (long_text kind size (x ∷ []))
-                ++ row_lines kind layout 0 (full_rows kind (row_octets kind (x ∷ [])) rest)))
-        else [])
+    then (if wrote_line then rows_part
+    else (line (long_text kind size (x ∷ []))
+    ++ row_lines kind layout 0 (full_rows kind (row_octets kind (x ∷ [])) rest)))
+    else [])
     ≡ line (long_text Bits size (x ∷ [])) ++ row_lines Bits layout 0 (full_rows Bits (row_octets Bits (x ∷ [])) rest)
 new-first_at kind wrote_line size layout line x rest rows_part e u l = rw (l, u, e) refl
 
 pub new-first : (s : ValueTextState) (x : ℕ) (rest : List ℕ) → s.primitive.kind ≡ Bits → s.kept.wrote_line ≡ false
     → is_long s.primitive.kind s.primitive.size ≡ true
     → contents_lines s (x ∷ rest)
-        ≡ primitive_line s.primitive (long_text Bits s.primitive.size (x ∷ []))
-            ++ row_lines Bits s.primitive.layout 0 (full_rows Bits (row_octets Bits (x ∷ [])) rest)
+    ≡ primitive_line s.primitive (long_text Bits s.primitive.size (x ∷ []))
+    ++ row_lines Bits s.primitive.layout 0 (full_rows Bits (row_octets Bits (x ∷ [])) rest)
 new-first s x rest e u l =
     new-first_at s.primitive.kind s.kept.wrote_line s.primitive.size s.primitive.layout (primitive_line s.primitive) x
-        rest
-        (row_lines s.primitive.kind s.primitive.layout s.kept.rows (full_rows s.primitive.kind s.kept.row (x ∷ rest)))
-        e u l
+    rest
+    (row_lines s.primitive.kind s.primitive.layout s.kept.rows (full_rows s.primitive.kind s.kept.row (x ∷ rest)))
+    e u l
 
 -- the rows after it
 pub rows-first : (kind : Kind) (layout : Layout) (n : ℕ) (row begun rest : List ℕ) → kind ≡ Bits → n ≡ 0 → row ≡ begun

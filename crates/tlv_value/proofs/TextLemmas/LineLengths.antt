@@ -26,8 +26,12 @@ pub columns_short : (offset : ℕ) (word : List ℕ) → offset < 2 ^ 64 → len
 columns_short offset word fits few =
     let first : List ℕ = at_right 8 (decimal offset) in
     let last : length (at_right 6 word) ≤ 20 =
-        omega (arith, length-append (spaces (6 - length word)) word, length-replicate {A = ℕ} (6 - length word) 32) in
-    omega
-        (arith, length-append (first ++ 32 ∷ [] ++ at_right 6 word) (58 ∷ 32 ∷ []),
-            length-append (first ++ 32 ∷ []) (at_right 6 word), length-append first (32 ∷ []),
-            right-short 8 offset (omega arith) fits, last)
+    omega (arith, length-append (spaces (6 - length word)) word, length-replicate {A = ℕ} (6 - length word) 32) in
+    omega (
+      arith,
+      length-append (first ++ 32 ∷ [] ++ at_right 6 word) (58 ∷ 32 ∷ []),
+      length-append (first ++ 32 ∷ []) (at_right 6 word),
+      length-append first (32 ∷ []),
+      right-short 8 offset (omega arith) fits,
+      last,
+    )

@@ -28,7 +28,7 @@ value_of-bits zero bits x h =
 value_of-bits (suc n) bits x h =
     let h1 : x < 2 * 2 ^ n = omega (arith, h, pow-suc 2 n) in
     let e : value_of 2 (bits ++ last_bits n (x / 2)) ≡ value_of 2 bits * 2 ^ n + x / 2 =
-        value_of-bits n bits (x / 2) (omega arith) in
+    value_of-bits n bits (x / 2) (omega arith) in
     ap (value_of 2) (sym (append_assoc bits (last_bits n (x / 2)) (x % 2 ∷ [])))
     ∙ value_of-snoc 2 (bits ++ last_bits n (x / 2)) (x % 2)
     ∙ rw (e, pow-suc 2 n) (grind arith)
@@ -41,7 +41,7 @@ all-last_bits : (n x : ℕ) → All (λ b. b < 2) (last_bits n x)
 all-last_bits zero x = All-nil (λ b. b < 2)
 all-last_bits (suc n) x =
     All-append (λ b. b < 2) (last_bits n (x / 2)) (x % 2 ∷ []) (all-last_bits n (x / 2))
-        (All-cons (λ b. b < 2) (x % 2) [] (omega arith) (All-nil (λ b. b < 2)))
+    (All-cons (λ b. b < 2) (x % 2) [] (omega arith) (All-nil (λ b. b < 2)))
 
 pub all-bits : (c : List ℕ) → All (λ b. b < 2) (bits_of c)
 all-bits [] = All-nil (λ b. b < 2)
@@ -55,7 +55,7 @@ pub bits-append : (c d : List ℕ) → bits_of (c ++ d) ≡ bits_of c ++ bits_of
 bits-append [] d = refl
 bits-append (x ∷ c) d =
     ap (λ (t : List ℕ). last_bits 8 x ++ t) (bits-append c d)
-        ∙ sym (append_assoc (last_bits 8 x) (bits_of c) (bits_of d))
+    ∙ sym (append_assoc (last_bits 8 x) (bits_of c) (bits_of d))
 
 spread : (v b x : ℕ) → pos (v * 256 + x) -ℤ pos (b * 256) ≡ (pos v -ℤ pos b) *ℤ pos 256 +ℤ pos x
 spread v b x = omega (arith, ints)
@@ -67,8 +67,8 @@ signed-octet [] x some h = absurd (omega arith)
 signed-octet (bit ∷ bits) x some h =
     let e = value_of-octet bits x h in
     let p : 2 ^ length (bits ++ last_bits 8 x) ≡ 2 ^ length bits * 256 =
-        ap (λ n. 2 ^ n) (length-append bits (last_bits 8 x) ∙ ap (λ n. length bits + n) (length-last_bits 8 x))
-            ∙ pow-add 2 (length bits) 8 in
+    ap (λ n. 2 ^ n) (length-append bits (last_bits 8 x) ∙ ap (λ n. length bits + n) (length-last_bits 8 x))
+    ∙ pow-add 2 (length bits) 8 in
     let q : bit * (2 ^ length bits * 256) ≡ bit * 2 ^ length bits * 256 = grind arith in
     rw (e, p, q) (spread (value_of 2 bits) (bit * 2 ^ length bits) x)
 
@@ -110,7 +110,7 @@ mag-signed n (bit ∷ bits) short all =
     let p : 2 ^ length bits ≤ 2 ^ n = pow-le-pow_right {n = 2} (omega arith) {i = length bits} {j = n} (omega arith) in
     let v : value_of 2 bits < 2 ^ length bits = value_of-lt 2 bits (omega arith) (All-tail (λ b. b < 2) bit bits all) in
     let one : bit * 2 ^ length bits ≤ 2 ^ length bits =
-        at_most_one bit (2 ^ length bits) (All-head (λ b. b < 2) bit bits all) in
+    at_most_one bit (2 ^ length bits) (All-head (λ b. b < 2) bit bits all) in
     diff-mag (value_of 2 bits) (bit * 2 ^ length bits) (2 ^ n) (omega (arith, p, v)) (omega (arith, p, one))
 
 -- and eight bits more
@@ -121,10 +121,10 @@ mag-wider_number n (bit ∷ bits) short all =
     let p : 2 ^ length bits ≤ 2 ^ n = pow-le-pow_right {n = 2} (omega arith) {i = length bits} {j = n} (omega arith) in
     let v : value_of 2 bits < 2 ^ length bits = value_of-lt 2 bits (omega arith) (All-tail (λ b. b < 2) bit bits all) in
     let one : bit * 2 ^ length bits ≤ 2 ^ length bits =
-        at_most_one bit (2 ^ length bits) (All-head (λ b. b < 2) bit bits all) in
+    at_most_one bit (2 ^ length bits) (All-head (λ b. b < 2) bit bits all) in
     rw (widen (value_of 2 bits) (bit * 2 ^ length bits))
     (diff-mag (value_of 2 bits * 256) (bit * 2 ^ length bits * 256) (2 ^ n * 256) (omega (arith, p, v))
-        (omega (arith, p, one)))
+    (omega (arith, p, one)))
 
 -- fifteen octets leave room for one more, and seven in half as many bits
 pub twos-fits : (c : List ℕ) → length c ≤ 15 → FitsSigned w128 (twos_complement c *ℤ pos 256)

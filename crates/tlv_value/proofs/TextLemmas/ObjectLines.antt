@@ -28,7 +28,7 @@ pub after_space : (old new text : List ℕ) (n : ℕ) → new ≡ old ++ 32 ∷ 
     → take (length new - n) (drop n new) ≡ text
 after_space old new text n e at =
     take_all (length new - n) (drop n new) (omega (arith, length-drop n new)) ∙ ap (λ (l : List ℕ). drop n l) e
-        ∙ ap (λ (k : ℕ). drop k (old ++ 32 ∷ text)) at ∙ drop-append-add old (32 ∷ text) 1
+    ∙ ap (λ (k : ℕ). drop k (old ++ 32 ∷ text)) at ∙ drop-append-add old (32 ∷ text) 1
 
 module _ (name_of : NameOf) (layout : Layout) (relative : Bool) (contents : List ℕ) where
   -- a dotted text with a name
@@ -45,9 +45,9 @@ module _ (name_of : NameOf) (layout : Layout) (relative : Bool) (contents : List
       → (32 ∷ text) ++ 10 ∷ [] ≡ object_lines name_of layout [] relative contents
   object_unnamed text d n =
       rw (d, n)
-          (sym
-              (append-nil ((32 ∷ (text ++ [])) ++ 10 ∷ [])
-                  ∙ ap (λ (l : List ℕ). (32 ∷ l) ++ 10 ∷ []) (append-nil text)))
+      (sym
+      (append-nil ((32 ∷ (text ++ [])) ++ 10 ∷ [])
+      ∙ ap (λ (l : List ℕ). (32 ∷ l) ++ 10 ∷ []) (append-nil text)))
 
   -- no dotted text
   pub object_octets : dotted_of relative contents ≡ None
@@ -59,7 +59,7 @@ pub octets_short : (layout : Layout) (contents : List ℕ) → length contents �
     → spaced_pairs contents ++ 10 ∷ [] ≡ octets_lines layout [] contents
 octets_short layout contents few =
     let b : nat_le (length contents) 16 ≡ true =
-        grind (arith, nat_tests) in rw b (sym (append-nil (spaced_pairs contents ++ 10 ∷ [])))
+    grind (arith, nat_tests) in rw b (sym (append-nil (spaced_pairs contents ++ 10 ∷ [])))
 
 -- and in rows
 pub octets_long : (layout : Layout) (contents : List ℕ) → 17 ≤ length contents

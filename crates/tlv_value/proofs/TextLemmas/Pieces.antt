@@ -36,18 +36,18 @@ module _ (kind : Kind) where
   kept-join k x y =
       let j = rows-join kind k.row x y in
       let n : k.rows + length (full_rows kind k.row x) + length (full_rows kind (open_row kind k.row x) y)
-          ≡ k.rows + length (full_rows kind k.row (x ++ y)) =
+      ≡ k.rows + length (full_rows kind k.row (x ++ y)) =
       omega (arith, ap length j.0, length-append (full_rows kind k.row x) (full_rows kind (open_row kind k.row x) y)) in
       kept-eq (k.rows + length (full_rows kind k.row x) + length (full_rows kind (open_row kind k.row x) y))
-          (k.rows + length (full_rows kind k.row (x ++ y))) (open_row kind (open_row kind k.row x) y)
-          (open_row kind k.row (x ++ y)) n (sym j.1)
+      (k.rows + length (full_rows kind k.row (x ++ y))) (open_row kind (open_row kind k.row x) y)
+      (open_row kind k.row (x ++ y)) n (sym j.1)
 
   new-join : (layout : Layout) (k : RowsState) (x y : List ℕ)
       → full_row_lines kind layout k (x ++ y)
-          ≡ full_row_lines kind layout k x ++ full_row_lines kind layout (rows_after kind k x) y
+      ≡ full_row_lines kind layout k x ++ full_row_lines kind layout (rows_after kind k x) y
   new-join layout k x y =
       ap (row_lines kind layout k.rows) (rows-join kind k.row x y).0
-          ∙ row_lines-append kind layout k.rows (full_rows kind k.row x) (full_rows kind (open_row kind k.row x) y)
+      ∙ row_lines-append kind layout k.rows (full_rows kind k.row x) (full_rows kind (open_row kind k.row x) y)
 
 -- the parts of a state that do not change are left out here: the tests, the lines and what is kept
 module _ (kind : Kind) (layout : Layout) (line : List ℕ → List ℕ) (size : ℕ) where
@@ -68,7 +68,7 @@ module _ (kind : Kind) (layout : Layout) (line : List ℕ → List ℕ) (size : 
 
   join-kept : (long wrote_line : Bool) (k : RowsState) (x y : List ℕ) → k.wrote_line ≡ wrote_line
       → kept_by long (kept_by long wrote_line k x).wrote_line (kept_by long wrote_line k x) y
-          ≡ kept_by long wrote_line k (x ++ y)
+      ≡ kept_by long wrote_line k (x ++ y)
   join-kept false wrote_line k x y e =
       ap (λ (r : List ℕ). record { wrote_line = k.wrote_line; rows = k.rows; row = r }) (append_assoc k.row x y)
   join-kept true true k x y e = kept-join kind k x y
@@ -77,23 +77,23 @@ module _ (kind : Kind) (layout : Layout) (line : List ℕ → List ℕ) (size : 
 
   join-new : (long wrote_line : Bool) (k : RowsState) (x y : List ℕ) → k.wrote_line ≡ wrote_line
       → new_by long wrote_line k (x ++ y)
-          ≡ new_by long wrote_line k x
-              ++ new_by long (kept_by long wrote_line k x).wrote_line (kept_by long wrote_line k x) y
+      ≡ new_by long wrote_line k x
+      ++ new_by long (kept_by long wrote_line k x).wrote_line (kept_by long wrote_line k x) y
   join-new false wrote_line k x y e = refl
   join-new true true k x y e = new-join kind layout k x y
   join-new true false k [] y e = rw e refl
   join-new true false k (u ∷ x) y e =
       ap (λ (t : List ℕ). line (long_text kind size (u ∷ [])) ++ t) (new-join kind layout (first_rows kind u) x y)
       ∙ sym (append_assoc (line (long_text kind size (u ∷ []))) (full_row_lines kind layout (first_rows kind u) x)
-          (full_row_lines kind layout (rows_after kind (first_rows kind u) x) y))
+      (full_row_lines kind layout (rows_after kind (first_rows kind u) x) y))
 
 abbrev with_kept : ValueTextState → ℕ → RowsState → ValueTextState
 with_kept s left k = record { primitive = s.primitive; left = left; kept = k }
 
 new_by-new : (s : ValueTextState) (x : List ℕ)
     → new_by s.primitive.kind s.primitive.layout (primitive_line s.primitive) s.primitive.size
-        (is_long s.primitive.kind s.primitive.size) s.kept.wrote_line s.kept x
-        ≡ contents_lines s x
+    (is_long s.primitive.kind s.primitive.size) s.kept.wrote_line s.kept x
+    ≡ contents_lines s x
 new_by-new s [] = refl
 new_by-new s (u ∷ x) = refl
 
@@ -101,19 +101,19 @@ pub pieces-join : PiecesJoin
 pieces-join s x y =
     let l : s.left - length x - length y ≡ s.left - length (x ++ y) = omega (arith, length-append x y) in
     let k =
-        join-kept s.primitive.kind s.primitive.layout (primitive_line s.primitive) s.primitive.size
-            (is_long s.primitive.kind s.primitive.size) s.kept.wrote_line s.kept x y refl in
+    join-kept s.primitive.kind s.primitive.layout (primitive_line s.primitive) s.primitive.size
+    (is_long s.primitive.kind s.primitive.size) s.kept.wrote_line s.kept x y refl in
     let t =
-        join-new s.primitive.kind s.primitive.layout (primitive_line s.primitive) s.primitive.size
-            (is_long s.primitive.kind s.primitive.size) s.kept.wrote_line s.kept x y refl in (
+    join-new s.primitive.kind s.primitive.layout (primitive_line s.primitive) s.primitive.size
+    (is_long s.primitive.kind s.primitive.size) s.kept.wrote_line s.kept x y refl in (
       ap (λ (n : ℕ). with_kept s n (rows_state_after (value_text_after s x) y)) l
           ∙ ap (with_kept s (s.left - length (x ++ y))) k,
       sym (new_by-new s (x ++ y)) ∙ t
           ∙ ap (λ (r : List ℕ). r
-              ++ new_by s.primitive.kind s.primitive.layout (primitive_line s.primitive) s.primitive.size
-                  (is_long s.primitive.kind s.primitive.size) (rows_state_after s x).wrote_line (rows_state_after s x)
-                  y)
-              (new_by-new s x)
+          ++ new_by s.primitive.kind s.primitive.layout (primitive_line s.primitive) s.primitive.size
+          (is_long s.primitive.kind s.primitive.size) (rows_state_after s x).wrote_line (rows_state_after s x)
+          y)
+          (new_by-new s x)
           ∙ ap (λ (r : List ℕ). contents_lines s x ++ r) (new_by-new (value_text_after s x) y),
     )
 
@@ -138,13 +138,13 @@ module _ (layout : Layout) (line : List ℕ → List ℕ) (size : ℕ) where
   abbrev open_at : Kind → Bool → List ℕ → List ℕ
   open_at kind long octets =
       if long && has_line kind octets
-          then line (long_text kind size octets) ++ row_lines kind layout 0 (full_rows kind [] (row_octets kind octets))
-          else []
+      then line (long_text kind size octets) ++ row_lines kind layout 0 (full_rows kind [] (row_octets kind octets))
+      else []
 
   abbrev OpenIsNew : Kind → Bool → List ℕ → Type 0
   OpenIsNew kind long octets =
       open_at kind long octets
-          ≡ begun_at kind long ++ new_by kind layout line size long (has_line kind []) (begin_kept kind) octets
+      ≡ begun_at kind long ++ new_by kind layout line size long (has_line kind []) (begin_kept kind) octets
 
   open-new : (kind : Kind) (long : Bool) (octets : List ℕ) → OpenIsNew kind long octets
   open-new kind false octets = refl
@@ -160,31 +160,31 @@ module _ (layout : Layout) (line : List ℕ → List ℕ) (size : ℕ) where
   open-new Bits true [] = refl
   open-new Bits true (u ∷ octets) =
       ap (λ (t : List (List ℕ)). line (long_text Bits size (u ∷ [])) ++ row_lines Bits layout 0 t)
-          (first-full u octets (nat_le u 7))
+      (first-full u octets (nat_le u 7))
 
   abbrev whole_at : NameOf → Kind → Bool → List ℕ → List ℕ
   whole_at name_of kind long octets =
       line (if long then long_value true kind size octets else short_value name_of kind octets).text
       ++ row_lines kind layout 0
-          (if long then long_value true kind size octets else short_value name_of kind octets).rows
+      (if long then long_value true kind size octets else short_value name_of kind octets).rows
 
   abbrev ended_at : NameOf → Kind → Bool → RowsState → List ℕ
   ended_at name_of kind long k =
       if long then row_lines kind layout k.rows (last_rows k.row)
-          else line (short_value name_of kind k.row).text
-              ++ row_lines kind layout 0 (short_value name_of kind k.row).rows
+      else line (short_value name_of kind k.row).text
+      ++ row_lines kind layout 0 (short_value name_of kind k.row).rows
 
   abbrev WholeIsEnded : NameOf → Kind → Bool → List ℕ → Type 0
   WholeIsEnded name_of kind long octets =
       whole_at name_of kind long octets
-          ≡ open_at kind long octets
-              ++ ended_at name_of kind long
-                  (kept_by kind layout line size long (has_line kind []) (begin_kept kind) octets)
+      ≡ open_at kind long octets
+      ++ ended_at name_of kind long
+      (kept_by kind layout line size long (has_line kind []) (begin_kept kind) octets)
 
   last-after : (kind : Kind) (first octets : List ℕ)
       → first ++ row_lines kind layout 0 (rows_of kind octets)
-          ≡ (first ++ row_lines kind layout 0 (full_rows kind [] octets))
-              ++ row_lines kind layout (0 + length (full_rows kind [] octets)) (last_rows (open_row kind [] octets))
+      ≡ (first ++ row_lines kind layout 0 (full_rows kind [] octets))
+      ++ row_lines kind layout (0 + length (full_rows kind [] octets)) (last_rows (open_row kind [] octets))
   last-after kind first octets =
       let full = full_rows kind [] octets in
       let last = last_rows (open_row kind [] octets) in
@@ -210,15 +210,15 @@ module _ (layout : Layout) (line : List ℕ → List ℕ) (size : ℕ) where
       let o = first-open_row u octets (nat_le u 7) in
       last-after Bits (line (long_text Bits size (u ∷ []))) (row_octets Bits (u ∷ octets))
       ∙ ap (λ (t : List (List ℕ)).
-          (line (long_text Bits size (u ∷ []))
-              ++ row_lines Bits layout 0 (full_rows Bits [] (row_octets Bits (u ∷ octets))))
-          ++ row_lines Bits layout (0 + length t) (last_rows (open_row Bits [] (row_octets Bits (u ∷ octets)))))
-          f
+      (line (long_text Bits size (u ∷ []))
+      ++ row_lines Bits layout 0 (full_rows Bits [] (row_octets Bits (u ∷ octets))))
+      ++ row_lines Bits layout (0 + length t) (last_rows (open_row Bits [] (row_octets Bits (u ∷ octets)))))
+      f
       ∙ ap (λ (t : List ℕ).
-          (line (long_text Bits size (u ∷ []))
-              ++ row_lines Bits layout 0 (full_rows Bits [] (row_octets Bits (u ∷ octets))))
-          ++ row_lines Bits layout (0 + length (full_rows Bits (row_octets Bits (u ∷ [])) octets)) (last_rows t))
-          o
+      (line (long_text Bits size (u ∷ []))
+      ++ row_lines Bits layout 0 (full_rows Bits [] (row_octets Bits (u ∷ octets))))
+      ++ row_lines Bits layout (0 + length (full_rows Bits (row_octets Bits (u ∷ [])) octets)) (last_rows t))
+      o
 
 abbrev line_for : HeaderValue → Layout → List ℕ → List ℕ
 line_for h layout = primitive_line (new_primitive h layout)
@@ -226,10 +226,10 @@ line_for h layout = primitive_line (new_primitive h layout)
 -- all that is known of a primitive that is still open was written
 pub open-lines : (h : HeaderValue) (layout : Layout) (octets : List ℕ)
     → open_lines h layout octets
-        ≡ begin_lines (new_value_text h layout) ++ contents_lines (new_value_text h layout) octets
+    ≡ begin_lines (new_value_text h layout) ++ contents_lines (new_value_text h layout) octets
 open-lines h layout octets =
     open-new layout (line_for h layout) (size_of h.size) (kind_of h.class h.number)
-        (is_long (kind_of h.class h.number) (size_of h.size)) octets
+    (is_long (kind_of h.class h.number) (size_of h.size)) octets
     ∙ ap (λ (t : List ℕ). begin_lines (new_value_text h layout) ++ t) (new_by-new (new_value_text h layout) octets)
 
 -- with no octets a primitive that begins has no lines more, and is kept as it is
@@ -245,8 +245,8 @@ pub new-nothing : (h : HeaderValue) (layout : Layout) → contents_lines (new_va
 new-nothing h layout =
     let s : ValueTextState = new_value_text h layout in
     sym (new_by-new s [])
-        ∙ new-nothing_at s.primitive.kind s.primitive.layout (primitive_line s.primitive) s.primitive.size
-            (is_long s.primitive.kind s.primitive.size) s.kept.wrote_line
+    ∙ new-nothing_at s.primitive.kind s.primitive.layout (primitive_line s.primitive) s.primitive.size
+    (is_long s.primitive.kind s.primitive.size) s.kept.wrote_line
 
 after-nothing_at : (kind : Kind) (layout : Layout) (line : List ℕ → List ℕ) (size : ℕ) (long wrote_line : Bool)
     → wrote_line ≡ has_line kind []
@@ -254,7 +254,7 @@ after-nothing_at : (kind : Kind) (layout : Layout) (line : List ℕ → List ℕ
 after-nothing_at kind layout line size false wrote_line e = refl
 after-nothing_at kind layout line size true true e =
     ap (λ (rows : List (List ℕ)). kept_with (0 + length (full_rows_in kind rows)) (open_row_in kind rows))
-        (rows-filled kind [])
+    (rows-filled kind [])
     ∙ ap (λ (b : Bool). record { wrote_line = b; rows = 0; row = [] }) e
 after-nothing_at kind layout line size true false e = refl
 
@@ -264,9 +264,9 @@ after-nothing h layout =
     let s : ValueTextState = new_value_text h layout in
     let l : s.left - 0 ≡ s.left = omega arith in
     ap (λ (n : ℕ). with_kept s n (rows_state_after s [])) l
-        ∙ ap (with_kept s s.left)
-            (after-nothing_at s.primitive.kind s.primitive.layout (primitive_line s.primitive) s.primitive.size
-                (is_long s.primitive.kind s.primitive.size) s.kept.wrote_line refl)
+    ∙ ap (with_kept s s.left)
+    (after-nothing_at s.primitive.kind s.primitive.layout (primitive_line s.primitive) s.primitive.size
+    (is_long s.primitive.kind s.primitive.size) s.kept.wrote_line refl)
 
 pub lines-begin : LinesBegin
 lines-begin h layout = (
@@ -280,7 +280,7 @@ lines-go_on h layout octets x =
     open-lines h layout (octets ++ x)
     ∙ ap (λ (t : List ℕ). begin_lines (new_value_text h layout) ++ t) (pieces-join (new_value_text h layout) octets x).1
     ∙ sym (append_assoc (begin_lines (new_value_text h layout)) (contents_lines (new_value_text h layout) octets)
-        (contents_lines (value_text_for h layout octets) x))
+    (contents_lines (value_text_for h layout octets) x))
     ∙ ap (λ (t : List ℕ). t ++ contents_lines (value_text_for h layout octets) x) (sym (open-lines h layout octets))
 
 long-some : (kind : Kind) (n size : ℕ) → n ≡ size → is_long kind size ≡ true → 1 ≤ n
@@ -290,22 +290,22 @@ abbrev whole_by : Layout → (List ℕ → List ℕ) → NameOf → Kind → ℕ
 whole_by layout line name_of kind n octets =
     line (if is_long kind n then long_value true kind n octets else short_value name_of kind octets).text
     ++ row_lines kind layout 0
-        (if is_long kind n then long_value true kind n octets else short_value name_of kind octets).rows
+    (if is_long kind n then long_value true kind n octets else short_value name_of kind octets).rows
 
 pub lines-end : LinesEnd
 lines-end name_of h layout octets e =
     let kind : Kind = kind_of h.class h.number in
     let w =
-        whole-ended layout (line_for h layout) (size_of h.size) name_of kind (is_long kind (size_of h.size)) octets
-            (long-some kind (length octets) (size_of h.size) e) in
+    whole-ended layout (line_for h layout) (size_of h.size) name_of kind (is_long kind (size_of h.size)) octets
+    (long-some kind (length octets) (size_of h.size) e) in
     ap (λ (n : ℕ). whole_by layout (line_for h layout) name_of kind n octets) e ∙ w
 
 -- a primitive written with its header, its contents and its end has the lines of the whole
 pub whole-new : (name_of : NameOf) (h : HeaderValue) (layout : Layout) (c : List ℕ) → length c ≡ size_of h.size
     → begin_lines (new_value_text h layout)
-        ++ (contents_lines (new_value_text h layout) c
-            ++ end_lines name_of (value_text_after (new_value_text h layout) c))
-        ≡ whole_lines name_of h layout c
+    ++ (contents_lines (new_value_text h layout) c
+    ++ end_lines name_of (value_text_after (new_value_text h layout) c))
+    ≡ whole_lines name_of h layout c
 whole-new name_of h layout c e =
     let t : ValueTextState = new_value_text h layout in
     sym (append_assoc (begin_lines t) (contents_lines t c) (end_lines name_of (value_text_after t c)))
@@ -315,17 +315,17 @@ whole-new name_of h layout c e =
 -- so has a long one: its line, and its rows
 pub new-long : (name_of : NameOf) (p : Primitive) (c : List ℕ) → is_long p.kind p.size ≡ true → length c ≡ p.size
     → primitive_line p (long_text p.kind p.size c) ++ row_lines p.kind p.layout 0 (rows_of p.kind (row_octets p.kind c))
-        ≡ lines_in_steps name_of (new_value_text_of p) c
+    ≡ lines_in_steps name_of (new_value_text_of p) c
 new-long name_of p c long e =
     let s : ValueTextState = new_value_text_of p in
     let w =
-        whole-ended p.layout (primitive_line p) p.size name_of p.kind (is_long p.kind p.size) c
-            (long-some p.kind (length c) p.size e) in
+    whole-ended p.layout (primitive_line p) p.size name_of p.kind (is_long p.kind p.size) c
+    (long-some p.kind (length c) p.size e) in
     let o = open-new p.layout (primitive_line p) p.size p.kind (is_long p.kind p.size) c in
     ap (λ (b : Bool). whole_at p.layout (primitive_line p) p.size name_of p.kind b c) (sym long)
     ∙ w
     ∙ ap (λ (t : List ℕ). t ++ end_lines name_of (value_text_after s c))
-        (o ∙ ap (λ (t : List ℕ). begin_lines s ++ t) (new_by-new s c))
+    (o ∙ ap (λ (t : List ℕ). begin_lines s ++ t) (new_by-new s c))
     ∙ append_assoc (begin_lines s) (contents_lines s c) (end_lines name_of (value_text_after s c))
 
 -- one with its value on its line is written with its end
@@ -337,6 +337,6 @@ shown-new name_of h layout p c is short e =
   where
     at-end : primitive_lines name_of (new_primitive h layout) c
         ≡ begin_lines (new_value_text h layout)
-            ++ (contents_lines (new_value_text h layout) c
-                ++ end_lines name_of (value_text_after (new_value_text h layout) c))
+        ++ (contents_lines (new_value_text h layout) c
+        ++ end_lines name_of (value_text_after (new_value_text h layout) c))
     at-end = rw short refl

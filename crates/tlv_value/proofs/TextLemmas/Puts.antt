@@ -16,20 +16,20 @@ row_lines-append kind layout i [] ys = let e : i + 0 ≡ i = omega arith in rw e
 row_lines-append kind layout i (x ∷ xs) ys =
     let e : i + 1 + length xs ≡ i + length (x ∷ xs) = omega arith in
     ap (λ (t : List ℕ). row_line layout i (row_text kind x) ++ t)
-        (row_lines-append kind layout (i + 1) xs ys
-            ∙ ap (λ (n : ℕ). row_lines kind layout (i + 1) xs ++ row_lines kind layout n ys) e)
+    (row_lines-append kind layout (i + 1) xs ys
+    ∙ ap (λ (n : ℕ). row_lines kind layout (i + 1) xs ++ row_lines kind layout n ys) e)
     ∙ sym (append_assoc (row_line layout i (row_text kind x)) (row_lines kind layout (i + 1) xs)
-        (row_lines kind layout (i + length (x ∷ xs)) ys))
+    (row_lines kind layout (i + length (x ∷ xs)) ys))
 
 -- all rows, and the last
 pub rows-split : (kind : Kind) (layout : Layout) (octets : List ℕ)
     → row_lines kind layout 0 (full_rows kind [] octets)
-        ++ row_lines kind layout (length (full_rows kind [] octets)) (last_rows (open_row kind [] octets))
-        ≡ row_lines kind layout 0 (rows_of kind octets)
+    ++ row_lines kind layout (length (full_rows kind [] octets)) (last_rows (open_row kind [] octets))
+    ≡ row_lines kind layout 0 (rows_of kind octets)
 rows-split kind layout octets =
     let e : 0 + length (full_rows kind [] octets) ≡ length (full_rows kind [] octets) = omega arith in
     ap (λ (n : ℕ). row_lines kind layout 0 (full_rows kind [] octets)
-        ++ row_lines kind layout n (last_rows (open_row kind [] octets)))
-        (sym e)
+    ++ row_lines kind layout n (last_rows (open_row kind [] octets)))
+    (sym e)
     ∙ sym (row_lines-append kind layout 0 (full_rows kind [] octets) (last_rows (open_row kind [] octets)))
     ∙ ap (row_lines kind layout 0) (sym (rows-parts kind octets))

@@ -21,7 +21,7 @@ module _ {D T E : Type 0} (state_of : D → DrainState) (old new : Out D) (resul
       → Puts state_of old new (open_lines h layout []) result
   begin-puts e p =
       puts_text state_of old new (begin_lines s) (open_lines h layout []) result
-          (ap begin_lines e ∙ sym (lines-begin h layout).0) p
+      (ap begin_lines e ∙ sym (lines-begin h layout).0) p
 
   -- with more octets
   pub bytes-puts : (c octets : List ℕ) → s ≡ value_text_for h layout c
@@ -31,7 +31,7 @@ module _ {D T E : Type 0} (state_of : D → DrainState) (old new : Out D) (resul
     rest = contents_lines s octets;
     together =
         ap (λ (t : ValueTextState). open_lines h layout c ++ contents_lines t octets) e
-            ∙ sym (lines-go_on h layout c octets);
+        ∙ sym (lines-go_on h layout c octets);
     puts = p;
   }
 
@@ -43,6 +43,6 @@ module _ {D T E : Type 0} (state_of : D → DrainState) (old new : Out D) (resul
     rest = end_lines name_of s;
     together =
         ap (λ (t : ValueTextState). open_lines h layout c ++ end_lines name_of t) e
-            ∙ sym (lines-end name_of h layout c size);
+        ∙ sym (lines-end name_of h layout c size);
     puts = p;
   }

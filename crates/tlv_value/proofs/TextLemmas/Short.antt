@@ -45,7 +45,7 @@ escaped-short x = omega (arith, pair-length x)
 octet-short : (x : ℕ) → length (octet_text x) ≤ 4
 octet-short x =
     elim (is_printable x) as (λ b. length (if b then printable_text x else escaped_octet x) ≤ 4)
-        [ true ↦ printable-short x | false ↦ escaped-short x ]
+    [ true ↦ printable-short x | false ↦ escaped-short x ]
 
 zeros-short : (ds : List ℕ) → length (without_zeros ds) ≤ length ds
 zeros-short [] = omega arith
@@ -53,13 +53,16 @@ zeros-short (d ∷ []) = omega arith
 zeros-short (d ∷ e ∷ ds) =
     let more = zeros-short (e ∷ ds) in
     elim (eqb d 0x30) as (λ b. length (if b then without_zeros (e ∷ ds) else d ∷ e ∷ ds) ≤ length (d ∷ e ∷ ds))
-        [ true ↦ omega (arith, more) | false ↦ omega arith ]
+    [ true ↦ omega (arith, more) | false ↦ omega arith ]
 
 number-short : (octets : List ℕ) → length (escaped_number octets) ≤ 4 + 2 * length octets
 number-short octets =
-    omega
-        (arith, length-append (without_zeros (encode_lower octets)) (125 ∷ []), zeros-short (encode_lower octets),
-            length-encode_with lower_digits octets)
+    omega (
+      arith,
+      length-append (without_zeros (encode_lower octets)) (125 ∷ []),
+      zeros-short (encode_lower octets),
+      length-encode_with lower_digits octets,
+    )
 
 if-short : (b : Bool) (x y : List ℕ) (n : ℕ) → length x ≤ n → length y ≤ n → length (if b then x else y) ≤ n
 if-short true x y n h g = h
@@ -70,7 +73,7 @@ ucs2-short [] h = absurd (omega arith)
 ucs2-short (a ∷ []) h = omega (arith, escaped-short a)
 ucs2-short (a ∷ b ∷ []) h =
     if-short (eqb a 0 && is_printable b) (printable_text b) (escaped_number (a ∷ b ∷ [])) 10
-        (omega (arith, printable-short b)) (omega (arith, number-short (a ∷ b ∷ [])))
+    (omega (arith, printable-short b)) (omega (arith, number-short (a ∷ b ∷ [])))
 ucs2-short (a ∷ b ∷ c ∷ unit) h = omega (arith, escaped-short a)
 
 ucs4-short : (unit : List ℕ) → 1 ≤ length unit → length (unit_text Ucs4 unit) ≤ 5 * length unit
@@ -80,8 +83,8 @@ ucs4-short (a ∷ b ∷ []) h = omega (arith, escaped-short a)
 ucs4-short (a ∷ b ∷ c ∷ []) h = omega (arith, escaped-short a)
 ucs4-short (a ∷ b ∷ c ∷ d ∷ []) h =
     if-short (eqb a 0 && eqb b 0 && eqb c 0 && is_printable d) (printable_text d)
-        (escaped_number (a ∷ b ∷ c ∷ d ∷ [])) 20 (omega (arith, printable-short d))
-        (omega (arith, number-short (a ∷ b ∷ c ∷ d ∷ [])))
+    (escaped_number (a ∷ b ∷ c ∷ d ∷ [])) 20 (omega (arith, printable-short d))
+    (omega (arith, number-short (a ∷ b ∷ c ∷ d ∷ [])))
 ucs4-short (a ∷ b ∷ c ∷ d ∷ e ∷ unit) h = omega (arith, escaped-short a)
 
 utf8-short : (unit : List ℕ) → 1 ≤ length unit → length (unit_text Utf8 unit) ≤ 5 * length unit
@@ -128,7 +131,7 @@ size-within Utf8 x xs =
     let l = length-take (utf8_length x) (x ∷ xs) in
     let s = utf8_length-some x in
     if-within (is_utf8 (take (utf8_length x) (x ∷ xs))) (length (take (utf8_length x) (x ∷ xs))) 1 (length (x ∷ xs))
-        (omega arith, omega arith) (omega arith, omega arith)
+    (omega arith, omega arith) (omega arith, omega arith)
 size-within Ucs2 x xs = ucs-within (nat_le 2 (length (x ∷ xs))) 2 (length (x ∷ xs)) refl (omega arith) (omega arith)
 size-within Ucs4 x xs = ucs-within (nat_le 4 (length (x ∷ xs))) 4 (length (x ∷ xs)) refl (omega arith) (omega arith)
 
@@ -142,9 +145,15 @@ units-short kind zero (x ∷ xs) =
     let l : length (take m (x ∷ xs)) ≡ m = length-take m (x ∷ xs) ∙ omega arith in
     let u = unit-short kind (take m (x ∷ xs)) (omega (arith, l, w.0)) in
     let r = units-short kind (m - 1) xs in
-    omega
-        (arith, length-append (unit_text kind (take m (x ∷ xs))) (flat_map (unit_text kind) (units kind (m - 1) xs)),
-            u, r, l, w.0, w.1)
+    omega (
+      arith,
+      length-append (unit_text kind (take m (x ∷ xs))) (flat_map (unit_text kind) (units kind (m - 1) xs)),
+      u,
+      r,
+      l,
+      w.0,
+      w.1,
+    )
 
 pub quoted-short : (kind : Kind) (row : List ℕ) → length (quoted_text kind row) ≤ 5 * length row + 2
 quoted-short kind row =
@@ -165,8 +174,7 @@ joined-short (x ∷ xs) =
 octets-text-short : (octets : List ℕ) → length (octets_value octets).text ≤ 330
 octets-text-short octets =
     elim (nat_le (length octets) 16) as (λ b. nat_le (length octets) 16 ≡ b
-        → length (if b then value_with (spaced_pairs octets) [] else value_with [] (rows_of Octets octets)).text ≤ 330)
-        [
+    → length (if b then value_with (spaced_pairs octets) [] else value_with [] (rows_of Octets octets)).text ≤ 330) [
       | true ↦ λ e. let h : length octets ≤ 16 = leb-true (length octets) 16 e in omega (arith, spaced-short octets)
       | false ↦ λ e. omega arith
     ] refl
@@ -182,7 +190,7 @@ pub boolean-short : (octets : List ℕ) → length octets ≤ 16 → length (boo
 boolean-short [] h = omega arith
 boolean-short (x ∷ []) h =
     elim (eqb x 0) as (λ b. length (32 ∷ (if b then codes "FALSE" else codes "TRUE")) ≤ 330)
-        [ true ↦ omega arith | false ↦ omega arith ]
+    [ true ↦ omega arith | false ↦ omega arith ]
 boolean-short (x ∷ y ∷ octets) h = octets-text-short (x ∷ y ∷ octets)
 
 pub integer-short : (octets : List ℕ) → length octets ≤ 16 → length (integer_value octets).text ≤ 330
@@ -195,28 +203,35 @@ used-short : (unused : ℕ) (octets : List ℕ) → length octets ≤ 8 → leng
 used-short unused [] h = omega arith
 used-short unused (x ∷ octets) h =
     let n : ℕ = 8 * length (x ∷ octets) - unused in
-    omega
-        (arith, length-map (take n (bits_of (x ∷ octets))) (λ bit. 48 + bit), length-take n (bits_of (x ∷ octets)),
-            length-bits (x ∷ octets))
+    omega (
+      arith,
+      length-map (take n (bits_of (x ∷ octets))) (λ bit. 48 + bit),
+      length-take n (bits_of (x ∷ octets)),
+      length-bits (x ∷ octets),
+    )
 
 pub count-short : (unused octets : ℕ) → octets < 2 ^ 64 → length (bit_count unused octets) ≤ 44
 count-short unused octets h =
-    omega
-        (arith, length-append (decimal (8 * octets - unused)) (codes " bits"),
-            digits-short (8 * octets - unused) (omega arith))
+    omega (
+      arith,
+      length-append (decimal (8 * octets - unused)) (codes " bits"),
+      digits-short (8 * octets - unused) (omega arith),
+    )
 
 pub bits-short : (octets : List ℕ) → length octets ≤ 9 → length (bits_value octets).text ≤ 330
 bits-short [] h = omega arith
 bits-short (unused ∷ octets) h =
     elim (is_readable unused (length octets)) as (λ b. length
-        (if b then value_on_line (bit_count unused (length octets) ++ used_digits unused octets)
-            else octets_value (unused ∷ octets)).text
-        ≤ 330)
-        [
+    (if b then value_on_line (bit_count unused (length octets) ++ used_digits unused octets)
+    else octets_value (unused ∷ octets)).text
+    ≤ 330) [
       | true ↦
-          omega
-              (arith, length-append (bit_count unused (length octets)) (used_digits unused octets),
-                  count-short unused (length octets) (omega arith), used-short unused octets (omega arith))
+          omega (
+            arith,
+            length-append (bit_count unused (length octets)) (used_digits unused octets),
+            count-short unused (length octets) (omega arith),
+            used-short unused octets (omega arith),
+          )
       | false ↦ octets-text-short (unused ∷ octets)
     ]
 

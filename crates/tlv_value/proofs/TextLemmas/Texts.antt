@@ -21,28 +21,28 @@ take-digits (suc n) (b ∷ bits) = ap (λ (t : List ℕ). (48 + b) ∷ t) (take-
 
 used-some : (unused : ℕ) (prefix : List ℕ) (last : ℕ)
     → used_digits unused (prefix ++ last ∷ [])
-        ≡ 32 ∷ digits_of_bits (take (8 * length (prefix ++ last ∷ []) - unused) (bits_of (prefix ++ last ∷ [])))
+    ≡ 32 ∷ digits_of_bits (take (8 * length (prefix ++ last ∷ []) - unused) (bits_of (prefix ++ last ∷ [])))
 used-some unused [] last = refl
 used-some unused (x ∷ prefix) last = refl
 
 -- the bits of the last octet
 pub used-last : (unused : ℕ) (prefix : List ℕ) (last : ℕ) → unused ≤ 7
     → used_digits unused (prefix ++ last ∷ [])
-        ≡ 32 ∷ (digits_of_bits (bits_of prefix) ++ take (8 - unused) (digits_of_bits (last_bits 8 last)))
+    ≡ 32 ∷ (digits_of_bits (bits_of prefix) ++ take (8 - unused) (digits_of_bits (last_bits 8 last)))
 used-last unused prefix last h =
     let l : 8 * length (prefix ++ last ∷ []) - unused ≡ length (bits_of prefix) + (8 - unused) =
-        omega (arith, length-append prefix (last ∷ []), length-bits prefix) in
+    omega (arith, length-append prefix (last ∷ []), length-bits prefix) in
     let b : bits_of (prefix ++ last ∷ []) ≡ bits_of prefix ++ last_bits 8 last =
-        bits-append prefix (last ∷ []) ∙ ap (λ (t : List ℕ). bits_of prefix ++ t) (append-nil (last_bits 8 last)) in
+    bits-append prefix (last ∷ []) ∙ ap (λ (t : List ℕ). bits_of prefix ++ t) (append-nil (last_bits 8 last)) in
     let t : take (length (bits_of prefix) + (8 - unused)) (bits_of prefix ++ last_bits 8 last)
-        ≡ bits_of prefix ++ take (8 - unused) (last_bits 8 last) =
+    ≡ bits_of prefix ++ take (8 - unused) (last_bits 8 last) =
     take-append-add (bits_of prefix) (last_bits 8 last) (8 - unused) in
     let d : digits_of_bits (take (8 * length (prefix ++ last ∷ []) - unused) (bits_of (prefix ++ last ∷ [])))
-        ≡ digits_of_bits (bits_of prefix) ++ take (8 - unused) (digits_of_bits (last_bits 8 last)) =
+    ≡ digits_of_bits (bits_of prefix) ++ take (8 - unused) (digits_of_bits (last_bits 8 last)) =
     rw (l, b, t)
-        (map-append (λ bit. 48 + bit) (bits_of prefix) (take (8 - unused) (last_bits 8 last))
-            ∙ ap (λ (t : List ℕ). digits_of_bits (bits_of prefix) ++ t)
-                (take-digits (8 - unused) (last_bits 8 last))) in
+    (map-append (λ bit. 48 + bit) (bits_of prefix) (take (8 - unused) (last_bits 8 last))
+    ∙ ap (λ (t : List ℕ). digits_of_bits (bits_of prefix) ++ t)
+    (take-digits (8 - unused) (last_bits 8 last))) in
     used-some unused prefix last ∙ ap (λ (t : List ℕ). 32 ∷ t) d
 
 -- the digits of the unused bits are dropped from the end

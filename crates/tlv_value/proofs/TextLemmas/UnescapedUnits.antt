@@ -61,7 +61,7 @@ unescaped-text Ucs4 x a h = absurd (cc)
 pub unescaped-units : (kind : Kind) (n : ℕ) (octets : List ℕ) → n ≤ length octets → has_ascii kind ≡ true
     → ((i : ℕ) → i < n → is_unescaped (get_or octets i 0) ≡ true)
     → flat_map (unit_text kind) (units kind 0 octets)
-        ≡ take n octets ++ flat_map (unit_text kind) (units kind 0 (drop n octets))
+    ≡ take n octets ++ flat_map (unit_text kind) (units kind 0 (drop n octets))
 unescaped-units kind zero [] h a p = refl
 unescaped-units kind zero (x ∷ xs) h a p = refl
 unescaped-units kind (suc n) [] h a p = absurd (omega arith)
@@ -86,4 +86,4 @@ pub unescaped-prefix : (n : ℕ) (xs : List ℕ) → list_all is_unescaped xs �
     → list_all is_unescaped (take n xs) ≡ true
 unescaped-prefix n xs e = (and-true _ _
     (sym (list_all-append is_unescaped (take n xs) (drop n xs)) ∙ ap (list_all is_unescaped) (take-append-drop n xs)
-        ∙ e)).0
+    ∙ e)).0

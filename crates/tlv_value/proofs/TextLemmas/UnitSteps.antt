@@ -19,12 +19,12 @@ first-unit kind (suc m) x xs h = let e : suc m - 1 ≡ m = omega arith in rw e (
 -- the first unit, and those after it
 pub units-step : (kind : Kind) (m : ℕ) (octets : List ℕ) → m ≡ unit_size kind octets → 1 ≤ m → 1 ≤ length octets
     → flat_map (unit_text kind) (units kind 0 octets)
-        ≡ unit_text kind (take m octets) ++ flat_map (unit_text kind) (units kind 0 (drop m octets))
+    ≡ unit_text kind (take m octets) ++ flat_map (unit_text kind) (units kind 0 (drop m octets))
 units-step kind m [] e some h = absurd (omega arith)
 units-step kind m (x ∷ xs) e some h =
     rw (← e)
-        (ap (λ (t : List (List ℕ)). unit_text kind (take m (x ∷ xs)) ++ flat_map (unit_text kind) t)
-            (first-unit kind m x xs some))
+    (ap (λ (t : List (List ℕ)). unit_text kind (take m (x ∷ xs)) ++ flat_map (unit_text kind) t)
+    (first-unit kind m x xs some))
 
 same-at : (octets : List ℕ) (r q : Bool) → (IsTrue r ↔ IsUtf8 octets) → is_utf8 octets ≡ q → r ≡ q
 same-at octets true true h e = refl

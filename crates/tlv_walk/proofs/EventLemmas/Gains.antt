@@ -72,9 +72,9 @@ follow-brings f earlier yielded more (Refused code) split e = tt
 -- a contents octet of a primitive brings that octet, and the end after the last
 open_primitive-brings : (h : HeaderValue) (c : List ℕ) (x : ℕ)
     → Brings
-        (events (OpenPrimitive h c)
-            ++ Bytes (x ∷ []) ∷ cond (eqb (length (c ++ x ∷ [])) (announced_length h.size)) (End ∷ []) [])
-        (Grown (primitive_so_far h (c ++ x ∷ [])))
+    (events (OpenPrimitive h c)
+    ++ Bytes (x ∷ []) ∷ cond (eqb (length (c ++ x ∷ [])) (announced_length h.size)) (End ∷ []) [])
+    (Grown (primitive_so_far h (c ++ x ∷ [])))
 open_primitive-brings h c x = elim (cases_Bool (eqb (length (c ++ x ∷ [])) (announced_length h.size))) [
   | inl full ↦
       rw (full, map_push (λ x. Bytes (x ∷ [])) c x, append_assoc (bytes_apart c) (Bytes (x ∷ []) ∷ []) (End ∷ []))
@@ -85,17 +85,17 @@ open_primitive-brings h c x = elim (cases_Bool (eqb (length (c ++ x ∷ [])) (an
 holder-brings : (h : HeaderValue) (yielded more : List EventValue) (g : Forest)
     → single_octets (events g) ≡ single_octets (yielded ++ more)
     → single_octets (events (Holder h g NoMore))
-        ≡ single_octets ((opening_events h ++ yielded) ++ (more ++ closing_event h g ∷ []))
+    ≡ single_octets ((opening_events h ++ yielded) ++ (more ++ closing_event h g ∷ []))
 holder-brings h yielded more g e =
     apart-more (opening_events h) (events g ++ closing_event h g ∷ []) yielded (more ++ closing_event h g ∷ [])
     (apart-before (events g) (yielded ++ more) (closing_event h g ∷ []) e
-        ∙ ap single_octets (append_assoc yielded more (closing_event h g ∷ [])))
+    ∙ ap single_octets (append_assoc yielded more (closing_event h g ∷ [])))
 
 -- an element that holds others brings what they bring, and its end after the last
 holder_so_far-brings : (h : HeaderValue) (yielded more : List EventValue) (g : Forest)
     → single_octets (events g) ≡ single_octets (yielded ++ more)
     → single_octets (events (holder_so_far h g))
-        ≡ single_octets ((opening_events h ++ yielded) ++ (more ++ closing h (Grown g)))
+    ≡ single_octets ((opening_events h ++ yielded) ++ (more ++ closing h (Grown g)))
 holder_so_far-brings h yielded more g e = elim (cases_Bool (is_filled_by h g)) [
   | inl full ↦ rw full (holder-brings h yielded more g e)
   | inr less ↦ rw (less, append-nil more) (apart-more (opening_events h) (events g) yielded more e)
@@ -117,12 +117,12 @@ waiting-opens h false c e = rw (e, c)
 -- the first contents octet of a wrapping BIT STRING
 open_bit_string-brings : (h : HeaderValue) (x : ℕ) → lead h ≡ 0 ∷ []
     → Brings (Enter h ∷ cond (eqb x 0) (Unused ∷ closing h (Grown NoMore)) [])
-        (cond (eqb x 0) (Grown (holder_so_far h NoMore)) (Refused BadInside))
+    (cond (eqb x 0) (Grown (holder_so_far h NoMore)) (Refused BadInside))
 open_bit_string-brings h x e = elim (cases_Bool (eqb x 0)) [
   | inl z ↦ rw z
       (holder_so_far-brings h [] [] NoMore refl
       ∙ ap (λ (t : List EventValue). single_octets ((t ++ []) ++ closing h (Grown NoMore)))
-          (waiting-opens h h.constructed refl e))
+      (waiting-opens h h.constructed refl e))
   | inr nz ↦ rw nz tt
 ]
 
@@ -131,22 +131,24 @@ pub push-brings : (p : Place) (f : Forest) (x : ℕ) → IsOpen p f → Brings (
 push-brings p NoMore x w = step-brings (push p NoMore x)
 push-brings p (PaddingOctet rest) x w =
     follow-brings PaddingOctet (Pad (0 ∷ []) ∷ []) (events rest) _ _ (λ g. refl)
-        (push-brings (place_after p 1) rest x w.1)
+    (push-brings (place_after p 1) rest x w.1)
 push-brings p (Primitive h c rest) x w =
     follow-brings (Primitive h c) (Begin h ∷ Bytes c ∷ End ∷ []) (events rest) _ _ (λ g. refl)
-        (push-brings (place_after p (length (octets_of h) + length c)) rest x w.1)
+    (push-brings (place_after p (length (octets_of h) + length c)) rest x w.1)
 push-brings p (Holder h inside rest) x w =
     let earlier : List EventValue = opening_events h ++ (events inside ++ closing_event h inside ∷ []) in
     let split : (g : Forest) → events (Holder h inside g) ≡ earlier ++ events g =
-    λ g. rw (append_assoc (opening_events h) (events inside ++ closing_event h inside ∷ []) (events g),
-        append_assoc (events inside) (closing_event h inside ∷ []) (events g)) in
+    λ g. rw (
+      append_assoc (opening_events h) (events inside ++ closing_event h inside ∷ []) (events g),
+      append_assoc (events inside) (closing_event h inside ∷ []) (events g),
+    ) in
     let brings : Brings ((earlier ++ events rest) ++ gained p (Holder h inside rest) x)
-        (push p (Holder h inside rest) x) =
+    (push p (Holder h inside rest) x) =
     follow-brings (Holder h inside) earlier (events rest) _ _ split
-        (push-brings (place_after p (extent h inside)) rest x w.2) in
+    (push-brings (place_after p (extent h inside)) rest x w.2) in
     subst
-        (λ (es : List EventValue). Brings (es ++ gained p (Holder h inside rest) x) (push p (Holder h inside rest) x))
-        (sym (split rest)) brings
+    (λ (es : List EventValue). Brings (es ++ gained p (Holder h inside rest) x) (push p (Holder h inside rest) x))
+    (sym (split rest)) brings
 push-brings p (OpenPrimitive h c) x w = open_primitive-brings h c x
 push-brings p (OpenHolder h inside) x w =
     settle-brings h (events inside) _ _ (push-brings (place_of_children p h) inside x w.1)

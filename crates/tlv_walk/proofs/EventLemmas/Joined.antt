@@ -17,10 +17,10 @@ pub apart-append : (xs ys : List EventValue) → single_octets (xs ++ ys) ≡ si
 apart-append [] ys = refl
 apart-append (Bytes c ∷ xs) ys =
     ap (λ (t : List EventValue). bytes_apart c ++ t) (apart-append xs ys)
-        ∙ sym (append_assoc (bytes_apart c) (single_octets xs) (single_octets ys))
+    ∙ sym (append_assoc (bytes_apart c) (single_octets xs) (single_octets ys))
 apart-append (Pad c ∷ xs) ys =
     ap (λ (t : List EventValue). pad_apart c ++ t) (apart-append xs ys)
-        ∙ sym (append_assoc (pad_apart c) (single_octets xs) (single_octets ys))
+    ∙ sym (append_assoc (pad_apart c) (single_octets xs) (single_octets ys))
 apart-append (Open h ∷ xs) ys = ap (λ (t : List EventValue). Open h ∷ t) (apart-append xs ys)
 apart-append (Begin h ∷ xs) ys = ap (λ (t : List EventValue). Begin h ∷ t) (apart-append xs ys)
 apart-append (End ∷ xs) ys = ap (λ (t : List EventValue). End ∷ t) (apart-append xs ys)

@@ -45,8 +45,8 @@ forest-goes_on p (suc n) f g t l w v e = elim (back t) [
       rw (q.popped.pushed) at (push-brings p q.popped.from q.popped.last q.popped.is_open) in
       goes-on-after (events f) (events q.popped.from) (events g) (gained p q.popped.from q.popped.last)
       (forest-goes_on p n f q.popped.from ys (omega (arith, ap length z, length-append ys (y ∷ []))) w
-          q.popped.is_open q.spelled)
-          brings
+      q.popped.is_open q.spelled)
+      brings
 ]
 
 -- of two open forests at one place, if one spelling goes on from the other the events do
@@ -59,9 +59,9 @@ pub reading-goes_on : (w : Framing) (b c : List ℕ) (f g : Forest) → IsReadin
     → (t : List ℕ) × (spelling g ≡ spelling f ++ t)
 reading-goes_on w b c f g r s =
     let front : spelling f ++ (r.is_prefix.0 ++ c) ≡ b ++ c =
-        sym (append_assoc (spelling f) r.is_prefix.0 c) ∙ ap (λ (t : List ℕ). t ++ c) r.is_prefix.1 in
+    sym (append_assoc (spelling f) r.is_prefix.0 c) ∙ ap (λ (t : List ℕ). t ++ c) r.is_prefix.1 in
     front-of (spelling f) (spelling g) (r.is_prefix.0 ++ c) s.is_prefix.0 (front ∙ sym s.is_prefix.1)
-        (s.longest f r.is_open (r.is_prefix.0 ++ c, front))
+    (s.longest f r.is_open (r.is_prefix.0 ++ c, front))
 
 -- the events of a longer input begin, joined, with those of the shorter
 pub events-prefix : (w : Framing) (b c : List ℕ) (f g : Forest) → IsReading w b f → IsReading w (b ++ c) g

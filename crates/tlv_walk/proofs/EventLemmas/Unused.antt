@@ -34,8 +34,8 @@ first_other-larger : (least offset : ℕ) (ns offsets : List ℕ) → offset < l
 first_other-larger least offset [] offsets h r = refl
 first_other-larger least offset (n ∷ ns) offsets h r =
     ap₂ (λ (k : Bool) (o : Option ℕ). if not k then Some n else o)
-        (not_among n offset offsets (λ e. omega (arith, e, h, r.0)))
-        (first_other-larger (n + 1) offset ns offsets (omega (arith, h, r.0)) r.2)
+    (not_among n offset offsets (λ e. omega (arith, e, h, r.0)))
+    (first_other-larger (n + 1) offset ns offsets (omega (arith, h, r.0)) r.2)
 
 -- an offset among those that rise is not below the least
 among_rise : (least end n : ℕ) (offsets : List ℕ) → Rise least end offsets → is_among n offsets ≡ true → least ≤ n
@@ -53,7 +53,7 @@ next-after n ns k offset = by (slice_get ns k)
   where
     by : (o : Option ℕ)
         → option_map_or (λ m. if eqb m offset then suc k + 1 else suc k) o (suc k)
-            ≡ suc (option_map_or (λ m. if eqb m offset then k + 1 else k) o k)
+        ≡ suc (option_map_or (λ m. if eqb m offset then k + 1 else k) o k)
     by None = refl
     by (Some m) = elim (cases_Bool (eqb m offset)) [
       | inl e ↦ rw e (omega arith)
@@ -65,7 +65,7 @@ found-after : (n : ℕ) (ns : List ℕ) (k : ℕ) (offsets : List ℕ)
 found-after n ns k [] = refl
 found-after n ns k (offset ∷ offsets) =
     ap (λ (j : ℕ). wrappers_after (n ∷ ns) j offsets) (next-after n ns k offset)
-        ∙ found-after n ns (next_wrapper ns k offset) offsets
+    ∙ found-after n ns (next_wrapper ns k offset) offsets
 
 none_there : (k : ℕ) → slice_get {X = ℕ} [] k ≡ None
 none_there k = refl
@@ -78,21 +78,21 @@ first-found (n ∷ ns) [] least low end r q = refl
 first-found (n ∷ ns) (offset ∷ offsets) least low end r q = elim (cases_eq n offset) [
   | inl same ↦
       ap (λ (k : Bool). slice_get (n ∷ ns) (wrappers_after (n ∷ ns) (if k then 1 else 0) offsets))
-          (eq-eqb n offset same)
+      (eq-eqb n offset same)
       ∙ ap (slice_get (n ∷ ns)) (found-after n ns 0 offsets)
       ∙ first-found ns offsets (n + 1) (offset + 1) end r.2 q.1
       ∙ sym (first_other-larger (n + 1) offset ns offsets (omega (arith, same)) r.2)
       ∙ ap (λ (k : Bool). if not k then Some n else first_other ns (offset ∷ offsets))
-          (sym (ap (λ (m : ℕ). is_among n (m ∷ offsets)) (sym same) ∙ is_first n offsets))
+      (sym (ap (λ (m : ℕ). is_among n (m ∷ offsets)) (sym same) ∙ is_first n offsets))
   | inr other ↦
       ap (λ (k : Bool). slice_get (n ∷ ns) (wrappers_after (n ∷ ns) (if k then 1 else 0) offsets))
-          (ne_eqb n offset other)
+      (ne_eqb n offset other)
       ∙ first-found (n ∷ ns) offsets least (offset + 1) end r q.1
       ∙ elim (cases_Bool (is_among n offsets)) [
         | inl among ↦
             let larger : offset < n + 1 = omega (arith, among_rise (offset + 1) end n offsets q.1 among) in
             ap₂ (λ (k : Bool) (o : Option ℕ). if not k then Some n else o) (sym (not_among n offset offsets other))
-                (sym (first_other-larger (n + 1) offset ns offsets larger r.2))
+            (sym (first_other-larger (n + 1) offset ns offsets larger r.2))
         | inr none ↦ rw (not_among n offset offsets other, none) refl
       ]
 ]
@@ -132,27 +132,27 @@ yielded_wrappers : (framing : Framing) (yielded waits : List EventValue) (f : Fo
     → entered_offsets yielded ≡ wrapper_offsets f
 yielded_wrappers framing yielded waits f v none e =
     sym (enters-append yielded waits ∙ ap (λ (l : List ℕ). entered_offsets yielded ++ l) none
-        ∙ append-nil (entered_offsets yielded))
-        ∙ enters-joined (yielded ++ waits) (events f) e ∙ sym (wrapper_offsets-entered (top_place framing) f v)
+    ∙ append-nil (entered_offsets yielded))
+    ∙ enters-joined (yielded ++ waits) (events f) e ∙ sym (wrapper_offsets-entered (top_place framing) f v)
 
 -- the count over the events yielded gives the first named offset that is no wrapper's
 pub yielded_unused : (framing : Framing) (yielded waits : List EventValue) (f : Forest)
     → can_name framing.inside ≡ true → IsOpen (top_place framing) f → entered_offsets waits ≡ []
     → AreEqualJoined (yielded ++ waits) (events f)
     → slice_get framing.inside (wrappers_after framing.inside 0 (entered_offsets yielded))
-        ≡ first_without_wrapper framing.inside f
+    ≡ first_without_wrapper framing.inside f
 yielded_unused framing yielded waits f named v none e =
     let same : entered_offsets yielded ≡ wrapper_offsets f = yielded_wrappers framing yielded waits f v none e in
     ap (λ (offsets : List ℕ). slice_get framing.inside (wrappers_after framing.inside 0 offsets)) same
     ∙ first-found framing.inside (wrapper_offsets f) 0 (top_place framing).offset _ (can-to framing.inside named).1
-        (wrapper_offsets-rise (top_place framing) f v)
+    (wrapper_offsets-rise (top_place framing) f v)
 
 pub stands_unused : (w : WalkerState) (b : List ℕ) (yielded : List EventValue) → (st : Stands w b yielded)
     → first_without_wrapper_in w ≡ first_without_wrapper w.framing.inside st.has_events.reading
 stands_unused w b yielded st =
     ap (slice_get w.framing.inside) st.private_state.found
-        ∙ yielded_unused w.framing yielded (waiting_events w) st.has_events.reading st.private_state.named
-            st.has_events.is_reading.is_open (waits_enter_none w.phase w.stack w.offset) st.has_events.all_events
+    ∙ yielded_unused w.framing yielded (waiting_events w) st.has_events.reading st.private_state.named
+    st.has_events.is_reading.is_open (waits_enter_none w.phase w.stack w.offset) st.has_events.all_events
 
 -- it is the first that no event yielded entered
 pub stands-entered : (w : WalkerState) (b : List ℕ) (yielded : List EventValue) → Stands w b yielded
@@ -160,7 +160,7 @@ pub stands-entered : (w : WalkerState) (b : List ℕ) (yielded : List EventValue
 stands-entered w b yielded st =
     stands_unused w b yielded st
     ∙ ap (first_other w.framing.inside)
-        (sym
-            (yielded_wrappers w.framing yielded (waiting_events w) st.has_events.reading
-                st.has_events.is_reading.is_open (waits_enter_none w.phase w.stack w.offset)
-                st.has_events.all_events))
+    (sym
+    (yielded_wrappers w.framing yielded (waiting_events w) st.has_events.reading
+    st.has_events.is_reading.is_open (waits_enter_none w.phase w.stack w.offset)
+    st.has_events.all_events))

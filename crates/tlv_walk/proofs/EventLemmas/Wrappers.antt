@@ -59,7 +59,7 @@ enters-unused (x ∷ l) es = enters-unused l es
 -- the first event of an element that holds others, by its form
 enters-first : (h : HeaderValue) (constructed : Bool) (es : List EventValue)
     → entered_offsets ((if constructed then Open h else Enter h) ∷ es)
-        ≡ (if constructed then [] else h.offset ∷ []) ++ entered_offsets es
+    ≡ (if constructed then [] else h.offset ∷ []) ++ entered_offsets es
 enters-first h true es = refl
 enters-first h false es = refl
 
@@ -96,14 +96,14 @@ wrapper_offsets-entered p (Holder h inside rest) w = sym
     ∙ ap (λ (t : List ℕ). wrapper_at h ++ t)
     (enters-append (events inside) (closing_event h inside ∷ events rest)
     ∙ (ap (λ (t : List ℕ). t ++ entered_offsets (closing_event h inside ∷ events rest))
-        (sym (wrapper_offsets-entered (place_of_children p h) inside w.1))
+    (sym (wrapper_offsets-entered (place_of_children p h) inside w.1))
     ∙ ap (λ (t : List ℕ). wrapper_offsets inside ++ t)
-        (enters-closes h inside (events rest)
-            ∙ sym (wrapper_offsets-entered (place_after p (extent h inside)) rest w.2)))))
+    (enters-closes h inside (events rest)
+    ∙ sym (wrapper_offsets-entered (place_after p (extent h inside)) rest w.2)))))
 wrapper_offsets-entered p (OpenPrimitive h c) w = refl
 wrapper_offsets-entered p (OpenHolder h inside) w =
     sym (enters-opens h (events inside)
-        ∙ ap (λ (t : List ℕ). wrapper_at h ++ t) (sym (wrapper_offsets-entered (place_of_children p h) inside w.1)))
+    ∙ ap (λ (t : List ℕ). wrapper_at h ++ t) (sym (wrapper_offsets-entered (place_of_children p h) inside w.1)))
 wrapper_offsets-entered p (OpenBitString h) w = waiting-wraps h w.1
 wrapper_offsets-entered p (OpenHeader octets) w = refl
 wrapper_offsets-entered p OpenEndOctets w = refl
@@ -145,31 +145,31 @@ pub wrapper_offsets-rise : (p : Place) (f : Forest) → IsOpen p f
 wrapper_offsets-rise p NoMore w = omega arith
 wrapper_offsets-rise p (PaddingOctet rest) w =
     rise-within _ _ _ _ (wrapper_offsets rest) (omega arith) (omega arith)
-        (wrapper_offsets-rise (place_after p 1) rest w.1)
+    (wrapper_offsets-rise (place_after p 1) rest w.1)
 wrapper_offsets-rise p (Primitive h c rest) w =
     rise-within _ _ _ _ (wrapper_offsets rest) (omega arith) (omega (arith, length-primitive h c rest))
     (wrapper_offsets-rise (place_after p (length (octets_of h) + length c)) rest w.1)
 wrapper_offsets-rise p (Holder h inside rest) w =
     let two : 2 ≤ length (octets_of h) = header-length h w.0.0.header.valid in
     let size : length (spelling (Holder h inside rest)) ≡ extent h inside + length (spelling rest) =
-        length-holder h inside rest in
+    length-holder h inside rest in
     rise-append p.offset (p.offset + length (opening h)) _ (wrapper_at h)
-        (wrapper_offsets inside ++ wrapper_offsets rest)
+    (wrapper_offsets inside ++ wrapper_offsets rest)
     (wrapper-rises p.offset (p.offset + length (opening h)) h w.0.0.header.offset (omega (arith, length-opening h)))
     (rise-append (p.offset + length (opening h)) (p.offset + extent h inside) _ (wrapper_offsets inside)
-        (wrapper_offsets rest)
+    (wrapper_offsets rest)
     (rise-within _ _ _ _ (wrapper_offsets inside) (omega arith) (omega arith)
-        (wrapper_offsets-rise (place_of_children p h) inside w.1))
+    (wrapper_offsets-rise (place_of_children p h) inside w.1))
     (rise-within _ _ _ _ (wrapper_offsets rest) (omega arith) (omega arith)
-        (wrapper_offsets-rise (place_after p (extent h inside)) rest w.2)))
+    (wrapper_offsets-rise (place_after p (extent h inside)) rest w.2)))
 wrapper_offsets-rise p (OpenPrimitive h c) w = omega arith
 wrapper_offsets-rise p (OpenHolder h inside) w =
     let two : 2 ≤ length (octets_of h) = header-length h w.0.0.header.valid in
     rise-append p.offset (p.offset + length (opening h)) _ (wrapper_at h) (wrapper_offsets inside)
     (wrapper-rises p.offset (p.offset + length (opening h)) h w.0.0.header.offset (omega (arith, length-opening h)))
     (rise-within _ _ _ _ (wrapper_offsets inside) (omega arith)
-        (omega (arith, length-append (opening h) (spelling inside)))
-        (wrapper_offsets-rise (place_of_children p h) inside w.1))
+    (omega (arith, length-append (opening h) (spelling inside)))
+    (wrapper_offsets-rise (place_of_children p h) inside w.1))
 wrapper_offsets-rise p (OpenBitString h) w =
     wrapper-rises p.offset _ h w.0.header.offset (omega (arith, header-length h w.0.header.valid))
 wrapper_offsets-rise p (OpenHeader octets) w = omega arith
@@ -199,7 +199,7 @@ wrapper-named p h header = elim (cases_Bool h.constructed) [
   | inr c ↦
       let named : is_among h.offset p.inside ≡ true =
       ap (λ (n : ℕ). is_among n p.inside) header.offset
-          ∙ (sym header.named ∙ wraps-named h.constructed h.named h c header.form) in
+      ∙ (sym header.named ∙ wraps-named h.constructed h.named h c header.form) in
       rw c (named, tt)
 ]
 
@@ -211,14 +211,14 @@ wrapper_offsets-named p (Primitive h c rest) w =
     wrapper_offsets-named (place_after p (length (octets_of h) + length c)) rest w.1
 wrapper_offsets-named p (Holder h inside rest) w =
     named-append p.inside (wrapper_at h) (wrapper_offsets inside ++ wrapper_offsets rest)
-        (wrapper-named p h w.0.0.header)
+    (wrapper-named p h w.0.0.header)
     (named-append p.inside (wrapper_offsets inside) (wrapper_offsets rest)
-        (wrapper_offsets-named (place_of_children p h) inside w.1)
-        (wrapper_offsets-named (place_after p (extent h inside)) rest w.2))
+    (wrapper_offsets-named (place_of_children p h) inside w.1)
+    (wrapper_offsets-named (place_after p (extent h inside)) rest w.2))
 wrapper_offsets-named p (OpenPrimitive h c) w = tt
 wrapper_offsets-named p (OpenHolder h inside) w =
     named-append p.inside (wrapper_at h) (wrapper_offsets inside) (wrapper-named p h w.0.0.header)
-        (wrapper_offsets-named (place_of_children p h) inside w.1)
+    (wrapper_offsets-named (place_of_children p h) inside w.1)
 wrapper_offsets-named p (OpenBitString h) w = wrapper-named p h w.0.header
 wrapper_offsets-named p (OpenHeader octets) w = tt
 wrapper_offsets-named p OpenEndOctets w = tt

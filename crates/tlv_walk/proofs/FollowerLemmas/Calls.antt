@@ -29,11 +29,11 @@ module _ {S : Type 0} (next : S → EventValue → Effect S) (old new : TurnStat
       → ReadsOnce {E = ReadFault} old.devices.source new.devices.source (Ok n) piece
       → 0 < length piece → LastReadWas (length piece) result (gave n) → source_result result ≡ Ok tt
       → new.devices.drain.failures ≡ failures_after (drain_result result) old.devices.drain.failures
-          → CallsDevices next old new piece result
+      → CallsDevices next old new piece result
   calls_given n result r some g s d = record {
     octets =
         subst (λ (l : LastReadValue). Consumes old.devices.source.left new.devices.source.left (last_octets l piece))
-            (sym r.last) r.octets.0;
+        (sym r.last) r.octets.0;
     reads = r.reads;
     last = subst (λ (l : LastReadValue). LastReadWas (length piece) result l) (sym r.last) g;
     at_end = λ e. r.octets.1 (gave-same n 0 (sym r.last ∙ e)) some;
@@ -44,9 +44,9 @@ module _ {S : Type 0} (next : S → EventValue → Effect S) (old new : TurnStat
   -- the same, if all that was made of the octets was written, and a turn returns what comes of it
   pub calls_answered : (n m : ℕ) (v : WalkerState) (why : Pause) (result : Result Turn DeviceFault)
       → ReadsOnce {E = ReadFault} old.devices.source new.devices.source (Ok n) piece → 0 < length piece
-          → n ≤ length piece
+      → n ≤ length piece
       → new.devices.drain.failures ≡ old.devices.drain.failures → IsResultOfPause n m v why result
-          → CallsDevices next old new piece result
+      → CallsDevices next old new piece result
   calls_answered n m v pause.Enough (Ok turn) r some fits d is = calls_given n (Ok turn) r some fits refl d
   calls_answered n m v (pause.Fault f) (Ok turn) r some fits d is = calls_given n (Ok turn) r some fits refl d
   calls_answered n m v pause.UsedUp (Ok turn) r some fits d is = calls_given n (Ok turn) r some fits refl d
@@ -62,9 +62,9 @@ module _ {S : Type 0} (next : S → EventValue → Effect S) (old new : TurnStat
       (why : Pause) (result : Result Turn DeviceFault)
       → IsResultOfPause n m new.walker why result
       → Pauses next (follow_states old.walker old.follower from) (follow_states new.walker new.follower to) walked
-          more (Ok why)
+      more (Ok why)
       → length walked ≡ m → m ≡ min (limit - old.walker.offset) n → old.walker.offset ≤ limit
-          → CanGoOn next old new limit result
+      → CanGoOn next old new limit result
   can_go_on_answered from to n m limit walked more pause.UsedUp (Ok Again) is used l fits below =
       record {
         moved = omega (arith, is.0, is.1, used.offset, l, fits, below);

@@ -49,14 +49,14 @@ module _ {S : Type 0} (next : S → EventValue → Effect S)
       → flat_map event_octets (followed_events next s es) ≡ flat_map event_octets (followed_events next s fs)
   octets_alike s es fs e =
       kept-alike next bytes_join bytes_empty bytes_go_on pad_join pad_empty pad_go_on event_octets (λ x y. refl) refl
-          (λ x y. refl) refl s es fs e
+      (λ x y. refl) refl s es fs e
 
   enters_alike : (s : S) (es fs : List EventValue) → AreEqualJoined es fs
       → entered_offsets (followed_events next s es) ≡ entered_offsets (followed_events next s fs)
   enters_alike s es fs e =
       enters_each (followed_events next s es)
       ∙ kept-alike next bytes_join bytes_empty bytes_go_on pad_join pad_empty pad_go_on
-          (λ e. entered_offsets (e ∷ [])) (λ x y. refl) refl (λ x y. refl) refl s es fs e
+      (λ e. entered_offsets (e ∷ [])) (λ x y. refl) refl (λ x y. refl) refl s es fs e
       ∙ sym (enters_each (followed_events next s fs))
 
   -- what was made of all events of a forest
@@ -79,7 +79,7 @@ module _ {S : Type 0} (next : S → EventValue → Effect S)
       → AreEqualJoined (es ++ others) (events f) → MadeAll s t f go.Enough (effect_of next s es).put
   made_enough s t es others f m e =
       let same : effect_of next s es ≡ effect_of next s (events f) =
-          sym (followed-enough next s es others m.goes_so) ∙ alike s (es ++ others) (events f) e in record {
+      sym (followed-enough next s es others m.goes_so) ∙ alike s (es ++ others) (events f) e in record {
         state = m.state ∙ ap (λ (k : Effect S). k.state) same;
         goes_so = sym (ap (λ (k : Effect S). k.goes) same) ∙ m.goes_so;
         text_is = ap (λ (k : Effect S). k.put) same;
@@ -114,8 +114,8 @@ module _ {S : Type 0} (next : S → EventValue → Effect S)
     first_made : MadeAll s now.follower x.stands.has_events.reading go.On (effect_of next s x.yielded).put
     first_made =
         made_all s now.follower x.yielded x.stands.has_events.reading go.On x.made
-            (stands_yielded now.walker b x.yielded x.stands.has_events.reading x.stands x.idle
-                x.stands.has_events.is_reading)
+        (stands_yielded now.walker b x.yielded x.stands.has_events.reading x.stands x.idle
+        x.stands.has_events.is_reading)
 
     first_spelled : spelling x.stands.has_events.reading ≡ b
     first_spelled =
@@ -147,19 +147,19 @@ module _ {S : Type 0} (next : S → EventValue → Effect S)
       turned : (answer : Result Turn DeviceFault) → result ≡ answer → TurnsTo next now new limit b x.yielded r answer
       turned answer is =
           subst (λ (k : Result Turn DeviceFault). TurnsTo next now new limit b x.yielded r k) is
-              (read.turned b x.yielded x.stands)
+          (read.turned b x.yielded x.stands)
 
       gave_so : (answer : Result Turn DeviceFault) → result ≡ answer
           → LastReadWas (length piece) answer new.devices.source.last
       gave_so answer is =
           subst (λ (k : Result Turn DeviceFault). LastReadWas (length piece) k new.devices.source.last) is
-              read.calls.last
+          read.calls.last
 
       failed_so : (answer : Result Turn DeviceFault) → result ≡ answer
           → new.devices.source.failures ≡ failures_after (source_result answer) old.failures
       failed_so answer is =
           read.calls.failed_reads
-              ∙ ap (λ (k : Result Turn DeviceFault). failures_after (source_result k) now.devices.source.failures) is
+          ∙ ap (λ (k : Result Turn DeviceFault). failures_after (source_result k) now.devices.source.failures) is
           ∙ ap (failures_after (source_result answer)) x.failures
 
       -- what was sent before and in this turn
@@ -168,24 +168,24 @@ module _ {S : Type 0} (next : S → EventValue → Effect S)
           → Sends from new.devices.drain (effect_of next s (x.yielded ++ more)).put result
       sent more result k =
           subst (λ (l : List ℕ). Sends from new.devices.drain l result)
-              (made_put next s now.follower x.yielded more x.made)
+          (made_put next s now.follower x.yielded more x.made)
           (sends_then from now.devices.drain new.devices.drain (effect_of next s x.yielded).put
-              (effect_of next now.follower more).put tt result x.sends k)
+          (effect_of next now.follower more).put tt result x.sends k)
 
       -- all events that were followed, and what was sent of them
       followed : (all : List EventValue) (goes : Go) → FollowsMore next now new x.yielded all goes
           → FollowsEvents next s new.follower all goes
       followed all goes k =
           subst (λ (es : List EventValue). FollowsEvents next s new.follower es goes) k.all_is
-              (made_both next s now.follower new.follower x.yielded k.more goes x.made k.made)
+          (made_both next s now.follower new.follower x.yielded k.more goes x.made k.made)
 
       sent_all : (all : List EventValue) (goes : Go) → FollowsMore next now new x.yielded all goes
           → Sends {T = ⊤} {E = DeviceFault} from new.devices.drain (effect_of next s all).put (Ok tt)
       sent_all all goes k =
           subst
-              (λ (es : List EventValue). Sends {T = ⊤} {E = DeviceFault} from new.devices.drain
-                  (effect_of next s es).put (Ok tt))
-              k.all_is (sent k.more (Ok tt) k.put)
+          (λ (es : List EventValue). Sends {T = ⊤} {E = DeviceFault} from new.devices.drain
+          (effect_of next s es).put (Ok tt))
+          k.all_is (sent k.more (Ok tt) k.put)
 
       some_octets : (o : List ℕ) → o ≢ [] → 0 < length o
       some_octets [] n = absurd (n refl)
@@ -198,7 +198,7 @@ module _ {S : Type 0} (next : S → EventValue → Effect S)
           let all : List EventValue = y.stands.all in record {
             gathered =
                 gathered_more old now.devices.source new.devices.source x.gathered r read.calls.octets
-                    read.calls.reads (some_octets r y.some, few);
+                read.calls.reads (some_octets r y.some, few);
             octets = subst AreOctets (sym (together_more x.gathered.pieces r)) all_octets;
             failures = failed_so (Ok Again) is;
             yielded = all;
@@ -207,7 +207,7 @@ module _ {S : Type 0} (next : S → EventValue → Effect S)
             same = y.stands.follows.framing ∙ x.same;
             stands =
                 subst (λ (o : List ℕ). Stands new.walker o all) (sym (together_more x.gathered.pieces r))
-                    y.stands.stands;
+                y.stands.stands;
             idle = y.stands.idle;
           }
 
@@ -216,23 +216,23 @@ module _ {S : Type 0} (next : S → EventValue → Effect S)
       abbrev Driven : Result Run DeviceFault → Type 0
       Driven answer =
           Drives next framing limit (drive_states s old from)
-              (drive_states new.follower new.devices.source new.devices.drain) answer
+          (drive_states new.follower new.devices.source new.devices.drain) answer
 
       runs_by : (answer : Result Run DeviceFault) (f : Forest) → GaveLast new.devices.source.last r
           → IsReading framing walked f → (es : List EventValue)
           → (goes : Go) (k : MadeAll s new.follower f goes (effect_of next s es).put)
           → source_result answer ≡ source_result result
-              → Sends from new.devices.drain (effect_of next s es).put (drain_result answer)
-              → ComesTo (drive_job next framing limit s) (b ++ r) f new.devices.source answer
+          → Sends from new.devices.drain (effect_of next s es).put (drain_result answer)
+          → ComesTo (drive_job next framing limit s) (b ++ r) f new.devices.source answer
           → Runs (drive_job next framing limit s) (device_states old from) new.devices answer
       runs_by answer f last is_reading es goes k same sends comes = record {
         pieces =
             pieces_all old now.devices.source new.devices.source x.gathered r read.calls.octets read.calls.reads last
-                few;
+            few;
         failures =
             read.calls.failed_reads
-                ∙ ap (λ (k : Result ⊤ DeviceFault). failures_after k now.devices.source.failures) (sym same)
-                ∙ ap (failures_after (source_result answer)) x.failures;
+            ∙ ap (λ (k : Result ⊤ DeviceFault). failures_after k now.devices.source.failures) (sym same)
+            ∙ ap (failures_after (source_result answer)) x.failures;
         wants_more = first_wants;
         within = within;
         reading = f;
@@ -248,35 +248,35 @@ module _ {S : Type 0} (next : S → EventValue → Effect S)
       -- with a fault or the end of the input
       ends_without : (run : Run) → result ≡ Ok (Ended run) → EndsIn next now new walked x.yielded run
           → IsFinalEnding run.ending ⊎ ((new.devices.source.last ≡ gave 0) × IsAtEnd new.devices.source.left)
-              → Driven (Ok run)
+          → Driven (Ok run)
       unfolding runs_by
       ends_without run is y ended =
           let g : LastReadGaveUpTo (length piece) new.devices.source.last = gave_so (Ok (Ended run)) is in
           let es : List EventValue = y.all in
           let f : Forest = y.has_events.reading in
           let is_reading : IsReading framing walked f =
-              subst (λ (k : Framing). IsReading k walked f) x.same y.has_events.is_reading in
+          subst (λ (k : Framing). IsReading k walked f) x.same y.has_events.is_reading in
           let made : FollowsEvents next s new.follower es go.On = followed es go.On y.follows in
           let k : MadeAll s new.follower f go.On (effect_of next s es).put =
-              made_all s new.follower es f go.On made y.has_events.all_events in
+          made_all s new.follower es f go.On made y.has_events.all_events in
           let answer : run
-              ≡ run_over framing f (followed_events next s (events f)) (effect_of next s (events f)).goes run.ending =
+          ≡ run_over framing f (followed_events next s (events f)) (effect_of next s (events f)).goes run.ending =
           y.run_is ∙ ap (λ (k : Framing). run_over k f es go.On run.ending) x.same
           ∙ ap (λ (g : Go). run_over framing f (followed_events next s (events f)) g run.ending) (sym k.goes_so) in
           let ends : EndsWith framing walked (had_enough (effect_of next s (events f)).goes) run.ending =
           subst (λ (b : Bool). EndsWith framing walked b run.ending)
-              (sym (is_enough_so f go.On (effect_of next s es).put k))
+          (sym (is_enough_so f go.On (effect_of next s es).put k))
           (subst (λ (k : Framing). EndsWith k walked false run.ending) x.same y.ending) in record {
             runs =
                 runs_by (Ok run) f (gave_last new.devices.source.last piece g) is_reading es go.On k
-                    (ap source_result (sym is)) (sent_all es go.On y.follows)
-                    (comes_to (drive_job next framing limit s) (b ++ r) f new.devices.source (Ok run) (
-              run.ending,
-              answer,
-              ends_so framing walked (had_enough (effect_of next s (events f)).goes) run.ending
-                  (IsFinalEnding run.ending ⊎ ((new.devices.source.last ≡ gave 0) × IsAtEnd new.devices.source.left))
+                (ap source_result (sym is)) (sent_all es go.On y.follows)
+                (comes_to (drive_job next framing limit s) (b ++ r) f new.devices.source (Ok run) (
+                  run.ending,
+                  answer,
+                  ends_so framing walked (had_enough (effect_of next s (events f)).goes) run.ending
+                      (IsFinalEnding run.ending ⊎ ((new.devices.source.last ≡ gave 0) × IsAtEnd new.devices.source.left))
                       ends (inr ended),
-            ));
+                ));
             state = k.state;
           }
 
@@ -289,30 +289,30 @@ module _ {S : Type 0} (next : S → EventValue → Effect S)
           let es : List EventValue = y.all in
           let f : Forest = y.has_events.reading in
           let is_reading : IsReading framing walked f =
-              subst (λ (k : Framing). IsReading k walked f) x.same y.has_events.is_reading in
+          subst (λ (k : Framing). IsReading k walked f) x.same y.has_events.is_reading in
           let others : (others : List EventValue) × AreEqualJoined (es ++ others) (events f) =
-              (y.others, y.has_events.all_events) in
+          (y.others, y.has_events.all_events) in
           let made : FollowsEvents next s new.follower es go.Enough = followed es go.Enough y.follows in
           let k : MadeAll s new.follower f go.Enough (effect_of next s es).put =
-              made_enough s new.follower es others.0 f made others.1 in
+          made_enough s new.follower es others.0 f made others.1 in
           let ending_is : run.ending ≡ Done = ap (λ (k : Run). k.ending) y.run_is in
           let answer : run
-              ≡ run_over framing f (followed_events next s (events f)) (effect_of next s (events f)).goes run.ending =
+          ≡ run_over framing f (followed_events next s (events f)) (effect_of next s (events f)).goes run.ending =
           run_is run run.ending (length (flat_map event_octets (followed_events next s (events f)))) true
-              (first_other framing.inside (entered_offsets (followed_events next s (events f)))) refl
+          (first_other framing.inside (entered_offsets (followed_events next s (events f)))) refl
           (ap (λ (k : Run). k.octets) y.run_is ∙ ap length (enough_octets s new.follower es others.0 f made others.1))
-              (ap (λ (k : Run). k.enough) y.run_is)
+          (ap (λ (k : Run). k.enough) y.run_is)
           (ap (λ (k : Run). k.unused) y.run_is
-              ∙ ap (λ (k : Framing). first_other k.inside (entered_offsets es)) x.same
-              ∙ ap (first_other framing.inside) (enough_enters s new.follower es others.0 f made others.1))
+          ∙ ap (λ (k : Framing). first_other k.inside (entered_offsets es)) x.same
+          ∙ ap (first_other framing.inside) (enough_enters s new.follower es others.0 f made others.1))
           ∙ ap (λ (g : Go). run_over framing f (followed_events next s (events f)) g run.ending) (sym k.goes_so) in
           let enough : had_enough (effect_of next s (events f)).goes ≡ true =
-              is_enough_so f go.Enough (effect_of next s es).put k in record {
+          is_enough_so f go.Enough (effect_of next s es).put k in record {
             runs =
                 runs_by (Ok run) f (gave_last new.devices.source.last piece g) is_reading es go.Enough k
-                    (ap source_result (sym is)) (sent_all es go.Enough y.follows)
+                (ap source_result (sym is)) (sent_all es go.Enough y.follows)
                 (comes_to (drive_job next framing limit s) (b ++ r) f new.devices.source (Ok run)
-                    (run.ending, answer, inl (enough, ending_is)));
+                (run.ending, answer, inl (enough, ending_is)));
             state = k.state;
           }
 
@@ -323,7 +323,7 @@ module _ {S : Type 0} (next : S → EventValue → Effect S)
       ends_so_far run is (at_fault y final) = ends_without run is y (inl final)
       ends_so_far run is (at_input_end y none) =
           let last : new.devices.source.last ≡ gave 0 =
-              gave_none new.devices.source.last piece (gave_so (Ok (Ended run)) is) none in
+          gave_none new.devices.source.last piece (gave_so (Ok (Ended run)) is) none in
           ends_without run is y (inr (last, read.calls.at_end last))
 
       pub drives_ended : (run : Run) → result ≡ Ok (Ended run) → Driven (Ok run)
@@ -337,8 +337,8 @@ module _ {S : Type 0} (next : S → EventValue → Effect S)
           let none : r ≡ [] = ap (λ (l : LastReadValue). last_octets l piece) last in
           let f : Forest = x.stands.has_events.reading in
           let all : b ≡ walked =
-              sym (ap (λ (o : List ℕ). take limit (b ++ o)) none ∙ ap (λ (o : List ℕ). take limit o) (append-nil b)
-                  ∙ take_all limit b within) in
+          sym (ap (λ (o : List ℕ). take limit (b ++ o)) none ∙ ap (λ (o : List ℕ). take limit o) (append-nil b)
+          ∙ take_all limit b within) in
           let k : MadeAll s new.follower f go.On (effect_of next s x.yielded).put = record {
             state = y.same.follower ∙ first_made.state;
             goes_so = first_made.goes_so;
@@ -346,14 +346,14 @@ module _ {S : Type 0} (next : S → EventValue → Effect S)
           } in
           let put : Sends from new.devices.drain (effect_of next s x.yielded).put (Ok tt) =
           sends_ok {T = ⊤} {U = ⊤} {E = DeviceFault} {F = DeviceFault} from new.devices.drain
-              ((effect_of next s x.yielded).put ++ []) (effect_of next s x.yielded).put tt tt
+          ((effect_of next s x.yielded).put ++ []) (effect_of next s x.yielded).put tt tt
           (sends_then from now.devices.drain new.devices.drain (effect_of next s x.yielded).put [] tt (Ok tt) x.sends
-              y.put)
-              (append-nil _) in record {
+          y.put)
+          (append-nil _) in record {
             runs =
                 runs_by (Err ReadFailed) f (inr (last, none))
-                    (subst (λ (o : List ℕ). IsReading framing o f) all first_reading) x.yielded go.On k
-                    (ap source_result (sym is)) put (read_failed last);
+                (subst (λ (o : List ℕ). IsReading framing o f) all first_reading) x.yielded go.On k
+                (ap source_result (sym is)) put (read_failed last);
             state = k.state;
           }
 
@@ -364,11 +364,11 @@ module _ {S : Type 0} (next : S → EventValue → Effect S)
           let f : Forest = y.has_events.reading in
           let es : List EventValue = x.yielded ++ y.more in
           let same : effect_of next s es ≡ effect_of next s (events f) =
-              alike s es (events f) y.has_events.all_events in record {
+          alike s es (events f) y.has_events.all_events in record {
             runs = record {
               pieces =
                   pieces_all old now.devices.source new.devices.source x.gathered r read.calls.octets read.calls.reads
-                      (gave_last new.devices.source.last piece g) few;
+                  (gave_last new.devices.source.last piece g) few;
               failures = failed_so (Err WriteFailed) is;
               wants_more = first_wants;
               within = within;
@@ -376,7 +376,7 @@ module _ {S : Type 0} (next : S → EventValue → Effect S)
               is_reading = subst (λ (k : Framing). IsReading k walked f) x.same y.has_events.is_reading;
               sends =
                   subst (λ (l : List ℕ). Sends {T = ⊤} {E = DeviceFault} from new.devices.drain l (Err WriteFailed))
-                      (ap (λ (k : Effect S). k.put) same) (sent y.more (Err WriteFailed) y.put);
+                  (ap (λ (k : Effect S). k.put) same) (sent y.more (Err WriteFailed) y.put);
               comes = write_failed;
             };
             state = tt;
@@ -391,18 +391,21 @@ module _ {S : Type 0} (next : S → EventValue → Effect S)
           let es : List EventValue = z.all in
           let f : Forest = z.stands.has_events.reading in
           let is_reading : IsReading framing walked f =
-              subst (λ (k : Framing). IsReading k walked f) (z.follows.framing ∙ x.same)
-                  z.stands.has_events.is_reading in
+          subst (λ (k : Framing). IsReading k walked f) (z.follows.framing ∙ x.same)
+          z.stands.has_events.is_reading in
           let k : MadeAll s new.follower f go.On (effect_of next s es).put =
           made_all s new.follower es f go.On (followed es go.On z.follows)
-              (stands_yielded new.walker walked es f z.stands z.idle z.stands.has_events.is_reading) in
-          let wants : WantMore (drive_job next framing limit s) walked =
-          (f, is_reading, stands_spelled new.walker walked es f z.stands z.stands.has_events.is_reading,
-              is_enough_so f go.On (effect_of next s es).put k) in
-              record {
+          (stands_yielded new.walker walked es f z.stands z.idle z.stands.has_events.is_reading) in
+          let wants : WantMore (drive_job next framing limit s) walked = (
+            f,
+            is_reading,
+            stands_spelled new.walker walked es f z.stands z.stands.has_events.is_reading,
+            is_enough_so f go.On (effect_of next s es).put k,
+          ) in
+          record {
             runs =
                 runs_by (Err InputTooLong) f (gave_last new.devices.source.last piece g) is_reading es go.On k
-                    (ap source_result (sym is)) (sent_all es go.On z.follows) (too_long y.beyond wants);
+                (ap source_result (sym is)) (sent_all es go.On z.follows) (too_long y.beyond wants);
             state = k.state;
           }
 

@@ -55,8 +55,8 @@ module _ {S : Type 0} (next : S → EventValue → Effect S) where
   followed-append s (e ∷ xs) ys =
       let t = next s e in
       if_on-alike t.goes t (λ u. effect_of next u (xs ++ ys))
-          (λ u. if_on (effect_of next u xs).goes (effect_of next u xs) (λ v. effect_of next v ys))
-          (followed-append t.state xs ys)
+      (λ u. if_on (effect_of next u xs).goes (effect_of next u xs) (λ v. effect_of next v ys))
+      (followed-append t.state xs ys)
       ∙ if_on-assoc t.goes t (λ u. effect_of next u xs) (λ v. effect_of next v ys) refl
 
   -- if it wanted more, others come after
@@ -99,14 +99,14 @@ module _ {S : Type 0} (next : S → EventValue → Effect S) where
   events_more s [] ys h = refl
   events_more s (e ∷ xs) ys h =
       by (λ (k : (effect_of next (next s e).state xs).goes ≡ On). events_more (next s e).state xs ys k)
-          (next s e).goes refl h
+      (next s e).goes refl h
     where
       by : ((effect_of next (next s e).state xs).goes ≡ On
           → followed_events next (next s e).state (xs ++ ys)
-              ≡ xs ++ followed_events next (effect_of next (next s e).state xs).state ys)
+          ≡ xs ++ followed_events next (effect_of next (next s e).state xs).state ys)
           → (g : Go) → (next s e).goes ≡ g → (if_on g (next s e) (λ u. effect_of next u xs)).goes ≡ On
           → e ∷ if_more g (followed_events next (next s e).state (xs ++ ys))
-              ≡ e ∷ (xs ++ followed_events next (if_on g (next s e) (λ u. effect_of next u xs)).state ys)
+          ≡ e ∷ (xs ++ followed_events next (if_on g (next s e) (λ u. effect_of next u xs)).state ys)
       by step On k h = ap (λ (l : List EventValue). e ∷ l) (step h)
       by step Enough k h = absurd (on_is_not_enough (sym h ∙ k))
 
@@ -124,13 +124,13 @@ module _ {S : Type 0} (next : S → EventValue → Effect S) where
   events_enough s [] ys h = absurd (cc (h))
   events_enough s (e ∷ xs) ys h =
       by (λ (k : (effect_of next (next s e).state xs).goes ≡ Enough). events_enough (next s e).state xs ys k)
-          (next s e).goes refl h
+      (next s e).goes refl h
     where
       by : ((effect_of next (next s e).state xs).goes ≡ Enough
           → followed_events next (next s e).state (xs ++ ys) ≡ followed_events next (next s e).state xs)
           → (g : Go) → (next s e).goes ≡ g → (if_on g (next s e) (λ u. effect_of next u xs)).goes ≡ Enough
           → e ∷ if_more g (followed_events next (next s e).state (xs ++ ys))
-              ≡ e ∷ if_more g (followed_events next (next s e).state xs)
+          ≡ e ∷ if_more g (followed_events next (next s e).state xs)
       by step On k h = ap (λ (l : List EventValue). e ∷ l) (step h)
       by step Enough k h = refl
 
@@ -155,7 +155,7 @@ module _ {S : Type 0} (next : S → EventValue → Effect S) where
         ∙ ap (λ (t : Effect S). and_then t (λ u. effect_of next u es)) (joins s b c)
         ∙ and_then-assoc (next s (part b)) (λ u. next u (part c)) (λ u. effect_of next u es)
         ∙ and_then-alike (next s (part b)) (λ u. and_then (next u (part c)) (λ v. effect_of next v es))
-            (λ u. effect_of next u (part c ∷ es)) (sym (after_part (next s (part b)).state c es))
+        (λ u. effect_of next u (part c ∷ es)) (sym (after_part (next s (part b)).state c es))
         ∙ sym (after_part s b (part c ∷ es))
 
     -- no octets
@@ -198,7 +198,7 @@ module _ {S : Type 0} (next : S → EventValue → Effect S)
   followed-joined s [] = refl
   followed-joined s (Bytes b ∷ es) =
       followed-with_bytes s b (joined_events es)
-          ∙ after next s (Bytes b) (joined_events es) es (λ u. followed-joined u es)
+      ∙ after next s (Bytes b) (joined_events es) es (λ u. followed-joined u es)
   followed-joined s (Pad b ∷ es) =
       followed-with_pad s b (joined_events es) ∙ after next s (Pad b) (joined_events es) es (λ u. followed-joined u es)
   followed-joined s (Open h ∷ es) = after next s (Open h) (joined_events es) es (λ u. followed-joined u es)
@@ -227,8 +227,8 @@ module _ {S : Type 0} (next : S → EventValue → Effect S) (part : EventValue 
     where
       by : flat_map part (followed_events next (next s e).state es) ≡ (effect_of keeping (next s e).state es).put
           → (g : Go)
-              → part e ++ flat_map part (if_more g (followed_events next (next s e).state es))
-                  ≡ (if_on g (keeping s e) (λ u. effect_of keeping u es)).put
+          → part e ++ flat_map part (if_more g (followed_events next (next s e).state es))
+          ≡ (if_on g (keeping s e) (λ u. effect_of keeping u es)).put
       by step On = ap (λ (l : List ℕ). part e ++ l) step
       by step Enough = append-nil (part e)
 
@@ -250,7 +250,7 @@ module _ {S : Type 0} (next : S → EventValue → Effect S)
     (pad_join : Joins next Pad) (pad_empty : IgnoresEmpty next Pad) (pad_go_on : GoesOn next Pad)
     (part : EventValue → List ℕ)
     (bytes : (x y : List ℕ) → part (Bytes (x ++ y)) ≡ part (Bytes x) ++ part (Bytes y))
-        (no_bytes : part (Bytes []) ≡ [])
+    (no_bytes : part (Bytes []) ≡ [])
     (pads : (x y : List ℕ) → part (Pad (x ++ y)) ≡ part (Pad x) ++ part (Pad y)) (no_pads : part (Pad []) ≡ []) where
   -- of events that are equal joined the same is kept
   pub kept-alike : (s : S) (es fs : List EventValue) → AreEqualJoined es fs
@@ -258,9 +258,9 @@ module _ {S : Type 0} (next : S → EventValue → Effect S)
   kept-alike s es fs e =
       let same : effect_of (keeping next part) s es ≡ effect_of (keeping next part) s fs =
       followed-alike (keeping next part) (keeping_joins next part Bytes bytes no_bytes bytes_join)
-          (keeping_rests next part Bytes bytes no_bytes bytes_empty) bytes_go_on
+      (keeping_rests next part Bytes bytes no_bytes bytes_empty) bytes_go_on
       (keeping_joins next part Pad pads no_pads pad_join) (keeping_rests next part Pad pads no_pads pad_empty)
-          pad_go_on s es fs e in
+      pad_go_on s es fs e in
       kept next part s es ∙ ap (λ (t : Effect S). t.put) same ∙ sym (kept next part s fs)
 
 -- ---- octet by octet
@@ -271,7 +271,7 @@ module _ {S : Type 0} (one : S → ℕ → Effect S) where
   each_octet-joins s [] y = refl
   each_octet-joins s (o ∷ x) y =
       and_then-alike (one s o) (λ u. each_octet one u (x ++ y))
-          (λ u. and_then (each_octet one u x) (λ v. each_octet one v y)) (each_octet-joins (one s o).state x y)
+      (λ u. and_then (each_octet one u x) (λ v. each_octet one v y)) (each_octet-joins (one s o).state x y)
       ∙ sym (and_then-assoc (one s o) (λ u. each_octet one u x) (λ v. each_octet one v y))
 
   pub each_octet-goes_on : (s : S) (x : List ℕ) → (each_octet one s x).goes ≡ On

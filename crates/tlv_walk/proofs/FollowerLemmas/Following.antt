@@ -37,7 +37,7 @@ walked_none w piece = record {
   framing = refl;
   stands =
       λ b yielded s. subst (λ (o : List ℕ). Stands w o (yielded ++ [])) (sym (append-nil b))
-          (subst (λ (es : List EventValue). Stands w b es) (sym (append-nil yielded)) s);
+      (subst (λ (es : List EventValue). Stands w b es) (sym (append-nil yielded)) s);
 }
 
 -- one part after another
@@ -50,28 +50,28 @@ walked_both w u v piece rest left es fs x y = record {
   stands = λ b yielded s.
       subst (λ (o : List ℕ). Stands v o (yielded ++ (es ++ fs))) (append_assoc b x.taken y.taken)
       (subst (λ (all : List EventValue). Stands v ((b ++ x.taken) ++ y.taken) all) (append_assoc yielded es fs)
-          (y.stands (b ++ x.taken) (yielded ++ es) (x.stands b yielded s)));
+      (y.stands (b ++ x.taken) (yielded ++ es) (x.stands b yielded s)));
 }
 
 -- an octet is refused after what was walked over
 refused_there : (w u v : WalkerState) (piece rest left : List ℕ) (f : Fault) (more : List EventValue)
     (x : WalksOver w u piece rest more) (o : List ℕ) (yielded : List EventValue)
     → Stands u (o ++ x.taken) (yielded ++ more) → StepsTo u v rest left (step.Fault f)
-        → WalksTo w v piece more f o yielded
+    → WalksTo w v piece more f o yielded
 refused_there w u v piece rest left f more x o yielded st (inl r) =
     let all : (o ++ x.taken) ++ r.takes.taken ≡ o ++ (x.taken ++ r.takes.taken) =
-        append_assoc o x.taken r.takes.taken in
+    append_assoc o x.taken r.takes.taken in
     let there : StandsRefused v (o ++ (x.taken ++ r.takes.taken)) r.octet (yielded ++ more) f =
     subst (λ (l : List ℕ). StandsRefused v l r.octet (yielded ++ more) f) all
-        (r.stands (o ++ x.taken) (yielded ++ more) st) in
+    (r.stands (o ++ x.taken) (yielded ++ more) st) in
     record {
       taken = x.taken ++ r.takes.taken;
       octet = r.octet;
       others = r.others;
       piece_is =
           x.piece_is
-              ∙ ap (λ (l : List ℕ). x.taken ++ l) (r.takes.piece_is ∙ ap (λ (l : List ℕ). r.takes.taken ++ l) r.rest_is)
-              ∙ sym (append_assoc x.taken r.takes.taken (r.octet ∷ r.others));
+          ∙ ap (λ (l : List ℕ). x.taken ++ l) (r.takes.piece_is ∙ ap (λ (l : List ℕ). r.takes.taken ++ l) r.rest_is)
+          ∙ sym (append_assoc x.taken r.takes.taken (r.octet ∷ r.others));
       framing = r.takes.framing ∙ x.framing;
       stands = there;
     }
@@ -85,20 +85,20 @@ yielded_prefix : (w v : WalkerState) (b piece rest : List ℕ) (yielded more : L
 yielded_prefix w v b piece rest yielded more f walked st r =
     let there : Stands v (b ++ walked.taken) (yielded ++ more) = walked.stands b yielded st in
     let all : b ++ piece ≡ (b ++ walked.taken) ++ rest =
-        ap (λ (o : List ℕ). b ++ o) walked.piece_is ∙ sym (append_assoc b walked.taken rest) in
+    ap (λ (o : List ℕ). b ++ o) walked.piece_is ∙ sym (append_assoc b walked.taken rest) in
     let r' : IsReading v.framing ((b ++ walked.taken) ++ rest) f =
     subst (λ (g : Framing). IsReading g ((b ++ walked.taken) ++ rest) f) (sym walked.framing)
-        (subst (λ (o : List ℕ). IsReading w.framing o f) all r) in
+    (subst (λ (o : List ℕ). IsReading w.framing o f) all r) in
     let goes : (es : List EventValue) × AreEqualJoined (events f) (events there.has_events.reading ++ es) =
-        events-prefix v.framing (b ++ walked.taken) rest there.has_events.reading f there.has_events.is_reading r' in (
+    events-prefix v.framing (b ++ walked.taken) rest there.has_events.reading f there.has_events.is_reading r' in (
       waiting_events v ++ goes.0,
       joined-from_apart (yielded ++ (more ++ (waiting_events v ++ goes.0))) (events f)
           (ap single_octets
-              (sym (append_assoc yielded more (waiting_events v ++ goes.0))
-                  ∙ sym (append_assoc (yielded ++ more) (waiting_events v) goes.0))
+          (sym (append_assoc yielded more (waiting_events v ++ goes.0))
+          ∙ sym (append_assoc (yielded ++ more) (waiting_events v) goes.0))
           ∙ apart-before ((yielded ++ more) ++ waiting_events v) (events there.has_events.reading) goes.0
-              (apart-from_joined ((yielded ++ more) ++ waiting_events v) (events there.has_events.reading)
-                  there.has_events.all_events)
+          (apart-from_joined ((yielded ++ more) ++ waiting_events v) (events there.has_events.reading)
+          there.has_events.all_events)
           ∙ sym (apart-from_joined (events f) (events there.has_events.reading ++ goes.0) goes.1)),
     )
 
@@ -123,20 +123,20 @@ module _ {S : Type 0} (next : S → EventValue → Effect S) where
       → (effect_of next s es).put ++ (effect_of next t fs).put ≡ (effect_of next s (es ++ fs)).put
   made_put s t es fs m =
       sym (ap (λ (f : Effect S). f.put) (both_made s t es fs m)
-          ∙ ap (λ (u : S). (effect_of next s es).put ++ (effect_of next u fs).put) (sym m.state))
+      ∙ ap (λ (u : S). (effect_of next s es).put ++ (effect_of next u fs).put) (sym m.state))
 
   pub made_both : (s t u : S) (es fs : List EventValue) (goes : Go) → FollowsEvents next s t es go.On
       → FollowsEvents next t u fs goes → FollowsEvents next s u (es ++ fs) goes
   made_both s t u es fs goes m k = record {
     state =
         k.state ∙ ap (λ (x : S). (effect_of next x fs).state) m.state
-            ∙ sym (ap (λ (f : Effect S). f.state) (both_made s t es fs m));
+        ∙ sym (ap (λ (f : Effect S). f.state) (both_made s t es fs m));
     goes_so =
         ap (λ (f : Effect S). f.goes) (both_made s t es fs m)
-            ∙ ap (λ (x : S). (effect_of next x fs).goes) (sym m.state) ∙ k.goes_so;
+        ∙ ap (λ (x : S). (effect_of next x fs).goes) (sym m.state) ∙ k.goes_so;
     all =
         events_more next s es fs m.goes_so ∙ ap (λ (x : S). es ++ followed_events next x fs) (sym m.state)
-            ∙ ap (λ (l : List EventValue). es ++ l) k.all;
+        ∙ ap (λ (l : List EventValue). es ++ l) k.all;
   }
 
   -- of one event
@@ -152,7 +152,7 @@ module _ {S : Type 0} (next : S → EventValue → Effect S) where
       → (effect_of next s es).put ++ (next t e).put ≡ (effect_of next s (es ++ e ∷ [])).put
   one_put s t es e m =
       ap (λ (f : Effect S). (effect_of next s es).put ++ f.put) (sym (followed-one next t e))
-          ∙ made_put s t es (e ∷ []) m
+      ∙ made_put s t es (e ∷ []) m
 
   module _ {D : Type 0} (state_of : D → DrainState) where
     -- a prefix of a piece was followed, and what was made of it was put
@@ -173,21 +173,21 @@ module _ {S : Type 0} (next : S → EventValue → Effect S) where
     pub follows_event : (x y z : FollowStates S D) (piece rest left : List ℕ) (e : EventValue) (goes : Go)
         → HasFollowed x y piece rest go.On → WalksOver y.walker z.walker rest left (e ∷ [])
         → (z.follower ≡ (next y.follower e).state) × (goes ≡ (next y.follower e).goes) → (g : Go)
-            → Puts {T = Go} {E = WriteFault} state_of y.out z.out (next y.follower e).put (Ok g)
+        → Puts {T = Go} {E = WriteFault} state_of y.out z.out (next y.follower e).put (Ok g)
         → HasFollowed x z piece left goes
     follows_event x y z piece rest left e goes h walks has g p = record {
       more = h.more ++ e ∷ [];
       follows = record {
         made =
             made_both x.follower y.follower z.follower h.more (e ∷ []) goes h.follows.made
-                (made_event y.follower z.follower e goes has.0 has.1);
+            (made_event y.follower z.follower e goes has.0 has.1);
         walked = walked_both x.walker y.walker z.walker piece rest left h.more (e ∷ []) h.follows.walked walks;
       };
       puts =
           puts_then_as state_of x.out y.out z.out (effect_of next x.follower h.more).put (next y.follower e).put
-              (effect_of next x.follower (h.more ++ e ∷ [])).put tt (Ok tt) h.puts
+          (effect_of next x.follower (h.more ++ e ∷ [])).put tt (Ok tt) h.puts
           (puts_as state_of y.out z.out (next y.follower e).put (next y.follower e).put g tt p refl)
-              (one_put x.follower y.follower h.more e h.follows.made);
+          (one_put x.follower y.follower h.more e h.follows.made);
     }
 
     -- the same was put, and another result is returned
@@ -196,7 +196,7 @@ module _ {S : Type 0} (next : S → EventValue → Effect S) where
         → Puts {T = Pause} {E = WriteFault} state_of x.out y.out (effect_of next x.follower more).put (Ok why)
     same_put x y more why p =
         puts_as state_of x.out y.out (effect_of next x.follower more).put (effect_of next x.follower more).put tt why
-            p refl
+        p refl
 
     -- the follower had enough
     pub pauses_enough : (x y : FollowStates S D) (piece rest : List ℕ) (goes : Go) → HasFollowed x y piece rest goes
@@ -216,20 +216,20 @@ module _ {S : Type 0} (next : S → EventValue → Effect S) where
     pub fails_event : (x y z : FollowStates S D) (v : WalkerState) (piece rest left : List ℕ) (e : EventValue)
         → HasFollowed x y piece rest go.On
         → WalksOver y.walker v rest left (e ∷ []) → (i j : WriteFault)
-            → Puts {T = Go} {E = WriteFault} state_of y.out z.out (next y.follower e).put (Err i)
+        → Puts {T = Go} {E = WriteFault} state_of y.out z.out (next y.follower e).put (Err i)
         → FollowsPiece next state_of x z piece (Err j)
     fails_event x y z v piece rest left e h walks i j p = record {
       more = h.more ++ e ∷ [];
       pauses = record {
         yields =
             walked_goes_on x.walker v piece left (h.more ++ e ∷ [])
-                (walked_both x.walker y.walker v piece rest left h.more (e ∷ []) h.follows.walked walks);
+            (walked_both x.walker y.walker v piece rest left h.more (e ∷ []) h.follows.walked walks);
       };
       puts = puts_failed_last state_of x.out z.out _ i (Err j)
           (puts_then_as state_of x.out y.out z.out (effect_of next x.follower h.more).put (next y.follower e).put
-              (effect_of next x.follower (h.more ++ e ∷ [])).put tt (Err i) h.puts p
-              (one_put x.follower y.follower h.more e h.follows.made))
-              refl;
+          (effect_of next x.follower (h.more ++ e ∷ [])).put tt (Err i) h.puts p
+          (one_put x.follower y.follower h.more e h.follows.made))
+          refl;
     }
 
     -- the piece is used up
@@ -248,13 +248,18 @@ module _ {S : Type 0} (next : S → EventValue → Effect S) where
             framing = steps.takes.framing ∙ h.follows.walked.framing;
             stands = λ o es st.
                 subst (λ (all : List ℕ). Stands v all (es ++ h.more)) (append_assoc o h.follows.walked.taken rest)
-                    (steps.stands (o ++ h.follows.walked.taken) (es ++ h.more) (h.follows.walked.stands o es st));
+                (steps.stands (o ++ h.follows.walked.taken) (es ++ h.more) (h.follows.walked.stands o es st));
           };
         };
         offset =
-            omega
-                (arith, steps.takes.offset, ap length steps.takes.piece_is, ap length steps.none_left,
-                    length-append steps.takes.taken left, walked);
+            omega (
+              arith,
+              steps.takes.offset,
+              ap length steps.takes.piece_is,
+              ap length steps.none_left,
+              length-append steps.takes.taken left,
+              walked,
+            );
         ready = steps.ready;
       };
       puts = same_put x (follow_states v y.follower y.out) h.more pause.UsedUp h.puts;
@@ -264,14 +269,14 @@ module _ {S : Type 0} (next : S → EventValue → Effect S) where
     pub pauses_fault : (x y : FollowStates S D) (v : WalkerState) (piece rest left : List ℕ) (f : Fault)
         → HasFollowed x y piece rest go.On
         → StepsTo y.walker v rest left (step.Fault f)
-            → FollowsPiece next state_of x (follow_states v y.follower y.out) piece (Ok (pause.Fault f))
+        → FollowsPiece next state_of x (follow_states v y.follower y.out) piece (Ok (pause.Fault f))
     pauses_fault x y v piece rest left f h steps = record {
       more = h.more;
       pauses = record {
         made = h.follows.made;
         walked =
             λ o es st. refused_there x.walker y.walker v piece rest left f h.more h.follows.walked o es
-                (h.follows.walked.stands o es st) steps;
+            (h.follows.walked.stands o es st) steps;
       };
       puts = same_put x (follow_states v y.follower y.out) h.more (pause.Fault f) h.puts;
     }

@@ -32,9 +32,9 @@ had-goes false = refl
 
 module _ {S A : Type 0} (next : S → EventValue → Effect S) (job : Job A) (s : S)
     (text : (octets : List ℕ) (f : Forest) → length octets ≤ job.limit → IsReading job.framing octets f
-        → (effect_of next s (events f)).put ≡ job.text f)
+    → (effect_of next s (events f)).put ≡ job.text f)
     (enough : (octets : List ℕ) (f : Forest) → length octets ≤ job.limit → IsReading job.framing octets f
-        → had_enough (effect_of next s (events f)).goes ≡ job.is_enough f)
+    → had_enough (effect_of next s (events f)).goes ≡ job.is_enough f)
     (t : S) (old new : SourceState) (from to : DrainState) where
   within_limit : (given : List ℕ) → length (take job.limit given) ≤ job.limit
   within_limit given = omega (arith, length-take job.limit given)
@@ -53,15 +53,15 @@ module _ {S A : Type 0} (next : S → EventValue → Effect S) (job : Job A) (s 
   pub runs_ok : (run : Run) (a : A)
       → Drives next job.framing job.limit (drive_states s old from) (drive_states t new to) (Ok run)
       → ((octets : List ℕ) (f : Forest) (e : Ending) → length octets ≤ job.limit → IsReading job.framing octets f
-          → t ≡ (effect_of next s (events f)).state → run ≡ (drive_job next job.framing job.limit s).returned f e
-          → a ≡ job.returned f e)
+      → t ≡ (effect_of next s (events f)).state → run ≡ (drive_job next job.framing job.limit s).returned f e
+      → a ≡ job.returned f e)
       → Runs job (device_states old from) (device_states new to) (Ok a)
   runs_ok run a x answer =
       let w = x.runs in
       let given : List ℕ = octets_given w.pieces in
       let same = enough (take job.limit given) w.reading (within_limit given) w.is_reading in
       let k : ComesToResult (drive_job next job.framing job.limit s) given w.reading new (Ok run) =
-          returns (drive_job next job.framing job.limit s) given w.reading new (Ok run) w.comes in record {
+      returns (drive_job next job.framing job.limit s) given w.reading new (Ok run) w.comes in record {
         pieces = w.pieces;
         failures = w.failures;
         wants_more = wants_as (concat w.pieces.pieces) w.within w.wants_more;
@@ -91,8 +91,8 @@ module _ {S A : Type 0} (next : S → EventValue → Effect S) (job : Job A) (s 
         sends = sent_as (octets_given w.pieces) w.reading (Ok tt) w.is_reading w.sends;
         comes =
             read_failed
-                (returns (drive_job next job.framing job.limit s) (octets_given w.pieces) w.reading new
-                    (Err ReadFailed) w.comes);
+            (returns (drive_job next job.framing job.limit s) (octets_given w.pieces) w.reading new
+            (Err ReadFailed) w.comes);
       }
   runs_err WriteFailed x =
       let w = x.runs in record {
@@ -108,8 +108,8 @@ module _ {S A : Type 0} (next : S → EventValue → Effect S) (job : Job A) (s 
   runs_err InputTooLong x =
       let w = x.runs in
       let k =
-          returns (drive_job next job.framing job.limit s) (octets_given w.pieces) w.reading new (Err InputTooLong)
-              w.comes in record {
+      returns (drive_job next job.framing job.limit s) (octets_given w.pieces) w.reading new (Err InputTooLong)
+      w.comes in record {
         pieces = w.pieces;
         failures = w.failures;
         wants_more = wants_as (concat w.pieces.pieces) w.within w.wants_more;

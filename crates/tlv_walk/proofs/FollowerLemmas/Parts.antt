@@ -39,7 +39,7 @@ module _ {S : Type 0} (next : S → EventValue → Effect S) where
   all_rest : (x : Go) (t : Effect S) (es : List EventValue)
       → ((s : S) → (effect_of next s es).goes ≡ go.On → followed_events next s es ≡ es)
       → (if_on x t (λ u. effect_of next u es)).goes ≡ go.On → t.goes ≡ x
-          → if_more x (followed_events next t.state es) ≡ es
+      → if_more x (followed_events next t.state es) ≡ es
   all_rest go.On t es rest g k = rest t.state g
   all_rest go.Enough t es rest g k = absurd (cc (sym k ∙ g))
 
@@ -64,16 +64,16 @@ module _ {S : Type 0} (next : S → EventValue → Effect S) where
             let walked : WalksOver x.walker y.walker piece rest h.more = h.follows.walked in
             subst (λ (g : Framing). GoesOnIn g (o ++ piece) (es ++ (h.more ++ p.more))) walked.framing
             (subst (λ (l : List ℕ). GoesOnIn y.walker.framing l (es ++ (h.more ++ p.more)))
-                (append_assoc o walked.taken rest ∙ ap (λ (l : List ℕ). o ++ l) (sym walked.piece_is))
+            (append_assoc o walked.taken rest ∙ ap (λ (l : List ℕ). o ++ l) (sym walked.piece_is))
             (subst (λ (l : List EventValue). GoesOnIn y.walker.framing ((o ++ walked.taken) ++ rest) l)
-                (append_assoc es h.more p.more)
-                (p.takes.yields (o ++ walked.taken) (es ++ h.more) (walked.stands o es st))));
+            (append_assoc es h.more p.more)
+            (p.takes.yields (o ++ walked.taken) (es ++ h.more) (walked.stands o es st))));
       };
       puts = puts_failed_last state_of x.out z.out _ e (Err f)
           (puts_then_as state_of x.out y.out z.out (effect_of next x.follower h.more).put
-              (effect_of next y.follower p.more).put (effect_of next x.follower (h.more ++ p.more)).put tt (Err e)
-              h.puts p.puts (made_put next x.follower y.follower h.more p.more h.follows.made))
-              refl;
+          (effect_of next y.follower p.more).put (effect_of next x.follower (h.more ++ p.more)).put tt (Err e)
+          h.puts p.puts (made_put next x.follower y.follower h.more p.more h.follows.made))
+          refl;
     }
 
     -- a primitive that lies whole at the front of a piece was followed
@@ -81,49 +81,49 @@ module _ {S : Type 0} (next : S → EventValue → Effect S) where
         (h : HeaderValue) (r : T)
         → h ≡ header_at p piece
         → y.follower ≡ (effect_of next x.follower (whole_events h (take p.octets piece))).state
-            → (effect_of next x.follower (whole_events h (take p.octets piece))).goes ≡ go.On
+        → (effect_of next x.follower (whole_events h (take p.octets piece))).goes ≡ go.On
         → Puts {T = T} {E = WriteFault} state_of x.out y.out
-            (effect_of next x.follower (whole_events h (take p.octets piece))).put (Ok r)
+        (effect_of next x.follower (whole_events h (take p.octets piece))).put (Ok r)
         → YieldsEvents x.walker y.walker piece rest (whole_events (header_at p piece) (take p.octets piece))
-            → Passes x.walker y.walker piece rest
+        → Passes x.walker y.walker piece rest
         → FollowsPart next state_of x y piece rest (Ok true)
     part_whole x y piece rest p h r same state goes put yields passes =
         let all : List EventValue = whole_events h (take p.octets piece) in record {
-      more = all;
-      takes = record {
-        follows = record {
-          made = made_all x.follower y.follower all state goes;
-          walked =
-              stands_all x.walker y.walker piece rest all
+          more = all;
+          takes = record {
+            follows = record {
+              made = made_all x.follower y.follower all state goes;
+              walked =
+                  stands_all x.walker y.walker piece rest all
                   (subst
-                      (λ (g : HeaderValue). YieldsEvents x.walker y.walker piece rest
-                          (whole_events g (take p.octets piece)))
-                      (sym same) yields);
-        };
-        passes = passes;
-      };
-      puts =
-          puts_as state_of x.out y.out (effect_of next x.follower all).put (effect_of next x.follower all).put r true
+                  (λ (g : HeaderValue). YieldsEvents x.walker y.walker piece rest
+                  (whole_events g (take p.octets piece)))
+                  (sym same) yields);
+            };
+            passes = passes;
+          };
+          puts =
+              puts_as state_of x.out y.out (effect_of next x.follower all).put (effect_of next x.follower all).put r true
               put refl;
-    }
+        }
 
     -- the drain failed at it
     pub part_fails : {T : Type 0} (x y : FollowStates S D) (piece rest : List ℕ) (p : WholePrimitive)
         (h : HeaderValue) (e f : WriteFault)
         → CanPass x.walker piece p → h ≡ header_at p piece
         → Puts {T = T} {E = WriteFault} state_of x.out y.out
-            (effect_of next x.follower (whole_events h (take p.octets piece))).put (Err e)
+        (effect_of next x.follower (whole_events h (take p.octets piece))).put (Err e)
         → FollowsPart next state_of x y piece rest (Err f)
     part_fails x y piece rest p h e f can same put = record {
       more = whole_events h (take p.octets piece);
       takes = record {
         yields =
             walked_goes_on x.walker (passed x.walker p 0) piece (drop p.octets piece)
-                (whole_events h (take p.octets piece))
+            (whole_events h (take p.octets piece))
             (subst
-                (λ (g : HeaderValue). WalksOver x.walker (passed x.walker p 0) piece (drop p.octets piece)
-                    (whole_events g (take p.octets piece)))
-                (sym same) (walked_primitive x.walker piece p can));
+            (λ (g : HeaderValue). WalksOver x.walker (passed x.walker p 0) piece (drop p.octets piece)
+            (whole_events g (take p.octets piece)))
+            (sym same) (walked_primitive x.walker piece p can));
       };
       puts = puts_failed_last state_of x.out y.out _ e (Err f) put refl;
     }
@@ -154,11 +154,11 @@ module _ {S : Type 0} (next : S → EventValue → Effect S) where
           };
           puts =
               puts_then_as state_of x.out y.out z.out (effect_of next x.follower h.more).put
-                  (effect_of next y.follower p.more).put (effect_of next x.follower (h.more ++ p.more)).put tt (Ok tt)
-                  h.puts
+              (effect_of next y.follower p.more).put (effect_of next x.follower (h.more ++ p.more)).put tt (Ok tt)
+              h.puts
               (puts_as state_of y.out z.out (effect_of next y.follower p.more).put
-                  (effect_of next y.follower p.more).put k tt p.puts refl)
-                  (made_put next x.follower y.follower h.more p.more h.follows.made);
+              (effect_of next y.follower p.more).put k tt p.puts refl)
+              (made_put next x.follower y.follower h.more p.more h.follows.made);
         }
 
     pub part_passes : (y z : FollowStates S D) (rest left : List ℕ) (k : Bool) → k ≡ true
@@ -180,10 +180,10 @@ module _ {S : Type 0} (next : S → EventValue → Effect S) where
           };
           puts =
               puts_then_as state_of x.out y.out z.out (effect_of next x.follower h.more).put []
-                  (effect_of next x.follower h.more).put tt (Ok tt) h.puts
+              (effect_of next x.follower h.more).put tt (Ok tt) h.puts
               (puts_as state_of y.out z.out (effect_of next y.follower p.more).put [] k tt p.puts
-                  (ap (λ (es : List EventValue). (effect_of next y.follower es).put) n.no_event))
-                  (append-nil (effect_of next x.follower h.more).put);
+              (ap (λ (es : List EventValue). (effect_of next y.follower es).put) n.no_event))
+              (append-nil (effect_of next x.follower h.more).put);
         }
 
     pub left_walked : (y z : FollowStates S D) (rest left : List ℕ) (k : Bool) → k ≡ false
@@ -191,5 +191,5 @@ module _ {S : Type 0} (next : S → EventValue → Effect S) where
         → z.walker.offset + length left ≡ y.walker.offset + length rest
     left_walked y z rest left k e p =
         let n : TakesNone next y z rest left p.more =
-            part_none y z rest left p.more k e p.takes in ap₂ (λ (m : WalkerState) (o : List ℕ). m.offset + length o)
-                n.walker n.all_left
+        part_none y z rest left p.more k e p.takes in ap₂ (λ (m : WalkerState) (o : List ℕ). m.offset + length o)
+        n.walker n.all_left

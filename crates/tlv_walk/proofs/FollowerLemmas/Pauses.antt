@@ -35,11 +35,11 @@ pub stands_spelled : (v : WalkerState) (b : List ℕ) (yielded : List EventValue
     → IsReading v.framing b f → spelling f ≡ b
 stands_spelled v b yielded f st r =
     let spells : Spells (top_place v.framing) b (reading_of st.private_state.state) =
-        state-spells v b yielded st.private_state.state st.private_state.has_state in
+    state-spells v b yielded st.private_state.state st.private_state.has_state in
     ap spelling
-        (reading-unique v.framing b f (reading_of st.private_state.state) r
-            (state-reading v b yielded st.private_state.state st.private_state.has_state))
-        ∙ spells.spelled
+    (reading-unique v.framing b f (reading_of st.private_state.state) r
+    (state-reading v b yielded st.private_state.state st.private_state.has_state))
+    ∙ spells.spelled
 
 -- if nothing waits, all events of the reading were yielded
 pub stands_yielded : (v : WalkerState) (b : List ℕ) (yielded : List EventValue) (f : Forest) → Stands v b yielded
@@ -47,9 +47,9 @@ pub stands_yielded : (v : WalkerState) (b : List ℕ) (yielded : List EventValue
 stands_yielded v b yielded f st idle r =
     let all : AreEqualJoined (yielded ++ waiting_events v) (events st.has_events.reading) = st.has_events.all_events in
     subst (λ (es : List EventValue). AreEqualJoined es (events f))
-        (ap (λ (es : List EventValue). yielded ++ es) idle ∙ append-nil yielded)
+    (ap (λ (es : List EventValue). yielded ++ es) idle ∙ append-nil yielded)
     (subst (λ (g : Forest). AreEqualJoined (yielded ++ waiting_events v) (events g))
-        (reading-unique v.framing b st.has_events.reading f st.has_events.is_reading r) all)
+    (reading-unique v.framing b st.has_events.reading f st.has_events.is_reading r) all)
 
 -- ---- an octet that is refused
 
@@ -62,11 +62,11 @@ fault_octets w v b piece yielded more e k =
 pub walked_refused : (w v : WalkerState) (b piece : List ℕ) (yielded more : List EventValue) (e : Fault)
     → (k : WalksTo w v piece more e b yielded)
     → (r : IsRefusedAfter w.framing (b ++ k.taken) k.octet (yielded ++ more) e)
-        × (first_without_wrapper_in v ≡ first_without_wrapper w.framing.inside r.reading)
+    × (first_without_wrapper_in v ≡ first_without_wrapper w.framing.inside r.reading)
 walked_refused w v b piece yielded more e k =
     subst
-        (λ (g : Framing). (r : IsRefusedAfter g (b ++ k.taken) k.octet (yielded ++ more) e)
-            × (first_without_wrapper_in v ≡ first_without_wrapper g.inside r.reading))
+    (λ (g : Framing). (r : IsRefusedAfter g (b ++ k.taken) k.octet (yielded ++ more) e)
+    × (first_without_wrapper_in v ≡ first_without_wrapper g.inside r.reading))
     k.framing (k.stands.refused, k.stands.unused)
 
 pub fault_is_reading : (w v : WalkerState) (b piece : List ℕ) (yielded more : List EventValue) (e : Fault)
@@ -74,16 +74,16 @@ pub fault_is_reading : (w v : WalkerState) (b piece : List ℕ) (yielded more : 
     → IsReading w.framing (b ++ piece) (walked_refused w v b piece yielded more e k).0.reading
 fault_is_reading w v b piece yielded more e k =
     let r : IsRefusedAfter w.framing (b ++ k.taken) k.octet (yielded ++ more) e =
-        (walked_refused w v b piece yielded more e k).0 in
+    (walked_refused w v b piece yielded more e k).0 in
     subst (λ (o : List ℕ). IsReading w.framing o r.reading) (fault_octets w v b piece yielded more e k)
-        (r.stays k.others)
+    (r.stays k.others)
 
 fault_reading : (w v : WalkerState) (b piece : List ℕ) (yielded more : List EventValue) (e : Fault) (f : Forest)
     → (k : WalksTo w v piece more e b yielded) → IsReading w.framing (b ++ piece) f
     → (walked_refused w v b piece yielded more e k).0.reading ≡ f
 fault_reading w v b piece yielded more e f k r =
     reading-unique w.framing (b ++ piece) (walked_refused w v b piece yielded more e k).0.reading f
-        (fault_is_reading w v b piece yielded more e k) r
+    (fault_is_reading w v b piece yielded more e k) r
 
 module _ {S : Type 0} (next : S → EventValue → Effect S) where
   -- ---- what was put is flushed, or cannot be
@@ -97,7 +97,7 @@ module _ {S : Type 0} (next : S → EventValue → Effect S) where
           [],
           subst (λ (es : List EventValue). AreEqualJoined es (events f)) (sym (append-nil (yielded ++ more)))
               (subst (λ (g : Forest). AreEqualJoined (yielded ++ more) (events g))
-                  (fault_reading x.walker y.walker b piece yielded more e f k r)
+              (fault_reading x.walker y.walker b piece yielded more e f k r)
               (walked_refused x.walker y.walker b piece yielded more e k).0.all_events),
         )
 
@@ -139,7 +139,7 @@ module _ {S : Type 0} (next : S → EventValue → Effect S) where
         pauses = pauses_same x y c piece k.more why k.pauses;
         sends =
             sends_flushed state_of x.out y.out c (drain_of x.out).now (drain_of c).now
-                (effect_of next x.follower k.more).put why tt refl none refl k.puts flushed empty;
+            (effect_of next x.follower k.more).put why tt refl none refl k.puts flushed empty;
         same_reference = flushed.same_reference ∙ k.puts.same_reference;
         empty = empty;
       }
@@ -155,9 +155,9 @@ module _ {S : Type 0} (next : S → EventValue → Effect S) where
             pauses = record { yields = (pauses_failing x y piece k.more why k.pauses).yields };
             sends = sends_puts state_of x.out c (drain_of x.out).now (drain_of c).now text (Err f) refl none refl
                 (puts_failed_last state_of x.out c text e (Err f)
-                    (puts_then_as state_of x.out y.out c text [] text why (Err e) k.puts unflushed (append-nil text))
-                    refl)
-                    tt;
+                (puts_then_as state_of x.out y.out c text [] text why (Err e) k.puts unflushed (append-nil text))
+                refl)
+                tt;
             same_reference = unflushed.same_reference ∙ k.puts.same_reference;
             empty = tt;
           }
@@ -173,7 +173,7 @@ module _ {S : Type 0} (next : S → EventValue → Effect S) where
           pauses = k.pauses;
           sends =
               sends_puts state_of x.out y.out (drain_of x.out).now (drain_of y.out).now text (Err f) refl none refl
-                  (puts_failed_last state_of x.out y.out text e (Err f) k.puts refl) tt;
+              (puts_failed_last state_of x.out y.out text e (Err f) k.puts refl) tt;
           same_reference = k.puts.same_reference;
           empty = tt;
         }

@@ -49,11 +49,11 @@ use Rattle.tlv_walk.proofs.FollowerLemmas.Pauses.{walked_refused}
 -- a run with these values
 pub run_is : (run : Run) (e : Ending) (n : ℕ) (k : Bool) (u : Option ℕ) → run.ending ≡ e → run.octets ≡ n
     → run.enough ≡ k → run.unused ≡ u → run ≡ record {
-  ending = e;
-  octets = n;
-  enough = k;
-  unused = u;
-}
+      ending = e;
+      octets = n;
+      enough = k;
+      unused = u;
+    }
 run_is run e n k u p q r s =
     ap (λ (x : Ending). record { ending = x; octets = run.octets; enough = run.enough; unused = run.unused }) p
     ∙ ap (λ (x : ℕ). record { ending = e; octets = x; enough = run.enough; unused = run.unused }) q
@@ -65,8 +65,8 @@ run_is run e n k u p q r s =
 module _ {S D : Type 0} (next : S → EventValue → Effect S) (old new : TurnStates S) (from to : Out D)
     (b piece : List ℕ) (yielded more : List EventValue)
     (put : Sends {T = ⊤} {E = DeviceFault} old.devices.drain new.devices.drain (effect_of next old.follower more).put
-        (Ok tt))
-        (st : Stands old.walker b yielded) where
+    (Ok tt))
+    (st : Stands old.walker b yielded) where
   abbrev w : WalkerState
   w = old.walker
 
@@ -93,8 +93,8 @@ module _ {S D : Type 0} (next : S → EventValue → Effect S) (old new : TurnSt
     };
     stands =
         subst (λ (o : List ℕ). Stands v (b ++ o) (yielded ++ more))
-            (sym (append-nil k.follows.walked.taken) ∙ sym k.follows.walked.piece_is)
-            (k.follows.walked.stands b yielded st);
+        (sym (append-nil k.follows.walked.taken) ∙ sym k.follows.walked.piece_is)
+        (k.follows.walked.stands b yielded st);
     idle = k.ready.0;
   }
 
@@ -107,22 +107,23 @@ module _ {S D : Type 0} (next : S → EventValue → Effect S) (old new : TurnSt
       let further = walked_goes_on w v piece k.rest more walked b yielded st f read in
       let there : Stands v (b ++ walked.taken) (yielded ++ more) = walked.stands b yielded st in
       let front : flat_map event_octets (yielded ++ more) ≡ b ++ walked.taken =
-          stands-yielded_octets v (b ++ walked.taken) (yielded ++ more) there k.after_event in record {
+      stands-yielded_octets v (b ++ walked.taken) (yielded ++ more) there k.after_event in record {
         all = yielded ++ more;
         follows = record { more = more; all_is = refl; made = k.follows.made; put = put; framing = walked.framing };
         others = further.0;
         has_events = record { reading = f; is_reading = read; all_events = further.1 };
-        is_prefix =
-            (k.rest,
-                ap (λ (o : List ℕ). o ++ k.rest) front ∙ append_assoc b walked.taken k.rest
-                    ∙ ap (λ (o : List ℕ). b ++ o) (sym walked.piece_is));
+        is_prefix = (
+          k.rest,
+          ap (λ (o : List ℕ). o ++ k.rest) front ∙ append_assoc b walked.taken k.rest
+              ∙ ap (λ (o : List ℕ). b ++ o) (sym walked.piece_is),
+        );
         stands = subst (λ (o : List ℕ). Stands v o (yielded ++ more)) (sym front) there;
         run_is =
             run_is run ending.Done (length (flat_map event_octets (yielded ++ more))) true
-                (first_other w.framing.inside (entered_offsets (yielded ++ more))) is.ending
+            (first_other w.framing.inside (entered_offsets (yielded ++ more))) is.ending
             (is.octets ∙ there.private_state.has_state.offset ∙ ap length (sym front)) is.enough
             (is.unused ∙ stands-entered v (b ++ walked.taken) (yielded ++ more) there
-                ∙ ap (λ (g : Framing). first_other g.inside (entered_offsets (yielded ++ more))) walked.framing);
+            ∙ ap (λ (g : Framing). first_other g.inside (entered_offsets (yielded ++ more))) walked.framing);
       }
 
   -- an octet is refused
@@ -140,11 +141,11 @@ module _ {S D : Type 0} (next : S → EventValue → Effect S) (old new : TurnSt
         };
         ending =
             subst (λ (g : Ending). IsEnding w.framing (b ++ piece) g) (sym is.ending)
-                (subst (λ (o : List ℕ). IsEnding w.framing o (ending.Fault e))
-                    (fault_octets w v b piece yielded more e k) (r.0.ends k.others));
+            (subst (λ (o : List ℕ). IsEnding w.framing o (ending.Fault e))
+            (fault_octets w v b piece yielded more e k) (r.0.ends k.others));
         run_is =
             run_is run run.ending (length (spelling r.0.reading)) false
-                (first_without_wrapper w.framing.inside r.0.reading) refl
+            (first_without_wrapper w.framing.inside r.0.reading) refl
             (is.octets ∙ k.stands.offset ∙ ap length (sym r.0.spelled)) is.enough (is.unused ∙ r.1);
         walker = refused_one e (record {
           taken = b ++ k.taken;
@@ -159,7 +160,7 @@ module _ {S D : Type 0} (next : S → EventValue → Effect S) (old new : TurnSt
 used_up_ends : {S : Type 0} (next : S → EventValue → Effect S) (old new : TurnStates S) (o : List ℕ)
     (yielded : List EventValue) (run : Run) (e : Ending)
     → StandsAfter next old new o yielded → IsRun run e false new.walker → IsEnding new.walker.framing o e
-        → EndsIn next old new o yielded run
+    → EndsIn next old new o yielded run
 used_up_ends next old new o yielded run e x is ends =
     let w : WalkerState = old.walker in
     let v : WalkerState = new.walker in
@@ -176,11 +177,11 @@ used_up_ends next old new o yielded run e x is ends =
       };
       ending =
           subst (λ (k : Ending). IsEnding w.framing o k) (sym is.ending)
-              (subst (λ (g : Framing). IsEnding g o e) same ends);
+          (subst (λ (g : Framing). IsEnding g o e) same ends);
       run_is =
           run_is run run.ending (length (spelling f)) false (first_without_wrapper w.framing.inside f) refl
           (is.octets ∙ x.stands.private_state.has_state.offset ∙ ap length (sym (stands_spelled v o all f x.stands r)))
-              is.enough
+          is.enough
           (is.unused ∙ stands_unused v o all x.stands ∙ ap (λ (g : Framing). first_without_wrapper g.inside f) same);
       walker = took_all x.stands x.idle;
     }
@@ -199,7 +200,7 @@ taken_within limit offset n p = elim (cases_lt (limit - offset) n) [
 module _ {S D : Type 0} (next : S → EventValue → Effect S) (old new : TurnStates S) (from to : Out D) (b : List ℕ)
     (yielded : List EventValue) (p piece r : List ℕ) (n m limit : ℕ)
     (st : Stands old.walker b yielded) (some : n ≤ length p) (below : old.walker.offset ≤ limit)
-        (is_m : m ≡ min (limit - old.walker.offset) n)
+    (is_m : m ≡ min (limit - old.walker.offset) n)
     (is_piece : piece ≡ take m p) (is_r : r ≡ take n p) (octets : AreOctets piece) where
   abbrev offset : ℕ
   offset = old.walker.offset
@@ -211,10 +212,10 @@ module _ {S D : Type 0} (next : S → EventValue → Effect S) (old new : TurnSt
   -- the same of a turn
   sent : (why : Pause) (more : List EventValue) → Sent (Ok why) more
       → Sends {T = ⊤} {E = DeviceFault} old.devices.drain new.devices.drain (effect_of next old.follower more).put
-          (Ok tt)
+      (Ok tt)
   sent why more q =
       sends_ok old.devices.drain new.devices.drain (effect_of next old.follower more).put
-          (effect_of next old.follower more).put why tt q refl
+      (effect_of next old.follower more).put why tt q refl
 
   many : length r ≡ n
   many = ap length is_r ∙ length-take n p ∙ omega (arith, some)
@@ -224,7 +225,7 @@ module _ {S D : Type 0} (next : S → EventValue → Effect S) (old new : TurnSt
   reached =
       ap (λ (o : List ℕ). b ++ o) (
       is_piece ∙ ap (λ (k : ℕ). take k p) is_m ∙ taken_within limit offset n p
-          ∙ ap (λ (k : ℕ). take (limit - k) (take n p)) st.private_state.has_state.offset
+      ∙ ap (λ (k : ℕ). take (limit - k) (take n p)) st.private_state.has_state.offset
       ∙ ap (λ (o : List ℕ). take (limit - length b) o) (sym is_r)
       ) ∙ limit_after limit b r (omega (arith, st.private_state.has_state.offset, below))
 
@@ -232,7 +233,7 @@ module _ {S D : Type 0} (next : S → EventValue → Effect S) (old new : TurnSt
   read : (f : Forest) × IsReading old.walker.framing (b ++ piece) f
   read =
       reading-longer old.walker.framing st.has_events.reading b piece octets st.has_events.is_reading
-          (stands_spelled old.walker b yielded st.has_events.reading st st.has_events.is_reading)
+      (stands_spelled old.walker b yielded st.has_events.reading st st.has_events.is_reading)
 
   -- all octets are within the limit
   all_within : (m < n → ⊥) → piece ≡ r
@@ -270,12 +271,12 @@ module _ {S D : Type 0} (next : S → EventValue → Effect S) (old new : TurnSt
   turns_end : (run : Run) (e : Ending) (why : Pause) → Followed why pause.UsedUp → (n ≡ 0)
       → IsRun run e false new.walker
       → ((o : List ℕ) (es : List EventValue) → Stands new.walker o es → IsEnding new.walker.framing o e)
-          → TurnsTo next old new limit b yielded r (Ok (Ended run))
+      → TurnsTo next old new limit b yielded r (Ok (Ended run))
   turns_end run e why x none is ends =
       let on = used why x in
       at_input_end
-          (ends_in run
-              (used_up_ends next old new (b ++ piece) yielded run e on is (ends (b ++ piece) on.all on.stands)))
+      (ends_in run
+      (used_up_ends next old new (b ++ piece) yielded run e on is (ends (b ++ piece) on.all on.stands)))
       (is_r ∙ ap (λ (k : ℕ). take k p) none)
 
   turns_fault : (run : Run) (e : Fault) (why : Pause) → Followed why (pause.Fault e)
@@ -285,18 +286,18 @@ module _ {S D : Type 0} (next : S → EventValue → Effect S) (old new : TurnSt
       let k : WalksTo old.walker new.walker piece x.more e b yielded = x.pauses.walked b yielded st in
       let r = (walked_refused old.walker new.walker b piece yielded x.more e k).0 in
       at_fault
-          (ends_in run
-              (fault_ends next old new from to b piece yielded x.more (sent why x.more x.put) st e x.pauses run is))
+      (ends_in run
+      (fault_ends next old new from to b piece yielded x.more (sent why x.more x.put) st e x.pauses run is))
       (subst IsFinalEnding (sym is.ending)
-          (refused-final old.walker.framing (b ++ k.taken) k.octet [] e r.offset (r.ends [])))
+      (refused-final old.walker.framing (b ++ k.taken) k.octet [] e r.offset (r.ends [])))
 
   turns_enough : (run : Run) (why : Pause) → Followed why pause.Enough → IsRun run ending.Done true new.walker
       → TurnsTo next old new limit b yielded r (Ok (Ended run))
   turns_enough run why x is =
       at_enough
       (subst (λ (o : List ℕ). HasEnoughIn next old new o yielded run) reached
-          (enough_ends next old new from to b piece yielded x.more (sent why x.more x.put) st x.pauses read.0 read.1
-              run is))
+      (enough_ends next old new from to b piece yielded x.more (sent why x.more x.put) st x.pauses read.0 read.1
+      run is))
 
   -- by why the piece is not followed any further
   answered : (why : Pause) (result : Result Turn DeviceFault) → Followed why why
@@ -318,15 +319,15 @@ module _ {S D : Type 0} (next : S → EventValue → Effect S) (old new : TurnSt
     abbrev FollowsIn : Result Pause WriteFault → Type 0
     FollowsIn result =
         FollowsAndFlushes next state_of (follow_states old.walker old.follower from)
-            (follow_states new.walker new.follower to) piece result
+        (follow_states new.walker new.follower to) piece result
 
     handed : (result : Result Pause WriteFault) → (x : FollowsIn result) → Sent result x.more
     handed result x =
         subst (λ (d : DrainState). Sends d new.devices.drain (effect_of next old.follower x.more).put result)
-            (sym drain_was)
+        (sym drain_was)
         (subst
-            (λ (d : DrainState). Sends (state_of (drain_of from).now) d (effect_of next old.follower x.more).put result)
-            (sym drain_is) x.sends)
+        (λ (d : DrainState). Sends (state_of (drain_of from).now) d (effect_of next old.follower x.more).put result)
+        (sym drain_is) x.sends)
 
     pub turns_answered : (why : Pause) (result : Result Turn DeviceFault) → FollowsIn (Ok why)
         → IsResultOfPause n m new.walker why result → TurnsTo next old new limit b yielded r result
@@ -340,13 +341,13 @@ module _ {S D : Type 0} (next : S → EventValue → Effect S) (old new : TurnSt
           more = x.more ++ o.0;
           put =
               sends_err old.devices.drain new.devices.drain (effect_of next old.follower x.more).put
-                  (effect_of next old.follower (x.more ++ o.0)).put e WriteFailed (handed (Err e) x)
+              (effect_of next old.follower (x.more ++ o.0)).put e WriteFailed (handed (Err e) x)
               (record { rest = front.0; is = sym front.1 });
           has_events = record {
             reading = read.0;
             is_reading = subst (λ (o : List ℕ). IsReading old.walker.framing o read.0) reached read.1;
             all_events =
                 subst (λ (es : List EventValue). AreEqualJoined es (events read.0)) (append_assoc yielded x.more o.0)
-                    o.1;
+                o.1;
           };
         }

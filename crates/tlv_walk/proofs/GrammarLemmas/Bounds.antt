@@ -169,4 +169,4 @@ pub fits-inside : (p : Place) (h : HeaderValue) → holds h ≡ true
 fits-inside p h e f =
     within-le (place_of_children p h).bound _ _ (omega (arith, length-opening h))
     (contents-within h.size (p.offset + length (octets_of h)) p.bound (length (lead h)) (lead-announced_length h e)
-        (within-le p.bound _ _ (omega arith) f))
+    (within-le p.bound _ _ (omega arith) f))

@@ -60,7 +60,7 @@ run-ending : (w : Framing) (r : PushRun) (b : List ℕ) → All (λ x. x < 256) 
 run-ending w (Going f) b each r = going-ending w f b r
 run-ending w (Halted f code) b each r =
     halt-ending w f code b r
-        (refused-fault w f r.octet code (octet-small (spelling f) r.octet r.rest b r.front each) r.is_open r.refused)
+    (refused-fault w f r.octet code (octet-small (spelling f) r.octet r.rest b r.front each) r.is_open r.refused)
 
 -- an input of octets has an ending
 pub is-ending : (w : Framing) (b : List ℕ) → All (λ x. x < 256) b → IsEnding w b (ending w b)
@@ -127,8 +127,8 @@ fault-halt w b code offset a d e = elim (ending-says w b (fault_ending code offs
 pub halt-unsound : (w : Framing) (b : List ℕ) (f : Forest) (code : FaultCode) → IsHalt w f code b → IsSoundList w b → ⊥
 halt-unsound w b f code r s =
     let most : length (spelling s.forest) ≤ length (spelling f) =
-        halt-longest w f code b r s.forest (sound-open_top w s.forest s.sound)
-            ([], append-nil (spelling s.forest) ∙ s.octets) in
+    halt-longest w f code b r s.forest (sound-open_top w s.forest s.sound)
+    ([], append-nil (spelling s.forest) ∙ s.octets) in
     omega (arith, ap length s.octets, ap length r.front, length-append (spelling f) (r.octet ∷ r.rest))
 
 -- no false alarm: after a fault other than F01 and F02 no input that goes on is sound
@@ -179,8 +179,8 @@ refused-reading w p x c f g v there e = elim (fault-place w (p ++ x ∷ c) (Faul
   | inl end ↦ absurd (omega (arith, end, there, length-append p (x ∷ c)))
   | inr r ↦
       let same : spelling r.0 ≡ spelling g =
-          front-same (spelling r.0) (spelling g) (r.1.is_prefix.0) (x ∷ c)
-              (r.1.is_prefix.1 ∙ ap (λ (o : List ℕ). o ++ x ∷ c) (sym v.spelled))
-              (sym r.2 ∙ there ∙ ap length (sym v.spelled)) in
+      front-same (spelling r.0) (spelling g) (r.1.is_prefix.0) (x ∷ c)
+      (r.1.is_prefix.1 ∙ ap (λ (o : List ℕ). o ++ x ∷ c) (sym v.spelled))
+      (sym r.2 ∙ there ∙ ap length (sym v.spelled)) in
       subst (λ (h : Forest). IsReading w (p ++ x ∷ c) h) (unique (top_place w) r.0 g r.1.is_open v.is_open same) r.1
 ]

@@ -120,11 +120,14 @@ begin-blames p o x (Named c k n i) some below w r = tt
 begin-blames p o x (Long c k n i m ds) some below w r = tt
 begin-blames p o x (Ready h) some below w r =
     complete-blames p o x h below
-        (record
-            { valid =
-                r.0; offset = ap (λ (a : Origin). a.offset) r.2; named = ap (λ (a : Origin). a.named) r.2; form = refl
-            })
-        (sym r.1)
+    (record {
+      valid =
+          r.0;
+      offset = ap (λ (a : Origin). a.offset) r.2;
+      named = ap (λ (a : Origin). a.named) r.2;
+      form = refl;
+    })
+    (sym r.1)
 begin-blames p o x (Stuck code) some below w r = octet-blames p o x code some below w
 begin-blames p o x Over some below w r = absurd w
 
@@ -161,7 +164,7 @@ read-there : (p : Place) (o : List ℕ) (x : ℕ) (h : HeaderValue) (t : Bool) �
     → octets_of h ≡ o ++ x ∷ [] → push p (OpenHeader o) x ≡ complete p (moved (origin p) h)
 read-there p o x h t room s octets =
     push-scan p o x (Ready (moved (origin p) h)) room
-        (ap (scan (origin p)) (sym octets) ∙ scan-moved (origin p) h s.valid)
+    (ap (scan (origin p)) (sym octets) ∙ scan-moved (origin p) h s.valid)
 
 -- the header as it is read there holds others if the header does
 holds-there : (p : Place) (h : HeaderValue) (t : Bool) → IsHeaderAt p t h → holds (moved (origin p) h) ≡ holds h
@@ -183,11 +186,11 @@ fault-refusal p f x code t (no_room {o = o} a) = rw (no-fit p (length o + 1) a)
 fault-refusal p f x code t (refused_octet {o = o} room r) = stuck-refusal p o x code t room r
 fault-refusal p f x code t (too_deep {o = o} room h s octets deep) =
     let test : (holds (moved (origin p) h) && leb 128 p.depth) ≡ true =
-        and_from _ _ (holds-there p h true s ∙ s.form) (le-leb 128 p.depth deep) in
+    and_from _ _ (holds-there p h true s ∙ s.form) (le-leb 128 p.depth deep) in
     ap refusal (read-there p o x h true room s octets) ∙ rw test
 fault-refusal p f x code t (overrun {o = o} room h s octets k past) =
     let test : (holds (moved (origin p) h) && leb 128 p.depth) ≡ false =
-        not-deep _ p.depth (λ q. k (sym (holds-there p h (holds h) s) ∙ q)) in
+    not-deep _ p.depth (λ q. k (sym (holds-there p h (holds h) s) ∙ q)) in
     let none : fits p (length (octets_of h) + announced_length h.size) ≡ false = no-fit p _ past in
     ap refusal (read-there p o x h (holds h) room s octets) ∙ rw (test, none)
 fault-refusal p f x code t (no_end i a) = rw (no-fit p 1 a)
@@ -208,7 +211,7 @@ pub refused-fault : (w : Framing) (f : Forest) (x : ℕ) (code : FaultCode) → 
     → push (top_place w) f x ≡ Refused code → IsFault (tip (top_place w) f).0 x (tip (top_place w) f).1 code
 refused-fault w f x code h v e =
     let same : refusal (push (tip (top_place w) f).0 (tip (top_place w) f).1 x) ≡ Some code =
-        sym (push-tip (top_place w) f x) ∙ ap refusal e in
+    sym (push-tip (top_place w) f x) ∙ ap refusal e in
     rw same at (blames (tip (top_place w) f).0 (tip (top_place w) f).1 x h (tip-top w f v))
 
 -- an octet with a fault of the list is refused, with that code
@@ -217,7 +220,7 @@ pub fault-refused : (w : Framing) (f : Forest) (x : ℕ) (code : FaultCode) → 
 fault-refused w f x code v k =
     refusal-code (push (top_place w) f x) code
     (push-tip (top_place w) f x
-        ∙ fault-refusal (tip (top_place w) f).0 (tip (top_place w) f).1 x code (tip-top w f v) k)
+    ∙ fault-refusal (tip (top_place w) f).0 (tip (top_place w) f).1 x code (tip-top w f v) k)
 
 -- an octet has one fault
 pub fault-unique : (w : Framing) (f : Forest) (x : ℕ) (c d : FaultCode) → IsOpen (top_place w) f

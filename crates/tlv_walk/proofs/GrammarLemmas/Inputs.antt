@@ -30,14 +30,21 @@ padded_naming = record { inside = 0 ∷ []; padding = true }
 -- 02 01 05
 an-integer : reading plain (2 ∷ 1 ∷ 5 ∷ [])
     ≡ Primitive
-        (record
-            { offset =
-                0; named =
-                    false; class =
-                        Universal; constructed =
-                            false; number = 2; size = Definite 1; identifier = 2 ∷ []; lengths = 1 ∷ []
-            })
-        (5 ∷ []) NoMore
+    (record {
+      offset =
+          0;
+      named =
+          false;
+      class =
+          Universal;
+      constructed =
+          false;
+      number = 2;
+      size = Definite 1;
+      identifier = 2 ∷ [];
+      lengths = 1 ∷ [];
+    })
+    (5 ∷ []) NoMore
 an-integer = refl
 
 an-integer-done : ending plain (2 ∷ 1 ∷ 5 ∷ []) ≡ Done
@@ -46,32 +53,53 @@ an-integer-done = refl
 -- 3a 09, and two segments
 segments : reading plain (58 ∷ 9 ∷ 4 ∷ 3 ∷ 74 ∷ 111 ∷ 110 ∷ 4 ∷ 2 ∷ 101 ∷ 115 ∷ [])
     ≡ Holder
-        (record
-            { offset =
-                0; named =
-                    false; class =
-                        Universal; constructed =
-                            true; number = 26; size = Definite 9; identifier = 58 ∷ []; lengths = 9 ∷ []
-            })
-        (Primitive
-            (record
-                { offset =
-                    2; named =
-                        false; class =
-                            Universal; constructed =
-                                false; number = 4; size = Definite 3; identifier = 4 ∷ []; lengths = 3 ∷ []
-                })
-            (74 ∷ 111 ∷ 110 ∷ [])
-            (Primitive
-                (record
-                    { offset =
-                        7; named =
-                            false; class =
-                                Universal; constructed =
-                                    false; number = 4; size = Definite 2; identifier = 4 ∷ []; lengths = 2 ∷ []
-                    })
-                (101 ∷ 115 ∷ []) NoMore))
-        NoMore
+    (record {
+      offset =
+          0;
+      named =
+          false;
+      class =
+          Universal;
+      constructed =
+          true;
+      number = 26;
+      size = Definite 9;
+      identifier = 58 ∷ [];
+      lengths = 9 ∷ [];
+    })
+    (Primitive
+    (record {
+      offset =
+          2;
+      named =
+          false;
+      class =
+          Universal;
+      constructed =
+          false;
+      number = 4;
+      size = Definite 3;
+      identifier = 4 ∷ [];
+      lengths = 3 ∷ [];
+    })
+    (74 ∷ 111 ∷ 110 ∷ [])
+    (Primitive
+    (record {
+      offset =
+          7;
+      named =
+          false;
+      class =
+          Universal;
+      constructed =
+          false;
+      number = 4;
+      size = Definite 2;
+      identifier = 4 ∷ [];
+      lengths = 2 ∷ [];
+    })
+    (101 ∷ 115 ∷ []) NoMore))
+    NoMore
 segments = refl
 
 segments-done : ending plain (58 ∷ 9 ∷ 4 ∷ 3 ∷ 74 ∷ 111 ∷ 110 ∷ 4 ∷ 2 ∷ 101 ∷ 115 ∷ []) ≡ Done
@@ -80,45 +108,73 @@ segments-done = refl
 -- 3a 80, two segments, and 00 00
 indefinite-segments : reading plain (58 ∷ 128 ∷ 4 ∷ 3 ∷ 74 ∷ 111 ∷ 110 ∷ 4 ∷ 2 ∷ 101 ∷ 115 ∷ 0 ∷ 0 ∷ [])
     ≡ Holder
-        (record
-            { offset =
-                0; named =
-                    false; class =
-                        Universal; constructed =
-                            true; number = 26; size = Indefinite; identifier = 58 ∷ []; lengths = 128 ∷ []
-            })
-        (Primitive
-            (record
-                { offset =
-                    2; named =
-                        false; class =
-                            Universal; constructed =
-                                false; number = 4; size = Definite 3; identifier = 4 ∷ []; lengths = 3 ∷ []
-                })
-            (74 ∷ 111 ∷ 110 ∷ [])
-            (Primitive
-                (record
-                    { offset =
-                        7; named =
-                            false; class =
-                                Universal; constructed =
-                                    false; number = 4; size = Definite 2; identifier = 4 ∷ []; lengths = 2 ∷ []
-                    })
-                (101 ∷ 115 ∷ []) NoMore))
-        NoMore
+    (record {
+      offset =
+          0;
+      named =
+          false;
+      class =
+          Universal;
+      constructed =
+          true;
+      number = 26;
+      size = Indefinite;
+      identifier = 58 ∷ [];
+      lengths = 128 ∷ [];
+    })
+    (Primitive
+    (record {
+      offset =
+          2;
+      named =
+          false;
+      class =
+          Universal;
+      constructed =
+          false;
+      number = 4;
+      size = Definite 3;
+      identifier = 4 ∷ [];
+      lengths = 3 ∷ [];
+    })
+    (74 ∷ 111 ∷ 110 ∷ [])
+    (Primitive
+    (record {
+      offset =
+          7;
+      named =
+          false;
+      class =
+          Universal;
+      constructed =
+          false;
+      number = 4;
+      size = Definite 2;
+      identifier = 4 ∷ [];
+      lengths = 2 ∷ [];
+    })
+    (101 ∷ 115 ∷ []) NoMore))
+    NoMore
 indefinite-segments = refl
 
 -- 30 03 02 02 01: the second 02 announces an octet too many
 an-overrun-reading : reading plain (48 ∷ 3 ∷ 2 ∷ 2 ∷ 1 ∷ [])
     ≡ OpenHolder
-        (record
-            { offset =
-                0; named =
-                    false; class =
-                        Universal; constructed =
-                            true; number = 16; size = Definite 3; identifier = 48 ∷ []; lengths = 3 ∷ []
-            })
-        (OpenHeader (2 ∷ []))
+    (record {
+      offset =
+          0;
+      named =
+          false;
+      class =
+          Universal;
+      constructed =
+          true;
+      number = 16;
+      size = Definite 3;
+      identifier = 48 ∷ [];
+      lengths = 3 ∷ [];
+    })
+    (OpenHeader (2 ∷ []))
 an-overrun-reading = refl
 
 an-overrun : ending plain (48 ∷ 3 ∷ 2 ∷ 2 ∷ 1 ∷ []) ≡ fault_ending Overrun 3
@@ -152,43 +208,64 @@ no-room-for-the-second-zero = refl
 -- 5f 1f 01 00
 application-31 : reading plain (95 ∷ 31 ∷ 1 ∷ 0 ∷ [])
     ≡ Primitive
-        (record
-            { offset =
-                0; named =
-                    false; class =
-                        Application; constructed =
-                            false; number = 31; size = Definite 1; identifier = 95 ∷ 31 ∷ []; lengths = 1 ∷ []
-            })
-        (0 ∷ []) NoMore
+    (record {
+      offset =
+          0;
+      named =
+          false;
+      class =
+          Application;
+      constructed =
+          false;
+      number = 31;
+      size = Definite 1;
+      identifier = 95 ∷ 31 ∷ [];
+      lengths = 1 ∷ [];
+    })
+    (0 ∷ []) NoMore
 application-31 = refl
 
 -- 1f 02 01 05
 high-form-of-2 : reading plain (31 ∷ 2 ∷ 1 ∷ 5 ∷ [])
     ≡ Primitive
-        (record
-            { offset =
-                0; named =
-                    false; class =
-                        Universal; constructed =
-                            false; number = 2; size = Definite 1; identifier = 31 ∷ 2 ∷ []; lengths = 1 ∷ []
-            })
-        (5 ∷ []) NoMore
+    (record {
+      offset =
+          0;
+      named =
+          false;
+      class =
+          Universal;
+      constructed =
+          false;
+      number = 2;
+      size = Definite 1;
+      identifier = 31 ∷ 2 ∷ [];
+      lengths = 1 ∷ [];
+    })
+    (5 ∷ []) NoMore
 high-form-of-2 = refl
 
 -- 9f 81, seven 80, 00 00
 nine-octets-of-number : reading plain (159 ∷ 129 ∷ 128 ∷ 128 ∷ 128 ∷ 128 ∷ 128 ∷ 128 ∷ 128 ∷ 0 ∷ 0 ∷ [])
     ≡ Primitive
-        (record
-            { offset =
-                0; named =
-                    false; class =
-                        Context; constructed =
-                            false; number =
-                                72057594037927936; size =
-                                    Definite 0; identifier =
-                                        159 ∷ 129 ∷ 128 ∷ 128 ∷ 128 ∷ 128 ∷ 128 ∷ 128 ∷ 128 ∷ 0 ∷ []; lengths = 0 ∷ []
-            })
-        [] NoMore
+    (record {
+      offset =
+          0;
+      named =
+          false;
+      class =
+          Context;
+      constructed =
+          false;
+      number =
+          72057594037927936;
+      size =
+          Definite 0;
+      identifier =
+          159 ∷ 129 ∷ 128 ∷ 128 ∷ 128 ∷ 128 ∷ 128 ∷ 128 ∷ 128 ∷ 0 ∷ [];
+      lengths = 0 ∷ [];
+    })
+    [] NoMore
 nine-octets-of-number = refl
 
 ten-octets-of-number : ending plain (159 ∷ 129 ∷ 128 ∷ 128 ∷ 128 ∷ 128 ∷ 128 ∷ 128 ∷ 128 ∷ 128 ∷ [])
@@ -217,67 +294,109 @@ zeros-at-the-top = refl
 -- 04 05 30 03 02 01 07, named
 octets-wrapped : reading naming_first (4 ∷ 5 ∷ 48 ∷ 3 ∷ 2 ∷ 1 ∷ 7 ∷ [])
     ≡ Holder
-        (record
-            { offset =
-                0; named =
-                    true; class =
-                        Universal; constructed =
-                            false; number = 4; size = Definite 5; identifier = 4 ∷ []; lengths = 5 ∷ []
-            })
-        (Holder
-            (record
-                { offset =
-                    2; named =
-                        false; class =
-                            Universal; constructed =
-                                true; number = 16; size = Definite 3; identifier = 48 ∷ []; lengths = 3 ∷ []
-                })
-            (Primitive
-                (record
-                    { offset =
-                        4; named =
-                            false; class =
-                                Universal; constructed =
-                                    false; number = 2; size = Definite 1; identifier = 2 ∷ []; lengths = 1 ∷ []
-                    })
-                (7 ∷ []) NoMore)
-            NoMore)
-        NoMore
+    (record {
+      offset =
+          0;
+      named =
+          true;
+      class =
+          Universal;
+      constructed =
+          false;
+      number = 4;
+      size = Definite 5;
+      identifier = 4 ∷ [];
+      lengths = 5 ∷ [];
+    })
+    (Holder
+    (record {
+      offset =
+          2;
+      named =
+          false;
+      class =
+          Universal;
+      constructed =
+          true;
+      number = 16;
+      size = Definite 3;
+      identifier = 48 ∷ [];
+      lengths = 3 ∷ [];
+    })
+    (Primitive
+    (record {
+      offset =
+          4;
+      named =
+          false;
+      class =
+          Universal;
+      constructed =
+          false;
+      number = 2;
+      size = Definite 1;
+      identifier = 2 ∷ [];
+      lengths = 1 ∷ [];
+    })
+    (7 ∷ []) NoMore)
+    NoMore)
+    NoMore
 octets-wrapped = refl
 
 -- the same, not named
 octets-not-named : reading plain (4 ∷ 5 ∷ 48 ∷ 3 ∷ 2 ∷ 1 ∷ 7 ∷ [])
     ≡ Primitive
-        (record
-            { offset =
-                0; named =
-                    false; class =
-                        Universal; constructed =
-                            false; number = 4; size = Definite 5; identifier = 4 ∷ []; lengths = 5 ∷ []
-            })
-        (48 ∷ 3 ∷ 2 ∷ 1 ∷ 7 ∷ []) NoMore
+    (record {
+      offset =
+          0;
+      named =
+          false;
+      class =
+          Universal;
+      constructed =
+          false;
+      number = 4;
+      size = Definite 5;
+      identifier = 4 ∷ [];
+      lengths = 5 ∷ [];
+    })
+    (48 ∷ 3 ∷ 2 ∷ 1 ∷ 7 ∷ []) NoMore
 octets-not-named = refl
 
 -- 03 04 00 02 01 05, named
 bits-wrapped : reading naming_first (3 ∷ 4 ∷ 0 ∷ 2 ∷ 1 ∷ 5 ∷ [])
     ≡ Holder
-        (record
-            { offset =
-                0; named =
-                    true; class =
-                        Universal; constructed =
-                            false; number = 3; size = Definite 4; identifier = 3 ∷ []; lengths = 4 ∷ []
-            })
-        (Primitive
-            (record
-                { offset =
-                    3; named =
-                        false; class =
-                            Universal; constructed =
-                                false; number = 2; size = Definite 1; identifier = 2 ∷ []; lengths = 1 ∷ []
-                })
-            (5 ∷ []) NoMore)
-        NoMore
+    (record {
+      offset =
+          0;
+      named =
+          true;
+      class =
+          Universal;
+      constructed =
+          false;
+      number = 3;
+      size = Definite 4;
+      identifier = 3 ∷ [];
+      lengths = 4 ∷ [];
+    })
+    (Primitive
+    (record {
+      offset =
+          3;
+      named =
+          false;
+      class =
+          Universal;
+      constructed =
+          false;
+      number = 2;
+      size = Definite 1;
+      identifier = 2 ∷ [];
+      lengths = 1 ∷ [];
+    })
+    (5 ∷ []) NoMore)
+    NoMore
 bits-wrapped = refl
 
 bits-with-unused-bits : ending naming_first (3 ∷ 4 ∷ 1 ∷ 2 ∷ 1 ∷ 5 ∷ []) ≡ fault_ending BadInside 2
@@ -302,28 +421,42 @@ second-name-unused = refl
 -- 00 00 05 00 00 00 05 00 00, with padding
 nulls-among-padding : reading padded (0 ∷ 0 ∷ 5 ∷ 0 ∷ 0 ∷ 0 ∷ 5 ∷ 0 ∷ 0 ∷ [])
     ≡ PaddingOctet
-        (PaddingOctet
-            (Primitive
-                (record
-                    { offset =
-                        2; named =
-                            false; class =
-                                Universal; constructed =
-                                    false; number = 5; size = Definite 0; identifier = 5 ∷ []; lengths = 0 ∷ []
-                    })
-                []
-                (PaddingOctet
-                    (PaddingOctet
-                        (Primitive
-                            (record
-                                { offset =
-                                    6; named =
-                                        false; class =
-                                            Universal; constructed =
-                                                false; number =
-                                                    5; size = Definite 0; identifier = 5 ∷ []; lengths = 0 ∷ []
-                                })
-                            [] (PaddingOctet NoMore))))))
+    (PaddingOctet
+    (Primitive
+    (record {
+      offset =
+          2;
+      named =
+          false;
+      class =
+          Universal;
+      constructed =
+          false;
+      number = 5;
+      size = Definite 0;
+      identifier = 5 ∷ [];
+      lengths = 0 ∷ [];
+    })
+    []
+    (PaddingOctet
+    (PaddingOctet
+    (Primitive
+    (record {
+      offset =
+          6;
+      named =
+          false;
+      class =
+          Universal;
+      constructed =
+          false;
+      number =
+          5;
+      size = Definite 0;
+      identifier = 5 ∷ [];
+      lengths = 0 ∷ [];
+    })
+    [] (PaddingOctet NoMore))))))
 nulls-among-padding = refl
 
 padding-not-allowed : ending plain (0 ∷ 0 ∷ 5 ∷ 0 ∷ 0 ∷ 0 ∷ 5 ∷ 0 ∷ 0 ∷ []) ≡ fault_ending StrayEnd 0

@@ -40,9 +40,10 @@ contents-popped : (p : Place) (h : HeaderValue) (c : List ℕ) (x n : ℕ) (g : 
 contents-popped p h c x n g header e less f same spelled = record {
   from = OpenPrimitive h c;
   last = x;
-  is_open =
-      (record { header = header; shallow = λ e. absurd (cc (e)); fits = rw (ap announced_length e) f },
-          omega (arith, less, ap announced_length e));
+  is_open = (
+    record { header = header; shallow = λ e. absurd (cc (e)); fits = rw (ap announced_length e) f },
+    omega (arith, less, ap announced_length e),
+  );
   spelled = spelled ∙ sym (append_assoc (octets_of h) c (x ∷ []));
   pushed = ap Grown same;
 }
@@ -60,7 +61,7 @@ primitive-popped p h c n g header e most f same spelled = elim (back c) [
   | is_push ys y z ↦
       let most' : length (ys ++ y ∷ []) ≤ n = rw z at most in
       contents-popped p h ys y n g header e (omega (arith, length-append ys (y ∷ []))) f
-          (ap (primitive_so_far h) (sym z) ∙ same) (spelled ∙ ap (λ (t : List ℕ). octets_of h ++ t) z)
+      (ap (primitive_so_far h) (sym z) ∙ same) (spelled ∙ ap (λ (t : List ℕ). octets_of h ++ t) z)
 ]
 
 -- a whole primitive is popped
@@ -68,7 +69,7 @@ whole_primitive-popped : (p : Place) (h : HeaderValue) (c : List ℕ) → IsWhol
     → Popped p (Primitive h c NoMore)
 whole_primitive-popped p h c w =
     primitive-popped p h c (length c) (Primitive h c NoMore) w.0.header w.1 (omega arith) w.0.fits
-        (primitive_so_far-whole h c w.1) (ap (λ (t : List ℕ). octets_of h ++ t) (append-nil c))
+    (primitive_so_far-whole h c w.1) (ap (λ (t : List ℕ). octets_of h ++ t) (append-nil c))
 
 -- a primitive that lacks contents octets is popped
 open_primitive-popped : (p : Place) (h : HeaderValue) (c : List ℕ) → IsOpen p (OpenPrimitive h c)
@@ -77,7 +78,7 @@ open_primitive-popped p h c w =
     let n : (n : ℕ) × (h.size ≡ Definite n) = size-definite h w.0.header.valid w.0.header.form in
     let all : announced_length h.size ≡ n.0 = ap announced_length n.1 in
     primitive-popped p h c n.0 (OpenPrimitive h c) w.0.header n.1 (omega (arith, w.1))
-        (within-le p.bound _ _ (omega arith) w.0.fits) (primitive_so_far-open h c n.0 n.1 (omega (arith, w.1))) refl
+    (within-le p.bound _ _ (omega arith) w.0.fits) (primitive_so_far-open h c n.0 n.1 (omega (arith, w.1))) refl
 
 -- an element that lacks contents octets has not ended
 holder_so_far-open : (h : HeaderValue) (f : Forest) → (is_whole f ≡ true → LacksOctets h.size (contents_length h f))
@@ -93,7 +94,7 @@ lacks-before : (p : Place) (h : HeaderValue) (f g : Forest) (x : ℕ) → IsEntr
 lacks-before p h f g x entry w spelled =
     within-lacks h.size (p.offset + length (octets_of h)) p.bound (contents_length h f)
     (within-le (place_of_children p h).bound
-        _ _ (omega (arith, ap length spelled, length-append (spelling f) (x ∷ []), length-opening h))
+    _ _ (omega (arith, ap length spelled, length-append (spelling f) (x ∷ []), length-opening h))
     (reaches (place_of_children p h) g (fits-inside p h entry.header.form entry.fits) w))
 
 -- an element that holds octets is popped by the last of them, or by that of what comes before
@@ -109,7 +110,7 @@ settled p h inside g entry w (inr q) same spelled = record {
   is_open = ((entry, λ _. lacks-before p h q.from inside q.last entry w q.spelled), q.is_open);
   spelled =
       spelled ∙ ap (λ (t : List ℕ). opening h ++ t) q.spelled
-          ∙ sym (append_assoc (opening h) (spelling q.from) (q.last ∷ []));
+      ∙ sym (append_assoc (opening h) (spelling q.from) (q.last ∷ []));
   pushed = ap (settle h) q.pushed ∙ ap Grown same;
 }
 
@@ -171,22 +172,26 @@ endless-popped : (p : Place) (h : HeaderValue) (inside : Forest) → is_indefini
     → IsWholeHolder p h inside → IsOpen (place_of_children p h) inside → Popped p (Holder h inside NoMore)
 endless-popped p h inside i w v =
     let e : IsEndless h.size (p.offset + length (octets_of h)) p.bound (contents_length h inside) =
-        indefinite-endless h.size _ p.bound _ i in
+    indefinite-endless h.size _ p.bound _ i in
     let two : length (end_octets h.size) ≡ 2 = ap length e.ends in
     let f : Fits (place_of_children p h) (length (spelling inside) + 2) =
-        rw e.bound (within-le p.bound _ _ (omega arith) w.0.fits) in
+    rw e.bound (within-le p.bound _ _ (omega arith) w.0.fits) in
     let r : HasFirstEndOctet (place_of_children p h) inside (with_first_end_octet inside) =
-        has-first_end_octet (place_of_children p h) inside v w.1 i f in
+    has-first_end_octet (place_of_children p h) inside v w.1 i f in
     record {
       from = OpenHolder h (with_first_end_octet inside);
       last = 0;
       is_open = (
-        (record
-            { header =
-                w.0.header; shallow =
-                    w.0.shallow; fits = within-le p.bound _ _ (omega (arith, e.none, length-opening h)) w.0.fits
-            },
-            λ _. e.lacks _),
+        (
+          record {
+            header =
+                w.0.header;
+            shallow =
+                w.0.shallow;
+            fits = within-le p.bound _ _ (omega (arith, e.none, length-opening h)) w.0.fits;
+          },
+          λ _. e.lacks _,
+        ),
         r.is_open,
       );
       spelled = ap (λ (t : List ℕ). opening h ++ (spelling inside ++ (t ++ []))) e.ends
@@ -210,7 +215,7 @@ definite-popped p h inside i w v below =
     let filled : is_filled_by h inside ≡ true = and_from _ _ w.1 test in
     settled p h inside (Holder h inside NoMore) entry v below (rw filled)
     (ap (λ (t : List ℕ). opening h ++ (spelling inside ++ (t ++ []))) full.ends
-        ∙ ap (λ (t : List ℕ). opening h ++ t) (append-nil (spelling inside)))
+    ∙ ap (λ (t : List ℕ). opening h ++ t) (append-nil (spelling inside)))
 
 -- an element that holds others and has ended is popped
 holder-popped : (p : Place) (h : HeaderValue) (inside : Forest) → IsWholeHolder p h inside
@@ -241,7 +246,7 @@ followed p q f o rest r w spelled pushed = record {
   is_open = w;
   spelled =
       spelled rest ∙ ap (λ (t : List ℕ). o ++ t) r.spelled ∙ sym (append_assoc o (spelling r.from) (r.last ∷ []))
-          ∙ ap (λ (t : List ℕ). t ++ r.last ∷ []) (sym (spelled r.from));
+      ∙ ap (λ (t : List ℕ). t ++ r.last ∷ []) (sym (spelled r.from));
   pushed = pushed r.last ∙ ap (push_after f) r.pushed;
 }
 
@@ -256,7 +261,7 @@ pop p (Primitive h c rest) w = inr (elim (pop (place_after p (length (octets_of 
   | inl e ↦ rw e (whole_primitive-popped p h c w.0)
   | inr r ↦
       followed p _ (Primitive h c) (octets_of h ++ c) rest r (w.0, r.is_open)
-          (λ g. sym (append_assoc (octets_of h) c (spelling g))) (λ x. refl)
+      (λ g. sym (append_assoc (octets_of h) c (spelling g))) (λ x. refl)
 ])
 pop p (Holder h inside rest) w = inr (elim (pop (place_after p (extent h inside)) rest w.2) [
   | inl e ↦ rw e (holder-popped p h inside w.0 w.1 (pop (place_of_children p h) inside w.1))
@@ -267,8 +272,8 @@ pop p (Holder h inside rest) w = inr (elim (pop (place_after p (extent h inside)
 pop p (OpenPrimitive h c) w = inr (open_primitive-popped p h c w)
 pop p (OpenHolder h inside) w =
     inr
-        (settled p h inside (OpenHolder h inside) w.0.0 w.1 (pop (place_of_children p h) inside w.1)
-            (holder_so_far-open h inside w.0.1) refl)
+    (settled p h inside (OpenHolder h inside) w.0.0 w.1 (pop (place_of_children p h) inside w.1)
+    (holder_so_far-open h inside w.0.1) refl)
 pop p (OpenBitString h) w = inr (holder_begun-popped p h (0 ∷ []) w.1 w.0)
 pop p (OpenHeader o) w = inr (elim (back o) [
   | is_nil e ↦ absurd (w.0 e)

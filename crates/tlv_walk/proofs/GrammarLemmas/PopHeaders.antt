@@ -53,10 +53,12 @@ lengths-some Indefinite l e = rw e (omega arith)
 -- a header has at least two octets
 pub header-length : (h : HeaderValue) → IsHeader h → 2 ≤ length (octets_of h)
 header-length h valid =
-    omega
-        (arith, length-append h.identifier h.lengths,
-            identifier-some h.class h.constructed h.number h.identifier valid.identifier,
-            lengths-some h.size h.lengths valid.lengths)
+    omega (
+      arith,
+      length-append h.identifier h.lengths,
+      identifier-some h.class h.constructed h.number h.identifier valid.identifier,
+      lengths-some h.size h.lengths valid.lengths,
+    )
 
 -- an octet after the front of a header, by what all of them say
 pub push-scan : (p : Place) (o : List ℕ) (x : ℕ) (s : Scan) → Fits p (length o + 1)
@@ -130,7 +132,7 @@ pub holder_begun-popped : (p : Place) (h : HeaderValue) (l : List ℕ) → lead 
     → Popped p (holder_begun h l)
 holder_begun-popped p h l e entry =
     let r : Popped p (holder_begun h (lead h)) =
-        header-popped p h true entry.header (lt-leb 128 p.depth (entry.shallow refl)) entry.fits in
+    header-popped p h true entry.header (lt-leb 128 p.depth (entry.shallow refl)) entry.fits in
     rw (ap (holder_begun h) e) at r
 
 -- an element that holds none yet
@@ -145,7 +147,7 @@ lead-popped p h (x ∷ xs) e entry =
       is_open = (entry, one);
       spelled =
           (holder_so_far-sound p h NoMore entry tt).spelled ∙ append-nil (opening h)
-              ∙ ap (λ (t : List ℕ). octets_of h ++ t) one;
+          ∙ ap (λ (t : List ℕ). octets_of h ++ t) one;
       pushed = refl;
     }
 

@@ -32,11 +32,11 @@ reaches-open_holder : (p : Place) (h : HeaderValue) (inside : Forest)
     → Fits p (length (opening h ++ spelling inside))
 reaches-open_holder p h inside f g =
     let size : length (opening h ++ spelling inside)
-        ≡ length (octets_of h) + (length (lead h) + length (spelling inside)) =
-        omega (arith, length-append (opening h) (spelling inside), length-opening h) in
+    ≡ length (octets_of h) + (length (lead h) + length (spelling inside)) =
+    omega (arith, length-append (opening h) (spelling inside), length-opening h) in
     within-le p.bound _ _ (omega arith)
     (within-outside h.size (p.offset + length (octets_of h)) p.bound (length (lead h) + length (spelling inside))
-        (within-le p.bound _ _ (omega arith) f)
+    (within-le p.bound _ _ (omega arith) f)
     (within-le (place_of_children p h).bound _ _ (omega (arith, length-opening h)) g))
 
 -- an open forest ends within the bound
@@ -47,14 +47,14 @@ reaches p (PaddingOctet rest) z w =
 reaches p (Primitive h c rest) z w =
     within-le p.bound _ _ (omega (arith, length-primitive h c rest))
     (reaches (place_after p (length (octets_of h) + length c)) rest (within-le p.bound _ _ (omega arith) w.0.0.fits)
-        w.1)
+    w.1)
 reaches p (Holder h inside rest) z w =
     within-le p.bound _ _ (omega (arith, length-holder h inside rest))
     (reaches (place_after p (extent h inside)) rest (within-le p.bound _ _ (omega arith) w.0.0.fits) w.2)
 reaches p (OpenPrimitive h c) z w = within-le p.bound _ _ (omega (arith, length-append (octets_of h) c, w.1)) w.0.fits
 reaches p (OpenHolder h inside) z w =
     reaches-open_holder p h inside w.0.0.fits
-        (reaches (place_of_children p h) inside (fits-inside p h w.0.0.header.form w.0.0.fits) w.1)
+    (reaches (place_of_children p h) inside (fits-inside p h w.0.0.header.form w.0.0.fits) w.1)
 reaches p (OpenBitString h) z w = within-le p.bound _ _ (omega arith) w.0.fits
 reaches p (OpenHeader o) z w = w.2
 reaches p OpenEndOctets z w = w.1
@@ -83,15 +83,17 @@ primitive_so_far-sound p h c n header e most f =
     let all : announced_length h.size ≡ n = ap announced_length e in
     elim (cases_eq (length c) n) [
       | inl full ↦ rw (eq-eqb (length c) (announced_length h.size) (full ∙ sym all)) (record {
-        is_open =
-            ((record { header = header; shallow = λ e. absurd (cc (e)); fits = rw full f }, e ∙ ap Definite (sym full)),
-                tt);
+        is_open = (
+          (record { header = header; shallow = λ e. absurd (cc (e)); fits = rw full f }, e ∙ ap Definite (sym full)),
+          tt,
+        );
         spelled = ap (λ (t : List ℕ). octets_of h ++ t) (append-nil c);
       })
       | inr less ↦ rw (ne_eqb (length c) (announced_length h.size) (λ z. less (z ∙ all))) (record {
-        is_open =
-            (record { header = header; shallow = λ e. absurd (cc (e)); fits = within-le p.bound _ _ (omega arith) f },
-                omega arith);
+        is_open = (
+          record { header = header; shallow = λ e. absurd (cc (e)); fits = within-le p.bound _ _ (omega arith) f },
+          omega arith,
+        );
         spelled = refl;
       })
     ]
@@ -118,7 +120,7 @@ holder-sound p h g entry w whole full =
       );
       spelled =
           ap (λ (t : List ℕ). opening h ++ (spelling g ++ (t ++ []))) full.ends
-              ∙ ap (λ (t : List ℕ). opening h ++ t) (append-nil (spelling g));
+          ∙ ap (λ (t : List ℕ). opening h ++ t) (append-nil (spelling g));
     }
 
 -- an element that is not filled lacks octets, if what it holds is whole
@@ -127,7 +129,7 @@ pub unfilled-lacks : (p : Place) (h : HeaderValue) (g : Forest) → is_filled_by
 unfilled-lacks p h g e whole there =
     let short : has_length h.size (contents_length h g) ≡ false = rw whole at e in
     length-lacks h.size (p.offset + length (octets_of h)) p.bound
-        _ (within-le (place_of_children p h).bound _ _ (omega (arith, length-opening h)) there) short
+    _ (within-le (place_of_children p h).bound _ _ (omega (arith, length-opening h)) there) short
 
 -- what an element holds is open: so is the element
 pub holder_so_far-sound : (p : Place) (h : HeaderValue) (g : Forest) → IsEntry p true h
@@ -138,7 +140,7 @@ holder_so_far-sound p h g entry w = elim (cases_Bool (is_filled_by h g)) [
       rw e (holder-sound p h g entry w parts.0 (length-full h.size _ parts.1))
   | inr e ↦
       let there : Fits (place_of_children p h) (length (spelling g)) =
-          reaches (place_of_children p h) g (fits-inside p h entry.header.form entry.fits) w in
+      reaches (place_of_children p h) g (fits-inside p h entry.header.form entry.fits) w in
       rw e (record { is_open = ((entry, λ whole. unfilled-lacks p h g e whole there), w); spelled = refl })
 ]
 
@@ -148,7 +150,7 @@ holder_begun-sound : (p : Place) (h : HeaderValue) (l : List ℕ) → lead h ≡
 holder_begun-sound p h [] e entry =
     let r : Spells p (opening h ++ []) (holder_so_far h NoMore) = holder_so_far-sound p h NoMore entry tt in
     let none : opening h ++ [] ≡ octets_of h =
-        append-nil (opening h) ∙ ap (λ (t : List ℕ). octets_of h ++ t) e ∙ append-nil (octets_of h) in
+    append-nil (opening h) ∙ ap (λ (t : List ℕ). octets_of h ++ t) e ∙ append-nil (octets_of h) in
     record { is_open = r.is_open; spelled = r.spelled ∙ none }
 holder_begun-sound p h (x ∷ xs) e entry = record { is_open = (entry, lead-zero h x xs e); spelled = refl }
 
@@ -212,8 +214,8 @@ front-step : (p : Place) (o : List ℕ) (x : ℕ) → x < 256 → IsHeaderPrefix
 front-step p o x h front = elim (cases_Bool (fits p (length o + 1))) [
   | inl f ↦ rw f
       (begin-sound p (o ++ x ∷ []) (step (origin p) (scan (origin p) o) x)
-          (reads-step (origin p) x (scan (origin p) o) o h (reads-scan (origin p) o (prefix-bytes o front)))
-          (push≢nil o x)
+      (reads-step (origin p) x (scan (origin p) o) o h (reads-scan (origin p) o (prefix-bytes o front)))
+      (push≢nil o x)
       (within-le p.bound _ _ (omega (arith, length-append o (x ∷ []))) (within-fits p.bound _ f)))
   | inr f ↦ rw f tt
 ]
@@ -233,7 +235,7 @@ no_more-step p x h = elim (cases_Bool (fits p 1)) [
     | inr nz ↦ rw (f, ne_eqb x 0 nz)
         (front-sound p (x ∷ []) (push≢nil [] x)
         (prefix-from_more (origin p) (step (origin p) Fresh x) (x ∷ []) (reads-step (origin p) x Fresh [] h refl)
-            (push≢nil [] x) (first-more (origin p) x nz))
+        (push≢nil [] x) (first-more (origin p) x nz))
         (within-fits p.bound _ f))
   ]
   | inr f ↦ rw f tt
@@ -263,7 +265,7 @@ open_primitive-step p h c x w =
     let all : announced_length h.size ≡ n.0 = ap announced_length n.1 in
     rw (append_assoc (octets_of h) c (x ∷ []))
     (primitive_so_far-sound p h (c ++ x ∷ []) n.0 w.0.header n.1 (omega (arith, length-append c (x ∷ []), w.1))
-        (within-le p.bound _ _ (omega arith) w.0.fits))
+    (within-le p.bound _ _ (omega arith) w.0.fits))
 
 -- before the first contents octet of a wrapping BIT STRING
 open_bit_string-step : (p : Place) (h : HeaderValue) (x : ℕ) → IsOpen p (OpenBitString h)
@@ -317,7 +319,7 @@ holder-step p h inside o (Ended g) w v r = record {
   indefinite = r.indefinite;
   spelled =
       append_assoc-4 (opening h) (spelling inside) (end_octets h.size) (spelling g) (0 ∷ 0 ∷ [])
-          ∙ ap (λ (t : List ℕ). opening h ++ (spelling inside ++ (end_octets h.size ++ t))) r.spelled;
+      ∙ ap (λ (t : List ℕ). opening h ++ (spelling inside ++ (end_octets h.size ++ t))) r.spelled;
   fits = within-le p.bound _ _ (omega (arith, length-holder h inside g)) r.fits;
 }
 holder-step p h inside o (Refused code) w v r = tt
@@ -330,7 +332,7 @@ open_holder-step p h o (Grown g) entry r =
     record { is_open = e.is_open; spelled = e.spelled ∙ ap (λ (t : List ℕ). opening h ++ t) r.spelled }
 open_holder-step p h o (Ended g) entry r =
     let e : IsEndless h.size (p.offset + length (octets_of h)) p.bound (contents_length h g) =
-        indefinite-endless h.size _ p.bound _ r.indefinite in
+    indefinite-endless h.size _ p.bound _ r.indefinite in
     let two : length (end_octets h.size) ≡ 2 = ap length e.ends in
     record {
       is_open = (
@@ -348,7 +350,7 @@ open_holder-step p h o (Ended g) entry r =
       );
       spelled =
           ap (λ (t : List ℕ). opening h ++ (spelling g ++ (t ++ []))) e.ends
-              ∙ ap (λ (t : List ℕ). opening h ++ t) r.spelled;
+          ∙ ap (λ (t : List ℕ). opening h ++ t) r.spelled;
     }
 open_holder-step p h o (Refused code) entry r = tt
 

@@ -61,7 +61,7 @@ element_begun false h = primitive_so_far h []
 abbrev pub complete : Place → HeaderValue → PushStep
 complete p h = cond (holds h && leb 128 p.depth) (Refused TooDeep)
     (cond (fits p (length (octets_of h) + announced_length h.size)) (Grown (element_begun (holds h) h))
-        (Refused Overrun))
+    (Refused Overrun))
 
 -- octets of a header, by what they say
 abbrev pub begin : Place → List ℕ → Scan → PushStep
@@ -95,7 +95,7 @@ settle h (Refused code) = Refused code
 abbrev pub push : Place → Forest → ℕ → PushStep
 push p NoMore x =
     cond (fits p 1) (cond (eqb x 0) (zero_between p.indefinite p.padding) (Grown (OpenHeader (x ∷ []))))
-        (Refused MissingEnd)
+    (Refused MissingEnd)
 push p (PaddingOctet rest) x = push_after PaddingOctet (push (place_after p 1) rest x)
 push p (Primitive h c rest) x = push_after (Primitive h c) (push (place_after p (length (octets_of h) + length c)) rest x)
 push p (Holder h inside rest) x = push_after (Holder h inside) (push (place_after p (extent h inside)) rest x)

@@ -43,7 +43,7 @@ prefix-within p (suc n) f s t l w e = elim (back t) [
       let e' : spelling f ≡ (s ++ ys) ++ y ∷ [] = rw (append_assoc s ys (y ∷ [])) (rw z at e) in
       let q : PoppedBy p f (s ++ ys) y = popped-by p f (s ++ ys) y w e' in
       prefix-within p n q.popped.from s ys (omega (arith, ap length z, length-append ys (y ∷ []))) q.popped.is_open
-          q.spelled
+      q.spelled
 ]
 
 -- each front of an open forest's spelling is an open forest's spelling
@@ -76,7 +76,7 @@ unique-within p (suc n) f g o l w v e d = elim (back o) [
       let r : PoppedBy p g ys y = popped-by p g ys y v (d ∙ z) in
       let same : q.popped.from ≡ r.popped.from =
       unique-within p n q.popped.from r.popped.from ys (omega (arith, ap length z, length-append ys (y ∷ [])))
-          q.popped.is_open r.popped.is_open q.spelled r.spelled in
+      q.popped.is_open r.popped.is_open q.spelled r.spelled in
       same-pushed p f g q.popped r.popped same (q.octet ∙ sym r.octet)
 ]
 
@@ -170,7 +170,7 @@ run_from-run w r b [] each v = rw (append-nil b) v
 run_from-run w r b (x ∷ xs) each v =
     rw (append_assoc b (x ∷ []) xs) at
     (run_from-run w (push_next w r x) (b ++ x ∷ []) xs (All-tail (λ x. x < 256) x xs each)
-        (turn-run w r b x (All-head (λ x. x < 256) x xs each) v))
+    (turn-run w r b x (All-head (λ x. x < 256) x xs each) v))
 
 -- the push_all over an input is right
 pub is-run : (w : Framing) (b : List ℕ) → All (λ x. x < 256) b → IsRightRun w (push_all w b) b
@@ -183,14 +183,14 @@ pub halt-longest : (w : Framing) (f : Forest) (code : FaultCode) (b : List ℕ) 
 halt-longest w f code b r g v q = elim (cases_lt (length (spelling f)) (length (spelling g))) [
   | inl more ↦
       let end : (spelling f ++ r.octet ∷ []) ++ r.rest ≡ spelling g ++ q.0 =
-          append_assoc (spelling f) (r.octet ∷ []) r.rest ∙ (r.front ∙ sym q.1) in
+      append_assoc (spelling f) (r.octet ∷ []) r.rest ∙ (r.front ∙ sym q.1) in
       let u : (u : List ℕ) × (spelling g ≡ (spelling f ++ r.octet ∷ []) ++ u) =
       front-of (spelling f ++ r.octet ∷ []) (spelling g) r.rest q.0 end
-          (omega (arith, length-append (spelling f) (r.octet ∷ []))) in
+      (omega (arith, length-append (spelling f) (r.octet ∷ []))) in
       let k : (k : Forest) × Spells (top_place w) (spelling f ++ r.octet ∷ []) k =
-          prefix (top_place w) g (spelling f ++ r.octet ∷ []) u.0 v u.1 in
+      prefix (top_place w) g (spelling f ++ r.octet ∷ []) u.0 v u.1 in
       let grown : push (top_place w) f r.octet ≡ Grown k.0 =
-          push-complete (top_place w) f k.0 r.octet r.is_open k.1.is_open k.1.spelled in
+      push-complete (top_place w) f k.0 r.octet r.is_open k.1.is_open k.1.spelled in
       let refused : push (top_place w) f r.octet ≡ Refused code = r.refused in
       absurd (cc (grown, refused))
   | inr less ↦ less
@@ -217,11 +217,13 @@ is-reading w b each = run-reading w (push_all w b) b (is-run w b each)
 pub reading-longer : (w : Framing) (f : Forest) (b xs : List ℕ) → All (λ x. x < 256) xs → IsReading w b f
     → spelling f ≡ b → (g : Forest) × IsReading w (b ++ xs) g
 reading-longer w f b xs each r e =
-    let k : PushRun = push_all_from w (Going f) xs in
-    (forest_of k, run-reading w k (b ++ xs) (run_from-run w (Going f) b xs each (record {
-      is_open = r.is_open;
-      spelled = e;
-    })))
+    let k : PushRun = push_all_from w (Going f) xs in (
+      forest_of k,
+      run-reading w k (b ++ xs) (run_from-run w (Going f) b xs each (record {
+        is_open = r.is_open;
+        spelled = e;
+      })),
+    )
 
 -- an input has one reading
 pub reading-unique : (w : Framing) (b : List ℕ) (f g : Forest) → IsReading w b f → IsReading w b g → f ≡ g
@@ -229,5 +231,5 @@ reading-unique w b f g r s =
     let most : length (spelling f) ≤ length (spelling g) = s.longest f r.is_open r.is_prefix in
     let most' : length (spelling g) ≤ length (spelling f) = r.longest g s.is_open s.is_prefix in
     unique (top_place w) f g r.is_open s.is_open
-        (front-same (spelling f) (spelling g) (r.is_prefix.0) (s.is_prefix.0) (r.is_prefix.1 ∙ sym s.is_prefix.1)
-            (omega arith))
+    (front-same (spelling f) (spelling g) (r.is_prefix.0) (s.is_prefix.0) (r.is_prefix.1 ∙ sym s.is_prefix.1)
+    (omega arith))

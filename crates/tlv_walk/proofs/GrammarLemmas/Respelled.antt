@@ -76,33 +76,33 @@ record JoinsOffsets (constructed : Bool) (inner others : ℕ → List ℕ) (begi
 
 joins : (constructed : Bool) (inner others : ℕ → List ℕ) (begins count far rest : ℕ) → 1 ≤ begins → begins + count ≤ far
     → ComeAfter inner → AreWithin inner count → ComeAfter others → AreWithin others rest
-        → JoinsOffsets constructed inner others begins count far rest
+    → JoinsOffsets constructed inner others begins count far rest
 joins constructed inner others begins count far rest some on inner_after inner_within others_after others_within =
     record {
-  after = λ offset i less.
-      in-third i (own constructed offset) (inner (offset + begins)) (others (offset + far))
+      after = λ offset i less.
+          in-third i (own constructed offset) (inner (offset + begins)) (others (offset + far))
           (own-apart constructed offset i (λ e. omega (arith, less, e)))
-      (inner_after (offset + begins) i (omega (arith, less)))
-      ∙ others_after (offset + far) i (omega (arith, less));
-  within = λ offset i more.
-      in-third i (own constructed offset) (inner (offset + begins)) (others (offset + far))
+          (inner_after (offset + begins) i (omega (arith, less)))
+          ∙ others_after (offset + far) i (omega (arith, less));
+      within = λ offset i more.
+          in-third i (own constructed offset) (inner (offset + begins)) (others (offset + far))
           (own-apart constructed offset i (λ e. omega (arith, more, e, some, on)))
-      (inner_within (offset + begins) i (omega (arith, more, on)))
-      ∙ others_within (offset + far) i (omega (arith, more));
-  of_own = λ offset.
-      in-first offset (own constructed offset) (inner (offset + begins)) (others (offset + far))
+          (inner_within (offset + begins) i (omega (arith, more, on)))
+          ∙ others_within (offset + far) i (omega (arith, more));
+      of_own = λ offset.
+          in-first offset (own constructed offset) (inner (offset + begins)) (others (offset + far))
           (inner_after (offset + begins) offset (omega (arith, some)))
-      (others_after (offset + far) offset (omega (arith, some, on)))
-      ∙ own-there constructed offset;
-  of_inner = λ offset i least most.
-      in-second i (own constructed offset) (inner (offset + begins)) (others (offset + far))
+          (others_after (offset + far) offset (omega (arith, some, on)))
+          ∙ own-there constructed offset;
+      of_inner = λ offset i least most.
+          in-second i (own constructed offset) (inner (offset + begins)) (others (offset + far))
           (own-apart constructed offset i (λ e. omega (arith, least, some, e)))
-      (others_after (offset + far) i (omega (arith, most, on)));
-  of_others = λ offset i least.
-      in-third i (own constructed offset) (inner (offset + begins)) (others (offset + far))
+          (others_after (offset + far) i (omega (arith, most, on)));
+      of_others = λ offset i least.
+          in-third i (own constructed offset) (inner (offset + begins)) (others (offset + far))
           (own-apart constructed offset i (λ e. omega (arith, least, some, on, e)))
-      (inner_within (offset + begins) i (omega (arith, least, on)));
-}
+          (inner_within (offset + begins) i (omega (arith, least, on)));
+    }
 
 module _ (form : Bool → Bool) (definite : form false ≡ false) where
   spelling-padding : (p : Place) (rest : Forest) → p.padding ≡ true → Spelling form (place_after p 1) rest
@@ -116,7 +116,7 @@ module _ (form : Bool → Bool) (definite : form false ≡ false) where
     there = λ q like agrees.
         let t : SpelledAt form (place_after q 1) rest r.octets (r.names (q.offset + 1)) =
         r.there (place_after q 1) (record { padding = like.padding; depth = like.depth })
-            (λ i least most. agrees i (omega (arith, least)) (omega (arith, most))) in
+        (λ i least most. agrees i (omega (arith, least)) (omega (arith, most))) in
         record {
           forest = PaddingOctet t.forest;
           alike = padding rest t.forest t.alike;
@@ -140,7 +140,7 @@ module _ (form : Bool → Bool) (definite : form false ≡ false) where
         names = λ offset. r.names (offset + (length header + length c));
         short =
             let id : 1 ≤ length h.identifier =
-                identifier-some h.class h.constructed h.number h.identifier valid.identifier in
+            identifier-some h.class h.constructed h.number h.identifier valid.identifier in
             let len : 1 ≤ length h.lengths = lengths-some h.size h.lengths valid.lengths in
             omega (
               arith,
@@ -165,12 +165,12 @@ module _ (form : Bool → Bool) (definite : form false ≡ false) where
             (λ i least most. agrees i (omega (arith, least)) (omega (arith, most, total))) in
             let unnamed : is_among q.offset q.inside ≡ false =
             agrees q.offset (omega arith) (omega (arith, total, some))
-                ∙ r.names_after next q.offset (omega (arith, some)) in
+            ∙ r.names_after next q.offset (omega (arith, some)) in
             record {
               forest = Primitive k c t.forest;
               alike =
                   primitives h k c rest t.forest (record { class = refl; constructed = primitive; number = refl })
-                      t.alike;
+                  t.alike;
               sound = (
                 record {
                   valid = header-valid h false false (Definite (length c)) o q.offset;
@@ -181,12 +181,14 @@ module _ (form : Bool → Bool) (definite : form false ≡ false) where
                 refl,
                 t.sound,
               );
-              regular =
-                  (record
-                      { shortest =
-                          header-shortest h false false (Definite (length c)) o q.offset; by_form = sym definite
-                      },
-                      t.regular);
+              regular = (
+                record {
+                  shortest =
+                      header-shortest h false false (Definite (length c)) o q.offset;
+                  by_form = sym definite;
+                },
+                t.regular,
+              );
               spelled = ap (λ (l : List ℕ). header ++ (c ++ l)) t.spelled;
               names_are = t.names_are;
             };
@@ -197,7 +199,7 @@ module _ (form : Bool → Bool) (definite : form false ≡ false) where
       → (held : Spelling form (place_of_children p h) inside)
       → Holds h constructed (form constructed) (length held.octets)
       → (o : Octets h constructed
-          (size-for (form constructed) (length (lead-for constructed h.number) + length held.octets)))
+      (size-for (form constructed) (length (lead-for constructed h.number) + length held.octets)))
       → Spelling form (place_after p (extent h inside)) rest → Spelling form p (Holder h inside rest)
   spelling-holder p h inside rest constructed is valid few held holding o r =
       let first : List ℕ = lead-for constructed h.number in
@@ -206,12 +208,15 @@ module _ (form : Bool → Bool) (definite : form false ≡ false) where
       let begins : List ℕ = octets-in h constructed size o ++ first in
       let ends : List ℕ = end_octets size in
       let some : 1 ≤ length begins =
-          omega (arith, header-some h constructed size o, length-append (octets-in h constructed size o) first) in
+      omega (arith, header-some h constructed size o, length-append (octets-in h constructed size o) first) in
       let total : length (begins ++ (held.octets ++ (ends ++ r.octets)))
-          ≡ length begins + (length held.octets + (length ends + length r.octets)) =
-      omega
-          (arith, length-append begins (held.octets ++ (ends ++ r.octets)),
-              length-append held.octets (ends ++ r.octets), length-append ends r.octets) in
+      ≡ length begins + (length held.octets + (length ends + length r.octets)) =
+      omega (
+        arith,
+        length-append begins (held.octets ++ (ends ++ r.octets)),
+        length-append held.octets (ends ++ r.octets),
+        length-append ends r.octets,
+      ) in
       let far : ℕ = length begins + (length held.octets + length ends) in
       let joint : JoinsOffsets constructed held.names r.names (length begins) (length held.octets) far (length r.octets) =
       joins constructed held.names r.names (length begins) (length held.octets) far (length r.octets) some (omega arith)
@@ -222,7 +227,7 @@ module _ (form : Bool → Bool) (definite : form false ≡ false) where
         names = joined constructed held.names r.names (length begins) far;
         short =
             let id : 1 ≤ length h.identifier =
-                identifier-some h.class h.constructed h.number h.identifier valid.identifier in
+            identifier-some h.class h.constructed h.number h.identifier valid.identifier in
             let len : 1 ≤ length h.lengths = lengths-some h.size h.lengths valid.lengths in
             omega (
               arith,
@@ -249,23 +254,23 @@ module _ (form : Bool → Bool) (definite : form false ≡ false) where
             let i : SpelledAt form (place_of_children q k) inside held.octets (held.names (q.offset + length begins)) =
             held.there (place_of_children q k) (record { padding = refl; depth = ap (λ (d : ℕ). d + 1) like.depth })
             (λ j least most. agrees j (omega (arith, least)) (omega (arith, most, total))
-                ∙ joint.of_inner q.offset j least most) in
+            ∙ joint.of_inner q.offset j least most) in
             let next_is : extent k i.forest ≡ far =
-                ap (λ (l : List ℕ). length begins + (length l + length ends)) i.spelled in
+            ap (λ (l : List ℕ). length begins + (length l + length ends)) i.spelled in
             let t : SpelledAt form (place_after q (extent k i.forest)) rest r.octets
-                (r.names (q.offset + extent k i.forest)) =
+            (r.names (q.offset + extent k i.forest)) =
             r.there (place_after q (extent k i.forest)) (record { padding = like.padding; depth = like.depth })
             (λ j least most.
             agrees j (omega (arith, least)) (omega (arith, most, next_is, total))
             ∙ joint.of_others q.offset j (omega (arith, least, next_is))
             ∙ ap (λ (n : ℕ). is_among j (r.names (q.offset + n))) (sym next_is)) in
             let others_are : wrapper_offsets t.forest ≡ r.names (q.offset + far) =
-                t.names_are ∙ ap (λ (n : ℕ). r.names (q.offset + n)) next_is in
+            t.names_are ∙ ap (λ (n : ℕ). r.names (q.offset + n)) next_is in
             record {
               forest = Holder k i.forest t.forest;
               alike =
                   holders h k inside i.forest rest t.forest (record { class = refl; constructed = is; number = refl })
-                      i.alike t.alike;
+                  i.alike t.alike;
               sound = (
                 record {
                   valid = header-valid h (not constructed) constructed size o q.offset;
@@ -279,13 +284,16 @@ module _ (form : Bool → Bool) (definite : form false ≡ false) where
                 i.sound,
                 t.sound,
               );
-              regular =
-                  (record
-                      { shortest =
-                          header-shortest h (not constructed) constructed size o q.offset; by_form =
-                              size-form (form constructed) m
-                      },
-                      i.regular, t.regular);
+              regular = (
+                record {
+                  shortest =
+                      header-shortest h (not constructed) constructed size o q.offset;
+                  by_form =
+                      size-form (form constructed) m;
+                },
+                i.regular,
+                t.regular,
+              );
               spelled = ap₂ (λ (x y : List ℕ). begins ++ (x ++ (ends ++ y))) i.spelled t.spelled;
               names_are = ap₂ (λ (x y : List ℕ). own constructed q.offset ++ (x ++ y)) i.names_are others_are;
             };
@@ -312,23 +320,23 @@ module _ (form : Bool → Bool) (definite : form false ≡ false) where
       spelling-padding p rest u.0 (respelled (place_after p 1) rest (omega (arith, few)) u.1 low)
   respelled p (Primitive h c rest) few u low =
       let count : length (spelling (Primitive h c rest)) ≡ length (octets_of h) + length c + length (spelling rest) =
-          length-primitive h c rest in
+      length-primitive h c rest in
       let primitive : h.constructed ≡ false =
-          not-holding h.constructed (is_wrapper h.named h.class h.constructed h.number h.size) u.0.form in
+      not-holding h.constructed (is_wrapper h.named h.class h.constructed h.number h.size) u.0.form in
       let o : Octets h false (Definite (length c)) =
       octets-for h false (Definite (length c))
-          (moved h.class h.constructed false h.number h.identifier primitive u.0.valid.identifier)
+      (moved h.class h.constructed false h.number h.identifier primitive u.0.valid.identifier)
       (subst (λ (k : Bool). identifier_octet h.class k h.number ≢ 0) primitive low.0) refl
-          (omega (arith, count, few)) in
+      (omega (arith, count, few)) in
       spelling-primitive p h c rest primitive u.0.valid o
-          (respelled (place_after p (length (octets_of h) + length c)) rest (omega (arith, count, few)) u.2 low.1)
+      (respelled (place_after p (length (octets_of h) + length c)) rest (omega (arith, count, few)) u.2 low.1)
   respelled p (Holder h inside rest) few u low =
       let count : length (spelling (Holder h inside rest)) ≡ extent h inside + length (spelling rest) =
-          length-holder h inside rest in
+      length-holder h inside rest in
       let begins : length (opening h) ≡ length (octets_of h) + length (lead h) = length-opening h in
       let some : 2 ≤ length (octets_of h) = header-length h u.0.valid in
       let held : Spelling form (place_of_children p h) inside =
-          respelled (place_of_children p h) inside (omega (arith, count, few)) u.3 low.0 in
+      respelled (place_of_children p h) inside (omega (arith, count, few)) u.3 low.0 in
       let m : ℕ = length (lead h) + length held.octets in
       let below : m < 2 ^ 40 = omega (arith, held.short, count, begins, some, few, lead-short h.constructed h.number) in
       let primitive : h.constructed ≡ false → form h.constructed ≡ false = λ e. ap form e ∙ definite in
@@ -339,7 +347,7 @@ module _ (form : Bool → Bool) (definite : form false ≡ false) where
       (allows-size h.constructed (form h.constructed) m primitive)
       (size-below (form h.constructed) m below) in
       spelling-holder p h inside rest h.constructed refl u.0.valid u.2 held holding o
-          (respelled (place_after p (extent h inside)) rest (omega (arith, count, few)) u.4 low.1)
+      (respelled (place_after p (extent h inside)) rest (omega (arith, count, few)) u.4 low.1)
   respelled p (OpenPrimitive h c) few u low = absurd u
   respelled p (OpenHolder h inside) few u low = absurd u
   respelled p (OpenBitString h) few u low = absurd u

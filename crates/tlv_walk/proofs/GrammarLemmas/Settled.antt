@@ -42,11 +42,11 @@ pub filled-ended : (w : Framing) (l : Layer) (ls : List Layer) (f : Forest) → 
 filled-ended w l ls f a i e =
     let p : Place = place_after (place_in w ls) (length (spelling l.before)) in
     let c : Spells p (opening l.header ++ spelling f) (Holder l.header f NoMore) =
-        holder-sound p l.header f a.2 i.is_open i.whole (filled-full l.header f e) in
+    holder-sound p l.header f a.2 i.is_open i.whole (filled-full l.header f e) in
     let s : spelling (followed_by l.before (Holder l.header f NoMore))
-        ≡ spelling l.before ++ (opening l.header ++ spelling f) =
+    ≡ spelling l.before ++ (opening l.header ++ spelling f) =
     spelling-followed_by l.before (Holder l.header f NoMore) a.1.whole
-        ∙ ap (λ (t : List ℕ). spelling l.before ++ t) c.spelled in
+    ∙ ap (λ (t : List ℕ). spelling l.before ++ t) c.spelled in
     record {
       are_whole = record {
         is_open = open-followed_by (place_in w ls) l.before (Holder l.header f NoMore) a.1 c.is_open;
@@ -54,9 +54,12 @@ filled-ended w l ls f a i e =
       };
       spelled = s;
       same_end =
-          omega
-              (arith, ap length s, length-append (spelling l.before) (opening l.header ++ spelling f),
-                  length-append (opening l.header) (spelling f));
+          omega (
+            arith,
+            ap length s,
+            length-append (spelling l.before) (opening l.header ++ spelling f),
+            length-append (opening l.header) (spelling f),
+          );
     }
 
 -- an element that is not filled lacks octets
@@ -66,7 +69,7 @@ pub unfilled-room : (w : Framing) (l : Layer) (ls : List Layer) (f : Forest) →
 unfilled-room w l ls f a i e =
     let p : Place = place_after (place_in w ls) (length (spelling l.before)) in
     let there : Fits (place_of_children p l.header) (length (spelling f)) =
-        reaches (place_of_children p l.header) f (fits-inside p l.header a.2.header.form a.2.fits) i.is_open in
+    reaches (place_of_children p l.header) f (fits-inside p l.header a.2.header.form a.2.fits) i.is_open in
     open-within w (l ∷ ls) f a i.is_open (λ whole. unfilled-lacks p l.header f e whole there)
 
 -- they are open, and spell the octets of the layers and then their own
@@ -77,14 +80,14 @@ settled-spells w (l ∷ ls) f a i = elim (cases_Bool (is_filled_by l.header f)) 
   | inl e ↦
       let d : IsEnded w l ls f = filled-ended w l ls f a i e in
       let r : Spells (top_place w)
-          (spelling_of_layers ls ++ spelling (followed_by l.before (Holder l.header f NoMore)))
-          (settled ls (followed_by l.before (Holder l.header f NoMore))) =
+      (spelling_of_layers ls ++ spelling (followed_by l.before (Holder l.header f NoMore)))
+      (settled ls (followed_by l.before (Holder l.header f NoMore))) =
       settled-spells w ls (followed_by l.before (Holder l.header f NoMore)) a.0 d.are_whole in
       let s : spelling_of_layers ls ++ (spelling l.before ++ (opening l.header ++ spelling f))
-          ≡ (spelling_of_layers ls ++ (spelling l.before ++ opening l.header)) ++ spelling f =
+      ≡ (spelling_of_layers ls ++ (spelling l.before ++ opening l.header)) ++ spelling f =
       ap (λ (t : List ℕ). spelling_of_layers ls ++ t)
-          (sym (append_assoc (spelling l.before) (opening l.header) (spelling f)))
-          ∙ sym (append_assoc (spelling_of_layers ls) (spelling l.before ++ opening l.header) (spelling f)) in
+      (sym (append_assoc (spelling l.before) (opening l.header) (spelling f)))
+      ∙ sym (append_assoc (spelling_of_layers ls) (spelling l.before ++ opening l.header) (spelling f)) in
       rw e (record {
         is_open = r.is_open;
         spelled = r.spelled ∙ ap (λ (t : List ℕ). spelling_of_layers ls ++ t) d.spelled ∙ s;
@@ -104,13 +107,13 @@ end-length Indefinite start m n e = refl
 -- so the frame of the innermost open element says whether that is filled
 pub end-filled : (w : Framing) (l : Layer) (ls : List Layer) (f : Forest) → is_whole f ≡ true
     → is_end_at
-        (bound_in l.header.size (((place_in w ls).offset + length (spelling l.before)) + length (octets_of l.header))
-            None)
-        (end_in w (l ∷ ls) f)
-        ≡ is_filled_by l.header f
+    (bound_in l.header.size (((place_in w ls).offset + length (spelling l.before)) + length (octets_of l.header))
+    None)
+    (end_in w (l ∷ ls) f)
+    ≡ is_filled_by l.header f
 end-filled w l ls f whole =
     end-length l.header.size (((place_in w ls).offset + length (spelling l.before)) + length (octets_of l.header))
-        (contents_length l.header f) (end_in w (l ∷ ls) f) (omega (arith, length-opening l.header))
+    (contents_length l.header f) (end_in w (l ∷ ls) f) (omega (arith, length-opening l.header))
     ∙ ap (λ (k : Bool). k && has_length l.header.size (contents_length l.header f)) (sym whole)
 
 -- a frame that ends there says so
@@ -125,7 +128,7 @@ settled-within w [] f n = refl
 settled-within w (l ∷ ls) f n = elim (cases_Bool (is_filled_by l.header f)) [
   | inl e ↦
       let parts : (is_whole f ≡ true) × (has_length l.header.size (contents_length l.header f) ≡ true) =
-          and_parts _ _ e in
+      and_parts _ _ e in
       absurd (n (end-there _ (end_in w (l ∷ ls) f) (end-filled w l ls f parts.0 ∙ e)))
   | inr e ↦ rw e refl
 ]

@@ -73,7 +73,7 @@ pub octets-for : (h : HeaderValue) (constructed : Bool) (size : Size)
     → AllowsSize constructed size → announced_length size < 2 ^ 40 → Octets h constructed size
 octets-for h constructed size valid nonzero allowed below =
     let i : ShortIdentifier h.class constructed h.number =
-        short-identifier h.class constructed h.number h.identifier valid nonzero in
+    short-identifier h.class constructed h.number h.identifier valid nonzero in
     let l : FewLengths size = few-lengths size below in
     record {
       identifier = i;
@@ -155,14 +155,14 @@ pub in-first : (i : ℕ) (a b c : List ℕ) → is_among i b ≡ false → is_am
     → is_among i (a ++ (b ++ c)) ≡ is_among i a
 in-first i a b c e f =
     is_among-append i a (b ++ c)
-        ∙ ap (λ k. is_among i a || k) (is_among-append i b c ∙ or_from (is_among i b) (is_among i c) e f)
-        ∙ or-false (is_among i a)
+    ∙ ap (λ k. is_among i a || k) (is_among-append i b c ∙ or_from (is_among i b) (is_among i c) e f)
+    ∙ or-false (is_among i a)
 
 pub in-second : (i : ℕ) (a b c : List ℕ) → is_among i a ≡ false → is_among i c ≡ false
     → is_among i (a ++ (b ++ c)) ≡ is_among i b
 in-second i a b c e f =
     is_among-append i a (b ++ c) ∙ ap₂ (λ k l. k || l) e (is_among-append i b c ∙ ap (λ k. is_among i b || k) f)
-        ∙ or-false (is_among i b)
+    ∙ or-false (is_among i b)
 
 pub in-third : (i : ℕ) (a b c : List ℕ) → is_among i a ≡ false → is_among i b ≡ false
     → is_among i (a ++ (b ++ c)) ≡ is_among i c
@@ -193,7 +193,7 @@ string-of : (named : Bool) (class : Class) (number : ℕ) (size : Size)
     → is_wrapper named class false number size ≡ true → IsString class number
 string-of true class number size e =
     let parts =
-        and_parts (is_universal class) (eqb number 4 || (eqb number 3 && not (eqb (announced_length size) 0))) e in
+    and_parts (is_universal class) (eqb number 4 || (eqb number 3 && not (eqb (announced_length size) 0))) e in
     record { universal = parts.0; kind = number-of number (not (eqb (announced_length size) 0)) parts.1 }
 string-of false class number size e = absurd (true≢false (sym e))
 
@@ -218,7 +218,7 @@ pub record Holds (h : HeaderValue) (constructed : Bool) (t : Bool) (n : ℕ) : T
   pub nonzero : identifier_octet h.class constructed h.number ≢ 0
   pub again : (constructed
       || is_wrapper (not constructed) h.class constructed h.number
-          (size-for t (length (lead-for constructed h.number) + n)))
+      (size-for t (length (lead-for constructed h.number) + n)))
       ≡ true
 
 pub holds-again : (h : HeaderValue) (constructed t : Bool) (n : ℕ) → (constructed ≡ false → t ≡ false)

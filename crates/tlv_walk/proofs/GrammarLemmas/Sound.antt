@@ -39,11 +39,15 @@ sound-open p (PaddingOctet rest) d z s = (
   sound-open (place_after p 1) rest d (within-le p.bound _ _ (omega arith) z) s.1,
 )
 sound-open p (Primitive h c rest) d z s = (
-  (record
-      { header =
-          s.0; shallow = λ e. absurd (cc (e)); fits = within-le p.bound _ _ (omega (arith, length-primitive h c rest)) z
-      },
-      s.1),
+  (
+    record {
+      header =
+          s.0;
+      shallow = λ e. absurd (cc (e));
+      fits = within-le p.bound _ _ (omega (arith, length-primitive h c rest)) z;
+    },
+    s.1,
+  ),
   sound-open (place_after p (length (octets_of h) + length c)) rest d
       (within-le p.bound _ _ (omega (arith, length-primitive h c rest)) z) s.2,
 )
@@ -66,9 +70,13 @@ open-sound p NoMore w t = tt
 open-sound p (PaddingOctet rest) w t = (w.0.0, open-sound (place_after p 1) rest w.1 t)
 open-sound p (Primitive h c rest) w t =
     (w.0.0.header, w.0.1, open-sound (place_after p (length (octets_of h) + length c)) rest w.1 t)
-open-sound p (Holder h inside rest) w t =
-    (w.0.0.header, w.0.2, w.0.0.shallow refl, open-sound (place_of_children p h) inside w.1 w.0.1,
-        open-sound (place_after p (extent h inside)) rest w.2 t)
+open-sound p (Holder h inside rest) w t = (
+  w.0.0.header,
+  w.0.2,
+  w.0.0.shallow refl,
+  open-sound (place_of_children p h) inside w.1 w.0.1,
+  open-sound (place_after p (extent h inside)) rest w.2 t,
+)
 open-sound p (OpenPrimitive h c) w t = absurd (cc)
 open-sound p (OpenHolder h inside) w t = absurd (cc)
 open-sound p (OpenBitString h) w t = absurd (cc)

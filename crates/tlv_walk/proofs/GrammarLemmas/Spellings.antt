@@ -18,10 +18,12 @@ length-primitive h c rest =
 pub length-holder : (h : HeaderValue) (inside rest : Forest)
     → length (spelling (Holder h inside rest)) ≡ extent h inside + length (spelling rest)
 length-holder h inside rest =
-    omega
-        (arith, length-append (opening h) (spelling inside ++ (end_octets h.size ++ spelling rest)),
-            length-append (spelling inside) (end_octets h.size ++ spelling rest),
-            length-append (end_octets h.size) (spelling rest))
+    omega (
+      arith,
+      length-append (opening h) (spelling inside ++ (end_octets h.size ++ spelling rest)),
+      length-append (spelling inside) (end_octets h.size ++ spelling rest),
+      length-append (end_octets h.size) (spelling rest),
+    )
 
 -- octets after a list of three pieces are after the last of them
 pub append_assoc-3 : (a b s t : List ℕ) → (a ++ (b ++ s)) ++ t ≡ a ++ (b ++ (s ++ t))

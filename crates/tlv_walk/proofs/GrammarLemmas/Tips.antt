@@ -35,10 +35,10 @@ push-tip p (PaddingOctet rest) x =
     refusal-follow PaddingOctet (push (place_after p 1) rest x) ∙ push-tip (place_after p 1) rest x
 push-tip p (Primitive h c rest) x =
     refusal-follow (Primitive h c) (push (place_after p (length (octets_of h) + length c)) rest x)
-        ∙ push-tip (place_after p (length (octets_of h) + length c)) rest x
+    ∙ push-tip (place_after p (length (octets_of h) + length c)) rest x
 push-tip p (Holder h inside rest) x =
     refusal-follow (Holder h inside) (push (place_after p (extent h inside)) rest x)
-        ∙ push-tip (place_after p (extent h inside)) rest x
+    ∙ push-tip (place_after p (extent h inside)) rest x
 push-tip p (OpenPrimitive h c) x = refl
 push-tip p (OpenHolder h inside) x =
     refusal-settle h (push (place_of_children p h) inside x) ∙ push-tip (place_of_children p h) inside x
@@ -76,17 +76,17 @@ pub tip-fact : (p : Place) (f : Forest) → Fits p 0 → HasRoom p f → IsOpen 
 tip-fact p NoMore z r w = (z, λ i. r i refl)
 tip-fact p (PaddingOctet rest) z r w =
     tip-fact (place_after p 1) rest (within-le p.bound _ _ (omega arith) w.0.2)
-        (room-after p 1 rest (PaddingOctet rest) (omega arith) (λ t. t) r) w.1
+    (room-after p 1 rest (PaddingOctet rest) (omega arith) (λ t. t) r) w.1
 tip-fact p (Primitive h c rest) z r w =
     tip-fact (place_after p (length (octets_of h) + length c)) rest (within-le p.bound _ _ (omega arith) w.0.0.fits)
-        (room-after p _ rest (Primitive h c rest) (length-primitive h c rest) (λ t. t) r) w.1
+    (room-after p _ rest (Primitive h c rest) (length-primitive h c rest) (λ t. t) r) w.1
 tip-fact p (Holder h inside rest) z r w =
     tip-fact (place_after p (extent h inside)) rest (within-le p.bound _ _ (omega arith) w.0.0.fits)
-        (room-after p _ rest (Holder h inside rest) (length-holder h inside rest) (λ t. t) r) w.2
+    (room-after p _ rest (Holder h inside rest) (length-holder h inside rest) (λ t. t) r) w.2
 tip-fact p (OpenPrimitive h c) z r w = tt
 tip-fact p (OpenHolder h inside) z r w =
     tip-fact (place_of_children p h) inside (fits-inside p h w.0.0.header.form w.0.0.fits) (room-inside p h inside w)
-        w.1
+    w.1
 tip-fact p (OpenBitString h) z r w = tt
 tip-fact p (OpenHeader o) z r w = w
 tip-fact p OpenEndOctets z r w = w.1

@@ -41,15 +41,15 @@ read-apart : (w : Framing) (b : List ℕ) (f g : Forest) (x : ℕ) (rest : List 
     → spelling f ≡ b → spelling g ++ x ∷ rest ≡ b → ⊥
 read-apart w b f g x rest r s e d =
     let same : length (spelling f) ≡ length (spelling g) =
-        ap (λ (f : Forest). length (spelling f)) (reading-unique w b f g r s) in
+    ap (λ (f : Forest). length (spelling f)) (reading-unique w b f g r s) in
     omega (arith, ap length e, ap length d, length-append (spelling g) (x ∷ rest))
 
 -- an octet that is refused is one octet, with one code
 refused-same : (w : Framing) (b : List ℕ) (f g : Forest) (x y : ℕ) (r s : List ℕ) (c d : FaultCode) → IsReading w b f
     → IsReading w b g → spelling f ++ x ∷ r ≡ b → spelling g ++ y ∷ s ≡ b
     → IsFault (tip (top_place w) f).0 x (tip (top_place w) f).1 c
-        → IsFault (tip (top_place w) g).0 y (tip (top_place w) g).1 d
-        → fault_ending c (length (spelling f)) ≡ fault_ending d (length (spelling g))
+    → IsFault (tip (top_place w) g).0 y (tip (top_place w) g).1 d
+    → fault_ending c (length (spelling f)) ≡ fault_ending d (length (spelling g))
 refused-same w b f g x y r s c d u v e e' k l =
     let same : f ≡ g = reading-unique w b f g u v in
     let tails : x ∷ r ≡ y ∷ s = append_cancel_left (spelling g) (x ∷ r) (y ∷ s) (rw same at (e ∙ sym e')) in
@@ -57,7 +57,7 @@ refused-same w b f g x y r s c d u v e e' k l =
     let k' : IsFault (tip (top_place w) g).0 y (tip (top_place w) g).1 c = rw (same, octet) at k in
     let code : c ≡ d = fault-unique w g y c d v.is_open k' l in
     ap (λ (c : FaultCode). fault_ending c (length (spelling f))) code
-        ∙ ap (λ (f : Forest). fault_ending d (length (spelling f))) same
+    ∙ ap (λ (f : Forest). fault_ending d (length (spelling f))) same
 
 -- an input has one ending
 pub ending-unique : (w : Framing) (b : List ℕ) (e d : Ending) → IsEnding w b e → IsEnding w b d → e ≡ d
@@ -89,7 +89,7 @@ refused-for-good w b c code offset f a d e r =
     let same : k.forest ≡ f = reading-unique w b k.forest f (run-reading w (Halted k.forest code) b k.halt) r in
     let reading : IsReading w (b ++ c) k.forest = run-reading w (Halted k.forest code) (b ++ c) longer in
     let end : IsEnding w (b ++ c) (fault_ending code (length (spelling k.forest))) =
-        halt-ending w k.forest code (b ++ c) longer k.fault in
+    halt-ending w k.forest code (b ++ c) longer k.fault in
     (rw same at reading, rw (← k.there) at end)
 
 -- whatever follows an ending that is final, no input that goes on is sound

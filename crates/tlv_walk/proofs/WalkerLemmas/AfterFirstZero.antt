@@ -44,12 +44,12 @@ module _ (old middle new : WalkerState) (x : ℕ) (first : Continues old middle 
           state = two.state;
           has_state = subst (λ (o : List ℕ). HasZipper two.walker o yielded two.state) spelled
               (subst (λ (es : List EventValue). HasZipper two.walker ((b ++ x ∷ []) ++ r.taken) es two.state)
-                  (append-nil yielded) two.has_state);
+              (append-nil yielded) two.has_state);
           idle = two.idle;
           offset = two.offset;
           ends = λ c. subst (λ (w : Framing). IsEnding w ((b ++ x ∷ r.taken) ++ r.octet ∷ c) (ending.Fault f)) same
               (subst (λ (o : List ℕ). IsEnding middle.framing (o ++ r.octet ∷ c) (ending.Fault f)) spelled
-                  (two.ends c));
+              (two.ends c));
           framing = two.framing ∙ same;
           stack = two.stack ∙ kept;
         };

@@ -38,13 +38,13 @@ regroup a b c d e t = simp (append_assoc, append-nil) refl
 spelled_closed : (ls : List Layer) (l : Layer) (here : Forest) (old t b : List ℕ) → is_whole l.before ≡ true
     → old ++ t ≡ end_octets l.header.size
     → spelling_of_layers (l ∷ ls) ++ (spelling here ++ old) ≡ b
-        → spelling_of_layers ls ++ (spelling (closed_here l here) ++ []) ≡ b ++ t
+    → spelling_of_layers ls ++ (spelling (closed_here l here) ++ []) ≡ b ++ t
 spelled_closed ls l here old t b whole e f =
     ap (λ (s : List ℕ). spelling_of_layers ls ++ (s ++ []))
-        (spelling-followed_by l.before (Holder l.header here NoMore) whole)
+    (spelling-followed_by l.before (Holder l.header here NoMore) whole)
     ∙ ap (λ (s : List ℕ). spelling_of_layers ls
-        ++ ((spelling l.before ++ (opening l.header ++ (spelling here ++ (s ++ [])))) ++ []))
-        (sym e)
+    ++ ((spelling l.before ++ (opening l.header ++ (spelling here ++ (s ++ [])))) ++ []))
+    (sym e)
     ∙ regroup (spelling_of_layers ls) (spelling l.before) (opening l.header) (spelling here) old t
     ∙ ap (λ (s : List ℕ). s ++ t) f
 
@@ -55,26 +55,28 @@ regroup_yielded a b c d e = simp (append_assoc, append-nil) refl
 yielded_closed : (yielded : List EventValue) (ls : List Layer) (l : Layer) (here : Forest) → is_whole l.before ≡ true
     → AreEqualJoined yielded (events_of_layers (l ∷ ls) ++ (events here ++ []))
     → AreEqualJoined (yielded ++ closing_event l.header here ∷ [])
-        (events_of_layers ls ++ (events (closed_here l here) ++ []))
+    (events_of_layers ls ++ (events (closed_here l here) ++ []))
 yielded_closed yielded ls l here whole h =
     yielded_more yielded (events_of_layers (l ∷ ls) ++ (events here ++ [])) (closing_event l.header here ∷ [])
-        (events_of_layers ls ++ (events (closed_here l here) ++ [])) h
+    (events_of_layers ls ++ (events (closed_here l here) ++ [])) h
     (ap single_octets
-        (ap (λ (es : List EventValue). events_of_layers ls ++ (es ++ []))
-            (events-followed_by l.before (Holder l.header here NoMore) whole)
+    (ap (λ (es : List EventValue). events_of_layers ls ++ (es ++ []))
+    (events-followed_by l.before (Holder l.header here NoMore) whole)
     ∙ regroup_yielded (events_of_layers ls) (events l.before) (opening_events l.header) (events here)
-        (closing_event l.header here)))
+    (closing_event l.header here)))
 
 closed_whole : (w : WalkerState) (l : Layer) (ls : List Layer) (here : Forest)
     → AreWhole (place_in w.framing ls) l.before
     → IsEntry (place_after (place_in w.framing ls) (length (spelling l.before))) true l.header
     → AreWhole (place_in w.framing (l ∷ ls)) here → HasLength l.header.size (contents_length l.header here)
-        → Fits (place_after (place_in w.framing ls) (length (spelling l.before))) (extent l.header here)
+    → Fits (place_after (place_in w.framing ls) (length (spelling l.before))) (extent l.header here)
     → AreWhole (place_in w.framing ls) (closed_here l here)
 closed_whole w l ls here earlier entry inside filled fits = record {
-  is_open = open-followed_by (place_in w.framing ls) l.before (Holder l.header here NoMore) earlier
-      ((record { header = entry.header; shallow = entry.shallow; fits = fits }, inside.whole, filled), inside.is_open,
-          tt);
+  is_open = open-followed_by (place_in w.framing ls) l.before (Holder l.header here NoMore) earlier (
+    (record { header = entry.header; shallow = entry.shallow; fits = fits }, inside.whole, filled),
+    inside.is_open,
+    tt,
+  );
   whole = whole-followed_by l.before (Holder l.header here NoMore) earlier.whole;
 }
 
@@ -82,13 +84,13 @@ closed_whole w l ls here earlier entry inside filled fits = record {
 pub close_state : (w v : WalkerState) (b : List ℕ) (yielded : List EventValue) (l : Layer) (ls : List Layer)
     (here : Forest) (tail : Tail) (t : List ℕ)
     → HasZipper w b yielded (record { layers = l ∷ ls; here = here; tail = tail })
-        → w.stack ≡ frames_of w.framing (l ∷ ls) → events_of_tail tail ≡ []
+    → w.stack ≡ frames_of w.framing (l ∷ ls) → events_of_tail tail ≡ []
     → spelling_of_tail tail ++ t ≡ end_octets l.header.size → HasLength l.header.size (contents_length l.header here)
     → Fits (place_after (place_in w.framing ls) (length (spelling l.before))) (extent l.header here)
     → v
-        ≡ record w
-            { stack = drop 1 w.stack; phase = phase.Between; offset = w.offset + length t; events = w.events + 1 }
-        → w.has_element ≡ true
+    ≡ record w
+    { stack = drop 1 w.stack; phase = phase.Between; offset = w.offset + length t; events = w.events + 1 }
+    → w.has_element ≡ true
     → HasZipper v (b ++ t) (yielded ++ closing_event l.header here ∷ []) (record {
       layers = ls;
       here = closed_here l here;
@@ -96,9 +98,9 @@ pub close_state : (w v : WalkerState) (b : List ℕ) (yielded : List EventValue)
     })
 close_state w v b yielded l ls here tail t has stack quiet ends filled fits is_v element =
     subst
-        (λ (u : WalkerState). HasZipper u (b ++ t) (yielded ++ closing_event l.header here ∷ [])
-            (record { layers = ls; here = closed_here l here; tail = NoTail }))
-        (sym is_v) (record {
+    (λ (u : WalkerState). HasZipper u (b ++ t) (yielded ++ closing_event l.header here ∷ [])
+    (record { layers = ls; here = closed_here l here; tail = NoTail }))
+    (sym is_v) (record {
       spelled = spelled_closed ls l here (spelling_of_tail tail) t b has.layers.1.whole ends has.spelled;
       offset = omega (arith, has.offset, length-append b t);
       stack = ap (drop 1) stack;
@@ -107,7 +109,7 @@ close_state w v b yielded l ls here tail t has stack quiet ends filled fits is_v
       phase = tt;
       same_events = yielded_closed yielded ls l here has.layers.1.whole
           (subst (λ (es : List EventValue). AreEqualJoined yielded (events_of_layers (l ∷ ls) ++ (events here ++ es)))
-              quiet has.same_events);
+          quiet has.same_events);
       element = element ∙ sym (began ls l.before (Holder l.header here NoMore) has.layers.1.whole refl);
     })
 
@@ -128,53 +130,53 @@ closes_indefinite : (h : HeaderValue) (here : Forest) (n : ℕ) → h.constructe
     → h.offset + length (opening h) + length (spelling here) ≡ n → closing_event h here ≡ Close (Some n)
 closes_indefinite h here n k s e =
     ap (λ (c : Bool). if c then Close (end_offset h.size (h.offset + length (opening h) + length (spelling here)))
-        else Leave)
-        k
+    else Leave)
+    k
     ∙ ap (λ (t : Size). Close (end_offset t (h.offset + length (opening h) + length (spelling here)))) s
-        ∙ ap (λ (m : ℕ). Close (Some m)) e
+    ∙ ap (λ (m : ℕ). Close (Some m)) e
 
 second_from : (w : WalkerState) (b : List ℕ) (yielded : List EventValue) (s : Zipper) (ls : List Layer)
     → HasZipper w b yielded (with_layers s ls EndOctetsTail)
     → IsOpen (place_of w.framing (with_layers s ls EndOctetsTail)) OpenEndOctets
     → IsWithin (bound_of w.stack) (w.offset + 1)
     → (t : Zipper)
-        × HasZipper
-            (record w { stack = drop 1 w.stack; phase = phase.Between; offset = w.offset + 1; events = w.events + 1 })
-            (b ++ 0 ∷ []) (yielded ++ Close (Some (w.offset - 1)) ∷ []) t
+    × HasZipper
+    (record w { stack = drop 1 w.stack; phase = phase.Between; offset = w.offset + 1; events = w.events + 1 })
+    (b ++ 0 ∷ []) (yielded ++ Close (Some (w.offset - 1)) ∷ []) t
 second_from w b yielded s [] has zero room = absurd (true≢false (sym zero.0))
 second_from w b yielded s (l ∷ ls) has zero room =
     let p : Place = place_after (place_in w.framing ls) (length (spelling l.before)) in
     let size : l.header.size ≡ Indefinite = size_indefinite l.header.size zero.0 in
     let at : w.offset ≡ (place_of w.framing (with_layers s (l ∷ ls) EndOctetsTail)).offset + 1 =
-        walker-offset w b yielded _ has in
+    walker-offset w b yielded _ has in
     let header : l.header.offset ≡ p.offset = has.layers.2.header.offset in
     let k : l.header.constructed ≡ true =
-        constructed_indefinite l.header.constructed l.header.size size has.layers.2.header.valid.allowed in
+    constructed_indefinite l.header.constructed l.header.size size has.layers.2.header.valid.allowed in
     let ends : end_octets l.header.size ≡ 0 ∷ 0 ∷ [] = ap end_octets size in
     let event : closing_event l.header s.here ≡ Close (Some (w.offset - 1)) =
-        closes_indefinite l.header s.here (w.offset - 1) k size (omega arith) in
+    closes_indefinite l.header s.here (w.offset - 1) k size (omega arith) in
     let bound : IsWithin (bound_in l.header.size (p.offset + length (octets_of l.header)) p.bound) (w.offset + 1) =
-        subst (λ (fs : List FrameValue). IsWithin (bound_of fs) (w.offset + 1)) has.stack room in
+    subst (λ (fs : List FrameValue). IsWithin (bound_of fs) (w.offset + 1)) has.stack room in
     let outer : IsWithin p.bound (w.offset + 1) =
-        subst (λ (t : Size). IsWithin (bound_in t (p.offset + length (octets_of l.header)) p.bound) (w.offset + 1))
-            size bound in
+    subst (λ (t : Size). IsWithin (bound_in t (p.offset + length (octets_of l.header)) p.bound) (w.offset + 1))
+    size bound in
     let two : length (end_octets l.header.size) ≡ 2 = ap length ends in
     let fits : Fits p (extent l.header s.here) = subst (λ (n : ℕ). IsWithin p.bound n) (omega arith) outer in (
       _,
       subst
           (λ (e : EventValue). HasZipper
-              (record w { stack = drop 1 w.stack; phase = phase.Between; offset = w.offset + 1; events = w.events + 1 })
-              (b ++ 0 ∷ []) (yielded ++ e ∷ []) (record { layers = ls; here = closed_here l s.here; tail = NoTail }))
+          (record w { stack = drop 1 w.stack; phase = phase.Between; offset = w.offset + 1; events = w.events + 1 })
+          (b ++ 0 ∷ []) (yielded ++ e ∷ []) (record { layers = ls; here = closed_here l s.here; tail = NoTail }))
           event
           (close_state w _ b yielded l ls s.here EndOctetsTail (0 ∷ []) has has.stack refl (sym ends)
-              (length_of l.header Indefinite _ size tt) fits refl (has.element)),
+          (length_of l.header Indefinite _ size tt) fits refl (has.element)),
     )
 
 -- the second of the end-of-contents octets
 pub yields_second : (w : WalkerState) → w.phase ≡ phase.InEndOctets → IsWithin (bound_of w.stack) (w.offset + 1)
     → Continues w
-        (record w { stack = drop 1 w.stack; phase = phase.Between; offset = w.offset + 1; events = w.events + 1 })
-        (0 ∷ []) (Close (Some (w.offset - 1)) ∷ [])
+    (record w { stack = drop 1 w.stack; phase = phase.Between; offset = w.offset + 1; events = w.events + 1 })
+    (0 ∷ []) (Close (Some (w.offset - 1)) ∷ [])
 yields_second w e room = record {
   framing = refl;
   found = refl;
@@ -198,34 +200,34 @@ filled_from : (w : WalkerState) (b : List ℕ) (yielded : List EventValue) (s : 
     → HasZipper w b yielded (with_layers s ls NoTail) → w.phase ≡ phase.Between
     → (f : FrameValue) (fs : List FrameValue) → w.stack ≡ f ∷ fs → f.end ≡ Some w.offset
     → (t : Zipper)
-        × HasZipper (record w { stack = drop 1 w.stack; events = w.events + 1 }) (b ++ [])
-            (yielded ++ filled_end f ∷ []) t
+    × HasZipper (record w { stack = drop 1 w.stack; events = w.events + 1 }) (b ++ [])
+    (yielded ++ filled_end f ∷ []) t
 filled_from w b yielded s [] has e f fs is full = absurd (cc (has.stack))
 filled_from w b yielded s (l ∷ ls) has e f fs is full =
     let p : Place = place_after (place_in w.framing ls) (length (spelling l.before)) in
     let same : f ≡ frame_at p l.header =
-        head_frame f (frame_at p l.header) fs (frames_of w.framing ls) (sym is ∙ has.stack) in
+    head_frame f (frame_at p l.header) fs (frames_of w.framing ls) (sym is ∙ has.stack) in
     let size : (n : ℕ) × (l.header.size ≡ Definite n) × (p.offset + length (octets_of l.header) + n ≡ w.offset) =
-        definite-size l.header.size _ w.offset (sym (ap (λ (g : FrameValue). g.end) same) ∙ full) in
+    definite-size l.header.size _ w.offset (sym (ap (λ (g : FrameValue). g.end) same) ∙ full) in
     let at : w.offset ≡ (place_of w.framing (with_layers s (l ∷ ls) NoTail)).offset + 0 =
-        walker-offset w b yielded _ has in
+    walker-offset w b yielded _ has in
     let long : contents_length l.header s.here ≡ size.0 = omega (arith, size.2, at, length-opening l.header) in
     let none : end_octets l.header.size ≡ [] = ap end_octets size.1 in
     let zero : length (end_octets l.header.size) ≡ 0 = ap length none in
     let event : closing_event l.header s.here ≡ filled_end f =
-        closes_definite l.header.constructed l.header.size size.0 _ size.1 ∙ ap filled_end (sym same) in
+    closes_definite l.header.constructed l.header.size size.0 _ size.1 ∙ ap filled_end (sym same) in
     let entry : Fits p (length (octets_of l.header) + size.0) =
-        subst (λ (t : Size). Fits p (length (octets_of l.header) + announced_length t)) size.1 has.layers.2.fits in
+    subst (λ (t : Size). Fits p (length (octets_of l.header) + announced_length t)) size.1 has.layers.2.fits in
     let fits : Fits p (extent l.header s.here) =
-        subst (λ (n : ℕ). Fits p n) (omega (arith, long, zero, length-opening l.header)) entry in
+    subst (λ (n : ℕ). Fits p n) (omega (arith, long, zero, length-opening l.header)) entry in
     let still : w.offset ≡ w.offset + 0 = omega arith in (
       _,
       subst
           (λ (t : EventValue). HasZipper (record w { stack = drop 1 w.stack; events = w.events + 1 }) (b ++ [])
-              (yielded ++ t ∷ []) (record { layers = ls; here = closed_here l s.here; tail = NoTail }))
+          (yielded ++ t ∷ []) (record { layers = ls; here = closed_here l s.here; tail = NoTail }))
           event
           (close_state w _ b yielded l ls s.here NoTail [] has has.stack refl (sym none)
-              (length_of l.header (Definite size.0) _ size.1 long) fits
+          (length_of l.header (Definite size.0) _ size.1 long) fits
           (λ i. record w { stack = drop 1 w.stack; phase = e i; offset = still i; events = w.events + 1 }) has.element),
     )
 
@@ -266,13 +268,13 @@ frame_filled stack f fs offset e full = subst (λ (s : List FrameValue). IsFille
 pub yields_popped : (w : WalkerState) (k : Bool) → w.phase ≡ phase.Between → IsFilled w.stack w.offset
     → innermost_wraps w.stack ≡ Some k
     → Continues w (record w { stack = drop 1 w.stack; events = w.events + 1 }) []
-        ((if k then Leave else Close None) ∷ [])
+    ((if k then Leave else Close None) ∷ [])
 yields_popped w k e full is =
     let i : IsInnermost w.stack k = innermost w.stack k is in
     subst (λ (x : EventValue). Continues w (record w { stack = drop 1 w.stack; events = w.events + 1 }) [] (x ∷ []))
-        (ap (λ (b : Bool). if b then Leave else Close None) i.wraps)
+    (ap (λ (b : Bool). if b then Leave else Close None) i.wraps)
     (yields_filled w e i.frame (drop 1 w.stack) i.stack_is
-        (frame_filled w.stack i.frame (drop 1 w.stack) w.offset i.stack_is full))
+    (frame_filled w.stack i.frame (drop 1 w.stack) w.offset i.stack_is full))
 
 -- an element that is filled wraps nothing, or says so
 wraps_none : (stack : List FrameValue) (offset : ℕ) → IsFilled stack offset → (IsInWrapper stack → ⊥)
@@ -294,11 +296,11 @@ within_less (Some k) m n h w = omega (arith, h, w)
 pub yields_both : (w : WalkerState) → w.phase ≡ phase.Between → IsInIndefinite w.stack
     → IsWithin (bound_of w.stack) (w.offset + 2)
     → Continues w (record w { stack = drop 1 w.stack; offset = w.offset + 2; events = w.events + 1 }) (0 ∷ 0 ∷ [])
-        (Close (Some w.offset) ∷ [])
+    (Close (Some w.offset) ∷ [])
 yields_both w e inside fits =
     let middle : WalkerState = record w { phase = phase.InEndOctets; offset = w.offset + 1 } in
     let room : IsWithin (bound_of w.stack) (w.offset + 1) =
-        within_less (bound_of w.stack) (w.offset + 1) (w.offset + 2) (omega arith) fits in
+    within_less (bound_of w.stack) (w.offset + 1) (w.offset + 2) (omega arith) fits in
     let two : w.offset + 1 + 1 ≡ w.offset + 2 = omega arith in
     let one : w.offset + 1 - 1 ≡ w.offset = omega arith in
     let new : WalkerState = record w {
@@ -309,7 +311,7 @@ yields_both w e inside fits =
     } in
     let both : Continues w new (0 ∷ 0 ∷ []) (Close (Some (w.offset + 1 - 1)) ∷ []) =
     continues_both w middle new (0 ∷ []) (0 ∷ []) [] (Close (Some (w.offset + 1 - 1)) ∷ [])
-        (yields_zero w e inside room)
+    (yields_zero w e inside room)
     (yields_second middle refl (subst (IsWithin (bound_of w.stack)) (sym two) fits)) in
     subst (λ (m : WalkerState). Continues w m (0 ∷ 0 ∷ []) (Close (Some w.offset) ∷ [])) (λ i. record w {
       stack = drop 1 w.stack;

@@ -70,7 +70,7 @@ at_front w b yielded s r has e =
         offset = at.1;
         named =
             at.2 ∙ ap (λ (n : ℕ). is_among n (place_in w.framing s.layers).inside) (sym at.1)
-                ∙ ap (λ (ns : List ℕ). is_among r.offset ns) (place-inside w.framing s.layers);
+            ∙ ap (λ (ns : List ℕ). is_among r.offset ns) (place-inside w.framing s.layers);
         quiet = refl;
         stack = has'.stack;
       },
@@ -94,7 +94,7 @@ is_header_at w b yielded s r t h k at c e = record {
   offset = c.offset ∙ at.offset;
   named =
       c.named ∙ at.named ∙ ap (λ (n : ℕ). is_among n w.framing.inside) at.offset
-          ∙ ap (λ (ns : List ℕ). is_among (place_of w.framing s).offset ns) (sym (place-inside w.framing s.layers));
+      ∙ ap (λ (ns : List ℕ). is_among (place_of w.framing s).offset ns) (sym (place-inside w.framing s.layers));
   form = e;
 }
 
@@ -104,10 +104,10 @@ fits_at : (w : WalkerState) (b : List ℕ) (yielded : List EventValue) (s : Zipp
     → Fits (place_of w.framing s) (length (octets_of h) + announced_length h.size)
 fits_at w b yielded s r t h at c =
     let bound : bound_of w.stack ≡ (place_in w.framing s.layers).bound =
-        ap bound_of at.stack ∙ sym (place-bound w.framing s.layers) in
+    ap bound_of at.stack ∙ sym (place-bound w.framing s.layers) in
     let fits : IsWithin (place_in w.framing s.layers).bound
-        (h.offset + length (octets_of h) + announced_length h.size) =
-        subst (λ (x : Option ℕ). IsWithin x (h.offset + length (octets_of h) + announced_length h.size)) bound c.fits in
+    (h.offset + length (octets_of h) + announced_length h.size) =
+    subst (λ (x : Option ℕ). IsWithin x (h.offset + length (octets_of h) + announced_length h.size)) bound c.fits in
     subst (λ (n : ℕ). IsWithin (place_in w.framing s.layers).bound n) (omega (arith, c.offset, at.offset)) fits
 
 entry_at : (w : WalkerState) (b : List ℕ) (yielded : List EventValue) (s : Zipper) (r : HeadReaderState) (t : List ℕ)
@@ -125,7 +125,7 @@ quiet_yielded : (w : WalkerState) (b : List ℕ) (yielded : List EventValue) (s 
     → AtHeader w b yielded s r → AreEqualJoined yielded (events_of_layers s.layers ++ (events s.here ++ []))
 quiet_yielded w b yielded s r at =
     subst (λ (es : List EventValue). AreEqualJoined yielded (events_of_layers s.layers ++ (events s.here ++ es)))
-        at.quiet at.has.same_events
+    at.quiet at.has.same_events
 
 -- where the header of a walker ends
 header_end : (w : WalkerState) (b : List ℕ) (yielded : List EventValue) (s : Zipper) (r : HeadReaderState)
@@ -133,9 +133,17 @@ header_end : (w : WalkerState) (b : List ℕ) (yielded : List EventValue) (s : Z
     → AtHeader w b yielded s r → Completed w r t h
     → h.offset + length (octets_of h) ≡ length (b ++ t)
 header_end w b yielded s r t h at c =
-    omega
-        (arith, c.offset, at.offset, ap length c.octets, ap length at.octets, length-append r.octets t,
-            length-append b t, at.has.offset, walker-offset w b yielded s at.has)
+    omega (
+      arith,
+      c.offset,
+      at.offset,
+      ap length c.octets,
+      ap length at.octets,
+      length-append r.octets t,
+      length-append b t,
+      at.has.offset,
+      walker-offset w b yielded s at.has,
+    )
 
 -- a primitive begins
 pub primitive_state : (w : WalkerState) (b : List ℕ) (yielded : List EventValue) (s : Zipper) (r : HeadReaderState)
@@ -143,13 +151,13 @@ pub primitive_state : (w : WalkerState) (b : List ℕ) (yielded : List EventValu
     → AtHeader w b yielded s r → Completed w r t h
     → holds h ≡ false → h.size ≡ Definite n
     → HasZipper (after_header w (phase.InPrimitive n) (h.offset + length (octets_of h))) (b ++ t)
-        (yielded ++ Begin h ∷ []) (with_tail s (PrimitiveTail h []))
+    (yielded ++ Begin h ∷ []) (with_tail s (PrimitiveTail h []))
 primitive_state w b yielded s r t h n at c e size =
     let zero : n ≡ 0 + n = omega arith in
     record {
       spelled =
           spelled_after s.layers s.here (spelling_of_tail s.tail) (octets_of h ++ []) t b
-              (append-nil (octets_of h) ∙ (c.octets ∙ ap (λ (o : List ℕ). o ++ t) (sym at.octets))) at.has.spelled;
+          (append-nil (octets_of h) ∙ (c.octets ∙ ap (λ (o : List ℕ). o ++ t) (sym at.octets))) at.has.spelled;
       offset = header_end w b yielded s r t h at c;
       stack = at.stack;
       layers = at.has.layers;
@@ -159,11 +167,11 @@ primitive_state w b yielded s r t h n at c e size =
         size = size ∙ ap Definite zero;
         fits =
             subst (λ (m : ℕ). Fits (place_of w.framing s) (length (octets_of h) + m))
-                (ap announced_length size ∙ zero) (fits_at w b yielded s r t h at c);
+            (ap announced_length size ∙ zero) (fits_at w b yielded s r t h at c);
       };
       same_events =
           yielded_after yielded s.layers s.here [] (Begin h ∷ Bytes [] ∷ []) (Begin h ∷ [])
-              (quiet_yielded w b yielded s r at) refl;
+          (quiet_yielded w b yielded s r at) refl;
       element = refl;
     }
 
@@ -173,7 +181,7 @@ layer_spelled : (ls : List Layer) (here : Forest) (h : HeaderValue) (old t b : L
     → spelling_of_layers (record { before = here; header = h } ∷ ls) ++ ([] ++ []) ≡ b ++ t
 layer_spelled ls here h old t b e f =
     append-nil (spelling_of_layers ls ++ (spelling here ++ opening h))
-        ∙ spelled_after ls here old (opening h) t b (sym e) f
+    ∙ spelled_after ls here old (opening h) t b (sym e) f
 
 layer_yielded : (yielded : List EventValue) (ls : List Layer) (here : Forest) (h : HeaderValue)
     (old more : List EventValue)
@@ -181,8 +189,8 @@ layer_yielded : (yielded : List EventValue) (ls : List Layer) (here : Forest) (h
     → AreEqualJoined (yielded ++ more) (events_of_layers (record { before = here; header = h } ∷ ls) ++ ([] ++ []))
 layer_yielded yielded ls here h old more e f =
     subst (λ (es : List EventValue). AreEqualJoined (yielded ++ more) es)
-        (sym (append-nil (events_of_layers ls ++ (events here ++ opening_events h))))
-        (yielded_after yielded ls here old (opening_events h) more f (ap single_octets e))
+    (sym (append-nil (events_of_layers ls ++ (events here ++ opening_events h))))
+    (yielded_after yielded ls here old (opening_events h) more f (ap single_octets e))
 
 -- the event that an element which holds others begins with
 abbrev pub opening_event : HeaderValue → EventValue
@@ -194,15 +202,15 @@ pub holding_state : (w : WalkerState) (b : List ℕ) (yielded : List EventValue)
     → AtHeader w b yielded s r → Completed w r t h
     → holds h ≡ true → lead h ≡ []
     → HasZipper
-        (record (after_header w phase.Between (h.offset + length (octets_of h)))
-            { stack = frame_at (place_of w.framing s) h ∷ w.stack; wrapper_count = k })
-        (b ++ t) (yielded ++ opening_event h ∷ [])
+    (record (after_header w phase.Between (h.offset + length (octets_of h)))
+    { stack = frame_at (place_of w.framing s) h ∷ w.stack; wrapper_count = k })
+    (b ++ t) (yielded ++ opening_event h ∷ [])
     (record { layers = record { before = s.here; header = h } ∷ s.layers; here = NoMore; tail = NoTail })
 holding_state w b yielded s r t h k at c e none = record {
   spelled = layer_spelled s.layers s.here h (spelling_of_tail s.tail) t b
       (ap (λ (o : List ℕ). o ++ t) at.octets
-          ∙ (sym c.octets ∙ (sym (append-nil (octets_of h)) ∙ ap (λ (l : List ℕ). octets_of h ++ l) (sym none))))
-          at.has.spelled;
+      ∙ (sym c.octets ∙ (sym (append-nil (octets_of h)) ∙ ap (λ (l : List ℕ). octets_of h ++ l) (sym none))))
+      at.has.spelled;
   offset = header_end w b yielded s r t h at c;
   stack = ap (λ (fs : List FrameValue). frame_at (place_of w.framing s) h ∷ fs) at.stack;
   layers = (at.has.layers, at.has.here, entry_at w b yielded s r t h at c e);
@@ -210,7 +218,7 @@ holding_state w b yielded s r t h k at c e none = record {
   phase = tt;
   same_events =
       layer_yielded yielded s.layers s.here h [] (opening_event h ∷ [])
-          (ap (λ (l : List ℕ). opening_event h ∷ map (λ z. Unused) l) none) (quiet_yielded w b yielded s r at);
+      (ap (λ (l : List ℕ). opening_event h ∷ map (λ z. Unused) l) none) (quiet_yielded w b yielded s r at);
   element = refl;
 }
 
@@ -220,14 +228,14 @@ pub lead_state : (w : WalkerState) (b : List ℕ) (yielded : List EventValue) (s
     → AtHeader w b yielded s r → Completed w r t h
     → holds h ≡ true → lead h ≡ 0 ∷ []
     → HasZipper
-        (record (after_header w phase.InBitString (h.offset + length (octets_of h)))
-            { stack = frame_at (place_of w.framing s) h ∷ w.stack; wrapper_count = k })
-        (b ++ t) (yielded ++ Enter h ∷ [])
+    (record (after_header w phase.InBitString (h.offset + length (octets_of h)))
+    { stack = frame_at (place_of w.framing s) h ∷ w.stack; wrapper_count = k })
+    (b ++ t) (yielded ++ Enter h ∷ [])
     (with_tail s (BitStringTail h))
 lead_state w b yielded s r t h k at c e one = record {
   spelled =
       spelled_after s.layers s.here (spelling_of_tail s.tail) (octets_of h) t b
-          (c.octets ∙ ap (λ (o : List ℕ). o ++ t) (sym at.octets)) at.has.spelled;
+      (c.octets ∙ ap (λ (o : List ℕ). o ++ t) (sym at.octets)) at.has.spelled;
   offset = header_end w b yielded s r t h at c;
   stack = ap (λ (fs : List FrameValue). frame_at (place_of w.framing s) h ∷ fs) at.stack;
   layers = at.has.layers;
@@ -256,14 +264,14 @@ lead_primitive false n e = refl
 unused_state : (w : WalkerState) (b : List ℕ) (yielded : List EventValue) (s : Zipper) (h : HeaderValue)
     → HasZipper w b yielded (with_tail s (BitStringTail h)) → IsOpen (place_of w.framing s) (OpenBitString h)
     → HasZipper (record w { phase = phase.Between; offset = w.offset + 1; events = w.events + 1 }) (b ++ 0 ∷ [])
-        (yielded ++ Unused ∷ [])
+    (yielded ++ Unused ∷ [])
     (record { layers = record { before = s.here; header = h } ∷ s.layers; here = NoMore; tail = NoTail })
 unused_state w b yielded s h has a =
     let k : h.constructed ≡ false = lead_primitive h.constructed (eqb h.number 3) a.1 in
     record {
       spelled =
           layer_spelled s.layers s.here h (octets_of h) (0 ∷ []) b (ap (λ (l : List ℕ). octets_of h ++ l) (sym a.1))
-              has.spelled;
+          has.spelled;
       offset = omega (arith, has.offset, length-append b (0 ∷ []));
       stack = has.stack;
       layers = (has.layers, has.here, a.0);
@@ -271,14 +279,14 @@ unused_state w b yielded s h has a =
       phase = tt;
       same_events = layer_yielded yielded s.layers s.here h (Enter h ∷ []) (Unused ∷ [])
           (ap (λ (c : Bool). (if c then Open h else Enter h) ∷ map (λ z. Unused) (lead h)) k
-              ∙ ap (λ (l : List ℕ). Enter h ∷ map (λ z. Unused) l) a.1)
-              has.same_events;
+          ∙ ap (λ (l : List ℕ). Enter h ∷ map (λ z. Unused) l) a.1)
+          has.same_events;
       element = has.element;
     }
 
 pub yields_unused : (w : WalkerState) → w.phase ≡ phase.InBitString
     → Continues w (record w { phase = phase.Between; offset = w.offset + 1; events = w.events + 1 }) (0 ∷ [])
-        (Unused ∷ [])
+    (Unused ∷ [])
 yields_unused w e = record {
   framing = refl;
   found = refl;
@@ -293,21 +301,29 @@ pub front_state : (w : WalkerState) (b : List ℕ) (yielded : List EventValue) (
     (t : List ℕ)
     → AtHeader w b yielded s r → q.octets ≡ r.octets ++ t → q.offset ≡ r.offset
     → q.named ≡ r.named → (q.octets ≡ [] → ⊥) → IsHeaderPrefix q.octets
-        → IsWithin (bound_of w.stack) (q.offset + length q.octets)
+    → IsWithin (bound_of w.stack) (q.offset + length q.octets)
     → HasZipper (record w { phase = phase.InHeader q; offset = q.offset + length q.octets; has_element = true })
-        (b ++ t) (yielded ++ []) (with_tail s (HeaderTail q.octets))
+    (b ++ t) (yielded ++ []) (with_tail s (HeaderTail q.octets))
 front_state w b yielded s r q t at o f n some front fits =
     let bound : bound_of w.stack ≡ (place_in w.framing s.layers).bound =
-        ap bound_of at.stack ∙ sym (place-bound w.framing s.layers) in
+    ap bound_of at.stack ∙ sym (place-bound w.framing s.layers) in
     let place : q.offset ≡ (place_of w.framing s).offset = f ∙ at.offset in
     record {
       spelled =
           spelled_after s.layers s.here (spelling_of_tail s.tail) q.octets t b
-              (o ∙ ap (λ (x : List ℕ). x ++ t) (sym at.octets)) at.has.spelled;
+          (o ∙ ap (λ (x : List ℕ). x ++ t) (sym at.octets)) at.has.spelled;
       offset =
-          omega
-              (arith, f, at.offset, ap length o, ap length at.octets, length-append r.octets t, length-append b t,
-                  at.has.offset, walker-offset w b yielded s at.has);
+          omega (
+            arith,
+            f,
+            at.offset,
+            ap length o,
+            ap length at.octets,
+            length-append r.octets t,
+            length-append b t,
+            at.has.offset,
+            walker-offset w b yielded s at.has,
+          );
       stack = at.stack;
       layers = at.has.layers;
       here = at.has.here;

@@ -70,11 +70,11 @@ octets_opens : (h : HeaderValue) → flat_map event_octets (opening_events h) �
 octets_opens h = elim (cases_Bool h.constructed) [
   | inl c ↦
       ap (λ (e : EventValue). event_octets e ++ flat_map event_octets (map (λ z. Unused) (lead h)))
-          (ap (λ (k : Bool). if k then Open h else Enter h) c)
+      (ap (λ (k : Bool). if k then Open h else Enter h) c)
       ∙ ap (λ (l : List ℕ). octets_of h ++ l) (octets_lead (lead h) ∙ lead_zeros h)
   | inr c ↦
       ap (λ (e : EventValue). event_octets e ++ flat_map event_octets (map (λ z. Unused) (lead h)))
-          (ap (λ (k : Bool). if k then Open h else Enter h) c)
+      (ap (λ (k : Bool). if k then Open h else Enter h) c)
       ∙ ap (λ (l : List ℕ). octets_of h ++ l) (octets_lead (lead h) ∙ lead_zeros h)
 ]
 
@@ -94,19 +94,19 @@ octets_closes : (p : Place) (h : HeaderValue) (inside : Forest) → IsHeaderAt p
 octets_closes p h inside i = elim (cases_Bool h.constructed) [
   | inl c ↦
       ap event_octets
-          (ap
-              (λ (k : Bool). if k
-                  then Close (end_offset h.size (h.offset + length (opening h) + length (spelling inside)))
-                  else Leave)
-              c)
+      (ap
+      (λ (k : Bool). if k
+      then Close (end_offset h.size (h.offset + length (opening h) + length (spelling inside)))
+      else Leave)
+      c)
       ∙ octets_close h.size _
   | inr c ↦
       ap event_octets
-          (ap
-              (λ (k : Bool). if k
-                  then Close (end_offset h.size (h.offset + length (opening h) + length (spelling inside)))
-                  else Leave)
-              c)
+      (ap
+      (λ (k : Bool). if k
+      then Close (end_offset h.size (h.offset + length (opening h) + length (spelling inside)))
+      else Leave)
+      c)
       ∙ sym (no_end_octets h.constructed h.size i.valid.allowed c)
 ]
 
@@ -120,19 +120,19 @@ octets_whole p NoMore o e = refl
 octets_whole p (PaddingOctet rest) o e = ap (λ (l : List ℕ). 0 ∷ l) (octets_whole (place_after p 1) rest o.1 e)
 octets_whole p (Primitive h c rest) o e =
     ap (λ (l : List ℕ). octets_of h ++ (c ++ l))
-        (octets_whole (place_after p (length (octets_of h) + length c)) rest o.1 e)
+    (octets_whole (place_after p (length (octets_of h) + length c)) rest o.1 e)
 octets_whole p (Holder h inside rest) o e =
     octets_append (opening_events h) (events inside ++ closing_event h inside ∷ events rest)
     ∙ ap (λ (l : List ℕ). l ++ flat_map event_octets (events inside ++ closing_event h inside ∷ events rest))
-        (octets_opens h)
+    (octets_opens h)
     ∙ ap (λ (l : List ℕ). opening h ++ l) (
     octets_append (events inside) (closing_event h inside ∷ events rest)
     ∙ ap (λ (l : List ℕ). l ++ flat_map event_octets (closing_event h inside ∷ events rest))
-        (octets_whole (place_of_children p h) inside o.1 o.0.1)
+    (octets_whole (place_of_children p h) inside o.1 o.0.1)
     ∙ ap (λ (l : List ℕ). spelling inside ++ (l ++ flat_map event_octets (events rest)))
-        (octets_closes p h inside o.0.0.header)
+    (octets_closes p h inside o.0.0.header)
     ∙ ap (λ (l : List ℕ). spelling inside ++ (end_octets h.size ++ l))
-        (octets_whole (place_after p (extent h inside)) rest o.2 e)
+    (octets_whole (place_after p (extent h inside)) rest o.2 e)
     )
 octets_whole p (OpenPrimitive h c) o e = absurd (true≢false (sym e))
 octets_whole p (OpenHolder h inside) o e = absurd (true≢false (sym e))
@@ -148,11 +148,11 @@ octets_layers w [] a = refl
 octets_layers w (l ∷ ls) a =
     octets_append (events_of_layers ls) (events l.before ++ opening_events l.header)
     ∙ ap (λ (t : List ℕ). t ++ flat_map event_octets (events l.before ++ opening_events l.header))
-        (octets_layers w ls a.0)
+    (octets_layers w ls a.0)
     ∙ ap (λ (t : List ℕ). spelling_of_layers ls ++ t) (
     octets_append (events l.before) (opening_events l.header)
     ∙ ap (λ (t : List ℕ). t ++ flat_map event_octets (opening_events l.header))
-        (octets_whole (place_in w ls) l.before a.1.is_open a.1.whole)
+    (octets_whole (place_in w ls) l.before a.1.is_open a.1.whole)
     ∙ ap (λ (t : List ℕ). spelling l.before ++ t) (octets_opens l.header)
     )
 
@@ -174,11 +174,11 @@ stands-yielded_octets w b yielded st k =
     octets_joined yielded (events_of_zipper s) h.same_events
     ∙ octets_append (events_of_layers s.layers) (events s.here ++ events_of_tail s.tail)
     ∙ ap (λ (t : List ℕ). t ++ flat_map event_octets (events s.here ++ events_of_tail s.tail))
-        (octets_layers w.framing s.layers h.layers)
+    (octets_layers w.framing s.layers h.layers)
     ∙ ap (λ (t : List ℕ). spelling_of_layers s.layers ++ t) (
     octets_append (events s.here) (events_of_tail s.tail)
     ∙ ap (λ (t : List ℕ). t ++ flat_map event_octets (events_of_tail s.tail))
-        (octets_whole (place_in w.framing s.layers) s.here h.here.is_open h.here.whole)
+    (octets_whole (place_in w.framing s.layers) s.here h.here.is_open h.here.whole)
     ∙ ap (λ (t : List ℕ). spelling s.here ++ t) (octets_tail w.phase s.tail (place_of w.framing s) h.phase k)
     )
     ∙ h.spelled

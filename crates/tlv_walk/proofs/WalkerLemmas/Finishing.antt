@@ -20,11 +20,11 @@ pub finish_empty : (w : WalkerState) (b : List ℕ) (yielded : List EventValue) 
     → IsEnding w.framing b (ending.Fault (fault_at Empty w.offset))
 finish_empty w b yielded st e none no_element =
     subst (λ (n : ℕ). IsEnding w.framing b (fault_ending Empty n)) (sym st.private_state.has_state.offset)
-        (state-empty w b yielded st.private_state.state st.private_state.has_state e none no_element)
+    (state-empty w b yielded st.private_state.state st.private_state.has_state e none no_element)
 
 pub finish_short : (w : WalkerState) (b : List ℕ) (yielded : List EventValue) → Stands w b yielded
     → (EventWaits w → ⊥) → (w.phase ≡ phase.Between → w.stack ≡ [] → ⊥)
     → IsEnding w.framing b (ending.Fault (fault_at Short w.offset))
 finish_short w b yielded st idle inside =
     subst (λ (n : ℕ). IsEnding w.framing b (fault_ending Short n)) (sym st.private_state.has_state.offset)
-        (state-short w b yielded st.private_state.state st.private_state.has_state idle inside)
+    (state-short w b yielded st.private_state.state st.private_state.has_state idle inside)

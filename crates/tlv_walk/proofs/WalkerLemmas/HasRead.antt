@@ -25,9 +25,9 @@ pub read_depth : (w : WalkerState) (b : List ℕ) (f : Forest) → HasRead w b f
 read_depth w b f (took yielded st e) none =
     state-depth w b yielded st.private_state.state st.private_state.has_state (idle w none)
     ∙ ap open_count
-        (reading-unique w.framing b _ st.has_events.reading
-            (state-reading w b yielded st.private_state.state st.private_state.has_state) st.has_events.is_reading
-            ∙ e)
+    (reading-unique w.framing b _ st.has_events.reading
+    (state-reading w b yielded st.private_state.state st.private_state.has_state) st.has_events.is_reading
+    ∙ e)
 read_depth w b f (refused x yielded g st e) none = st.depth ∙ ap open_count e
 
 pub read_offset : (w : WalkerState) (b : List ℕ) (f : Forest) → HasRead w b f → w.offset ≡ length b
@@ -44,9 +44,9 @@ pub never_refused : (w : WalkerState) (b : List ℕ) (yielded : List EventValue)
     → w.phase ≡ Refused f → ⊥
 never_refused w b yielded f st e =
     no_phase st.private_state.state.tail (place_of w.framing st.private_state.state)
-        (subst
-            (λ (p : PhaseValue). IsPhaseOf p st.private_state.state.tail (place_of w.framing st.private_state.state))
-            e st.private_state.has_state.phase)
+    (subst
+    (λ (p : PhaseValue). IsPhaseOf p st.private_state.state.tail (place_of w.framing st.private_state.state))
+    e st.private_state.has_state.phase)
   where
     no_phase : (t : Tail) (p : Place) → IsPhaseOf (Refused f) t p → ⊥
     no_phase t p h = h
@@ -55,17 +55,17 @@ never_refused w b yielded f st e =
 pub ends_by : (w : WalkerState) (o : List ℕ) (yielded : List EventValue) (result : Ending)
     → ((b : List ℕ) (yielded : List EventValue) → Stands w b yielded → IsEnding w.framing b result)
     → ((f : Fault) → w.phase ≡ Refused f → result ≡ ending.Fault f) → StandsAtEnd w o yielded
-        → IsEnding w.framing o result
+    → IsEnding w.framing o result
 ends_by w o yielded result stands failed (took_all st none) = stands o yielded st
 ends_by w o yielded result stands failed (refused_one f at) =
     subst (λ (l : List ℕ). IsEnding w.framing l result) at.octets_are
     (subst (λ (k : Ending). IsEnding w.framing (at.taken ++ at.octet ∷ at.others) k) (sym (failed f at.stands.phase))
-        (at.stands.refused.ends at.others))
+    (at.stands.refused.ends at.others))
 
 -- and it shows whether the input is sound
 pub shows_by : (w : WalkerState) (o : List ℕ) (yielded : List EventValue) (result : Ending)
     → ((b : List ℕ) (yielded : List EventValue) → Stands w b yielded → IsEnding w.framing b result)
     → ((f : Fault) → w.phase ≡ Refused f → result ≡ ending.Fault f) → StandsAtEnd w o yielded
-        → ShowsSoundness w.framing o result
+    → ShowsSoundness w.framing o result
 shows_by w o yielded result stands failed at =
     shows-soundness w.framing o result (ends_by w o yielded result stands failed at)

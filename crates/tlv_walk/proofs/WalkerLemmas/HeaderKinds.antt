@@ -43,38 +43,38 @@ frame_there : (w : WalkerState) (b : List ℕ) (yielded : List EventValue) (s : 
     (t : List ℕ) (h : HeaderValue)
     → AtHeader w b yielded s r → Completed w r t h
     → frame_at (place_of w.framing s) h
-        ≡ frame_with (h.offset + length (octets_of h)) (bound_of w.stack) h.size h.constructed
+    ≡ frame_with (h.offset + length (octets_of h)) (bound_of w.stack) h.size h.constructed
 frame_there w b yielded s r t h at c =
     ap (λ (n : ℕ). frame_with (n + length (octets_of h)) (place_of w.framing s).bound h.size h.constructed)
-        (sym (c.offset ∙ at.offset))
+    (sym (c.offset ∙ at.offset))
     ∙ ap (λ (x : Option ℕ). frame_with (h.offset + length (octets_of h)) x h.size h.constructed)
-        (place-bound w.framing s.layers ∙ ap bound_of (sym at.stack))
+    (place-bound w.framing s.layers ∙ ap bound_of (sym at.stack))
 
 -- an element that holds others, with the frame that the walker pushes
 abbrev machine_in_element : WalkerState → HeaderValue → PhaseValue → ℕ → WalkerState
 machine_in_element w h f k =
-    record (after_header w f (h.offset + length (octets_of h)))
-        { stack =
-            frame_with (h.offset + length (octets_of h)) (bound_of w.stack) h.size h.constructed ∷ w.stack;
-                wrapper_count =
-                k
-        }
+    record (after_header w f (h.offset + length (octets_of h))) {
+      stack =
+          frame_with (h.offset + length (octets_of h)) (bound_of w.stack) h.size h.constructed ∷ w.stack;
+      wrapper_count =
+          k;
+    }
 
 -- the state is that of a walker which pushed the frame
 pushed : (w : WalkerState) (b : List ℕ) (yielded : List EventValue) (s : Zipper) (r : HeadReaderState) (t : List ℕ)
     (h : HeaderValue) (f : PhaseValue) (k : ℕ) (e : EventValue) (u : Zipper)
     → AtHeader w b yielded s r → Completed w r t h
     → HasZipper
-        (record (after_header w f (h.offset + length (octets_of h)))
-            { stack = frame_at (place_of w.framing s) h ∷ w.stack; wrapper_count = k })
-        (b ++ t) (yielded ++ e ∷ []) u
+    (record (after_header w f (h.offset + length (octets_of h)))
+    { stack = frame_at (place_of w.framing s) h ∷ w.stack; wrapper_count = k })
+    (b ++ t) (yielded ++ e ∷ []) u
     → HasZipper (machine_in_element w h f k) (b ++ t) (yielded ++ e ∷ []) u
 pushed w b yielded s r t h f k e u at c has =
     subst
-        (λ (x : FrameValue). HasZipper
-            (record (after_header w f (h.offset + length (octets_of h))) { stack = x ∷ w.stack; wrapper_count = k })
-            (b ++ t) (yielded ++ e ∷ []) u)
-        (frame_there w b yielded s r t h at c) has
+    (λ (x : FrameValue). HasZipper
+    (record (after_header w f (h.offset + length (octets_of h))) { stack = x ∷ w.stack; wrapper_count = k })
+    (b ++ t) (yielded ++ e ∷ []) u)
+    (frame_there w b yielded s r t h at c) has
 
 lead_at : (h : HeaderValue) (k n : Bool) → h.constructed ≡ k → eqb h.number 3 ≡ n → lead h ≡ lead_by k n
 lead_at h k n e f = ap (λ (c : Bool). lead_by c (eqb h.number 3)) e ∙ ap (lead_by k) f
@@ -93,17 +93,17 @@ constructed_enters : (w : WalkerState) (b : List ℕ) (yielded : List EventValue
     (t : List ℕ) (h : HeaderValue)
     → AtHeader w b yielded s r → Completed w r t h → h.constructed ≡ true
     → (u : Zipper)
-        × HasZipper (machine_in_element w h phase.Between w.wrapper_count) (b ++ t) (yielded ++ Open h ∷ []) u
+    × HasZipper (machine_in_element w h phase.Between w.wrapper_count) (b ++ t) (yielded ++ Open h ∷ []) u
 constructed_enters w b yielded s r t h at c k =
     let none : lead h ≡ [] = lead_at h true (eqb h.number 3) k refl in
     let has = holding_state w b yielded s r t h w.wrapper_count at c (or-left h.constructed _ k) none in (
       _,
       pushed w b yielded s r t h phase.Between w.wrapper_count (Open h) _ at c
           (subst
-              (λ (e : EventValue). HasZipper
-                  (record (after_header w phase.Between (h.offset + length (octets_of h)))
-                      { stack = frame_at (place_of w.framing s) h ∷ w.stack; wrapper_count = w.wrapper_count })
-                  (b ++ t) (yielded ++ e ∷ []) (inside_state s h))
+          (λ (e : EventValue). HasZipper
+          (record (after_header w phase.Between (h.offset + length (octets_of h)))
+          { stack = frame_at (place_of w.framing s) h ∷ w.stack; wrapper_count = w.wrapper_count })
+          (b ++ t) (yielded ++ e ∷ []) (inside_state s h))
           (ap (λ (x : Bool). if x then Open h else Enter h) k) has),
     )
 
@@ -111,24 +111,25 @@ wrapper_enters : (w : WalkerState) (b : List ℕ) (yielded : List EventValue) (s
     (t : List ℕ) (h : HeaderValue) (n : ℕ)
     → AtHeader w b yielded s r → Completed w r t h → h.constructed ≡ false → holds h ≡ true
     → (bits : Bool) → eqb h.number 3 ≡ bits
-        → (u : Zipper)
-            × HasZipper (machine_in_element w h (if bits then phase.InBitString else phase.Between) n) (b ++ t)
-                (yielded ++ Enter h ∷ []) u
+    → (u : Zipper)
+    × HasZipper (machine_in_element w h (if bits then phase.InBitString else phase.Between) n) (b ++ t)
+    (yielded ++ Enter h ∷ []) u
 wrapper_enters w b yielded s r t h n at c k hold true bits =
-    let one : lead h ≡ 0 ∷ [] = lead_at h false true k bits in
-    (_,
-        pushed w b yielded s r t h phase.InBitString n (Enter h) _ at c
-            (lead_state w b yielded s r t h n at c hold one))
+    let one : lead h ≡ 0 ∷ [] = lead_at h false true k bits in (
+      _,
+      pushed w b yielded s r t h phase.InBitString n (Enter h) _ at c
+          (lead_state w b yielded s r t h n at c hold one),
+    )
 wrapper_enters w b yielded s r t h n at c k hold false bits =
     let none : lead h ≡ [] = lead_at h false false k bits in
     let has = holding_state w b yielded s r t h n at c hold none in (
       _,
       pushed w b yielded s r t h phase.Between n (Enter h) _ at c
           (subst
-              (λ (e : EventValue). HasZipper
-                  (record (after_header w phase.Between (h.offset + length (octets_of h)))
-                      { stack = frame_at (place_of w.framing s) h ∷ w.stack; wrapper_count = n })
-                  (b ++ t) (yielded ++ e ∷ []) (inside_state s h))
+          (λ (e : EventValue). HasZipper
+          (record (after_header w phase.Between (h.offset + length (octets_of h)))
+          { stack = frame_at (place_of w.framing s) h ∷ w.stack; wrapper_count = n })
+          (b ++ t) (yielded ++ e ∷ []) (inside_state s h))
           (ap (λ (x : Bool). if x then Open h else Enter h) k) has),
     )
 
@@ -136,14 +137,14 @@ primitive_enters : (w : WalkerState) (b : List ℕ) (yielded : List EventValue) 
     (t : List ℕ) (h : HeaderValue)
     → AtHeader w b yielded s r → Completed w r t h → holds h ≡ false
     → (u : Zipper)
-        × HasZipper (after_header w (phase.InPrimitive (announced_length h.size)) (h.offset + length (octets_of h)))
-            (b ++ t) (yielded ++ Begin h ∷ []) u
+    × HasZipper (after_header w (phase.InPrimitive (announced_length h.size)) (h.offset + length (octets_of h)))
+    (b ++ t) (yielded ++ Begin h ∷ []) u
 primitive_enters w b yielded s r t h at c no_hold =
     let size : (n : ℕ) × (h.size ≡ Definite n) = size-definite h c.valid no_hold in (
       _,
       subst
           (λ (n : ℕ). HasZipper (after_header w (phase.InPrimitive n) (h.offset + length (octets_of h))) (b ++ t)
-              (yielded ++ Begin h ∷ []) (with_tail s (PrimitiveTail h [])))
+          (yielded ++ Begin h ∷ []) (with_tail s (PrimitiveTail h [])))
           (sym (ap announced_length size.1))
           (primitive_state w b yielded s r t h size.0 at c no_hold size.1),
     )
@@ -162,8 +163,8 @@ enters_state w v b yielded s r t f o kind.Constructed at c e =
     (u.0, subst (λ (m : WalkerState). HasZipper m (b ++ t) (yielded ++ Open (new_header f o) ∷ []) u.0) (sym e.1) u.1)
 enters_state w v b yielded s r t f o kind.Wrapper at c e =
     let u =
-        wrapper_enters w b yielded s r t (new_header f o) (next_wrapper w.framing.inside w.wrapper_count f.offset) at
-            c e.0 (or-right f.constructed _ e.0 e.1) (eqb f.number 3) refl in
+    wrapper_enters w b yielded s r t (new_header f o) (next_wrapper w.framing.inside w.wrapper_count f.offset) at
+    c e.0 (or-right f.constructed _ e.0 e.1) (eqb f.number 3) refl in
     (u.0, subst (λ (m : WalkerState). HasZipper m (b ++ t) (yielded ++ Enter (new_header f o) ∷ []) u.0) (sym e.2) u.1)
 
 -- the framing stays
@@ -177,7 +178,7 @@ enters_framing w v f offset kind.Wrapper e = ap (λ (m : WalkerState). m.framing
 pub enters_found : (w v : WalkerState) (f : HeaderFields) (o : List ℕ) (offset : ℕ) (k : HeaderKind)
     → TakesHeader w v f offset k
     → v.wrapper_count
-        ≡ wrappers_after w.framing.inside w.wrapper_count (entered_offsets (event_of k (new_header f o) ∷ []))
+    ≡ wrappers_after w.framing.inside w.wrapper_count (entered_offsets (event_of k (new_header f o) ∷ []))
 enters_found w v f o offset kind.Primitive e = ap (λ (m : WalkerState). m.wrapper_count) e.1
 enters_found w v f o offset kind.Constructed e = ap (λ (m : WalkerState). m.wrapper_count) e.1
 enters_found w v f o offset kind.Wrapper e = ap (λ (m : WalkerState). m.wrapper_count) e.2
@@ -188,13 +189,13 @@ pub fast_enters : (w v : WalkerState) (piece : List ℕ) (named : Bool) (f : Hea
     → w.phase ≡ phase.Between
     → BeginsWithFields piece w.offset named f count → o ≡ take count piece → named ≡ is_among w.offset w.framing.inside
     → (holds (new_header f o) ≡ true → length w.stack < 128)
-        → IsWithin (bound_of w.stack) (f.offset + length o + announced_length f.size)
+    → IsWithin (bound_of w.stack) (f.offset + length o + announced_length f.size)
     → TakesHeader w v f (f.offset + length o) k → Continues w v o (event_of k (new_header f o) ∷ [])
 fast_enters w v piece named f count o k e begins front name shallow fits enter =
     let h : HeaderValue = new_header f o in
     let whole : octets_of h ≡ o = take-append-drop f.id_len o in
     let begins' : BeginsWith piece w.offset named h =
-        subst (λ (x : List ℕ). BeginsWith piece w.offset named (new_header f x)) (sym front) begins.begins in
+    subst (λ (x : List ℕ). BeginsWith piece w.offset named (new_header f x)) (sym front) begins.begins in
     let r : HeadReaderState = record { offset = w.offset; named = named; octets = []; done = false } in
     let completed : Completed w r o h = record {
       valid = begins'.valid;
@@ -204,14 +205,14 @@ fast_enters w v piece named f count o k e begins front name shallow fits enter =
       shallow = shallow;
       fits =
           subst (λ (x : List ℕ). IsWithin (bound_of w.stack) (f.offset + length x + announced_length f.size))
-              (sym whole) fits;
+          (sym whole) fits;
     } in
     record {
       framing = enters_framing w v f (f.offset + length o) k enter;
       found = enters_found w v f o (f.offset + length o) k enter;
       goes = λ b yielded s has.
           enters_state w v b yielded (with_tail s NoTail) r o f o k (at_new w b yielded s r has e refl refl name)
-              completed
+          completed
           (subst (λ (x : List ℕ). TakesHeader w v f (f.offset + length x) k) (sym whole) enter);
     }
 
@@ -219,13 +220,13 @@ fast_enters w v piece named f count o k e begins front name shallow fits enter =
 pub fast_may_enter : (w : WalkerState) (piece : List ℕ) (named : Bool) (f : HeaderFields) (count : ℕ) (o : List ℕ)
     → BeginsWithFields piece w.offset named f count → o ≡ take count piece
     → w.events + length w.stack ≤ w.offset → w.offset + length piece ≤ 2 ^ 40
-        → (holds (new_header f o) ≡ true → length w.stack < 128)
+    → (holds (new_header f o) ≡ true → length w.stack < 128)
     → IsWithin (bound_of w.stack) (f.offset + length o + announced_length f.size) → CanEnter w (new_header f o)
 fast_may_enter w piece named f count o begins front fewer limit shallow fits =
     let h : HeaderValue = new_header f o in
     let whole : octets_of h ≡ o = take-append-drop f.id_len o in
     let begins' : BeginsWith piece w.offset named h =
-        subst (λ (x : List ℕ). BeginsWith piece w.offset named (new_header f x)) (sym front) begins.begins in
+    subst (λ (x : List ℕ). BeginsWith piece w.offset named (new_header f x)) (sym front) begins.begins in
     let there : h.offset ≡ w.offset = begins'.offset in
     record {
       valid = begins'.valid;
@@ -234,7 +235,7 @@ fast_may_enter w piece named f count o begins front fewer limit shallow fits =
       shallow = shallow;
       fits =
           subst (λ (x : List ℕ). IsWithin (bound_of w.stack) (f.offset + length x + announced_length f.size))
-              (sym whole) fits;
+          (sym whole) fits;
     }
 
 -- a constructed header begins a constructed element

@@ -52,9 +52,11 @@ refused-after o x code (tag_too_long c k front eight flag) e =
 refused-after o x code (reserved_length c k n i ones) e = identifier-nil c k n o i e
 refused-after o x code (indefinite_primitive c n i mark) e = identifier-nil c false n o i e
 refused-after o x code (length_too_large c k n left front many nonzero) e =
-    omega
-        (arith, ap length (sym e ∙ front.octets_are),
-            length-append front.identifier ((128 + (length front.digits + left)) ∷ front.digits))
+    omega (
+      arith,
+      ap length (sym e ∙ front.octets_are),
+      length-append front.identifier ((128 + (length front.digits + left)) ∷ front.digits),
+    )
 
 -- so a refusal has octets before it, or no room
 pub refused-some : (code : FaultCode) (r : HeadReaderState) (x : ℕ) (room : Option ℕ) (depth : ℕ)
@@ -97,24 +99,24 @@ room_there : (p : Place) (q : HeadReaderState) (room : Option ℕ) (depth : ℕ)
     → Fits p (length q.octets + 1)
 room_there p q room depth k some =
     left_some p.bound (p.offset + length q.octets) (p.offset + (length q.octets + 1)) (λ e. some (k.left ∙ e))
-        (omega arith)
+    (omega arith)
 
 -- each cause of a reader is a line of the faults
 pub refused_fault : (p : Place) (q : HeadReaderState) (room : Option ℕ) (depth x : ℕ) (code : FaultCode)
     → IsReader p q room depth → IsRefusedPush q x room depth code → IsFault p x (OpenHeader q.octets) code
 refused_fault p q room depth x code k (push.no_room none) =
     no_room
-        (left_none p.bound (p.offset + length q.octets) (p.offset + (length q.octets + 1)) (sym k.left ∙ none)
-            (omega arith))
+    (left_none p.bound (p.offset + length q.octets) (p.offset + (length q.octets + 1)) (sym k.left ∙ none)
+    (omega arith))
 refused_fault p q room depth x code k (push.refused_octet left octet) =
     refused_octet (room_there p q room depth k left) octet
 refused_fault p q room depth x code k (push.too_deep left h completes holding deep) =
     too_deep (room_there p q room depth k left) h (header_there p q room depth x h true holding k completes)
-        completes.octets
+    completes.octets
     (subst (λ (n : ℕ). 128 ≤ n) k.depths deep)
 refused_fault p q room depth x code k (push.overrun left h completes shallow past) =
     overrun (room_there p q room depth k left) h (header_there p q room depth x h (holds h) refl k completes)
-        completes.octets
+    completes.octets
     (λ e. subst (λ (n : ℕ). n < 128) k.depths (shallow e))
     (past_bound h.size p.bound (p.offset + length q.octets) _ (λ f. past (subst (ContentsFit h.size) (sym k.left) f))
     (omega (arith, ap length completes.octets, length-append q.octets (x ∷ []))))
@@ -135,7 +137,7 @@ reader_there w b yielded s q depth e has d =
       depths = d ∙ ap length has.stack ∙ sym (place-depth w.framing s.layers);
       left =
           ap (λ (o : Option ℕ). room_to o (q.offset + length q.octets)) bound
-              ∙ ap (λ (n : ℕ). room_to p.bound (n + length q.octets)) at.1;
+          ∙ ap (λ (n : ℕ). room_to p.bound (n + length q.octets)) at.1;
       within = at.3.2;
     }
 
@@ -145,7 +147,7 @@ pub refuses_header : (w u : WalkerState) (r q : HeadReaderState) (piece rest oth
     → HandsOver w u r → HasTaken r q piece rest → rest ≡ x ∷ others
     → IsWithin (bound_of u.stack) offset → q.offset + length q.octets ≡ offset → depth ≡ length u.stack
     → (q.octets ≡ [] → room_to (bound_of u.stack) offset ≢ Some 0)
-        → IsRefusedPush q x (room_to (bound_of u.stack) offset) depth f.code → f.offset ≡ q.offset + length q.octets
+    → IsRefusedPush q x (room_to (bound_of u.stack) offset) depth f.code → f.offset ≡ q.offset + length q.octets
     → RefusesOctet w piece rest f
 refuses_header w u r q piece rest others x depth offset f over k e within place deep room refused there =
     let some : q.octets ≡ [] → ⊥ = λ none. refused-some f.code q x _ depth refused (room none) none in record {
@@ -156,20 +158,20 @@ refuses_header w u r q piece rest others x depth offset f over k e within place 
       rest_is = e;
       refuses = λ b yielded s has.
           let t : TakenState w u q k.taken b yielded =
-              taken_state w u r q piece rest over k some (subst (IsWithin (bound_of u.stack)) (sym place) within) b
-                  yielded s has in
+          taken_state w u r q piece rest over k some (subst (IsWithin (bound_of u.stack)) (sym place) within) b
+          yielded s has in
           let has' : HasZipper (in_header w q) (b ++ k.taken) yielded (with_tail t.state (HeaderTail q.octets)) =
           subst
-              (λ (es : List EventValue). HasZipper (in_header w q) (b ++ k.taken) es
-                  (with_tail t.state (HeaderTail q.octets)))
-              (append-nil yielded) t.has in
+          (λ (es : List EventValue). HasZipper (in_header w q) (b ++ k.taken) es
+          (with_tail t.state (HeaderTail q.octets)))
+          (append-nil yielded) t.has in
           let same : u.stack ≡ w.stack = ap (λ (m : WalkerState). m.stack) t.same in
           let left : room_to (bound_of u.stack) offset ≡ room_to (bound_of w.stack) (q.offset + length q.octets) =
           ap (λ (fs : List FrameValue). room_to (bound_of fs) offset) same
-              ∙ ap (room_to (bound_of w.stack)) (sym place) in
+          ∙ ap (room_to (bound_of w.stack)) (sym place) in
           let faulty : IsFault (place_of w.framing t.state) x (OpenHeader q.octets) f.code =
           refused_fault _ q _ depth x f.code
-              (reader_there (in_header w q) (b ++ k.taken) yielded t.state q depth refl has' (deep ∙ ap length same))
+          (reader_there (in_header w q) (b ++ k.taken) yielded t.state q depth refl has' (deep ∙ ap length same))
           (subst (λ (o : Option ℕ). IsRefusedPush q x o depth f.code) left refused) in record {
             walker = in_header w q;
             state = with_tail t.state (HeaderTail q.octets);
@@ -178,9 +180,9 @@ refuses_header w u r q piece rest others x depth offset f over k e within place 
             offset = there;
             ends =
                 λ c. subst (λ (n : ℕ). IsEnding w.framing ((b ++ k.taken) ++ x ∷ c) (fault_ending f.code n))
-                    (sym has'.offset ∙ sym there)
+                (sym has'.offset ∙ sym there)
                 (state-fault (in_header w q) (b ++ k.taken) yielded (with_tail t.state (HeaderTail q.octets)) x c
-                    f.code has' (λ z. z) faulty);
+                f.code has' (λ z. z) faulty);
             framing = refl;
             stack = refl;
           };

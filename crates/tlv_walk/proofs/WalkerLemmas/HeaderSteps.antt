@@ -39,9 +39,11 @@ pub handed : (w u : WalkerState) (r : HeadReaderState) → HandsOver w u r
     → (b : List ℕ) (yielded : List EventValue) (s : Zipper) → HasZipper w b yielded s
     → (t : Zipper) × AtHeader w b yielded t r × (u ≡ record w { phase = phase.Between; has_element = true })
 handed w u r (inl h) b yielded s has =
-    let a = at_front w b yielded s r has h.0 in
-    (with_tail s (HeaderTail a.0), a.1,
-        h.1 ∙ ap (λ (k : Bool). record w { phase = phase.Between; has_element = k }) a.1.has.element)
+    let a = at_front w b yielded s r has h.0 in (
+      with_tail s (HeaderTail a.0),
+      a.1,
+      h.1 ∙ ap (λ (k : Bool). record w { phase = phase.Between; has_element = k }) a.1.has.element,
+    )
 handed w u r (inr h) b yielded s has = (
   with_tail s NoTail,
   at_new w b yielded s r has h.0.phase h.0.none h.0.offset h.0.named,
@@ -55,7 +57,7 @@ handed_front : (w u : WalkerState) (r : HeadReaderState) → HandsOver w u r
 handed_front w u r (inl h) b yielded s has some =
     let a = at_front w b yielded s r has h.0 in
     let at : IsPhaseOf (phase.InHeader r) (HeaderTail a.0) (place_of w.framing s) =
-        phase_at w b yielded _ _ h.0 a.1.has in
+    phase_at w b yielded _ _ h.0 a.1.has in
     subst IsHeaderPrefix (sym at.0) at.3.1
 handed_front w u r (inr h) b yielded s has some = absurd (some h.0.none)
 
@@ -97,11 +99,11 @@ pub record TakenState (w u : WalkerState) (q : HeadReaderState) (t b : List ℕ)
 pub taken_state : (w u : WalkerState) (r q : HeadReaderState) (piece rest : List ℕ) → HandsOver w u r
     → (k : HasTaken r q piece rest) → (q.octets ≡ [] → ⊥)
     → IsWithin (bound_of u.stack) (q.offset + length q.octets) → (b : List ℕ) (yielded : List EventValue) (s : Zipper)
-        → HasZipper w b yielded s → TakenState w u q k.taken b yielded
+    → HasZipper w b yielded s → TakenState w u q k.taken b yielded
 taken_state w u r q piece rest over k some fits b yielded s has =
     let h = handed w u r over b yielded s has in
     let within : IsWithin (bound_of w.stack) (q.offset + length q.octets) =
-        subst (λ (m : WalkerState). IsWithin (bound_of m.stack) (q.offset + length q.octets)) h.2 fits in
+    subst (λ (m : WalkerState). IsWithin (bound_of m.stack) (q.offset + length q.octets)) h.2 fits in
     record {
       state = h.0;
       has = front_state w b yielded h.0 r q k.taken h.1 k.octets k.offset k.named some (front_taken k.front) within;
@@ -131,19 +133,19 @@ yields_unfinished w u r q piece offset over k some e fits = record {
   found = handed_wrappers w u r over;
   goes = λ b yielded s has.
       let t : TakenState w u q k.taken b yielded =
-          taken_state w u r q piece [] over k some (subst (IsWithin (bound_of u.stack)) (sym e) fits) b yielded s has in
+      taken_state w u r q piece [] over k some (subst (IsWithin (bound_of u.stack)) (sym e) fits) b yielded s has in
       let new : in_header w q ≡ record u { phase = phase.InHeader q; offset = offset } =
       ap (λ (n : ℕ). record w { phase = phase.InHeader q; offset = n; has_element = true }) e
-          ∙ ap (λ (m : WalkerState). record m { phase = phase.InHeader q; offset = offset }) (sym t.same) in
+      ∙ ap (λ (m : WalkerState). record m { phase = phase.InHeader q; offset = offset }) (sym t.same) in
       let all : k.taken ≡ piece = sym (k.piece_is ∙ append-nil k.taken) in (
         with_tail t.state (HeaderTail q.octets),
         subst
             (λ (m : WalkerState). HasZipper m (b ++ piece) (yielded ++ []) (with_tail t.state (HeaderTail q.octets)))
             new
             (subst
-                (λ (o : List ℕ). HasZipper (in_header w q) (b ++ o) (yielded ++ [])
-                    (with_tail t.state (HeaderTail q.octets)))
-                all t.has),
+            (λ (o : List ℕ). HasZipper (in_header w q) (b ++ o) (yielded ++ [])
+            (with_tail t.state (HeaderTail q.octets)))
+            all t.has),
       );
 }
 
@@ -165,7 +167,7 @@ completed_without : (w u : WalkerState) (r : HeadReaderState) (t : List ℕ) (h 
     → u ≡ record w { phase = phase.Between; has_element = true } → CanEnter u h → Completes r t h → Completed w r t h
 completed_without w u r t h e can makes =
     let can' : CanEnter (record w { phase = phase.Between; has_element = true }) h =
-        subst (λ (m : WalkerState). CanEnter m h) e can in
+    subst (λ (m : WalkerState). CanEnter m h) e can in
     record {
       valid = can'.valid;
       octets = makes.octets;
@@ -185,11 +187,11 @@ yields_after u new f o offset k can e does w r t over makes = record {
   found =
       enters_found u new f o offset k does
       ∙ ap₂ (λ (g : Framing) (n : ℕ). wrappers_after g.inside n (entered_offsets (event_of k (new_header f o) ∷ [])))
-          (handed_framing w u r over) (handed_wrappers w u r over);
+      (handed_framing w u r over) (handed_wrappers w u r over);
   goes = λ b yielded s has.
       let h = handed w u r over b yielded s has in
       enters_state w new b yielded h.0 r t f o k h.1 (completed_without w u r t (new_header f o) h.2 can makes)
-          (subst (λ (n : ℕ). TakesHeader w new f n k) e (enters_without w u new f offset k h.2 does));
+      (subst (λ (n : ℕ). TakesHeader w new f n k) e (enters_without w u new f offset k h.2 does));
 }
 
 -- the same of a header that has these fields
@@ -200,7 +202,7 @@ pub yields_header : (u new : WalkerState) (f : HeaderFields) (h : HeaderValue) (
 yields_header u new f h offset k can same e enter =
     subst (λ (g : HeaderValue). YieldsHeader u new g (event_of k g)) same
     (yields_after u new f (octets_of h) offset k (subst (CanEnter u) (sym same) can)
-        (e ∙ ap (λ (g : HeaderValue). f.offset + length (octets_of g)) (sym same)) enter)
+    (e ∙ ap (λ (g : HeaderValue). f.offset + length (octets_of g)) (sym same)) enter)
 
 -- ---- the octet that a reader is given
 
@@ -237,7 +239,7 @@ pub whole_enters : (u : WalkerState) (q : HeadReaderState) (x depth offset : ℕ
     → Completes q (x ∷ []) h → FitsThere h (room_to (bound_of u.stack) offset) depth → CanEnter u h
 whole_enters u q x depth offset h fewer place limit deep c f =
     let end : h.offset + length (octets_of h) ≡ offset + 1 =
-        omega (arith, c.offset, ap length c.octets, length-append q.octets (x ∷ [])) in
+    omega (arith, c.offset, ap length c.octets, length-append q.octets (x ∷ [])) in
     record {
       valid = c.valid;
       fewer = omega (arith, c.offset);
@@ -245,7 +247,7 @@ whole_enters u q x depth offset h fewer place limit deep c f =
       shallow = λ e. subst (λ (n : ℕ). n < 128) deep (f.shallow e);
       fits =
           subst (λ (n : ℕ). IsWithin (bound_of u.stack) (n + announced_length h.size)) (sym end)
-              (within_announced h.size (bound_of u.stack) offset f.within);
+          (within_announced h.size (bound_of u.stack) offset f.within);
     }
 
 -- and the walker yields it
@@ -285,9 +287,12 @@ give_some octets piece room (inr k) used = let z : [] ≡ k.0 ∷ k.1 = sym used
 pub pushed_end : (q p : HeadReaderState) (x offset : ℕ) → p ≡ with_octet q x → q.offset + length q.octets ≡ offset
     → p.offset + length p.octets ≡ offset + 1
 pushed_end q p x offset e place =
-    omega
-        (arith, ap (λ (r : HeadReaderState). r.offset) e, ap (λ (r : HeadReaderState). length r.octets) e,
-            length-append q.octets (x ∷ []))
+    omega (
+      arith,
+      ap (λ (r : HeadReaderState). r.offset) e,
+      ap (λ (r : HeadReaderState). length r.octets) e,
+      length-append q.octets (x ∷ []),
+    )
 
 pub pushed_some : (q p : HeadReaderState) (x : ℕ) → p ≡ with_octet q x → p.octets ≢ []
 pushed_some q p x e none =

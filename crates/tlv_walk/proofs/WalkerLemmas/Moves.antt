@@ -47,7 +47,7 @@ found_both u v w d e same p q =
     q
     ∙ ap₂ (λ (f : Framing) (k : ℕ). wrappers_after f.inside k (entered_offsets e)) same p
     ∙ sym (ap (wrappers_after u.framing.inside u.wrapper_count) (enters-append d e)
-        ∙ found_in-append u.framing.inside u.wrapper_count (entered_offsets d) (entered_offsets e))
+    ∙ found_in-append u.framing.inside u.wrapper_count (entered_offsets d) (entered_offsets e))
 
 pub continues_both : (u v w : WalkerState) (s t : List ℕ) (d e : List EventValue) → Continues u v s d
     → Continues v w t e → Continues u w (s ++ t) (d ++ e)
@@ -67,12 +67,12 @@ continues_both u v w s t d e f g = record {
 pub yielded_after : (yielded : List EventValue) (ls : List Layer) (here : Forest) (old new more : List EventValue)
     → AreEqualJoined yielded (events_of_layers ls ++ (events here ++ old))
     → single_octets new ≡ single_octets (old ++ more)
-        → AreEqualJoined (yielded ++ more) (events_of_layers ls ++ (events here ++ new))
+    → AreEqualJoined (yielded ++ more) (events_of_layers ls ++ (events here ++ new))
 yielded_after yielded ls here old new more h e =
     yielded_more yielded (events_of_layers ls ++ (events here ++ old)) more
-        (events_of_layers ls ++ (events here ++ new)) h
+    (events_of_layers ls ++ (events here ++ new)) h
     (apart-more (events_of_layers ls) (events here ++ new) (events here ++ old) more
-        (apart-more (events here) new old more e))
+    (apart-more (events here) new old more e))
 
 -- its octets likewise
 pub spelled_after : (ls : List Layer) (here : Forest) (old new t b : List ℕ) → new ≡ old ++ t
@@ -80,16 +80,16 @@ pub spelled_after : (ls : List Layer) (here : Forest) (old new t b : List ℕ) �
     → spelling_of_layers ls ++ (spelling here ++ new) ≡ b ++ t
 spelled_after ls here old new t b e f =
     ap (λ (s : List ℕ). spelling_of_layers ls ++ (spelling here ++ s)) e
-        ∙ (sym (append_assoc-3 (spelling_of_layers ls) (spelling here) old t) ∙ ap (λ (s : List ℕ). s ++ t) f)
+    ∙ (sym (append_assoc-3 (spelling_of_layers ls) (spelling here) old t) ∙ ap (λ (s : List ℕ). s ++ t) f)
 
 -- the same, if the open end is whole now
 pub yielded_whole : (yielded : List EventValue) (ls : List Layer) (here new : Forest) (old more : List EventValue)
     → is_whole here ≡ true → AreEqualJoined yielded (events_of_layers ls ++ (events here ++ old))
     → single_octets (events new) ≡ single_octets (old ++ more)
-        → AreEqualJoined (yielded ++ more) (events_of_layers ls ++ (events (followed_by here new) ++ []))
+    → AreEqualJoined (yielded ++ more) (events_of_layers ls ++ (events (followed_by here new) ++ []))
 yielded_whole yielded ls here new old more whole h e =
     subst (λ (es : List EventValue). AreEqualJoined (yielded ++ more) (events_of_layers ls ++ es))
-        (sym (append-nil (events (followed_by here new)) ∙ events-followed_by here new whole))
+    (sym (append-nil (events (followed_by here new)) ∙ events-followed_by here new whole))
     (yielded_after yielded ls here old (events new) more h e)
 
 pub spelled_whole : (ls : List Layer) (here more : Forest) (old t b : List ℕ) → is_whole here ≡ true
@@ -97,8 +97,8 @@ pub spelled_whole : (ls : List Layer) (here more : Forest) (old t b : List ℕ) 
     → spelling_of_layers ls ++ (spelling (followed_by here more) ++ []) ≡ b ++ t
 spelled_whole ls here more old t b whole e f =
     ap (λ (s : List ℕ). spelling_of_layers ls ++ s)
-        (append-nil (spelling (followed_by here more)) ∙ spelling-followed_by here more whole)
-        ∙ spelled_after ls here old (spelling more) t b e f
+    (append-nil (spelling (followed_by here more)) ∙ spelling-followed_by here more whole)
+    ∙ spelled_after ls here old (spelling more) t b e f
 
 -- whole elements, and then one more
 pub are_whole : (p : Place) (here more : Forest) → AreWhole p here
@@ -152,8 +152,8 @@ contents_state : (w : WalkerState) (b : List ℕ) (yielded : List EventValue) (s
     (c t : List ℕ) (left : ℕ)
     → HasZipper w b yielded (with_tail s (PrimitiveTail h c)) → w.phase ≡ phase.InPrimitive left → length t ≤ left
     → HasZipper
-        (record w { phase = phase.InPrimitive (left - length t); offset = w.offset + length t; events = w.events + 1 })
-        (b ++ t) (yielded ++ Bytes t ∷ [])
+    (record w { phase = phase.InPrimitive (left - length t); offset = w.offset + length t; events = w.events + 1 })
+    (b ++ t) (yielded ++ Bytes t ∷ [])
     (with_tail s (PrimitiveTail h (c ++ t)))
 contents_state w b yielded s h c t left has e most =
     let k : IsContents (place_of w.framing s) h c left = phase_at w b yielded _ _ e has in
@@ -172,7 +172,7 @@ contents_state w b yielded s h c t left has e most =
       };
       same_events =
           yielded_after yielded s.layers s.here (Begin h ∷ Bytes c ∷ []) (Begin h ∷ Bytes (c ++ t) ∷ [])
-              (Bytes t ∷ []) has.same_events (bytes_more h c t);
+          (Bytes t ∷ []) has.same_events (bytes_more h c t);
       element = has.element;
     }
   where
@@ -180,19 +180,19 @@ contents_state w b yielded s h c t left has e most =
         → single_octets (Begin h ∷ Bytes (c ++ t) ∷ []) ≡ single_octets (Begin h ∷ Bytes c ∷ Bytes t ∷ [])
     bytes_more h c t =
         ap (λ (es : List EventValue). Begin h ∷ es)
-            (ap (λ (es : List EventValue). es ++ []) (map-append (λ x. Bytes (x ∷ [])) c t)
-                ∙ append_assoc (map (λ x. Bytes (x ∷ [])) c) _ [])
+        (ap (λ (es : List EventValue). es ++ []) (map-append (λ x. Bytes (x ∷ [])) c t)
+        ∙ append_assoc (map (λ x. Bytes (x ∷ [])) c) _ [])
 
 pub yields_contents : (w : WalkerState) (left : ℕ) (t : List ℕ) (n : ℕ) → w.phase ≡ phase.InPrimitive left
     → length t ≤ left → n ≡ length t
     → Continues w (record w { phase = phase.InPrimitive (left - n); offset = w.offset + n; events = w.events + 1 }) t
-        (Bytes t ∷ [])
+    (Bytes t ∷ [])
 yields_contents w left t n e most len =
     subst
-        (λ (m : ℕ). Continues w
-            (record w { phase = phase.InPrimitive (left - m); offset = w.offset + m; events = w.events + 1 }) t
-            (Bytes t ∷ []))
-        (sym len) (record {
+    (λ (m : ℕ). Continues w
+    (record w { phase = phase.InPrimitive (left - m); offset = w.offset + m; events = w.events + 1 }) t
+    (Bytes t ∷ []))
+    (sym len) (record {
       framing = refl;
       found = refl;
       goes = λ b yielded s has.
@@ -212,25 +212,30 @@ end_state w b yielded s h c has e =
     record {
       spelled =
           spelled_whole s.layers s.here (Primitive h c NoMore) (octets_of h ++ c) [] b has.here.whole
-              (ap (λ (x : List ℕ). octets_of h ++ x) (append-nil c) ∙ sym (append-nil (octets_of h ++ c)))
-              has.spelled;
+          (ap (λ (x : List ℕ). octets_of h ++ x) (append-nil c) ∙ sym (append-nil (octets_of h ++ c)))
+          has.spelled;
       offset = omega (arith, has.offset, ap length (append-nil b));
       stack = has.stack;
       layers = has.layers;
       here =
-          are_whole _ s.here (Primitive h c NoMore) has.here
-              ((record
-                  { header =
-                      k.header; shallow =
-                          λ e. absurd (cc (e)); fits = subst (λ (n : ℕ). Fits p (length (octets_of h) + n)) same k.fits
-                  },
-                  k.size ∙ ap Definite same),
-                  tt)
-              refl;
+          are_whole _ s.here (Primitive h c NoMore) has.here (
+            (
+              record {
+                header =
+                    k.header;
+                shallow =
+                    λ e. absurd (cc (e));
+                fits = subst (λ (n : ℕ). Fits p (length (octets_of h) + n)) same k.fits;
+              },
+              k.size ∙ ap Definite same,
+            ),
+            tt,
+          )
+          refl;
       phase = tt;
       same_events =
           yielded_whole yielded s.layers s.here (Primitive h c NoMore) (Begin h ∷ Bytes c ∷ []) (End ∷ [])
-              has.here.whole has.same_events refl;
+          has.here.whole has.same_events refl;
       element = has.element ∙ sym (began s.layers s.here (Primitive h c NoMore) has.here.whole refl);
     }
 
@@ -270,7 +275,7 @@ closed_here l inside = followed_by l.before (Holder l.header inside NoMore)
 -- the first of the end-of-contents octets
 zero_state : (w : WalkerState) (b : List ℕ) (yielded : List EventValue) (s : Zipper) (l : Layer) (ls : List Layer)
     → HasZipper w b yielded (record { layers = l ∷ ls; here = s.here; tail = NoTail }) → l.header.size ≡ Indefinite
-        → Fits (place_after (place_in w.framing (l ∷ ls)) (length (spelling s.here))) 1
+    → Fits (place_after (place_in w.framing (l ∷ ls)) (length (spelling s.here))) 1
     → HasZipper (record w { phase = phase.InEndOctets; offset = w.offset + 1 }) (b ++ 0 ∷ []) (yielded ++ []) (record {
       layers = l ∷ ls;
       here = s.here;
@@ -302,16 +307,16 @@ yields_zero w e i f = record {
     zero_from : (w : WalkerState) (b : List ℕ) (yielded : List EventValue) (s : Zipper) (ls : List Layer)
         → s.layers ≡ ls → HasZipper w b yielded (with_layers s ls NoTail) → IsInIndefinite w.stack
         → IsWithin (bound_of w.stack) (w.offset + 1)
-            → (t : Zipper)
-                × HasZipper (record w { phase = phase.InEndOctets; offset = w.offset + 1 }) (b ++ 0 ∷ [])
-                    (yielded ++ []) t
+        → (t : Zipper)
+        × HasZipper (record w { phase = phase.InEndOctets; offset = w.offset + 1 }) (b ++ 0 ∷ [])
+        (yielded ++ []) t
     zero_from w b yielded s [] q has i f = absurd (subst IsInIndefinite has.stack i)
     zero_from w b yielded s (l ∷ ls) q has i f =
         let inside : IsInIndefinite (frames_of w.framing (l ∷ ls)) = subst IsInIndefinite has.stack i in
         let fits : IsWithin (place_in w.framing (l ∷ ls)).bound (w.offset + 1) =
-            subst (λ (fs : List FrameValue). IsWithin (bound_of fs) (w.offset + 1)) has.stack f in
+        subst (λ (fs : List FrameValue). IsWithin (bound_of fs) (w.offset + 1)) has.stack f in
         let at : w.offset ≡ (place_of w.framing (with_layers s (l ∷ ls) NoTail)).offset + 0 =
-            walker-offset w b yielded _ has in (
+        walker-offset w b yielded _ has in (
           _,
           zero_state w b yielded s l ls has (indefinite-size l.header.size _ inside)
               (subst (λ (n : ℕ). IsWithin (place_in w.framing (l ∷ ls)).bound n) (omega (arith, at)) fits),
@@ -343,12 +348,12 @@ yields_passed w t n e =
     let none : left - left ≡ 0 = omega arith in
     let one : Continues w u t (Bytes t ∷ []) = yields_contents w left t left e (omega arith) refl in
     let two : Continues u (record u { phase = phase.Between; events = u.events + 1 }) [] (End ∷ []) =
-        yields_end u (ap phase.InPrimitive none) in
+    yields_end u (ap phase.InPrimitive none) in
     let both =
-        subst
-            (λ (o : List ℕ). Continues w (record u { phase = phase.Between; events = u.events + 1 }) o
-                (Bytes t ∷ End ∷ []))
-            (append-nil t) (continues_both w u _ t [] (Bytes t ∷ []) (End ∷ []) one two) in
+    subst
+    (λ (o : List ℕ). Continues w (record u { phase = phase.Between; events = u.events + 1 }) o
+    (Bytes t ∷ End ∷ []))
+    (append-nil t) (continues_both w u _ t [] (Bytes t ∷ []) (End ∷ []) one two) in
     record {
       framing = both.framing;
       found = both.found;

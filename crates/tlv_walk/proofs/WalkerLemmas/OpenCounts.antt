@@ -32,9 +32,11 @@ pub count-within : (w : Framing) (ls : List Layer) (f : Forest) → AreLayers w 
     → open_count (within ls f) ≡ length ls + open_count f
 count-within w [] f a = omega arith
 count-within w (l ∷ ls) f a =
-    omega
-        (arith, count-within w ls (followed_by l.before (OpenHolder l.header f)) a.0,
-            count-after l.before (OpenHolder l.header f) a.1.whole)
+    omega (
+      arith,
+      count-within w ls (followed_by l.before (OpenHolder l.header f)) a.0,
+      count-after l.before (OpenHolder l.header f) a.1.whole,
+    )
 
 -- each layer has a frame
 length-frames : (w : Framing) (ls : List Layer) → length (frames_of w ls) ≡ length ls
@@ -57,5 +59,5 @@ state-depth w b yielded s h n =
     ap (λ (stack : List FrameValue). length stack) h.stack
     ∙ length-stack w.framing s.layers (place_of w.framing s) s.tail
     ∙ sym (ap open_count (state-within w b yielded s h n)
-        ∙ count-within w.framing s.layers (followed_by s.here (forest_of s.tail)) h.layers
+    ∙ count-within w.framing s.layers (followed_by s.here (forest_of s.tail)) h.layers
     ∙ ap (λ (k : ℕ). length s.layers + k) (count-after s.here (forest_of s.tail) h.here.whole))

@@ -23,7 +23,7 @@ spelling-padding_octets : (t : List ℕ) → All (λ x. x ≡ 0) t → spelling 
 spelling-padding_octets [] z = refl
 spelling-padding_octets (x ∷ t) z =
     ap (λ (s : List ℕ). 0 ∷ s) (spelling-padding_octets t (All-tail (λ x. x ≡ 0) x t z))
-        ∙ ap (λ (y : ℕ). y ∷ t) (sym (All-head (λ x. x ≡ 0) x t z))
+    ∙ ap (λ (y : ℕ). y ∷ t) (sym (All-head (λ x. x ≡ 0) x t z))
 
 events-padding_octets : (t : List ℕ) → All (λ x. x ≡ 0) t
     → single_octets (events (padding_octets t)) ≡ map (λ x. Pad (x ∷ [])) t
@@ -53,7 +53,7 @@ pad_state : (w : WalkerState) (b : List ℕ) (yielded : List EventValue) (s : Zi
     → HasZipper w b yielded (with_layers s [] NoTail) → w.phase ≡ phase.Between → w.framing.padding ≡ true
     → All (λ x. x ≡ 0) t
     → HasZipper (record w { offset = w.offset + length t; events = w.events + 1 }) (b ++ t) (yielded ++ Pad t ∷ [])
-        (record {
+    (record {
       layers = [];
       here = followed_by s.here (padding_octets t);
       tail = NoTail;
@@ -66,29 +66,29 @@ pad_state w b yielded s t has e padding zeros = record {
   layers = tt;
   here =
       are_whole (place_in w.framing []) s.here (padding_octets t) has.here (open-padding_octets _ t padding refl refl)
-          (whole-padding_octets t);
+      (whole-padding_octets t);
   phase =
       subst
-          (λ (f : PhaseValue). IsPhaseOf f NoTail
-              (place_of w.framing
-                  (record { layers = []; here = followed_by s.here (padding_octets t); tail = NoTail })))
-          (sym e) tt;
+      (λ (f : PhaseValue). IsPhaseOf f NoTail
+      (place_of w.framing
+      (record { layers = []; here = followed_by s.here (padding_octets t); tail = NoTail })))
+      (sym e) tt;
   same_events =
       yielded_whole yielded [] s.here (padding_octets t) [] (Pad t ∷ []) has.here.whole has.same_events
-          (events-padding_octets t zeros ∙ sym (append-nil (map (λ x. Pad (x ∷ [])) t)));
+      (events-padding_octets t zeros ∙ sym (append-nil (map (λ x. Pad (x ∷ [])) t)));
   element =
       has.element
-          ∙ sym (element-either s.here (padding_octets t) has.here.whole
-              ∙ (ap (λ (k : Bool). has_element s.here || k) (element-padding_octets t)
-                  ∙ or-false (has_element s.here)));
+      ∙ sym (element-either s.here (padding_octets t) has.here.whole
+      ∙ (ap (λ (k : Bool). has_element s.here || k) (element-padding_octets t)
+      ∙ or-false (has_element s.here)));
 }
 
 pad_from : (w : WalkerState) (b : List ℕ) (yielded : List EventValue) (s : Zipper) (t : List ℕ) (ls : List Layer)
     → HasZipper w b yielded (with_layers s ls NoTail) → w.phase ≡ phase.Between → w.stack ≡ []
     → w.framing.padding ≡ true → All (λ x. x ≡ 0) t
     → (u : Zipper)
-        × HasZipper (record w { offset = w.offset + length t; events = w.events + 1 }) (b ++ t)
-            (yielded ++ Pad t ∷ []) u
+    × HasZipper (record w { offset = w.offset + length t; events = w.events + 1 }) (b ++ t)
+    (yielded ++ Pad t ∷ []) u
 pad_from w b yielded s t [] has e none padding zeros = (_, pad_state w b yielded s t has e padding zeros)
 pad_from w b yielded s t (l ∷ ls) has e none padding zeros = absurd (cc (has.stack))
 
@@ -97,7 +97,7 @@ pub yields_pad : (w : WalkerState) (t : List ℕ) (n : ℕ) → w.phase ≡ phas
     → Continues w (record w { offset = w.offset + n; events = w.events + 1 }) t (Pad t ∷ [])
 yields_pad w t n e none padding zeros len =
     subst (λ (m : ℕ). Continues w (record w { offset = w.offset + m; events = w.events + 1 }) t (Pad t ∷ []))
-        (sym len) (record {
+    (sym len) (record {
       framing = refl;
       found = refl;
       goes = λ b yielded s has.

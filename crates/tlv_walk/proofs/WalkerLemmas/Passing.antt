@@ -35,7 +35,7 @@ passed_length : (w : WalkerState) (piece : List ℕ) (p : WholePrimitive) → Ca
     → length (contents_at p piece) ≡ announced_length p.fields.size
 passed_length w piece p can =
     length-take-le (announced_length p.fields.size) (drop p.header piece)
-        (omega (arith, can.octets, can.within, length-drop p.header piece))
+    (omega (arith, can.octets, can.within, length-drop p.header piece))
 
 contents_after : (f : HeaderFields) (o c : List ℕ) → contents_in (new_header f o) (o ++ c) ≡ c
 contents_after f o c =
@@ -45,7 +45,7 @@ contents_whole : (w : WalkerState) (piece : List ℕ) (p : WholePrimitive) → C
     → contents_in (header_at p piece) (take p.octets piece) ≡ contents_at p piece
 contents_whole w piece p can =
     ap (contents_in (header_at p piece)) (whole_octets w piece p can)
-        ∙ contents_after p.fields (take p.header piece) (contents_at p piece)
+    ∙ contents_after p.fields (take p.header piece) (contents_at p piece)
 
 -- all of its octets are there
 pub is_whole_element : (w : WalkerState) (piece : List ℕ) (p : WholePrimitive) → CanPass w piece p
@@ -53,7 +53,7 @@ pub is_whole_element : (w : WalkerState) (piece : List ℕ) (p : WholePrimitive)
 is_whole_element w piece p can = record {
   header =
       ap₂ (λ (l r : List ℕ). l ++ r) (take-append-drop p.fields.id_len (take p.header piece))
-          (contents_whole w piece p can)
+      (contents_whole w piece p can)
       ∙ sym (whole_octets w piece p can);
   contents = sym (ap length (contents_whole w piece p can) ∙ passed_length w piece p can);
 }
@@ -65,18 +65,18 @@ passed w p n = record w { offset = w.offset + p.octets; events = n; has_element 
 -- its header begins a primitive
 yields_header : (w : WalkerState) (piece : List ℕ) (p : WholePrimitive) → CanPass w piece p
     → Continues w
-        (after_header w (phase.InPrimitive (announced_length p.fields.size))
-            (p.fields.offset + length (take p.header piece)))
-        (take p.header piece) (Begin (header_at p piece) ∷ [])
+    (after_header w (phase.InPrimitive (announced_length p.fields.size))
+    (p.fields.offset + length (take p.header piece)))
+    (take p.header piece) (Begin (header_at p piece) ∷ [])
 yields_header w piece p can =
     let f : HeaderFields = p.fields in
     let o : List ℕ = take p.header piece in
     let form : (f.constructed || is_wrapper f.named f.class f.constructed f.number f.size) ≡ false =
     ap₂ (λ (c n : Bool). c || is_wrapper n f.class c f.number f.size) can.primitive can.begins.begins.named in
     let end : w.offset + p.octets ≡ f.offset + length o + announced_length f.size =
-        omega (arith, can.begins.begins.offset, can.octets, length-take-le p.header piece can.begins.within) in
+    omega (arith, can.begins.begins.offset, can.octets, length-take-le p.header piece can.begins.within) in
     fast_enters w _ piece false f p.header o kind.Primitive can.phase can.begins refl (sym can.unnamed)
-        (λ e. absurd (true≢false (sym e ∙ form)))
+    (λ e. absurd (true≢false (sym e ∙ form)))
     (subst (IsWithin (bound_of w.stack)) end can.fits) (form, refl)
 
 pub yields_primitive : (w : WalkerState) (piece : List ℕ) (p : WholePrimitive) (n : ℕ) → CanPass w piece p
@@ -90,24 +90,24 @@ yields_primitive w piece p n can =
     let u : WalkerState = after_header w (phase.InPrimitive (announced_length f.size)) offset in
     let v : PhaseValue → ℕ → WalkerState = λ q k. record w { phase = q; offset = k; events = n; has_element = true } in
     let end : offset + length c ≡ w.offset + p.octets =
-        omega (arith, can.begins.begins.offset, can.octets, length-take-le p.header piece can.begins.within, size) in
+    omega (arith, can.begins.begins.offset, can.octets, length-take-le p.header piece can.begins.within, size) in
     let both : Continues w (v phase.Between (offset + length c)) (o ++ c)
-        (Begin (header_at p piece) ∷ Bytes c ∷ End ∷ []) =
+    (Begin (header_at p piece) ∷ Bytes c ∷ End ∷ []) =
     continues_both w u _ o c (Begin (header_at p piece) ∷ []) (Bytes c ∷ End ∷ []) (yields_header w piece p can)
-        (yields_passed u c n (ap phase.InPrimitive (sym size))) in
+    (yields_passed u c n (ap phase.InPrimitive (sym size))) in
     subst
-        (λ (q : PhaseValue). Continues w (v q (w.offset + p.octets)) (take p.octets piece)
-            (whole_events (header_at p piece) (take p.octets piece)))
-        (sym can.phase)
+    (λ (q : PhaseValue). Continues w (v q (w.offset + p.octets)) (take p.octets piece)
+    (whole_events (header_at p piece) (take p.octets piece)))
+    (sym can.phase)
     (subst
-        (λ (k : ℕ). Continues w (v phase.Between k) (take p.octets piece)
-            (whole_events (header_at p piece) (take p.octets piece)))
-        end
+    (λ (k : ℕ). Continues w (v phase.Between k) (take p.octets piece)
+    (whole_events (header_at p piece) (take p.octets piece)))
+    end
     (subst
-        (λ (l : List ℕ). Continues w (v phase.Between (offset + length c)) (take p.octets piece)
-            (Begin (header_at p piece) ∷ Bytes l ∷ End ∷ []))
-        (sym (contents_whole w piece p can))
+    (λ (l : List ℕ). Continues w (v phase.Between (offset + length c)) (take p.octets piece)
+    (Begin (header_at p piece) ∷ Bytes l ∷ End ∷ []))
+    (sym (contents_whole w piece p can))
     (subst
-        (λ (l : List ℕ). Continues w (v phase.Between (offset + length c)) l
-            (Begin (header_at p piece) ∷ Bytes c ∷ End ∷ []))
-        (sym (whole_octets w piece p can)) both)))
+    (λ (l : List ℕ). Continues w (v phase.Between (offset + length c)) l
+    (Begin (header_at p piece) ∷ Bytes c ∷ End ∷ []))
+    (sym (whole_octets w piece p can)) both)))

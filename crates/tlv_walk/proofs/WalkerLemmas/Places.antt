@@ -15,9 +15,12 @@ use Rattle.tlv_walk.specs.Private.Zipper.{spelling_of_tail}
 pub place-offset : (w : Framing) (ls : List Layer) → (place_in w ls).offset ≡ length (spelling_of_layers ls)
 place-offset w [] = refl
 place-offset w (l ∷ ls) =
-    omega
-        (arith, place-offset w ls, length-append (spelling_of_layers ls) (spelling l.before ++ opening l.header),
-            length-append (spelling l.before) (opening l.header))
+    omega (
+      arith,
+      place-offset w ls,
+      length-append (spelling_of_layers ls) (spelling l.before ++ opening l.header),
+      length-append (spelling l.before) (opening l.header),
+    )
 
 -- with the bound of the innermost frame
 pub place-bound : (w : Framing) (ls : List Layer) → (place_in w ls).bound ≡ bound_of (frames_of w ls)
@@ -38,10 +41,14 @@ place-depth w (l ∷ ls) = omega (arith, place-depth w ls)
 pub walker-offset : (w : WalkerState) (b : List ℕ) (yielded : List EventValue) (s : Zipper) → HasZipper w b yielded s
     → w.offset ≡ (place_of w.framing s).offset + length (spelling_of_tail s.tail)
 walker-offset w b yielded s has =
-    omega
-        (arith, has.offset, ap length has.spelled, place-offset w.framing s.layers,
-            length-append (spelling_of_layers s.layers) (spelling s.here ++ spelling_of_tail s.tail),
-            length-append (spelling s.here) (spelling_of_tail s.tail))
+    omega (
+      arith,
+      has.offset,
+      ap length has.spelled,
+      place-offset w.framing s.layers,
+      length-append (spelling_of_layers s.layers) (spelling s.here ++ spelling_of_tail s.tail),
+      length-append (spelling s.here) (spelling_of_tail s.tail),
+    )
 
 pub indefinite-size : (s : Size) (start : ℕ) → bound_in s start None ≡ None → s ≡ Indefinite
 indefinite-size (Definite n) start e = absurd (cc)

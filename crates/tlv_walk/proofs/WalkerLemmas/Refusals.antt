@@ -53,7 +53,7 @@ refuses_front w piece f h r = subst (λ (o : List ℕ). RefusesOctet w o o f) (s
 -- an octet that has a fault in each state of a walker is refused
 pub refuses_here : (w : WalkerState) (x : ℕ) (rest : List ℕ) (code : FaultCode) → (EventWaits w → ⊥)
     → ((b : List ℕ) (yielded : List EventValue) (s : Zipper) → HasZipper w b yielded s
-        → (t : Zipper) × HasZipper w b yielded t × IsFault (place_of w.framing t) x (forest_of t.tail) code)
+    → (t : Zipper) × HasZipper w b yielded t × IsFault (place_of w.framing t) x (forest_of t.tail) code)
     → RefusesOctet w (x ∷ rest) (x ∷ rest) (fault_at code w.offset)
 refuses_here w x rest code idle faulty = record {
   taken = [];
@@ -70,9 +70,9 @@ refuses_here w x rest code idle faulty = record {
         offset = refl;
         ends =
             λ c. subst (λ (o : List ℕ). IsEnding w.framing (o ++ x ∷ c) (ending.Fault (fault_at code w.offset)))
-                (sym (append-nil b))
+            (sym (append-nil b))
             (subst (λ (n : ℕ). IsEnding w.framing (b ++ x ∷ c) (fault_ending code n)) (sym f.1.offset)
-                (state-fault w b yielded f.0 x c code f.1 idle f.2));
+            (state-fault w b yielded f.0 x c code f.1 idle f.2));
         framing = refl;
         stack = refl;
       };
@@ -93,7 +93,7 @@ refuses_missing w x rest e unfilled inside within room =
     let has' : HasZipper w b yielded (with_tail s NoTail) = tail_state w b yielded s _ t has in
     let place : w.offset ≡ (place_of w.framing (with_tail s NoTail)).offset + 0 = walker-offset w b yielded _ has' in
     let none : room_to (place_of w.framing (with_tail s NoTail)).bound w.offset ≡ Some 0 =
-        subst (λ (o : Option ℕ). room_to o w.offset ≡ Some 0) (bound_there w b yielded _ has' has'.stack) room in (
+    subst (λ (o : Option ℕ). room_to o w.offset ≡ Some 0) (bound_there w b yielded _ has' has'.stack) room in (
       with_tail s NoTail,
       has',
       no_end ((place-indefinite w.framing s.layers).1 (subst IsInIndefinite has'.stack inside))
@@ -124,7 +124,7 @@ refuses_stray w rest e unfilled outside padding =
       has',
       stray_end
           (not_indefinite
-              _ (λ i. outside (subst IsInIndefinite (sym has'.stack) ((place-indefinite w.framing s.layers).0 i))))
+          _ (λ i. outside (subst IsInIndefinite (sym has'.stack) ((place-indefinite w.framing s.layers).0 i))))
           (not_padding w s.layers has'.stack padding) refl,
     ))
 
@@ -133,7 +133,7 @@ pub refuses_stray_front : (w : WalkerState) (piece : List ℕ) → 1 ≤ length 
     → (w.framing.padding ≡ true → w.stack ≡ [] → ⊥) → RefusesOctet w piece piece (fault_at StrayEnd w.offset)
 refuses_stray_front w piece some zero e unfilled outside padding =
     refuses_front w piece _ some
-        (subst (λ (x : ℕ). RefusesOctet w (x ∷ drop 1 piece) (x ∷ drop 1 piece) (fault_at StrayEnd w.offset)) (sym zero)
+    (subst (λ (x : ℕ). RefusesOctet w (x ∷ drop 1 piece) (x ∷ drop 1 piece) (fault_at StrayEnd w.offset)) (sym zero)
     (refuses_stray w (drop 1 piece) e unfilled outside padding))
 
 -- the second of the end-of-contents octets
@@ -145,9 +145,9 @@ refuses_second_missing w x rest e within room =
     let t = lone_tail s.tail _ (phase_at w b yielded s _ e has) in
     let has' : HasZipper w b yielded (with_tail s EndOctetsTail) = tail_state w b yielded s _ t has in
     let place : w.offset ≡ (place_of w.framing (with_tail s EndOctetsTail)).offset + 1 =
-        walker-offset w b yielded _ has' in
+    walker-offset w b yielded _ has' in
     let none : room_to (place_of w.framing (with_tail s EndOctetsTail)).bound w.offset ≡ Some 0 =
-        subst (λ (o : Option ℕ). room_to o w.offset ≡ Some 0) (bound_there w b yielded _ has' has'.stack) room in
+    subst (λ (o : Option ℕ). room_to o w.offset ≡ Some 0) (bound_there w b yielded _ has' has'.stack) room in
     (with_tail s EndOctetsTail, has', missing_end (left_none _ w.offset _ none (omega (arith, place)))))
 
 pub refuses_second : (w : WalkerState) (x : ℕ) (rest : List ℕ) → w.phase ≡ phase.InEndOctets
@@ -158,15 +158,15 @@ refuses_second w x rest e room nonzero =
     let t = lone_tail s.tail _ (phase_at w b yielded s _ e has) in
     let has' : HasZipper w b yielded (with_tail s EndOctetsTail) = tail_state w b yielded s _ t has in
     let place : w.offset ≡ (place_of w.framing (with_tail s EndOctetsTail)).offset + 1 =
-        walker-offset w b yielded _ has' in (
+    walker-offset w b yielded _ has' in (
       with_tail s EndOctetsTail,
       has',
       bad_end
           (left_some _ w.offset
-              _ (λ none. room
-                  (subst (λ (o : Option ℕ). room_to o w.offset ≡ Some 0)
-                      (sym (bound_there w b yielded _ has' has'.stack)) none))
-              (omega (arith, place)))
+          _ (λ none. room
+          (subst (λ (o : Option ℕ). room_to o w.offset ≡ Some 0)
+          (sym (bound_there w b yielded _ has' has'.stack)) none))
+          (omega (arith, place)))
           nonzero,
     ))
 

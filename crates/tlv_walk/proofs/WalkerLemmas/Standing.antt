@@ -45,7 +45,7 @@ found_on old new yielded more same p q =
     q
     ∙ ap (λ (k : ℕ). wrappers_after old.framing.inside k (entered_offsets more)) p
     ∙ sym (ap (wrappers_after old.framing.inside 0) (enters-append yielded more)
-        ∙ found_in-append old.framing.inside 0 (entered_offsets yielded) (entered_offsets more))
+    ∙ found_in-append old.framing.inside 0 (entered_offsets yielded) (entered_offsets more))
     ∙ ap (λ (f : Framing). wrappers_after f.inside 0 (entered_offsets (yielded ++ more))) (sym same)
 
 pub stands_all : (old new : WalkerState) (piece rest : List ℕ) (es : List EventValue)
@@ -56,8 +56,8 @@ stands_all old new piece rest es t = let k = t.continues in record {
   framing = k.framing;
   stands = λ b yielded st. let u = k.goes b yielded st.private_state.state st.private_state.has_state in
       stands new (b ++ t.taken) (yielded ++ es) u.0 u.1
-          (subst (λ (f : Framing). can_name f.inside ≡ true) (sym k.framing) st.private_state.named)
-          (found_on old new yielded es k.framing st.private_state.found k.found);
+      (subst (λ (f : Framing). can_name f.inside ≡ true) (sym k.framing) st.private_state.named)
+      (found_on old new yielded es k.framing st.private_state.found k.found);
 }
 
 -- the reading after which the octet is refused
@@ -67,28 +67,28 @@ abbrev refused_reading : (old : WalkerState) (g : Framing) (piece rest : List �
 refused_reading old g piece rest f same r b yielded st =
     let u = r.refuses b yielded st.private_state.state st.private_state.has_state in
     let all : AreEqualJoined (yielded ++ waiting_events u.walker) (events (reading_of u.state)) =
-        state-events u.walker (b ++ r.taken) yielded u.state u.has_state in
+    state-events u.walker (b ++ r.taken) yielded u.state u.has_state in
     let spells : Spells (top_place u.walker.framing) (b ++ r.taken) (reading_of u.state) =
-        state-spells u.walker (b ++ r.taken) yielded u.state u.has_state in
+    state-spells u.walker (b ++ r.taken) yielded u.state u.has_state in
     let there : f.offset ≡ length (b ++ r.taken) = u.offset ∙ u.has_state.offset in
     let is_open : IsOpen (top_place old.framing) (reading_of u.state) =
-        subst (λ (w : Framing). IsOpen (top_place w) (reading_of u.state)) u.framing spells.is_open in
+    subst (λ (w : Framing). IsOpen (top_place w) (reading_of u.state)) u.framing spells.is_open in
     record {
       reading = reading_of u.state;
       spelled = spells.spelled;
       offset = there;
       all_events =
           subst (λ (es : List EventValue). AreEqualJoined es (events (reading_of u.state)))
-              (ap (λ (es : List EventValue). yielded ++ es) u.idle ∙ append-nil yielded) all;
+          (ap (λ (es : List EventValue). yielded ++ es) u.idle ∙ append-nil yielded) all;
       stays = λ c. subst (λ (w : Framing). IsReading w ((b ++ r.taken) ++ r.octet ∷ c) (reading_of u.state)) (sym same)
           (refused-reading old.framing (b ++ r.taken) r.octet c f (reading_of u.state)
-              (record { is_open = is_open; spelled = spells.spelled }) there (u.ends c));
+          (record { is_open = is_open; spelled = spells.spelled }) there (u.ends c));
       ends =
           λ c. subst (λ (w : Framing). IsEnding w ((b ++ r.taken) ++ r.octet ∷ c) (ending.Fault f)) (sym same)
-              (u.ends c);
+          (u.ends c);
       never_sound = subst (λ (w : Framing). CannotBecomeSound w ((b ++ r.taken) ++ r.octet ∷ [])) (sym same)
           (never-sound old.framing ((b ++ r.taken) ++ r.octet ∷ []) (ending.Fault f) (u.ends [])
-              (refused-final old.framing (b ++ r.taken) r.octet [] f there (u.ends [])));
+          (refused-final old.framing (b ++ r.taken) r.octet [] f there (u.ends [])));
     }
 
 -- the walker after the octet that it refused
@@ -99,27 +99,33 @@ refused_walker old new piece rest f k r b yielded st =
     let u = r.refuses b yielded st.private_state.state st.private_state.has_state in
     let framing : new.framing ≡ old.framing = k.framing in
     let named : can_name new.framing.inside ≡ true =
-        subst (λ (g : Framing). can_name g.inside ≡ true) (sym framing) st.private_state.named in
+    subst (λ (g : Framing). can_name g.inside ≡ true) (sym framing) st.private_state.named in
     let there : IsRefusedAfter new.framing (b ++ r.taken) r.octet yielded f =
-        refused_reading old new.framing piece rest f framing r b yielded st in
+    refused_reading old new.framing piece rest f framing r b yielded st in
     let found : new.wrapper_count ≡ wrappers_after new.framing.inside 0 (entered_offsets yielded) =
-        k.wrapper_count ∙ st.private_state.found
-            ∙ ap (λ (g : Framing). wrappers_after g.inside 0 (entered_offsets yielded)) (sym framing) in
+    k.wrapper_count ∙ st.private_state.found
+    ∙ ap (λ (g : Framing). wrappers_after g.inside 0 (entered_offsets yielded)) (sym framing) in
     record {
       refused = there;
       phase = k.phase;
       offset =
-          omega
-              (arith, k.taken, st.private_state.has_state.offset, ap length r.piece_is, ap length r.rest_is,
-                  length-append r.taken (r.octet ∷ r.others), length-append b r.taken);
+          omega (
+            arith,
+            k.taken,
+            st.private_state.has_state.offset,
+            ap length r.piece_is,
+            ap length r.rest_is,
+            length-append r.taken (r.octet ∷ r.others),
+            length-append b r.taken,
+          );
       depth =
           ap (λ (fs : List FrameValue). length fs) (k.stack ∙ sym u.stack)
-              ∙ state-depth u.walker (b ++ r.taken) yielded u.state u.has_state (idle u.walker u.idle);
+          ∙ state-depth u.walker (b ++ r.taken) yielded u.state u.has_state (idle u.walker u.idle);
       unused =
           ap (slice_get new.framing.inside) found
-              ∙ yielded_unused new.framing yielded [] there.reading named (there.stays []).is_open refl
+          ∙ yielded_unused new.framing yielded [] there.reading named (there.stays []).is_open refl
           (subst (λ (es : List EventValue). AreEqualJoined es (events there.reading)) (sym (append-nil yielded))
-              there.all_events);
+          there.all_events);
     }
 
 -- ---- what a step comes to
@@ -161,8 +167,8 @@ uses_up old new piece rest n k t =
           let u = t.goes b yielded st.private_state.state st.private_state.has_state in
           subst (λ (es : List EventValue). Stands new (b ++ piece) es) (append-nil yielded)
           (stands new (b ++ piece) (yielded ++ []) u.0 u.1
-              (subst (λ (f : Framing). can_name f.inside ≡ true) (sym t.framing) st.private_state.named)
-              (found_on old new yielded [] t.framing st.private_state.found t.found));
+          (subst (λ (f : Framing). can_name f.inside ≡ true) (sym t.framing) st.private_state.named)
+          (found_on old new yielded [] t.framing st.private_state.found t.found));
       ready = k.ready;
     }
 
@@ -212,7 +218,7 @@ steps_now old new piece rest (step.Fault f) n k t = fault_now old new piece rest
 steps_by : (old new : WalkerState) (piece rest : List ℕ) (s : Step) → CountsStep old new piece rest s
     → YieldsStep old new piece rest s
     → ((f : Fault) → old.phase ≡ Refused f → (s ≡ step.Fault f) × RefusesAgain old new piece rest f)
-        → ((f : Fault) × (old.phase ≡ Refused f)) ⊎ HasNotRefused old
+    → ((f : Fault) × (old.phase ≡ Refused f)) ⊎ HasNotRefused old
     → StepsTo old new piece rest s
 steps_by old new piece rest s k t again (inl x) =
     let a = again x.0 x.1 in subst (λ (r : Step). StepsTo old new piece rest r) (sym a.0) (inr a.1)
@@ -221,7 +227,7 @@ steps_by old new piece rest s k t again (inr n) = steps_now old new piece rest s
 pub steps_to : (old new : WalkerState) (piece rest : List ℕ) (s : Step) → CountsStep old new piece rest s
     → YieldsStep old new piece rest s
     → ((f : Fault) → old.phase ≡ Refused f → (s ≡ step.Fault f) × RefusesAgain old new piece rest f)
-        → StepsTo old new piece rest s
+    → StepsTo old new piece rest s
 steps_to old new piece rest s k t again = steps_by old new piece rest s k t again (refused_before old.phase)
 
 -- ---- what is known of a step that yielded an event

@@ -53,7 +53,7 @@ loud_in : (f : PhaseValue) (stack : List FrameValue) (offset : ℕ) → EventWai
 loud_in phase.Between [] offset i n = i
 loud_in phase.Between (f ∷ fs) offset i n =
     no_more (filled_end f) (filled_ends offset fs) (is_end_at f.end offset)
-        (ap (λ (e : Option ℕ). is_end_at e offset) i ∙ eq-eqb offset offset refl) n
+    (ap (λ (e : Option ℕ). is_end_at e offset) i ∙ eq-eqb offset offset refl) n
 loud_in (phase.InHeader r) stack offset i n = i
 loud_in (phase.InPrimitive left) stack offset i n =
     no_more End (filled_ends offset stack) (eqb left 0) (eq-eqb left 0 i) n

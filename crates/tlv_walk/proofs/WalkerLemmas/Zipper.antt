@@ -80,7 +80,7 @@ spelling-followed_by NoMore g e = refl
 spelling-followed_by (PaddingOctet rest) g e = ap (λ (t : List ℕ). 0 ∷ t) (spelling-followed_by rest g e)
 spelling-followed_by (Primitive h c rest) g e =
     ap (λ (t : List ℕ). octets_of h ++ (c ++ t)) (spelling-followed_by rest g e)
-        ∙ sym (append_assoc-3 (octets_of h) c (spelling rest) (spelling g))
+    ∙ sym (append_assoc-3 (octets_of h) c (spelling rest) (spelling g))
 spelling-followed_by (Holder h inside rest) g e =
     ap (λ (t : List ℕ). opening h ++ (spelling inside ++ (end_octets h.size ++ t))) (spelling-followed_by rest g e)
     ∙ sym (append_assoc-4 (opening h) (spelling inside) (end_octets h.size) (spelling rest) (spelling g))
@@ -106,10 +106,11 @@ whole-followed_by OpenEndOctets g e = absurd (true≢false (sym e))
 pub open-followed_by : (p : Place) (f g : Forest) → AreWhole p f → IsOpen (place_after p (length (spelling f))) g
     → IsOpen p (followed_by f g)
 open-followed_by p NoMore g a w = subst (λ (q : Place). IsOpen q g) (after-none p) w
-open-followed_by p (PaddingOctet rest) g a w =
-    (a.is_open.0,
-        open-followed_by (place_after p 1) rest g (record { is_open = a.is_open.1; whole = a.whole })
-            (open-after p 1 (length (spelling rest)) _ g (omega arith) w))
+open-followed_by p (PaddingOctet rest) g a w = (
+  a.is_open.0,
+  open-followed_by (place_after p 1) rest g (record { is_open = a.is_open.1; whole = a.whole })
+      (open-after p 1 (length (spelling rest)) _ g (omega arith) w),
+)
 open-followed_by p (Primitive h c rest) g a w = (
   a.is_open.0,
   open-followed_by (place_after p (length (octets_of h) + length c)) rest g (record {
@@ -143,10 +144,10 @@ tip-followed_by p (PaddingOctet rest) g e =
     tip-followed_by (place_after p 1) rest g e ∙ tip-after p 1 (length (spelling rest)) _ g (omega arith)
 tip-followed_by p (Primitive h c rest) g e =
     tip-followed_by (place_after p (length (octets_of h) + length c)) rest g e
-        ∙ tip-after p (length (octets_of h) + length c) (length (spelling rest)) _ g (sym (length-primitive h c rest))
+    ∙ tip-after p (length (octets_of h) + length c) (length (spelling rest)) _ g (sym (length-primitive h c rest))
 tip-followed_by p (Holder h inside rest) g e =
     tip-followed_by (place_after p (extent h inside)) rest g e
-        ∙ tip-after p (extent h inside) (length (spelling rest)) _ g (sym (length-holder h inside rest))
+    ∙ tip-after p (extent h inside) (length (spelling rest)) _ g (sym (length-holder h inside rest))
 tip-followed_by p (OpenPrimitive h c) g e = absurd (true≢false (sym e))
 tip-followed_by p (OpenHolder h inside) g e = absurd (true≢false (sym e))
 tip-followed_by p (OpenBitString h) g e = absurd (true≢false (sym e))
@@ -187,8 +188,8 @@ spelling-within w [] f a = refl
 spelling-within w (l ∷ ls) f a =
     spelling-within w ls (followed_by l.before (OpenHolder l.header f)) a.0
     ∙ ap (λ (t : List ℕ). spelling_of_layers ls ++ t)
-        (spelling-followed_by l.before (OpenHolder l.header f) a.1.whole
-            ∙ sym (append_assoc (spelling l.before) (opening l.header) (spelling f)))
+    (spelling-followed_by l.before (OpenHolder l.header f) a.1.whole
+    ∙ sym (append_assoc (spelling l.before) (opening l.header) (spelling f)))
     ∙ sym (append_assoc (spelling_of_layers ls) (spelling l.before ++ opening l.header) (spelling f))
 
 -- if they are whole, contents octets of the innermost open element are lacking
@@ -216,7 +217,7 @@ pub tip-within : (w : Framing) (ls : List Layer) (f : Forest) → AreLayers w ls
 tip-within w [] f a = refl
 tip-within w (l ∷ ls) f a =
     tip-within w ls (followed_by l.before (OpenHolder l.header f)) a.0
-        ∙ tip-followed_by (place_in w ls) l.before (OpenHolder l.header f) a.1.whole
+    ∙ tip-followed_by (place_in w ls) l.before (OpenHolder l.header f) a.1.whole
 
 -- inside a layer something is open
 pub whole-within : (w : Framing) (ls : List Layer) (f : Forest) → AreLayers w ls → (ls ≡ [] → is_whole f ≡ false)
@@ -224,4 +225,4 @@ pub whole-within : (w : Framing) (ls : List Layer) (f : Forest) → AreLayers w 
 whole-within w [] f a e = e refl
 whole-within w (l ∷ ls) f a e =
     whole-within w ls (followed_by l.before (OpenHolder l.header f)) a.0
-        (λ _. whole-followed_by l.before (OpenHolder l.header f) a.1.whole)
+    (λ _. whole-followed_by l.before (OpenHolder l.header f) a.1.whole)

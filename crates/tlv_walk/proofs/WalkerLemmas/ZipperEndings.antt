@@ -41,13 +41,13 @@ filled-at : (w : Framing) (ls : List Layer) (here : Forest) (offset : ℕ) → o
     → EventWaitsIn phase.Between (frames_of w ls) (end_in w ls here) → ⊥
 filled-at w ls here offset e n f =
     let there : end_in w ls here ≡ offset =
-        omega arith in n (subst (λ (k : ℕ). EventWaitsIn phase.Between (frames_of w ls) k) there f)
+    omega arith in n (subst (λ (k : ℕ). EventWaitsIn phase.Between (frames_of w ls) k) there f)
 
 -- if nothing is waiting, no element has ended
 reading-within : (w : Framing) (ls : List Layer) (here : Forest) (f : PhaseValue) (t : Tail) (offset : ℕ)
     → IsPhaseOf f t (later_place w ls here)
     → offset ≡ (later_place w ls here).offset + length (spelling_of_tail t)
-        → (EventWaitsIn f (stack_of w ls (later_place w ls here) t) offset → ⊥)
+    → (EventWaitsIn f (stack_of w ls (later_place w ls here) t) offset → ⊥)
     → reading_in ls here t ≡ within ls (followed_by here (forest_of t))
 reading-within w ls here phase.Between NoTail offset j e n =
     settled-within w ls here (filled-at w ls here offset e n) ∙ ap (within ls) (sym (followed_by-none here))
@@ -90,12 +90,12 @@ pub state-fault : (w : WalkerState) (b : List ℕ) (yielded : List EventValue) (
     (code : FaultCode)
     → HasZipper w b yielded s → (EventWaits w → ⊥)
     → IsFault (place_of w.framing s) x (forest_of s.tail) code
-        → IsEnding w.framing (b ++ x ∷ rest) (fault_ending code (length b))
+    → IsEnding w.framing (b ++ x ∷ rest) (fault_ending code (length b))
 state-fault w b yielded s x rest code h n k =
     let r : Spells (top_place w.framing) b (reading_of s) = state-spells w b yielded s h in
     let there : IsFault (tip (top_place w.framing) (reading_of s)).0 x (tip (top_place w.framing) (reading_of s)).1
-        code =
-        subst (λ (t : Place × Forest). IsFault t.0 x t.1 code) (sym (state-tip w b yielded s h n)) k in
+    code =
+    subst (λ (t : Place × Forest). IsFault t.0 x t.1 code) (sym (state-tip w b yielded s h n)) k in
     let halt : IsHalt w.framing (reading_of s) code (b ++ x ∷ rest) =
     record {
       is_open = r.is_open;
@@ -105,7 +105,7 @@ state-fault w b yielded s x rest code h n k =
       refused = fault-refused w.framing (reading_of s) x code r.is_open there;
     } in
     subst (λ (o : List ℕ). IsEnding w.framing (b ++ x ∷ rest) (fault_ending code (length o))) r.spelled
-        (halt-ending w.framing (reading_of s) code (b ++ x ∷ rest) halt there)
+    (halt-ending w.framing (reading_of s) code (b ++ x ∷ rest) halt there)
 
 -- ---- the end of the input
 
@@ -136,7 +136,7 @@ state-outermost : (w : WalkerState) (b : List ℕ) (yielded : List EventValue) (
     → w.phase ≡ phase.Between → w.stack ≡ [] → IsOutermost w b s
 state-outermost w b yielded s h e none =
     let j : IsPhaseOf phase.Between s.tail (place_of w.framing s) =
-        subst (λ (f : PhaseValue). IsPhaseOf f s.tail (place_of w.framing s)) e h.phase in
+    subst (λ (f : PhaseValue). IsPhaseOf f s.tail (place_of w.framing s)) e h.phase in
     let empty : stack_of w.framing s.layers (place_of w.framing s) s.tail ≡ [] = sym h.stack ∙ none in
     let r : Spells (top_place w.framing) b (reading_of s) = state-spells w b yielded s h in
     record {
@@ -152,7 +152,7 @@ pub state-done : (w : WalkerState) (b : List ℕ) (yielded : List EventValue) (s
 state-done w b yielded s h e none some =
     let o : IsOutermost w b s = state-outermost w b yielded s h e none in
     done (reading_of s) (state-reading w b yielded s h) o.spelled (ap has_element o.reading ∙ o.element ∙ some)
-        (ap is_whole o.reading ∙ h.here.whole)
+    (ap is_whole o.reading ∙ h.here.whole)
 
 -- and if no octet of an element came, there is none
 pub state-empty : (w : WalkerState) (b : List ℕ) (yielded : List EventValue) (s : Zipper) → HasZipper w b yielded s
@@ -182,5 +182,5 @@ state-short w b yielded s h n outside =
     let part : is_whole (within s.layers (followed_by s.here (forest_of s.tail))) ≡ false =
     whole-within w.framing s.layers (followed_by s.here (forest_of s.tail)) h.layers
     (λ e. whole-followed_by s.here (forest_of s.tail) h.here.whole
-        ∙ open-elsewhere w.framing s.layers s.here w.phase s.tail h.phase (λ p q. outside p (h.stack ∙ q)) e) in
+    ∙ open-elsewhere w.framing s.layers s.here w.phase s.tail h.phase (λ p q. outside p (h.stack ∙ q)) e) in
     short (reading_of s) (state-reading w b yielded s h) r.spelled (ap is_whole (state-within w b yielded s h n) ∙ part)

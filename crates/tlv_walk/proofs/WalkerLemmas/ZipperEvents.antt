@@ -30,9 +30,9 @@ events-followed_by (Primitive h c rest) g e =
     ap (λ (t : List EventValue). Begin h ∷ Bytes c ∷ End ∷ t) (events-followed_by rest g e)
 events-followed_by (Holder h inside rest) g e =
     ap (λ (t : List EventValue). opening_events h ++ (events inside ++ closing_event h inside ∷ t))
-        (events-followed_by rest g e)
+    (events-followed_by rest g e)
     ∙ ap (λ (t : List EventValue). opening_events h ++ t)
-        (sym (append_assoc (events inside) (closing_event h inside ∷ events rest) (events g)))
+    (sym (append_assoc (events inside) (closing_event h inside ∷ events rest) (events g)))
     ∙ sym (append_assoc (opening_events h) (events inside ++ closing_event h inside ∷ events rest) (events g))
 events-followed_by (OpenPrimitive h c) g e = absurd (true≢false (sym e))
 events-followed_by (OpenHolder h inside) g e = absurd (true≢false (sym e))
@@ -49,8 +49,8 @@ events-within w [] f a = refl
 events-within w (l ∷ ls) f a =
     events-within w ls (followed_by l.before (OpenHolder l.header f)) a.0
     ∙ ap (λ (t : List EventValue). events_of_layers ls ++ t)
-        (events-followed_by l.before (OpenHolder l.header f) a.1.whole
-            ∙ sym (append_assoc (events l.before) (opening_events l.header) (events f)))
+    (events-followed_by l.before (OpenHolder l.header f) a.1.whole
+    ∙ sym (append_assoc (events l.before) (opening_events l.header) (events f)))
     ∙ sym (append_assoc (events_of_layers ls) (events l.before ++ opening_events l.header) (events f))
 
 -- ---- whole elements in the innermost open one, where each element that is filled ends
@@ -67,12 +67,12 @@ closes-filled : (p : Place) (h : HeaderValue) (f : Forest) → is_filled_by h f 
     → closing_event h f ≡ filled_end (frame_at p h)
 closes-filled p h f e =
     let full : HasAllContents h.size (contents_length h f) =
-        filled-full h f e in closes-definite h.constructed h.size _ full.ends
+    filled-full h f e in closes-definite h.constructed h.size _ full.ends
 
 -- events of layers, of whole elements in the innermost, and of its end
 regroup-end : (around earlier start inside ends : List EventValue) (c d : EventValue) → c ≡ d
     → (around ++ (earlier ++ (start ++ (inside ++ c ∷ [])))) ++ ends
-        ≡ ((around ++ (earlier ++ start)) ++ inside) ++ (d ∷ ends)
+    ≡ ((around ++ (earlier ++ start)) ++ inside) ++ (d ∷ ends)
 regroup-end around earlier start inside ends c d e = rw e (simp append_assoc)
 
 -- their events, after those of the layers, and then the ends of the elements that are filled
@@ -83,26 +83,26 @@ events-settled w (l ∷ ls) f a i = elim (cases_Bool (is_filled_by l.header f)) 
   | inl e ↦
       let d : IsEnded w l ls f = filled-ended w l ls f a i e in
       let r : events (settled ls (followed_by l.before (Holder l.header f NoMore)))
-          ≡ (events_of_layers ls ++ events (followed_by l.before (Holder l.header f NoMore)))
-              ++ filled_ends (end_in w ls (followed_by l.before (Holder l.header f NoMore))) (frames_of w ls) =
+      ≡ (events_of_layers ls ++ events (followed_by l.before (Holder l.header f NoMore)))
+      ++ filled_ends (end_in w ls (followed_by l.before (Holder l.header f NoMore))) (frames_of w ls) =
       events-settled w ls (followed_by l.before (Holder l.header f NoMore)) a.0 d.are_whole in
       let s : (events_of_layers ls ++ events (followed_by l.before (Holder l.header f NoMore)))
-          ++ filled_ends (end_in w ls (followed_by l.before (Holder l.header f NoMore))) (frames_of w ls)
+      ++ filled_ends (end_in w ls (followed_by l.before (Holder l.header f NoMore))) (frames_of w ls)
       ≡ (events_of_layers ls
-          ++ (events l.before ++ (opening_events l.header ++ (events f ++ closing_event l.header f ∷ []))))
-          ++ filled_ends (end_in w (l ∷ ls) f) (frames_of w ls) =
+      ++ (events l.before ++ (opening_events l.header ++ (events f ++ closing_event l.header f ∷ []))))
+      ++ filled_ends (end_in w (l ∷ ls) f) (frames_of w ls) =
       ap (λ (t : List EventValue). (events_of_layers ls ++ t)
-          ++ filled_ends (end_in w ls (followed_by l.before (Holder l.header f NoMore))) (frames_of w ls))
-          (events-followed_by l.before (Holder l.header f NoMore) a.1.whole)
+      ++ filled_ends (end_in w ls (followed_by l.before (Holder l.header f NoMore))) (frames_of w ls))
+      (events-followed_by l.before (Holder l.header f NoMore) a.1.whole)
       ∙ ap (λ (n : ℕ).
-          (events_of_layers ls
-              ++ (events l.before ++ (opening_events l.header ++ (events f ++ closing_event l.header f ∷ []))))
-          ++ filled_ends n (frames_of w ls))
-          d.same_end in
+      (events_of_layers ls
+      ++ (events l.before ++ (opening_events l.header ++ (events f ++ closing_event l.header f ∷ []))))
+      ++ filled_ends n (frames_of w ls))
+      d.same_end in
       rw (e, end-filled w l ls f i.whole ∙ e)
       (r ∙ s
-          ∙ regroup-end (events_of_layers ls) (events l.before) (opening_events l.header) (events f)
-              (filled_ends (end_in w (l ∷ ls) f) (frames_of w ls))
-              _ _ (closes-filled (place_after (place_in w ls) (length (spelling l.before))) l.header f e))
+      ∙ regroup-end (events_of_layers ls) (events l.before) (opening_events l.header) (events f)
+      (filled_ends (end_in w (l ∷ ls) f) (frames_of w ls))
+      _ _ (closes-filled (place_after (place_in w ls) (length (spelling l.before))) l.header f e))
   | inr e ↦ rw (e, end-filled w l ls f i.whole ∙ e) (events-within w (l ∷ ls) f a ∙ sym (append-nil _))
 ]

@@ -52,10 +52,10 @@ open-spells : (w : Framing) (ls : List Layer) (here g : Forest) → AreLayers w 
 open-spells w ls here g a i v e = record {
   is_open =
       open-within w ls (followed_by here g) a (open-followed_by (place_in w ls) here g i v)
-          (room-if_open ls (followed_by here g) (whole-followed_by here g i.whole ∙ e));
+      (room-if_open ls (followed_by here g) (whole-followed_by here g i.whole ∙ e));
   spelled =
       spelling-within w ls (followed_by here g) a
-          ∙ ap (λ (t : List ℕ). spelling_of_layers ls ++ t) (spelling-followed_by here g i.whole);
+      ∙ ap (λ (t : List ℕ). spelling_of_layers ls ++ t) (spelling-followed_by here g i.whole);
 }
 
 -- they have these events
@@ -63,8 +63,8 @@ open-events : (w : Framing) (ls : List Layer) (here g : Forest) → AreLayers w 
     → (events_of_layers ls ++ (events here ++ events g)) ++ [] ≡ events (within ls (followed_by here g))
 open-events w ls here g a i =
     append-nil _
-        ∙ sym (events-within w ls (followed_by here g) a
-            ∙ ap (λ (t : List EventValue). events_of_layers ls ++ t) (events-followed_by here g i.whole))
+    ∙ sym (events-within w ls (followed_by here g) a
+    ∙ ap (λ (t : List EventValue). events_of_layers ls ++ t) (events-followed_by here g i.whole))
 
 -- ---- whole elements, and then others that are whole
 
@@ -82,8 +82,8 @@ whole-spells : (w : Framing) (ls : List Layer) (here g : Forest) → AreLayers w
     → Spells (top_place w) (spelling_of_layers ls ++ (spelling here ++ spelling g)) (settled ls (followed_by here g))
 whole-spells w ls here g a i j =
     let r : Spells (top_place w) (spelling_of_layers ls ++ spelling (followed_by here g))
-        (settled ls (followed_by here g)) =
-        settled-spells w ls (followed_by here g) a (more-whole w ls here g i j) in
+    (settled ls (followed_by here g)) =
+    settled-spells w ls (followed_by here g) a (more-whole w ls here g i j) in
     record {
       is_open = r.is_open;
       spelled = r.spelled ∙ ap (λ (t : List ℕ). spelling_of_layers ls ++ t) (spelling-followed_by here g i.whole);
@@ -94,14 +94,14 @@ whole-events : (w : Framing) (ls : List Layer) (here g : Forest) (offset : ℕ) 
     → AreWhole (place_in w ls) here → AreWhole (later_place w ls here) g
     → offset ≡ (later_place w ls here).offset + length (spelling g)
     → events (settled ls (followed_by here g))
-        ≡ (events_of_layers ls ++ (events here ++ events g)) ++ filled_ends offset (frames_of w ls)
+    ≡ (events_of_layers ls ++ (events here ++ events g)) ++ filled_ends offset (frames_of w ls)
 whole-events w ls here g offset a i j e =
     events-settled w ls (followed_by here g) a (more-whole w ls here g i j)
     ∙ ap (λ (t : List EventValue). (events_of_layers ls ++ t)
-        ++ filled_ends (end_in w ls (followed_by here g)) (frames_of w ls))
-        (events-followed_by here g i.whole)
+    ++ filled_ends (end_in w ls (followed_by here g)) (frames_of w ls))
+    (events-followed_by here g i.whole)
     ∙ ap (λ (n : ℕ). (events_of_layers ls ++ (events here ++ events g)) ++ filled_ends n (frames_of w ls))
-        (followed_by-end w ls here g i.whole ∙ sym e)
+    (followed_by-end w ls here g i.whole ∙ sym e)
 
 -- ---- a primitive
 
@@ -111,10 +111,13 @@ contents-whole : (p : Place) (h : HeaderValue) (c : List ℕ) (left : ℕ) → I
 contents-whole p h c left i e =
     let size : length c + left ≡ length c = omega arith in
     record {
-      is_open =
-          ((record { header = i.header; shallow = λ e. absurd (cc (e)); fits = rw size at i.fits },
-              i.size ∙ ap Definite size),
-              tt);
+      is_open = (
+        (
+          record { header = i.header; shallow = λ e. absurd (cc (e)); fits = rw size at i.fits },
+          i.size ∙ ap Definite size,
+        ),
+        tt,
+      );
       whole = refl;
     }
 
@@ -135,7 +138,7 @@ contents-all : (p : Place) (h : HeaderValue) (c : List ℕ) (left : ℕ) → IsC
     → eqb (length c) (announced_length h.size) ≡ true
 contents-all p h c left i e =
     let all : announced_length h.size ≡ length c + left =
-        ap announced_length i.size in eq-eqb (length c) (announced_length h.size) (omega arith)
+    ap announced_length i.size in eq-eqb (length c) (announced_length h.size) (omega arith)
 
 pub contents-less : (p : Place) (h : HeaderValue) (c : List ℕ) (left : ℕ) → IsContents p h c left → (left ≡ 0 → ⊥)
     → eqb (length c) (announced_length h.size) ≡ false
@@ -168,7 +171,7 @@ reading-spells : (w : Framing) (ls : List Layer) (here : Forest) (t : Tail) → 
     → Spells (top_place w) (spelling_of_layers ls ++ (spelling here ++ spelling_of_tail t)) (reading_in ls here t)
 reading-spells w ls here NoTail a i j =
     let r : Spells (top_place w) (spelling_of_layers ls ++ spelling here) (settled ls here) =
-        settled-spells w ls here a i in
+    settled-spells w ls here a i in
     record {
       is_open = r.is_open;
       spelled = r.spelled ∙ ap (λ (t : List ℕ). spelling_of_layers ls ++ t) (sym (append-nil (spelling here)));
@@ -176,18 +179,18 @@ reading-spells w ls here NoTail a i j =
 reading-spells w ls here (PrimitiveTail h c) a i j = elim (cases_eq j.0 0) [
   | inl z ↦
       let r : Spells (top_place w) (spelling_of_layers ls ++ (spelling here ++ (octets_of h ++ (c ++ []))))
-          (settled ls (followed_by here (Primitive h c NoMore))) =
+      (settled ls (followed_by here (Primitive h c NoMore))) =
       whole-spells w ls here (Primitive h c NoMore) a i (contents-whole _ h c j.0 j.1 z) in
       rw (contents-all _ h c j.0 j.1 z)
       (record {
         is_open = r.is_open;
         spelled =
             r.spelled
-                ∙ ap (λ (t : List ℕ). spelling_of_layers ls ++ (spelling here ++ (octets_of h ++ t))) (append-nil c);
+            ∙ ap (λ (t : List ℕ). spelling_of_layers ls ++ (spelling here ++ (octets_of h ++ t))) (append-nil c);
       })
   | inr n ↦
       rw (contents-less _ h c j.0 j.1 n)
-          (open-spells w ls here (OpenPrimitive h c) a i (contents-open_primitive _ h c j.0 j.1 n) refl)
+      (open-spells w ls here (OpenPrimitive h c) a i (contents-open_primitive _ h c j.0 j.1 n) refl)
 ]
 reading-spells w ls here (BitStringTail h) a i j = open-spells w ls here (OpenBitString h) a i j refl
 reading-spells w ls here (HeaderTail octets) a i j = open-spells w ls here (OpenHeader octets) a i j refl
@@ -196,7 +199,7 @@ reading-spells w ls here EndOctetsTail a i j = open-spells w ls here OpenEndOcte
 -- a primitive's end, yielded after what has been yielded of it
 contents-end : (around earlier ends : List EventValue) (h : HeaderValue) (c : List ℕ)
     → (around ++ (earlier ++ (Begin h ∷ Bytes c ∷ []))) ++ (End ∷ ends)
-        ≡ (around ++ (earlier ++ (Begin h ∷ Bytes c ∷ End ∷ []))) ++ ends
+    ≡ (around ++ (earlier ++ (Begin h ∷ Bytes c ∷ End ∷ []))) ++ ends
 contents-end around earlier ends h c = simp append_assoc
 
 -- its events are the state's, and then those waiting
@@ -204,18 +207,18 @@ reading-events : (w : Framing) (ls : List Layer) (here : Forest) (f : PhaseValue
     → AreLayers w ls → AreWhole (place_in w ls) here → IsPhaseOf f t (later_place w ls here)
     → offset ≡ (later_place w ls here).offset + length (spelling_of_tail t)
     → (events_of_layers ls ++ (events here ++ events_of_tail t))
-        ++ waiting_events_in f (stack_of w ls (later_place w ls here) t) offset
-        ≡ events (reading_in ls here t)
+    ++ waiting_events_in f (stack_of w ls (later_place w ls here) t) offset
+    ≡ events (reading_in ls here t)
 reading-events w ls here phase.Between NoTail offset a i j e =
     let there : offset ≡ end_in w ls here = omega arith in
     rw (append-nil (events here), there) (sym (events-settled w ls here a i))
 reading-events w ls here (phase.InPrimitive left) (PrimitiveTail h c) offset a i j e = elim (cases_eq left 0) [
   | inl z ↦
       let there : offset ≡ (later_place w ls here).offset + length (octets_of h ++ (c ++ [])) =
-          e ∙ ap (λ (t : List ℕ). (later_place w ls here).offset + length (octets_of h ++ t)) (sym (append-nil c)) in
+      e ∙ ap (λ (t : List ℕ). (later_place w ls here).offset + length (octets_of h ++ t)) (sym (append-nil c)) in
       rw (contents-all _ h c left j z, eq-eqb left 0 z)
       (contents-end (events_of_layers ls) (events here) (filled_ends offset (frames_of w ls)) h c
-          ∙ sym (whole-events w ls here (Primitive h c NoMore) offset a i (contents-whole _ h c left j z) there))
+      ∙ sym (whole-events w ls here (Primitive h c NoMore) offset a i (contents-whole _ h c left j z) there))
   | inr n ↦ rw (contents-less _ h c left j n, ne_eqb left 0 n) (open-events w ls here (OpenPrimitive h c) a i)
 ]
 reading-events w ls here (phase.InHeader r) (HeaderTail octets) offset a i j e =
@@ -233,7 +236,7 @@ pub state-spells : (w : WalkerState) (b : List ℕ) (yielded : List EventValue) 
 state-spells w b yielded s h =
     let r : Spells (top_place w.framing) (spelling_of_zipper s) (reading_of s) =
     reading-spells w.framing s.layers s.here s.tail h.layers h.here
-        (phase-tail w.phase s.tail (place_of w.framing s) h.phase) in
+    (phase-tail w.phase s.tail (place_of w.framing s) h.phase) in
     record { is_open = r.is_open; spelled = r.spelled ∙ h.spelled }
 
 -- it is their reading
@@ -248,11 +251,11 @@ state-events w b yielded s h =
     let all : events_of_zipper s ++ waiting_events w ≡ events (reading_of s) =
     ap (λ (stack : List FrameValue). events_of_zipper s ++ waiting_events_in w.phase stack w.offset) h.stack
     ∙ reading-events w.framing s.layers s.here w.phase s.tail w.offset h.layers h.here h.phase
-        (walker-offset w b yielded s h) in
+    (walker-offset w b yielded s h) in
     joined-from_apart (yielded ++ waiting_events w) (events (reading_of s))
     (apart-before yielded (events_of_zipper s) (waiting_events w)
-        (apart-from_joined yielded (events_of_zipper s) h.same_events)
-        ∙ ap single_octets all)
+    (apart-from_joined yielded (events_of_zipper s) h.same_events)
+    ∙ ap single_octets all)
 
 -- a walker with a state stands for what was yielded and what was taken
 pub stands : (w : WalkerState) (b : List ℕ) (yielded : List EventValue) (s : Zipper) → HasZipper w b yielded s

@@ -1,5 +1,5 @@
 -- What the walker's own functions require and return.
-use Rattle.std.specs.Prelude.{◌≡◌, ◌≢◌, ◌⊎◌, ℕ, ◌+◌, ◌^◌, ◌<◌, ◌≤◌, true, false, eqb, if◌then◌else◌}
+use Rattle.std.specs.Prelude.{◌≡◌, ◌≢◌, ◌⊎◌, ℕ, ◌+◌, ◌<◌, ◌≤◌, true, false, eqb, if◌then◌else◌}
 use Rattle.std.specs.Prelude.{List, [], ◌∷◌, length, take, Option, Some, None}
 use Rattle.tlv_head.specs.declared.fault.Fault.{Fault as FaultOf}
 use Rattle.tlv_head.specs.Header.{HeaderValue, IsHeader, announced_length, holds, octets_of}
@@ -25,6 +25,7 @@ use Rattle.tlv_walk.specs.Private.Stack.{frame_with, room_in}
 use Rattle.tlv_walk.specs.Private.WrapperCount.{next_wrapper}
 use Rattle.tlv_walk.specs.Stands.{CanTake}
 use Rattle.tlv_walk.specs.WalkerState.{HasOctets, IsAfterEvent, WalkerState}
+use Rattle.tlv_head.specs.InputLimit.{input_limit}
 
 -- an event was yielded, and the walker is at this offset
 pub record YieldsAt (old new : WalkerState) (end : ℕ) : Type 0 where
@@ -100,7 +101,7 @@ CountsAtOnce old new piece rest None = (new ≡ old) × (rest ≡ piece)
 pub record CanEnter (w : WalkerState) (h : HeaderValue) : Type 0 where
   pub valid : IsHeader h
   pub fewer : w.events + length w.stack ≤ h.offset
-  pub limit : h.offset + length (octets_of h) ≤ 2 ^ 40
+  pub limit : h.offset + length (octets_of h) ≤ input_limit
   pub shallow : holds h ≡ true → length w.stack < 128
   pub fits : IsWithin (bound_of w.stack) (h.offset + length (octets_of h) + announced_length h.size)
 

@@ -1,10 +1,11 @@
 //! How a walker takes the contents of primitives, and octets between encodings.
-ghost use Rattle.std.specs.Prelude.{◌≡◌, ◌≢◌, ℕ, ◌+◌, ◌^◌, ◌<◌, ◌≤◌, ◌∷◌, [], All, Some, length, slice_get, take, true};
+ghost use Rattle.std.specs.Prelude.{◌≡◌, ◌≢◌, ℕ, ◌+◌, ◌<◌, ◌≤◌, ◌∷◌, [], All, Some, length, slice_get, take, true};
 ghost use Rattle.tlv_walk.specs.Phase as phases;
 ghost use Rattle.tlv_walk.specs.WalkerState.{HasOctets};
 ghost use Rattle.tlv_walk.specs.Private.WalkerState.{CountsStep, YieldsAt, YieldsOne};
 ghost use Rattle.tlv_walk.specs.HasRead.{event_value_of};
 ghost use Rattle.tlv_walk.specs.Private.Yields.{Continues, YieldsEvent, YieldsStep};
+ghost use Rattle.tlv_head.specs.InputLimit.{input_limit};
 
 use super::{Phase, Walker};
 use crate::{Event, Step};
@@ -16,7 +17,7 @@ impl Walker {
     pub(super) fn contents<'a>(&mut self, left: u64, piece: &mut &'a [u8]) -> Event<'a>
         requires phase { self.old.phase ≡ phases.InPrimitive left }
         requires some { (0 < left) × (piece.old.now ≢ []) }
-        requires limit { self.old.offset + length piece.old.now ≤ 2 ^ 40 }
+        requires limit { self.old.offset + length piece.old.now ≤ input_limit }
         ensures one { YieldsOne self.old self.new piece.old.now piece.new.now }
         ensures event { YieldsEvent self.old self.new piece.old.now piece.new.now
             (event_value_of result) }
@@ -49,7 +50,7 @@ impl Walker {
     pub(super) fn padding<'a>(&mut self, piece: &mut &'a [u8]) -> Event<'a>
         requires phase { self.old.phase ≡ phases.Between }
         requires zero { slice_get piece.old.now 0 ≡ Some 0 }
-        requires limit { self.old.offset + length piece.old.now ≤ 2 ^ 40 }
+        requires limit { self.old.offset + length piece.old.now ≤ input_limit }
         requires top { self.old.stack ≡ [] }
         requires padding { self.old.framing.padding ≡ true }
         ensures one { YieldsOne self.old self.new piece.old.now piece.new.now }
@@ -69,7 +70,7 @@ impl Walker {
     /// Takes the first contents octet of a wrapping BIT STRING.
     pub(super) fn unused_octet<'a>(&mut self, piece: &mut &'a [u8]) -> Step<'a>
         requires phase { self.old.phase ≡ phases.InBitString }
-        requires limit { self.old.offset + length piece.old.now ≤ 2 ^ 40 }
+        requires limit { self.old.offset + length piece.old.now ≤ input_limit }
         ensures steps { CountsStep self.old self.new piece.old.now piece.new.now result }
         ensures yields { YieldsStep self.old self.new piece.old.now piece.new.now result }
     {

@@ -1,11 +1,12 @@
 //! How a walker takes what is between elements, and the ends of those that hold others.
-ghost use Rattle.std.specs.Prelude.{◌≡◌, ℕ, ◌+◌, ◌^◌, ◌≤◌, ◌∷◌, [], length};
+ghost use Rattle.std.specs.Prelude.{◌≡◌, ℕ, ◌+◌, ◌≤◌, ◌∷◌, [], length};
 ghost use Rattle.tlv_walk.specs.Phase as phases;
 ghost use Rattle.tlv_walk.specs.WalkerState.{HasOctets};
 ghost use Rattle.tlv_walk.specs.Private.WalkerState.{CountsAtOnce, CountsStep, YieldsAt, close_event};
 ghost use Rattle.tlv_walk.specs.Stack.{IsFilled};
 ghost use Rattle.tlv_walk.specs.HasRead.{event_value_of};
 ghost use Rattle.tlv_walk.specs.Private.Yields.{Continues, YieldsAtOnce, YieldsStep};
+ghost use Rattle.tlv_head.specs.InputLimit.{input_limit};
 
 use super::{Phase, Walker};
 use crate::{Event, Step};
@@ -16,7 +17,7 @@ impl Walker {
     pub(super) fn between<'a>(&mut self, piece: &mut &'a [u8]) -> Step<'a>
         requires phase { self.old.phase ≡ phases.Between }
         requires room { IsFilled self.old.stack self.old.offset → ⊥ }
-        requires limit { self.old.offset + length piece.old.now ≤ 2 ^ 40 }
+        requires limit { self.old.offset + length piece.old.now ≤ input_limit }
         ensures steps { CountsStep self.old self.new piece.old.now piece.new.now result }
         ensures yields { YieldsStep self.old self.new piece.old.now piece.new.now result }
     {
@@ -66,7 +67,7 @@ impl Walker {
     #[inline(always)]
     pub(super) fn end_octets<'a>(&mut self, piece: &mut &'a [u8]) -> Option<Option<u64>>
         requires phase { self.old.phase ≡ phases.Between }
-        requires limit { self.old.offset + length piece.old.now ≤ 2 ^ 40 }
+        requires limit { self.old.offset + length piece.old.now ≤ input_limit }
         ensures steps { CountsAtOnce self.old self.new piece.old.now piece.new.now
             (close_event result) }
         ensures yields { YieldsAtOnce self.old self.new piece.old.now piece.new.now
@@ -93,7 +94,7 @@ impl Walker {
     /// Takes the second of the end-of-contents octets.
     pub(super) fn second_zero<'a>(&mut self, piece: &mut &'a [u8]) -> Step<'a>
         requires phase { self.old.phase ≡ phases.InEndOctets }
-        requires limit { self.old.offset + length piece.old.now ≤ 2 ^ 40 }
+        requires limit { self.old.offset + length piece.old.now ≤ input_limit }
         ensures steps { CountsStep self.old self.new piece.old.now piece.new.now result }
         ensures yields { YieldsStep self.old self.new piece.old.now piece.new.now result }
     {

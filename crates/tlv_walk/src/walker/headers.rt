@@ -14,6 +14,7 @@ ghost use Rattle.tlv_walk.specs.Stack.{bound_of};
 ghost use Rattle.tlv_walk.specs.Place.{IsWithin};
 ghost use Rattle.tlv_walk.specs.HasRead.{event_value_of};
 ghost use Rattle.tlv_walk.specs.Private.Yields.{YieldsAtOnce, YieldsStep};
+ghost use Rattle.tlv_head.specs.InputLimit.{input_limit};
 
 use super::{Phase, Walker};
 use crate::event::HeaderKind;
@@ -27,7 +28,7 @@ impl Walker {
     /// Begins a header: takes it at once, if it lies whole in the piece and may be here, and else octet by octet.
     pub(super) fn header<'a>(&mut self, piece: &mut &'a [u8]) -> Step<'a>
         requires begins { CanBegin self.old piece.old.now }
-        requires limit { self.old.offset + length piece.old.now ≤ 2 ^ 40 }
+        requires limit { self.old.offset + length piece.old.now ≤ input_limit }
         ensures steps { CountsStep self.old self.new piece.old.now piece.new.now result }
         ensures yields { YieldsStep self.old self.new piece.old.now piece.new.now result }
     {
@@ -52,7 +53,7 @@ impl Walker {
         requires fewer { self.old.events + length self.old.stack ≤ self.old.offset }
         requires begins { BeginsWithFields piece.old.now self.old.offset
             (is_among self.old.offset self.old.framing.inside) fields.now count }
-        requires limit { self.old.offset + length piece.old.now ≤ 2 ^ 40 }
+        requires limit { self.old.offset + length piece.old.now ≤ input_limit }
         ensures steps { CountsAtOnce self.old self.new piece.old.now piece.new.now result }
         ensures yields { YieldsAtOnce self.old self.new piece.old.now piece.new.now result }
     {
@@ -72,7 +73,7 @@ impl Walker {
     /// Begins a header or goes on with one, octet by octet.
     pub(super) fn slow_header<'a>(&mut self, piece: &mut &'a [u8]) -> Step<'a>
         requires begins { CanRead self.old piece.old.now }
-        requires limit { self.old.offset + length piece.old.now ≤ 2 ^ 40 }
+        requires limit { self.old.offset + length piece.old.now ≤ input_limit }
         ensures steps { CountsStep self.old self.new piece.old.now piece.new.now result }
         ensures yields { YieldsStep self.old self.new piece.old.now piece.new.now result }
     {
@@ -91,7 +92,7 @@ impl Walker {
         requires phase { self.old.phase ≡ phases.Between }
         requires read { CanReadOn self.old reader piece.old.now }
         requires some { piece.old.now ≢ [] }
-        requires limit { self.old.offset + length piece.old.now ≤ 2 ^ 40 }
+        requires limit { self.old.offset + length piece.old.now ≤ input_limit }
         ensures steps { CountsStep self.old self.new piece.old.now piece.new.now result }
         ensures yields { YieldsFrom self.old reader self.new piece.old.now piece.new.now result }
     {
@@ -191,7 +192,7 @@ impl Walker {
     #[inline(always)]
     pub(super) fn fits_there(&self, fields: &HeaderFields, octets: &[u8]) -> bool
         requires place { fields.now.offset ≡ self.now.offset }
-        requires limit { fields.now.offset + length octets.now ≤ 2 ^ 40 }
+        requires limit { fields.now.offset + length octets.now ≤ input_limit }
         requires length { announced_length fields.now.size < 2 ^ 40 }
         ensures shallow { IsTrue result → holds (new_header fields.now octets.now) ≡ true
             → length self.now.stack < 128 }

@@ -1,9 +1,10 @@
 //! How a walker finds the next event in few instructions.
-ghost use Rattle.std.specs.Prelude.{◌≡◌, ◌+◌, ◌^◌, ◌≤◌, IfSome, length, take, true};
+ghost use Rattle.std.specs.Prelude.{◌≡◌, ◌+◌, ◌≤◌, IfSome, length, take, true};
 ghost use Rattle.tlv_head.specs.HeaderFields.{IsHeaderSized};
 ghost use Rattle.tlv_walk.specs.Follow.{whole_events};
 ghost use Rattle.tlv_walk.specs.Private.WalkerState.{CanPass, CountsAtOnce, Passes, close_event, header_at, open_event};
 ghost use Rattle.tlv_walk.specs.Private.Yields.{YieldsAtOnce, YieldsEvents};
+ghost use Rattle.tlv_head.specs.InputLimit.{input_limit};
 
 use super::{Phase, Walker};
 use crate::Event;
@@ -25,7 +26,7 @@ impl Walker {
     /// named, and it may be here. With `short`, only if its header has two octets.
     #[inline(always)]
     pub(crate) fn primitive(&self, octets: &[u8], short: bool) -> Option<WholePrimitive>
-        requires { self.now.offset + length octets.now ≤ 2 ^ 40 }
+        requires { self.now.offset + length octets.now ≤ input_limit }
         ensures { IfSome result (λ p. CanPass self.now octets.now p) }
     {
         let [first, ..] = octets else {
@@ -65,7 +66,7 @@ impl Walker {
     #[inline(always)]
     pub(crate) fn pass<'a>(&mut self, primitive: &WholePrimitive, piece: &mut &'a [u8])
         requires can { CanPass self.old piece.old.now primitive.now }
-        requires limit { self.old.offset + length piece.old.now ≤ 2 ^ 40 }
+        requires limit { self.old.offset + length piece.old.now ≤ input_limit }
         ensures passes { Passes self.old self.new piece.old.now piece.new.now }
         ensures yields { YieldsEvents self.old self.new piece.old.now piece.new.now
             (whole_events (header_at primitive.now piece.old.now)
@@ -91,7 +92,7 @@ impl Walker {
         &mut self,
         piece: &mut &'a [u8],
     ) -> Option<(HeaderFields, &'a [u8])>
-        requires { self.old.offset + length piece.old.now ≤ 2 ^ 40 }
+        requires { self.old.offset + length piece.old.now ≤ input_limit }
         ensures steps { CountsAtOnce self.old self.new piece.old.now piece.new.now
             (open_event result) }
         ensures yields { YieldsAtOnce self.old self.new piece.old.now piece.new.now
@@ -128,7 +129,7 @@ impl Walker {
     /// nothing is taken.
     #[inline(always)]
     pub(crate) fn close<'a>(&mut self, piece: &mut &'a [u8]) -> Option<Option<u64>>
-        requires { self.old.offset + length piece.old.now ≤ 2 ^ 40 }
+        requires { self.old.offset + length piece.old.now ≤ input_limit }
         ensures steps { CountsAtOnce self.old self.new piece.old.now piece.new.now
             (close_event result) }
         ensures yields { YieldsAtOnce self.old self.new piece.old.now piece.new.now
@@ -152,7 +153,7 @@ impl Walker {
     /// [`Walker::step`] says what comes next.
     #[inline(always)]
     pub(crate) fn contents_event<'a>(&mut self, piece: &mut &'a [u8]) -> Option<Event<'a>>
-        requires { self.old.offset + length piece.old.now ≤ 2 ^ 40 }
+        requires { self.old.offset + length piece.old.now ≤ input_limit }
         ensures steps { CountsAtOnce self.old self.new piece.old.now piece.new.now result }
         ensures yields { YieldsAtOnce self.old self.new piece.old.now piece.new.now result }
     {

@@ -14,33 +14,39 @@ returns-in-Finished c =
     let octets = take (i + 1) xs in
     let made : MakesHeader c.in-Finished.identifier c.in-Finished.size octets =
     subst (MakesHeader c.in-Finished.identifier c.in-Finished.size) (sym (take_more xs i 0 (omega arith)))
-        (c.in-Finished.ensures (take i xs) c.loop-i.invariant.carries) in
+    (c.in-Finished.ensures (take i xs) c.loop-i.invariant.carries) in
     rw c.header_fields.ensures (record {
       within = omega arith;
       sized = made_sized octets _ c.in-Finished.identifier c.in-Finished.size made refl;
       begins =
           subst
-              (λ s. BeginsWith s c.args.offset c.args.named
-                  (new_header
-                      (record
-                          { offset =
-                              c.args.offset; named =
-                                  c.args.named; class =
-                                      c.in-Finished.identifier.class; constructed =
-                                          c.in-Finished.identifier.constructed; number =
-                                              c.in-Finished.identifier.number; size =
-                                                  c.in-Finished.size; id_len = c.in-Finished.identifier.octets
-                          })
-                      octets))
+          (λ s. BeginsWith s c.args.offset c.args.named
+          (new_header
+          (record {
+            offset =
+                c.args.offset;
+            named =
+                c.args.named;
+            class =
+                c.in-Finished.identifier.class;
+            constructed =
+                c.in-Finished.identifier.constructed;
+            number =
+                c.in-Finished.identifier.number;
+            size =
+                c.in-Finished.size;
+            id_len = c.in-Finished.identifier.octets;
+          })
+          octets))
           (take-append-drop (i + 1) xs)
-              (made_begins octets (drop (i + 1) xs) c.args.offset c.args.named c.in-Finished.identifier
-                  c.in-Finished.size made);
+          (made_begins octets (drop (i + 1) xs) c.args.offset c.args.named c.in-Finished.identifier
+          c.in-Finished.size made);
     })
 
 pub returns-in-Refused : goal.returns-in-Refused
 returns-in-Refused c = λ h rest v e.
     refused-with_none _ _ _ (drop (c.loop-i.i + 1) c.args.octets.now)
-        (c.in-Refused.ensures (take c.loop-i.i c.args.octets.now) c.loop-i.invariant.carries) h rest v
+    (c.in-Refused.ensures (take c.loop-i.i c.args.octets.now) c.loop-i.invariant.carries) h rest v
     (sym (around c.args.octets.now c.loop-i.i (omega arith)) ∙ e)
 
 pub returns : goal.returns

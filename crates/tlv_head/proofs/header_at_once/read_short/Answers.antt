@@ -10,12 +10,12 @@ returns-in_err-identifier-clause-begins c =
 pub returns-in_err-size-clause-begins : goal.returns-in_err-size-clause-begins
 returns-in_err-size-clause-begins c =
     rw c.from_residual-in_err-size.ensures
-        (no-short_length c.args.octets.now c.in_ok-identifier.identifier c.from-id_len.result (search rules)
-            (search rules) c.in_err-size.ensures)
+    (no-short_length c.args.octets.now c.in_ok-identifier.identifier c.from-id_len.result (search rules)
+    (search rules) c.in_err-size.ensures)
 
 pub returns-clause-begins : goal.returns-clause-begins
 returns-clause-begins c =
     rw c.header_fields.ensures
-        (begins_short c.args.octets.now c.args.offset c.args.named c.in_ok-identifier.identifier c.in_ok-size.size
-            c.from-id_len.result c.in_ok-size.count
+    (begins_short c.args.octets.now c.args.offset c.args.named c.in_ok-identifier.identifier c.in_ok-size.size
+    c.from-id_len.result c.in_ok-size.count
     (search rules) (search rules) (search rules))

@@ -5,6 +5,6 @@ pub returns : goal.returns
 returns g c =
     until_failure c.args.command.now c.args.names.now c.args.octets.now c.type_inv.octets g.row.N
     c.into_octets-written.result c.run-report.new.drain.octets c.into_octets-written.ensures.octets
-        c.into_octets-written.ensures.fits c.run-report.new.drain.failures
+    c.into_octets-written.ensures.fits c.run-report.new.drain.failures
     _ c.new-drain.ensures _ _ c.run-report.new.source.source c.run-report.new.source.failures c.new.ensures
-        c.run-report.ensures
+    c.run-report.ensures

@@ -14,14 +14,14 @@ returns-in_err-run g c =
     let rules = c.args.rules in
     rw (p.1, p.2)
     (shows_err check_step (new_check rules) c.args.framing.now (check_job rules c.args.framing.now).text
-        (finding_count rules) (λ (s : FinderState). s.count) (checks rules c.args.framing.now)
-        _ _ _ _ _ c.in_err-run.field-0.0
+    (finding_count rules) (λ (s : FinderState). s.count) (checks rules c.args.framing.now)
+    _ _ _ _ _ c.in_err-run.field-0.0
     (rw c.new-follower.ensures at c.in_err-run.ensures))
 
 pub returns : goal.returns
 returns g c =
     let rules = c.args.rules in
     shows_ok check_step (new_check rules) c.args.framing.now (check_job rules c.args.framing.now).text
-        (finding_count rules) (λ (s : FinderState). s.count) (checks rules c.args.framing.now)
-        _ _ _ _ _ c.in_ok-run.run' _ refl c.findings.ensures refl
+    (finding_count rules) (λ (s : FinderState). s.count) (checks rules c.args.framing.now)
+    _ _ _ _ _ c.in_ok-run.run' _ refl c.findings.ensures refl
     (rw c.new-follower.ensures at c.in_ok-run.ensures)

@@ -42,7 +42,7 @@ loop-finding-preserved c =
           (record {
             kept =
                 kept (is_shown c.args.rules) l _ c.loop-finding.finding-index _ c.loop-finding-test.true old.kept
-                    _ (sym c.is_shown.ensures ∙ w.if-is_shown.true) w.push.ensures.items;
+                _ (sym c.is_shown.ensures ∙ w.if-is_shown.true) w.push.ensures.items;
             few = more _ _ _ old.few w.push.ensures.len;
             all = old.all;
             fits = old.fits;
@@ -52,7 +52,7 @@ loop-finding-preserved c =
           (record {
             kept =
                 passed (is_shown c.args.rules) l _ c.loop-finding.finding-index _ c.loop-finding-test.true old.kept
-                    (sym c.is_shown.ensures ∙ w.if-is_shown.false);
+                (sym c.is_shown.ensures ∙ w.if-is_shown.false);
             few = same _ _ old.few;
             all = old.all;
             fits = old.fits;

@@ -14,7 +14,7 @@ returns-in_err-run g c =
     let names = c.args.names.now in
     rw (p.1, p.2)
     (shows_err dump_step (new_dump o.rules (top_layout o) names) o.framing (dump_job o names).text
-        (finding_count o.rules) (λ (s : DumpState). s.finder.count) (dumps o names) _ _ _ _ _ c.in_err-run.field-0.0
+    (finding_count o.rules) (λ (s : DumpState). s.finder.count) (dumps o names) _ _ _ _ _ c.in_err-run.field-0.0
     (rw c.new-follower.ensures at c.in_err-run.ensures))
 
 pub returns : goal.returns
@@ -22,6 +22,6 @@ returns g c =
     let o = c.args.options.now in
     let names = c.args.names.now in
     shows_ok dump_step (new_dump o.rules (top_layout o) names) o.framing (dump_job o names).text
-        (finding_count o.rules) (λ (s : DumpState). s.finder.count) (dumps o names) _ _ _ _ _ c.in_ok-run.run' _ refl
-        c.findings.ensures refl
+    (finding_count o.rules) (λ (s : DumpState). s.finder.count) (dumps o names) _ _ _ _ _ c.in_ok-run.run' _ refl
+    c.findings.ensures refl
     (rw c.new-follower.ensures at c.in_ok-run.ensures)

@@ -7,13 +7,13 @@ pub returns-in_err-put_finding : goal.returns-in_err-put_finding
 returns-in_err-put_finding g c =
     let i = c.loop-finding.invariant in
     (puts_failed_in g.D.Drain.state
-        _ _ _ _ _ _ (puts_then g.D.Drain.state _ _ _ _ _ _ _ i.put.1 c.in_err-put_finding.ensures) (search rules)
+    _ _ _ _ _ _ (puts_then g.D.Drain.state _ _ _ _ _ _ _ i.put.1 c.in_err-put_finding.ensures) (search rules)
     (record {
       rest = _;
       is =
           append_assoc i.put.0 _ _
-              ∙ next_line c.args.style c.args.place.0 c.args.place.1 i.put.0 _ _ c.args.findings.now
-                  c.loop-finding.finding-index _ (omega arith) refl i.put.2;
+          ∙ next_line c.args.style c.args.place.0 c.args.place.1 i.put.0 _ _ c.args.findings.now
+          c.loop-finding.finding-index _ (omega arith) refl i.put.2;
     }))
 
 pub loop-finding-preserved : goal.loop-finding-preserved
@@ -26,6 +26,6 @@ loop-finding-preserved g c =
             _ _ _ _ _ _ (puts_then g.D.Drain.state _ _ _ _ _ _ _ i.put.1 c.in_ok-put_finding.ensures) refl,
         append_assoc i.put.0 _ _
             ∙ next_line c.args.style c.args.place.0 c.args.place.1 i.put.0 _ _ c.args.findings.now
-                c.loop-finding.finding-index _ (omega arith) refl i.put.2,
+            c.loop-finding.finding-index _ (omega arith) refl i.put.2,
       );
     }

@@ -20,7 +20,7 @@ returns-in-Der c =
     (c.add_der_findings.ensures
     ∙ ap (λ (l : List Finding). l ++ findings_by (der_conditions h))
     (c.add_length_findings.ensures.items
-        ∙ ap (λ (l : List Finding). l ++ findings_by (length_conditions h)) c.add_basic_findings.ensures.items)
+    ∙ ap (λ (l : List Finding). l ++ findings_by (length_conditions h)) c.add_basic_findings.ensures.items)
     ∙ sym (der-found s h))
 
 pub returns-in-Cer : goal.returns-in-Cer
@@ -31,5 +31,5 @@ returns-in-Cer c =
     (c.add_cer_findings.ensures
     ∙ ap (λ (l : List Finding). l ++ findings_by (cer_conditions s h))
     (c.add_length_findings-in-Cer.ensures.items
-        ∙ ap (λ (l : List Finding). l ++ findings_by (length_conditions h)) c.add_basic_findings.ensures.items)
+    ∙ ap (λ (l : List Finding). l ++ findings_by (length_conditions h)) c.add_basic_findings.ensures.items)
     ∙ sym (cer-found s h))

@@ -7,4 +7,4 @@ returns-in-Ber-clause-findings c shown usual =
     let usual_tag = c.is_tag_usual.ensures in
     rw c.in-Ber.is
     (none-by_ber c.args.frame.now c.args.header.now c.if-frame.false (usual_tag.needed (search rules))
-        (usual_tag.shortest (search rules)) usual)
+    (usual_tag.shortest (search rules)) usual)

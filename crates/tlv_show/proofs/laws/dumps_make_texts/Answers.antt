@@ -8,5 +8,8 @@ use Rattle.tlv_show.proofs.laws.dumps_make_texts.Goals as goal
 pub returns : goal.returns
 returns c =
     λ options names b f few
-        r. (text-made options names b f few r, count-made options names b f few r,
-            all_on (new_dump options.rules (top_layout options) names) (events f))
+    r. (
+      text-made options names b f few r,
+      count-made options names b f few r,
+      all_on (new_dump options.rules (top_layout options) names) (events f),
+    )

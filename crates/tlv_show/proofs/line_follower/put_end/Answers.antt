@@ -12,7 +12,7 @@ returns-then-not-is_open g c =
       | then-not-is_open-via-then-not-is_open w ↦ rw w.if-not-is_open.true (puts_nothing state_of _ tt)
       | then-not-is_open-via-else-not-is_open+then-left-ne0 w ↦
           let some : eqb c.args.text.now.left 0 ≡ false =
-              grind (arith, nat_tests, w.left.ensures, w.if-left-ne0.true) in
+          grind (arith, nat_tests, w.left.ensures, w.if-left-ne0.true) in
           rw (w.if-not-is_open.false, some) (puts_nothing state_of _ tt)
     ]
 

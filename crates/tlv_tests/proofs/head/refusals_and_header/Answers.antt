@@ -23,7 +23,7 @@ push-requires-3 c =
     let begun : CanPush c.push.new.self 255 None 0 = elim c.match-matches.branch [
       | in-More w ↦
           goes_on c.new-reader.result c.push.new.self 4 255 w.in-More.ensures.pushes
-              (omega (arith, ap (λ (r : HeadReaderState). r.offset) c.new-reader.ensures))
+          (omega (arith, ap (λ (r : HeadReaderState). r.offset) c.new-reader.ensures))
       | in_default w ↦ absurd (true≢false (sym c.if-not-matches.false ∙ w.matches-is))
     ] in
     elim c.in-Refused.ensures.pushes [
@@ -35,7 +35,7 @@ push-requires-4 c =
     let begun : CanPush c.push.new.self 0 None 0 = elim c.match-matches.branch [
       | in-More w ↦
           goes_on c.new-reader.result c.push.new.self 4 0 w.in-More.ensures.pushes
-              (omega (arith, ap (λ (r : HeadReaderState). r.offset) c.new-reader.ensures))
+          (omega (arith, ap (λ (r : HeadReaderState). r.offset) c.new-reader.ensures))
       | in_default w ↦ absurd (true≢false (sym c.if-not-matches.false ∙ w.matches-is))
     ] in
     elim c.in-Refused.ensures.pushes [

@@ -24,8 +24,8 @@ stepped n from sum next x small f g e h m =
 pub overflow_mul-number : goal.overflow_mul-number
 overflow_mul-number c =
     let e : to_z w128 c.loop-octet.number-bits
-        ≡ twos_complement (take (c.loop-octet.octet-index + 1) c.args.contents.now) =
-        c.loop-octet.invariant in
+    ≡ twos_complement (take (c.loop-octet.octet-index + 1) c.args.contents.now) =
+    c.loop-octet.invariant in
     let first = c.in_ok-first.ensures.cases in
     rw e (twos-fits (take (c.loop-octet.octet-index + 1) c.args.contents.now) (omega (arith, length-take {A = ℕ})))
 
@@ -33,22 +33,22 @@ pub loop-octet-preserved : goal.loop-octet-preserved
 loop-octet-preserved c =
     let i : ℕ = c.loop-octet.octet-index in
     let e : to_z w128 c.loop-octet.number-bits ≡ twos_complement (take (i + 1) c.args.contents.now) =
-        c.loop-octet.invariant in
+    c.loop-octet.invariant in
     let x : ℕ = get_or c.args.contents.now (i + 1) 0 in
     let first = c.in_ok-first.ensures.cases in
     let same : get_or c.in_ok-first.rest.now i 0 ≡ x = rw (first.0, add-one) refl in
     let m : twos_complement (take (i + 1 + 1) c.args.contents.now)
-        ≡ twos_complement (take (i + 1) c.args.contents.now) *ℤ pos 256 +ℤ pos x =
+    ≡ twos_complement (take (i + 1) c.args.contents.now) *ℤ pos 256 +ℤ pos x =
     ap twos_complement (take_more c.args.contents.now (i + 1) 0 (omega arith))
-        ∙ twos-more (take (i + 1) c.args.contents.now) x (omega (arith, length-take {A = ℕ}))
-            (c.type_inv.contents (i + 1)).fits in
+    ∙ twos-more (take (i + 1) c.args.contents.now) x (omega (arith, length-take {A = ℕ}))
+    (c.type_inv.contents (i + 1)).fits in
     let f : FitsSigned w128 (to_z w128 c.loop-octet.number-bits *ℤ pos 256) =
-        rw e (twos-fits (take (i + 1) c.args.contents.now) (omega (arith, length-take {A = ℕ}))) in
+    rw e (twos-fits (take (i + 1) c.args.contents.now) (omega (arith, length-take {A = ℕ}))) in
     let g : FitsSigned w128 (twos_complement (take (i + 1 + 1) c.args.contents.now)) =
-        twos-fits_all (take (i + 1 + 1) c.args.contents.now) (omega (arith, length-take {A = ℕ})) in
+    twos-fits_all (take (i + 1 + 1) c.args.contents.now) (omega (arith, length-take {A = ℕ})) in
     let from : c.from.result ≡ pos x = c.from.ensures ∙ ap pos same in
     stepped (to_z w128 c.loop-octet.number-bits) c.from.result (twos_complement (take (i + 1) c.args.contents.now))
-        (twos_complement (take (i + 1 + 1) c.args.contents.now)) x (c.type_inv.contents (i + 1)).fits f g e from m
+    (twos_complement (take (i + 1 + 1) c.args.contents.now)) x (c.type_inv.contents (i + 1)).fits f g e from m
 
 pub loop-octet-init : goal.loop-octet-init
 loop-octet-init c = search rules

@@ -12,8 +12,8 @@ returns-then-number-clause-exists c =
     let f : is_finished c.args.contents.now ≡ true = grind (arith, common_steps) in
     let (text, held, room, same) = c.loop-octet.invariant in
     rw (run-none c.args.relative c.args.contents.now text c.loop-octet.first c.loop-octet.number
-        c.loop-octet.octet-index f (omega arith) (omega arith) (omega arith) same)
-        refl
+    c.loop-octet.octet-index f (omega arith) (omega arith) (omega arith) same)
+    refl
 
 pub loop-octet-preserved : goal.loop-octet-preserved
 loop-octet-preserved c =
@@ -32,9 +32,9 @@ loop-octet-preserved c =
                 (room-last text c.loop-octet.first c.args.relative c.loop-octet.number x n i v (omega arith) room),
             rw (w.first-is, w.number-is)
                 (sym
-                    (run-last text c.loop-octet.first c.args.relative c.loop-octet.number n c.args.contents.now i v
-                        c.loop-octet-test.true (omega arith) w.if-octet-lt128.true)
-                    ∙ same),
+                (run-last text c.loop-octet.first c.args.relative c.loop-octet.number n c.args.contents.now i v
+                c.loop-octet-test.true (omega arith) w.if-octet-lt128.true)
+                ∙ same),
           )
       | else-octet-lt128 w ↦ (
         text,
@@ -42,9 +42,9 @@ loop-octet-preserved c =
         rw (w.first-is, w.number-is) (room-within text c.loop-octet.first c.loop-octet.number x n i v room),
         rw (w.first-is, w.number-is)
             (sym
-                (run-within text c.loop-octet.first c.args.relative c.loop-octet.number n c.args.contents.now i v
-                    c.loop-octet-test.true (omega arith) w.if-octet-lt128.false)
-                ∙ same),
+            (run-within text c.loop-octet.first c.args.relative c.loop-octet.number n c.args.contents.now i v
+            c.loop-octet-test.true (omega arith) w.if-octet-lt128.false)
+            ∙ same),
       )
     ]
 
@@ -53,16 +53,16 @@ returns-clause-exists c =
     let f : is_finished c.args.contents.now ≡ true = grind (arith, common_steps) in
     let (text, held, room, same) = c.loop-octet.invariant in
     rw (run-end c.args.relative c.args.contents.now text c.loop-octet.first c.loop-octet.number
-        c.loop-octet.octet-index f (omega arith) (omega arith) same)
-        refl
+    c.loop-octet.octet-index f (omega arith) (omega arith) same)
+    refl
 
 pub returns-clause-text : goal.returns-clause-text
 returns-clause-text c =
     let f : is_finished c.args.contents.now ≡ true = grind (arith, common_steps) in
     let (text, held, room, same) = c.loop-octet.invariant in
     rw (run-end c.args.relative c.args.contents.now text c.loop-octet.first c.loop-octet.number
-        c.loop-octet.octet-index f (omega arith) (omega arith) same)
-        held
+    c.loop-octet.octet-index f (omega arith) (omega arith) same)
+    held
 
 pub truncate-requires : goal.truncate-requires
 truncate-requires c = grind (arith, common_steps)

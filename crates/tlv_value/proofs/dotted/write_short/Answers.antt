@@ -23,12 +23,12 @@ loop-octet-preserved c =
                 ∙ append_assoc c.args.held.now (32 ∷ text) part,
             rw (w.first-is, w.number-is)
                 (room-last text c.loop-octet.first c.args.relative c.loop-octet.number x m i u (omega (arith, few, u))
-                    room),
+                room),
             rw (w.first-is, w.number-is)
                 (sym
-                    (run-last text c.loop-octet.first c.args.relative c.loop-octet.number m c.args.contents.now i u
-                        c.loop-octet-test.true (omega (arith, few)) w.if-octet-lt128.true)
-                    ∙ same),
+                (run-last text c.loop-octet.first c.args.relative c.loop-octet.number m c.args.contents.now i u
+                c.loop-octet-test.true (omega (arith, few)) w.if-octet-lt128.true)
+                ∙ same),
             rw w.number-is (none-yet (i + 1)),
           )
       | else-octet-lt128 w ↦ (
@@ -37,9 +37,9 @@ loop-octet-preserved c =
         rw (w.first-is, w.number-is) (room-within text c.loop-octet.first c.loop-octet.number x n i v room),
         rw (w.first-is, w.number-is)
             (sym
-                (run-within text c.loop-octet.first c.args.relative c.loop-octet.number n c.args.contents.now i v
-                    c.loop-octet-test.true (omega (arith, few)) w.if-octet-lt128.false)
-                ∙ same),
+            (run-within text c.loop-octet.first c.args.relative c.loop-octet.number n c.args.contents.now i v
+            c.loop-octet-test.true (omega (arith, few)) w.if-octet-lt128.false)
+            ∙ same),
         rw w.number-is (one-more c.loop-octet.number x n i v small),
       )
     ]
@@ -47,31 +47,34 @@ loop-octet-preserved c =
 pub overflow_mul-number : goal.overflow_mul-number
 overflow_mul-number c =
     let (text, held, room, same, small) = c.loop-octet.invariant in
-    omega
-        (arith,
-            few-bits c.loop-octet.number c.loop-octet.octet-index small
-                (omega (arith, c.loop-octet-test.true, c.requires.short)))
+    omega (
+      arith,
+      few-bits c.loop-octet.number c.loop-octet.octet-index small
+          (omega (arith, c.loop-octet-test.true, c.requires.short)),
+    )
 
 pub overflow_add-number : goal.overflow_add-number
 overflow_add-number c =
     let (text, held, room, same, small) = c.loop-octet.invariant in
-    omega
-        (arith, c.from.ensures,
-            few-bits c.loop-octet.number c.loop-octet.octet-index small
-                (omega (arith, c.loop-octet-test.true, c.requires.short)))
+    omega (
+      arith,
+      c.from.ensures,
+      few-bits c.loop-octet.number c.loop-octet.octet-index small
+          (omega (arith, c.loop-octet-test.true, c.requires.short)),
+    )
 
 pub returns-clause-exists : goal.returns-clause-exists
 returns-clause-exists c =
     let (text, held, room, same, small) = c.loop-octet.invariant in
     rw (run-end c.args.relative c.args.contents.now text c.loop-octet.first c.loop-octet.number
-        c.loop-octet.octet-index c.requires.finished (omega (arith, c.requires.short))
-        (omega (arith, c.loop-octet-test.false)) same)
-        refl
+    c.loop-octet.octet-index c.requires.finished (omega (arith, c.requires.short))
+    (omega (arith, c.loop-octet-test.false)) same)
+    refl
 
 pub returns-clause-text : goal.returns-clause-text
 returns-clause-text c =
     let (text, held, room, same, small) = c.loop-octet.invariant in
     rw (run-end c.args.relative c.args.contents.now text c.loop-octet.first c.loop-octet.number
-        c.loop-octet.octet-index c.requires.finished (omega (arith, c.requires.short))
-        (omega (arith, c.loop-octet-test.false)) same)
-        held
+    c.loop-octet.octet-index c.requires.finished (omega (arith, c.requires.short))
+    (omega (arith, c.loop-octet-test.false)) same)
+    held

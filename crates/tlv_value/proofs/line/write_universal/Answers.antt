@@ -9,6 +9,6 @@ pub returns-in-None-clause-text : goal.returns-in-None-clause-text
 returns-in-None-clause-text c =
     let none : lookup (eqb c.args.number) universal_names ≡ None = sym c.in-None.ensures.name in
     c.write_bracketed.ensures.text
-        ∙ ap (λ (name : Option (List ℕ)). c.args.held.now
-            ++ unwrap_or name (bracketed_tag (codes "UNIVERSAL ") c.args.number))
-            (sym none)
+    ∙ ap (λ (name : Option (List ℕ)). c.args.held.now
+    ++ unwrap_or name (bracketed_tag (codes "UNIVERSAL ") c.args.number))
+    (sym none)

@@ -13,7 +13,7 @@ with_minute : (rest after : List ℕ) (r : Bool) → after ∷ [] ≡ minute res
     → r ≡ has_form (maybe second then tail) after → r ≡ has_form ((minute then maybe second) then tail) rest
 with_minute rest after r e h =
     h ∙ sym (form-then minute (maybe second then tail) rest (Some after) e)
-        ∙ sym (form-three minute (maybe second) tail rest)
+    ∙ sym (form-three minute (maybe second) tail rest)
 
 -- the hour is there
 with_hour : (c rest : List ℕ) (r : Bool) → rest ∷ [] ≡ generalized_hour c
@@ -28,9 +28,9 @@ returns-then-is_second_and_tail c =
     let r : Bool = c.is_second_and_tail.result in
     with_hour c.args.contents.now rest r c.in-Some.ensures
     (maybe-there (minute then maybe second) tail rest r
-        (with_minute rest c.in-Some-after_two_digits.after.now r c.in-Some-after_two_digits.ensures
-            c.is_second_and_tail.ensures)
-        c.if-is_second_and_tail.true)
+    (with_minute rest c.in-Some-after_two_digits.after.now r c.in-Some-after_two_digits.ensures
+    c.is_second_and_tail.ensures)
+    c.if-is_second_and_tail.true)
 
 pub returns-else-is_second_and_tail : goal.returns-else-is_second_and_tail
 returns-else-is_second_and_tail c =
@@ -39,5 +39,5 @@ returns-else-is_second_and_tail c =
     with_hour c.args.contents.now rest c.is_tail.result c.in-Some.ensures
     (maybe-left (minute then maybe second) tail rest r c.is_tail.result
     (with_minute rest c.in-Some-after_two_digits.after.now r c.in-Some-after_two_digits.ensures
-        c.is_second_and_tail.ensures)
-        c.if-is_second_and_tail.false c.is_tail.ensures)
+    c.is_second_and_tail.ensures)
+    c.if-is_second_and_tail.false c.is_tail.ensures)

@@ -11,10 +11,10 @@ pub returns-then-is_tail : goal.returns-then-is_tail
 returns-then-is_tail c =
     maybe-there second tail c.args.octets.now c.is_tail.result
     (c.is_tail.ensures ∙ sym (form-then second tail c.args.octets.now (Some c.in-Some.after.now) c.in-Some.ensures))
-        c.if-is_tail.true
+    c.if-is_tail.true
 
 pub returns-else-is_tail : goal.returns-else-is_tail
 returns-else-is_tail c =
     maybe-left second tail c.args.octets.now c.is_tail.result c.is_tail-else-is_tail.result
     (c.is_tail.ensures ∙ sym (form-then second tail c.args.octets.now (Some c.in-Some.after.now) c.in-Some.ensures))
-        c.if-is_tail.false c.is_tail-else-is_tail.ensures
+    c.if-is_tail.false c.is_tail-else-is_tail.ensures

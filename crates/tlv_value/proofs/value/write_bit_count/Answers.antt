@@ -7,15 +7,27 @@ pub add-requires-2 : goal.add-requires-2
 add-requires-2 c =
     let n : ℕ = 8 * c.from.result - c.from-2.result in
     let short : length (decimal n) ≤ 39 = digits-short n (omega (arith, c.from.ensures, c.ranges.octets.fits)) in
-    omega
-        (arith, ap length c.wide_number.ensures, length-append c.add.new.self (decimal n), ap length c.add.ensures,
-            length-append c.args.held.now (32 ∷ []), short, c.requires.room)
+    omega (
+      arith,
+      ap length c.wide_number.ensures,
+      length-append c.add.new.self (decimal n),
+      ap length c.add.ensures,
+      length-append c.args.held.now (32 ∷ []),
+      short,
+      c.requires.room,
+    )
 
 pub returns-clause-bound : goal.returns-clause-bound
 returns-clause-bound c =
     let n : ℕ = 8 * c.from.result - c.from-2.result in
     let short : length (decimal n) ≤ 39 = digits-short n (omega (arith, c.from.ensures, c.ranges.octets.fits)) in
-    omega
-        (arith, ap length c.add-2.ensures, length-append c.wide_number.new.self (codes " bits"),
-            ap length c.wide_number.ensures, length-append c.add.new.self (decimal n), ap length c.add.ensures,
-            length-append c.args.held.now (32 ∷ []), short)
+    omega (
+      arith,
+      ap length c.add-2.ensures,
+      length-append c.wide_number.new.self (codes " bits"),
+      ap length c.wide_number.ensures,
+      length-append c.add.new.self (decimal n),
+      ap length c.add.ensures,
+      length-append c.args.held.now (32 ∷ []),
+      short,
+    )

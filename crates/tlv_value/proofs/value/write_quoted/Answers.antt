@@ -6,9 +6,13 @@ use Rattle.tlv_value.proofs.value.write_quoted.Goals as goal
 
 pub write_characters-requires : goal.write_characters-requires
 write_characters-requires c =
-    omega
-        (arith, ap length c.add.ensures, length-append c.args.held.now (32 ∷ 34 ∷ []), c.requires.short,
-            c.requires.room)
+    omega (
+      arith,
+      ap length c.add.ensures,
+      length-append c.args.held.now (32 ∷ 34 ∷ []),
+      c.requires.short,
+      c.requires.room,
+    )
 
 pub add-requires-2 : goal.add-requires-2
 add-requires-2 c =

@@ -7,11 +7,11 @@ use Rattle.tlv_value.proofs.value.write_row.Goals as goal
 pub returns-in-Text-clause-bound : goal.returns-in-Text-clause-bound
 returns-in-Text-clause-bound c =
     grown c.args.held.now c.write_quoted.new.held (32 ∷ quoted_text c.args.kind c.args.row.now) 323
-        c.write_quoted.ensures
+    c.write_quoted.ensures
     (omega (arith, quoted-short c.args.kind c.args.row.now, c.requires.short))
 
 pub returns-in_default-clause-bound : goal.returns-in_default-clause-bound
 returns-in_default-clause-bound c =
     grown c.args.held.now c.write_joined_pairs.new.held (32 ∷ joined_pairs c.args.row.now) 323
-        c.write_joined_pairs.ensures
+    c.write_joined_pairs.ensures
     (omega (arith, joined-short c.args.row.now, c.requires.short))

@@ -8,30 +8,30 @@ pub returns-in-Boolean-clause-bound : goal.returns-in-Boolean-clause-bound
 returns-in-Boolean-clause-bound c =
     let octets : List ℕ = c.args.contents.now in
     grown c.args.held.now c.write_boolean.new.held (boolean_value octets).text 330 c.write_boolean.ensures
-        (boolean-short octets (rw c.in-Boolean.is at c.requires.short))
+    (boolean-short octets (rw c.in-Boolean.is at c.requires.short))
 
 pub returns-in-Integer-clause-bound : goal.returns-in-Integer-clause-bound
 returns-in-Integer-clause-bound c =
     let octets : List ℕ = c.args.contents.now in
     grown c.args.held.now c.write_integer.new.held (integer_value octets).text 330 c.write_integer.ensures
-        (integer-short octets (rw c.in-Integer.is at c.requires.short))
+    (integer-short octets (rw c.in-Integer.is at c.requires.short))
 
 pub returns-in-Bits-clause-bound : goal.returns-in-Bits-clause-bound
 returns-in-Bits-clause-bound c =
     let octets : List ℕ = c.args.contents.now in
     grown c.args.held.now c.write_bits.new.held (bits_value octets).text 330 c.write_bits.ensures
-        (bits-short octets (rw c.in-Bits.is at c.requires.short))
+    (bits-short octets (rw c.in-Bits.is at c.requires.short))
 
 pub returns-in-Text-clause-bound : goal.returns-in-Text-clause-bound
 returns-in-Text-clause-bound c =
     let octets : List ℕ = c.args.contents.now in
     let short : length octets ≤ 64 = search rules in
     grown c.args.held.now c.write_quoted.new.held (32 ∷ quoted_text c.args.kind octets) 330 c.write_quoted.ensures
-        (text-short c.args.kind octets short)
+    (text-short c.args.kind octets short)
 
 pub returns-in-Octets-clause-bound : goal.returns-in-Octets-clause-bound
 returns-in-Octets-clause-bound c =
     let octets : List ℕ = c.args.contents.now in
     let short : length octets ≤ 64 = search rules in
     grown c.args.held.now c.spaced_pairs.new.self (spaced_pairs octets) 330 c.spaced_pairs.ensures
-        (pairs-short octets short)
+    (pairs-short octets short)

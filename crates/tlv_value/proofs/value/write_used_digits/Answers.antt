@@ -11,7 +11,7 @@ add-requires-in-loop-octet c =
     let prefix : List ℕ = c.in-Some.prefix.now in
     let i : ℕ = c.loop-octet.octet-index in
     let all : length c.args.octets.now ≡ length prefix + 1 =
-        ap length c.in-Some.ensures.cases.0 ∙ length-append prefix (c.in-Some.last.now ∷ []) in
+    ap length c.in-Some.ensures.cases.0 ∙ length-append prefix (c.in-Some.last.now ∷ []) in
     let size = length-digits_of_octet (get_or prefix i 0) in
     omega (
       arith,
@@ -32,7 +32,7 @@ add-requires-2 c =
     let prefix : List ℕ = c.in-Some.prefix.now in
     let i : ℕ = c.loop-octet.octet-index in
     let all : length c.args.octets.now ≡ length prefix + 1 =
-        ap length c.in-Some.ensures.cases.0 ∙ length-append prefix (c.in-Some.last.now ∷ []) in
+    ap length c.in-Some.ensures.cases.0 ∙ length-append prefix (c.in-Some.last.now ∷ []) in
     omega (
       arith,
       ap length c.loop-octet.invariant,
@@ -53,17 +53,17 @@ returns c =
     let digits : List ℕ = digits_of_bits (last_bits 8 c.in-Some.last.now) in
     let looped : c.loop-octet.held ≡ c.args.held.now ++ shown =
     c.loop-octet.invariant
-        ∙ ap (λ (l : List ℕ). c.args.held.now ++ 32 ∷ digits_of_bits (bits_of l))
-            (take_all c.loop-octet.octet-index prefix (omega (arith, c.loop-octet-test.false))) in
+    ∙ ap (λ (l : List ℕ). c.args.held.now ++ 32 ∷ digits_of_bits (bits_of l))
+    (take_all c.loop-octet.octet-index prefix (omega (arith, c.loop-octet-test.false))) in
     let added : c.add-2.new.self ≡ (c.args.held.now ++ shown) ++ digits =
-        c.add-2.ensures ∙ ap₂ (λ (l d : List ℕ). l ++ d) looped c.digits_of_octet-2.ensures in
+    c.add-2.ensures ∙ ap₂ (λ (l d : List ℕ). l ++ d) looped c.digits_of_octet-2.ensures in
     let n : ℕ = c.len.result - c.from.result in
     let cut =
-        digits-cut c.args.held.now shown digits c.args.unused n c.requires.unused
-            (length-digits_of_octet c.in-Some.last.now)
+    digits-cut c.args.held.now shown digits c.args.unused n c.requires.unused
+    (length-digits_of_octet c.in-Some.last.now)
     (omega (arith, c.len.ensures.count, ap length added, c.from.ensures)) in
     let used : used_digits c.args.unused c.args.octets.now ≡ shown ++ take (8 - c.args.unused) digits =
     ap (used_digits c.args.unused) c.in-Some.ensures.cases.0
-        ∙ used-last c.args.unused prefix c.in-Some.last.now c.requires.unused in
+    ∙ used-last c.args.unused prefix c.in-Some.last.now c.requires.unused in
     c.truncate.ensures ∙ ap (λ (l : List ℕ). take n l) added ∙ cut
-        ∙ ap (λ (l : List ℕ). c.args.held.now ++ l) (sym used)
+    ∙ ap (λ (l : List ℕ). c.args.held.now ++ l) (sym used)

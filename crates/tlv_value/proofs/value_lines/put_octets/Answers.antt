@@ -8,24 +8,28 @@ use Rattle.tlv_value.proofs.value_lines.put_octets.Goals as goal
 
 pub add-requires : goal.add-requires
 add-requires g c =
-    omega
-        (arith, added _ _ (spaced_pairs c.args.contents.now) c.spaced_pairs.ensures, spaced-short c.args.contents.now,
-            c.requires.room, c.if-contents-le16.true)
+    omega (
+      arith,
+      added _ _ (spaced_pairs c.args.contents.now) c.spaced_pairs.ensures,
+      spaced-short c.args.contents.now,
+      c.requires.room,
+      c.if-contents-le16.true,
+    )
 
 pub returns : goal.returns
 returns g c =
     let state_of = g.D.Drain.state in
     puts_then_as state_of _ _ _ _ _ _ (tt {0}) _ (puts_held state_of _ _ (10 ∷ []) (tt {0}) refl c.add-2.ensures)
-        c.put_all_rows.ensures
-        (octets_long c.args.layout c.args.contents.now (omega (arith, c.if-contents-le16.false)))
+    c.put_all_rows.ensures
+    (octets_long c.args.layout c.args.contents.now (omega (arith, c.if-contents-le16.false)))
 
 pub returns-then-contents-le16 : goal.returns-then-contents-le16
 returns-then-contents-le16 g c =
     let text : List ℕ = spaced_pairs c.args.contents.now in
     let all =
-        c.add.ensures ∙ ap (λ (l : List ℕ). l ++ 10 ∷ []) c.spaced_pairs.ensures
-            ∙ append_assoc c.args.out.now.held text (10 ∷ []) in
+    c.add.ensures ∙ ap (λ (l : List ℕ). l ++ 10 ∷ []) c.spaced_pairs.ensures
+    ∙ append_assoc c.args.out.now.held text (10 ∷ []) in
     puts_held g.D.Drain.state _ _ _ _ refl
-        (all
-            ∙ ap (λ (l : List ℕ). c.args.out.now.held ++ l)
-                (octets_short c.args.layout c.args.contents.now c.if-contents-le16.true))
+    (all
+    ∙ ap (λ (l : List ℕ). c.args.out.now.held ++ l)
+    (octets_short c.args.layout c.args.contents.now c.if-contents-le16.true))

@@ -9,9 +9,12 @@ bytes-requires g c = omega (arith, ap (λ (t : ValueTextState). t.left) c.of-tex
 
 pub end-requires : goal.end-requires
 end-requires g c =
-    omega
-        (arith, ap (λ (t : ValueTextState). t.left) c.in_ok-bytes.ensures.state,
-            ap (λ (t : ValueTextState). t.left) c.of-text.ensures, c.requires)
+    omega (
+      arith,
+      ap (λ (t : ValueTextState). t.left) c.in_ok-bytes.ensures.state,
+      ap (λ (t : ValueTextState). t.left) c.of-text.ensures,
+      c.requires,
+    )
 
 pub returns-in_err-begin : goal.returns-in_err-begin
 returns-in_err-begin g c =
@@ -29,14 +32,14 @@ returns-in_err-bytes g c =
     let octets : List ℕ = c.args.contents.now in
     let s : ValueTextState = c.of-text.result in
     let begun =
-        puts_then_as g.D.Drain.state _ _ _ (begin_lines s) (contents_lines s octets)
-            (begin_lines s ++ contents_lines s octets) _ _ c.in_ok-begin.ensures.puts c.in_err-bytes.ensures.puts
-            refl in
+    puts_then_as g.D.Drain.state _ _ _ (begin_lines s) (contents_lines s octets)
+    (begin_lines s ++ contents_lines s octets) _ _ c.in_ok-begin.ensures.puts c.in_err-bytes.ensures.puts
+    refl in
     puts_failed_in g.D.Drain.state _ _ (begin_lines s ++ contents_lines s octets) _ _ _ begun (search rules) (record {
       rest = end_lines name_of (value_text_after s octets);
       is =
           append_assoc (begin_lines s) (contents_lines s octets) (end_lines name_of (value_text_after s octets))
-              ∙ ap (λ (t : ValueTextState). lines_in_steps name_of t octets) c.of-text.ensures;
+          ∙ ap (λ (t : ValueTextState). lines_in_steps name_of t octets) c.of-text.ensures;
     })
 
 pub returns : goal.returns
@@ -45,10 +48,10 @@ returns g c =
     let octets : List ℕ = c.args.contents.now in
     let s : ValueTextState = c.of-text.result in
     let end =
-        puts_text g.D.Drain.state _ _ _ _ _ (ap (end_lines name_of) c.in_ok-bytes.ensures.state) c.end.ensures.puts in
+    puts_text g.D.Drain.state _ _ _ _ _ (ap (end_lines name_of) c.in_ok-bytes.ensures.state) c.end.ensures.puts in
     let rest =
-        puts_then_as g.D.Drain.state _ _ _ (contents_lines s octets) (end_lines name_of (value_text_after s octets))
-            (contents_lines s octets ++ end_lines name_of (value_text_after s octets)) _ _ c.in_ok-bytes.ensures.puts
-            end refl in
+    puts_then_as g.D.Drain.state _ _ _ (contents_lines s octets) (end_lines name_of (value_text_after s octets))
+    (contents_lines s octets ++ end_lines name_of (value_text_after s octets)) _ _ c.in_ok-bytes.ensures.puts
+    end refl in
     puts_then_as g.D.Drain.state _ _ _ _ _ _ _ _ c.in_ok-begin.ensures.puts rest
-        (ap (λ (t : ValueTextState). lines_in_steps name_of t octets) c.of-text.ensures)
+    (ap (λ (t : ValueTextState). lines_in_steps name_of t octets) c.of-text.ensures)

@@ -5,6 +5,6 @@ use Rattle.tlv_value.proofs.whole.put_long.Goals as goal
 pub returns-then-has_pairs : goal.returns-then-has_pairs
 returns-then-has_pairs g c =
     puts_text g.D.Drain.state
-        _ _ _ _ _ (new-long (g.N.NameTable.name_of c.args.names.now) c.args.primitive.now c.args.contents.now
-            c.requires.long c.requires.whole)
-        c.put_pairs.ensures
+    _ _ _ _ _ (new-long (g.N.NameTable.name_of c.args.names.now) c.args.primitive.now c.args.contents.now
+    c.requires.long c.requires.whole)
+    c.put_pairs.ensures

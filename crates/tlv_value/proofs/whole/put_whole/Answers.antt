@@ -11,17 +11,17 @@ pub returns-then-is_long : goal.returns-then-is_long
 returns-then-is_long g c =
     let name_of = g.N.NameTable.name_of c.args.names.now in
     let steps =
-        ap (λ (p : Primitive). lines_in_steps name_of (new_value_text_of p) c.args.contents.now)
-            c.new-primitive.ensures in
+    ap (λ (p : Primitive). lines_in_steps name_of (new_value_text_of p) c.args.contents.now)
+    c.new-primitive.ensures in
     puts_text g.D.Drain.state
-        _ _ _ _ _ (steps ∙ whole-new name_of c.args.header.now c.args.layout c.args.contents.now (sym c.requires))
-        c.put_long.ensures
+    _ _ _ _ _ (steps ∙ whole-new name_of c.args.header.now c.args.layout c.args.contents.now (sym c.requires))
+    c.put_long.ensures
 
 pub returns-else-is_long : goal.returns-else-is_long
 returns-else-is_long g c =
     let short =
-        sym (ap (λ (p : Primitive). is_long p.kind p.size) c.new-primitive.ensures) ∙ sym c.if-is_long.ensures in
+    sym (ap (λ (p : Primitive). is_long p.kind p.size) c.new-primitive.ensures) ∙ sym c.if-is_long.ensures in
     puts_text g.D.Drain.state
-        _ _ _ _ _ (shown-new _ c.args.header.now c.args.layout c.new-primitive.result c.args.contents.now
-            c.new-primitive.ensures short (sym c.requires))
-        c.put.ensures
+    _ _ _ _ _ (shown-new _ c.args.header.now c.args.layout c.new-primitive.result c.args.contents.now
+    c.new-primitive.ensures short (sym c.requires))
+    c.put.ensures

@@ -17,8 +17,8 @@ use Rattle.tlv_walk.proofs.drive_call.drive_up_to.Goals as goal
 drives_lent : {S D : Type 0} (next : S → EventValue → Effect S) (drain : D → DrainState) (f : Framing) (limit : ℕ)
     (s t : S) (old new : SourceState) (d d' e e' : D)
     (result : Result Run DeviceFault) → d ≡ e → d' ≡ e'
-        → Drives next f limit (drive_states s old (drain e)) (drive_states t new (drain e')) result
-        → Drives next f limit (drive_states s old (drain d)) (drive_states t new (drain d')) result
+    → Drives next f limit (drive_states s old (drain e)) (drive_states t new (drain e')) result
+    → Drives next f limit (drive_states s old (drain d)) (drive_states t new (drain d')) result
 drives_lent next drain f limit s t old new d d' e e' result from to x = rw (from, to) x
 
 pub turns-init : goal.turns-init
@@ -26,7 +26,7 @@ turns-init g c = record {
   taken = search rules;
   walking =
       rw c.new-walker.ensures.state
-          (walking_none g.F.Follow.next _ _ _ _ (rw c.new-walker.ensures.state at c.new-walker.ensures.stands));
+      (walking_none g.F.Follow.next _ _ _ _ (rw c.new-walker.ensures.state at c.new-walker.ensures.stands));
   ready = search rules;
   piece = search rules;
   empty = search rules;
@@ -40,7 +40,7 @@ turns-preserved g c =
       taken = search rules;
       walking =
           walking_on g.F.Follow.next law.bytes_join law.bytes_empty law.bytes_go_on law.pad_join law.pad_empty
-              law.pad_go_on _ _ _ _ _ _ c.turns.invariant.walking
+          law.pad_go_on _ _ _ _ _ _ c.turns.invariant.walking
           _ _ _ c.turn_to.ensures.read (search rules) c.turns.invariant.taken (search rules);
       ready = search rules;
       piece = search rules;
@@ -53,16 +53,16 @@ returns-in_err-turn_to g c =
     let law = g.met.F.Follow in
     let p = err_from_is_err_and c.from_residual.result c.from_residual.ensures.1 in rw (p.1, p.2)
     (drives_lent g.F.Follow.next g.D.Drain.state _ _ _ _ _ _ _ _ (drain_of c.new-out.result).now
-        (drain_of c.turn_to.new.out).now _ (sym c.new-out.ensures.taken) (search rules)
+    (drain_of c.turn_to.new.out).now _ (sym c.new-out.ensures.taken) (search rules)
     (drives_err g.F.Follow.next law.bytes_join law.bytes_empty law.bytes_go_on law.pad_join law.pad_empty
-        law.pad_go_on _ _ _ _ _ _ c.turns.invariant.walking
+    law.pad_go_on _ _ _ _ _ _ c.turns.invariant.walking
     _ _ _ c.turn_to.ensures.read (search rules) c.turns.invariant.taken c.in_err-turn_to.field-0.0 (search rules)))
 
 pub returns-in-Ended : goal.returns-in-Ended
 returns-in-Ended g c =
     let law = g.met.F.Follow in
     drives_lent g.F.Follow.next g.D.Drain.state _ _ _ _ _ _ _ _ (drain_of c.new-out.result).now
-        (drain_of c.turn_to.new.out).now _ (sym c.new-out.ensures.taken) (search rules)
+    (drain_of c.turn_to.new.out).now _ (sym c.new-out.ensures.taken) (search rules)
     (drives_ended g.F.Follow.next law.bytes_join law.bytes_empty law.bytes_go_on law.pad_join law.pad_empty
-        law.pad_go_on _ _ _ _ _ _ c.turns.invariant.walking
+    law.pad_go_on _ _ _ _ _ _ c.turns.invariant.walking
     _ _ _ c.turn_to.ensures.read (search rules) c.turns.invariant.taken _ (search rules))

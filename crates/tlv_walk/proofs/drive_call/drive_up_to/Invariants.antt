@@ -10,7 +10,7 @@ invariant-turns g l = record {
   taken : l.walker.offset ≤ l.limit;
   walking :
       Walking g.F.Follow.next l.framing l.initial.follower (g.S.Source.state l.initial.source)
-          (g.D.Drain.state (drain_of l.initial.out).now)
+      (g.D.Drain.state (drain_of l.initial.out).now)
       (turn_states l.walker l.follower (g.S.Source.state l.source) (g.D.Drain.state (drain_of l.out).now));
   ready : CanTake l.walker;
   piece : length l.piece ≡ 4096;

@@ -27,7 +27,7 @@ unmoved_event : (v w u : WalkerState) (xs ys rest : List ℕ) (e : EventValue) �
     → WalksOver v u xs rest (e ∷ []) → WalksOver w u ys rest (e ∷ [])
 unmoved_event v w u xs ys rest e p q t =
     subst (λ (o : List ℕ). WalksOver w u o rest (e ∷ [])) q
-        (subst (λ (m : WalkerState). WalksOver m u xs rest (e ∷ [])) p t)
+    (subst (λ (m : WalkerState). WalksOver m u xs rest (e ∷ [])) p t)
 
 unmoved_step : (v w u : WalkerState) (xs ys rest : List ℕ) (s : Step) → v ≡ w → xs ≡ ys → StepsTo v u xs rest s
     → StepsTo w u ys rest s
@@ -49,86 +49,86 @@ pub events-preserved-then-branch : goal.events-preserved-then-branch
 events-preserved-then-branch g c = record {
   follows =
       follows_part g.F.Follow.next g.D.Drain.state _ _ _ _ _ _ _ c.events.invariant.follows c.if-branch.true
-          c.in_ok-follow_primitive.ensures;
+      c.in_ok-follow_primitive.ensures;
   walked =
       (part_passes g.F.Follow.next g.D.Drain.state _ _ _ _ _ c.if-branch.true c.in_ok-follow_primitive.ensures).taken
-          ∙ c.events.invariant.walked;
+      ∙ c.events.invariant.walked;
 }
 
 pub events-preserved : goal.events-preserved
 events-preserved g c =
     let on : c.match-close.go ≡ go.On = not_enough _ (search rules) in
     let left =
-        follows_left g.F.Follow.next g.D.Drain.state _ _ _ _ _ _ _ c.events.invariant.follows c.if-branch.false
-            c.in_ok-follow_primitive.ensures in
+    follows_left g.F.Follow.next g.D.Drain.state _ _ _ _ _ _ _ c.events.invariant.follows c.if-branch.false
+    c.in_ok-follow_primitive.ensures in
     elim c.match-close.branch [
       | in-Some+in_ok-go-in-Some w ↦ record {
         follows =
             rw (w.out-is, w.follower-is, w.walker-is, w.rest-is, ← on, w.go-is)
-                (follows_event g.F.Follow.next g.D.Drain.state _ _ _ _ _ _ _ _ left
-                    (stands_all _ _ _ _ _ w.in-Some.ensures.yields) w.in_ok-go-in-Some.ensures.state
-                    _ w.in_ok-go-in-Some.ensures.puts);
+            (follows_event g.F.Follow.next g.D.Drain.state _ _ _ _ _ _ _ _ left
+            (stands_all _ _ _ _ _ w.in-Some.ensures.yields) w.in_ok-go-in-Some.ensures.state
+            _ w.in_ok-go-in-Some.ensures.puts);
         walked =
             rw (w.walker-is, w.rest-is)
-                (w.in-Some.ensures.steps.0.taken
-                    ∙ left_walked g.F.Follow.next g.D.Drain.state _ _ _ _ _ c.if-branch.false
-                        c.in_ok-follow_primitive.ensures
-                    ∙ c.events.invariant.walked);
+            (w.in-Some.ensures.steps.0.taken
+            ∙ left_walked g.F.Follow.next g.D.Drain.state _ _ _ _ _ c.if-branch.false
+            c.in_ok-follow_primitive.ensures
+            ∙ c.events.invariant.walked);
       }
       | in-None+in-Some-constructed+in_ok-go-in-Some-constructed w ↦ record {
         follows =
             rw (w.out-is, w.follower-is, w.walker-is, w.rest-is, ← on, w.go-is)
-                (follows_event g.F.Follow.next g.D.Drain.state _ _ _ _ _ _ _ _ left
-                    (unmoved_event _ _ _ _ _ _ _ (w.in-None.ensures.steps.0) (w.in-None.ensures.steps.1)
-                        (stands_all _ _ _ _ _ w.in-Some-constructed.ensures.yields))
-                    w.in_ok-go-in-Some-constructed.ensures.state _ w.in_ok-go-in-Some-constructed.ensures.puts);
+            (follows_event g.F.Follow.next g.D.Drain.state _ _ _ _ _ _ _ _ left
+            (unmoved_event _ _ _ _ _ _ _ (w.in-None.ensures.steps.0) (w.in-None.ensures.steps.1)
+            (stands_all _ _ _ _ _ w.in-Some-constructed.ensures.yields))
+            w.in_ok-go-in-Some-constructed.ensures.state _ w.in_ok-go-in-Some-constructed.ensures.puts);
         walked =
             rw (w.walker-is, w.rest-is)
-                (w.in-Some-constructed.ensures.steps.0.taken
-                    ∙ unmoved _ _ _ _ (w.in-None.ensures.steps.0) (w.in-None.ensures.steps.1)
-                    ∙ left_walked g.F.Follow.next g.D.Drain.state _ _ _ _ _ c.if-branch.false
-                        c.in_ok-follow_primitive.ensures
-                    ∙ c.events.invariant.walked);
+            (w.in-Some-constructed.ensures.steps.0.taken
+            ∙ unmoved _ _ _ _ (w.in-None.ensures.steps.0) (w.in-None.ensures.steps.1)
+            ∙ left_walked g.F.Follow.next g.D.Drain.state _ _ _ _ _ c.if-branch.false
+            c.in_ok-follow_primitive.ensures
+            ∙ c.events.invariant.walked);
       }
       | in-None+in-None-constructed+in-Some-contents_event+in_ok-go-in-Some-contents_event w ↦ record {
         follows =
             rw (w.out-is, w.follower-is, w.walker-is, w.rest-is, ← on, w.go-is)
-                (follows_event g.F.Follow.next g.D.Drain.state _ _ _ _ _ _ _ _ left
-                    (unmoved_event _ _ _ _ _ _ _ (w.in-None-constructed.ensures.steps.0 ∙ w.in-None.ensures.steps.0)
-                        (w.in-None-constructed.ensures.steps.1 ∙ w.in-None.ensures.steps.1)
-                        (stands_all _ _ _ _ _ w.in-Some-contents_event.ensures.yields))
-                    w.in_ok-go-in-Some-contents_event.ensures.state _ w.in_ok-go-in-Some-contents_event.ensures.puts);
+            (follows_event g.F.Follow.next g.D.Drain.state _ _ _ _ _ _ _ _ left
+            (unmoved_event _ _ _ _ _ _ _ (w.in-None-constructed.ensures.steps.0 ∙ w.in-None.ensures.steps.0)
+            (w.in-None-constructed.ensures.steps.1 ∙ w.in-None.ensures.steps.1)
+            (stands_all _ _ _ _ _ w.in-Some-contents_event.ensures.yields))
+            w.in_ok-go-in-Some-contents_event.ensures.state _ w.in_ok-go-in-Some-contents_event.ensures.puts);
         walked =
             rw (w.walker-is, w.rest-is)
-                (w.in-Some-contents_event.ensures.steps.0.taken
-                    ∙ unmoved _ _ _ _ (w.in-None-constructed.ensures.steps.0 ∙ w.in-None.ensures.steps.0)
-                        (w.in-None-constructed.ensures.steps.1 ∙ w.in-None.ensures.steps.1)
-                    ∙ left_walked g.F.Follow.next g.D.Drain.state _ _ _ _ _ c.if-branch.false
-                        c.in_ok-follow_primitive.ensures
-                    ∙ c.events.invariant.walked);
+            (w.in-Some-contents_event.ensures.steps.0.taken
+            ∙ unmoved _ _ _ _ (w.in-None-constructed.ensures.steps.0 ∙ w.in-None.ensures.steps.0)
+            (w.in-None-constructed.ensures.steps.1 ∙ w.in-None.ensures.steps.1)
+            ∙ left_walked g.F.Follow.next g.D.Drain.state _ _ _ _ _ c.if-branch.false
+            c.in_ok-follow_primitive.ensures
+            ∙ c.events.invariant.walked);
       }
       | in-None+in-None-constructed+in-None-contents_event+in-Event+in_ok-go-in-Event w ↦ record {
         follows =
             rw (w.out-is, w.follower-is, w.walker-is, w.rest-is, ← on, w.go-is)
-                (follows_event g.F.Follow.next g.D.Drain.state _ _ _ _ _ _ _ _ left
-                    (unmoved_event
-                        _ _ _ _ _ _ _ (w.in-None-contents_event.ensures.steps.0
-                            ∙ w.in-None-constructed.ensures.steps.0 ∙ w.in-None.ensures.steps.0)
-                        (w.in-None-contents_event.ensures.steps.1 ∙ w.in-None-constructed.ensures.steps.1
-                            ∙ w.in-None.ensures.steps.1)
-                        (walked_event _ _ _ _ _ w.in-Event.ensures))
-                    w.in_ok-go-in-Event.ensures.state _ w.in_ok-go-in-Event.ensures.puts);
+            (follows_event g.F.Follow.next g.D.Drain.state _ _ _ _ _ _ _ _ left
+            (unmoved_event
+            _ _ _ _ _ _ _ (w.in-None-contents_event.ensures.steps.0
+            ∙ w.in-None-constructed.ensures.steps.0 ∙ w.in-None.ensures.steps.0)
+            (w.in-None-contents_event.ensures.steps.1 ∙ w.in-None-constructed.ensures.steps.1
+            ∙ w.in-None.ensures.steps.1)
+            (walked_event _ _ _ _ _ w.in-Event.ensures))
+            w.in_ok-go-in-Event.ensures.state _ w.in_ok-go-in-Event.ensures.puts);
         walked =
             rw (w.walker-is, w.rest-is)
-                (event_offset _ _ _ _ _ w.in-Event.ensures
-                    ∙ unmoved
-                        _ _ _ _ (w.in-None-contents_event.ensures.steps.0 ∙ w.in-None-constructed.ensures.steps.0
-                            ∙ w.in-None.ensures.steps.0)
-                        (w.in-None-contents_event.ensures.steps.1 ∙ w.in-None-constructed.ensures.steps.1
-                            ∙ w.in-None.ensures.steps.1)
-                    ∙ left_walked g.F.Follow.next g.D.Drain.state _ _ _ _ _ c.if-branch.false
-                        c.in_ok-follow_primitive.ensures
-                    ∙ c.events.invariant.walked);
+            (event_offset _ _ _ _ _ w.in-Event.ensures
+            ∙ unmoved
+            _ _ _ _ (w.in-None-contents_event.ensures.steps.0 ∙ w.in-None-constructed.ensures.steps.0
+            ∙ w.in-None.ensures.steps.0)
+            (w.in-None-contents_event.ensures.steps.1 ∙ w.in-None-constructed.ensures.steps.1
+            ∙ w.in-None.ensures.steps.1)
+            ∙ left_walked g.F.Follow.next g.D.Drain.state _ _ _ _ _ c.if-branch.false
+            c.in_ok-follow_primitive.ensures
+            ∙ c.events.invariant.walked);
       }
     ]
 
@@ -136,127 +136,127 @@ pub returns-in_err-follow_primitive : goal.returns-in_err-follow_primitive
 returns-in_err-follow_primitive g c =
     let p = err_from_is_err_and c.from_residual.result c.from_residual.ensures.1 in rw p.1
     (fails_part g.F.Follow.next g.D.Drain.state _ _ _ _ _ _ _ _ c.events.invariant.follows
-        c.in_err-follow_primitive.ensures)
+    c.in_err-follow_primitive.ensures)
 
 pub returns-in_err-go-in-Some : goal.returns-in_err-go-in-Some
 returns-in_err-go-in-Some g c =
     let p = err_from_is_err_and c.from_residual-in_err-go-in-Some.result c.from_residual-in_err-go-in-Some.ensures.1 in
     let left =
-        follows_left g.F.Follow.next g.D.Drain.state _ _ _ _ _ _ _ c.events.invariant.follows c.if-branch.false
-            c.in_ok-follow_primitive.ensures in
+    follows_left g.F.Follow.next g.D.Drain.state _ _ _ _ _ _ _ c.events.invariant.follows c.if-branch.false
+    c.in_ok-follow_primitive.ensures in
     rw p.1
     (fails_event g.F.Follow.next g.D.Drain.state _ _ _ _ _ _ _ _ left (stands_all _ _ _ _ _ c.in-Some.ensures.yields)
-        _ _ c.in_err-go-in-Some.ensures.puts)
+    _ _ c.in_err-go-in-Some.ensures.puts)
 
 pub returns-in_err-go-in-Some-constructed : goal.returns-in_err-go-in-Some-constructed
 returns-in_err-go-in-Some-constructed g c =
     let p =
-        err_from_is_err_and c.from_residual-in_err-go-in-Some-constructed.result
-            c.from_residual-in_err-go-in-Some-constructed.ensures.1 in
+    err_from_is_err_and c.from_residual-in_err-go-in-Some-constructed.result
+    c.from_residual-in_err-go-in-Some-constructed.ensures.1 in
     let left =
-        follows_left g.F.Follow.next g.D.Drain.state _ _ _ _ _ _ _ c.events.invariant.follows c.if-branch.false
-            c.in_ok-follow_primitive.ensures in
+    follows_left g.F.Follow.next g.D.Drain.state _ _ _ _ _ _ _ c.events.invariant.follows c.if-branch.false
+    c.in_ok-follow_primitive.ensures in
     rw p.1
     (fails_event g.F.Follow.next g.D.Drain.state _ _ _ _ _ _ _ _ left
-        (unmoved_event _ _ _ _ _ _ _ (c.in-None.ensures.steps.0) (c.in-None.ensures.steps.1)
-            (stands_all _ _ _ _ _ c.in-Some-constructed.ensures.yields))
-        _ _ c.in_err-go-in-Some-constructed.ensures.puts)
+    (unmoved_event _ _ _ _ _ _ _ (c.in-None.ensures.steps.0) (c.in-None.ensures.steps.1)
+    (stands_all _ _ _ _ _ c.in-Some-constructed.ensures.yields))
+    _ _ c.in_err-go-in-Some-constructed.ensures.puts)
 
 pub returns-in_err-go-in-Some-contents_event : goal.returns-in_err-go-in-Some-contents_event
 returns-in_err-go-in-Some-contents_event g c =
     let p =
-        err_from_is_err_and c.from_residual-in_err-go-in-Some-contents_event.result
-            c.from_residual-in_err-go-in-Some-contents_event.ensures.1 in
+    err_from_is_err_and c.from_residual-in_err-go-in-Some-contents_event.result
+    c.from_residual-in_err-go-in-Some-contents_event.ensures.1 in
     let left =
-        follows_left g.F.Follow.next g.D.Drain.state _ _ _ _ _ _ _ c.events.invariant.follows c.if-branch.false
-            c.in_ok-follow_primitive.ensures in
+    follows_left g.F.Follow.next g.D.Drain.state _ _ _ _ _ _ _ c.events.invariant.follows c.if-branch.false
+    c.in_ok-follow_primitive.ensures in
     rw p.1
     (fails_event g.F.Follow.next g.D.Drain.state _ _ _ _ _ _ _ _ left
-        (unmoved_event _ _ _ _ _ _ _ (c.in-None-constructed.ensures.steps.0 ∙ c.in-None.ensures.steps.0)
-            (c.in-None-constructed.ensures.steps.1 ∙ c.in-None.ensures.steps.1)
-            (stands_all _ _ _ _ _ c.in-Some-contents_event.ensures.yields))
-        _ _ c.in_err-go-in-Some-contents_event.ensures.puts)
+    (unmoved_event _ _ _ _ _ _ _ (c.in-None-constructed.ensures.steps.0 ∙ c.in-None.ensures.steps.0)
+    (c.in-None-constructed.ensures.steps.1 ∙ c.in-None.ensures.steps.1)
+    (stands_all _ _ _ _ _ c.in-Some-contents_event.ensures.yields))
+    _ _ c.in_err-go-in-Some-contents_event.ensures.puts)
 
 pub returns-in_err-go-in-Event : goal.returns-in_err-go-in-Event
 returns-in_err-go-in-Event g c =
     let p =
-        err_from_is_err_and c.from_residual-in_err-go-in-Event.result c.from_residual-in_err-go-in-Event.ensures.1 in
+    err_from_is_err_and c.from_residual-in_err-go-in-Event.result c.from_residual-in_err-go-in-Event.ensures.1 in
     let left =
-        follows_left g.F.Follow.next g.D.Drain.state _ _ _ _ _ _ _ c.events.invariant.follows c.if-branch.false
-            c.in_ok-follow_primitive.ensures in
+    follows_left g.F.Follow.next g.D.Drain.state _ _ _ _ _ _ _ c.events.invariant.follows c.if-branch.false
+    c.in_ok-follow_primitive.ensures in
     rw p.1
     (fails_event g.F.Follow.next g.D.Drain.state _ _ _ _ _ _ _ _ left
-        (unmoved_event
-            _ _ _ _ _ _ _ (c.in-None-contents_event.ensures.steps.0 ∙ c.in-None-constructed.ensures.steps.0
-                ∙ c.in-None.ensures.steps.0)
-            (c.in-None-contents_event.ensures.steps.1 ∙ c.in-None-constructed.ensures.steps.1
-                ∙ c.in-None.ensures.steps.1)
-            (walked_event _ _ _ _ _ c.in-Event.ensures))
-        _ _ c.in_err-go-in-Event.ensures.puts)
+    (unmoved_event
+    _ _ _ _ _ _ _ (c.in-None-contents_event.ensures.steps.0 ∙ c.in-None-constructed.ensures.steps.0
+    ∙ c.in-None.ensures.steps.0)
+    (c.in-None-contents_event.ensures.steps.1 ∙ c.in-None-constructed.ensures.steps.1
+    ∙ c.in-None.ensures.steps.1)
+    (walked_event _ _ _ _ _ c.in-Event.ensures))
+    _ _ c.in_err-go-in-Event.ensures.puts)
 
 pub returns-in-NeedMore : goal.returns-in-NeedMore
 returns-in-NeedMore g c =
     pauses_used_up g.F.Follow.next g.D.Drain.state
-        _ _ _ _ _ _ (follows_left g.F.Follow.next g.D.Drain.state _ _ _ _ _ _ _ c.events.invariant.follows
-            c.if-branch.false c.in_ok-follow_primitive.ensures)
+    _ _ _ _ _ _ (follows_left g.F.Follow.next g.D.Drain.state _ _ _ _ _ _ _ c.events.invariant.follows
+    c.if-branch.false c.in_ok-follow_primitive.ensures)
     (unmoved_step c.contents_event.new.self _ c.step-next.new.self c.contents_event.new.piece.now
-        _ c.step-next.new.piece.now step.NeedMore
-        (c.in-None-contents_event.ensures.steps.0 ∙ c.in-None-constructed.ensures.steps.0 ∙ c.in-None.ensures.steps.0)
-        (c.in-None-contents_event.ensures.steps.1 ∙ c.in-None-constructed.ensures.steps.1 ∙ c.in-None.ensures.steps.1)
-        c.in-NeedMore.ensures)
+    _ c.step-next.new.piece.now step.NeedMore
+    (c.in-None-contents_event.ensures.steps.0 ∙ c.in-None-constructed.ensures.steps.0 ∙ c.in-None.ensures.steps.0)
+    (c.in-None-contents_event.ensures.steps.1 ∙ c.in-None-constructed.ensures.steps.1 ∙ c.in-None.ensures.steps.1)
+    c.in-NeedMore.ensures)
     (left_walked g.F.Follow.next g.D.Drain.state _ _ _ _ _ c.if-branch.false c.in_ok-follow_primitive.ensures
-        ∙ c.events.invariant.walked)
+    ∙ c.events.invariant.walked)
 
 pub returns-in-Fault : goal.returns-in-Fault
 returns-in-Fault g c =
     pauses_fault g.F.Follow.next g.D.Drain.state
-        _ _ _ _ _ _ _ (follows_left g.F.Follow.next g.D.Drain.state _ _ _ _ _ _ _ c.events.invariant.follows
-            c.if-branch.false c.in_ok-follow_primitive.ensures)
+    _ _ _ _ _ _ _ (follows_left g.F.Follow.next g.D.Drain.state _ _ _ _ _ _ _ c.events.invariant.follows
+    c.if-branch.false c.in_ok-follow_primitive.ensures)
     (unmoved_step c.contents_event.new.self _ c.step-next.new.self c.contents_event.new.piece.now
-        _ c.step-next.new.piece.now (step.Fault c.in-Fault.fault)
-        (c.in-None-contents_event.ensures.steps.0 ∙ c.in-None-constructed.ensures.steps.0 ∙ c.in-None.ensures.steps.0)
-        (c.in-None-contents_event.ensures.steps.1 ∙ c.in-None-constructed.ensures.steps.1 ∙ c.in-None.ensures.steps.1)
-        c.in-Fault.ensures)
+    _ c.step-next.new.piece.now (step.Fault c.in-Fault.fault)
+    (c.in-None-contents_event.ensures.steps.0 ∙ c.in-None-constructed.ensures.steps.0 ∙ c.in-None.ensures.steps.0)
+    (c.in-None-contents_event.ensures.steps.1 ∙ c.in-None-constructed.ensures.steps.1 ∙ c.in-None.ensures.steps.1)
+    c.in-Fault.ensures)
 
 pub returns-then-eq : goal.returns-then-eq
 returns-then-eq g c =
     let enough : c.match-close.go ≡ go.Enough = not_on _ (search rules) in
     let left =
-        follows_left g.F.Follow.next g.D.Drain.state _ _ _ _ _ _ _ c.events.invariant.follows c.if-branch.false
-            c.in_ok-follow_primitive.ensures in
+    follows_left g.F.Follow.next g.D.Drain.state _ _ _ _ _ _ _ c.events.invariant.follows c.if-branch.false
+    c.in_ok-follow_primitive.ensures in
     elim c.match-close.branch [
       | in-Some+in_ok-go-in-Some w ↦ rw (w.out-is, w.follower-is, w.walker-is)
           (pauses_enough g.F.Follow.next g.D.Drain.state
-              _ _ _ _ _ (follows_event g.F.Follow.next g.D.Drain.state _ _ _ _ _ _ _ _ left
-                  (stands_all _ _ _ _ _ w.in-Some.ensures.yields) w.in_ok-go-in-Some.ensures.state
-                  _ w.in_ok-go-in-Some.ensures.puts)
-              (sym w.go-is ∙ enough) w.in-Some.ensures.steps.0.after_event)
+          _ _ _ _ _ (follows_event g.F.Follow.next g.D.Drain.state _ _ _ _ _ _ _ _ left
+          (stands_all _ _ _ _ _ w.in-Some.ensures.yields) w.in_ok-go-in-Some.ensures.state
+          _ w.in_ok-go-in-Some.ensures.puts)
+          (sym w.go-is ∙ enough) w.in-Some.ensures.steps.0.after_event)
       | in-None+in-Some-constructed+in_ok-go-in-Some-constructed w ↦ rw (w.out-is, w.follower-is, w.walker-is)
           (pauses_enough g.F.Follow.next g.D.Drain.state
-              _ _ _ _ _ (follows_event g.F.Follow.next g.D.Drain.state _ _ _ _ _ _ _ _ left
-                  (unmoved_event _ _ _ _ _ _ _ (w.in-None.ensures.steps.0) (w.in-None.ensures.steps.1)
-                      (stands_all _ _ _ _ _ w.in-Some-constructed.ensures.yields))
-                  w.in_ok-go-in-Some-constructed.ensures.state _ w.in_ok-go-in-Some-constructed.ensures.puts)
-              (sym w.go-is ∙ enough) w.in-Some-constructed.ensures.steps.0.after_event)
+          _ _ _ _ _ (follows_event g.F.Follow.next g.D.Drain.state _ _ _ _ _ _ _ _ left
+          (unmoved_event _ _ _ _ _ _ _ (w.in-None.ensures.steps.0) (w.in-None.ensures.steps.1)
+          (stands_all _ _ _ _ _ w.in-Some-constructed.ensures.yields))
+          w.in_ok-go-in-Some-constructed.ensures.state _ w.in_ok-go-in-Some-constructed.ensures.puts)
+          (sym w.go-is ∙ enough) w.in-Some-constructed.ensures.steps.0.after_event)
       | in-None+in-None-constructed+in-Some-contents_event+in_ok-go-in-Some-contents_event w ↦
           rw (w.out-is, w.follower-is, w.walker-is)
           (pauses_enough g.F.Follow.next g.D.Drain.state
-              _ _ _ _ _ (follows_event g.F.Follow.next g.D.Drain.state _ _ _ _ _ _ _ _ left
-                  (unmoved_event _ _ _ _ _ _ _ (w.in-None-constructed.ensures.steps.0 ∙ w.in-None.ensures.steps.0)
-                      (w.in-None-constructed.ensures.steps.1 ∙ w.in-None.ensures.steps.1)
-                      (stands_all _ _ _ _ _ w.in-Some-contents_event.ensures.yields))
-                  w.in_ok-go-in-Some-contents_event.ensures.state _ w.in_ok-go-in-Some-contents_event.ensures.puts)
-              (sym w.go-is ∙ enough) w.in-Some-contents_event.ensures.steps.0.after_event)
+          _ _ _ _ _ (follows_event g.F.Follow.next g.D.Drain.state _ _ _ _ _ _ _ _ left
+          (unmoved_event _ _ _ _ _ _ _ (w.in-None-constructed.ensures.steps.0 ∙ w.in-None.ensures.steps.0)
+          (w.in-None-constructed.ensures.steps.1 ∙ w.in-None.ensures.steps.1)
+          (stands_all _ _ _ _ _ w.in-Some-contents_event.ensures.yields))
+          w.in_ok-go-in-Some-contents_event.ensures.state _ w.in_ok-go-in-Some-contents_event.ensures.puts)
+          (sym w.go-is ∙ enough) w.in-Some-contents_event.ensures.steps.0.after_event)
       | in-None+in-None-constructed+in-None-contents_event+in-Event+in_ok-go-in-Event w ↦
           rw (w.out-is, w.follower-is, w.walker-is)
           (pauses_enough g.F.Follow.next g.D.Drain.state
-              _ _ _ _ _ (follows_event g.F.Follow.next g.D.Drain.state _ _ _ _ _ _ _ _ left
-                  (unmoved_event
-                      _ _ _ _ _ _ _ (w.in-None-contents_event.ensures.steps.0 ∙ w.in-None-constructed.ensures.steps.0
-                          ∙ w.in-None.ensures.steps.0)
-                      (w.in-None-contents_event.ensures.steps.1 ∙ w.in-None-constructed.ensures.steps.1
-                          ∙ w.in-None.ensures.steps.1)
-                      (walked_event _ _ _ _ _ w.in-Event.ensures))
-                  w.in_ok-go-in-Event.ensures.state _ w.in_ok-go-in-Event.ensures.puts)
-              (sym w.go-is ∙ enough) w.in-Event.ensures.phase)
+          _ _ _ _ _ (follows_event g.F.Follow.next g.D.Drain.state _ _ _ _ _ _ _ _ left
+          (unmoved_event
+          _ _ _ _ _ _ _ (w.in-None-contents_event.ensures.steps.0 ∙ w.in-None-constructed.ensures.steps.0
+          ∙ w.in-None.ensures.steps.0)
+          (w.in-None-contents_event.ensures.steps.1 ∙ w.in-None-constructed.ensures.steps.1
+          ∙ w.in-None.ensures.steps.1)
+          (walked_event _ _ _ _ _ w.in-Event.ensures))
+          w.in_ok-go-in-Event.ensures.state _ w.in_ok-go-in-Event.ensures.puts)
+          (sym w.go-is ∙ enough) w.in-Event.ensures.phase)
     ]

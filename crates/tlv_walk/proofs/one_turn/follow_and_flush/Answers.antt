@@ -16,10 +16,10 @@ returns-in_err-flush g c =
     let octets : AreOctets c.args.piece.now = grind (arith, elements) in
     let p = err_from_is_err_and c.from_residual-in_err-flush.result c.from_residual-in_err-flush.ensures.1 in rw p.1
     (pauses_unflushed g.F.Follow.next g.D.Drain.state _ _ _ _ octets c.requires.empty _ _ _ c.in_ok-pause.ensures
-        c.in_err-flush.ensures.puts)
+    c.in_err-flush.ensures.puts)
 
 pub returns : goal.returns
 returns g c =
     let octets : AreOctets c.args.piece.now = grind (arith, elements) in
     pauses_flushed g.F.Follow.next g.D.Drain.state _ _ _ _ octets c.requires.empty _ c.in_ok-pause.ensures
-        c.in_ok-flush.ensures.puts (search rules)
+    c.in_ok-flush.ensures.puts (search rules)

@@ -11,13 +11,13 @@ pub returns-in_default-follow_and_flush-clause-read : goal.returns-in_default-fo
 returns-in_default-follow_and_flush-clause-read g c = record {
   calls =
       calls_given g.F.Follow.next _ _ _ c.in-Ok.count _ (rw c.in-Ok.is at c.read.ensures) (search rules)
-          (search rules) refl (search rules);
+      (search rules) refl (search rules);
   octets = grind (arith, elements);
   turned = λ b yielded st.
       turns_failed g.F.Follow.next _ _ c.args.out.now c.follow_and_flush.new.out b yielded c.read.new.to
-          _ _ c.in-Ok.count c.min-walked.result c.args.limit st
+      _ _ c.in-Ok.count c.min-walked.result c.args.limit st
       (search rules) c.requires.taken (search rules) refl (search rules) c.in_default-follow_and_flush.ensures.octets
-          g.D.Drain.state refl refl _ c.in_default-follow_and_flush.ensures;
+      g.D.Drain.state refl refl _ c.in_default-follow_and_flush.ensures;
   goes_on = tt;
 }
 
@@ -25,30 +25,30 @@ pub result_of_pause-requires : goal.result_of_pause-requires
 result_of_pause-requires g c used =
     used_up_ready g.F.Follow.next
     (follow_states c.args.walker.now c.args.follower.now c.args.out.now)
-        (follow_states c.follow_and_flush.new.walker c.follow_and_flush.new.follower c.follow_and_flush.new.out)
+    (follow_states c.follow_and_flush.new.walker c.follow_and_flush.new.follower c.follow_and_flush.new.out)
     _ _ _ c.in-Ok-follow_and_flush.ensures.pauses used
 
 pub returns-clause-read : goal.returns-clause-read
 returns-clause-read g c =
     let old =
-        turn_states c.args.walker.now c.args.follower.now (g.S.Source.state c.args.source.now)
-            (g.D.Drain.state (drain_of c.args.out.now).now) in
+    turn_states c.args.walker.now c.args.follower.now (g.S.Source.state c.args.source.now)
+    (g.D.Drain.state (drain_of c.args.out.now).now) in
     let new =
     turn_states c.follow_and_flush.new.walker c.follow_and_flush.new.follower (g.S.Source.state c.read.new.self)
-        (g.D.Drain.state (drain_of c.follow_and_flush.new.out).now) in
+    (g.D.Drain.state (drain_of c.follow_and_flush.new.out).now) in
     record {
       calls =
           calls_answered g.F.Follow.next old new c.read.new.to c.in-Ok.count _ _ _ _ (rw c.in-Ok.is at c.read.ensures)
-              (search rules) (search rules) (search rules) c.result_of_pause.ensures;
+          (search rules) (search rules) (search rules) c.result_of_pause.ensures;
       octets = grind (arith, elements);
       turned = λ b yielded st.
           turns_answered g.F.Follow.next old new c.args.out.now c.follow_and_flush.new.out b yielded c.read.new.to
-              _ _ c.in-Ok.count c.min-walked.result c.args.limit st
+          _ _ c.in-Ok.count c.min-walked.result c.args.limit st
           (search rules) c.requires.taken (search rules) refl (search rules) c.in-Ok-follow_and_flush.ensures.octets
-              g.D.Drain.state refl refl _ _ c.in-Ok-follow_and_flush.ensures c.result_of_pause.ensures;
+          g.D.Drain.state refl refl _ _ c.in-Ok-follow_and_flush.ensures c.result_of_pause.ensures;
       goes_on =
           can_go_on_answered g.F.Follow.next old new c.read.new.to c.args.out.now c.follow_and_flush.new.out
-              c.in-Ok.count c.min-walked.result c.args.limit _ _ _ _ c.result_of_pause.ensures
-              c.in-Ok-follow_and_flush.ensures.pauses
+          c.in-Ok.count c.min-walked.result c.args.limit _ _ _ _ c.result_of_pause.ensures
+          c.in-Ok-follow_and_flush.ensures.pauses
           (search rules) (search rules) c.requires.taken;
     }

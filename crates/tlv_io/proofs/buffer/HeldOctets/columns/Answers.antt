@@ -24,11 +24,11 @@ returns c =
     let within : at ≤ length octets = omega (arith, c.len-start.ensures.bound, c.self.told) in
     let short : length first ≤ 8 = length-decimal-le 8 c.args.offset (omega arith) (omega arith) c.ranges.offset.fits in
     let few : length (decimal c.args.size) ≤ 6 =
-        length-decimal-le 6 c.args.size (omega arith) (omega arith) c.ranges.size.fits in
+    length-decimal-le 6 c.args.size (omega arith) (omega arith) c.ranges.size.fits in
     let there =
-        offset_written octets first _ at within short c.copy_from_slice.new.self o.new.buf o.result
-            c.copy_from_slice.ensures.after o.ensures.start o.ensures.before o.ensures.written in
+    offset_written octets first _ at within short c.copy_from_slice.new.self o.new.buf o.result
+    c.copy_from_slice.ensures.after o.ensures.start o.ensures.before o.ensures.written in
     size_written octets first _ at within short o.new.buf s.new.buf (decimal c.args.size) s.result there few
-        s.ensures.start s.ensures.before s.ensures.written
+    s.ensures.start s.ensures.before s.ensures.written
     ∙ ap (λ (l : List ℕ). l ++ columns c.args.offset (decimal c.args.size))
-        (held_up_to _ _ _ _ c.self.view_is c.len-start.ensures.count (omega (arith, c.self.invariant, c.self.told)))
+    (held_up_to _ _ _ _ c.self.view_is c.len-start.ensures.count (omega (arith, c.self.invariant, c.self.told)))

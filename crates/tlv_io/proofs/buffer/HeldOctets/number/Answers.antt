@@ -18,7 +18,7 @@ returns c =
     let w = c.write_digits in
     let at : w.result ≡ c.len.result = omega (arith, w.ensures.start, c.digit_count.ensures) in
     text_written w.new.buf _ (decimal c.args.number) _ w.result
-        _ (w.ensures.before ∙ ap (λ n. take n c.self.inside.octets) at) w.ensures.written
-        (omega (arith, w.ensures.start))
-        ∙ ap (λ l. l ++ decimal c.args.number)
-            (held_up_to _ _ _ _ c.self.view_is c.len.ensures.count (omega (arith, c.self.invariant, c.self.told)))
+    _ (w.ensures.before ∙ ap (λ n. take n c.self.inside.octets) at) w.ensures.written
+    (omega (arith, w.ensures.start))
+    ∙ ap (λ l. l ++ decimal c.args.number)
+    (held_up_to _ _ _ _ c.self.view_is c.len.ensures.count (omega (arith, c.self.invariant, c.self.told)))

@@ -18,9 +18,9 @@ returns c =
     let within : at ≤ length octets = omega (arith, c.len-start.ensures.bound, c.self.told) in
     let short : length first ≤ 8 = length-decimal-le 8 c.args.offset (omega arith) (omega arith) c.ranges.offset.fits in
     let there =
-        offset_written octets first _ at within short c.copy_from_slice.new.self o.new.buf o.result
-            c.copy_from_slice.ensures.after o.ensures.start o.ensures.before o.ensures.written in
+    offset_written octets first _ at within short c.copy_from_slice.new.self o.new.buf o.result
+    c.copy_from_slice.ensures.after o.ensures.start o.ensures.before o.ensures.written in
     word_written octets first _ at within short o.new.buf c.copy_from_slice-2.new.self c.args.word.now there
-        c.told-word c.copy_from_slice-2.ensures.after
+    c.told-word c.copy_from_slice-2.ensures.after
     ∙ ap (λ (l : List ℕ). l ++ columns c.args.offset c.args.word.now)
-        (held_up_to _ _ _ _ c.self.view_is c.len-start.ensures.count (omega (arith, c.self.invariant, c.self.told)))
+    (held_up_to _ _ _ _ c.self.view_is c.len-start.ensures.count (omega (arith, c.self.invariant, c.self.told)))

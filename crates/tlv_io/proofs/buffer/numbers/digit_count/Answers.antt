@@ -9,4 +9,4 @@ returns-then-number-lt10 c = sym (length_one c.args.number c.if-number-lt10.true
 pub returns-else-number-lt10 : goal.returns-else-number-lt10
 returns-else-number-lt10 c =
     digits_of_power c.ilog10.result c.args.number c.ranges.number.fits c.ilog10.ensures.power_le
-        c.ilog10.ensures.next_power_gt
+    c.ilog10.ensures.next_power_gt

@@ -7,7 +7,7 @@ loop-done-preserved c =
     let i = c.loop-done.invariant in record {
       blank =
           spaces_step c.loop-done.to c.copy_from_slice.new.self _ c.loop-done.done
-              (omega (arith, i.size, c.requires, c.loop-done-test.true)) c.copy_from_slice.ensures.after i.blank;
+          (omega (arith, i.size, c.requires, c.loop-done-test.true)) c.copy_from_slice.ensures.after i.blank;
       size = search rules;
       bound = omega (arith, c.loop-done-test.true);
     }
@@ -15,4 +15,4 @@ loop-done-preserved c =
 pub returns-clause-text : goal.returns-clause-text
 returns-clause-text c =
     spaces_of_more c.args.count c.loop-done.done c.loop-done.to (omega (arith, c.loop-done-test.false))
-        c.loop-done.invariant.blank
+    c.loop-done.invariant.blank

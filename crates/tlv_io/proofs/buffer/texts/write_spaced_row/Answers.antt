@@ -14,10 +14,11 @@ loop-i-preserved c =
     let i : ℕ = c.loop-i.i in
     let pair : c.encode_to_slice.new.output ≡ encode_lower (get_or c.args.octets.now i 0 ∷ []) = search rules in
     let p = c.loop-i.invariant.pairs in record {
-      pairs =
-          (p.0,
-              row_step c.args.octets.now c.loop-i.to _ c.encode_to_slice.new.output p.0 i c.loop-i-test.true
-                  c.told-octets p.1 pair refl);
+      pairs = (
+        p.0,
+        row_step c.args.octets.now c.loop-i.to _ c.encode_to_slice.new.output p.0 i c.loop-i-test.true
+            c.told-octets p.1 pair refl,
+      );
       size = search rules;
     }
 
@@ -25,4 +26,4 @@ pub returns-clause-text : goal.returns-clause-text
 returns-clause-text c =
     let p = c.loop-i.invariant.pairs in
     row_whole c.args.octets.now c.loop-i.to p.0 c.loop-i.i (omega (arith, c.loop-i.auto.i-end, c.loop-i-test.false))
-        c.told-octets p.1
+    c.told-octets p.1

@@ -16,12 +16,12 @@ returns-clause-state c =
     let count : ℕ = c.min-count.result in
     let room : List ℕ = c.args.self.now.room.now in
     let taken =
-        take-put_mid used _ room c.copy_from_slice.new.self (used + count) (search rules) (omega (arith, c.fits-self))
-            ∙ ap (λ (l : List ℕ). take used room ++ l) (search rules) in
+    take-put_mid used _ room c.copy_from_slice.new.self (used + count) (search rules) (omega (arith, c.fits-self))
+    ∙ ap (λ (l : List ℕ). take used room ++ l) (search rules) in
     let rest =
-        drop-put_mid used _ room c.copy_from_slice.new.self (used + count) (search rules) (omega (arith, c.fits-self))
-            (search rules)
-            ∙ sym (drop-drop count used room) in
+    drop-put_mid used _ room c.copy_from_slice.new.self (used + count) (search rules) (omega (arith, c.fits-self))
+    (search rules)
+    ∙ sym (drop-drop count used room) in
     λ i. record {
       taken = taken i;
       rest = rest i;

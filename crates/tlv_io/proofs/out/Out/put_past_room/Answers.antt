@@ -11,12 +11,12 @@ pub returns-then-octets-ge-CAPACITY-clause-puts : goal.returns-then-octets-ge-CA
 returns-then-octets-ge-CAPACITY-clause-puts g c = elim c.if-octets-room.branch [
   | then-octets-room+in_ok-flush w ↦
       rw w.self-is
-          (puts_then_as g.D.Drain.state _ _ _ [] _ _ _ _ w.in_ok-flush.ensures.puts
-              (puts_sent g.D.Drain.state _ _ _ _ w.in_ok-flush.ensures.empty w.in_ok-flush.ensures.empty refl
-                  (rw w.self-is at c.send.ensures))
-              refl)
+      (puts_then_as g.D.Drain.state _ _ _ [] _ _ _ _ w.in_ok-flush.ensures.puts
+      (puts_sent g.D.Drain.state _ _ _ _ w.in_ok-flush.ensures.empty w.in_ok-flush.ensures.empty refl
+      (rw w.self-is at c.send.ensures))
+      refl)
   | else-octets-room w ↦
       let empty : c.args.self.now.held ≡ [] =
-          nil_from_length _ (omega (arith, w.if-octets-room.false, c.if-octets-ge-CAPACITY.true, c.room.ensures)) in
+      nil_from_length _ (omega (arith, w.if-octets-room.false, c.if-octets-ge-CAPACITY.true, c.room.ensures)) in
       rw w.self-is (puts_sent g.D.Drain.state _ _ _ _ empty empty refl (rw w.self-is at c.send.ensures))
 ]

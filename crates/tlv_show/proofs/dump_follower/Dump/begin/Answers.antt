@@ -8,15 +8,15 @@ returns-in_err-put_findings-clause-puts g c =
     let s : DumpState = record { lines = c.self.inside.lines; finder = c.self.inside.finder.state } in
     rw (← c.self.view_is)
     (found_failed g.D.Drain.state s _ c.begin-has_findings.new.self c.begin-has_findings.result
-        _ _ _ _ _ _ c.style-style.ensures c.begin-has_findings.ensures c.in_err-put_findings.ensures (search rules))
+    _ _ _ _ _ _ c.style-style.ensures c.begin-has_findings.ensures c.in_err-put_findings.ensures (search rules))
 
 pub returns-clause-puts : goal.returns-clause-puts
 returns-clause-puts g c =
     let s : DumpState = record { lines = c.self.inside.lines; finder = c.self.inside.finder.state } in
     rw (← c.self.view_is)
     (found_first g.D.Drain.state s _ c.begin-has_findings.new.self c.begin-has_findings.result
-        _ _ _ _ _ _ _ c.style-style.ensures c.begin-has_findings.ensures c.in_ok-put_findings.ensures
-        c.begin.ensures.puts)
+    _ _ _ _ _ _ _ c.style-style.ensures c.begin-has_findings.ensures c.in_ok-put_findings.ensures
+    c.begin.ensures.puts)
 
 pub returns-clause-state : goal.returns-clause-state
 returns-clause-state g c = search rules

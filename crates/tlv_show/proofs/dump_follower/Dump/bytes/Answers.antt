@@ -12,7 +12,7 @@ returns-clause-state g c =
     rw (← c.self.view_is, each-shown s c.args.octets.now)
     (on_ok_weaker c.bytes-2.result
     (λ e. ap₂ (λ (l : LinesState) (f : FinderState). record { lines = l; finder = f }) e
-        (ap (λ (u : FinderReport). u.state) c.bytes.ensures))
+    (ap (λ (u : FinderReport). u.state) c.bytes.ensures))
     c.bytes-2.ensures.state)
 
 pub returns-clause-puts : goal.returns-clause-puts

@@ -8,18 +8,18 @@ pub returns-in_err-whole-clause-puts : goal.returns-in_err-whole-clause-puts
 returns-in_err-whole-clause-puts g c =
     let u : DumpState = dump_state c.self.inside.lines c.self.inside.finder.state in
     let is =
-        made_is c.args.self.now u c.self.inside.finder c.passes.new.self c.args.header.now c.args.octets.now
-            c.contents_in-contents.result.now c.passes.result
+    made_is c.args.self.now u c.self.inside.finder c.passes.new.self c.args.header.now c.args.octets.now
+    c.contents_in-contents.result.now c.passes.result
     c.self.view_is refl c.contents_in-contents.ensures c.requires.whole (search rules) c.passes.ensures in
     shown-failed g.D.Drain.state c.args.out.now c.whole.new.out _ _ _ is _ c.from_residual.result
-        c.in_err-whole.ensures.puts c.from_residual.ensures.0
+    c.in_err-whole.ensures.puts c.from_residual.ensures.0
 
 pub returns-clause-puts : goal.returns-clause-puts
 returns-clause-puts g c =
     let u : DumpState = dump_state c.self.inside.lines c.self.inside.finder.state in
     let is =
-        made_is c.args.self.now u c.self.inside.finder c.passes.new.self c.args.header.now c.args.octets.now
-            c.contents_in-contents.result.now c.passes.result
+    made_is c.args.self.now u c.self.inside.finder c.passes.new.self c.args.header.now c.args.octets.now
+    c.contents_in-contents.result.now c.passes.result
     c.self.view_is refl c.contents_in-contents.ensures c.requires.whole (search rules) c.passes.ensures in
     shown-put g.D.Drain.state c.args.out.now c.whole.new.out _ _ _ is c.in_ok-whole.ensures.puts
 
@@ -27,14 +27,14 @@ pub returns-clause-state : goal.returns-clause-state
 returns-clause-state g c =
     let u : DumpState = dump_state c.self.inside.lines c.self.inside.finder.state in
     let is =
-        made_is c.args.self.now u c.self.inside.finder c.passes.new.self c.args.header.now c.args.octets.now
-            c.contents_in-contents.result.now c.passes.result
+    made_is c.args.self.now u c.self.inside.finder c.passes.new.self c.args.header.now c.args.octets.now
+    c.contents_in-contents.result.now c.passes.result
     c.self.view_is refl c.contents_in-contents.ensures c.requires.whole (search rules) c.passes.ensures in
     let new =
-        stands_after c.args.self.now u c.self.inside.finder c.passes.new.self c.args.header.now c.args.octets.now
-            c.contents_in-contents.result.now c.passes.result
+    stands_after c.args.self.now u c.self.inside.finder c.passes.new.self c.args.header.now c.args.octets.now
+    c.contents_in-contents.result.now c.passes.result
     c.self.view_is refl c.contents_in-contents.ensures c.requires.whole (search rules) c.passes.ensures
-        c.whole.new.self c.whole.ensures.state in
+    c.whole.new.self c.whole.ensures.state in
     shown-state _ c.args.self.now _ _ _ is new
 
 pub whole-requires : goal.whole-requires

@@ -13,25 +13,30 @@ returns-then-self-clause-state g c =
     let s = c.self.inside in
     let within : s.offset ≤ 2 ^ 64 - 1 = omega arith in
     let there : c.saturating_add-self-inside.result ≡ saturating_sum s.offset (length c.args.octets.now) =
-        omega (arith, c.saturating_add-self-inside.ensures, within) in
+    omega (arith, c.saturating_add-self-inside.ensures, within) in
     let is =
-        ap (λ (s : LinesState). each_octet lines_padding_step s c.args.octets.now) (sym c.self.view_is)
-            ∙ padded_more _ c.args.octets.now c.if-self.true in
+    ap (λ (s : LinesState). each_octet lines_padding_step s c.args.octets.now) (sym c.self.view_is)
+    ∙ padded_more _ c.args.octets.now c.if-self.true in
     ap (λ (o : ℕ).
-        record { layout =
-            s.layout; names = s.names.now; offset = o; in_padding = s.in_padding; open_text = if_open s.is_open s.text
-        })
-        there
+    record {
+      layout =
+          s.layout;
+      names = s.names.now;
+      offset = o;
+      in_padding = s.in_padding;
+      open_text = if_open s.is_open s.text;
+    })
+    there
     ∙ sym (ap (λ (t : Effect LinesState). t.state) is)
 
 pub returns-then-self-clause-puts : goal.returns-then-self-clause-puts
 returns-then-self-clause-puts g c =
     let s = c.self.inside in
     let is =
-        ap (λ (s : LinesState). each_octet lines_padding_step s c.args.octets.now) (sym c.self.view_is)
-            ∙ padded_more _ c.args.octets.now c.if-self.true in
+    ap (λ (s : LinesState). each_octet lines_padding_step s c.args.octets.now) (sym c.self.view_is)
+    ∙ padded_more _ c.args.octets.now c.if-self.true in
     puts_text g.D.Drain.state _ _ _ _ _ (sym (ap (λ (t : Effect LinesState). t.put) is))
-        (puts_nothing g.D.Drain.state _ tt)
+    (puts_nothing g.D.Drain.state _ tt)
 
 pub returns-clause-state : goal.returns-clause-state
 returns-clause-state g c =
@@ -39,17 +44,22 @@ returns-clause-state g c =
     let within : s.offset ≤ 2 ^ 64 - 1 = omega arith in
     let some : 0 < length c.args.octets.now = search arith in
     let there : c.saturating_add-self-inside.result ≡ saturating_sum s.offset (length c.args.octets.now) =
-        omega (arith, c.saturating_add-self-inside.ensures, within) in
+    omega (arith, c.saturating_add-self-inside.ensures, within) in
     let is =
-        ap (λ (s : LinesState). each_octet lines_padding_step s c.args.octets.now) (sym c.self.view_is)
-            ∙ padded_first _ c.args.octets.now some c.if-self.false in
+    ap (λ (s : LinesState). each_octet lines_padding_step s c.args.octets.now) (sym c.self.view_is)
+    ∙ padded_first _ c.args.octets.now some c.if-self.false in
     on_ok_weaker c.put_padding.result
     (λ
-        _. ap (λ (o : ℕ).
-            record { layout =
-                s.layout; names = s.names.now; offset = o; in_padding = true; open_text = if_open s.is_open s.text
-            })
-        there
+    _. ap (λ (o : ℕ).
+    record {
+      layout =
+          s.layout;
+      names = s.names.now;
+      offset = o;
+      in_padding = true;
+      open_text = if_open s.is_open s.text;
+    })
+    there
     ∙ sym (ap (λ (t : Effect LinesState). t.state) is))
     c.put_padding.ensures.held
 
@@ -58,6 +68,6 @@ returns-clause-puts g c =
     let s = c.self.inside in
     let some : 0 < length c.args.octets.now = search arith in
     let is =
-        ap (λ (s : LinesState). each_octet lines_padding_step s c.args.octets.now) (sym c.self.view_is)
-            ∙ padded_first _ c.args.octets.now some c.if-self.false in
+    ap (λ (s : LinesState). each_octet lines_padding_step s c.args.octets.now) (sym c.self.view_is)
+    ∙ padded_first _ c.args.octets.now some c.if-self.false in
     puts_text g.D.Drain.state _ _ _ _ _ (sym (ap (λ (t : Effect LinesState). t.put) is)) c.put_padding.ensures

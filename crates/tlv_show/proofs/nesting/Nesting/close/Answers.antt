@@ -6,7 +6,7 @@ pub returns-then-self-clause-nest : goal.returns-then-self-clause-nest
 returns-then-self-clause-nest c =
     let n = c.self.inside in
     rw (← c.self.view_is)
-        (closes-without_frame n.frame n.floor n.level n.outer c.self.invariant.innermost c.if-self.true)
+    (closes-without_frame n.frame n.floor n.level n.outer c.self.invariant.innermost c.if-self.true)
 
 pub returns-then-self-eq0-clause-nest : goal.returns-then-self-eq0-clause-nest
 returns-then-self-eq0-clause-nest c =

@@ -6,9 +6,9 @@ use Rattle.tlv_tests.proofs.walk.lines.put_padding.Goals as goal
 pub returns-in_err-put : goal.returns-in_err-put
 returns-in_err-put g c =
     fails_octet g.D.Drain.state (λ x. codes "pad\n") _ _ _ c.args.octets.now c.loop-octet._octet-index
-        _ _ c.loop-octet-test.true c.loop-octet.invariant c.in_err-put.ensures.puts (search rules)
+    _ _ c.loop-octet-test.true c.loop-octet.invariant c.in_err-put.ensures.puts (search rules)
 
 pub loop-octet-preserved : goal.loop-octet-preserved
 loop-octet-preserved g c =
     puts_octet g.D.Drain.state (λ x. codes "pad\n") _ _ _ c.args.octets.now c.loop-octet._octet-index
-        c.loop-octet-test.true c.loop-octet.invariant c.in_ok-put.ensures.puts
+    c.loop-octet-test.true c.loop-octet.invariant c.in_ok-put.ensures.puts

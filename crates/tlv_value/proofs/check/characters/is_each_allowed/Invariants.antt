@@ -7,4 +7,4 @@ use Rattle.tlv_value.proofs.check.characters.is_each_allowed.Given as goal
 abbrev pub invariant-loop-octet : goal.invariant-loop-octet
 invariant-loop-octet l =
     (l.all && list_all (allows_octet l.number) (drop l.octet-index l.octets))
-        ≡ list_all (allows_octet l.number) l.octets
+    ≡ list_all (allows_octet l.number) l.octets

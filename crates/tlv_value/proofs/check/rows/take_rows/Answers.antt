@@ -23,36 +23,36 @@ loop-rest-init c =
 pub returns-then-is_empty-clause-begun : goal.returns-then-is_empty-clause-begun
 returns-then-is_empty-clause-begun c =
     let z : length c.split_at.result.1.now ≡ 0 =
-        eqb-true (length c.split_at.result.1.now) 0 (sym c.if-is_empty.ensures) in
+    eqb-true (length c.split_at.result.1.now) 0 (sym c.if-is_empty.ensures) in
     let t : c.try_extend_from_slice.new.self.items ≡ c.loop-rest.row.items ++ c.split_at.result.0.now =
-        grind (arith, common_steps) in
+    grind (arith, common_steps) in
     rw t
     (kept-open Utf8 c.len.result c.loop-rest.row.items c.fitting_length.result c.loop-rest.rest.now
-        c.split_at.result.0.now c.loop-rest.invariant.begun c.len.ensures.value c.split_at.ensures.front
-        c.fitting_length.ensures.fits
+    c.split_at.result.0.now c.loop-rest.invariant.begun c.len.ensures.value c.split_at.ensures.front
+    c.fitting_length.ensures.fits
     (omega arith) c.fitting_length.ensures.within (omega arith))
 
 pub returns-then-is_empty-clause-formed : goal.returns-then-is_empty-clause-formed
 returns-then-is_empty-clause-formed c =
     let z : length c.split_at.result.1.now ≡ 0 =
-        eqb-true (length c.split_at.result.1.now) 0 (sym c.if-is_empty.ensures) in
+    eqb-true (length c.split_at.result.1.now) 0 (sym c.if-is_empty.ensures) in
     let k =
-        kept Utf8 c.len.result c.loop-rest.row.items c.fitting_length.result c.loop-rest.rest.now
-            c.split_at.result.0.now c.len.ensures.value c.split_at.ensures.front c.fitting_length.ensures.fits
-            (omega arith) c.fitting_length.ensures.within (omega arith) in
+    kept Utf8 c.len.result c.loop-rest.row.items c.fitting_length.result c.loop-rest.rest.now
+    c.split_at.result.0.now c.len.ensures.value c.split_at.ensures.front c.fitting_length.ensures.fits
+    (omega arith) c.fitting_length.ensures.within (omega arith) in
     sym (and-nothing c.loop-rest.formed (rows_filled Utf8 c.loop-rest.row.items c.loop-rest.rest.now) k.0)
-        ∙ c.loop-rest.invariant.formed
+    ∙ c.loop-rest.invariant.formed
 
 pub returns-then-is_empty-clause-row : goal.returns-then-is_empty-clause-row
 returns-then-is_empty-clause-row c =
     let z : length c.split_at.result.1.now ≡ 0 =
-        eqb-true (length c.split_at.result.1.now) 0 (sym c.if-is_empty.ensures) in
+    eqb-true (length c.split_at.result.1.now) 0 (sym c.if-is_empty.ensures) in
     let k =
-        kept Utf8 c.len.result c.loop-rest.row.items c.fitting_length.result c.loop-rest.rest.now
-            c.split_at.result.0.now c.len.ensures.value c.split_at.ensures.front c.fitting_length.ensures.fits
-            (omega arith) c.fitting_length.ensures.within (omega arith) in
+    kept Utf8 c.len.result c.loop-rest.row.items c.fitting_length.result c.loop-rest.rest.now
+    c.split_at.result.0.now c.len.ensures.value c.split_at.ensures.front c.fitting_length.ensures.fits
+    (omega arith) c.fitting_length.ensures.within (omega arith) in
     let t : c.try_extend_from_slice.new.self.items ≡ c.loop-rest.row.items ++ c.split_at.result.0.now =
-        grind (arith, common_steps) in
+    grind (arith, common_steps) in
     t ∙ sym k.1 ∙ c.loop-rest.invariant.row
 
 pub loop-rest-preserved : goal.loop-rest-preserved
@@ -63,24 +63,24 @@ loop-rest-preserved c =
     let more : List ℕ = c.split_at.result.1.now in
     let m : ℕ = c.fitting_length.result in
     let claim : (c.len.result + m ≡ row_size Utf8) ⊎ (m < length c.loop-rest.rest.now) =
-        elim c.else-len-part-lt64.branch [
+    elim c.else-len-part-lt64.branch [
       | else-len-part-lt64-via-then-len-part-lt64+else-is_empty w ↦ inr (grind (arith, nat_tests))
       | else-len-part-lt64-via-else-len-part-lt64 w ↦ inl (omega arith)
     ] in
     let t =
-        turned Utf8 c.len.result row m c.loop-rest.rest.now part more c.len.ensures.value c.split_at.ensures.front
-            c.split_at.ensures.back c.fitting_length.ensures.fits c.fitting_length.ensures.bound
+    turned Utf8 c.len.result row m c.loop-rest.rest.now part more c.len.ensures.value c.split_at.ensures.front
+    c.split_at.ensures.back c.fitting_length.ensures.fits c.fitting_length.ensures.bound
     c.fitting_length.ensures.within (omega arith) c.fitting_length.ensures.next claim in
     let none : c.is_full_row_utf8.new.row.items ≡ [] = c.is_full_row_utf8.ensures.row in
     let both : c.both-formed.result ≡ (c.loop-rest.formed && is_utf8 (row ++ part)) =
-        c.both-formed.ensures ∙ ap (λ (b : Bool). c.loop-rest.formed && b) c.is_full_row_utf8.ensures.formed in
+    c.both-formed.ensures ∙ ap (λ (b : Bool). c.loop-rest.formed && b) c.is_full_row_utf8.ensures.formed in
     record {
       begun = rw none (none-open Utf8);
       row = rw none (sym t.1 ∙ i.row);
       formed =
           rw none
-              (ap (λ (b : Bool). b && all_utf8 (rows_filled Utf8 [] more)) both
-                  ∙ and-row c.loop-rest.formed (row ++ part) (rows_filled Utf8 [] more)
-                      (rows_filled Utf8 row c.loop-rest.rest.now) t.0
-                  ∙ i.formed);
+          (ap (λ (b : Bool). b && all_utf8 (rows_filled Utf8 [] more)) both
+          ∙ and-row c.loop-rest.formed (row ++ part) (rows_filled Utf8 [] more)
+          (rows_filled Utf8 row c.loop-rest.rest.now) t.0
+          ∙ i.formed);
     }

@@ -6,7 +6,7 @@ use Rattle.tlv_value.proofs.check.times.note_time.Goals as goal
 pub returns : goal.returns
 returns c =
     let t : c.try_extend_from_slice.new.self.items ≡ c.args.time.now.items ++ take c.min-room.result c.args.octets.now =
-        grind (arith, common_steps) in
+    grind (arith, common_steps) in
     t
-        ∙ take-room c.args.time.now.items c.args.octets.now c.min-room.result c.remaining_capacity.result
-            c.remaining_capacity.ensures c.min-room.ensures
+    ∙ take-room c.args.time.now.items c.args.octets.now c.min-room.result c.remaining_capacity.result
+    c.remaining_capacity.ensures c.min-room.ensures

@@ -7,22 +7,22 @@ use Rattle.tlv_value.proofs.names.arcs.are_arcs.Goals as goal
 pub returns-then-not-is_arc : goal.returns-then-not-is_arc
 returns-then-not-is_arc c =
     sym (c.loop-rest.invariant.same
-        ∙ first_no_arc c.loop-rest.rest.now c.end_before-end.result c.end_before-end.ensures.value
-            (sym c.is_arc.ensures ∙ c.if-not-is_arc.true))
+    ∙ first_no_arc c.loop-rest.rest.now c.end_before-end.result c.end_before-end.ensures.value
+    (sym c.is_arc.ensures ∙ c.if-not-is_arc.true))
 
 pub returns-then-end-rest : goal.returns-then-end-rest
 returns-then-end-rest c =
     sym (c.loop-rest.invariant.same
-        ∙ whole_arc c.loop-rest.rest.now c.end_before-end.result c.end_before-end.ensures.value c.if-end-rest.true
-            (sym c.is_arc.ensures ∙ c.if-not-is_arc.false))
+    ∙ whole_arc c.loop-rest.rest.now c.end_before-end.result c.end_before-end.ensures.value c.if-end-rest.true
+    (sym c.is_arc.ensures ∙ c.if-not-is_arc.false))
 
 pub loop-rest-preserved : goal.loop-rest-preserved
 loop-rest-preserved c = record {
   within =
       omega
-          (arith, ap length c.after_mark-rest.ensures, length-drop (c.end_before-end.result + 1) c.loop-rest.rest.now);
+      (arith, ap length c.after_mark-rest.ensures, length-drop (c.end_before-end.result + 1) c.loop-rest.rest.now);
   same = c.loop-rest.invariant.same
       ∙ rest_arcs c.loop-rest.rest.now c.end_before-end.result c.end_before-end.ensures.value (omega arith)
-          (sym c.is_arc.ensures ∙ c.if-not-is_arc.false)
+      (sym c.is_arc.ensures ∙ c.if-not-is_arc.false)
       ∙ ap (λ (xs : List ℕ). list_all is_arc (dotted_parts xs)) (sym c.after_mark-rest.ensures);
 }

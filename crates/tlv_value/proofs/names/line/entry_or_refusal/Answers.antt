@@ -7,29 +7,29 @@ use Rattle.tlv_value.proofs.names.line.entry_or_refusal.Goals as goal
 pub returns-then-not-is_name : goal.returns-then-not-is_name
 returns-then-not-is_name c =
     let pair =
-        full_pair c.args.line.now c.without_outer_blanks-text.result.now c.without_first_blanks-name.result.now
-            c.end_before_blank-end.result
+    full_pair c.args.line.now c.without_outer_blanks-text.result.now c.without_first_blanks-name.result.now
+    c.end_before_blank-end.result
     c.if-line-gt-MOST_OCTETS.false
-        (c.without_outer_blanks-text.ensures ∙ ap without_outer_blanks c.without_return.ensures)
-        (sym c.is_empty.ensures ∙ c.if-is_empty.false)
+    (c.without_outer_blanks-text.ensures ∙ ap without_outer_blanks c.without_return.ensures)
+    (sym c.is_empty.ensures ∙ c.if-is_empty.false)
     c.if-text-eq35.false c.end_before_blank-end.ensures.value c.without_first_blanks-name.ensures in
     sym (ap (entry_or_refusal c.args.number)
-        (pair
-            ∙ no_name_pair (take c.end_before_blank-end.result c.without_outer_blanks-text.result.now)
-                c.without_first_blanks-name.result.now (sym c.is_dotted.ensures ∙ c.if-not-is_dotted.false)
-                (sym c.is_name.ensures ∙ c.if-not-is_name.true)))
+    (pair
+    ∙ no_name_pair (take c.end_before_blank-end.result c.without_outer_blanks-text.result.now)
+    c.without_first_blanks-name.result.now (sym c.is_dotted.ensures ∙ c.if-not-is_dotted.false)
+    (sym c.is_name.ensures ∙ c.if-not-is_name.true)))
 
 pub returns : goal.returns
 returns c =
     let pair =
-        full_pair c.args.line.now c.without_outer_blanks-text.result.now c.without_first_blanks-name.result.now
-            c.end_before_blank-end.result
+    full_pair c.args.line.now c.without_outer_blanks-text.result.now c.without_first_blanks-name.result.now
+    c.end_before_blank-end.result
     c.if-line-gt-MOST_OCTETS.false
-        (c.without_outer_blanks-text.ensures ∙ ap without_outer_blanks c.without_return.ensures)
-        (sym c.is_empty.ensures ∙ c.if-is_empty.false)
+    (c.without_outer_blanks-text.ensures ∙ ap without_outer_blanks c.without_return.ensures)
+    (sym c.is_empty.ensures ∙ c.if-is_empty.false)
     c.if-text-eq35.false c.end_before_blank-end.ensures.value c.without_first_blanks-name.ensures in
     sym (ap (entry_or_refusal c.args.number)
-        (pair
-            ∙ named_pair (take c.end_before_blank-end.result c.without_outer_blanks-text.result.now)
-                c.without_first_blanks-name.result.now (sym c.is_dotted.ensures ∙ c.if-not-is_dotted.false)
-                (sym c.is_name.ensures ∙ c.if-not-is_name.false)))
+    (pair
+    ∙ named_pair (take c.end_before_blank-end.result c.without_outer_blanks-text.result.now)
+    c.without_first_blanks-name.result.now (sym c.is_dotted.ensures ∙ c.if-not-is_dotted.false)
+    (sym c.is_name.ensures ∙ c.if-not-is_name.false)))

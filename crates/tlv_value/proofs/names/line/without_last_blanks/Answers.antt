@@ -8,8 +8,8 @@ loop-end-preserved c = record {
   within = omega arith;
   same =
       c.loop-end.invariant.same
-          ∙ shorter_end c.args.text.now c.loop-end.end (omega arith) c.loop-end.invariant.within
-              (sym c.is_blank.ensures ∙ c.if-is_blank.true);
+      ∙ shorter_end c.args.text.now c.loop-end.end (omega arith) c.loop-end.invariant.within
+      (sym c.is_blank.ensures ∙ c.if-is_blank.true);
 }
 
 pub returns : goal.returns
@@ -17,7 +17,7 @@ returns c =
     elim c.loop-end-test.branch [
       | then-loop-end-test+else-is_blank w ↦
           sym (c.loop-end.invariant.same
-              ∙ last_end c.args.text.now c.loop-end.end w.loop-end-test.true c.loop-end.invariant.within
-                  (sym w.is_blank.ensures ∙ w.if-is_blank.false))
+          ∙ last_end c.args.text.now c.loop-end.end w.loop-end-test.true c.loop-end.invariant.within
+          (sym w.is_blank.ensures ∙ w.if-is_blank.false))
       | else-loop-end-test w ↦ sym (c.loop-end.invariant.same ∙ empty_end c.args.text.now c.loop-end.end (omega arith))
     ]

@@ -17,7 +17,7 @@ loop-count-preserved g c =
     record {
       given =
           given_more _ _ _ _ i.given i.most i.failures c.read.new.to (search rules) c.in-Ok.count c.in-Ok.ensures
-              (search rules) _ (search rules);
+          (search rules) _ (search rules);
       most = search rules;
       piece = search rules;
       failures = search rules;
@@ -32,16 +32,16 @@ pub returns-then-count-eq0 : goal.returns-then-count-eq0
 returns-then-count-eq0 g c =
     let i = c.loop-count.invariant in
     gives_end _ _ _ _ i.given i.most i.failures c.read.new.to (search rules) c.in-Ok.count c.in-Ok.ensures
-        (search rules) _ refl
+    (search rules) _ refl
 
 pub returns-then-count-len : goal.returns-then-count-len
 returns-then-count-len g c =
     let i = c.loop-count.invariant in
     gives_long _ _ _ _ i.given i.most i.failures c.read.new.to (search rules) c.in-Ok.count c.in-Ok.ensures
-        (omega (arith, c.len.ensures, c.if-count-len.true))
+    (omega (arith, c.len.ensures, c.if-count-len.true))
 
 pub returns-then-is_err : goal.returns-then-is_err
 returns-then-is_err g c =
     let i = c.loop-count.invariant in
     gives_memory _ _ _ _ i.given i.most i.failures c.read.new.to (search rules) c.in-Ok.count c.in-Ok.ensures
-        (omega (arith, c.len.ensures, c.if-count-len.false))
+    (omega (arith, c.len.ensures, c.if-count-len.false))

@@ -3,10 +3,11 @@ use Rattle.tlv_value.proofs.NamesLemmas.Tables.{among-texts, length-texts, put-e
 use Rattle.tlv_value.proofs.names.table.add.Goals as goal
 
 pub returns-then-contains_key : goal.returns-then-contains_key
-returns-then-contains_key g c =
-    (among-texts c.args.dotted.now c.args.table.now c.contains_key.result c.contains_key.ensures
-        ∙ c.if-contains_key.true,
-        refl)
+returns-then-contains_key g c = (
+  among-texts c.args.dotted.now c.args.table.now c.contains_key.result c.contains_key.ensures
+      ∙ c.if-contains_key.true,
+  refl,
+)
 
 pub returns-then-len-ge-MOST_ENTRIES : goal.returns-then-len-ge-MOST_ENTRIES
 returns-then-len-ge-MOST_ENTRIES g c = (

@@ -16,41 +16,43 @@ loop-rest-init g c = record {
 pub loop-rest-preserved : goal.loop-rest-preserved
 loop-rest-preserved g c =
     let some : length c.loop-rest.rest.now ≡ 0
-        → ⊥ = eqb-false (length c.loop-rest.rest.now) 0 (sym c.is_empty.ensures ∙ c.loop-rest-test.true) in
+    → ⊥ = eqb-false (length c.loop-rest.rest.now) 0 (sym c.is_empty.ensures ∙ c.loop-rest-test.true) in
     let line = next_line c.loop-rest.rest.now c.end_before-end.result (omega arith) c.end_before-end.ensures.value in
     record {
       within =
-          omega
-              (arith, ap length c.after_mark-rest.ensures,
-                  length-drop (c.end_before-end.result + 1) c.loop-rest.rest.now);
+          omega (
+            arith,
+            ap length c.after_mark-rest.ensures,
+            length-drop (c.end_before-end.result + 1) c.loop-rest.rest.now,
+          );
       standing =
           subst
-              (λ (xs : List ℕ). Standing c.args.octets.now xs (c.loop-rest.number + 1) (texts_in c.add_line.new.table))
-              (sym c.after_mark-rest.ensures)
+          (λ (xs : List ℕ). Standing c.args.octets.now xs (c.loop-rest.number + 1) (texts_in c.add_line.new.table))
+          (sym c.after_mark-rest.ensures)
           (step c.args.octets.now c.loop-rest.rest.now (drop (c.end_before-end.result + 1) c.loop-rest.rest.now)
-              c.loop-rest.number (texts_in c.loop-rest.table)
+          c.loop-rest.number (texts_in c.loop-rest.table)
           (texts_in c.add_line.new.table) c.in_ok-add_line.field-0
-              (names_line (take c.end_before-end.result c.loop-rest.rest.now)) c.loop-rest.invariant.standing line
+          (names_line (take c.end_before-end.result c.loop-rest.rest.now)) c.loop-rest.invariant.standing line
           c.in_ok-add_line.ensures);
     }
 
 pub returns-in_err-add_line : goal.returns-in_err-add_line
 returns-in_err-add_line g c =
     let some : length c.loop-rest.rest.now ≡ 0
-        → ⊥ = eqb-false (length c.loop-rest.rest.now) 0 (sym c.is_empty.ensures ∙ c.loop-rest-test.true) in
+    → ⊥ = eqb-false (length c.loop-rest.rest.now) 0 (sym c.is_empty.ensures ∙ c.loop-rest-test.true) in
     let line = next_line c.loop-rest.rest.now c.end_before-end.result (omega arith) c.end_before-end.ensures.value in
     let p = err_from_is_err_and c.from_residual.result c.from_residual.ensures.1 in
     rw (p.1, p.2)
     (stop g.row.A.Denot (Unit {0}) c.args.octets.now c.loop-rest.rest.now
-        (drop (c.end_before-end.result + 1) c.loop-rest.rest.now) c.loop-rest.number
+    (drop (c.end_before-end.result + 1) c.loop-rest.rest.now) c.loop-rest.number
     (texts_in c.loop-rest.table) (texts_in c.add_line.new.table) c.in_err-add_line.field-0.0
-        (names_line (take c.end_before-end.result c.loop-rest.rest.now))
+    (names_line (take c.end_before-end.result c.loop-rest.rest.now))
     c.loop-rest.invariant.standing line c.in_err-add_line.ensures)
 
 pub returns : goal.returns
 returns g c =
     done c.args.octets.now c.loop-rest.rest.now c.loop-rest.number (texts_in c.loop-rest.table)
-        c.loop-rest.invariant.standing
+    c.loop-rest.invariant.standing
     (eqb-true (length c.loop-rest.rest.now) 0 (sym c.is_empty.ensures ∙ c.loop-rest-test.false))
 
 pub loop-rest-smaller : goal.loop-rest-smaller

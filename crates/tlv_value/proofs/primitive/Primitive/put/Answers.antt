@@ -23,14 +23,14 @@ returns-in-Object g c =
     let p = c.args.self.now in
     let names = g.N.NameTable.name_of c.args.names.now in
     puts_then_as g.D.Drain.state _ _ _ _ _ _ _ _ c.in_ok-put_prefix.ensures.puts c.put_object.ensures
-        (shown-object names p c.args.contents.now c.in-Object.is)
+    (shown-object names p c.args.contents.now c.in-Object.is)
 
 pub returns-in-Relative : goal.returns-in-Relative
 returns-in-Relative g c =
     let p = c.args.self.now in
     let names = g.N.NameTable.name_of c.args.names.now in
     puts_then_as g.D.Drain.state _ _ _ _ _ _ _ _ c.in_ok-put_prefix.ensures.puts c.put_relative.ensures
-        (shown-relative names p c.args.contents.now c.in-Relative.is)
+    (shown-relative names p c.args.contents.now c.in-Relative.is)
 
 pub returns-in_default : goal.returns-in_default
 returns-in_default g c =
@@ -40,8 +40,8 @@ returns-in_default g c =
     let text : List ℕ = undotted_text p.kind c.args.contents.now in
     let begun = c.put_prefix.new.out in
     let added =
-        c.add.ensures ∙ ap (λ (l : List ℕ). l ++ 10 ∷ []) c.write_undotted.ensures.text
-            ∙ append_assoc begun.held text (10 ∷ []) in
+    c.add.ensures ∙ ap (λ (l : List ℕ). l ++ 10 ∷ []) c.write_undotted.ensures.text
+    ∙ append_assoc begun.held text (10 ∷ []) in
     puts_then_as state_of _ _ _ _ _ _ _ _ c.in_ok-put_prefix.ensures.puts
-        (puts_held state_of _ _ (text ++ 10 ∷ []) (tt {0}) refl added)
+    (puts_held state_of _ _ (text ++ 10 ∷ []) (tt {0}) refl added)
     (shown-undotted names p c.args.contents.now (search rules) (search rules) c.requires)

@@ -13,7 +13,7 @@ use Rattle.tlv_value.proofs.text.ValueText.begin.Goals as goal
 begun-short : (s v : ValueTextState) → s ≡ v → is_long s.primitive.kind s.primitive.size ≡ false → [] ≡ begin_lines v
 begun-short s v same l =
     sym (ap (λ (b : Bool). if b then (if s.kept.wrote_line then primitive_line s.primitive [] else []) else []) l)
-        ∙ ap begin_lines same
+    ∙ ap begin_lines same
 
 either : (b : Bool) (xs : List ℕ) → xs ≡ (if b then xs else xs)
 either true xs = refl
@@ -23,10 +23,10 @@ either false xs = refl
 begun-unlined : (s v : ValueTextState) → s ≡ v → s.kept.wrote_line ≡ false → [] ≡ begin_lines v
 begun-unlined s v same l =
     either (is_long s.primitive.kind s.primitive.size) []
-        ∙ ap (λ (b : Bool). if is_long s.primitive.kind s.primitive.size
-            then (if b then primitive_line s.primitive [] else []) else [])
-            (sym l)
-        ∙ ap begin_lines same
+    ∙ ap (λ (b : Bool). if is_long s.primitive.kind s.primitive.size
+    then (if b then primitive_line s.primitive [] else []) else [])
+    (sym l)
+    ∙ ap begin_lines same
 
 pub returns-then-not-is_long-clause-puts : goal.returns-then-not-is_long-clause-puts
 returns-then-not-is_long-clause-puts g c =
@@ -35,7 +35,7 @@ returns-then-not-is_long-clause-puts g c =
     let none : [] ≡ begin_lines c.args.self.now = elim c.then-not-is_long.branch [
       | then-not-is_long-via-then-not-is_long w ↦
           begun-short (value_text_state_of t) c.args.self.now c.self.view_is
-              (sym c.is_long.ensures ∙ w.if-not-is_long.true)
+          (sym c.is_long.ensures ∙ w.if-not-is_long.true)
       | then-not-is_long-via-else-not-is_long+then-not-self w ↦
           begun-unlined (value_text_state_of t) c.args.self.now c.self.view_is w.if-not-self.true
     ] in

@@ -12,7 +12,7 @@ returns-in_err-put_rows g c =
     let octets : List ℕ = c.args.contents.now in
     let failed = rw c.new-row.ensures at c.in_err-put_rows.ensures.puts in
     puts_failed_in g.D.Drain.state _ _ (row_lines Octets c.args.layout 0 (full_rows Octets [] octets)) _ _ _ failed
-        (search rules) (record {
+    (search rules) (record {
       rest =
           row_lines Octets c.args.layout (length (full_rows Octets [] octets)) (last_rows (open_row Octets [] octets));
       is = rows-split Octets c.args.layout octets;
@@ -24,9 +24,9 @@ returns g c =
     let none = c.new-row.ensures in
     let put = rw none at c.in_ok-put_rows.ensures.puts in
     let row : c.as_slice.result.now ≡ open_row Octets [] octets =
-        c.as_slice.ensures.value ∙ rw none at c.in_ok-put_rows.ensures.row in
+    c.as_slice.ensures.value ∙ rw none at c.in_ok-put_rows.ensures.row in
     let zero : 0 + length (full_rows Octets [] octets) ≡ length (full_rows Octets [] octets) = omega arith in
     let rows : c.put_rows.new.rows ≡ length (full_rows Octets [] octets) =
-        rw none at c.in_ok-put_rows.ensures.rows ∙ zero in
+    rw none at c.in_ok-put_rows.ensures.rows ∙ zero in
     puts_then_as g.D.Drain.state _ _ _ _ _ _ _ _ put (rw (row, rows) at c.put_last.ensures)
-        (rows-split Octets c.args.layout octets)
+    (rows-split Octets c.args.layout octets)

@@ -11,4 +11,4 @@ returns-in_err-make_room g c = puts_no_room g.D.Drain.state _ _ _ _ _ c.in_err-m
 pub returns : goal.returns
 returns g c =
     rw c.if-not-is_first.false
-        (puts_line g.D.Drain.state _ _ _ _ _ _ c.in_ok-make_room.ensures.puts refl c.write_dots.ensures)
+    (puts_line g.D.Drain.state _ _ _ _ _ _ c.in_ok-make_room.ensures.puts refl c.write_dots.ensures)

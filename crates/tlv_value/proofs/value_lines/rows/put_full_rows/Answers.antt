@@ -15,7 +15,7 @@ loop-row-preserved g c =
     let line : List ℕ = full_line c.args.layout (get_or c.args.rows.now i []) in
     puts_then_as state_of _ _ _ (full_lines c.args.layout (take i c.args.rows.now)) line _ _ _ c.loop-row.invariant
     (puts_line state_of _ _ _ line _ (tt {0}) c.in_ok-make_room_for.ensures.puts refl c.write_full_line.ensures)
-        (lines_more c.args.layout c.args.rows.now i c.loop-row-test.true)
+    (lines_more c.args.layout c.args.rows.now i c.loop-row-test.true)
 
 pub returns-in_err-make_room_for : goal.returns-in_err-make_room_for
 returns-in_err-make_room_for g c =
@@ -23,9 +23,9 @@ returns-in_err-make_room_for g c =
     let i : ℕ = c.loop-row.row-index in
     let full : List ℕ = full_lines c.args.layout (take i c.args.rows.now) in
     puts_failed_in state_of _ _ full
-        _ _ _ (puts_then_as state_of _ _ _ full [] full _ _ c.loop-row.invariant c.in_err-make_room_for.ensures.puts
-            (append-nil full))
-        (search rules)
+    _ _ _ (puts_then_as state_of _ _ _ full [] full _ _ c.loop-row.invariant c.in_err-make_room_for.ensures.puts
+    (append-nil full))
+    (search rules)
     (record {
       rest = full_lines c.args.layout (drop i c.args.rows.now);
       is = lines_split c.args.layout c.args.rows.now i;
@@ -34,5 +34,5 @@ returns-in_err-make_room_for g c =
 pub returns : goal.returns
 returns g c =
     puts_text g.D.Drain.state
-        _ _ _ _ _ (ap (full_lines c.args.layout) (take_all c.loop-row.row-index c.args.rows.now c.loop-row-test.false))
-        c.loop-row.invariant
+    _ _ _ _ _ (ap (full_lines c.args.layout) (take_all c.loop-row.row-index c.args.rows.now c.loop-row-test.false))
+    c.loop-row.invariant

@@ -12,7 +12,7 @@ returns-in_err-put_full_rows g c =
     let last : List ℕ = c.as_chunks.result.1.now in
     let cut = lines_cut c.args.layout c.args.octets.now rows last c.as_chunks.ensures.front c.as_chunks.ensures.back in
     puts_failed_in g.D.Drain.state _ _ (full_lines c.args.layout rows) _ _ _ c.in_err-put_full_rows.ensures
-        (search rules) (record {
+    (search rules) (record {
       rest = full_lines c.args.layout (last_rows last);
       is = cut;
     })
@@ -23,8 +23,8 @@ returns-then-is_empty g c =
     let last : List ℕ = c.as_chunks.result.1.now in
     let cut = lines_cut c.args.layout c.args.octets.now rows last c.as_chunks.ensures.front c.as_chunks.ensures.back in
     puts_text g.D.Drain.state
-        _ _ _ _ _ (no_last_line c.args.layout (full_lines c.args.layout rows) last (sym c.if-is_empty.ensures) ∙ cut)
-        c.in_ok-put_full_rows.ensures
+    _ _ _ _ _ (no_last_line c.args.layout (full_lines c.args.layout rows) last (sym c.if-is_empty.ensures) ∙ cut)
+    c.in_ok-put_full_rows.ensures
 
 pub returns-in_err-make_room : goal.returns-in_err-make_room
 returns-in_err-make_room g c =
@@ -34,9 +34,9 @@ returns-in_err-make_room g c =
     let full : List ℕ = full_lines c.args.layout rows in
     let cut = lines_cut c.args.layout c.args.octets.now rows last c.as_chunks.ensures.front c.as_chunks.ensures.back in
     puts_failed_in state_of _ _ full
-        _ _ _ (puts_then_as state_of _ _ _ full [] full _ _ c.in_ok-put_full_rows.ensures
-            c.in_err-make_room.ensures.puts (append-nil full))
-        (search rules)
+    _ _ _ (puts_then_as state_of _ _ _ full [] full _ _ c.in_ok-put_full_rows.ensures
+    c.in_err-make_room.ensures.puts (append-nil full))
+    (search rules)
     (record { rest = full_lines c.args.layout (last_rows last); is = cut })
 
 pub returns : goal.returns
@@ -48,5 +48,5 @@ returns g c =
     let cut = lines_cut c.args.layout c.args.octets.now rows last c.as_chunks.ensures.front c.as_chunks.ensures.back in
     let line = last_line c.args.layout last (sym c.if-is_empty.ensures) in
     puts_then_as state_of _ _ _ full _ _ _ _ c.in_ok-put_full_rows.ensures
-        (puts_line state_of _ _ _ _ _ (tt {0}) c.in_ok-make_room.ensures.puts refl c.write_line.ensures)
-        (ap (λ (t : List ℕ). full ++ t) line ∙ cut)
+    (puts_line state_of _ _ _ _ _ (tt {0}) c.in_ok-make_room.ensures.puts refl c.write_line.ensures)
+    (ap (λ (t : List ℕ). full ++ t) line ∙ cut)

@@ -37,8 +37,8 @@ no_limit layout i text e = rw e refl
 pub returns : goal.returns
 returns g c =
     let e =
-        past_limit c.args.layout c.args.index c.in-Some.limit c.from-2.result (row_text c.args.kind c.args.row.now)
-            c.in-Some.is (omega (arith, c.from.ensures, c.if-index-from.true)) c.from-2.ensures in
+    past_limit c.args.layout c.args.index c.in-Some.limit c.from-2.result (row_text c.args.kind c.args.row.now)
+    c.in-Some.is (omega (arith, c.from.ensures, c.if-index-from.true)) c.from-2.ensures in
     puts_text g.D.Drain.state _ _ _ _ _ e c.put_dots.ensures
 
 pub returns-in_err-make_room : goal.returns-in_err-make_room
@@ -51,7 +51,7 @@ returns-2 g c =
       | in_default-via-in-None-1 w ↦ no_limit c.args.layout c.args.index text (search rules)
       | in_default-via-in-Some+else-index-from w ↦
           below_limit c.args.layout c.args.index w.in-Some.limit text w.in-Some.is
-              (omega (arith, w.from.ensures, w.if-index-from.false))
+          (omega (arith, w.from.ensures, w.if-index-from.false))
     ] in
     puts_line g.D.Drain.state _ _ _ _ _ _ c.in_ok-make_room.ensures.puts refl
-        (c.write_line.ensures ∙ ap (λ (l : List ℕ). c.make_room.new.self.held ++ l) e)
+    (c.write_line.ensures ∙ ap (λ (l : List ℕ). c.make_room.new.self.held ++ l) e)

@@ -21,46 +21,46 @@ use Rattle.tlv_value.proofs.value_lines.rows.put_rows.Goals as goal
 pub returns-then-is_empty-clause-begun : goal.returns-then-is_empty-clause-begun
 returns-then-is_empty-clause-begun g c =
     let z : length c.split_at.result.1.now ≡ 0 =
-        eqb-true (length c.split_at.result.1.now) 0 (sym c.if-is_empty.ensures) in
+    eqb-true (length c.split_at.result.1.now) 0 (sym c.if-is_empty.ensures) in
     let t : c.try_extend_from_slice.new.self.items ≡ c.loop-rest.row.items ++ c.split_at.result.0.now =
-        grind (arith, common_steps) in
+    grind (arith, common_steps) in
     rw t
     (kept-open c.args.kind c.len-begun.result c.loop-rest.row.items c.fitting_length.result c.loop-rest.rest.now
-        c.split_at.result.0.now c.loop-rest.invariant.begun c.len-begun.ensures.value c.split_at.ensures.front
-        c.fitting_length.ensures.fits
+    c.split_at.result.0.now c.loop-rest.invariant.begun c.len-begun.ensures.value c.split_at.ensures.front
+    c.fitting_length.ensures.fits
     (omega arith) c.fitting_length.ensures.within (omega arith))
 
 pub returns-then-is_empty-clause-row : goal.returns-then-is_empty-clause-row
 returns-then-is_empty-clause-row g c =
     let z : length c.split_at.result.1.now ≡ 0 =
-        eqb-true (length c.split_at.result.1.now) 0 (sym c.if-is_empty.ensures) in
+    eqb-true (length c.split_at.result.1.now) 0 (sym c.if-is_empty.ensures) in
     let k =
-        kept c.args.kind c.len-begun.result c.loop-rest.row.items c.fitting_length.result c.loop-rest.rest.now
-            c.split_at.result.0.now c.len-begun.ensures.value c.split_at.ensures.front c.fitting_length.ensures.fits
-            (omega arith) c.fitting_length.ensures.within (omega arith) in
+    kept c.args.kind c.len-begun.result c.loop-rest.row.items c.fitting_length.result c.loop-rest.rest.now
+    c.split_at.result.0.now c.len-begun.ensures.value c.split_at.ensures.front c.fitting_length.ensures.fits
+    (omega arith) c.fitting_length.ensures.within (omega arith) in
     let t : c.try_extend_from_slice.new.self.items ≡ c.loop-rest.row.items ++ c.split_at.result.0.now =
-        grind (arith, common_steps) in
+    grind (arith, common_steps) in
     t ∙ sym k.1 ∙ c.loop-rest.invariant.row
 
 pub returns-then-is_empty-clause-rows : goal.returns-then-is_empty-clause-rows
 returns-then-is_empty-clause-rows g c =
     let z : length c.split_at.result.1.now ≡ 0 =
-        eqb-true (length c.split_at.result.1.now) 0 (sym c.if-is_empty.ensures) in
+    eqb-true (length c.split_at.result.1.now) 0 (sym c.if-is_empty.ensures) in
     let k =
-        kept c.args.kind c.len-begun.result c.loop-rest.row.items c.fitting_length.result c.loop-rest.rest.now
-            c.split_at.result.0.now c.len-begun.ensures.value c.split_at.ensures.front c.fitting_length.ensures.fits
-            (omega arith) c.fitting_length.ensures.within (omega arith) in
+    kept c.args.kind c.len-begun.result c.loop-rest.row.items c.fitting_length.result c.loop-rest.rest.now
+    c.split_at.result.0.now c.len-begun.ensures.value c.split_at.ensures.front c.fitting_length.ensures.fits
+    (omega arith) c.fitting_length.ensures.within (omega arith) in
     let i = c.loop-rest.invariant.rows in
     omega (arith, i, ap length k.0)
 
 pub returns-then-is_empty-clause-puts : goal.returns-then-is_empty-clause-puts
 returns-then-is_empty-clause-puts g c =
     let z : length c.split_at.result.1.now ≡ 0 =
-        eqb-true (length c.split_at.result.1.now) 0 (sym c.if-is_empty.ensures) in
+    eqb-true (length c.split_at.result.1.now) 0 (sym c.if-is_empty.ensures) in
     let k =
-        kept c.args.kind c.len-begun.result c.loop-rest.row.items c.fitting_length.result c.loop-rest.rest.now
-            c.split_at.result.0.now c.len-begun.ensures.value c.split_at.ensures.front c.fitting_length.ensures.fits
-            (omega arith) c.fitting_length.ensures.within (omega arith) in
+    kept c.args.kind c.len-begun.result c.loop-rest.row.items c.fitting_length.result c.loop-rest.rest.now
+    c.split_at.result.0.now c.len-begun.ensures.value c.split_at.ensures.front c.fitting_length.ensures.fits
+    (omega arith) c.fitting_length.ensures.within (omega arith) in
     let i = c.loop-rest.invariant.put in
     puts_as g.D.Drain.state _ _ i.0 _ tt tt i.1 (rw (k.0, append-nil) at i.2)
 
@@ -73,14 +73,14 @@ loop-rest-preserved g c =
     let more : List ℕ = c.split_at.result.1.now in
     let m : ℕ = c.fitting_length.result in
     let claim : (c.len-begun.result + m ≡ row_size kind) ⊎ (m < length c.loop-rest.rest.now) =
-        elim c.else-begun-part.branch [
+    elim c.else-begun-part.branch [
       | else-begun-part-via-then-begun-part+else-is_empty w ↦ inr (grind (arith, nat_tests))
       | else-begun-part-via-else-begun-part w ↦ inl (omega arith)
     ] in
     let t =
-        turned kind c.len-begun.result row m c.loop-rest.rest.now part more c.len-begun.ensures.value
-            c.split_at.ensures.front c.split_at.ensures.back c.fitting_length.ensures.fits
-            c.fitting_length.ensures.bound
+    turned kind c.len-begun.result row m c.loop-rest.rest.now part more c.len-begun.ensures.value
+    c.split_at.ensures.front c.split_at.ensures.back c.fitting_length.ensures.fits
+    c.fitting_length.ensures.bound
     c.fitting_length.ensures.within (omega arith) c.fitting_length.ensures.next claim in
     let p = progress kind c.len-begun.result m c.loop-rest.rest.now (omega arith) c.fitting_length.ensures.next claim in
     let none : c.put_full.new.row.items ≡ [] = c.put_full.ensures.row in
@@ -97,7 +97,7 @@ loop-rest-preserved g c =
         rw none
             (append_assoc i.put.0 line (row_lines kind c.args.layout (c.loop-rest.rows + 1) (rows_filled kind [] more))
             ∙ ap (λ (x : List ℕ). i.put.0 ++ x) (sym (ap (row_lines kind c.args.layout c.loop-rest.rows) t.0))
-                ∙ i.put.2),
+            ∙ i.put.2),
       );
     }
 
@@ -110,26 +110,26 @@ returns-in_err-put_full-clause-puts g c =
     let more : List ℕ = c.split_at.result.1.now in
     let m : ℕ = c.fitting_length.result in
     let claim : (c.len-begun.result + m ≡ row_size kind) ⊎ (m < length c.loop-rest.rest.now) =
-        elim c.else-begun-part.branch [
+    elim c.else-begun-part.branch [
       | else-begun-part-via-then-begun-part+else-is_empty w ↦ inr (grind (arith, nat_tests))
       | else-begun-part-via-else-begun-part w ↦ inl (omega arith)
     ] in
     let t =
-        turned kind c.len-begun.result row m c.loop-rest.rest.now part more c.len-begun.ensures.value
-            c.split_at.ensures.front c.split_at.ensures.back c.fitting_length.ensures.fits
-            c.fitting_length.ensures.bound
+    turned kind c.len-begun.result row m c.loop-rest.rest.now part more c.len-begun.ensures.value
+    c.split_at.ensures.front c.split_at.ensures.back c.fitting_length.ensures.fits
+    c.fitting_length.ensures.bound
     c.fitting_length.ensures.within (omega arith) c.fitting_length.ensures.next claim in
     let line : List ℕ = row_line c.args.layout c.loop-rest.rows (row_text kind (row ++ part)) in
     let rest : List ℕ = row_lines kind c.args.layout (c.loop-rest.rows + 1) (rows_filled kind [] more) in
     puts_failed_in g.D.Drain.state _ _ (i.put.0 ++ line)
-        _ _ _ (puts_then_as g.D.Drain.state _ _ _ i.put.0 line (i.put.0 ++ line) tt _ i.put.1
-            c.in_err-put_full.ensures.puts refl)
-        (search rules) (record {
+    _ _ _ (puts_then_as g.D.Drain.state _ _ _ i.put.0 line (i.put.0 ++ line) tt _ i.put.1
+    c.in_err-put_full.ensures.puts refl)
+    (search rules) (record {
       rest = rest;
       is =
           append_assoc i.put.0 line rest
-              ∙ ap (λ (x : List ℕ). i.put.0 ++ x) (sym (ap (row_lines kind c.args.layout c.loop-rest.rows) t.0))
-              ∙ i.put.2;
+          ∙ ap (λ (x : List ℕ). i.put.0 ++ x) (sym (ap (row_lines kind c.args.layout c.loop-rest.rows) t.0))
+          ∙ i.put.2;
     })
 
 pub loop-rest-init : goal.loop-rest-init
@@ -160,13 +160,13 @@ loop-rest-preserved-then-has_full_rows g c =
     let f = c.has_full_rows.ensures.0 c.if-has_full_rows.true in
     let none : c.loop-rest.row.items ≡ [] = nil_from_length _ (omega (arith, c.len-begun.ensures.value, f.0)) in
     let t =
-        rows_turned kind (sym c.row_size-size.ensures ∙ f.1) c.args.layout f.2 c.loop-rest.rows c.loop-rest.rest.now
-            c.as_chunks.result.0.now more c.as_chunks.ensures.front c.as_chunks.ensures.back in
+    rows_turned kind (sym c.row_size-size.ensures ∙ f.1) c.args.layout f.2 c.loop-rest.rows c.loop-rest.rest.now
+    c.as_chunks.result.0.now more c.as_chunks.ensures.front c.as_chunks.ensures.back in
     let put = rw none at i.put.2 in
     let rows = rw none at i.rows in
     let all : List ℕ = full_lines c.args.layout c.as_chunks.result.0.now in
     let rest : List ℕ =
-        row_lines kind c.args.layout (c.loop-rest.rows + length c.as_chunks.result.0.now) (rows_filled kind [] more) in
+    row_lines kind c.args.layout (c.loop-rest.rows + length c.as_chunks.result.0.now) (rows_filled kind [] more) in
     record {
       begun = i.begun;
       counted = omega (arith, i.counted, c.as_chunks.ensures.front_len, c.as_chunks.ensures.back_len);
@@ -187,16 +187,16 @@ returns-in_err-put_full_rows-clause-puts g c =
     let f = c.has_full_rows.ensures.0 c.if-has_full_rows.true in
     let none : c.loop-rest.row.items ≡ [] = nil_from_length _ (omega (arith, c.len-begun.ensures.value, f.0)) in
     let t =
-        rows_turned kind (sym c.row_size-size.ensures ∙ f.1) c.args.layout f.2 c.loop-rest.rows c.loop-rest.rest.now
-            c.as_chunks.result.0.now more c.as_chunks.ensures.front c.as_chunks.ensures.back in
+    rows_turned kind (sym c.row_size-size.ensures ∙ f.1) c.args.layout f.2 c.loop-rest.rows c.loop-rest.rest.now
+    c.as_chunks.result.0.now more c.as_chunks.ensures.front c.as_chunks.ensures.back in
     let put = rw none at i.put.2 in
     let all : List ℕ = full_lines c.args.layout c.as_chunks.result.0.now in
     let rest : List ℕ =
-        row_lines kind c.args.layout (c.loop-rest.rows + length c.as_chunks.result.0.now) (rows_filled kind [] more) in
+    row_lines kind c.args.layout (c.loop-rest.rows + length c.as_chunks.result.0.now) (rows_filled kind [] more) in
     puts_failed_in g.D.Drain.state _ _ (i.put.0 ++ all)
-        _ _ _ (puts_then_as g.D.Drain.state _ _ _ i.put.0 all (i.put.0 ++ all) tt _ i.put.1
-            c.in_err-put_full_rows.ensures refl)
-        (search rules) (record {
+    _ _ _ (puts_then_as g.D.Drain.state _ _ _ i.put.0 all (i.put.0 ++ all) tt _ i.put.1
+    c.in_err-put_full_rows.ensures refl)
+    (search rules) (record {
       rest = rest;
       is = append_assoc i.put.0 all rest ∙ ap (λ (x : List ℕ). i.put.0 ++ x) (sym t.0) ∙ put;
     })

@@ -15,7 +15,7 @@ invariant-loop-rest g l = record {
       ≡ l.initial.rows + length (full_rows l.kind l.initial.row.items l.octets);
   put : (text : List ℕ) × HasPut g.D.Drain.state l.initial.out l.out text
       × (text ++ row_lines l.kind l.layout l.rows (rows_filled l.kind l.row.items l.rest)
-          ≡ row_lines l.kind l.layout l.initial.rows (full_rows l.kind l.initial.row.items l.octets));
+      ≡ row_lines l.kind l.layout l.initial.rows (full_rows l.kind l.initial.row.items l.octets));
 }
 
 abbrev pub decreases-loop-rest : goal.decreases-loop-rest

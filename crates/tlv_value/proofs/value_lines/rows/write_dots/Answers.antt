@@ -10,9 +10,13 @@ spaces-requires c = omega (arith, c.requires, c.row_indent.ensures.bound)
 
 pub add-requires : goal.add-requires
 add-requires c =
-    omega
-        (arith, c.requires, c.row_indent.ensures.bound, added _ _ (spaces c.row_indent.result) c.spaces.ensures,
-            length-replicate {A = ℕ} c.row_indent.result 32)
+    omega (
+      arith,
+      c.requires,
+      c.row_indent.ensures.bound,
+      added _ _ (spaces c.row_indent.result) c.spaces.ensures,
+      length-replicate {A = ℕ} c.row_indent.result 32,
+    )
 
 pub returns : goal.returns
 returns c =

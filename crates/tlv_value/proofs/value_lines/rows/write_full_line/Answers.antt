@@ -12,14 +12,21 @@ add-requires c =
     let indent : ℕ = c.row_indent.result - 1 in
     let blank = added _ _ (spaces indent) c.spaces.ensures in
     let pairs = added _ _ (spaced_pairs c.args.row.now) c.spaced_row.ensures in
-    omega
-        (arith, blank, length-replicate {A = ℕ} indent 32, pairs, pairs-size c.args.row.now, c.told-row,
-            c.row_indent.ensures.bound, c.requires)
+    omega (
+      arith,
+      blank,
+      length-replicate {A = ℕ} indent 32,
+      pairs,
+      pairs-size c.args.row.now,
+      c.told-row,
+      c.row_indent.ensures.bound,
+      c.requires,
+    )
 
 pub returns : goal.returns
 returns c =
     c.add.ensures
     ∙ ap (λ (l : List ℕ). l ++ 10 ∷ [])
-        (c.spaced_row.ensures ∙ ap (λ (l : List ℕ). l ++ spaced_pairs c.args.row.now) c.spaces.ensures)
+    (c.spaced_row.ensures ∙ ap (λ (l : List ℕ). l ++ spaced_pairs c.args.row.now) c.spaces.ensures)
     ∙ full_line_added c.args.layout c.args.held.now c.args.row.now c.row_indent.result c.row_indent.ensures.text
-        c.row_indent.ensures.some c.told-row
+    c.row_indent.ensures.some c.told-row

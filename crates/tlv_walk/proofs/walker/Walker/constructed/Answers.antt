@@ -10,18 +10,18 @@ pub returns-clause-yields : goal.returns-clause-yields
 returns-clause-yields c =
     let named = c.is_among-named.result in
     let begins : BeginsWithFields c.args.piece.now.now c.args.self.now.offset named c.in_ok-fields.fields
-        c.in_ok-fields.count =
-        rw (← c.self.view_is) c.in_ok-fields.ensures.begins in record {
+    c.in_ok-fields.count =
+    rw (← c.self.view_is) c.in_ok-fields.ensures.begins in record {
       taken = c.split_at.result.0.now;
       piece_is = search rules;
       continues =
           (subst
-              (λ (k : HeaderKind). Continues c.args.self.now c.enter.new.self c.split_at.result.0.now
-                  (event_of k (new_header c.in_ok-fields.fields c.split_at.result.0.now) ∷ []))
+          (λ (k : HeaderKind). Continues c.args.self.now c.enter.new.self c.split_at.result.0.now
+          (event_of k (new_header c.in_ok-fields.fields c.split_at.result.0.now) ∷ []))
           (constructed_kind c.args.self.now c.enter.new.self c.in_ok-fields.fields _ c.enter.result (search rules)
-              c.enter.ensures.enters)
+          c.enter.ensures.enters)
           (fast_enters c.args.self.now c.enter.new.self c.args.piece.now.now named c.in_ok-fields.fields
-              c.in_ok-fields.count c.split_at.result.0.now c.enter.result
+          c.in_ok-fields.count c.split_at.result.0.now c.enter.result
           (search rules) begins c.split_at.ensures.front (search rules) (search rules) (search rules)
-              c.enter.ensures.enters));
+          c.enter.ensures.enters));
     }

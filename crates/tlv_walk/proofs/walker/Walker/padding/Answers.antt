@@ -8,6 +8,6 @@ returns-clause-event c = record {
   piece_is = search rules;
   continues =
       rw (← c.self.view_is)
-          (yields_pad _ c.split_at.result.0.now c.zeros-count.result (search rules) (search rules) (search rules)
-              (search rules) (search rules));
+      (yields_pad _ c.split_at.result.0.now c.zeros-count.result (search rules) (search rules) (search rules)
+      (search rules) (search rules));
 }

@@ -7,8 +7,8 @@ use Rattle.tlv_walk.proofs.walker.Walker.pass.Goals as goal
 pub returns-clause-yields : goal.returns-clause-yields
 returns-clause-yields c =
     let can =
-        subst (λ (m : WalkerState). CanPass m c.args.piece.now.now c.args.primitive.now) (sym c.self.view_is)
-            c.requires.can in
+    subst (λ (m : WalkerState). CanPass m c.args.piece.now.now c.args.primitive.now) (sym c.self.view_is)
+    c.requires.can in
     record {
       taken = take c.args.primitive.now.octets c.args.piece.now.now;
       piece_is = search rules;

@@ -27,7 +27,7 @@ loop-piece-preserved c =
         taken = omega (arith, ap length first, c.loop-piece.invariant.taken);
         within =
             within_next c.bound-bound.result c.loop-piece.offset c.loop-piece.invariant.within
-                (λ e. some (c.room_to.ensures ∙ e));
+            (λ e. some (c.room_to.ensures ∙ e));
         read = taken_more _ _ _ _ _ _ _ c.loop-piece.invariant.read first front same;
         first = inl (pushed_some c.loop-piece.reader _ _ same);
       }
@@ -39,29 +39,29 @@ enter_slowly-requires-clause-enter c =
     let same = c.self.view_is ∙ sym i.same in
     let room : c.room_to.result ≡ room_to (bound_of c.loop-piece.self.stack) c.loop-piece.offset =
     c.room_to.ensures
-        ∙ ap (λ (b : Option ℕ). room_to b c.loop-piece.offset)
-            (c.bound-bound.ensures ∙ ap (λ (m : WalkerState). bound_of m.stack) same) in
+    ∙ ap (λ (b : Option ℕ). room_to b c.loop-piece.offset)
+    (c.bound-bound.ensures ∙ ap (λ (m : WalkerState). bound_of m.stack) same) in
     elim c.in-Whole.ensures.pushes [
       | whole header completes there done ↦
           whole_enters c.loop-piece.self c.loop-piece.reader _ c.len-depth.result c.loop-piece.offset c.in-Whole.header
           (subst (λ (m : WalkerState). m.events + length m.stack ≤ c.loop-piece.reader.offset) (sym i.same)
-              (omega (arith, c.requires.read.fewer, i.start)))
-              i.end
+          (omega (arith, c.requires.read.fewer, i.start)))
+          i.end
           (omega (arith, c.requires.limit, i.taken, c.in-len1-up.len_at_least))
-              (c.len-depth.ensures.value ∙ ap (λ (m : WalkerState). length m.stack) same) completes
+          (c.len-depth.ensures.value ∙ ap (λ (m : WalkerState). length m.stack) same) completes
           (subst (λ (o : Option ℕ). FitsThere c.in-Whole.header o c.len-depth.result) room there)
     ]
 
 pub returns-in-Whole-clause-yields : goal.returns-in-Whole-clause-yields
 returns-in-Whole-clause-yields c = λ w over.
     let over' : HandsOver w c.loop-piece.self c.args.reader =
-        subst (λ (m : WalkerState). HandsOver w m c.args.reader) (sym c.loop-piece.invariant.same) over in
+    subst (λ (m : WalkerState). HandsOver w m c.args.reader) (sym c.loop-piece.invariant.same) over in
     elim c.in-Whole.ensures.pushes [
       | whole header completes there done ↦
           whole_yields w c.loop-piece.self c.enter_slowly.new.self c.args.reader c.loop-piece.reader
-              _ c.loop-piece.piece.now _ _ c.in-Whole.header (event_value_of c.enter_slowly.result) over'
+          _ c.loop-piece.piece.now _ _ c.in-Whole.header (event_value_of c.enter_slowly.result) over'
           c.loop-piece.invariant.read (first_and_others c.loop-piece.piece.now c.in-len1-up.len_at_least) completes
-              c.enter_slowly.ensures.enters
+          c.enter_slowly.ensures.enters
     ]
 
 pub returns-in-Refused-clause-yields : goal.returns-in-Refused-clause-yields
@@ -69,23 +69,23 @@ returns-in-Refused-clause-yields c = λ w over.
     let i = c.loop-piece.invariant in
     let x : ℕ = get_or c.loop-piece.piece.now 0 0 in
     let bound : c.bound-bound.result ≡ bound_of c.args.self.now.stack =
-        c.bound-bound.ensures ∙ ap (λ (m : WalkerState). bound_of m.stack) c.self.view_is in
+    c.bound-bound.ensures ∙ ap (λ (m : WalkerState). bound_of m.stack) c.self.view_is in
     let left : room_to c.bound-bound.result c.loop-piece.offset
-        ≡ room_to (bound_of c.args.self.now.stack) c.loop-piece.offset =
-        ap (λ (b : Option ℕ). room_to b c.loop-piece.offset) bound in
+    ≡ room_to (bound_of c.args.self.now.stack) c.loop-piece.offset =
+    ap (λ (b : Option ℕ). room_to b c.loop-piece.offset) bound in
     elim c.in-Refused.ensures.pushes [
       | refused fault cause there same ↦
           inl
-              (refuses_header w c.args.self.now c.args.reader c.loop-piece.reader c.args.piece.now.now
-                  c.loop-piece.piece.now _ x c.len-depth.result c.loop-piece.offset c.in-Refused.fault over i.read
+          (refuses_header w c.args.self.now c.args.reader c.loop-piece.reader c.args.piece.now.now
+          c.loop-piece.piece.now _ x c.len-depth.result c.loop-piece.offset c.in-Refused.fault over i.read
           (first_and_others c.loop-piece.piece.now c.in-len1-up.len_at_least)
-              (subst (λ (b : Option ℕ). IsWithin b c.loop-piece.offset) bound i.within) i.end
+          (subst (λ (b : Option ℕ). IsWithin b c.loop-piece.offset) bound i.within) i.end
           (c.len-depth.ensures.value ∙ ap (λ (m : WalkerState). length m.stack) c.self.view_is)
           (λ none e. give_room c.loop-piece.reader.octets c.loop-piece.piece.now
-              (room_to c.bound-bound.result c.loop-piece.offset) i.first none (left ∙ e))
+          (room_to c.bound-bound.result c.loop-piece.offset) i.first none (left ∙ e))
           (subst (λ (o : Option ℕ). IsRefusedPush c.loop-piece.reader x o c.len-depth.result c.in-Refused.fault.code)
-              (c.room_to.ensures ∙ left) cause)
-              there)
+          (c.room_to.ensures ∙ left) cause)
+          there)
     ]
 
 pub returns-clause-yields : goal.returns-clause-yields
@@ -94,11 +94,11 @@ returns-clause-yields c = λ w over.
     let used : c.loop-piece.piece.now ≡ [] = used_up c.loop-piece.piece.now c.in_default.len_below in
     let same = c.self-2.view_is ∙ i.same in
     let bound : c.bound-bound.result ≡ bound_of c.self-2.inside.stack =
-        c.bound-bound.ensures ∙ ap (λ (m : WalkerState). bound_of m.stack) (c.self.view_is ∙ sym same) in
+    c.bound-bound.ensures ∙ ap (λ (m : WalkerState). bound_of m.stack) (c.self.view_is ∙ sym same) in
     yields_unfinished w (walker_state_of c.self-2.inside) c.args.reader c.loop-piece.reader c.args.piece.now.now
-        c.loop-piece.offset (subst (λ (m : WalkerState). HandsOver w m c.args.reader) (sym same) over)
+    c.loop-piece.offset (subst (λ (m : WalkerState). HandsOver w m c.args.reader) (sym same) over)
     (subst (HasTaken c.args.reader c.loop-piece.reader c.args.piece.now.now) used i.read)
-        (give_some c.loop-piece.reader.octets c.loop-piece.piece.now _ i.first used) i.end
+    (give_some c.loop-piece.reader.octets c.loop-piece.piece.now _ i.first used) i.end
     (subst (λ (b : Option ℕ). IsWithin b c.loop-piece.offset) bound i.within)
 
 pub returns-in-Refused-clause-steps : goal.returns-in-Refused-clause-steps
@@ -114,9 +114,16 @@ returns-in-Whole-clause-steps c =
       | whole header completes there done ↦ (
         record {
           taken =
-              omega
-                  (arith, e.yields.offset, completes.offset, ap length completes.octets,
-                      length-append c.loop-piece.reader.octets (x ∷ []), i.end, i.taken, ap length first);
+              omega (
+                arith,
+                e.yields.offset,
+                completes.offset,
+                ap length completes.octets,
+                length-append c.loop-piece.reader.octets (x ∷ []),
+                i.end,
+                i.taken,
+                ap length first,
+              );
           events = e.yields.events ∙ ap (λ (m : WalkerState). m.events + 1) i.same;
           within = e.yields.within;
           after_event = e.yields.after_event;

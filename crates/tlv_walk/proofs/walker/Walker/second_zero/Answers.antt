@@ -7,18 +7,18 @@ use Rattle.tlv_walk.proofs.walker.Walker.second_zero.Goals as goal
 pub returns-then-eq-clause-yields : goal.returns-then-eq-clause-yields
 returns-then-eq-clause-yields c =
     rw c.refuse.ensures.0
-        (inl
-            (rw (← c.self.view_is)
-                (refuses_front _ c.args.piece.now.now _ c.in-len1-up.len_at_least
-                    (refuses_second_missing _ _ _ (search rules) (search rules) (search rules)))))
+    (inl
+    (rw (← c.self.view_is)
+    (refuses_front _ c.args.piece.now.now _ c.in-len1-up.len_at_least
+    (refuses_second_missing _ _ _ (search rules) (search rules) (search rules)))))
 
 pub returns-then-octet-ne0-clause-yields : goal.returns-then-octet-ne0-clause-yields
 returns-then-octet-ne0-clause-yields c =
     rw c.refuse-then-octet-ne0.ensures.0
-        (inl
-            (rw (← c.self.view_is)
-                (refuses_front _ c.args.piece.now.now _ c.in-len1-up.len_at_least
-                    (refuses_second _ _ _ (search rules) (search rules) (search rules)))))
+    (inl
+    (rw (← c.self.view_is)
+    (refuses_front _ c.args.piece.now.now _ c.in-len1-up.len_at_least
+    (refuses_second _ _ _ (search rules) (search rules) (search rules)))))
 
 pub returns-clause-yields : goal.returns-clause-yields
 returns-clause-yields c = record {

@@ -7,9 +7,9 @@ use Rattle.tlv_walk.proofs.walker.Walker.unused_octet.Goals as goal
 pub returns-then-octet-ne0-clause-yields : goal.returns-then-octet-ne0-clause-yields
 returns-then-octet-ne0-clause-yields c =
     rw c.refuse.ensures.0
-        (inl
-            (refuses_front _ c.args.piece.now.now _ c.in-len1-up.len_at_least
-                (refuses_unused _ _ _ (search rules) (search rules))))
+    (inl
+    (refuses_front _ c.args.piece.now.now _ c.in-len1-up.len_at_least
+    (refuses_unused _ _ _ (search rules) (search rules))))
 
 pub returns-clause-yields : goal.returns-clause-yields
 returns-clause-yields c = record {
