@@ -7,7 +7,7 @@ use Rattle.tlv_walk.specs.Events.{Close, End, EventValue, Leave, events}
 use Rattle.tlv_walk.specs.Follow.{Effect, effect_of, go_of}
 use Rattle.tlv_walk.specs.Forest.{Forest, end_octets}
 use Rattle.tlv_walk.specs.Reading.{IsPrefixOf, IsReading}
-use Rattle.tlv_cut.specs.LongerInputs.{ForLongerInputs}
+use Rattle.tlv_walk.specs.LongerInputs.{ForLongerInputs}
 use Rattle.tlv_cut.specs.ExtractText.{extract_text, has_element_at, has_whole_element_at}
 use Rattle.tlv_cut.specs.ExtractStep.{ExtractState, extract_step, has_found, new_extract}
 

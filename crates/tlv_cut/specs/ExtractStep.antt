@@ -29,7 +29,7 @@ has_found s = by_position s.position
   where
     by_position : Position → Bool
     by_position Before = false
-    by_position (Within level) = true
+    by_position (Within count) = true
     by_position After = true
 
 -- of octets around the contents of the element wanted, those that are put: none if its contents
@@ -52,7 +52,7 @@ extract_begin_step_at s offset octets = by_position s.position
         if offset == s.offset
         then extract_step_to s (Within 0) (outer_octets s.contents_only octets) On
         else no_effect s
-    by_position (Within level) = extract_step_to s (Within (min (level + 1) 255)) octets On
+    by_position (Within count) = extract_step_to s (Within (min (count + 1) 255)) octets On
     by_position After = no_effect s
 
 -- the element with this header begins
@@ -62,7 +62,7 @@ extract_begin_step s h = extract_begin_step_at s h.offset (octets_of h)
 -- of octets that come at this position, those of the element wanted
 abbrev pub wanted_octets : Position → List ℕ → List ℕ
 wanted_octets Before octets = []
-wanted_octets (Within level) octets = octets
+wanted_octets (Within count) octets = octets
 wanted_octets After octets = []
 
 -- a contents octet comes
@@ -80,7 +80,7 @@ extract_end_step s octets = by_position s.position
     by_position : Position → Effect ExtractState
     by_position Before = no_effect s
     by_position (Within zero) = extract_step_to s After (outer_octets s.contents_only octets) Enough
-    by_position (Within (suc level)) = extract_step_to s (Within level) octets On
+    by_position (Within (suc count)) = extract_step_to s (Within count) octets On
     by_position After = no_effect s
 
 -- an event comes

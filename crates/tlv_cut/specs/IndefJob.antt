@@ -17,5 +17,5 @@ indef_job padding = record {
   limit = input_limit;
   text = indef_text;
   is_enough = λ f. false;
-  returned = λ f e. e;
+  result = λ f e. e;
 }

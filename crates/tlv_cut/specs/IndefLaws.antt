@@ -7,7 +7,7 @@ use Rattle.tlv_walk.specs.Follow.{effect_of, effect_with}
 use Rattle.tlv_walk.specs.Forest.{Forest, spelling}
 use Rattle.tlv_walk.specs.Place.{IsOpen, top_place}
 use Rattle.tlv_walk.specs.Reading.{IsPrefixOf, IsReading}
-use Rattle.tlv_cut.specs.LongerInputs.{ForLongerInputs}
+use Rattle.tlv_walk.specs.LongerInputs.{ForLongerInputs}
 use Rattle.tlv_cut.specs.IndefText.{indef_text}
 use Rattle.tlv_cut.specs.IndefStep.{IndefState, indef_step}
 use Rattle.tlv_cut.specs.IndefJob.{indef_framing}

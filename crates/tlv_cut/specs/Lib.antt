@@ -1,4 +1,3 @@
-pub mod LongerInputs
 pub mod ExtractText
 pub mod ExtractStep
 pub mod ExtractJob

@@ -20,9 +20,9 @@ pub struct Cut {
 /// input. If no element begins there, nothing is written. `framing` says which strings are read as
 /// encodings, and whether padding may be between the outermost elements.
 ///
-/// Also the octets of an element that does not end are written. Not written are the octets of a
-/// header that is not whole, and the first of the end-of-contents octets without the second. Nothing
-/// more is read once the element has ended.
+/// The octets of an element that does not end are written too. Those of an unfinished header are not,
+/// nor is the first of the end-of-contents octets without the second. Nothing more is read once the
+/// element has ended.
 ///
 /// # Errors
 ///
@@ -37,7 +37,7 @@ pub fn extract<S: Source, D: Drain>(
     contents_only: bool,
     framing: &Framing,
 ) -> Result<Cut, DeviceFault>
-    ensures { Runs (extract_job framing.now offset contents_only)
+    ensures { Runs (extract_job offset contents_only framing.now)
         (device_states (S.state source.old) (D.state drain.old))
         (device_states (S.state source.new) (D.state drain.new)) result }
 {
@@ -45,6 +45,6 @@ pub fn extract<S: Source, D: Drain>(
     let run = drive(source, &mut follower, drain, framing)?;
     Ok(Cut {
         ending: run.ending,
-        found: follower.found(),
+        found: follower.has_found(),
     })
 }

@@ -14,7 +14,7 @@ use tlv_walk::{Drain, Event, Follow, Go, Out, WriteFault};
 enum Position {
     /// That element has not begun.
     Before,
-    /// In that element, and in this many of the elements that it holds. The count stops at 255.
+    /// In that element, and in so many of the elements that it holds. The count stops at 255.
     Within(u8),
     /// That element has ended.
     After,
@@ -56,7 +56,7 @@ impl Extract {
     }
 
     /// Returns whether the header of the element has come whole.
-    pub fn found(&self) -> bool
+    pub fn has_found(&self) -> bool
         ensures { result ≡ has_found self.now }
     {
         !matches!(self.position, Position::Before)
@@ -82,9 +82,9 @@ impl Extract {
                 }
                 self.position = Position::Within(0);
             }
-            Position::Within(level) => {
+            Position::Within(count) => {
                 out.put(octets)?;
-                self.position = Position::Within(level.saturating_add(1));
+                self.position = Position::Within(count.saturating_add(1));
             }
             _ => {}
         }
@@ -126,9 +126,9 @@ impl Extract {
                 self.position = Position::After;
                 Ok(Go::Enough)
             }
-            Position::Within(level) => {
+            Position::Within(count) => {
                 out.put(octets)?;
-                self.position = Position::Within(level - 1);
+                self.position = Position::Within(count - 1);
                 Ok(Go::On)
             }
             _ => Ok(Go::On),
@@ -179,7 +179,7 @@ impl Follow for Extract {
         match self.position {
             // The element wanted is left to `on`, which has enough at its end.
             Position::Before => Ok(header.offset != self.offset),
-            Position::Within(level) if level < 255 => {
+            Position::Within(count) if count < 255 => {
                 out.put(octets)?;
                 Ok(true)
             }

@@ -10,7 +10,7 @@ use Rattle.std.proofs.Math.Seq.{take-append-add, take-append_seam}
 use Rattle.std.specs.Prelude.{if◌then◌else◌, Option, Some, None, Result, Ok, Err, ⊤}
 use Rattle.std.specs.Io.KnownBytes.{Appends, Consumes, IsAtEnd}
 use Rattle.tlv_value.specs.Names.{NamesTable}
-use Rattle.tlv_walk.proofs.FollowerLemmas.Enough.{Settled, ends_with, returns, settled_by}
+use Rattle.tlv_walk.proofs.FollowerLemmas.Enough.{returns}
 use Rattle.tlv_io.proofs.Pieces.{GaveLast}
 use Rattle.tlv_walk.proofs.GrammarLemmas.Endings.{IsRefused, fault-halt}
 use Rattle.tlv_io.proofs.Puts.{more_left}
@@ -186,7 +186,7 @@ module _ (job : Job ReportValue) (stays : Stays job)
         let y : IsJobResult job b m = record {
           reading = x.reading;
           is_reading = x.is_reading;
-          ends = ends_with job.framing b (job.is_enough x.reading) e (Settled job given x.reading new e) k.2;
+          ends = k.2;
           is_made = refl;
         } in
         let sent : written ≡ m.output = all_sent (job.text x.reading) x.sends in
@@ -200,7 +200,7 @@ module _ (job : Job ReportValue) (stays : Stays job)
         subst (λ (o : List ℕ). (z : IsJobResult job o m) × IsSettled z) (sym is) z in
         whole m report z'.0 sent
         (subst (λ (s : ReportValue). IsReport job octets read_fails z'.0 s) same (settled z'.1)) in
-        elim (settled_by job.framing b (job.is_enough x.reading) e (Settled job given x.reading new e) k.2) [
+        elim k.3 [
           | inl enough ↦ final (inl enough)
           | inr rest ↦ elim rest [
             | inl refused ↦ final (inr refused)

@@ -31,7 +31,7 @@ module _ {A : Type 0} (report : A → ReportValue) (job : Job A) where
         comes =
             let k = returns job (octets_given x.pieces) x.reading new.source (Ok a) x.comes in
             comes_to (job_with_report report job) (octets_given x.pieces) x.reading new.source (Ok (report a))
-            (k.0, ap report k.1, k.2);
+            (k.0, ap report k.1, k.2, k.3);
       };
       report_is = e;
     }

@@ -4,7 +4,7 @@ use Rattle.std.proofs.Common.{subst, arith, append-nil, length-append}
 use Rattle.std.proofs.lemmas.List.{take_all}
 use Rattle.std.specs.Prelude.{Some, Result, Ok, Err}
 use Rattle.std.specs.Io.KnownBytes.{Appends}
-use Rattle.tlv_walk.proofs.FollowerLemmas.Enough.{Settled, ends_with, returns, settled_by}
+use Rattle.tlv_walk.proofs.FollowerLemmas.Enough.{returns}
 use Rattle.tlv_io.proofs.Sends.{sends_appends}
 use Rattle.tlv_walk.specs.declared.ending.Ending.{Ending}
 use Rattle.tlv_walk.specs.declared.run.DeviceFault.{DeviceFault}
@@ -45,9 +45,7 @@ module _ (job : Job ReportValue) (stays : Stays job) (octets : List ℕ) (all : 
       let y : IsJobResult job (take job.limit given) m = record {
         reading = x.reading;
         is_reading = x.is_reading;
-        ends =
-            ends_with job.framing (take job.limit given) (job.is_enough x.reading) e
-            (Settled job given x.reading new.source e) k.2;
+        ends = k.2;
         is_made = refl;
       } in
       let sent : Appends old.drain.octets new.drain.octets m.output =
@@ -55,8 +53,7 @@ module _ (job : Job ReportValue) (stays : Stays job) (octets : List ℕ) (all : 
       let final : IsSettled y → GivesReport report = λ (z : IsSettled y).
       let z = settled_stays job stays (take job.limit given) left.0 m (subst AreOctets is all) y z in
       (m, subst (λ (o : List ℕ). IsJobResult job o m) (sym is) z.0, sent, k.1) in
-      elim (settled_by job.framing (take job.limit given) (job.is_enough x.reading) e
-      (Settled job given x.reading new.source e) k.2) [
+      elim k.3 [
         | inl enough ↦ final (inl enough)
         | inr rest ↦ elim rest [
           | inl refused ↦ final (inr refused)

@@ -34,16 +34,16 @@ found_quiet offset true e = absurd (cc (e))
 found_quiet offset false e = absurd (cc (e))
 
 done_quiet : (command : Command) (names : NamesTable) (f : Forest)
-    → ((command_job command names).returned f ending.Done).status ≡ 2 → ⊥
+    → ((command_job command names).result f ending.Done).status ≡ 2 → ⊥
 done_quiet (Dump options names_file file) names f e =
-    let outcome : Outcome = (dump_job options names).returned f ending.Done in quiet outcome.unused outcome.findings e
+    let outcome : Outcome = (dump_job options names).result f ending.Done in quiet outcome.unused outcome.findings e
 done_quiet (Check rules framing file) names f e =
-    let outcome : Outcome = (check_job rules framing).returned f ending.Done in quiet outcome.unused outcome.findings e
+    let outcome : Outcome = (check_job rules framing).result f ending.Done in quiet outcome.unused outcome.findings e
 done_quiet (Extract offset contents framing file) names f e = found_quiet offset (has_element_at offset f) e
 done_quiet (Indef padding file) names f e = absurd (cc (e))
 
 fault_loud : (command : Command) (names : NamesTable) (f : Forest) (e : Ending) → (e ≡ ending.Done → ⊥)
-    → ((command_job command names).returned f e).status ≡ 2
+    → ((command_job command names).result f e).status ≡ 2
 fault_loud command names f ending.Done apart = absurd (apart refl)
 fault_loud (Dump options names_file file) names f (ending.Fault k) apart = refl
 fault_loud (Check rules framing file) names f (ending.Fault k) apart = refl
@@ -55,10 +55,10 @@ statuses command names b made x open_ =
     let job = command_job command names in
     let ends : IsEnding job.framing b made.ending =
     subst (λ (k : Bool). EndsWith job.framing b k made.ending) open_ x.ends in
-    let status : made.report.status ≡ (job.returned x.reading made.ending).status =
+    let status : made.report.status ≡ (job.result x.reading made.ending).status =
     ap (λ (m : CommandResult). m.report.status) x.is_made in (
       λ two sound. done_quiet command names x.reading
-          (ap (λ (e : Ending). (job.returned x.reading e).status)
+          (ap (λ (e : Ending). (job.result x.reading e).status)
           (sym (ending-unique job.framing b made.ending ending.Done ends (sound-done job.framing b sound)))
           ∙ sym status ∙ two),
       λ unsound. status

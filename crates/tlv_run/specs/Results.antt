@@ -21,7 +21,7 @@ job_with_report report job = record {
   limit = job.limit;
   text = job.text;
   is_enough = job.is_enough;
-  returned = λ f e. report (job.returned f e);
+  result = λ f e. report (job.result f e);
 }
 
 -- what each command wants of an input: what is written of its elements, when nothing more is wanted, and what is
@@ -30,7 +30,7 @@ abbrev pub command_job : Command → NamesTable → Job ReportValue
 command_job (Dump options names_file file) names = job_with_report outcome_report (dump_job options names)
 command_job (Check rules framing file) names = job_with_report outcome_report (check_job rules framing)
 command_job (Extract offset contents framing file) names =
-    job_with_report (cut_report offset) (extract_job framing offset contents)
+    job_with_report (cut_report offset) (extract_job offset contents framing)
 command_job (Indef padding file) names = job_with_report indef_report (indef_job padding)
 
 -- what comes of an input: the octets written, its ending, and what is reported: status, number of findings, message
@@ -41,7 +41,7 @@ pub record CommandResult : Type 0 where
 
 -- by the elements of the input and its ending
 abbrev pub command_result : Job ReportValue → Forest → Ending → CommandResult
-command_result job f e = record { output = job.text f; ending = e; report = job.returned f e }
+command_result job f e = record { output = job.text f; ending = e; report = job.result f e }
 
 -- what a job makes of an input of these octets, and of no others
 pub record IsJobResult (job : Job ReportValue) (b : List ℕ) (made : CommandResult) : Type 0 where

@@ -15,5 +15,5 @@ pub mod Settled
 pub mod ShortHeaders
 pub mod Sound
 pub mod Spellings
-pub mod Tips
+pub mod OpenEnds
 pub mod Unique

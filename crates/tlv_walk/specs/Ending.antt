@@ -15,39 +15,43 @@ use Rattle.tlv_walk.specs.Forest.{primitive_extent, spelling}
 use Rattle.tlv_walk.specs.Place.{Fits, IsHeaderAt, Place, place_after, place_of_children, top_place}
 use Rattle.tlv_walk.specs.Reading.{CannotBecomeSound, IsReading, IsSoundList}
 
--- where the innermost open end of a forest that begins there begins, and what is there: nothing between encodings
--- (`NoMore`), or a primitive, a wrapping BIT STRING, a header or end-of-contents octets that lack octets
-abbrev pub tip : Place → Forest → Place × Forest
-tip p (PaddingOctet rest) = tip (place_after p 1) rest
-tip p (Primitive h c rest) = tip (place_after p (primitive_extent h c)) rest
-tip p (Holder h children rest) = tip (place_after p (extent h children)) rest
-tip p (OpenHolder h children) = tip (place_of_children p h) children
-tip p end = (p, end)
+-- an open end of a forest: where it begins, and what is there: nothing between encodings (`NoMore`), or a primitive, a
+-- wrapping BIT STRING, a header or end-of-contents octets that lack octets
+pub record OpenEnd : Type 0 where
+  pub place : Place
+  pub forest : Forest
 
--- why the octet x is refused at an open end that begins at p: a line for each cause. The bound is looked at before
--- the octet
-pub data IsFault (p : Place) (x : ℕ) : Forest → FaultCode → Type 0 where
+-- the innermost open end of a forest that begins at p
+abbrev pub open_end : Place → Forest → OpenEnd
+open_end p (PaddingOctet rest) = open_end (place_after p 1) rest
+open_end p (Primitive h c rest) = open_end (place_after p (primitive_extent h c)) rest
+open_end p (Holder h children rest) = open_end (place_after p (extent h children)) rest
+open_end p (OpenHolder h children) = open_end (place_of_children p h) children
+open_end p end = record { place = p; forest = end }
+
+-- why the octet x is refused at an open end: a line for each cause. The bound is looked at before the octet
+pub data IsFault (x : ℕ) : OpenEnd → FaultCode → Type 0 where
   -- 8.6.2.2: a wrapping BIT STRING must begin with 00
-  bad_inside : {h : HeaderValue} → x ≢ 0 → IsFault p x (OpenBitString h) BadInside
+  bad_inside : {p : Place} {h : HeaderValue} → x ≢ 0 → IsFault x (open_end p (OpenBitString h)) BadInside
   -- 8.1.5: the second 00 is missing at the bound, or is another octet
-  missing_end : (Fits p 2 → ⊥) → IsFault p x OpenEndOctets MissingEnd
-  bad_end : Fits p 2 → x ≢ 0 → IsFault p x OpenEndOctets BadEnd
+  missing_end : {p : Place} → (Fits p 2 → ⊥) → IsFault x (open_end p OpenEndOctets) MissingEnd
+  bad_end : {p : Place} → Fits p 2 → x ≢ 0 → IsFault x (open_end p OpenEndOctets) BadEnd
   -- 8.1.3.3: the header passes the bound
-  no_room : {o : List ℕ} → (Fits p (length o + 1) → ⊥) → IsFault p x (OpenHeader o) Overrun
+  no_room : {p : Place} {o : List ℕ} → (Fits p (length o + 1) → ⊥) → IsFault x (open_end p (OpenHeader o)) Overrun
   -- F06 to F09: no header goes on with that octet
-  refused_octet : {o : List ℕ} {code : FaultCode} → Fits p (length o + 1) → IsRefusedOctet o x code
-      → IsFault p x (OpenHeader o) code
+  refused_octet : {p : Place} {o : List ℕ} {code : FaultCode} → Fits p (length o + 1) → IsRefusedOctet o x code
+      → IsFault x (open_end p (OpenHeader o)) code
   -- 8.1.4: the header of an element that holds others, inside 128 of them
-  too_deep : {o : List ℕ} → Fits p (length o + 1) → (h : HeaderValue) → IsHeaderAt p true h → octets_of h ≡ o ++ x ∷ []
-      → 128 ≤ p.depth → IsFault p x (OpenHeader o) TooDeep
+  too_deep : {p : Place} {o : List ℕ} → Fits p (length o + 1) → (h : HeaderValue) → IsHeaderAt p true h
+      → octets_of h ≡ o ++ x ∷ [] → 128 ≤ p.depth → IsFault x (open_end p (OpenHeader o)) TooDeep
   -- 8.1.3.3: the header of contents that end beyond the bound
-  overrun : {o : List ℕ} → Fits p (length o + 1) → (h : HeaderValue) → IsHeaderAt p (holds h) h
+  overrun : {p : Place} {o : List ℕ} → Fits p (length o + 1) → (h : HeaderValue) → IsHeaderAt p (holds h) h
       → octets_of h ≡ o ++ x ∷ [] → (holds h ≡ true → p.depth < 128)
-      → (Fits p (length (octets_of h) + announced_length h.size) → ⊥) → IsFault p x (OpenHeader o) Overrun
+      → (Fits p (length (octets_of h) + announced_length h.size) → ⊥) → IsFault x (open_end p (OpenHeader o)) Overrun
   -- 8.1.5: no end-of-contents octets before the bound
-  no_end : p.indefinite ≡ true → (Fits p 1 → ⊥) → IsFault p x NoMore MissingEnd
+  no_end : {p : Place} → p.indefinite ≡ true → (Fits p 1 → ⊥) → IsFault x (open_end p NoMore) MissingEnd
   -- 8.1.5: 00 where no end-of-contents octets can be, and no padding
-  stray_end : p.indefinite ≡ false → p.padding ≡ false → x ≡ 0 → IsFault p x NoMore StrayEnd
+  stray_end : {p : Place} → p.indefinite ≡ false → p.padding ≡ false → x ≡ 0 → IsFault x (open_end p NoMore) StrayEnd
 
 abbrev pub fault_at : FaultCode → ℕ → FaultOf
 fault_at code offset = record { code = code; offset = offset }
@@ -68,7 +72,7 @@ pub data IsEnding (framing : Framing) (b : List ℕ) : Ending → Type 0 where
       → IsEnding framing b Done
   -- the octet after the reading is refused
   refused : (f : Forest) (x : ℕ) (rest : List ℕ) (code : FaultCode) → IsReading framing b f → spelling f ++ x ∷ rest ≡ b
-      → IsFault (tip (top_place framing) f).0 x (tip (top_place framing) f).1 code
+      → IsFault x (open_end (top_place framing) f) code
       → IsEnding framing b (fault_ending code (length (spelling f)))
 
 -- a code other than F01 and F02, which alone say that the input ends too early

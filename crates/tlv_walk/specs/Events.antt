@@ -2,7 +2,7 @@
 use Rattle.std.specs.Prelude.{◌≡◌, ℕ, ◌+◌, if◌then◌else◌, List, [], ◌∷◌, ◌++◌, length, map, Option, Some, None}
 use Rattle.tlv_head.specs.declared.header.Size.{Size}
 use Rattle.tlv_head.specs.declared.header.Size.TheVariants.{Definite, Indefinite}
-use Rattle.tlv_head.specs.Header.{HeaderValue}
+use Rattle.tlv_head.specs.Header.{HeaderValue, octets_of}
 use Rattle.tlv_walk.specs.Forest.{Forest, NoMore, PaddingOctet, Primitive, Holder, OpenPrimitive, OpenHolder}
 use Rattle.tlv_walk.specs.Forest.{OpenBitString, OpenHeader, OpenEndOctets, lead, opening, spelling}
 
@@ -22,6 +22,17 @@ pub data EventValue : Type 0 where
   Leave : EventValue
   -- octets 00 between encodings
   Pad : (octets : List ℕ) → EventValue
+
+-- the octets that an event is of
+abbrev pub event_octets : EventValue → List ℕ
+event_octets (Open h) = octets_of h
+event_octets (Begin h) = octets_of h
+event_octets (Enter h) = octets_of h
+event_octets (Bytes octets) = octets
+event_octets (Pad octets) = octets
+event_octets Unused = 0 ∷ []
+event_octets (Close (Some offset)) = 0 ∷ 0 ∷ []
+event_octets e = []
 
 -- 8.1.5: the offset of the end-of-contents octets, if there are any
 abbrev pub end_offset : Size → ℕ → Option ℕ

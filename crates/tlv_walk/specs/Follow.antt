@@ -10,6 +10,11 @@ abbrev pub go_of : Bool → Go
 go_of true = go.Enough
 go_of false = go.On
 
+-- whether a follower had enough
+abbrev pub had_enough : Go → Bool
+had_enough go.On = false
+had_enough go.Enough = true
+
 -- what a follower makes of events: its new state, the octets that it puts, and whether it wants more
 pub record Effect (S : Type 0) : Type 0 where
   pub state : S
@@ -29,24 +34,24 @@ abbrev pub and_then : {S : Type 0} → Effect S → (S → Effect S) → Effect 
 and_then t f = let u = f t.state in record { state = u.state; put = t.put ++ u.put; goes = u.goes }
 
 -- what it makes of some events and, if it wants more after them, of others
-abbrev pub if_on : {S : Type 0} → Go → Effect S → (S → Effect S) → Effect S
-if_on go.On t f = and_then t f
-if_on go.Enough t f = t
+abbrev pub effect_if_more : {S : Type 0} → Go → Effect S → (S → Effect S) → Effect S
+effect_if_more go.On t f = and_then t f
+effect_if_more go.Enough t f = t
 
 -- what it makes of a list of events, up to the first at which it has enough
 abbrev pub effect_of : {S : Type 0} → (S → EventValue → Effect S) → S → List EventValue → Effect S
 effect_of next s [] = no_effect s
-effect_of next s (e ∷ es) = if_on (next s e).goes (next s e) (λ u. effect_of next u es)
+effect_of next s (e ∷ es) = effect_if_more (next s e).goes (next s e) (λ u. effect_of next u es)
 
 -- these events, if it wants more
-abbrev pub if_more : Go → List EventValue → List EventValue
-if_more go.On es = es
-if_more go.Enough es = []
+abbrev pub events_if_more : Go → List EventValue → List EventValue
+events_if_more go.On es = es
+events_if_more go.Enough es = []
 
 -- the events of a list that it follows: those up to the first at which it has enough
 abbrev pub followed_events : {S : Type 0} → (S → EventValue → Effect S) → S → List EventValue → List EventValue
 followed_events next s [] = []
-followed_events next s (e ∷ es) = e ∷ if_more (next s e).goes (followed_events next (next s e).state es)
+followed_events next s (e ∷ es) = e ∷ events_if_more (next s e).goes (followed_events next (next s e).state es)
 
 -- a call in which this was made leaves that state, and returns whether more is wanted
 abbrev pub HasEffect : {S E : Type 0} → Effect S → S → Result Go E → Type 0

@@ -8,5 +8,5 @@ module _ {S : Type 0} (next : S → EventValue → Effect S) where
   -- what was made of events: the follower's state, and whether it wants more. It had enough with the last, if at all
   pub record FollowsEvents (old new : S) (more : List EventValue) (goes : Go) : Type 0 where
     pub state : new ≡ (effect_of next old more).state
-    pub goes_so : (effect_of next old more).goes ≡ goes
+    pub wants : (effect_of next old more).goes ≡ goes
     pub all : followed_events next old more ≡ more

@@ -31,7 +31,7 @@ pub record Job (A : Type 0) : Type 0 where
   -- nothing more is wanted, whatever follows
   pub is_enough : Forest → Bool
   -- what is returned of elements and the ending
-  pub returned : Forest → Ending → A
+  pub result : Forest → Ending → A
 
 module _ {A : Type 0} where
   -- what a result says of the source alone: that a read failed, or nothing
@@ -60,16 +60,16 @@ module _ {A : Type 0} (job : Job A) where
     pub is_ending : IsEnding job.framing octets e
     pub soundness : ShowsSoundness job.framing octets e
 
-  -- for octets that were given and their reading: what is returned, by why nothing more is read
+  -- for octets that were given and their reading: what is returned, a line for each reason to stop
   pub data ComesTo (given : List ℕ) (f : Forest) (new : SourceState) : Result A DeviceFault → Type 0 where
     -- there was enough
-    was_enough : job.is_enough f ≡ true → ComesTo given f new (Ok (job.returned f ending.Done))
+    at_enough : job.is_enough f ≡ true → ComesTo given f new (Ok (job.result f ending.Done))
     -- an octet is refused, whatever follows
-    refused : (e : Ending) → HasEnding (take job.limit given) f e → IsFinalEnding e
-        → ComesTo given f new (Ok (job.returned f e))
+    at_fault : (e : Ending) → HasEnding (take job.limit given) f e → IsFinalEnding e
+        → ComesTo given f new (Ok (job.result f e))
     -- the source has ended
-    ended : (e : Ending) → HasEnding (take job.limit given) f e → new.last ≡ gave 0 → IsAtEnd new.left
-        → ComesTo given f new (Ok (job.returned f e))
+    at_input_end : (e : Ending) → HasEnding (take job.limit given) f e → new.last ≡ gave 0 → IsAtEnd new.left
+        → ComesTo given f new (Ok (job.result f e))
     -- a device failed
     read_failed : new.last ≡ failed → ComesTo given f new (Err ReadFailed)
     write_failed : ComesTo given f new (Err WriteFailed)

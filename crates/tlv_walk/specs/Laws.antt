@@ -5,6 +5,7 @@ use Rattle.tlv_walk.specs.declared.ending.Ending.{Ending}
 use Rattle.tlv_walk.specs.declared.framing.Framing.{Framing}
 use Rattle.tlv_walk.specs.Forest.{Forest, spelling}
 use Rattle.tlv_walk.specs.Place.{IsOpen, Place}
+use Rattle.tlv_walk.specs.LongerInputs.{ForLongerInputs}
 use Rattle.tlv_walk.specs.Reading.{AreOctets, CannotBecomeSound, IsPrefixOf, IsReading}
 use Rattle.tlv_walk.specs.Events.{AreEqualJoined, EventValue, events}
 use Rattle.tlv_walk.specs.Ending.{IsEnding, IsFinalCode, fault_ending}
@@ -41,5 +42,4 @@ FaultsAreRight = (framing : Framing) (b : List ℕ) (code : FaultCode) (offset :
 
 -- the events of a longer input are, joined, those of the shorter and then others
 abbrev pub EventsGoOn : Type 0
-EventsGoOn = (framing : Framing) (b c : List ℕ) (f g : Forest) → IsReading framing b f → IsReading framing (b ++ c) g
-    → (others : List EventValue) × AreEqualJoined (events g) (events f ++ others)
+EventsGoOn = ForLongerInputs (λ f g. (others : List EventValue) × AreEqualJoined (events g) (events f ++ others))

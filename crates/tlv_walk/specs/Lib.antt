@@ -3,6 +3,7 @@ pub mod Follow
 pub mod Forest
 pub mod Place
 pub mod Reading
+pub mod LongerInputs
 pub mod Events
 pub mod Ending
 pub mod Wrappers

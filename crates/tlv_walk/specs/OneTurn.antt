@@ -1,7 +1,7 @@
 -- What one read of a source, followed, comes to.
 use Rattle.std.specs.Prelude.{◌≡◌, ◌≢◌, ℕ, ◌<◌, ◌≤◌, List, [], ◌++◌, flat_map, length, take, Result, Ok, Err, ⊤}
 use Rattle.std.specs.Io.KnownBytes.{Consumes, IsAtEnd}
-use Rattle.tlv_walk.specs.declared.ending.Ending.TheVariants as ending
+use Rattle.tlv_head.specs.InputLimit.{input_limit}
 use Rattle.tlv_walk.specs.declared.follow.Go.{Go}
 use Rattle.tlv_walk.specs.declared.follow.Go.TheVariants as go
 use Rattle.tlv_walk.specs.declared.run.DeviceFault.{DeviceFault}
@@ -10,9 +10,9 @@ use Rattle.tlv_walk.specs.declared.run.Run.{Run}
 use Rattle.tlv_walk.specs.declared.run.Turn.{Turn}
 use Rattle.tlv_walk.specs.declared.run.Turn.TheVariants.{Again, Ended}
 use Rattle.tlv_io.specs.Device.{DrainState, LastReadValue, SourceState, failed, failures_after, gave, never, next_count}
-use Rattle.tlv_walk.specs.DriveJob.{event_octets, run_over}
+use Rattle.tlv_walk.specs.DriveJob.{enough_run, whole_run}
 use Rattle.tlv_walk.specs.Ending.{IsEnding, IsFinalEnding}
-use Rattle.tlv_walk.specs.Events.{EventValue}
+use Rattle.tlv_walk.specs.Events.{EventValue, event_octets}
 use Rattle.tlv_walk.specs.Follow.{Effect, effect_of}
 use Rattle.tlv_walk.specs.FollowsEvents.{FollowsEvents}
 use Rattle.tlv_walk.specs.Job.{DeviceStates, device_states, drain_result, source_result}
@@ -40,6 +40,15 @@ LastReadWas room (Ok turn) last = LastReadGaveUpTo room last
 LastReadWas room (Err ReadFailed) last = last ≡ failed
 LastReadWas room (Err WriteFailed) last = LastReadGaveUpTo room last
 LastReadWas room (Err InputTooLong) last = LastReadGaveUpTo room last
+
+-- what a turn requires of the walker, the piece and the limit
+pub record CanTurn (walker : WalkerState) (piece : List ℕ) (limit : ℕ) : Type 0 where
+  -- the piece has at least one octet, and no more than 4096
+  pub some : 0 < length piece
+  pub few : length piece ≤ 4096
+  pub in_range : limit ≤ input_limit
+  pub within : walker.offset ≤ limit
+  pub ready : CanTake walker
 
 -- what takes part in a turn, as it is before the turn or after it: the walker, the follower's state and the devices
 pub record TurnStates (S : Type 0) : Type 0 where
@@ -95,7 +104,7 @@ module _ {S : Type 0} (next : S → EventValue → Effect S) (old new : TurnStat
     pub follows : FollowsMore yielded all go.On
     pub has_events : HasEvents old.walker.framing octets all
     pub ending : IsEnding old.walker.framing octets run.ending
-    pub run_is : run ≡ run_over old.walker.framing has_events.reading all go.On run.ending
+    pub run_is : run ≡ whole_run old.walker.framing has_events.reading run.ending
     pub walker : StandsAtEnd new.walker octets all
 
   -- the follower had enough with the last of the events that it followed, after which the octets have others; the
@@ -107,7 +116,7 @@ module _ {S : Type 0} (next : S → EventValue → Effect S) (old new : TurnStat
     pub has_events : HasEvents old.walker.framing octets (all ++ others)
     pub is_prefix : IsPrefixOf (flat_map event_octets all) octets
     pub stands : Stands new.walker (flat_map event_octets all) all
-    pub run_is : run ≡ run_over old.walker.framing has_events.reading all go.Enough ending.Done
+    pub run_is : run ≡ enough_run old.walker.framing all
 
   -- the drain failed at a prefix of what is made of all events of the octets
   pub record WriteFailsIn (octets : List ℕ) (yielded : List EventValue) : Type 0 where
@@ -139,7 +148,7 @@ module _ {S : Type 0} (next : S → EventValue → Effect S) (old new : TurnStat
       at_input_end : EndsIn (take limit (taken ++ given)) yielded run → given ≡ [] → WalkEnds run
 
     -- the octets are more than the limit
-    pub record PassesLimit : Type 0 where
+    pub record ExceedsLimit : Type 0 where
       pub beyond : limit < length (taken ++ given)
       pub stands : StandsAfter (take limit (taken ++ given)) yielded
 
@@ -148,7 +157,7 @@ module _ {S : Type 0} (next : S → EventValue → Effect S) (old new : TurnStat
     TurnsTo (Ok (Ended run)) = WalkEnds run
     TurnsTo (Err ReadFailed) = ReadsNothing
     TurnsTo (Err WriteFailed) = WriteFailsIn (take limit (taken ++ given)) yielded
-    TurnsTo (Err InputTooLong) = PassesLimit
+    TurnsTo (Err InputTooLong) = ExceedsLimit
 
   -- the walker took octets, in all no more than the limit, and can take the next one
   pub record HasMovedWithin (limit : ℕ) : Type 0 where

@@ -3,7 +3,7 @@ ghost use Rattle.std.specs.Prelude.{◌≤◌};
 ghost use Rattle.tlv_walk.specs.DriveJob.{Drives, drive_states};
 ghost use Rattle.tlv_head.specs.InputLimit.{input_limit};
 
-use crate::one_turn::turn_to;
+use crate::one_turn::turn_with;
 use crate::{DeviceFault, Drain, Follow, Framing, INPUT_LIMIT, Out, Run, Source, Turn, Walker};
 
 /// How many octets are asked for with each read.
@@ -28,7 +28,7 @@ pub fn drive<S: Source, F: Follow, D: Drain>(
 }
 
 /// Reads the source until it ends, an octet is refused or the follower has enough, and lets the
-/// follower follow what is read. Makes no further read then; at most `limit` + 1 in all.
+/// follower follow what is read. Makes no read after that, and at most `limit` + 1 in all.
 ///
 /// If the follower never has enough, the ending is `Done` exactly if the octets read are a sound list of
 /// encodings, and if an octet is refused, no input that begins with them is one.
@@ -54,7 +54,7 @@ pub fn drive_up_to<S: Source, F: Follow, D: Drain>(
     let mut walker = Walker::new(framing);
     let mut out = Out::new(drain);
     'turns: loop {
-        match turn_to(&mut walker, follower, source, &mut out, &mut piece, limit)? {
+        match turn_with(&mut walker, follower, source, &mut out, &mut piece, limit)? {
             Turn::Again => {}
             Turn::Ended(run) => return Ok(run),
         }

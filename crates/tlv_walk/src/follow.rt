@@ -85,7 +85,7 @@ pub trait Follow {
     }
 
     // Contents in two parts are followed as in one, no octets as no event, and octets are never
-    // enough. So it is for padding.
+    // enough. The same holds for padding.
     ghost bytes_join: { Joins next Bytes };
 
     ghost bytes_empty: { IgnoresEmpty next Bytes };

@@ -35,13 +35,13 @@ pub fn one_ending()
     ensures { OctetsHaveOneEnding }
 {}
 
-/// A fault other than F01 and F02 is final: with whatever the input goes on, its ending stays the same
+/// A fault other than F01 and F02 is final: whatever octets follow the input, its ending stays the same
 /// fault at the same offset, and nothing more of it is read.
 pub fn faults_are_final()
     ensures { FaultsAreFinal }
 {}
 
-/// No false alarm: with whatever an input goes on after a fault other than F01 and F02, it is no sound
+/// No false alarm: whatever octets follow an input with a fault other than F01 and F02, it is no sound
 /// list of encodings.
 pub fn faults_are_right()
     ensures { FaultsAreRight }
@@ -58,7 +58,7 @@ pub fn events_go_on()
     ensures { EventsGoOn }
 {}
 
-/// Events are equal joined if they are equal with contents and padding cut into single octets.
+/// Events are equal joined exactly if they are equal with contents and padding cut into single octets.
 pub fn joined_is_apart()
     ensures { (xs ys : List EventValue)
         → AreEqualJoined xs ys ↔ (single_octets xs ≡ single_octets ys) }

@@ -1,13 +1,13 @@
 //! One read of a source, followed.
-ghost use Rattle.std.specs.Prelude.{◌≡◌, [], ◌+◌, ◌<◌, ◌≤◌, IfOk, length};
+ghost use Rattle.std.specs.Prelude.{◌≡◌, [], ◌+◌, ◌≤◌, IfOk, length};
 ghost use Rattle.tlv_walk.specs.Follow.{HasEffect};
-ghost use Rattle.tlv_walk.specs.Private.ResultOfPause.{IsResultOfPause, IsRun};
+ghost use Rattle.tlv_walk.specs.Private.ResultOfPause.{IsResultOfPause, run_of};
 ghost use Rattle.tlv_walk.specs.Private.FollowsPiece.{FollowsAndFlushes, FollowsPart, FollowsPiece, follow_states};
 ghost use Rattle.tlv_walk.specs.Private.WalkerState.{CanPass};
 ghost use Rattle.tlv_walk.specs.Stands.{CanTake};
 ghost use Rattle.tlv_io.specs.Out.{Puts, held_octets, drain_of};
 ghost use Rattle.tlv_walk.specs.HasRead.{event_value_of};
-ghost use Rattle.tlv_walk.specs.OneTurn.{FollowsOneRead, turn_states};
+ghost use Rattle.tlv_walk.specs.OneTurn.{CanTurn, FollowsOneRead, turn_states};
 ghost use Rattle.tlv_head.specs.InputLimit.{input_limit};
 
 use crate::walker::WholePrimitive;
@@ -30,9 +30,9 @@ enum Pause {
 /// `piece` has 1 to 4096 octets. The walker is within `limit` and has refused no octet, and no event
 /// waits.
 ///
-/// `Again` comes if the octets held neither a fault nor enough for the follower, and were not the
-/// end; else `Ended`. The walker's octets count towards `limit`: of those that go beyond it none is
-/// walked over.
+/// Returns `Again` if the octets have neither a fault nor enough for the follower, and the source has
+/// not ended; otherwise `Ended`. The walker's octets count towards `limit`: of those that go beyond
+/// it none is walked over.
 ///
 /// # Errors
 ///
@@ -50,22 +50,19 @@ pub fn turn<F: Follow, S: Source, D: Drain>(
     piece: &mut [u8],
     limit: u64,
 ) -> Result<Turn, DeviceFault>
-    requires piece { (0 < length piece.old) × (length piece.old ≤ 4096) }
-    requires limit { limit ≤ input_limit }
-    requires taken { walker.old.offset ≤ limit }
-    requires ready { CanTake walker.old }
+    requires { CanTurn walker.old piece.old limit }
     ensures { FollowsOneRead F.next
         (turn_states walker.old follower.old (S.state source.old) (D.state drain.old))
         (turn_states walker.new follower.new (S.state source.new) (D.state drain.new))
         limit piece.new result }
 {
     let mut out = Out::new(drain);
-    turn_to(walker, follower, source, &mut out, piece, limit)
+    turn_with(walker, follower, source, &mut out, piece, limit)
 }
 
-/// [`turn`], to an `Out` that holds nothing, and holds nothing again if more is to be read. So one `Out`
-/// serves a whole run, and need not be made for each read.
-pub(crate) fn turn_to<F: Follow, S: Source, D: Drain>(
+/// [`turn`], with an `Out` in place of a drain. It holds nothing, and holds nothing again if more is to be
+/// read. So one `Out` serves a whole run, and need not be made for each read.
+pub(crate) fn turn_with<F: Follow, S: Source, D: Drain>(
     walker: &mut Walker,
     follower: &mut F,
     source: &mut S,
@@ -73,10 +70,7 @@ pub(crate) fn turn_to<F: Follow, S: Source, D: Drain>(
     piece: &mut [u8],
     limit: u64,
 ) -> Result<Turn, DeviceFault>
-    requires piece { (0 < length piece.old) × (length piece.old ≤ 4096) }
-    requires limit { limit ≤ input_limit }
-    requires taken { walker.old.offset ≤ limit }
-    requires ready { CanTake walker.old }
+    requires can { CanTurn walker.old piece.old limit }
     requires empty { held_octets out.old ≡ [] }
     ensures read { FollowsOneRead F.next
         (turn_states walker.old follower.old (S.state source.old) (D.state (drain_of out.old).now))
@@ -88,15 +82,15 @@ pub(crate) fn turn_to<F: Follow, S: Source, D: Drain>(
     let Ok(count) = source.read(piece) else {
         return Err(DeviceFault::ReadFailed);
     };
-    let left = limit - walker.offset();
-    let walked = left.min(count as u64) as usize;
+    let allowed = limit - walker.offset();
+    let walked = allowed.min(count as u64) as usize;
     let Ok(pause) = follow_and_flush(walker, follower, &piece[..walked], out) else {
         return Err(DeviceFault::WriteFailed);
     };
     result_of_pause(walker, pause, count, walked)
 }
 
-/// What a turn returns after this pause, if of `read` octets so many were followed.
+/// Returns what a turn does after this pause, if `followed` of the `read` octets were followed.
 fn result_of_pause(
     walker: &Walker,
     pause: Pause,
@@ -115,8 +109,9 @@ fn result_of_pause(
     }
 }
 
+/// Returns the run of a walker, with this ending.
 fn run_of(walker: &Walker, ending: Ending, enough: bool) -> Run
-    ensures { IsRun result ending enough walker.now }
+    ensures { result ≡ run_of walker.now ending enough }
 {
     Run {
         ending,

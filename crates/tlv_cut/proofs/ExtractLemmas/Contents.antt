@@ -13,13 +13,13 @@ use Rattle.tlv_cut.specs.ExtractStep.{ExtractState, wanted_octets, extract_octet
 
 pub wanted_octets-none : (w : Position) → [] ≡ wanted_octets w []
 wanted_octets-none Before = refl
-wanted_octets-none (Within level) = refl
+wanted_octets-none (Within count) = refl
 wanted_octets-none After = refl
 
 wanted_octets-more : (w : Position) (x : ℕ) (xs : List ℕ)
     → wanted_octets w (x ∷ []) ++ wanted_octets w xs ≡ wanted_octets w (x ∷ xs)
 wanted_octets-more Before x xs = refl
-wanted_octets-more (Within level) x xs = refl
+wanted_octets-more (Within count) x xs = refl
 wanted_octets-more After x xs = refl
 
 -- octets that come one by one put the same as all at once
@@ -45,7 +45,7 @@ module _ (s : ExtractState) (w : Position) (xs : List ℕ) (e : s.position ≡ w
 -- outside the element wanted nothing is put
 pub puts_none : (s : ExtractState) (w : Position) (xs : List ℕ) {D : Type 0} (state_of : D → DrainState) (a : Out D)
     → s.position ≡ w
-    → ((level : ℕ) → w ≡ Within level → ⊥) → HasPut state_of a a (each_octet extract_octet_step s xs).put
+    → ((count : ℕ) → w ≡ Within count → ⊥) → HasPut state_of a a (each_octet extract_octet_step s xs).put
 puts_none s Before xs state_of a e n = puts_contents s Before xs e state_of a a (Ok tt) (puts_nothing state_of a tt)
-puts_none s (Within level) xs state_of a e n = absurd (n level refl)
+puts_none s (Within count) xs state_of a e n = absurd (n count refl)
 puts_none s After xs state_of a e n = puts_contents s After xs e state_of a a (Ok tt) (puts_nothing state_of a tt)

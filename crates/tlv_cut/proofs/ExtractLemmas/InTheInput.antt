@@ -14,52 +14,52 @@ use Rattle.tlv_cut.specs.ExtractText.{contents_so_far, element_at, octets_so_far
 
 -- ---- the octets so far of elements
 
--- they are a front of all octets, and all of them if all elements have ended
-record IsFrontOf (f : Forest) : Type 0 where
+-- they are a prefix of all octets, and all of them if all elements have ended
+record BeginsWithOctetsSoFar (f : Forest) : Type 0 where
   rest : List ℕ
   octets : spelling f ≡ octets_so_far f ++ rest
   all : is_whole f ≡ true → spelling f ≡ octets_so_far f
 
 -- those of elements after others
-front_of_rest : (f rest : Forest) (o : List ℕ) → spelling f ≡ o ++ spelling rest
+prefix_of_rest : (f rest : Forest) (o : List ℕ) → spelling f ≡ o ++ spelling rest
     → octets_so_far f ≡ o ++ octets_so_far rest
-    → is_whole f ≡ is_whole rest → IsFrontOf rest → IsFrontOf f
-front_of_rest f rest o all keeps whole r = record {
-  rest = r.after;
-  octets = all ∙ ap (λ (l : List ℕ). o ++ l) r.octets ∙ sym (append_assoc o (octets_so_far rest) r.after)
-      ∙ ap (λ (l : List ℕ). l ++ r.after) (sym keeps);
+    → is_whole f ≡ is_whole rest → BeginsWithOctetsSoFar rest → BeginsWithOctetsSoFar f
+prefix_of_rest f rest o all keeps whole r = record {
+  rest = r.rest;
+  octets = all ∙ ap (λ (l : List ℕ). o ++ l) r.octets ∙ sym (append_assoc o (octets_so_far rest) r.rest)
+      ∙ ap (λ (l : List ℕ). l ++ r.rest) (sym keeps);
   all = λ w. all ∙ ap (λ (l : List ℕ). o ++ l) (r.all (sym whole ∙ w)) ∙ sym keeps;
 }
 
-octets_so_far-front : (p : Place) (f : Forest) → p.padding ≡ false → IsOpen p f → IsFrontOf f
-octets_so_far-front p NoMore plain v = record { rest = []; octets = refl; all = λ w. refl }
-octets_so_far-front p (PaddingOctet rest) plain v = absurd (true≢false (sym v.0.0 ∙ plain))
-octets_so_far-front p (Primitive h c rest) plain v =
-    front_of_rest (Primitive h c rest) rest (octets_of h ++ c) (sym (append_assoc (octets_of h) c (spelling rest)))
+octets_so_far-prefix : (p : Place) (f : Forest) → p.padding ≡ false → IsOpen p f → BeginsWithOctetsSoFar f
+octets_so_far-prefix p NoMore plain v = record { rest = []; octets = refl; all = λ w. refl }
+octets_so_far-prefix p (PaddingOctet rest) plain v = absurd (true≢false (sym v.0.0 ∙ plain))
+octets_so_far-prefix p (Primitive h c rest) plain v =
+    prefix_of_rest (Primitive h c rest) rest (octets_of h ++ c) (sym (append_assoc (octets_of h) c (spelling rest)))
     (sym (append_assoc (octets_of h) c (octets_so_far rest))) refl
-    (octets_so_far-front (place_after p _) rest plain v.1)
-octets_so_far-front p (Holder h inside rest) plain v =
-    let i = octets_so_far-front (place_of_children p h) inside refl v.1 in
+    (octets_so_far-prefix (place_after p _) rest plain v.1)
+octets_so_far-prefix p (Holder h inside rest) plain v =
+    let i = octets_so_far-prefix (place_of_children p h) inside refl v.1 in
     let e = end_octets h.size in
-    front_of_rest (Holder h inside rest) rest (opening h ++ (spelling inside ++ e))
+    prefix_of_rest (Holder h inside rest) rest (opening h ++ (spelling inside ++ e))
     (sym (append_assoc-3 (opening h) (spelling inside) e (spelling rest)))
     (ap (λ (k : List ℕ). opening h ++ (k ++ (e ++ octets_so_far rest))) (sym (i.all v.0.1))
     ∙ sym (append_assoc-3 (opening h) (spelling inside) e (octets_so_far rest))) refl
-    (octets_so_far-front (place_after p (extent h inside)) rest plain v.2)
-octets_so_far-front p (OpenPrimitive h c) plain v =
+    (octets_so_far-prefix (place_after p (extent h inside)) rest plain v.2)
+octets_so_far-prefix p (OpenPrimitive h c) plain v =
     record { rest = []; octets = sym (append-nil (octets_of h ++ c)); all = λ w. refl }
-octets_so_far-front p (OpenHolder h inside) plain v =
-    let i = octets_so_far-front (place_of_children p h) inside refl v.1 in
+octets_so_far-prefix p (OpenHolder h inside) plain v =
+    let i = octets_so_far-prefix (place_of_children p h) inside refl v.1 in
     record {
       rest = i.rest;
       octets = ap (λ (l : List ℕ). opening h ++ l) i.octets
           ∙ sym (append_assoc (opening h) (octets_so_far inside) i.rest);
       all = λ w. absurd (cc (w));
     }
-octets_so_far-front p (OpenBitString h) plain v =
+octets_so_far-prefix p (OpenBitString h) plain v =
     record { rest = []; octets = sym (append-nil (octets_of h)); all = λ w. refl }
-octets_so_far-front p (OpenHeader octets) plain v = record { rest = octets; octets = refl; all = λ w. absurd (cc (w)) }
-octets_so_far-front p OpenEndOctets plain v = record { rest = 0 ∷ []; octets = refl; all = λ w. absurd (cc (w)) }
+octets_so_far-prefix p (OpenHeader octets) plain v = record { rest = octets; octets = refl; all = λ w. absurd (cc (w)) }
+octets_so_far-prefix p OpenEndOctets plain v = record { rest = 0 ∷ []; octets = refl; all = λ w. absurd (cc (w)) }
 
 module _ (n : ℕ) where
   -- ---- the element
@@ -162,7 +162,7 @@ module _ (n : ℕ) where
   find p (Holder h inside rest) v d some =
       let f = Holder h inside rest in
       let e = end_octets h.size in
-      let i = octets_so_far-front (place_of_children p h) inside refl v.1 in
+      let i = octets_so_far-prefix (place_of_children p h) inside refl v.1 in
       choose p f (h.offset == n) (Holder h inside NoMore) (option_or (element_at n inside) (element_at n rest)) d
       (λ is.
       first p true h f (Holder h inside NoMore) (spelling rest) v.0.0.header is
@@ -189,7 +189,7 @@ module _ (n : ℕ) where
       some
   find p (OpenHolder h inside) v d some =
       let f = OpenHolder h inside in
-      let i = octets_so_far-front (place_of_children p h) inside refl v.1 in
+      let i = octets_so_far-prefix (place_of_children p h) inside refl v.1 in
       choose p f (h.offset == n) f (element_at n inside) d
       (λ is.
       first p true h f f i.rest v.0.0.header is

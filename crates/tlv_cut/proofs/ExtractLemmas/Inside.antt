@@ -8,7 +8,7 @@ use Rattle.tlv_walk.specs.declared.follow.Go.{Go}
 use Rattle.tlv_walk.specs.declared.follow.Go.TheVariants as go
 use Rattle.tlv_walk.specs.Events.{Begin, Bytes, Close, End, Enter, EventValue, Leave, Open, Pad, Unused, closing_event}
 use Rattle.tlv_walk.specs.Events.{end_offset, events, opening_events}
-use Rattle.tlv_walk.specs.Follow.{Effect, and_then, effect_of, effect_with, if_on}
+use Rattle.tlv_walk.specs.Follow.{Effect, and_then, effect_if_more, effect_of, effect_with}
 use Rattle.tlv_walk.specs.Forest.{Forest, NoMore, PaddingOctet, Primitive, Holder, OpenPrimitive, OpenHolder}
 use Rattle.tlv_walk.specs.Forest.{OpenBitString, OpenHeader, OpenEndOctets}
 use Rattle.tlv_walk.specs.Forest.{end_octets, extent, is_whole, lead, opening}
@@ -39,7 +39,7 @@ pub made_from-begins : (s t : ExtractState) (put : List ℕ) (h : HeaderValue) (
     → extract_begin_step s h ≡ effect_with t put
     → made_from s (Begin h ∷ Bytes c ∷ []) ≡ effect_with t (put ++ wanted_octets t.position c)
 made_from-begins s t put h c e =
-    ap (λ (k : Effect ExtractState). if_on k.goes k (λ u. made_from u (Bytes c ∷ []))) e
+    ap (λ (k : Effect ExtractState). effect_if_more k.goes k (λ u. made_from u (Bytes c ∷ []))) e
     ∙ ap (λ (k : Effect ExtractState). and_then (effect_with t put) (λ u. k))
     (followed-one extract_step t (Bytes c) ∙ all_contents t c)
 
@@ -52,7 +52,7 @@ opens_by true three s t put h e =
     followed-one extract_step s (Open h) ∙ e
     ∙ ap (effect_with t) (sym (append-nil put) ∙ ap (λ (l : List ℕ). put ++ l) (wanted_octets-none t.position))
 opens_by false true s t put h e =
-    ap (λ (k : Effect ExtractState). if_on k.goes k (λ u. made_from u (Unused ∷ []))) e
+    ap (λ (k : Effect ExtractState). effect_if_more k.goes k (λ u. made_from u (Unused ∷ []))) e
     ∙ ap (λ (k : Effect ExtractState). and_then (effect_with t put) (λ u. k)) (followed-one extract_step t Unused)
 opens_by false false s t put h e =
     followed-one extract_step s (Enter h) ∙ e
@@ -87,33 +87,33 @@ events-holder h inside rest =
 module _ (n : ℕ) (only : Bool) where
   -- an `Extract` in the element wanted, and in this many that it holds
   abbrev pub state_inside : ℕ → ExtractState
-  state_inside level = record { offset = n; contents_only = only; position = position.Within level }
+  state_inside count = record { offset = n; contents_only = only; position = position.Within count }
 
   -- ---- in the element wanted
 
   -- of elements in it their octets are put
-  pub record IsPassedOn (level : ℕ) (f : Forest) : Type 0 where
-    pub put : (made_from (state_inside level) (events f)).put ≡ octets_so_far f
-    pub goes : (made_from (state_inside level) (events f)).goes ≡ go.On
-    pub found : has_found (made_from (state_inside level) (events f)).state ≡ true
-    pub stays : is_whole f ≡ true → (made_from (state_inside level) (events f)).state ≡ state_inside level
+  pub record IsPassedOn (count : ℕ) (f : Forest) : Type 0 where
+    pub put : (made_from (state_inside count) (events f)).put ≡ octets_so_far f
+    pub goes : (made_from (state_inside count) (events f)).goes ≡ go.On
+    pub found : has_found (made_from (state_inside count) (events f)).state ≡ true
+    pub stays : is_whole f ≡ true → (made_from (state_inside count) (events f)).state ≡ state_inside count
 
-  pub whole_inside_passed_on : (level : ℕ) (f : Forest) → is_whole f ≡ true → IsPassedOn level f
-      → made_from (state_inside level) (events f) ≡ effect_with (state_inside level) (octets_so_far f)
-  whole_inside_passed_on level f whole k =
-      let goes = (made_from (state_inside level) (events f)).goes in
+  pub whole_inside_passed_on : (count : ℕ) (f : Forest) → is_whole f ≡ true → IsPassedOn count f
+      → made_from (state_inside count) (events f) ≡ effect_with (state_inside count) (octets_so_far f)
+  whole_inside_passed_on count f whole k =
+      let goes = (made_from (state_inside count) (events f)).goes in
       ap₂ (λ (s : ExtractState) (l : List ℕ). record { state = s; put = l; goes = goes }) (k.stays whole) k.put
-      ∙ ap (λ (g : Go). record { state = state_inside level; put = octets_so_far f; goes = g }) k.goes
+      ∙ ap (λ (g : Go). record { state = state_inside count; put = octets_so_far f; goes = g }) k.goes
 
   -- elements after those whose octets are put
-  passed_on_after : (level : ℕ) (es : List EventValue) (put : List ℕ) (f rest : Forest)
-      → made_from (state_inside level) es ≡ effect_with (state_inside level) put
+  passed_on_after : (count : ℕ) (es : List EventValue) (put : List ℕ) (f rest : Forest)
+      → made_from (state_inside count) es ≡ effect_with (state_inside count) put
       → events f ≡ es ++ events rest → put ++ octets_so_far rest ≡ octets_so_far f → is_whole f ≡ is_whole rest
-      → IsPassedOn level rest → IsPassedOn level f
-  passed_on_after level es put f rest e again octets whole k =
+      → IsPassedOn count rest → IsPassedOn count f
+  passed_on_after count es put f rest e again octets whole k =
       let all =
-      ap (made_from (state_inside level)) again
-      ∙ then_more (state_inside level) (state_inside level) put es (events rest) e in
+      ap (made_from (state_inside count)) again
+      ∙ then_more (state_inside count) (state_inside count) put es (events rest) e in
       record {
         put = ap (λ (t : Effect ExtractState). t.put) all ∙ ap (λ (l : List ℕ). put ++ l) k.put ∙ octets;
         goes = ap (λ (t : Effect ExtractState). t.goes) all ∙ k.goes;
@@ -122,88 +122,88 @@ module _ (n : ℕ) (only : Bool) where
       }
 
   -- one more is open, and the count goes up
-  one_more : (level : ℕ) (h : HeaderValue) → level ≤ 254
-      → extract_begin_step (state_inside level) h ≡ effect_with (state_inside (suc level)) (octets_of h)
-  one_more level h low = ap (λ (m : ℕ). effect_with (state_inside m) (octets_of h)) (omega (arith, low))
+  one_more : (count : ℕ) (h : HeaderValue) → count ≤ 254
+      → extract_begin_step (state_inside count) h ≡ effect_with (state_inside (suc count)) (octets_of h)
+  one_more count h low = ap (λ (m : ℕ). effect_with (state_inside m) (octets_of h)) (omega (arith, low))
 
   -- a primitive
-  pub primitive_passed_on : (level : ℕ) (h : HeaderValue) (c : List ℕ) → level ≤ 254
-      → made_from (state_inside level) (Begin h ∷ Bytes c ∷ End ∷ [])
-      ≡ effect_with (state_inside level) (octets_of h ++ c)
-  primitive_passed_on level h c low =
-      then_more (state_inside level) (state_inside (suc level)) (octets_of h ++ c) (Begin h ∷ Bytes c ∷ []) (End ∷ [])
-      (made_from-begins (state_inside level) (state_inside (suc level)) (octets_of h) h c (one_more level h low))
-      ∙ ap (effect_with (state_inside level)) (append-nil (octets_of h ++ c))
+  pub primitive_passed_on : (count : ℕ) (h : HeaderValue) (c : List ℕ) → count ≤ 254
+      → made_from (state_inside count) (Begin h ∷ Bytes c ∷ End ∷ [])
+      ≡ effect_with (state_inside count) (octets_of h ++ c)
+  primitive_passed_on count h c low =
+      then_more (state_inside count) (state_inside (suc count)) (octets_of h ++ c) (Begin h ∷ Bytes c ∷ []) (End ∷ [])
+      (made_from-begins (state_inside count) (state_inside (suc count)) (octets_of h) h c (one_more count h low))
+      ∙ ap (effect_with (state_inside count)) (append-nil (octets_of h ++ c))
 
-  holder_passed_on : (level : ℕ) (h : HeaderValue) (inside : Forest) → level ≤ 128 → AllowsSize h.constructed h.size
-      → is_whole inside ≡ true → IsPassedOn (suc level) inside
-      → made_from (state_inside level) (opening_events h ++ (events inside ++ closing_event h inside ∷ []))
-      ≡ effect_with (state_inside level) (opening h ++ (octets_so_far inside ++ end_octets h.size))
-  holder_passed_on level h inside low allowed whole k =
-      then_more (state_inside level) (state_inside (suc level)) (opening h) (opening_events h)
+  holder_passed_on : (count : ℕ) (h : HeaderValue) (inside : Forest) → count ≤ 128 → AllowsSize h.constructed h.size
+      → is_whole inside ≡ true → IsPassedOn (suc count) inside
+      → made_from (state_inside count) (opening_events h ++ (events inside ++ closing_event h inside ∷ []))
+      ≡ effect_with (state_inside count) (opening h ++ (octets_so_far inside ++ end_octets h.size))
+  holder_passed_on count h inside low allowed whole k =
+      then_more (state_inside count) (state_inside (suc count)) (opening h) (opening_events h)
       (events inside ++ closing_event h inside ∷ [])
-      (made_from-opens (state_inside level) (state_inside (suc level)) (octets_of h) h
-      (one_more level h (omega (arith, low))))
+      (made_from-opens (state_inside count) (state_inside (suc count)) (octets_of h) h
+      (one_more count h (omega (arith, low))))
       ∙ ap (λ (t : Effect ExtractState). record t { put = opening h ++ t.put })
-      (then_more (state_inside (suc level)) (state_inside (suc level)) (octets_so_far inside) (events inside)
-      (closing_event h inside ∷ []) (whole_inside_passed_on (suc level) inside whole k)
+      (then_more (state_inside (suc count)) (state_inside (suc count)) (octets_so_far inside) (events inside)
+      (closing_event h inside ∷ []) (whole_inside_passed_on (suc count) inside whole k)
       ∙ ap (λ (t : Effect ExtractState). record t { put = octets_so_far inside ++ t.put })
-      (made_from-closes (state_inside (suc level)) h inside allowed))
+      (made_from-closes (state_inside (suc count)) h inside allowed))
 
   -- the octets of all that the element wanted holds are put
-  pub passed_on : (p : Place) (level : ℕ) (f : Forest) → IsOpen p f → level ≤ p.depth → p.depth ≤ 128
-      → IsPassedOn level f
-  passed_on p level NoMore v low deep = record { put = refl; goes = refl; found = refl; stays = λ w. refl }
-  passed_on p level (PaddingOctet rest) v low deep =
-      passed_on_after level (Pad (0 ∷ []) ∷ []) [] (PaddingOctet rest) rest refl refl refl refl
-      (passed_on (place_after p 1) level rest v.1 low deep)
-  passed_on p level (Primitive h c rest) v low deep =
-      passed_on_after level (Begin h ∷ Bytes c ∷ End ∷ []) (octets_of h ++ c) (Primitive h c rest) rest
-      (primitive_passed_on level h c (omega (arith, low, deep))) refl
-      (append_assoc (octets_of h) c (octets_so_far rest)) refl (passed_on (place_after p _) level rest v.1 low deep)
-  passed_on p level (Holder h inside rest) v low deep =
-      let i : IsPassedOn (suc level) inside =
-      passed_on (place_of_children p h) (suc level) inside v.1 (omega (arith, low))
+  pub passed_on : (p : Place) (count : ℕ) (f : Forest) → IsOpen p f → count ≤ p.depth → p.depth ≤ 128
+      → IsPassedOn count f
+  passed_on p count NoMore v low deep = record { put = refl; goes = refl; found = refl; stays = λ w. refl }
+  passed_on p count (PaddingOctet rest) v low deep =
+      passed_on_after count (Pad (0 ∷ []) ∷ []) [] (PaddingOctet rest) rest refl refl refl refl
+      (passed_on (place_after p 1) count rest v.1 low deep)
+  passed_on p count (Primitive h c rest) v low deep =
+      passed_on_after count (Begin h ∷ Bytes c ∷ End ∷ []) (octets_of h ++ c) (Primitive h c rest) rest
+      (primitive_passed_on count h c (omega (arith, low, deep))) refl
+      (append_assoc (octets_of h) c (octets_so_far rest)) refl (passed_on (place_after p _) count rest v.1 low deep)
+  passed_on p count (Holder h inside rest) v low deep =
+      let i : IsPassedOn (suc count) inside =
+      passed_on (place_of_children p h) (suc count) inside v.1 (omega (arith, low))
       (omega (arith, (v.0.0.shallow refl))) in
-      passed_on_after level (opening_events h ++ (events inside ++ closing_event h inside ∷ []))
+      passed_on_after count (opening_events h ++ (events inside ++ closing_event h inside ∷ []))
       (opening h ++ (octets_so_far inside ++ end_octets h.size)) (Holder h inside rest) rest
-      (holder_passed_on level h inside (omega (arith, low, deep)) v.0.0.header.valid.allowed v.0.1 i)
+      (holder_passed_on count h inside (omega (arith, low, deep)) v.0.0.header.valid.allowed v.0.1 i)
       (events-holder h inside rest)
       (append_assoc (opening h) (octets_so_far inside ++ end_octets h.size) (octets_so_far rest)
       ∙ ap (λ (l : List ℕ). opening h ++ l)
       (append_assoc (octets_so_far inside) (end_octets h.size) (octets_so_far rest))) refl
-      (passed_on (place_after p (extent h inside)) level rest v.2 low deep)
-  passed_on p level (OpenPrimitive h c) v low deep =
+      (passed_on (place_after p (extent h inside)) count rest v.2 low deep)
+  passed_on p count (OpenPrimitive h c) v low deep =
       let all =
-      made_from-begins (state_inside level) (state_inside (suc level)) (octets_of h) h c
-      (one_more level h (omega (arith, low, deep))) in
+      made_from-begins (state_inside count) (state_inside (suc count)) (octets_of h) h c
+      (one_more count h (omega (arith, low, deep))) in
       record {
         put = ap (λ (t : Effect ExtractState). t.put) all;
         goes = ap (λ (t : Effect ExtractState). t.goes) all;
         found = ap (λ (t : Effect ExtractState). has_found t.state) all;
         stays = λ w. absurd (cc (w));
       }
-  passed_on p level (OpenHolder h inside) v low deep =
-      let i : IsPassedOn (suc level) inside =
-      passed_on (place_of_children p h) (suc level) inside v.1 (omega (arith, low))
+  passed_on p count (OpenHolder h inside) v low deep =
+      let i : IsPassedOn (suc count) inside =
+      passed_on (place_of_children p h) (suc count) inside v.1 (omega (arith, low))
       (omega (arith, (v.0.0.shallow refl))) in
-      let all = then_more (state_inside level) (state_inside (suc level)) (opening h) (opening_events h) (events inside)
-      (made_from-opens (state_inside level) (state_inside (suc level)) (octets_of h) h
-      (one_more level h (omega (arith, low, deep)))) in
+      let all = then_more (state_inside count) (state_inside (suc count)) (opening h) (opening_events h) (events inside)
+      (made_from-opens (state_inside count) (state_inside (suc count)) (octets_of h) h
+      (one_more count h (omega (arith, low, deep)))) in
       record {
         put = ap (λ (t : Effect ExtractState). t.put) all ∙ ap (λ (l : List ℕ). opening h ++ l) i.put;
         goes = ap (λ (t : Effect ExtractState). t.goes) all ∙ i.goes;
         found = ap (λ (t : Effect ExtractState). has_found t.state) all ∙ i.found;
         stays = λ w. absurd (cc (w));
       }
-  passed_on p level (OpenBitString h) v low deep =
+  passed_on p count (OpenBitString h) v low deep =
       let all =
-      followed-one extract_step (state_inside level) (Enter h) ∙ one_more level h (omega (arith, low, deep)) in
+      followed-one extract_step (state_inside count) (Enter h) ∙ one_more count h (omega (arith, low, deep)) in
       record {
         put = ap (λ (t : Effect ExtractState). t.put) all;
         goes = ap (λ (t : Effect ExtractState). t.goes) all;
         found = ap (λ (t : Effect ExtractState). has_found t.state) all;
         stays = λ w. absurd (cc (w));
       }
-  passed_on p level (OpenHeader octets) v low deep = record { put = refl; goes = refl; found = refl; stays = λ w. refl }
-  passed_on p level OpenEndOctets v low deep = record { put = refl; goes = refl; found = refl; stays = λ w. refl }
+  passed_on p count (OpenHeader octets) v low deep = record { put = refl; goes = refl; found = refl; stays = λ w. refl }
+  passed_on p count OpenEndOctets v low deep = record { put = refl; goes = refl; found = refl; stays = λ w. refl }

@@ -6,9 +6,9 @@ use Rattle.tlv_walk.specs.declared.framing.Framing.{Framing}
 use Rattle.tlv_walk.specs.declared.run.DeviceFault.{DeviceFault}
 use Rattle.tlv_walk.specs.declared.run.Run.{Run}
 use Rattle.tlv_io.specs.Device.{DrainState, SourceState}
-use Rattle.tlv_walk.specs.DriveJob.{Drives, drive_states, had_enough}
+use Rattle.tlv_walk.specs.DriveJob.{Drives, drive_states}
 use Rattle.tlv_walk.specs.Events.{events}
-use Rattle.tlv_walk.specs.Follow.{followed_events, go_of}
+use Rattle.tlv_walk.specs.Follow.{followed_events, go_of, had_enough}
 use Rattle.tlv_walk.specs.Forest.{Forest}
 use Rattle.tlv_walk.specs.Job.{Runs, device_states}
 use Rattle.tlv_walk.specs.Place.{top_place}
@@ -53,19 +53,19 @@ module _ (framing : Framing) (n : ℕ) (only : Bool) (t : ExtractState) (old new
   pub extract_ok : (run : Run) (answer : Cut) → answer.ending ≡ run.ending → answer.found ≡ has_found t
       → Drives extract_step framing (2 ^ 40) (drive_states (new_extract n only) old from) (drive_states t new to)
       (Ok run)
-      → Runs (extract_job framing n only) (device_states old from) (device_states new to) (Ok answer)
+      → Runs (extract_job n only framing) (device_states old from) (device_states new to) (Ok answer)
   extract_ok run answer ending found x =
-      jobs.runs_ok extract_step (extract_job framing n only)
+      jobs.runs_ok extract_step (extract_job n only framing)
       (new_extract n only) text enough t old new from to run answer x
-      (λ octets f e few r state is. answer_is answer e (has_element_at n f)
+      (λ octets f e few r done state is. answer_is answer e (has_element_at n f)
       (ending ∙ ap (λ (k : Run). k.ending) is
       ∙ jobs.run-ending framing f (followed_events extract_step (new_extract n only) (events f))
-      (made_from (new_extract n only) (events f)).goes e)
+      (had_enough (made_from (new_extract n only) (events f)).goes) e done)
       (found ∙ ap has_found state ∙ (made_text octets f r).found))
 
   pub extract_err : (e : DeviceFault)
       → Drives extract_step framing (2 ^ 40) (drive_states (new_extract n only) old from) (drive_states t new to)
       (Err e)
-      → Runs (extract_job framing n only) (device_states old from) (device_states new to) (Err e)
+      → Runs (extract_job n only framing) (device_states old from) (device_states new to) (Err e)
   extract_err e x =
-      jobs.runs_err extract_step (extract_job framing n only) (new_extract n only) text enough t old new from to e x
+      jobs.runs_err extract_step (extract_job n only framing) (new_extract n only) text enough t old new from to e x

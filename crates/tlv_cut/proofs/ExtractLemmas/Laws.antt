@@ -70,7 +70,7 @@ begin_goes_on n only position.Before h = by (h.offset == n)
         ≡ go.On
     by true = refl
     by false = refl
-begin_goes_on n only (position.Within level) h = refl
+begin_goes_on n only (position.Within count) h = refl
 begin_goes_on n only position.After h = refl
 
 extract_begin_step-goes_on : (s : ExtractState) (h : HeaderValue) → (extract_begin_step s h).goes ≡ go.On

@@ -7,7 +7,7 @@ use Rattle.tlv_walk.specs.declared.follow.Go.TheVariants as go
 use Rattle.tlv_walk.specs.declared.framing.Framing.{Framing}
 use Rattle.tlv_walk.specs.Events.{AreEqualJoined, Begin, Bytes, Close, End, Enter, EventValue, Leave, Open, Unused}
 use Rattle.tlv_walk.specs.Events.{Pad, events}
-use Rattle.tlv_walk.specs.Follow.{Effect, go_of, if_on}
+use Rattle.tlv_walk.specs.Follow.{Effect, go_of, effect_if_more}
 use Rattle.tlv_walk.specs.Forest.{Forest}
 use Rattle.tlv_walk.specs.Place.{top_place}
 use Rattle.tlv_walk.specs.Reading.{IsPrefixOf, IsReading}
@@ -35,7 +35,7 @@ at n only w = record { offset = n; contents_only = only; position = w }
 begin_found : (n : ℕ) (only : Bool) (w : Position) (h : HeaderValue) → has_found (at n only w) ≡ true
     → has_found (extract_begin_step (at n only w) h).state ≡ true
 begin_found n only position.Before h b = absurd (cc (b))
-begin_found n only (position.Within level) h b = refl
+begin_found n only (position.Within count) h b = refl
 begin_found n only position.After h b = refl
 
 extract_begin_step-found : (s : ExtractState) (h : HeaderValue) → has_found s ≡ true
@@ -46,7 +46,7 @@ end_found : (n : ℕ) (only : Bool) (w : Position) (octets : List ℕ) → has_f
     → has_found (extract_end_step (at n only w) octets).state ≡ true
 end_found n only position.Before octets b = absurd (cc (b))
 end_found n only (position.Within zero) octets b = refl
-end_found n only (position.Within (suc level)) octets b = refl
+end_found n only (position.Within (suc count)) octets b = refl
 end_found n only position.After octets b = refl
 
 extract_end_step-found : (s : ExtractState) (octets : List ℕ) → has_found s ≡ true
@@ -67,18 +67,18 @@ extract_step-found s End b = extract_end_step-found s [] b
 extract_step-found s Leave b = extract_end_step-found s [] b
 extract_step-found s (Pad octets) b = b
 
-if_on-found : (g : Go) (t : Effect ExtractState) (f : ExtractState → Effect ExtractState)
+effect_if_more-found : (g : Go) (t : Effect ExtractState) (f : ExtractState → Effect ExtractState)
     → has_found t.state ≡ true
-    → has_found (f t.state).state ≡ true → has_found (if_on g t f).state ≡ true
-if_on-found go.On t f b d = d
-if_on-found go.Enough t f b d = b
+    → has_found (f t.state).state ≡ true → has_found (effect_if_more g t f).state ≡ true
+effect_if_more-found go.On t f b d = d
+effect_if_more-found go.Enough t f b d = b
 
 made_from-found : (s : ExtractState) (es : List EventValue) → has_found s ≡ true
     → has_found (made_from s es).state ≡ true
 made_from-found s [] b = b
 made_from-found s (e ∷ es) b =
     let t = extract_step s e in
-    if_on-found t.goes t (λ u. made_from u es) (extract_step-found s e b)
+    effect_if_more-found t.goes t (λ u. made_from u es) (extract_step-found s e b)
     (made_from-found t.state es (extract_step-found s e b))
 
 made_from-found_more : (s : ExtractState) (es fs : List EventValue) → has_found (made_from s es).state ≡ true
@@ -86,7 +86,7 @@ made_from-found_more : (s : ExtractState) (es fs : List EventValue) → has_foun
 made_from-found_more s es fs b =
     let t = made_from s es in
     ap (λ (t : Effect ExtractState). has_found t.state) (followed-append extract_step s es fs)
-    ∙ if_on-found t.goes t (λ u. made_from u fs) b (made_from-found t.state fs b)
+    ∙ effect_if_more-found t.goes t (λ u. made_from u fs) b (made_from-found t.state fs b)
 
 -- ---- inputs
 

@@ -28,35 +28,35 @@ module _ (s : ExtractState) (h : HeaderValue) (o : List ℕ) where
   abbrev at : Position → ExtractState
   at w = record s { position = w }
 
-  abbrev made : Effect ExtractState
-  made = made_from s (whole_events h o)
+  abbrev effect : Effect ExtractState
+  effect = made_from s (whole_events h o)
 
   -- an element that the one wanted holds
-  pub whole_inside : (level : ℕ) → s.position ≡ Within level → level ≤ 254 → octets_of h ++ contents_in h o ≡ o
-      → made ≡ effect_with s o
-  whole_inside level e low all =
+  pub whole_inside : (count : ℕ) → s.position ≡ Within count → count ≤ 254 → octets_of h ++ contents_in h o ≡ o
+      → effect ≡ effect_with s o
+  whole_inside count e low all =
       subst
       (λ (w : Position). made_from (record s { position = w }) (whole_events h o)
       ≡ effect_with (record s { position = w }) (octets_of h ++ c))
       (sym e)
-      (primitive_passed_on s.offset s.contents_only level h c low)
+      (primitive_passed_on s.offset s.contents_only count h c low)
       ∙ ap (effect_with s) all
 
   -- an element of which nothing is put
   passed_by : extract_begin_step s h ≡ no_effect s → wanted_octets s.position c ≡ []
-      → extract_end_step s [] ≡ no_effect s → made ≡ no_effect s
+      → extract_end_step s [] ≡ no_effect s → effect ≡ no_effect s
   passed_by b none n =
       then_more s s [] (Begin h ∷ Bytes c ∷ []) (End ∷ []) (made_from-begins s s [] h c b ∙ ap (effect_with s) none)
       ∙ followed-one extract_step s End
       ∙ n
 
-  pub whole_after : s.position ≡ After → made ≡ no_effect s
+  pub whole_after : s.position ≡ After → effect ≡ no_effect s
   whole_after e =
       passed_by (subst (λ (w : Position). extract_begin_step (at w) h ≡ no_effect (at w)) (sym e) refl)
       (subst (λ (w : Position). wanted_octets w c ≡ []) (sym e) refl)
       (subst (λ (w : Position). extract_end_step (at w) [] ≡ no_effect (at w)) (sym e) refl)
 
-  pub whole_before : s.position ≡ Before → (h.offset == s.offset) ≡ false → made ≡ no_effect s
+  pub whole_before : s.position ≡ Before → (h.offset == s.offset) ≡ false → effect ≡ no_effect s
   whole_before e other =
       passed_by
       (subst (λ (w : Position). extract_begin_step (at w) h ≡ no_effect (at w)) (sym e)

@@ -7,13 +7,13 @@ use Rattle.tlv_io.specs.Device.{DrainState, SourceState, octets_given}
 use Rattle.tlv_walk.specs.declared.ending.Ending.{Ending}
 use Rattle.tlv_walk.specs.declared.ending.Ending.TheVariants.{Done}
 use Rattle.tlv_walk.specs.Ending.{IsEnding}
-use Rattle.tlv_walk.specs.DriveJob.{Drives, drive_states, had_enough}
+use Rattle.tlv_walk.specs.DriveJob.{Drives, drive_states}
 use Rattle.tlv_walk.specs.Events.{events}
-use Rattle.tlv_walk.specs.Follow.{Effect, effect_of, followed_events}
+use Rattle.tlv_walk.specs.Follow.{Effect, effect_of, followed_events, had_enough}
 use Rattle.tlv_walk.specs.Forest.{Forest}
 use Rattle.tlv_walk.specs.Job.{Runs, device_states}
 use Rattle.tlv_walk.specs.Reading.{IsReading}
-use Rattle.tlv_walk.proofs.FollowerLemmas.Enough.{Settled, ends_with, returns}
+use Rattle.tlv_walk.proofs.FollowerLemmas.Enough.{returns}
 use Rattle.tlv_walk.proofs.FollowerLemmas.Jobs as jobs
 use Rattle.tlv_cut.specs.IndefText.{indef_text}
 use Rattle.tlv_cut.specs.IndefStep.{IndefState, indef_step}
@@ -41,8 +41,6 @@ module _ (padding : Bool) (s t : IndefState) (old new : SourceState) (from to : 
       let given : List ℕ = octets_given x.pieces in
       let octets : List ℕ = take (2 ^ 40) given in
       let k = returns (indef_job padding) given x.reading new (Ok e) x.comes in
-      let ends : IsEnding w octets k.0 =
-      ends_with w octets false k.0 (Settled (indef_job padding) given x.reading new k.0) k.2 in
       let again = indef_text_is_read_back padding octets x.reading x.is_reading in
       let all : x.sends.sent ≡ indef_text x.reading =
       sym (append-nil x.sends.sent) ∙ ap (λ (l : List ℕ). x.sends.sent ++ l) (sym x.sends.all_sent) ∙ x.sends.prefix in
@@ -50,7 +48,7 @@ module _ (padding : Bool) (s t : IndefState) (old new : SourceState) (from to : 
         is_reading = again.0;
         is_done =
             indef_text_is_done padding octets x.reading x.is_reading
-            (subst (λ (d : Ending). IsEnding w octets d) (sym k.1 ∙ done) ends);
+            (subst (λ (d : Ending). IsEnding w octets d) (sym k.1 ∙ done) k.2);
         same_again = again.1;
       })
 
@@ -59,9 +57,9 @@ module _ (padding : Bool) (s t : IndefState) (old new : SourceState) (from to : 
       → Runs (indef_job padding) (device_states old from) (device_states new to) (Ok run.ending)
   runs_ok run x =
       jobs.runs_ok indef_step (indef_job padding) s text goes_on t old new from to run run.ending x
-      (λ octets f e few r state is. ap (λ (k : Run). k.ending) is
+      (λ octets f e few r done state is. ap (λ (k : Run). k.ending) is
       ∙ jobs.run-ending (indef_framing padding) f (followed_events indef_step s (events f))
-      (effect_of indef_step s (events f)).goes e)
+      (had_enough (effect_of indef_step s (events f)).goes) e done)
 
   pub indef_ok : (run : Run)
       → Drives indef_step (indef_framing padding) (2 ^ 40) (drive_states s old from) (drive_states t new to) (Ok run)

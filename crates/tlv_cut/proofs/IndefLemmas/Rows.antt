@@ -14,15 +14,15 @@ use Rattle.tlv_cut.specs.IndefStep.{indef_event_text}
 use Rattle.tlv_cut.specs.IndefJob.{indef_framing}
 use Rattle.tlv_cut.specs.IndefReading.{with_offsets_from}
 
--- what is written for an input
-abbrev written : Bool → List ℕ → List ℕ
-written padding b = indef_text (reading (indef_framing padding) b)
+-- what `indef` writes for an input
+abbrev indef_output : Bool → List ℕ → List ℕ
+indef_output padding b = indef_text (reading (indef_framing padding) b)
 
-nothing : written false [] ≡ []
+nothing : indef_output false [] ≡ []
 nothing = refl
 
 -- 30 03 02 01 05, and what is written for it
-a-sequence : written false (0x30 ∷ 3 ∷ 2 ∷ 1 ∷ 5 ∷ []) ≡ 0x30 ∷ 0x80 ∷ 2 ∷ 1 ∷ 5 ∷ 0 ∷ 0 ∷ []
+a-sequence : indef_output false (0x30 ∷ 3 ∷ 2 ∷ 1 ∷ 5 ∷ []) ≡ 0x30 ∷ 0x80 ∷ 2 ∷ 1 ∷ 5 ∷ 0 ∷ 0 ∷ []
 a-sequence = refl
 
 its-second-reading : with_offsets_from 0
@@ -30,46 +30,46 @@ its-second-reading : with_offsets_from 0
     ≡ reading (indef_framing false) (0x30 ∷ 0x80 ∷ 2 ∷ 1 ∷ 5 ∷ 0 ∷ 0 ∷ [])
 its-second-reading = refl
 
-written-again : written false (0x30 ∷ 0x80 ∷ 2 ∷ 1 ∷ 5 ∷ 0 ∷ 0 ∷ []) ≡ 0x30 ∷ 0x80 ∷ 2 ∷ 1 ∷ 5 ∷ 0 ∷ 0 ∷ []
+written-again : indef_output false (0x30 ∷ 0x80 ∷ 2 ∷ 1 ∷ 5 ∷ 0 ∷ 0 ∷ []) ≡ 0x30 ∷ 0x80 ∷ 2 ∷ 1 ∷ 5 ∷ 0 ∷ 0 ∷ []
 written-again = refl
 
 -- 30 03 02 01: no end-of-contents octets for an element that is open
-a-sequence-cut-off : written false (0x30 ∷ 3 ∷ 2 ∷ 1 ∷ []) ≡ 0x30 ∷ 0x80 ∷ 2 ∷ 1 ∷ []
+a-sequence-cut-off : indef_output false (0x30 ∷ 3 ∷ 2 ∷ 1 ∷ []) ≡ 0x30 ∷ 0x80 ∷ 2 ∷ 1 ∷ []
 a-sequence-cut-off = refl
 
 its-ending : ending (indef_framing false) (0x30 ∷ 3 ∷ 2 ∷ 1 ∷ []) ≡ fault_ending Short 4
 its-ending = refl
 
 -- 30 03 02 02 01: the header that is refused is not written
-a-header-refused : written false (0x30 ∷ 3 ∷ 2 ∷ 2 ∷ 1 ∷ []) ≡ 0x30 ∷ 0x80 ∷ []
+a-header-refused : indef_output false (0x30 ∷ 3 ∷ 2 ∷ 2 ∷ 1 ∷ []) ≡ 0x30 ∷ 0x80 ∷ []
 a-header-refused = refl
 
 -- 30 80 00 01: nor is the first of the end-of-contents octets without the second
-a-lone-zero : written false (0x30 ∷ 0x80 ∷ 0 ∷ 1 ∷ []) ≡ 0x30 ∷ 0x80 ∷ []
+a-lone-zero : indef_output false (0x30 ∷ 0x80 ∷ 0 ∷ 1 ∷ []) ≡ 0x30 ∷ 0x80 ∷ []
 a-lone-zero = refl
 
 -- 3a 09, and two segments
-segments : written false (0x3a ∷ 9 ∷ 4 ∷ 3 ∷ 0x4a ∷ 0x6f ∷ 0x6e ∷ 4 ∷ 2 ∷ 0x65 ∷ 0x73 ∷ [])
+segments : indef_output false (0x3a ∷ 9 ∷ 4 ∷ 3 ∷ 0x4a ∷ 0x6f ∷ 0x6e ∷ 4 ∷ 2 ∷ 0x65 ∷ 0x73 ∷ [])
     ≡ 0x3a ∷ 0x80 ∷ 4 ∷ 3 ∷ 0x4a ∷ 0x6f ∷ 0x6e ∷ 4 ∷ 2 ∷ 0x65 ∷ 0x73 ∷ 0 ∷ 0 ∷ []
 segments = refl
 
 -- 20 00
-no-segment : written false (0x20 ∷ 0 ∷ []) ≡ 0x20 ∷ 0x80 ∷ 0 ∷ 0 ∷ []
+no-segment : indef_output false (0x20 ∷ 0 ∷ []) ≡ 0x20 ∷ 0x80 ∷ 0 ∷ 0 ∷ []
 no-segment = refl
 
 -- 00 00 00, with padding
-padding-alone : written true (0 ∷ 0 ∷ 0 ∷ []) ≡ 0 ∷ 0 ∷ 0 ∷ []
+padding-alone : indef_output true (0 ∷ 0 ∷ 0 ∷ []) ≡ 0 ∷ 0 ∷ 0 ∷ []
 padding-alone = refl
 
 its-fault : ending (indef_framing true) (0 ∷ 0 ∷ 0 ∷ []) ≡ fault_ending Empty 3
 its-fault = refl
 
 -- 30 80 00 00 00 30 02 05 00, with padding
-padding-between : written true (0x30 ∷ 0x80 ∷ 0 ∷ 0 ∷ 0 ∷ 0x30 ∷ 2 ∷ 5 ∷ 0 ∷ [])
+padding-between : indef_output true (0x30 ∷ 0x80 ∷ 0 ∷ 0 ∷ 0 ∷ 0x30 ∷ 2 ∷ 5 ∷ 0 ∷ [])
     ≡ 0x30 ∷ 0x80 ∷ 0 ∷ 0 ∷ 0 ∷ 0x30 ∷ 0x80 ∷ 5 ∷ 0 ∷ 0 ∷ 0 ∷ []
 padding-between = refl
 
-padding-again : written true (0x30 ∷ 0x80 ∷ 0 ∷ 0 ∷ 0 ∷ 0x30 ∷ 0x80 ∷ 5 ∷ 0 ∷ 0 ∷ 0 ∷ [])
+padding-again : indef_output true (0x30 ∷ 0x80 ∷ 0 ∷ 0 ∷ 0 ∷ 0x30 ∷ 0x80 ∷ 5 ∷ 0 ∷ 0 ∷ 0 ∷ [])
     ≡ 0x30 ∷ 0x80 ∷ 0 ∷ 0 ∷ 0 ∷ 0x30 ∷ 0x80 ∷ 5 ∷ 0 ∷ 0 ∷ 0 ∷ []
 padding-again = refl
 

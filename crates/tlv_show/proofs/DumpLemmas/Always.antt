@@ -4,7 +4,7 @@ use Rattle.std.specs.Prelude.{Some, None}
 use Rattle.tlv_walk.specs.declared.follow.Go.{Go}
 use Rattle.tlv_walk.specs.declared.follow.Go.TheVariants as go
 use Rattle.tlv_walk.specs.Events.{Begin, Bytes, Close, End, Enter, EventValue, Leave, Open, Pad, Unused}
-use Rattle.tlv_walk.specs.Follow.{effect_of, if_on}
+use Rattle.tlv_walk.specs.Follow.{effect_if_more, effect_of}
 use Rattle.tlv_walk.proofs.FollowerLemmas.Followed.{each_octet-goes_on}
 use Rattle.tlv_show.specs.LinesStep.{LinesState, lines_octet_step, lines_padding_step, lines_step}
 
@@ -25,5 +25,5 @@ one_on s (Pad octets) = each_octet-goes_on lines_padding_step s octets
 pub all_on : (s : LinesState) (es : List EventValue) → (effect_of lines_step s es).goes ≡ go.On
 all_on s [] = refl
 all_on s (e ∷ es) =
-    ap (λ (g : Go). (if_on g (lines_step s e) (λ u. effect_of lines_step u es)).goes) (one_on s e)
+    ap (λ (g : Go). (effect_if_more g (lines_step s e) (λ u. effect_of lines_step u es)).goes) (one_on s e)
     ∙ all_on (lines_step s e).state es

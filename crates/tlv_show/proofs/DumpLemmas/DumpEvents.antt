@@ -5,7 +5,7 @@ use Rattle.std.specs.Prelude.{Option, Some, None}
 use Rattle.tlv_head.specs.Header.{HeaderValue}
 use Rattle.tlv_value.specs.declared.layout.Layout.{Layout}
 use Rattle.tlv_walk.specs.Events.{Begin, Bytes, Close, End, Enter, EventValue, Leave, Open, Unused}
-use Rattle.tlv_walk.specs.Follow.{Effect, and_then, each_octet, effect_of, effect_with, if_on}
+use Rattle.tlv_walk.specs.Follow.{Effect, and_then, each_octet, effect_if_more, effect_of, effect_with}
 use Rattle.tlv_walk.proofs.FollowerLemmas.Followed.{followed-more}
 use Rattle.tlv_show.specs.declared.finding_lines.Style.TheVariants.{Dump}
 use Rattle.tlv_show.specs.FindingLines.{last_finding_lines}
@@ -94,16 +94,16 @@ primitive-by l s h c =
     ((first ++ b.put) ++ (k.put ++ (((lines_step k.state End).put ++ texts k.state.layout f) ++ []))) in
     let parts : Effect LinesState → Effect DumpState =
     λ k. let d =
-    and_then b (λ z. if_on k.goes k (λ w. effect_of lines_step w (End ∷ []))) in effect_with
+    and_then b (λ z. effect_if_more k.goes k (λ w. effect_of lines_step w (End ∷ []))) in effect_with
     (dump_state d.state f.state) (first ++ (d.put ++ texts l.layout f)) in
     let o : Effect LinesState =
     of_bytes b.state (saturating_sum b.state.offset (length c)) (value_after b.state.open_text c)
     (value_contents_lines b.state.open_text c) in
     let is : m ≡ o = dumped_bytes b.state c (λ e. rested-new h l.layout) in
     ap (λ (k : Effect DumpState). record {
-      state = (if_on k.goes k (λ w. effect_of dump_step w (End ∷ []))).state;
-      put = (first ++ b.put) ++ (if_on k.goes k (λ w. effect_of dump_step w (End ∷ []))).put;
-      goes = (if_on k.goes k (λ w. effect_of dump_step w (End ∷ []))).goes;
+      state = (effect_if_more k.goes k (λ w. effect_of dump_step w (End ∷ []))).state;
+      put = (first ++ b.put) ++ (effect_if_more k.goes k (λ w. effect_of dump_step w (End ∷ []))).put;
+      goes = (effect_if_more k.goes k (λ w. effect_of dump_step w (End ∷ []))).goes;
     })
     (each-shown (dump_state b.state (finder_begin_step s h).state) c)
     ∙ ap whole is
@@ -140,10 +140,11 @@ part-by l s h c =
     of_bytes b.state (saturating_sum b.state.offset (length c)) (value_after b.state.open_text c)
     (value_contents_lines b.state.open_text c) in
     let is : m ≡ o = dumped_bytes b.state c (λ e. rested-new h l.layout) in
-    ap (λ (k : Effect DumpState). (first ++ b.put) ++ (if_on k.goes k (λ w. effect_of dump_step w [])).put)
+    ap (λ (k : Effect DumpState). (first ++ b.put) ++ (effect_if_more k.goes k (λ w. effect_of dump_step w [])).put)
     (each-shown (dump_state b.state (finder_begin_step s h).state) c)
     ∙ append_assoc first b.put (m.put ++ [])
     ∙ ap (λ (k : Effect LinesState). first ++ (b.put ++ (k.put ++ []))) is
     ∙ sym (ap
-    (λ (k : Effect LinesState). first ++ (and_then b (λ z. if_on k.goes k (λ w. effect_of lines_step w []))).put)
+    (λ (k : Effect LinesState). first
+        ++ (and_then b (λ z. effect_if_more k.goes k (λ w. effect_of lines_step w []))).put)
     is)

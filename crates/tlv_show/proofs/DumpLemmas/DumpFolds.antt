@@ -4,7 +4,7 @@ use Rattle.std.specs.Prelude.{None}
 use Rattle.tlv_value.specs.Names.{NamesTable}
 use Rattle.tlv_walk.specs.declared.follow.Go.{Go}
 use Rattle.tlv_walk.specs.Events.{Begin, Bytes, Close, End, Enter, EventValue, Leave, Open, Pad, Unused, events}
-use Rattle.tlv_walk.specs.Follow.{Effect, effect_of, if_on}
+use Rattle.tlv_walk.specs.Follow.{Effect, effect_if_more, effect_of}
 use Rattle.tlv_walk.specs.Forest.{Forest, spelling}
 use Rattle.tlv_walk.specs.Place.{top_place}
 use Rattle.tlv_walk.specs.Reading.{IsReading}
@@ -34,10 +34,11 @@ finder-by s Unused = refl
 finder-by s Leave = refl
 finder-by s (Pad octets) = ap (λ (t : Effect DumpState). t.state.finder) (each-filled s octets)
 
-finder-run : (s : DumpState) (es : List EventValue) → (effect_of dump_step s es).state.finder ≡ (run_finder s.finder es).state
+finder-run : (s : DumpState) (es : List EventValue)
+    → (effect_of dump_step s es).state.finder ≡ (run_finder s.finder es).state
 finder-run s [] = refl
 finder-run s (e ∷ es) =
-    ap (λ (g : Go). (if_on g (dump_step s e) (λ u. effect_of dump_step u es)).state.finder) (one_on s e)
+    ap (λ (g : Go). (effect_if_more g (dump_step s e) (λ u. effect_of dump_step u es)).state.finder) (one_on s e)
     ∙ finder-run (dump_step s e).state es
     ∙ ap (λ (u : FinderState). (run_finder u es).state) (finder-by s e)
 

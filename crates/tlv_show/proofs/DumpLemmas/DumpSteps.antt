@@ -8,7 +8,7 @@ use Rattle.tlv_io.proofs.Puts.{puts_failed, puts_text, puts_then}
 use Rattle.tlv_walk.specs.declared.follow.Go.{Go}
 use Rattle.tlv_walk.specs.declared.follow.Go.TheVariants as go
 use Rattle.tlv_walk.specs.Events.{Begin, Bytes, Close, End, Enter, EventValue, Leave, Open, Pad, Unused}
-use Rattle.tlv_walk.specs.Follow.{Effect, each_octet, effect_of, if_on}
+use Rattle.tlv_walk.specs.Follow.{Effect, each_octet, effect_if_more, effect_of}
 use Rattle.tlv_show.specs.LinesStep.{lines_octet_step, lines_padding_step}
 use Rattle.tlv_show.specs.DumpStep.{DumpState, dump_octet_step, dump_padding_step, dump_step, finding_lines}
 use Rattle.tlv_show.specs.FinderState.{FinderState, FinderReport, finder_bytes_step}
@@ -69,7 +69,7 @@ one_on s (Pad octets) = ap (λ (t : Effect DumpState). t.goes) (each-filled s oc
 pub all_on : (s : DumpState) (es : List EventValue) → (effect_of dump_step s es).goes ≡ go.On
 all_on s [] = refl
 all_on s (e ∷ es) =
-    ap (λ (g : Go). (if_on g (dump_step s e) (λ u. effect_of dump_step u es)).goes) (one_on s e)
+    ap (λ (g : Go). (effect_if_more g (dump_step s e) (λ u. effect_of dump_step u es)).goes) (one_on s e)
     ∙ all_on (dump_step s e).state es
 
 -- ---- findings are put before the lines, or after them

@@ -17,7 +17,7 @@ use Rattle.tlv_value.specs.Value.{NameOf}
 use Rattle.tlv_value.proofs.TextLemmas.Pieces.{lines-end, open-lines}
 use Rattle.tlv_walk.specs.Events.{Begin, Bytes, Close, End, Enter, EventValue, Leave, Open, Pad, Unused, closing_event}
 use Rattle.tlv_walk.specs.Events.{end_offset, end_place, opening_events}
-use Rattle.tlv_walk.specs.Follow.{Effect, and_then, effect_of, effect_with, if_on}
+use Rattle.tlv_walk.specs.Follow.{Effect, and_then, effect_if_more, effect_of, effect_with}
 use Rattle.tlv_walk.specs.Forest.{Forest, NoMore, PaddingOctet, Primitive, Holder, OpenPrimitive, OpenHolder}
 use Rattle.tlv_walk.specs.Forest.{OpenBitString, OpenHeader, OpenEndOctets, end_octets, extent, lead, opening, spelling}
 use Rattle.tlv_walk.specs.Place.{IsOpen, Place, place_after}
@@ -79,7 +79,8 @@ primitives_shown s h c size =
     { offset = saturating_sum (lines_after_header s h).offset (length c); open_text = None } in
     let took = take-all (announced_length h.size) c (omega (arith, size)) in
     let none : announced_length h.size - length c ≡ 0 = omega (arith, size) in
-    ap (λ (k : Effect LinesState). after_put (begin_lines t) (if_on k.goes k (λ w. effect_of lines_step w (End ∷ []))))
+    ap (λ (k : Effect LinesState). after_put (begin_lines t)
+        (effect_if_more k.goes k (λ w. effect_of lines_step w (End ∷ []))))
     (dumped_bytes u c (λ e. rested-new h s.layout))
     ∙ ap (λ (l : List ℕ). effect_with place_after
     (begin_lines t
@@ -142,7 +143,8 @@ module _ (style : Layout) (names : NamesTable) where
       ≡ open_lines h (at_level level) c
   part_shown level offset padded h c size =
       let t : ValueTextState = new_value_text h (at_level level) in
-      ap (λ (k : Effect LinesState). (after_put (begin_lines t) (if_on k.goes k (λ w. effect_of lines_step w []))).put)
+      ap (λ (k : Effect LinesState).
+          (after_put (begin_lines t) (effect_if_more k.goes k (λ w. effect_of lines_step w []))).put)
       (dumped_bytes (begun_in level offset padded h) c (λ e. rested-new h (at_level level)))
       ∙ ap (λ (l : List ℕ). begin_lines t ++ (contents_lines t l ++ [])) (take-all (announced_length h.size) c size)
       ∙ ap (λ (l : List ℕ). begin_lines t ++ l) (append-nil (contents_lines t c))

@@ -11,7 +11,8 @@ use Rattle.tlv_walk.specs.declared.follow.Go.TheVariants as go
 use Rattle.tlv_io.specs.declared.out.Out.{Out}
 use Rattle.tlv_io.specs.Device.{DrainState}
 use Rattle.tlv_walk.specs.Events.{Bytes, End}
-use Rattle.tlv_walk.specs.Follow.{Effect, HasEffectOrNone, contents_in, effect_of, if_on, no_effect, put_if_followed}
+use Rattle.tlv_walk.specs.Follow.{Effect, HasEffectOrNone, contents_in, effect_if_more, effect_of, no_effect}
+use Rattle.tlv_walk.specs.Follow.{put_if_followed}
 use Rattle.tlv_walk.specs.Follow.{whole_events}
 use Rattle.tlv_io.specs.Out.{Puts}
 use Rattle.tlv_walk.proofs.FollowerLemmas.Followed.{followed-one}
@@ -111,9 +112,9 @@ whole-checked : (s : FinderState) (h : HeaderValue) (o : List ℕ) → (finder_b
 whole-checked s h o begins ends =
     let c : List ℕ = contents_in h o in
     let t : FinderState = (finder_begin_step s h).state in
-    ap (λ (k : Effect FinderState). if_on k.goes k (λ u. effect_of check_step u (Bytes c ∷ End ∷ [])))
+    ap (λ (k : Effect FinderState). effect_if_more k.goes k (λ u. effect_of check_step u (Bytes c ∷ End ∷ [])))
     (lists-none (finder_begin_step s h) begins)
-    ∙ ap (λ (k : Effect FinderState). if_on k.goes k (λ u. effect_of check_step u (End ∷ []))) (each-found t c)
+    ∙ ap (λ (k : Effect FinderState). effect_if_more k.goes k (λ u. effect_of check_step u (End ∷ []))) (each-found t c)
     ∙ followed-one check_step (finder_bytes_step t c) End
     ∙ lists-none (finder_whole_step s h c) ends
 

@@ -1,6 +1,6 @@
 -- A command that shows what a source gives is a walk, followed by a follower that always wants more.
 use Rattle.std.proofs.Common.{◌≡◌, ℕ, ◌^◌, ◌≤◌, false, List, length, ap, ◌∙◌}
-use Rattle.std.specs.Prelude.{Option, Ok, Err}
+use Rattle.std.specs.Prelude.{if◌then◌else◌, Option, Ok, Err}
 use Rattle.tlv_walk.specs.declared.ending.Ending.{Ending}
 use Rattle.tlv_walk.specs.declared.follow.Go.{Go}
 use Rattle.tlv_walk.specs.declared.follow.Go.TheVariants as go
@@ -8,10 +8,10 @@ use Rattle.tlv_walk.specs.declared.framing.Framing.{Framing}
 use Rattle.tlv_walk.specs.declared.run.DeviceFault.{DeviceFault}
 use Rattle.tlv_walk.specs.declared.run.Run.{Run}
 use Rattle.tlv_io.specs.Device.{DrainState, SourceState}
-use Rattle.tlv_walk.specs.DriveJob.{Drives, drive_states, had_enough, run_over}
+use Rattle.tlv_walk.specs.DriveJob.{Drives, drive_job, drive_states, enough_run, whole_run}
 use Rattle.tlv_walk.specs.Events.{EventValue, events}
-use Rattle.tlv_walk.specs.Follow.{Effect, effect_of, followed_events}
-use Rattle.tlv_walk.specs.Forest.{Forest, spelling}
+use Rattle.tlv_walk.specs.Follow.{Effect, effect_of, followed_events, had_enough}
+use Rattle.tlv_walk.specs.Forest.{Forest}
 use Rattle.tlv_walk.specs.Job.{Job, Runs, device_states}
 use Rattle.tlv_walk.specs.Reading.{IsReading}
 use Rattle.tlv_walk.specs.Wrappers.{first_without_wrapper}
@@ -25,7 +25,7 @@ showing framing text count = record {
   limit = 2 ^ 40;
   text = text;
   is_enough = λ f. false;
-  returned = λ f e. record { ending = e; findings = count f; unused = first_without_wrapper framing.inside f };
+  result = λ f e. record { ending = e; findings = count f; unused = first_without_wrapper framing.inside f };
 }
 
 -- a follower, and what it makes of readings: a text, and a count in its state
@@ -56,15 +56,11 @@ module _ {S : Type 0} (next : S → EventValue → Effect S) (first : S) (framin
 
   -- the run over all events
   run_on : (f : Forest) (e : Ending)
-      → run_over framing f (followed_events next first (events f)) (effect_of next first (events f)).goes e
-      ≡ record {
-        ending = e;
-        octets = length (spelling f);
-        enough = false;
-        unused = first_without_wrapper framing.inside f;
-      }
+      → (drive_job next framing (2 ^ 40) first).result f e ≡ whole_run framing f e
   run_on f e =
-      ap (λ (g : Go). run_over framing f (followed_events next first (events f)) g e) (w.goes_on first (events f))
+      ap (λ (g : Go). if had_enough g then enough_run framing (followed_events next first (events f))
+          else whole_run framing f e)
+      (w.goes_on first (events f))
 
   pub shows_ok : (run : Run) (outcome : Outcome) → outcome.ending ≡ run.ending → outcome.findings ≡ count_in t
       → outcome.unused ≡ run.unused
@@ -72,7 +68,7 @@ module _ {S : Type 0} (next : S → EventValue → Effect S) (first : S) (framin
       → Runs (showing framing text count) (device_states old from) (device_states new to) (Ok outcome)
   shows_ok run outcome ending findings unused x =
       jobs.runs_ok next (showing framing text count) first w.put goes_on t old new from to run outcome x
-      (λ octets f e few r state is. outcome_is outcome e (count f) (first_without_wrapper framing.inside f)
+      (λ octets f e few r done state is. outcome_is outcome e (count f) (first_without_wrapper framing.inside f)
       (ending ∙ ap (λ (k : Run). k.ending) (is ∙ run_on f e))
       (findings ∙ ap count_in state ∙ w.counts octets f few r)
       (unused ∙ ap (λ (k : Run). k.unused) (is ∙ run_on f e)))

@@ -14,7 +14,7 @@ use Rattle.tlv_walk.specs.declared.follow.Go.TheVariants as go
 use Rattle.tlv_walk.specs.declared.framing.Framing.{Framing}
 use Rattle.tlv_walk.specs.Events.{Begin, Bytes, Close, End, Enter, EventValue, Leave, Open, Pad, Unused, end_place}
 use Rattle.tlv_walk.specs.Events.{events}
-use Rattle.tlv_walk.specs.Follow.{Effect, effect_of, if_on}
+use Rattle.tlv_walk.specs.Follow.{Effect, effect_if_more, effect_of}
 use Rattle.tlv_walk.specs.Forest.{Forest, NoMore, PaddingOctet, Primitive, Holder, OpenPrimitive, OpenHolder}
 use Rattle.tlv_walk.specs.Forest.{OpenBitString, OpenHeader, OpenEndOctets, extent, opening, spelling}
 use Rattle.tlv_walk.specs.Place.{IsOpen, Place, place_after, place_of_children, top_place}
@@ -60,7 +60,7 @@ pub followed-run : (s : FinderState) (es : List EventValue) → effect_of check_
 followed-run s [] = refl
 followed-run s (e ∷ es) =
     let f : FinderReport = finder_step s e in
-    ap (λ (t : Effect FinderState). if_on t.goes t (λ u. effect_of check_step u es)) (step-is s e)
+    ap (λ (t : Effect FinderState). effect_if_more t.goes t (λ u. effect_of check_step u es)) (step-is s e)
     ∙ ap (λ (t : Effect FinderState). record t { put = styled_lines Check f.level f.offset f.found ++ t.put })
     (followed-run f.state es)
     ∙ ap (λ (l : List ℕ). record { state = (run_finder f.state es).state; put = l; goes = go.On })

@@ -1,10 +1,11 @@
 -- A walk over all that a source gives, turn by turn.
 use Rattle.std.proofs.Common.{◌≡◌, ◌≢◌, ◌⊎◌, inl, inr, ℕ, ◌≤◌, ◌<◌, Bool, true, false, List, [], ◌∷◌, ◌++◌, length}
-use Rattle.std.proofs.Common.{take, flat_map, refl, sym, ap, ◌∙◌, subst, arith, append-nil}
+use Rattle.std.proofs.Common.{take, flat_map, refl, sym, ap, ap₂, ◌∙◌, subst, arith, append-nil}
 use Rattle.std.proofs.lemmas.List.{take_all}
 use Rattle.std.proofs.lemmas.List.Elements.{All-append}
-use Rattle.std.specs.Prelude.{Result, Ok, Err, ⊤}
+use Rattle.std.specs.Prelude.{if◌then◌else◌, Option, Result, Ok, Err, ⊤}
 use Rattle.std.specs.Io.KnownBytes.{IsAtEnd}
+use Rattle.tlv_walk.specs.declared.ending.Ending.{Ending}
 use Rattle.tlv_walk.specs.declared.ending.Ending.TheVariants.{Done}
 use Rattle.tlv_walk.specs.declared.follow.Go.{Go}
 use Rattle.tlv_walk.specs.declared.follow.Go.TheVariants as go
@@ -16,9 +17,9 @@ use Rattle.tlv_walk.specs.declared.run.Turn.{Turn}
 use Rattle.tlv_walk.specs.declared.run.Turn.TheVariants.{Again, Ended}
 use Rattle.std.specs.List.{concat}
 use Rattle.tlv_io.specs.Device.{DrainState, LastReadValue, SourceState, failed, failures_after, gave}
-use Rattle.tlv_walk.specs.DriveJob.{Drives, drive_job, drive_states, event_octets, had_enough, run_over}
-use Rattle.tlv_walk.specs.Events.{AreEqualJoined, Bytes, EventValue, Pad, events}
-use Rattle.tlv_walk.specs.Follow.{Effect, GoesOn, Joins, IgnoresEmpty, effect_of, followed_events}
+use Rattle.tlv_walk.specs.DriveJob.{Drives, drive_job, drive_states, enough_run, whole_run}
+use Rattle.tlv_walk.specs.Events.{AreEqualJoined, Bytes, EventValue, Pad, event_octets, events}
+use Rattle.tlv_walk.specs.Follow.{Effect, GoesOn, Joins, IgnoresEmpty, effect_of, followed_events, had_enough}
 use Rattle.tlv_walk.specs.FollowsEvents.{FollowsEvents}
 use Rattle.tlv_walk.specs.Forest.{Forest, spelling}
 use Rattle.tlv_walk.specs.Ending.{IsFinalEnding}
@@ -32,11 +33,10 @@ use Rattle.tlv_walk.specs.OneTurn.{TurnStates, TurnsTo, WalkEnds, at_enough, at_
 use Rattle.tlv_walk.specs.Wrappers.{first_other, entered_offsets}
 use Rattle.tlv_walk.proofs.FollowerLemmas.Followed.{events_enough, followed-alike, followed-enough, kept-alike}
 use Rattle.tlv_walk.proofs.FollowerLemmas.Following.{made_both, made_put}
-use Rattle.tlv_walk.proofs.FollowerLemmas.Enough.{comes_to, ends_so}
+use Rattle.tlv_walk.proofs.FollowerLemmas.Enough.{comes_to}
 use Rattle.tlv_io.proofs.Pieces.{GaveLast, gathered_more, pieces_all, together_more}
 use Rattle.tlv_io.proofs.Sends.{sends_ok, sends_then}
 use Rattle.tlv_walk.proofs.FollowerLemmas.Pauses.{stands_spelled, stands_yielded}
-use Rattle.tlv_walk.proofs.FollowerLemmas.Turns.{run_is}
 use Rattle.tlv_walk.proofs.FollowerLemmas.SoFar.{gave_last, gave_none, given_short, given_octets, enters_each, Walking}
 
 module _ {S : Type 0} (next : S → EventValue → Effect S)
@@ -62,7 +62,7 @@ module _ {S : Type 0} (next : S → EventValue → Effect S)
   -- what was made of all events of a forest
   pub record MadeAll (s t : S) (f : Forest) (goes : Go) (text : List ℕ) : Type 0 where
     pub state : t ≡ (effect_of next s (events f)).state
-    pub goes_so : (effect_of next s (events f)).goes ≡ goes
+    pub wants : (effect_of next s (events f)).goes ≡ goes
     pub text_is : text ≡ (effect_of next s (events f)).put
 
   made_all : (s t : S) (es : List EventValue) (f : Forest) (goes : Go) → FollowsEvents next s t es goes
@@ -70,7 +70,7 @@ module _ {S : Type 0} (next : S → EventValue → Effect S)
   made_all s t es f goes m e =
       let same : effect_of next s es ≡ effect_of next s (events f) = alike s es (events f) e in record {
         state = m.state ∙ ap (λ (k : Effect S). k.state) same;
-        goes_so = sym (ap (λ (k : Effect S). k.goes) same) ∙ m.goes_so;
+        wants = sym (ap (λ (k : Effect S). k.goes) same) ∙ m.wants;
         text_is = ap (λ (k : Effect S). k.put) same;
       }
 
@@ -79,16 +79,16 @@ module _ {S : Type 0} (next : S → EventValue → Effect S)
       → AreEqualJoined (es ++ others) (events f) → MadeAll s t f go.Enough (effect_of next s es).put
   made_enough s t es others f m e =
       let same : effect_of next s es ≡ effect_of next s (events f) =
-      sym (followed-enough next s es others m.goes_so) ∙ alike s (es ++ others) (events f) e in record {
+      sym (followed-enough next s es others m.wants) ∙ alike s (es ++ others) (events f) e in record {
         state = m.state ∙ ap (λ (k : Effect S). k.state) same;
-        goes_so = sym (ap (λ (k : Effect S). k.goes) same) ∙ m.goes_so;
+        wants = sym (ap (λ (k : Effect S). k.goes) same) ∙ m.wants;
         text_is = ap (λ (k : Effect S). k.put) same;
       }
 
   -- the events followed are then these
   enough_events : (s t : S) (es others : List EventValue) → FollowsEvents next s t es go.Enough
       → followed_events next s (es ++ others) ≡ es
-  enough_events s t es others m = events_enough next s es others m.goes_so ∙ m.all
+  enough_events s t es others m = events_enough next s es others m.wants ∙ m.all
 
   enough_octets : (s t : S) (es others : List EventValue) (f : Forest) → FollowsEvents next s t es go.Enough
       → AreEqualJoined (es ++ others) (events f)
@@ -123,7 +123,7 @@ module _ {S : Type 0} (next : S → EventValue → Effect S)
 
     -- the octets so far hold neither a fault nor enough
     first_wants : WantMore (drive_job next framing limit s) b
-    first_wants = (x.stands.has_events.reading, first_reading, first_spelled, ap had_enough first_made.goes_so)
+    first_wants = (x.stands.has_events.reading, first_reading, first_spelled, ap had_enough first_made.wants)
 
     module _ (new : TurnStates S) (piece : List ℕ) (result : Result Turn DeviceFault)
         (read : FollowsOneRead next now new limit piece result)
@@ -141,8 +141,8 @@ module _ {S : Type 0} (next : S → EventValue → Effect S)
       all_octets = All-append (λ x. x < 256) b r x.octets (given_octets new.devices.source.last piece read.octets)
 
       -- the octets that were walked over
-      abbrev walked : List ℕ
-      walked = take limit (b ++ r)
+      abbrev walked_octets : List ℕ
+      walked_octets = take limit (b ++ r)
 
       turned : (answer : Result Turn DeviceFault) → result ≡ answer → TurnsTo next now new limit b x.yielded r answer
       turned answer is =
@@ -219,7 +219,7 @@ module _ {S : Type 0} (next : S → EventValue → Effect S)
           (drive_states new.follower new.devices.source new.devices.drain) answer
 
       runs_by : (answer : Result Run DeviceFault) (f : Forest) → GaveLast new.devices.source.last r
-          → IsReading framing walked f → (es : List EventValue)
+          → IsReading framing walked_octets f → (es : List EventValue)
           → (goes : Go) (k : MadeAll s new.follower f goes (effect_of next s es).put)
           → source_result answer ≡ source_result result
           → Sends from new.devices.drain (effect_of next s es).put (drain_result answer)
@@ -243,10 +243,15 @@ module _ {S : Type 0} (next : S → EventValue → Effect S)
 
       is_enough_so : (f : Forest) (goes : Go) (text : List ℕ) → MadeAll s new.follower f goes text
           → had_enough (effect_of next s (events f)).goes ≡ had_enough goes
-      is_enough_so f goes text k = ap had_enough k.goes_so
+      is_enough_so f goes text k = ap had_enough k.wants
+
+      -- the run, by whether there was enough
+      abbrev result_if : Forest → Ending → Bool → Run
+      result_if f e enough =
+          if enough then enough_run framing (followed_events next s (events f)) else whole_run framing f e
 
       -- with a fault or the end of the input
-      ends_without : (run : Run) → result ≡ Ok (Ended run) → EndsIn next now new walked x.yielded run
+      ends_without : (run : Run) → result ≡ Ok (Ended run) → EndsIn next now new walked_octets x.yielded run
           → IsFinalEnding run.ending ⊎ ((new.devices.source.last ≡ gave 0) × IsAtEnd new.devices.source.left)
           → Driven (Ok run)
       unfolding runs_by
@@ -254,65 +259,63 @@ module _ {S : Type 0} (next : S → EventValue → Effect S)
           let g : LastReadGaveUpTo (length piece) new.devices.source.last = gave_so (Ok (Ended run)) is in
           let es : List EventValue = y.all in
           let f : Forest = y.has_events.reading in
-          let is_reading : IsReading framing walked f =
-          subst (λ (k : Framing). IsReading k walked f) x.same y.has_events.is_reading in
+          let is_reading : IsReading framing walked_octets f =
+          subst (λ (k : Framing). IsReading k walked_octets f) x.same y.has_events.is_reading in
           let made : FollowsEvents next s new.follower es go.On = followed es go.On y.follows in
           let k : MadeAll s new.follower f go.On (effect_of next s es).put =
           made_all s new.follower es f go.On made y.has_events.all_events in
-          let answer : run
-          ≡ run_over framing f (followed_events next s (events f)) (effect_of next s (events f)).goes run.ending =
-          y.run_is ∙ ap (λ (k : Framing). run_over k f es go.On run.ending) x.same
-          ∙ ap (λ (g : Go). run_over framing f (followed_events next s (events f)) g run.ending) (sym k.goes_so) in
-          let ends : EndsWith framing walked (had_enough (effect_of next s (events f)).goes) run.ending =
-          subst (λ (b : Bool). EndsWith framing walked b run.ending)
+          let answer : run ≡ (drive_job next framing limit s).result f run.ending =
+          y.run_is ∙ ap (λ (k : Framing). whole_run k f run.ending) x.same
+          ∙ ap (result_if f run.ending) (sym (is_enough_so f go.On (effect_of next s es).put k)) in
+          let ends : EndsWith framing walked_octets (had_enough (effect_of next s (events f)).goes) run.ending =
+          subst (λ (b : Bool). EndsWith framing walked_octets b run.ending)
           (sym (is_enough_so f go.On (effect_of next s es).put k))
-          (subst (λ (k : Framing). EndsWith k walked false run.ending) x.same y.ending) in record {
+          (subst (λ (k : Framing). EndsWith k walked_octets false run.ending) x.same y.ending) in record {
             runs =
                 runs_by (Ok run) f (gave_last new.devices.source.last piece g) is_reading es go.On k
                 (ap source_result (sym is)) (sent_all es go.On y.follows)
                 (comes_to (drive_job next framing limit s) (b ++ r) f new.devices.source (Ok run) (
                   run.ending,
                   answer,
-                  ends_so framing walked (had_enough (effect_of next s (events f)).goes) run.ending
-                      (IsFinalEnding run.ending ⊎ ((new.devices.source.last ≡ gave 0) × IsAtEnd new.devices.source.left))
-                      ends (inr ended),
+                  ends,
+                  inr ended,
                 ));
             state = k.state;
           }
 
       -- with enough
-      ends_with : (run : Run) → result ≡ Ok (Ended run) → HasEnoughIn next now new walked x.yielded run
+      ends_with : (run : Run) → result ≡ Ok (Ended run) → HasEnoughIn next now new walked_octets x.yielded run
           → Driven (Ok run)
       unfolding runs_by
       ends_with run is y =
           let g : LastReadGaveUpTo (length piece) new.devices.source.last = gave_so (Ok (Ended run)) is in
           let es : List EventValue = y.all in
           let f : Forest = y.has_events.reading in
-          let is_reading : IsReading framing walked f =
-          subst (λ (k : Framing). IsReading k walked f) x.same y.has_events.is_reading in
+          let is_reading : IsReading framing walked_octets f =
+          subst (λ (k : Framing). IsReading k walked_octets f) x.same y.has_events.is_reading in
           let others : (others : List EventValue) × AreEqualJoined (es ++ others) (events f) =
           (y.others, y.has_events.all_events) in
           let made : FollowsEvents next s new.follower es go.Enough = followed es go.Enough y.follows in
           let k : MadeAll s new.follower f go.Enough (effect_of next s es).put =
           made_enough s new.follower es others.0 f made others.1 in
           let ending_is : run.ending ≡ Done = ap (λ (k : Run). k.ending) y.run_is in
-          let answer : run
-          ≡ run_over framing f (followed_events next s (events f)) (effect_of next s (events f)).goes run.ending =
-          run_is run run.ending (length (flat_map event_octets (followed_events next s (events f)))) true
-          (first_other framing.inside (entered_offsets (followed_events next s (events f)))) refl
-          (ap (λ (k : Run). k.octets) y.run_is ∙ ap length (enough_octets s new.follower es others.0 f made others.1))
-          (ap (λ (k : Run). k.enough) y.run_is)
-          (ap (λ (k : Run). k.unused) y.run_is
-          ∙ ap (λ (k : Framing). first_other k.inside (entered_offsets es)) x.same
-          ∙ ap (first_other framing.inside) (enough_enters s new.follower es others.0 f made others.1))
-          ∙ ap (λ (g : Go). run_over framing f (followed_events next s (events f)) g run.ending) (sym k.goes_so) in
           let enough : had_enough (effect_of next s (events f)).goes ≡ true =
-          is_enough_so f go.Enough (effect_of next s es).put k in record {
+          is_enough_so f go.Enough (effect_of next s es).put k in
+          let answer : run ≡ (drive_job next framing limit s).result f run.ending =
+          y.run_is ∙ ap (λ (k : Framing). enough_run k es) x.same
+          ∙ ap₂ (λ (n : ℕ) (u : Option ℕ). record (enough_run framing es) { octets = n; unused = u })
+          (ap length (enough_octets s new.follower es others.0 f made others.1))
+          (ap (first_other framing.inside) (enough_enters s new.follower es others.0 f made others.1))
+          ∙ ap (result_if f run.ending) (sym enough) in record {
             runs =
                 runs_by (Ok run) f (gave_last new.devices.source.last piece g) is_reading es go.Enough k
                 (ap source_result (sym is)) (sent_all es go.Enough y.follows)
-                (comes_to (drive_job next framing limit s) (b ++ r) f new.devices.source (Ok run)
-                (run.ending, answer, inl (enough, ending_is)));
+                (comes_to (drive_job next framing limit s) (b ++ r) f new.devices.source (Ok run) (
+                  run.ending,
+                  answer,
+                  subst (λ (k : Bool). EndsWith framing walked_octets k run.ending) (sym enough) ending_is,
+                  inl enough,
+                ));
             state = k.state;
           }
 
@@ -336,12 +339,12 @@ module _ {S : Type 0} (next : S → EventValue → Effect S)
           let last : new.devices.source.last ≡ failed = gave_so (Err ReadFailed) is in
           let none : r ≡ [] = ap (λ (l : LastReadValue). last_octets l piece) last in
           let f : Forest = x.stands.has_events.reading in
-          let all : b ≡ walked =
+          let all : b ≡ walked_octets =
           sym (ap (λ (o : List ℕ). take limit (b ++ o)) none ∙ ap (λ (o : List ℕ). take limit o) (append-nil b)
           ∙ take_all limit b within) in
           let k : MadeAll s new.follower f go.On (effect_of next s x.yielded).put = record {
             state = y.same.follower ∙ first_made.state;
-            goes_so = first_made.goes_so;
+            wants = first_made.wants;
             text_is = first_made.text_is;
           } in
           let put : Sends from new.devices.drain (effect_of next s x.yielded).put (Ok tt) =
@@ -373,7 +376,7 @@ module _ {S : Type 0} (next : S → EventValue → Effect S)
               wants_more = first_wants;
               within = within;
               reading = f;
-              is_reading = subst (λ (k : Framing). IsReading k walked f) x.same y.has_events.is_reading;
+              is_reading = subst (λ (k : Framing). IsReading k walked_octets f) x.same y.has_events.is_reading;
               sends =
                   subst (λ (l : List ℕ). Sends {T = ⊤} {E = DeviceFault} from new.devices.drain l (Err WriteFailed))
                   (ap (λ (k : Effect S). k.put) same) (sent y.more (Err WriteFailed) y.put);
@@ -390,16 +393,16 @@ module _ {S : Type 0} (next : S → EventValue → Effect S)
           let z = y.stands in
           let es : List EventValue = z.all in
           let f : Forest = z.stands.has_events.reading in
-          let is_reading : IsReading framing walked f =
-          subst (λ (k : Framing). IsReading k walked f) (z.follows.framing ∙ x.same)
+          let is_reading : IsReading framing walked_octets f =
+          subst (λ (k : Framing). IsReading k walked_octets f) (z.follows.framing ∙ x.same)
           z.stands.has_events.is_reading in
           let k : MadeAll s new.follower f go.On (effect_of next s es).put =
           made_all s new.follower es f go.On (followed es go.On z.follows)
-          (stands_yielded new.walker walked es f z.stands z.idle z.stands.has_events.is_reading) in
-          let wants : WantMore (drive_job next framing limit s) walked = (
+          (stands_yielded new.walker walked_octets es f z.stands z.idle z.stands.has_events.is_reading) in
+          let wants : WantMore (drive_job next framing limit s) walked_octets = (
             f,
             is_reading,
-            stands_spelled new.walker walked es f z.stands z.stands.has_events.is_reading,
+            stands_spelled new.walker walked_octets es f z.stands z.stands.has_events.is_reading,
             is_enough_so f go.On (effect_of next s es).put k,
           ) in
           record {

@@ -5,7 +5,7 @@ use Rattle.tlv_walk.specs.declared.follow.Go.TheVariants.{On, Enough}
 use Rattle.tlv_walk.specs.Events.{AreEqualJoined, Begin, Bytes, Close, End, Enter, EventValue, Leave, Open, Pad, Unused}
 use Rattle.tlv_walk.specs.Events.{joined_events, with_bytes, with_pad}
 use Rattle.tlv_walk.specs.Follow.{Effect, GoesOn, Joins, IgnoresEmpty, and_then, each_octet, effect_of, followed_events}
-use Rattle.tlv_walk.specs.Follow.{if_more, if_on, no_effect}
+use Rattle.tlv_walk.specs.Follow.{events_if_more, effect_if_more, no_effect}
 
 module _ {S : Type 0} where
   -- what was put before
@@ -31,18 +31,21 @@ module _ {S : Type 0} where
   unfolding put_before
   and_then-alike t f g e = ap (put_before t.put) e
 
-  if_on-alike : (go : Go) (t : Effect S) (f g : S → Effect S) → f t.state ≡ g t.state → if_on go t f ≡ if_on go t g
-  if_on-alike On t f g e = and_then-alike t f g e
-  if_on-alike Enough t f g e = refl
+  effect_if_more-alike : (go : Go) (t : Effect S) (f g : S → Effect S) → f t.state ≡ g t.state
+      → effect_if_more go t f ≡ effect_if_more go t g
+  effect_if_more-alike On t f g e = and_then-alike t f g e
+  effect_if_more-alike Enough t f g e = refl
 
-  if_on-assoc : (go : Go) (t : Effect S) (f g : S → Effect S) → go ≡ t.goes
-      → if_on go t (λ u. if_on (f u).goes (f u) g) ≡ if_on (if_on go t f).goes (if_on go t f) g
-  if_on-assoc On t f g e = after (f t.state) (f t.state).goes
+  effect_if_more-assoc : (go : Go) (t : Effect S) (f g : S → Effect S) → go ≡ t.goes
+      → effect_if_more go t (λ u. effect_if_more (f u).goes (f u) g)
+      ≡ effect_if_more (effect_if_more go t f).goes (effect_if_more go t f) g
+  effect_if_more-assoc On t f g e = after (f t.state) (f t.state).goes
     where
-      after : (m : Effect S) (go : Go) → and_then t (λ u. if_on go m g) ≡ if_on go (and_then t (λ u. m)) g
+      after : (m : Effect S) (go : Go)
+          → and_then t (λ u. effect_if_more go m g) ≡ effect_if_more go (and_then t (λ u. m)) g
       after m On = sym (and_then-assoc t (λ u. m) g)
       after m Enough = refl
-  if_on-assoc Enough t f g e = ap (λ (go : Go). if_on go t g) e
+  effect_if_more-assoc Enough t f g e = ap (λ (go : Go). effect_if_more go t g) e
 
 on_is_not_enough : On ≡ Enough → ⊥
 on_is_not_enough e = cc
@@ -50,26 +53,27 @@ on_is_not_enough e = cc
 module _ {S : Type 0} (next : S → EventValue → Effect S) where
   -- some events and then others
   pub followed-append : (s : S) (xs ys : List EventValue)
-      → effect_of next s (xs ++ ys) ≡ if_on (effect_of next s xs).goes (effect_of next s xs) (λ u. effect_of next u ys)
+      → effect_of next s (xs ++ ys)
+      ≡ effect_if_more (effect_of next s xs).goes (effect_of next s xs) (λ u. effect_of next u ys)
   followed-append s [] ys = refl
   followed-append s (e ∷ xs) ys =
       let t = next s e in
-      if_on-alike t.goes t (λ u. effect_of next u (xs ++ ys))
-      (λ u. if_on (effect_of next u xs).goes (effect_of next u xs) (λ v. effect_of next v ys))
+      effect_if_more-alike t.goes t (λ u. effect_of next u (xs ++ ys))
+      (λ u. effect_if_more (effect_of next u xs).goes (effect_of next u xs) (λ v. effect_of next v ys))
       (followed-append t.state xs ys)
-      ∙ if_on-assoc t.goes t (λ u. effect_of next u xs) (λ v. effect_of next v ys) refl
+      ∙ effect_if_more-assoc t.goes t (λ u. effect_of next u xs) (λ v. effect_of next v ys) refl
 
   -- if it wanted more, others come after
   pub followed-more : (s : S) (xs ys : List EventValue) → (effect_of next s xs).goes ≡ On
       → effect_of next s (xs ++ ys) ≡ and_then (effect_of next s xs) (λ u. effect_of next u ys)
   followed-more s xs ys e =
-      followed-append s xs ys ∙ ap (λ (go : Go). if_on go (effect_of next s xs) (λ u. effect_of next u ys)) e
+      followed-append s xs ys ∙ ap (λ (go : Go). effect_if_more go (effect_of next s xs) (λ u. effect_of next u ys)) e
 
   -- if it had enough, others make nothing
   pub followed-enough : (s : S) (xs ys : List EventValue) → (effect_of next s xs).goes ≡ Enough
       → effect_of next s (xs ++ ys) ≡ effect_of next s xs
   followed-enough s xs ys e =
-      followed-append s xs ys ∙ ap (λ (go : Go). if_on go (effect_of next s xs) (λ u. effect_of next u ys)) e
+      followed-append s xs ys ∙ ap (λ (go : Go). effect_if_more go (effect_of next s xs) (λ u. effect_of next u ys)) e
 
   -- what some events put is the front of what these and others put
   pub followed-front : (s : S) (xs ys : List EventValue)
@@ -79,7 +83,8 @@ module _ {S : Type 0} (next : S → EventValue → Effect S) where
       let front = if_front t.goes t (λ u. effect_of next u ys) in
       (front.0, ap (λ (u : Effect S). u.put) (followed-append s xs ys) ∙ front.1)
     where
-      if_front : (go : Go) (t : Effect S) (f : S → Effect S) → (more : List ℕ) × ((if_on go t f).put ≡ t.put ++ more)
+      if_front : (go : Go) (t : Effect S) (f : S → Effect S)
+          → (more : List ℕ) × ((effect_if_more go t f).put ≡ t.put ++ more)
       if_front On t f = ((f t.state).put, refl)
       if_front Enough t f = ([], sym (append-nil t.put))
 
@@ -87,7 +92,7 @@ module _ {S : Type 0} (next : S → EventValue → Effect S) where
   pub followed-one : (s : S) (e : EventValue) → effect_of next s (e ∷ []) ≡ next s e
   followed-one s e = one (next s e).goes (next s e) refl
     where
-      one : (go : Go) (t : Effect S) → t.goes ≡ go → if_on go t no_effect ≡ t
+      one : (go : Go) (t : Effect S) → t.goes ≡ go → effect_if_more go t no_effect ≡ t
       one On t g = and_then-stay t g
       one Enough t g = refl
 
@@ -104,9 +109,9 @@ module _ {S : Type 0} (next : S → EventValue → Effect S) where
       by : ((effect_of next (next s e).state xs).goes ≡ On
           → followed_events next (next s e).state (xs ++ ys)
           ≡ xs ++ followed_events next (effect_of next (next s e).state xs).state ys)
-          → (g : Go) → (next s e).goes ≡ g → (if_on g (next s e) (λ u. effect_of next u xs)).goes ≡ On
-          → e ∷ if_more g (followed_events next (next s e).state (xs ++ ys))
-          ≡ e ∷ (xs ++ followed_events next (if_on g (next s e) (λ u. effect_of next u xs)).state ys)
+          → (g : Go) → (next s e).goes ≡ g → (effect_if_more g (next s e) (λ u. effect_of next u xs)).goes ≡ On
+          → e ∷ events_if_more g (followed_events next (next s e).state (xs ++ ys))
+          ≡ e ∷ (xs ++ followed_events next (effect_if_more g (next s e) (λ u. effect_of next u xs)).state ys)
       by step On k h = ap (λ (l : List EventValue). e ∷ l) (step h)
       by step Enough k h = absurd (on_is_not_enough (sym h ∙ k))
 
@@ -114,7 +119,7 @@ module _ {S : Type 0} (next : S → EventValue → Effect S) where
   pub events_one : (s : S) (e : EventValue) → followed_events next s (e ∷ []) ≡ e ∷ []
   events_one s e = by (next s e).goes
     where
-      by : (g : Go) → e ∷ if_more g [] ≡ e ∷ []
+      by : (g : Go) → e ∷ events_if_more g [] ≡ e ∷ []
       by On = refl
       by Enough = refl
 
@@ -128,9 +133,9 @@ module _ {S : Type 0} (next : S → EventValue → Effect S) where
     where
       by : ((effect_of next (next s e).state xs).goes ≡ Enough
           → followed_events next (next s e).state (xs ++ ys) ≡ followed_events next (next s e).state xs)
-          → (g : Go) → (next s e).goes ≡ g → (if_on g (next s e) (λ u. effect_of next u xs)).goes ≡ Enough
-          → e ∷ if_more g (followed_events next (next s e).state (xs ++ ys))
-          ≡ e ∷ if_more g (followed_events next (next s e).state xs)
+          → (g : Go) → (next s e).goes ≡ g → (effect_if_more g (next s e) (λ u. effect_of next u xs)).goes ≡ Enough
+          → e ∷ events_if_more g (followed_events next (next s e).state (xs ++ ys))
+          ≡ e ∷ events_if_more g (followed_events next (next s e).state xs)
       by step On k h = ap (λ (l : List EventValue). e ∷ l) (step h)
       by step Enough k h = refl
 
@@ -138,14 +143,15 @@ module _ {S : Type 0} (next : S → EventValue → Effect S) where
   after : (s : S) (e : EventValue) (es fs : List EventValue) → ((u : S) → effect_of next u es ≡ effect_of next u fs)
       → effect_of next s (e ∷ es) ≡ effect_of next s (e ∷ fs)
   after s e es fs h =
-      if_on-alike (next s e).goes (next s e) (λ u. effect_of next u es) (λ u. effect_of next u fs) (h (next s e).state)
+      effect_if_more-alike (next s e).goes (next s e) (λ u. effect_of next u es) (λ u. effect_of next u fs)
+      (h (next s e).state)
 
   -- octets in parts: `part` is `Bytes` or `Pad`
   module _ (part : List ℕ → EventValue) (joins : Joins next part) (rests : IgnoresEmpty next part)
       (go_on : GoesOn next part) where
     after_part : (s : S) (b : List ℕ) (es : List EventValue)
         → effect_of next s (part b ∷ es) ≡ and_then (next s (part b)) (λ u. effect_of next u es)
-    after_part s b es = ap (λ (go : Go). if_on go (next s (part b)) (λ u. effect_of next u es)) (go_on s b)
+    after_part s b es = ap (λ (go : Go). effect_if_more go (next s (part b)) (λ u. effect_of next u es)) (go_on s b)
 
     -- two parts are one
     pub two_parts : (s : S) (b c : List ℕ) (es : List EventValue)
@@ -218,30 +224,30 @@ module _ {S : Type 0} (next : S → EventValue → Effect S)
 
 module _ {S : Type 0} (next : S → EventValue → Effect S) (part : EventValue → List ℕ) where
   -- a follower that puts what is kept
-  abbrev keeping : S → EventValue → Effect S
-  keeping s e = record { state = (next s e).state; put = part e; goes = (next s e).goes }
+  abbrev part_step : S → EventValue → Effect S
+  part_step s e = record { state = (next s e).state; put = part e; goes = (next s e).goes }
 
-  kept : (s : S) (es : List EventValue) → flat_map part (followed_events next s es) ≡ (effect_of keeping s es).put
+  kept : (s : S) (es : List EventValue) → flat_map part (followed_events next s es) ≡ (effect_of part_step s es).put
   kept s [] = refl
   kept s (e ∷ es) = by (kept (next s e).state es) (next s e).goes
     where
-      by : flat_map part (followed_events next (next s e).state es) ≡ (effect_of keeping (next s e).state es).put
+      by : flat_map part (followed_events next (next s e).state es) ≡ (effect_of part_step (next s e).state es).put
           → (g : Go)
-          → part e ++ flat_map part (if_more g (followed_events next (next s e).state es))
-          ≡ (if_on g (keeping s e) (λ u. effect_of keeping u es)).put
+          → part e ++ flat_map part (events_if_more g (followed_events next (next s e).state es))
+          ≡ (effect_if_more g (part_step s e) (λ u. effect_of part_step u es)).put
       by step On = ap (λ (l : List ℕ). part e ++ l) step
       by step Enough = append-nil (part e)
 
   module _ (o : List ℕ → EventValue) (parts : (x y : List ℕ) → part (o (x ++ y)) ≡ part (o x) ++ part (o y))
       (none : part (o []) ≡ []) where
-    keeping_joins : Joins next o → Joins keeping o
-    keeping_joins joins s x y =
+    part_step_joins : Joins next o → Joins part_step o
+    part_step_joins joins s x y =
         let both = and_then (next s (o x)) (λ u. next u (o y)) in
         ap (λ (t : Effect S). record { state = t.state; put = part (o (x ++ y)); goes = t.goes }) (joins s x y)
         ∙ ap (λ (l : List ℕ). record { state = both.state; put = l; goes = both.goes }) (parts x y)
 
-    keeping_rests : IgnoresEmpty next o → IgnoresEmpty keeping o
-    keeping_rests rests s =
+    part_step_rests : IgnoresEmpty next o → IgnoresEmpty part_step o
+    part_step_rests rests s =
         ap (λ (t : Effect S). record { state = t.state; put = part (o []); goes = t.goes }) (rests s)
         ∙ ap (λ (l : List ℕ). record { state = s; put = l; goes = On }) none
 
@@ -256,10 +262,10 @@ module _ {S : Type 0} (next : S → EventValue → Effect S)
   pub kept-alike : (s : S) (es fs : List EventValue) → AreEqualJoined es fs
       → flat_map part (followed_events next s es) ≡ flat_map part (followed_events next s fs)
   kept-alike s es fs e =
-      let same : effect_of (keeping next part) s es ≡ effect_of (keeping next part) s fs =
-      followed-alike (keeping next part) (keeping_joins next part Bytes bytes no_bytes bytes_join)
-      (keeping_rests next part Bytes bytes no_bytes bytes_empty) bytes_go_on
-      (keeping_joins next part Pad pads no_pads pad_join) (keeping_rests next part Pad pads no_pads pad_empty)
+      let same : effect_of (part_step next part) s es ≡ effect_of (part_step next part) s fs =
+      followed-alike (part_step next part) (part_step_joins next part Bytes bytes no_bytes bytes_join)
+      (part_step_rests next part Bytes bytes no_bytes bytes_empty) bytes_go_on
+      (part_step_joins next part Pad pads no_pads pad_join) (part_step_rests next part Pad pads no_pads pad_empty)
       pad_go_on s es fs e in
       kept next part s es ∙ ap (λ (t : Effect S). t.put) same ∙ sym (kept next part s fs)
 

@@ -14,7 +14,8 @@ use Rattle.tlv_io.specs.Device.{DrainState}
 use Rattle.tlv_walk.specs.Events.{AreEqualJoined, EventValue, events, single_octets}
 use Rattle.tlv_walk.specs.Follow.{Effect, and_then, effect_of, followed_events}
 use Rattle.tlv_walk.specs.FollowsEvents.{FollowsEvents}
-use Rattle.tlv_walk.specs.Private.FollowsPiece.{Follows, FollowsPiece, GoesOnIn, FollowStates, WalksOver, WalksTo}
+use Rattle.tlv_walk.specs.Private.FollowsPiece.{Follows, FollowsPiece, BeginEventsOf, FollowStates, WalksOver}
+use Rattle.tlv_walk.specs.Private.FollowsPiece.{WalksToFault}
 use Rattle.tlv_walk.specs.Private.FollowsPiece.{follow_states}
 use Rattle.tlv_walk.specs.Forest.{Forest}
 use Rattle.tlv_walk.specs.WalkerState.{IsAfterEvent, WalkerState}
@@ -57,7 +58,7 @@ walked_both w u v piece rest left es fs x y = record {
 refused_there : (w u v : WalkerState) (piece rest left : List ℕ) (f : Fault) (more : List EventValue)
     (x : WalksOver w u piece rest more) (o : List ℕ) (yielded : List EventValue)
     → Stands u (o ++ x.taken) (yielded ++ more) → StepsTo u v rest left (step.Fault f)
-    → WalksTo w v piece more f o yielded
+    → WalksToFault w v piece more f o yielded
 refused_there w u v piece rest left f more x o yielded st (inl r) =
     let all : (o ++ x.taken) ++ r.takes.taken ≡ o ++ (x.taken ++ r.takes.taken) =
     append_assoc o x.taken r.takes.taken in
@@ -104,7 +105,7 @@ yielded_prefix w v b piece rest yielded more f walked st r =
 
 pub walked_goes_on : (w v : WalkerState) (piece rest : List ℕ) (more : List EventValue)
     → WalksOver w v piece rest more → (b : List ℕ) (yielded : List EventValue) → Stands w b yielded
-    → GoesOnIn w.framing (b ++ piece) (yielded ++ more)
+    → BeginEventsOf w.framing (b ++ piece) (yielded ++ more)
 walked_goes_on w v piece rest more walked b yielded st f r =
     let o = yielded_prefix w v b piece rest yielded more f walked st r in
     (o.0, subst (λ (es : List EventValue). AreEqualJoined es (events f)) (sym (append_assoc yielded more o.0)) o.1)
@@ -112,12 +113,12 @@ walked_goes_on w v piece rest more walked b yielded st f r =
 module _ {S : Type 0} (next : S → EventValue → Effect S) where
   -- of no event
   pub made_none : (s : S) → FollowsEvents next s s [] go.On
-  made_none s = record { state = refl; goes_so = refl; all = refl }
+  made_none s = record { state = refl; wants = refl; all = refl }
 
   -- of some events, and then of others
   both_made : (s t : S) (es fs : List EventValue) → FollowsEvents next s t es go.On
       → effect_of next s (es ++ fs) ≡ and_then (effect_of next s es) (λ u. effect_of next u fs)
-  both_made s t es fs m = followed-more next s es fs m.goes_so
+  both_made s t es fs m = followed-more next s es fs m.wants
 
   pub made_put : (s t : S) (es fs : List EventValue) → FollowsEvents next s t es go.On
       → (effect_of next s es).put ++ (effect_of next t fs).put ≡ (effect_of next s (es ++ fs)).put
@@ -131,11 +132,11 @@ module _ {S : Type 0} (next : S → EventValue → Effect S) where
     state =
         k.state ∙ ap (λ (x : S). (effect_of next x fs).state) m.state
         ∙ sym (ap (λ (f : Effect S). f.state) (both_made s t es fs m));
-    goes_so =
+    wants =
         ap (λ (f : Effect S). f.goes) (both_made s t es fs m)
-        ∙ ap (λ (x : S). (effect_of next x fs).goes) (sym m.state) ∙ k.goes_so;
+        ∙ ap (λ (x : S). (effect_of next x fs).goes) (sym m.state) ∙ k.wants;
     all =
-        events_more next s es fs m.goes_so ∙ ap (λ (x : S). es ++ followed_events next x fs) (sym m.state)
+        events_more next s es fs m.wants ∙ ap (λ (x : S). es ++ followed_events next x fs) (sym m.state)
         ∙ ap (λ (l : List EventValue). es ++ l) k.all;
   }
 
@@ -144,7 +145,7 @@ module _ {S : Type 0} (next : S → EventValue → Effect S) where
       → FollowsEvents next t u (e ∷ []) goes
   made_event t u e goes is go = record {
     state = is ∙ sym (ap (λ (f : Effect S). f.state) (followed-one next t e));
-    goes_so = ap (λ (f : Effect S). f.goes) (followed-one next t e) ∙ sym go;
+    wants = ap (λ (f : Effect S). f.goes) (followed-one next t e) ∙ sym go;
     all = events_one next t e;
   }
 

@@ -1,30 +1,35 @@
 -- A job that is a walk with some follower.
-use Rattle.std.proofs.Common.{◌≡◌, ℕ, ◌≤◌, Bool, true, false, List, length, take, refl, sym, ◌∙◌, subst, arith}
+use Rattle.std.proofs.Common.{◌≡◌, ◌⊎◌, ℕ, ◌≤◌, Bool, true, false, List, length, take, refl, sym, ◌∙◌, subst, arith}
 use Rattle.std.proofs.lemmas.List.{length-take}
-use Rattle.std.specs.Prelude.{Result, Ok, Err, ⊤}
+use Rattle.std.specs.Prelude.{if◌then◌else◌, Result, Ok, Err, ⊤}
 use Rattle.tlv_walk.specs.declared.ending.Ending.{Ending}
-use Rattle.tlv_walk.specs.declared.follow.Go.{Go}
-use Rattle.tlv_walk.specs.declared.follow.Go.TheVariants as go
+use Rattle.tlv_walk.specs.declared.ending.Ending.TheVariants.{Done}
 use Rattle.tlv_walk.specs.declared.framing.Framing.{Framing}
 use Rattle.tlv_walk.specs.declared.run.DeviceFault.{DeviceFault}
 use Rattle.tlv_walk.specs.declared.run.DeviceFault.TheVariants.{ReadFailed, WriteFailed, InputTooLong}
 use Rattle.tlv_walk.specs.declared.run.Run.{Run}
 use Rattle.std.specs.List.{concat}
 use Rattle.tlv_io.specs.Device.{DrainState, SourceState, octets_given}
-use Rattle.tlv_walk.specs.DriveJob.{Drives, drive_job, drive_states, had_enough, run_over}
+use Rattle.tlv_walk.specs.DriveJob.{Drives, drive_job, drive_states, enough_run, whole_run}
 use Rattle.tlv_walk.specs.Events.{EventValue, events}
-use Rattle.tlv_walk.specs.Follow.{Effect, effect_of, go_of}
+use Rattle.tlv_walk.specs.Follow.{Effect, effect_of, go_of, had_enough}
 use Rattle.tlv_walk.specs.Forest.{Forest}
-use Rattle.tlv_walk.specs.Job.{Job, Runs, WantMore, device_states, read_failed, too_long, write_failed}
-use Rattle.tlv_walk.proofs.FollowerLemmas.Enough.{EndsSo, ComesToResult, Settled, comes_to, returns}
+use Rattle.tlv_walk.specs.Job.{EndsWith, Job, Runs, WantMore, device_states, read_failed, too_long, write_failed}
+use Rattle.tlv_walk.proofs.FollowerLemmas.Enough.{ComesToResult, Settled, comes_to, returns}
 use Rattle.tlv_io.specs.Out.{Sends}
 use Rattle.tlv_walk.specs.Reading.{IsReading}
 
--- a run has the ending that it came to, and if it did not end with enough the first named offset that is no wrapper's
-pub run-ending : (framing : Framing) (f : Forest) (es : List EventValue) (g : Go) (e : Ending)
-    → (run_over framing f es g e).ending ≡ e
-run-ending framing f es go.On e = refl
-run-ending framing f es go.Enough e = refl
+-- a run has the ending that it came to
+pub run-ending : (framing : Framing) (f : Forest) (es : List EventValue) (k : Bool) (e : Ending)
+    → (k ≡ true → e ≡ Done) → (if k then enough_run framing es else whole_run framing f e).ending ≡ e
+run-ending framing f es true e done = sym (done refl)
+run-ending framing f es false e done = refl
+
+-- if there was enough, that is `Done`
+ends_done : (framing : Framing) (octets : List ℕ) (k : Bool) (e : Ending) → EndsWith framing octets k e → k ≡ true
+    → e ≡ Done
+ends_done framing octets true e ends is = ends
+ends_done framing octets false e ends is = absurd (cc (is))
 
 pub had-goes : (k : Bool) → had_enough (go_of k) ≡ k
 had-goes true = refl
@@ -53,8 +58,9 @@ module _ {S A : Type 0} (next : S → EventValue → Effect S) (job : Job A) (s 
   pub runs_ok : (run : Run) (a : A)
       → Drives next job.framing job.limit (drive_states s old from) (drive_states t new to) (Ok run)
       → ((octets : List ℕ) (f : Forest) (e : Ending) → length octets ≤ job.limit → IsReading job.framing octets f
-      → t ≡ (effect_of next s (events f)).state → run ≡ (drive_job next job.framing job.limit s).returned f e
-      → a ≡ job.returned f e)
+      → (had_enough (effect_of next s (events f)).goes ≡ true → e ≡ Done)
+      → t ≡ (effect_of next s (events f)).state → run ≡ (drive_job next job.framing job.limit s).result f e
+      → a ≡ job.result f e)
       → Runs job (device_states old from) (device_states new to) (Ok a)
   runs_ok run a x answer =
       let w = x.runs in
@@ -71,9 +77,10 @@ module _ {S A : Type 0} (next : S → EventValue → Effect S) (job : Job A) (s 
         sends = sent_as given w.reading (Ok tt) w.is_reading w.sends;
         comes = comes_to job given w.reading new (Ok a) (
           k.0,
-          answer (take job.limit given) w.reading k.0 (within_limit given) w.is_reading x.state k.1,
-          subst (λ (y : Bool). EndsSo job.framing (take job.limit given) y k.0 (Settled job given w.reading new k.0))
-              same k.2,
+          answer (take job.limit given) w.reading k.0 (within_limit given) w.is_reading
+              (ends_done job.framing (take job.limit given) _ k.0 k.2) x.state k.1,
+          subst (λ (y : Bool). EndsWith job.framing (take job.limit given) y k.0) same k.2,
+          subst (λ (y : Bool). (y ≡ true) ⊎ Settled job given w.reading new k.0) same k.3,
         );
       }
 

@@ -12,11 +12,11 @@ use Rattle.tlv_walk.specs.declared.framing.Framing.{Framing}
 use Rattle.tlv_walk.specs.declared.walker.quick.WholePrimitive.{WholePrimitive}
 use Rattle.tlv_io.specs.Device.{DrainState}
 use Rattle.tlv_walk.specs.Events.{EventValue}
-use Rattle.tlv_walk.specs.Follow.{Effect, effect_of, followed_events, if_more, if_on, whole_events}
+use Rattle.tlv_walk.specs.Follow.{Effect, effect_of, followed_events, events_if_more, effect_if_more, whole_events}
 use Rattle.tlv_walk.specs.FollowsEvents.{FollowsEvents}
 use Rattle.tlv_walk.specs.WalkerState.{WalkerState}
 use Rattle.tlv_io.specs.Out.{Puts}
-use Rattle.tlv_walk.specs.Private.FollowsPiece.{FollowsPart, FollowsPiece, GoesOnIn, TakesNone, TakesPart}
+use Rattle.tlv_walk.specs.Private.FollowsPiece.{FollowsPart, FollowsPiece, BeginEventsOf, TakesNone, TakesPart}
 use Rattle.tlv_walk.specs.Private.FollowsPiece.{TakesPartOrNone, FollowStates, WalksOver}
 use Rattle.tlv_walk.specs.Private.WalkerState.{CanPass, Passes, header_at}
 use Rattle.tlv_walk.specs.Private.Yields.{YieldsEvents}
@@ -38,8 +38,8 @@ module _ {S : Type 0} (next : S → EventValue → Effect S) where
   -- if more is wanted at the end, more was wanted after each event
   all_rest : (x : Go) (t : Effect S) (es : List EventValue)
       → ((s : S) → (effect_of next s es).goes ≡ go.On → followed_events next s es ≡ es)
-      → (if_on x t (λ u. effect_of next u es)).goes ≡ go.On → t.goes ≡ x
-      → if_more x (followed_events next t.state es) ≡ es
+      → (effect_if_more x t (λ u. effect_of next u es)).goes ≡ go.On → t.goes ≡ x
+      → events_if_more x (followed_events next t.state es) ≡ es
   all_rest go.On t es rest g k = rest t.state g
   all_rest go.Enough t es rest g k = absurd (cc (sym k ∙ g))
 
@@ -50,7 +50,7 @@ module _ {S : Type 0} (next : S → EventValue → Effect S) where
 
   pub made_all : (s t : S) (es : List EventValue) → t ≡ (effect_of next s es).state
       → (effect_of next s es).goes ≡ go.On → FollowsEvents next s t es go.On
-  made_all s t es e g = record { state = e; goes_so = g; all = all_followed s es g }
+  made_all s t es e g = record { state = e; wants = g; all = all_followed s es g }
 
   module _ {D : Type 0} (state_of : D → DrainState) where
     -- the drain failed after what was followed
@@ -62,10 +62,10 @@ module _ {S : Type 0} (next : S → EventValue → Effect S) where
       pauses = record {
         yields = λ o es st.
             let walked : WalksOver x.walker y.walker piece rest h.more = h.follows.walked in
-            subst (λ (g : Framing). GoesOnIn g (o ++ piece) (es ++ (h.more ++ p.more))) walked.framing
-            (subst (λ (l : List ℕ). GoesOnIn y.walker.framing l (es ++ (h.more ++ p.more)))
+            subst (λ (g : Framing). BeginEventsOf g (o ++ piece) (es ++ (h.more ++ p.more))) walked.framing
+            (subst (λ (l : List ℕ). BeginEventsOf y.walker.framing l (es ++ (h.more ++ p.more)))
             (append_assoc o walked.taken rest ∙ ap (λ (l : List ℕ). o ++ l) (sym walked.piece_is))
-            (subst (λ (l : List EventValue). GoesOnIn y.walker.framing ((o ++ walked.taken) ++ rest) l)
+            (subst (λ (l : List EventValue). BeginEventsOf y.walker.framing ((o ++ walked.taken) ++ rest) l)
             (append_assoc es h.more p.more)
             (p.takes.yields (o ++ walked.taken) (es ++ h.more) (walked.stands o es st))));
       };
@@ -103,7 +103,8 @@ module _ {S : Type 0} (next : S → EventValue → Effect S) where
             passes = passes;
           };
           puts =
-              puts_as state_of x.out y.out (effect_of next x.follower all).put (effect_of next x.follower all).put r true
+              puts_as state_of x.out y.out (effect_of next x.follower all).put (effect_of next x.follower all).put r
+              true
               put refl;
         }
 

@@ -9,8 +9,9 @@ use Rattle.tlv_walk.specs.declared.one_turn.Pause.TheVariants as pause
 use Rattle.tlv_io.specs.Device.{DrainState}
 use Rattle.tlv_walk.specs.Events.{AreEqualJoined, EventValue, events}
 use Rattle.tlv_walk.specs.Follow.{Effect, effect_of}
-use Rattle.tlv_walk.specs.Private.FollowsPiece.{Fails, FollowsAndFlushes, FollowsPiece, FollowsToFault, GoesOnIn}
-use Rattle.tlv_walk.specs.Private.FollowsPiece.{Pauses, FollowStates, WalksTo, follow_states}
+use Rattle.tlv_walk.specs.Private.FollowsPiece.{FailsAfter, FollowsAndFlushes, FollowsPiece, FollowsToFault}
+use Rattle.tlv_walk.specs.Private.FollowsPiece.{BeginEventsOf}
+use Rattle.tlv_walk.specs.Private.FollowsPiece.{Pauses, FollowStates, WalksToFault, follow_states}
 use Rattle.tlv_walk.specs.Forest.{Forest, spelling}
 use Rattle.tlv_walk.specs.declared.framing.Framing.{Framing}
 use Rattle.tlv_walk.specs.HasRead.{IsRefusedAfter}
@@ -54,13 +55,13 @@ stands_yielded v b yielded f st idle r =
 -- ---- an octet that is refused
 
 pub fault_octets : (w v : WalkerState) (b piece : List ℕ) (yielded more : List EventValue) (e : Fault)
-    → (k : WalksTo w v piece more e b yielded) → (b ++ k.taken) ++ k.octet ∷ k.others ≡ b ++ piece
+    → (k : WalksToFault w v piece more e b yielded) → (b ++ k.taken) ++ k.octet ∷ k.others ≡ b ++ piece
 fault_octets w v b piece yielded more e k =
     append_assoc b k.taken (k.octet ∷ k.others) ∙ ap (λ (o : List ℕ). b ++ o) (sym k.piece_is)
 
 -- the octet is refused by the framing that the walker had before
 pub walked_refused : (w v : WalkerState) (b piece : List ℕ) (yielded more : List EventValue) (e : Fault)
-    → (k : WalksTo w v piece more e b yielded)
+    → (k : WalksToFault w v piece more e b yielded)
     → (r : IsRefusedAfter w.framing (b ++ k.taken) k.octet (yielded ++ more) e)
     × (first_without_wrapper_in v ≡ first_without_wrapper w.framing.inside r.reading)
 walked_refused w v b piece yielded more e k =
@@ -70,7 +71,7 @@ walked_refused w v b piece yielded more e k =
     k.framing (k.stands.refused, k.stands.unused)
 
 pub fault_is_reading : (w v : WalkerState) (b piece : List ℕ) (yielded more : List EventValue) (e : Fault)
-    → (k : WalksTo w v piece more e b yielded)
+    → (k : WalksToFault w v piece more e b yielded)
     → IsReading w.framing (b ++ piece) (walked_refused w v b piece yielded more e k).0.reading
 fault_is_reading w v b piece yielded more e k =
     let r : IsRefusedAfter w.framing (b ++ k.taken) k.octet (yielded ++ more) e =
@@ -79,7 +80,7 @@ fault_is_reading w v b piece yielded more e k =
     (r.stays k.others)
 
 fault_reading : (w v : WalkerState) (b piece : List ℕ) (yielded more : List EventValue) (e : Fault) (f : Forest)
-    → (k : WalksTo w v piece more e b yielded) → IsReading w.framing (b ++ piece) f
+    → (k : WalksToFault w v piece more e b yielded) → IsReading w.framing (b ++ piece) f
     → (walked_refused w v b piece yielded more e k).0.reading ≡ f
 fault_reading w v b piece yielded more e f k r =
     reading-unique w.framing (b ++ piece) (walked_refused w v b piece yielded more e k).0.reading f
@@ -91,9 +92,9 @@ module _ {S : Type 0} (next : S → EventValue → Effect S) where
   module _ {D : Type 0} where
     fault_goes_on : (x y : FollowStates S D) (piece : List ℕ) (more : List EventValue) (e : Fault)
         → FollowsToFault next x y piece more e → (b : List ℕ) (yielded : List EventValue) → Stands x.walker b yielded
-        → GoesOnIn x.walker.framing (b ++ piece) (yielded ++ more)
+        → BeginEventsOf x.walker.framing (b ++ piece) (yielded ++ more)
     fault_goes_on x y piece more e to b yielded st f r =
-        let k : WalksTo x.walker y.walker piece more e b yielded = to.walked b yielded st in (
+        let k : WalksToFault x.walker y.walker piece more e b yielded = to.walked b yielded st in (
           [],
           subst (λ (es : List EventValue). AreEqualJoined es (events f)) (sym (append-nil (yielded ++ more)))
               (subst (λ (g : Forest). AreEqualJoined (yielded ++ more) (events g))
@@ -102,7 +103,7 @@ module _ {S : Type 0} (next : S → EventValue → Effect S) where
         )
 
     pauses_failing : (x y : FollowStates S D) (piece : List ℕ) (more : List EventValue) (why : Pause)
-        → Pauses next x y piece more (Ok why) → Fails next x y piece more
+        → Pauses next x y piece more (Ok why) → FailsAfter next x y piece more
     pauses_failing x y piece more pause.UsedUp k = record {
       yields = walked_goes_on x.walker y.walker piece [] more k.follows.walked;
     }

@@ -1,6 +1,6 @@
 -- What a turn comes to, by why its piece is not followed any further.
 use Rattle.std.proofs.Common.{◌≡◌, inl, inr, ℕ, ◌-◌, ◌≤◌, ◌<◌, min, Bool, true, false, List, [], ◌++◌, length, take}
-use Rattle.std.proofs.Common.{flat_map, refl, sym, ap, ◌∙◌, subst, arith, append_assoc, append-nil, length-append}
+use Rattle.std.proofs.Common.{flat_map, refl, sym, ap, ap₂, ◌∙◌, subst, arith, append_assoc, append-nil, length-append}
 use Rattle.std.proofs.lemmas.Bool.{cases_lt}
 use Rattle.std.proofs.lemmas.List.{length-take, take_all}
 use Rattle.std.proofs.Math.Seq.{take-take}
@@ -19,15 +19,15 @@ use Rattle.tlv_walk.specs.declared.run.Turn.TheVariants.{Again, Ended}
 use Rattle.tlv_walk.specs.declared.one_turn.Pause.{Pause}
 use Rattle.tlv_walk.specs.declared.one_turn.Pause.TheVariants as pause
 use Rattle.tlv_io.specs.Device.{DrainState}
-use Rattle.tlv_walk.specs.DriveJob.{event_octets}
+use Rattle.tlv_walk.specs.DriveJob.{enough_run}
 use Rattle.tlv_walk.specs.Ending.{IsEnding, IsFinalEnding}
-use Rattle.tlv_walk.specs.Events.{AreEqualJoined, EventValue, events}
+use Rattle.tlv_walk.specs.Events.{AreEqualJoined, EventValue, event_octets, events}
 use Rattle.tlv_walk.specs.Follow.{Effect, effect_of}
-use Rattle.tlv_walk.specs.Private.ResultOfPause.{IsResultOfPause, IsRun}
+use Rattle.tlv_walk.specs.Private.ResultOfPause.{IsResultOfPause, run_of}
 use Rattle.tlv_walk.specs.Private.FollowsPiece.{FollowsAndFlushes, FollowsToFault, FollowsToEnough, Pauses, FollowsAll}
-use Rattle.tlv_walk.specs.Private.FollowsPiece.{FollowStates, WalksOver, WalksTo, follow_states}
+use Rattle.tlv_walk.specs.Private.FollowsPiece.{FollowStates, WalksOver, WalksToFault, follow_states}
 use Rattle.tlv_walk.specs.Forest.{Forest, spelling}
-use Rattle.tlv_walk.specs.WalkerState.{WalkerState}
+use Rattle.tlv_walk.specs.WalkerState.{WalkerState, first_without_wrapper_in}
 use Rattle.tlv_io.specs.Out.{Sends, drain_of}
 use Rattle.tlv_walk.specs.Reading.{AreOctets, IsReading}
 use Rattle.tlv_walk.specs.Stands.{Stands}
@@ -46,19 +46,13 @@ use Rattle.tlv_walk.proofs.EventLemmas.Unused.{stands-entered, stands_unused}
 use Rattle.tlv_walk.proofs.FollowerLemmas.Pauses.{fault_octets, fault_is_reading, stands_spelled, stands_yielded}
 use Rattle.tlv_walk.proofs.FollowerLemmas.Pauses.{walked_refused}
 
--- a run with these values
-pub run_is : (run : Run) (e : Ending) (n : ℕ) (k : Bool) (u : Option ℕ) → run.ending ≡ e → run.octets ≡ n
-    → run.enough ≡ k → run.unused ≡ u → run ≡ record {
-      ending = e;
-      octets = n;
-      enough = k;
-      unused = u;
-    }
-run_is run e n k u p q r s =
-    ap (λ (x : Ending). record { ending = x; octets = run.octets; enough = run.enough; unused = run.unused }) p
-    ∙ ap (λ (x : ℕ). record { ending = e; octets = x; enough = run.enough; unused = run.unused }) q
-    ∙ ap (λ (x : Bool). record { ending = e; octets = n; enough = x; unused = run.unused }) r
-    ∙ ap (λ (x : Option ℕ). record { ending = e; octets = n; enough = k; unused = x }) s
+-- the run of a walker with these counts
+run_with : (run : Run) (v : WalkerState) (e : Ending) (k : Bool) (n : ℕ) (u : Option ℕ) → run ≡ run_of v e k
+    → v.offset ≡ n → first_without_wrapper_in v ≡ u
+    → run ≡ record { ending = run.ending; octets = n; enough = k; unused = u }
+run_with run v e k n u is p q =
+    is ∙ ap₂ (λ (x : ℕ) (y : Option ℕ). record { ending = e; octets = x; enough = k; unused = y }) p q
+    ∙ ap (λ (x : Run). record { ending = x.ending; octets = n; enough = k; unused = u }) (sym is)
 
 -- ---- what was made of a piece, by why it is not followed any further
 
@@ -100,7 +94,7 @@ module _ {S D : Type 0} (next : S → EventValue → Effect S) (old new : TurnSt
 
   -- the follower had enough
   pub enough_ends : FollowsToEnough next x y piece more → (f : Forest) → IsReading w.framing (b ++ piece) f
-      → (run : Run) → IsRun run ending.Done true v
+      → (run : Run) → run ≡ run_of v ending.Done true
       → HasEnoughIn next old new (b ++ piece) yielded run
   enough_ends k f read run is =
       let walked : WalksOver w v piece k.rest more = k.follows.walked in
@@ -119,18 +113,19 @@ module _ {S D : Type 0} (next : S → EventValue → Effect S) (old new : TurnSt
         );
         stands = subst (λ (o : List ℕ). Stands v o (yielded ++ more)) (sym front) there;
         run_is =
-            run_is run ending.Done (length (flat_map event_octets (yielded ++ more))) true
-            (first_other w.framing.inside (entered_offsets (yielded ++ more))) is.ending
-            (is.octets ∙ there.private_state.has_state.offset ∙ ap length (sym front)) is.enough
-            (is.unused ∙ stands-entered v (b ++ walked.taken) (yielded ++ more) there
-            ∙ ap (λ (g : Framing). first_other g.inside (entered_offsets (yielded ++ more))) walked.framing);
+            run_with run v ending.Done true (length (flat_map event_octets (yielded ++ more)))
+            (first_other w.framing.inside (entered_offsets (yielded ++ more))) is
+            (there.private_state.has_state.offset ∙ ap length (sym front))
+            (stands-entered v (b ++ walked.taken) (yielded ++ more) there
+            ∙ ap (λ (g : Framing). first_other g.inside (entered_offsets (yielded ++ more))) walked.framing)
+            ∙ ap (λ (x : Run). record (enough_run w.framing (yielded ++ more)) { ending = x.ending }) is;
       }
 
   -- an octet is refused
   pub fault_ends : (e : Fault) → FollowsToFault next x y piece more e → (run : Run)
-      → IsRun run (ending.Fault e) false v → EndsIn next old new (b ++ piece) yielded run
+      → run ≡ run_of v (ending.Fault e) false → EndsIn next old new (b ++ piece) yielded run
   fault_ends e to_fault run is =
-      let k : WalksTo w v piece more e b yielded = to_fault.walked b yielded st in
+      let k : WalksToFault w v piece more e b yielded = to_fault.walked b yielded st in
       let r = walked_refused w v b piece yielded more e k in record {
         all = yielded ++ more;
         follows = record { more = more; all_is = refl; made = to_fault.made; put = put; framing = k.framing };
@@ -140,13 +135,13 @@ module _ {S D : Type 0} (next : S → EventValue → Effect S) (old new : TurnSt
           all_events = r.0.all_events;
         };
         ending =
-            subst (λ (g : Ending). IsEnding w.framing (b ++ piece) g) (sym is.ending)
+            subst (λ (g : Ending). IsEnding w.framing (b ++ piece) g) (sym (ap (λ (x : Run). x.ending) is))
             (subst (λ (o : List ℕ). IsEnding w.framing o (ending.Fault e))
             (fault_octets w v b piece yielded more e k) (r.0.ends k.others));
         run_is =
-            run_is run run.ending (length (spelling r.0.reading)) false
-            (first_without_wrapper w.framing.inside r.0.reading) refl
-            (is.octets ∙ k.stands.offset ∙ ap length (sym r.0.spelled)) is.enough (is.unused ∙ r.1);
+            run_with run v (ending.Fault e) false (length (spelling r.0.reading))
+            (first_without_wrapper w.framing.inside r.0.reading) is
+            (k.stands.offset ∙ ap length (sym r.0.spelled)) r.1;
         walker = refused_one e (record {
           taken = b ++ k.taken;
           octet = k.octet;
@@ -159,7 +154,7 @@ module _ {S D : Type 0} (next : S → EventValue → Effect S) (old new : TurnSt
 -- the input has ended
 used_up_ends : {S : Type 0} (next : S → EventValue → Effect S) (old new : TurnStates S) (o : List ℕ)
     (yielded : List EventValue) (run : Run) (e : Ending)
-    → StandsAfter next old new o yielded → IsRun run e false new.walker → IsEnding new.walker.framing o e
+    → StandsAfter next old new o yielded → run ≡ run_of new.walker e false → IsEnding new.walker.framing o e
     → EndsIn next old new o yielded run
 used_up_ends next old new o yielded run e x is ends =
     let w : WalkerState = old.walker in
@@ -176,13 +171,12 @@ used_up_ends next old new o yielded run e x is ends =
         all_events = stands_yielded v o all f x.stands x.idle r;
       };
       ending =
-          subst (λ (k : Ending). IsEnding w.framing o k) (sym is.ending)
+          subst (λ (k : Ending). IsEnding w.framing o k) (sym (ap (λ (x : Run). x.ending) is))
           (subst (λ (g : Framing). IsEnding g o e) same ends);
       run_is =
-          run_is run run.ending (length (spelling f)) false (first_without_wrapper w.framing.inside f) refl
-          (is.octets ∙ x.stands.private_state.has_state.offset ∙ ap length (sym (stands_spelled v o all f x.stands r)))
-          is.enough
-          (is.unused ∙ stands_unused v o all x.stands ∙ ap (λ (g : Framing). first_without_wrapper g.inside f) same);
+          run_with run v e false (length (spelling f)) (first_without_wrapper w.framing.inside f) is
+          (x.stands.private_state.has_state.offset ∙ ap length (sym (stands_spelled v o all f x.stands r)))
+          (stands_unused v o all x.stands ∙ ap (λ (g : Framing). first_without_wrapper g.inside f) same);
       walker = took_all x.stands x.idle;
     }
 
@@ -269,7 +263,7 @@ module _ {S D : Type 0} (next : S → EventValue → Effect S) (old new : TurnSt
   ends_in run x = subst (λ (o : List ℕ). EndsIn next old new o yielded run) reached x
 
   turns_end : (run : Run) (e : Ending) (why : Pause) → Followed why pause.UsedUp → (n ≡ 0)
-      → IsRun run e false new.walker
+      → run ≡ run_of new.walker e false
       → ((o : List ℕ) (es : List EventValue) → Stands new.walker o es → IsEnding new.walker.framing o e)
       → TurnsTo next old new limit b yielded r (Ok (Ended run))
   turns_end run e why x none is ends =
@@ -280,18 +274,18 @@ module _ {S D : Type 0} (next : S → EventValue → Effect S) (old new : TurnSt
       (is_r ∙ ap (λ (k : ℕ). take k p) none)
 
   turns_fault : (run : Run) (e : Fault) (why : Pause) → Followed why (pause.Fault e)
-      → IsRun run (ending.Fault e) false new.walker
+      → run ≡ run_of new.walker (ending.Fault e) false
       → TurnsTo next old new limit b yielded r (Ok (Ended run))
   turns_fault run e why x is =
-      let k : WalksTo old.walker new.walker piece x.more e b yielded = x.pauses.walked b yielded st in
+      let k : WalksToFault old.walker new.walker piece x.more e b yielded = x.pauses.walked b yielded st in
       let r = (walked_refused old.walker new.walker b piece yielded x.more e k).0 in
       at_fault
       (ends_in run
       (fault_ends next old new from to b piece yielded x.more (sent why x.more x.put) st e x.pauses run is))
-      (subst IsFinalEnding (sym is.ending)
+      (subst IsFinalEnding (sym (ap (λ (x : Run). x.ending) is))
       (refused-final old.walker.framing (b ++ k.taken) k.octet [] e r.offset (r.ends [])))
 
-  turns_enough : (run : Run) (why : Pause) → Followed why pause.Enough → IsRun run ending.Done true new.walker
+  turns_enough : (run : Run) (why : Pause) → Followed why pause.Enough → run ≡ run_of new.walker ending.Done true
       → TurnsTo next old new limit b yielded r (Ok (Ended run))
   turns_enough run why x is =
       at_enough

@@ -12,9 +12,10 @@ use Rattle.tlv_walk.specs.declared.framing.Framing.{Framing}
 use Rattle.tlv_walk.specs.Forest.{Forest, has_element, is_whole, spelling}
 use Rattle.tlv_walk.specs.Place.{top_place}
 use Rattle.tlv_walk.specs.Reading.{IsReading, IsSoundList}
-use Rattle.tlv_walk.specs.Ending.{IsEnding, IsFault, done, empty, fault_ending, refused, short, tip}
+use Rattle.tlv_walk.specs.Ending.{IsEnding, IsFault, done, empty, fault_ending, refused, short, open_end}
 use Rattle.tlv_walk.proofs.GrammarLemmas.PushSteps.{Spells}
-use Rattle.tlv_walk.proofs.GrammarLemmas.Readings.{PushRun, Going, Halted, IsHalt, IsRightRun, halt-longer, halt-longest, is-run}
+use Rattle.tlv_walk.proofs.GrammarLemmas.Readings.{PushRun, Going, Halted, IsHalt, IsRightRun, halt-longer}
+use Rattle.tlv_walk.proofs.GrammarLemmas.Readings.{halt-longest, is-run}
 use Rattle.tlv_walk.proofs.GrammarLemmas.Readings.{push_all, run-reading, unique}
 use Rattle.tlv_walk.proofs.GrammarLemmas.Spellings.{front-same}
 use Rattle.tlv_walk.proofs.GrammarLemmas.Sound.{open-sound, sound-open_top, sound-whole}
@@ -50,7 +51,7 @@ going-ending w f b r =
 
 -- an octet that is refused gives an ending, whatever follows
 pub halt-ending : (w : Framing) (f : Forest) (code : FaultCode) (b : List ℕ) → (r : IsHalt w f code b)
-    → IsFault (tip (top_place w) f).0 r.octet (tip (top_place w) f).1 code
+    → IsFault r.octet (open_end (top_place w) f) code
     → IsEnding w b (fault_ending code (length (spelling f)))
 halt-ending w f code b r k = refused f r.octet r.rest code (run-reading w (Halted f code) b r) r.front k
 
@@ -81,7 +82,7 @@ IsEarly code = (code ≡ Empty) ⊎ (code ≡ Short)
 pub record IsRefused (w : Framing) (b : List ℕ) (code : FaultCode) (offset : ℕ) : Type 0 where
   pub forest : Forest
   pub halt : IsHalt w forest code b
-  pub fault : IsFault (tip (top_place w) forest).0 halt.octet (tip (top_place w) forest).1 code
+  pub fault : IsFault halt.octet (open_end (top_place w) forest) code
   pub there : offset ≡ length (spelling forest)
 
 -- what an ending says

@@ -16,12 +16,12 @@ use Rattle.tlv_walk.specs.declared.framing.Framing.{Framing}
 use Rattle.tlv_walk.specs.Forest.{Forest, NoMore, OpenPrimitive, OpenBitString, OpenHeader, OpenEndOctets}
 use Rattle.tlv_walk.specs.Place.{Fits, IsHeaderAt, IsOpen, Place, top_place}
 use Rattle.tlv_walk.specs.Ending.{IsFault, bad_inside, missing_end, bad_end, no_room, refused_octet, too_deep, overrun}
-use Rattle.tlv_walk.specs.Ending.{no_end, stray_end, tip}
+use Rattle.tlv_walk.specs.Ending.{no_end, stray_end, OpenEnd, open_end}
 use Rattle.tlv_walk.proofs.GrammarLemmas.Bounds.{fits, fits-within, within-fits}
 use Rattle.tlv_walk.proofs.GrammarLemmas.PushSteps.{PushStep, Grown, Ended, Refused, begin, complete, origin, push}
 use Rattle.tlv_walk.proofs.GrammarLemmas.PushSteps.{zero_between}
 use Rattle.tlv_walk.proofs.GrammarLemmas.PopHeaders.{push-scan}
-use Rattle.tlv_walk.proofs.GrammarLemmas.Tips.{IsTip, push-tip, refusal, tip-fact}
+use Rattle.tlv_walk.proofs.GrammarLemmas.OpenEnds.{IsOpenEndAt, push-open_end, refusal, open_end-fact}
 
 -- what does not fit passes the bound
 too-long : (p : Place) (n : ℕ) → fits p n ≡ false → Fits p n → ⊥
@@ -37,7 +37,7 @@ no-fit p n past = elim (cases_Bool (fits p n)) [
 -- why an octet is refused, if it is
 abbrev pub Blames : Place → Forest → ℕ → Option FaultCode → Type 0
 Blames p e x None = Unit {0}
-Blames p e x (Some code) = IsFault p x e code
+Blames p e x (Some code) = IsFault x (record { place = p; forest = e }) code
 
 -- an octet 00 between encodings is refused as a stray end
 zero-blames : (p : Place) (x : ℕ) (i a : Bool) → p.indefinite ≡ i → p.padding ≡ a → x ≡ 0
@@ -79,7 +79,7 @@ end-blames p x = elim (cases_Bool (fits p 2)) [
 
 -- what is refused for the octets of a header alone has that fault
 octet-blames : (p : Place) (o : List ℕ) (x : ℕ) (code : FaultCode) → (o ≡ [] → ⊥) → Fits p (length o + 1)
-    → IsHeadRefusal code o x → IsFault p x (OpenHeader o) code
+    → IsHeadRefusal code o x → IsFault x (open_end p (OpenHeader o)) code
 octet-blames p o x StrayEnd some room r = absurd (some r.0)
 octet-blames p o x code some room r = refused_octet room r
 
@@ -145,7 +145,7 @@ header-blames p o x h w =
     ]
 
 -- a refusal at an open end has a fault of the list
-pub blames : (p : Place) (f : Forest) (x : ℕ) → x < 256 → IsTip p f → Blames p f x (refusal (push p f x))
+pub blames : (p : Place) (f : Forest) (x : ℕ) → x < 256 → IsOpenEndAt p f → Blames p f x (refusal (push p f x))
 blames p NoMore x h t = between-blames p x t.1
 blames p (OpenPrimitive header c) x h t = tt
 blames p (OpenBitString header) x h t = unused-blames p header x
@@ -177,24 +177,24 @@ not-deep true d f = lt-leb 128 d (f refl)
 not-deep false d f = refl
 
 -- a fault of the list is refused at the open end, with that code
-pub fault-refusal : (p : Place) (f : Forest) (x : ℕ) (code : FaultCode) → IsTip p f → IsFault p x f code
-    → refusal (push p f x) ≡ Some code
-fault-refusal p f x code t (bad_inside nz) = rw (ne_eqb x 0 nz)
-fault-refusal p f x code t (missing_end a) = rw (no-fit p 2 a)
-fault-refusal p f x code t (bad_end room nz) = rw (fits-within p.bound (p.offset + 2) room, ne_eqb x 0 nz)
-fault-refusal p f x code t (no_room {o = o} a) = rw (no-fit p (length o + 1) a)
-fault-refusal p f x code t (refused_octet {o = o} room r) = stuck-refusal p o x code t room r
-fault-refusal p f x code t (too_deep {o = o} room h s octets deep) =
+pub fault-refusal : (e : OpenEnd) (x : ℕ) (code : FaultCode) → IsOpenEndAt e.place e.forest → IsFault x e code
+    → refusal (push e.place e.forest x) ≡ Some code
+fault-refusal e x code t (bad_inside nz) = rw (ne_eqb x 0 nz)
+fault-refusal e x code t (missing_end {p = p} a) = rw (no-fit p 2 a)
+fault-refusal e x code t (bad_end {p = p} room nz) = rw (fits-within p.bound (p.offset + 2) room, ne_eqb x 0 nz)
+fault-refusal e x code t (no_room {p = p} {o = o} a) = rw (no-fit p (length o + 1) a)
+fault-refusal e x code t (refused_octet {p = p} {o = o} room r) = stuck-refusal p o x code t room r
+fault-refusal e x code t (too_deep {p = p} {o = o} room h s octets deep) =
     let test : (holds (moved (origin p) h) && leb 128 p.depth) ≡ true =
     and_from _ _ (holds-there p h true s ∙ s.form) (le-leb 128 p.depth deep) in
     ap refusal (read-there p o x h true room s octets) ∙ rw test
-fault-refusal p f x code t (overrun {o = o} room h s octets k past) =
+fault-refusal e x code t (overrun {p = p} {o = o} room h s octets k past) =
     let test : (holds (moved (origin p) h) && leb 128 p.depth) ≡ false =
     not-deep _ p.depth (λ q. k (sym (holds-there p h (holds h) s) ∙ q)) in
     let none : fits p (length (octets_of h) + announced_length h.size) ≡ false = no-fit p _ past in
     ap refusal (read-there p o x h (holds h) room s octets) ∙ rw (test, none)
-fault-refusal p f x code t (no_end i a) = rw (no-fit p 1 a)
-fault-refusal p f x code t (stray_end i d z) = rw (fits-within p.bound (p.offset + 1) (t.1 i), eq-eqb x 0 z, i, d)
+fault-refusal e x code t (no_end {p = p} i a) = rw (no-fit p 1 a)
+fault-refusal e x code t (stray_end {p = p} i d z) = rw (fits-within p.bound (p.offset + 1) (t.1 i), eq-eqb x 0 z, i, d)
 
 -- a step with a code is that refusal
 refusal-code : (s : PushStep) (code : FaultCode) → refusal s ≡ Some code → s ≡ Refused code
@@ -202,30 +202,31 @@ refusal-code (Grown g) code e = absurd (cc)
 refusal-code (Ended g) code e = absurd (cc)
 refusal-code (Refused c) code e = let same : c ≡ code = cc in ap Refused same
 
--- the tip of an open forest that is the whole input so far
-tip-top : (w : Framing) (f : Forest) → IsOpen (top_place w) f → IsTip (tip (top_place w) f).0 (tip (top_place w) f).1
-tip-top w f v = tip-fact (top_place w) f tt (λ _ _. tt) v
+-- the innermost open end of an open forest that is the whole input so far
+open_end-top : (w : Framing) (f : Forest) → IsOpen (top_place w) f
+    → IsOpenEndAt (open_end (top_place w) f).place (open_end (top_place w) f).forest
+open_end-top w f v = open_end-fact (top_place w) f tt (λ _ _. tt) v
 
 -- an octet that is refused has a fault of the list, with that code
 pub refused-fault : (w : Framing) (f : Forest) (x : ℕ) (code : FaultCode) → x < 256 → IsOpen (top_place w) f
-    → push (top_place w) f x ≡ Refused code → IsFault (tip (top_place w) f).0 x (tip (top_place w) f).1 code
+    → push (top_place w) f x ≡ Refused code → IsFault x (open_end (top_place w) f) code
 refused-fault w f x code h v e =
-    let same : refusal (push (tip (top_place w) f).0 (tip (top_place w) f).1 x) ≡ Some code =
-    sym (push-tip (top_place w) f x) ∙ ap refusal e in
-    rw same at (blames (tip (top_place w) f).0 (tip (top_place w) f).1 x h (tip-top w f v))
+    let same : refusal (push (open_end (top_place w) f).place (open_end (top_place w) f).forest x) ≡ Some code =
+    sym (push-open_end (top_place w) f x) ∙ ap refusal e in
+    rw same at (blames (open_end (top_place w) f).place (open_end (top_place w) f).forest x h (open_end-top w f v))
 
 -- an octet with a fault of the list is refused, with that code
 pub fault-refused : (w : Framing) (f : Forest) (x : ℕ) (code : FaultCode) → IsOpen (top_place w) f
-    → IsFault (tip (top_place w) f).0 x (tip (top_place w) f).1 code → push (top_place w) f x ≡ Refused code
+    → IsFault x (open_end (top_place w) f) code → push (top_place w) f x ≡ Refused code
 fault-refused w f x code v k =
     refusal-code (push (top_place w) f x) code
-    (push-tip (top_place w) f x
-    ∙ fault-refusal (tip (top_place w) f).0 (tip (top_place w) f).1 x code (tip-top w f v) k)
+    (push-open_end (top_place w) f x
+    ∙ fault-refusal (open_end (top_place w) f) x code (open_end-top w f v) k)
 
 -- an octet has one fault
 pub fault-unique : (w : Framing) (f : Forest) (x : ℕ) (c d : FaultCode) → IsOpen (top_place w) f
-    → IsFault (tip (top_place w) f).0 x (tip (top_place w) f).1 c
-    → IsFault (tip (top_place w) f).0 x (tip (top_place w) f).1 d → c ≡ d
+    → IsFault x (open_end (top_place w) f) c
+    → IsFault x (open_end (top_place w) f) d → c ≡ d
 fault-unique w f x c d v a b =
     let left : push (top_place w) f x ≡ Refused c = fault-refused w f x c v a in
     let right : push (top_place w) f x ≡ Refused d = fault-refused w f x d v b in

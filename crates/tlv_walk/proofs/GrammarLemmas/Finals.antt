@@ -8,7 +8,7 @@ use Rattle.tlv_head.specs.Refusal.{length_too_large}
 use Rattle.tlv_walk.specs.declared.ending.Ending.{Ending}
 use Rattle.tlv_walk.specs.declared.ending.Ending.TheVariants.{Done, Fault}
 use Rattle.tlv_walk.specs.declared.framing.Framing.{Framing}
-use Rattle.tlv_walk.specs.Ending.{IsEnding, IsFault, IsFinalCode, bad_inside, missing_end, bad_end, no_room}
+use Rattle.tlv_walk.specs.Ending.{IsEnding, IsFault, IsFinalCode, OpenEnd, bad_inside, missing_end, bad_end, no_room}
 use Rattle.tlv_walk.specs.Ending.{refused_octet, too_deep, overrun, no_end, stray_end, done, empty, refused, short}
 use Rattle.tlv_walk.specs.Forest.{Forest}
 use Rattle.tlv_walk.specs.Place.{Place}
@@ -22,16 +22,16 @@ octet-final o x code (indefinite_primitive c n i e) = (λ z. cc, λ z. cc)
 octet-final o x code (length_too_large c k n l a b d) = (λ z. cc, λ z. cc)
 
 -- none of the causes is that the input ends too early
-cause-final : (p : Place) (x : ℕ) (e : Forest) (code : FaultCode) → IsFault p x e code → IsFinalCode code
-cause-final p x e code (bad_inside n) = (λ z. cc, λ z. cc)
-cause-final p x e code (missing_end a) = (λ z. cc, λ z. cc)
-cause-final p x e code (bad_end a n) = (λ z. cc, λ z. cc)
-cause-final p x e code (no_room a) = (λ z. cc, λ z. cc)
-cause-final p x e code (refused_octet a r) = octet-final _ x code r
-cause-final p x e code (too_deep a h c o d) = (λ z. cc, λ z. cc)
-cause-final p x e code (overrun a h c o k d) = (λ z. cc, λ z. cc)
-cause-final p x e code (no_end i a) = (λ z. cc, λ z. cc)
-cause-final p x e code (stray_end i a z) = (λ z. cc, λ z. cc)
+cause-final : (e : OpenEnd) (x : ℕ) (code : FaultCode) → IsFault x e code → IsFinalCode code
+cause-final e x code (bad_inside n) = (λ z. cc, λ z. cc)
+cause-final e x code (missing_end a) = (λ z. cc, λ z. cc)
+cause-final e x code (bad_end a n) = (λ z. cc, λ z. cc)
+cause-final e x code (no_room a) = (λ z. cc, λ z. cc)
+cause-final e x code (refused_octet a r) = octet-final _ x code r
+cause-final e x code (too_deep a h c o d) = (λ z. cc, λ z. cc)
+cause-final e x code (overrun a h c o k d) = (λ z. cc, λ z. cc)
+cause-final e x code (no_end i a) = (λ z. cc, λ z. cc)
+cause-final e x code (stray_end i a z) = (λ z. cc, λ z. cc)
 
 -- the code of a fault
 abbrev code_in : Ending → FaultCode
@@ -44,7 +44,7 @@ pub early-final : (w : Framing) (b : List ℕ) (e : Ending) (f : FaultOf) → Is
 early-final w b e f (empty g r s n) i k = absurd (k (sym (ap offset_in i)))
 early-final w b e f (short g r s n) i k = absurd (k (sym (ap offset_in i)))
 early-final w b e f (done g r s n t) i k = absurd (cc (i))
-early-final w b e f (refused g x rest code r s c) i k = rw (← ap code_in i) (cause-final _ x _ code c)
+early-final w b e f (refused g x rest code r s c) i k = rw (← ap code_in i) (cause-final _ x code c)
 
 -- the octet after p is refused
 pub refused-final : (w : Framing) (p : List ℕ) (x : ℕ) (rest : List ℕ) (f : FaultOf) → f.offset ≡ length p

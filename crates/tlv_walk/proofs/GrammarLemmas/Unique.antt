@@ -13,7 +13,7 @@ use Rattle.tlv_walk.specs.Forest.{OpenBitString, OpenHeader, OpenEndOctets, has_
 use Rattle.tlv_walk.specs.Place.{top_place}
 use Rattle.tlv_walk.specs.Reading.{CannotBecomeSound, IsReading, IsSoundList}
 use Rattle.tlv_walk.specs.Ending.{IsEnding, IsFault, IsFinalEnding, ShowsSoundness, done, empty, fault_ending, refused}
-use Rattle.tlv_walk.specs.Ending.{short, tip}
+use Rattle.tlv_walk.specs.Ending.{short, open_end}
 use Rattle.tlv_walk.proofs.GrammarLemmas.Readings.{Halted, IsHalt, halt-longer, reading-unique, run-reading}
 use Rattle.tlv_walk.proofs.GrammarLemmas.Faults.{fault-unique}
 use Rattle.tlv_walk.proofs.GrammarLemmas.Endings.{IsRefused, done-sound, fault-halt, halt-ending, no-false-alarm}
@@ -47,14 +47,14 @@ read-apart w b f g x rest r s e d =
 -- an octet that is refused is one octet, with one code
 refused-same : (w : Framing) (b : List ℕ) (f g : Forest) (x y : ℕ) (r s : List ℕ) (c d : FaultCode) → IsReading w b f
     → IsReading w b g → spelling f ++ x ∷ r ≡ b → spelling g ++ y ∷ s ≡ b
-    → IsFault (tip (top_place w) f).0 x (tip (top_place w) f).1 c
-    → IsFault (tip (top_place w) g).0 y (tip (top_place w) g).1 d
+    → IsFault x (open_end (top_place w) f) c
+    → IsFault y (open_end (top_place w) g) d
     → fault_ending c (length (spelling f)) ≡ fault_ending d (length (spelling g))
 refused-same w b f g x y r s c d u v e e' k l =
     let same : f ≡ g = reading-unique w b f g u v in
     let tails : x ∷ r ≡ y ∷ s = append_cancel_left (spelling g) (x ∷ r) (y ∷ s) (rw same at (e ∙ sym e')) in
     let octet : x ≡ y = cc in
-    let k' : IsFault (tip (top_place w) g).0 y (tip (top_place w) g).1 c = rw (same, octet) at k in
+    let k' : IsFault y (open_end (top_place w) g) c = rw (same, octet) at k in
     let code : c ≡ d = fault-unique w g y c d v.is_open k' l in
     ap (λ (c : FaultCode). fault_ending c (length (spelling f))) code
     ∙ ap (λ (f : Forest). fault_ending d (length (spelling f))) same

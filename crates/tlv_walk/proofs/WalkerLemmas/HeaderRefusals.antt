@@ -14,7 +14,7 @@ use Rattle.tlv_head.specs.Push as push
 use Rattle.tlv_head.specs.Push.{Completes, IsRefusedPush}
 use Rattle.tlv_head.proofs.ReaderLemmas.Prefix.{header-two}
 use Rattle.tlv_walk.specs.Phase as phase
-use Rattle.tlv_walk.specs.Ending.{IsEnding, IsFault, fault_ending, no_room, overrun, refused_octet, too_deep}
+use Rattle.tlv_walk.specs.Ending.{IsEnding, IsFault, fault_ending, no_room, open_end, overrun, refused_octet, too_deep}
 use Rattle.tlv_walk.specs.Forest.{OpenHeader}
 use Rattle.tlv_walk.specs.Events.{EventValue}
 use Rattle.tlv_walk.specs.Inside.{is_among}
@@ -103,7 +103,7 @@ room_there p q room depth k some =
 
 -- each cause of a reader is a line of the faults
 pub refused_fault : (p : Place) (q : HeadReaderState) (room : Option ℕ) (depth x : ℕ) (code : FaultCode)
-    → IsReader p q room depth → IsRefusedPush q x room depth code → IsFault p x (OpenHeader q.octets) code
+    → IsReader p q room depth → IsRefusedPush q x room depth code → IsFault x (open_end p (OpenHeader q.octets)) code
 refused_fault p q room depth x code k (push.no_room none) =
     no_room
     (left_none p.bound (p.offset + length q.octets) (p.offset + (length q.octets + 1)) (sym k.left ∙ none)
@@ -169,7 +169,7 @@ refuses_header w u r q piece rest others x depth offset f over k e within place 
           let left : room_to (bound_of u.stack) offset ≡ room_to (bound_of w.stack) (q.offset + length q.octets) =
           ap (λ (fs : List FrameValue). room_to (bound_of fs) offset) same
           ∙ ap (room_to (bound_of w.stack)) (sym place) in
-          let faulty : IsFault (place_of w.framing t.state) x (OpenHeader q.octets) f.code =
+          let faulty : IsFault x (open_end (place_of w.framing t.state) (OpenHeader q.octets)) f.code =
           refused_fault _ q _ depth x f.code
           (reader_there (in_header w q) (b ++ k.taken) yielded t.state q depth refl has' (deep ∙ ap length same))
           (subst (λ (o : Option ℕ). IsRefusedPush q x o depth f.code) left refused) in record {

@@ -22,7 +22,7 @@ use Rattle.tlv_walk.specs.Private.Yields.{RefusesOctet}
 use Rattle.tlv_walk.proofs.WalkerLemmas.Entering.{lead_tail}
 use Rattle.tlv_walk.proofs.WalkerLemmas.Moves.{between_tail, lone_tail, phase_at, tail_state, with_tail}
 use Rattle.tlv_walk.proofs.WalkerLemmas.Places.{place-bound, walker-offset}
-use Rattle.tlv_walk.proofs.WalkerLemmas.ZipperEndings.{forest_of, state-fault}
+use Rattle.tlv_walk.proofs.WalkerLemmas.ZipperEndings.{state-fault, zipper_end}
 use Rattle.tlv_walk.proofs.WalkerLemmas.Zipper.{place-indefinite}
 
 -- if there is no room before the bound, an octet more passes it
@@ -53,7 +53,7 @@ refuses_front w piece f h r = subst (λ (o : List ℕ). RefusesOctet w o o f) (s
 -- an octet that has a fault in each state of a walker is refused
 pub refuses_here : (w : WalkerState) (x : ℕ) (rest : List ℕ) (code : FaultCode) → (EventWaits w → ⊥)
     → ((b : List ℕ) (yielded : List EventValue) (s : Zipper) → HasZipper w b yielded s
-    → (t : Zipper) × HasZipper w b yielded t × IsFault (place_of w.framing t) x (forest_of t.tail) code)
+    → (t : Zipper) × HasZipper w b yielded t × IsFault x (zipper_end w.framing t) code)
     → RefusesOctet w (x ∷ rest) (x ∷ rest) (fault_at code w.offset)
 refuses_here w x rest code idle faulty = record {
   taken = [];

@@ -6,7 +6,7 @@ use Rattle.tlv_head.specs.declared.header.Size.{Size}
 use Rattle.tlv_head.specs.declared.header.Size.TheVariants.{Definite, Indefinite}
 use Rattle.tlv_head.specs.Header.{HeaderValue, announced_length, octets_of}
 use Rattle.tlv_walk.specs.declared.framing.Framing.{Framing}
-use Rattle.tlv_walk.specs.Ending.{tip}
+use Rattle.tlv_walk.specs.Ending.{open_end}
 use Rattle.tlv_walk.specs.Forest.{Forest, Holder, NoMore, OpenBitString, OpenEndOctets, OpenHeader, OpenHolder}
 use Rattle.tlv_walk.specs.Forest.{OpenPrimitive, PaddingOctet, Primitive, contents_length, end_octets, extent, is_whole}
 use Rattle.tlv_walk.specs.Forest.{opening, spelling}
@@ -131,28 +131,28 @@ open-followed_by p (OpenBitString h) g a w = absurd (true≢false (sym a.whole))
 open-followed_by p (OpenHeader octets) g a w = absurd (true≢false (sym a.whole))
 open-followed_by p OpenEndOctets g a w = absurd (true≢false (sym a.whole))
 
--- a tip by either way to the place
-tip-after : (p : Place) (m n k : ℕ) (g : Forest) → m + n ≡ k
-    → tip (place_after (place_after p m) n) g ≡ tip (place_after p k) g
-tip-after p m n k g e = ap (λ (q : Place). tip q g) (after-after p m n k e)
+-- the open end is the same by either way to the place
+open_end-after : (p : Place) (m n k : ℕ) (g : Forest) → m + n ≡ k
+    → open_end (place_after (place_after p m) n) g ≡ open_end (place_after p k) g
+open_end-after p m n k g e = ap (λ (q : Place). open_end q g) (after-after p m n k e)
 
 -- the open end is that of the others
-pub tip-followed_by : (p : Place) (f g : Forest) → is_whole f ≡ true
-    → tip p (followed_by f g) ≡ tip (place_after p (length (spelling f))) g
-tip-followed_by p NoMore g e = ap (λ (q : Place). tip q g) (sym (after-none p))
-tip-followed_by p (PaddingOctet rest) g e =
-    tip-followed_by (place_after p 1) rest g e ∙ tip-after p 1 (length (spelling rest)) _ g (omega arith)
-tip-followed_by p (Primitive h c rest) g e =
-    tip-followed_by (place_after p (length (octets_of h) + length c)) rest g e
-    ∙ tip-after p (length (octets_of h) + length c) (length (spelling rest)) _ g (sym (length-primitive h c rest))
-tip-followed_by p (Holder h inside rest) g e =
-    tip-followed_by (place_after p (extent h inside)) rest g e
-    ∙ tip-after p (extent h inside) (length (spelling rest)) _ g (sym (length-holder h inside rest))
-tip-followed_by p (OpenPrimitive h c) g e = absurd (true≢false (sym e))
-tip-followed_by p (OpenHolder h inside) g e = absurd (true≢false (sym e))
-tip-followed_by p (OpenBitString h) g e = absurd (true≢false (sym e))
-tip-followed_by p (OpenHeader octets) g e = absurd (true≢false (sym e))
-tip-followed_by p OpenEndOctets g e = absurd (true≢false (sym e))
+pub open_end-followed_by : (p : Place) (f g : Forest) → is_whole f ≡ true
+    → open_end p (followed_by f g) ≡ open_end (place_after p (length (spelling f))) g
+open_end-followed_by p NoMore g e = ap (λ (q : Place). open_end q g) (sym (after-none p))
+open_end-followed_by p (PaddingOctet rest) g e =
+    open_end-followed_by (place_after p 1) rest g e ∙ open_end-after p 1 (length (spelling rest)) _ g (omega arith)
+open_end-followed_by p (Primitive h c rest) g e =
+    open_end-followed_by (place_after p (length (octets_of h) + length c)) rest g e
+    ∙ open_end-after p (length (octets_of h) + length c) (length (spelling rest)) _ g (sym (length-primitive h c rest))
+open_end-followed_by p (Holder h inside rest) g e =
+    open_end-followed_by (place_after p (extent h inside)) rest g e
+    ∙ open_end-after p (extent h inside) (length (spelling rest)) _ g (sym (length-holder h inside rest))
+open_end-followed_by p (OpenPrimitive h c) g e = absurd (true≢false (sym e))
+open_end-followed_by p (OpenHolder h inside) g e = absurd (true≢false (sym e))
+open_end-followed_by p (OpenBitString h) g e = absurd (true≢false (sym e))
+open_end-followed_by p (OpenHeader octets) g e = absurd (true≢false (sym e))
+open_end-followed_by p OpenEndOctets g e = absurd (true≢false (sym e))
 
 -- no others
 pub followed_by-none : (f : Forest) → followed_by f NoMore ≡ f
@@ -212,12 +212,12 @@ open-within w (l ∷ ls) f a v r =
     (room-if_open ls _ (whole-followed_by l.before (OpenHolder l.header f) a.1.whole))
 
 -- the open end is theirs
-pub tip-within : (w : Framing) (ls : List Layer) (f : Forest) → AreLayers w ls
-    → tip (top_place w) (within ls f) ≡ tip (place_in w ls) f
-tip-within w [] f a = refl
-tip-within w (l ∷ ls) f a =
-    tip-within w ls (followed_by l.before (OpenHolder l.header f)) a.0
-    ∙ tip-followed_by (place_in w ls) l.before (OpenHolder l.header f) a.1.whole
+pub open_end-within : (w : Framing) (ls : List Layer) (f : Forest) → AreLayers w ls
+    → open_end (top_place w) (within ls f) ≡ open_end (place_in w ls) f
+open_end-within w [] f a = refl
+open_end-within w (l ∷ ls) f a =
+    open_end-within w ls (followed_by l.before (OpenHolder l.header f)) a.0
+    ∙ open_end-followed_by (place_in w ls) l.before (OpenHolder l.header f) a.1.whole
 
 -- inside a layer something is open
 pub whole-within : (w : Framing) (ls : List Layer) (f : Forest) → AreLayers w ls → (ls ≡ [] → is_whole f ≡ false)

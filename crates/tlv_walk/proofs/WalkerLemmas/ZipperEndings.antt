@@ -7,7 +7,7 @@ use Rattle.tlv_walk.specs.declared.ending.Ending.TheVariants.{Done}
 use Rattle.tlv_walk.specs.declared.framing.Framing.{Framing}
 use Rattle.tlv_walk.specs.Phase.{PhaseValue}
 use Rattle.tlv_walk.specs.Phase as phase
-use Rattle.tlv_walk.specs.Ending.{IsEnding, IsFault, done, empty, fault_ending, short, tip}
+use Rattle.tlv_walk.specs.Ending.{IsEnding, IsFault, done, empty, fault_ending, short, OpenEnd, open_end}
 use Rattle.tlv_walk.specs.Events.{EventValue}
 use Rattle.tlv_walk.specs.Forest.{Forest, NoMore, OpenPrimitive, OpenBitString, OpenHeader, OpenEndOctets, has_element}
 use Rattle.tlv_walk.specs.Forest.{is_whole, spelling}
@@ -24,8 +24,9 @@ use Rattle.tlv_walk.proofs.GrammarLemmas.Readings.{IsHalt}
 use Rattle.tlv_walk.proofs.GrammarLemmas.Settled.{end_in, settled-within}
 use Rattle.tlv_walk.proofs.WalkerLemmas.Places.{walker-offset}
 use Rattle.tlv_walk.proofs.WalkerLemmas.ZipperReading.{contents-less, later_place, state-reading, state-spells}
-use Rattle.tlv_walk.proofs.WalkerLemmas.Zipper.{followed_by, followed_by-none, reading_in, reading_of, tip-followed_by}
-use Rattle.tlv_walk.proofs.WalkerLemmas.Zipper.{tip-within, whole-followed_by, whole-within, within}
+use Rattle.tlv_walk.proofs.WalkerLemmas.Zipper.{followed_by, followed_by-none, reading_in, reading_of}
+use Rattle.tlv_walk.proofs.WalkerLemmas.Zipper.{open_end-followed_by}
+use Rattle.tlv_walk.proofs.WalkerLemmas.Zipper.{open_end-within, whole-followed_by, whole-within, within}
 
 -- what is open after the whole elements, as a forest: of a primitive, one that lacks contents octets
 abbrev pub forest_of : Tail → Forest
@@ -68,34 +69,37 @@ state-within w b yielded s h n =
 -- ---- the open end
 
 -- what is open after the whole elements is the open end
-tip-tail : (p : Place) (t : Tail) → tip p (forest_of t) ≡ (p, forest_of t)
-tip-tail p NoTail = refl
-tip-tail p (PrimitiveTail h c) = refl
-tip-tail p (BitStringTail h) = refl
-tip-tail p (HeaderTail octets) = refl
-tip-tail p EndOctetsTail = refl
+open_end-tail : (p : Place) (t : Tail) → open_end p (forest_of t) ≡ record { place = p; forest = forest_of t }
+open_end-tail p NoTail = refl
+open_end-tail p (PrimitiveTail h c) = refl
+open_end-tail p (BitStringTail h) = refl
+open_end-tail p (HeaderTail octets) = refl
+open_end-tail p EndOctetsTail = refl
+
+-- the open end at the place where a zipper cuts the forest
+abbrev pub zipper_end : Framing → Zipper → OpenEnd
+zipper_end w s = record { place = place_of w s; forest = forest_of s.tail }
 
 -- the open end of the reading is that of the state
-pub state-tip : (w : WalkerState) (b : List ℕ) (yielded : List EventValue) (s : Zipper) → HasZipper w b yielded s
+pub state-open_end : (w : WalkerState) (b : List ℕ) (yielded : List EventValue) (s : Zipper) → HasZipper w b yielded s
     → (EventWaits w → ⊥)
-    → tip (top_place w.framing) (reading_of s) ≡ (place_of w.framing s, forest_of s.tail)
-state-tip w b yielded s h n =
-    ap (λ (f : Forest). tip (top_place w.framing) f) (state-within w b yielded s h n)
-    ∙ tip-within w.framing s.layers (followed_by s.here (forest_of s.tail)) h.layers
-    ∙ tip-followed_by (place_in w.framing s.layers) s.here (forest_of s.tail) h.here.whole
-    ∙ tip-tail (place_of w.framing s) s.tail
+    → open_end (top_place w.framing) (reading_of s) ≡ zipper_end w.framing s
+state-open_end w b yielded s h n =
+    ap (λ (f : Forest). open_end (top_place w.framing) f) (state-within w b yielded s h n)
+    ∙ open_end-within w.framing s.layers (followed_by s.here (forest_of s.tail)) h.layers
+    ∙ open_end-followed_by (place_in w.framing s.layers) s.here (forest_of s.tail) h.here.whole
+    ∙ open_end-tail (place_of w.framing s) s.tail
 
 -- an octet with a fault of the list at the open end gives the ending, whatever follows
 pub state-fault : (w : WalkerState) (b : List ℕ) (yielded : List EventValue) (s : Zipper) (x : ℕ) (rest : List ℕ)
     (code : FaultCode)
     → HasZipper w b yielded s → (EventWaits w → ⊥)
-    → IsFault (place_of w.framing s) x (forest_of s.tail) code
+    → IsFault x (zipper_end w.framing s) code
     → IsEnding w.framing (b ++ x ∷ rest) (fault_ending code (length b))
 state-fault w b yielded s x rest code h n k =
     let r : Spells (top_place w.framing) b (reading_of s) = state-spells w b yielded s h in
-    let there : IsFault (tip (top_place w.framing) (reading_of s)).0 x (tip (top_place w.framing) (reading_of s)).1
-    code =
-    subst (λ (t : Place × Forest). IsFault t.0 x t.1 code) (sym (state-tip w b yielded s h n)) k in
+    let there : IsFault x (open_end (top_place w.framing) (reading_of s)) code =
+    subst (λ (t : OpenEnd). IsFault x t code) (sym (state-open_end w b yielded s h n)) k in
     let halt : IsHalt w.framing (reading_of s) code (b ++ x ∷ rest) =
     record {
       is_open = r.is_open;

@@ -29,7 +29,7 @@ pub record WalksOver (old new : WalkerState) (piece rest : List ℕ) (more : Lis
       → Stands new (b ++ taken) (yielded ++ more)
 
 -- an octet was refused after those that were walked over
-pub record WalksTo (old new : WalkerState) (piece : List ℕ) (more : List EventValue) (f : Fault)
+pub record WalksToFault (old new : WalkerState) (piece : List ℕ) (more : List EventValue) (f : Fault)
     (b : List ℕ) (yielded : List EventValue) : Type 0 where
   pub taken : List ℕ
   pub octet : ℕ
@@ -39,8 +39,8 @@ pub record WalksTo (old new : WalkerState) (piece : List ℕ) (more : List Event
   pub stands : StandsRefused new (b ++ taken) octet (yielded ++ more) f
 
 -- the octets yield these events, joined, and then others
-abbrev pub GoesOnIn : Framing → List ℕ → List EventValue → Type 0
-GoesOnIn framing octets yielded = (f : Forest) → IsReading framing octets f
+abbrev pub BeginEventsOf : Framing → List ℕ → List EventValue → Type 0
+BeginEventsOf framing octets yielded = (f : Forest) → IsReading framing octets f
     → (others : List EventValue) × AreEqualJoined (yielded ++ others) (events f)
 
 -- what takes part in following a piece, as it is before that or after it: the walker, the follower's state, and the
@@ -71,7 +71,7 @@ module _ {S D : Type 0} (next : S → EventValue → Effect S) (old new : Follow
   pub record FollowsToFault (piece : List ℕ) (more : List EventValue) (f : Fault) : Type 0 where
     pub made : FollowsEvents next old.follower new.follower more go.On
     pub walked : (b : List ℕ) (yielded : List EventValue) → Stands old.walker b yielded
-        → WalksTo old.walker new.walker piece more f b yielded
+        → WalksToFault old.walker new.walker piece more f b yielded
 
   -- a piece was followed up to an event with which the follower had enough
   pub record FollowsToEnough (piece : List ℕ) (more : List EventValue) : Type 0 where
@@ -80,16 +80,16 @@ module _ {S D : Type 0} (next : S → EventValue → Effect S) (old new : Follow
     pub after_event : IsAfterEvent new.walker.phase
 
   -- the drain failed at what is put at these events, or before; the piece yields them, and then others
-  pub record Fails (piece : List ℕ) (more : List EventValue) : Type 0 where
+  pub record FailsAfter (piece : List ℕ) (more : List EventValue) : Type 0 where
     pub yields : (b : List ℕ) (yielded : List EventValue) → Stands old.walker b yielded
-        → GoesOnIn old.walker.framing (b ++ piece) (yielded ++ more)
+        → BeginEventsOf old.walker.framing (b ++ piece) (yielded ++ more)
 
-  -- how far a piece was followed, by why it is not followed any further
+  -- how far a piece was followed: a line for each reason to stop
   abbrev pub Pauses : List ℕ → List EventValue → Result Pause WriteFault → Type 0
   Pauses piece more (Ok pause.UsedUp) = FollowsAll piece more
   Pauses piece more (Ok (pause.Fault f)) = FollowsToFault piece more f
   Pauses piece more (Ok pause.Enough) = FollowsToEnough piece more
-  Pauses piece more (Err e) = Fails piece more
+  Pauses piece more (Err e) = FailsAfter piece more
 
   -- a prefix of a piece was followed, which has one event or more, and more is wanted
   pub record TakesPart (piece rest : List ℕ) (more : List EventValue) : Type 0 where
@@ -107,7 +107,7 @@ module _ {S D : Type 0} (next : S → EventValue → Effect S) (old new : Follow
   abbrev pub TakesPartOrNone : List ℕ → List ℕ → List EventValue → Result Bool WriteFault → Type 0
   TakesPartOrNone piece rest more (Ok true) = TakesPart piece rest more
   TakesPartOrNone piece rest more (Ok false) = TakesNone piece rest more
-  TakesPartOrNone piece rest more (Err e) = Fails piece more
+  TakesPartOrNone piece rest more (Err e) = FailsAfter piece more
 
 module _ {S D : Type 0} (next : S → EventValue → Effect S) (state_of : D → DrainState)
     (old new : FollowStates S D) where

@@ -14,23 +14,21 @@ use Rattle.tlv_walk.specs.Events.{EventValue}
 use Rattle.tlv_walk.specs.WalkerState.{WalkerState, first_without_wrapper_in}
 use Rattle.tlv_walk.specs.Stands.{Stands}
 
--- a run with this ending, and the counts of this walker
-pub record IsRun (run : Run) (e : Ending) (is_enough : Bool) (v : WalkerState) : Type 0 where
-  pub ending : run.ending ≡ e
-  pub enough : run.enough ≡ is_enough
-  pub octets : run.octets ≡ v.offset
-  pub unused : run.unused ≡ first_without_wrapper_in v
+-- the run of a walker, with this ending
+abbrev pub run_of : WalkerState → Ending → Bool → Run
+run_of w e enough =
+    record { ending = e; octets = w.offset; enough = enough; unused = first_without_wrapper_in w }
 
 -- the run of a walker that is after the last octet of the input
 abbrev pub IsLastRun : Run → WalkerState → Type 0
-IsLastRun run v = (e : Ending) × IsRun run e false v
-    × ((o : List ℕ) (yielded : List EventValue) → Stands v o yielded → IsEnding v.framing o e)
+IsLastRun run w = (e : Ending) × (run ≡ run_of w e false)
+    × ((o : List ℕ) (yielded : List EventValue) → Stands w o yielded → IsEnding w.framing o e)
 
 -- what a turn returns after this pause of a walker, if of so many octets that were read so many were followed
 abbrev pub IsResultOfPause : ℕ → ℕ → WalkerState → Pause → Result Turn DeviceFault → Type 0
-IsResultOfPause read followed v pause.Enough (Ok (Ended run)) = IsRun run ending.Done true v
-IsResultOfPause read followed v (pause.Fault f) (Ok (Ended run)) = IsRun run (ending.Fault f) false v
-IsResultOfPause read followed v pause.UsedUp (Err InputTooLong) = followed < read
-IsResultOfPause read followed v pause.UsedUp (Ok (Ended run)) = (followed < read → ⊥) × (read ≡ 0) × IsLastRun run v
-IsResultOfPause read followed v pause.UsedUp (Ok Again) = (followed < read → ⊥) × (read ≡ 0 → ⊥)
-IsResultOfPause read followed v why result = ⊥
+IsResultOfPause read followed w pause.Enough (Ok (Ended run)) = run ≡ run_of w ending.Done true
+IsResultOfPause read followed w (pause.Fault f) (Ok (Ended run)) = run ≡ run_of w (ending.Fault f) false
+IsResultOfPause read followed w pause.UsedUp (Err InputTooLong) = followed < read
+IsResultOfPause read followed w pause.UsedUp (Ok (Ended run)) = (followed < read → ⊥) × (read ≡ 0) × IsLastRun run w
+IsResultOfPause read followed w pause.UsedUp (Ok Again) = (followed < read → ⊥) × (read ≡ 0 → ⊥)
+IsResultOfPause read followed w why result = ⊥

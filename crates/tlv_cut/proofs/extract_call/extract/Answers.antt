@@ -10,5 +10,5 @@ returns-in_err-run g c =
 
 pub returns : goal.returns
 returns g c =
-    extract_ok _ _ _ _ _ _ _ _ c.in_ok-run.run' _ refl c.found.ensures
+    extract_ok _ _ _ _ _ _ _ _ c.in_ok-run.run' _ refl c.has_found.ensures
     (rw c.new-follower.ensures at c.in_ok-run.ensures)

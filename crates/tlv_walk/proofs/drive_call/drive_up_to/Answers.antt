@@ -41,28 +41,28 @@ turns-preserved g c =
       walking =
           walking_on g.F.Follow.next law.bytes_join law.bytes_empty law.bytes_go_on law.pad_join law.pad_empty
           law.pad_go_on _ _ _ _ _ _ c.turns.invariant.walking
-          _ _ _ c.turn_to.ensures.read (search rules) c.turns.invariant.taken (search rules);
+          _ _ _ c.turn_with.ensures.read (search rules) c.turns.invariant.taken (search rules);
       ready = search rules;
       piece = search rules;
       empty = search rules;
       same_reference = search rules;
     }
 
-pub returns-in_err-turn_to : goal.returns-in_err-turn_to
-returns-in_err-turn_to g c =
+pub returns-in_err-turn_with : goal.returns-in_err-turn_with
+returns-in_err-turn_with g c =
     let law = g.met.F.Follow in
     let p = err_from_is_err_and c.from_residual.result c.from_residual.ensures.1 in rw (p.1, p.2)
     (drives_lent g.F.Follow.next g.D.Drain.state _ _ _ _ _ _ _ _ (drain_of c.new-out.result).now
-    (drain_of c.turn_to.new.out).now _ (sym c.new-out.ensures.taken) (search rules)
+    (drain_of c.turn_with.new.out).now _ (sym c.new-out.ensures.taken) (search rules)
     (drives_err g.F.Follow.next law.bytes_join law.bytes_empty law.bytes_go_on law.pad_join law.pad_empty
     law.pad_go_on _ _ _ _ _ _ c.turns.invariant.walking
-    _ _ _ c.turn_to.ensures.read (search rules) c.turns.invariant.taken c.in_err-turn_to.field-0.0 (search rules)))
+    _ _ _ c.turn_with.ensures.read (search rules) c.turns.invariant.taken c.in_err-turn_with.field-0.0 (search rules)))
 
 pub returns-in-Ended : goal.returns-in-Ended
 returns-in-Ended g c =
     let law = g.met.F.Follow in
     drives_lent g.F.Follow.next g.D.Drain.state _ _ _ _ _ _ _ _ (drain_of c.new-out.result).now
-    (drain_of c.turn_to.new.out).now _ (sym c.new-out.ensures.taken) (search rules)
+    (drain_of c.turn_with.new.out).now _ (sym c.new-out.ensures.taken) (search rules)
     (drives_ended g.F.Follow.next law.bytes_join law.bytes_empty law.bytes_go_on law.pad_join law.pad_empty
     law.pad_go_on _ _ _ _ _ _ c.turns.invariant.walking
-    _ _ _ c.turn_to.ensures.read (search rules) c.turns.invariant.taken _ (search rules))
+    _ _ _ c.turn_with.ensures.read (search rules) c.turns.invariant.taken _ (search rules))

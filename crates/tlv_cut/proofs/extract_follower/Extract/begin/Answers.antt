@@ -22,17 +22,17 @@ extract_begin_step_at-wanted s offset octets b e =
     (ap (λ (k : Bool). if k then first else no_effect (at Before)) (same offset s.offset e))
 
 -- an element begins that the one wanted holds
-extract_begin_step_at-inside : (s : ExtractState) (level offset : ℕ) (octets : List ℕ) → s.position ≡ Within level
-    → extract_begin_step_at s offset octets ≡ extract_step_to s (Within (min (level + 1) 255)) octets On
-extract_begin_step_at-inside s level offset octets e =
+extract_begin_step_at-inside : (s : ExtractState) (count offset : ℕ) (octets : List ℕ) → s.position ≡ Within count
+    → extract_begin_step_at s offset octets ≡ extract_step_to s (Within (min (count + 1) 255)) octets On
+extract_begin_step_at-inside s count offset octets e =
     let at = λ (w : Position). record s { position = w } in
     subst (λ (w : Position). extract_begin_step_at (at w) offset octets
-    ≡ extract_step_to (at w) (Within (min (level + 1) 255)) octets On) (sym e) refl
+    ≡ extract_step_to (at w) (Within (min (count + 1) 255)) octets On) (sym e) refl
 
 pub returns-in_ok-put-in-Within-clause-state : goal.returns-in_ok-put-in-Within-clause-state
 returns-in_ok-put-in-Within-clause-state g c =
     let is = ap (λ (s : ExtractState). s.position) (sym c.self.view_is) ∙ c.in-Within.is in
-    let one_more = extract_begin_step_at-inside c.args.self.now c.in-Within.level c.args.offset c.args.octets.now is in
+    let one_more = extract_begin_step_at-inside c.args.self.now c.in-Within.count c.args.offset c.args.octets.now is in
     rw (one_more, ← c.self.view_is, c.saturating_add.ensures) (refl, refl)
 
 pub returns-after-not-self-clause-state : goal.returns-after-not-self-clause-state

@@ -16,25 +16,25 @@ extract_end_step-last s octets e =
 
 pub returns-in_err-put-in-Within-eq0-clause-puts : goal.returns-in_err-put-in-Within-eq0-clause-puts
 returns-in_err-put-in-Within-eq0-clause-puts g c =
-    let level = sym c.in-Within-eq0.field-0-is ∙ c.in-Within-eq0.field-0-test in
+    let is_zero = sym c.in-Within-eq0.field-0-is ∙ c.in-Within-eq0.field-0-test in
     let position : c.args.self.now.position ≡ Within 0 =
-    ap (λ (s : ExtractState). s.position) (sym c.self.view_is) ∙ c.in-Within-eq0.is ∙ ap Within level in
+    ap (λ (s : ExtractState). s.position) (sym c.self.view_is) ∙ c.in-Within-eq0.is ∙ ap Within is_zero in
     let whole : c.args.self.now.contents_only ≡ false =
     ap (λ (s : ExtractState). s.contents_only) (sym c.self.view_is) ∙ c.if-not-self.true in
     rw (position, whole) (search rules)
 
 pub returns-after-not-self-clause-state : goal.returns-after-not-self-clause-state
 returns-after-not-self-clause-state g c =
-    let level = sym c.in-Within-eq0.field-0-is ∙ c.in-Within-eq0.field-0-test in
+    let is_zero = sym c.in-Within-eq0.field-0-is ∙ c.in-Within-eq0.field-0-test in
     let is : c.args.self.now.position ≡ Within 0 =
-    ap (λ (s : ExtractState). s.position) (sym c.self.view_is) ∙ c.in-Within-eq0.is ∙ ap Within level in
+    ap (λ (s : ExtractState). s.position) (sym c.self.view_is) ∙ c.in-Within-eq0.is ∙ ap Within is_zero in
     rw (extract_end_step-last c.args.self.now c.args.octets.now is, ← c.self.view_is) (refl, refl)
 
 pub returns-after-not-self-clause-puts : goal.returns-after-not-self-clause-puts
 returns-after-not-self-clause-puts g c =
-    let level = sym c.in-Within-eq0.field-0-is ∙ c.in-Within-eq0.field-0-test in
+    let is_zero = sym c.in-Within-eq0.field-0-is ∙ c.in-Within-eq0.field-0-test in
     let position : c.args.self.now.position ≡ Within 0 =
-    ap (λ (s : ExtractState). s.position) (sym c.self.view_is) ∙ c.in-Within-eq0.is ∙ ap Within level in
+    ap (λ (s : ExtractState). s.position) (sym c.self.view_is) ∙ c.in-Within-eq0.is ∙ ap Within is_zero in
     elim c.if-not-self.branch [
       | then-not-self+in_ok-put-in-Within-eq0 w ↦
           let whole : c.args.self.now.contents_only ≡ false =

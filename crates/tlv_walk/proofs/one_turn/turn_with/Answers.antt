@@ -5,7 +5,7 @@ use Rattle.tlv_walk.specs.OneTurn.{turn_states}
 use Rattle.tlv_walk.specs.Private.FollowsPiece.{follow_states}
 use Rattle.tlv_walk.proofs.FollowerLemmas.Calls.{calls_answered, calls_given, can_go_on_answered, used_up_ready}
 use Rattle.tlv_walk.proofs.FollowerLemmas.Turns.{turns_answered, turns_failed}
-use Rattle.tlv_walk.proofs.one_turn.turn_to.Goals as goal
+use Rattle.tlv_walk.proofs.one_turn.turn_with.Goals as goal
 
 pub returns-in_default-follow_and_flush-clause-read : goal.returns-in_default-follow_and_flush-clause-read
 returns-in_default-follow_and_flush-clause-read g c = record {
@@ -16,7 +16,8 @@ returns-in_default-follow_and_flush-clause-read g c = record {
   turned = λ b yielded st.
       turns_failed g.F.Follow.next _ _ c.args.out.now c.follow_and_flush.new.out b yielded c.read.new.to
       _ _ c.in-Ok.count c.min-walked.result c.args.limit st
-      (search rules) c.requires.taken (search rules) refl (search rules) c.in_default-follow_and_flush.ensures.octets
+      (search rules) c.requires.can.within (search rules) refl (search rules)
+      c.in_default-follow_and_flush.ensures.octets
       g.D.Drain.state refl refl _ c.in_default-follow_and_flush.ensures;
   goes_on = tt;
 }
@@ -38,17 +39,19 @@ returns-clause-read g c =
     (g.D.Drain.state (drain_of c.follow_and_flush.new.out).now) in
     record {
       calls =
-          calls_answered g.F.Follow.next old new c.read.new.to c.in-Ok.count _ _ _ _ (rw c.in-Ok.is at c.read.ensures)
+          calls_answered g.F.Follow.next old new c.read.new.to c.in-Ok.count _ new.walker
+          _ _ (rw c.in-Ok.is at c.read.ensures)
           (search rules) (search rules) (search rules) c.result_of_pause.ensures;
       octets = grind (arith, elements);
       turned = λ b yielded st.
           turns_answered g.F.Follow.next old new c.args.out.now c.follow_and_flush.new.out b yielded c.read.new.to
           _ _ c.in-Ok.count c.min-walked.result c.args.limit st
-          (search rules) c.requires.taken (search rules) refl (search rules) c.in-Ok-follow_and_flush.ensures.octets
+          (search rules) c.requires.can.within (search rules) refl (search rules)
+          c.in-Ok-follow_and_flush.ensures.octets
           g.D.Drain.state refl refl _ _ c.in-Ok-follow_and_flush.ensures c.result_of_pause.ensures;
       goes_on =
           can_go_on_answered g.F.Follow.next old new c.read.new.to c.args.out.now c.follow_and_flush.new.out
           c.in-Ok.count c.min-walked.result c.args.limit _ _ _ _ c.result_of_pause.ensures
           c.in-Ok-follow_and_flush.ensures.pauses
-          (search rules) (search rules) c.requires.taken;
+          (search rules) (search rules) c.requires.can.within;
     }
