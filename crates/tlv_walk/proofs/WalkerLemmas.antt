@@ -8,7 +8,7 @@ pub mod HeaderKinds
 pub mod HeaderRefusals
 pub mod HeaderSteps
 pub mod Moves
-pub mod OpenCounts
+pub mod Depths
 pub mod Padding
 pub mod Passing
 pub mod Places

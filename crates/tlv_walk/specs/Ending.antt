@@ -32,7 +32,7 @@ pub data IsFault (p : Place) (x : ℕ) : Forest → FaultCode → Type 0 where
   -- 8.1.5: the second 00 is missing at the bound, or is another octet
   missing_end : (Fits p 2 → ⊥) → IsFault p x OpenEndOctets MissingEnd
   bad_end : Fits p 2 → x ≢ 0 → IsFault p x OpenEndOctets BadEnd
-  -- 8.1.3.3: the header passes the bound
+  -- 8.1.3.3: the header does not end within the bound
   no_room : {o : List ℕ} → (Fits p (length o + 1) → ⊥) → IsFault p x (OpenHeader o) Overrun
   -- F06 to F09: no header goes on with that octet
   refused_octet : {o : List ℕ} {code : FaultCode} → Fits p (length o + 1) → IsRefusedOctet o x code

@@ -6,7 +6,7 @@ ghost use Rattle.tlv_walk.specs.Private.FollowsPiece.{FollowsAndFlushes, Follows
 ghost use Rattle.tlv_walk.specs.Private.WalkerState.{CanPass};
 ghost use Rattle.tlv_walk.specs.Stands.{CanTake};
 ghost use Rattle.tlv_io.specs.Out.{Puts, held_octets, drain_of};
-ghost use Rattle.tlv_walk.specs.HasRead.{event_value_of};
+ghost use Rattle.tlv_walk.specs.Events.{event_value_of};
 ghost use Rattle.tlv_walk.specs.OneTurn.{FollowsOneRead, turn_states};
 ghost use Rattle.tlv_head.specs.InputLimit.{input_limit};
 
@@ -233,8 +233,8 @@ fn follow_found<F: Follow, D: Drain>(
         piece.old.now piece.new.now result }
 {
     let octets = *piece;
-    let header = Header::new(&primitive.fields, &octets[..primitive.header]);
-    if !follower.whole(&header, &octets[..primitive.octets], out)? {
+    let header = Header::new(&primitive.fields, &octets[..primitive.header_length]);
+    if !follower.whole(&header, &octets[..primitive.octet_count], out)? {
         return Ok(false);
     }
     walker.pass(primitive, piece);

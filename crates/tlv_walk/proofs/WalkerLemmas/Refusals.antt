@@ -13,16 +13,16 @@ use Rattle.tlv_walk.specs.Ending.{stray_end}
 use Rattle.tlv_walk.specs.Events.{EventValue}
 use Rattle.tlv_walk.specs.WalkerState.{WalkerState}
 use Rattle.tlv_walk.proofs.WalkerLemmas.Waiting.{EventWaits, EventWaitsIn, quiet}
-use Rattle.tlv_walk.specs.Stack.{IsFilled, IsInIndefinite, bound_of}
+use Rattle.tlv_walk.specs.Stack.{IsInIndefinite, bound_of}
 use Rattle.tlv_walk.specs.Place.{IsWithin}
-use Rattle.tlv_walk.specs.Private.Stack.{room_to, room_in}
+use Rattle.tlv_walk.specs.Private.Stack.{IsFilled, room_in, room_to}
 use Rattle.tlv_walk.specs.Private.Zipper.{BitStringTail, NoTail, HasZipper, EndOctetsTail, Layer, Zipper, frames_of}
 use Rattle.tlv_walk.specs.Private.Zipper.{place_in, place_of}
 use Rattle.tlv_walk.specs.Private.Yields.{RefusesOctet}
 use Rattle.tlv_walk.proofs.WalkerLemmas.Entering.{lead_tail}
 use Rattle.tlv_walk.proofs.WalkerLemmas.Moves.{between_tail, lone_tail, phase_at, tail_state, with_tail}
 use Rattle.tlv_walk.proofs.WalkerLemmas.Places.{place-bound, walker-offset}
-use Rattle.tlv_walk.proofs.WalkerLemmas.ZipperEndings.{forest_of, state-fault}
+use Rattle.tlv_walk.proofs.WalkerLemmas.ZipperEndings.{tail_forest, state-fault}
 use Rattle.tlv_walk.proofs.WalkerLemmas.Zipper.{place-indefinite}
 
 -- if there is no room before the bound, an octet more passes it
@@ -53,7 +53,7 @@ refuses_front w piece f h r = subst (λ (o : List ℕ). RefusesOctet w o o f) (s
 -- an octet that has a fault in each state of a walker is refused
 pub refuses_here : (w : WalkerState) (x : ℕ) (rest : List ℕ) (code : FaultCode) → (EventWaits w → ⊥)
     → ((b : List ℕ) (yielded : List EventValue) (s : Zipper) → HasZipper w b yielded s
-    → (t : Zipper) × HasZipper w b yielded t × IsFault (place_of w.framing t) x (forest_of t.tail) code)
+    → (t : Zipper) × HasZipper w b yielded t × IsFault (place_of w.framing t) x (tail_forest t.tail) code)
     → RefusesOctet w (x ∷ rest) (x ∷ rest) (fault_at code w.offset)
 refuses_here w x rest code idle faulty = record {
   taken = [];

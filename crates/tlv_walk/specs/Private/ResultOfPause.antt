@@ -11,7 +11,7 @@ use Rattle.tlv_walk.specs.declared.one_turn.Pause.{Pause}
 use Rattle.tlv_walk.specs.declared.one_turn.Pause.TheVariants as pause
 use Rattle.tlv_walk.specs.Ending.{IsEnding}
 use Rattle.tlv_walk.specs.Events.{EventValue}
-use Rattle.tlv_walk.specs.WalkerState.{WalkerState, first_without_wrapper_in}
+use Rattle.tlv_walk.specs.WalkerState.{WalkerState, unused_of}
 use Rattle.tlv_walk.specs.Stands.{Stands}
 
 -- a run with this ending, and the counts of this walker
@@ -19,7 +19,7 @@ pub record IsRun (run : Run) (e : Ending) (is_enough : Bool) (v : WalkerState) :
   pub ending : run.ending ≡ e
   pub enough : run.enough ≡ is_enough
   pub octets : run.octets ≡ v.offset
-  pub unused : run.unused ≡ first_without_wrapper_in v
+  pub unused : run.unused ≡ unused_of v
 
 -- the run of a walker that is after the last octet of the input
 abbrev pub IsLastRun : Run → WalkerState → Type 0
