@@ -1,6 +1,6 @@
 pub mod AfterFirstZero
 pub mod Closing
-pub mod Entering
+pub mod AfterHeader
 pub mod EventOctets
 pub mod Finishing
 pub mod HasRead

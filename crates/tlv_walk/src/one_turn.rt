@@ -1,10 +1,11 @@
 //! One read of a source, followed.
-ghost use Rattle.std.specs.Prelude.{◌≡◌, [], ◌+◌, ◌<◌, ◌≤◌, IfOk, length};
+ghost use Rattle.std.specs.Prelude.{◌≡◌, [], ◌<◌, ◌≤◌, IfOk, length};
 ghost use Rattle.tlv_walk.specs.Follow.{HasEffect};
 ghost use Rattle.tlv_walk.specs.Private.ResultOfPause.{IsResultOfPause, IsRun};
 ghost use Rattle.tlv_walk.specs.Private.FollowsPiece.{FollowsAndFlushes, FollowsPart, FollowsPiece, follow_states};
 ghost use Rattle.tlv_walk.specs.Private.WalkerState.{CanPass};
 ghost use Rattle.tlv_walk.specs.Stands.{CanTake};
+ghost use Rattle.tlv_walk.specs.WalkerState.{IsWithinInputLimit};
 ghost use Rattle.tlv_io.specs.Out.{Puts, held_octets, drain_of};
 ghost use Rattle.tlv_walk.specs.Events.{event_value_of};
 ghost use Rattle.tlv_walk.specs.OneTurn.{FollowsOneRead, turn_states};
@@ -133,7 +134,7 @@ fn follow_and_flush<F: Follow, D: Drain>(
     piece: &[u8],
     out: &mut Out<'_, D>,
 ) -> Result<Pause, WriteFault>
-    requires limit { walker.old.offset + length piece.now ≤ input_limit }
+    requires limit { IsWithinInputLimit walker.old piece.now }
     requires empty { held_octets out.old ≡ [] }
     ensures { FollowsAndFlushes F.next D.state
         (follow_states walker.old follower.old out.old)
@@ -152,7 +153,7 @@ fn follow<F: Follow, D: Drain>(
     piece: &[u8],
     out: &mut Out<'_, D>,
 ) -> Result<Pause, WriteFault>
-    requires { walker.old.offset + length piece.now ≤ input_limit }
+    requires { IsWithinInputLimit walker.old piece.now }
     ensures { FollowsPiece F.next D.state
         (follow_states walker.old follower.old out.old)
         (follow_states walker.new follower.new out.new)
@@ -198,7 +199,7 @@ fn follow_primitive<F: Follow, D: Drain>(
     piece: &mut &[u8],
     out: &mut Out<'_, D>,
 ) -> Result<bool, WriteFault>
-    requires { walker.old.offset + length piece.old.now ≤ input_limit }
+    requires { IsWithinInputLimit walker.old piece.old.now }
     ensures { FollowsPart F.next D.state
         (follow_states walker.old follower.old out.old)
         (follow_states walker.new follower.new out.new)
@@ -226,7 +227,7 @@ fn follow_found<F: Follow, D: Drain>(
     out: &mut Out<'_, D>,
 ) -> Result<bool, WriteFault>
     requires can { CanPass walker.old piece.old.now primitive.now }
-    requires limit { walker.old.offset + length piece.old.now ≤ input_limit }
+    requires limit { IsWithinInputLimit walker.old piece.old.now }
     ensures { FollowsPart F.next D.state
         (follow_states walker.old follower.old out.old)
         (follow_states walker.new follower.new out.new)

@@ -26,8 +26,8 @@ use Rattle.tlv_walk.specs.Private.Yields.{Continues}
 use Rattle.tlv_head.specs.ReadHeader.{BeginsWithFields}
 use Rattle.tlv_head.specs.Refusal.{BeginsWith}
 use Rattle.tlv_walk.specs.Private.Zipper.{NoTail, HasZipper, PrimitiveTail, Zipper, frame_at, place_of}
-use Rattle.tlv_walk.proofs.WalkerLemmas.Entering.{AtHeader, Completed, at_new, holding_state, lead_state}
-use Rattle.tlv_walk.proofs.WalkerLemmas.Entering.{primitive_state}
+use Rattle.tlv_walk.proofs.WalkerLemmas.AfterHeader.{AtHeader, Completed, at_new, holding_state, lead_state}
+use Rattle.tlv_walk.proofs.WalkerLemmas.AfterHeader.{primitive_state}
 use Rattle.tlv_walk.proofs.WalkerLemmas.Moves.{with_tail}
 use Rattle.tlv_walk.proofs.WalkerLemmas.Places.{place-bound}
 use Rattle.tlv_walk.proofs.GrammarLemmas.Push.{size-definite}

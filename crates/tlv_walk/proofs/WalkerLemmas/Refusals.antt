@@ -19,7 +19,7 @@ use Rattle.tlv_walk.specs.Private.Stack.{IsFilled, room_in, room_to}
 use Rattle.tlv_walk.specs.Private.Zipper.{BitStringTail, NoTail, HasZipper, EndOctetsTail, Layer, Zipper, frames_of}
 use Rattle.tlv_walk.specs.Private.Zipper.{place_in, place_of}
 use Rattle.tlv_walk.specs.Private.Yields.{RefusesOctet}
-use Rattle.tlv_walk.proofs.WalkerLemmas.Entering.{lead_tail}
+use Rattle.tlv_walk.proofs.WalkerLemmas.AfterHeader.{lead_tail}
 use Rattle.tlv_walk.proofs.WalkerLemmas.Moves.{between_tail, lone_tail, phase_at, tail_state, with_tail}
 use Rattle.tlv_walk.proofs.WalkerLemmas.Places.{place-bound, walker-offset}
 use Rattle.tlv_walk.proofs.WalkerLemmas.ZipperEndings.{tail_forest, state-fault}

@@ -125,11 +125,12 @@ events_of_tail EndOctetsTail = []
 abbrev pub events_of_zipper : Zipper → List EventValue
 events_of_zipper s = events_of_layers s.layers ++ (events s.here ++ events_of_tail s.tail)
 
--- whether an octet of an element came: before what is open after the whole elements, and of all
+-- whether an octet of an element came: in the layers and in the whole elements
 abbrev pub layers_have_element : List Layer → Forest → Bool
 layers_have_element [] here = has_element here
 layers_have_element (l ∷ ls) here = true
 
+-- and in all of the zipper
 abbrev pub zipper_has_element : List Layer → Forest → Tail → Bool
 zipper_has_element layers here NoTail = layers_have_element layers here
 zipper_has_element layers here (PrimitiveTail h c) = true
