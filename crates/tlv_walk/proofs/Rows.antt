@@ -1,5 +1,5 @@
 -- The definitions on short inputs.
-use Rattle.std.proofs.Common.{◌≡◌, true, false, [], ◌∷◌, Some, refl}
+use Rattle.std.proofs.Common.{◌≡◌, false, [], ◌∷◌, Some, refl}
 use Rattle.tlv_head.specs.declared.fault.FaultCode.TheVariants.{Empty, Short, StrayEnd, BadEnd, MissingEnd}
 use Rattle.tlv_head.specs.declared.fault.FaultCode.TheVariants.{ReservedLength, IndefinitePrimitive, LengthTooLarge}
 use Rattle.tlv_head.specs.declared.fault.FaultCode.TheVariants.{Overrun, BadInside}

@@ -1,5 +1,5 @@
 -- Bounds and lengths as tests, and what they say of an element's contents.
-use Rattle.std.proofs.Common.{◌≡◌, inl, inr, ℕ, ◌+◌, ◌≤◌, Bool, true, false, not, ◌||◌, eqb, leb, if◌then◌else◌, List}
+use Rattle.std.proofs.Common.{◌≡◌, inl, inr, ℕ, ◌+◌, ◌≤◌, Bool, true, false, not, ◌||◌, eqb, leb, List}
 use Rattle.std.proofs.Common.{[], ◌∷◌, length, Option, Some, None, IfSome, refl, arith, eq-eqb, ne_eqb, eqb-true}
 use Rattle.std.proofs.Common.{le-leb, leb-true}
 use Rattle.std.proofs.lemmas.Bool.{cases_Bool, eqb-false, not-true}
