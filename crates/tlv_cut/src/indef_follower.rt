@@ -1,7 +1,7 @@
 //! The follower of `indef`: it writes indefinite lengths.
 ghost use Rattle.std.specs.Prelude.{◌≡◌};
 ghost use Rattle.tlv_io.specs.Out.{Puts};
-ghost use Rattle.tlv_walk.specs.HasRead.{event_value_of};
+ghost use Rattle.tlv_walk.specs.Events.{event_value_of};
 ghost use Rattle.tlv_cut.specs.IndefStep.{indef_event_text, new_indef};
 
 use std::marker::Model;

@@ -14,6 +14,7 @@ use Rattle.tlv_show.specs.declared.options.Options.{Options}
 use Rattle.tlv_show.specs.declared.rules.Rules.{Rules}
 use Rattle.tlv_value.specs.Names.{NamesTable}
 use Rattle.tlv_value.specs.Value.{NameOf, no_names}
+use Rattle.tlv_walk.specs.Framing.{plain_framing}
 use Rattle.tlv_walk.proofs.GrammarLemmas.Readings.{reading}
 use Rattle.tlv_walk.specs.Ending.{fault_ending}
 use Rattle.tlv_walk.specs.declared.ending.Ending.TheVariants.{Done}
@@ -41,7 +42,7 @@ octets text = octets_in (codes text)
 -- ---- commands
 
 abbrev pub plain : Framing
-plain = record { inside = []; padding = false }
+plain = plain_framing
 
 -- what the strings at these offsets hold is read as encodings; whether octets 00 may stand between encodings
 abbrev pub framed : List ℕ → Bool → Framing

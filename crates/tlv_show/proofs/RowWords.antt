@@ -4,17 +4,18 @@ use Rattle.std.specs.Prelude.{flat_map}
 use Rattle.tlv_value.specs.declared.layout.Layout.{Layout}
 use Rattle.tlv_value.specs.Value.{no_names}
 use Rattle.tlv_walk.specs.declared.framing.Framing.{Framing}
-use Rattle.tlv_walk.proofs.GrammarLemmas.Readings.{reading}
+use Rattle.tlv_walk.specs.Framing.{plain_framing}
+use Rattle.tlv_walk.proofs.GrammarLemmas.Readings.{padding_framing, reading}
 use Rattle.tlv_show.specs.CheckJob.{check_job}
 use Rattle.tlv_show.specs.ShowJob.{show_job}
 use Rattle.tlv_show.specs.declared.rules.Rules.{Rules}
 use Rattle.tlv_show.specs.Texts.{finding_count, item_text}
 
 abbrev pub plain : Framing
-plain = record { inside = []; padding = false }
+plain = plain_framing
 
 abbrev pub padded : Framing
-padded = record { inside = []; padding = true }
+padded = padding_framing
 
 abbrev pub naming : ℕ → Framing
 naming n = record { inside = n ∷ []; padding = false }

@@ -3,7 +3,7 @@
 use Rattle.std.specs.Prelude.{ℕ, if◌then◌else◌, List, [], ◌∷◌, ◌++◌, map, None, Option, slice_get}
 use Rattle.tlv_head.specs.Header.{HeaderValue}
 use Rattle.tlv_value.specs.declared.finding.Finding.{Finding}
-use Rattle.tlv_walk.specs.Events.{end_place}
+use Rattle.tlv_walk.specs.Events.{end_octets_offset}
 use Rattle.tlv_walk.specs.Forest.{Forest, PaddingOctet, Primitive, Holder, OpenPrimitive, OpenHolder}
 use Rattle.tlv_walk.specs.Forest.{OpenBitString, extent, primitive_extent}
 use Rattle.tlv_show.specs.declared.rules.Rules.{Rules}
@@ -50,7 +50,7 @@ module _ (rules : Rules) where
   items s (Holder h children rest) =
       finding_items s h (header_findings rules (surroundings_of s) h)
       ++ (OpeningLine s.level h ∷ items (site_of_children s h) children
-      ++ (ClosingLine s.level (if h.constructed then end_place h children else None)
+      ++ (ClosingLine s.level (if h.constructed then end_octets_offset h children else None)
       ∷ finding_items s h (end_findings rules (segments_of h (headers children)))
       ++ items (later_site s (extent h children) (Sibling h None)) rest))
   items s (OpenPrimitive h c) =

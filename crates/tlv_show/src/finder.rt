@@ -1,7 +1,7 @@
 //! What is found in elements, event by event.
 ghost use Rattle.std.specs.Prelude.{◌≡◌, length};
 ghost use Rattle.tlv_head.specs.Header.{announced_length};
-ghost use Rattle.tlv_walk.specs.HasRead.{event_value_of};
+ghost use Rattle.tlv_walk.specs.Events.{event_value_of};
 ghost use Rattle.tlv_show.specs.FinderState.{finder_in_primitive, finder_begin_step, finder_bytes_step};
 ghost use Rattle.tlv_show.specs.FinderState.{finder_close_step, finder_end_step, finder_open_step};
 ghost use Rattle.tlv_show.specs.FinderState.{header_findings_in, with_findings, without_findings};

@@ -1,41 +1,35 @@
 -- The definitions on short inputs.
-use Rattle.std.proofs.Common.{◌≡◌, true, false, [], ◌∷◌, Some, refl}
+use Rattle.std.proofs.Common.{◌≡◌, false, [], ◌∷◌, Some, refl}
 use Rattle.tlv_head.specs.declared.fault.FaultCode.TheVariants.{Empty, Short, StrayEnd, BadEnd, MissingEnd}
 use Rattle.tlv_head.specs.declared.fault.FaultCode.TheVariants.{ReservedLength, IndefinitePrimitive, LengthTooLarge}
 use Rattle.tlv_head.specs.declared.fault.FaultCode.TheVariants.{Overrun, BadInside}
 use Rattle.tlv_walk.specs.declared.ending.Ending.TheVariants.{Done}
 use Rattle.tlv_walk.specs.declared.framing.Framing.{Framing}
+use Rattle.tlv_walk.specs.Framing.{plain_framing}
 use Rattle.tlv_walk.specs.Ending.{fault_ending}
 use Rattle.tlv_walk.specs.Wrappers.{first_without_wrapper, wrapper_offsets}
-use Rattle.tlv_walk.proofs.GrammarLemmas.Readings.{reading}
+use Rattle.tlv_walk.proofs.GrammarLemmas.Readings.{reading, padding_framing}
 use Rattle.tlv_walk.proofs.GrammarLemmas.Endings.{ending}
-
--- neither padding nor a string that is to be read
-abbrev plain : Framing
-plain = record { inside = []; padding = false }
-
-abbrev padded : Framing
-padded = record { inside = []; padding = true }
 
 abbrev wrapping : Framing
 wrapping = record { inside = 0 ∷ 5 ∷ []; padding = false }
 
-nothing : ending plain [] ≡ fault_ending Empty 0
+nothing : ending plain_framing [] ≡ fault_ending Empty 0
 nothing = refl
 
-only-padding : ending padded (0 ∷ 0 ∷ []) ≡ fault_ending Empty 2
+only-padding : ending padding_framing (0 ∷ 0 ∷ []) ≡ fault_ending Empty 2
 only-padding = refl
 
-stray-zero : ending plain (0 ∷ []) ≡ fault_ending StrayEnd 0
+stray-zero : ending plain_framing (0 ∷ []) ≡ fault_ending StrayEnd 0
 stray-zero = refl
 
-empty-sequence : ending plain (48 ∷ 0 ∷ []) ≡ Done
+empty-sequence : ending plain_framing (48 ∷ 0 ∷ []) ≡ Done
 empty-sequence = refl
 
-empty-indefinite : ending plain (48 ∷ 128 ∷ 0 ∷ 0 ∷ []) ≡ Done
+empty-indefinite : ending plain_framing (48 ∷ 128 ∷ 0 ∷ 0 ∷ []) ≡ Done
 empty-indefinite = refl
 
-padded-sequence : ending padded (0 ∷ 48 ∷ 0 ∷ 0 ∷ 0 ∷ []) ≡ Done
+padded-sequence : ending padding_framing (0 ∷ 48 ∷ 0 ∷ 0 ∷ 0 ∷ []) ≡ Done
 padded-sequence = refl
 
 wrapped-octets : ending wrapping (4 ∷ 2 ∷ 5 ∷ 0 ∷ []) ≡ Done
@@ -68,25 +62,25 @@ past-wrapper = refl
 zero-in-wrapper : ending wrapping (4 ∷ 1 ∷ 0 ∷ []) ≡ fault_ending StrayEnd 2
 zero-in-wrapper = refl
 
-zero-in-sequence : ending padded (48 ∷ 2 ∷ 0 ∷ 0 ∷ []) ≡ fault_ending StrayEnd 2
+zero-in-sequence : ending padding_framing (48 ∷ 2 ∷ 0 ∷ 0 ∷ []) ≡ fault_ending StrayEnd 2
 zero-in-sequence = refl
 
-bad-end : ending plain (48 ∷ 128 ∷ 0 ∷ 1 ∷ []) ≡ fault_ending BadEnd 3
+bad-end : ending plain_framing (48 ∷ 128 ∷ 0 ∷ 1 ∷ []) ≡ fault_ending BadEnd 3
 bad-end = refl
 
-missing-end : ending plain (48 ∷ 3 ∷ 48 ∷ 128 ∷ 0 ∷ 0 ∷ []) ≡ fault_ending MissingEnd 5
+missing-end : ending plain_framing (48 ∷ 3 ∷ 48 ∷ 128 ∷ 0 ∷ 0 ∷ []) ≡ fault_ending MissingEnd 5
 missing-end = refl
 
-identifier-cut-off : ending plain (255 ∷ []) ≡ fault_ending Short 1
+identifier-cut-off : ending plain_framing (255 ∷ []) ≡ fault_ending Short 1
 identifier-cut-off = refl
 
-reserved-length : ending plain (4 ∷ 255 ∷ []) ≡ fault_ending ReservedLength 1
+reserved-length : ending plain_framing (4 ∷ 255 ∷ []) ≡ fault_ending ReservedLength 1
 reserved-length = refl
 
-indefinite-primitive : ending plain (4 ∷ 128 ∷ []) ≡ fault_ending IndefinitePrimitive 1
+indefinite-primitive : ending plain_framing (4 ∷ 128 ∷ []) ≡ fault_ending IndefinitePrimitive 1
 indefinite-primitive = refl
 
-length-too-large : ending plain (4 ∷ 134 ∷ 1 ∷ []) ≡ fault_ending LengthTooLarge 2
+length-too-large : ending plain_framing (4 ∷ 134 ∷ 1 ∷ []) ≡ fault_ending LengthTooLarge 2
 length-too-large = refl
 
 past-sequence : ending wrapping (48 ∷ 5 ∷ 4 ∷ 0 ∷ 5 ∷ 3 ∷ 0 ∷ []) ≡ fault_ending Overrun 5

@@ -6,9 +6,9 @@ use Rattle.std.proofs.lemmas.Bool.{false_from_ne_true}
 use Rattle.tlv_walk.specs.declared.stack.Frame.{Frame}
 use Rattle.tlv_walk.specs.declared.stack.FrameKind.{FrameKind}
 use Rattle.tlv_walk.specs.declared.stack.FrameKind.TheVariants.{Input, Definite, Indefinite, Wrapper}
-use Rattle.tlv_walk.specs.Stack.{FrameValue, IsFilled, IsInIndefinite, IsInWrapper, bound_of}
+use Rattle.tlv_walk.specs.Stack.{FrameValue, IsInIndefinite, IsInWrapper, bound_of}
 use Rattle.tlv_walk.specs.Place.{IsWithin}
-use Rattle.tlv_walk.specs.Private.Stack.{frame_inside}
+use Rattle.tlv_walk.specs.Private.Stack.{IsFilled, frame_inside}
 use Rattle.tlv_walk.specs.Private.FrameFields.{AreHolders, HasEnd, bound_from, end_from, frames_from, wraps_from}
 
 -- one frame more

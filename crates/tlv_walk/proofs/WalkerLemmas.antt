@@ -1,6 +1,6 @@
 pub mod AfterFirstZero
 pub mod Closing
-pub mod Entering
+pub mod AfterHeader
 pub mod EventOctets
 pub mod Finishing
 pub mod HasRead
@@ -8,7 +8,7 @@ pub mod HeaderKinds
 pub mod HeaderRefusals
 pub mod HeaderSteps
 pub mod Moves
-pub mod OpenCounts
+pub mod Depths
 pub mod Padding
 pub mod Passing
 pub mod Places

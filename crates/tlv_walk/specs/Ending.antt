@@ -36,7 +36,7 @@ pub data IsFault (x : ℕ) : OpenEnd → FaultCode → Type 0 where
   -- 8.1.5: the second 00 is missing at the bound, or is another octet
   missing_end : {p : Place} → (Fits p 2 → ⊥) → IsFault x (open_end p OpenEndOctets) MissingEnd
   bad_end : {p : Place} → Fits p 2 → x ≢ 0 → IsFault x (open_end p OpenEndOctets) BadEnd
-  -- 8.1.3.3: the header passes the bound
+  -- 8.1.3.3: the header does not end within the bound
   no_room : {p : Place} {o : List ℕ} → (Fits p (length o + 1) → ⊥) → IsFault x (open_end p (OpenHeader o)) Overrun
   -- F06 to F09: no header goes on with that octet
   refused_octet : {p : Place} {o : List ℕ} {code : FaultCode} → Fits p (length o + 1) → IsRefusedOctet o x code

@@ -1,8 +1,10 @@
 -- What a walk over elements yields, in order.
-use Rattle.std.specs.Prelude.{◌≡◌, ℕ, ◌+◌, if◌then◌else◌, List, [], ◌∷◌, ◌++◌, length, map, Option, Some, None}
+use Rattle.std.specs.Prelude.{◌≡◌, ◌≢◌, ℕ, ◌+◌, if◌then◌else◌, List, [], ◌∷◌, ◌++◌, length, map, Option, Some, None}
 use Rattle.tlv_head.specs.declared.header.Size.{Size}
 use Rattle.tlv_head.specs.declared.header.Size.TheVariants.{Definite, Indefinite}
 use Rattle.tlv_head.specs.Header.{HeaderValue, octets_of}
+use Rattle.tlv_walk.specs.declared.event.Event.{Event}
+use Rattle.tlv_walk.specs.declared.event.Event.TheVariants as event
 use Rattle.tlv_walk.specs.Forest.{Forest, NoMore, PaddingOctet, Primitive, Holder, OpenPrimitive, OpenHolder}
 use Rattle.tlv_walk.specs.Forest.{OpenBitString, OpenHeader, OpenEndOctets, lead, opening, spelling}
 
@@ -34,22 +36,50 @@ event_octets Unused = 0 ∷ []
 event_octets (Close (Some offset)) = 0 ∷ 0 ∷ []
 event_octets e = []
 
+-- an event, apart from where its octets lie in memory
+abbrev pub event_value_of : Event → EventValue
+event_value_of (event.Open h) = Open h
+event_value_of (event.Begin h) = Begin h
+event_value_of (event.Bytes octets) = Bytes octets.now
+event_value_of event.End = End
+event_value_of (event.Close offset) = Close offset
+event_value_of (event.Enter h) = Enter h
+event_value_of event.Unused = Unused
+event_value_of event.Leave = Leave
+event_value_of (event.Pad octets) = Pad octets.now
+
+-- an event that is a part of contents or of padding has octets
+abbrev pub IsNoEmptyPart : Event → Type 0
+IsNoEmptyPart (event.Open h) = Unit {0}
+IsNoEmptyPart (event.Begin h) = Unit {0}
+IsNoEmptyPart (event.Bytes octets) = octets.now ≢ []
+IsNoEmptyPart event.End = Unit {0}
+IsNoEmptyPart (event.Close offset) = Unit {0}
+IsNoEmptyPart (event.Enter h) = Unit {0}
+IsNoEmptyPart event.Unused = Unit {0}
+IsNoEmptyPart event.Leave = Unit {0}
+IsNoEmptyPart (event.Pad octets) = octets.now ≢ []
+
 -- 8.1.5: the offset of the end-of-contents octets, if there are any
 abbrev pub end_offset : Size → ℕ → Option ℕ
 end_offset (Definite n) offset = None
 end_offset Indefinite offset = Some offset
 
 -- 8.1.5: where the end-of-contents octets are of an element that holds others, if it has them
-abbrev pub end_place : HeaderValue → Forest → Option ℕ
-end_place h children = end_offset h.size (h.offset + length (opening h) + length (spelling children))
+abbrev pub end_octets_offset : HeaderValue → Forest → Option ℕ
+end_octets_offset h children = end_offset h.size (h.offset + length (opening h) + length (spelling children))
 
--- an element that holds others begins
+-- an element that holds others begins: it is constructed, or a wrapper
+abbrev pub opening_event : HeaderValue → EventValue
+opening_event h = if h.constructed then Open h else Enter h
+
+-- and gives the first contents octet, if it is a wrapping BIT STRING
 abbrev pub opening_events : HeaderValue → List EventValue
-opening_events h = (if h.constructed then Open h else Enter h) ∷ map (λ z. Unused) (lead h)
+opening_events h = opening_event h ∷ map (λ z. Unused) (lead h)
 
 -- an element that holds others ends
 abbrev pub closing_event : HeaderValue → Forest → EventValue
-closing_event h children = if h.constructed then Close (end_place h children) else Leave
+closing_event h children = if h.constructed then Close (end_octets_offset h children) else Leave
 
 -- an open forest read off in order
 abbrev pub events : Forest → List EventValue

@@ -27,8 +27,11 @@ pub data Forest : Type 0 where
   OpenEndOctets : Forest
 
 -- 8.6.2.2: the contents octets of a wrapper before what it holds: in a BIT STRING 00, no bit unused
+abbrev pub lead_by : Bool → Bool → List ℕ
+lead_by constructed bit_string = if constructed then [] else (if bit_string then 0 ∷ [] else [])
+
 abbrev pub lead : HeaderValue → List ℕ
-lead h = if h.constructed then [] else (if eqb h.number universal.bit_string then 0 ∷ [] else [])
+lead h = lead_by h.constructed (eqb h.number universal.bit_string)
 
 -- 8.1.1.1: what comes before the elements that an element holds
 abbrev pub opening : HeaderValue → List ℕ

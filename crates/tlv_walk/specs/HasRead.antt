@@ -3,30 +3,15 @@ use Rattle.std.specs.Prelude.{◌≡◌, ℕ, List, [], ◌∷◌, ◌++◌, len
 use Rattle.tlv_head.specs.declared.fault.Fault.{Fault}
 use Rattle.tlv_walk.specs.declared.ending.Ending.TheVariants as ending
 use Rattle.tlv_walk.specs.declared.framing.Framing.{Framing}
-use Rattle.tlv_walk.specs.declared.event.Event.{Event}
-use Rattle.tlv_walk.specs.declared.event.Event.TheVariants as event
 use Rattle.tlv_walk.specs.Phase.{Refused}
 use Rattle.tlv_walk.specs.Ending.{IsEnding}
-use Rattle.tlv_walk.specs.Events.{AreEqualJoined, Begin, Bytes, Close, End, Enter, EventValue, Leave, Open}
-use Rattle.tlv_walk.specs.Events.{Pad, Unused, events}
-use Rattle.tlv_walk.specs.WalkerState.{WalkerState, first_without_wrapper_in}
-use Rattle.tlv_walk.specs.OpenCount.{open_count}
+use Rattle.tlv_walk.specs.Events.{AreEqualJoined, EventValue, events}
+use Rattle.tlv_walk.specs.WalkerState.{WalkerState, unused_of}
+use Rattle.tlv_walk.specs.Depth.{depth_of}
 use Rattle.tlv_walk.specs.Stands.{IsIdle, Stands}
 use Rattle.tlv_walk.specs.Forest.{Forest, spelling}
 use Rattle.tlv_walk.specs.Reading.{CannotBecomeSound, IsReading}
 use Rattle.tlv_walk.specs.Wrappers.{first_without_wrapper}
-
--- an event, apart from where its octets lie in memory
-abbrev pub event_value_of : Event → EventValue
-event_value_of (event.Open h) = Open h
-event_value_of (event.Begin h) = Begin h
-event_value_of (event.Bytes octets) = Bytes octets.now
-event_value_of event.End = End
-event_value_of (event.Close offset) = Close offset
-event_value_of (event.Enter h) = Enter h
-event_value_of event.Unused = Unused
-event_value_of event.Leave = Leave
-event_value_of (event.Pad octets) = Pad octets.now
 
 -- after p the octet is refused: the events yielded are those of the reading, which spells p, and reading and
 -- ending are the same whatever follows that octet. No false alarm: no input that begins so is a sound list
@@ -47,8 +32,8 @@ pub record StandsRefused (w : WalkerState) (b : List ℕ) (octet : ℕ) (yielded
   pub refused : IsRefusedAfter w.framing b octet yielded f
   pub phase : w.phase ≡ Refused f
   pub offset : w.offset ≡ length b
-  pub depth : length w.stack ≡ open_count refused.reading
-  pub unused : first_without_wrapper_in w ≡ first_without_wrapper w.framing.inside refused.reading
+  pub depth : length w.stack ≡ depth_of refused.reading
+  pub unused : unused_of w ≡ first_without_wrapper w.framing.inside refused.reading
 
 -- what a walker has read: the octets that it took, and their reading. Once it refused an octet, these are the octets
 -- before that one

@@ -1,4 +1,5 @@
 pub mod Inside
+pub mod Framing
 pub mod Follow
 pub mod Forest
 pub mod Place
@@ -15,7 +16,7 @@ pub mod Laws
 pub mod Stands
 pub mod HasRead
 pub mod StepsTo
-pub mod OpenCount
+pub mod Depth
 pub mod FollowsEvents
 pub mod OneTurn
 pub mod Job

@@ -16,3 +16,13 @@ pub data PhaseValue : Type 0 where
   InEndOctets : PhaseValue
   -- nothing: an octet was refused
   Refused : (fault : Fault) → PhaseValue
+
+-- a phase in which each octet taken belongs to an event that was yielded: no header has begun, no end-of-contents
+-- octets, and no octet was refused
+abbrev pub IsAfterEvent : PhaseValue → Type 0
+IsAfterEvent Between = Unit {0}
+IsAfterEvent (InHeader r) = ⊥
+IsAfterEvent (InPrimitive left) = Unit {0}
+IsAfterEvent InBitString = Unit {0}
+IsAfterEvent InEndOctets = ⊥
+IsAfterEvent (Refused fault) = ⊥

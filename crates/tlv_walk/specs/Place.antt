@@ -65,7 +65,7 @@ place_of_children p h = record p {
 abbrev pub IsWithin : Option ℕ → ℕ → Type 0
 IsWithin bound offset = IfSome bound (λ b. offset ≤ b)
 
--- n octets from there on do not pass the bound
+-- n octets from there on end within the bound
 abbrev pub Fits : Place → ℕ → Type 0
 Fits p n = IsWithin p.bound (p.offset + n)
 
@@ -76,15 +76,15 @@ pub record IsHeaderAt (p : Place) (holding : Bool) (h : HeaderValue) : Type 0 wh
   pub named : h.named ≡ is_among p.offset p.inside
   pub form : holds h ≡ holding
 
--- 8.1.4: an element is there, in at most 127 others if it holds others, and n octets of it do not pass the bound
+-- 8.1.4: an element is there, in at most 127 others if it holds others, and n octets of it end within the bound
 pub record IsElementAt (p : Place) (holding : Bool) (h : HeaderValue) (n : ℕ) : Type 0 where
   pub header : IsHeaderAt p holding h
   pub shallow : holding ≡ true → p.depth < 128
   pub fits : Fits p n
 
 -- 8.1.3.3: the same of its header and all the contents octets that are announced
-abbrev pub IsEntry : Place → Bool → HeaderValue → Type 0
-IsEntry p holding h = IsElementAt p holding h (length (octets_of h) + announced_length h.size)
+abbrev pub IsAnnouncedAt : Place → Bool → HeaderValue → Type 0
+IsAnnouncedAt p holding h = IsElementAt p holding h (length (octets_of h) + announced_length h.size)
 
 -- an open forest: each element in it keeps the rules, and no octet and no announced end lies beyond the bound
 abbrev pub IsOpen : Place → Forest → Type 0
@@ -101,15 +101,15 @@ IsOpen p (Holder h children rest) =
     × IfSome (definite_length h.size) (λ n. contents_length h children ≡ n))
     × IsOpen (place_of_children p h) children × IsOpen (place_after p (extent h children)) rest
 -- 8.1.4: a primitive that lacks contents octets
-IsOpen p (OpenPrimitive h c) = IsEntry p false h × (length c < announced_length h.size)
+IsOpen p (OpenPrimitive h c) = IsAnnouncedAt p false h × (length c < announced_length h.size)
 -- 8.1.4: an element that holds others and has not ended: if what it holds is whole, and the length is
 -- definite, contents octets are lacking
 IsOpen p (OpenHolder h children) =
-    (IsEntry p true h
+    (IsAnnouncedAt p true h
     × (is_whole children ≡ true → IfSome (definite_length h.size) (λ n. contents_length h children < n)))
     × IsOpen (place_of_children p h) children
 -- 8.6.2.2: a wrapping BIT STRING of which the header alone is there
-IsOpen p (OpenBitString h) = IsEntry p true h × (lead h ≡ 0 ∷ [])
+IsOpen p (OpenBitString h) = IsAnnouncedAt p true h × (lead h ≡ 0 ∷ [])
 -- a prefix of a header, or the first of the end-of-contents octets, inside the bound
 IsOpen p (OpenHeader octets) = (octets ≢ []) × IsHeaderPrefix octets × Fits p (length octets)
 IsOpen p OpenEndOctets = (p.indefinite ≡ true) × Fits p 1

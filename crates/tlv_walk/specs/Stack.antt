@@ -8,7 +8,7 @@ pub record FrameValue : Type 0 where
   pub end : Option ℕ
   -- the end of the innermost definite element: of this one, or of the nearest around it
   pub bound : Option ℕ
-  -- it is a string that wraps encodings
+  -- it is a wrapper: a string that holds encodings
   pub wrapper : Bool
 
 -- the end of the innermost definite element
@@ -21,15 +21,10 @@ abbrev pub IsInIndefinite : List FrameValue → Type 0
 IsInIndefinite [] = ⊥
 IsInIndefinite (f ∷ fs) = f.end ≡ None
 
--- the innermost element wraps encodings
+-- the innermost element is a wrapper
 abbrev pub IsInWrapper : List FrameValue → Type 0
 IsInWrapper [] = ⊥
 IsInWrapper (f ∷ fs) = f.wrapper ≡ true
-
--- the innermost element is definite, and its contents end at the offset
-abbrev pub IsFilled : List FrameValue → ℕ → Type 0
-IsFilled [] offset = ⊥
-IsFilled (f ∷ fs) offset = f.end ≡ Some offset
 
 -- an element's bound is where it ends, within the bound around it, or else that bound
 abbrev pub HasBoundIn : Option ℕ → FrameValue → Type 0

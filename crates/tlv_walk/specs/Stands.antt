@@ -11,8 +11,8 @@ use Rattle.tlv_walk.specs.Private.Zipper.{HasPrivateState}
 use Rattle.tlv_walk.specs.Reading.{IsReading}
 
 -- 8.1.5: the event with which a definite element ends once it is filled, by its frame
-abbrev pub filled_end : FrameValue → EventValue
-filled_end f = if f.wrapper then Leave else Close None
+abbrev pub filled_end_event : FrameValue → EventValue
+filled_end_event f = if f.wrapper then Leave else Close None
 
 -- whether the end of an element is at the offset; if its length is indefinite, it has none
 abbrev pub is_end_at : Option ℕ → ℕ → Bool
@@ -20,15 +20,17 @@ is_end_at None offset = false
 is_end_at (Some e) offset = eqb e offset
 
 -- the events with which those elements end that are filled at the offset, innermost first
-abbrev pub filled_ends : ℕ → List FrameValue → List EventValue
-filled_ends offset [] = []
-filled_ends offset (f ∷ fs) = if is_end_at f.end offset then filled_end f ∷ filled_ends offset fs else []
+abbrev pub filled_end_events : ℕ → List FrameValue → List EventValue
+filled_end_events offset [] = []
+filled_end_events offset (f ∷ fs) =
+    if is_end_at f.end offset then filled_end_event f ∷ filled_end_events offset fs else []
 
 -- the events that need no further octet
 abbrev pub waiting_events_in : PhaseValue → List FrameValue → ℕ → List EventValue
-waiting_events_in phase.Between stack offset = filled_ends offset stack
+waiting_events_in phase.Between stack offset = filled_end_events offset stack
 waiting_events_in (phase.InHeader r) stack offset = []
-waiting_events_in (phase.InPrimitive left) stack offset = if eqb left 0 then End ∷ filled_ends offset stack else []
+waiting_events_in (phase.InPrimitive left) stack offset =
+    if eqb left 0 then End ∷ filled_end_events offset stack else []
 waiting_events_in phase.InBitString stack offset = []
 waiting_events_in phase.InEndOctets stack offset = []
 waiting_events_in (phase.Refused fault) stack offset = []
@@ -36,7 +38,7 @@ waiting_events_in (phase.Refused fault) stack offset = []
 abbrev pub waiting_events : WalkerState → List EventValue
 waiting_events w = waiting_events_in w.phase w.stack w.offset
 
--- no event waits: none is to come that needs no further octet
+-- no event waits: each that is still to come needs another octet
 abbrev pub IsIdle : WalkerState → Type 0
 IsIdle w = waiting_events w ≡ []
 

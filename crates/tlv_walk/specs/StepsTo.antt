@@ -1,14 +1,14 @@
 -- What one step of a walker comes to.
-use Rattle.std.specs.Prelude.{◌≡◌, ◌⊎◌, ℕ, ◌+◌, ◌≤◌, List, [], ◌∷◌, ◌++◌, length}
+use Rattle.std.specs.Prelude.{◌≡◌, ◌⊎◌, ℕ, ◌+◌, List, [], ◌∷◌, ◌++◌, length}
 use Rattle.tlv_head.specs.declared.fault.Fault.{Fault}
 use Rattle.tlv_walk.specs.declared.event.Event.{Event}
 use Rattle.tlv_walk.specs.declared.event.Step.{Step}
 use Rattle.tlv_walk.specs.declared.event.Step.TheVariants as step
 use Rattle.tlv_walk.specs.Phase.{Refused}
-use Rattle.tlv_walk.specs.Events.{EventValue}
-use Rattle.tlv_walk.specs.WalkerState.{HasNotRefused, HasOctets, IsAfterEvent, WalkerState}
+use Rattle.tlv_walk.specs.Events.{EventValue, IsNoEmptyPart, event_value_of}
+use Rattle.tlv_walk.specs.WalkerState.{HasNotRefused, HasYieldedEvent, WalkerState}
 use Rattle.tlv_walk.specs.Stands.{CanTake, Stands}
-use Rattle.tlv_walk.specs.HasRead.{StandsRefused, event_value_of}
+use Rattle.tlv_walk.specs.HasRead.{StandsRefused}
 
 -- a walker that had refused no octet took octets with which a piece begins, or none, and yielded these events
 pub record TakesOctets (old new : WalkerState) (piece rest : List ℕ) (more : List EventValue) : Type 0 where
@@ -19,15 +19,14 @@ pub record TakesOctets (old new : WalkerState) (piece rest : List ℕ) (more : L
   pub offset : new.offset ≡ old.offset + length taken
   pub events : new.events ≡ old.events + length more
 
--- one event: the walker stands for the octets taken and for that event more
+-- one event: the walker stands for the octets taken and for one event more
 pub record YieldsNext (old new : WalkerState) (piece rest : List ℕ) (e : Event) : Type 0 where
   pub takes : TakesOctets old new piece rest (event_value_of e ∷ [])
   pub stands : (b : List ℕ) (yielded : List EventValue) → Stands old b yielded
       → Stands new (b ++ takes.taken) (yielded ++ event_value_of e ∷ [])
   -- parts of contents and of padding are not empty
-  pub has_octets : HasOctets e
-  pub fewer : new.events ≤ new.offset
-  pub phase : IsAfterEvent new.phase
+  pub has_octets : IsNoEmptyPart e
+  pub has_yielded : HasYieldedEvent new
 
 -- no event, and none is to come before the next octet, which can be taken: all octets of the piece were taken
 pub record UsesUpPiece (old new : WalkerState) (piece rest : List ℕ) : Type 0 where

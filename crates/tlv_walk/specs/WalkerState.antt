@@ -2,10 +2,9 @@
 use Rattle.std.specs.Prelude.{◌≡◌, ◌≢◌, ℕ, ◌+◌, ◌≤◌, Bool, false, slice_get, List, [], length, Option}
 use Rattle.tlv_head.specs.declared.fault.Fault.{Fault}
 use Rattle.tlv_head.specs.HeadReaderState.{HeadReaderState}
-use Rattle.tlv_walk.specs.declared.event.Event.{Event}
-use Rattle.tlv_walk.specs.declared.event.Event.TheVariants as event
 use Rattle.tlv_walk.specs.declared.framing.Framing.{Framing}
-use Rattle.tlv_walk.specs.Phase.{PhaseValue, Between, InHeader, InPrimitive, InBitString, InEndOctets, Refused}
+use Rattle.tlv_walk.specs.Phase.{Between, InBitString, InEndOctets, InHeader, InPrimitive, IsAfterEvent, PhaseValue}
+use Rattle.tlv_walk.specs.Phase.{Refused}
 use Rattle.tlv_walk.specs.Stack.{FrameValue, IsInIndefinite, IsInWrapper, IsNested, bound_of}
 use Rattle.tlv_walk.specs.Place.{IsWithin}
 use Rattle.tlv_head.specs.InputLimit.{input_limit}
@@ -41,26 +40,36 @@ pub record IsInHeader (r : HeadReaderState) (offset : ℕ) : Type 0 where
   pub some : r.octets ≢ []
   pub end : r.offset + length r.octets ≡ offset
 
--- by phase: an open element, a header that has begun and a first 00 without the second have octets that no event was
--- yielded for
-abbrev pub IsPhase : PhaseValue → List FrameValue → ℕ → ℕ → Type 0
-IsPhase Between stack offset events = events + length stack ≤ offset
-IsPhase (InHeader r) stack offset events = IsInHeader r offset × (events + length stack + length r.octets ≤ offset)
-IsPhase (InPrimitive left) stack offset events =
+-- by phase, how many octets came for which no event was yielded: at least one for each open element, those of a header
+-- that has begun, and a first 00. And what is open ends within the bound
+abbrev pub CountsFitPhase : PhaseValue → List FrameValue → ℕ → ℕ → Type 0
+CountsFitPhase Between stack offset events = events + length stack ≤ offset
+CountsFitPhase (InHeader r) stack offset events =
+    IsInHeader r offset × (events + length stack + length r.octets ≤ offset)
+CountsFitPhase (InPrimitive left) stack offset events =
     IsWithin (bound_of stack) (offset + left) × (events + length stack + 1 ≤ offset)
-IsPhase InBitString stack offset events =
+CountsFitPhase InBitString stack offset events =
     IsInWrapper stack × IsWithin (bound_of stack) (offset + 1) × (events + length stack ≤ offset)
-IsPhase InEndOctets stack offset events = IsInIndefinite stack × (events + length stack + 1 ≤ offset)
-IsPhase (Refused fault) stack offset events = events + length stack ≤ offset
+CountsFitPhase InEndOctets stack offset events = IsInIndefinite stack × (events + length stack + 1 ≤ offset)
+CountsFitPhase (Refused fault) stack offset events = events + length stack ≤ offset
 
 pub record IsWalkerState (w : WalkerState) : Type 0 where
   pub nested : IsNested w.stack
   pub within : IsWithin (bound_of w.stack) w.offset
   pub limit : w.offset ≤ input_limit
-  pub fewer : length w.stack ≤ 128
-  pub phased : IsPhase w.phase w.stack w.offset w.events
+  pub shallow : length w.stack ≤ 128
+  pub phased : CountsFitPhase w.phase w.stack w.offset w.events
   pub named : length w.framing.inside ≤ 16
   pub found : w.wrapper_count ≤ length w.framing.inside
+
+-- the octets of a piece are not too many: with those that were taken, at most 2^40
+abbrev pub IsWithinInputLimit : WalkerState → List ℕ → Type 0
+IsWithinInputLimit w piece = w.offset + length piece ≤ input_limit
+
+-- what holds after an event: no more events were yielded than octets taken, and each of these belongs to an event
+pub record HasYieldedEvent (w : WalkerState) : Type 0 where
+  pub fewer_events : w.events ≤ w.offset
+  pub after_event : IsAfterEvent w.phase
 
 -- no octet was refused
 abbrev pub HasNotRefused : WalkerState → Type 0
@@ -70,28 +79,6 @@ HasNotRefused w = (f : Fault) → w.phase ≢ Refused f
 abbrev pub IfRefused : WalkerState → (Fault → Type 0) → Type 0
 IfRefused w P = (f : Fault) → w.phase ≡ Refused f → P f
 
--- a phase in which an event was yielded for each octet taken: no header has begun, no end-of-contents octets, and no
--- octet was refused
-abbrev pub IsAfterEvent : PhaseValue → Type 0
-IsAfterEvent Between = Unit {0}
-IsAfterEvent (InHeader r) = ⊥
-IsAfterEvent (InPrimitive left) = Unit {0}
-IsAfterEvent InBitString = Unit {0}
-IsAfterEvent InEndOctets = ⊥
-IsAfterEvent (Refused fault) = ⊥
-
--- parts of contents and of padding are not empty
-abbrev pub HasOctets : Event → Type 0
-HasOctets (event.Open h) = Unit {0}
-HasOctets (event.Begin h) = Unit {0}
-HasOctets (event.Bytes octets) = octets.now ≢ []
-HasOctets event.End = Unit {0}
-HasOctets (event.Close offset) = Unit {0}
-HasOctets (event.Enter h) = Unit {0}
-HasOctets event.Unused = Unit {0}
-HasOctets event.Leave = Unit {0}
-HasOctets (event.Pad octets) = octets.now ≢ []
-
 -- the first of the named offsets that is not known to be a wrapper's
-abbrev pub first_without_wrapper_in : WalkerState → Option ℕ
-first_without_wrapper_in w = slice_get w.framing.inside w.wrapper_count
+abbrev pub unused_of : WalkerState → Option ℕ
+unused_of w = slice_get w.framing.inside w.wrapper_count

@@ -1,5 +1,5 @@
 -- Which of the named offsets are those of strings that hold encodings.
-use Rattle.std.specs.Prelude.{ℕ, not, if◌then◌else◌, List, [], ◌∷◌, ◌++◌, Option}
+use Rattle.std.specs.Prelude.{ℕ, Bool, not, if◌then◌else◌, List, [], ◌∷◌, ◌++◌, Option}
 use Rattle.std.specs.List.{find}
 use Rattle.tlv_head.specs.Header.{HeaderValue}
 use Rattle.tlv_walk.specs.Events.{Enter, EventValue}
@@ -7,8 +7,11 @@ use Rattle.tlv_walk.specs.Forest.{Forest, PaddingOctet, Primitive, Holder, OpenH
 use Rattle.tlv_walk.specs.Inside.{is_among}
 
 -- of an element that holds others: the offset, if it is a wrapper
+abbrev pub wrapper_by : Bool → ℕ → List ℕ
+wrapper_by constructed offset = if constructed then [] else offset ∷ []
+
 abbrev pub wrapper_at : HeaderValue → List ℕ
-wrapper_at h = if h.constructed then [] else h.offset ∷ []
+wrapper_at h = wrapper_by h.constructed h.offset
 
 -- the offsets of the wrappers
 abbrev pub wrapper_offsets : Forest → List ℕ

@@ -15,7 +15,7 @@ pub enum Event<'a> {
     /// The end of a constructed element, with the offset of its end-of-contents octets if it has
     /// any.
     Close(Option<u64>),
-    /// The header of a string whose contents are read as encodings.
+    /// The header of a string that holds encodings.
     Enter(Header),
     /// The first contents octet of such a BIT STRING: `00`, no unused bits (8.6.2.2).
     Unused,
@@ -33,15 +33,4 @@ pub enum Step<'a> {
     NeedMore,
     /// An octet is refused. The walker takes nothing more.
     Fault(Fault),
-}
-
-/// What a header begins.
-#[derive(Clone, Copy)]
-pub(crate) enum HeaderKind {
-    /// A constructed element.
-    Constructed,
-    /// A string whose contents are read as encodings.
-    Wrapper,
-    /// Another primitive.
-    Primitive,
 }

@@ -1,11 +1,10 @@
 //! What follows a walk.
 ghost use Rattle.std.specs.Prelude.{◌≡◌, true};
 ghost use Rattle.tlv_head.specs.HeaderFields.{IsHeaderSized, new_header};
-ghost use Rattle.tlv_walk.specs.Events.{Bytes, EventValue, Open, Pad};
+ghost use Rattle.tlv_walk.specs.Events.{Bytes, EventValue, Open, Pad, event_value_of};
 ghost use Rattle.tlv_walk.specs.Follow.{Effect, GoesOn, HasEffect, HasEffectOrNone, IsWholeElement, Joins};
 ghost use Rattle.tlv_walk.specs.Follow.{IgnoresEmpty, put_if_followed, whole_effect};
 ghost use Rattle.tlv_io.specs.Out.{Puts};
-ghost use Rattle.tlv_walk.specs.HasRead.{event_value_of};
 
 use crate::{Drain, Event, Out, WriteFault};
 use tlv_head::{Header, HeaderFields};

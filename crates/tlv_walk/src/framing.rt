@@ -2,8 +2,7 @@
 use arrayvec::ArrayVec;
 use std::marker::Model;
 
-/// The offsets of strings whose contents are to be read as encodings: at most 16, rising, each at
-/// most 2^40.
+/// The offsets of strings that hold encodings: at most 16, rising, each at most 2^40.
 #[derive(Clone, PartialEq, Eq, Debug, Drop)]
 pub struct Inside {
     offsets: ArrayVec<u64, 16>,
@@ -27,7 +26,7 @@ impl Model for Inside {
 /// How an input is to be read.
 #[derive(Clone, PartialEq, Eq, Debug, Drop)]
 pub struct Framing {
-    /// The strings whose contents are to be read as encodings.
+    /// The strings that hold encodings.
     pub inside: Inside,
     /// Whether octets `00` may be between the encodings at the top.
     pub padding: bool,
@@ -81,11 +80,12 @@ impl Inside {
 }
 
 impl Framing {
-    ghost use Rattle.std.specs.Prelude.{◌≡◌, [], false};
+    ghost use Rattle.std.specs.Prelude.{◌≡◌};
+    ghost use Rattle.tlv_walk.specs.Framing.{plain_framing};
 
     /// No string is read as encodings, and there is no padding.
     pub fn plain() -> Framing
-        ensures { result ≡ record { inside = []; padding = false } }
+        ensures { result ≡ plain_framing }
     {
         Framing {
             inside: Inside::none(),

@@ -5,8 +5,9 @@ ghost use Rattle.tlv_walk.specs.Private.ResultOfPause.{IsResultOfPause, run_of};
 ghost use Rattle.tlv_walk.specs.Private.FollowsPiece.{FollowsAndFlushes, FollowsPart, FollowsPiece, follow_states};
 ghost use Rattle.tlv_walk.specs.Private.WalkerState.{CanPass};
 ghost use Rattle.tlv_walk.specs.Stands.{CanTake};
+ghost use Rattle.tlv_walk.specs.WalkerState.{IsWithinInputLimit};
 ghost use Rattle.tlv_io.specs.Out.{Puts, held_octets, drain_of};
-ghost use Rattle.tlv_walk.specs.HasRead.{event_value_of};
+ghost use Rattle.tlv_walk.specs.Events.{event_value_of};
 ghost use Rattle.tlv_walk.specs.OneTurn.{CanTurn, FollowsOneRead, turn_states};
 ghost use Rattle.tlv_head.specs.InputLimit.{input_limit};
 
@@ -128,7 +129,7 @@ fn follow_and_flush<F: Follow, D: Drain>(
     piece: &[u8],
     out: &mut Out<'_, D>,
 ) -> Result<Pause, WriteFault>
-    requires limit { walker.old.offset + length piece.now ≤ input_limit }
+    requires limit { IsWithinInputLimit walker.old piece.now }
     requires empty { held_octets out.old ≡ [] }
     ensures { FollowsAndFlushes F.next D.state
         (follow_states walker.old follower.old out.old)
@@ -147,7 +148,7 @@ fn follow<F: Follow, D: Drain>(
     piece: &[u8],
     out: &mut Out<'_, D>,
 ) -> Result<Pause, WriteFault>
-    requires { walker.old.offset + length piece.now ≤ input_limit }
+    requires { IsWithinInputLimit walker.old piece.now }
     ensures { FollowsPiece F.next D.state
         (follow_states walker.old follower.old out.old)
         (follow_states walker.new follower.new out.new)
@@ -193,7 +194,7 @@ fn follow_primitive<F: Follow, D: Drain>(
     piece: &mut &[u8],
     out: &mut Out<'_, D>,
 ) -> Result<bool, WriteFault>
-    requires { walker.old.offset + length piece.old.now ≤ input_limit }
+    requires { IsWithinInputLimit walker.old piece.old.now }
     ensures { FollowsPart F.next D.state
         (follow_states walker.old follower.old out.old)
         (follow_states walker.new follower.new out.new)
@@ -221,15 +222,15 @@ fn follow_found<F: Follow, D: Drain>(
     out: &mut Out<'_, D>,
 ) -> Result<bool, WriteFault>
     requires can { CanPass walker.old piece.old.now primitive.now }
-    requires limit { walker.old.offset + length piece.old.now ≤ input_limit }
+    requires limit { IsWithinInputLimit walker.old piece.old.now }
     ensures { FollowsPart F.next D.state
         (follow_states walker.old follower.old out.old)
         (follow_states walker.new follower.new out.new)
         piece.old.now piece.new.now result }
 {
     let octets = *piece;
-    let header = Header::new(&primitive.fields, &octets[..primitive.header]);
-    if !follower.whole(&header, &octets[..primitive.octets], out)? {
+    let header = Header::new(&primitive.fields, &octets[..primitive.header_length]);
+    if !follower.whole(&header, &octets[..primitive.octet_count], out)? {
         return Ok(false);
     }
     walker.pass(primitive, piece);

@@ -14,7 +14,7 @@ pub struct Run {
     pub octets: u64,
     /// Whether the follower had enough.
     pub enough: bool,
-    /// The first of the named offsets at which no string was found whose contents are encodings.
+    /// The first of the named offsets at which no string that holds encodings was found.
     pub unused: Option<u64>,
 }
 

@@ -1,9 +1,9 @@
 //! The open elements that hold others.
 ghost use Rattle.std.specs.Prelude.{◌≡◌, ◌≢◌, ◌-◌, ◌^◌, ◌<◌, ◌≤◌, ◌↔◌, ◌∷◌, IfSome, IsTrue, None, [], length};
 ghost use Rattle.std.specs.Prelude.{drop, true};
-ghost use Rattle.tlv_walk.specs.Stack.{IsFilled, IsInIndefinite, IsInWrapper, bound_of};
+ghost use Rattle.tlv_walk.specs.Stack.{IsInIndefinite, IsInWrapper, bound_of};
 ghost use Rattle.tlv_walk.specs.Place.{IsWithin};
-ghost use Rattle.tlv_walk.specs.Private.Stack.{frame_inside, room_in, room_to, innermost_wraps};
+ghost use Rattle.tlv_walk.specs.Private.Stack.{IsFilled, frame_inside, innermost_wraps, room_in, room_to};
 
 use crate::frames::Frames;
 use std::marker::Model;
@@ -18,7 +18,7 @@ enum FrameKind {
     Definite,
     /// A constructed element of the indefinite length.
     Indefinite,
-    /// A string that wraps encodings. Its length is definite.
+    /// A string that holds encodings. Its length is definite.
     Wrapper,
 }
 
@@ -39,7 +39,7 @@ struct Frame {
 pub(crate) struct Stack {
     /// The innermost open element, or the input if none is open.
     innermost: Frame,
-    /// What holds that, from the input on; nothing, if it is the input itself.
+    /// What holds that, the input last; nothing, if it is the input itself.
     outer: Frames<Frame>,
 }
 
@@ -86,7 +86,7 @@ impl Stack {
     }
 
     /// Opens an element inside the innermost one: where its contents end, if its length is definite, and whether it
-    /// is a string that wraps encodings. Such a string has a definite length, and `u64::MAX` is no end, since it
+    /// is a string that holds encodings. Such a string has a definite length, and `u64::MAX` is no end, since it
     /// says that there is no bound.
     #[inline(always)]
     pub fn push(&mut self, end: Option<u64>, wrapper: bool)
@@ -109,7 +109,7 @@ impl Stack {
         }
     }
 
-    /// Closes the innermost element, and returns whether it wraps encodings.
+    /// Closes the innermost element, and returns whether it is a string that holds encodings.
     #[inline(always)]
     pub fn pop(&mut self) -> Option<bool>
         ensures value { result ≡ innermost_wraps self.old }
@@ -137,7 +137,7 @@ impl Stack {
             )
     }
 
-    /// Whether the innermost element is a string that wraps encodings.
+    /// Whether the innermost element is a string that holds encodings.
     #[inline(always)]
     pub fn is_in_wrapper(&self) -> bool
         ensures { IsTrue result ↔ IsInWrapper self.now }
@@ -168,14 +168,14 @@ impl Stack {
     /// Whether contents may go up to this offset: the innermost definite element, if there is one, does not end
     /// before it.
     #[inline(always)]
-    pub fn reaches(&self, end: u64) -> bool
+    pub fn is_within(&self, end: u64) -> bool
         ensures { IsTrue result ↔ IsWithin (bound_of self.now) end }
     {
         end <= self.innermost.bound
     }
 
     /// How many octets there are from this offset to the bound.
-    pub fn room(&self, offset: u64) -> Option<u64>
+    pub fn room_in(&self, offset: u64) -> Option<u64>
         requires { IsWithin (bound_of self.now) offset }
         ensures { result ≡ room_in self.now offset }
     {

@@ -1,6 +1,6 @@
 //! A machine that takes an encoding in pieces, and keeps a frame for each open element that holds
 //! others.
-ghost use Rattle.std.specs.Prelude.{◌≡◌, ◌+◌, ◌≤◌, ◌↔◌, IsTrue, length};
+ghost use Rattle.std.specs.Prelude.{◌≡◌, ◌≤◌, ◌↔◌, IsTrue, length};
 
 mod contents;
 mod ends;
@@ -22,7 +22,7 @@ enum Phase {
     InHeader,
     /// A primitive's contents, of which so many octets are to follow.
     InPrimitive(u64),
-    /// A wrapping BIT STRING, whose first contents octet is to follow.
+    /// A BIT STRING that holds encodings, whose first contents octet is to follow.
     InBitString,
     /// The end of an indefinite element, whose first `00` has come.
     InEndOctets,
@@ -44,7 +44,7 @@ pub struct Walker {
     events: u64,
     /// Whether an octet of an element came, and not padding alone.
     has_element: bool,
-    /// How many of the named offsets, from the first on, are those of wrappers.
+    /// How many of the named offsets, from the first on, are those of strings that hold encodings.
     wrapper_count: usize,
 }
 
@@ -64,10 +64,10 @@ impl Model for Walker {
 impl Walker {
     ghost use Rattle.std.specs.Prelude.{[], false};
     ghost use Rattle.tlv_walk.specs.Phase as phases;
-    ghost use Rattle.tlv_walk.specs.WalkerState.{IfRefused, first_without_wrapper_in, new_walker};
+    ghost use Rattle.tlv_walk.specs.WalkerState.{IfRefused, IsWithinInputLimit, new_walker, unused_of};
     ghost use Rattle.tlv_walk.specs.Private.WalkerState.{CountsStep};
     ghost use Rattle.tlv_walk.specs.Ending.{IsEnding, ShowsSoundness, fault_at};
-    ghost use Rattle.tlv_walk.specs.OpenCount.{open_count};
+    ghost use Rattle.tlv_walk.specs.Depth.{depth_of};
     ghost use Rattle.tlv_walk.specs.Stands.{CanTake, IsIdle, Stands};
     ghost use Rattle.tlv_walk.specs.Wrappers.{first_without_wrapper};
     ghost use Rattle.tlv_walk.specs.StepsTo.{RefusesAgain, StepsTo};
@@ -93,13 +93,13 @@ impl Walker {
         }
     }
 
-    /// How many elements are open that hold others: constructed ones, and strings whose contents are
-    /// read as encodings. At most 128.
+    /// How many elements are open that hold others: constructed ones, and strings that hold encodings.
+    /// At most 128.
     pub fn depth(&self) -> u8
         ensures value { result ≡ length self.now.stack }
         ensures within { result ≤ 128 }
         ensures open_elements { IsIdle self.now
-            → IfRead self.now (λ b f. result ≡ open_count f) }
+            → IfRead self.now (λ b f. result ≡ depth_of f) }
     {
         self.stack.len()
     }
@@ -121,9 +121,9 @@ impl Walker {
         self.events
     }
 
-    /// The first of the named offsets at which no string was found whose contents are encodings.
+    /// The first of the named offsets at which no string that holds encodings was found.
     pub fn unused(&self) -> Option<u64>
-        ensures value { result ≡ first_without_wrapper_in self.now }
+        ensures value { result ≡ unused_of self.now }
         ensures first { IfRead self.now
             (λ b f. result ≡ first_without_wrapper self.now.framing.inside f) }
     {
@@ -185,20 +185,20 @@ impl Walker {
     /// Takes octets from the front of `piece`, up to the next event. The octets taken and those of the
     /// piece are together at most 2^40.
     ///
-    /// `NeedMore` comes only if the whole piece was taken and no event waits. After a fault each step returns
+    /// Returns `NeedMore` only if the whole piece was taken and no event waits. After a fault each step returns
     /// the same fault and takes nothing. A fault is no false alarm: no input that begins with the octets
     /// taken and the one refused is a sound list of encodings.
     #[inline(never)]
     pub fn step<'a>(&mut self, piece: &mut &'a [u8]) -> Step<'a>
-        requires { self.old.offset + length piece.old.now ≤ input_limit }
+        requires { IsWithinInputLimit self.old piece.old.now }
         ensures { StepsTo self.old self.new piece.old.now piece.new.now result }
     {
-        self.take(piece)
+        self.next_step(piece)
     }
 
-    /// What the next octets are, by what they belong to.
-    fn take<'a>(&mut self, piece: &mut &'a [u8]) -> Step<'a>
-        requires { self.old.offset + length piece.old.now ≤ input_limit }
+    /// Takes octets from the front of the piece, up to the next event, by what they belong to.
+    fn next_step<'a>(&mut self, piece: &mut &'a [u8]) -> Step<'a>
+        requires { IsWithinInputLimit self.old piece.old.now }
         ensures steps { CountsStep self.old self.new piece.old.now piece.new.now result }
         ensures yields { YieldsStep self.old self.new piece.old.now piece.new.now result }
         ensures again { IfRefused self.old (λ fault. (result ≡ Step.Fault fault)

@@ -11,14 +11,13 @@ use Rattle.tlv_walk.specs.Events.{end_offset, events, opening_events}
 use Rattle.tlv_walk.specs.Follow.{Effect, and_then, effect_if_more, effect_of, effect_with}
 use Rattle.tlv_walk.specs.Forest.{Forest, NoMore, PaddingOctet, Primitive, Holder, OpenPrimitive, OpenHolder}
 use Rattle.tlv_walk.specs.Forest.{OpenBitString, OpenHeader, OpenEndOctets}
-use Rattle.tlv_walk.specs.Forest.{end_octets, extent, is_whole, lead, opening}
+use Rattle.tlv_walk.specs.Forest.{end_octets, extent, is_whole, lead, opening, lead_by}
 use Rattle.tlv_walk.specs.Place.{IsOpen, Place, place_after, place_of_children}
 use Rattle.tlv_walk.proofs.FollowerLemmas.Followed.{followed-more, followed-one}
 use Rattle.tlv_cut.specs.declared.extract_follower.Position.TheVariants as position
 use Rattle.tlv_cut.specs.ExtractText.{octets_so_far}
 use Rattle.tlv_cut.specs.ExtractStep.{ExtractState, extract_begin_step, extract_end_step, extract_step, has_found}
 use Rattle.tlv_cut.specs.ExtractStep.{wanted_octets}
-use Rattle.tlv_cut.proofs.Lead.{lead_by}
 use Rattle.tlv_cut.proofs.ExtractLemmas.Contents.{all_contents, wanted_octets-none}
 
 -- what an `Extract` makes of these events

@@ -9,10 +9,9 @@ use Rattle.tlv_walk.specs.Events.{opening_events}
 use Rattle.tlv_walk.specs.Follow.{Effect, effect_of, effect_with}
 use Rattle.tlv_walk.specs.Forest.{Forest, NoMore, PaddingOctet, Primitive, Holder, OpenPrimitive, OpenHolder}
 use Rattle.tlv_walk.specs.Forest.{OpenBitString, OpenHeader, OpenEndOctets}
-use Rattle.tlv_walk.specs.Forest.{lead, opening, spelling}
+use Rattle.tlv_walk.specs.Forest.{lead, opening, spelling, lead_by}
 use Rattle.tlv_cut.specs.IndefText.{indef_text, indefinite_header, with_indefinite_lengths}
 use Rattle.tlv_cut.specs.IndefStep.{IndefState, indef_event_text, indef_step}
-use Rattle.tlv_cut.proofs.Lead.{lead_by}
 
 -- the octets that are put for events
 abbrev pub events_text : List EventValue → List ℕ

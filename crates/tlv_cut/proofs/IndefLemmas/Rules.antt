@@ -8,11 +8,10 @@ use Rattle.tlv_head.specs.declared.header.Size.TheVariants.{Indefinite}
 use Rattle.tlv_head.specs.Header.{AllowsSize, HeaderValue, announced_length, definite_length, is_wrapper, octets_of}
 use Rattle.tlv_walk.specs.Forest.{Forest, NoMore, PaddingOctet, Primitive, Holder, OpenPrimitive, OpenHolder}
 use Rattle.tlv_walk.specs.Forest.{OpenBitString, OpenHeader, OpenEndOctets}
-use Rattle.tlv_walk.specs.Forest.{extent, has_element, is_whole, lead, opening, spelling}
+use Rattle.tlv_walk.specs.Forest.{extent, has_element, is_whole, lead, opening, spelling, lead_by}
 use Rattle.tlv_walk.specs.Place.{Fits, IsHeaderAt, IsOpen, Place, place_after, place_of_children}
 use Rattle.tlv_cut.specs.IndefText.{with_indefinite_lengths, indefinite_header}
 use Rattle.tlv_cut.specs.IndefReading.{with_offsets_from}
-use Rattle.tlv_cut.proofs.Lead.{lead_by}
 use Rattle.tlv_cut.proofs.IndefLemmas.Offsets.{constructed_at, is_named, spelling-with_offsets_from}
 
 -- elements that have all ended have ended at any offset

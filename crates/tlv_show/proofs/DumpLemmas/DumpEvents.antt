@@ -20,6 +20,7 @@ use Rattle.tlv_show.proofs.DumpLemmas.DumpSteps.{all_on, each-shown}
 use Rattle.tlv_show.proofs.DumpLemmas.DumpTexts.{primitives_shown}
 use Rattle.tlv_show.proofs.FindingLemmas.FinderItems.{primitive-found}
 use Rattle.tlv_show.specs.SaturatingSum.{saturating_sum}
+use Rattle.tlv_walk.specs.Forest.{lead_by}
 
 -- ---- events one after another
 
@@ -45,11 +46,11 @@ texts layout f = last_finding_lines (Dump layout.pure) f
 
 pub opens-by : (l : LinesState) (s : FinderState) (h : HeaderValue) (k three : Bool)
     → effect_of dump_step (dump_state l s)
-    ((if k then Open h else Enter h) ∷ map {A = ℕ} (λ z. Unused) (if k then [] else (if three then 0 ∷ [] else [])))
+    ((if k then Open h else Enter h) ∷ map (λ z. Unused) (lead_by k three))
     ≡ (let d =
     effect_of lines_step l
     ((if k then Open h else Enter h)
-    ∷ map {A = ℕ} (λ z. Unused) (if k then [] else (if three then 0 ∷ [] else []))) in
+    ∷ map (λ z. Unused) (lead_by k three)) in
     effect_with (dump_state d.state (finder_open_step s h).state) (texts l.layout (finder_open_step s h) ++ d.put))
 opens-by l s h true three =
     ap (effect_with _) (append_assoc (texts l.layout (finder_open_step s h)) (lines_step l (Open h)).put [])

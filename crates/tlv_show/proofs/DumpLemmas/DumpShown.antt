@@ -13,7 +13,8 @@ use Rattle.tlv_value.specs.Names.{NamesTable}
 use Rattle.tlv_value.specs.ValueLines.{open_lines, whole_lines}
 use Rattle.tlv_value.specs.Types.{is_primitive}
 use Rattle.tlv_walk.specs.declared.follow.Go.{Go}
-use Rattle.tlv_walk.specs.Events.{Begin, Bytes, End, EventValue, Pad, closing_event, end_offset, end_place, events}
+use Rattle.tlv_walk.specs.Events.{Begin, Bytes, End, EventValue, Pad, closing_event, end_offset, end_octets_offset}
+use Rattle.tlv_walk.specs.Events.{events}
 use Rattle.tlv_walk.specs.Events.{opening_events}
 use Rattle.tlv_walk.specs.Follow.{Effect, effect_of, effect_with}
 use Rattle.tlv_walk.specs.Forest.{Forest, NoMore, PaddingOctet, Primitive, Holder, OpenPrimitive, OpenHolder}
@@ -264,7 +265,7 @@ module _ (style : Layout) (names : NamesTable) (rules : Rules) where
       let end : ℕ = p.offset + length (opening h) + length (spelling inside) in
       let line : List ℕ = holder_line (at_level style names p.depth) h in
       let close : List ℕ =
-      closing_line (at_level style names p.depth) (if h.constructed then end_place h inside else None) in
+      closing_line (at_level style names p.depth) (if h.constructed then end_octets_offset h inside else None) in
       let first : List ℕ =
       styled_lines (Dump style.pure) (length outer) h.offset (header_findings rules (surroundings_in w) h) in
       let last : List ℕ =
@@ -349,7 +350,7 @@ module _ (style : Layout) (names : NamesTable) (rules : Rules) where
       ((first ++ line) ++ (held ++ (close ++ last))) rest refl (element n).1 t in
       let others : List Item = items rules (site_after_holder s h inside) rest in
       let closing : List Item =
-      ClosingLine p.depth (if h.constructed then end_place h inside else None)
+      ClosingLine p.depth (if h.constructed then end_octets_offset h inside else None)
       ∷ (findings_at p.depth h.offset (end_findings rules (segments_of h (headers inside))) ++ others) in
       record {
         text = λ n.

@@ -16,10 +16,11 @@ use Rattle.tlv_value.specs.ValueTextState.{value_text_after}
 use Rattle.tlv_value.specs.Value.{NameOf}
 use Rattle.tlv_value.proofs.TextLemmas.Pieces.{lines-end, open-lines}
 use Rattle.tlv_walk.specs.Events.{Begin, Bytes, Close, End, Enter, EventValue, Leave, Open, Pad, Unused, closing_event}
-use Rattle.tlv_walk.specs.Events.{end_offset, end_place, opening_events}
+use Rattle.tlv_walk.specs.Events.{end_offset, end_octets_offset, opening_events}
 use Rattle.tlv_walk.specs.Follow.{Effect, and_then, effect_if_more, effect_of, effect_with}
 use Rattle.tlv_walk.specs.Forest.{Forest, NoMore, PaddingOctet, Primitive, Holder, OpenPrimitive, OpenHolder}
 use Rattle.tlv_walk.specs.Forest.{OpenBitString, OpenHeader, OpenEndOctets, end_octets, extent, lead, opening, spelling}
+use Rattle.tlv_walk.specs.Forest.{lead_by}
 use Rattle.tlv_walk.specs.Place.{IsOpen, Place, place_after}
 use Rattle.tlv_walk.proofs.FollowerLemmas.Followed.{followed-more}
 use Rattle.tlv_walk.proofs.GrammarLemmas.Spellings.{length-opening}
@@ -152,10 +153,6 @@ module _ (style : Layout) (names : NamesTable) where
 
   -- ---- an element that holds others begins
 
-  -- what comes before what it holds
-  abbrev lead_by : Bool → Bool → List ℕ
-  lead_by k three = if k then [] else (if three then 0 ∷ [] else [])
-
   holder_by : (level offset : ℕ) (padded k three : Bool) (h : HeaderValue) → h.offset ≡ offset → level + 1 ≤ 255
       → offset + (length (octets_of h) + length (lead_by k three)) ≤ 2 ^ 64 - 1
       → effect_of lines_step (lines_between level offset padded)
@@ -217,7 +214,7 @@ module _ (style : Layout) (names : NamesTable) where
       → o + length (end_octets h.size) ≤ 2 ^ 64 - 1
       → effect_of lines_step (lines_between (level + 1) o false) (closing_event h inside ∷ [])
       ≡ effect_with (lines_between level (o + length (end_octets h.size)) false)
-      (closing_line (at_level level) (if h.constructed then end_place h inside else None))
+      (closing_line (at_level level) (if h.constructed then end_octets_offset h inside else None))
   closer_shown level o h inside there allowed far_enough =
       subst
       (λ (n : ℕ). effect_of lines_step (lines_between (level + 1) o false)

@@ -5,7 +5,7 @@ use Rattle.std.specs.List.{filter}
 use Rattle.std.specs.Prelude.{◌||◌, None, flat_map}
 use Rattle.tlv_value.specs.declared.finding.Finding.{Finding}
 use Rattle.tlv_value.specs.Checks.{findings_by, findings_on_contents}
-use Rattle.tlv_walk.specs.Events.{end_place}
+use Rattle.tlv_walk.specs.Events.{end_octets_offset}
 use Rattle.tlv_walk.specs.Forest.{Forest, NoMore, PaddingOctet, Primitive, Holder, OpenPrimitive, OpenHolder}
 use Rattle.tlv_walk.specs.Forest.{OpenBitString, OpenHeader, OpenEndOctets}
 use Rattle.tlv_show.specs.declared.rules.Rules.{Rules}
@@ -82,7 +82,7 @@ module _ (rules : Rules) where
   same s (Holder h inside rest) =
       let last : Rules
       → List Item =
-      λ r. ClosingLine s.level (if h.constructed then end_place h inside else None)
+      λ r. ClosingLine s.level (if h.constructed then end_octets_offset h inside else None)
       ∷ (findings_at s.level h.offset (end_findings r (segments_of h (headers inside)))
       ++ items r (site_after_holder s h inside) rest) in
       same-found s.level h.offset (findings_by (header_conditions (surroundings_of s) h))

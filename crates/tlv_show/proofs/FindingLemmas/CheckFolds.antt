@@ -12,7 +12,8 @@ use Rattle.tlv_value.specs.declared.finding.Finding.{Finding}
 use Rattle.tlv_value.specs.Checks.{contents_conditions, findings_by}
 use Rattle.tlv_walk.specs.declared.follow.Go.TheVariants as go
 use Rattle.tlv_walk.specs.declared.framing.Framing.{Framing}
-use Rattle.tlv_walk.specs.Events.{Begin, Bytes, Close, End, Enter, EventValue, Leave, Open, Pad, Unused, end_place}
+use Rattle.tlv_walk.specs.Events.{Begin, Bytes, Close, End, Enter, EventValue, Leave, Open, Pad, Unused}
+use Rattle.tlv_walk.specs.Events.{end_octets_offset}
 use Rattle.tlv_walk.specs.Events.{events}
 use Rattle.tlv_walk.specs.Follow.{Effect, effect_if_more, effect_of}
 use Rattle.tlv_walk.specs.Forest.{Forest, NoMore, PaddingOctet, Primitive, Holder, OpenPrimitive, OpenHolder}
@@ -207,12 +208,12 @@ module _ (rules : Rules) where
       (items rules (site_after_holder s h inside) rest) 2 _ (few-end h inside) r in
       let m =
       few-both (items rules (site_of_children s h) inside)
-      (ClosingLine s.level (if h.constructed then end_place h inside else None) ∷ last) _ _ i b in
+      (ClosingLine s.level (if h.constructed then end_octets_offset h inside else None) ∷ last) _ _ i b in
       let a =
       few-at s.level h.offset (header_findings rules (surroundings_of s) h)
       (OpeningLine s.level h
       ∷ (items rules (site_of_children s h) inside
-      ++ ClosingLine s.level (if h.constructed then end_place h inside else None) ∷ last))
+      ++ ClosingLine s.level (if h.constructed then end_octets_offset h inside else None) ∷ last))
       14 _ (few-header s h) m in
       omega (arith, a, header-length h v.0.0.header.valid, length-holder h inside rest, length-opening h)
     where

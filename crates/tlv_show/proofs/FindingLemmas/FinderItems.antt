@@ -13,9 +13,10 @@ use Rattle.tlv_value.specs.ValueCheckState.{new_value_check}
 use Rattle.tlv_value.specs.Types.{is_primitive}
 use Rattle.tlv_value.proofs.CheckLemmas.CheckPieces.{checked-none, findings-end}
 use Rattle.tlv_walk.specs.Events.{Begin, Bytes, Close, End, Enter, EventValue, Leave, Open, Unused, closing_event}
-use Rattle.tlv_walk.specs.Events.{end_offset, end_place, events, opening_events}
+use Rattle.tlv_walk.specs.Events.{end_offset, end_octets_offset, events, opening_events}
 use Rattle.tlv_walk.specs.Forest.{Forest, NoMore, PaddingOctet, Primitive, Holder, OpenPrimitive, OpenHolder}
 use Rattle.tlv_walk.specs.Forest.{OpenBitString, OpenHeader, OpenEndOctets, extent, is_whole, opening, spelling}
+use Rattle.tlv_walk.specs.Forest.{lead_by}
 use Rattle.tlv_walk.specs.Place.{IsOpen, Place, place_after, place_of_children}
 use Rattle.tlv_show.specs.declared.sibling_frame.SiblingFrame.{SiblingFrame}
 use Rattle.tlv_show.specs.declared.rules.Rules.{Rules}
@@ -163,7 +164,7 @@ module _ (rules : Rules) where
   opened-by : (s : FinderState) (h : HeaderValue) (k three : Bool) (es : List EventValue)
       → run_finder s
       (((if k then Open h else Enter h)
-      ∷ map {A = ℕ} (λ z. Unused) (if k then [] else (if three then 0 ∷ [] else [])))
+      ∷ map (λ z. Unused) (lead_by k three))
       ++ es)
       ≡ then_found (found_items (finder_open_step s h)) (run_finder (finder_open_step s h).state es)
   opened-by s h true three es = refl
@@ -388,7 +389,7 @@ module _ (rules : Rules) where
             (closed (place_of_children p h) w outer t.0 h inside (events rest) v.1 v.0.1)),
       ) in
       let last : List Item =
-      ClosingLine s.level (if h.constructed then end_place h inside else None)
+      ClosingLine s.level (if h.constructed then end_octets_offset h inside else None)
       ∷ (findings_at s.level h.offset (end_findings rules (segments_of h (headers inside)))
       ++ items rules (site_after_holder s h inside) rest) in
       record {

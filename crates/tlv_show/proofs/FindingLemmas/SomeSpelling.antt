@@ -12,7 +12,7 @@ use Rattle.tlv_head.specs.Header.{HeaderValue, octets_of}
 use Rattle.tlv_value.specs.Checks.{contents_conditions}
 use Rattle.tlv_walk.specs.declared.framing.Framing.{Framing}
 use Rattle.tlv_walk.specs.Alike.{AreAlike, holders, nothing, padding, primitives}
-use Rattle.tlv_walk.specs.Events.{end_place}
+use Rattle.tlv_walk.specs.Events.{end_octets_offset}
 use Rattle.tlv_walk.specs.Forest.{Forest, NoMore, PaddingOctet, Primitive, Holder, OpenPrimitive, OpenHolder}
 use Rattle.tlv_walk.specs.Forest.{OpenBitString, OpenHeader, OpenEndOctets, extent, has_element, spelling}
 use Rattle.tlv_walk.specs.Inside.{can_name, is_among}
@@ -129,9 +129,9 @@ module _ (rules : Rules) (strict : rules ≢ Ber) where
       let held : List Item = items rules (site_of_children s h) inside in
       both-none (on_header rules s h)
       (OpeningLine s.level h
-      ∷ (held ++ ClosingLine s.level (if h.constructed then end_place h inside else None) ∷ last))
+      ∷ (held ++ ClosingLine s.level (if h.constructed then end_octets_offset h inside else None) ∷ last))
       (header-none s h r.0)
-      (both-none held (ClosingLine s.level (if h.constructed then end_place h inside else None) ∷ last)
+      (both-none held (ClosingLine s.level (if h.constructed then end_octets_offset h inside else None) ∷ last)
       (none-found (place_of_children p h) (site_of_children s h) inside u.3 r.1)
       (both-none (on_end rules s h inside) (items rules (site_after_holder s h inside) rest) (end-none s h inside)
       (none-found (place_after p (extent h inside)) (site_after_holder s h inside) rest u.4 r.2)))

@@ -15,7 +15,7 @@ use Rattle.tlv_value.specs.declared.finding.Finding.{Finding}
 use Rattle.tlv_walk.specs.declared.ending.Ending.TheVariants.{Done}
 use Rattle.tlv_walk.specs.declared.framing.Framing.{Framing}
 use Rattle.tlv_walk.specs.Ending.{IsEnding}
-use Rattle.tlv_walk.specs.Events.{end_place}
+use Rattle.tlv_walk.specs.Events.{end_octets_offset}
 use Rattle.tlv_walk.specs.Forest.{Forest, NoMore, PaddingOctet, Primitive, Holder, OpenPrimitive, OpenHolder}
 use Rattle.tlv_walk.specs.Forest.{OpenBitString, OpenHeader, OpenEndOctets, extent, spelling}
 use Rattle.tlv_walk.specs.Place.{Place, is_indefinite, place_after, place_of_children, top_place}
@@ -147,11 +147,11 @@ module _ (rules : Rules) (strict : rules ≢ Ber) where
       let last : List Item = on_end rules s h inside ++ items rules (site_after_holder s h inside) rest in
       let held_and_last : List Item =
       items rules (site_of_children s h) inside
-      ++ ClosingLine s.level (if h.constructed then end_place h inside else None) ∷ last in
+      ++ ClosingLine s.level (if h.constructed then end_octets_offset h inside else None) ∷ last in
       let header = none-in (on_header rules s h) (OpeningLine s.level h ∷ held_and_last) e in
       let held =
       none-in (items rules (site_of_children s h) inside)
-      (ClosingLine s.level (if h.constructed then end_place h inside else None) ∷ last) header.1 in
+      (ClosingLine s.level (if h.constructed then end_octets_offset h inside else None) ∷ last) header.1 in
       let others = none-in (on_end rules s h inside) (items rules (site_after_holder s h inside) rest) held.1 in (
         regular rules s h strict u.0.valid header.0,
         all-regular (place_of_children p h) (site_of_children s h) inside u.3 held.0,

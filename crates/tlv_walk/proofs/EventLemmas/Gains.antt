@@ -22,24 +22,24 @@ step_events (Ended g) = events g
 step_events (Refused code) = []
 
 -- the end of an element that holds others, if a step of what it holds is its last
-abbrev pub closing : HeaderValue → PushStep → List EventValue
-closing h (Grown g) = cond (is_filled_by h g) (closing_event h g ∷ []) []
-closing h (Ended g) = closing_event h g ∷ []
-closing h (Refused code) = []
+abbrev pub closing_events : HeaderValue → PushStep → List EventValue
+closing_events h (Grown g) = cond (is_filled_by h g) (closing_event h g ∷ []) []
+closing_events h (Ended g) = closing_event h g ∷ []
+closing_events h (Refused code) = []
 
 -- what the octet x after an open forest brings
-abbrev pub gained : Place → Forest → ℕ → List EventValue
-gained p NoMore x = step_events (push p NoMore x)
-gained p (PaddingOctet rest) x = gained (place_after p 1) rest x
-gained p (Primitive h c rest) x = gained (place_after p (length (octets_of h) + length c)) rest x
-gained p (Holder h inside rest) x = gained (place_after p (extent h inside)) rest x
-gained p (OpenPrimitive h c) x =
+abbrev pub gain_events : Place → Forest → ℕ → List EventValue
+gain_events p NoMore x = step_events (push p NoMore x)
+gain_events p (PaddingOctet rest) x = gain_events (place_after p 1) rest x
+gain_events p (Primitive h c rest) x = gain_events (place_after p (length (octets_of h) + length c)) rest x
+gain_events p (Holder h inside rest) x = gain_events (place_after p (extent h inside)) rest x
+gain_events p (OpenPrimitive h c) x =
     Bytes (x ∷ []) ∷ cond (eqb (length (c ++ x ∷ [])) (announced_length h.size)) (End ∷ []) []
-gained p (OpenHolder h inside) x =
-    gained (place_of_children p h) inside x ++ closing h (push (place_of_children p h) inside x)
-gained p (OpenBitString h) x = cond (eqb x 0) (Unused ∷ closing h (Grown NoMore)) []
-gained p (OpenHeader o) x = step_events (push p (OpenHeader o) x)
-gained p OpenEndOctets x = []
+gain_events p (OpenHolder h inside) x =
+    gain_events (place_of_children p h) inside x ++ closing_events h (push (place_of_children p h) inside x)
+gain_events p (OpenBitString h) x = cond (eqb x 0) (Unused ∷ closing_events h (Grown NoMore)) []
+gain_events p (OpenHeader o) x = step_events (push p (OpenHeader o) x)
+gain_events p OpenEndOctets x = []
 
 -- the events of a step's forest are these, each octet by itself
 abbrev pub Brings : List EventValue → PushStep → Type 0
@@ -95,7 +95,7 @@ holder-brings h yielded more g e =
 holder_so_far-brings : (h : HeaderValue) (yielded more : List EventValue) (g : Forest)
     → single_octets (events g) ≡ single_octets (yielded ++ more)
     → single_octets (events (holder_so_far h g))
-    ≡ single_octets ((opening_events h ++ yielded) ++ (more ++ closing h (Grown g)))
+    ≡ single_octets ((opening_events h ++ yielded) ++ (more ++ closing_events h (Grown g)))
 holder_so_far-brings h yielded more g e = elim (cases_Bool (is_filled_by h g)) [
   | inl full ↦ rw full (holder-brings h yielded more g e)
   | inr less ↦ rw (less, append-nil more) (apart-more (opening_events h) (events g) yielded more e)
@@ -103,7 +103,7 @@ holder_so_far-brings h yielded more g e = elim (cases_Bool (is_filled_by h g)) [
 
 -- a step of what an element holds
 settle-brings : (h : HeaderValue) (yielded more : List EventValue) (s : PushStep) → Brings (yielded ++ more) s
-    → Brings ((opening_events h ++ yielded) ++ (more ++ closing h s)) (settle h s)
+    → Brings ((opening_events h ++ yielded) ++ (more ++ closing_events h s)) (settle h s)
 settle-brings h yielded more (Grown g) e = holder_so_far-brings h yielded more g e
 settle-brings h yielded more (Ended g) e = holder-brings h yielded more g e
 settle-brings h yielded more (Refused code) e = tt
@@ -116,18 +116,18 @@ waiting-opens h false c e = rw (e, c)
 
 -- the first contents octet of a wrapping BIT STRING
 open_bit_string-brings : (h : HeaderValue) (x : ℕ) → lead h ≡ 0 ∷ []
-    → Brings (Enter h ∷ cond (eqb x 0) (Unused ∷ closing h (Grown NoMore)) [])
+    → Brings (Enter h ∷ cond (eqb x 0) (Unused ∷ closing_events h (Grown NoMore)) [])
     (cond (eqb x 0) (Grown (holder_so_far h NoMore)) (Refused BadInside))
 open_bit_string-brings h x e = elim (cases_Bool (eqb x 0)) [
   | inl z ↦ rw z
       (holder_so_far-brings h [] [] NoMore refl
-      ∙ ap (λ (t : List EventValue). single_octets ((t ++ []) ++ closing h (Grown NoMore)))
+      ∙ ap (λ (t : List EventValue). single_octets ((t ++ []) ++ closing_events h (Grown NoMore)))
       (waiting-opens h h.constructed refl e))
   | inr nz ↦ rw nz tt
 ]
 
 -- the events of the forest pushed are those before, and then those that the octet brings
-pub push-brings : (p : Place) (f : Forest) (x : ℕ) → IsOpen p f → Brings (events f ++ gained p f x) (push p f x)
+pub push-brings : (p : Place) (f : Forest) (x : ℕ) → IsOpen p f → Brings (events f ++ gain_events p f x) (push p f x)
 push-brings p NoMore x w = step-brings (push p NoMore x)
 push-brings p (PaddingOctet rest) x w =
     follow-brings PaddingOctet (Pad (0 ∷ []) ∷ []) (events rest) _ _ (λ g. refl)
@@ -142,12 +142,12 @@ push-brings p (Holder h inside rest) x w =
       append_assoc (opening_events h) (events inside ++ closing_event h inside ∷ []) (events g),
       append_assoc (events inside) (closing_event h inside ∷ []) (events g),
     ) in
-    let brings : Brings ((earlier ++ events rest) ++ gained p (Holder h inside rest) x)
+    let brings : Brings ((earlier ++ events rest) ++ gain_events p (Holder h inside rest) x)
     (push p (Holder h inside rest) x) =
     follow-brings (Holder h inside) earlier (events rest) _ _ split
     (push-brings (place_after p (extent h inside)) rest x w.2) in
     subst
-    (λ (es : List EventValue). Brings (es ++ gained p (Holder h inside rest) x) (push p (Holder h inside rest) x))
+    (λ (es : List EventValue). Brings (es ++ gain_events p (Holder h inside rest) x) (push p (Holder h inside rest) x))
     (sym (split rest)) brings
 push-brings p (OpenPrimitive h c) x w = open_primitive-brings h c x
 push-brings p (OpenHolder h inside) x w =

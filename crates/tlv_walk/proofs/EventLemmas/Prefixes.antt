@@ -11,7 +11,7 @@ use Rattle.tlv_walk.proofs.GrammarLemmas.PushSteps.{Grown}
 use Rattle.tlv_walk.proofs.GrammarLemmas.PopHeaders.{back, is_nil, is_push}
 use Rattle.tlv_walk.proofs.GrammarLemmas.Readings.{PoppedBy, popped-by, unique}
 use Rattle.tlv_walk.proofs.EventLemmas.Joined.{apart-before, joined-from_apart}
-use Rattle.tlv_walk.proofs.EventLemmas.Gains.{Brings, gained, push-brings}
+use Rattle.tlv_walk.proofs.EventLemmas.Gains.{Brings, gain_events, push-brings}
 
 -- the events are those, each octet by itself, and then others
 pub record GoesFurther (xs ys : List EventValue) : Type 0 where
@@ -41,9 +41,9 @@ forest-goes_on p (suc n) f g t l w v e = elim (back t) [
   | is_push ys y z ↦
       let e' : spelling g ≡ (spelling f ++ ys) ++ y ∷ [] = rw (append_assoc (spelling f) ys (y ∷ [])) (rw z at e) in
       let q : PoppedBy p g (spelling f ++ ys) y = popped-by p g (spelling f ++ ys) y v e' in
-      let brings : Brings (events q.popped.from ++ gained p q.popped.from q.popped.last) (Grown g) =
+      let brings : Brings (events q.popped.from ++ gain_events p q.popped.from q.popped.last) (Grown g) =
       rw (q.popped.pushed) at (push-brings p q.popped.from q.popped.last q.popped.is_open) in
-      goes-on-after (events f) (events q.popped.from) (events g) (gained p q.popped.from q.popped.last)
+      goes-on-after (events f) (events q.popped.from) (events g) (gain_events p q.popped.from q.popped.last)
       (forest-goes_on p n f q.popped.from ys (omega (arith, ap length z, length-append ys (y ∷ []))) w
       q.popped.is_open q.spelled)
       brings

@@ -11,10 +11,10 @@ use Rattle.tlv_walk.specs.Phase as phase
 use Rattle.tlv_walk.specs.Events.{AreEqualJoined, EventValue, events}
 use Rattle.tlv_walk.specs.Forest.{Forest}
 use Rattle.tlv_walk.specs.Inside.{can_name, is_among}
-use Rattle.tlv_walk.specs.WalkerState.{WalkerState, first_without_wrapper_in}
-use Rattle.tlv_walk.specs.Private.WrapperCount.{next_wrapper, wrappers_after}
+use Rattle.tlv_walk.specs.WalkerState.{WalkerState, unused_of}
+use Rattle.tlv_walk.specs.Private.WrapperCount.{next_wrapper_count, wrapper_count_after}
 use Rattle.tlv_walk.specs.Place.{IsOpen, top_place}
-use Rattle.tlv_walk.specs.Stands.{Stands, filled_ends, is_end_at, waiting_events, waiting_events_in}
+use Rattle.tlv_walk.specs.Stands.{Stands, filled_end_events, is_end_at, waiting_events, waiting_events_in}
 use Rattle.tlv_walk.specs.Wrappers.{first_other, first_without_wrapper, entered_offsets, wrapper_offsets}
 use Rattle.tlv_walk.proofs.EventLemmas.Joined.{apart-from_joined}
 use Rattle.tlv_walk.proofs.EventLemmas.Named.{AreRising, can-to}
@@ -48,7 +48,7 @@ among_rise least end n (offset ∷ offsets) r e = elim (cases_eq n offset) [
 
 -- counting goes on after the first of the list
 next-after : (n : ℕ) (ns : List ℕ) (k offset : ℕ)
-    → next_wrapper (n ∷ ns) (suc k) offset ≡ suc (next_wrapper ns k offset)
+    → next_wrapper_count (n ∷ ns) (suc k) offset ≡ suc (next_wrapper_count ns k offset)
 next-after n ns k offset = by (slice_get ns k)
   where
     by : (o : Option ℕ)
@@ -61,23 +61,23 @@ next-after n ns k offset = by (slice_get ns k)
     ]
 
 found-after : (n : ℕ) (ns : List ℕ) (k : ℕ) (offsets : List ℕ)
-    → wrappers_after (n ∷ ns) (suc k) offsets ≡ suc (wrappers_after ns k offsets)
+    → wrapper_count_after (n ∷ ns) (suc k) offsets ≡ suc (wrapper_count_after ns k offsets)
 found-after n ns k [] = refl
 found-after n ns k (offset ∷ offsets) =
-    ap (λ (j : ℕ). wrappers_after (n ∷ ns) j offsets) (next-after n ns k offset)
-    ∙ found-after n ns (next_wrapper ns k offset) offsets
+    ap (λ (j : ℕ). wrapper_count_after (n ∷ ns) j offsets) (next-after n ns k offset)
+    ∙ found-after n ns (next_wrapper_count ns k offset) offsets
 
 none_there : (k : ℕ) → slice_get {X = ℕ} [] k ≡ None
 none_there k = refl
 
 -- the count is the index of the first offset that is not among the others
 first-found : (inside offsets : List ℕ) (least low end : ℕ) → AreRising least inside → Rise low end offsets
-    → slice_get inside (wrappers_after inside 0 offsets) ≡ first_other inside offsets
-first-found [] offsets least low end r q = none_there (wrappers_after [] 0 offsets)
+    → slice_get inside (wrapper_count_after inside 0 offsets) ≡ first_other inside offsets
+first-found [] offsets least low end r q = none_there (wrapper_count_after [] 0 offsets)
 first-found (n ∷ ns) [] least low end r q = refl
 first-found (n ∷ ns) (offset ∷ offsets) least low end r q = elim (cases_eq n offset) [
   | inl same ↦
-      ap (λ (k : Bool). slice_get (n ∷ ns) (wrappers_after (n ∷ ns) (if k then 1 else 0) offsets))
+      ap (λ (k : Bool). slice_get (n ∷ ns) (wrapper_count_after (n ∷ ns) (if k then 1 else 0) offsets))
       (eq-eqb n offset same)
       ∙ ap (slice_get (n ∷ ns)) (found-after n ns 0 offsets)
       ∙ first-found ns offsets (n + 1) (offset + 1) end r.2 q.1
@@ -85,7 +85,7 @@ first-found (n ∷ ns) (offset ∷ offsets) least low end r q = elim (cases_eq n
       ∙ ap (λ (k : Bool). if not k then Some n else first_other ns (offset ∷ offsets))
       (sym (ap (λ (m : ℕ). is_among n (m ∷ offsets)) (sym same) ∙ is_first n offsets))
   | inr other ↦
-      ap (λ (k : Bool). slice_get (n ∷ ns) (wrappers_after (n ∷ ns) (if k then 1 else 0) offsets))
+      ap (λ (k : Bool). slice_get (n ∷ ns) (wrapper_count_after (n ∷ ns) (if k then 1 else 0) offsets))
       (ne_eqb n offset other)
       ∙ first-found (n ∷ ns) offsets least (offset + 1) end r q.1
       ∙ elim (cases_Bool (is_among n offsets)) [
@@ -100,7 +100,7 @@ first-found (n ∷ ns) (offset ∷ offsets) least low end r q = elim (cases_eq n
 -- ---- of a walker
 
 -- the events that wait enter no wrapper
-ends_enter_none : (offset : ℕ) (fs : List FrameValue) → entered_offsets (filled_ends offset fs) ≡ []
+ends_enter_none : (offset : ℕ) (fs : List FrameValue) → entered_offsets (filled_end_events offset fs) ≡ []
 ends_enter_none offset [] = refl
 ends_enter_none offset (f ∷ fs) = elim (cases_Bool (is_end_at f.end offset)) [
   | inl e ↦ elim (cases_Bool f.wrapper) [
@@ -139,16 +139,16 @@ yielded_wrappers framing yielded waits f v none e =
 pub yielded_unused : (framing : Framing) (yielded waits : List EventValue) (f : Forest)
     → can_name framing.inside ≡ true → IsOpen (top_place framing) f → entered_offsets waits ≡ []
     → AreEqualJoined (yielded ++ waits) (events f)
-    → slice_get framing.inside (wrappers_after framing.inside 0 (entered_offsets yielded))
+    → slice_get framing.inside (wrapper_count_after framing.inside 0 (entered_offsets yielded))
     ≡ first_without_wrapper framing.inside f
 yielded_unused framing yielded waits f named v none e =
     let same : entered_offsets yielded ≡ wrapper_offsets f = yielded_wrappers framing yielded waits f v none e in
-    ap (λ (offsets : List ℕ). slice_get framing.inside (wrappers_after framing.inside 0 offsets)) same
+    ap (λ (offsets : List ℕ). slice_get framing.inside (wrapper_count_after framing.inside 0 offsets)) same
     ∙ first-found framing.inside (wrapper_offsets f) 0 (top_place framing).offset _ (can-to framing.inside named).1
     (wrapper_offsets-rise (top_place framing) f v)
 
 pub stands_unused : (w : WalkerState) (b : List ℕ) (yielded : List EventValue) → (st : Stands w b yielded)
-    → first_without_wrapper_in w ≡ first_without_wrapper w.framing.inside st.has_events.reading
+    → unused_of w ≡ first_without_wrapper w.framing.inside st.has_events.reading
 stands_unused w b yielded st =
     ap (slice_get w.framing.inside) st.private_state.found
     ∙ yielded_unused w.framing yielded (waiting_events w) st.has_events.reading st.private_state.named
@@ -156,7 +156,7 @@ stands_unused w b yielded st =
 
 -- it is the first that no event yielded entered
 pub stands-entered : (w : WalkerState) (b : List ℕ) (yielded : List EventValue) → Stands w b yielded
-    → first_without_wrapper_in w ≡ first_other w.framing.inside (entered_offsets yielded)
+    → unused_of w ≡ first_other w.framing.inside (entered_offsets yielded)
 stands-entered w b yielded st =
     stands_unused w b yielded st
     ∙ ap (first_other w.framing.inside)

@@ -9,7 +9,7 @@ use Rattle.tlv_walk.specs.Inside.{is_among}
 use Rattle.tlv_walk.specs.Place.{IsHeaderAt, IsOpen, Place, place_after, place_of_children}
 use Rattle.tlv_walk.specs.Events.{Begin, Bytes, Close, End, Enter, EventValue, Leave, Open, Pad, Unused, closing_event}
 use Rattle.tlv_walk.specs.Events.{events, opening_events, single_octets}
-use Rattle.tlv_walk.specs.Wrappers.{wrapper_at, entered_offsets, wrapper_offsets}
+use Rattle.tlv_walk.specs.Wrappers.{entered_offsets, wrapper_at, wrapper_by, wrapper_offsets}
 use Rattle.tlv_walk.proofs.GrammarLemmas.Spellings.{length-holder, length-opening, length-primitive}
 use Rattle.tlv_walk.proofs.GrammarLemmas.PopHeaders.{header-length}
 
@@ -59,7 +59,7 @@ enters-unused (x ∷ l) es = enters-unused l es
 -- the first event of an element that holds others, by its form
 enters-first : (h : HeaderValue) (constructed : Bool) (es : List EventValue)
     → entered_offsets ((if constructed then Open h else Enter h) ∷ es)
-    ≡ (if constructed then [] else h.offset ∷ []) ++ entered_offsets es
+    ≡ wrapper_by constructed h.offset ++ entered_offsets es
 enters-first h true es = refl
 enters-first h false es = refl
 

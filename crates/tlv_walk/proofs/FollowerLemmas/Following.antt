@@ -18,7 +18,8 @@ use Rattle.tlv_walk.specs.Private.FollowsPiece.{Follows, FollowsPiece, BeginEven
 use Rattle.tlv_walk.specs.Private.FollowsPiece.{WalksToFault}
 use Rattle.tlv_walk.specs.Private.FollowsPiece.{follow_states}
 use Rattle.tlv_walk.specs.Forest.{Forest}
-use Rattle.tlv_walk.specs.WalkerState.{IsAfterEvent, WalkerState}
+use Rattle.tlv_walk.specs.Phase.{IsAfterEvent}
+use Rattle.tlv_walk.specs.WalkerState.{WalkerState}
 use Rattle.tlv_io.specs.Out.{Puts}
 use Rattle.tlv_walk.specs.Reading.{IsReading}
 use Rattle.tlv_walk.specs.Stands.{Stands, waiting_events}

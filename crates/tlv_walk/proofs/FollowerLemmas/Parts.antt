@@ -21,16 +21,17 @@ use Rattle.tlv_walk.specs.Private.FollowsPiece.{TakesPartOrNone, FollowStates, W
 use Rattle.tlv_walk.specs.Private.WalkerState.{CanPass, Passes, header_at}
 use Rattle.tlv_walk.specs.Private.Yields.{YieldsEvents}
 use Rattle.tlv_walk.proofs.FollowerLemmas.Following.{HasFollowed, made_both, made_put, walked_both, walked_goes_on}
-use Rattle.tlv_walk.proofs.WalkerLemmas.Passing.{passed, yields_primitive}
+use Rattle.tlv_walk.proofs.WalkerLemmas.Passing.{walker_after_primitive, yields_primitive}
 use Rattle.tlv_io.proofs.Puts.{puts_as, puts_failed_last, puts_then_as}
 use Rattle.tlv_walk.proofs.WalkerLemmas.Standing.{stands_all}
 
 -- a primitive that lies whole at the front of a piece
 pub walked_primitive : (w : WalkerState) (piece : List ℕ) (p : WholePrimitive) → CanPass w piece p
-    → WalksOver w (passed w p 0) piece (drop p.octets piece) (whole_events (header_at p piece) (take p.octets piece))
-walked_primitive w piece p can = stands_all w _ piece (drop p.octets piece) _ (record {
-  taken = take p.octets piece;
-  piece_is = sym (take-append-drop p.octets piece);
+    → WalksOver w (walker_after_primitive w p 0) piece (drop p.octet_count piece)
+    (whole_events (header_at p piece) (take p.octet_count piece))
+walked_primitive w piece p can = stands_all w _ piece (drop p.octet_count piece) _ (record {
+  taken = take p.octet_count piece;
+  piece_is = sym (take-append-drop p.octet_count piece);
   continues = yields_primitive w piece p 0 can;
 })
 
@@ -80,15 +81,15 @@ module _ {S : Type 0} (next : S → EventValue → Effect S) where
     pub part_whole : {T : Type 0} (x y : FollowStates S D) (piece rest : List ℕ) (p : WholePrimitive)
         (h : HeaderValue) (r : T)
         → h ≡ header_at p piece
-        → y.follower ≡ (effect_of next x.follower (whole_events h (take p.octets piece))).state
-        → (effect_of next x.follower (whole_events h (take p.octets piece))).goes ≡ go.On
+        → y.follower ≡ (effect_of next x.follower (whole_events h (take p.octet_count piece))).state
+        → (effect_of next x.follower (whole_events h (take p.octet_count piece))).goes ≡ go.On
         → Puts {T = T} {E = WriteFault} state_of x.out y.out
-        (effect_of next x.follower (whole_events h (take p.octets piece))).put (Ok r)
-        → YieldsEvents x.walker y.walker piece rest (whole_events (header_at p piece) (take p.octets piece))
+        (effect_of next x.follower (whole_events h (take p.octet_count piece))).put (Ok r)
+        → YieldsEvents x.walker y.walker piece rest (whole_events (header_at p piece) (take p.octet_count piece))
         → Passes x.walker y.walker piece rest
         → FollowsPart next state_of x y piece rest (Ok true)
     part_whole x y piece rest p h r same state goes put yields passes =
-        let all : List EventValue = whole_events h (take p.octets piece) in record {
+        let all : List EventValue = whole_events h (take p.octet_count piece) in record {
           more = all;
           takes = record {
             follows = record {
@@ -97,7 +98,7 @@ module _ {S : Type 0} (next : S → EventValue → Effect S) where
                   stands_all x.walker y.walker piece rest all
                   (subst
                   (λ (g : HeaderValue). YieldsEvents x.walker y.walker piece rest
-                  (whole_events g (take p.octets piece)))
+                  (whole_events g (take p.octet_count piece)))
                   (sym same) yields);
             };
             passes = passes;
@@ -113,17 +114,18 @@ module _ {S : Type 0} (next : S → EventValue → Effect S) where
         (h : HeaderValue) (e f : WriteFault)
         → CanPass x.walker piece p → h ≡ header_at p piece
         → Puts {T = T} {E = WriteFault} state_of x.out y.out
-        (effect_of next x.follower (whole_events h (take p.octets piece))).put (Err e)
+        (effect_of next x.follower (whole_events h (take p.octet_count piece))).put (Err e)
         → FollowsPart next state_of x y piece rest (Err f)
     part_fails x y piece rest p h e f can same put = record {
-      more = whole_events h (take p.octets piece);
+      more = whole_events h (take p.octet_count piece);
       takes = record {
         yields =
-            walked_goes_on x.walker (passed x.walker p 0) piece (drop p.octets piece)
-            (whole_events h (take p.octets piece))
+            walked_goes_on x.walker (walker_after_primitive x.walker p 0) piece (drop p.octet_count piece)
+            (whole_events h (take p.octet_count piece))
             (subst
-            (λ (g : HeaderValue). WalksOver x.walker (passed x.walker p 0) piece (drop p.octets piece)
-            (whole_events g (take p.octets piece)))
+            (λ (g : HeaderValue). WalksOver x.walker (walker_after_primitive x.walker p 0) piece
+            (drop p.octet_count piece)
+            (whole_events g (take p.octet_count piece)))
             (sym same) (walked_primitive x.walker piece p can));
       };
       puts = puts_failed_last state_of x.out y.out _ e (Err f) put refl;

@@ -27,7 +27,7 @@ use Rattle.tlv_walk.specs.Private.ResultOfPause.{IsResultOfPause, run_of}
 use Rattle.tlv_walk.specs.Private.FollowsPiece.{FollowsAndFlushes, FollowsToFault, FollowsToEnough, Pauses, FollowsAll}
 use Rattle.tlv_walk.specs.Private.FollowsPiece.{FollowStates, WalksOver, WalksToFault, follow_states}
 use Rattle.tlv_walk.specs.Forest.{Forest, spelling}
-use Rattle.tlv_walk.specs.WalkerState.{WalkerState, first_without_wrapper_in}
+use Rattle.tlv_walk.specs.WalkerState.{WalkerState, unused_of}
 use Rattle.tlv_io.specs.Out.{Sends, drain_of}
 use Rattle.tlv_walk.specs.Reading.{AreOctets, IsReading}
 use Rattle.tlv_walk.specs.Stands.{Stands}
@@ -48,7 +48,7 @@ use Rattle.tlv_walk.proofs.FollowerLemmas.Pauses.{walked_refused}
 
 -- the run of a walker with these counts
 run_with : (run : Run) (v : WalkerState) (e : Ending) (k : Bool) (n : ℕ) (u : Option ℕ) → run ≡ run_of v e k
-    → v.offset ≡ n → first_without_wrapper_in v ≡ u
+    → v.offset ≡ n → unused_of v ≡ u
     → run ≡ record { ending = run.ending; octets = n; enough = k; unused = u }
 run_with run v e k n u is p q =
     is ∙ ap₂ (λ (x : ℕ) (y : Option ℕ). record { ending = e; octets = x; enough = k; unused = y }) p q

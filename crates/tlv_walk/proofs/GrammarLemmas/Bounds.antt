@@ -1,5 +1,5 @@
 -- Bounds and lengths as tests, and what they say of an element's contents.
-use Rattle.std.proofs.Common.{◌≡◌, inl, inr, ℕ, ◌+◌, ◌≤◌, Bool, true, false, not, ◌||◌, eqb, leb, if◌then◌else◌, List}
+use Rattle.std.proofs.Common.{◌≡◌, inl, inr, ℕ, ◌+◌, ◌≤◌, Bool, true, false, not, ◌||◌, eqb, leb, List}
 use Rattle.std.proofs.Common.{[], ◌∷◌, length, Option, Some, None, IfSome, refl, arith, eq-eqb, ne_eqb, eqb-true}
 use Rattle.std.proofs.Common.{le-leb, leb-true}
 use Rattle.std.proofs.lemmas.Bool.{cases_Bool, eqb-false, not-true}
@@ -8,27 +8,27 @@ use Rattle.tlv_head.specs.declared.header.Class.TheVariants.{Universal, Applicat
 use Rattle.tlv_head.specs.declared.header.Size.{Size}
 use Rattle.tlv_head.specs.declared.header.Size.TheVariants.{Definite, Indefinite}
 use Rattle.tlv_head.specs.Header.{HeaderValue, announced_length, holds, is_wrapper, octets_of}
-use Rattle.tlv_walk.specs.Forest.{end_octets, lead}
+use Rattle.tlv_walk.specs.Forest.{end_octets, lead, lead_by}
 use Rattle.tlv_walk.proofs.GrammarLemmas.Spellings.{length-opening}
 use Rattle.tlv_walk.specs.Place.{Fits, Place, bound_in, is_indefinite, place_of_children}
 use Rattle.tlv_walk.proofs.GrammarLemmas.Lengths.{HasLength, LacksOctets}
 
 -- the offset n is not past the bound
-abbrev pub within : Option ℕ → ℕ → Bool
-within None n = true
-within (Some b) n = leb n b
+abbrev pub is_within_bound : Option ℕ → ℕ → Bool
+is_within_bound None n = true
+is_within_bound (Some b) n = leb n b
 
 -- `Fits` as a test
 abbrev pub fits : Place → ℕ → Bool
-fits p n = within p.bound (p.offset + n)
+fits p n = is_within_bound p.bound (p.offset + n)
 
 -- what the test says
-pub within-fits : (b : Option ℕ) (n : ℕ) → within b n ≡ true → IfSome b (λ b. n ≤ b)
+pub within-fits : (b : Option ℕ) (n : ℕ) → is_within_bound b n ≡ true → IfSome b (λ b. n ≤ b)
 within-fits None n e = tt
 within-fits (Some b) n e = leb-true n b e
 
 -- if the test says so
-pub fits-within : (b : Option ℕ) (n : ℕ) → IfSome b (λ b. n ≤ b) → within b n ≡ true
+pub fits-within : (b : Option ℕ) (n : ℕ) → IfSome b (λ b. n ≤ b) → is_within_bound b n ≡ true
 fits-within None n e = refl
 fits-within (Some b) n e = le-leb n b e
 
@@ -125,14 +125,10 @@ pub lacks-within : (s : Size) (start : ℕ) (outside : Option ℕ) (m : ℕ) →
 lacks-within (Definite n) start outside m e less = omega arith
 lacks-within Indefinite start outside m e less = absurd (cc)
 
--- `lead`, by the fields
-abbrev lead_of : Bool → ℕ → List ℕ
-lead_of constructed number = if constructed then [] else (if eqb number 3 then 0 ∷ [] else [])
-
 -- `lead-announced`, by the fields
 lead-least : (constructed named : Bool) (class : Class) (number : ℕ) (size : Size)
     → (constructed || is_wrapper named class constructed number size) ≡ true
-    → length (lead_of constructed number) ≤ announced_length size
+    → length (lead_by constructed (eqb number 3)) ≤ announced_length size
 lead-least true named class number size e = omega arith
 lead-least false false class number size e = absurd (cc)
 lead-least false true Application number size e = absurd (cc)
@@ -151,8 +147,8 @@ pub lead-announced_length : (h : HeaderValue) → holds h ≡ true → length (l
 lead-announced_length h e = lead-least h.constructed h.named h.class h.number h.size e
 
 -- `lead-zero`, by the fields
-lead-cases : (constructed : Bool) (number x : ℕ) (xs : List ℕ) → lead_of constructed number ≡ x ∷ xs
-    → lead_of constructed number ≡ 0 ∷ []
+lead-cases : (constructed : Bool) (number x : ℕ) (xs : List ℕ) → lead_by constructed (eqb number 3) ≡ x ∷ xs
+    → lead_by constructed (eqb number 3) ≡ 0 ∷ []
 lead-cases true number x xs e = absurd (cc)
 lead-cases false number x xs e = elim (cases_Bool (eqb number 3)) [
   | inl three ↦ rw three

@@ -6,17 +6,12 @@ use Rattle.tlv_head.specs.declared.header.Class.TheVariants.{Universal, Applicat
 use Rattle.tlv_head.specs.declared.header.Size.TheVariants.{Definite, Indefinite}
 use Rattle.tlv_walk.specs.declared.ending.Ending.TheVariants.{Done}
 use Rattle.tlv_walk.specs.declared.framing.Framing.{Framing}
+use Rattle.tlv_walk.specs.Framing.{plain_framing}
 use Rattle.tlv_walk.specs.Ending.{fault_ending}
 use Rattle.tlv_walk.specs.Forest.{NoMore, PaddingOctet, Primitive, Holder, OpenHolder, OpenHeader}
 use Rattle.tlv_walk.specs.Wrappers.{first_without_wrapper}
-use Rattle.tlv_walk.proofs.GrammarLemmas.Readings.{reading}
+use Rattle.tlv_walk.proofs.GrammarLemmas.Readings.{reading, padding_framing}
 use Rattle.tlv_walk.proofs.GrammarLemmas.Endings.{ending}
-
-abbrev plain : Framing
-plain = record { inside = []; padding = false }
-
-abbrev padded : Framing
-padded = record { inside = []; padding = true }
 
 abbrev naming_first : Framing
 naming_first = record { inside = 0 ∷ []; padding = false }
@@ -28,7 +23,7 @@ abbrev padded_naming : Framing
 padded_naming = record { inside = 0 ∷ []; padding = true }
 
 -- 02 01 05
-an-integer : reading plain (2 ∷ 1 ∷ 5 ∷ [])
+an-integer : reading plain_framing (2 ∷ 1 ∷ 5 ∷ [])
     ≡ Primitive
     (record {
       offset =
@@ -47,11 +42,11 @@ an-integer : reading plain (2 ∷ 1 ∷ 5 ∷ [])
     (5 ∷ []) NoMore
 an-integer = refl
 
-an-integer-done : ending plain (2 ∷ 1 ∷ 5 ∷ []) ≡ Done
+an-integer-done : ending plain_framing (2 ∷ 1 ∷ 5 ∷ []) ≡ Done
 an-integer-done = refl
 
 -- 3a 09, and two segments
-segments : reading plain (58 ∷ 9 ∷ 4 ∷ 3 ∷ 74 ∷ 111 ∷ 110 ∷ 4 ∷ 2 ∷ 101 ∷ 115 ∷ [])
+segments : reading plain_framing (58 ∷ 9 ∷ 4 ∷ 3 ∷ 74 ∷ 111 ∷ 110 ∷ 4 ∷ 2 ∷ 101 ∷ 115 ∷ [])
     ≡ Holder
     (record {
       offset =
@@ -102,11 +97,11 @@ segments : reading plain (58 ∷ 9 ∷ 4 ∷ 3 ∷ 74 ∷ 111 ∷ 110 ∷ 4 ∷ 
     NoMore
 segments = refl
 
-segments-done : ending plain (58 ∷ 9 ∷ 4 ∷ 3 ∷ 74 ∷ 111 ∷ 110 ∷ 4 ∷ 2 ∷ 101 ∷ 115 ∷ []) ≡ Done
+segments-done : ending plain_framing (58 ∷ 9 ∷ 4 ∷ 3 ∷ 74 ∷ 111 ∷ 110 ∷ 4 ∷ 2 ∷ 101 ∷ 115 ∷ []) ≡ Done
 segments-done = refl
 
 -- 3a 80, two segments, and 00 00
-indefinite-segments : reading plain (58 ∷ 128 ∷ 4 ∷ 3 ∷ 74 ∷ 111 ∷ 110 ∷ 4 ∷ 2 ∷ 101 ∷ 115 ∷ 0 ∷ 0 ∷ [])
+indefinite-segments : reading plain_framing (58 ∷ 128 ∷ 4 ∷ 3 ∷ 74 ∷ 111 ∷ 110 ∷ 4 ∷ 2 ∷ 101 ∷ 115 ∷ 0 ∷ 0 ∷ [])
     ≡ Holder
     (record {
       offset =
@@ -158,7 +153,7 @@ indefinite-segments : reading plain (58 ∷ 128 ∷ 4 ∷ 3 ∷ 74 ∷ 111 ∷ 1
 indefinite-segments = refl
 
 -- 30 03 02 02 01: the second 02 announces an octet too many
-an-overrun-reading : reading plain (48 ∷ 3 ∷ 2 ∷ 2 ∷ 1 ∷ [])
+an-overrun-reading : reading plain_framing (48 ∷ 3 ∷ 2 ∷ 2 ∷ 1 ∷ [])
     ≡ OpenHolder
     (record {
       offset =
@@ -177,36 +172,36 @@ an-overrun-reading : reading plain (48 ∷ 3 ∷ 2 ∷ 2 ∷ 1 ∷ [])
     (OpenHeader (2 ∷ []))
 an-overrun-reading = refl
 
-an-overrun : ending plain (48 ∷ 3 ∷ 2 ∷ 2 ∷ 1 ∷ []) ≡ fault_ending Overrun 3
+an-overrun : ending plain_framing (48 ∷ 3 ∷ 2 ∷ 2 ∷ 1 ∷ []) ≡ fault_ending Overrun 3
 an-overrun = refl
 
-header-cut-off : ending plain (48 ∷ 1 ∷ 2 ∷ []) ≡ fault_ending Short 3
+header-cut-off : ending plain_framing (48 ∷ 1 ∷ 2 ∷ []) ≡ fault_ending Short 3
 header-cut-off = refl
 
-header-past-its-element : ending plain (48 ∷ 1 ∷ 2 ∷ 0 ∷ []) ≡ fault_ending Overrun 3
+header-past-its-element : ending plain_framing (48 ∷ 1 ∷ 2 ∷ 0 ∷ []) ≡ fault_ending Overrun 3
 header-past-its-element = refl
 
-indefinite-cut-off : ending plain (48 ∷ 128 ∷ 2 ∷ 1 ∷ 5 ∷ []) ≡ fault_ending Short 5
+indefinite-cut-off : ending plain_framing (48 ∷ 128 ∷ 2 ∷ 1 ∷ 5 ∷ []) ≡ fault_ending Short 5
 indefinite-cut-off = refl
 
-zeros-in-a-definite-element : ending plain (48 ∷ 2 ∷ 0 ∷ 0 ∷ []) ≡ fault_ending StrayEnd 2
+zeros-in-a-definite-element : ending plain_framing (48 ∷ 2 ∷ 0 ∷ 0 ∷ []) ≡ fault_ending StrayEnd 2
 zeros-in-a-definite-element = refl
 
-second-zero-wrong : ending plain (48 ∷ 128 ∷ 0 ∷ 1 ∷ []) ≡ fault_ending BadEnd 3
+second-zero-wrong : ending plain_framing (48 ∷ 128 ∷ 0 ∷ 1 ∷ []) ≡ fault_ending BadEnd 3
 second-zero-wrong = refl
 
 -- 30 05 30 80 02 01 05: what no octet can repair is F02 at the end of the input, and F05 at one more
-no-room-for-an-end-yet : ending plain (48 ∷ 5 ∷ 48 ∷ 128 ∷ 2 ∷ 1 ∷ 5 ∷ []) ≡ fault_ending Short 7
+no-room-for-an-end-yet : ending plain_framing (48 ∷ 5 ∷ 48 ∷ 128 ∷ 2 ∷ 1 ∷ 5 ∷ []) ≡ fault_ending Short 7
 no-room-for-an-end-yet = refl
 
-no-room-for-an-end : ending plain (48 ∷ 5 ∷ 48 ∷ 128 ∷ 2 ∷ 1 ∷ 5 ∷ 0 ∷ []) ≡ fault_ending MissingEnd 7
+no-room-for-an-end : ending plain_framing (48 ∷ 5 ∷ 48 ∷ 128 ∷ 2 ∷ 1 ∷ 5 ∷ 0 ∷ []) ≡ fault_ending MissingEnd 7
 no-room-for-an-end = refl
 
-no-room-for-the-second-zero : ending plain (48 ∷ 3 ∷ 48 ∷ 128 ∷ 0 ∷ 0 ∷ []) ≡ fault_ending MissingEnd 5
+no-room-for-the-second-zero : ending plain_framing (48 ∷ 3 ∷ 48 ∷ 128 ∷ 0 ∷ 0 ∷ []) ≡ fault_ending MissingEnd 5
 no-room-for-the-second-zero = refl
 
 -- 5f 1f 01 00
-application-31 : reading plain (95 ∷ 31 ∷ 1 ∷ 0 ∷ [])
+application-31 : reading plain_framing (95 ∷ 31 ∷ 1 ∷ 0 ∷ [])
     ≡ Primitive
     (record {
       offset =
@@ -226,7 +221,7 @@ application-31 : reading plain (95 ∷ 31 ∷ 1 ∷ 0 ∷ [])
 application-31 = refl
 
 -- 1f 02 01 05
-high-form-of-2 : reading plain (31 ∷ 2 ∷ 1 ∷ 5 ∷ [])
+high-form-of-2 : reading plain_framing (31 ∷ 2 ∷ 1 ∷ 5 ∷ [])
     ≡ Primitive
     (record {
       offset =
@@ -246,7 +241,7 @@ high-form-of-2 : reading plain (31 ∷ 2 ∷ 1 ∷ 5 ∷ [])
 high-form-of-2 = refl
 
 -- 9f 81, seven 80, 00 00
-nine-octets-of-number : reading plain (159 ∷ 129 ∷ 128 ∷ 128 ∷ 128 ∷ 128 ∷ 128 ∷ 128 ∷ 128 ∷ 0 ∷ 0 ∷ [])
+nine-octets-of-number : reading plain_framing (159 ∷ 129 ∷ 128 ∷ 128 ∷ 128 ∷ 128 ∷ 128 ∷ 128 ∷ 128 ∷ 0 ∷ 0 ∷ [])
     ≡ Primitive
     (record {
       offset =
@@ -268,27 +263,27 @@ nine-octets-of-number : reading plain (159 ∷ 129 ∷ 128 ∷ 128 ∷ 128 ∷ 1
     [] NoMore
 nine-octets-of-number = refl
 
-ten-octets-of-number : ending plain (159 ∷ 129 ∷ 128 ∷ 128 ∷ 128 ∷ 128 ∷ 128 ∷ 128 ∷ 128 ∷ 128 ∷ [])
+ten-octets-of-number : ending plain_framing (159 ∷ 129 ∷ 128 ∷ 128 ∷ 128 ∷ 128 ∷ 128 ∷ 128 ∷ 128 ∷ 128 ∷ [])
     ≡ fault_ending TagTooLong 9
 ten-octets-of-number = refl
 
-long-form-done : ending plain (4 ∷ 129 ∷ 3 ∷ 170 ∷ 187 ∷ 204 ∷ []) ≡ Done
+long-form-done : ending plain_framing (4 ∷ 129 ∷ 3 ∷ 170 ∷ 187 ∷ 204 ∷ []) ≡ Done
 long-form-done = refl
 
-lengths-reserved : ending plain (4 ∷ 255 ∷ []) ≡ fault_ending ReservedLength 1
+lengths-reserved : ending plain_framing (4 ∷ 255 ∷ []) ≡ fault_ending ReservedLength 1
 lengths-reserved = refl
 
 -- 04 85 and five ff: 2^40 - 1 octets are announced, and none comes
-length-of-2^40 : ending plain (4 ∷ 133 ∷ 255 ∷ 255 ∷ 255 ∷ 255 ∷ 255 ∷ []) ≡ fault_ending Short 7
+length-of-2^40 : ending plain_framing (4 ∷ 133 ∷ 255 ∷ 255 ∷ 255 ∷ 255 ∷ 255 ∷ []) ≡ fault_ending Short 7
 length-of-2^40 = refl
 
-four-deep : ending plain (48 ∷ 128 ∷ 48 ∷ 128 ∷ 48 ∷ 128 ∷ 48 ∷ 128 ∷ 0 ∷ 0 ∷ 0 ∷ 0 ∷ 0 ∷ 0 ∷ 0 ∷ 0 ∷ []) ≡ Done
+four-deep : ending plain_framing (48 ∷ 128 ∷ 48 ∷ 128 ∷ 48 ∷ 128 ∷ 48 ∷ 128 ∷ 0 ∷ 0 ∷ 0 ∷ 0 ∷ 0 ∷ 0 ∷ 0 ∷ 0 ∷ []) ≡ Done
 four-deep = refl
 
-two-nulls : ending plain (5 ∷ 0 ∷ 5 ∷ 0 ∷ []) ≡ Done
+two-nulls : ending plain_framing (5 ∷ 0 ∷ 5 ∷ 0 ∷ []) ≡ Done
 two-nulls = refl
 
-zeros-at-the-top : ending plain (5 ∷ 0 ∷ 0 ∷ 0 ∷ []) ≡ fault_ending StrayEnd 2
+zeros-at-the-top : ending plain_framing (5 ∷ 0 ∷ 0 ∷ 0 ∷ []) ≡ fault_ending StrayEnd 2
 zeros-at-the-top = refl
 
 -- 04 05 30 03 02 01 07, named
@@ -344,7 +339,7 @@ octets-wrapped : reading naming_first (4 ∷ 5 ∷ 48 ∷ 3 ∷ 2 ∷ 1 ∷ 7 �
 octets-wrapped = refl
 
 -- the same, not named
-octets-not-named : reading plain (4 ∷ 5 ∷ 48 ∷ 3 ∷ 2 ∷ 1 ∷ 7 ∷ [])
+octets-not-named : reading plain_framing (4 ∷ 5 ∷ 48 ∷ 3 ∷ 2 ∷ 1 ∷ 7 ∷ [])
     ≡ Primitive
     (record {
       offset =
@@ -419,7 +414,7 @@ second-name-unused : first_without_wrapper (0 ∷ 1 ∷ []) (reading naming_two 
 second-name-unused = refl
 
 -- 00 00 05 00 00 00 05 00 00, with padding
-nulls-among-padding : reading padded (0 ∷ 0 ∷ 5 ∷ 0 ∷ 0 ∷ 0 ∷ 5 ∷ 0 ∷ 0 ∷ [])
+nulls-among-padding : reading padding_framing (0 ∷ 0 ∷ 5 ∷ 0 ∷ 0 ∷ 0 ∷ 5 ∷ 0 ∷ 0 ∷ [])
     ≡ PaddingOctet
     (PaddingOctet
     (Primitive
@@ -459,13 +454,13 @@ nulls-among-padding : reading padded (0 ∷ 0 ∷ 5 ∷ 0 ∷ 0 ∷ 0 ∷ 5 ∷ 
     [] (PaddingOctet NoMore))))))
 nulls-among-padding = refl
 
-padding-not-allowed : ending plain (0 ∷ 0 ∷ 5 ∷ 0 ∷ 0 ∷ 0 ∷ 5 ∷ 0 ∷ 0 ∷ []) ≡ fault_ending StrayEnd 0
+padding-not-allowed : ending plain_framing (0 ∷ 0 ∷ 5 ∷ 0 ∷ 0 ∷ 0 ∷ 5 ∷ 0 ∷ 0 ∷ []) ≡ fault_ending StrayEnd 0
 padding-not-allowed = refl
 
-padding-alone : ending padded (0 ∷ 0 ∷ 0 ∷ []) ≡ fault_ending Empty 3
+padding-alone : ending padding_framing (0 ∷ 0 ∷ 0 ∷ []) ≡ fault_ending Empty 3
 padding-alone = refl
 
-zeros-inside-are-no-padding : ending padded (48 ∷ 2 ∷ 0 ∷ 0 ∷ []) ≡ fault_ending StrayEnd 2
+zeros-inside-are-no-padding : ending padding_framing (48 ∷ 2 ∷ 0 ∷ 0 ∷ []) ≡ fault_ending StrayEnd 2
 zeros-inside-are-no-padding = refl
 
 zeros-wrapped-are-no-padding : ending padded_naming (4 ∷ 2 ∷ 0 ∷ 0 ∷ []) ≡ fault_ending StrayEnd 2

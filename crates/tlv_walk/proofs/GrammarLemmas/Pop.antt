@@ -7,7 +7,7 @@ use Rattle.tlv_head.specs.Header.{HeaderValue, announced_length, octets_of}
 use Rattle.tlv_walk.specs.Forest.{Forest, Holder, NoMore, OpenBitString, OpenEndOctets, OpenHeader, OpenHolder}
 use Rattle.tlv_walk.specs.Forest.{OpenPrimitive, PaddingOctet, Primitive, contents_length, end_octets, extent, is_whole}
 use Rattle.tlv_walk.specs.Forest.{lead, opening, spelling}
-use Rattle.tlv_walk.specs.Place.{Fits, IsEntry, IsHeaderAt, IsOpen, Place, is_indefinite, place_after}
+use Rattle.tlv_walk.specs.Place.{Fits, IsAnnouncedAt, IsHeaderAt, IsOpen, Place, is_indefinite, place_after}
 use Rattle.tlv_walk.specs.Place.{place_of_children}
 use Rattle.tlv_walk.proofs.GrammarLemmas.Lengths.{LacksOctets}
 use Rattle.tlv_walk.proofs.GrammarLemmas.Bounds.{IsEndless, HasAllContents, definite-length, fits-inside, fits-within}
@@ -89,7 +89,7 @@ holder_so_far-open h f lacks = elim (cases_Bool (is_whole f)) [
 ]
 
 -- contents before the last octet lack octets
-lacks-before : (p : Place) (h : HeaderValue) (f g : Forest) (x : ℕ) → IsEntry p true h
+lacks-before : (p : Place) (h : HeaderValue) (f g : Forest) (x : ℕ) → IsAnnouncedAt p true h
     → IsOpen (place_of_children p h) g → spelling g ≡ spelling f ++ x ∷ [] → LacksOctets h.size (contents_length h f)
 lacks-before p h f g x entry w spelled =
     within-lacks h.size (p.offset + length (octets_of h)) p.bound (contents_length h f)
@@ -98,13 +98,14 @@ lacks-before p h f g x entry w spelled =
     (reaches (place_of_children p h) g (fits-inside p h entry.header.form entry.fits) w))
 
 -- an element that holds octets is popped by the last of them, or by that of what comes before
-settled : (p : Place) (h : HeaderValue) (inside g : Forest) → IsEntry p true h → IsOpen (place_of_children p h) inside
+holder_so_far-popped : (p : Place) (h : HeaderValue) (inside g : Forest) → IsAnnouncedAt p true h
+    → IsOpen (place_of_children p h) inside
     → (inside ≡ NoMore) ⊎ Popped (place_of_children p h) inside
     → holder_so_far h inside ≡ g → spelling g ≡ opening h ++ spelling inside → Popped p g
-settled p h inside g entry w (inl stop) same spelled =
+holder_so_far-popped p h inside g entry w (inl stop) same spelled =
     let same' : holder_so_far h NoMore ≡ g = ap (holder_so_far h) (sym stop) ∙ same in
     rw same' at (lead-popped p h (lead h) refl entry)
-settled p h inside g entry w (inr q) same spelled = record {
+holder_so_far-popped p h inside g entry w (inr q) same spelled = record {
   from = OpenHolder h q.from;
   last = q.last;
   is_open = ((entry, λ _. lacks-before p h q.from inside q.last entry w q.spelled), q.is_open);
@@ -207,13 +208,13 @@ definite-popped p h inside i w v below =
     let test : has_length h.size (contents_length h inside) ≡ true = definite-length h.size _ i w.2 in
     let full : HasAllContents h.size (contents_length h inside) = length-full h.size _ test in
     let none : length (end_octets h.size) ≡ 0 = ap length full.ends in
-    let entry : IsEntry p true h = record {
+    let entry : IsAnnouncedAt p true h = record {
       header = w.0.header;
       shallow = w.0.shallow;
       fits = within-le p.bound _ _ (omega (arith, full.all, length-opening h)) w.0.fits;
     } in
     let filled : is_filled_by h inside ≡ true = and_from _ _ w.1 test in
-    settled p h inside (Holder h inside NoMore) entry v below (rw filled)
+    holder_so_far-popped p h inside (Holder h inside NoMore) entry v below (rw filled)
     (ap (λ (t : List ℕ). opening h ++ (spelling inside ++ (t ++ []))) full.ends
     ∙ ap (λ (t : List ℕ). opening h ++ t) (append-nil (spelling inside)))
 
@@ -272,7 +273,7 @@ pop p (Holder h inside rest) w = inr (elim (pop (place_after p (extent h inside)
 pop p (OpenPrimitive h c) w = inr (open_primitive-popped p h c w)
 pop p (OpenHolder h inside) w =
     inr
-    (settled p h inside (OpenHolder h inside) w.0.0 w.1 (pop (place_of_children p h) inside w.1)
+    (holder_so_far-popped p h inside (OpenHolder h inside) w.0.0 w.1 (pop (place_of_children p h) inside w.1)
     (holder_so_far-open h inside w.0.1) refl)
 pop p (OpenBitString h) w = inr (holder_begun-popped p h (0 ∷ []) w.1 w.0)
 pop p (OpenHeader o) w = inr (elim (back o) [

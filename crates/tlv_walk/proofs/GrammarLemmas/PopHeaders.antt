@@ -10,7 +10,7 @@ use Rattle.tlv_head.specs.Refusal.{IsHeaderPrefix}
 use Rattle.tlv_head.proofs.GrammarLemmas.Scan.{Origin, Scan, Fresh, High, Named, Long, Ready, Stuck, Over, origin_of}
 use Rattle.tlv_head.proofs.GrammarLemmas.Scan.{scan, scan_from-append, scan-header, is_more, more-from_prefix}
 use Rattle.tlv_walk.specs.Forest.{Forest, NoMore, OpenBitString, OpenHeader, lead, opening, spelling}
-use Rattle.tlv_walk.specs.Place.{Fits, IsEntry, IsHeaderAt, IsOpen, Place}
+use Rattle.tlv_walk.specs.Place.{Fits, IsAnnouncedAt, IsHeaderAt, IsOpen, Place}
 use Rattle.tlv_walk.proofs.GrammarLemmas.Bounds.{fits-within, lead-zero, within-le}
 use Rattle.tlv_walk.proofs.GrammarLemmas.PushSteps.{Grown, begin, complete, element_begun, holder_begun, holder_so_far}
 use Rattle.tlv_walk.proofs.GrammarLemmas.PushSteps.{origin, push}
@@ -128,7 +128,7 @@ header-popped p h k header d f = elim (back (octets_of h)) [
 ]
 
 -- an element that holds none yet is popped by the last octet of its header
-pub holder_begun-popped : (p : Place) (h : HeaderValue) (l : List ℕ) → lead h ≡ l → IsEntry p true h
+pub holder_begun-popped : (p : Place) (h : HeaderValue) (l : List ℕ) → lead h ≡ l → IsAnnouncedAt p true h
     → Popped p (holder_begun h l)
 holder_begun-popped p h l e entry =
     let r : Popped p (holder_begun h (lead h)) =
@@ -136,7 +136,7 @@ holder_begun-popped p h l e entry =
     rw (ap (holder_begun h) e) at r
 
 -- an element that holds none yet
-pub lead-popped : (p : Place) (h : HeaderValue) (l : List ℕ) → lead h ≡ l → IsEntry p true h
+pub lead-popped : (p : Place) (h : HeaderValue) (l : List ℕ) → lead h ≡ l → IsAnnouncedAt p true h
     → Popped p (holder_so_far h NoMore)
 lead-popped p h [] e entry = holder_begun-popped p h [] e entry
 lead-popped p h (x ∷ xs) e entry =

@@ -13,7 +13,7 @@ use Rattle.tlv_head.proofs.GrammarLemmas.Meaning.{IsStateAfter, reads-step, read
 use Rattle.tlv_walk.specs.Forest.{Forest, Holder, NoMore, OpenBitString, OpenEndOctets, OpenHeader, OpenHolder}
 use Rattle.tlv_walk.specs.Forest.{OpenPrimitive, PaddingOctet, Primitive, contents_length, end_octets, extent, is_whole}
 use Rattle.tlv_walk.specs.Forest.{lead, opening, spelling}
-use Rattle.tlv_walk.specs.Place.{Fits, IsEntry, IsHeaderAt, IsOpen, Place, place_after, place_of_children}
+use Rattle.tlv_walk.specs.Place.{Fits, IsAnnouncedAt, IsHeaderAt, IsOpen, Place, place_after, place_of_children}
 use Rattle.tlv_walk.proofs.GrammarLemmas.Lengths.{LacksOctets}
 use Rattle.tlv_walk.proofs.GrammarLemmas.Bounds.{IsEndless, HasAllContents, fits, fits-inside, has_length, indefinite-endless}
 use Rattle.tlv_walk.proofs.GrammarLemmas.Bounds.{lead-zero, length-full, length-lacks, within-fits, within-le}
@@ -99,7 +99,8 @@ primitive_so_far-sound p h c n header e most f =
     ]
 
 -- an element that holds others, with all its contents octets by its definite length
-pub holder-sound : (p : Place) (h : HeaderValue) (g : Forest) → IsEntry p true h → IsOpen (place_of_children p h) g
+pub holder-sound : (p : Place) (h : HeaderValue) (g : Forest) → IsAnnouncedAt p true h
+    → IsOpen (place_of_children p h) g
     → is_whole g ≡ true → HasAllContents h.size (contents_length h g)
     → Spells p (opening h ++ spelling g) (Holder h g NoMore)
 holder-sound p h g entry w whole full =
@@ -132,7 +133,7 @@ unfilled-lacks p h g e whole there =
     _ (within-le (place_of_children p h).bound _ _ (omega (arith, length-opening h)) there) short
 
 -- what an element holds is open: so is the element
-pub holder_so_far-sound : (p : Place) (h : HeaderValue) (g : Forest) → IsEntry p true h
+pub holder_so_far-sound : (p : Place) (h : HeaderValue) (g : Forest) → IsAnnouncedAt p true h
     → IsOpen (place_of_children p h) g → Spells p (opening h ++ spelling g) (holder_so_far h g)
 holder_so_far-sound p h g entry w = elim (cases_Bool (is_filled_by h g)) [
   | inl e ↦
@@ -145,7 +146,7 @@ holder_so_far-sound p h g entry w = elim (cases_Bool (is_filled_by h g)) [
 ]
 
 -- an element that holds none yet
-holder_begun-sound : (p : Place) (h : HeaderValue) (l : List ℕ) → lead h ≡ l → IsEntry p true h
+holder_begun-sound : (p : Place) (h : HeaderValue) (l : List ℕ) → lead h ≡ l → IsAnnouncedAt p true h
     → Spells p (octets_of h) (holder_begun h l)
 holder_begun-sound p h [] e entry =
     let r : Spells p (opening h ++ []) (holder_so_far h NoMore) = holder_so_far-sound p h NoMore entry tt in
@@ -325,7 +326,7 @@ holder-step p h inside o (Ended g) w v r = record {
 holder-step p h inside o (Refused code) w v r = tt
 
 -- a step of what an element holds
-open_holder-step : (p : Place) (h : HeaderValue) (o : List ℕ) (s : PushStep) → IsEntry p true h
+open_holder-step : (p : Place) (h : HeaderValue) (o : List ℕ) (s : PushStep) → IsAnnouncedAt p true h
     → IsStep (place_of_children p h) o s → IsStep p (opening h ++ o) (settle h s)
 open_holder-step p h o (Grown g) entry r =
     let e : Spells p (opening h ++ spelling g) (holder_so_far h g) = holder_so_far-sound p h g entry r.is_open in

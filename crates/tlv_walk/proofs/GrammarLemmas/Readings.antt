@@ -1,5 +1,6 @@
 -- Open forests by their spellings, and the reading of an input.
-use Rattle.std.proofs.Common.{◌≡◌, inl, inr, ℕ, zero, suc, ◌<◌, ◌≤◌, List, [], ◌∷◌, ◌++◌, length, All, refl, sym, ap}
+use Rattle.std.proofs.Common.{◌≡◌, inl, inr, ℕ, zero, suc, ◌<◌, ◌≤◌, true, List, [], ◌∷◌, ◌++◌, length, All, refl, sym}
+use Rattle.std.proofs.Common.{ap}
 use Rattle.std.proofs.Common.{◌∙◌, arith, append_assoc, append-nil, length-append}
 use Rattle.std.proofs.lemmas.Bool.{cases_lt, true≢false}
 use Rattle.std.proofs.lemmas.List.{same_from_push}
@@ -15,6 +16,10 @@ use Rattle.tlv_walk.proofs.GrammarLemmas.PushSteps.{PushStep, Grown, Ended, Refu
 use Rattle.tlv_walk.proofs.GrammarLemmas.Push.{push-sound}
 use Rattle.tlv_walk.proofs.GrammarLemmas.PopHeaders.{Popped, back, is_nil, is_push}
 use Rattle.tlv_walk.proofs.GrammarLemmas.Pop.{pop}
+
+-- no string is read as encodings, and there is padding
+abbrev pub padding_framing : Framing
+padding_framing = record { inside = []; padding = true }
 
 -- a forest, popped by this octet
 pub record PoppedBy (p : Place) (f : Forest) (o : List ℕ) (x : ℕ) : Type 0 where
@@ -117,13 +122,13 @@ abbrev pub push_all : Framing → List ℕ → PushRun
 push_all w b = push_all_from w (Going NoMore) b
 
 -- what was taken
-abbrev pub forest_of : PushRun → Forest
-forest_of (Going f) = f
-forest_of (Halted f code) = f
+abbrev pub run_forest : PushRun → Forest
+run_forest (Going f) = f
+run_forest (Halted f code) = f
 
 -- what pushing gives, up to the first octet that is refused
 abbrev pub reading : Framing → List ℕ → Forest
-reading w b = forest_of (push_all w b)
+reading w b = run_forest (push_all w b)
 
 -- the octet after the forest is refused
 pub record IsHalt (w : Framing) (f : Forest) (code : FaultCode) (b : List ℕ) : Type 0 where
@@ -197,7 +202,7 @@ halt-longest w f code b r g v q = elim (cases_lt (length (spelling f)) (length (
 ]
 
 -- a right push_all holds the reading
-pub run-reading : (w : Framing) (r : PushRun) (b : List ℕ) → IsRightRun w r b → IsReading w b (forest_of r)
+pub run-reading : (w : Framing) (r : PushRun) (b : List ℕ) → IsRightRun w r b → IsReading w b (run_forest r)
 run-reading w (Going f) b r = record {
   is_open = r.is_open;
   is_prefix = ([], append-nil (spelling f) ∙ r.spelled);
@@ -218,7 +223,7 @@ pub reading-longer : (w : Framing) (f : Forest) (b xs : List ℕ) → All (λ x.
     → spelling f ≡ b → (g : Forest) × IsReading w (b ++ xs) g
 reading-longer w f b xs each r e =
     let k : PushRun = push_all_from w (Going f) xs in (
-      forest_of k,
+      run_forest k,
       run-reading w k (b ++ xs) (run_from-run w (Going f) b xs each (record {
         is_open = r.is_open;
         spelled = e;

@@ -1,24 +1,25 @@
 -- Sound elements can be spelled with headers as short as they can be, and lengths of one form; the strings that
 -- hold elements are named where they then are.
-use Rattle.std.proofs.Common.{◌≡◌, ◌≢◌, not, ℕ, ◌+◌, ◌*◌, ◌^◌, ◌<◌, ◌≤◌, Bool, true, false, List, [], ◌∷◌, ◌++◌, length}
-use Rattle.std.proofs.Common.{refl, sym, ap, ap₂, ◌∙◌, arith, subst, length-append}
+use Rattle.std.proofs.Common.{◌≡◌, ◌≢◌, not, eqb, ℕ, ◌+◌, ◌*◌, ◌^◌, ◌<◌, ◌≤◌, Bool, true, false, List, [], ◌∷◌, ◌++◌}
+use Rattle.std.proofs.Common.{length, refl, sym, ap, ap₂, ◌∙◌, arith, subst, length-append}
 use Rattle.tlv_head.specs.declared.header.Size.{Size}
 use Rattle.tlv_head.specs.declared.header.Size.TheVariants.{Definite}
 use Rattle.tlv_head.specs.Header.{HeaderValue, IsHeader, is_wrapper, identifier_octet, octets_of}
 use Rattle.tlv_head.proofs.ShortestLemmas.Shortest.{identifier-some, lengths-some}
 use Rattle.tlv_walk.specs.Alike.{AreAlike, HaveNoUniversalZero, holders, nothing, padding, primitives}
 use Rattle.tlv_walk.specs.Forest.{Forest, NoMore, PaddingOctet, Primitive, Holder, OpenPrimitive, OpenHolder}
-use Rattle.tlv_walk.specs.Forest.{OpenBitString, OpenHeader, OpenEndOctets, end_octets, extent, lead, opening, spelling}
+use Rattle.tlv_walk.specs.Forest.{OpenBitString, OpenHeader, OpenEndOctets, end_octets, extent, lead, lead_by, opening}
+use Rattle.tlv_walk.specs.Forest.{spelling}
 use Rattle.tlv_walk.specs.Inside.{is_among}
 use Rattle.tlv_walk.specs.Place.{Place, place_after, place_of_children}
 use Rattle.tlv_walk.specs.Reading.{IsSound}
-use Rattle.tlv_walk.specs.Wrappers.{wrapper_offsets}
+use Rattle.tlv_walk.specs.Wrappers.{wrapper_by, wrapper_offsets}
 use Rattle.tlv_walk.proofs.GrammarLemmas.Alike.{AreRegular}
 use Rattle.tlv_walk.proofs.GrammarLemmas.PopHeaders.{header-length}
 use Rattle.tlv_walk.proofs.GrammarLemmas.Spellings.{length-holder, length-opening, length-primitive}
 use Rattle.tlv_walk.proofs.GrammarLemmas.ShortHeaders.{Octets, header_of, octets-in, header-valid, header-shortest}
 use Rattle.tlv_walk.proofs.GrammarLemmas.ShortHeaders.{octets-for, header-some, size-for, size-below, size-form}
-use Rattle.tlv_walk.proofs.GrammarLemmas.ShortHeaders.{size-length, allows-size, lead-for, lead-short, own, own-there}
+use Rattle.tlv_walk.proofs.GrammarLemmas.ShortHeaders.{size-length, allows-size, lead-short, own-there}
 use Rattle.tlv_walk.proofs.GrammarLemmas.ShortHeaders.{own-apart, in-first, in-second, in-third, not-holding, Holds}
 use Rattle.tlv_walk.proofs.GrammarLemmas.ShortHeaders.{holds-again, moved}
 
@@ -60,19 +61,19 @@ pub record Spelling (form : Bool → Bool) (p : Place) (f : Forest) : Type 0 whe
 
 -- what is named of an element that holds others and of those after it, by where it is: what it holds is `begins` octets
 -- on, and what is after it `far` octets on
-abbrev joined : (constructed : Bool) (inner others : ℕ → List ℕ) (begins far : ℕ) → ℕ → List ℕ
-joined constructed inner others begins far offset =
-    own constructed offset ++ (inner (offset + begins) ++ others (offset + far))
+abbrev joint_names : (constructed : Bool) (inner others : ℕ → List ℕ) (begins far : ℕ) → ℕ → List ℕ
+joint_names constructed inner others begins far offset =
+    wrapper_by constructed offset ++ (inner (offset + begins) ++ others (offset + far))
 
 -- if it holds `count` octets, and `rest` octets are after it
 record JoinsOffsets (constructed : Bool) (inner others : ℕ → List ℕ) (begins count far rest : ℕ) : Type 0 where
-  pub after : ComeAfter (joined constructed inner others begins far)
-  pub within : AreWithin (joined constructed inner others begins far) (far + rest)
-  pub of_own : (offset : ℕ) → is_among offset (joined constructed inner others begins far offset) ≡ not constructed
+  pub after : ComeAfter (joint_names constructed inner others begins far)
+  pub within : AreWithin (joint_names constructed inner others begins far) (far + rest)
+  pub of_own : (offset : ℕ) → is_among offset (joint_names constructed inner others begins far offset) ≡ not constructed
   pub of_inner : (offset i : ℕ) → offset + begins ≤ i → i < offset + begins + count
-      → is_among i (joined constructed inner others begins far offset) ≡ is_among i (inner (offset + begins))
+      → is_among i (joint_names constructed inner others begins far offset) ≡ is_among i (inner (offset + begins))
   pub of_others : (offset i : ℕ) → offset + far ≤ i
-      → is_among i (joined constructed inner others begins far offset) ≡ is_among i (others (offset + far))
+      → is_among i (joint_names constructed inner others begins far offset) ≡ is_among i (others (offset + far))
 
 joins : (constructed : Bool) (inner others : ℕ → List ℕ) (begins count far rest : ℕ) → 1 ≤ begins → begins + count ≤ far
     → ComeAfter inner → AreWithin inner count → ComeAfter others → AreWithin others rest
@@ -80,26 +81,26 @@ joins : (constructed : Bool) (inner others : ℕ → List ℕ) (begins count far
 joins constructed inner others begins count far rest some on inner_after inner_within others_after others_within =
     record {
       after = λ offset i less.
-          in-third i (own constructed offset) (inner (offset + begins)) (others (offset + far))
+          in-third i (wrapper_by constructed offset) (inner (offset + begins)) (others (offset + far))
           (own-apart constructed offset i (λ e. omega (arith, less, e)))
           (inner_after (offset + begins) i (omega (arith, less)))
           ∙ others_after (offset + far) i (omega (arith, less));
       within = λ offset i more.
-          in-third i (own constructed offset) (inner (offset + begins)) (others (offset + far))
+          in-third i (wrapper_by constructed offset) (inner (offset + begins)) (others (offset + far))
           (own-apart constructed offset i (λ e. omega (arith, more, e, some, on)))
           (inner_within (offset + begins) i (omega (arith, more, on)))
           ∙ others_within (offset + far) i (omega (arith, more));
       of_own = λ offset.
-          in-first offset (own constructed offset) (inner (offset + begins)) (others (offset + far))
+          in-first offset (wrapper_by constructed offset) (inner (offset + begins)) (others (offset + far))
           (inner_after (offset + begins) offset (omega (arith, some)))
           (others_after (offset + far) offset (omega (arith, some, on)))
           ∙ own-there constructed offset;
       of_inner = λ offset i least most.
-          in-second i (own constructed offset) (inner (offset + begins)) (others (offset + far))
+          in-second i (wrapper_by constructed offset) (inner (offset + begins)) (others (offset + far))
           (own-apart constructed offset i (λ e. omega (arith, least, some, e)))
           (others_after (offset + far) i (omega (arith, most, on)));
       of_others = λ offset i least.
-          in-third i (own constructed offset) (inner (offset + begins)) (others (offset + far))
+          in-third i (wrapper_by constructed offset) (inner (offset + begins)) (others (offset + far))
           (own-apart constructed offset i (λ e. omega (arith, least, some, on, e)))
           (inner_within (offset + begins) i (omega (arith, least, on)));
     }
@@ -199,10 +200,10 @@ module _ (form : Bool → Bool) (definite : form false ≡ false) where
       → (held : Spelling form (place_of_children p h) inside)
       → Holds h constructed (form constructed) (length held.octets)
       → (o : Octets h constructed
-      (size-for (form constructed) (length (lead-for constructed h.number) + length held.octets)))
+      (size-for (form constructed) (length (lead_by constructed (eqb h.number 3)) + length held.octets)))
       → Spelling form (place_after p (extent h inside)) rest → Spelling form p (Holder h inside rest)
   spelling-holder p h inside rest constructed is valid few held holding o r =
-      let first : List ℕ = lead-for constructed h.number in
+      let first : List ℕ = lead_by constructed (eqb h.number 3) in
       let m : ℕ = length first + length held.octets in
       let size : Size = size-for (form constructed) m in
       let begins : List ℕ = octets-in h constructed size o ++ first in
@@ -221,10 +222,10 @@ module _ (form : Bool → Bool) (definite : form false ≡ false) where
       let joint : JoinsOffsets constructed held.names r.names (length begins) (length held.octets) far (length r.octets) =
       joins constructed held.names r.names (length begins) (length held.octets) far (length r.octets) some (omega arith)
       held.names_after held.names_within r.names_after r.names_within in
-      let lead_is : length first ≡ length (lead h) = ap (λ (k : Bool). length (lead-for k h.number)) (sym is) in
+      let lead_is : length first ≡ length (lead h) = ap (λ (k : Bool). length (lead_by k (eqb h.number 3))) (sym is) in
       record {
         octets = begins ++ (held.octets ++ (ends ++ r.octets));
-        names = joined constructed held.names r.names (length begins) far;
+        names = joint_names constructed held.names r.names (length begins) far;
         short =
             let id : 1 ≤ length h.identifier =
             identifier-some h.class h.constructed h.number h.identifier valid.identifier in
@@ -295,7 +296,7 @@ module _ (form : Bool → Bool) (definite : form false ≡ false) where
                 t.regular,
               );
               spelled = ap₂ (λ (x y : List ℕ). begins ++ (x ++ (ends ++ y))) i.spelled t.spelled;
-              names_are = ap₂ (λ (x y : List ℕ). own constructed q.offset ++ (x ++ y)) i.names_are others_are;
+              names_are = ap₂ (λ (x y : List ℕ). wrapper_by constructed q.offset ++ (x ++ y)) i.names_are others_are;
             };
       }
 

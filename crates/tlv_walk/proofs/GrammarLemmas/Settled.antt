@@ -9,15 +9,16 @@ use Rattle.tlv_head.specs.Header.{HeaderValue, octets_of}
 use Rattle.tlv_walk.specs.declared.framing.Framing.{Framing}
 use Rattle.tlv_walk.specs.Forest.{Forest, Holder, NoMore, contents_length, is_whole, opening, spelling}
 use Rattle.tlv_walk.specs.Place.{Fits, IsOpen, Place, bound_in, place_after, place_of_children, top_place}
-use Rattle.tlv_walk.specs.Stack.{IsFilled}
+use Rattle.tlv_walk.specs.Private.Stack.{IsFilled}
 use Rattle.tlv_walk.specs.Private.Zipper.{AreLayers, AreWhole, Layer, frames_of, place_in, spelling_of_layers}
 use Rattle.tlv_walk.specs.Stands.{is_end_at}
 use Rattle.tlv_walk.proofs.GrammarLemmas.Bounds.{HasAllContents, fits-inside, has_length, length-full}
 use Rattle.tlv_walk.proofs.GrammarLemmas.PushSteps.{Spells, is_filled_by}
 use Rattle.tlv_walk.proofs.GrammarLemmas.Push.{holder-sound, reaches, unfilled-lacks}
 use Rattle.tlv_walk.proofs.GrammarLemmas.Spellings.{length-opening}
-use Rattle.tlv_walk.proofs.WalkerLemmas.Zipper.{followed_by, open-followed_by, open-within, settled}
-use Rattle.tlv_walk.proofs.WalkerLemmas.Zipper.{spelling-followed_by, spelling-within, whole-followed_by, within}
+use Rattle.tlv_walk.proofs.WalkerLemmas.Zipper.{followed_by, open-followed_by, open-within, settled_forest}
+use Rattle.tlv_walk.proofs.WalkerLemmas.Zipper.{spelling-followed_by, spelling-within, whole-followed_by}
+use Rattle.tlv_walk.proofs.WalkerLemmas.Zipper.{forest_in_layers}
 
 -- where the whole elements end that are there, and before that
 abbrev pub end_in : Framing → List Layer → Forest → ℕ
@@ -65,7 +66,7 @@ filled-ended w l ls f a i e =
 -- an element that is not filled lacks octets
 pub unfilled-room : (w : Framing) (l : Layer) (ls : List Layer) (f : Forest) → AreLayers w (l ∷ ls)
     → AreWhole (place_in w (l ∷ ls)) f → is_filled_by l.header f ≡ false
-    → IsOpen (top_place w) (within (l ∷ ls) f)
+    → IsOpen (top_place w) (forest_in_layers (l ∷ ls) f)
 unfilled-room w l ls f a i e =
     let p : Place = place_after (place_in w ls) (length (spelling l.before)) in
     let there : Fits (place_of_children p l.header) (length (spelling f)) =
@@ -74,14 +75,14 @@ unfilled-room w l ls f a i e =
 
 -- they are open, and spell the octets of the layers and then their own
 pub settled-spells : (w : Framing) (ls : List Layer) (f : Forest) → AreLayers w ls → AreWhole (place_in w ls) f
-    → Spells (top_place w) (spelling_of_layers ls ++ spelling f) (settled ls f)
+    → Spells (top_place w) (spelling_of_layers ls ++ spelling f) (settled_forest ls f)
 settled-spells w [] f a i = record { is_open = i.is_open; spelled = refl }
 settled-spells w (l ∷ ls) f a i = elim (cases_Bool (is_filled_by l.header f)) [
   | inl e ↦
       let d : IsEnded w l ls f = filled-ended w l ls f a i e in
       let r : Spells (top_place w)
       (spelling_of_layers ls ++ spelling (followed_by l.before (Holder l.header f NoMore)))
-      (settled ls (followed_by l.before (Holder l.header f NoMore))) =
+      (settled_forest ls (followed_by l.before (Holder l.header f NoMore))) =
       settled-spells w ls (followed_by l.before (Holder l.header f NoMore)) a.0 d.are_whole in
       let s : spelling_of_layers ls ++ (spelling l.before ++ (opening l.header ++ spelling f))
       ≡ (spelling_of_layers ls ++ (spelling l.before ++ opening l.header)) ++ spelling f =
@@ -123,7 +124,7 @@ end-there (Some n) offset e = ap Some (eqb-true n offset e)
 
 -- if the innermost open element is not filled, no element ends
 pub settled-within : (w : Framing) (ls : List Layer) (f : Forest) → (IsFilled (frames_of w ls) (end_in w ls f) → ⊥)
-    → settled ls f ≡ within ls f
+    → settled_forest ls f ≡ forest_in_layers ls f
 settled-within w [] f n = refl
 settled-within w (l ∷ ls) f n = elim (cases_Bool (is_filled_by l.header f)) [
   | inl e ↦

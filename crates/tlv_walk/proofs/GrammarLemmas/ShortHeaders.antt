@@ -14,9 +14,10 @@ use Rattle.tlv_head.specs.Shortest.{IsShortest}
 use Rattle.tlv_head.proofs.ShortestLemmas.LengthOctets.{FewLengths, few-lengths}
 use Rattle.tlv_head.proofs.ShortestLemmas.Shortest.{identifier-le, identifier-some}
 use Rattle.tlv_head.proofs.ShortestLemmas.ShortestSpelling.{ShortIdentifier, ShortLength, short-identifier}
-use Rattle.tlv_walk.specs.Forest.{end_octets}
+use Rattle.tlv_walk.specs.Forest.{end_octets, lead_by}
 use Rattle.tlv_walk.specs.Inside.{is_among}
 use Rattle.tlv_walk.specs.Place.{is_indefinite}
+use Rattle.tlv_walk.specs.Wrappers.{wrapper_by}
 use Rattle.tlv_walk.proofs.GrammarLemmas.Lengths.{HasLength}
 
 -- ---- headers
@@ -118,11 +119,8 @@ allows-size true t m e = refl
 allows-size false false m e = refl
 allows-size false true m e = absurd (true≢false (e refl))
 
--- the contents octets of a wrapper before what it holds
-abbrev pub lead-for : Bool → ℕ → List ℕ
-lead-for constructed number = if constructed then [] else (if eqb number 3 then 0 ∷ [] else [])
-
-pub lead-short : (constructed : Bool) (number : ℕ) → length (lead-for constructed number) ≤ 1
+-- at most one contents octet comes before what a wrapper holds
+pub lead-short : (constructed : Bool) (number : ℕ) → length (lead_by constructed (eqb number 3)) ≤ 1
 lead-short true number = omega arith
 lead-short false number = one (eqb number 3) where
   one : (k : Bool) → length {A = ℕ} (if k then 0 ∷ [] else []) ≤ 1
@@ -131,15 +129,12 @@ lead-short false number = one (eqb number 3) where
 
 -- ---- what is named
 
--- what is named of an element that holds others
-abbrev pub own : Bool → ℕ → List ℕ
-own constructed offset = if constructed then [] else offset ∷ []
-
-pub own-there : (constructed : Bool) (offset : ℕ) → is_among offset (own constructed offset) ≡ not constructed
+-- of an element that holds others, its offset is named, if it is a wrapper
+pub own-there : (constructed : Bool) (offset : ℕ) → is_among offset (wrapper_by constructed offset) ≡ not constructed
 own-there true offset = refl
 own-there false offset = ap (λ k. k || false) (eq-eqb offset offset refl)
 
-pub own-apart : (constructed : Bool) (offset i : ℕ) → i ≢ offset → is_among i (own constructed offset) ≡ false
+pub own-apart : (constructed : Bool) (offset i : ℕ) → i ≢ offset → is_among i (wrapper_by constructed offset) ≡ false
 own-apart true offset i apart = refl
 own-apart false offset i apart = ap (λ k. k || false) (ne_eqb offset i (λ e. apart (sym e)))
 
@@ -203,7 +198,7 @@ string-nonzero class number s z =
 
 -- with as many contents octets as it has before what it holds, and more
 string-wraps : (class : Class) (number : ℕ) (t : Bool) (n : ℕ) → IsString class number → t ≡ false
-    → is_wrapper true class false number (size-for t (length (lead-for false number) + n)) ≡ true
+    → is_wrapper true class false number (size-for t (length (lead_by false (eqb number 3)) + n)) ≡ true
 string-wraps class number true n s e = absurd (true≢false e)
 string-wraps class number false n s e = elim s.kind [
   | inl four ↦ rw (s.universal, four) refl
@@ -218,7 +213,7 @@ pub record Holds (h : HeaderValue) (constructed : Bool) (t : Bool) (n : ℕ) : T
   pub nonzero : identifier_octet h.class constructed h.number ≢ 0
   pub again : (constructed
       || is_wrapper (not constructed) h.class constructed h.number
-      (size-for t (length (lead-for constructed h.number) + n)))
+      (size-for t (length (lead_by constructed (eqb h.number 3)) + n)))
       ≡ true
 
 pub holds-again : (h : HeaderValue) (constructed t : Bool) (n : ℕ) → (constructed ≡ false → t ≡ false)

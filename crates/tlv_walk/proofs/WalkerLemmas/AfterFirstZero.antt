@@ -8,12 +8,11 @@ use Rattle.tlv_walk.specs.declared.event.Step.TheVariants as step
 use Rattle.tlv_walk.specs.declared.framing.Framing.{Framing}
 use Rattle.tlv_walk.specs.Phase as phase
 use Rattle.tlv_walk.specs.Ending.{IsEnding}
-use Rattle.tlv_walk.specs.Events.{EventValue}
+use Rattle.tlv_walk.specs.Events.{EventValue, event_value_of}
 use Rattle.tlv_walk.specs.WalkerState.{WalkerState}
 use Rattle.tlv_walk.specs.Place.{IsWithin}
 use Rattle.tlv_walk.specs.Private.Stack.{room_to}
 use Rattle.tlv_walk.specs.Private.Zipper.{HasZipper}
-use Rattle.tlv_walk.specs.HasRead.{event_value_of}
 use Rattle.tlv_walk.specs.Private.Yields.{Continues, RefusesOctet, YieldsEvent, YieldsFault, YieldsStep}
 use Rattle.tlv_walk.proofs.WalkerLemmas.Moves.{continues_both}
 
@@ -37,7 +36,7 @@ module _ (old middle new : WalkerState) (x : ℕ) (first : Continues old middle 
     piece_is = ap (λ (o : List ℕ). x ∷ o) r.piece_is;
     rest_is = r.rest_is;
     refuses = λ b yielded s has.
-        let one = first.goes b yielded s has in
+        let one = first.keeps_zipper b yielded s has in
         let two = r.refuses (b ++ x ∷ []) (yielded ++ []) one.0 one.1 in
         let spelled : (b ++ x ∷ []) ++ r.taken ≡ b ++ x ∷ r.taken = append_assoc b (x ∷ []) r.taken in record {
           walker = two.walker;

@@ -14,16 +14,16 @@ use Rattle.tlv_walk.specs.Forest.{opening, spelling}
 use Rattle.tlv_walk.specs.Wrappers.{entered_offsets}
 use Rattle.std.proofs.lemmas.Bool.{cases_Bool}
 use Rattle.tlv_walk.specs.WalkerState.{WalkerState}
-use Rattle.tlv_walk.specs.Private.WrapperCount.{wrappers_after}
-use Rattle.tlv_walk.specs.Place.{Fits, IsEntry, IsOpen, IsWithin, Place, bound_in, is_indefinite, place_after}
+use Rattle.tlv_walk.specs.Private.WrapperCount.{wrapper_count_after}
+use Rattle.tlv_walk.specs.Place.{Fits, IsAnnouncedAt, IsOpen, IsWithin, Place, bound_in, is_indefinite, place_after}
 use Rattle.tlv_walk.proofs.GrammarLemmas.Lengths.{HasLength}
-use Rattle.tlv_walk.specs.Stack.{FrameValue, IsFilled, IsInIndefinite, IsInWrapper, bound_of}
-use Rattle.tlv_walk.specs.Private.Stack.{innermost_wraps}
+use Rattle.tlv_walk.specs.Stack.{FrameValue, IsInIndefinite, IsInWrapper, bound_of}
+use Rattle.tlv_walk.specs.Private.Stack.{IsFilled, innermost_wraps}
 use Rattle.tlv_walk.specs.Private.Yields.{Continues}
 use Rattle.tlv_walk.specs.Private.Zipper.{AreWhole, NoTail, HasZipper, EndOctetsTail, Layer, Tail, Zipper}
 use Rattle.tlv_walk.specs.Private.Zipper.{events_of_layers, events_of_tail, frame_at, frames_of, place_in, place_of}
 use Rattle.tlv_walk.specs.Private.Zipper.{spelling_of_layers, spelling_of_tail}
-use Rattle.tlv_walk.specs.Stands.{filled_end}
+use Rattle.tlv_walk.specs.Stands.{filled_end_event}
 use Rattle.tlv_walk.proofs.WalkerLemmas.Moves.{began, between_tail, closed_here, continues_both, lone_tail, phase_at}
 use Rattle.tlv_walk.proofs.WalkerLemmas.Moves.{tail_state, yields_zero, yielded_more, with_layers, with_tail}
 use Rattle.tlv_walk.proofs.WalkerLemmas.Places.{definite-size, walker-offset}
@@ -67,7 +67,7 @@ yielded_closed yielded ls l here whole h =
 
 closed_whole : (w : WalkerState) (l : Layer) (ls : List Layer) (here : Forest)
     → AreWhole (place_in w.framing ls) l.before
-    → IsEntry (place_after (place_in w.framing ls) (length (spelling l.before))) true l.header
+    → IsAnnouncedAt (place_after (place_in w.framing ls) (length (spelling l.before))) true l.header
     → AreWhole (place_in w.framing (l ∷ ls)) here → HasLength l.header.size (contents_length l.header here)
     → Fits (place_after (place_in w.framing ls) (length (spelling l.before))) (extent l.header here)
     → AreWhole (place_in w.framing ls) (closed_here l here)
@@ -180,7 +180,7 @@ pub yields_second : (w : WalkerState) → w.phase ≡ phase.InEndOctets → IsWi
 yields_second w e room = record {
   framing = refl;
   found = refl;
-  goes = λ b yielded s has.
+  keeps_zipper = λ b yielded s has.
       let t = lone_tail s.tail _ (phase_at w b yielded s _ e has) in
       let has' : HasZipper w b yielded (with_tail s EndOctetsTail) = tail_state w b yielded s _ t has in
       second_from w b yielded s s.layers has' (phase_at w b yielded (with_tail s EndOctetsTail) _ e has') room;
@@ -201,7 +201,7 @@ filled_from : (w : WalkerState) (b : List ℕ) (yielded : List EventValue) (s : 
     → (f : FrameValue) (fs : List FrameValue) → w.stack ≡ f ∷ fs → f.end ≡ Some w.offset
     → (t : Zipper)
     × HasZipper (record w { stack = drop 1 w.stack; events = w.events + 1 }) (b ++ [])
-    (yielded ++ filled_end f ∷ []) t
+    (yielded ++ filled_end_event f ∷ []) t
 filled_from w b yielded s [] has e f fs is full = absurd (cc (has.stack))
 filled_from w b yielded s (l ∷ ls) has e f fs is full =
     let p : Place = place_after (place_in w.framing ls) (length (spelling l.before)) in
@@ -214,8 +214,8 @@ filled_from w b yielded s (l ∷ ls) has e f fs is full =
     let long : contents_length l.header s.here ≡ size.0 = omega (arith, size.2, at, length-opening l.header) in
     let none : end_octets l.header.size ≡ [] = ap end_octets size.1 in
     let zero : length (end_octets l.header.size) ≡ 0 = ap length none in
-    let event : closing_event l.header s.here ≡ filled_end f =
-    closes_definite l.header.constructed l.header.size size.0 _ size.1 ∙ ap filled_end (sym same) in
+    let event : closing_event l.header s.here ≡ filled_end_event f =
+    closes_definite l.header.constructed l.header.size size.0 _ size.1 ∙ ap filled_end_event (sym same) in
     let entry : Fits p (length (octets_of l.header) + size.0) =
     subst (λ (t : Size). Fits p (length (octets_of l.header) + announced_length t)) size.1 has.layers.2.fits in
     let fits : Fits p (extent l.header s.here) =
@@ -232,7 +232,7 @@ filled_from w b yielded s (l ∷ ls) has e f fs is full =
     )
 
 -- the end of an element enters no wrapper
-ending_enters : (f : FrameValue) → entered_offsets (filled_end f ∷ []) ≡ []
+ending_enters : (f : FrameValue) → entered_offsets (filled_end_event f ∷ []) ≡ []
 ending_enters f = elim (cases_Bool f.wrapper) [
   | inl e ↦ rw e refl
   | inr e ↦ rw e refl
@@ -241,11 +241,11 @@ ending_enters f = elim (cases_Bool f.wrapper) [
 -- the innermost element, which is filled, ends
 pub yields_filled : (w : WalkerState) → w.phase ≡ phase.Between → (f : FrameValue) (fs : List FrameValue)
     → w.stack ≡ f ∷ fs → f.end ≡ Some w.offset
-    → Continues w (record w { stack = drop 1 w.stack; events = w.events + 1 }) [] (filled_end f ∷ [])
+    → Continues w (record w { stack = drop 1 w.stack; events = w.events + 1 }) [] (filled_end_event f ∷ [])
 yields_filled w e f fs is full = record {
   framing = refl;
-  found = ap (wrappers_after w.framing.inside w.wrapper_count) (sym (ending_enters f));
-  goes = λ b yielded s has.
+  found = ap (wrapper_count_after w.framing.inside w.wrapper_count) (sym (ending_enters f));
+  keeps_zipper = λ b yielded s has.
       let t = between_tail s.tail _ (phase_at w b yielded s _ e has) in
       filled_from w b yielded s s.layers (tail_state w b yielded s _ t has) e f fs is full;
 }

@@ -6,36 +6,36 @@ use Rattle.tlv_walk.specs.declared.ending.Ending.TheVariants as ending
 use Rattle.tlv_walk.specs.Ending.{IsEnding, ShowsSoundness}
 use Rattle.tlv_walk.specs.Events.{EventValue}
 use Rattle.tlv_walk.specs.Forest.{Forest}
-use Rattle.tlv_walk.specs.WalkerState.{WalkerState, first_without_wrapper_in}
-use Rattle.tlv_walk.specs.OpenCount.{open_count}
+use Rattle.tlv_walk.specs.WalkerState.{WalkerState, unused_of}
+use Rattle.tlv_walk.specs.Depth.{depth_of}
 use Rattle.tlv_walk.specs.Phase.{PhaseValue, Refused}
 use Rattle.tlv_walk.specs.Place.{Place}
 use Rattle.tlv_walk.specs.Private.Zipper.{IsPhaseOf, Tail, place_of}
 use Rattle.tlv_walk.specs.Stands.{IsIdle, Stands}
 use Rattle.tlv_walk.specs.HasRead.{HasRead, StandsAtEnd, refused_one, refused, took, took_all}
 use Rattle.tlv_walk.specs.Wrappers.{first_without_wrapper}
-use Rattle.tlv_walk.proofs.WalkerLemmas.OpenCounts.{state-depth}
+use Rattle.tlv_walk.proofs.WalkerLemmas.Depths.{state-depth}
 use Rattle.tlv_walk.proofs.GrammarLemmas.Readings.{reading-unique}
 use Rattle.tlv_walk.proofs.GrammarLemmas.Unique.{shows-soundness}
 use Rattle.tlv_walk.proofs.WalkerLemmas.ZipperReading.{state-reading}
 use Rattle.tlv_walk.proofs.EventLemmas.Unused.{stands_unused}
 use Rattle.tlv_walk.proofs.WalkerLemmas.Waiting.{idle}
 
-pub read_depth : (w : WalkerState) (b : List ℕ) (f : Forest) → HasRead w b f → IsIdle w → length w.stack ≡ open_count f
+pub read_depth : (w : WalkerState) (b : List ℕ) (f : Forest) → HasRead w b f → IsIdle w → length w.stack ≡ depth_of f
 read_depth w b f (took yielded st e) none =
     state-depth w b yielded st.private_state.state st.private_state.has_state (idle w none)
-    ∙ ap open_count
+    ∙ ap depth_of
     (reading-unique w.framing b _ st.has_events.reading
     (state-reading w b yielded st.private_state.state st.private_state.has_state) st.has_events.is_reading
     ∙ e)
-read_depth w b f (refused x yielded g st e) none = st.depth ∙ ap open_count e
+read_depth w b f (refused x yielded g st e) none = st.depth ∙ ap depth_of e
 
 pub read_offset : (w : WalkerState) (b : List ℕ) (f : Forest) → HasRead w b f → w.offset ≡ length b
 read_offset w b f (took yielded st e) = st.private_state.has_state.offset
 read_offset w b f (refused x yielded g st e) = st.offset
 
 pub read_unused : (w : WalkerState) (b : List ℕ) (f : Forest) → HasRead w b f
-    → first_without_wrapper_in w ≡ first_without_wrapper w.framing.inside f
+    → unused_of w ≡ first_without_wrapper w.framing.inside f
 read_unused w b f (took yielded st e) = stands_unused w b yielded st ∙ ap (first_without_wrapper w.framing.inside) e
 read_unused w b f (refused x yielded g st e) = st.unused ∙ ap (first_without_wrapper w.framing.inside) e
 

@@ -8,16 +8,16 @@ use Rattle.tlv_head.specs.declared.header.Size.TheVariants.{Definite}
 use Rattle.tlv_head.specs.HeaderFields.{new_header}
 use Rattle.tlv_head.specs.Header.{HeaderValue, announced_length, holds, is_wrapper, octets_of}
 use Rattle.tlv_head.specs.HeadReaderState.{HeadReaderState}
-use Rattle.tlv_walk.specs.declared.event.HeaderKind.{HeaderKind}
-use Rattle.tlv_walk.specs.declared.event.HeaderKind.TheVariants as kind
+use Rattle.tlv_walk.specs.declared.walker.headers.HeaderKind.{HeaderKind}
+use Rattle.tlv_walk.specs.declared.walker.headers.HeaderKind.TheVariants as kind
 use Rattle.tlv_walk.specs.Phase.{PhaseValue}
 use Rattle.tlv_walk.specs.Phase as phase
 use Rattle.tlv_walk.specs.Events.{Begin, Enter, EventValue, Open}
-use Rattle.tlv_walk.specs.Forest.{NoMore, lead}
+use Rattle.tlv_walk.specs.Forest.{NoMore, lead, lead_by}
 use Rattle.tlv_walk.specs.WalkerState.{WalkerState}
 use Rattle.tlv_walk.specs.Private.Stack.{frame_with}
-use Rattle.tlv_walk.specs.Private.WalkerState.{CanEnter, TakesHeader, after_header}
-use Rattle.tlv_walk.specs.Private.WrapperCount.{next_wrapper, wrappers_after}
+use Rattle.tlv_walk.specs.Private.WalkerState.{CanTakeHeader, TakesHeader, after_header}
+use Rattle.tlv_walk.specs.Private.WrapperCount.{next_wrapper_count, wrapper_count_after}
 use Rattle.tlv_walk.specs.Wrappers.{entered_offsets}
 use Rattle.tlv_walk.specs.Inside.{is_among}
 use Rattle.tlv_walk.specs.Stack.{FrameValue, bound_of}
@@ -26,8 +26,8 @@ use Rattle.tlv_walk.specs.Private.Yields.{Continues}
 use Rattle.tlv_head.specs.ReadHeader.{BeginsWithFields}
 use Rattle.tlv_head.specs.Refusal.{BeginsWith}
 use Rattle.tlv_walk.specs.Private.Zipper.{NoTail, HasZipper, PrimitiveTail, Zipper, frame_at, place_of}
-use Rattle.tlv_walk.proofs.WalkerLemmas.Entering.{AtHeader, Completed, at_new, holding_state, lead_by, lead_state}
-use Rattle.tlv_walk.proofs.WalkerLemmas.Entering.{primitive_state}
+use Rattle.tlv_walk.proofs.WalkerLemmas.AfterHeader.{AtHeader, Completed, at_new, holding_state, lead_state}
+use Rattle.tlv_walk.proofs.WalkerLemmas.AfterHeader.{primitive_state}
 use Rattle.tlv_walk.proofs.WalkerLemmas.Moves.{with_tail}
 use Rattle.tlv_walk.proofs.WalkerLemmas.Places.{place-bound}
 use Rattle.tlv_walk.proofs.GrammarLemmas.Push.{size-definite}
@@ -51,8 +51,8 @@ frame_there w b yielded s r t h at c =
     (place-bound w.framing s.layers ∙ ap bound_of (sym at.stack))
 
 -- an element that holds others, with the frame that the walker pushes
-abbrev machine_in_element : WalkerState → HeaderValue → PhaseValue → ℕ → WalkerState
-machine_in_element w h f k =
+abbrev walker_in_element : WalkerState → HeaderValue → PhaseValue → ℕ → WalkerState
+walker_in_element w h f k =
     record (after_header w f (h.offset + length (octets_of h))) {
       stack =
           frame_with (h.offset + length (octets_of h)) (bound_of w.stack) h.size h.constructed ∷ w.stack;
@@ -68,7 +68,7 @@ pushed : (w : WalkerState) (b : List ℕ) (yielded : List EventValue) (s : Zippe
     (record (after_header w f (h.offset + length (octets_of h)))
     { stack = frame_at (place_of w.framing s) h ∷ w.stack; wrapper_count = k })
     (b ++ t) (yielded ++ e ∷ []) u
-    → HasZipper (machine_in_element w h f k) (b ++ t) (yielded ++ e ∷ []) u
+    → HasZipper (walker_in_element w h f k) (b ++ t) (yielded ++ e ∷ []) u
 pushed w b yielded s r t h f k e u at c has =
     subst
     (λ (x : FrameValue). HasZipper
@@ -89,12 +89,12 @@ or-right a b e f = ap (λ (x : Bool). x || b) e ∙ f
 abbrev inside_state : Zipper → HeaderValue → Zipper
 inside_state s h = record { layers = record { before = s.here; header = h } ∷ s.layers; here = NoMore; tail = NoTail }
 
-constructed_enters : (w : WalkerState) (b : List ℕ) (yielded : List EventValue) (s : Zipper) (r : HeadReaderState)
+takes_constructed : (w : WalkerState) (b : List ℕ) (yielded : List EventValue) (s : Zipper) (r : HeadReaderState)
     (t : List ℕ) (h : HeaderValue)
     → AtHeader w b yielded s r → Completed w r t h → h.constructed ≡ true
     → (u : Zipper)
-    × HasZipper (machine_in_element w h phase.Between w.wrapper_count) (b ++ t) (yielded ++ Open h ∷ []) u
-constructed_enters w b yielded s r t h at c k =
+    × HasZipper (walker_in_element w h phase.Between w.wrapper_count) (b ++ t) (yielded ++ Open h ∷ []) u
+takes_constructed w b yielded s r t h at c k =
     let none : lead h ≡ [] = lead_at h true (eqb h.number 3) k refl in
     let has = holding_state w b yielded s r t h w.wrapper_count at c (or-left h.constructed _ k) none in (
       _,
@@ -107,20 +107,20 @@ constructed_enters w b yielded s r t h at c k =
           (ap (λ (x : Bool). if x then Open h else Enter h) k) has),
     )
 
-wrapper_enters : (w : WalkerState) (b : List ℕ) (yielded : List EventValue) (s : Zipper) (r : HeadReaderState)
+takes_wrapper : (w : WalkerState) (b : List ℕ) (yielded : List EventValue) (s : Zipper) (r : HeadReaderState)
     (t : List ℕ) (h : HeaderValue) (n : ℕ)
     → AtHeader w b yielded s r → Completed w r t h → h.constructed ≡ false → holds h ≡ true
     → (bits : Bool) → eqb h.number 3 ≡ bits
     → (u : Zipper)
-    × HasZipper (machine_in_element w h (if bits then phase.InBitString else phase.Between) n) (b ++ t)
+    × HasZipper (walker_in_element w h (if bits then phase.InBitString else phase.Between) n) (b ++ t)
     (yielded ++ Enter h ∷ []) u
-wrapper_enters w b yielded s r t h n at c k hold true bits =
+takes_wrapper w b yielded s r t h n at c k hold true bits =
     let one : lead h ≡ 0 ∷ [] = lead_at h false true k bits in (
       _,
       pushed w b yielded s r t h phase.InBitString n (Enter h) _ at c
           (lead_state w b yielded s r t h n at c hold one),
     )
-wrapper_enters w b yielded s r t h n at c k hold false bits =
+takes_wrapper w b yielded s r t h n at c k hold false bits =
     let none : lead h ≡ [] = lead_at h false false k bits in
     let has = holding_state w b yielded s r t h n at c hold none in (
       _,
@@ -133,13 +133,13 @@ wrapper_enters w b yielded s r t h n at c k hold false bits =
           (ap (λ (x : Bool). if x then Open h else Enter h) k) has),
     )
 
-primitive_enters : (w : WalkerState) (b : List ℕ) (yielded : List EventValue) (s : Zipper) (r : HeadReaderState)
+takes_primitive : (w : WalkerState) (b : List ℕ) (yielded : List EventValue) (s : Zipper) (r : HeadReaderState)
     (t : List ℕ) (h : HeaderValue)
     → AtHeader w b yielded s r → Completed w r t h → holds h ≡ false
     → (u : Zipper)
     × HasZipper (after_header w (phase.InPrimitive (announced_length h.size)) (h.offset + length (octets_of h)))
     (b ++ t) (yielded ++ Begin h ∷ []) u
-primitive_enters w b yielded s r t h at c no_hold =
+takes_primitive w b yielded s r t h at c no_hold =
     let size : (n : ℕ) × (h.size ≡ Definite n) = size-definite h c.valid no_hold in (
       _,
       subst
@@ -150,48 +150,49 @@ primitive_enters w b yielded s r t h at c no_hold =
     )
 
 -- after a header a walker is as it says
-pub enters_state : (w v : WalkerState) (b : List ℕ) (yielded : List EventValue) (s : Zipper) (r : HeadReaderState)
+pub state_after_header : (w v : WalkerState) (b : List ℕ) (yielded : List EventValue) (s : Zipper) (r : HeadReaderState)
     (t : List ℕ) (f : HeaderFields) (o : List ℕ) (k : HeaderKind)
     → AtHeader w b yielded s r
     → Completed w r t (new_header f o) → TakesHeader w v f (f.offset + length (octets_of (new_header f o))) k
     → (u : Zipper) × HasZipper v (b ++ t) (yielded ++ event_of k (new_header f o) ∷ []) u
-enters_state w v b yielded s r t f o kind.Primitive at c e =
-    let u = primitive_enters w b yielded s r t (new_header f o) at c e.0 in
+state_after_header w v b yielded s r t f o kind.Primitive at c e =
+    let u = takes_primitive w b yielded s r t (new_header f o) at c e.0 in
     (u.0, subst (λ (m : WalkerState). HasZipper m (b ++ t) (yielded ++ Begin (new_header f o) ∷ []) u.0) (sym e.1) u.1)
-enters_state w v b yielded s r t f o kind.Constructed at c e =
-    let u = constructed_enters w b yielded s r t (new_header f o) at c e.0 in
+state_after_header w v b yielded s r t f o kind.Constructed at c e =
+    let u = takes_constructed w b yielded s r t (new_header f o) at c e.0 in
     (u.0, subst (λ (m : WalkerState). HasZipper m (b ++ t) (yielded ++ Open (new_header f o) ∷ []) u.0) (sym e.1) u.1)
-enters_state w v b yielded s r t f o kind.Wrapper at c e =
+state_after_header w v b yielded s r t f o kind.Wrapper at c e =
     let u =
-    wrapper_enters w b yielded s r t (new_header f o) (next_wrapper w.framing.inside w.wrapper_count f.offset) at
+    takes_wrapper w b yielded s r t (new_header f o) (next_wrapper_count w.framing.inside w.wrapper_count f.offset) at
     c e.0 (or-right f.constructed _ e.0 e.1) (eqb f.number 3) refl in
     (u.0, subst (λ (m : WalkerState). HasZipper m (b ++ t) (yielded ++ Enter (new_header f o) ∷ []) u.0) (sym e.2) u.1)
 
 -- the framing stays
-pub enters_framing : (w v : WalkerState) (f : HeaderFields) (offset : ℕ) (k : HeaderKind) → TakesHeader w v f offset k
+pub framing_after_header : (w v : WalkerState) (f : HeaderFields) (offset : ℕ) (k : HeaderKind)
+    → TakesHeader w v f offset k
     → v.framing ≡ w.framing
-enters_framing w v f offset kind.Primitive e = ap (λ (m : WalkerState). m.framing) e.1
-enters_framing w v f offset kind.Constructed e = ap (λ (m : WalkerState). m.framing) e.1
-enters_framing w v f offset kind.Wrapper e = ap (λ (m : WalkerState). m.framing) e.2
+framing_after_header w v f offset kind.Primitive e = ap (λ (m : WalkerState). m.framing) e.1
+framing_after_header w v f offset kind.Constructed e = ap (λ (m : WalkerState). m.framing) e.1
+framing_after_header w v f offset kind.Wrapper e = ap (λ (m : WalkerState). m.framing) e.2
 
 -- a wrapper may be one of the named offsets
-pub enters_found : (w v : WalkerState) (f : HeaderFields) (o : List ℕ) (offset : ℕ) (k : HeaderKind)
+pub count_after_header : (w v : WalkerState) (f : HeaderFields) (o : List ℕ) (offset : ℕ) (k : HeaderKind)
     → TakesHeader w v f offset k
     → v.wrapper_count
-    ≡ wrappers_after w.framing.inside w.wrapper_count (entered_offsets (event_of k (new_header f o) ∷ []))
-enters_found w v f o offset kind.Primitive e = ap (λ (m : WalkerState). m.wrapper_count) e.1
-enters_found w v f o offset kind.Constructed e = ap (λ (m : WalkerState). m.wrapper_count) e.1
-enters_found w v f o offset kind.Wrapper e = ap (λ (m : WalkerState). m.wrapper_count) e.2
+    ≡ wrapper_count_after w.framing.inside w.wrapper_count (entered_offsets (event_of k (new_header f o) ∷ []))
+count_after_header w v f o offset kind.Primitive e = ap (λ (m : WalkerState). m.wrapper_count) e.1
+count_after_header w v f o offset kind.Constructed e = ap (λ (m : WalkerState). m.wrapper_count) e.1
+count_after_header w v f o offset kind.Wrapper e = ap (λ (m : WalkerState). m.wrapper_count) e.2
 
 -- octets that begin with a header, at a walker between elements
-pub fast_enters : (w v : WalkerState) (piece : List ℕ) (named : Bool) (f : HeaderFields) (count : ℕ) (o : List ℕ)
+pub takes_quick_header : (w v : WalkerState) (piece : List ℕ) (named : Bool) (f : HeaderFields) (count : ℕ) (o : List ℕ)
     (k : HeaderKind)
     → w.phase ≡ phase.Between
     → BeginsWithFields piece w.offset named f count → o ≡ take count piece → named ≡ is_among w.offset w.framing.inside
     → (holds (new_header f o) ≡ true → length w.stack < 128)
     → IsWithin (bound_of w.stack) (f.offset + length o + announced_length f.size)
     → TakesHeader w v f (f.offset + length o) k → Continues w v o (event_of k (new_header f o) ∷ [])
-fast_enters w v piece named f count o k e begins front name shallow fits enter =
+takes_quick_header w v piece named f count o k e begins front name shallow fits takes =
     let h : HeaderValue = new_header f o in
     let whole : octets_of h ≡ o = take-append-drop f.id_len o in
     let begins' : BeginsWith piece w.offset named h =
@@ -208,21 +209,22 @@ fast_enters w v piece named f count o k e begins front name shallow fits enter =
           (sym whole) fits;
     } in
     record {
-      framing = enters_framing w v f (f.offset + length o) k enter;
-      found = enters_found w v f o (f.offset + length o) k enter;
-      goes = λ b yielded s has.
-          enters_state w v b yielded (with_tail s NoTail) r o f o k (at_new w b yielded s r has e refl refl name)
+      framing = framing_after_header w v f (f.offset + length o) k takes;
+      found = count_after_header w v f o (f.offset + length o) k takes;
+      keeps_zipper = λ b yielded s has.
+          state_after_header w v b yielded (with_tail s NoTail) r o f o k (at_new w b yielded s r has e refl refl name)
           completed
-          (subst (λ (x : List ℕ). TakesHeader w v f (f.offset + length x) k) (sym whole) enter);
+          (subst (λ (x : List ℕ). TakesHeader w v f (f.offset + length x) k) (sym whole) takes);
     }
 
 -- such a header may be there
-pub fast_may_enter : (w : WalkerState) (piece : List ℕ) (named : Bool) (f : HeaderFields) (count : ℕ) (o : List ℕ)
+pub can_take_quick_header : (w : WalkerState) (piece : List ℕ) (named : Bool) (f : HeaderFields) (count : ℕ)
+    (o : List ℕ)
     → BeginsWithFields piece w.offset named f count → o ≡ take count piece
     → w.events + length w.stack ≤ w.offset → w.offset + length piece ≤ 2 ^ 40
     → (holds (new_header f o) ≡ true → length w.stack < 128)
-    → IsWithin (bound_of w.stack) (f.offset + length o + announced_length f.size) → CanEnter w (new_header f o)
-fast_may_enter w piece named f count o begins front fewer limit shallow fits =
+    → IsWithin (bound_of w.stack) (f.offset + length o + announced_length f.size) → CanTakeHeader w (new_header f o)
+can_take_quick_header w piece named f count o begins front fewer limit shallow fits =
     let h : HeaderValue = new_header f o in
     let whole : octets_of h ≡ o = take-append-drop f.id_len o in
     let begins' : BeginsWith piece w.offset named h =

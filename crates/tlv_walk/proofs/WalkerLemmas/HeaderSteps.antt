@@ -12,15 +12,15 @@ use Rattle.tlv_head.specs.Header.{HeaderValue, announced_length, octets_of}
 use Rattle.tlv_head.specs.HeadReaderState.{ContentsFit, HeadReaderState, with_octet}
 use Rattle.tlv_head.specs.Push.{Completes, FitsThere}
 use Rattle.tlv_head.specs.Refusal.{IsHeaderPrefix}
-use Rattle.tlv_walk.specs.declared.event.HeaderKind.{HeaderKind}
-use Rattle.tlv_walk.specs.declared.event.HeaderKind.TheVariants as kind
+use Rattle.tlv_walk.specs.declared.walker.headers.HeaderKind.{HeaderKind}
+use Rattle.tlv_walk.specs.declared.walker.headers.HeaderKind.TheVariants as kind
 use Rattle.tlv_walk.specs.Phase.{PhaseValue}
 use Rattle.tlv_walk.specs.Phase as phase
 use Rattle.tlv_walk.specs.Events.{EventValue}
 use Rattle.tlv_walk.specs.declared.framing.Framing.{Framing}
 use Rattle.tlv_walk.specs.WalkerState.{WalkerState}
-use Rattle.tlv_walk.specs.Private.WalkerState.{CanEnter, TakesHeader}
-use Rattle.tlv_walk.specs.Private.WrapperCount.{wrappers_after}
+use Rattle.tlv_walk.specs.Private.WalkerState.{CanTakeHeader, TakesHeader}
+use Rattle.tlv_walk.specs.Private.WrapperCount.{wrapper_count_after}
 use Rattle.tlv_walk.specs.Wrappers.{entered_offsets}
 use Rattle.tlv_walk.specs.Private.ReadsOn.{HandsOver, YieldsHeader}
 use Rattle.tlv_walk.specs.Stack.{bound_of}
@@ -28,8 +28,9 @@ use Rattle.tlv_walk.specs.Place.{IsWithin}
 use Rattle.tlv_walk.specs.Private.Stack.{room_to}
 use Rattle.tlv_walk.specs.Private.Zipper.{NoTail, HasZipper, HeaderTail, IsPhaseOf, Zipper, place_of}
 use Rattle.tlv_walk.specs.Private.Yields.{Continues, YieldsEvent}
-use Rattle.tlv_walk.proofs.WalkerLemmas.Entering.{AtHeader, Completed, at_front, at_new, front_state}
-use Rattle.tlv_walk.proofs.WalkerLemmas.HeaderKinds.{enters_found, enters_framing, enters_state, event_of}
+use Rattle.tlv_walk.proofs.WalkerLemmas.AfterHeader.{AtHeader, Completed, at_front, at_new, front_state}
+use Rattle.tlv_walk.proofs.WalkerLemmas.HeaderKinds.{count_after_header, framing_after_header, state_after_header}
+use Rattle.tlv_walk.proofs.WalkerLemmas.HeaderKinds.{event_of}
 use Rattle.tlv_walk.proofs.WalkerLemmas.Moves.{phase_at, with_tail}
 
 -- ---- the walker that the reader was taken from
@@ -131,7 +132,7 @@ pub yields_unfinished : (w u : WalkerState) (r q : HeadReaderState) (piece : Lis
 yields_unfinished w u r q piece offset over k some e fits = record {
   framing = handed_framing w u r over;
   found = handed_wrappers w u r over;
-  goes = λ b yielded s has.
+  keeps_zipper = λ b yielded s has.
       let t : TakenState w u q k.taken b yielded =
       taken_state w u r q piece [] over k some (subst (IsWithin (bound_of u.stack)) (sym e) fits) b yielded s has in
       let new : in_header w q ≡ record u { phase = phase.InHeader q; offset = offset } =
@@ -151,23 +152,24 @@ yields_unfinished w u r q piece offset over k some e fits = record {
 
 -- ---- a whole header
 
--- the walker that the reader was taken from enters it too
-enters_without : (w u new : WalkerState) (f : HeaderFields) (offset : ℕ) (k : HeaderKind)
+-- the walker that the reader was taken from takes it too
+takes_without : (w u new : WalkerState) (f : HeaderFields) (offset : ℕ) (k : HeaderKind)
     → u ≡ record w { phase = phase.Between; has_element = true } → TakesHeader u new f offset k
     → TakesHeader w new f offset k
-enters_without w u new f offset kind.Primitive e enter =
-    subst (λ (m : WalkerState). TakesHeader m new f offset kind.Primitive) e enter
-enters_without w u new f offset kind.Constructed e enter =
-    subst (λ (m : WalkerState). TakesHeader m new f offset kind.Constructed) e enter
-enters_without w u new f offset kind.Wrapper e enter =
-    subst (λ (m : WalkerState). TakesHeader m new f offset kind.Wrapper) e enter
+takes_without w u new f offset kind.Primitive e takes =
+    subst (λ (m : WalkerState). TakesHeader m new f offset kind.Primitive) e takes
+takes_without w u new f offset kind.Constructed e takes =
+    subst (λ (m : WalkerState). TakesHeader m new f offset kind.Constructed) e takes
+takes_without w u new f offset kind.Wrapper e takes =
+    subst (λ (m : WalkerState). TakesHeader m new f offset kind.Wrapper) e takes
 
 -- and the header that it completes may be there
 completed_without : (w u : WalkerState) (r : HeadReaderState) (t : List ℕ) (h : HeaderValue)
-    → u ≡ record w { phase = phase.Between; has_element = true } → CanEnter u h → Completes r t h → Completed w r t h
+    → u ≡ record w { phase = phase.Between; has_element = true } → CanTakeHeader u h → Completes r t h
+    → Completed w r t h
 completed_without w u r t h e can makes =
-    let can' : CanEnter (record w { phase = phase.Between; has_element = true }) h =
-    subst (λ (m : WalkerState). CanEnter m h) e can in
+    let can' : CanTakeHeader (record w { phase = phase.Between; has_element = true }) h =
+    subst (λ (m : WalkerState). CanTakeHeader m h) e can in
     record {
       valid = can'.valid;
       octets = makes.octets;
@@ -177,32 +179,33 @@ completed_without w u r t h e can makes =
       fits = can'.fits;
     }
 
--- so it yields a header with the fields that were entered
+-- so it yields a header with the fields that were taken
 yields_after : (u new : WalkerState) (f : HeaderFields) (o : List ℕ) (offset : ℕ) (k : HeaderKind)
-    → CanEnter u (new_header f o) → offset ≡ f.offset + length (octets_of (new_header f o))
+    → CanTakeHeader u (new_header f o) → offset ≡ f.offset + length (octets_of (new_header f o))
     → TakesHeader u new f offset k
     → YieldsHeader u new (new_header f o) (event_of k (new_header f o))
 yields_after u new f o offset k can e does w r t over makes = record {
-  framing = enters_framing u new f offset k does ∙ handed_framing w u r over;
+  framing = framing_after_header u new f offset k does ∙ handed_framing w u r over;
   found =
-      enters_found u new f o offset k does
-      ∙ ap₂ (λ (g : Framing) (n : ℕ). wrappers_after g.inside n (entered_offsets (event_of k (new_header f o) ∷ [])))
+      count_after_header u new f o offset k does
+      ∙ ap₂
+      (λ (g : Framing) (n : ℕ). wrapper_count_after g.inside n (entered_offsets (event_of k (new_header f o) ∷ [])))
       (handed_framing w u r over) (handed_wrappers w u r over);
-  goes = λ b yielded s has.
+  keeps_zipper = λ b yielded s has.
       let h = handed w u r over b yielded s has in
-      enters_state w new b yielded h.0 r t f o k h.1 (completed_without w u r t (new_header f o) h.2 can makes)
-      (subst (λ (n : ℕ). TakesHeader w new f n k) e (enters_without w u new f offset k h.2 does));
+      state_after_header w new b yielded h.0 r t f o k h.1 (completed_without w u r t (new_header f o) h.2 can makes)
+      (subst (λ (n : ℕ). TakesHeader w new f n k) e (takes_without w u new f offset k h.2 does));
 }
 
 -- the same of a header that has these fields
 pub yields_header : (u new : WalkerState) (f : HeaderFields) (h : HeaderValue) (offset : ℕ) (k : HeaderKind)
-    → CanEnter u h → new_header f (octets_of h) ≡ h → offset ≡ f.offset + length (octets_of h)
+    → CanTakeHeader u h → new_header f (octets_of h) ≡ h → offset ≡ f.offset + length (octets_of h)
     → TakesHeader u new f offset k
     → YieldsHeader u new h (event_of k h)
-yields_header u new f h offset k can same e enter =
+yields_header u new f h offset k can same e takes =
     subst (λ (g : HeaderValue). YieldsHeader u new g (event_of k g)) same
-    (yields_after u new f (octets_of h) offset k (subst (CanEnter u) (sym same) can)
-    (e ∙ ap (λ (g : HeaderValue). f.offset + length (octets_of g)) (sym same)) enter)
+    (yields_after u new f (octets_of h) offset k (subst (CanTakeHeader u) (sym same) can)
+    (e ∙ ap (λ (g : HeaderValue). f.offset + length (octets_of g)) (sym same)) takes)
 
 -- ---- the octet that a reader is given
 
@@ -233,11 +236,11 @@ within_announced Indefinite None n h = tt
 within_announced Indefinite (Some m) n h = omega (arith, h)
 
 -- the header that it completes may be there
-pub whole_enters : (u : WalkerState) (q : HeadReaderState) (x depth offset : ℕ) (h : HeaderValue)
+pub can_take_whole_header : (u : WalkerState) (q : HeadReaderState) (x depth offset : ℕ) (h : HeaderValue)
     → u.events + length u.stack ≤ q.offset → q.offset + length q.octets ≡ offset → offset + 1 ≤ 2 ^ 40
     → depth ≡ length u.stack
-    → Completes q (x ∷ []) h → FitsThere h (room_to (bound_of u.stack) offset) depth → CanEnter u h
-whole_enters u q x depth offset h fewer place limit deep c f =
+    → Completes q (x ∷ []) h → FitsThere h (room_to (bound_of u.stack) offset) depth → CanTakeHeader u h
+can_take_whole_header u q x depth offset h fewer place limit deep c f =
     let end : h.offset + length (octets_of h) ≡ offset + 1 =
     omega (arith, c.offset, ap length c.octets, length-append q.octets (x ∷ [])) in
     record {

@@ -12,13 +12,13 @@ use Rattle.tlv_walk.specs.Forest.{Forest, NoMore, PaddingOctet, Primitive, Holde
 use Rattle.tlv_walk.specs.Forest.{OpenBitString, OpenHeader, OpenEndOctets, has_element, is_whole, spelling}
 use Rattle.tlv_walk.specs.declared.framing.Framing.{Framing}
 use Rattle.tlv_walk.specs.WalkerState.{WalkerState}
-use Rattle.tlv_walk.specs.Private.WrapperCount.{next_wrapper, wrappers_after}
+use Rattle.tlv_walk.specs.Private.WrapperCount.{next_wrapper_count, wrapper_count_after}
 use Rattle.tlv_walk.specs.Wrappers.{entered_offsets}
 use Rattle.tlv_walk.proofs.EventLemmas.Wrappers.{enters-append}
 use Rattle.tlv_walk.specs.Place.{Fits, IsOpen, IsWithin, Place, is_indefinite, place_after}
 use Rattle.tlv_walk.specs.Stack.{FrameValue, IsInIndefinite, bound_of}
 use Rattle.tlv_walk.specs.Private.Zipper.{AreWhole, BitStringTail, NoTail, HasZipper, PrimitiveTail, EndOctetsTail}
-use Rattle.tlv_walk.specs.Private.Zipper.{HeaderTail, IsContents, IsPhaseOf, Layer, Tail, Zipper, begins_among}
+use Rattle.tlv_walk.specs.Private.Zipper.{HeaderTail, IsContents, IsPhaseOf, Layer, Tail, Zipper, layers_have_element}
 use Rattle.tlv_walk.specs.Private.Zipper.{events_of_layers, frames_of, place_in, place_of, spelling_of_layers}
 use Rattle.tlv_walk.specs.Private.Yields.{Continues}
 use Rattle.tlv_walk.proofs.EventLemmas.Joined.{apart-before, apart-from_joined, apart-more, joined-from_apart}
@@ -35,18 +35,18 @@ yielded_more yielded es new es' h e =
 
 -- wrappers found one after another
 pub found_in-append : (inside : List ℕ) (k : ℕ) (xs ys : List ℕ)
-    → wrappers_after inside k (xs ++ ys) ≡ wrappers_after inside (wrappers_after inside k xs) ys
+    → wrapper_count_after inside k (xs ++ ys) ≡ wrapper_count_after inside (wrapper_count_after inside k xs) ys
 found_in-append inside k [] ys = refl
-found_in-append inside k (x ∷ xs) ys = found_in-append inside (next_wrapper inside k x) xs ys
+found_in-append inside k (x ∷ xs) ys = found_in-append inside (next_wrapper_count inside k x) xs ys
 
 found_both : (u v w : WalkerState) (d e : List EventValue) → v.framing ≡ u.framing
-    → v.wrapper_count ≡ wrappers_after u.framing.inside u.wrapper_count (entered_offsets d)
-    → w.wrapper_count ≡ wrappers_after v.framing.inside v.wrapper_count (entered_offsets e)
-    → w.wrapper_count ≡ wrappers_after u.framing.inside u.wrapper_count (entered_offsets (d ++ e))
+    → v.wrapper_count ≡ wrapper_count_after u.framing.inside u.wrapper_count (entered_offsets d)
+    → w.wrapper_count ≡ wrapper_count_after v.framing.inside v.wrapper_count (entered_offsets e)
+    → w.wrapper_count ≡ wrapper_count_after u.framing.inside u.wrapper_count (entered_offsets (d ++ e))
 found_both u v w d e same p q =
     q
-    ∙ ap₂ (λ (f : Framing) (k : ℕ). wrappers_after f.inside k (entered_offsets e)) same p
-    ∙ sym (ap (wrappers_after u.framing.inside u.wrapper_count) (enters-append d e)
+    ∙ ap₂ (λ (f : Framing) (k : ℕ). wrapper_count_after f.inside k (entered_offsets e)) same p
+    ∙ sym (ap (wrapper_count_after u.framing.inside u.wrapper_count) (enters-append d e)
     ∙ found_in-append u.framing.inside u.wrapper_count (entered_offsets d) (entered_offsets e))
 
 pub continues_both : (u v w : WalkerState) (s t : List ℕ) (d e : List EventValue) → Continues u v s d
@@ -54,9 +54,9 @@ pub continues_both : (u v w : WalkerState) (s t : List ℕ) (d e : List EventVal
 continues_both u v w s t d e f g = record {
   framing = g.framing ∙ f.framing;
   found = found_both u v w d e f.framing f.found g.found;
-  goes = λ b yielded st has.
-      let one = f.goes b yielded st has in
-      let two = g.goes (b ++ s) (yielded ++ d) one.0 one.1 in (
+  keeps_zipper = λ b yielded st has.
+      let one = f.keeps_zipper b yielded st has in
+      let two = g.keeps_zipper (b ++ s) (yielded ++ d) one.0 one.1 in (
         two.0,
         subst (λ (x : List ℕ). HasZipper w x (yielded ++ (d ++ e)) two.0) (append_assoc b s t)
             (subst (λ (x : List EventValue). HasZipper w ((b ++ s) ++ t) x two.0) (append_assoc yielded d e) two.1),
@@ -122,7 +122,7 @@ element-either (OpenHeader octets) g e = absurd (cc)
 element-either OpenEndOctets g e = absurd (cc)
 
 pub began : (ls : List Layer) (here more : Forest) → is_whole here ≡ true → has_element more ≡ true
-    → begins_among ls (followed_by here more) ≡ true
+    → layers_have_element ls (followed_by here more) ≡ true
 began [] here more w e =
     element-either here more w ∙ (ap (λ (k : Bool). has_element here || k) e ∙ or-true (has_element here))
 began (l ∷ ls) here more w e = refl
@@ -195,7 +195,7 @@ yields_contents w left t n e most len =
     (sym len) (record {
       framing = refl;
       found = refl;
-      goes = λ b yielded s has.
+      keeps_zipper = λ b yielded s has.
           let k = contents_tail left s.tail _ (phase_at w b yielded s _ e has) in
           (_, contents_state w b yielded s k.0 k.1 t left (tail_state w b yielded s _ k.2 has) e most);
     })
@@ -244,7 +244,7 @@ pub yields_end : (w : WalkerState) → w.phase ≡ phase.InPrimitive 0
 yields_end w e = record {
   framing = refl;
   found = refl;
-  goes = λ b yielded s has.
+  keeps_zipper = λ b yielded s has.
       let k = contents_tail 0 s.tail _ (phase_at w b yielded s _ e has) in
       (_, end_state w b yielded s k.0 k.1 (tail_state w b yielded s _ k.2 has) e);
 }
@@ -298,7 +298,7 @@ pub yields_zero : (w : WalkerState) → w.phase ≡ phase.Between → IsInIndefi
 yields_zero w e i f = record {
   framing = refl;
   found = refl;
-  goes = λ b yielded s has.
+  keeps_zipper = λ b yielded s has.
       let t = between_tail s.tail _ (phase_at w b yielded s _ e has) in
       let has' : HasZipper w b yielded (with_tail s NoTail) = tail_state w b yielded s _ t has in
       zero_from w b yielded s s.layers refl has' i f;
@@ -357,7 +357,7 @@ yields_passed w t n e =
     record {
       framing = both.framing;
       found = both.found;
-      goes = λ b yielded s has.
-          let g = both.goes b yielded s has in
+      keeps_zipper = λ b yielded s has.
+          let g = both.keeps_zipper b yielded s has in
           (g.0, counted_state _ n _ _ g.0 g.1);
     }

@@ -7,7 +7,7 @@ use Rattle.std.proofs.Math.Seq.{drop-append_seam, take-add}
 use Rattle.tlv_head.specs.declared.header.HeaderFields.{HeaderFields}
 use Rattle.tlv_head.specs.HeaderFields.{new_header}
 use Rattle.tlv_head.specs.Header.{announced_length, is_wrapper}
-use Rattle.tlv_walk.specs.declared.event.HeaderKind.TheVariants as kind
+use Rattle.tlv_walk.specs.declared.walker.headers.HeaderKind.TheVariants as kind
 use Rattle.tlv_walk.specs.declared.walker.quick.WholePrimitive.{WholePrimitive}
 use Rattle.tlv_walk.specs.Events.{Begin, Bytes, End}
 use Rattle.tlv_walk.specs.Follow.{IsWholeElement, contents_in, whole_events}
@@ -18,93 +18,100 @@ use Rattle.tlv_walk.specs.Private.WalkerState.{CanPass, after_header, header_at}
 use Rattle.tlv_walk.specs.Private.Yields.{Continues}
 use Rattle.tlv_walk.specs.Stack.{bound_of}
 use Rattle.tlv_walk.specs.Place.{IsWithin}
-use Rattle.tlv_walk.proofs.WalkerLemmas.HeaderKinds.{fast_enters}
+use Rattle.tlv_walk.proofs.WalkerLemmas.HeaderKinds.{takes_quick_header}
 use Rattle.tlv_walk.proofs.WalkerLemmas.Moves.{continues_both, yields_passed}
 
 -- the contents of a primitive with which the octets begin
 abbrev contents_at : WholePrimitive → List ℕ → List ℕ
-contents_at p piece = take (announced_length p.fields.size) (drop p.header piece)
+contents_at p piece = take (announced_length p.fields.size) (drop p.header_length piece)
 
 -- the octets are those of its header, and its contents
 whole_octets : (w : WalkerState) (piece : List ℕ) (p : WholePrimitive) → CanPass w piece p
-    → take p.octets piece ≡ take p.header piece ++ contents_at p piece
+    → take p.octet_count piece ≡ take p.header_length piece ++ contents_at p piece
 whole_octets w piece p can =
-    ap (λ (n : ℕ). take n piece) can.octets ∙ take-add p.header (announced_length p.fields.size) piece
+    ap (λ (n : ℕ). take n piece) can.octet_count ∙ take-add p.header_length (announced_length p.fields.size) piece
 
 passed_length : (w : WalkerState) (piece : List ℕ) (p : WholePrimitive) → CanPass w piece p
     → length (contents_at p piece) ≡ announced_length p.fields.size
 passed_length w piece p can =
-    length-take-le (announced_length p.fields.size) (drop p.header piece)
-    (omega (arith, can.octets, can.within, length-drop p.header piece))
+    length-take-le (announced_length p.fields.size) (drop p.header_length piece)
+    (omega (arith, can.octet_count, can.within, length-drop p.header_length piece))
 
 contents_after : (f : HeaderFields) (o c : List ℕ) → contents_in (new_header f o) (o ++ c) ≡ c
 contents_after f o c =
     ap (λ (l : List ℕ). drop (length l) (o ++ c)) (take-append-drop f.id_len o) ∙ drop-append_seam o c
 
 contents_whole : (w : WalkerState) (piece : List ℕ) (p : WholePrimitive) → CanPass w piece p
-    → contents_in (header_at p piece) (take p.octets piece) ≡ contents_at p piece
+    → contents_in (header_at p piece) (take p.octet_count piece) ≡ contents_at p piece
 contents_whole w piece p can =
     ap (contents_in (header_at p piece)) (whole_octets w piece p can)
-    ∙ contents_after p.fields (take p.header piece) (contents_at p piece)
+    ∙ contents_after p.fields (take p.header_length piece) (contents_at p piece)
 
 -- all of its octets are there
 pub is_whole_element : (w : WalkerState) (piece : List ℕ) (p : WholePrimitive) → CanPass w piece p
-    → IsWholeElement (header_at p piece) (take p.octets piece)
+    → IsWholeElement (header_at p piece) (take p.octet_count piece)
 is_whole_element w piece p can = record {
   header =
-      ap₂ (λ (l r : List ℕ). l ++ r) (take-append-drop p.fields.id_len (take p.header piece))
+      ap₂ (λ (l r : List ℕ). l ++ r) (take-append-drop p.fields.id_len (take p.header_length piece))
       (contents_whole w piece p can)
       ∙ sym (whole_octets w piece p can);
   contents = sym (ap length (contents_whole w piece p can) ∙ passed_length w piece p can);
 }
 
 -- what a walker becomes that took it, and has yielded so many events
-abbrev pub passed : WalkerState → WholePrimitive → ℕ → WalkerState
-passed w p n = record w { offset = w.offset + p.octets; events = n; has_element = true }
+abbrev pub walker_after_primitive : WalkerState → WholePrimitive → ℕ → WalkerState
+walker_after_primitive w p n = record w { offset = w.offset + p.octet_count; events = n; has_element = true }
 
 -- its header begins a primitive
 yields_header : (w : WalkerState) (piece : List ℕ) (p : WholePrimitive) → CanPass w piece p
     → Continues w
     (after_header w (phase.InPrimitive (announced_length p.fields.size))
-    (p.fields.offset + length (take p.header piece)))
-    (take p.header piece) (Begin (header_at p piece) ∷ [])
+    (p.fields.offset + length (take p.header_length piece)))
+    (take p.header_length piece) (Begin (header_at p piece) ∷ [])
 yields_header w piece p can =
     let f : HeaderFields = p.fields in
-    let o : List ℕ = take p.header piece in
+    let o : List ℕ = take p.header_length piece in
     let form : (f.constructed || is_wrapper f.named f.class f.constructed f.number f.size) ≡ false =
     ap₂ (λ (c n : Bool). c || is_wrapper n f.class c f.number f.size) can.primitive can.begins.begins.named in
-    let end : w.offset + p.octets ≡ f.offset + length o + announced_length f.size =
-    omega (arith, can.begins.begins.offset, can.octets, length-take-le p.header piece can.begins.within) in
-    fast_enters w _ piece false f p.header o kind.Primitive can.phase can.begins refl (sym can.unnamed)
+    let end : w.offset + p.octet_count ≡ f.offset + length o + announced_length f.size =
+    omega (arith, can.begins.begins.offset, can.octet_count, length-take-le p.header_length piece can.begins.within) in
+    takes_quick_header w _ piece false f p.header_length o kind.Primitive can.phase can.begins refl (sym can.unnamed)
     (λ e. absurd (true≢false (sym e ∙ form)))
     (subst (IsWithin (bound_of w.stack)) end can.fits) (form, refl)
 
 pub yields_primitive : (w : WalkerState) (piece : List ℕ) (p : WholePrimitive) (n : ℕ) → CanPass w piece p
-    → Continues w (passed w p n) (take p.octets piece) (whole_events (header_at p piece) (take p.octets piece))
+    → Continues w (walker_after_primitive w p n) (take p.octet_count piece)
+    (whole_events (header_at p piece) (take p.octet_count piece))
 yields_primitive w piece p n can =
     let f : HeaderFields = p.fields in
-    let o : List ℕ = take p.header piece in
+    let o : List ℕ = take p.header_length piece in
     let c : List ℕ = contents_at p piece in
     let size : length c ≡ announced_length f.size = passed_length w piece p can in
     let offset : ℕ = f.offset + length o in
     let u : WalkerState = after_header w (phase.InPrimitive (announced_length f.size)) offset in
     let v : PhaseValue → ℕ → WalkerState = λ q k. record w { phase = q; offset = k; events = n; has_element = true } in
-    let end : offset + length c ≡ w.offset + p.octets =
-    omega (arith, can.begins.begins.offset, can.octets, length-take-le p.header piece can.begins.within, size) in
+    let end : offset + length c ≡ w.offset + p.octet_count =
+    omega (
+      arith,
+      can.begins.begins.offset,
+      can.octet_count,
+      length-take-le p.header_length piece can.begins.within,
+      size,
+    ) in
     let both : Continues w (v phase.Between (offset + length c)) (o ++ c)
     (Begin (header_at p piece) ∷ Bytes c ∷ End ∷ []) =
     continues_both w u _ o c (Begin (header_at p piece) ∷ []) (Bytes c ∷ End ∷ []) (yields_header w piece p can)
     (yields_passed u c n (ap phase.InPrimitive (sym size))) in
     subst
-    (λ (q : PhaseValue). Continues w (v q (w.offset + p.octets)) (take p.octets piece)
-    (whole_events (header_at p piece) (take p.octets piece)))
+    (λ (q : PhaseValue). Continues w (v q (w.offset + p.octet_count)) (take p.octet_count piece)
+    (whole_events (header_at p piece) (take p.octet_count piece)))
     (sym can.phase)
     (subst
-    (λ (k : ℕ). Continues w (v phase.Between k) (take p.octets piece)
-    (whole_events (header_at p piece) (take p.octets piece)))
+    (λ (k : ℕ). Continues w (v phase.Between k) (take p.octet_count piece)
+    (whole_events (header_at p piece) (take p.octet_count piece)))
     end
     (subst
-    (λ (l : List ℕ). Continues w (v phase.Between (offset + length c)) (take p.octets piece)
+    (λ (l : List ℕ). Continues w (v phase.Between (offset + length c)) (take p.octet_count piece)
     (Begin (header_at p piece) ∷ Bytes l ∷ End ∷ []))
     (sym (contents_whole w piece p can))
     (subst

@@ -13,13 +13,13 @@ use Rattle.tlv_walk.specs.Ending.{stray_end}
 use Rattle.tlv_walk.specs.Events.{EventValue}
 use Rattle.tlv_walk.specs.WalkerState.{WalkerState}
 use Rattle.tlv_walk.proofs.WalkerLemmas.Waiting.{EventWaits, EventWaitsIn, quiet}
-use Rattle.tlv_walk.specs.Stack.{IsFilled, IsInIndefinite, bound_of}
+use Rattle.tlv_walk.specs.Stack.{IsInIndefinite, bound_of}
 use Rattle.tlv_walk.specs.Place.{IsWithin}
-use Rattle.tlv_walk.specs.Private.Stack.{room_to, room_in}
+use Rattle.tlv_walk.specs.Private.Stack.{IsFilled, room_in, room_to}
 use Rattle.tlv_walk.specs.Private.Zipper.{BitStringTail, NoTail, HasZipper, EndOctetsTail, Layer, Zipper, frames_of}
 use Rattle.tlv_walk.specs.Private.Zipper.{place_in, place_of}
 use Rattle.tlv_walk.specs.Private.Yields.{RefusesOctet}
-use Rattle.tlv_walk.proofs.WalkerLemmas.Entering.{lead_tail}
+use Rattle.tlv_walk.proofs.WalkerLemmas.AfterHeader.{lead_tail}
 use Rattle.tlv_walk.proofs.WalkerLemmas.Moves.{between_tail, lone_tail, phase_at, tail_state, with_tail}
 use Rattle.tlv_walk.proofs.WalkerLemmas.Places.{place-bound, walker-offset}
 use Rattle.tlv_walk.proofs.WalkerLemmas.ZipperEndings.{state-fault, zipper_end}

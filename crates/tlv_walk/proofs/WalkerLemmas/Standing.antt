@@ -7,11 +7,11 @@ use Rattle.tlv_walk.specs.declared.event.Event.{Event}
 use Rattle.tlv_walk.specs.declared.event.Step.{Step}
 use Rattle.tlv_walk.specs.declared.event.Step.TheVariants as step
 use Rattle.tlv_walk.specs.declared.framing.Framing.{Framing}
-use Rattle.tlv_walk.specs.Events.{AreEqualJoined, EventValue, events}
+use Rattle.tlv_walk.specs.Events.{AreEqualJoined, EventValue, IsNoEmptyPart, event_value_of, events}
 use Rattle.tlv_walk.specs.Inside.{can_name}
-use Rattle.tlv_walk.specs.WalkerState.{HasNotRefused, HasOctets, WalkerState}
+use Rattle.tlv_walk.specs.WalkerState.{HasNotRefused, WalkerState}
 use Rattle.tlv_walk.specs.Private.WalkerState.{CountsStep, Refuses, TakesAll, YieldsOne}
-use Rattle.tlv_walk.specs.Private.WrapperCount.{wrappers_after}
+use Rattle.tlv_walk.specs.Private.WrapperCount.{wrapper_count_after}
 use Rattle.tlv_walk.specs.Phase.{PhaseValue, Between, InHeader, InPrimitive, InBitString, InEndOctets, Refused}
 use Rattle.tlv_walk.specs.Wrappers.{entered_offsets}
 use Rattle.tlv_walk.proofs.WalkerLemmas.Moves.{found_in-append}
@@ -22,14 +22,14 @@ use Rattle.tlv_walk.specs.Reading.{CannotBecomeSound, IsReading}
 use Rattle.tlv_walk.specs.Place.{IsOpen, top_place}
 use Rattle.tlv_walk.specs.Stands.{Stands, waiting_events}
 use Rattle.tlv_walk.specs.StepsTo.{RefusesAgain, RefusesNext, StepsTo, UsesUpPiece, YieldsNext}
-use Rattle.tlv_walk.specs.HasRead.{IsRefusedAfter, StandsRefused, event_value_of}
+use Rattle.tlv_walk.specs.HasRead.{IsRefusedAfter, StandsRefused}
 use Rattle.tlv_walk.specs.Private.FollowsPiece.{WalksOver}
 use Rattle.tlv_walk.specs.Private.Yields.{Continues, RefusesOctet, YieldsEvent, YieldsEvents, YieldsFault, YieldsStep}
 use Rattle.std.specs.Prelude.{slice_get}
 use Rattle.tlv_walk.proofs.GrammarLemmas.Endings.{refused-reading}
 use Rattle.tlv_walk.proofs.GrammarLemmas.Finals.{refused-final}
 use Rattle.tlv_walk.proofs.GrammarLemmas.Unique.{never-sound}
-use Rattle.tlv_walk.proofs.WalkerLemmas.OpenCounts.{state-depth}
+use Rattle.tlv_walk.proofs.WalkerLemmas.Depths.{state-depth}
 use Rattle.tlv_walk.proofs.EventLemmas.Unused.{yielded_unused}
 use Rattle.tlv_walk.proofs.WalkerLemmas.Waiting.{idle}
 use Rattle.tlv_walk.proofs.GrammarLemmas.PushSteps.{Spells}
@@ -38,15 +38,15 @@ use Rattle.tlv_walk.proofs.WalkerLemmas.Zipper.{reading_of}
 
 -- the wrappers found are those of the events yielded
 found_on : (old new : WalkerState) (yielded more : List EventValue) → new.framing ≡ old.framing
-    → old.wrapper_count ≡ wrappers_after old.framing.inside 0 (entered_offsets yielded)
-    → new.wrapper_count ≡ wrappers_after old.framing.inside old.wrapper_count (entered_offsets more)
-    → new.wrapper_count ≡ wrappers_after new.framing.inside 0 (entered_offsets (yielded ++ more))
+    → old.wrapper_count ≡ wrapper_count_after old.framing.inside 0 (entered_offsets yielded)
+    → new.wrapper_count ≡ wrapper_count_after old.framing.inside old.wrapper_count (entered_offsets more)
+    → new.wrapper_count ≡ wrapper_count_after new.framing.inside 0 (entered_offsets (yielded ++ more))
 found_on old new yielded more same p q =
     q
-    ∙ ap (λ (k : ℕ). wrappers_after old.framing.inside k (entered_offsets more)) p
-    ∙ sym (ap (wrappers_after old.framing.inside 0) (enters-append yielded more)
+    ∙ ap (λ (k : ℕ). wrapper_count_after old.framing.inside k (entered_offsets more)) p
+    ∙ sym (ap (wrapper_count_after old.framing.inside 0) (enters-append yielded more)
     ∙ found_in-append old.framing.inside 0 (entered_offsets yielded) (entered_offsets more))
-    ∙ ap (λ (f : Framing). wrappers_after f.inside 0 (entered_offsets (yielded ++ more))) (sym same)
+    ∙ ap (λ (f : Framing). wrapper_count_after f.inside 0 (entered_offsets (yielded ++ more))) (sym same)
 
 pub stands_all : (old new : WalkerState) (piece rest : List ℕ) (es : List EventValue)
     → YieldsEvents old new piece rest es → WalksOver old new piece rest es
@@ -54,7 +54,7 @@ stands_all old new piece rest es t = let k = t.continues in record {
   taken = t.taken;
   piece_is = t.piece_is;
   framing = k.framing;
-  stands = λ b yielded st. let u = k.goes b yielded st.private_state.state st.private_state.has_state in
+  stands = λ b yielded st. let u = k.keeps_zipper b yielded st.private_state.state st.private_state.has_state in
       stands new (b ++ t.taken) (yielded ++ es) u.0 u.1
       (subst (λ (f : Framing). can_name f.inside ≡ true) (sym k.framing) st.private_state.named)
       (found_on old new yielded es k.framing st.private_state.found k.found);
@@ -102,16 +102,16 @@ refused_walker old new piece rest f k r b yielded st =
     subst (λ (g : Framing). can_name g.inside ≡ true) (sym framing) st.private_state.named in
     let there : IsRefusedAfter new.framing (b ++ r.taken) r.octet yielded f =
     refused_reading old new.framing piece rest f framing r b yielded st in
-    let found : new.wrapper_count ≡ wrappers_after new.framing.inside 0 (entered_offsets yielded) =
+    let found : new.wrapper_count ≡ wrapper_count_after new.framing.inside 0 (entered_offsets yielded) =
     k.wrapper_count ∙ st.private_state.found
-    ∙ ap (λ (g : Framing). wrappers_after g.inside 0 (entered_offsets yielded)) (sym framing) in
+    ∙ ap (λ (g : Framing). wrapper_count_after g.inside 0 (entered_offsets yielded)) (sym framing) in
     record {
       refused = there;
       phase = k.phase;
       offset =
           omega (
             arith,
-            k.taken,
+            k.counts,
             st.private_state.has_state.offset,
             ap length r.piece_is,
             ap length r.rest_is,
@@ -132,7 +132,7 @@ refused_walker old new piece rest f k r b yielded st =
 
 -- an event
 reports : (old new : WalkerState) (piece rest : List ℕ) (e : Event) → HasNotRefused old → YieldsOne old new piece rest
-    → HasOctets e → YieldsEvent old new piece rest (event_value_of e) → YieldsNext old new piece rest e
+    → IsNoEmptyPart e → YieldsEvent old new piece rest (event_value_of e) → YieldsNext old new piece rest e
 reports old new piece rest e n k has t =
     let walked = stands_all old new piece rest (event_value_of e ∷ []) t in record {
       takes = record {
@@ -140,13 +140,12 @@ reports old new piece rest e n k has t =
         taken = walked.taken;
         piece_is = walked.piece_is;
         framing = walked.framing;
-        offset = omega (arith, k.taken, ap length walked.piece_is, length-append walked.taken rest);
+        offset = omega (arith, k.counts, ap length walked.piece_is, length-append walked.taken rest);
         events = k.events;
       };
       stands = walked.stands;
       has_octets = has;
-      fewer = k.within;
-      phase = k.after_event;
+      has_yielded = k.has_yielded;
     }
 
 -- more is needed
@@ -159,12 +158,12 @@ uses_up old new piece rest n k t =
         taken = piece;
         piece_is = sym (ap (λ (o : List ℕ). piece ++ o) k.none_left ∙ append-nil piece);
         framing = t.framing;
-        offset = k.taken;
+        offset = k.counts;
         events = omega (arith, k.events);
       };
       none_left = k.none_left;
       stands = λ b yielded st.
-          let u = t.goes b yielded st.private_state.state st.private_state.has_state in
+          let u = t.keeps_zipper b yielded st.private_state.state st.private_state.has_state in
           subst (λ (es : List EventValue). Stands new (b ++ piece) es) (append-nil yielded)
           (stands new (b ++ piece) (yielded ++ []) u.0 u.1
           (subst (λ (f : Framing). can_name f.inside ≡ true) (sym t.framing) st.private_state.named)
@@ -182,7 +181,7 @@ refuses_now old new piece rest f n k r = record {
     piece_is = r.piece_is ∙ ap (λ (o : List ℕ). r.taken ++ o) (sym r.rest_is);
     framing = k.framing;
     offset =
-        omega (arith, k.taken, ap length r.piece_is, ap length r.rest_is, length-append r.taken (r.octet ∷ r.others));
+        omega (arith, k.counts, ap length r.piece_is, ap length r.rest_is, length-append r.taken (r.octet ∷ r.others));
     events = omega (arith, k.events);
   };
   octet = r.octet;

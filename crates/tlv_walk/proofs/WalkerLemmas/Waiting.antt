@@ -5,8 +5,10 @@ use Rattle.tlv_walk.specs.Phase.{PhaseValue}
 use Rattle.tlv_walk.specs.Phase as phase
 use Rattle.tlv_walk.specs.Events.{End, EventValue}
 use Rattle.tlv_walk.specs.WalkerState.{WalkerState}
-use Rattle.tlv_walk.specs.Stack.{FrameValue, IsFilled}
-use Rattle.tlv_walk.specs.Stands.{IsIdle, filled_end, filled_ends, is_end_at, waiting_events, waiting_events_in}
+use Rattle.tlv_walk.specs.Private.Stack.{IsFilled}
+use Rattle.tlv_walk.specs.Stack.{FrameValue}
+use Rattle.tlv_walk.specs.Stands.{IsIdle, filled_end_event, filled_end_events, is_end_at, waiting_events}
+use Rattle.tlv_walk.specs.Stands.{waiting_events_in}
 
 -- an event is to come that needs no further octet: not `IsIdle`, by phase
 abbrev pub EventWaitsIn : PhaseValue → List FrameValue → ℕ → Type 0
@@ -21,10 +23,10 @@ abbrev pub EventWaits : WalkerState → Type 0
 EventWaits w = EventWaitsIn w.phase w.stack w.offset
 
 -- if nothing waits no events do
-no_endings : (offset : ℕ) (fs : List FrameValue) → (IsFilled fs offset → ⊥) → filled_ends offset fs ≡ []
+no_endings : (offset : ℕ) (fs : List FrameValue) → (IsFilled fs offset → ⊥) → filled_end_events offset fs ≡ []
 no_endings offset [] n = refl
 no_endings offset (f ∷ fs) n =
-    ap (λ (k : Bool). if k then filled_end f ∷ filled_ends offset fs else []) (unfilled f.end n)
+    ap (λ (k : Bool). if k then filled_end_event f ∷ filled_end_events offset fs else []) (unfilled f.end n)
   where
     unfilled : (e : Option ℕ) → (e ≡ Some offset → ⊥) → is_end_at e offset ≡ false
     unfilled None n = refl
@@ -35,7 +37,7 @@ quiet_in : (f : PhaseValue) (stack : List FrameValue) (offset : ℕ) → (EventW
 quiet_in phase.Between stack offset n = no_endings offset stack n
 quiet_in (phase.InHeader r) stack offset n = refl
 quiet_in (phase.InPrimitive left) stack offset n =
-    ap (λ (k : Bool). if k then End ∷ filled_ends offset stack else []) (ne_eqb left 0 n)
+    ap (λ (k : Bool). if k then End ∷ filled_end_events offset stack else []) (ne_eqb left 0 n)
 quiet_in phase.InBitString stack offset n = refl
 quiet_in phase.InEndOctets stack offset n = refl
 quiet_in (phase.Refused fault) stack offset n = refl
@@ -52,11 +54,11 @@ loud_in : (f : PhaseValue) (stack : List FrameValue) (offset : ℕ) → EventWai
     → waiting_events_in f stack offset ≡ [] → ⊥
 loud_in phase.Between [] offset i n = i
 loud_in phase.Between (f ∷ fs) offset i n =
-    no_more (filled_end f) (filled_ends offset fs) (is_end_at f.end offset)
+    no_more (filled_end_event f) (filled_end_events offset fs) (is_end_at f.end offset)
     (ap (λ (e : Option ℕ). is_end_at e offset) i ∙ eq-eqb offset offset refl) n
 loud_in (phase.InHeader r) stack offset i n = i
 loud_in (phase.InPrimitive left) stack offset i n =
-    no_more End (filled_ends offset stack) (eqb left 0) (eq-eqb left 0 i) n
+    no_more End (filled_end_events offset stack) (eqb left 0) (eq-eqb left 0 i) n
 loud_in phase.InBitString stack offset i n = i
 loud_in phase.InEndOctets stack offset i n = i
 loud_in (phase.Refused fault) stack offset i n = i

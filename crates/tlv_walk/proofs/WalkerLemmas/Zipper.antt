@@ -31,27 +31,28 @@ followed_by (OpenHeader octets) f = OpenHeader octets
 followed_by OpenEndOctets f = OpenEndOctets
 
 -- elements in the innermost open one
-abbrev pub within : List Layer → Forest → Forest
-within [] f = f
-within (l ∷ ls) f = within ls (followed_by l.before (OpenHolder l.header f))
+abbrev pub forest_in_layers : List Layer → Forest → Forest
+forest_in_layers [] f = f
+forest_in_layers (l ∷ ls) f = forest_in_layers ls (followed_by l.before (OpenHolder l.header f))
 
 -- the same, where each element that is filled ends
-abbrev pub settled : List Layer → Forest → Forest
-settled [] f = f
-settled (l ∷ ls) f =
-    cond (is_filled_by l.header f) (settled ls (followed_by l.before (Holder l.header f NoMore))) (within (l ∷ ls) f)
+abbrev pub settled_forest : List Layer → Forest → Forest
+settled_forest [] f = f
+settled_forest (l ∷ ls) f =
+    cond (is_filled_by l.header f) (settled_forest ls (followed_by l.before (Holder l.header f NoMore)))
+    (forest_in_layers (l ∷ ls) f)
 
 abbrev pub primitive_in : List Layer → Forest → HeaderValue → List ℕ → Bool → Forest
-primitive_in ls here h c true = settled ls (followed_by here (Primitive h c NoMore))
-primitive_in ls here h c false = within ls (followed_by here (OpenPrimitive h c))
+primitive_in ls here h c true = settled_forest ls (followed_by here (Primitive h c NoMore))
+primitive_in ls here h c false = forest_in_layers ls (followed_by here (OpenPrimitive h c))
 
 -- what a state has been read as
 abbrev pub reading_in : List Layer → Forest → Tail → Forest
-reading_in ls here NoTail = settled ls here
+reading_in ls here NoTail = settled_forest ls here
 reading_in ls here (PrimitiveTail h c) = primitive_in ls here h c (eqb (length c) (announced_length h.size))
-reading_in ls here (BitStringTail h) = within ls (followed_by here (OpenBitString h))
-reading_in ls here (HeaderTail octets) = within ls (followed_by here (OpenHeader octets))
-reading_in ls here EndOctetsTail = within ls (followed_by here OpenEndOctets)
+reading_in ls here (BitStringTail h) = forest_in_layers ls (followed_by here (OpenBitString h))
+reading_in ls here (HeaderTail octets) = forest_in_layers ls (followed_by here (OpenHeader octets))
+reading_in ls here EndOctetsTail = forest_in_layers ls (followed_by here OpenEndOctets)
 
 abbrev pub reading_of : Zipper → Forest
 reading_of s = reading_in s.layers s.here s.tail
@@ -183,7 +184,7 @@ place-indefinite w (l ∷ ls) = indefinite-endless l.header.size _
 
 -- their octets, after those of the layers
 pub spelling-within : (w : Framing) (ls : List Layer) (f : Forest) → AreLayers w ls
-    → spelling (within ls f) ≡ spelling_of_layers ls ++ spelling f
+    → spelling (forest_in_layers ls f) ≡ spelling_of_layers ls ++ spelling f
 spelling-within w [] f a = refl
 spelling-within w (l ∷ ls) f a =
     spelling-within w ls (followed_by l.before (OpenHolder l.header f)) a.0
@@ -204,7 +205,7 @@ room-if_open (l ∷ ls) f e = λ whole. absurd (true≢false (sym whole ∙ e))
 
 -- they are open where they are, and so is the whole
 pub open-within : (w : Framing) (ls : List Layer) (f : Forest) → AreLayers w ls → IsOpen (place_in w ls) f
-    → HasRoomIn ls f → IsOpen (top_place w) (within ls f)
+    → HasRoomIn ls f → IsOpen (top_place w) (forest_in_layers ls f)
 open-within w [] f a v r = v
 open-within w (l ∷ ls) f a v r =
     open-within w ls (followed_by l.before (OpenHolder l.header f)) a.0
@@ -213,7 +214,7 @@ open-within w (l ∷ ls) f a v r =
 
 -- the open end is theirs
 pub open_end-within : (w : Framing) (ls : List Layer) (f : Forest) → AreLayers w ls
-    → open_end (top_place w) (within ls f) ≡ open_end (place_in w ls) f
+    → open_end (top_place w) (forest_in_layers ls f) ≡ open_end (place_in w ls) f
 open_end-within w [] f a = refl
 open_end-within w (l ∷ ls) f a =
     open_end-within w ls (followed_by l.before (OpenHolder l.header f)) a.0
@@ -221,7 +222,7 @@ open_end-within w (l ∷ ls) f a =
 
 -- inside a layer something is open
 pub whole-within : (w : Framing) (ls : List Layer) (f : Forest) → AreLayers w ls → (ls ≡ [] → is_whole f ≡ false)
-    → is_whole (within ls f) ≡ false
+    → is_whole (forest_in_layers ls f) ≡ false
 whole-within w [] f a e = e refl
 whole-within w (l ∷ ls) f a e =
     whole-within w ls (followed_by l.before (OpenHolder l.header f)) a.0

@@ -15,7 +15,8 @@ use Rattle.tlv_walk.specs.WalkerState.{WalkerState}
 use Rattle.tlv_walk.proofs.WalkerLemmas.Waiting.{EventWaits, EventWaitsIn}
 use Rattle.tlv_walk.specs.Place.{Place, top_place}
 use Rattle.tlv_walk.specs.Private.Zipper.{BitStringTail, NoTail, HasZipper, PrimitiveTail, EndOctetsTail, HeaderTail}
-use Rattle.tlv_walk.specs.Private.Zipper.{IsPhaseOf, Layer, Tail, Zipper, begins_element, frames_of, place_in, place_of}
+use Rattle.tlv_walk.specs.Private.Zipper.{IsPhaseOf, Layer, Tail, Zipper, zipper_has_element, frames_of, place_in}
+use Rattle.tlv_walk.specs.Private.Zipper.{place_of}
 use Rattle.tlv_walk.specs.Private.Zipper.{spelling_of_tail, stack_of}
 use Rattle.tlv_walk.proofs.GrammarLemmas.Endings.{halt-ending}
 use Rattle.tlv_walk.proofs.GrammarLemmas.Faults.{fault-refused}
@@ -26,15 +27,15 @@ use Rattle.tlv_walk.proofs.WalkerLemmas.Places.{walker-offset}
 use Rattle.tlv_walk.proofs.WalkerLemmas.ZipperReading.{contents-less, later_place, state-reading, state-spells}
 use Rattle.tlv_walk.proofs.WalkerLemmas.Zipper.{followed_by, followed_by-none, reading_in, reading_of}
 use Rattle.tlv_walk.proofs.WalkerLemmas.Zipper.{open_end-followed_by}
-use Rattle.tlv_walk.proofs.WalkerLemmas.Zipper.{open_end-within, whole-followed_by, whole-within, within}
+use Rattle.tlv_walk.proofs.WalkerLemmas.Zipper.{open_end-within, whole-followed_by, whole-within, forest_in_layers}
 
 -- what is open after the whole elements, as a forest: of a primitive, one that lacks contents octets
-abbrev pub forest_of : Tail → Forest
-forest_of NoTail = NoMore
-forest_of (PrimitiveTail h c) = OpenPrimitive h c
-forest_of (BitStringTail h) = OpenBitString h
-forest_of (HeaderTail octets) = OpenHeader octets
-forest_of EndOctetsTail = OpenEndOctets
+abbrev pub tail_forest : Tail → Forest
+tail_forest NoTail = NoMore
+tail_forest (PrimitiveTail h c) = OpenPrimitive h c
+tail_forest (BitStringTail h) = OpenBitString h
+tail_forest (HeaderTail octets) = OpenHeader octets
+tail_forest EndOctetsTail = OpenEndOctets
 
 -- the whole elements end at the offset: no element is filled there
 filled-at : (w : Framing) (ls : List Layer) (here : Forest) (offset : ℕ) → offset ≡ end_in w ls here + 0
@@ -49,9 +50,9 @@ reading-within : (w : Framing) (ls : List Layer) (here : Forest) (f : PhaseValue
     → IsPhaseOf f t (later_place w ls here)
     → offset ≡ (later_place w ls here).offset + length (spelling_of_tail t)
     → (EventWaitsIn f (stack_of w ls (later_place w ls here) t) offset → ⊥)
-    → reading_in ls here t ≡ within ls (followed_by here (forest_of t))
+    → reading_in ls here t ≡ forest_in_layers ls (followed_by here (tail_forest t))
 reading-within w ls here phase.Between NoTail offset j e n =
-    settled-within w ls here (filled-at w ls here offset e n) ∙ ap (within ls) (sym (followed_by-none here))
+    settled-within w ls here (filled-at w ls here offset e n) ∙ ap (forest_in_layers ls) (sym (followed_by-none here))
 reading-within w ls here (phase.InPrimitive left) (PrimitiveTail h c) offset j e n =
     rw (contents-less _ h c left j n) refl
 reading-within w ls here (phase.InHeader r) (HeaderTail octets) offset j e n = refl
@@ -61,7 +62,7 @@ reading-within w ls here f t offset j e n = absurd j
 
 -- so what a walker with nothing waiting has read is its layers, its whole elements and what is open
 pub state-within : (w : WalkerState) (b : List ℕ) (yielded : List EventValue) (s : Zipper) → HasZipper w b yielded s
-    → (EventWaits w → ⊥) → reading_of s ≡ within s.layers (followed_by s.here (forest_of s.tail))
+    → (EventWaits w → ⊥) → reading_of s ≡ forest_in_layers s.layers (followed_by s.here (tail_forest s.tail))
 state-within w b yielded s h n =
     reading-within w.framing s.layers s.here w.phase s.tail w.offset h.phase (walker-offset w b yielded s h)
     (λ i. n (subst (λ (stack : List FrameValue). EventWaitsIn w.phase stack w.offset) (sym h.stack) i))
@@ -69,7 +70,7 @@ state-within w b yielded s h n =
 -- ---- the open end
 
 -- what is open after the whole elements is the open end
-open_end-tail : (p : Place) (t : Tail) → open_end p (forest_of t) ≡ record { place = p; forest = forest_of t }
+open_end-tail : (p : Place) (t : Tail) → open_end p (tail_forest t) ≡ record { place = p; forest = tail_forest t }
 open_end-tail p NoTail = refl
 open_end-tail p (PrimitiveTail h c) = refl
 open_end-tail p (BitStringTail h) = refl
@@ -78,7 +79,7 @@ open_end-tail p EndOctetsTail = refl
 
 -- the open end at the place where a zipper cuts the forest
 abbrev pub zipper_end : Framing → Zipper → OpenEnd
-zipper_end w s = record { place = place_of w s; forest = forest_of s.tail }
+zipper_end w s = record { place = place_of w s; forest = tail_forest s.tail }
 
 -- the open end of the reading is that of the state
 pub state-open_end : (w : WalkerState) (b : List ℕ) (yielded : List EventValue) (s : Zipper) → HasZipper w b yielded s
@@ -86,8 +87,8 @@ pub state-open_end : (w : WalkerState) (b : List ℕ) (yielded : List EventValue
     → open_end (top_place w.framing) (reading_of s) ≡ zipper_end w.framing s
 state-open_end w b yielded s h n =
     ap (λ (f : Forest). open_end (top_place w.framing) f) (state-within w b yielded s h n)
-    ∙ open_end-within w.framing s.layers (followed_by s.here (forest_of s.tail)) h.layers
-    ∙ open_end-followed_by (place_in w.framing s.layers) s.here (forest_of s.tail) h.here.whole
+    ∙ open_end-within w.framing s.layers (followed_by s.here (tail_forest s.tail)) h.layers
+    ∙ open_end-followed_by (place_in w.framing s.layers) s.here (tail_forest s.tail) h.here.whole
     ∙ open_end-tail (place_of w.framing s) s.tail
 
 -- an octet with a fault of the list at the open end gives the ending, whatever follows
@@ -124,7 +125,7 @@ outermost-reading w ls here t j e = absurd j
 -- there an octet of an element came if one is in the reading
 outermost-element : (w : Framing) (ls : List Layer) (here : Forest) (t : Tail)
     → IsPhaseOf phase.Between t (later_place w ls here) → stack_of w ls (later_place w ls here) t ≡ []
-    → begins_element ls here t ≡ has_element here
+    → zipper_has_element ls here t ≡ has_element here
 outermost-element w [] here NoTail j e = refl
 outermost-element w (l ∷ ls) here NoTail j e = absurd (cc)
 outermost-element w ls here t j e = absurd j
@@ -169,7 +170,8 @@ state-empty w b yielded s h e none no_element =
 -- elsewhere something is open: an element that holds others, or what is after the whole elements
 open-elsewhere : (w : Framing) (ls : List Layer) (here : Forest) (f : PhaseValue) (t : Tail)
     → IsPhaseOf f t (later_place w ls here)
-    → (f ≡ phase.Between → stack_of w ls (later_place w ls here) t ≡ [] → ⊥) → ls ≡ [] → is_whole (forest_of t) ≡ false
+    → (f ≡ phase.Between → stack_of w ls (later_place w ls here) t ≡ [] → ⊥) → ls ≡ []
+    → is_whole (tail_forest t) ≡ false
 open-elsewhere w ls here phase.Between NoTail j n e = absurd (n refl (ap (frames_of w) e))
 open-elsewhere w ls here (phase.InHeader r) (HeaderTail octets) j n e = refl
 open-elsewhere w ls here (phase.InPrimitive left) (PrimitiveTail h c) j n e = refl
@@ -183,8 +185,8 @@ pub state-short : (w : WalkerState) (b : List ℕ) (yielded : List EventValue) (
     → IsEnding w.framing b (fault_ending Short (length b))
 state-short w b yielded s h n outside =
     let r : Spells (top_place w.framing) b (reading_of s) = state-spells w b yielded s h in
-    let part : is_whole (within s.layers (followed_by s.here (forest_of s.tail))) ≡ false =
-    whole-within w.framing s.layers (followed_by s.here (forest_of s.tail)) h.layers
-    (λ e. whole-followed_by s.here (forest_of s.tail) h.here.whole
+    let part : is_whole (forest_in_layers s.layers (followed_by s.here (tail_forest s.tail))) ≡ false =
+    whole-within w.framing s.layers (followed_by s.here (tail_forest s.tail)) h.layers
+    (λ e. whole-followed_by s.here (tail_forest s.tail) h.here.whole
     ∙ open-elsewhere w.framing s.layers s.here w.phase s.tail h.phase (λ p q. outside p (h.stack ∙ q)) e) in
     short (reading_of s) (state-reading w b yielded s h) r.spelled (ap is_whole (state-within w b yielded s h n) ∙ part)

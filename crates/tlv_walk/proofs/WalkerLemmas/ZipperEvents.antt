@@ -11,13 +11,13 @@ use Rattle.tlv_walk.specs.Events.{opening_events}
 use Rattle.tlv_walk.specs.Forest.{Forest, Holder, NoMore, OpenBitString, OpenEndOctets, OpenHeader, OpenHolder}
 use Rattle.tlv_walk.specs.Forest.{OpenPrimitive, PaddingOctet, Primitive, contents_length, end_octets, is_whole}
 use Rattle.tlv_walk.specs.Forest.{spelling}
-use Rattle.tlv_walk.specs.Stands.{filled_end, filled_ends}
+use Rattle.tlv_walk.specs.Stands.{filled_end_event, filled_end_events}
 use Rattle.tlv_walk.specs.Private.Zipper.{AreLayers, AreWhole, Layer, events_of_layers, frame_at, frames_of, place_in}
 use Rattle.tlv_walk.specs.Place.{Place, place_after}
 use Rattle.tlv_walk.proofs.GrammarLemmas.Bounds.{HasAllContents}
 use Rattle.tlv_walk.proofs.GrammarLemmas.PushSteps.{is_filled_by}
 use Rattle.tlv_walk.proofs.GrammarLemmas.Settled.{IsEnded, end_in, end-filled, filled-ended, filled-full}
-use Rattle.tlv_walk.proofs.WalkerLemmas.Zipper.{followed_by, settled, within}
+use Rattle.tlv_walk.proofs.WalkerLemmas.Zipper.{followed_by, settled_forest, forest_in_layers}
 
 -- ---- whole elements, and then others
 
@@ -44,7 +44,7 @@ events-followed_by OpenEndOctets g e = absurd (true≢false (sym e))
 
 -- their events, after those of the layers
 pub events-within : (w : Framing) (ls : List Layer) (f : Forest) → AreLayers w ls
-    → events (within ls f) ≡ events_of_layers ls ++ events f
+    → events (forest_in_layers ls f) ≡ events_of_layers ls ++ events f
 events-within w [] f a = refl
 events-within w (l ∷ ls) f a =
     events-within w ls (followed_by l.before (OpenHolder l.header f)) a.0
@@ -64,7 +64,7 @@ closes-definite false s offset e = refl
 
 -- the end of an element that is filled is that of its frame
 closes-filled : (p : Place) (h : HeaderValue) (f : Forest) → is_filled_by h f ≡ true
-    → closing_event h f ≡ filled_end (frame_at p h)
+    → closing_event h f ≡ filled_end_event (frame_at p h)
 closes-filled p h f e =
     let full : HasAllContents h.size (contents_length h f) =
     filled-full h f e in closes-definite h.constructed h.size _ full.ends
@@ -77,32 +77,33 @@ regroup-end around earlier start inside ends c d e = rw e (simp append_assoc)
 
 -- their events, after those of the layers, and then the ends of the elements that are filled
 pub events-settled : (w : Framing) (ls : List Layer) (f : Forest) → AreLayers w ls → AreWhole (place_in w ls) f
-    → events (settled ls f) ≡ (events_of_layers ls ++ events f) ++ filled_ends (end_in w ls f) (frames_of w ls)
+    → events (settled_forest ls f)
+    ≡ (events_of_layers ls ++ events f) ++ filled_end_events (end_in w ls f) (frames_of w ls)
 events-settled w [] f a i = sym (append-nil (events f))
 events-settled w (l ∷ ls) f a i = elim (cases_Bool (is_filled_by l.header f)) [
   | inl e ↦
       let d : IsEnded w l ls f = filled-ended w l ls f a i e in
-      let r : events (settled ls (followed_by l.before (Holder l.header f NoMore)))
+      let r : events (settled_forest ls (followed_by l.before (Holder l.header f NoMore)))
       ≡ (events_of_layers ls ++ events (followed_by l.before (Holder l.header f NoMore)))
-      ++ filled_ends (end_in w ls (followed_by l.before (Holder l.header f NoMore))) (frames_of w ls) =
+      ++ filled_end_events (end_in w ls (followed_by l.before (Holder l.header f NoMore))) (frames_of w ls) =
       events-settled w ls (followed_by l.before (Holder l.header f NoMore)) a.0 d.are_whole in
       let s : (events_of_layers ls ++ events (followed_by l.before (Holder l.header f NoMore)))
-      ++ filled_ends (end_in w ls (followed_by l.before (Holder l.header f NoMore))) (frames_of w ls)
+      ++ filled_end_events (end_in w ls (followed_by l.before (Holder l.header f NoMore))) (frames_of w ls)
       ≡ (events_of_layers ls
       ++ (events l.before ++ (opening_events l.header ++ (events f ++ closing_event l.header f ∷ []))))
-      ++ filled_ends (end_in w (l ∷ ls) f) (frames_of w ls) =
+      ++ filled_end_events (end_in w (l ∷ ls) f) (frames_of w ls) =
       ap (λ (t : List EventValue). (events_of_layers ls ++ t)
-      ++ filled_ends (end_in w ls (followed_by l.before (Holder l.header f NoMore))) (frames_of w ls))
+      ++ filled_end_events (end_in w ls (followed_by l.before (Holder l.header f NoMore))) (frames_of w ls))
       (events-followed_by l.before (Holder l.header f NoMore) a.1.whole)
       ∙ ap (λ (n : ℕ).
       (events_of_layers ls
       ++ (events l.before ++ (opening_events l.header ++ (events f ++ closing_event l.header f ∷ []))))
-      ++ filled_ends n (frames_of w ls))
+      ++ filled_end_events n (frames_of w ls))
       d.same_end in
       rw (e, end-filled w l ls f i.whole ∙ e)
       (r ∙ s
       ∙ regroup-end (events_of_layers ls) (events l.before) (opening_events l.header) (events f)
-      (filled_ends (end_in w (l ∷ ls) f) (frames_of w ls))
+      (filled_end_events (end_in w (l ∷ ls) f) (frames_of w ls))
       _ _ (closes-filled (place_after (place_in w ls) (length (spelling l.before))) l.header f e))
   | inr e ↦ rw (e, end-filled w l ls f i.whole ∙ e) (events-within w (l ∷ ls) f a ∙ sym (append-nil _))
 ]

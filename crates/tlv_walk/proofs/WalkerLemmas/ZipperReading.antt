@@ -12,10 +12,10 @@ use Rattle.tlv_walk.specs.Events.{AreEqualJoined, Begin, Bytes, End, EventValue,
 use Rattle.tlv_walk.specs.Forest.{Forest, NoMore, Primitive, OpenPrimitive, OpenBitString, OpenHeader, OpenEndOctets}
 use Rattle.tlv_walk.specs.Forest.{is_whole, spelling}
 use Rattle.tlv_walk.specs.WalkerState.{WalkerState, new_walker}
-use Rattle.tlv_walk.specs.Private.WrapperCount.{wrappers_after}
+use Rattle.tlv_walk.specs.Private.WrapperCount.{wrapper_count_after}
 use Rattle.tlv_walk.specs.Place.{IsOpen, Place, place_after, top_place}
 use Rattle.tlv_walk.specs.Reading.{IsReading}
-use Rattle.tlv_walk.specs.Stands.{Stands, filled_ends, waiting_events, waiting_events_in}
+use Rattle.tlv_walk.specs.Stands.{Stands, filled_end_events, waiting_events, waiting_events_in}
 use Rattle.tlv_walk.specs.Private.Zipper.{AreLayers, AreWhole, BitStringTail, NoTail, HasZipper, PrimitiveTail}
 use Rattle.tlv_walk.specs.Private.Zipper.{EndOctetsTail, HeaderTail, IsContents, IsPhaseOf, Layer, Tail, Zipper}
 use Rattle.tlv_walk.specs.Private.Zipper.{events_of_layers, events_of_tail, events_of_zipper, frames_of, place_in}
@@ -29,8 +29,8 @@ use Rattle.tlv_walk.proofs.GrammarLemmas.Readings.{Going, run-reading}
 use Rattle.tlv_walk.proofs.GrammarLemmas.Settled.{end_in, settled-spells}
 use Rattle.tlv_walk.proofs.WalkerLemmas.Places.{walker-offset}
 use Rattle.tlv_walk.proofs.WalkerLemmas.Zipper.{followed_by, open-followed_by, open-within, reading_in, reading_of}
-use Rattle.tlv_walk.proofs.WalkerLemmas.Zipper.{room-if_open, settled, spelling-followed_by, spelling-within}
-use Rattle.tlv_walk.proofs.WalkerLemmas.Zipper.{whole-followed_by, within}
+use Rattle.tlv_walk.proofs.WalkerLemmas.Zipper.{room-if_open, settled_forest, spelling-followed_by, spelling-within}
+use Rattle.tlv_walk.proofs.WalkerLemmas.Zipper.{whole-followed_by, forest_in_layers}
 use Rattle.tlv_walk.proofs.WalkerLemmas.ZipperEvents.{events-followed_by, events-settled, events-within}
 
 -- after the whole elements of the innermost open one
@@ -48,7 +48,8 @@ followed_by-end w ls here g e =
 -- they are open, with these octets
 open-spells : (w : Framing) (ls : List Layer) (here g : Forest) → AreLayers w ls → AreWhole (place_in w ls) here
     → IsOpen (later_place w ls here) g → is_whole g ≡ false
-    → Spells (top_place w) (spelling_of_layers ls ++ (spelling here ++ spelling g)) (within ls (followed_by here g))
+    → Spells (top_place w) (spelling_of_layers ls ++ (spelling here ++ spelling g))
+    (forest_in_layers ls (followed_by here g))
 open-spells w ls here g a i v e = record {
   is_open =
       open-within w ls (followed_by here g) a (open-followed_by (place_in w ls) here g i v)
@@ -60,7 +61,7 @@ open-spells w ls here g a i v e = record {
 
 -- they have these events
 open-events : (w : Framing) (ls : List Layer) (here g : Forest) → AreLayers w ls → AreWhole (place_in w ls) here
-    → (events_of_layers ls ++ (events here ++ events g)) ++ [] ≡ events (within ls (followed_by here g))
+    → (events_of_layers ls ++ (events here ++ events g)) ++ [] ≡ events (forest_in_layers ls (followed_by here g))
 open-events w ls here g a i =
     append-nil _
     ∙ sym (events-within w ls (followed_by here g) a
@@ -79,10 +80,11 @@ more-whole w ls here g i j = record {
 -- they are open, with these octets
 whole-spells : (w : Framing) (ls : List Layer) (here g : Forest) → AreLayers w ls → AreWhole (place_in w ls) here
     → AreWhole (later_place w ls here) g
-    → Spells (top_place w) (spelling_of_layers ls ++ (spelling here ++ spelling g)) (settled ls (followed_by here g))
+    → Spells (top_place w) (spelling_of_layers ls ++ (spelling here ++ spelling g))
+    (settled_forest ls (followed_by here g))
 whole-spells w ls here g a i j =
     let r : Spells (top_place w) (spelling_of_layers ls ++ spelling (followed_by here g))
-    (settled ls (followed_by here g)) =
+    (settled_forest ls (followed_by here g)) =
     settled-spells w ls (followed_by here g) a (more-whole w ls here g i j) in
     record {
       is_open = r.is_open;
@@ -93,14 +95,14 @@ whole-spells w ls here g a i j =
 whole-events : (w : Framing) (ls : List Layer) (here g : Forest) (offset : ℕ) → AreLayers w ls
     → AreWhole (place_in w ls) here → AreWhole (later_place w ls here) g
     → offset ≡ (later_place w ls here).offset + length (spelling g)
-    → events (settled ls (followed_by here g))
-    ≡ (events_of_layers ls ++ (events here ++ events g)) ++ filled_ends offset (frames_of w ls)
+    → events (settled_forest ls (followed_by here g))
+    ≡ (events_of_layers ls ++ (events here ++ events g)) ++ filled_end_events offset (frames_of w ls)
 whole-events w ls here g offset a i j e =
     events-settled w ls (followed_by here g) a (more-whole w ls here g i j)
     ∙ ap (λ (t : List EventValue). (events_of_layers ls ++ t)
-    ++ filled_ends (end_in w ls (followed_by here g)) (frames_of w ls))
+    ++ filled_end_events (end_in w ls (followed_by here g)) (frames_of w ls))
     (events-followed_by here g i.whole)
-    ∙ ap (λ (n : ℕ). (events_of_layers ls ++ (events here ++ events g)) ++ filled_ends n (frames_of w ls))
+    ∙ ap (λ (n : ℕ). (events_of_layers ls ++ (events here ++ events g)) ++ filled_end_events n (frames_of w ls))
     (followed_by-end w ls here g i.whole ∙ sym e)
 
 -- ---- a primitive
@@ -170,7 +172,7 @@ reading-spells : (w : Framing) (ls : List Layer) (here : Forest) (t : Tail) → 
     → AreWhole (place_in w ls) here → IsTailAt (later_place w ls here) t
     → Spells (top_place w) (spelling_of_layers ls ++ (spelling here ++ spelling_of_tail t)) (reading_in ls here t)
 reading-spells w ls here NoTail a i j =
-    let r : Spells (top_place w) (spelling_of_layers ls ++ spelling here) (settled ls here) =
+    let r : Spells (top_place w) (spelling_of_layers ls ++ spelling here) (settled_forest ls here) =
     settled-spells w ls here a i in
     record {
       is_open = r.is_open;
@@ -179,7 +181,7 @@ reading-spells w ls here NoTail a i j =
 reading-spells w ls here (PrimitiveTail h c) a i j = elim (cases_eq j.0 0) [
   | inl z ↦
       let r : Spells (top_place w) (spelling_of_layers ls ++ (spelling here ++ (octets_of h ++ (c ++ []))))
-      (settled ls (followed_by here (Primitive h c NoMore))) =
+      (settled_forest ls (followed_by here (Primitive h c NoMore))) =
       whole-spells w ls here (Primitive h c NoMore) a i (contents-whole _ h c j.0 j.1 z) in
       rw (contents-all _ h c j.0 j.1 z)
       (record {
@@ -217,7 +219,7 @@ reading-events w ls here (phase.InPrimitive left) (PrimitiveTail h c) offset a i
       let there : offset ≡ (later_place w ls here).offset + length (octets_of h ++ (c ++ [])) =
       e ∙ ap (λ (t : List ℕ). (later_place w ls here).offset + length (octets_of h ++ t)) (sym (append-nil c)) in
       rw (contents-all _ h c left j z, eq-eqb left 0 z)
-      (contents-end (events_of_layers ls) (events here) (filled_ends offset (frames_of w ls)) h c
+      (contents-end (events_of_layers ls) (events here) (filled_end_events offset (frames_of w ls)) h c
       ∙ sym (whole-events w ls here (Primitive h c NoMore) offset a i (contents-whole _ h c left j z) there))
   | inr n ↦ rw (contents-less _ h c left j n, ne_eqb left 0 n) (open-events w ls here (OpenPrimitive h c) a i)
 ]
@@ -259,7 +261,8 @@ state-events w b yielded s h =
 
 -- a walker with a state stands for what was yielded and what was taken
 pub stands : (w : WalkerState) (b : List ℕ) (yielded : List EventValue) (s : Zipper) → HasZipper w b yielded s
-    → can_name w.framing.inside ≡ true → w.wrapper_count ≡ wrappers_after w.framing.inside 0 (entered_offsets yielded)
+    → can_name w.framing.inside ≡ true
+    → w.wrapper_count ≡ wrapper_count_after w.framing.inside 0 (entered_offsets yielded)
     → Stands w b yielded
 stands w b yielded s h n k =
     record {

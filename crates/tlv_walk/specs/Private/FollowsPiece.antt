@@ -13,7 +13,8 @@ use Rattle.tlv_walk.specs.declared.one_turn.Pause.TheVariants as pause
 use Rattle.tlv_walk.specs.Events.{AreEqualJoined, EventValue, events}
 use Rattle.tlv_walk.specs.Follow.{Effect, effect_of}
 use Rattle.tlv_walk.specs.Forest.{Forest}
-use Rattle.tlv_walk.specs.WalkerState.{IsAfterEvent, WalkerState}
+use Rattle.tlv_walk.specs.Phase.{IsAfterEvent}
+use Rattle.tlv_walk.specs.WalkerState.{WalkerState}
 use Rattle.tlv_walk.specs.Private.WalkerState.{Passes}
 use Rattle.tlv_walk.specs.Reading.{AreOctets, IsReading}
 use Rattle.tlv_walk.specs.Stands.{CanTake, Stands}

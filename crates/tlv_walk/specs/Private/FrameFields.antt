@@ -17,7 +17,7 @@ end_from Definite n = bound_from n
 end_from Indefinite n = None
 end_from Wrapper n = bound_from n
 
--- it is a string that wraps encodings
+-- it is a wrapper
 abbrev pub wraps_from : FrameKind → Bool
 wraps_from Input = false
 wraps_from Definite = false

@@ -11,13 +11,13 @@ use Rattle.tlv_walk.specs.declared.one_turn.Pause.{Pause}
 use Rattle.tlv_walk.specs.declared.one_turn.Pause.TheVariants as pause
 use Rattle.tlv_walk.specs.Ending.{IsEnding}
 use Rattle.tlv_walk.specs.Events.{EventValue}
-use Rattle.tlv_walk.specs.WalkerState.{WalkerState, first_without_wrapper_in}
+use Rattle.tlv_walk.specs.WalkerState.{WalkerState, unused_of}
 use Rattle.tlv_walk.specs.Stands.{Stands}
 
 -- the run of a walker, with this ending
 abbrev pub run_of : WalkerState → Ending → Bool → Run
 run_of w e enough =
-    record { ending = e; octets = w.offset; enough = enough; unused = first_without_wrapper_in w }
+    record { ending = e; octets = w.offset; enough = enough; unused = unused_of w }
 
 -- the run of a walker that is after the last octet of the input
 abbrev pub IsLastRun : Run → WalkerState → Type 0

@@ -1,14 +1,19 @@
 -- What the functions of a stack return.
-use Rattle.std.specs.Prelude.{ℕ, ◌-◌, Bool, not, List, [], ◌∷◌, Option, Some, None}
+use Rattle.std.specs.Prelude.{◌≡◌, ℕ, ◌-◌, Bool, not, List, [], ◌∷◌, Option, Some, None}
 use Rattle.std.specs.Option.{option_or}
 use Rattle.tlv_head.specs.declared.header.Size.{Size}
 use Rattle.tlv_walk.specs.Place.{bound_in}
 use Rattle.tlv_walk.specs.Stack.{FrameValue, bound_of}
 
--- whether the innermost element wraps encodings, if there is one
+-- whether the innermost element is a wrapper, if there is one
 abbrev pub innermost_wraps : List FrameValue → Option Bool
 innermost_wraps [] = None
 innermost_wraps (f ∷ fs) = Some f.wrapper
+
+-- the innermost element is definite, and its contents end at the offset
+abbrev pub IsFilled : List FrameValue → ℕ → Type 0
+IsFilled [] offset = ⊥
+IsFilled (f ∷ fs) offset = f.end ≡ Some offset
 
 -- the frame of an element that ends there, or is indefinite, inside those that are open
 abbrev pub frame_inside : List FrameValue → Option ℕ → Bool → FrameValue

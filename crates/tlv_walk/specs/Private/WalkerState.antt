@@ -13,26 +13,26 @@ use Rattle.tlv_walk.specs.declared.event.Event.{Event}
 use Rattle.tlv_walk.specs.declared.event.Event.TheVariants as event
 use Rattle.tlv_walk.specs.declared.event.Step.{Step}
 use Rattle.tlv_walk.specs.declared.event.Step.TheVariants as step
-use Rattle.tlv_walk.specs.declared.event.HeaderKind.{HeaderKind}
-use Rattle.tlv_walk.specs.declared.event.HeaderKind.TheVariants as kind
+use Rattle.tlv_walk.specs.declared.walker.headers.HeaderKind.{HeaderKind}
+use Rattle.tlv_walk.specs.declared.walker.headers.HeaderKind.TheVariants as kind
 use Rattle.tlv_head.specs.declared.header.HeaderFields.{HeaderFields}
 use Rattle.tlv_walk.specs.declared.walker.quick.WholePrimitive.{WholePrimitive}
 use Rattle.tlv_walk.specs.Inside.{is_among}
-use Rattle.tlv_walk.specs.Phase.{PhaseValue, Between, InHeader, InPrimitive, InBitString, InEndOctets, Refused}
+use Rattle.tlv_walk.specs.Phase.{Between, InBitString, InEndOctets, InHeader, InPrimitive, PhaseValue, Refused}
 use Rattle.tlv_walk.specs.Stack.{bound_of}
 use Rattle.tlv_walk.specs.Place.{IsWithin}
 use Rattle.tlv_walk.specs.Private.Stack.{frame_with, room_in}
-use Rattle.tlv_walk.specs.Private.WrapperCount.{next_wrapper}
+use Rattle.tlv_walk.specs.Private.WrapperCount.{next_wrapper_count}
 use Rattle.tlv_walk.specs.Stands.{CanTake}
-use Rattle.tlv_walk.specs.WalkerState.{HasOctets, IsAfterEvent, WalkerState}
+use Rattle.tlv_walk.specs.Events.{IsNoEmptyPart}
+use Rattle.tlv_walk.specs.WalkerState.{HasYieldedEvent, WalkerState}
 use Rattle.tlv_head.specs.InputLimit.{input_limit}
 
 -- an event was yielded, and the walker is at this offset
 pub record YieldsAt (old new : WalkerState) (end : ℕ) : Type 0 where
   pub offset : new.offset ≡ end
   pub events : new.events ≡ old.events + 1
-  pub within : new.events ≤ new.offset
-  pub after_event : IsAfterEvent new.phase
+  pub has_yielded : HasYieldedEvent new
 
 -- a header begins with the piece, inside the bound
 pub record CanBegin (w : WalkerState) (piece : List ℕ) : Type 0 where
@@ -63,23 +63,22 @@ pub record CanReadOn (w : WalkerState) (r : HeadReaderState) (piece : List ℕ) 
   pub fewer : w.events + length w.stack ≤ r.offset
   pub first : (r.octets ≢ []) ⊎ CanBegin w piece
 
--- so many octets were taken, and one event was yielded
+-- as many octets were taken as left the piece, and one event was yielded
 pub record YieldsOne (old new : WalkerState) (piece rest : List ℕ) : Type 0 where
-  pub taken : new.offset + length rest ≡ old.offset + length piece
+  pub counts : new.offset + length rest ≡ old.offset + length piece
   pub events : new.events ≡ old.events + 1
-  pub within : new.events ≤ new.offset
-  pub after_event : IsAfterEvent new.phase
+  pub has_yielded : HasYieldedEvent new
 
 -- all octets were taken, and no event was yielded nor waits
 pub record TakesAll (old new : WalkerState) (piece rest : List ℕ) : Type 0 where
-  pub taken : new.offset ≡ old.offset + length piece
+  pub counts : new.offset ≡ old.offset + length piece
   pub none_left : rest ≡ []
   pub events : new.events ≡ old.events
   pub ready : CanTake new
 
 -- an octet was refused, and what is open stays open
 pub record Refuses (old new : WalkerState) (piece rest : List ℕ) (fault : FaultOf) : Type 0 where
-  pub taken : new.offset + length rest ≡ old.offset + length piece
+  pub counts : new.offset + length rest ≡ old.offset + length piece
   pub events : new.events ≡ old.events
   pub phase : new.phase ≡ Refused fault
   pub framing : new.framing ≡ old.framing
@@ -88,17 +87,17 @@ pub record Refuses (old new : WalkerState) (piece rest : List ℕ) (fault : Faul
 
 -- what a step makes of the offset, the count of events and the phase
 abbrev pub CountsStep : WalkerState → WalkerState → List ℕ → List ℕ → Step → Type 0
-CountsStep old new piece rest (step.Event e) = YieldsOne old new piece rest × HasOctets e
+CountsStep old new piece rest (step.Event e) = YieldsOne old new piece rest × IsNoEmptyPart e
 CountsStep old new piece rest step.NeedMore = TakesAll old new piece rest
 CountsStep old new piece rest (step.Fault f) = Refuses old new piece rest f
 
 -- the same of an event that came at once; nothing, if none came
 abbrev pub CountsAtOnce : WalkerState → WalkerState → List ℕ → List ℕ → Option Event → Type 0
-CountsAtOnce old new piece rest (Some e) = YieldsOne old new piece rest × HasOctets e
+CountsAtOnce old new piece rest (Some e) = YieldsOne old new piece rest × IsNoEmptyPart e
 CountsAtOnce old new piece rest None = (new ≡ old) × (rest ≡ piece)
 
 -- a header that may be there, and of which the walker has taken a part at most
-pub record CanEnter (w : WalkerState) (h : HeaderValue) : Type 0 where
+pub record CanTakeHeader (w : WalkerState) (h : HeaderValue) : Type 0 where
   pub valid : IsHeader h
   pub fewer : w.events + length w.stack ≤ h.offset
   pub limit : h.offset + length (octets_of h) ≤ input_limit
@@ -124,35 +123,34 @@ TakesHeader old new f offset kind.Wrapper =
     × (fields_wrap f ≡ true)
     × (new ≡ record (after_header old (if eqb f.number universal.bit_string then InBitString else Between) offset) {
       stack = frame_with offset (bound_of old.stack) f.size f.constructed ∷ old.stack;
-      wrapper_count = next_wrapper old.framing.inside old.wrapper_count f.offset;
+      wrapper_count = next_wrapper_count old.framing.inside old.wrapper_count f.offset;
     })
 
 -- a primitive that is not named, with all of which a piece begins, and that may be there
 pub record CanPass (w : WalkerState) (piece : List ℕ) (p : WholePrimitive) : Type 0 where
   pub phase : w.phase ≡ Between
   pub unnamed : is_among w.offset w.framing.inside ≡ false
-  pub begins : BeginsWithFields piece w.offset false p.fields p.header
+  pub begins : BeginsWithFields piece w.offset false p.fields p.header_length
   pub primitive : p.fields.constructed ≡ false
-  pub octets : p.octets ≡ p.header + announced_length p.fields.size
-  pub within : p.octets ≤ length piece
-  pub fits : IsWithin (bound_of w.stack) (w.offset + p.octets)
+  pub octet_count : p.octet_count ≡ p.header_length + announced_length p.fields.size
+  pub within : p.octet_count ≤ length piece
+  pub fits : IsWithin (bound_of w.stack) (w.offset + p.octet_count)
 
 -- its header
 abbrev pub header_at : WholePrimitive → List ℕ → HeaderValue
-header_at p piece = new_header p.fields (take p.header piece)
+header_at p piece = new_header p.fields (take p.header_length piece)
 
 -- the event of a constructed header that was taken, if one was
-abbrev pub open_event : Option (HeaderFields × Bor (List ℕ)) → Option Event
-open_event found = option_map (λ f. event.Open (new_header f.0 f.1.now)) found
+abbrev pub open_event_if_taken : Option (HeaderFields × Bor (List ℕ)) → Option Event
+open_event_if_taken found = option_map (λ f. event.Open (new_header f.0 f.1.now)) found
 
 -- the event of the end of a constructed element that was taken, if one was: where its end-of-contents octets are, if it
 -- has any
-abbrev pub close_event : Option (Option ℕ) → Option Event
-close_event found = option_map event.Close found
+abbrev pub close_event_if_taken : Option (Option ℕ) → Option Event
+close_event_if_taken found = option_map event.Close found
 
 -- a prefix of a piece was taken, and some events were yielded
 pub record Passes (old new : WalkerState) (piece rest : List ℕ) : Type 0 where
-  pub taken : new.offset + length rest ≡ old.offset + length piece
+  pub counts : new.offset + length rest ≡ old.offset + length piece
   pub more : old.events < new.events
-  pub within : new.events ≤ new.offset
-  pub after_event : IsAfterEvent new.phase
+  pub has_yielded : HasYieldedEvent new

@@ -6,20 +6,19 @@ use Rattle.tlv_walk.specs.declared.event.Event.{Event}
 use Rattle.tlv_walk.specs.declared.event.Step.{Step}
 use Rattle.tlv_walk.specs.declared.event.Step.TheVariants as step
 use Rattle.tlv_walk.specs.Ending.{IsEnding}
-use Rattle.tlv_walk.specs.Events.{EventValue}
+use Rattle.tlv_walk.specs.Events.{EventValue, event_value_of}
 use Rattle.tlv_walk.specs.WalkerState.{WalkerState}
-use Rattle.tlv_walk.specs.Private.WrapperCount.{wrappers_after}
+use Rattle.tlv_walk.specs.Private.WrapperCount.{wrapper_count_after}
 use Rattle.tlv_walk.specs.Private.Zipper.{HasZipper, Zipper}
 use Rattle.tlv_walk.specs.Wrappers.{entered_offsets}
 use Rattle.tlv_walk.specs.Stands.{IsIdle}
 use Rattle.tlv_walk.specs.StepsTo.{RefusesAgain}
-use Rattle.tlv_walk.specs.HasRead.{event_value_of}
 
--- from whatever state the walker had, it came to one with these octets and events more
+-- from whatever zipper the walker had, it came to one with these octets and with more events
 pub record Continues (old new : WalkerState) (taken : List ℕ) (more : List EventValue) : Type 0 where
   pub framing : new.framing ≡ old.framing
-  pub found : new.wrapper_count ≡ wrappers_after old.framing.inside old.wrapper_count (entered_offsets more)
-  pub goes : (b : List ℕ) (yielded : List EventValue) (s : Zipper) → HasZipper old b yielded s
+  pub found : new.wrapper_count ≡ wrapper_count_after old.framing.inside old.wrapper_count (entered_offsets more)
+  pub keeps_zipper : (b : List ℕ) (yielded : List EventValue) (s : Zipper) → HasZipper old b yielded s
       → (t : Zipper) × HasZipper new (b ++ taken) (yielded ++ more) t
 
 -- a prefix of a piece was taken, and these events were yielded

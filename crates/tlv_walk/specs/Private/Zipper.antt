@@ -11,9 +11,10 @@ use Rattle.tlv_walk.specs.Forest.{Forest, OpenBitString, OpenHeader, OpenEndOcte
 use Rattle.tlv_walk.specs.Forest.{opening, spelling}
 use Rattle.tlv_walk.specs.Inside.{can_name, is_among}
 use Rattle.tlv_walk.specs.WalkerState.{WalkerState}
-use Rattle.tlv_walk.specs.Private.WrapperCount.{wrappers_after}
+use Rattle.tlv_walk.specs.Private.WrapperCount.{wrapper_count_after}
 use Rattle.tlv_walk.specs.Private.Stack.{frame_with}
-use Rattle.tlv_walk.specs.Place.{Fits, IsEntry, IsHeaderAt, IsOpen, Place, place_after, place_of_children, top_place}
+use Rattle.tlv_walk.specs.Place.{Fits, IsAnnouncedAt, IsHeaderAt, IsOpen, Place, place_after, place_of_children}
+use Rattle.tlv_walk.specs.Place.{top_place}
 use Rattle.tlv_walk.specs.Wrappers.{entered_offsets}
 
 -- an open element that holds others, and the whole elements before it in the element around it
@@ -42,12 +43,12 @@ pub record Zipper : Type 0 where
 
 -- where the elements in the innermost open element begin
 abbrev pub place_in : Framing → List Layer → Place
-place_in w [] = top_place w
-place_in w (l ∷ ls) = place_of_children (place_after (place_in w ls) (length (spelling l.before))) l.header
+place_in framing [] = top_place framing
+place_in framing (l ∷ ls) = place_of_children (place_after (place_in framing ls) (length (spelling l.before))) l.header
 
 -- after the whole elements there
 abbrev pub place_of : Framing → Zipper → Place
-place_of w s = place_after (place_in w s.layers) (length (spelling s.here))
+place_of framing s = place_after (place_in framing s.layers) (length (spelling s.here))
 
 -- whole elements are there, and nothing is open
 pub record AreWhole (p : Place) (f : Forest) : Type 0 where
@@ -56,10 +57,10 @@ pub record AreWhole (p : Place) (f : Forest) : Type 0 where
 
 -- each layer's elements are whole, and its header may be after them
 abbrev pub AreLayers : Framing → List Layer → Type 0
-AreLayers w [] = Unit {0}
-AreLayers w (l ∷ ls) =
-    AreLayers w ls × AreWhole (place_in w ls) l.before
-    × IsEntry (place_after (place_in w ls) (length (spelling l.before))) true l.header
+AreLayers framing [] = Unit {0}
+AreLayers framing (l ∷ ls) =
+    AreLayers framing ls × AreWhole (place_in framing ls) l.before
+    × IsAnnouncedAt (place_after (place_in framing ls) (length (spelling l.before))) true l.header
 
 -- 8.1.3.3: a primitive of which so many contents octets are still to come
 pub record IsContents (p : Place) (h : HeaderValue) (c : List ℕ) (left : ℕ) : Type 0 where
@@ -72,16 +73,17 @@ abbrev pub frame_at : Place → HeaderValue → FrameValue
 frame_at p h = frame_with (p.offset + length (octets_of h)) p.bound h.size h.constructed
 
 abbrev pub frames_of : Framing → List Layer → List FrameValue
-frames_of w [] = []
-frames_of w (l ∷ ls) = frame_at (place_after (place_in w ls) (length (spelling l.before))) l.header ∷ frames_of w ls
+frames_of framing [] = []
+frames_of framing (l ∷ ls) =
+    frame_at (place_after (place_in framing ls) (length (spelling l.before))) l.header ∷ frames_of framing ls
 
 -- the frames of a state: a wrapping BIT STRING has one before its first contents octet
 abbrev pub stack_of : Framing → List Layer → Place → Tail → List FrameValue
-stack_of w ls p NoTail = frames_of w ls
-stack_of w ls p (PrimitiveTail h c) = frames_of w ls
-stack_of w ls p (BitStringTail h) = frame_at p h ∷ frames_of w ls
-stack_of w ls p (HeaderTail octets) = frames_of w ls
-stack_of w ls p EndOctetsTail = frames_of w ls
+stack_of framing ls p NoTail = frames_of framing ls
+stack_of framing ls p (PrimitiveTail h c) = frames_of framing ls
+stack_of framing ls p (BitStringTail h) = frame_at p h ∷ frames_of framing ls
+stack_of framing ls p (HeaderTail octets) = frames_of framing ls
+stack_of framing ls p EndOctetsTail = frames_of framing ls
 
 -- the phase of a walker is what is open there
 abbrev pub IsPhaseOf : PhaseValue → Tail → Place → Type 0
@@ -123,17 +125,18 @@ events_of_tail EndOctetsTail = []
 abbrev pub events_of_zipper : Zipper → List EventValue
 events_of_zipper s = events_of_layers s.layers ++ (events s.here ++ events_of_tail s.tail)
 
--- an octet of an element came
-abbrev pub begins_among : List Layer → Forest → Bool
-begins_among [] here = has_element here
-begins_among (l ∷ ls) here = true
+-- whether an octet of an element came: in the layers and in the whole elements
+abbrev pub layers_have_element : List Layer → Forest → Bool
+layers_have_element [] here = has_element here
+layers_have_element (l ∷ ls) here = true
 
-abbrev pub begins_element : List Layer → Forest → Tail → Bool
-begins_element layers here NoTail = begins_among layers here
-begins_element layers here (PrimitiveTail h c) = true
-begins_element layers here (BitStringTail h) = true
-begins_element layers here (HeaderTail octets) = true
-begins_element layers here EndOctetsTail = true
+-- and in all of the zipper
+abbrev pub zipper_has_element : List Layer → Forest → Tail → Bool
+zipper_has_element layers here NoTail = layers_have_element layers here
+zipper_has_element layers here (PrimitiveTail h c) = true
+zipper_has_element layers here (BitStringTail h) = true
+zipper_has_element layers here (HeaderTail octets) = true
+zipper_has_element layers here EndOctetsTail = true
 
 -- the walker has this zipper: octets so far, frames, phase and counts are the zipper's
 pub record HasZipper (w : WalkerState) (b : List ℕ) (yielded : List EventValue) (s : Zipper) : Type 0 where
@@ -144,7 +147,7 @@ pub record HasZipper (w : WalkerState) (b : List ℕ) (yielded : List EventValue
   pub here : AreWhole (place_in w.framing s.layers) s.here
   pub phase : IsPhaseOf w.phase s.tail (place_of w.framing s)
   pub same_events : AreEqualJoined yielded (events_of_zipper s)
-  pub element : w.has_element ≡ begins_element s.layers s.here s.tail
+  pub element : w.has_element ≡ zipper_has_element s.layers s.here s.tail
 
 -- what proofs keep of a walker that stands for these octets and events: a state that it has, and the wrappers that it
 -- found
@@ -152,4 +155,4 @@ pub record HasPrivateState (w : WalkerState) (b : List ℕ) (yielded : List Even
   pub state : Zipper
   pub has_state : HasZipper w b yielded state
   pub named : can_name w.framing.inside ≡ true
-  pub found : w.wrapper_count ≡ wrappers_after w.framing.inside 0 (entered_offsets yielded)
+  pub found : w.wrapper_count ≡ wrapper_count_after w.framing.inside 0 (entered_offsets yielded)

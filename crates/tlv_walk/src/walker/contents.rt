@@ -1,11 +1,10 @@
 //! How a walker takes the contents of primitives, and octets between encodings.
-ghost use Rattle.std.specs.Prelude.{◌≡◌, ◌≢◌, ℕ, ◌+◌, ◌<◌, ◌≤◌, ◌∷◌, [], All, Some, length, slice_get, take, true};
+ghost use Rattle.std.specs.Prelude.{◌≡◌, ◌≢◌, ◌<◌, ◌≤◌, ◌∷◌, [], All, Some, length, slice_get, take, true};
 ghost use Rattle.tlv_walk.specs.Phase as phases;
-ghost use Rattle.tlv_walk.specs.WalkerState.{HasOctets};
+ghost use Rattle.tlv_walk.specs.Events.{IsNoEmptyPart, event_value_of};
+ghost use Rattle.tlv_walk.specs.WalkerState.{IsWithinInputLimit};
 ghost use Rattle.tlv_walk.specs.Private.WalkerState.{CountsStep, YieldsAt, YieldsOne};
-ghost use Rattle.tlv_walk.specs.HasRead.{event_value_of};
 ghost use Rattle.tlv_walk.specs.Private.Yields.{Continues, YieldsEvent, YieldsStep};
-ghost use Rattle.tlv_head.specs.InputLimit.{input_limit};
 
 use super::{Phase, Walker};
 use crate::{Event, Step};
@@ -17,11 +16,11 @@ impl Walker {
     pub(super) fn contents<'a>(&mut self, left: u64, piece: &mut &'a [u8]) -> Event<'a>
         requires phase { self.old.phase ≡ phases.InPrimitive left }
         requires some { (0 < left) × (piece.old.now ≢ []) }
-        requires limit { self.old.offset + length piece.old.now ≤ input_limit }
+        requires limit { IsWithinInputLimit self.old piece.old.now }
         ensures one { YieldsOne self.old self.new piece.old.now piece.new.now }
         ensures event { YieldsEvent self.old self.new piece.old.now piece.new.now
             (event_value_of result) }
-        ensures octets { HasOctets result }
+        ensures octets { IsNoEmptyPart result }
     {
         let octets: &'a [u8] = *piece;
         let count = left.min(octets.len() as u64);
@@ -39,7 +38,7 @@ impl Walker {
         requires { self.old.phase ≡ phases.InPrimitive 0 }
         ensures yields { YieldsAt self.old self.new self.old.offset }
         ensures event { Continues self.old self.new [] (event_value_of result ∷ []) }
-        ensures octets { HasOctets result }
+        ensures octets { IsNoEmptyPart result }
     {
         self.events += 1;
         self.phase = Phase::Between;
@@ -50,13 +49,13 @@ impl Walker {
     pub(super) fn padding<'a>(&mut self, piece: &mut &'a [u8]) -> Event<'a>
         requires phase { self.old.phase ≡ phases.Between }
         requires zero { slice_get piece.old.now 0 ≡ Some 0 }
-        requires limit { self.old.offset + length piece.old.now ≤ input_limit }
+        requires limit { IsWithinInputLimit self.old piece.old.now }
         requires top { self.old.stack ≡ [] }
         requires padding { self.old.framing.padding ≡ true }
         ensures one { YieldsOne self.old self.new piece.old.now piece.new.now }
         ensures event { YieldsEvent self.old self.new piece.old.now piece.new.now
             (event_value_of result) }
-        ensures octets { HasOctets result }
+        ensures octets { IsNoEmptyPart result }
     {
         let octets: &'a [u8] = *piece;
         let count = zeros(octets);
@@ -67,10 +66,10 @@ impl Walker {
         Event::Pad(front)
     }
 
-    /// Takes the first contents octet of a wrapping BIT STRING.
+    /// Takes the first contents octet of a BIT STRING that holds encodings.
     pub(super) fn unused_octet<'a>(&mut self, piece: &mut &'a [u8]) -> Step<'a>
         requires phase { self.old.phase ≡ phases.InBitString }
-        requires limit { self.old.offset + length piece.old.now ≤ input_limit }
+        requires limit { IsWithinInputLimit self.old piece.old.now }
         ensures steps { CountsStep self.old self.new piece.old.now piece.new.now result }
         ensures yields { YieldsStep self.old self.new piece.old.now piece.new.now result }
     {

@@ -1,12 +1,11 @@
 //! How a walker takes what is between elements, and the ends of those that hold others.
-ghost use Rattle.std.specs.Prelude.{◌≡◌, ℕ, ◌+◌, ◌≤◌, ◌∷◌, [], length};
+ghost use Rattle.std.specs.Prelude.{◌≡◌, ◌∷◌, []};
 ghost use Rattle.tlv_walk.specs.Phase as phases;
-ghost use Rattle.tlv_walk.specs.WalkerState.{HasOctets};
-ghost use Rattle.tlv_walk.specs.Private.WalkerState.{CountsAtOnce, CountsStep, YieldsAt, close_event};
-ghost use Rattle.tlv_walk.specs.Stack.{IsFilled};
-ghost use Rattle.tlv_walk.specs.HasRead.{event_value_of};
+ghost use Rattle.tlv_walk.specs.Events.{IsNoEmptyPart, event_value_of};
+ghost use Rattle.tlv_walk.specs.Private.Stack.{IsFilled};
+ghost use Rattle.tlv_walk.specs.WalkerState.{IsWithinInputLimit};
+ghost use Rattle.tlv_walk.specs.Private.WalkerState.{CountsAtOnce, CountsStep, YieldsAt, close_event_if_taken};
 ghost use Rattle.tlv_walk.specs.Private.Yields.{Continues, YieldsAtOnce, YieldsStep};
-ghost use Rattle.tlv_head.specs.InputLimit.{input_limit};
 
 use super::{Phase, Walker};
 use crate::{Event, Step};
@@ -17,7 +16,7 @@ impl Walker {
     pub(super) fn between<'a>(&mut self, piece: &mut &'a [u8]) -> Step<'a>
         requires phase { self.old.phase ≡ phases.Between }
         requires room { IsFilled self.old.stack self.old.offset → ⊥ }
-        requires limit { self.old.offset + length piece.old.now ≤ input_limit }
+        requires limit { IsWithinInputLimit self.old piece.old.now }
         ensures steps { CountsStep self.old self.new piece.old.now piece.new.now result }
         ensures yields { YieldsStep self.old self.new piece.old.now piece.new.now result }
     {
@@ -26,7 +25,7 @@ impl Walker {
             return Step::NeedMore;
         };
         let indefinite = self.stack.is_in_indefinite();
-        if indefinite && self.stack.room(self.offset) == Some(0) {
+        if indefinite && self.stack.room_in(self.offset) == Some(0) {
             return self.refuse(FaultCode::MissingEnd);
         }
         if *octet != 0 {
@@ -51,7 +50,7 @@ impl Walker {
         requires filled { IsFilled self.old.stack self.old.offset }
         ensures yields { YieldsAt self.old self.new self.old.offset }
         ensures event { Continues self.old self.new [] (event_value_of result ∷ []) }
-        ensures octets { HasOctets result }
+        ensures octets { IsNoEmptyPart result }
     {
         self.events += 1;
         let Some(wrapper) = self.stack.pop() else {
@@ -65,13 +64,13 @@ impl Walker {
 
     /// Takes end-of-contents octets that lie whole in the piece, if they may be here.
     #[inline(always)]
-    pub(super) fn end_octets<'a>(&mut self, piece: &mut &'a [u8]) -> Option<Option<u64>>
+    pub(super) fn take_end_octets<'a>(&mut self, piece: &mut &'a [u8]) -> Option<Option<u64>>
         requires phase { self.old.phase ≡ phases.Between }
-        requires limit { self.old.offset + length piece.old.now ≤ input_limit }
+        requires limit { IsWithinInputLimit self.old piece.old.now }
         ensures steps { CountsAtOnce self.old self.new piece.old.now piece.new.now
-            (close_event result) }
+            (close_event_if_taken result) }
         ensures yields { YieldsAtOnce self.old self.new piece.old.now piece.new.now
-            (close_event result) }
+            (close_event_if_taken result) }
     {
         let octets: &'a [u8] = *piece;
         let [first, second, rest @ ..] = octets else {
@@ -80,7 +79,7 @@ impl Walker {
         if *first != 0 || *second != 0 {
             return None;
         }
-        if !self.stack.is_in_indefinite() || !self.stack.reaches(self.offset + 2) {
+        if !self.stack.is_in_indefinite() || !self.stack.is_within(self.offset + 2) {
             return None;
         }
         *piece = rest;
@@ -94,7 +93,7 @@ impl Walker {
     /// Takes the second of the end-of-contents octets.
     pub(super) fn second_zero<'a>(&mut self, piece: &mut &'a [u8]) -> Step<'a>
         requires phase { self.old.phase ≡ phases.InEndOctets }
-        requires limit { self.old.offset + length piece.old.now ≤ input_limit }
+        requires limit { IsWithinInputLimit self.old piece.old.now }
         ensures steps { CountsStep self.old self.new piece.old.now piece.new.now result }
         ensures yields { YieldsStep self.old self.new piece.old.now piece.new.now result }
     {
@@ -102,7 +101,7 @@ impl Walker {
         let [octet, rest @ ..] = octets else {
             return Step::NeedMore;
         };
-        if self.stack.room(self.offset) == Some(0) {
+        if self.stack.room_in(self.offset) == Some(0) {
             return self.refuse(FaultCode::MissingEnd);
         }
         if *octet != 0 {

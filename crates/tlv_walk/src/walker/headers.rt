@@ -5,36 +5,46 @@ ghost use Rattle.tlv_head.specs.Header.{announced_length, holds, octets_of};
 ghost use Rattle.tlv_head.specs.ReadHeader.{BeginsWithFields};
 ghost use Rattle.tlv_walk.specs.Phase as phases;
 ghost use Rattle.tlv_walk.specs.Inside.{is_among};
-ghost use Rattle.tlv_walk.specs.WalkerState.{HasOctets};
-ghost use Rattle.tlv_walk.specs.Private.WalkerState.{CanBegin, CanEnter, CanRead, CanReadOn, CountsAtOnce};
+ghost use Rattle.tlv_walk.specs.Events.{IsNoEmptyPart, event_value_of};
+ghost use Rattle.tlv_walk.specs.WalkerState.{IsWithinInputLimit};
+ghost use Rattle.tlv_walk.specs.Private.WalkerState.{CanBegin, CanTakeHeader, CanRead, CanReadOn, CountsAtOnce};
 ghost use Rattle.tlv_walk.specs.Private.WalkerState.{CountsStep, TakesHeader, YieldsAt};
-ghost use Rattle.tlv_walk.specs.Private.WrapperCount.{next_wrapper};
+ghost use Rattle.tlv_walk.specs.Private.WrapperCount.{next_wrapper_count};
 ghost use Rattle.tlv_walk.specs.Private.ReadsOn.{YieldsFrom, YieldsHeader};
 ghost use Rattle.tlv_walk.specs.Stack.{bound_of};
 ghost use Rattle.tlv_walk.specs.Place.{IsWithin};
-ghost use Rattle.tlv_walk.specs.HasRead.{event_value_of};
 ghost use Rattle.tlv_walk.specs.Private.Yields.{YieldsAtOnce, YieldsStep};
 ghost use Rattle.tlv_head.specs.InputLimit.{input_limit};
 
 use super::{Phase, Walker};
-use crate::event::HeaderKind;
 use crate::framing::is_among;
 use crate::stack::room_to;
 use crate::{Event, Step};
 use std::mem::replace;
 use tlv_head::{Head, HeadReader, Header, HeaderFields, Size, read_header, universal};
 
+/// What a header begins.
+#[derive(Clone, Copy)]
+pub(super) enum HeaderKind {
+    /// A constructed element.
+    Constructed,
+    /// A string that holds encodings.
+    Wrapper,
+    /// Another primitive.
+    Primitive,
+}
+
 impl Walker {
     /// Begins a header: takes it at once, if it lies whole in the piece and may be here, and else octet by octet.
     pub(super) fn header<'a>(&mut self, piece: &mut &'a [u8]) -> Step<'a>
         requires begins { CanBegin self.old piece.old.now }
-        requires limit { self.old.offset + length piece.old.now ≤ input_limit }
+        requires limit { IsWithinInputLimit self.old piece.old.now }
         ensures steps { CountsStep self.old self.new piece.old.now piece.new.now result }
         ensures yields { YieldsStep self.old self.new piece.old.now piece.new.now result }
     {
         let named = is_among(self.offset, &self.framing.inside);
         if let Some((fields, count)) = read_header(self.offset, named, *piece)
-            && let Some(event) = self.take_header(&fields, count, piece)
+            && let Some(event) = self.quick_header(&fields, count, piece)
         {
             return Step::Event(event);
         }
@@ -43,7 +53,7 @@ impl Walker {
 
     /// Takes the header with which the piece begins, if it may be here.
     #[inline(always)]
-    fn take_header<'a>(
+    fn quick_header<'a>(
         &mut self,
         fields: &HeaderFields,
         count: usize,
@@ -53,7 +63,7 @@ impl Walker {
         requires fewer { self.old.events + length self.old.stack ≤ self.old.offset }
         requires begins { BeginsWithFields piece.old.now self.old.offset
             (is_among self.old.offset self.old.framing.inside) fields.now count }
-        requires limit { self.old.offset + length piece.old.now ≤ input_limit }
+        requires limit { IsWithinInputLimit self.old piece.old.now }
         ensures steps { CountsAtOnce self.old self.new piece.old.now piece.new.now result }
         ensures yields { YieldsAtOnce self.old self.new piece.old.now piece.new.now result }
     {
@@ -63,7 +73,7 @@ impl Walker {
             return None;
         }
         *piece = rest;
-        match self.enter(fields, front) {
+        match self.take_header(fields, front) {
             HeaderKind::Constructed => Some(Event::Open(Header::new(fields, front))),
             HeaderKind::Wrapper => Some(Event::Enter(Header::new(fields, front))),
             HeaderKind::Primitive => Some(Event::Begin(Header::new(fields, front))),
@@ -73,7 +83,7 @@ impl Walker {
     /// Begins a header or goes on with one, octet by octet.
     pub(super) fn slow_header<'a>(&mut self, piece: &mut &'a [u8]) -> Step<'a>
         requires begins { CanRead self.old piece.old.now }
-        requires limit { self.old.offset + length piece.old.now ≤ input_limit }
+        requires limit { IsWithinInputLimit self.old piece.old.now }
         ensures steps { CountsStep self.old self.new piece.old.now piece.new.now result }
         ensures yields { YieldsStep self.old self.new piece.old.now piece.new.now result }
     {
@@ -92,7 +102,7 @@ impl Walker {
         requires phase { self.old.phase ≡ phases.Between }
         requires read { CanReadOn self.old reader piece.old.now }
         requires some { piece.old.now ≢ [] }
-        requires limit { self.old.offset + length piece.old.now ≤ input_limit }
+        requires limit { IsWithinInputLimit self.old piece.old.now }
         ensures steps { CountsStep self.old self.new piece.old.now piece.new.now result }
         ensures yields { YieldsFrom self.old reader self.new piece.old.now piece.new.now result }
     {
@@ -108,7 +118,7 @@ impl Walker {
                 }
                 Head::Whole(header) => {
                     *piece = rest;
-                    return Step::Event(self.enter_slowly(header));
+                    return Step::Event(self.take_whole_header(header));
                 }
                 Head::Refused(fault) => {
                     self.offset = offset;
@@ -123,29 +133,30 @@ impl Walker {
         Step::NeedMore
     }
 
-    fn enter_slowly<'a>(&mut self, header: Header) -> Event<'a>
+    /// Takes a header that the reader has read to its end, and returns its event.
+    fn take_whole_header<'a>(&mut self, header: Header) -> Event<'a>
         requires phase { self.old.phase ≡ phases.Between }
-        requires enter { CanEnter self.old header }
+        requires can { CanTakeHeader self.old header }
         ensures yields { YieldsAt self.old self.new (header.offset + length (octets_of header)) }
-        ensures enters { YieldsHeader self.old self.new header (event_value_of result) }
-        ensures octets { HasOctets result }
+        ensures takes { YieldsHeader self.old self.new header (event_value_of result) }
+        ensures octets { IsNoEmptyPart result }
     {
         let fields = header.fields();
-        match self.enter(&fields, header.raw()) {
+        match self.take_header(&fields, header.raw()) {
             HeaderKind::Constructed => Event::Open(header),
             HeaderKind::Wrapper => Event::Enter(header),
             HeaderKind::Primitive => Event::Begin(header),
         }
     }
 
-    /// Stands after a header, whose octets have left the piece.
+    /// Takes a header that may be here: counts its octets and the event, and opens a frame if its element holds others.
     #[inline(always)]
-    pub(super) fn enter(&mut self, fields: &HeaderFields, octets: &[u8]) -> HeaderKind
+    pub(super) fn take_header(&mut self, fields: &HeaderFields, octets: &[u8]) -> HeaderKind
         requires phase { self.old.phase ≡ phases.Between }
         requires sized { IsHeaderSized fields.now octets.now }
-        requires enter { CanEnter self.old (new_header fields.now octets.now) }
+        requires can { CanTakeHeader self.old (new_header fields.now octets.now) }
         ensures yields { YieldsAt self.old self.new (fields.now.offset + length octets.now) }
-        ensures enters { TakesHeader self.old self.new fields.now
+        ensures takes { TakesHeader self.old self.new fields.now
             (fields.now.offset + length octets.now) result }
     {
         self.offset = fields.offset + octets.len() as u64;
@@ -170,14 +181,14 @@ impl Walker {
         HeaderKind::Wrapper
     }
 
-    /// Counts a string that wraps encodings, if its offset is the first of those named that was
-    /// not counted yet. Strings come in the order of their offsets, so one that is passed over stays
+    /// Counts a string that holds encodings, if its offset is the first of those named that was
+    /// not counted yet. Strings come in the order of their offsets, so an offset that is left out stays
     /// unused.
     #[tactic(auto, using(std::proofs::lemmas::Option::slice_get_within))]
     fn found_wrapper(&mut self, offset: u64)
         ensures { self.new
             ≡ record self.old {
-              wrapper_count = next_wrapper self.old.framing.inside self.old.wrapper_count offset;
+              wrapper_count = next_wrapper_count self.old.framing.inside self.old.wrapper_count offset;
             } }
     {
         if let Some(named) = self.framing.inside.get(self.wrapper_count)
@@ -202,6 +213,6 @@ impl Walker {
         if self.stack.len() == 128 && (fields.constructed || fields.wraps()) {
             return false;
         }
-        self.stack.reaches(self.offset + octets.len() as u64 + fields.size.announced_length())
+        self.stack.is_within(self.offset + octets.len() as u64 + fields.size.announced_length())
     }
 }

@@ -1,10 +1,11 @@
 //! How a walker finds the next event in few instructions.
-ghost use Rattle.std.specs.Prelude.{◌≡◌, ◌+◌, ◌≤◌, IfSome, length, take, true};
+ghost use Rattle.std.specs.Prelude.{◌≡◌, IfSome, take, true};
 ghost use Rattle.tlv_head.specs.HeaderFields.{IsHeaderSized};
 ghost use Rattle.tlv_walk.specs.Follow.{whole_events};
-ghost use Rattle.tlv_walk.specs.Private.WalkerState.{CanPass, CountsAtOnce, Passes, close_event, header_at, open_event};
+ghost use Rattle.tlv_walk.specs.WalkerState.{IsWithinInputLimit};
+ghost use Rattle.tlv_walk.specs.Private.WalkerState.{CanPass, CountsAtOnce, Passes, close_event_if_taken, header_at};
+ghost use Rattle.tlv_walk.specs.Private.WalkerState.{open_event_if_taken};
 ghost use Rattle.tlv_walk.specs.Private.Yields.{YieldsAtOnce, YieldsEvents};
-ghost use Rattle.tlv_head.specs.InputLimit.{input_limit};
 
 use super::{Phase, Walker};
 use crate::Event;
@@ -16,17 +17,17 @@ use tlv_head::{HeaderFields, Size, read_short};
 pub(crate) struct WholePrimitive {
     pub fields: HeaderFields,
     /// How many octets its header has.
-    pub header: usize,
+    pub header_length: usize,
     /// How many octets it has, contents and all.
-    pub octets: usize,
+    pub octet_count: usize,
 }
 
 impl Walker {
     /// The primitive with which these octets begin, if all of it is among them, its header has few octets, it is not
-    /// named, and it may be here. With `short`, only if its header has two octets.
+    /// named, and it may be here. With `two_octets`, only if its header has two octets.
     #[inline(always)]
-    pub(crate) fn primitive(&self, octets: &[u8], short: bool) -> Option<WholePrimitive>
-        requires { self.now.offset + length octets.now ≤ input_limit }
+    pub(crate) fn primitive(&self, octets: &[u8], two_octets: bool) -> Option<WholePrimitive>
+        requires { IsWithinInputLimit self.now octets.now }
         ensures { IfSome result (λ p. CanPass self.now octets.now p) }
     {
         let [first, ..] = octets else {
@@ -38,27 +39,27 @@ impl Walker {
         {
             return None;
         }
-        if short && !has_two_octets(octets) {
+        if two_octets && !has_two_octets(octets) {
             return None;
         }
-        let (fields, header) = read_short(self.offset, false, octets)?;
+        let (fields, header_length) = read_short(self.offset, false, octets)?;
         if fields.constructed {
             return None;
         }
         let Size::Definite(length) = fields.size else {
             return None;
         };
-        if length > (octets.len() - header) as u64 {
+        if length > (octets.len() - header_length) as u64 {
             return None;
         }
-        let count = header + length as usize;
-        if !self.stack.reaches(self.offset + count as u64) {
+        let octet_count = header_length + length as usize;
+        if !self.stack.is_within(self.offset + octet_count as u64) {
             return None;
         }
         Some(WholePrimitive {
             fields,
-            header,
-            octets: count,
+            header_length,
+            octet_count,
         })
     }
 
@@ -66,18 +67,18 @@ impl Walker {
     #[inline(always)]
     pub(crate) fn pass<'a>(&mut self, primitive: &WholePrimitive, piece: &mut &'a [u8])
         requires can { CanPass self.old piece.old.now primitive.now }
-        requires limit { self.old.offset + length piece.old.now ≤ input_limit }
+        requires limit { IsWithinInputLimit self.old piece.old.now }
         ensures passes { Passes self.old self.new piece.old.now piece.new.now }
         ensures yields { YieldsEvents self.old self.new piece.old.now piece.new.now
             (whole_events (header_at primitive.now piece.old.now)
-            (take primitive.now.octets piece.old.now)) }
+            (take primitive.now.octet_count piece.old.now)) }
     {
         let octets: &'a [u8] = *piece;
-        let (_, rest) = octets.split_at(primitive.octets);
+        let (_, rest) = octets.split_at(primitive.octet_count);
         *piece = rest;
-        self.offset += primitive.octets as u64;
+        self.offset += primitive.octet_count as u64;
         // The header, the contents unless there are none, and the end.
-        self.events += if primitive.header == primitive.octets {
+        self.events += if primitive.header_length == primitive.octet_count {
             2
         } else {
             3
@@ -92,11 +93,11 @@ impl Walker {
         &mut self,
         piece: &mut &'a [u8],
     ) -> Option<(HeaderFields, &'a [u8])>
-        requires { self.old.offset + length piece.old.now ≤ input_limit }
+        requires { IsWithinInputLimit self.old piece.old.now }
         ensures steps { CountsAtOnce self.old self.new piece.old.now piece.new.now
-            (open_event result) }
+            (open_event_if_taken result) }
         ensures yields { YieldsAtOnce self.old self.new piece.old.now piece.new.now
-            (open_event result) }
+            (open_event_if_taken result) }
         ensures sized { IfSome result (λ found. IsHeaderSized found.0 found.1.now) }
         ensures constructed { IfSome result (λ found. found.0.constructed ≡ true) }
     {
@@ -120,7 +121,7 @@ impl Walker {
             return None;
         }
         *piece = rest;
-        self.enter(&fields, front);
+        self.take_header(&fields, front);
         Some((fields, front))
     }
 
@@ -129,17 +130,17 @@ impl Walker {
     /// nothing is taken.
     #[inline(always)]
     pub(crate) fn close<'a>(&mut self, piece: &mut &'a [u8]) -> Option<Option<u64>>
-        requires { self.old.offset + length piece.old.now ≤ input_limit }
+        requires { IsWithinInputLimit self.old piece.old.now }
         ensures steps { CountsAtOnce self.old self.new piece.old.now piece.new.now
-            (close_event result) }
+            (close_event_if_taken result) }
         ensures yields { YieldsAtOnce self.old self.new piece.old.now piece.new.now
-            (close_event result) }
+            (close_event_if_taken result) }
     {
         if !matches!(self.phase, Phase::Between) {
             return None;
         }
         if !self.stack.is_filled(self.offset) {
-            return self.end_octets(piece);
+            return self.take_end_octets(piece);
         }
         if self.stack.is_in_wrapper() {
             return None;
@@ -153,7 +154,7 @@ impl Walker {
     /// [`Walker::step`] says what comes next.
     #[inline(always)]
     pub(crate) fn contents_event<'a>(&mut self, piece: &mut &'a [u8]) -> Option<Event<'a>>
-        requires { self.old.offset + length piece.old.now ≤ input_limit }
+        requires { IsWithinInputLimit self.old piece.old.now }
         ensures steps { CountsAtOnce self.old self.new piece.old.now piece.new.now result }
         ensures yields { YieldsAtOnce self.old self.new piece.old.now piece.new.now result }
     {

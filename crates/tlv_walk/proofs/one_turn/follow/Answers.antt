@@ -51,7 +51,7 @@ events-preserved-then-branch g c = record {
       follows_part g.F.Follow.next g.D.Drain.state _ _ _ _ _ _ _ c.events.invariant.follows c.if-branch.true
       c.in_ok-follow_primitive.ensures;
   walked =
-      (part_passes g.F.Follow.next g.D.Drain.state _ _ _ _ _ c.if-branch.true c.in_ok-follow_primitive.ensures).taken
+      (part_passes g.F.Follow.next g.D.Drain.state _ _ _ _ _ c.if-branch.true c.in_ok-follow_primitive.ensures).counts
       ∙ c.events.invariant.walked;
 }
 
@@ -70,7 +70,7 @@ events-preserved g c =
             _ w.in_ok-go-in-Some.ensures.puts);
         walked =
             rw (w.walker-is, w.rest-is)
-            (w.in-Some.ensures.steps.0.taken
+            (w.in-Some.ensures.steps.0.counts
             ∙ left_walked g.F.Follow.next g.D.Drain.state _ _ _ _ _ c.if-branch.false
             c.in_ok-follow_primitive.ensures
             ∙ c.events.invariant.walked);
@@ -84,7 +84,7 @@ events-preserved g c =
             w.in_ok-go-in-Some-constructed.ensures.state _ w.in_ok-go-in-Some-constructed.ensures.puts);
         walked =
             rw (w.walker-is, w.rest-is)
-            (w.in-Some-constructed.ensures.steps.0.taken
+            (w.in-Some-constructed.ensures.steps.0.counts
             ∙ unmoved _ _ _ _ (w.in-None.ensures.steps.0) (w.in-None.ensures.steps.1)
             ∙ left_walked g.F.Follow.next g.D.Drain.state _ _ _ _ _ c.if-branch.false
             c.in_ok-follow_primitive.ensures
@@ -100,7 +100,7 @@ events-preserved g c =
             w.in_ok-go-in-Some-contents_event.ensures.state _ w.in_ok-go-in-Some-contents_event.ensures.puts);
         walked =
             rw (w.walker-is, w.rest-is)
-            (w.in-Some-contents_event.ensures.steps.0.taken
+            (w.in-Some-contents_event.ensures.steps.0.counts
             ∙ unmoved _ _ _ _ (w.in-None-constructed.ensures.steps.0 ∙ w.in-None.ensures.steps.0)
             (w.in-None-constructed.ensures.steps.1 ∙ w.in-None.ensures.steps.1)
             ∙ left_walked g.F.Follow.next g.D.Drain.state _ _ _ _ _ c.if-branch.false
@@ -230,14 +230,14 @@ returns-then-eq g c =
           _ _ _ _ _ (follows_event g.F.Follow.next g.D.Drain.state _ _ _ _ _ _ _ _ left
           (stands_all _ _ _ _ _ w.in-Some.ensures.yields) w.in_ok-go-in-Some.ensures.state
           _ w.in_ok-go-in-Some.ensures.puts)
-          (sym w.go-is ∙ enough) w.in-Some.ensures.steps.0.after_event)
+          (sym w.go-is ∙ enough) w.in-Some.ensures.steps.0.has_yielded.after_event)
       | in-None+in-Some-constructed+in_ok-go-in-Some-constructed w ↦ rw (w.out-is, w.follower-is, w.walker-is)
           (pauses_enough g.F.Follow.next g.D.Drain.state
           _ _ _ _ _ (follows_event g.F.Follow.next g.D.Drain.state _ _ _ _ _ _ _ _ left
           (unmoved_event _ _ _ _ _ _ _ (w.in-None.ensures.steps.0) (w.in-None.ensures.steps.1)
           (stands_all _ _ _ _ _ w.in-Some-constructed.ensures.yields))
           w.in_ok-go-in-Some-constructed.ensures.state _ w.in_ok-go-in-Some-constructed.ensures.puts)
-          (sym w.go-is ∙ enough) w.in-Some-constructed.ensures.steps.0.after_event)
+          (sym w.go-is ∙ enough) w.in-Some-constructed.ensures.steps.0.has_yielded.after_event)
       | in-None+in-None-constructed+in-Some-contents_event+in_ok-go-in-Some-contents_event w ↦
           rw (w.out-is, w.follower-is, w.walker-is)
           (pauses_enough g.F.Follow.next g.D.Drain.state
@@ -246,7 +246,7 @@ returns-then-eq g c =
           (w.in-None-constructed.ensures.steps.1 ∙ w.in-None.ensures.steps.1)
           (stands_all _ _ _ _ _ w.in-Some-contents_event.ensures.yields))
           w.in_ok-go-in-Some-contents_event.ensures.state _ w.in_ok-go-in-Some-contents_event.ensures.puts)
-          (sym w.go-is ∙ enough) w.in-Some-contents_event.ensures.steps.0.after_event)
+          (sym w.go-is ∙ enough) w.in-Some-contents_event.ensures.steps.0.has_yielded.after_event)
       | in-None+in-None-constructed+in-None-contents_event+in-Event+in_ok-go-in-Event w ↦
           rw (w.out-is, w.follower-is, w.walker-is)
           (pauses_enough g.F.Follow.next g.D.Drain.state
@@ -258,5 +258,5 @@ returns-then-eq g c =
           ∙ w.in-None.ensures.steps.1)
           (walked_event _ _ _ _ _ w.in-Event.ensures))
           w.in_ok-go-in-Event.ensures.state _ w.in_ok-go-in-Event.ensures.puts)
-          (sym w.go-is ∙ enough) w.in-Event.ensures.phase)
+          (sym w.go-is ∙ enough) w.in-Event.ensures.has_yielded.after_event)
     ]

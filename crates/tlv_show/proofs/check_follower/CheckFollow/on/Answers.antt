@@ -1,5 +1,5 @@
 use Rattle.std.proofs.Common.{rules, refl, sym}
-use Rattle.tlv_walk.specs.HasRead.{event_value_of}
+use Rattle.tlv_walk.specs.Events.{event_value_of}
 use Rattle.tlv_io.proofs.Puts.{puts_as, puts_failed_last, puts_text}
 use Rattle.tlv_show.proofs.FindingLemmas.CheckLaws.{step-state, step-text}
 use Rattle.tlv_show.proofs.check_follower.CheckFollow.on.Goals as goal

@@ -1,5 +1,5 @@
 use Rattle.std.proofs.Common.{rules, sym}
-use Rattle.tlv_walk.specs.HasRead.{event_value_of}
+use Rattle.tlv_walk.specs.Events.{event_value_of}
 use Rattle.tlv_io.proofs.Puts.{puts_failed_last}
 use Rattle.tlv_show.proofs.DumpLemmas.DumpSteps.{one_on}
 use Rattle.tlv_show.proofs.dump_follower.DumpFollow.on.Goals as goal

@@ -1,9 +1,9 @@
 use Rattle.std.proofs.Common.{[], ◌∷◌, subst, rules}
 use Rattle.tlv_head.specs.HeaderFields.{new_header}
 use Rattle.tlv_head.specs.ReadHeader.{BeginsWithFields}
-use Rattle.tlv_walk.specs.declared.event.HeaderKind.{HeaderKind}
+use Rattle.tlv_walk.specs.declared.walker.headers.HeaderKind.{HeaderKind}
 use Rattle.tlv_walk.specs.Private.Yields.{Continues}
-use Rattle.tlv_walk.proofs.WalkerLemmas.HeaderKinds.{constructed_kind, event_of, fast_enters}
+use Rattle.tlv_walk.proofs.WalkerLemmas.HeaderKinds.{constructed_kind, event_of, takes_quick_header}
 use Rattle.tlv_walk.proofs.walker.Walker.constructed.Goals as goal
 
 pub returns-clause-yields : goal.returns-clause-yields
@@ -16,12 +16,13 @@ returns-clause-yields c =
       piece_is = search rules;
       continues =
           (subst
-          (λ (k : HeaderKind). Continues c.args.self.now c.enter.new.self c.split_at.result.0.now
+          (λ (k : HeaderKind). Continues c.args.self.now c.take_header.new.self c.split_at.result.0.now
           (event_of k (new_header c.in_ok-fields.fields c.split_at.result.0.now) ∷ []))
-          (constructed_kind c.args.self.now c.enter.new.self c.in_ok-fields.fields _ c.enter.result (search rules)
-          c.enter.ensures.enters)
-          (fast_enters c.args.self.now c.enter.new.self c.args.piece.now.now named c.in_ok-fields.fields
-          c.in_ok-fields.count c.split_at.result.0.now c.enter.result
+          (constructed_kind c.args.self.now c.take_header.new.self c.in_ok-fields.fields _ c.take_header.result
+          (search rules)
+          c.take_header.ensures.takes)
+          (takes_quick_header c.args.self.now c.take_header.new.self c.args.piece.now.now named c.in_ok-fields.fields
+          c.in_ok-fields.count c.split_at.result.0.now c.take_header.result
           (search rules) begins c.split_at.ensures.front (search rules) (search rules) (search rules)
-          c.enter.ensures.enters));
+          c.take_header.ensures.takes));
     }

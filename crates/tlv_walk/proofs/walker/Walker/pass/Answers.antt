@@ -10,7 +10,7 @@ returns-clause-yields c =
     subst (λ (m : WalkerState). CanPass m c.args.piece.now.now c.args.primitive.now) (sym c.self.view_is)
     c.requires.can in
     record {
-      taken = take c.args.primitive.now.octets c.args.piece.now.now;
+      taken = take c.args.primitive.now.octet_count c.args.piece.now.now;
       piece_is = search rules;
       continues = rw (← c.self.view_is) (yields_primitive _ c.args.piece.now.now c.args.primitive.now _ can);
     }

@@ -7,11 +7,12 @@ use Rattle.tlv_walk.specs.Private.ReadsOn.{HandsOver}
 use Rattle.tlv_walk.specs.Stack.{bound_of}
 use Rattle.tlv_walk.specs.Place.{IsWithin}
 use Rattle.tlv_walk.specs.Private.Stack.{room_to}
-use Rattle.tlv_walk.specs.HasRead.{event_value_of}
+use Rattle.tlv_walk.specs.Events.{event_value_of}
 use Rattle.tlv_walk.specs.WalkerFields.{walker_state_of}
 use Rattle.tlv_walk.proofs.WalkerLemmas.HeaderRefusals.{refuses_header}
 use Rattle.tlv_walk.proofs.WalkerLemmas.HeaderSteps.{HasTaken, first_and_others, give_room, give_some, pushed_end}
-use Rattle.tlv_walk.proofs.WalkerLemmas.HeaderSteps.{pushed_some, taken_more, yields_unfinished, used_up, whole_enters}
+use Rattle.tlv_walk.proofs.WalkerLemmas.HeaderSteps.{pushed_some, taken_more, yields_unfinished, used_up}
+use Rattle.tlv_walk.proofs.WalkerLemmas.HeaderSteps.{can_take_whole_header}
 use Rattle.tlv_walk.proofs.WalkerLemmas.HeaderSteps.{whole_yields, within_next}
 use Rattle.tlv_walk.proofs.walker.Walker.read_on.Goals as goal
 
@@ -33,8 +34,8 @@ loop-piece-preserved c =
       }
     ]
 
-pub enter_slowly-requires-clause-enter : goal.enter_slowly-requires-clause-enter
-enter_slowly-requires-clause-enter c =
+pub take_whole_header-requires-clause-can : goal.take_whole_header-requires-clause-can
+take_whole_header-requires-clause-can c =
     let i = c.loop-piece.invariant in
     let same = c.self.view_is ∙ sym i.same in
     let room : c.room_to.result ≡ room_to (bound_of c.loop-piece.self.stack) c.loop-piece.offset =
@@ -43,7 +44,8 @@ enter_slowly-requires-clause-enter c =
     (c.bound-bound.ensures ∙ ap (λ (m : WalkerState). bound_of m.stack) same) in
     elim c.in-Whole.ensures.pushes [
       | whole header completes there done ↦
-          whole_enters c.loop-piece.self c.loop-piece.reader _ c.len-depth.result c.loop-piece.offset c.in-Whole.header
+          can_take_whole_header c.loop-piece.self c.loop-piece.reader _ c.len-depth.result c.loop-piece.offset
+          c.in-Whole.header
           (subst (λ (m : WalkerState). m.events + length m.stack ≤ c.loop-piece.reader.offset) (sym i.same)
           (omega (arith, c.requires.read.fewer, i.start)))
           i.end
@@ -58,10 +60,10 @@ returns-in-Whole-clause-yields c = λ w over.
     subst (λ (m : WalkerState). HandsOver w m c.args.reader) (sym c.loop-piece.invariant.same) over in
     elim c.in-Whole.ensures.pushes [
       | whole header completes there done ↦
-          whole_yields w c.loop-piece.self c.enter_slowly.new.self c.args.reader c.loop-piece.reader
-          _ c.loop-piece.piece.now _ _ c.in-Whole.header (event_value_of c.enter_slowly.result) over'
+          whole_yields w c.loop-piece.self c.take_whole_header.new.self c.args.reader c.loop-piece.reader
+          _ c.loop-piece.piece.now _ _ c.in-Whole.header (event_value_of c.take_whole_header.result) over'
           c.loop-piece.invariant.read (first_and_others c.loop-piece.piece.now c.in-len1-up.len_at_least) completes
-          c.enter_slowly.ensures.enters
+          c.take_whole_header.ensures.takes
     ]
 
 pub returns-in-Refused-clause-yields : goal.returns-in-Refused-clause-yields
@@ -107,13 +109,13 @@ returns-in-Refused-clause-steps c = search rules
 pub returns-in-Whole-clause-steps : goal.returns-in-Whole-clause-steps
 returns-in-Whole-clause-steps c =
     let i = c.loop-piece.invariant in
-    let e = c.enter_slowly.ensures in
+    let e = c.take_whole_header.ensures in
     let x : ℕ = get_or c.loop-piece.piece.now 0 0 in
     let first = first_and_others c.loop-piece.piece.now c.in-len1-up.len_at_least in
     elim c.in-Whole.ensures.pushes [
       | whole header completes there done ↦ (
         record {
-          taken =
+          counts =
               omega (
                 arith,
                 e.yields.offset,
@@ -125,8 +127,7 @@ returns-in-Whole-clause-steps c =
                 ap length first,
               );
           events = e.yields.events ∙ ap (λ (m : WalkerState). m.events + 1) i.same;
-          within = e.yields.within;
-          after_event = e.yields.after_event;
+          has_yielded = e.yields.has_yielded;
         },
         e.octets,
       )

@@ -1,6 +1,6 @@
 use Rattle.std.proofs.Common.{◌∷◌, [], rules, arith, inl}
 use Rattle.std.proofs.lemmas.Grind.{common_steps}
-use Rattle.tlv_walk.proofs.WalkerLemmas.Entering.{yields_unused}
+use Rattle.tlv_walk.proofs.WalkerLemmas.AfterHeader.{yields_unused}
 use Rattle.tlv_walk.proofs.WalkerLemmas.Refusals.{refuses_front, refuses_unused}
 use Rattle.tlv_walk.proofs.walker.Walker.unused_octet.Goals as goal
 

@@ -1,6 +1,6 @@
 use Rattle.std.proofs.Common.{arith}
 use Rattle.tlv_walk.proofs.StackLemmas.{bound-frames, within_bound}
-use Rattle.tlv_walk.proofs.stack.Stack.reaches.Goals as goal
+use Rattle.tlv_walk.proofs.stack.Stack.is_within.Goals as goal
 
 pub returns : goal.returns
 returns c =

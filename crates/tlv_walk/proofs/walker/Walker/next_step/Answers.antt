@@ -1,6 +1,6 @@
 use Rattle.std.proofs.Common.{arith, rules}
 use Rattle.std.proofs.lemmas.Grind.{common_steps}
-use Rattle.tlv_walk.proofs.walker.Walker.take.Goals as goal
+use Rattle.tlv_walk.proofs.walker.Walker.next_step.Goals as goal
 
 pub returns-in-Refused : goal.returns-in-Refused
 returns-in-Refused c = search rules

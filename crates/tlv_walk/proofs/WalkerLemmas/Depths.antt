@@ -8,15 +8,15 @@ use Rattle.tlv_walk.specs.Forest.{Forest, NoMore, PaddingOctet, Primitive, Holde
 use Rattle.tlv_walk.specs.Forest.{OpenBitString, OpenHeader, OpenEndOctets, is_whole}
 use Rattle.tlv_walk.specs.WalkerState.{WalkerState}
 use Rattle.tlv_walk.proofs.WalkerLemmas.Waiting.{EventWaits}
-use Rattle.tlv_walk.specs.OpenCount.{open_count}
+use Rattle.tlv_walk.specs.Depth.{depth_of}
 use Rattle.tlv_walk.specs.Place.{Place}
 use Rattle.tlv_walk.specs.Private.Zipper.{AreLayers, BitStringTail, NoTail, HasZipper, PrimitiveTail, EndOctetsTail}
 use Rattle.tlv_walk.specs.Private.Zipper.{HeaderTail, Layer, Tail, Zipper, frames_of, place_of, stack_of}
-use Rattle.tlv_walk.proofs.WalkerLemmas.ZipperEndings.{forest_of, state-within}
-use Rattle.tlv_walk.proofs.WalkerLemmas.Zipper.{followed_by, reading_of, within}
+use Rattle.tlv_walk.proofs.WalkerLemmas.ZipperEndings.{tail_forest, state-within}
+use Rattle.tlv_walk.proofs.WalkerLemmas.Zipper.{followed_by, reading_of, forest_in_layers}
 
 -- after whole elements as many are open as of the others
-pub count-after : (f g : Forest) → is_whole f ≡ true → open_count (followed_by f g) ≡ open_count g
+pub count-after : (f g : Forest) → is_whole f ≡ true → depth_of (followed_by f g) ≡ depth_of g
 count-after NoMore g e = refl
 count-after (PaddingOctet rest) g e = count-after rest g e
 count-after (Primitive h c rest) g e = count-after rest g e
@@ -29,7 +29,7 @@ count-after OpenEndOctets g e = absurd (true≢false (sym e))
 
 -- each layer is open
 pub count-within : (w : Framing) (ls : List Layer) (f : Forest) → AreLayers w ls
-    → open_count (within ls f) ≡ length ls + open_count f
+    → depth_of (forest_in_layers ls f) ≡ length ls + depth_of f
 count-within w [] f a = omega arith
 count-within w (l ∷ ls) f a =
     omega (
@@ -45,7 +45,7 @@ length-frames w (l ∷ ls) = ap suc (length-frames w ls)
 
 -- and so has a wrapping BIT STRING before its first contents octet
 length-stack : (w : Framing) (ls : List Layer) (p : Place) (t : Tail)
-    → length (stack_of w ls p t) ≡ length ls + open_count (forest_of t)
+    → length (stack_of w ls p t) ≡ length ls + depth_of (tail_forest t)
 length-stack w ls p NoTail = omega (arith, length-frames w ls)
 length-stack w ls p (PrimitiveTail h c) = omega (arith, length-frames w ls)
 length-stack w ls p (BitStringTail h) = omega (arith, length-frames w ls)
@@ -54,10 +54,10 @@ length-stack w ls p EndOctetsTail = omega (arith, length-frames w ls)
 
 -- the frames of a walker are as many as the open elements of its reading that hold others
 pub state-depth : (w : WalkerState) (b : List ℕ) (yielded : List EventValue) (s : Zipper) → HasZipper w b yielded s
-    → (EventWaits w → ⊥) → length w.stack ≡ open_count (reading_of s)
+    → (EventWaits w → ⊥) → length w.stack ≡ depth_of (reading_of s)
 state-depth w b yielded s h n =
     ap (λ (stack : List FrameValue). length stack) h.stack
     ∙ length-stack w.framing s.layers (place_of w.framing s) s.tail
-    ∙ sym (ap open_count (state-within w b yielded s h n)
-    ∙ count-within w.framing s.layers (followed_by s.here (forest_of s.tail)) h.layers
-    ∙ ap (λ (k : ℕ). length s.layers + k) (count-after s.here (forest_of s.tail) h.here.whole))
+    ∙ sym (ap depth_of (state-within w b yielded s h n)
+    ∙ count-within w.framing s.layers (followed_by s.here (tail_forest s.tail)) h.layers
+    ∙ ap (λ (k : ℕ). length s.layers + k) (count-after s.here (tail_forest s.tail) h.here.whole))

@@ -1,7 +1,7 @@
 use Rattle.std.proofs.Common.{◌∷◌, [], arith, rules}
 use Rattle.std.proofs.lemmas.Grind.{common_steps}
 use Rattle.tlv_walk.proofs.WalkerLemmas.Closing.{yields_both}
-use Rattle.tlv_walk.proofs.walker.Walker.end_octets.Goals as goal
+use Rattle.tlv_walk.proofs.walker.Walker.take_end_octets.Goals as goal
 
 pub returns-clause-yields : goal.returns-clause-yields
 returns-clause-yields c = record {

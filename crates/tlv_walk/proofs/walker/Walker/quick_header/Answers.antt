@@ -1,13 +1,13 @@
 use Rattle.std.proofs.Common.{[], ◌∷◌, refl, subst, rules}
 use Rattle.tlv_head.specs.HeaderFields.{new_header}
-use Rattle.tlv_walk.specs.declared.event.HeaderKind.{HeaderKind}
+use Rattle.tlv_walk.specs.declared.walker.headers.HeaderKind.{HeaderKind}
 use Rattle.tlv_walk.specs.Private.Yields.{Continues}
-use Rattle.tlv_walk.proofs.WalkerLemmas.HeaderKinds.{event_of, fast_enters, fast_may_enter}
-use Rattle.tlv_walk.proofs.walker.Walker.take_header.Goals as goal
+use Rattle.tlv_walk.proofs.WalkerLemmas.HeaderKinds.{event_of, takes_quick_header, can_take_quick_header}
+use Rattle.tlv_walk.proofs.walker.Walker.quick_header.Goals as goal
 
-pub enter-requires-clause-enter : goal.enter-requires-clause-enter
-enter-requires-clause-enter c =
-    fast_may_enter c.args.self.now c.args.piece.now.now _ c.args.fields.now c.args.count c.split_at.result.0.now
+pub take_header-requires-clause-can : goal.take_header-requires-clause-can
+take_header-requires-clause-can c =
+    can_take_quick_header c.args.self.now c.args.piece.now.now _ c.args.fields.now c.args.count c.split_at.result.0.now
     c.requires.begins c.split_at.ensures.front
     c.requires.fewer c.requires.limit (search rules) (search rules)
 
@@ -18,13 +18,13 @@ returns-in-Constructed-clause-yields c = record {
   continues =
       rw c.new.ensures
       (subst
-      (λ (k : HeaderKind). Continues c.args.self.now c.enter.new.self c.split_at.result.0.now
+      (λ (k : HeaderKind). Continues c.args.self.now c.take_header.new.self c.split_at.result.0.now
       (event_of k (new_header c.args.fields.now c.split_at.result.0.now) ∷ []))
       c.in-Constructed.is
-      (fast_enters c.args.self.now c.enter.new.self c.args.piece.now.now _ c.args.fields.now c.args.count
-      c.split_at.result.0.now c.enter.result
+      (takes_quick_header c.args.self.now c.take_header.new.self c.args.piece.now.now _ c.args.fields.now c.args.count
+      c.split_at.result.0.now c.take_header.result
       c.requires.phase c.requires.begins c.split_at.ensures.front refl (search rules) (search rules)
-      c.enter.ensures.enters));
+      c.take_header.ensures.takes));
 }
 
 pub returns-in-Wrapper-clause-yields : goal.returns-in-Wrapper-clause-yields
@@ -34,13 +34,13 @@ returns-in-Wrapper-clause-yields c = record {
   continues =
       rw c.new-in-Wrapper.ensures
       (subst
-      (λ (k : HeaderKind). Continues c.args.self.now c.enter.new.self c.split_at.result.0.now
+      (λ (k : HeaderKind). Continues c.args.self.now c.take_header.new.self c.split_at.result.0.now
       (event_of k (new_header c.args.fields.now c.split_at.result.0.now) ∷ []))
       c.in-Wrapper.is
-      (fast_enters c.args.self.now c.enter.new.self c.args.piece.now.now _ c.args.fields.now c.args.count
-      c.split_at.result.0.now c.enter.result
+      (takes_quick_header c.args.self.now c.take_header.new.self c.args.piece.now.now _ c.args.fields.now c.args.count
+      c.split_at.result.0.now c.take_header.result
       c.requires.phase c.requires.begins c.split_at.ensures.front refl (search rules) (search rules)
-      c.enter.ensures.enters));
+      c.take_header.ensures.takes));
 }
 
 pub returns-in-Primitive-clause-yields : goal.returns-in-Primitive-clause-yields
@@ -50,11 +50,11 @@ returns-in-Primitive-clause-yields c = record {
   continues =
       rw c.new-in-Primitive.ensures
       (subst
-      (λ (k : HeaderKind). Continues c.args.self.now c.enter.new.self c.split_at.result.0.now
+      (λ (k : HeaderKind). Continues c.args.self.now c.take_header.new.self c.split_at.result.0.now
       (event_of k (new_header c.args.fields.now c.split_at.result.0.now) ∷ []))
       c.in-Primitive.is
-      (fast_enters c.args.self.now c.enter.new.self c.args.piece.now.now _ c.args.fields.now c.args.count
-      c.split_at.result.0.now c.enter.result
+      (takes_quick_header c.args.self.now c.take_header.new.self c.args.piece.now.now _ c.args.fields.now c.args.count
+      c.split_at.result.0.now c.take_header.result
       c.requires.phase c.requires.begins c.split_at.ensures.front refl (search rules) (search rules)
-      c.enter.ensures.enters));
+      c.take_header.ensures.takes));
 }

@@ -7,12 +7,12 @@ use Rattle.tlv_head.specs.HeadReaderState.{HeadReaderState}
 use Rattle.tlv_head.specs.Refusal.{IsHeaderPrefix}
 use Rattle.tlv_walk.specs.Phase as phase
 use Rattle.tlv_walk.specs.Events.{AreEqualJoined, Begin, Bytes, Enter, EventValue, Open, Unused, events, opening_events}
-use Rattle.tlv_walk.specs.Events.{single_octets}
-use Rattle.tlv_walk.specs.Forest.{Forest, NoMore, OpenBitString, lead, opening, spelling}
+use Rattle.tlv_walk.specs.Events.{opening_event, single_octets}
+use Rattle.tlv_walk.specs.Forest.{Forest, NoMore, OpenBitString, lead, lead_by, opening, spelling}
 use Rattle.tlv_walk.specs.Inside.{is_among}
 use Rattle.tlv_walk.specs.WalkerState.{WalkerState}
 use Rattle.tlv_walk.specs.Private.WalkerState.{after_header}
-use Rattle.tlv_walk.specs.Place.{Fits, IsEntry, IsHeaderAt, IsOpen, IsWithin, Place}
+use Rattle.tlv_walk.specs.Place.{Fits, IsAnnouncedAt, IsHeaderAt, IsOpen, IsWithin, Place}
 use Rattle.tlv_walk.specs.Stack.{FrameValue, bound_of}
 use Rattle.tlv_walk.specs.Private.Zipper.{BitStringTail, NoTail, HasZipper, PrimitiveTail, EndOctetsTail, HeaderTail}
 use Rattle.tlv_walk.specs.Private.Zipper.{IsPhaseOf, Layer, Tail, Zipper, events_of_layers, events_of_tail, frame_at}
@@ -113,7 +113,7 @@ fits_at w b yielded s r t h at c =
 entry_at : (w : WalkerState) (b : List ℕ) (yielded : List EventValue) (s : Zipper) (r : HeadReaderState) (t : List ℕ)
     (h : HeaderValue)
     → AtHeader w b yielded s r → Completed w r t h → holds h ≡ true
-    → IsEntry (place_of w.framing s) true h
+    → IsAnnouncedAt (place_of w.framing s) true h
 entry_at w b yielded s r t h at c e = record {
   header = is_header_at w b yielded s r t h true at c e;
   shallow = λ _. omega (arith, c.shallow e, place-depth w.framing s.layers, ap length at.stack);
@@ -192,10 +192,6 @@ layer_yielded yielded ls here h old more e f =
     (sym (append-nil (events_of_layers ls ++ (events here ++ opening_events h))))
     (yielded_after yielded ls here old (opening_events h) more f (ap single_octets e))
 
--- the event that an element which holds others begins with
-abbrev pub opening_event : HeaderValue → EventValue
-opening_event h = if h.constructed then Open h else Enter h
-
 -- an element that holds others begins with the next octet
 pub holding_state : (w : WalkerState) (b : List ℕ) (yielded : List EventValue) (s : Zipper) (r : HeadReaderState)
     (t : List ℕ) (h : HeaderValue) (k : ℕ)
@@ -254,9 +250,6 @@ lead_tail (BitStringTail h) p x = (h, refl)
 lead_tail (HeaderTail o) p x = absurd x
 lead_tail EndOctetsTail p x = absurd x
 
-abbrev pub lead_by : Bool → Bool → List ℕ
-lead_by constructed bits = if constructed then [] else (if bits then 0 ∷ [] else [])
-
 lead_primitive : (k n : Bool) → lead_by k n ≡ 0 ∷ [] → k ≡ false
 lead_primitive true n e = absurd (cc)
 lead_primitive false n e = refl
@@ -290,7 +283,7 @@ pub yields_unused : (w : WalkerState) → w.phase ≡ phase.InBitString
 yields_unused w e = record {
   framing = refl;
   found = refl;
-  goes = λ b yielded s has.
+  keeps_zipper = λ b yielded s has.
       let t = lead_tail s.tail _ (phase_at w b yielded s _ e has) in
       let has' : HasZipper w b yielded (with_tail s (BitStringTail t.0)) = tail_state w b yielded s _ t.1 has in
       (_, unused_state w b yielded s t.0 has' (phase_at w b yielded (with_tail s (BitStringTail t.0)) _ e has'));
