@@ -8,7 +8,7 @@ use Rattle.tlv_head.specs.Header.{HeaderValue}
 use Rattle.tlv_value.specs.declared.finding.Finding.{Finding}
 use Rattle.tlv_value.specs.declared.finding.Finding.TheVariants.{C05, C06}
 use Rattle.tlv_value.specs.Checks.{findings_by}
-use Rattle.tlv_show.specs.declared.sibling_frame.SiblingFrame.{SiblingFrame}
+use Rattle.tlv_show.specs.declared.holder_frame.HolderFrame.{HolderFrame}
 use Rattle.tlv_show.specs.declared.rules.Rules.{Rules}
 use Rattle.tlv_show.specs.declared.rules.Rules.TheVariants.{Ber, Der, Cer}
 use Rattle.tlv_show.specs.Conditions.{header_conditions, Surroundings, basic_conditions, cer_conditions, der_conditions}
@@ -18,7 +18,7 @@ use Rattle.tlv_show.specs.Found.{header_findings, is_shown, shown_findings}
 use Rattle.tlv_show.specs.Site.{Site}
 
 -- a frame says to the conditions what the site says
-abbrev pub Knows : SiblingFrame → Site → Type 0
+abbrev pub Knows : HolderFrame → Site → Type 0
 Knows w s = surroundings_in w ≡ surroundings_of s
 
 -- ---- what the rules show
@@ -67,7 +67,7 @@ cer-found s h =
     ∙ ap (λ (l : List Finding). l ++ findings_by (cer_conditions s h))
     (found-more (basic_conditions s h) (length_conditions h))
 
-pub header-same : (rules : Rules) (w : SiblingFrame) (s : Site) (h : HeaderValue) → Knows w s
+pub header-same : (rules : Rules) (w : HolderFrame) (s : Site) (h : HeaderValue) → Knows w s
     → header_findings rules (surroundings_in w) h ≡ header_findings rules (surroundings_of s) h
 header-same rules w s h k = ap (λ (t : Surroundings). header_findings rules t h) k
 
