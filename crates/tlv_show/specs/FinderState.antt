@@ -56,10 +56,11 @@ without_findings s = record { kept = s; level = 0; offset = 0; findings = [] }
 
 -- ---- What it makes of an event
 
--- what is found with a header, by what a finder keeps before it, and what it keeps after it
+-- what is found with a header
 abbrev pub header_findings_in : CheckState → HeaderValue → List Finding
 header_findings_in s h = header_findings s.rules (surroundings_in s.holders.frame) h
 
+-- a finder with them, which keeps this after the header
 abbrev pub with_header_findings : CheckState → HeaderValue → CheckState → FinderState
 with_header_findings s h after = with_findings after (depth_in s.holders) h.offset (header_findings_in s h)
 

@@ -90,19 +90,19 @@ module _ {D : Type 0} (taken : D → DrainState) (s : DumpState) (f last : Finde
     found_failed a b put e r is says failed err =
         puts_failed taken a b _ put e r (puts_text taken a b _ _ (Err e) (lines-last is says) failed) err
 
-    pub found_first : (a b c : Out D) (put : List ℕ) (x : T) (r : Result U E) → style ≡ Dump s.lines.layout.pure
+    pub found_before : (a b c : Out D) (put : List ℕ) (x : T) (r : Result U E) → style ≡ Dump s.lines.layout.pure
         → HasFound f last may_have_findings
         → Puts {T = T} {E = E} taken a b (last_finding_lines style (with_findings_if may_have_findings last)) (Ok x)
         → Puts taken b c put r → Puts taken a c (finding_lines s f ++ put) r
-    found_first a b c put x r is says found lines =
+    found_before a b c put x r is says found lines =
         puts_then taken a b c _ put x r (puts_text taken a b _ _ (Ok x) (lines-last is says) found) lines
 
-    pub found_last : (a b c : Out D) (put : List ℕ) (x : T) (r : Result U E) → style ≡ Dump s.lines.layout.pure
+    pub found_after : (a b c : Out D) (put : List ℕ) (x : T) (r : Result U E) → style ≡ Dump s.lines.layout.pure
         → HasFound f last may_have_findings
         → Puts {T = T} {E = E} taken a b put (Ok x)
         → Puts taken b c (last_finding_lines style (with_findings_if may_have_findings last)) r
         → Puts taken a c (put ++ finding_lines s f) r
-    found_last a b c put x r is says lines found =
+    found_after a b c put x r is says lines found =
         puts_then taken a b c put _ x r lines (puts_text taken b c _ _ r (lines-last is says) found)
 
 pub where_ok : {T E P Q : Type 0} (r : Result T E) → (P → Q) → OnOk r P → OnOk r Q

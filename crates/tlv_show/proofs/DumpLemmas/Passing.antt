@@ -21,7 +21,7 @@ use Rattle.tlv_show.specs.declared.finding_lines.Style.TheVariants.{Check}
 use Rattle.tlv_show.specs.CheckStep.{check_step, findings_effect}
 use Rattle.tlv_show.specs.FindingLines.{styled_lines}
 use Rattle.tlv_show.specs.FinderState.{CheckState, FinderState, finder_begin_step, finder_bytes_step}
-use Rattle.tlv_show.specs.NestingState.{frame_after, frame_after_segment, surroundings_in}
+use Rattle.tlv_show.specs.NestingState.{depth_in, frame_after, frame_after_segment, surroundings_in}
 use Rattle.tlv_show.specs.Private.FinderState.{PassesOrStays, PassesPrimitive, finder_whole_step, with_state}
 use Rattle.tlv_show.specs.Private.UsualTypes.{IsUsual}
 use Rattle.tlv_show.specs.Found.{is_shown, header_findings}
@@ -43,8 +43,9 @@ usual_primitive h primitive form = record {
 none-counted : (n : ℕ) → saturating_sum n 0 ≡ n
 none-counted n = omega arith
 
-outside : (w : HolderFrame) (size : ℕ) (unused : Bool) → w.has_segments ≡ false → frame_after w true size unused ≡ w
-outside w size unused e = ap (λ (b : Bool). if b then frame_after_segment w true size unused else w) e
+outside : (w : HolderFrame) (size : ℕ) (unused_bits : Bool) → w.has_segments ≡ false
+    → frame_after w true size unused_bits ≡ w
+outside w size unused_bits e = ap (λ (b : Bool). if b then frame_after_segment w true size unused_bits else w) e
 
 -- after a primitive with which nothing is found, outside of strings
 abbrev without_primitive : CheckState → CheckState
@@ -55,7 +56,7 @@ pub passed : (s : CheckState) (h : HeaderValue) (c : List ℕ) → announced_len
     → header_findings s.rules (surroundings_in s.holders.frame) h ≡ [] → findings_on_contents h c ≡ []
     → finder_whole_step s h c ≡ record {
       kept = without_primitive s;
-      level = length s.holders.outer;
+      level = depth_in s.holders;
       offset = h.offset;
       findings = [];
     }
@@ -63,7 +64,7 @@ passed s h c size w header contents =
     let made : HolderFrame → ℕ → List Finding
     → FinderState = λ (f : HolderFrame) (n : ℕ) (fs : List Finding). record {
       kept = check_between s.rules f s.holders.outer (saturating_sum n (length fs));
-      level = length s.holders.outer;
+      level = depth_in s.holders;
       offset = h.offset;
       findings = fs;
     } in
@@ -81,7 +82,7 @@ passed s h c size w header contents =
       kept =
           check_between s.rules s.holders.frame s.holders.outer n;
       level =
-          length s.holders.outer;
+          depth_in s.holders;
       offset = h.offset;
       findings = [];
     })

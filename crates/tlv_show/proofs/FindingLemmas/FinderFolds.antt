@@ -53,13 +53,15 @@ frame_after_segments w (OpenBitString h) = w
 frame_after_segments w (OpenHeader octets) = w
 frame_after_segments w OpenEndOctets = w
 
-in-string : (w : HolderFrame) (primitive : Bool) (size : ℕ) (unused : Bool) → w.has_segments ≡ true
-    → frame_after w primitive size unused ≡ frame_after_segment w primitive size unused
-in-string w primitive size unused e = ap (λ (k : Bool). if k then frame_after_segment w primitive size unused else w) e
+in-string : (w : HolderFrame) (primitive : Bool) (size : ℕ) (unused_bits : Bool) → w.has_segments ≡ true
+    → frame_after w primitive size unused_bits ≡ frame_after_segment w primitive size unused_bits
+in-string w primitive size unused_bits e =
+    ap (λ (k : Bool). if k then frame_after_segment w primitive size unused_bits else w) e
 
-outside : (w : HolderFrame) (primitive : Bool) (size : ℕ) (unused : Bool) → w.has_segments ≡ false
-    → frame_after w primitive size unused ≡ w
-outside w primitive size unused e = ap (λ (k : Bool). if k then frame_after_segment w primitive size unused else w) e
+outside : (w : HolderFrame) (primitive : Bool) (size : ℕ) (unused_bits : Bool) → w.has_segments ≡ false
+    → frame_after w primitive size unused_bits ≡ w
+outside w primitive size unused_bits e =
+    ap (λ (k : Bool). if k then frame_after_segment w primitive size unused_bits else w) e
 
 all-in-string : (w : HolderFrame) (f : Forest) → w.has_segments ≡ true
     → frame_after_elements w f ≡ frame_after_segments w f
@@ -101,11 +103,11 @@ pub record Stays (w t : HolderFrame) : Type 0 where
   pub announced_length : t.announced_length ≡ w.announced_length
   pub primitive : t.is_primitive ≡ w.is_primitive
 
-stays-after : (w : HolderFrame) (primitive : Bool) (size : ℕ) (unused : Bool)
-    → Stays w (frame_after w primitive size unused)
-stays-after w primitive size unused = by w.has_segments
+stays-after : (w : HolderFrame) (primitive : Bool) (size : ℕ) (unused_bits : Bool)
+    → Stays w (frame_after w primitive size unused_bits)
+stays-after w primitive size unused_bits = by w.has_segments
   where
-    by : (k : Bool) → Stays w (if k then frame_after_segment w primitive size unused else w)
+    by : (k : Bool) → Stays w (if k then frame_after_segment w primitive size unused_bits else w)
     by true = record { offset = refl; announced_length = refl; primitive = refl }
     by false = record { offset = refl; announced_length = refl; primitive = refl }
 

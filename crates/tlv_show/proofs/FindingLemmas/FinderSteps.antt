@@ -20,7 +20,7 @@ use Rattle.tlv_show.specs.declared.holder_frame.HolderFrame.{HolderFrame}
 use Rattle.tlv_show.specs.declared.rules.Rules.{Rules}
 use Rattle.tlv_show.specs.FinderState.{CheckState, FinderState, contents_findings_in, finder_begin_step}
 use Rattle.tlv_show.specs.FinderState.{finder_bytes_step, finder_close_step, finder_end_step, finder_open_step}
-use Rattle.tlv_show.specs.NestingState.{frame_after, frame_under, nesting_primitive_step, surroundings_in}
+use Rattle.tlv_show.specs.NestingState.{depth_in, frame_after, frame_under, nesting_primitive_step, surroundings_in}
 use Rattle.tlv_show.specs.Private.FinderState.{finder_step}
 use Rattle.tlv_show.specs.Found.{contents_findings, header_findings, is_shown, end_findings}
 use Rattle.tlv_show.specs.Items.{Item}
@@ -91,7 +91,7 @@ pub primitive-found : (s : CheckState) (h : HeaderValue) (c : List ℕ) → leng
     → (u : CheckState) × (u.open_primitive ≡ None)
     × (finder_end_step (finder_bytes_step (finder_begin_step s h).kept c) ≡ record {
       kept = u;
-      level = length s.holders.outer;
+      level = depth_in s.holders;
       offset = h.offset;
       findings = contents_findings s.rules h c;
     })
@@ -108,7 +108,7 @@ primitive-found s h c e =
       refl,
       ap finder_end_step (took (record s { finding_count = n }) h.offset h c (omega (arith, e)))
           ∙ ap (λ (fs : List Finding).
-          record { kept = state_with fs; level = length s.holders.outer; offset = h.offset; findings = fs })
+          record { kept = state_with fs; level = depth_in s.holders; offset = h.offset; findings = fs })
           (ended s.rules h c e),
     )
 

@@ -96,11 +96,11 @@ surroundings_with-eq : (a a' b b' c c' d d' : Bool) → a ≡ a' → b ≡ b' �
     → surroundings_with a b c d ≡ surroundings_with a' b' c' d'
 surroundings_with-eq a a' b b' c c' d d' e f g h = rw (e, f, g, h) refl
 
-pub knows-after : (w : HolderFrame) (s t : Site) (h : HeaderValue) (first : Option ℕ) (unused : Bool) → Knows w s
+pub knows-after : (w : HolderFrame) (s t : Site) (h : HeaderValue) (first : Option ℕ) (unused_bits : Bool) → Knows w s
     → t.holder ≡ s.holder → t.previous ≡ Sibling h first
-    → unused ≡ follows_unused_bits (Sibling h first)
-    → Knows (frame_after w (is_primitive h) (announced_length h.size) unused) t
-knows-after w s t h first unused k e b u = by-segments w.has_segments refl
+    → unused_bits ≡ follows_unused_bits (Sibling h first)
+    → Knows (frame_after w (is_primitive h) (announced_length h.size) unused_bits) t
+knows-after w s t h first unused_bits k e b u = by-segments w.has_segments refl
   where
     same : surroundings_in w ≡ around t.holder s.previous
     same = k ∙ ap (λ (o : Option HeaderValue). around o s.previous) (sym e)
@@ -112,7 +112,7 @@ knows-after w s t h first unused k e b u = by-segments w.has_segments refl
     bits = ap (λ (x : Surroundings). x.in_bit_string) same
 
     by-segments : (b : Bool) → w.has_segments ≡ b
-        → Knows (if b then frame_after_segment w (is_primitive h) (announced_length h.size) unused else w) t
+        → Knows (if b then frame_after_segment w (is_primitive h) (announced_length h.size) unused_bits else w) t
     by-segments true c =
         surroundings_with-eq _ _ _ _ _ _ _ _ segments bits
         (ap₂ (λ (x y : Bool). x && y) bits (u ∙ ap follows_unused_bits (sym b)))

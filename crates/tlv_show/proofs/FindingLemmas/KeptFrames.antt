@@ -127,10 +127,10 @@ module _
 
 -- ---- an element ends
 
-outer_frames-strings : (w : HolderFrame) (primitive : Bool) (size : ℕ) (unused : Bool) → w.has_segments ≡ false
-    → frame_after w primitive size unused ≡ w
-outer_frames-strings w primitive size unused e =
-    ap (λ (k : Bool). if k then frame_after_segment w primitive size unused else w) e
+outer_frames-strings : (w : HolderFrame) (primitive : Bool) (size : ℕ) (unused_bits : Bool) → w.has_segments ≡ false
+    → frame_after w primitive size unused_bits ≡ w
+outer_frames-strings w primitive size unused_bits e =
+    ap (λ (k : Bool). if k then frame_after_segment w primitive size unused_bits else w) e
 
 one-less : (w : HolderFrame) (n : ℕ) → IsKept w (suc n) → (innermost_frame w n).has_segments ≡ false
 one-less w zero kept = sym kept

@@ -15,7 +15,8 @@ new_finder rules = without_findings (new_check rules)
 abbrev pub with_state : CheckState → FinderState → FinderState
 with_state s f = record f { kept = s }
 
--- a finder returns whether there may be findings: if so, it says what they are; if not, there are none
+-- what a finder has found with an event. It returns whether there may be findings: if so, it says what they are; if
+-- not, there are none
 abbrev pub HasFound : FinderState → FinderState → Bool → Type 0
 HasFound f new true = new ≡ f
 HasFound f new false = (new.kept ≡ f.kept) × (f.findings ≡ [])
