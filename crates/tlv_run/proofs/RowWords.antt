@@ -102,7 +102,7 @@ faulty findings code offset message output =
 -- a dump, by the names themselves in place of the table of names
 abbrev dumped_by : Rules → Option ℕ → Bool → Framing → NameOf → List ℕ → CommandResult
 dumped_by rules limit pure framing name_of octets =
-    let show = show_job framing rules (item_text name_of (top_layout (options_of rules limit pure framing))) in
+    let show = show_job rules framing (item_text name_of (top_layout (options_of rules limit pure framing))) in
     record (result (dump rules limit pure framing) octets) { output = show.text (reading framing octets) }
 
 by_names : (rules : Rules) (limit : Option ℕ) (pure : Bool) (framing : Framing) (names : NamesTable) (name_of : NameOf)

@@ -1,12 +1,12 @@
 pub mod Always
 pub mod DumpEvents
 pub mod DumpFolds
+pub mod DumpItems
 pub mod DumpShown
 pub mod DumpSteps
 pub mod DumpTexts
-pub mod Dumped
-pub mod HolderLine
 pub mod Longer
+pub mod OctetPieces
 pub mod Passing
 pub mod Shows
 pub mod WholeShown

@@ -1,9 +1,9 @@
 pub mod BasicFindings
 pub mod CheckFolds
 pub mod CheckLaws
-pub mod ElementItems
 pub mod FinderFolds
 pub mod FinderItems
+pub mod FinderSteps
 pub mod FindingsOfHeaders
 pub mod FramesAround
 pub mod HeaderFindings
@@ -12,6 +12,5 @@ pub mod Lists
 pub mod LongerHeaders
 pub mod UsualHeaders
 pub mod SiteWords
-pub mod SitesAfter
 pub mod SomeSpelling
 pub mod Spellings

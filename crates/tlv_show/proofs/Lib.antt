@@ -6,6 +6,7 @@ pub mod BasicTextRows
 pub mod StrictRows
 pub mod CanonicalRows
 pub mod WholeRows
+pub mod FramingRows
 pub mod SpellingRows
 pub mod FindingLemmas
 pub mod DumpLemmas

@@ -14,11 +14,11 @@ use Rattle.tlv_show.specs.Texts.{finding_count, item_text}
 abbrev pub plain : Framing
 plain = plain_framing
 
-abbrev pub padded : Framing
-padded = padding_framing
+abbrev pub padding_framing : Framing
+padding_framing = record { inside = []; padding = true }
 
-abbrev pub naming : ℕ → Framing
-naming n = record { inside = n ∷ []; padding = false }
+abbrev pub inside_framing : ℕ → Framing
+inside_framing n = record { inside = n ∷ []; padding = false }
 
 abbrev pub full : Layout
 full = record { level = 0; limit = None; pure = false }
@@ -34,18 +34,18 @@ pub record Answer : Type 0 where
   pub text : List ℕ
   pub count : ℕ
 
-abbrev pub dumped : Framing → Layout → Rules → List ℕ → Answer
-dumped framing layout rules b = let f = reading framing b in record {
-  text = (show_job framing rules (item_text no_names layout)).text f;
+abbrev pub dump : Framing → Layout → Rules → List ℕ → Answer
+dump framing layout rules b = let f = reading framing b in record {
+  text = (show_job rules framing (item_text no_names layout)).text f;
   count = finding_count rules f;
 }
 
-abbrev pub checked : Framing → Rules → List ℕ → Answer
-checked framing rules b = let f = reading framing b in record {
+abbrev pub check : Framing → Rules → List ℕ → Answer
+check framing rules b = let f = reading framing b in record {
   text = (check_job rules framing).text f;
   count = finding_count rules f;
 }
 
 -- so many findings, and these lines
-abbrev pub says : ℕ → List (List ℕ) → Answer
-says n lines = record { text = flat_map (λ line. line ++ 10 ∷ []) lines; count = n }
+abbrev pub lines : ℕ → List (List ℕ) → Answer
+lines count texts = record { text = flat_map (λ line. line ++ 10 ∷ []) texts; count = count }

@@ -8,4 +8,4 @@ use Rattle.tlv_show.specs.Texts.{check_line}
 
 -- the findings of all elements, listed
 abbrev pub check_job : Rules → Framing → Job Outcome
-check_job rules framing = show_job framing rules check_line
+check_job rules framing = show_job rules framing check_line

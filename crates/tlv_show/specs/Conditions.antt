@@ -65,8 +65,8 @@ surroundings_of s = record {
 }
 
 -- 8.6.4, 8.7.3: the type of segments: BIT STRING in a BIT STRING, and OCTET STRING in any other string
-abbrev pub segment_type : Surroundings → ℕ
-segment_type s = if s.in_bit_string then universal.bit_string else universal.octet_string
+abbrev pub segment_type : Bool → ℕ
+segment_type in_bit_string = if in_bit_string then universal.bit_string else universal.octet_string
 
 -- by the rules of all encodings
 abbrev pub basic_conditions : Surroundings → HeaderValue → List (Bool × Finding)
@@ -84,7 +84,7 @@ basic_conditions s h =
     -- 8.6.4: each segment of a BIT STRING but the last has a multiple of eight bits
     ∷ (s.after_unused_bits, B16)
     -- 8.6.4, 8.7.3: a segment has the tag of that type
-    ∷ (s.in_string && not (is_a (segment_type s) h), B17)
+    ∷ (s.in_string && not (is_a (segment_type s.in_bit_string) h), B17)
     ∷ []
 
 -- by those of DER, and by those of CER
@@ -122,17 +122,18 @@ header_conditions s h = basic_conditions s h ++ length_conditions h ++ der_condi
 
 -- ---- With the end of an element that holds others
 
--- 8.6.2: the octet for unused bits, with which the contents of a BIT STRING begin
-abbrev pub bits_octet : HeaderValue → ℕ
-bits_octet h = if is_a universal.bit_string h then 1 else 0
+-- 8.6.2: the contents of a BIT STRING begin with one octet for unused bits, those of other strings with none
+abbrev pub bits_octet_count : Bool → ℕ
+bits_octet_count is_bit_string = if is_bit_string then 1 else 0
 
 -- 9.2: how many contents octets a string with these segments would have as a primitive: those of each segment but for
 -- its octet for unused bits, and one such octet for the whole string
 abbrev pub length_as_primitive : HeaderValue → List HeaderValue → ℕ
 length_as_primitive h segments =
-    bits_octet h + sum_by (λ (g : HeaderValue). announced_length g.size - bits_octet h) segments
+    let bits = bits_octet_count (is_a universal.bit_string h) in
+    bits + sum_by (λ (g : HeaderValue). announced_length g.size - bits) segments
 
--- whether the last of the elements is a primitive without contents octets, after one that is or is not
+-- whether the last of the elements is a primitive without contents octets; `empty` says so of the one before them
 abbrev pub ends_empty : Bool → List HeaderValue → Bool
 ends_empty empty [] = empty
 ends_empty empty (h ∷ hs) = ends_empty (is_primitive h && announced_length h.size == 0) hs
@@ -144,7 +145,7 @@ pub record Segments : Type 0 where
   -- all of them are primitive
   pub all_primitive : Bool
   -- how many contents octets the string would have as a primitive
-  pub octets : ℕ
+  pub length_as_primitive : ℕ
   -- the last one is a primitive without contents octets
   pub ends_empty : Bool
 
@@ -153,7 +154,7 @@ abbrev pub segments_of : HeaderValue → List HeaderValue → Segments
 segments_of h children = record {
   in_string = has_segments h;
   all_primitive = list_all is_primitive children;
-  octets = length_as_primitive h children;
+  length_as_primitive = length_as_primitive h children;
   ends_empty = ends_empty false children;
 }
 
@@ -161,7 +162,7 @@ segments_of h children = record {
 abbrev pub end_conditions : Segments → List (Bool × Finding)
 end_conditions s =
     -- 9.2: a string of at most 1000 contents octets is primitive
-    (s.in_string && s.all_primitive && nat_le s.octets 1000, C05)
+    (s.in_string && s.all_primitive && nat_le s.length_as_primitive 1000, C05)
     -- 9.2: the last segment has one contents octet or more
     ∷ (s.in_string && s.ends_empty, C06)
     ∷ []

@@ -15,4 +15,4 @@ top_layout options = record { level = 0; limit = options.limit; pure = options.p
 -- all elements, as lines, with those of findings
 abbrev pub dump_job : Options → NamesTable → Job Outcome
 dump_job options names =
-    show_job options.framing options.rules (item_text (finite.get names) (top_layout options))
+    show_job options.rules options.framing (item_text (finite.get names) (top_layout options))

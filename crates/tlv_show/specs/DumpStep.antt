@@ -8,31 +8,31 @@ use Rattle.tlv_show.specs.declared.rules.Rules.{Rules}
 use Rattle.tlv_show.specs.declared.finding_lines.Style.TheVariants.{Dump}
 use Rattle.tlv_show.specs.FindingLines.{last_finding_lines}
 use Rattle.tlv_show.specs.LinesStep.{LinesState, lines_octet_step, lines_padding_step, lines_step, new_lines}
-use Rattle.tlv_show.specs.FinderState.{FinderState, FinderReport, finder_begin_step, finder_bytes_step}
+use Rattle.tlv_show.specs.FinderState.{CheckState, FinderState, finder_begin_step, finder_bytes_step}
 use Rattle.tlv_show.specs.FinderState.{finder_close_step, finder_end_step, finder_open_step, new_check}
 use Rattle.tlv_show.specs.FinderState.{without_findings}
 
 -- what contracts see of a `Dump`
 pub record DumpState : Type 0 where
   pub lines : LinesState
-  pub finder : FinderState
+  pub finder : CheckState
 
 -- a dump of which nothing is written
 abbrev pub new_dump : Rules → Layout → NamesTable → DumpState
 new_dump rules layout names = record { lines = new_lines layout names; finder = new_check rules }
 
 -- the lines of what is found
-abbrev pub finding_lines : DumpState → FinderReport → List ℕ
+abbrev pub finding_lines : DumpState → FinderState → List ℕ
 finding_lines s f = last_finding_lines (Dump s.lines.layout.pure) f
 
 -- what is found comes before the lines, or after them
-abbrev pub findings_first : DumpState → FinderReport → Effect LinesState → Effect DumpState
-findings_first s f d =
-    effect_with (record { lines = d.state; finder = f.state }) (finding_lines s f ++ d.put)
+abbrev pub findings_before : DumpState → FinderState → Effect LinesState → Effect DumpState
+findings_before s f d =
+    effect_with (record { lines = d.state; finder = f.kept }) (finding_lines s f ++ d.put)
 
-abbrev pub findings_last : DumpState → FinderReport → Effect LinesState → Effect DumpState
-findings_last s f d =
-    effect_with (record { lines = d.state; finder = f.state }) (d.put ++ finding_lines s f)
+abbrev pub findings_after : DumpState → FinderState → Effect LinesState → Effect DumpState
+findings_after s f d =
+    effect_with (record { lines = d.state; finder = f.kept }) (d.put ++ finding_lines s f)
 
 -- a contents octet, and an octet of padding
 abbrev pub dump_octet_step : DumpState → ℕ → Effect DumpState
@@ -47,12 +47,12 @@ dump_padding_step s x =
 
 -- an event
 abbrev pub dump_step : DumpState → EventValue → Effect DumpState
-dump_step s (Open h) = findings_first s (finder_open_step s.finder h) (lines_step s.lines (Open h))
-dump_step s (Enter h) = findings_first s (finder_open_step s.finder h) (lines_step s.lines (Enter h))
-dump_step s (Begin h) = findings_first s (finder_begin_step s.finder h) (lines_step s.lines (Begin h))
+dump_step s (Open h) = findings_before s (finder_open_step s.finder h) (lines_step s.lines (Open h))
+dump_step s (Enter h) = findings_before s (finder_open_step s.finder h) (lines_step s.lines (Enter h))
+dump_step s (Begin h) = findings_before s (finder_begin_step s.finder h) (lines_step s.lines (Begin h))
 dump_step s (Bytes octets) = each_octet dump_octet_step s octets
-dump_step s End = findings_last s (finder_end_step s.finder) (lines_step s.lines End)
-dump_step s (Close offset) = findings_last s (finder_close_step s.finder) (lines_step s.lines (Close offset))
-dump_step s Leave = findings_last s (finder_close_step s.finder) (lines_step s.lines Leave)
-dump_step s Unused = findings_last s (without_findings s.finder) (lines_step s.lines Unused)
+dump_step s End = findings_after s (finder_end_step s.finder) (lines_step s.lines End)
+dump_step s (Close offset) = findings_after s (finder_close_step s.finder) (lines_step s.lines (Close offset))
+dump_step s Leave = findings_after s (finder_close_step s.finder) (lines_step s.lines Leave)
+dump_step s Unused = findings_after s (without_findings s.finder) (lines_step s.lines Unused)
 dump_step s (Pad octets) = each_octet dump_padding_step s octets

@@ -7,73 +7,74 @@ use Rattle.tlv_head.specs.Header.{HeaderValue}
 use Rattle.tlv_value.specs.declared.finding.Finding.{Finding}
 use Rattle.tlv_value.specs.ValueCheckState.{ValueCheckState, value_check_after, findings_in, has_unused_bits}
 use Rattle.tlv_value.specs.ValueCheckState.{new_value_check}
-use Rattle.tlv_show.specs.declared.sibling_frame.SiblingFrame.{SiblingFrame}
+use Rattle.tlv_show.specs.declared.holder_frame.HolderFrame.{HolderFrame}
 use Rattle.tlv_show.specs.declared.rules.Rules.{Rules}
 use Rattle.tlv_show.specs.Found.{is_shown, end_findings, header_findings}
-use Rattle.tlv_show.specs.NestingState.{NestingState, new_nesting, nesting_open_step, nesting_primitive_step}
-use Rattle.tlv_show.specs.NestingState.{nesting_close_step, segments_in, surroundings_in}
+use Rattle.tlv_show.specs.NestingState.{NestingState, depth_in, new_nesting, nesting_open_step}
+use Rattle.tlv_show.specs.NestingState.{nesting_close_step, nesting_primitive_step, segments_in, surroundings_in}
 use Rattle.tlv_show.specs.SaturatingSum.{saturating_sum}
 
 -- ---- What contracts see of a `Finder`, and of a `Check`
 
--- the primitive that is open: where it begins, and what is noted of its contents
+-- the primitive that is open: where it begins, and what is kept of its contents
 pub record OpenPrimitiveState : Type 0 where
   pub offset : ℕ
   pub check : ValueCheckState
 
--- what a finder keeps; a `Check` keeps nothing else
-pub record FinderState : Type 0 where
+-- what a finder keeps: what contracts see of a `Check`
+pub record CheckState : Type 0 where
   pub rules : Rules
   -- the elements that hold others and are open
   pub holders : NestingState
   -- the primitive that is open
   pub open_primitive : Option OpenPrimitiveState
   -- how many findings were reported; it stops at 2^64 - 1
-  pub count : ℕ
+  pub finding_count : ℕ
 
-abbrev pub new_check : Rules → FinderState
-new_check rules = record { rules = rules; holders = new_nesting; open_primitive = None; count = 0 }
+abbrev pub new_check : Rules → CheckState
+new_check rules = record { rules = rules; holders = new_nesting; open_primitive = None; finding_count = 0 }
 
 -- what contracts see of a `Finder`: what it keeps, what it found with the last event, and in which element this is: one
 -- that begins at `offset` and that `level` others hold
-pub record FinderReport : Type 0 where
-  pub state : FinderState
+pub record FinderState : Type 0 where
+  pub kept : CheckState
   pub level : ℕ
   pub offset : ℕ
-  pub found : List Finding
+  pub findings : List Finding
 
 -- findings are counted
-abbrev pub with_findings : FinderState → ℕ → ℕ → List Finding → FinderReport
-with_findings s level offset found = record {
-  state = record s { count = saturating_sum s.count (length found) };
+abbrev pub with_findings : CheckState → ℕ → ℕ → List Finding → FinderState
+with_findings s level offset findings = record {
+  kept = record s { finding_count = saturating_sum s.finding_count (length findings) };
   level = level;
   offset = offset;
-  found = found;
+  findings = findings;
 }
 
-abbrev pub without_findings : FinderState → FinderReport
-without_findings s = record { state = s; level = 0; offset = 0; found = [] }
+abbrev pub without_findings : CheckState → FinderState
+without_findings s = record { kept = s; level = 0; offset = 0; findings = [] }
 
 -- ---- What it makes of an event
 
 -- what is found with a header
-abbrev pub header_findings_in : FinderState → HeaderValue → List Finding
+abbrev pub header_findings_in : CheckState → HeaderValue → List Finding
 header_findings_in s h = header_findings s.rules (surroundings_in s.holders.frame) h
 
+-- a finder with them, which keeps this after the header
+abbrev pub with_header_findings : CheckState → HeaderValue → CheckState → FinderState
+with_header_findings s h after = with_findings after (depth_in s.holders) h.offset (header_findings_in s h)
+
 -- an element that holds others begins
-abbrev pub finder_open_step : FinderState → HeaderValue → FinderReport
-finder_open_step s h =
-    with_findings (record s { holders = nesting_open_step s.holders h }) (length s.holders.outer) h.offset
-    (header_findings_in s h)
+abbrev pub finder_open_step : CheckState → HeaderValue → FinderState
+finder_open_step s h = with_header_findings s h (record s { holders = nesting_open_step s.holders h })
 
 -- a primitive begins
-abbrev pub finder_in_primitive : FinderState → HeaderValue → FinderState
+abbrev pub finder_in_primitive : CheckState → HeaderValue → CheckState
 finder_in_primitive s h =
     record s { open_primitive = Some (record { offset = h.offset; check = new_value_check h }) }
 
-abbrev pub finder_begin_step : FinderState → HeaderValue → FinderReport
-finder_begin_step s h =
-    with_findings (finder_in_primitive s h) (length s.holders.outer) h.offset (header_findings_in s h)
+abbrev pub finder_begin_step : CheckState → HeaderValue → FinderState
+finder_begin_step s h = with_header_findings s h (finder_in_primitive s h)
 
 -- contents octets: only as many as were announced are counted
 abbrev pub open_primitive_after : Option OpenPrimitiveState → List ℕ → Option OpenPrimitiveState
@@ -81,7 +82,7 @@ open_primitive_after None octets = None
 open_primitive_after (Some v) octets =
     Some (record v { check = value_check_after v.check (take v.check.left octets) })
 
-abbrev pub finder_bytes_step : FinderState → List ℕ → FinderState
+abbrev pub finder_bytes_step : CheckState → List ℕ → CheckState
 finder_bytes_step s octets =
     if length octets == 0
     then s
@@ -91,27 +92,27 @@ finder_bytes_step s octets =
 abbrev pub contents_findings_in : Rules → ValueCheckState → List Finding
 contents_findings_in rules t = if t.left == 0 then filter (is_shown rules) (findings_in t) else []
 
-abbrev pub finder_after_primitive : FinderState → OpenPrimitiveState → FinderState
+abbrev pub finder_after_primitive : CheckState → OpenPrimitiveState → CheckState
 finder_after_primitive s v = record s {
   holders = nesting_primitive_step s.holders v.check.size (has_unused_bits v.check);
   open_primitive = None;
 }
 
-abbrev pub finder_primitive_end_step : FinderState → Option OpenPrimitiveState → FinderReport
+abbrev pub finder_primitive_end_step : CheckState → Option OpenPrimitiveState → FinderState
 finder_primitive_end_step s None = without_findings s
 finder_primitive_end_step s (Some v) =
-    with_findings (finder_after_primitive s v) (length s.holders.outer) v.offset
+    with_findings (finder_after_primitive s v) (depth_in s.holders) v.offset
     (contents_findings_in s.rules v.check)
 
-abbrev pub finder_end_step : FinderState → FinderReport
+abbrev pub finder_end_step : CheckState → FinderState
 finder_end_step s = finder_primitive_end_step s s.open_primitive
 
 -- an element that holds others ends, inside those with these frames
-abbrev pub finder_frame_end_step : FinderState → List SiblingFrame → FinderReport
+abbrev pub finder_frame_end_step : CheckState → List HolderFrame → FinderState
 finder_frame_end_step s [] = without_findings s
 finder_frame_end_step s (w ∷ outer) =
     with_findings (record s { holders = nesting_close_step s.holders }) (length outer) s.holders.frame.offset
     (end_findings s.rules (segments_in s.holders.frame))
 
-abbrev pub finder_close_step : FinderState → FinderReport
+abbrev pub finder_close_step : CheckState → FinderState
 finder_close_step s = finder_frame_end_step s s.holders.outer

@@ -1,15 +1,16 @@
 -- What is reported of elements, item by item. The lines of a dump and of a check and the number of findings are those
 -- of the items, so their order is this one.
-use Rattle.std.specs.Prelude.{ℕ, if◌then◌else◌, List, [], ◌∷◌, ◌++◌, map, None, Option, slice_get}
+use Rattle.std.specs.Prelude.{ℕ, if◌then◌else◌, List, [], ◌∷◌, ◌++◌, map, None, Option}
 use Rattle.tlv_head.specs.Header.{HeaderValue}
 use Rattle.tlv_value.specs.declared.finding.Finding.{Finding}
 use Rattle.tlv_walk.specs.Events.{end_octets_offset}
 use Rattle.tlv_walk.specs.Forest.{Forest, PaddingOctet, Primitive, Holder, OpenPrimitive, OpenHolder}
-use Rattle.tlv_walk.specs.Forest.{OpenBitString, extent, primitive_extent}
+use Rattle.tlv_walk.specs.Forest.{OpenBitString}
 use Rattle.tlv_show.specs.declared.rules.Rules.{Rules}
 use Rattle.tlv_show.specs.Conditions.{segments_of, surroundings_of}
 use Rattle.tlv_show.specs.Found.{contents_findings, end_findings, header_findings}
-use Rattle.tlv_show.specs.Site.{Padding, Sibling, Site, is_padding, later_site, site_of_children}
+use Rattle.tlv_show.specs.Site.{Site, is_padding, site_after_holder, site_after_padding, site_after_primitive}
+use Rattle.tlv_show.specs.Site.{site_of_children}
 
 -- an item, with its level: how many elements hold what it is about
 pub data Item : Type 0 where
@@ -31,35 +32,40 @@ headers (Primitive h c rest) = h ∷ headers rest
 headers (Holder h children rest) = h ∷ headers rest
 headers _ = []
 
--- findings in an element, in order
-abbrev pub finding_items : Site → HeaderValue → List Finding → List Item
-finding_items s h findings = map (FindingAt s.level h.offset) findings
+-- findings in an element at this level and offset, in order
+abbrev pub finding_items : ℕ → ℕ → List Finding → List Item
+finding_items level offset findings = map (FindingAt level offset) findings
 
 module _ (rules : Rules) where
+  -- what is found with the header of an element, on the contents of a primitive, and with the end of an element that
+  -- held others
+  abbrev pub header_items : Site → HeaderValue → List Item
+  header_items s h = finding_items s.level h.offset (header_findings rules (surroundings_of s) h)
+
+  abbrev pub contents_items : Site → HeaderValue → List ℕ → List Item
+  contents_items s h c = finding_items s.level h.offset (contents_findings rules h c)
+
+  abbrev pub end_items : Site → HeaderValue → Forest → List Item
+  end_items s h children =
+      finding_items s.level h.offset (end_findings rules (segments_of h (headers children)))
+
   -- of elements from there on. What is found with the header comes before the element's first line, all else after
   -- its last
   abbrev pub items : Site → Forest → List Item
   -- a run of padding has one line
   items s (PaddingOctet rest) =
       (if is_padding s.previous then [] else PaddingLine s.level s.offset ∷ [])
-      ++ items (later_site s 1 Padding) rest
+      ++ items (site_after_padding s) rest
   items s (Primitive h c rest) =
-      finding_items s h (header_findings rules (surroundings_of s) h)
-      ++ (PrimitiveLines s.level h c ∷ finding_items s h (contents_findings rules h c)
-      ++ items (later_site s (primitive_extent h c) (Sibling h (slice_get c 0))) rest)
+      header_items s h
+      ++ (PrimitiveLines s.level h c ∷ contents_items s h c ++ items (site_after_primitive s h c) rest)
   items s (Holder h children rest) =
-      finding_items s h (header_findings rules (surroundings_of s) h)
+      header_items s h
       ++ (OpeningLine s.level h ∷ items (site_of_children s h) children
       ++ (ClosingLine s.level (if h.constructed then end_octets_offset h children else None)
-      ∷ finding_items s h (end_findings rules (segments_of h (headers children)))
-      ++ items (later_site s (extent h children) (Sibling h None)) rest))
-  items s (OpenPrimitive h c) =
-      finding_items s h (header_findings rules (surroundings_of s) h)
-      ++ OpenPrimitiveLines s.level h c ∷ []
+      ∷ end_items s h children ++ items (site_after_holder s h children) rest))
+  items s (OpenPrimitive h c) = header_items s h ++ OpenPrimitiveLines s.level h c ∷ []
   items s (OpenHolder h children) =
-      finding_items s h (header_findings rules (surroundings_of s) h)
-      ++ OpeningLine s.level h ∷ items (site_of_children s h) children
-  items s (OpenBitString h) =
-      finding_items s h (header_findings rules (surroundings_of s) h)
-      ++ OpeningLine s.level h ∷ []
+      header_items s h ++ OpeningLine s.level h ∷ items (site_of_children s h) children
+  items s (OpenBitString h) = header_items s h ++ OpeningLine s.level h ∷ []
   items s _ = []

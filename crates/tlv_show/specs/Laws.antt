@@ -27,6 +27,7 @@ use Rattle.tlv_show.specs.declared.finding_lines.Style.TheVariants.{Dump}
 use Rattle.tlv_show.specs.FindingLines.{styled_lines}
 use Rattle.tlv_show.specs.DumpStep.{DumpState, dump_step, finding_lines}
 use Rattle.tlv_show.specs.FinderState.{finder_begin_step}
+use Rattle.tlv_show.specs.NestingState.{depth_in}
 use Rattle.tlv_show.specs.Found.{contents_findings, is_shown}
 use Rattle.tlv_head.specs.InputLimit.{input_limit}
 
@@ -47,7 +48,7 @@ ChecksGoOn =
 -- the lines of what is found on the contents of a primitive
 abbrev pub contents_finding_lines : DumpState → HeaderValue → List ℕ → List ℕ
 contents_finding_lines s h c =
-    styled_lines (Dump s.lines.layout.pure) (length s.finder.holders.outer) h.offset
+    styled_lines (Dump s.lines.layout.pure) (depth_in s.finder.holders) h.offset
     (contents_findings s.finder.rules h c)
 
 -- a primitive with as many contents octets as its header announces has the lines of its whole contents, between those
@@ -71,7 +72,7 @@ DumpsMakeTexts =
     → length b ≤ input_limit → IsReading options.framing b f
     → let made = effect_of dump_step (new_dump options.rules (top_layout options) names) (events f) in
     (made.put ≡ (dump_job options names).text f)
-    × (made.state.finder.count ≡ finding_count options.rules f)
+    × (made.state.finder.finding_count ≡ finding_count options.rules f)
     × (made.goes ≡ On)
 
 -- likewise a `Check`
@@ -80,7 +81,7 @@ ChecksMakeTexts =
     (rules : Rules) (framing : Framing) (b : List ℕ) (f : Forest) → length b ≤ input_limit → IsReading framing b f
     → let made = effect_of check_step (new_check rules) (events f) in
     (made.put ≡ (check_job rules framing).text f)
-    × (made.state.count ≡ finding_count rules f)
+    × (made.state.finding_count ≡ finding_count rules f)
     × (made.goes ≡ On)
 
 -- a finding of BER

@@ -1,4 +1,4 @@
--- Parts of the lines of a dump. The lines of all items are in `Texts`.
+-- The lines of a dump for elements that hold others, and for padding. The lines of all items are in `Texts`.
 use Rattle.std.specs.Prelude.{ℕ, List, ◌++◌, Option, codes, decimal, Bool, if◌then◌else◌}
 use Rattle.std.specs.Option.{option_map_or}
 use Rattle.tlv_head.specs.declared.header.Size.{Size}
@@ -23,6 +23,10 @@ opening_word constructed = if constructed then codes " {" else codes " wraps {"
 abbrev pub opening_line : Layout → HeaderValue → List ℕ → List ℕ
 opening_line layout h word =
     text_line layout (columns h.offset (size_text h.size)) (tag_text h.class h.number ++ word)
+
+-- with the word that is after its tag in a dump
+abbrev pub holder_line : Layout → HeaderValue → List ℕ
+holder_line layout h = opening_line layout h (opening_word h.constructed)
 
 -- its end, with the offset of its end-of-contents octets, if it has them
 abbrev pub closing_line : Layout → Option ℕ → List ℕ

@@ -4,65 +4,70 @@ use Rattle.std.specs.Prelude.{List, [], ◌∷◌, length, min}
 use Rattle.tlv_head.specs.Header.{HeaderValue, announced_length}
 use Rattle.tlv_head.specs.UniversalTypes as universal
 use Rattle.tlv_value.specs.Types.{has_segments, is_a, is_primitive}
-use Rattle.tlv_show.specs.declared.sibling_frame.SiblingFrame.{SiblingFrame}
-use Rattle.tlv_show.specs.Conditions.{Segments, Surroundings}
+use Rattle.tlv_show.specs.declared.holder_frame.HolderFrame.{HolderFrame}
+use Rattle.tlv_show.specs.Conditions.{Segments, Surroundings, bits_octet_count}
 
 -- ---- One frame
 
 -- at the top, where no element holds others
-abbrev pub top_frame : SiblingFrame
+abbrev pub top_frame : HolderFrame
 top_frame = record {
   offset = 0;
-  size = 0;
+  announced_length = 0;
   is_primitive = false;
   has_segments = false;
   is_bit_string = false;
   last_has_unused_bits = false;
   last_is_not_full = false;
   all_primitive = true;
-  octets = 0;
+  value_length = 0;
   ends_empty = false;
 }
 
 -- inside an element that holds others
-abbrev pub frame_of : HeaderValue → SiblingFrame
+abbrev pub frame_of : HeaderValue → HolderFrame
 frame_of h = record {
   offset = h.offset;
-  size = announced_length h.size;
+  announced_length = announced_length h.size;
   is_primitive = is_primitive h;
   has_segments = has_segments h;
   is_bit_string = has_segments h && is_a universal.bit_string h;
   last_has_unused_bits = false;
   last_is_not_full = false;
   all_primitive = true;
-  octets = 0;
+  value_length = 0;
   ends_empty = false;
 }
 
--- inside an element that others hold. Of one that is no string and is in none nothing is to be known
-abbrev pub frame_under : SiblingFrame → HeaderValue → SiblingFrame
-frame_under w h = if w.has_segments || has_segments h then frame_of h else top_frame
+-- whether an element inside another has a frame of its own. Of one that is no string and is in none nothing is to be
+-- known
+abbrev pub has_frame : HolderFrame → HeaderValue → Bool
+has_frame w h = w.has_segments || has_segments h
+
+-- inside an element that others hold
+abbrev pub frame_under : HolderFrame → HeaderValue → HolderFrame
+frame_under w h = if has_frame w h then frame_of h else top_frame
 
 -- after a segment more: whether it is primitive, how many contents octets it announces, and whether bits of it are
 -- unused
-abbrev pub frame_after_segment : SiblingFrame → Bool → ℕ → Bool → SiblingFrame
-frame_after_segment w primitive size unused = record w {
-  last_has_unused_bits = unused;
-  last_is_not_full = not (primitive && size == 1000);
+abbrev pub frame_after_segment : HolderFrame → Bool → ℕ → Bool → HolderFrame
+frame_after_segment w primitive contents_length unused_bits = record w {
+  last_has_unused_bits = unused_bits;
+  last_is_not_full = not (primitive && contents_length == 1000);
   all_primitive = w.all_primitive && primitive;
-  octets = min (w.octets + (size - (if w.is_bit_string then 1 else 0))) 1001;
-  ends_empty = primitive && size == 0;
+  value_length = min (w.value_length + (contents_length - bits_octet_count w.is_bit_string)) 1001;
+  ends_empty = primitive && contents_length == 0;
 }
 
 -- after an element more: outside of strings nothing is asked of it
-abbrev pub frame_after : SiblingFrame → Bool → ℕ → Bool → SiblingFrame
-frame_after w primitive size unused =
-    if w.has_segments then frame_after_segment w primitive size unused else w
+abbrev pub frame_after : HolderFrame → Bool → ℕ → Bool → HolderFrame
+frame_after w primitive contents_length unused_bits =
+    if w.has_segments then frame_after_segment w primitive contents_length unused_bits else w
 
 -- ---- What a frame says to the conditions
 
 -- of an element that begins
-abbrev pub surroundings_in : SiblingFrame → Surroundings
+abbrev pub surroundings_in : HolderFrame → Surroundings
 surroundings_in w = record {
   in_string = w.has_segments;
   in_bit_string = w.has_segments && w.is_bit_string;
@@ -70,12 +75,12 @@ surroundings_in w = record {
   after_not_full = w.has_segments && w.last_is_not_full;
 }
 
--- of the end of the element whose frame it is. The octets stop at 1001
-abbrev pub segments_in : SiblingFrame → Segments
+-- of the end of the element whose frame it is. The length of its value stops at 1001
+abbrev pub segments_in : HolderFrame → Segments
 segments_in w = record {
   in_string = w.has_segments;
   all_primitive = w.all_primitive;
-  octets = (if w.is_bit_string then 1 else 0) + w.octets;
+  length_as_primitive = bits_octet_count w.is_bit_string + w.value_length;
   ends_empty = w.ends_empty;
 }
 
@@ -83,8 +88,12 @@ segments_in w = record {
 
 -- the frame of the innermost element that holds others and is open, or of the top, and those outside, innermost first
 pub record NestingState : Type 0 where
-  pub frame : SiblingFrame
-  pub outer : List SiblingFrame
+  pub frame : HolderFrame
+  pub outer : List HolderFrame
+
+-- how many elements are open that hold others
+abbrev pub depth_in : NestingState → ℕ
+depth_in n = length n.outer
 
 -- at the top
 abbrev pub new_nesting : NestingState
@@ -93,19 +102,20 @@ new_nesting = record { frame = top_frame; outer = [] }
 -- an element that holds others begins. Past 128 of them no frame is kept
 abbrev pub nesting_open_step : NestingState → HeaderValue → NestingState
 nesting_open_step n h =
-    if nat_lt (length n.outer) 128
+    if nat_lt (depth_in n) 128
     then record { frame = frame_under n.frame h; outer = n.frame ∷ n.outer }
     else n
 
 -- a primitive ends: how many contents octets it announces, and whether bits of it are unused
 abbrev pub nesting_primitive_step : NestingState → ℕ → Bool → NestingState
-nesting_primitive_step n size unused = record n { frame = frame_after n.frame true size unused }
+nesting_primitive_step n contents_length unused_bits =
+    record n { frame = frame_after n.frame true contents_length unused_bits }
 
 -- an element that holds others ends, inside the frames around it
-abbrev pub nesting_around : SiblingFrame → List SiblingFrame → NestingState
+abbrev pub nesting_around : HolderFrame → List HolderFrame → NestingState
 nesting_around closed [] = record { frame = closed; outer = [] }
 nesting_around closed (w ∷ outer) = record {
-  frame = frame_after w closed.is_primitive closed.size false;
+  frame = frame_after w closed.is_primitive closed.announced_length false;
   outer = outer;
 }
 

@@ -1,3 +1,4 @@
+pub mod IfOpen
 pub mod LinesStep
 pub mod FinderState
 pub mod Nesting

@@ -12,8 +12,8 @@ use Rattle.tlv_head.specs.InputLimit.{input_limit}
 
 -- the items of all elements are written, each with this text, and the findings are counted, whether they are written
 -- or not
-abbrev pub show_job : Framing → Rules → (Item → List ℕ) → Job Outcome
-show_job framing rules text_of = record {
+abbrev pub show_job : Rules → Framing → (Item → List ℕ) → Job Outcome
+show_job rules framing text_of = record {
   framing = framing;
   limit = input_limit;
   text = λ f. flat_map text_of (items rules top_site f);

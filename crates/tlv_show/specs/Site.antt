@@ -1,10 +1,10 @@
 -- Where an element is among others: X.690 8.1.1, 8.1.4.
-use Rattle.std.specs.Prelude.{ℕ, ◌+◌, Bool, true, false, ◌&&◌, length, Option, Some, None}
+use Rattle.std.specs.Prelude.{ℕ, ◌+◌, Bool, true, false, ◌&&◌, List, length, Option, Some, None, slice_get}
 use Rattle.std.specs.Option.{option_map_or}
 use Rattle.tlv_head.specs.Header.{HeaderValue}
 use Rattle.tlv_head.specs.UniversalTypes as universal
 use Rattle.tlv_value.specs.Types.{has_segments, is_a}
-use Rattle.tlv_walk.specs.Forest.{opening}
+use Rattle.tlv_walk.specs.Forest.{Forest, extent, opening, primitive_extent}
 
 -- what is right before an element, in what holds it
 pub data Previous : Type 0 where
@@ -28,9 +28,9 @@ pub record Site : Type 0 where
 abbrev pub top_site : Site
 top_site = record { offset = 0; level = 0; holder = None; previous = Start }
 
--- so many octets on, after this
+-- the site so many octets further on, with `previous` before it
 abbrev pub later_site : Site → ℕ → Previous → Site
-later_site s octets previous = record s { offset = s.offset + octets; previous = previous }
+later_site s count previous = record s { offset = s.offset + count; previous = previous }
 
 -- inside an element that holds others
 abbrev pub site_of_children : Site → HeaderValue → Site
@@ -40,6 +40,16 @@ site_of_children s h = record {
   holder = Some h;
   previous = Start;
 }
+
+-- after a primitive, after an element that holds others, and after an octet of padding
+abbrev pub site_after_primitive : Site → HeaderValue → List ℕ → Site
+site_after_primitive s h c = later_site s (primitive_extent h c) (Sibling h (slice_get c 0))
+
+abbrev pub site_after_holder : Site → HeaderValue → Forest → Site
+site_after_holder s h children = later_site s (extent h children) (Sibling h None)
+
+abbrev pub site_after_padding : Site → Site
+site_after_padding s = later_site s 1 Padding
 
 abbrev pub is_padding : Previous → Bool
 is_padding Padding = true

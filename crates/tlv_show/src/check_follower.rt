@@ -20,11 +20,11 @@ pub struct Check {
 }
 
 impl Model for Check {
-    ghost use Rattle.tlv_show.specs.FinderState.{FinderState};
+    ghost use Rattle.tlv_show.specs.FinderState.{CheckState};
 
-    ghost Value = { FinderState };
+    ghost Value = { CheckState };
 
-    ghost view = { λ c. c.finder.state };
+    ghost view = { λ c. c.finder.kept };
 }
 
 impl Check {
@@ -39,9 +39,9 @@ impl Check {
 
     /// How many findings were listed.
     pub fn findings(&self) -> u64
-        ensures { result ≡ self.now.count }
+        ensures { result ≡ self.now.finding_count }
     {
-        self.finder.count()
+        self.finder.finding_count()
     }
 }
 
@@ -62,8 +62,8 @@ impl Follow for Check {
 
     #[inline(always)]
     fn on<D: Drain>(&mut self, event: &Event<'_>, out: &mut Out<'_, D>) -> Result<Go, WriteFault> {
-        let has_findings = self.finder.find(event);
-        put_findings(has_findings, Style::Check, &self.finder, out)?;
+        let may_have_findings = self.finder.find(event);
+        put_findings(may_have_findings, Style::Check, &self.finder, out)?;
         Ok(Go::On)
     }
 

@@ -3,7 +3,8 @@ ghost use Rattle.std.specs.Prelude.{◌≡◌, ◌≤◌, OnOk, length, refl};
 ghost use Rattle.tlv_walk.proofs.FollowerLemmas.Followed.{each_octet-goes_on, each_octet-joins};
 ghost use Rattle.tlv_walk.specs.Events.{Begin, Bytes, Close, End, Enter, event_value_of};
 ghost use Rattle.tlv_io.specs.Out.{Puts};
-ghost use Rattle.tlv_show.specs.DumpStep.{dump_octet_step, dump_padding_step, dump_step, findings_first, new_dump};
+ghost use Rattle.tlv_walk.specs.HasRead.{event_value_of};
+ghost use Rattle.tlv_show.specs.DumpStep.{dump_octet_step, dump_padding_step, dump_step, findings_before, new_dump};
 ghost use Rattle.tlv_show.specs.FinderState.{finder_open_step};
 ghost use Rattle.tlv_show.specs.LinesStep.{lines_open_step};
 ghost use Rattle.tlv_show.specs.DumpJob.{top_layout};
@@ -36,7 +37,7 @@ impl<'n> Model for Dump<'n> {
 
     ghost coded = { Prim.hlevel (codes, table_code) };
 
-    ghost view = { λ d. record { lines = d.lines; finder = d.finder.state } };
+    ghost view = { λ d. record { lines = d.lines; finder = d.finder.kept } };
 }
 
 impl<'n> Dump<'n> {
@@ -57,9 +58,9 @@ impl<'n> Dump<'n> {
 
     /// How many findings there are so far, also if their lines are left out.
     pub fn findings(&self) -> u64
-        ensures { result ≡ self.now.finder.count }
+        ensures { result ≡ self.now.finder.finding_count }
     {
-        self.finder.count()
+        self.finder.finding_count()
     }
 }
 
@@ -80,7 +81,7 @@ impl Follow for Dump<'_> {
 
     #[inline(always)]
     fn on<D: Drain>(&mut self, event: &Event<'_>, out: &mut Out<'_, D>) -> Result<Go, WriteFault> {
-        self.write_lines(event, out)?;
+        self.put_lines(event, out)?;
         Ok(Go::On)
     }
 
@@ -101,9 +102,9 @@ impl Follow for Dump<'_> {
 }
 
 impl Dump<'_> {
-    /// Writes the lines that an event allows.
+    /// Puts the lines that an event allows.
     #[inline(always)]
-    fn write_lines<D: Drain>(
+    fn put_lines<D: Drain>(
         &mut self,
         event: &Event<'_>,
         out: &mut Out<'_, D>,
@@ -139,19 +140,19 @@ impl Dump<'_> {
     ) -> Result<(), WriteFault>
         requires { length word.now ≤ 16 }
         ensures state { OnOk result
-            (self.new ≡ (findings_first self.old (finder_open_step self.old.finder header.now)
+            (self.new ≡ (findings_before self.old (finder_open_step self.old.finder header.now)
             (lines_open_step self.old.lines header.now word.now)).state) }
         ensures puts { Puts D.state out.old out.new
-            (findings_first self.old (finder_open_step self.old.finder header.now)
+            (findings_before self.old (finder_open_step self.old.finder header.now)
             (lines_open_step self.old.lines header.now word.now)).put result }
     {
-        let has_findings = self.finder.open(header);
+        let may_have_findings = self.finder.open(header);
         let style = self.lines.style();
-        put_findings(has_findings, style, &self.finder, out)?;
+        put_findings(may_have_findings, style, &self.finder, out)?;
         self.lines.open(header, word, out)
     }
 
-    /// A string that wraps encodings begins. Such strings are few, so this is no part of `write_lines`.
+    /// A string that wraps encodings begins. Such strings are few, so this is no part of `put_lines`.
     #[inline(never)]
     fn open_wrapper<D: Drain>(
         &mut self,
@@ -172,9 +173,9 @@ impl Dump<'_> {
         ensures puts { Puts D.state out.old out.new
             (dump_step self.old (Begin header.now)).put result }
     {
-        let has_findings = self.finder.begin(header);
+        let may_have_findings = self.finder.begin(header);
         let style = self.lines.style();
-        put_findings(has_findings, style, &self.finder, out)?;
+        put_findings(may_have_findings, style, &self.finder, out)?;
         self.lines.begin(header, out)
     }
 
@@ -195,10 +196,10 @@ impl Dump<'_> {
         ensures state { OnOk result (self.new ≡ (dump_step self.old End).state) }
         ensures puts { Puts D.state out.old out.new (dump_step self.old End).put result }
     {
-        let has_findings = self.finder.end();
+        let may_have_findings = self.finder.end();
         self.lines.end(out)?;
         let style = self.lines.style();
-        put_findings(has_findings, style, &self.finder, out)
+        put_findings(may_have_findings, style, &self.finder, out)
     }
 
     /// An element that holds others ends: `offset` is where its end-of-contents octets are.
@@ -211,9 +212,9 @@ impl Dump<'_> {
         ensures state { OnOk result (self.new ≡ (dump_step self.old (Close offset)).state) }
         ensures puts { Puts D.state out.old out.new (dump_step self.old (Close offset)).put result }
     {
-        let has_findings = self.finder.close();
+        let may_have_findings = self.finder.close();
         self.lines.close(offset, out)?;
         let style = self.lines.style();
-        put_findings(has_findings, style, &self.finder, out)
+        put_findings(may_have_findings, style, &self.finder, out)
     }
 }

@@ -4,10 +4,10 @@ ghost use Rattle.tlv_head.specs.Header.{announced_length};
 ghost use Rattle.tlv_walk.specs.Events.{event_value_of};
 ghost use Rattle.tlv_show.specs.FinderState.{finder_in_primitive, finder_begin_step, finder_bytes_step};
 ghost use Rattle.tlv_show.specs.FinderState.{finder_close_step, finder_end_step, finder_open_step};
-ghost use Rattle.tlv_show.specs.FinderState.{header_findings_in, with_findings, without_findings};
+ghost use Rattle.tlv_show.specs.FinderState.{with_findings, with_header_findings};
 ghost use Rattle.tlv_show.specs.Found.{end_findings};
-ghost use Rattle.tlv_show.specs.NestingState.{segments_in};
-ghost use Rattle.tlv_show.specs.Private.FinderState.{PassesOrStays, ReportsFindings};
+ghost use Rattle.tlv_show.specs.NestingState.{depth_in, segments_in};
+ghost use Rattle.tlv_show.specs.Private.FinderState.{PassesOrStays, HasFound};
 ghost use Rattle.tlv_show.specs.Private.FinderState.{finder_step, new_finder, with_state};
 
 use crate::Rules;
@@ -15,13 +15,13 @@ use crate::contents_findings::add_contents_findings;
 use crate::header_findings::{
     add_end_findings, add_header_findings, has_no_header_findings, has_no_header_findings_if_usual,
 };
+use crate::holder_frame::HolderFrame;
 use crate::last_findings::LastFindings;
 use crate::nesting::Nesting;
-use crate::sibling_frame::SiblingFrame;
 use arrayvec::ArrayVec;
 use std::marker::Model;
 use tlv_head::Header;
-use tlv_value::{Finding, ValueCheck, is_clear};
+use tlv_value::{ValueCheck, is_clear};
 use tlv_walk::Event;
 
 /// Finds what violates the rules, event by event. It keeps a frame for each open element that holds others, and what it
@@ -34,31 +34,31 @@ pub(crate) struct Finder {
     /// Where the primitive begins that is open.
     offset: u64,
     is_open: bool,
-    /// What is noted of the primitive that is open, or of the last one. It is used again for the next primitive, so its
+    /// What is kept of the primitive that is open, or of the last one. It is used again for the next primitive, so its
     /// room is not filled anew each time.
     check: ValueCheck,
     /// How many findings there are so far.
-    count: u64,
+    finding_count: u64,
     /// The findings of the last event. They are kept here so that nothing is moved if nothing is found.
     last: LastFindings,
 }
 
 impl Model for Finder {
-    ghost use Rattle.tlv_show.specs.FinderState.{FinderReport};
-    ghost use Rattle.tlv_show.specs.Private.FinderState.{open_by};
+    ghost use Rattle.tlv_show.specs.FinderState.{FinderState};
+    ghost use Rattle.tlv_show.specs.Private.IfOpen.{if_open};
 
-    ghost Value = { FinderReport };
+    ghost Value = { FinderState };
 
     ghost view = { λ f. record {
-      state = record {
+      kept = record {
         rules = f.rules;
         holders = f.holders;
-        open_primitive = open_by f.is_open f.offset f.check;
-        count = f.count;
+        open_primitive = if_open f.is_open (record { offset = f.offset; check = f.check });
+        finding_count = f.finding_count;
       };
       level = f.last.level;
       offset = f.last.offset;
-      found = f.last.findings.items;
+      findings = f.last.findings.items;
     } };
 }
 
@@ -73,7 +73,7 @@ impl Finder {
             offset: 0,
             is_open: false,
             check: ValueCheck::of_type(0, 0),
-            count: 0,
+            finding_count: 0,
             last: LastFindings {
                 level: 0,
                 offset: 0,
@@ -83,40 +83,28 @@ impl Finder {
     }
 
     /// How many findings there are so far.
-    pub fn count(&self) -> u64
-        ensures { result ≡ self.now.state.count }
+    pub fn finding_count(&self) -> u64
+        ensures { result ≡ self.now.kept.finding_count }
     {
-        self.count
+        self.finding_count
     }
 
-    /// The findings of the last event, in order.
+    /// The findings of the last event.
     #[inline(always)]
-    pub fn findings(&self) -> &[Finding]
-        ensures { result.now ≡ self.now.found }
+    pub fn last(&self) -> &LastFindings
+        ensures level { result.now.level ≡ self.now.level }
+        ensures offset { result.now.offset ≡ self.now.offset }
+        ensures findings { result.now.findings.items ≡ self.now.findings }
     {
-        self.last.findings.as_slice()
-    }
-
-    /// How many elements hold the one with these findings.
-    pub fn level(&self) -> u8
-        ensures { result ≡ self.now.level }
-    {
-        self.last.level
-    }
-
-    /// Where the element with these findings begins.
-    pub fn offset(&self) -> u64
-        ensures { result ≡ self.now.offset }
-    {
-        self.last.offset
+        &self.last
     }
 
     /// Takes an event. Returns whether there may be findings. If not, there are none, and the last
     /// findings stay those of an event before.
     #[inline(always)]
     pub fn find(&mut self, event: &Event<'_>) -> bool
-        ensures { ReportsFindings
-            (finder_step self.old.state (event_value_of event.now)) self.new result }
+        ensures { HasFound
+            (finder_step self.old.kept (event_value_of event.now)) self.new result }
     {
         match event {
             Event::Open(header) | Event::Enter(header) => self.open(header),
@@ -152,29 +140,25 @@ impl Finder {
         true
     }
 
-    /// Finds what is to be found with a header. Returns whether there may be findings.
+    /// Finds what is to be found with a header, after a short look. Returns whether there may be findings.
     #[inline(always)]
-    fn header(&mut self, header: &Header) -> bool
-        ensures { ReportsFindings
-            (with_findings self.old.state (length self.old.state.holders.outer) header.now.offset
-            (header_findings_in self.old.state header.now))
-            self.new result }
+    fn find_with_header(&mut self, header: &Header) -> bool
+        ensures { HasFound
+            (with_header_findings self.old.kept header.now self.old.kept) self.new result }
     {
         if has_no_header_findings(self.rules, self.holders.frame(), header) {
             return false;
         }
-        self.look(header);
+        self.find_all_with_header(header);
         true
     }
 
-    /// Looks for all that may be found with a header.
+    /// Finds what is to be found with a header, without a short look.
     #[inline(always)]
-    fn look(&mut self, header: &Header)
-        ensures { self.new
-            ≡ with_findings self.old.state (length self.old.state.holders.outer) header.now.offset
-            (header_findings_in self.old.state header.now) }
+    fn find_all_with_header(&mut self, header: &Header)
+        ensures { self.new ≡ with_header_findings self.old.kept header.now self.old.kept }
     {
-        let level = self.holders.level();
+        let level = self.holders.depth();
         self.last.restart(level, header.offset);
         add_header_findings(
             self.rules,
@@ -182,13 +166,15 @@ impl Finder {
             header,
             &mut self.last.findings,
         );
-        self.count = self.count.saturating_add(self.last.findings.len() as u64);
+        self.finding_count = self
+            .finding_count
+            .saturating_add(self.last.findings.len() as u64);
     }
 
     /// Keeps where a primitive begins, and that nothing of its contents has come.
     #[inline(always)]
-    fn enter_primitive(&mut self, header: &Header)
-        ensures { self.new ≡ with_state (finder_in_primitive self.old.state header.now) self.old }
+    fn set_in_primitive(&mut self, header: &Header)
+        ensures { self.new ≡ with_state (finder_in_primitive self.old.kept header.now) self.old }
     {
         self.offset = header.offset;
         self.is_open = true;
@@ -198,14 +184,14 @@ impl Finder {
     /// An element that holds others begins.
     #[inline(always)]
     pub fn open(&mut self, header: &Header) -> bool
-        ensures { ReportsFindings (finder_open_step self.old.state header.now) self.new result }
+        ensures { HasFound (finder_open_step self.old.kept header.now) self.new result }
     {
         // Most such elements are no strings, and nothing is found with them.
         if has_no_header_findings(self.rules, self.holders.frame(), header) {
             self.holders.open_without_frame(header);
             return false;
         }
-        self.look(header);
+        self.find_all_with_header(header);
         self.holders.open(header);
         true
     }
@@ -213,17 +199,17 @@ impl Finder {
     /// A primitive begins.
     #[inline(always)]
     pub fn begin(&mut self, header: &Header) -> bool
-        ensures { ReportsFindings (finder_begin_step self.old.state header.now) self.new result }
+        ensures { HasFound (finder_begin_step self.old.kept header.now) self.new result }
     {
-        let has_findings = self.header(header);
-        self.enter_primitive(header);
-        has_findings
+        let may_have_findings = self.find_with_header(header);
+        self.set_in_primitive(header);
+        may_have_findings
     }
 
     /// Contents of a primitive go on. Only as many octets as were announced are counted.
     #[inline(always)]
     pub fn bytes(&mut self, octets: &[u8])
-        ensures { self.new ≡ with_state (finder_bytes_step self.old.state octets.now) self.old }
+        ensures { self.new ≡ with_state (finder_bytes_step self.old.kept octets.now) self.old }
     {
         if self.is_open && !octets.is_empty() {
             let count = self.check.left().min(octets.len() as u64) as usize;
@@ -234,7 +220,7 @@ impl Finder {
     /// A primitive ends.
     #[inline(always)]
     pub fn end(&mut self) -> bool
-        ensures { ReportsFindings (finder_end_step self.old.state) self.new result }
+        ensures { HasFound (finder_end_step self.old.kept) self.new result }
     {
         if !self.is_open {
             return false;
@@ -246,35 +232,39 @@ impl Finder {
         if check.left() != 0 {
             return false;
         }
-        let level = self.holders.level();
+        let level = self.holders.depth();
         self.last.restart(level, self.offset);
         add_contents_findings(self.rules, check, &mut self.last.findings);
-        self.count = self.count.saturating_add(self.last.findings.len() as u64);
+        self.finding_count = self
+            .finding_count
+            .saturating_add(self.last.findings.len() as u64);
         true
     }
 
     /// An element that holds others ends.
     #[inline(always)]
     pub fn close(&mut self) -> bool
-        ensures { ReportsFindings (finder_close_step self.old.state) self.new result }
+        ensures { HasFound (finder_close_step self.old.kept) self.new result }
     {
         match self.holders.close() {
-            Some(closed) => self.look_at_end(&closed),
+            Some(closed) => self.find_with_end(&closed),
             None => false,
         }
     }
 
     /// Finds what is to be found with the end of an element that held segments.
     #[inline(never)]
-    fn look_at_end(&mut self, closed: &SiblingFrame) -> bool
-        ensures { ReportsFindings
-            (with_findings self.old.state (length self.old.state.holders.outer) closed.now.offset
-            (end_findings self.old.state.rules (segments_in closed.now)))
+    fn find_with_end(&mut self, closed: &HolderFrame) -> bool
+        ensures { HasFound
+            (with_findings self.old.kept (depth_in self.old.kept.holders) closed.now.offset
+            (end_findings self.old.kept.rules (segments_in closed.now)))
             self.new result }
     {
-        self.last.restart(self.holders.level(), closed.offset);
+        self.last.restart(self.holders.depth(), closed.offset);
         add_end_findings(self.rules, closed, &mut self.last.findings);
-        self.count = self.count.saturating_add(self.last.findings.len() as u64);
+        self.finding_count = self
+            .finding_count
+            .saturating_add(self.last.findings.len() as u64);
         true
     }
 }

@@ -4,7 +4,7 @@ ghost use Rattle.tlv_io.specs.LineTexts.{HasRoomFor};
 ghost use Rattle.tlv_io.specs.Out.{Puts};
 ghost use Rattle.tlv_show.specs.FindingLines.{last_finding_lines, styled_line, styled_lines};
 ghost use Rattle.tlv_show.specs.Private.FinderState.{with_findings_if};
-ghost use Rattle.tlv_show.specs.Texts.{check_finding_line, finding_line};
+ghost use Rattle.tlv_show.specs.Texts.{check_finding_line, dump_finding_line};
 
 use crate::finder::Finder;
 use tlv_value::{Finding, Layout, begin_word};
@@ -16,27 +16,29 @@ pub(crate) enum Style {
     /// As lines of a check.
     Check,
     /// As lines of a dump: with first columns, or without any if it is pure.
-    Dump(bool),
+    Dump { pure: bool },
 }
 
-/// Writes a line for each finding of the last event, in order, if there may be any.
+/// Puts a line for each finding of the last event, in order, if there may be any.
 #[inline(always)]
 pub(crate) fn put_findings<D: Drain>(
-    has_findings: bool,
+    may_have_findings: bool,
     style: Style,
     finder: &Finder,
     out: &mut Out<'_, D>,
 ) -> Result<(), WriteFault>
     ensures { Puts D.state out.old out.new
-        (last_finding_lines style (with_findings_if has_findings finder.now)) result }
+        (last_finding_lines style (with_findings_if may_have_findings finder.now)) result }
 {
-    if !has_findings {
+    if !may_have_findings {
         return Ok(());
     }
+    let last = finder.last();
     put_each(
         style,
-        (finder.level(), finder.offset()),
-        finder.findings(),
+        last.level,
+        last.offset,
+        last.findings.as_slice(),
         out,
     )
 }
@@ -45,15 +47,15 @@ pub(crate) fn put_findings<D: Drain>(
 #[inline(never)]
 fn put_each<D: Drain>(
     style: Style,
-    place: (u8, u64),
+    level: u8,
+    offset: u64,
     findings: &[Finding],
     out: &mut Out<'_, D>,
 ) -> Result<(), WriteFault>
-    ensures { Puts D.state out.old out.new
-        (styled_lines style place.0 place.1 findings.now) result }
+    ensures { Puts D.state out.old out.new (styled_lines style level offset findings.now) result }
 {
     for finding in findings {
-        put_finding(style, place, *finding, out)?;
+        put_finding(style, level, offset, *finding, out)?;
     }
     Ok(())
 }
@@ -62,14 +64,15 @@ fn put_each<D: Drain>(
 #[inline(always)]
 fn put_finding<D: Drain>(
     style: Style,
-    place: (u8, u64),
+    level: u8,
+    offset: u64,
     finding: Finding,
     out: &mut Out<'_, D>,
 ) -> Result<(), WriteFault>
-    ensures { Puts D.state out.old out.new (styled_line style place.0 place.1 finding) result }
+    ensures { Puts D.state out.old out.new (styled_line style level offset finding) result }
 {
     out.make_room()?;
-    write_finding(&mut out.held, style, place.0, place.1, finding);
+    write_finding(&mut out.held, style, level, offset, finding);
     Ok(())
 }
 
@@ -79,20 +82,20 @@ fn write_finding(held: &mut HeldOctets, style: Style, level: u8, offset: u64, fi
     ensures { held.new ≡ held.old ++ styled_line style level offset finding }
 {
     match style {
-        Style::Check => write_listed(held, offset, finding),
-        Style::Dump(pure) => {
+        Style::Check => write_check_finding(held, offset, finding),
+        Style::Dump { pure } => {
             let layout = Layout {
                 level,
                 limit: None,
                 pure,
             };
-            write_between(held, layout, offset, finding);
+            write_dump_finding(held, layout, offset, finding);
         }
     }
 }
 
 /// Adds the line of a finding in a check.
-fn write_listed(held: &mut HeldOctets, offset: u64, finding: Finding)
+fn write_check_finding(held: &mut HeldOctets, offset: u64, finding: Finding)
     requires { HasRoomFor held.old 1024 }
     ensures { held.new ≡ held.old ++ check_finding_line offset finding }
 {
@@ -104,20 +107,20 @@ fn write_listed(held: &mut HeldOctets, offset: u64, finding: Finding)
 }
 
 /// Adds the line of a finding in a dump; none if first columns are left out.
-fn write_between(held: &mut HeldOctets, layout: Layout, offset: u64, finding: Finding)
+fn write_dump_finding(held: &mut HeldOctets, layout: Layout, offset: u64, finding: Finding)
     requires { HasRoomFor held.old 1024 }
-    ensures { held.new ≡ held.old ++ finding_line layout offset finding }
+    ensures { held.new ≡ held.old ++ dump_finding_line layout offset finding }
 {
     if layout.pure {
         return;
     }
-    begin_word(held, layout, offset, &padded(finding.code()));
+    begin_word(held, layout, offset, &code_columns(finding.code()));
     held.add(finding.text());
     held.add(b"\n");
 }
 
 /// A code at the right of six places.
-fn padded(code: &[u8]) -> [u8; 6]
+fn code_columns(code: &[u8]) -> [u8; 6]
     requires { length code.now ≡ 3 }
     ensures { result ≡ 32 ∷ 32 ∷ 32 ∷ code.now }
 {

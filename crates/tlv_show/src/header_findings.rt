@@ -2,19 +2,18 @@
 ghost use Rattle.std.specs.Prelude.{IsTrue, false, ◌≡◌, ◌<◌, ◌≤◌, ◌+◌, ◌++◌, ◌&&◌, ◌||◌, ◌==◌, nat_le};
 ghost use Rattle.std.specs.Prelude.{nat_lt, length, []};
 ghost use Rattle.tlv_value.specs.Checks.{finding_if, findings_by};
-ghost use Rattle.tlv_value.specs.Types.{has_segments};
 ghost use Rattle.tlv_show.specs.Conditions.{basic_conditions, cer_conditions, der_conditions, has_high_form};
 ghost use Rattle.tlv_show.specs.Conditions.{length_conditions, number_bits};
-ghost use Rattle.tlv_show.specs.NestingState.{segments_in, surroundings_in};
+ghost use Rattle.tlv_show.specs.NestingState.{has_frame, segments_in, surroundings_in};
 ghost use Rattle.tlv_show.specs.Found.{end_findings, header_findings};
 ghost use Rattle.tlv_show.specs.Private.UsualTypes.{IsUsual};
 
 use crate::Rules;
 use crate::headers::{
-    announced_length, has_high_form, is_always_constructed, is_always_primitive, is_indefinite,
-    is_length_padded, is_segment, is_string, is_unassigned, is_universal,
+    announced_length, has_high_form, has_segments, is_always_constructed, is_always_primitive,
+    is_indefinite, is_length_padded, is_segment, is_string, is_unassigned, is_universal,
 };
-use crate::sibling_frame::SiblingFrame;
+use crate::holder_frame::HolderFrame;
 use arrayvec::ArrayVec;
 use tlv_head::{Header, universal};
 use tlv_value::Finding;
@@ -23,7 +22,7 @@ use tlv_value::Finding;
 #[inline(always)]
 pub(crate) fn add_header_findings(
     rules: Rules,
-    frame: &SiblingFrame,
+    frame: &HolderFrame,
     header: &Header,
     found: &mut ArrayVec<Finding, 16>,
 )
@@ -46,10 +45,10 @@ pub(crate) fn add_header_findings(
 
 /// Whether nothing is found with a header, as far as a short look shows.
 #[inline(always)]
-pub(crate) fn has_no_header_findings(rules: Rules, frame: &SiblingFrame, header: &Header) -> bool
+pub(crate) fn has_no_header_findings(rules: Rules, frame: &HolderFrame, header: &Header) -> bool
     ensures findings { IsTrue result
         → header_findings rules (surroundings_in frame.now) header.now ≡ [] }
-    ensures segments { IsTrue result → (frame.now.has_segments || has_segments header.now) ≡ false }
+    ensures segments { IsTrue result → has_frame frame.now header.now ≡ false }
 {
     is_usual(header) && has_no_header_findings_if_usual(rules, frame, header)
 }
@@ -59,7 +58,7 @@ pub(crate) fn has_no_header_findings(rules: Rules, frame: &SiblingFrame, header:
 #[inline(always)]
 pub(crate) fn has_no_header_findings_if_usual(
     rules: Rules,
-    frame: &SiblingFrame,
+    frame: &HolderFrame,
     header: &Header,
 ) -> bool
     ensures findings { IsTrue result → IsUsual header.now
@@ -123,17 +122,13 @@ fn is_usual(header: &Header) -> bool
 
 /// Adds what is found with the end of the element whose frame this is.
 #[inline(always)]
-pub(crate) fn add_end_findings(
-    rules: Rules,
-    frame: &SiblingFrame,
-    found: &mut ArrayVec<Finding, 16>,
-)
+pub(crate) fn add_end_findings(rules: Rules, frame: &HolderFrame, found: &mut ArrayVec<Finding, 16>)
     requires { found.old.items ≡ [] }
     ensures { found.new.items ≡ end_findings rules (segments_in frame.now) }
 {
     if matches!(rules, Rules::Cer) {
         add_if(
-            frame.has_segments && frame.all_primitive && fits(frame),
+            frame.has_segments && frame.all_primitive && fits_in_primitive(frame),
             Finding::C05,
             found,
         );
@@ -143,10 +138,10 @@ pub(crate) fn add_end_findings(
 
 /// Whether a string with the segments of this frame has at most 1000 contents octets as a primitive.
 #[inline(always)]
-fn fits(frame: &SiblingFrame) -> bool
-    ensures { result ≡ nat_le (segments_in frame.now).octets 1000 }
+fn fits_in_primitive(frame: &HolderFrame) -> bool
+    ensures { result ≡ nat_le (segments_in frame.now).length_as_primitive 1000 }
 {
-    frame.octets <= if frame.is_bit_string { 999 } else { 1000 }
+    frame.value_length <= if frame.is_bit_string { 999 } else { 1000 }
 }
 
 /// Adds a finding, if it is there.
@@ -163,7 +158,7 @@ fn add_if(there: bool, finding: Finding, found: &mut ArrayVec<Finding, 16>)
 
 /// Adds what violates the rules of all encodings.
 #[inline(always)]
-fn add_basic_findings(frame: &SiblingFrame, header: &Header, found: &mut ArrayVec<Finding, 16>)
+fn add_basic_findings(frame: &HolderFrame, header: &Header, found: &mut ArrayVec<Finding, 16>)
     requires { found.old.items ≡ [] }
     ensures items { found.new.items
         ≡ findings_by (basic_conditions (surroundings_in frame.now) header.now) }
@@ -217,12 +212,12 @@ fn add_der_findings(header: &Header, found: &mut ArrayVec<Finding, 16>)
     ensures { found.new.items ≡ found.old.items ++ findings_by (der_conditions header.now) }
 {
     add_if(is_indefinite(header), Finding::D01, found);
-    add_if(header.constructed && is_string(header), Finding::D02, found);
+    add_if(has_segments(header), Finding::D02, found);
 }
 
 /// Adds what violates the rules of CER alone.
 #[inline(always)]
-fn add_cer_findings(frame: &SiblingFrame, header: &Header, found: &mut ArrayVec<Finding, 16>)
+fn add_cer_findings(frame: &HolderFrame, header: &Header, found: &mut ArrayVec<Finding, 16>)
     requires { length found.old.items ≤ 8 }
     ensures { found.new.items
         ≡ found.old.items ++ findings_by (cer_conditions (surroundings_in frame.now) header.now) }

@@ -1,10 +1,11 @@
 //! What a header says of its element.
-ghost use Rattle.std.specs.Prelude.{◌≡◌, if◌then◌else◌};
+ghost use Rattle.std.specs.Prelude.{◌≡◌};
 ghost use Rattle.tlv_head.specs.Header.{announced_length, is_universal};
-ghost use Rattle.tlv_head.specs.UniversalTypes.{bit_string, octet_string};
-ghost use Rattle.tlv_value.specs.Types.{is_a, is_always_constructed, is_always_primitive, is_string, is_unassigned};
+ghost use Rattle.tlv_head.specs.UniversalTypes.{bit_string};
+ghost use Rattle.tlv_value.specs.Types.{has_segments, is_a, is_always_constructed, is_always_primitive};
+ghost use Rattle.tlv_value.specs.Types.{is_string, is_unassigned};
 ghost use Rattle.tlv_walk.specs.Place.{is_indefinite};
-ghost use Rattle.tlv_show.specs.Conditions.{has_high_form, has_long_form, is_length_padded};
+ghost use Rattle.tlv_show.specs.Conditions.{has_high_form, has_long_form, is_length_padded, segment_type};
 
 use tlv_head::{Class, Header, Size, universal};
 
@@ -116,6 +117,14 @@ pub(crate) fn is_string(header: &Header) -> bool
         )
 }
 
+/// Whether it is a constructed string, so that what it holds are segments.
+#[inline(always)]
+pub(crate) fn has_segments(header: &Header) -> bool
+    ensures { result ≡ has_segments header.now }
+{
+    header.constructed && is_string(header)
+}
+
 /// Whether the type is BIT STRING.
 #[inline(always)]
 pub(crate) fn is_bit_string(header: &Header) -> bool
@@ -127,7 +136,7 @@ pub(crate) fn is_bit_string(header: &Header) -> bool
 /// Whether the tag is that of a segment, of a BIT STRING or of any other string.
 #[inline(always)]
 pub(crate) fn is_segment(in_bit_string: bool, header: &Header) -> bool
-    ensures { result ≡ is_a (if in_bit_string then bit_string else octet_string) header.now }
+    ensures { result ≡ is_a (segment_type in_bit_string) header.now }
 {
     is_universal(header)
         && header.number

@@ -1,4 +1,4 @@
-//! The lines of a dump that are not those of primitives.
+//! The lines of a dump for elements that hold others, and for padding.
 ghost use Rattle.std.specs.Prelude.{◌≡◌, ◌≤◌, ◌++◌, codes, length};
 ghost use Rattle.std.specs.Option.{option_map_or};
 ghost use Rattle.tlv_io.specs.LineTexts.{GrowsBy, HasRoomFor};

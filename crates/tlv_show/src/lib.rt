@@ -12,6 +12,7 @@ mod finder;
 mod finding_lines;
 mod header_findings;
 mod headers;
+mod holder_frame;
 mod holder_lines;
 mod last_findings;
 pub mod laws;
@@ -20,7 +21,6 @@ mod nesting;
 mod options;
 mod outcome;
 mod rules;
-mod sibling_frame;
 
 pub use check_call::check;
 pub use check_follower::Check;

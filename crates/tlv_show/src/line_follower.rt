@@ -36,7 +36,7 @@ pub(crate) struct Lines<'n> {
 impl<'n> Model for Lines<'n> {
     ghost use Rattle.std.specs.Coded.{codes};
     ghost use Rattle.tlv_show.specs.LinesStep.{LinesState};
-    ghost use Rattle.tlv_show.specs.Private.LinesStep.{if_open};
+    ghost use Rattle.tlv_show.specs.Private.IfOpen.{if_open};
     ghost use Rattle.tlv_value.specs.Names.{table_code};
 
     ghost Value = { LinesState };
@@ -71,7 +71,9 @@ impl<'n> Lines<'n> {
     pub fn style(&self) -> Style
         ensures { result ≡ Style.Dump self.now.layout.pure }
     {
-        Style::Dump(self.layout.pure)
+        Style::Dump {
+            pure: self.layout.pure,
+        }
     }
 
     /// The count of unused bits of a BIT STRING that wraps encodings: it has no line.
@@ -84,7 +86,7 @@ impl<'n> Lines<'n> {
 
     /// An element begins: padding ends, and its contents are after its header.
     #[inline(always)]
-    fn enter(&mut self, header: &Header)
+    fn set_after_header(&mut self, header: &Header)
         ensures { self.new ≡ lines_after_header self.old header.now }
     {
         self.offset = header.offset.saturating_add(header.raw().len() as u64);
@@ -107,7 +109,7 @@ impl<'n> Lines<'n> {
     {
         put_opening(self.layout, header, word, out)?;
         self.layout.level = self.layout.level.saturating_add(1);
-        self.enter(header);
+        self.set_after_header(header);
         Ok(())
     }
 
@@ -138,7 +140,7 @@ impl<'n> Lines<'n> {
         ensures puts { Puts D.state out.old out.new
             (lines_begin_step self.old header.now).put result }
     {
-        self.enter(header);
+        self.set_after_header(header);
         self.is_open = true;
         self.text = ValueText::new(header, self.layout);
         self.text.begin(out)
@@ -190,10 +192,10 @@ impl<'n> Lines<'n> {
 }
 
 ghost use Rattle.tlv_show.specs.LinesStep.{value_after, value_contents_lines, value_end_lines};
-ghost use Rattle.tlv_show.specs.Private.LinesStep.{if_open};
+ghost use Rattle.tlv_show.specs.Private.IfOpen.{if_open};
 
-/// Writes the lines that more contents octets of the open primitive make known. Of octets after those that were
-/// announced nothing is written.
+/// Puts the lines that more contents octets of the open primitive make known. Of octets after those that were
+/// announced nothing is put.
 fn put_bytes<D: Drain>(
     is_open: bool,
     text: &mut ValueText,
@@ -212,7 +214,7 @@ fn put_bytes<D: Drain>(
     text.bytes(&octets[..count], out)
 }
 
-/// Writes the lines that come with the end of the open primitive, if all its contents octets have come.
+/// Puts the lines that come with the end of the open primitive, if all its contents octets have come.
 fn put_end<D: Drain>(
     is_open: bool,
     text: &mut ValueText,

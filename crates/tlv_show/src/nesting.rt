@@ -1,12 +1,11 @@
 //! The frames of the elements that are open, without those of which nothing is to be known.
-ghost use Rattle.std.specs.Prelude.{◌≡◌, ◌||◌, false, length, true};
-ghost use Rattle.tlv_value.specs.Types.{has_segments};
-ghost use Rattle.tlv_show.specs.NestingState.{nesting_close_step, nesting_open_step, nesting_primitive_step};
-ghost use Rattle.tlv_show.specs.NestingState.{new_nesting, surroundings_in};
-ghost use Rattle.tlv_show.specs.Private.Nesting.{TakesBack, segments_left};
+ghost use Rattle.std.specs.Prelude.{◌≡◌, false, true};
+ghost use Rattle.tlv_show.specs.NestingState.{depth_in, has_frame, nesting_close_step, nesting_open_step};
+ghost use Rattle.tlv_show.specs.NestingState.{nesting_primitive_step, new_nesting, surroundings_in};
+ghost use Rattle.tlv_show.specs.Private.Nesting.{TakesBack, closed_frame};
 
-use crate::headers::is_string;
-use crate::sibling_frame::{KeptFrame, SiblingFrame, frame_of, note_element, top_frame};
+use crate::headers::has_segments;
+use crate::holder_frame::{HolderFrame, KeptFrame, frame_of, set_frame_after, top_frame};
 use std::marker::Model;
 use tlv_head::Header;
 use tlv_walk::Frames;
@@ -16,10 +15,10 @@ use tlv_walk::Frames;
 #[derive(Drop)]
 pub(crate) struct Nesting {
     /// How many elements are open that hold others.
-    level: u8,
+    depth: u8,
     /// The innermost frame that is kept, or that of the top.
-    frame: SiblingFrame,
-    /// Its floor: how many elements hold what is directly in its element. The `level - floor` elements that are
+    frame: HolderFrame,
+    /// Its floor: how many elements hold what is directly in its element. The `depth - floor` elements that are
     /// open inside of it have no frame.
     floor: u8,
     /// The frames outside of it that are kept.
@@ -34,14 +33,14 @@ impl Model for Nesting {
     ghost Value = { NestingState };
 
     ghost view = { λ n. record {
-      frame = innermost_frame n.frame (n.level - n.floor);
-      outer = outer_frames n.frame (n.level - n.floor) (all_frames n.floor n.outer);
+      frame = innermost_frame n.frame (n.depth - n.floor);
+      outer = outer_frames n.frame (n.depth - n.floor) (all_frames n.floor n.outer);
     } };
 
     ghost invariant = { λ n. record {
-      few : n.level ≤ 128;
-      inside : n.floor ≤ n.level;
-      innermost : IsKept n.frame (n.level - n.floor);
+      few : n.depth ≤ 128;
+      inside : n.floor ≤ n.depth;
+      innermost : IsKept n.frame (n.depth - n.floor);
       others : AreKept n.floor n.outer;
     } };
 }
@@ -52,7 +51,7 @@ impl Nesting {
         ensures { result ≡ new_nesting }
     {
         Nesting {
-            level: 0,
+            depth: 0,
             frame: top_frame(),
             floor: 0,
             outer: Frames::new(),
@@ -62,15 +61,15 @@ impl Nesting {
     /// How many elements are open that hold others.
     #[tactic(auto, using(crate::proofs::FindingLemmas::KeptFrames::one_each))]
     #[inline(always)]
-    pub fn level(&self) -> u8
-        ensures { result ≡ length self.now.outer }
+    pub fn depth(&self) -> u8
+        ensures { result ≡ depth_in self.now }
     {
-        self.level
+        self.depth
     }
 
-    /// A frame that says of headers what the innermost one says.
+    /// A frame by which a header has the same surroundings as by the innermost one.
     #[inline(always)]
-    pub fn frame(&self) -> &SiblingFrame
+    pub fn frame(&self) -> &HolderFrame
         ensures segments { result.now.has_segments ≡ self.now.frame.has_segments }
         ensures around { surroundings_in result.now ≡ surroundings_in self.now.frame }
     {
@@ -86,53 +85,53 @@ impl Nesting {
         if !has_frame(&self.frame, header) {
             return self.open_without_frame(header);
         }
-        if self.level == 128 {
+        if self.depth == 128 {
             return;
         }
-        self.level += 1;
+        self.depth += 1;
         self.outer.push(KeptFrame {
             frame: self.frame,
             floor: self.floor,
         });
         self.frame = frame_of(header);
-        self.floor = self.level;
+        self.floor = self.depth;
     }
 
     /// An element that holds others begins, which is no string and is in none.
     #[tactic(auto, using(crate::proofs::FindingLemmas::KeptFrames::one_each))]
     #[inline(always)]
     pub fn open_without_frame(&mut self, header: &Header)
-        requires { (self.old.frame.has_segments || has_segments header.now) ≡ false }
+        requires { has_frame self.old.frame header.now ≡ false }
         ensures { self.new ≡ nesting_open_step self.old header.now }
     {
-        if self.level < 128 {
-            self.level += 1;
+        if self.depth < 128 {
+            self.depth += 1;
         }
     }
 
     /// A primitive ends: how many contents octets it announces, and whether bits of it are unused.
     #[inline(always)]
-    pub fn primitive(&mut self, size: u64, has_unused_bits: bool)
-        ensures { self.new ≡ nesting_primitive_step self.old size has_unused_bits }
+    pub fn primitive(&mut self, announced_length: u64, has_unused_bits: bool)
+        ensures { self.new ≡ nesting_primitive_step self.old announced_length has_unused_bits }
     {
-        note_element(&mut self.frame, true, size, has_unused_bits);
+        set_frame_after(&mut self.frame, true, announced_length, has_unused_bits);
     }
 
     /// An element that holds others ends. Returns its frame, if what it held were segments.
     #[inline(always)]
-    pub fn close(&mut self) -> Option<SiblingFrame>
+    pub fn close(&mut self) -> Option<HolderFrame>
         ensures nest { self.new ≡ nesting_close_step self.old }
-        ensures segments { result ≡ segments_left self.old }
+        ensures segments { result ≡ closed_frame self.old }
     {
-        if self.level > self.floor {
+        if self.depth > self.floor {
             // It has no frame.
-            self.level -= 1;
+            self.depth -= 1;
             return None;
         }
-        if self.level == 0 {
+        if self.depth == 0 {
             return None;
         }
-        self.level -= 1;
+        self.depth -= 1;
         let closed = self.frame;
         take_back(&mut self.frame, &mut self.floor, &mut self.outer);
         if closed.has_segments {
@@ -145,22 +144,22 @@ impl Nesting {
 
 /// Whether an element is to have a frame of its own, inside the one with this frame.
 #[inline(always)]
-fn has_frame(frame: &SiblingFrame, header: &Header) -> bool
-    ensures { result ≡ (frame.now.has_segments || has_segments header.now) }
+fn has_frame(frame: &HolderFrame, header: &Header) -> bool
+    ensures { result ≡ has_frame frame.now header.now }
 {
-    frame.has_segments || (header.constructed && is_string(header))
+    frame.has_segments || has_segments(header)
 }
 
 /// An element that has a frame ends: the frame around it is the innermost one again, and keeps what
 /// must be known of the element.
 #[inline(never)]
-fn take_back(frame: &mut SiblingFrame, floor: &mut u8, outer: &mut Frames<KeptFrame>)
+fn take_back(frame: &mut HolderFrame, floor: &mut u8, outer: &mut Frames<KeptFrame>)
     ensures { TakesBack frame.old outer.old frame.new floor.new outer.new }
 {
     if let Some(kept) = outer.pop() {
         let closed = *frame;
         *frame = kept.frame;
         *floor = kept.floor;
-        note_element(frame, closed.is_primitive, closed.size, false);
+        set_frame_after(frame, closed.is_primitive, closed.announced_length, false);
     }
 }

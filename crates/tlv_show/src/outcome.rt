@@ -1,4 +1,4 @@
-//! What a command came to.
+//! What a dump or a check came to.
 use tlv_walk::Ending;
 
 /// What a dump or a check came to.

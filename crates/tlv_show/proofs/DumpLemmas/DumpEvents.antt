@@ -11,20 +11,20 @@ use Rattle.tlv_show.specs.declared.finding_lines.Style.TheVariants.{Dump}
 use Rattle.tlv_show.specs.FindingLines.{last_finding_lines}
 use Rattle.tlv_show.specs.LinesStep.{LinesState, lines_octet_step, lines_step, lines_after_header}
 use Rattle.tlv_show.specs.DumpStep.{DumpState, dump_step}
-use Rattle.tlv_show.specs.FinderState.{FinderState, FinderReport, finder_begin_step, finder_bytes_step}
+use Rattle.tlv_show.specs.FinderState.{CheckState, FinderState, finder_begin_step, finder_bytes_step}
 use Rattle.tlv_show.specs.FinderState.{finder_close_step, finder_end_step, finder_open_step}
 use Rattle.tlv_show.specs.Laws.{PrimitivesAreShown}
 use Rattle.tlv_show.specs.LinesStep.{value_after, value_contents_lines}
-use Rattle.tlv_show.proofs.DumpLemmas.Dumped.{dumped_bytes, of_bytes, rested-new}
+use Rattle.tlv_show.proofs.DumpLemmas.OctetPieces.{dumped_bytes, of_bytes, rested-new}
 use Rattle.tlv_show.proofs.DumpLemmas.DumpSteps.{all_on, each-shown}
 use Rattle.tlv_show.proofs.DumpLemmas.DumpTexts.{primitives_shown}
-use Rattle.tlv_show.proofs.FindingLemmas.FinderItems.{primitive-found}
+use Rattle.tlv_show.proofs.FindingLemmas.FinderSteps.{primitive-found}
 use Rattle.tlv_show.specs.SaturatingSum.{saturating_sum}
 use Rattle.tlv_walk.specs.Forest.{lead_by}
 
 -- ---- events one after another
 
-abbrev pub dump_state : LinesState → FinderState → DumpState
+abbrev pub dump_state : LinesState → CheckState → DumpState
 dump_state l f = record { lines = l; finder = f }
 
 shown-more : (s : DumpState) (xs ys : List EventValue)
@@ -39,19 +39,19 @@ then_shown s t put xs ys e =
     shown-more s xs ys ∙ ap (λ (k : Effect DumpState). and_then k (λ u. effect_of dump_step u ys)) e
 
 -- the lines of what is found, as a dump in this layout puts them
-abbrev pub texts : Layout → FinderReport → List ℕ
+abbrev pub texts : Layout → FinderState → List ℕ
 texts layout f = last_finding_lines (Dump layout.pure) f
 
 -- ---- an element that holds others
 
-pub opens-by : (l : LinesState) (s : FinderState) (h : HeaderValue) (k three : Bool)
+pub opens-by : (l : LinesState) (s : CheckState) (h : HeaderValue) (k three : Bool)
     → effect_of dump_step (dump_state l s)
     ((if k then Open h else Enter h) ∷ map (λ z. Unused) (lead_by k three))
     ≡ (let d =
     effect_of lines_step l
     ((if k then Open h else Enter h)
     ∷ map (λ z. Unused) (lead_by k three)) in
-    effect_with (dump_state d.state (finder_open_step s h).state) (texts l.layout (finder_open_step s h) ++ d.put))
+    effect_with (dump_state d.state (finder_open_step s h).kept) (texts l.layout (finder_open_step s h) ++ d.put))
 opens-by l s h true three =
     ap (effect_with _) (append_assoc (texts l.layout (finder_open_step s h)) (lines_step l (Open h)).put [])
 opens-by l s h false true =
@@ -62,10 +62,10 @@ opens-by l s h false false =
 again : (a b : List ℕ) → (a ++ b) ++ [] ≡ (a ++ []) ++ b
 again a b = append-nil (a ++ b) ∙ ap (λ (x : List ℕ). x ++ b) (sym (append-nil a))
 
-pub closes-by : (l : LinesState) (s : FinderState) (offset : Option ℕ) (k : Bool)
+pub closes-by : (l : LinesState) (s : CheckState) (offset : Option ℕ) (k : Bool)
     → effect_of dump_step (dump_state l s) ((if k then Close offset else Leave) ∷ [])
     ≡ (let d = effect_of lines_step l ((if k then Close offset else Leave) ∷ []) in
-    effect_with (dump_state d.state (finder_close_step s).state) (d.put ++ texts l.layout (finder_close_step s)))
+    effect_with (dump_state d.state (finder_close_step s).kept) (d.put ++ texts l.layout (finder_close_step s)))
 closes-by l s None true =
     ap (effect_with _) (again (lines_step l (Close None)).put (texts l.layout (finder_close_step s)))
 closes-by l s (Some offset) true =
@@ -77,26 +77,26 @@ closes-by l s offset false = ap (effect_with _) (again (lines_step l Leave).put 
 around : (a b m e t : List ℕ) → (a ++ b) ++ (m ++ ((e ++ t) ++ [])) ≡ a ++ ((b ++ (m ++ (e ++ []))) ++ t)
 around a b m e t = simp (append_assoc, append-nil)
 
-pub primitive-by : (l : LinesState) (s : FinderState) (h : HeaderValue) (c : List ℕ)
+pub primitive-by : (l : LinesState) (s : CheckState) (h : HeaderValue) (c : List ℕ)
     → effect_of dump_step (dump_state l s) (Begin h ∷ Bytes c ∷ End ∷ [])
     ≡ (let d = effect_of lines_step l (Begin h ∷ Bytes c ∷ End ∷ []) in
-    let f = finder_end_step (finder_bytes_step (finder_begin_step s h).state c) in
-    effect_with (dump_state d.state f.state) (texts l.layout (finder_begin_step s h) ++ (d.put ++ texts l.layout f)))
+    let f = finder_end_step (finder_bytes_step (finder_begin_step s h).kept c) in
+    effect_with (dump_state d.state f.kept) (texts l.layout (finder_begin_step s h) ++ (d.put ++ texts l.layout f)))
 primitive-by l s h c =
     let b = lines_step l (Begin h) in
     let m = each_octet lines_octet_step b.state c in
     let e = lines_step m.state End in
-    let u : FinderState = finder_bytes_step (finder_begin_step s h).state c in
+    let u : CheckState = finder_bytes_step (finder_begin_step s h).kept c in
     let f = finder_end_step u in
     let first = texts l.layout (finder_begin_step s h) in
     let whole : Effect LinesState
     → Effect DumpState =
-    λ k. effect_with (dump_state (lines_step k.state End).state f.state)
+    λ k. effect_with (dump_state (lines_step k.state End).state f.kept)
     ((first ++ b.put) ++ (k.put ++ (((lines_step k.state End).put ++ texts k.state.layout f) ++ []))) in
     let parts : Effect LinesState → Effect DumpState =
     λ k. let d =
     and_then b (λ z. effect_if_more k.goes k (λ w. effect_of lines_step w (End ∷ []))) in effect_with
-    (dump_state d.state f.state) (first ++ (d.put ++ texts l.layout f)) in
+    (dump_state d.state f.kept) (first ++ (d.put ++ texts l.layout f)) in
     let o : Effect LinesState =
     of_bytes b.state (saturating_sum b.state.offset (length c)) (value_after b.state.open_text c)
     (value_contents_lines b.state.open_text c) in
@@ -106,9 +106,9 @@ primitive-by l s h c =
       put = (first ++ b.put) ++ (effect_if_more k.goes k (λ w. effect_of dump_step w (End ∷ []))).put;
       goes = (effect_if_more k.goes k (λ w. effect_of dump_step w (End ∷ []))).goes;
     })
-    (each-shown (dump_state b.state (finder_begin_step s h).state) c)
+    (each-shown (dump_state b.state (finder_begin_step s h).kept) c)
     ∙ ap whole is
-    ∙ ap (effect_with (dump_state (lines_step o.state End).state f.state))
+    ∙ ap (effect_with (dump_state (lines_step o.state End).state f.kept))
     (around first b.put o.put (lines_step o.state End).put (texts l.layout f))
     ∙ sym (ap parts is)
 
@@ -124,13 +124,13 @@ primitives_are_shown s h c size =
       f.1,
       primitive-by s.lines s.finder h c
           ∙ ap₂
-          (λ (d : Effect LinesState) (f : FinderReport). effect_with (dump_state d.state f.state)
+          (λ (d : Effect LinesState) (f : FinderState). effect_with (dump_state d.state f.kept)
           (texts s.lines.layout (finder_begin_step s.finder h) ++ (d.put ++ texts s.lines.layout f)))
           d f.2,
     )
 
 -- a primitive that is open
-pub part-by : (l : LinesState) (s : FinderState) (h : HeaderValue) (c : List ℕ)
+pub part-by : (l : LinesState) (s : CheckState) (h : HeaderValue) (c : List ℕ)
     → (effect_of dump_step (dump_state l s) (Begin h ∷ Bytes c ∷ [])).put
     ≡ texts l.layout (finder_begin_step s h) ++ (effect_of lines_step l (Begin h ∷ Bytes c ∷ [])).put
 part-by l s h c =
@@ -142,7 +142,7 @@ part-by l s h c =
     (value_contents_lines b.state.open_text c) in
     let is : m ≡ o = dumped_bytes b.state c (λ e. rested-new h l.layout) in
     ap (λ (k : Effect DumpState). (first ++ b.put) ++ (effect_if_more k.goes k (λ w. effect_of dump_step w [])).put)
-    (each-shown (dump_state b.state (finder_begin_step s h).state) c)
+    (each-shown (dump_state b.state (finder_begin_step s h).kept) c)
     ∙ append_assoc first b.put (m.put ++ [])
     ∙ ap (λ (k : Effect LinesState). first ++ (b.put ++ (k.put ++ []))) is
     ∙ sym (ap

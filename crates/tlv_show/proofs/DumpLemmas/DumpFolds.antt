@@ -1,5 +1,6 @@
 -- A dump shows its text, and counts its findings.
 use Rattle.std.proofs.Common.{◌≡◌, ℕ, ◌^◌, ◌≤◌, List, [], ◌∷◌, length, refl, ap, ◌∙◌, arith, length-append}
+use Rattle.std.specs.FinMap as finite
 use Rattle.std.specs.Prelude.{None}
 use Rattle.tlv_value.specs.Names.{NamesTable}
 use Rattle.tlv_walk.specs.declared.follow.Go.{Go}
@@ -11,19 +12,19 @@ use Rattle.tlv_walk.specs.Reading.{IsReading}
 use Rattle.tlv_show.specs.declared.options.Options.{Options}
 use Rattle.tlv_show.specs.DumpJob.{dump_job, top_layout}
 use Rattle.tlv_show.specs.DumpStep.{DumpState, dump_step, new_dump}
-use Rattle.tlv_show.specs.FinderState.{FinderState}
+use Rattle.tlv_show.specs.FinderState.{CheckState}
 use Rattle.tlv_show.specs.NestingState.{top_frame}
 use Rattle.tlv_show.specs.Private.FinderState.{finder_step}
 use Rattle.tlv_show.specs.Site.{Start}
-use Rattle.tlv_show.specs.Texts.{finding_count}
+use Rattle.tlv_show.specs.Texts.{finding_count, item_text}
 use Rattle.tlv_show.proofs.FindingLemmas.CheckFolds.{count-run}
 use Rattle.tlv_show.proofs.DumpLemmas.DumpShown.{shows_forest}
 use Rattle.tlv_show.proofs.DumpLemmas.DumpSteps.{all_on, each-filled, each-shown, one_on}
-use Rattle.tlv_show.proofs.FindingLemmas.FinderItems.{run_finder}
+use Rattle.tlv_show.proofs.FindingLemmas.FinderSteps.{run_finder}
 use Rattle.tlv_show.proofs.DumpLemmas.Shows.{Shower}
 
 -- the finder of a dump goes by the events alone
-finder-by : (s : DumpState) (e : EventValue) → (dump_step s e).state.finder ≡ (finder_step s.finder e).state
+finder-by : (s : DumpState) (e : EventValue) → (dump_step s e).state.finder ≡ (finder_step s.finder e).kept
 finder-by s (Open h) = refl
 finder-by s (Begin h) = refl
 finder-by s (Bytes octets) = ap (λ (t : Effect DumpState). t.state.finder) (each-shown s octets)
@@ -40,7 +41,7 @@ finder-run s [] = refl
 finder-run s (e ∷ es) =
     ap (λ (g : Go). (effect_if_more g (dump_step s e) (λ u. effect_of dump_step u es)).state.finder) (one_on s e)
     ∙ finder-run (dump_step s e).state es
-    ∙ ap (λ (u : FinderState). (run_finder u es).state) (finder-by s e)
+    ∙ ap (λ (u : CheckState). (run_finder u es).state) (finder-by s e)
 
 module _ (options : Options) (names : NamesTable) (octets : List ℕ) (f : Forest) (short : length octets ≤ 2 ^ 40)
     (r : IsReading options.framing octets f) where
@@ -52,15 +53,16 @@ module _ (options : Options) (names : NamesTable) (octets : List ℕ) (f : Fores
       (refl, refl, λ e. refl)).text 0
 
   pub count-made : (effect_of dump_step (new_dump options.rules (top_layout options) names)
-      (events f)).state.finder.count
+      (events f)).state.finder.finding_count
       ≡ finding_count options.rules f
   count-made =
-      ap (λ (u : FinderState). u.count) (finder-run (new_dump options.rules (top_layout options) names) (events f))
+      ap (λ (u : CheckState). u.finding_count)
+      (finder-run (new_dump options.rules (top_layout options) names) (events f))
       ∙ count-run options.rules options.framing octets f short r
 
 pub dumps : (options : Options) (names : NamesTable)
-    → Shower dump_step (new_dump options.rules (top_layout options) names) options.framing
-    (dump_job options names).text (finding_count options.rules) (λ (s : DumpState). s.finder.count)
+    → Shower dump_step (new_dump options.rules (top_layout options) names) options.rules options.framing
+    (item_text (finite.get names) (top_layout options)) (λ (s : DumpState). s.finder.finding_count)
 dumps options names = record {
   goes_on = all_on;
   put = λ octets f few r. text-made options names octets f few r;

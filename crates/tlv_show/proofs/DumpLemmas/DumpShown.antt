@@ -1,160 +1,60 @@
 -- What a dump makes of the events of elements is their text.
-use Rattle.std.proofs.Common.{◌≡◌, ℕ, ◌+◌, ◌-◌, ◌^◌, ◌<◌, ◌≤◌, ◌==◌, Bool, true, false, if◌then◌else◌, List, [], ◌∷◌}
+use Rattle.std.proofs.Common.{◌≡◌, ℕ, ◌+◌, ◌-◌, ◌^◌, ◌≤◌, Bool, true, false, if◌then◌else◌, List, [], ◌∷◌}
 use Rattle.std.proofs.Common.{◌++◌, length, refl, sym, subst, not, ap, ap₂, ◌∙◌, arith, append_assoc, append-nil}
 use Rattle.std.proofs.Common.{length-append}
-use Rattle.std.proofs.lemmas.Grind.{flat_map-append}
 use Rattle.std.specs.FinMap as finite
-use Rattle.std.specs.Prelude.{flat_map, Option, Some, None}
+use Rattle.std.specs.Prelude.{Option, Some, None}
 use Rattle.tlv_head.specs.Header.{HeaderValue, announced_length, octets_of, wraps}
-use Rattle.tlv_value.specs.declared.finding.Finding.{Finding}
 use Rattle.tlv_value.specs.declared.layout.Layout.{Layout}
 use Rattle.tlv_value.specs.ValueCheckState.{value_check_after, has_unused_bits, new_value_check}
 use Rattle.tlv_value.specs.Names.{NamesTable}
 use Rattle.tlv_value.specs.ValueLines.{open_lines, whole_lines}
 use Rattle.tlv_value.specs.Types.{is_primitive}
 use Rattle.tlv_walk.specs.declared.follow.Go.{Go}
-use Rattle.tlv_walk.specs.Events.{Begin, Bytes, End, EventValue, Pad, closing_event, end_offset, end_octets_offset}
-use Rattle.tlv_walk.specs.Events.{events}
+use Rattle.tlv_walk.specs.Events.{Begin, Bytes, End, EventValue, Pad, closing_event, end_octets_offset, events}
 use Rattle.tlv_walk.specs.Events.{opening_events}
 use Rattle.tlv_walk.specs.Follow.{Effect, effect_of, effect_with}
 use Rattle.tlv_walk.specs.Forest.{Forest, NoMore, PaddingOctet, Primitive, Holder, OpenPrimitive, OpenHolder}
-use Rattle.tlv_walk.specs.Forest.{OpenBitString, OpenHeader, OpenEndOctets, end_octets, extent, is_whole, lead, opening}
+use Rattle.tlv_walk.specs.Forest.{OpenBitString, OpenHeader, OpenEndOctets, extent, lead, opening}
 use Rattle.tlv_walk.specs.Forest.{spelling}
 use Rattle.tlv_walk.specs.Place.{IsOpen, Place, place_after, place_of_children}
 use Rattle.tlv_walk.proofs.GrammarLemmas.Spellings.{length-holder, length-primitive}
-use Rattle.tlv_show.specs.declared.sibling_frame.SiblingFrame.{SiblingFrame}
+use Rattle.tlv_show.specs.declared.holder_frame.HolderFrame.{HolderFrame}
 use Rattle.tlv_show.specs.declared.rules.Rules.{Rules}
 use Rattle.tlv_show.specs.declared.finding_lines.Style.TheVariants.{Dump}
 use Rattle.tlv_show.specs.FindingLines.{styled_lines}
 use Rattle.tlv_show.specs.LinesStep.{LinesState}
 use Rattle.tlv_show.specs.DumpStep.{DumpState, dump_step}
-use Rattle.tlv_show.specs.FinderState.{FinderReport}
 use Rattle.tlv_show.specs.NestingState.{frame_after, frame_under, surroundings_in}
 use Rattle.tlv_show.specs.Found.{contents_findings, header_findings, end_findings}
-use Rattle.tlv_show.specs.Items.{Item, FindingAt, OpeningLine, ClosingLine, PrimitiveLines, OpenPrimitiveLines}
+use Rattle.tlv_show.specs.Items.{Item, OpeningLine, ClosingLine, PrimitiveLines, OpenPrimitiveLines}
 use Rattle.tlv_show.specs.Items.{PaddingLine, headers, items}
-use Rattle.tlv_show.proofs.FindingLemmas.ElementItems.{findings_at}
+use Rattle.tlv_show.specs.Items.{finding_items}
 use Rattle.tlv_show.specs.Lines.{closing_line, opening_line, padding_line, opening_word}
-use Rattle.tlv_show.proofs.DumpLemmas.HolderLine.{holder_line}
+use Rattle.tlv_show.specs.Lines.{holder_line}
 use Rattle.tlv_show.specs.Site.{Previous, Padding, Sibling, Site, Start, is_padding, site_of_children}
-use Rattle.tlv_show.proofs.FindingLemmas.SitesAfter.{site_after, site_after_holder, site_after_padding}
+use Rattle.tlv_show.specs.Site.{site_after_primitive, site_after_holder, site_after_padding}
 use Rattle.tlv_show.proofs.FindingLemmas.SiteWords.{first_contents_octet}
-use Rattle.tlv_show.specs.Texts.{item_text}
 use Rattle.tlv_show.proofs.DumpLemmas.DumpSteps.{all_on}
-use Rattle.tlv_show.proofs.DumpLemmas.DumpTexts.{at_level, closer_shown, fill_shown, holder_shown, no_padding}
-use Rattle.tlv_show.proofs.DumpLemmas.DumpTexts.{later_padded, part_shown, primitive_shown, lines_between}
-use Rattle.tlv_show.proofs.FindingLemmas.FinderFolds.{offset-under, not-constructed, noted_all}
+use Rattle.tlv_show.proofs.DumpLemmas.DumpTexts.{at_level, fill_shown, no_padding}
+use Rattle.tlv_show.proofs.DumpLemmas.DumpTexts.{ends_in_padding, part_shown, lines_between}
+use Rattle.tlv_show.proofs.FindingLemmas.FinderFolds.{not-constructed, frame_after_elements}
 use Rattle.tlv_show.proofs.FindingLemmas.FramesAround.{knows-after, knows-inside, knows-padding, unused-of}
-use Rattle.tlv_show.proofs.FindingLemmas.FinderItems.{after_contents, after_end, later_header, after_primitive}
-use Rattle.tlv_show.proofs.FindingLemmas.FinderItems.{closed-find, opened-find, primitive-find, check_between}
+use Rattle.tlv_show.proofs.FindingLemmas.FinderSteps.{after_contents, after_end, later_header, after_primitive}
+use Rattle.tlv_show.proofs.FindingLemmas.FinderSteps.{check_between}
 use Rattle.tlv_show.proofs.FindingLemmas.HeaderFindings.{Knows, header-same}
-use Rattle.tlv_show.proofs.DumpLemmas.DumpEvents.{dump_state, then_shown, texts, opens-by, closes-by, primitive-by, part-by}
+use Rattle.tlv_show.proofs.DumpLemmas.DumpEvents.{dump_state, then_shown, part-by}
 use Rattle.tlv_show.specs.Conditions.{surroundings_of, segments_of}
+use Rattle.tlv_show.proofs.DumpLemmas.DumpItems.{closed-shown, IsShown, Known, found-first, item_texts, opened-shown}
+use Rattle.tlv_show.proofs.DumpLemmas.DumpItems.{primitive-shown}
+use Rattle.tlv_show.proofs.DumpLemmas.DumpItems.{shown-after, site, split, start}
 
--- ---- elements, in this style, with these names and rules
+-- elements, in this style, with these names and rules
 module _ (style : Layout) (names : NamesTable) (rules : Rules) where
-  abbrev item : Item → List ℕ
-  item i = item_text (finite.get names) style i
-
-  abbrev item_texts : List Item → List ℕ
-  item_texts l = flat_map item l
-
-  abbrev site : Place → Option HeaderValue → Previous → Site
-  site p holder previous = record { offset = p.offset; level = p.depth; holder = holder; previous = previous }
-
-  lines_of : (level offset : ℕ) (fs : List Finding)
-      → styled_lines (Dump style.pure) level offset fs ≡ item_texts (findings_at level offset fs)
-  lines_of level offset [] = refl
-  lines_of level offset (f ∷ fs) = ap (λ (l : List ℕ). item (FindingAt level offset f) ++ l) (lines_of level offset fs)
-
-  split : (xs ys : List Item) → item_texts (xs ++ ys) ≡ item_texts xs ++ item_texts ys
-  split xs ys = flat_map-append item xs ys
-
-  -- findings, and then other lines
-  found-first : (n level offset : ℕ) (gs fs : List Finding) (more : List ℕ) (rest : List Item) → n ≡ level → gs ≡ fs
-      → more ≡ item_texts rest
-      → styled_lines (Dump style.pure) n offset gs ++ more ≡ item_texts (findings_at level offset fs ++ rest)
-  found-first n level offset gs fs more rest e f g =
-      ap₂ (λ (k : ℕ) (hs : List Finding). styled_lines (Dump style.pure) k offset hs ++ more) e f
-      ∙ ap₂ (λ (a b : List ℕ). a ++ b) (lines_of level offset fs) g
-      ∙ sym (split (findings_at level offset fs) rest)
-
-  abbrev start : Place → Bool → SiblingFrame → List SiblingFrame → ℕ → DumpState
-  start p padded w outer n = dump_state (lines_between style names p.depth p.offset padded) (check_between rules w outer n)
-
-  pub record IsShown (p : Place) (holder : Option HeaderValue) (previous : Previous) (w : SiblingFrame)
-      (outer : List SiblingFrame) (f : Forest) : Type 0 where
-    pub text : (n : ℕ)
-        → (effect_of dump_step (start p (is_padding previous) w outer n) (events f)).put
-        ≡ item_texts (items rules (site p holder previous) f)
-    pub after : (n : ℕ) → is_whole f ≡ true → (m : ℕ)
-        × ((effect_of dump_step (start p (is_padding previous) w outer n) (events f)).state
-        ≡ dump_state
-        (lines_between style names p.depth (p.offset + length (spelling f))
-        (later_padded style names (is_padding previous) f))
-        (check_between rules (noted_all w f) outer m))
-
-  -- elements after what was shown
-  shown-after : (p q : Place) (padded : Bool) (w : SiblingFrame) (outer : List SiblingFrame) (n m : ℕ)
-      (v : SiblingFrame) (holder : Option HeaderValue) (previous : Previous) (es : List EventValue) (put : List ℕ)
-      (rest : Forest)
-      → q.depth ≡ p.depth
-      → effect_of dump_step (start p padded w outer n) es ≡ effect_with (start q (is_padding previous) v outer m) put
-      → IsShown q holder previous v outer rest
-      → effect_of dump_step (start p padded w outer n) (es ++ events rest)
-      ≡ record (effect_of dump_step (start q (is_padding previous) v outer m) (events rest))
-      { put = put ++ item_texts (items rules (site q holder previous) rest) }
-  shown-after p q padded w outer n m v holder previous es put rest d e t =
-      then_shown (start p padded w outer n) (start q (is_padding previous) v outer m) put es (events rest) e
-      ∙ ap (λ (l : List ℕ). record (effect_of dump_step (start q (is_padding previous) v outer m) (events rest))
-      { put = put ++ l })
-      (t.text m)
-
-  abbrev Known : Place → Option HeaderValue → Previous → SiblingFrame → List SiblingFrame → Type 0
-  Known p holder previous w outer =
-      Knows w (site p holder previous) × (length outer ≡ p.depth) × (p.padding ≡ true → holder ≡ None)
-
-  -- an element that holds others begins
-  opened-shown : (p : Place) (holder : Option HeaderValue) (previous : Previous) (w : SiblingFrame)
-      (outer : List SiblingFrame) (n : ℕ) (h : HeaderValue)
-      → Known p holder previous w outer
-      → h.offset ≡ p.offset → p.depth < 128 → p.offset + length (opening h) ≤ 2 ^ 64 - 1
-      → effect_of dump_step (start p (is_padding previous) w outer n) (opening_events h)
-      ≡ effect_with (start (place_of_children p h) false (frame_under w h) (w ∷ outer) (later_header rules w h n))
-      (styled_lines (Dump style.pure) (length outer) h.offset (header_findings rules (surroundings_in w) h)
-      ++ holder_line (at_level style names p.depth) h)
-  opened-shown p holder previous w outer n h k there low far =
-      opens-by (lines_between style names p.depth p.offset (is_padding previous)) (check_between rules w outer n) h
-      h.constructed (h.number == 3)
-      ∙ ap₂ (λ (d : Effect LinesState) (f : FinderReport). effect_with (dump_state d.state f.state) (texts style f ++ d.put))
-      (holder_shown style names p.depth p.offset (is_padding previous) h there (omega (arith, low)) far)
-      (opened-find rules w outer n h (omega (arith, k.1, low)))
-
-  -- a primitive
-  primitive-shown : (p : Place) (padded : Bool) (w : SiblingFrame) (outer : List SiblingFrame) (n : ℕ)
-      (h : HeaderValue) (c : List ℕ)
-      → h.offset ≡ p.offset → announced_length h.size ≡ length c
-      → p.offset + (length (octets_of h) + length c) ≤ 2 ^ 64 - 1
-      → effect_of dump_step (start p padded w outer n) (Begin h ∷ Bytes c ∷ End ∷ [])
-      ≡ effect_with
-      (start (place_after p (length (octets_of h) + length c)) false (after_primitive rules w h c) outer
-      (after_contents rules w h c n))
-      (styled_lines (Dump style.pure) (length outer) h.offset (header_findings rules (surroundings_in w) h)
-      ++ (whole_lines (finite.get names) h (at_level style names p.depth) c
-      ++ styled_lines (Dump style.pure) (length outer) h.offset (contents_findings rules h c)))
-  primitive-shown p padded w outer n h c there size far =
-      primitive-by (lines_between style names p.depth p.offset padded) (check_between rules w outer n) h c
-      ∙ ap₂
-      (λ (d : Effect LinesState) (f : FinderReport). effect_with (dump_state d.state f.state)
-      (styled_lines (Dump style.pure) (length outer) h.offset (header_findings rules (surroundings_in w) h)
-      ++ (d.put ++ texts style f)))
-      (primitive_shown style names p.depth p.offset padded h c there size far)
-      (primitive-find rules w outer n h c (sym size))
-
-  pub shows_forest : (p : Place) (holder : Option HeaderValue) (previous : Previous) (w : SiblingFrame)
-      (outer : List SiblingFrame) (f : Forest)
-      → IsOpen p f → p.offset + length (spelling f) ≤ 2 ^ 64 - 1 → Known p holder previous w outer
-      → IsShown p holder previous w outer f
+  pub shows_forest : (p : Place) (holder : Option HeaderValue) (previous : Previous) (w : HolderFrame)
+      (outer : List HolderFrame) (f : Forest)
+      → IsOpen p f → p.offset + length (spelling f) ≤ 2 ^ 64 - 1 → Known style names rules p holder previous w outer
+      → IsShown style names rules p holder previous w outer f
   shows_forest p holder previous w outer NoMore v b k = record {
     text = λ n. refl;
     after =
@@ -167,18 +67,18 @@ module _ (style : Layout) (names : NamesTable) (rules : Rules) where
         );
   }
   shows_forest p holder previous w outer (PaddingOctet rest) v b k =
-      let s : Site = site p holder previous in
+      let s : Site = site style names rules p holder previous in
       let t =
       shows_forest (place_after p 1) holder Padding w outer rest v.1 (omega (arith, b))
       (knows-padding w s k.0 (k.2 v.0.0), k.1, k.2) in
       let one : (n : ℕ)
-      → effect_of dump_step (start p (is_padding previous) w outer n) (Pad (0 ∷ []) ∷ [])
-      ≡ effect_with (start (place_after p 1) true w outer n)
+      → effect_of dump_step (start style names rules p (is_padding previous) w outer n) (Pad (0 ∷ []) ∷ [])
+      ≡ effect_with (start style names rules (place_after p 1) true w outer n)
       (if is_padding previous then [] else padding_line (at_level style names p.depth) p.offset) =
       λ n. ap (λ (d : Effect LinesState). effect_with (dump_state d.state (check_between rules w outer n)) d.put)
       (fill_shown style names p.depth p.offset (is_padding previous) (omega (arith, b))) in
       let all =
-      λ (n : ℕ). shown-after p (place_after p 1) (is_padding previous) w outer n n w holder Padding
+      λ (n : ℕ). shown-after style names rules p (place_after p 1) (is_padding previous) w outer n n w holder Padding
       (Pad (0 ∷ []) ∷ [])
       (if is_padding previous then [] else padding_line (at_level style names p.depth) p.offset) rest refl
       (one n) t in
@@ -191,37 +91,38 @@ module _ (style : Layout) (names : NamesTable) (rules : Rules) where
               r.0,
               ap (λ (x : Effect DumpState). x.state) (all n) ∙ r.1
                   ∙ ap (λ (offset : ℕ). dump_state
-                  (lines_between style names p.depth offset (later_padded style names true rest))
-                  (check_between rules (noted_all w rest) outer r.0))
+                  (lines_between style names p.depth offset (ends_in_padding style names true rest))
+                  (check_between rules (frame_after_elements w rest) outer r.0))
                   (omega arith),
             );
       }
     where
       pads : (k : Bool) (level offset : ℕ) (l : List Item)
-          → (if k then [] else padding_line (at_level style names level) offset) ++ item_texts l
-          ≡ item_texts ((if k then [] else PaddingLine level offset ∷ []) ++ l)
+          → (if k then [] else padding_line (at_level style names level) offset) ++ item_texts style names rules l
+          ≡ item_texts style names rules ((if k then [] else PaddingLine level offset ∷ []) ++ l)
       pads true level offset l = refl
       pads false level offset l = refl
   shows_forest p holder previous w outer (Primitive h c rest) v b k =
-      let s : Site = site p holder previous in
+      let s : Site = site style names rules p holder previous in
       let q : Place = place_after p (length (octets_of h) + length c) in
       let size : announced_length h.size ≡ length c = ap announced_length v.0.1 in
       let form : h.constructed ≡ false = not-constructed h.constructed (wraps h) v.0.0.header.form in
       let u : Bool = has_unused_bits (value_check_after (new_value_check h) c) in
-      let known : Knows (after_primitive rules w h c) (site_after s h c) =
-      subst (λ (x : Bool). Knows (frame_after w x (announced_length h.size) u) (site_after s h c)) (ap not form)
-      (knows-after w s (site_after s h c) h (first_contents_octet c) u k.0 refl refl (unused-of h c form)) in
+      let known : Knows (after_primitive rules w h c) (site_after_primitive s h c) =
+      subst (λ (x : Bool). Knows (frame_after w x (announced_length h.size) u) (site_after_primitive s h c))
+      (ap not form)
+      (knows-after w s (site_after_primitive s h c) h (first_contents_octet c) u k.0 refl refl (unused-of h c form)) in
       let t =
       shows_forest q holder (Sibling h (first_contents_octet c)) (after_primitive rules w h c) outer rest v.1
       (omega (arith, b, length-primitive h c rest)) (known, k.1, k.2) in
       let all =
-      λ (n : ℕ). shown-after p q (is_padding previous) w outer n (after_contents rules w h c n)
+      λ (n : ℕ). shown-after style names rules p q (is_padding previous) w outer n (after_contents rules w h c n)
       (after_primitive rules w h c) holder (Sibling h (first_contents_octet c)) (Begin h ∷ Bytes c ∷ End ∷ []) _ rest
       refl
-      (primitive-shown p (is_padding previous) w outer n h c v.0.0.header.offset size
+      (primitive-shown style names rules p (is_padding previous) w outer n h c v.0.0.header.offset size
       (omega (arith, b, length-primitive h c rest)))
       t in
-      let others : List Item = items rules (site_after s h c) rest in
+      let others : List Item = items rules (site_after_primitive s h c) rest in
       record {
         text = λ n.
             ap (λ (x : Effect DumpState). x.put) (all n)
@@ -229,21 +130,22 @@ module _ (style : Layout) (names : NamesTable) (rules : Rules) where
             (styled_lines (Dump style.pure) (length outer) h.offset (header_findings rules (surroundings_in w) h))
             (whole_lines (finite.get names) h (at_level style names p.depth) c)
             (styled_lines (Dump style.pure) (length outer) h.offset (contents_findings rules h c))
-            (item_texts others)
-            ∙ found-first (length outer) p.depth h.offset (header_findings rules (surroundings_in w) h)
+            (item_texts style names rules others)
+            ∙ found-first style names rules (length outer) p.depth h.offset
+            (header_findings rules (surroundings_in w) h)
             (header_findings rules (surroundings_of s) h)
-            _ (PrimitiveLines p.depth h c ∷ (findings_at p.depth h.offset (contents_findings rules h c) ++ others))
+            _ (PrimitiveLines p.depth h c ∷ (finding_items p.depth h.offset (contents_findings rules h c) ++ others))
             k.1 (header-same rules w s h k.0)
             (ap (λ (l : List ℕ). whole_lines (finite.get names) h (at_level style names p.depth) c ++ l)
-            (found-first (length outer) p.depth h.offset (contents_findings rules h c)
-            (contents_findings rules h c) (item_texts others) others k.1 refl refl));
+            (found-first style names rules (length outer) p.depth h.offset (contents_findings rules h c)
+            (contents_findings rules h c) (item_texts style names rules others) others k.1 refl refl));
         after = λ n e.
             let r = t.after (after_contents rules w h c n) e in (
               r.0,
               ap (λ (x : Effect DumpState). x.state) (all n) ∙ r.1
                   ∙ ap (λ (offset : ℕ). dump_state
-                  (lines_between style names p.depth offset (later_padded style names false rest))
-                  (check_between rules (noted_all (after_primitive rules w h c) rest) outer r.0))
+                  (lines_between style names p.depth offset (ends_in_padding style names false rest))
+                  (check_between rules (frame_after_elements (after_primitive rules w h c) rest) outer r.0))
                   (omega (arith, length-primitive h c rest)),
             );
       }
@@ -251,7 +153,7 @@ module _ (style : Layout) (names : NamesTable) (rules : Rules) where
       three : (a b c d : List ℕ) → (a ++ (b ++ c)) ++ d ≡ a ++ (b ++ (c ++ d))
       three a b c d = simp append_assoc
   shows_forest p holder previous w outer (Holder h inside rest) v b k =
-      let s : Site = site p holder previous in
+      let s : Site = site style names rules p holder previous in
       let q : Place = place_after p (extent h inside) in
       let i_place : Place = place_of_children p h in
       let size = length-holder h inside rest in
@@ -271,72 +173,48 @@ module _ (style : Layout) (names : NamesTable) (rules : Rules) where
       let last : List ℕ =
       styled_lines (Dump style.pure) (length outer) h.offset
       (end_findings rules (segments_of h (headers inside))) in
-      let held : List ℕ = item_texts (items rules (site_of_children s h) inside) in
-      let closes-shown : (m : ℕ)
-      → effect_of dump_step
-      (dump_state (lines_between style names (p.depth + 1) end false)
-      (check_between rules (noted_all (frame_under w h) inside) (w ∷ outer) m))
-      (closing_event h inside ∷ [])
-      ≡ effect_with
-      (start q false (frame_after w (is_primitive h) (announced_length h.size) false) outer
-      (after_end rules h inside m))
-      (close ++ last) =
-      λ m.
-      closes-by (lines_between style names (p.depth + 1) end false)
-      (check_between rules (noted_all (frame_under w h) inside) (w ∷ outer) m)
-      (end_offset h.size (h.offset + length (opening h) + length (spelling inside))) h.constructed
-      ∙ ap₂ (λ (d : Effect LinesState) (f : FinderReport). effect_with (dump_state d.state f.state) (d.put ++ texts style f))
-      (closer_shown style names p.depth end h inside (omega (arith, v.0.0.header.offset)) v.0.0.header.valid.allowed
-      (omega (arith, b, size)))
-      (closed-find rules i_place w outer m h inside v.1 v.0.1)
-      ∙ ap (λ (l : List ℕ). effect_with
-      (dump_state (lines_between style names p.depth (end + length (end_octets h.size)) false)
-      (check_between rules (frame_after w (is_primitive h) (announced_length h.size) false) outer
-      (after_end rules h inside m)))
-      (close ++ l))
-      (offset-under rules i_place w h inside v.1 v.0.1 (styled_lines (Dump style.pure) (length outer)) (λ offset. refl))
-      ∙ ap (λ (offset : ℕ). effect_with
-      (dump_state (lines_between style names p.depth offset false)
-      (check_between rules (frame_after w (is_primitive h) (announced_length h.size) false) outer
-      (after_end rules h inside m)))
-      (close ++ last))
-      (omega arith) in
+      let held : List ℕ = item_texts style names rules (items rules (site_of_children s h) inside) in
       let held-shown : (m : ℕ)
-      → (r : ℕ) × (effect_of dump_step (start i_place false (frame_under w h) (w ∷ outer) m) (events inside)
+      → (r : ℕ)
+      × (effect_of dump_step (start style names rules i_place false (frame_under w h) (w ∷ outer) m) (events inside)
       ≡ effect_with
       (dump_state (lines_between style names (p.depth + 1) end false)
-      (check_between rules (noted_all (frame_under w h) inside) (w ∷ outer) r))
+      (check_between rules (frame_after_elements (frame_under w h) inside) (w ∷ outer) r))
       held) =
       λ m.
       let r = i.after m v.0.1 in (
         r.0,
-        as_shows (start i_place false (frame_under w h) (w ∷ outer) m) _ (events inside) held
+        as_shows (start style names rules i_place false (frame_under w h) (w ∷ outer) m) _ (events inside) held
             (r.1
             ∙ ap (λ (x : Bool). dump_state (lines_between style names (p.depth + 1) end x)
-            (check_between rules (noted_all (frame_under w h) inside) (w ∷ outer) r.0))
+            (check_between rules (frame_after_elements (frame_under w h) inside) (w ∷ outer) r.0))
             (no_padding style names i_place inside refl v.1))
             (i.text m),
       ) in
       let element : (n : ℕ)
       → (m : ℕ)
-      × (effect_of dump_step (start p (is_padding previous) w outer n)
+      × (effect_of dump_step (start style names rules p (is_padding previous) w outer n)
       (opening_events h ++ (events inside ++ closing_event h inside ∷ []))
-      ≡ effect_with (start q false (frame_after w (is_primitive h) (announced_length h.size) false) outer m)
+      ≡ effect_with
+      (start style names rules q false (frame_after w (is_primitive h) (announced_length h.size) false) outer m)
       ((first ++ line) ++ (held ++ (close ++ last)))) =
       λ n.
       let a : ℕ = later_header rules w h n in
       let r = held-shown a in (
         after_end rules h inside r.0,
-        then_shown (start p (is_padding previous) w outer n) (start i_place false (frame_under w h) (w ∷ outer) a)
+        then_shown (start style names rules p (is_padding previous) w outer n)
+            (start style names rules i_place false (frame_under w h) (w ∷ outer) a)
             (first ++ line) (opening_events h) (events inside ++ closing_event h inside ∷ [])
-            (opened-shown p holder previous w outer n h k v.0.0.header.offset (v.0.0.shallow refl)
+            (opened-shown style names rules p holder previous w outer n h k v.0.0.header.offset (v.0.0.shallow refl)
             (omega (arith, b, size)))
             ∙ ap (λ (x : Effect DumpState). record x { put = (first ++ line) ++ x.put })
-            (then_shown (start i_place false (frame_under w h) (w ∷ outer) a)
+            (then_shown (start style names rules i_place false (frame_under w h) (w ∷ outer) a)
             (dump_state (lines_between style names (p.depth + 1) end false)
-            (check_between rules (noted_all (frame_under w h) inside) (w ∷ outer) r.0))
+            (check_between rules (frame_after_elements (frame_under w h) inside) (w ∷ outer) r.0))
             held (events inside) (closing_event h inside ∷ []) r.1
-            ∙ ap (λ (x : Effect DumpState). record x { put = held ++ x.put }) (closes-shown r.0)),
+            ∙ ap (λ (x : Effect DumpState). record x { put = held ++ x.put })
+            (closed-shown style names rules p w outer r.0 h inside v.1 v.0.1 v.0.0.header.offset
+            v.0.0.header.valid.allowed (omega (arith, b, size)))),
       ) in
       let es : List EventValue = opening_events h ++ (events inside ++ closing_event h inside ∷ []) in
       let joined : es ++ events rest ≡ opening_events h ++ (events inside ++ closing_event h inside ∷ events rest) =
@@ -344,35 +222,38 @@ module _ (style : Layout) (names : NamesTable) (rules : Rules) where
       ∙ ap (λ (l : List EventValue). opening_events h ++ l)
       (append_assoc (events inside) (closing_event h inside ∷ []) (events rest)) in
       let all = λ (n : ℕ).
-      ap (effect_of dump_step (start p (is_padding previous) w outer n)) (sym joined)
-      ∙ shown-after p q (is_padding previous) w outer n (element n).0
+      ap (effect_of dump_step (start style names rules p (is_padding previous) w outer n)) (sym joined)
+      ∙ shown-after style names rules p q (is_padding previous) w outer n (element n).0
       (frame_after w (is_primitive h) (announced_length h.size) false) holder (Sibling h None) es
       ((first ++ line) ++ (held ++ (close ++ last))) rest refl (element n).1 t in
       let others : List Item = items rules (site_after_holder s h inside) rest in
       let closing : List Item =
       ClosingLine p.depth (if h.constructed then end_octets_offset h inside else None)
-      ∷ (findings_at p.depth h.offset (end_findings rules (segments_of h (headers inside))) ++ others) in
+      ∷ (finding_items p.depth h.offset (end_findings rules (segments_of h (headers inside))) ++ others) in
       record {
         text = λ n.
             ap (λ (x : Effect DumpState). x.put) (all n)
-            ∙ six first line held close last (item_texts others)
-            ∙ found-first (length outer) p.depth h.offset (header_findings rules (surroundings_in w) h)
+            ∙ six first line held close last (item_texts style names rules others)
+            ∙ found-first style names rules (length outer) p.depth h.offset
+            (header_findings rules (surroundings_in w) h)
             (header_findings rules (surroundings_of s) h)
             _ (OpeningLine p.depth h ∷ (items rules (site_of_children s h) inside ++ closing)) k.1
             (header-same rules w s h k.0)
             (ap (λ (l : List ℕ). line ++ l)
             (ap (λ (l : List ℕ). held ++ (close ++ l))
-            (found-first (length outer) p.depth h.offset (end_findings rules (segments_of h (headers inside)))
-            (end_findings rules (segments_of h (headers inside))) (item_texts others) others k.1 refl refl)
-            ∙ sym (split (items rules (site_of_children s h) inside) closing)));
+            (found-first style names rules (length outer) p.depth h.offset
+            (end_findings rules (segments_of h (headers inside)))
+            (end_findings rules (segments_of h (headers inside))) (item_texts style names rules others) others k.1
+            refl refl)
+            ∙ sym (split style names rules (items rules (site_of_children s h) inside) closing)));
         after = λ n e.
             let r = t.after (element n).0 e in (
               r.0,
               ap (λ (x : Effect DumpState). x.state) (all n) ∙ r.1
                   ∙ ap (λ (offset : ℕ). dump_state
-                  (lines_between style names p.depth offset (later_padded style names false rest))
+                  (lines_between style names p.depth offset (ends_in_padding style names false rest))
                   (check_between rules
-                  (noted_all (frame_after w (is_primitive h) (announced_length h.size) false) rest) outer
+                  (frame_after_elements (frame_after w (is_primitive h) (announced_length h.size) false) rest) outer
                   r.0))
                   (omega (arith, size)),
             );
@@ -391,15 +272,16 @@ module _ (style : Layout) (names : NamesTable) (rules : Rules) where
   shows_forest p holder previous w outer (OpenPrimitive h c) v b k = record {
     text = λ n.
         part-by (lines_between style names p.depth p.offset (is_padding previous)) (check_between rules w outer n) h c
-        ∙ found-first (length outer) p.depth h.offset (header_findings rules (surroundings_in w) h)
-        (header_findings rules (surroundings_of (site p holder previous)) h)
-        _ (OpenPrimitiveLines p.depth h c ∷ []) k.1 (header-same rules w (site p holder previous) h k.0)
+        ∙ found-first style names rules (length outer) p.depth h.offset (header_findings rules (surroundings_in w) h)
+        (header_findings rules (surroundings_of (site style names rules p holder previous)) h)
+        _ (OpenPrimitiveLines p.depth h c ∷ []) k.1
+        (header-same rules w (site style names rules p holder previous) h k.0)
         (part_shown style names p.depth p.offset (is_padding previous) h c (omega (arith, v.1))
         ∙ sym (append-nil (open_lines h (at_level style names p.depth) c)));
     after = λ n e. absurd (cc (e));
   }
   shows_forest p holder previous w outer (OpenHolder h inside) v b k =
-      let s : Site = site p holder previous in
+      let s : Site = site style names rules p holder previous in
       let size = length-append (opening h) (spelling inside) in
       let i =
       shows_forest (place_of_children p h) (Some h) Start (frame_under w h) (w ∷ outer) inside v.1
@@ -410,14 +292,16 @@ module _ (style : Layout) (names : NamesTable) (rules : Rules) where
       record {
         text = λ n.
             ap (λ (x : Effect DumpState). x.put)
-            (then_shown (start p (is_padding previous) w outer n)
-            (start (place_of_children p h) false (frame_under w h) (w ∷ outer) (later_header rules w h n))
+            (then_shown (start style names rules p (is_padding previous) w outer n)
+            (start style names rules (place_of_children p h) false (frame_under w h) (w ∷ outer)
+            (later_header rules w h n))
             (first ++ line) (opening_events h) (events inside)
-            (opened-shown p holder previous w outer n h k v.0.0.header.offset (v.0.0.shallow refl)
+            (opened-shown style names rules p holder previous w outer n h k v.0.0.header.offset (v.0.0.shallow refl)
             (omega (arith, b, size))))
             ∙ ap (λ (l : List ℕ). (first ++ line) ++ l) (i.text (later_header rules w h n))
-            ∙ append_assoc first line (item_texts (items rules (site_of_children s h) inside))
-            ∙ found-first (length outer) p.depth h.offset (header_findings rules (surroundings_in w) h)
+            ∙ append_assoc first line (item_texts style names rules (items rules (site_of_children s h) inside))
+            ∙ found-first style names rules (length outer) p.depth h.offset
+            (header_findings rules (surroundings_in w) h)
             (header_findings rules (surroundings_of s) h)
             _ (OpeningLine p.depth h ∷ items rules (site_of_children s h) inside) k.1
             (header-same rules w s h k.0) refl;
@@ -428,9 +312,10 @@ module _ (style : Layout) (names : NamesTable) (rules : Rules) where
         append_assoc
         (styled_lines (Dump style.pure) (length outer) h.offset (header_findings rules (surroundings_in w) h))
         (opening_line (at_level style names p.depth) h (opening_word false)) []
-        ∙ found-first (length outer) p.depth h.offset (header_findings rules (surroundings_in w) h)
-        (header_findings rules (surroundings_of (site p holder previous)) h) _ (OpeningLine p.depth h ∷ []) k.1
-        (header-same rules w (site p holder previous) h k.0)
+        ∙ found-first style names rules (length outer) p.depth h.offset (header_findings rules (surroundings_in w) h)
+        (header_findings rules (surroundings_of (site style names rules p holder previous)) h)
+        _ (OpeningLine p.depth h ∷ []) k.1
+        (header-same rules w (site style names rules p holder previous) h k.0)
         (ap (λ (l : List ℕ). l ++ []) (sym (awaiting p.depth h h.constructed v.1)));
     after = λ n e. absurd (cc (e));
   }

@@ -11,9 +11,9 @@ use Rattle.tlv_walk.specs.Events.{Begin, Bytes, Close, End, Enter, EventValue, L
 use Rattle.tlv_walk.specs.Follow.{Effect, each_octet, effect_if_more, effect_of}
 use Rattle.tlv_show.specs.LinesStep.{lines_octet_step, lines_padding_step}
 use Rattle.tlv_show.specs.DumpStep.{DumpState, dump_octet_step, dump_padding_step, dump_step, finding_lines}
-use Rattle.tlv_show.specs.FinderState.{FinderState, FinderReport, finder_bytes_step}
+use Rattle.tlv_show.specs.FinderState.{CheckState, FinderState, finder_bytes_step}
 use Rattle.tlv_show.specs.FindingLines.{last_finding_lines}
-use Rattle.tlv_show.specs.Private.FinderState.{ReportsFindings, with_findings_if}
+use Rattle.tlv_show.specs.Private.FinderState.{HasFound, with_findings_if}
 use Rattle.tlv_show.specs.declared.finding_lines.Style.{Style}
 use Rattle.tlv_show.specs.declared.finding_lines.Style.TheVariants.{Dump}
 use Rattle.tlv_show.proofs.FindingLemmas.CheckLaws.{found-join, last-same}
@@ -34,7 +34,7 @@ each-shown s (x ∷ octets) =
     let d = lines_octet_step s.lines x in
     let u : DumpState = record { lines = d.state; finder = finder_bytes_step s.finder (x ∷ []) } in
     ap (λ (k : Effect DumpState). record { state = k.state; put = d.put ++ k.put; goes = k.goes }) (each-shown u octets)
-    ∙ ap (λ (f : FinderState). record {
+    ∙ ap (λ (f : CheckState). record {
       state = record { lines = (each_octet lines_octet_step d.state octets).state; finder = f };
       put = d.put ++ (each_octet lines_octet_step d.state octets).put;
       goes = go.On;
@@ -74,35 +74,35 @@ all_on s (e ∷ es) =
 
 -- ---- findings are put before the lines, or after them
 
-module _ {D : Type 0} (taken : D → DrainState) (s : DumpState) (f last : FinderReport) (has_findings : Bool)
+module _ {D : Type 0} (taken : D → DrainState) (s : DumpState) (f last : FinderState) (may_have_findings : Bool)
     (style : Style) where
-  lines-last : style ≡ Dump s.lines.layout.pure → ReportsFindings f last has_findings
-      → last_finding_lines style (with_findings_if has_findings last) ≡ finding_lines s f
+  lines-last : style ≡ Dump s.lines.layout.pure → HasFound f last may_have_findings
+      → last_finding_lines style (with_findings_if may_have_findings last) ≡ finding_lines s f
   lines-last is says =
-      ap (λ (y : Style). last_finding_lines y (with_findings_if has_findings last)) is
-      ∙ last-same (Dump s.lines.layout.pure) f last has_findings says
+      ap (λ (y : Style). last_finding_lines y (with_findings_if may_have_findings last)) is
+      ∙ last-same (Dump s.lines.layout.pure) f last may_have_findings says
 
   module _ {T U E : Type 0} where
     pub found_failed : (a b : Out D) (put : List ℕ) (e : E) (r : Result U E) → style ≡ Dump s.lines.layout.pure
-        → ReportsFindings f last has_findings
-        → Puts {T = T} {E = E} taken a b (last_finding_lines style (with_findings_if has_findings last)) (Err e)
+        → HasFound f last may_have_findings
+        → Puts {T = T} {E = E} taken a b (last_finding_lines style (with_findings_if may_have_findings last)) (Err e)
         → IsErr r → Puts taken a b (finding_lines s f ++ put) r
     found_failed a b put e r is says failed err =
         puts_failed taken a b _ put e r (puts_text taken a b _ _ (Err e) (lines-last is says) failed) err
 
-    pub found_first : (a b c : Out D) (put : List ℕ) (x : T) (r : Result U E) → style ≡ Dump s.lines.layout.pure
-        → ReportsFindings f last has_findings
-        → Puts {T = T} {E = E} taken a b (last_finding_lines style (with_findings_if has_findings last)) (Ok x)
+    pub found_before : (a b c : Out D) (put : List ℕ) (x : T) (r : Result U E) → style ≡ Dump s.lines.layout.pure
+        → HasFound f last may_have_findings
+        → Puts {T = T} {E = E} taken a b (last_finding_lines style (with_findings_if may_have_findings last)) (Ok x)
         → Puts taken b c put r → Puts taken a c (finding_lines s f ++ put) r
-    found_first a b c put x r is says found lines =
+    found_before a b c put x r is says found lines =
         puts_then taken a b c _ put x r (puts_text taken a b _ _ (Ok x) (lines-last is says) found) lines
 
-    pub found_last : (a b c : Out D) (put : List ℕ) (x : T) (r : Result U E) → style ≡ Dump s.lines.layout.pure
-        → ReportsFindings f last has_findings
+    pub found_after : (a b c : Out D) (put : List ℕ) (x : T) (r : Result U E) → style ≡ Dump s.lines.layout.pure
+        → HasFound f last may_have_findings
         → Puts {T = T} {E = E} taken a b put (Ok x)
-        → Puts taken b c (last_finding_lines style (with_findings_if has_findings last)) r
+        → Puts taken b c (last_finding_lines style (with_findings_if may_have_findings last)) r
         → Puts taken a c (put ++ finding_lines s f) r
-    found_last a b c put x r is says lines found =
+    found_after a b c put x r is says lines found =
         puts_then taken a b c put _ x r lines (puts_text taken b c _ _ r (lines-last is says) found)
 
 pub where_ok : {T E P Q : Type 0} (r : Result T E) → (P → Q) → OnOk r P → OnOk r Q

@@ -26,8 +26,8 @@ use Rattle.tlv_walk.proofs.FollowerLemmas.Followed.{followed-more}
 use Rattle.tlv_walk.proofs.GrammarLemmas.Spellings.{length-opening}
 use Rattle.tlv_show.specs.LinesStep.{LinesState, lines_step, lines_after_header}
 use Rattle.tlv_show.specs.Lines.{closing_line, opening_line, padding_line, opening_word}
-use Rattle.tlv_show.proofs.DumpLemmas.HolderLine.{holder_line}
-use Rattle.tlv_show.proofs.DumpLemmas.Dumped.{after_put, dumped_bytes, rested-new}
+use Rattle.tlv_show.specs.Lines.{holder_line}
+use Rattle.tlv_show.proofs.DumpLemmas.OctetPieces.{after_put, dumped_bytes, rested-new}
 use Rattle.tlv_show.proofs.DumpLemmas.Always.{all_on}
 use Rattle.tlv_show.specs.SaturatingSum.{saturating_sum}
 
@@ -75,7 +75,7 @@ pub primitives_shown : (s : LinesState) (h : HeaderValue) (c : List ℕ) → ann
 primitives_shown s h c size =
     let t : ValueTextState = new_value_text h s.layout in
     let u : LinesState = record (lines_after_header s h) { open_text = Some t } in
-    let place_after : LinesState =
+    let lines_after : LinesState =
     record (lines_after_header s h)
     { offset = saturating_sum (lines_after_header s h).offset (length c); open_text = None } in
     let took = take-all (announced_length h.size) c (omega (arith, size)) in
@@ -83,19 +83,19 @@ primitives_shown s h c size =
     ap (λ (k : Effect LinesState). after_put (begin_lines t)
         (effect_if_more k.goes k (λ w. effect_of lines_step w (End ∷ []))))
     (dumped_bytes u c (λ e. rested-new h s.layout))
-    ∙ ap (λ (l : List ℕ). effect_with place_after
+    ∙ ap (λ (l : List ℕ). effect_with lines_after
     (begin_lines t
     ++ (contents_lines t l
     ++ ((if eqb (announced_length h.size - length l) 0
     then end_lines (finite.get s.names) (value_text_after t l) else [])
     ++ []))))
     took
-    ∙ ap (λ (n : ℕ). effect_with place_after
+    ∙ ap (λ (n : ℕ). effect_with lines_after
     (begin_lines t
     ++ (contents_lines t c
     ++ ((if eqb n 0 then end_lines (finite.get s.names) (value_text_after t c) else []) ++ []))))
     none
-    ∙ ap (effect_with place_after) (whole_shown (finite.get s.names) h s.layout c (sym size))
+    ∙ ap (effect_with lines_after) (whole_shown (finite.get s.names) h s.layout c (sym size))
 
 -- of elements in this style, with these names
 module _ (style : Layout) (names : NamesTable) where
@@ -121,8 +121,8 @@ module _ (style : Layout) (names : NamesTable) where
 
   -- ---- a primitive
 
-  abbrev begun_in : ℕ → ℕ → Bool → HeaderValue → LinesState
-  begun_in level offset padded h =
+  abbrev lines_in_primitive : ℕ → ℕ → Bool → HeaderValue → LinesState
+  lines_in_primitive level offset padded h =
       record (lines_after_header (lines_between level offset padded) h)
       { open_text = Some (new_value_text h (at_level level)) }
 
@@ -144,9 +144,8 @@ module _ (style : Layout) (names : NamesTable) where
       ≡ open_lines h (at_level level) c
   part_shown level offset padded h c size =
       let t : ValueTextState = new_value_text h (at_level level) in
-      ap (λ (k : Effect LinesState).
-          (after_put (begin_lines t) (effect_if_more k.goes k (λ w. effect_of lines_step w []))).put)
-      (dumped_bytes (begun_in level offset padded h) c (λ e. rested-new h (at_level level)))
+      ap (λ (k : Effect LinesState). (after_put (begin_lines t) (effect_if_more k.goes k (λ w. effect_of lines_step w []))).put)
+      (dumped_bytes (lines_in_primitive level offset padded h) c (λ e. rested-new h (at_level level)))
       ∙ ap (λ (l : List ℕ). begin_lines t ++ (contents_lines t l ++ [])) (take-all (announced_length h.size) c size)
       ∙ ap (λ (l : List ℕ). begin_lines t ++ l) (append-nil (contents_lines t c))
       ∙ sym (open-lines h (at_level level) c)
@@ -226,19 +225,19 @@ module _ (style : Layout) (names : NamesTable) where
   -- ---- elements
 
   -- whether padding is at their end
-  abbrev pub later_padded : Bool → Forest → Bool
-  later_padded padded NoMore = padded
-  later_padded padded (PaddingOctet rest) = later_padded true rest
-  later_padded padded (Primitive h c rest) = later_padded false rest
-  later_padded padded (Holder h inside rest) = later_padded false rest
-  later_padded padded (OpenPrimitive h c) = false
-  later_padded padded (OpenHolder h inside) = false
-  later_padded padded (OpenBitString h) = false
-  later_padded padded (OpenHeader octets) = padded
-  later_padded padded OpenEndOctets = padded
+  abbrev pub ends_in_padding : Bool → Forest → Bool
+  ends_in_padding padded NoMore = padded
+  ends_in_padding padded (PaddingOctet rest) = ends_in_padding true rest
+  ends_in_padding padded (Primitive h c rest) = ends_in_padding false rest
+  ends_in_padding padded (Holder h inside rest) = ends_in_padding false rest
+  ends_in_padding padded (OpenPrimitive h c) = false
+  ends_in_padding padded (OpenHolder h inside) = false
+  ends_in_padding padded (OpenBitString h) = false
+  ends_in_padding padded (OpenHeader octets) = padded
+  ends_in_padding padded OpenEndOctets = padded
 
   -- inside an element there is none
-  pub no_padding : (p : Place) (f : Forest) → p.padding ≡ false → IsOpen p f → later_padded false f ≡ false
+  pub no_padding : (p : Place) (f : Forest) → p.padding ≡ false → IsOpen p f → ends_in_padding false f ≡ false
   no_padding p NoMore e v = refl
   no_padding p (PaddingOctet rest) e v = absurd (true≢false (sym v.0.0 ∙ e))
   no_padding p (Primitive h c rest) e v = no_padding (place_after p (length (octets_of h) + length c)) rest e v.1

@@ -1,5 +1,6 @@
 -- The text of a longer input goes on from that of the shorter.
 use Rattle.std.proofs.Common.{◌≡◌, ℕ, ◌^◌, ◌≤◌, List, ◌++◌, length, refl, sym, ap, ◌∙◌, arith, length-append}
+use Rattle.std.specs.FinMap as finite
 use Rattle.tlv_walk.specs.declared.framing.Framing.{Framing}
 use Rattle.tlv_walk.specs.Events.{AreEqualJoined, EventValue, events}
 use Rattle.tlv_walk.specs.Follow.{Effect, effect_of}
@@ -8,16 +9,20 @@ use Rattle.tlv_walk.specs.Reading.{IsPrefixOf, IsReading}
 use Rattle.tlv_walk.proofs.FollowerLemmas.Followed.{each_octet-goes_on, each_octet-joins, followed-alike, followed-more}
 use Rattle.tlv_walk.proofs.EventLemmas.Prefixes.{events-prefix}
 use Rattle.tlv_show.specs.CheckStep.{check_octet_step, check_step}
-use Rattle.tlv_show.specs.DumpJob.{dump_job, top_layout}
+use Rattle.tlv_show.specs.DumpJob.{top_layout}
 use Rattle.tlv_show.specs.DumpStep.{DumpState, dump_octet_step, dump_padding_step, dump_step, new_dump}
-use Rattle.tlv_show.specs.FinderState.{FinderState, new_check}
+use Rattle.tlv_show.specs.FinderState.{CheckState, new_check}
+use Rattle.tlv_show.specs.Items.{Item}
+use Rattle.tlv_show.specs.ShowJob.{show_job}
+use Rattle.tlv_show.specs.Texts.{check_line, item_text}
+use Rattle.tlv_show.specs.declared.rules.Rules.{Rules}
 use Rattle.tlv_show.specs.Laws.{ChecksGoOn, DumpsGoOn}
 use Rattle.tlv_show.proofs.FindingLemmas.CheckFolds.{checks}
 use Rattle.tlv_show.proofs.DumpLemmas.DumpFolds.{dumps}
 use Rattle.tlv_show.proofs.DumpLemmas.Shows.{Shower}
 
-module _ {S : Type 0} (next : S → EventValue → Effect S) (first : S) (framing : Framing) (text : Forest → List ℕ)
-    (count : Forest → ℕ) (count_in : S → ℕ) (w : Shower next first framing text count count_in)
+module _ {S : Type 0} (next : S → EventValue → Effect S) (first : S) (rules : Rules) (framing : Framing)
+    (text_of : Item → List ℕ) (count_in : S → ℕ) (w : Shower next first rules framing text_of count_in)
     (alike : (s : S) (xs ys : List EventValue) → AreEqualJoined xs ys → effect_of next s xs ≡ effect_of next s ys) where
   put_both : (s : S) (xs ys : List EventValue)
       → (effect_of next s (xs ++ ys)).put
@@ -25,12 +30,13 @@ module _ {S : Type 0} (next : S → EventValue → Effect S) (first : S) (framin
   put_both s xs ys = ap (λ (t : Effect S). t.put) (followed-more next s xs ys (w.goes_on s xs))
 
   goes_on : (b c : List ℕ) (f g : Forest) → length (b ++ c) ≤ 2 ^ 40 → IsReading framing b f
-      → IsReading framing (b ++ c) g → IsPrefixOf (text f) (text g)
+      → IsReading framing (b ++ c) g
+      → IsPrefixOf ((show_job rules framing text_of).text f) ((show_job rules framing text_of).text g)
   goes_on b c f g few r s =
       let more : (others : List EventValue) × AreEqualJoined (events g) (events f ++ others) =
       events-prefix framing b c f g r s in
       let rest : List ℕ = (effect_of next (effect_of next first (events f)).state more.0).put in
-      let shorter : (effect_of next first (events f)).put ≡ text f =
+      let shorter : (effect_of next first (events f)).put ≡ (show_job rules framing text_of).text f =
       w.put b f (omega (arith, few, length-append b c)) r in (
         rest,
         ap (λ (l : List ℕ). l ++ rest) (sym shorter) ∙ sym (put_both first (events f) more.0)
@@ -40,15 +46,17 @@ module _ {S : Type 0} (next : S → EventValue → Effect S) (first : S) (framin
 
 pub dumps_on : DumpsGoOn
 dumps_on options names b c f g few r s =
-    goes_on dump_step (new_dump options.rules (top_layout options) names) options.framing
-    (dump_job options names).text _ (λ (t : DumpState). t.finder.count) (dumps options names)
+    goes_on dump_step (new_dump options.rules (top_layout options) names) options.rules options.framing
+    (item_text (finite.get names) (top_layout options)) (λ (t : DumpState). t.finder.finding_count)
+    (dumps options names)
     (followed-alike dump_step (each_octet-joins dump_octet_step) (λ s. refl) (each_octet-goes_on dump_octet_step)
     (each_octet-joins dump_padding_step) (λ s. refl) (each_octet-goes_on dump_padding_step))
     b c f g few r s
 
 pub checks_on : ChecksGoOn
 checks_on rules framing b c f g few r s =
-    goes_on check_step (new_check rules) framing _ _ (λ (t : FinderState). t.count) (checks rules framing)
+    goes_on check_step (new_check rules) rules framing check_line (λ (t : CheckState). t.finding_count)
+    (checks rules framing)
     (followed-alike check_step (each_octet-joins check_octet_step) (λ s. refl) (each_octet-goes_on check_octet_step)
     (λ s x y. refl) (λ s. refl) (λ s x. refl))
     b c f g few r s

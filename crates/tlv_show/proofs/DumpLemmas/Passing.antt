@@ -17,17 +17,17 @@ use Rattle.tlv_walk.specs.Follow.{whole_events}
 use Rattle.tlv_io.specs.Out.{Puts}
 use Rattle.tlv_walk.proofs.FollowerLemmas.Followed.{followed-one}
 use Rattle.tlv_io.proofs.Puts.{puts_nothing, puts_text}
-use Rattle.tlv_show.specs.declared.sibling_frame.SiblingFrame.{SiblingFrame}
+use Rattle.tlv_show.specs.declared.holder_frame.HolderFrame.{HolderFrame}
 use Rattle.tlv_show.specs.declared.finding_lines.Style.TheVariants.{Check}
 use Rattle.tlv_show.specs.CheckStep.{check_step, findings_effect}
 use Rattle.tlv_show.specs.FindingLines.{styled_lines}
-use Rattle.tlv_show.specs.FinderState.{FinderState, FinderReport, finder_begin_step, finder_bytes_step}
-use Rattle.tlv_show.specs.NestingState.{frame_after, frame_after_segment, surroundings_in}
+use Rattle.tlv_show.specs.FinderState.{CheckState, FinderState, finder_begin_step, finder_bytes_step}
+use Rattle.tlv_show.specs.NestingState.{depth_in, frame_after, frame_after_segment, surroundings_in}
 use Rattle.tlv_show.specs.Private.FinderState.{PassesOrStays, PassesPrimitive, finder_whole_step, with_state}
 use Rattle.tlv_show.specs.Private.UsualTypes.{IsUsual}
 use Rattle.tlv_show.specs.Found.{is_shown, header_findings}
 use Rattle.tlv_show.proofs.FindingLemmas.CheckLaws.{each-found}
-use Rattle.tlv_show.proofs.FindingLemmas.FinderItems.{after_primitive, primitive-find, check_between}
+use Rattle.tlv_show.proofs.FindingLemmas.FinderSteps.{after_primitive, primitive-find, check_between}
 use Rattle.tlv_show.specs.SaturatingSum.{saturating_sum}
 
 -- ---- a finder
@@ -44,83 +44,84 @@ usual_primitive h primitive form = record {
 none-counted : (n : ℕ) → saturating_sum n 0 ≡ n
 none-counted n = omega arith
 
-outside : (w : SiblingFrame) (size : ℕ) (unused : Bool) → w.has_segments ≡ false → frame_after w true size unused ≡ w
-outside w size unused e = ap (λ (b : Bool). if b then frame_after_segment w true size unused else w) e
+outside : (w : HolderFrame) (size : ℕ) (unused_bits : Bool) → w.has_segments ≡ false
+    → frame_after w true size unused_bits ≡ w
+outside w size unused_bits e = ap (λ (b : Bool). if b then frame_after_segment w true size unused_bits else w) e
 
 -- after a primitive with which nothing is found, outside of strings
-abbrev without_primitive : FinderState → FinderState
+abbrev without_primitive : CheckState → CheckState
 without_primitive s = record s { open_primitive = None }
 
-pub passed : (s : FinderState) (h : HeaderValue) (c : List ℕ) → announced_length h.size ≡ length c
+pub passed : (s : CheckState) (h : HeaderValue) (c : List ℕ) → announced_length h.size ≡ length c
     → s.holders.frame.has_segments ≡ false
     → header_findings s.rules (surroundings_in s.holders.frame) h ≡ [] → findings_on_contents h c ≡ []
     → finder_whole_step s h c ≡ record {
-      state = without_primitive s;
-      level = length s.holders.outer;
+      kept = without_primitive s;
+      level = depth_in s.holders;
       offset = h.offset;
-      found = [];
+      findings = [];
     }
 passed s h c size w header contents =
-    let made : SiblingFrame → ℕ → List Finding
-    → FinderReport = λ (f : SiblingFrame) (n : ℕ) (fs : List Finding). record {
-      state = check_between s.rules f s.holders.outer (saturating_sum n (length fs));
-      level = length s.holders.outer;
+    let made : HolderFrame → ℕ → List Finding
+    → FinderState = λ (f : HolderFrame) (n : ℕ) (fs : List Finding). record {
+      kept = check_between s.rules f s.holders.outer (saturating_sum n (length fs));
+      level = depth_in s.holders;
       offset = h.offset;
-      found = fs;
+      findings = fs;
     } in
-    primitive-find s.rules s.holders.frame s.holders.outer s.count h c (sym size)
+    primitive-find s.rules s.holders.frame s.holders.outer s.finding_count h c (sym size)
     ∙ ap (λ (fs : List Finding). made (after_primitive s.rules s.holders.frame h c)
-    (saturating_sum s.count (length (header_findings s.rules (surroundings_in s.holders.frame) h)))
+    (saturating_sum s.finding_count (length (header_findings s.rules (surroundings_in s.holders.frame) h)))
     (filter (is_shown s.rules) fs))
     contents
     ∙ ap (λ (fs : List Finding). made (after_primitive s.rules s.holders.frame h c)
-    (saturating_sum s.count (length fs)) [])
+    (saturating_sum s.finding_count (length fs)) [])
     header
-    ∙ ap (λ (f : SiblingFrame). made f (saturating_sum s.count 0) []) (outside s.holders.frame _ _ w)
+    ∙ ap (λ (f : HolderFrame). made f (saturating_sum s.finding_count 0) []) (outside s.holders.frame _ _ w)
     ∙ ap (λ (n : ℕ).
     record {
-      state =
+      kept =
           check_between s.rules s.holders.frame s.holders.outer n;
       level =
-          length s.holders.outer;
+          depth_in s.holders;
       offset = h.offset;
-      found = [];
+      findings = [];
     })
-    (none-counted (saturating_sum s.count 0) ∙ none-counted s.count)
+    (none-counted (saturating_sum s.finding_count 0) ∙ none-counted s.finding_count)
 
-pub passes : (old new : FinderReport) (h : HeaderValue) (c : List ℕ) → announced_length h.size ≡ length c
-    → old.state.holders.frame.has_segments ≡ false
-    → header_findings old.state.rules (surroundings_in old.state.holders.frame) h ≡ [] → findings_on_contents h c ≡ []
-    → new ≡ with_state (without_primitive old.state) old → PassesPrimitive old new h c
+pub passes : (old new : FinderState) (h : HeaderValue) (c : List ℕ) → announced_length h.size ≡ length c
+    → old.kept.holders.frame.has_segments ≡ false
+    → header_findings old.kept.rules (surroundings_in old.kept.holders.frame) h ≡ [] → findings_on_contents h c ≡ []
+    → new ≡ with_state (without_primitive old.kept) old → PassesPrimitive old new h c
 passes old new h c size w header contents e =
-    let all = passed old.state h c size w header contents in
+    let all = passed old.kept h c size w header contents in
     record {
       begins = header;
-      ends = ap (λ (f : FinderReport). f.found) all;
-      state = e ∙ ap (λ (f : FinderReport). with_state f.state old) (sym all);
+      ends = ap (λ (f : FinderState). f.findings) all;
+      state = e ∙ ap (λ (f : FinderState). with_state f.kept old) (sym all);
     }
 
 -- ---- a check
 
-lists-none : (f : FinderReport) → f.found ≡ [] → findings_effect f ≡ no_effect f.state
+lists-none : (f : FinderState) → f.findings ≡ [] → findings_effect f ≡ no_effect f.kept
 lists-none f e =
-    ap (λ (l : List Finding). record { state = f.state; put = styled_lines Check f.level f.offset l; goes = go.On }) e
+    ap (λ (l : List Finding). record { state = f.kept; put = styled_lines Check f.level f.offset l; goes = go.On }) e
 
-whole-checked : (s : FinderState) (h : HeaderValue) (o : List ℕ) → (finder_begin_step s h).found ≡ []
-    → (finder_whole_step s h (contents_in h o)).found ≡ []
-    → effect_of check_step s (whole_events h o) ≡ no_effect (finder_whole_step s h (contents_in h o)).state
+whole-checked : (s : CheckState) (h : HeaderValue) (o : List ℕ) → (finder_begin_step s h).findings ≡ []
+    → (finder_whole_step s h (contents_in h o)).findings ≡ []
+    → effect_of check_step s (whole_events h o) ≡ no_effect (finder_whole_step s h (contents_in h o)).kept
 whole-checked s h o begins ends =
     let c : List ℕ = contents_in h o in
-    let t : FinderState = (finder_begin_step s h).state in
-    ap (λ (k : Effect FinderState). effect_if_more k.goes k (λ u. effect_of check_step u (Bytes c ∷ End ∷ [])))
+    let t : CheckState = (finder_begin_step s h).kept in
+    ap (λ (k : Effect CheckState). effect_if_more k.goes k (λ u. effect_of check_step u (Bytes c ∷ End ∷ [])))
     (lists-none (finder_begin_step s h) begins)
-    ∙ ap (λ (k : Effect FinderState). effect_if_more k.goes k (λ u. effect_of check_step u (End ∷ []))) (each-found t c)
+    ∙ ap (λ (k : Effect CheckState). effect_if_more k.goes k (λ u. effect_of check_step u (End ∷ []))) (each-found t c)
     ∙ followed-one check_step (finder_bytes_step t c) End
     ∙ lists-none (finder_whole_step s h c) ends
 
-module _ {D : Type 0} (state_of : D → DrainState) (a : Out D) (s : FinderState) (old new : FinderReport)
+module _ {D : Type 0} (state_of : D → DrainState) (a : Out D) (s : CheckState) (old new : FinderState)
     (h : HeaderValue) (o : List ℕ) where
-  pub whole-put : (x : Bool) (c : List ℕ) → s ≡ old.state → c ≡ contents_in h o → PassesOrStays old new h c x
+  pub whole-put : (x : Bool) (c : List ℕ) → s ≡ old.kept → c ≡ contents_in h o → PassesOrStays old new h c x
       → Puts {T = Bool} {E = WriteFault} state_of a a
       (put_if_followed {E = WriteFault} (Ok x) (effect_of check_step s (whole_events h o)).put) (Ok x)
   whole-put false c e same p = puts_nothing state_of a false
@@ -128,17 +129,17 @@ module _ {D : Type 0} (state_of : D → DrainState) (a : Out D) (s : FinderState
       let p = subst (λ (l : List ℕ). PassesPrimitive old new h l) same q in
       rw e
       (puts_text state_of a a [] _ (Ok true)
-      (sym (ap (λ (k : Effect FinderState). k.put) (whole-checked old.state h o p.begins p.ends)))
+      (sym (ap (λ (k : Effect CheckState). k.put) (whole-checked old.kept h o p.begins p.ends)))
       (puts_nothing state_of a true))
 
-pub whole-state : (s t : FinderState) (old new : FinderReport) (h : HeaderValue) (o c : List ℕ) (x : Bool)
-    → s ≡ old.state → t ≡ new.state → c ≡ contents_in h o → PassesOrStays old new h c x
+pub whole-state : (s t : CheckState) (old new : FinderState) (h : HeaderValue) (o c : List ℕ) (x : Bool)
+    → s ≡ old.kept → t ≡ new.kept → c ≡ contents_in h o → PassesOrStays old new h c x
     → HasEffectOrNone {E = WriteFault} (effect_of check_step s (whole_events h o)) s t (Ok x)
-whole-state s t old new h o c false e f same p = f ∙ ap (λ (u : FinderReport). u.state) p ∙ sym e
+whole-state s t old new h o c false e f same p = f ∙ ap (λ (u : FinderState). u.kept) p ∙ sym e
 whole-state s t old new h o c true e f same q =
     let p = subst (λ (l : List ℕ). PassesPrimitive old new h l) same q in
-    let all = whole-checked old.state h o p.begins p.ends in
+    let all = whole-checked old.kept h o p.begins p.ends in
     rw (e, f) (
-      ap (λ (u : FinderReport). u.state) p.state ∙ sym (ap (λ (k : Effect FinderState). k.state) all),
-      ap (λ (k : Effect FinderState). k.goes) all,
+      ap (λ (u : FinderState). u.kept) p.state ∙ sym (ap (λ (k : Effect CheckState). k.state) all),
+      ap (λ (k : Effect CheckState). k.goes) all,
     )

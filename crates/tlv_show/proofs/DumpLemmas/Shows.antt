@@ -11,35 +11,29 @@ use Rattle.tlv_io.specs.Device.{DrainState, SourceState}
 use Rattle.tlv_walk.specs.DriveJob.{Drives, drive_job, drive_states, enough_run, whole_run}
 use Rattle.tlv_walk.specs.Events.{EventValue, events}
 use Rattle.tlv_walk.specs.Follow.{Effect, effect_of, followed_events, had_enough}
-use Rattle.tlv_walk.specs.Forest.{Forest}
-use Rattle.tlv_walk.specs.Job.{Job, Runs, device_states}
+use Rattle.tlv_walk.specs.Forest.{Forest, spelling}
+use Rattle.tlv_walk.specs.Job.{Runs, device_states}
 use Rattle.tlv_walk.specs.Reading.{IsReading}
 use Rattle.tlv_walk.specs.Wrappers.{first_without_wrapper}
 use Rattle.tlv_walk.proofs.FollowerLemmas.Jobs as jobs
 use Rattle.tlv_show.specs.declared.outcome.Outcome.{Outcome}
+use Rattle.tlv_show.specs.declared.rules.Rules.{Rules}
+use Rattle.tlv_show.specs.Items.{Item}
+use Rattle.tlv_show.specs.ShowJob.{show_job}
+use Rattle.tlv_show.specs.Texts.{finding_count}
 
--- of all elements this text is written, and so many findings are counted
-abbrev pub showing : Framing → (Forest → List ℕ) → (Forest → ℕ) → Job Outcome
-showing framing text count = record {
-  framing = framing;
-  limit = 2 ^ 40;
-  text = text;
-  is_enough = λ f. false;
-  result = λ f e. record { ending = e; findings = count f; unused = first_without_wrapper framing.inside f };
-}
-
--- a follower, and what it makes of readings: a text, and a count in its state
-pub record Shower {S : Type 0} (next : S → EventValue → Effect S) (first : S) (framing : Framing)
-    (text : Forest → List ℕ) (count : Forest → ℕ) (count_in : S → ℕ) : Type 0 where
+-- a follower, and what it makes of readings: the text of their items, and in its state the number of findings
+pub record Shower {S : Type 0} (next : S → EventValue → Effect S) (first : S) (rules : Rules)
+    (framing : Framing) (text_of : Item → List ℕ) (count_in : S → ℕ) : Type 0 where
   pub goes_on : (s : S) (es : List EventValue) → (effect_of next s es).goes ≡ go.On
   pub put : (octets : List ℕ) (f : Forest) → length octets ≤ 2 ^ 40 → IsReading framing octets f
-      → (effect_of next first (events f)).put ≡ text f
+      → (effect_of next first (events f)).put ≡ (show_job rules framing text_of).text f
   pub counts : (octets : List ℕ) (f : Forest) → length octets ≤ 2 ^ 40 → IsReading framing octets f
-      → count_in (effect_of next first (events f)).state ≡ count f
+      → count_in (effect_of next first (events f)).state ≡ finding_count rules f
 
-module _ {S : Type 0} (next : S → EventValue → Effect S) (first : S) (framing : Framing) (text : Forest → List ℕ)
-    (count : Forest → ℕ) (count_in : S → ℕ)
-    (w : Shower next first framing text count count_in) (t : S) (old new : SourceState) (from to : DrainState) where
+module _ {S : Type 0} (next : S → EventValue → Effect S) (first : S) (rules : Rules) (framing : Framing)
+    (text_of : Item → List ℕ) (count_in : S → ℕ)
+    (w : Shower next first rules framing text_of count_in) (t : S) (old new : SourceState) (from to : DrainState) where
   -- it never has enough
   goes_on : (octets : List ℕ) (f : Forest) → length octets ≤ 2 ^ 40 → IsReading framing octets f
       → had_enough (effect_of next first (events f)).goes ≡ false
@@ -65,15 +59,16 @@ module _ {S : Type 0} (next : S → EventValue → Effect S) (first : S) (framin
   pub shows_ok : (run : Run) (outcome : Outcome) → outcome.ending ≡ run.ending → outcome.findings ≡ count_in t
       → outcome.unused ≡ run.unused
       → Drives next framing (2 ^ 40) (drive_states first old from) (drive_states t new to) (Ok run)
-      → Runs (showing framing text count) (device_states old from) (device_states new to) (Ok outcome)
+      → Runs (show_job rules framing text_of) (device_states old from) (device_states new to) (Ok outcome)
   shows_ok run outcome ending findings unused x =
-      jobs.runs_ok next (showing framing text count) first w.put goes_on t old new from to run outcome x
-      (λ octets f e few r done state is. outcome_is outcome e (count f) (first_without_wrapper framing.inside f)
+      jobs.runs_ok next (show_job rules framing text_of) first w.put goes_on t old new from to run outcome x
+      (λ octets f e few r done state is. outcome_is outcome e (finding_count rules f)
+      (first_without_wrapper framing.inside f)
       (ending ∙ ap (λ (k : Run). k.ending) (is ∙ run_on f e))
       (findings ∙ ap count_in state ∙ w.counts octets f few r)
       (unused ∙ ap (λ (k : Run). k.unused) (is ∙ run_on f e)))
 
   pub shows_err : (e : DeviceFault)
       → Drives next framing (2 ^ 40) (drive_states first old from) (drive_states t new to) (Err e)
-      → Runs (showing framing text count) (device_states old from) (device_states new to) (Err e)
-  shows_err e x = jobs.runs_err next (showing framing text count) first w.put goes_on t old new from to e x
+      → Runs (show_job rules framing text_of) (device_states old from) (device_states new to) (Err e)
+  shows_err e x = jobs.runs_err next (show_job rules framing text_of) first w.put goes_on t old new from to e x

@@ -19,7 +19,7 @@ use Rattle.tlv_show.specs.FindingLines.{styled_lines}
 use Rattle.tlv_show.specs.LinesStep.{LinesState}
 use Rattle.tlv_show.specs.Private.LinesStep.{lines_after_primitive}
 use Rattle.tlv_show.specs.DumpStep.{DumpState, dump_step}
-use Rattle.tlv_show.specs.FinderState.{FinderState, FinderReport, finder_begin_step}
+use Rattle.tlv_show.specs.FinderState.{CheckState, FinderState, finder_begin_step}
 use Rattle.tlv_show.specs.Private.FinderState.{PassesOrStays, PassesPrimitive, finder_whole_step}
 use Rattle.tlv_show.proofs.DumpLemmas.DumpEvents.{dump_state, primitive-by, texts}
 use Rattle.tlv_show.proofs.DumpLemmas.DumpTexts.{primitives_shown}
@@ -28,17 +28,17 @@ abbrev pub lines_of : DumpState → HeaderValue → List ℕ → List ℕ
 lines_of s h c = whole_lines (finite.get s.lines.names) h s.lines.layout c
 
 abbrev pub after_whole : DumpState → HeaderValue → List ℕ → DumpState
-after_whole s h c = dump_state (lines_after_primitive s.lines h c) (finder_whole_step s.finder h c).state
+after_whole s h c = dump_state (lines_after_primitive s.lines h c) (finder_whole_step s.finder h c).kept
 
 pub whole_is : (s : DumpState) (h : HeaderValue) (c : List ℕ) → announced_length h.size ≡ length c
-    → (finder_begin_step s.finder h).found ≡ [] → (finder_whole_step s.finder h c).found ≡ []
+    → (finder_begin_step s.finder h).findings ≡ [] → (finder_whole_step s.finder h c).findings ≡ []
     → effect_of dump_step s (Begin h ∷ Bytes c ∷ End ∷ []) ≡ effect_with (after_whole s h c) (lines_of s h c)
 whole_is s h c size begins ends =
-    let b : FinderReport = finder_begin_step s.finder h in
-    let f : FinderReport = finder_whole_step s.finder h c in
+    let b : FinderState = finder_begin_step s.finder h in
+    let f : FinderState = finder_whole_step s.finder h c in
     let style = Dump s.lines.layout.pure in
     primitive-by s.lines s.finder h c
-    ∙ ap (λ (d : Effect LinesState). effect_with (dump_state d.state f.state)
+    ∙ ap (λ (d : Effect LinesState). effect_with (dump_state d.state f.kept)
     (texts s.lines.layout b ++ (d.put ++ texts s.lines.layout f)))
     (primitives_shown s.lines h c size)
     ∙ ap₂
@@ -49,21 +49,21 @@ whole_is s h c size begins ends =
 
 -- the events of its octets
 pub octets_are : (s : DumpState) (h : HeaderValue) (o c : List ℕ) → c ≡ contents_in h o
-    → announced_length h.size ≡ length c → (finder_begin_step s.finder h).found ≡ []
-    → (finder_whole_step s.finder h c).found ≡ []
+    → announced_length h.size ≡ length c → (finder_begin_step s.finder h).findings ≡ []
+    → (finder_whole_step s.finder h c).findings ≡ []
     → effect_of dump_step s (whole_events h o) ≡ effect_with (after_whole s h c) (lines_of s h c)
 octets_are s h o c same size begins ends =
     ap (λ (l : List ℕ). effect_of dump_step s (Begin h ∷ Bytes l ∷ End ∷ [])) (sym same)
     ∙ whole_is s h c size begins ends
 
 -- if a finder took the primitive
-took : (old new : FinderReport) (h : HeaderValue) (c : List ℕ) (x : Bool) → x ≡ true → PassesOrStays old new h c x
+took : (old new : FinderState) (h : HeaderValue) (c : List ℕ) (x : Bool) → x ≡ true → PassesOrStays old new h c x
     → PassesPrimitive old new h c
 took old new h c true e p = p
 took old new h c false e p = absurd (true≢false (sym e))
 
-module _ (s u : DumpState) (old new : FinderReport) (h : HeaderValue) (o c : List ℕ) (x : Bool) (is : u ≡ s)
-    (finder : u.finder ≡ old.state) (same : c ≡ contents_in h o) (whole : IsWholeElement h o)
+module _ (s u : DumpState) (old new : FinderState) (h : HeaderValue) (o c : List ℕ) (x : Bool) (is : u ≡ s)
+    (finder : u.finder ≡ old.kept) (same : c ≡ contents_in h o) (whole : IsWholeElement h o)
     (on : x ≡ true) (passes : PassesOrStays old new h c x) where
   pub made_is : effect_of dump_step s (whole_events h o) ≡ effect_with (after_whole u h c) (lines_of u h c)
   made_is =
@@ -71,12 +71,13 @@ module _ (s u : DumpState) (old new : FinderReport) (h : HeaderValue) (o c : Lis
       ap (λ (v : DumpState). effect_of dump_step v (whole_events h o)) (sym is)
       ∙ octets_are u h o c same (whole.contents ∙ ap length (sym same)) (rw finder p.begins) (rw finder p.ends)
 
-  pub stands_after : (l : LinesState) → l ≡ lines_after_primitive u.lines h c → dump_state l new.state ≡ after_whole u h c
+  pub stands_after : (l : LinesState) → l ≡ lines_after_primitive u.lines h c
+      → dump_state l new.kept ≡ after_whole u h c
   stands_after l e =
       let p = took old new h c x on passes in
       ap₂ dump_state e
-      (ap (λ (f : FinderReport). f.state) p.state
-      ∙ ap (λ (f : FinderState). (finder_whole_step f h c).state) (sym finder))
+      (ap (λ (f : FinderState). f.kept) p.state
+      ∙ ap (λ (f : CheckState). (finder_whole_step f h c).kept) (sym finder))
 
 -- ---- by a call that may leave them to others
 

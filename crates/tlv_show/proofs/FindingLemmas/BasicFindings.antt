@@ -11,16 +11,16 @@ use Rattle.tlv_walk.specs.Forest.{OpenBitString, OpenHeader, OpenEndOctets}
 use Rattle.tlv_show.specs.declared.rules.Rules.{Rules}
 use Rattle.tlv_show.specs.declared.rules.Rules.TheVariants.{Ber, Der, Cer}
 use Rattle.tlv_show.specs.Conditions.{end_conditions, header_conditions, segments_of, surroundings_of}
-use Rattle.tlv_show.specs.Found.{contents_findings, is_shown, end_findings}
+use Rattle.tlv_show.specs.Found.{is_shown}
 use Rattle.tlv_show.specs.Items.{Item, FindingAt, OpeningLine, ClosingLine, PrimitiveLines, OpenPrimitiveLines}
 use Rattle.tlv_show.specs.Items.{PaddingLine, headers, items}
-use Rattle.tlv_show.proofs.FindingLemmas.ElementItems.{findings_at}
+use Rattle.tlv_show.specs.Items.{contents_items, end_items, finding_items}
 use Rattle.tlv_show.specs.Laws.{BasicFindingsStay, is_basic}
 use Rattle.tlv_show.specs.Site.{Site, is_padding, site_of_children, top_site}
-use Rattle.tlv_show.proofs.FindingLemmas.SitesAfter.{site_after, site_after_holder, site_after_padding}
+use Rattle.tlv_show.specs.Site.{site_after_primitive, site_after_holder, site_after_padding}
 use Rattle.tlv_show.specs.Texts.{check_line}
 use Rattle.tlv_show.proofs.FindingLemmas.CheckFolds.{only-written}
-use Rattle.tlv_show.proofs.FindingLemmas.FinderItems.{only, only-findings_at}
+use Rattle.tlv_show.proofs.FindingLemmas.FinderItems.{only, only-finding_items}
 
 -- each letter of BER is one of the other rules
 among-more : (k others : Bool) → (k || false) ≡ true → (k || others) ≡ true
@@ -38,29 +38,29 @@ module _ (rules : Rules) where
 
   -- findings, and then other items
   basic-found : (level offset : ℕ) (fs : List Finding) (rest : List Item)
-      → basic (findings_at level offset (filter (is_shown rules) fs) ++ rest)
-      ≡ findings_at level offset (filter (is_shown Ber) fs) ++ basic rest
+      → basic (finding_items level offset (filter (is_shown rules) fs) ++ rest)
+      ≡ finding_items level offset (filter (is_shown Ber) fs) ++ basic rest
   basic-found level offset [] rest = refl
   basic-found level offset (x ∷ fs) rest =
       by-tests (is_shown Ber x) (is_shown rules x) refl refl (still-shown rules x) (basic-found level offset fs rest)
     where
       by-tests : (b r : Bool) → is_shown Ber x ≡ b → is_shown rules x ≡ r
           → (is_shown Ber x ≡ true → is_shown rules x ≡ true)
-          → basic (findings_at level offset (filter (is_shown rules) fs) ++ rest)
-          ≡ findings_at level offset (filter (is_shown Ber) fs) ++ basic rest
-          → basic (findings_at level offset (filter (is_shown rules) (x ∷ fs)) ++ rest)
-          ≡ findings_at level offset (filter (is_shown Ber) (x ∷ fs)) ++ basic rest
+          → basic (finding_items level offset (filter (is_shown rules) fs) ++ rest)
+          ≡ finding_items level offset (filter (is_shown Ber) fs) ++ basic rest
+          → basic (finding_items level offset (filter (is_shown rules) (x ∷ fs)) ++ rest)
+          ≡ finding_items level offset (filter (is_shown Ber) (x ∷ fs)) ++ basic rest
       by-tests true true e f g h = rw (f, e) (ap (λ (l : List Item). FindingAt level offset x ∷ l) h)
       by-tests true false e f g h = absurd (cc (e, f, g e))
       by-tests false true e f g h = rw (f, e) h
       by-tests false false e f g h = rw (f, e) h
 
   same-found : (level offset : ℕ) (fs : List Finding) (xs ys : List Item) → only xs ≡ basic ys
-      → only (findings_at level offset (filter (is_shown Ber) fs) ++ xs)
-      ≡ basic (findings_at level offset (filter (is_shown rules) fs) ++ ys)
+      → only (finding_items level offset (filter (is_shown Ber) fs) ++ xs)
+      ≡ basic (finding_items level offset (filter (is_shown rules) fs) ++ ys)
   same-found level offset fs xs ys e =
-      only-findings_at level offset (filter (is_shown Ber) fs) xs
-      ∙ ap (λ (l : List Item). findings_at level offset (filter (is_shown Ber) fs) ++ l) e
+      only-finding_items level offset (filter (is_shown Ber) fs) xs
+      ∙ ap (λ (l : List Item). finding_items level offset (filter (is_shown Ber) fs) ++ l) e
       ∙ sym (basic-found level offset fs ys)
 
   same-pads : (k : Bool) (level offset : ℕ) (xs ys : List Item) → only xs ≡ basic ys
@@ -75,16 +75,15 @@ module _ (rules : Rules) where
   same s (Primitive h c rest) =
       same-found s.level h.offset (findings_by (header_conditions (surroundings_of s) h))
       (PrimitiveLines s.level h c
-      ∷ (findings_at s.level h.offset (contents_findings Ber h c) ++ items Ber (site_after s h c) rest))
+      ∷ (contents_items Ber s h c ++ items Ber (site_after_primitive s h c) rest))
       (PrimitiveLines s.level h c
-      ∷ (findings_at s.level h.offset (contents_findings rules h c) ++ items rules (site_after s h c) rest))
-      (same-found s.level h.offset (findings_on_contents h c) _ _ (same (site_after s h c) rest))
+      ∷ (contents_items rules s h c ++ items rules (site_after_primitive s h c) rest))
+      (same-found s.level h.offset (findings_on_contents h c) _ _ (same (site_after_primitive s h c) rest))
   same s (Holder h inside rest) =
       let last : Rules
       → List Item =
       λ r. ClosingLine s.level (if h.constructed then end_octets_offset h inside else None)
-      ∷ (findings_at s.level h.offset (end_findings r (segments_of h (headers inside)))
-      ++ items r (site_after_holder s h inside) rest) in
+      ∷ (end_items r s h inside ++ items r (site_after_holder s h inside) rest) in
       same-found s.level h.offset (findings_by (header_conditions (surroundings_of s) h))
       (OpeningLine s.level h ∷ (items Ber (site_of_children s h) inside ++ last Ber))
       (OpeningLine s.level h ∷ (items rules (site_of_children s h) inside ++ last rules))

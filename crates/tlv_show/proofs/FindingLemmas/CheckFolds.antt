@@ -22,51 +22,53 @@ use Rattle.tlv_walk.specs.Place.{IsOpen, Place, place_after, place_of_children, 
 use Rattle.tlv_walk.specs.Reading.{IsReading}
 use Rattle.tlv_walk.proofs.GrammarLemmas.PopHeaders.{header-length}
 use Rattle.tlv_walk.proofs.GrammarLemmas.Spellings.{length-holder, length-opening, length-primitive}
-use Rattle.tlv_show.specs.declared.sibling_frame.SiblingFrame.{SiblingFrame}
+use Rattle.tlv_show.specs.declared.holder_frame.HolderFrame.{HolderFrame}
 use Rattle.tlv_show.specs.declared.rules.Rules.{Rules}
 use Rattle.tlv_show.specs.declared.finding_lines.Style.TheVariants.{Check}
 use Rattle.tlv_show.specs.CheckJob.{check_job}
 use Rattle.tlv_show.specs.CheckStep.{check_step}
 use Rattle.tlv_show.specs.FindingLines.{styled_lines}
 use Rattle.tlv_show.specs.Conditions.{end_conditions, header_conditions, segments_of, surroundings_of}
-use Rattle.tlv_show.specs.FinderState.{FinderState, FinderReport, OpenPrimitiveState, finder_frame_end_step}
+use Rattle.tlv_show.specs.FinderState.{CheckState, FinderState, OpenPrimitiveState, finder_frame_end_step}
 use Rattle.tlv_show.specs.FinderState.{finder_primitive_end_step, new_check, open_primitive_after}
 use Rattle.tlv_show.specs.NestingState.{top_frame}
 use Rattle.tlv_show.specs.Private.FinderState.{finder_step}
 use Rattle.tlv_show.specs.Found.{contents_findings, header_findings, is_shown, end_findings}
 use Rattle.tlv_show.specs.Items.{Item, FindingAt, OpeningLine, ClosingLine, PrimitiveLines, OpenPrimitiveLines}
 use Rattle.tlv_show.specs.Items.{PaddingLine, headers, items}
-use Rattle.tlv_show.proofs.FindingLemmas.ElementItems.{findings_at}
+use Rattle.tlv_show.specs.Items.{contents_items, end_items, finding_items}
 use Rattle.tlv_show.specs.Site.{Site, is_padding, site_of_children, top_site}
-use Rattle.tlv_show.proofs.FindingLemmas.SitesAfter.{site_after, site_after_holder, site_after_padding}
+use Rattle.tlv_show.specs.Site.{site_after_primitive, site_after_holder, site_after_padding}
 use Rattle.tlv_show.specs.Texts.{check_line, finding_count, is_finding}
 use Rattle.tlv_show.proofs.FindingLemmas.CheckLaws.{step-is}
-use Rattle.tlv_show.proofs.FindingLemmas.FinderItems.{FinderRun, finds_forest, found_items, only, run_finder}
+use Rattle.tlv_show.proofs.FindingLemmas.FinderItems.{finds_forest, only}
+use Rattle.tlv_show.proofs.FindingLemmas.FinderSteps.{FinderRun, found_items, run_finder}
 use Rattle.tlv_show.proofs.DumpLemmas.Shows.{Shower}
 use Rattle.tlv_show.specs.SaturatingSum.{saturating_sum}
 
 -- ---- lines
 
 written-items : (level offset : ℕ) (fs : List Finding)
-    → flat_map check_line (findings_at level offset fs) ≡ styled_lines Check level offset fs
+    → flat_map check_line (finding_items level offset fs) ≡ styled_lines Check level offset fs
 written-items level offset [] = refl
 written-items level offset (f ∷ fs) =
     ap (λ (l : List ℕ). check_line (FindingAt level offset f) ++ l) (written-items level offset fs)
 
 -- what a check makes of events: what the finder reports of them, listed
-abbrev pub listed_run : FinderRun → Effect FinderState
+abbrev pub listed_run : FinderRun → Effect CheckState
 listed_run u = record { state = u.state; put = flat_map check_line u.put; goes = go.On }
 
-pub followed-run : (s : FinderState) (es : List EventValue) → effect_of check_step s es ≡ listed_run (run_finder s es)
+pub followed-run : (s : CheckState) (es : List EventValue) → effect_of check_step s es ≡ listed_run (run_finder s es)
 followed-run s [] = refl
 followed-run s (e ∷ es) =
-    let f : FinderReport = finder_step s e in
-    ap (λ (t : Effect FinderState). effect_if_more t.goes t (λ u. effect_of check_step u es)) (step-is s e)
-    ∙ ap (λ (t : Effect FinderState). record t { put = styled_lines Check f.level f.offset f.found ++ t.put })
-    (followed-run f.state es)
-    ∙ ap (λ (l : List ℕ). record { state = (run_finder f.state es).state; put = l; goes = go.On })
-    (ap (λ (l : List ℕ). l ++ flat_map check_line (run_finder f.state es).put) (sym (written-items f.level f.offset f.found))
-    ∙ sym (flat_map-append check_line (found_items f) (run_finder f.state es).put))
+    let f : FinderState = finder_step s e in
+    ap (λ (t : Effect CheckState). effect_if_more t.goes t (λ u. effect_of check_step u es)) (step-is s e)
+    ∙ ap (λ (t : Effect CheckState). record t { put = styled_lines Check f.level f.offset f.findings ++ t.put })
+    (followed-run f.kept es)
+    ∙ ap (λ (l : List ℕ). record { state = (run_finder f.kept es).state; put = l; goes = go.On })
+    (ap (λ (l : List ℕ). l ++ flat_map check_line (run_finder f.kept es).put)
+    (sym (written-items f.level f.offset f.findings))
+    ∙ sym (flat_map-append check_line (found_items f) (run_finder f.kept es).put))
 
 pub only-written : (l : List Item) → flat_map check_line (only l) ≡ flat_map check_line l
 only-written [] = refl
@@ -86,51 +88,52 @@ count-none n = omega arith
 count-more : (n m k : ℕ) → saturating_sum (saturating_sum n m) k ≡ saturating_sum n (m + k)
 count-more n m k = omega arith
 
-either-count : (a b : FinderState) (k : Bool) → a.count ≡ b.count → (if k then b else a).count ≡ a.count
+either-count : (a b : CheckState) (k : Bool) → a.finding_count ≡ b.finding_count
+    → (if k then b else a).finding_count ≡ a.finding_count
 either-count a b true e = sym e
 either-count a b false e = refl
 
-by-primitive : (s : FinderState) (v : Option OpenPrimitiveState)
-    → (finder_primitive_end_step s v).state.count
-    ≡ saturating_sum s.count (length (finder_primitive_end_step s v).found)
-by-primitive s None = count-none s.count
+by-primitive : (s : CheckState) (v : Option OpenPrimitiveState)
+    → (finder_primitive_end_step s v).kept.finding_count
+    ≡ saturating_sum s.finding_count (length (finder_primitive_end_step s v).findings)
+by-primitive s None = count-none s.finding_count
 by-primitive s (Some v) = refl
 
-by-frames : (s : FinderState) (outer : List SiblingFrame)
-    → (finder_frame_end_step s outer).state.count
-    ≡ saturating_sum s.count (length (finder_frame_end_step s outer).found)
-by-frames s [] = count-none s.count
+by-frames : (s : CheckState) (outer : List HolderFrame)
+    → (finder_frame_end_step s outer).kept.finding_count
+    ≡ saturating_sum s.finding_count (length (finder_frame_end_step s outer).findings)
+by-frames s [] = count-none s.finding_count
 by-frames s (w ∷ outer) = refl
 
 -- an event's findings are counted
-counted-one : (s : FinderState) (e : EventValue)
-    → (finder_step s e).state.count ≡ saturating_sum s.count (length (finder_step s e).found)
+counted-one : (s : CheckState) (e : EventValue)
+    → (finder_step s e).kept.finding_count ≡ saturating_sum s.finding_count (length (finder_step s e).findings)
 counted-one s (Open h) = refl
 counted-one s (Begin h) = refl
 counted-one s (Bytes octets) =
     either-count (record s { open_primitive = open_primitive_after s.open_primitive octets }) s (length octets == 0)
     refl
-    ∙ count-none s.count
+    ∙ count-none s.finding_count
 counted-one s End = by-primitive s s.open_primitive
 counted-one s (Close offset) = by-frames s s.holders.outer
 counted-one s (Enter h) = refl
-counted-one s Unused = count-none s.count
+counted-one s Unused = count-none s.finding_count
 counted-one s Leave = by-frames s s.holders.outer
-counted-one s (Pad octets) = count-none s.count
+counted-one s (Pad octets) = count-none s.finding_count
 
-pub counted-all : (s : FinderState) (es : List EventValue)
-    → (run_finder s es).state.count ≡ saturating_sum s.count (length (run_finder s es).put)
-counted-all s [] = count-none s.count
+pub counted-all : (s : CheckState) (es : List EventValue)
+    → (run_finder s es).state.finding_count ≡ saturating_sum s.finding_count (length (run_finder s es).put)
+counted-all s [] = count-none s.finding_count
 counted-all s (e ∷ es) =
-    let f : FinderReport = finder_step s e in
-    counted-all f.state es
-    ∙ ap (λ (n : ℕ). saturating_sum n (length (run_finder f.state es).put)) (counted-one s e)
-    ∙ count-more s.count (length f.found) (length (run_finder f.state es).put)
-    ∙ ap (saturating_sum s.count)
+    let f : FinderState = finder_step s e in
+    counted-all f.kept es
+    ∙ ap (λ (n : ℕ). saturating_sum n (length (run_finder f.kept es).put)) (counted-one s e)
+    ∙ count-more s.finding_count (length f.findings) (length (run_finder f.kept es).put)
+    ∙ ap (saturating_sum s.finding_count)
     (omega (
       arith,
-      length-append (found_items f) (run_finder f.state es).put,
-      length-map f.found (FindingAt f.level f.offset),
+      length-append (found_items f) (run_finder f.kept es).put,
+      length-map f.findings (FindingAt f.level f.offset),
     ))
 
 -- ---- no count stops
@@ -153,13 +156,13 @@ held-few rules (row ∷ rows) = let e = one-few row.0 (held-few rules rows) in o
 
 module _ (rules : Rules) where
   few-at : (level offset : ℕ) (fs : List Finding) (rest : List Item) (n m : ℕ) → length fs ≤ n
-      → length (only rest) ≤ m → length (only (findings_at level offset fs ++ rest)) ≤ n + m
+      → length (only rest) ≤ m → length (only (finding_items level offset fs ++ rest)) ≤ n + m
   few-at level offset [] rest n m e f = omega (arith, e, f)
   few-at level offset (x ∷ fs) rest n m e f =
       let g = few-after (few-at level offset fs rest (n - 1) m (omega (arith, e)) f) in omega (arith, g)
     where
-      few-after : length (only (findings_at level offset fs ++ rest)) ≤ n - 1 + m
-          → length (only (findings_at level offset fs ++ rest)) + 1 ≤ n + m
+      few-after : length (only (finding_items level offset fs ++ rest)) ≤ n - 1 + m
+          → length (only (finding_items level offset fs ++ rest)) + 1 ≤ n + m
       few-after g = omega (arith, g, e)
 
   few-pads : (k : Bool) (level offset : ℕ) (l : List Item)
@@ -187,11 +190,11 @@ module _ (rules : Rules) where
         few (place_after p 1) (site_after_padding s) rest v.1,
       )
   few p s (Primitive h c rest) v =
-      let r = few (place_after p (length (octets_of h) + length c)) (site_after s h c) rest v.1 in
+      let r = few (place_after p (length (octets_of h) + length c)) (site_after_primitive s h c) rest v.1 in
       let inner : List Item =
-      findings_at s.level h.offset (contents_findings rules h c) ++ items rules (site_after s h c) rest in
+      contents_items rules s h c ++ items rules (site_after_primitive s h c) rest in
       let b =
-      few-at s.level h.offset (contents_findings rules h c) (items rules (site_after s h c) rest) 15
+      few-at s.level h.offset (contents_findings rules h c) (items rules (site_after_primitive s h c) rest) 15
       _ (few-contents h c) r in
       let a =
       few-at s.level h.offset (header_findings rules (surroundings_of s) h) (PrimitiveLines s.level h c ∷ inner)
@@ -201,8 +204,7 @@ module _ (rules : Rules) where
       let i = few (place_of_children p h) (site_of_children s h) inside v.1 in
       let r = few (place_after p (extent h inside)) (site_after_holder s h inside) rest v.2 in
       let last : List Item =
-      findings_at s.level h.offset (end_findings rules (segments_of h (headers inside)))
-      ++ items rules (site_after_holder s h inside) rest in
+      end_items rules s h inside ++ items rules (site_after_holder s h inside) rest in
       let b =
       few-at s.level h.offset (end_findings rules (segments_of h (headers inside)))
       (items rules (site_after_holder s h inside) rest) 2 _ (few-end h inside) r in
@@ -243,7 +245,7 @@ module _ (rules : Rules) where
 
   -- ---- a check
 
-  abbrev start : FinderState
+  abbrev start : CheckState
   start = new_check rules
 
   module _ (framing : Framing) (octets : List ℕ) (f : Forest) (short : length octets ≤ 2 ^ 40)
@@ -253,10 +255,10 @@ module _ (rules : Rules) where
 
     pub text-made : (effect_of check_step start (events f)).put ≡ (check_job rules framing).text f
     text-made =
-        ap (λ (t : Effect FinderState). t.put) (followed-run start (events f)) ∙ ap (flat_map check_line) put-is
+        ap (λ (t : Effect CheckState). t.put) (followed-run start (events f)) ∙ ap (flat_map check_line) put-is
         ∙ only-written (items rules top_site f)
 
-    pub count-run : (run_finder start (events f)).state.count ≡ finding_count rules f
+    pub count-run : (run_finder start (events f)).state.finding_count ≡ finding_count rules f
     count-run =
         let n = length-filter is_finding (items rules top_site f) in
         counted-all start (events f)
@@ -270,16 +272,15 @@ module _ (rules : Rules) where
           length-append (spelling f) r.is_prefix.0,
         )
 
-    pub count-made : (effect_of check_step start (events f)).state.count ≡ finding_count rules f
-    count-made = ap (λ (t : Effect FinderState). t.state.count) (followed-run start (events f)) ∙ count-run
+    pub count-made : (effect_of check_step start (events f)).state.finding_count ≡ finding_count rules f
+    count-made = ap (λ (t : Effect CheckState). t.state.finding_count) (followed-run start (events f)) ∙ count-run
 
 -- a check always wants more
-pub all_on : (s : FinderState) (es : List EventValue) → (effect_of check_step s es).goes ≡ go.On
-all_on s es = ap (λ (t : Effect FinderState). t.goes) (followed-run s es)
+pub all_on : (s : CheckState) (es : List EventValue) → (effect_of check_step s es).goes ≡ go.On
+all_on s es = ap (λ (t : Effect CheckState). t.goes) (followed-run s es)
 
 pub checks : (rules : Rules) (framing : Framing)
-    → Shower check_step (new_check rules) framing (check_job rules framing).text (finding_count rules)
-    (λ (s : FinderState). s.count)
+    → Shower check_step (new_check rules) rules framing check_line (λ (s : CheckState). s.finding_count)
 checks rules framing = record {
   goes_on = all_on;
   put = λ octets f few r. text-made rules framing octets f few r;

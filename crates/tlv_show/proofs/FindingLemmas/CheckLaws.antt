@@ -12,10 +12,10 @@ use Rattle.tlv_show.specs.declared.finding_lines.Style.{Style}
 use Rattle.tlv_show.specs.declared.finding_lines.Style.TheVariants.{Check}
 use Rattle.tlv_show.specs.CheckStep.{check_octet_step, check_step, findings_effect}
 use Rattle.tlv_show.specs.FindingLines.{last_finding_lines, styled_lines}
-use Rattle.tlv_show.specs.FinderState.{FinderState, FinderReport, OpenPrimitiveState, finder_bytes_step}
+use Rattle.tlv_show.specs.FinderState.{CheckState, FinderState, OpenPrimitiveState, finder_bytes_step}
 use Rattle.tlv_show.specs.FinderState.{open_primitive_after}
-use Rattle.tlv_show.specs.Private.FinderState.{ReportsFindings, finder_step, with_findings_if}
-use Rattle.tlv_show.proofs.DumpLemmas.Dumped.{take-both}
+use Rattle.tlv_show.specs.Private.FinderState.{HasFound, finder_step, with_findings_if}
+use Rattle.tlv_show.proofs.DumpLemmas.OctetPieces.{take-both}
 
 primitive-join : (v : Option OpenPrimitiveState) (x y : List ℕ)
     → open_primitive_after (open_primitive_after v x) y ≡ open_primitive_after v (x ++ y)
@@ -28,7 +28,7 @@ primitive-join (Some v) x y =
 pub one-or-more : (x : ℕ) (octets : List ℕ) → (length (x ∷ octets) == 0) ≡ false
 one-or-more x octets = grind (arith, nat_tests)
 
-pub found-join : (s : FinderState) (x y : List ℕ)
+pub found-join : (s : CheckState) (x y : List ℕ)
     → finder_bytes_step s (x ++ y) ≡ finder_bytes_step (finder_bytes_step s x) y
 found-join s [] y = refl
 found-join s (a ∷ x) [] = ap (λ (l : List ℕ). finder_bytes_step s (a ∷ l)) (append-nil x)
@@ -38,15 +38,15 @@ found-join s (a ∷ x) (b ∷ y) =
     (sym (primitive-join s.open_primitive (a ∷ x) (b ∷ y))))
 
 -- octet by octet
-pub each-found : (s : FinderState) (octets : List ℕ)
+pub each-found : (s : CheckState) (octets : List ℕ)
     → each_octet check_octet_step s octets ≡ no_effect (finder_bytes_step s octets)
 each-found s [] = refl
 each-found s (x ∷ octets) =
     each-found (finder_bytes_step s (x ∷ [])) octets
-    ∙ ap (λ (u : FinderState). no_effect u) (sym (found-join s (x ∷ []) octets))
+    ∙ ap (λ (u : CheckState). no_effect u) (sym (found-join s (x ∷ []) octets))
 
 -- an event is what the finder makes of it, listed
-pub step-is : (s : FinderState) (e : EventValue) → check_step s e ≡ findings_effect (finder_step s e)
+pub step-is : (s : CheckState) (e : EventValue) → check_step s e ≡ findings_effect (finder_step s e)
 step-is s (Open h) = refl
 step-is s (Begin h) = refl
 step-is s (Bytes octets) = each-found s octets
@@ -58,24 +58,25 @@ step-is s Leave = refl
 step-is s (Pad octets) = refl
 
 -- what was reported, if anything was, is all that there is
-pub last-same : (style : Style) (f v : FinderReport) (has_findings : Bool) → ReportsFindings f v has_findings
-    → last_finding_lines style (with_findings_if has_findings v) ≡ last_finding_lines style f
+pub last-same : (style : Style) (f v : FinderState) (may_have_findings : Bool) → HasFound f v may_have_findings
+    → last_finding_lines style (with_findings_if may_have_findings v) ≡ last_finding_lines style f
 last-same style f v true e = ap (last_finding_lines style) e
 last-same style f v false e = sym (ap (styled_lines style f.level f.offset) e.1)
 
-pub last-state : (f v : FinderReport) (has_findings : Bool) → ReportsFindings f v has_findings → v.state ≡ f.state
-last-state f v true e = ap (λ (u : FinderReport). u.state) e
+pub last-state : (f v : FinderState) (may_have_findings : Bool) → HasFound f v may_have_findings
+    → v.kept ≡ f.kept
+last-state f v true e = ap (λ (u : FinderState). u.kept) e
 last-state f v false e = e.0
 
 -- what was reported and put is what the step says
-module _ (s t : FinderState) (v : FinderReport) (has_findings : Bool) (e : EventValue) where
-  pub step-text : s ≡ t → ReportsFindings (finder_step t e) v has_findings
-      → last_finding_lines Check (with_findings_if has_findings v) ≡ (check_step s e).put
+module _ (s t : CheckState) (v : FinderState) (may_have_findings : Bool) (e : EventValue) where
+  pub step-text : s ≡ t → HasFound (finder_step t e) v may_have_findings
+      → last_finding_lines Check (with_findings_if may_have_findings v) ≡ (check_step s e).put
   step-text i f =
       rw i
-      (last-same Check (finder_step t e) v has_findings f
-      ∙ ap (λ (k : Effect FinderState). k.put) (sym (step-is t e)))
+      (last-same Check (finder_step t e) v may_have_findings f
+      ∙ ap (λ (k : Effect CheckState). k.put) (sym (step-is t e)))
 
-  pub step-state : s ≡ t → ReportsFindings (finder_step t e) v has_findings
-      → (v.state ≡ (check_step s e).state) × (go.On ≡ (check_step s e).goes)
-  step-state i f = rw i (rw (step-is t e) (last-state (finder_step t e) v has_findings f, refl))
+  pub step-state : s ≡ t → HasFound (finder_step t e) v may_have_findings
+      → (v.kept ≡ (check_step s e).state) × (go.On ≡ (check_step s e).goes)
+  step-state i f = rw i (rw (step-is t e) (last-state (finder_step t e) v may_have_findings f, refl))

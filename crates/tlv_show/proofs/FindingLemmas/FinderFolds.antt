@@ -12,63 +12,68 @@ use Rattle.tlv_value.specs.Types.{has_segments, is_a, is_primitive}
 use Rattle.tlv_walk.specs.Forest.{Forest, NoMore, PaddingOctet, Primitive, Holder, OpenPrimitive, OpenHolder}
 use Rattle.tlv_walk.specs.Forest.{OpenBitString, OpenHeader, OpenEndOctets, extent, is_whole}
 use Rattle.tlv_walk.specs.Place.{IsOpen, Place, place_after}
-use Rattle.tlv_show.specs.declared.sibling_frame.SiblingFrame.{SiblingFrame}
+use Rattle.tlv_show.specs.declared.holder_frame.HolderFrame.{HolderFrame}
 use Rattle.tlv_show.specs.declared.rules.Rules.{Rules}
-use Rattle.tlv_show.specs.Conditions.{ends_empty, segments_of}
+use Rattle.tlv_show.specs.Conditions.{bits_octet_count, ends_empty, segments_of}
 use Rattle.tlv_show.specs.NestingState.{frame_after, frame_after_segment, frame_of, frame_under, top_frame, segments_in}
 use Rattle.tlv_show.specs.Items.{headers}
 use Rattle.tlv_show.proofs.FindingLemmas.HeaderFindings.{end-by, ends_by}
 use Rattle.tlv_show.specs.Found.{end_findings}
 
 -- a frame after elements of which none is open
-abbrev pub noted_all : SiblingFrame → Forest → SiblingFrame
-noted_all w NoMore = w
-noted_all w (PaddingOctet rest) = noted_all w rest
-noted_all w (Primitive h c rest) =
-    noted_all
+abbrev pub frame_after_elements : HolderFrame → Forest → HolderFrame
+frame_after_elements w NoMore = w
+frame_after_elements w (PaddingOctet rest) = frame_after_elements w rest
+frame_after_elements w (Primitive h c rest) =
+    frame_after_elements
     (frame_after w true (announced_length h.size) (has_unused_bits (value_check_after (new_value_check h) c)))
     rest
-noted_all w (Holder h inside rest) = noted_all (frame_after w (is_primitive h) (announced_length h.size) false) rest
-noted_all w (OpenPrimitive h c) = w
-noted_all w (OpenHolder h inside) = w
-noted_all w (OpenBitString h) = w
-noted_all w (OpenHeader octets) = w
-noted_all w OpenEndOctets = w
+frame_after_elements w (Holder h inside rest) =
+    frame_after_elements (frame_after w (is_primitive h) (announced_length h.size) false) rest
+frame_after_elements w (OpenPrimitive h c) = w
+frame_after_elements w (OpenHolder h inside) = w
+frame_after_elements w (OpenBitString h) = w
+frame_after_elements w (OpenHeader octets) = w
+frame_after_elements w OpenEndOctets = w
 
 -- the same of the segments of a string
-abbrev segments_noted : SiblingFrame → Forest → SiblingFrame
-segments_noted w NoMore = w
-segments_noted w (PaddingOctet rest) = segments_noted w rest
-segments_noted w (Primitive h c rest) =
-    segments_noted
+abbrev frame_after_segments : HolderFrame → Forest → HolderFrame
+frame_after_segments w NoMore = w
+frame_after_segments w (PaddingOctet rest) = frame_after_segments w rest
+frame_after_segments w (Primitive h c rest) =
+    frame_after_segments
     (frame_after_segment w true (announced_length h.size)
     (has_unused_bits (value_check_after (new_value_check h) c)))
     rest
-segments_noted w (Holder h inside rest) =
-    segments_noted (frame_after_segment w (is_primitive h) (announced_length h.size) false) rest
-segments_noted w (OpenPrimitive h c) = w
-segments_noted w (OpenHolder h inside) = w
-segments_noted w (OpenBitString h) = w
-segments_noted w (OpenHeader octets) = w
-segments_noted w OpenEndOctets = w
+frame_after_segments w (Holder h inside rest) =
+    frame_after_segments (frame_after_segment w (is_primitive h) (announced_length h.size) false) rest
+frame_after_segments w (OpenPrimitive h c) = w
+frame_after_segments w (OpenHolder h inside) = w
+frame_after_segments w (OpenBitString h) = w
+frame_after_segments w (OpenHeader octets) = w
+frame_after_segments w OpenEndOctets = w
 
-in-string : (w : SiblingFrame) (primitive : Bool) (size : ℕ) (unused : Bool) → w.has_segments ≡ true
-    → frame_after w primitive size unused ≡ frame_after_segment w primitive size unused
-in-string w primitive size unused e = ap (λ (k : Bool). if k then frame_after_segment w primitive size unused else w) e
+in-string : (w : HolderFrame) (primitive : Bool) (size : ℕ) (unused_bits : Bool) → w.has_segments ≡ true
+    → frame_after w primitive size unused_bits ≡ frame_after_segment w primitive size unused_bits
+in-string w primitive size unused_bits e =
+    ap (λ (k : Bool). if k then frame_after_segment w primitive size unused_bits else w) e
 
-outside : (w : SiblingFrame) (primitive : Bool) (size : ℕ) (unused : Bool) → w.has_segments ≡ false
-    → frame_after w primitive size unused ≡ w
-outside w primitive size unused e = ap (λ (k : Bool). if k then frame_after_segment w primitive size unused else w) e
+outside : (w : HolderFrame) (primitive : Bool) (size : ℕ) (unused_bits : Bool) → w.has_segments ≡ false
+    → frame_after w primitive size unused_bits ≡ w
+outside w primitive size unused_bits e =
+    ap (λ (k : Bool). if k then frame_after_segment w primitive size unused_bits else w) e
 
-all-in-string : (w : SiblingFrame) (f : Forest) → w.has_segments ≡ true → noted_all w f ≡ segments_noted w f
+all-in-string : (w : HolderFrame) (f : Forest) → w.has_segments ≡ true
+    → frame_after_elements w f ≡ frame_after_segments w f
 all-in-string w NoMore e = refl
 all-in-string w (PaddingOctet rest) e = all-in-string w rest e
 all-in-string w (Primitive h c rest) e =
     let u : Bool = has_unused_bits (value_check_after (new_value_check h) c) in
-    ap (λ (t : SiblingFrame). noted_all t rest) (in-string w true (announced_length h.size) u e)
+    ap (λ (t : HolderFrame). frame_after_elements t rest) (in-string w true (announced_length h.size) u e)
     ∙ all-in-string (frame_after_segment w true (announced_length h.size) u) rest e
 all-in-string w (Holder h inside rest) e =
-    ap (λ (t : SiblingFrame). noted_all t rest) (in-string w (is_primitive h) (announced_length h.size) false e)
+    ap (λ (t : HolderFrame). frame_after_elements t rest)
+    (in-string w (is_primitive h) (announced_length h.size) false e)
     ∙ all-in-string (frame_after_segment w (is_primitive h) (announced_length h.size) false) rest e
 all-in-string w (OpenPrimitive h c) e = refl
 all-in-string w (OpenHolder h inside) e = refl
@@ -76,15 +81,15 @@ all-in-string w (OpenBitString h) e = refl
 all-in-string w (OpenHeader octets) e = refl
 all-in-string w OpenEndOctets e = refl
 
-all-outside : (w : SiblingFrame) (f : Forest) → w.has_segments ≡ false → noted_all w f ≡ w
+all-outside : (w : HolderFrame) (f : Forest) → w.has_segments ≡ false → frame_after_elements w f ≡ w
 all-outside w NoMore e = refl
 all-outside w (PaddingOctet rest) e = all-outside w rest e
 all-outside w (Primitive h c rest) e =
-    ap (λ (t : SiblingFrame). noted_all t rest)
+    ap (λ (t : HolderFrame). frame_after_elements t rest)
     (outside w true (announced_length h.size) (has_unused_bits (value_check_after (new_value_check h) c)) e)
     ∙ all-outside w rest e
 all-outside w (Holder h inside rest) e =
-    ap (λ (t : SiblingFrame). noted_all t rest) (outside w (is_primitive h) (announced_length h.size) false e)
+    ap (λ (t : HolderFrame). frame_after_elements t rest) (outside w (is_primitive h) (announced_length h.size) false e)
     ∙ all-outside w rest e
 all-outside w (OpenPrimitive h c) e = refl
 all-outside w (OpenHolder h inside) e = refl
@@ -93,100 +98,103 @@ all-outside w (OpenHeader octets) e = refl
 all-outside w OpenEndOctets e = refl
 
 -- what a frame says of the holder
-pub record Stays (w t : SiblingFrame) : Type 0 where
+pub record Stays (w t : HolderFrame) : Type 0 where
   pub offset : t.offset ≡ w.offset
-  pub size : t.size ≡ w.size
+  pub announced_length : t.announced_length ≡ w.announced_length
   pub primitive : t.is_primitive ≡ w.is_primitive
 
-stays-noted : (w : SiblingFrame) (primitive : Bool) (size : ℕ) (unused : Bool)
-    → Stays w (frame_after w primitive size unused)
-stays-noted w primitive size unused = by w.has_segments
+stays-after : (w : HolderFrame) (primitive : Bool) (size : ℕ) (unused_bits : Bool)
+    → Stays w (frame_after w primitive size unused_bits)
+stays-after w primitive size unused_bits = by w.has_segments
   where
-    by : (k : Bool) → Stays w (if k then frame_after_segment w primitive size unused else w)
-    by true = record { offset = refl; size = refl; primitive = refl }
-    by false = record { offset = refl; size = refl; primitive = refl }
+    by : (k : Bool) → Stays w (if k then frame_after_segment w primitive size unused_bits else w)
+    by true = record { offset = refl; announced_length = refl; primitive = refl }
+    by false = record { offset = refl; announced_length = refl; primitive = refl }
 
-stays-then : {u w t : SiblingFrame} → Stays u w → Stays w t → Stays u t
-stays-then a b = record { offset = b.offset ∙ a.offset; size = b.size ∙ a.size; primitive = b.primitive ∙ a.primitive }
+stays-then : {u w t : HolderFrame} → Stays u w → Stays w t → Stays u t
+stays-then a b = record {
+  offset = b.offset ∙ a.offset;
+  announced_length = b.announced_length ∙ a.announced_length;
+  primitive = b.primitive ∙ a.primitive;
+}
 
-stays : (w : SiblingFrame) (f : Forest) → Stays w (noted_all w f)
-stays w NoMore = record { offset = refl; size = refl; primitive = refl }
+stays : (w : HolderFrame) (f : Forest) → Stays w (frame_after_elements w f)
+stays w NoMore = record { offset = refl; announced_length = refl; primitive = refl }
 stays w (PaddingOctet rest) = stays w rest
 stays w (Primitive h c rest) =
     stays-then
-    (stays-noted w true (announced_length h.size) (has_unused_bits (value_check_after (new_value_check h) c)))
+    (stays-after w true (announced_length h.size) (has_unused_bits (value_check_after (new_value_check h) c)))
     (stays
     (frame_after w true (announced_length h.size) (has_unused_bits (value_check_after (new_value_check h) c)))
     rest)
 stays w (Holder h inside rest) =
-    stays-then (stays-noted w (is_primitive h) (announced_length h.size) false)
+    stays-then (stays-after w (is_primitive h) (announced_length h.size) false)
     (stays (frame_after w (is_primitive h) (announced_length h.size) false) rest)
-stays w (OpenPrimitive h c) = record { offset = refl; size = refl; primitive = refl }
-stays w (OpenHolder h inside) = record { offset = refl; size = refl; primitive = refl }
-stays w (OpenBitString h) = record { offset = refl; size = refl; primitive = refl }
-stays w (OpenHeader octets) = record { offset = refl; size = refl; primitive = refl }
-stays w OpenEndOctets = record { offset = refl; size = refl; primitive = refl }
+stays w (OpenPrimitive h c) = record { offset = refl; announced_length = refl; primitive = refl }
+stays w (OpenHolder h inside) = record { offset = refl; announced_length = refl; primitive = refl }
+stays w (OpenBitString h) = record { offset = refl; announced_length = refl; primitive = refl }
+stays w (OpenHeader octets) = record { offset = refl; announced_length = refl; primitive = refl }
+stays w OpenEndOctets = record { offset = refl; announced_length = refl; primitive = refl }
 
 -- a primitive that holds nothing is not constructed
 pub not-constructed : (k wraps : Bool) → (k || wraps) ≡ false → k ≡ false
 not-constructed true wraps e = absurd (true≢false e)
 not-constructed false wraps e = refl
 
-abbrev added : ℕ → ℕ → List HeaderValue → ℕ
-added bits n hs = fold (λ (m : ℕ) (g : HeaderValue). m + (announced_length g.size - bits)) n hs
+abbrev value_length_after : ℕ → ℕ → List HeaderValue → ℕ
+value_length_after bits n hs = fold (λ (m : ℕ) (g : HeaderValue). m + (announced_length g.size - bits)) n hs
 
-abbrev bit_of : Bool → ℕ
-bit_of b = if b then 1 else 0
-
-record SumsUp (w : SiblingFrame) (n : ℕ) (f : Forest) : Type 0 where
-  pub segments : (segments_noted w f).has_segments ≡ w.has_segments
-  pub bits : (segments_noted w f).is_bit_string ≡ w.is_bit_string
-  pub all : (segments_noted w f).all_primitive ≡ (w.all_primitive && list_all is_primitive (headers f))
-  pub octets : (segments_noted w f).octets ≡ min (added (bit_of w.is_bit_string) n (headers f)) 1001
-  pub empty : (segments_noted w f).ends_empty ≡ ends_empty w.ends_empty (headers f)
+record SumsUp (w : HolderFrame) (n : ℕ) (f : Forest) : Type 0 where
+  pub segments : (frame_after_segments w f).has_segments ≡ w.has_segments
+  pub bits : (frame_after_segments w f).is_bit_string ≡ w.is_bit_string
+  pub all : (frame_after_segments w f).all_primitive ≡ (w.all_primitive && list_all is_primitive (headers f))
+  pub value_length : (frame_after_segments w f).value_length
+      ≡ min (value_length_after (bits_octet_count w.is_bit_string) n (headers f)) 1001
+  pub empty : (frame_after_segments w f).ends_empty ≡ ends_empty w.ends_empty (headers f)
 
 and-true : (a : Bool) → a ≡ (a && true)
 and-true true = refl
 and-true false = refl
 
-more-octets : (w n d : ℕ) → w ≡ min n 1001 → min (w + d) 1001 ≡ min (n + d) 1001
-more-octets w n d e = omega (arith, e)
+more-length : (w n d : ℕ) → w ≡ min n 1001 → min (w + d) 1001 ≡ min (n + d) 1001
+more-length w n d e = omega (arith, e)
 
-sums-up : (p : Place) (w : SiblingFrame) (n : ℕ) (f : Forest) → IsOpen p f → is_whole f ≡ true → w.octets ≡ min n 1001
+sums-up : (p : Place) (w : HolderFrame) (n : ℕ) (f : Forest) → IsOpen p f → is_whole f ≡ true
+    → w.value_length ≡ min n 1001
     → SumsUp w n f
 sums-up p w n NoMore v e o =
-    record { segments = refl; bits = refl; all = and-true w.all_primitive; octets = o; empty = refl }
+    record { segments = refl; bits = refl; all = and-true w.all_primitive; value_length = o; empty = refl }
 sums-up p w n (PaddingOctet rest) v e o =
     let r = sums-up (place_after p 1) w n rest v.1 e o in
-    record { segments = r.segments; bits = r.bits; all = r.all; octets = r.octets; empty = r.empty }
+    record { segments = r.segments; bits = r.bits; all = r.all; value_length = r.value_length; empty = r.empty }
 sums-up p w n (Primitive h c rest) v e o =
-    let d : ℕ = announced_length h.size - bit_of w.is_bit_string in
+    let d : ℕ = announced_length h.size - bits_octet_count w.is_bit_string in
     let k : is_primitive h ≡ true = ap not (not-constructed h.constructed (wraps h) v.0.0.header.form) in
     let u : Bool = has_unused_bits (value_check_after (new_value_check h) c) in
     let r =
     sums-up (place_after p (length (octets_of h) + length c))
     (frame_after_segment w true (announced_length h.size) u) (n + d) rest v.1 e
-    (more-octets w.octets n d o) in
+    (more-length w.value_length n d o) in
     record {
       segments = r.segments;
       bits = r.bits;
       all =
           r.all ∙ and_assoc w.all_primitive true (list_all is_primitive (headers rest))
           ∙ ap (λ (b : Bool). w.all_primitive && (b && list_all is_primitive (headers rest))) (sym k);
-      octets = r.octets;
+      value_length = r.value_length;
       empty = r.empty ∙ ap (λ (b : Bool). ends_empty (b && announced_length h.size == 0) (headers rest)) (sym k);
     }
 sums-up p w n (Holder h inside rest) v e o =
-    let d : ℕ = announced_length h.size - bit_of w.is_bit_string in
+    let d : ℕ = announced_length h.size - bits_octet_count w.is_bit_string in
     let r =
     sums-up (place_after p (extent h inside))
     (frame_after_segment w (is_primitive h) (announced_length h.size) false) (n + d) rest v.2 e
-    (more-octets w.octets n d o) in
+    (more-length w.value_length n d o) in
     record {
       segments = r.segments;
       bits = r.bits;
       all = r.all ∙ and_assoc w.all_primitive (is_primitive h) (list_all is_primitive (headers rest));
-      octets = r.octets;
+      value_length = r.value_length;
       empty = r.empty;
     }
 sums-up p w n (OpenPrimitive h c) v e o = absurd (cc (e))
@@ -197,105 +205,110 @@ sums-up p w n OpenEndOctets v e o = absurd (cc (e))
 
 segments-summed : (rules : Rules) (p : Place) (h : HeaderValue) (inside : Forest) → IsOpen p inside
     → is_whole inside ≡ true
-    → end_findings rules (segments_in (segments_noted (frame_of h) inside))
+    → end_findings rules (segments_in (frame_after_segments (frame_of h) inside))
     ≡ end_findings rules (segments_of h (headers inside))
 segments-summed rules p h inside v e =
     let r = sums-up p (frame_of h) 0 inside v e refl in
-    let w : SiblingFrame = segments_noted (frame_of h) inside in
+    let w : HolderFrame = frame_after_segments (frame_of h) inside in
     let k : Bool = has_segments h in
     let b : Bool = is_a bit_string h in
     let all : Bool = list_all is_primitive (headers inside) in
-    let few : Bool → ℕ → Bool = λ bits octets. nat_le ((if bits then 1 else 0) + octets) 1000 in
-    ap₂ (λ (x y : Bool). ends_by rules x w.all_primitive (few y w.octets) w.ends_empty) r.segments r.bits
-    ∙ ap₂ (λ (x y : Bool). ends_by rules k x (few (k && b) w.octets) y) r.all r.empty
-    ∙ ap (λ (n : ℕ). ends_by rules k all (few (k && b) n) (ends_empty false (headers inside))) r.octets
-    ∙ end-by rules k b all (ends_empty false (headers inside)) (λ (n : ℕ). added n 0 (headers inside))
+    let few : Bool → ℕ → Bool = λ bits octets. nat_le (bits_octet_count bits + octets) 1000 in
+    ap₂ (λ (x y : Bool). ends_by rules x w.all_primitive (few y w.value_length) w.ends_empty) r.segments r.bits
+    ∙ ap₂ (λ (x y : Bool). ends_by rules k x (few (k && b) w.value_length) y) r.all r.empty
+    ∙ ap (λ (n : ℕ). ends_by rules k all (few (k && b) n) (ends_empty false (headers inside))) r.value_length
+    ∙ end-by rules k b all (ends_empty false (headers inside)) (λ (n : ℕ). value_length_after n 0 (headers inside))
 
 -- outside of strings nothing is found with an end
-no-ends : (rules : Rules) (w : SiblingFrame) → w.has_segments ≡ false → end_findings rules (segments_in w) ≡ []
+no-ends : (rules : Rules) (w : HolderFrame) → w.has_segments ≡ false → end_findings rules (segments_in w) ≡ []
 no-ends rules w e =
-    ap (λ (k : Bool). ends_by rules k w.all_primitive (nat_le ((if w.is_bit_string then 1 else 0) + w.octets) 1000)
+    ap (λ (k : Bool). ends_by rules k w.all_primitive (nat_le (bits_octet_count w.is_bit_string + w.value_length) 1000)
     w.ends_empty)
     e
 
 -- what is found with an end, by the frame of what was held
 summed : (rules : Rules) (p : Place) (h : HeaderValue) (inside : Forest) → IsOpen p inside → is_whole inside ≡ true
-    → end_findings rules (segments_in (noted_all (frame_of h) inside))
+    → end_findings rules (segments_in (frame_after_elements (frame_of h) inside))
     ≡ end_findings rules (segments_of h (headers inside))
 summed rules p h inside v e = by-segments (has_segments h) refl
   where
     by-segments : (k : Bool) → has_segments h ≡ k
-        → end_findings rules (segments_in (noted_all (frame_of h) inside))
+        → end_findings rules (segments_in (frame_after_elements (frame_of h) inside))
         ≡ end_findings rules (segments_of h (headers inside))
     by-segments true c =
-        ap (λ (t : SiblingFrame). end_findings rules (segments_in t)) (all-in-string (frame_of h) inside c)
+        ap (λ (t : HolderFrame). end_findings rules (segments_in t)) (all-in-string (frame_of h) inside c)
         ∙ segments-summed rules p h inside v e
     by-segments false c =
         let r = sums-up p (frame_of h) 0 inside v e refl in
-        ap (λ (t : SiblingFrame). end_findings rules (segments_in t)) (all-outside (frame_of h) inside c)
+        ap (λ (t : HolderFrame). end_findings rules (segments_in t)) (all-outside (frame_of h) inside c)
         ∙ no-ends rules (frame_of h) c
-        ∙ sym (no-ends rules (segments_noted (frame_of h) inside) (r.segments ∙ c))
+        ∙ sym (no-ends rules (frame_after_segments (frame_of h) inside) (r.segments ∙ c))
         ∙ segments-summed rules p h inside v e
 
 -- ---- the same if nothing is to be known of what was held
 
-module _ (rules : Rules) (p : Place) (w : SiblingFrame) (h : HeaderValue) (inside : Forest) (v : IsOpen p inside)
+module _ (rules : Rules) (p : Place) (w : HolderFrame) (h : HeaderValue) (inside : Forest) (v : IsOpen p inside)
     (whole : is_whole inside ≡ true) where
   -- an element that is no string: nothing is found with its end
   nothing-ends : has_segments h ≡ false → end_findings rules (segments_of h (headers inside)) ≡ []
   nothing-ends e =
       sym (summed rules p h inside v whole)
-      ∙ ap (λ (t : SiblingFrame). end_findings rules (segments_in t)) (all-outside (frame_of h) inside e)
+      ∙ ap (λ (t : HolderFrame). end_findings rules (segments_in t)) (all-outside (frame_of h) inside e)
       ∙ no-ends rules (frame_of h) e
 
-  pub summed-under : end_findings rules (segments_in (noted_all (frame_under w h) inside))
+  pub summed-under : end_findings rules (segments_in (frame_after_elements (frame_under w h) inside))
       ≡ end_findings rules (segments_of h (headers inside))
   summed-under = by w.has_segments (has_segments h) refl
     where
       by : (outside inside_it : Bool) → has_segments h ≡ inside_it
-          → end_findings rules (segments_in (noted_all (if outside || inside_it then frame_of h else top_frame) inside))
+          → end_findings rules
+          (segments_in (frame_after_elements (if outside || inside_it then frame_of h else top_frame) inside))
           ≡ end_findings rules (segments_of h (headers inside))
       by true inside_it e = summed rules p h inside v whole
       by false true e = summed rules p h inside v whole
       by false false e =
-          ap (λ (t : SiblingFrame). end_findings rules (segments_in t)) (all-outside top_frame inside refl)
+          ap (λ (t : HolderFrame). end_findings rules (segments_in t)) (all-outside top_frame inside refl)
           ∙ no-ends rules top_frame refl ∙ sym (nothing-ends e)
 
   -- where it begins does not matter if nothing is found
   pub offset-under : {T : Type 0} (put : ℕ → List Finding → List T) → ((offset : ℕ) → put offset [] ≡ [])
-      → put (noted_all (frame_under w h) inside).offset (end_findings rules (segments_of h (headers inside)))
+      → put (frame_after_elements (frame_under w h) inside).offset (end_findings rules (segments_of h (headers inside)))
       ≡ put h.offset (end_findings rules (segments_of h (headers inside)))
   offset-under put none = by w.has_segments (has_segments h) refl
     where
-      kept : put (noted_all (frame_of h) inside).offset (end_findings rules (segments_of h (headers inside)))
+      kept : put (frame_after_elements (frame_of h) inside).offset (end_findings rules (segments_of h (headers inside)))
           ≡ put h.offset (end_findings rules (segments_of h (headers inside)))
       kept =
           ap (λ (offset : ℕ). put offset (end_findings rules (segments_of h (headers inside))))
           (stays (frame_of h) inside).offset
 
       by : (outside inside_it : Bool) → has_segments h ≡ inside_it
-          → put (noted_all (if outside || inside_it then frame_of h else top_frame) inside).offset
+          → put (frame_after_elements (if outside || inside_it then frame_of h else top_frame) inside).offset
           (end_findings rules (segments_of h (headers inside)))
           ≡ put h.offset (end_findings rules (segments_of h (headers inside)))
       by true inside_it e = kept
       by false true e = kept
       by false false e =
-          let offset : ℕ = (noted_all top_frame inside).offset in
+          let offset : ℕ = (frame_after_elements top_frame inside).offset in
           ap (put offset) (nothing-ends e) ∙ none offset ∙ sym (ap (put h.offset) (nothing-ends e) ∙ none h.offset)
 
 -- the holder of an element asks for its form and size only if it is a string
-pub noted-under : (w : SiblingFrame) (h : HeaderValue) (inside : Forest)
-    → frame_after w (noted_all (frame_under w h) inside).is_primitive (noted_all (frame_under w h) inside).size false
+pub after-under : (w : HolderFrame) (h : HeaderValue) (inside : Forest)
+    → frame_after w (frame_after_elements (frame_under w h) inside).is_primitive
+    (frame_after_elements (frame_under w h) inside).announced_length false
     ≡ frame_after w (is_primitive h) (announced_length h.size) false
-noted-under w h inside = by w.has_segments refl
+after-under w h inside = by w.has_segments refl
   where
     by : (k : Bool) → w.has_segments ≡ k
-        → frame_after w (noted_all (if k || has_segments h then frame_of h else top_frame) inside).is_primitive
-        (noted_all (if k || has_segments h then frame_of h else top_frame) inside).size false
+        → frame_after w
+        (frame_after_elements (if k || has_segments h then frame_of h else top_frame) inside).is_primitive
+        (frame_after_elements (if k || has_segments h then frame_of h else top_frame) inside).announced_length false
         ≡ frame_after w (is_primitive h) (announced_length h.size) false
     by true e =
         let r =
-        stays (frame_of h) inside in ap₂ (λ (b : Bool) (size : ℕ). frame_after w b size false) r.primitive r.size
+        stays (frame_of h) inside in ap₂ (λ (b : Bool) (size : ℕ). frame_after w b size false) r.primitive
+        r.announced_length
     by false e =
-        let f : SiblingFrame = noted_all (if has_segments h then frame_of h else top_frame) inside in
-        outside w f.is_primitive f.size false e ∙ sym (outside w (is_primitive h) (announced_length h.size) false e)
+        let f : HolderFrame = frame_after_elements (if has_segments h then frame_of h else top_frame) inside in
+        outside w f.is_primitive f.announced_length false e
+        ∙ sym (outside w (is_primitive h) (announced_length h.size) false e)

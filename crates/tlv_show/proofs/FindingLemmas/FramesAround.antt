@@ -9,22 +9,22 @@ use Rattle.tlv_value.specs.ValueCheckState.{new_value_check_of}
 use Rattle.tlv_head.specs.UniversalTypes.{bit_string, octet_string}
 use Rattle.tlv_value.specs.Types.{has_segments, is_a, is_primitive, type_number}
 use Rattle.tlv_value.proofs.CheckLemmas.CheckPieces.{checked-none}
-use Rattle.tlv_show.specs.declared.sibling_frame.SiblingFrame.{SiblingFrame}
+use Rattle.tlv_show.specs.declared.holder_frame.HolderFrame.{HolderFrame}
 use Rattle.tlv_show.specs.Conditions.{follows_unused_bits, is_not_full, Surroundings}
 use Rattle.tlv_show.specs.NestingState.{frame_after, frame_after_segment, frame_of, frame_under, top_frame}
 use Rattle.tlv_show.specs.NestingState.{surroundings_in}
 use Rattle.tlv_show.specs.Site.{Sibling, Site, in_bit_string, in_string, site_of_children, Previous, Padding, Start}
-use Rattle.tlv_show.proofs.FindingLemmas.SitesAfter.{site_after_padding}
+use Rattle.tlv_show.specs.Site.{site_after_padding}
 use Rattle.tlv_show.proofs.FindingLemmas.SiteWords.{first_contents_octet, is_held_by}
 use Rattle.tlv_show.proofs.FindingLemmas.HeaderFindings.{Knows}
 
-abbrev made : Bool → Bool → Bool → Bool → Surroundings
-made a b c d = record { in_string = a; in_bit_string = b; after_unused_bits = c; after_not_full = d }
+abbrev surroundings_with : Bool → Bool → Bool → Bool → Surroundings
+surroundings_with a b c d = record { in_string = a; in_bit_string = b; after_unused_bits = c; after_not_full = d }
 
 -- what is around an element, by what holds it, and what is before it
 abbrev around : Option HeaderValue → Previous → Surroundings
 around holder previous =
-    made (is_held_by has_segments holder)
+    surroundings_with (is_held_by has_segments holder)
     (is_held_by (λ h. has_segments h && is_a bit_string h) holder)
     (is_held_by (λ h. has_segments h && is_a bit_string h) holder && follows_unused_bits previous)
     (is_held_by has_segments holder && is_not_full previous)
@@ -32,7 +32,8 @@ around holder previous =
 no-string : (h : HeaderValue) (previous : Previous) → has_segments h ≡ false
     → around (Some h) previous ≡ surroundings_in top_frame
 no-string h previous e =
-    ap (λ (k : Bool). made k (k && is_a bit_string h) ((k && is_a bit_string h) && follows_unused_bits previous)
+    ap (λ (k : Bool). surroundings_with k (k && is_a bit_string h)
+    ((k && is_a bit_string h) && follows_unused_bits previous)
     (k && is_not_full previous))
     e
 
@@ -43,11 +44,12 @@ around-none None previous e = refl
 around-none (Some h) previous e = no-string h previous e
 
 in-its-own : (k b : Bool)
-    → made k (k && (k && b)) ((k && (k && b)) && false) (k && false) ≡ made k (k && b) ((k && b) && false) (k && false)
+    → surroundings_with k (k && (k && b)) ((k && (k && b)) && false) (k && false)
+    ≡ surroundings_with k (k && b) ((k && b) && false) (k && false)
 in-its-own true b = refl
 in-its-own false b = refl
 
-pub knows-inside : (w : SiblingFrame) (s : Site) (h : HeaderValue) → Knows (frame_under w h) (site_of_children s h)
+pub knows-inside : (w : HolderFrame) (s : Site) (h : HeaderValue) → Knows (frame_under w h) (site_of_children s h)
 knows-inside w s h = by w.has_segments (has_segments h) refl
   where
     of-string : Knows (frame_of h) (site_of_children s h)
@@ -78,7 +80,8 @@ type-is true n = refl
 type-is false n = refl
 
 pub unused-of : (h : HeaderValue) (c : List ℕ) → h.constructed ≡ false
-    → has_unused_bits (value_check_after (new_value_check h) c) ≡ follows_unused_bits (Sibling h (first_contents_octet c))
+    → has_unused_bits (value_check_after (new_value_check h) c)
+    ≡ follows_unused_bits (Sibling h (first_contents_octet c))
 unused-of h [] e = ap has_unused_bits (checked-none h) ∙ by-none (eqb (type_number h) bit_string)
   where
     by-none : (a : Bool) → (a && false) ≡ false
@@ -89,14 +92,15 @@ unused-of h (x ∷ c) e =
     unused-at (is_a bit_string h) (type_number h) (announced_length h.size) x c t
     ∙ ap (λ (k : Bool). not k && is_a bit_string h && not (x == 0)) (sym e)
 
-made-eq : (a a' b b' c c' d d' : Bool) → a ≡ a' → b ≡ b' → c ≡ c' → d ≡ d' → made a b c d ≡ made a' b' c' d'
-made-eq a a' b b' c c' d d' e f g h = rw (e, f, g, h) refl
+surroundings_with-eq : (a a' b b' c c' d d' : Bool) → a ≡ a' → b ≡ b' → c ≡ c' → d ≡ d'
+    → surroundings_with a b c d ≡ surroundings_with a' b' c' d'
+surroundings_with-eq a a' b b' c c' d d' e f g h = rw (e, f, g, h) refl
 
-pub knows-after : (w : SiblingFrame) (s t : Site) (h : HeaderValue) (first : Option ℕ) (unused : Bool) → Knows w s
+pub knows-after : (w : HolderFrame) (s t : Site) (h : HeaderValue) (first : Option ℕ) (unused_bits : Bool) → Knows w s
     → t.holder ≡ s.holder → t.previous ≡ Sibling h first
-    → unused ≡ follows_unused_bits (Sibling h first)
-    → Knows (frame_after w (is_primitive h) (announced_length h.size) unused) t
-knows-after w s t h first unused k e b u = by-segments w.has_segments refl
+    → unused_bits ≡ follows_unused_bits (Sibling h first)
+    → Knows (frame_after w (is_primitive h) (announced_length h.size) unused_bits) t
+knows-after w s t h first unused_bits k e b u = by-segments w.has_segments refl
   where
     same : surroundings_in w ≡ around t.holder s.previous
     same = k ∙ ap (λ (o : Option HeaderValue). around o s.previous) (sym e)
@@ -108,9 +112,9 @@ knows-after w s t h first unused k e b u = by-segments w.has_segments refl
     bits = ap (λ (x : Surroundings). x.in_bit_string) same
 
     by-segments : (b : Bool) → w.has_segments ≡ b
-        → Knows (if b then frame_after_segment w (is_primitive h) (announced_length h.size) unused else w) t
+        → Knows (if b then frame_after_segment w (is_primitive h) (announced_length h.size) unused_bits else w) t
     by-segments true c =
-        made-eq _ _ _ _ _ _ _ _ segments bits
+        surroundings_with-eq _ _ _ _ _ _ _ _ segments bits
         (ap₂ (λ (x y : Bool). x && y) bits (u ∙ ap follows_unused_bits (sym b)))
         (ap₂ (λ (x y : Bool). x && y) segments
         (full-or-not h.constructed (announced_length h.size == 1000) ∙ ap is_not_full (sym b)))
@@ -118,7 +122,7 @@ knows-after w s t h first unused k e b u = by-segments w.has_segments refl
         let none : in_string t ≡ false = sym segments ∙ c in
         same ∙ around-none t.holder s.previous none ∙ sym (around-none t.holder t.previous none)
 
-pub knows-padding : (w : SiblingFrame) (s : Site) → Knows w s → s.holder ≡ None → Knows w (site_after_padding s)
+pub knows-padding : (w : HolderFrame) (s : Site) → Knows w s → s.holder ≡ None → Knows w (site_after_padding s)
 knows-padding w s k e =
     k ∙ ap (λ (o : Option HeaderValue). around o s.previous) e
     ∙ sym (ap (λ (o : Option HeaderValue). around o Padding) e)

@@ -8,17 +8,17 @@ use Rattle.tlv_head.specs.Header.{HeaderValue}
 use Rattle.tlv_value.specs.declared.finding.Finding.{Finding}
 use Rattle.tlv_value.specs.declared.finding.Finding.TheVariants.{C05, C06}
 use Rattle.tlv_value.specs.Checks.{findings_by}
-use Rattle.tlv_show.specs.declared.sibling_frame.SiblingFrame.{SiblingFrame}
+use Rattle.tlv_show.specs.declared.holder_frame.HolderFrame.{HolderFrame}
 use Rattle.tlv_show.specs.declared.rules.Rules.{Rules}
 use Rattle.tlv_show.specs.declared.rules.Rules.TheVariants.{Ber, Der, Cer}
 use Rattle.tlv_show.specs.Conditions.{header_conditions, Surroundings, basic_conditions, cer_conditions, der_conditions}
-use Rattle.tlv_show.specs.Conditions.{length_conditions, surroundings_of}
+use Rattle.tlv_show.specs.Conditions.{bits_octet_count, length_conditions, surroundings_of}
 use Rattle.tlv_show.specs.NestingState.{surroundings_in}
 use Rattle.tlv_show.specs.Found.{header_findings, is_shown, shown_findings}
 use Rattle.tlv_show.specs.Site.{Site}
 
 -- a frame says to the conditions what the site says
-abbrev pub Knows : SiblingFrame → Site → Type 0
+abbrev pub Knows : HolderFrame → Site → Type 0
 Knows w s = surroundings_in w ≡ surroundings_of s
 
 -- ---- what the rules show
@@ -67,7 +67,7 @@ cer-found s h =
     ∙ ap (λ (l : List Finding). l ++ findings_by (cer_conditions s h))
     (found-more (basic_conditions s h) (length_conditions h))
 
-pub header-same : (rules : Rules) (w : SiblingFrame) (s : Site) (h : HeaderValue) → Knows w s
+pub header-same : (rules : Rules) (w : HolderFrame) (s : Site) (h : HeaderValue) → Knows w s
     → header_findings rules (surroundings_in w) h ≡ header_findings rules (surroundings_of s) h
 header-same rules w s h k = ap (λ (t : Surroundings). header_findings rules t h) k
 
@@ -76,7 +76,7 @@ header-same rules w s h k = ap (λ (t : Surroundings). header_findings rules t h
 capped : (b x : ℕ) → b ≤ 1 → nat_le (b + min x 1001) 1000 ≡ nat_le (b + x) 1000
 capped b x h = grind (arith, nat_tests)
 
-small : (b : Bool) → (if b then 1 else 0) ≤ 1
+small : (b : Bool) → bits_octet_count b ≤ 1
 small true = omega arith
 small false = omega arith
 
@@ -86,9 +86,9 @@ ends_by rules k all few empty = shown_findings rules ((k && all && few, C05) ∷
 
 -- b: of a BIT STRING
 pub end-by : (rules : Rules) (k b all empty : Bool) (sum : ℕ → ℕ)
-    → ends_by rules k all (nat_le ((if k && b then 1 else 0) + min (sum (if k && b then 1 else 0)) 1001) 1000) empty
-    ≡ ends_by rules k all (nat_le ((if b then 1 else 0) + sum (if b then 1 else 0)) 1000) empty
+    → ends_by rules k all (nat_le (bits_octet_count (k && b) + min (sum (bits_octet_count (k && b))) 1001) 1000) empty
+    ≡ ends_by rules k all (nat_le (bits_octet_count b + sum (bits_octet_count b)) 1000) empty
 end-by rules false b all empty sum = refl
 end-by rules true b all empty sum =
-    let n = if b then 1 else 0 in
+    let n = bits_octet_count b in
     ap (λ (t : Bool). ends_by rules true all t empty) (capped n (sum n) (small b))

@@ -1,25 +1,25 @@
--- The frames that are kept stand for all frames.
+-- The frames that are kept represent all frames.
 use Rattle.std.proofs.Common.{zero, suc, ◌≡◌, ℕ, ◌+◌, ◌-◌, ◌<◌, ◌≤◌, ◌||◌, Bool, true, false, nat_lt, if◌then◌else◌}
 use Rattle.std.proofs.Common.{List, [], ◌∷◌, length, None, refl, sym, ap, ap₂, subst, ◌∙◌, arith, ◌&&◌}
 use Rattle.std.proofs.lemmas.Bool.Decides.{nat_tests}
 use Rattle.tlv_head.specs.Header.{HeaderValue}
 use Rattle.tlv_value.specs.Types.{has_segments}
-use Rattle.tlv_show.specs.declared.sibling_frame.SiblingFrame.{SiblingFrame}
-use Rattle.tlv_show.specs.declared.sibling_frame.KeptFrame.{KeptFrame}
+use Rattle.tlv_show.specs.declared.holder_frame.HolderFrame.{HolderFrame}
+use Rattle.tlv_show.specs.declared.holder_frame.KeptFrame.{KeptFrame}
 use Rattle.tlv_show.specs.NestingState.{NestingState, frame_after, frame_after_segment, frame_of, frame_under}
 use Rattle.tlv_show.specs.NestingState.{nesting_around, nesting_close_step, nesting_open_step, surroundings_in}
 use Rattle.tlv_show.specs.NestingState.{top_frame}
 use Rattle.tlv_show.specs.Private.Nesting.{AreKept, IsKept, TakesBack, all_frames, frames_with, innermost_frame}
-use Rattle.tlv_show.specs.Private.Nesting.{outer_frames, segments_by, segments_left}
+use Rattle.tlv_show.specs.Private.Nesting.{outer_frames, closed_frame_inside, closed_frame}
 
 -- ---- how many there are
 
-length-all : (w : SiblingFrame) (n : ℕ) (outer : List SiblingFrame)
+length-all : (w : HolderFrame) (n : ℕ) (outer : List HolderFrame)
     → length (frames_with w n outer) ≡ n + length outer + 1
 length-all w zero outer = omega arith
 length-all w (suc n) outer = let e = length-all w n outer in omega (arith, e)
 
-pub length-outside : (w : SiblingFrame) (n : ℕ) (outer : List SiblingFrame)
+pub length-outside : (w : HolderFrame) (n : ℕ) (outer : List HolderFrame)
     → length (outer_frames w n outer) ≡ n + length outer
 length-outside w zero outer = omega arith
 length-outside w (suc n) outer = let e = length-all w n outer in omega (arith, e)
@@ -31,11 +31,11 @@ length-others floor (k ∷ outer) (above, kept, others) =
     let r = length-others k.floor outer others in
     omega (arith, e, r, above)
 
--- the level is their number
-pub one_each : (w : SiblingFrame) (floor level : ℕ) (outer : List KeptFrame) → floor ≤ level → AreKept floor outer
-    → length (outer_frames w (level - floor) (all_frames floor outer)) ≡ level
-one_each w floor level outer inside others =
-    let e = length-outside w (level - floor) (all_frames floor outer) in
+-- the depth is their number
+pub one_each : (w : HolderFrame) (floor depth : ℕ) (outer : List KeptFrame) → floor ≤ depth → AreKept floor outer
+    → length (outer_frames w (depth - floor) (all_frames floor outer)) ≡ depth
+one_each w floor depth outer inside others =
+    let e = length-outside w (depth - floor) (all_frames floor outer) in
     let r = length-others floor outer others in
     omega (arith, e, r, inside)
 
@@ -45,19 +45,19 @@ fewer-kept floor (k ∷ outer) (above, kept, others) = let r = fewer-kept k.floo
 
 -- ---- what contracts see of those that are kept
 
-abbrev nest : SiblingFrame → ℕ → List SiblingFrame → NestingState
+abbrev nest : HolderFrame → ℕ → List HolderFrame → NestingState
 nest w n outer = record { frame = innermost_frame w n; outer = outer_frames w n outer }
 
-abbrev seen : SiblingFrame → ℕ → ℕ → List KeptFrame → NestingState
-seen w floor level outer = nest w (level - floor) (all_frames floor outer)
+abbrev nesting_of : HolderFrame → ℕ → ℕ → List KeptFrame → NestingState
+nesting_of w floor depth outer = nest w (depth - floor) (all_frames floor outer)
 
-split : (w : SiblingFrame) (n : ℕ) (outer : List SiblingFrame)
+split : (w : HolderFrame) (n : ℕ) (outer : List HolderFrame)
     → frames_with w n outer ≡ innermost_frame w n ∷ outer_frames w n outer
 split w zero outer = refl
 split w (suc n) outer = refl
 
 -- all frames outside of strings say the same of what is around an element
-pub around-same : (w : SiblingFrame) (n : ℕ) → IsKept w n → surroundings_in w ≡ surroundings_in (innermost_frame w n)
+pub around-same : (w : HolderFrame) (n : ℕ) → IsKept w n → surroundings_in w ≡ surroundings_in (innermost_frame w n)
 around-same w zero kept = refl
 around-same w (suc n) kept =
     ap (λ (k : Bool). record {
@@ -69,7 +69,7 @@ around-same w (suc n) kept =
 
 -- ---- an element begins
 
-opened-is : (w : SiblingFrame) (n : ℕ) (outer : List SiblingFrame) (h : HeaderValue)
+opened-is : (w : HolderFrame) (n : ℕ) (outer : List HolderFrame) (h : HeaderValue)
     → length (outer_frames w n outer) < 128
     → nesting_open_step (nest w n outer) h
     ≡ record { frame = frame_under (innermost_frame w n) h; outer = innermost_frame w n ∷ outer_frames w n outer }
@@ -81,7 +81,7 @@ neither : (a b : Bool) → (a || b) ≡ false → (a ≡ false) × (b ≡ false)
 neither true b e = absurd (cc (e))
 neither false b e = (refl, e)
 
-opened-without_frame : (w : SiblingFrame) (n : ℕ) (outer : List SiblingFrame) (h : HeaderValue)
+opened-without_frame : (w : HolderFrame) (n : ℕ) (outer : List HolderFrame) (h : HeaderValue)
     → length (outer_frames w n outer) < 128
     → IsKept w n → (w.has_segments || has_segments h) ≡ false
     → nest w (suc n) outer ≡ nesting_open_step (nest w n outer) h
@@ -90,94 +90,95 @@ opened-without_frame w n outer h few kept none =
     let f : has_segments h ≡ false = (neither w.has_segments (has_segments h) none).1 in
     ap₂ (λ (a b : Bool). record { frame = if a || b then frame_of h else top_frame; outer = frames_with w n outer })
     (sym (kept ∙ e)) (sym f)
-    ∙ ap (λ (l : List SiblingFrame). record { frame = frame_under (innermost_frame w n) h; outer = l })
+    ∙ ap (λ (l : List HolderFrame). record { frame = frame_under (innermost_frame w n) h; outer = l })
     (split w n outer)
     ∙ sym (opened-is w n outer h few)
 
-opened-frame : (w : SiblingFrame) (n : ℕ) (outer : List SiblingFrame) (h : HeaderValue)
+opened-frame : (w : HolderFrame) (n : ℕ) (outer : List HolderFrame) (h : HeaderValue)
     → length (outer_frames w n outer) < 128
     → IsKept w n → (w.has_segments || has_segments h) ≡ true
     → nest (frame_of h) 0 (frames_with w n outer) ≡ nesting_open_step (nest w n outer) h
 opened-frame w n outer h few kept one =
-    ap₂ (λ (b : Bool) (l : List SiblingFrame). record { frame = if b then frame_of h else top_frame; outer = l })
+    ap₂ (λ (b : Bool) (l : List HolderFrame). record { frame = if b then frame_of h else top_frame; outer = l })
     (sym (ap (λ (b : Bool). b || has_segments h) kept ∙ one)) (split w n outer)
     ∙ sym (opened-is w n outer h few)
 
 module _
-    (w : SiblingFrame) (floor level : ℕ) (outer : List KeptFrame)
-    (inside : floor ≤ level) (kept : IsKept w (level - floor)) (others : AreKept floor outer)
-    (h : HeaderValue) (few : level < 128)
+    (w : HolderFrame) (floor depth : ℕ) (outer : List KeptFrame)
+    (inside : floor ≤ depth) (kept : IsKept w (depth - floor)) (others : AreKept floor outer)
+    (h : HeaderValue) (few : depth < 128)
   where
-    few-outside : length (outer_frames w (level - floor) (all_frames floor outer)) < 128
-    few-outside = let e = one_each w floor level outer inside others in omega (arith, e)
+    few-outside : length (outer_frames w (depth - floor) (all_frames floor outer)) < 128
+    few-outside = let e = one_each w floor depth outer inside others in omega (arith, e)
 
     pub opens-without_frame : (w.has_segments || has_segments h) ≡ false
-        → seen w floor (level + 1) outer ≡ nesting_open_step (seen w floor level outer) h
+        → nesting_of w floor (depth + 1) outer ≡ nesting_open_step (nesting_of w floor depth outer) h
     opens-without_frame none =
-        let one_more : level + 1 - floor ≡ suc (level - floor) = omega arith in
-        rw one_more (opened-without_frame w (level - floor) (all_frames floor outer) h few-outside kept none)
+        let one_more : depth + 1 - floor ≡ suc (depth - floor) = omega arith in
+        rw one_more (opened-without_frame w (depth - floor) (all_frames floor outer) h few-outside kept none)
 
     pub opens-frame : (w.has_segments || has_segments h) ≡ true
-        → seen (frame_of h) (level + 1) (level + 1) (record { frame = w; floor = floor } ∷ outer)
-        ≡ nesting_open_step (seen w floor level outer) h
+        → nesting_of (frame_of h) (depth + 1) (depth + 1) (record { frame = w; floor = floor } ∷ outer)
+        ≡ nesting_open_step (nesting_of w floor depth outer) h
     opens-frame one =
-        let none_inside : level + 1 - (level + 1) ≡ 0 = omega arith in
-        let as_before : level + 1 - 1 ≡ level = omega arith in
-        rw (none_inside, as_before) (opened-frame w (level - floor) (all_frames floor outer) h few-outside kept one)
+        let none_inside : depth + 1 - (depth + 1) ≡ 0 = omega arith in
+        let as_before : depth + 1 - 1 ≡ depth = omega arith in
+        rw (none_inside, as_before) (opened-frame w (depth - floor) (all_frames floor outer) h few-outside kept one)
 
 -- ---- an element ends
 
-outer_frames-strings : (w : SiblingFrame) (primitive : Bool) (size : ℕ) (unused : Bool) → w.has_segments ≡ false
-    → frame_after w primitive size unused ≡ w
-outer_frames-strings w primitive size unused e =
-    ap (λ (k : Bool). if k then frame_after_segment w primitive size unused else w) e
+outer_frames-strings : (w : HolderFrame) (primitive : Bool) (size : ℕ) (unused_bits : Bool) → w.has_segments ≡ false
+    → frame_after w primitive size unused_bits ≡ w
+outer_frames-strings w primitive size unused_bits e =
+    ap (λ (k : Bool). if k then frame_after_segment w primitive size unused_bits else w) e
 
-one-less : (w : SiblingFrame) (n : ℕ) → IsKept w (suc n) → (innermost_frame w n).has_segments ≡ false
+one-less : (w : HolderFrame) (n : ℕ) → IsKept w (suc n) → (innermost_frame w n).has_segments ≡ false
 one-less w zero kept = sym kept
 one-less w (suc n) kept = refl
 
-closed-without_frame : (w : SiblingFrame) (n : ℕ) (outer : List SiblingFrame) → IsKept w (suc n)
+closed-without_frame : (w : HolderFrame) (n : ℕ) (outer : List HolderFrame) → IsKept w (suc n)
     → nest w n outer ≡ nesting_close_step (nest w (suc n) outer)
 closed-without_frame w n outer kept =
-    ap (λ (v : SiblingFrame). record { frame = v; outer = outer_frames w n outer })
+    ap (λ (v : HolderFrame). record { frame = v; outer = outer_frames w n outer })
     (sym (outer_frames-strings (innermost_frame w n) false 0 false (one-less w n kept)))
     ∙ ap (nesting_around top_frame) (sym (split w n outer))
 
-closed-frame : (closed w : SiblingFrame) (n : ℕ) (outer : List SiblingFrame) → IsKept w n
-    → nest (frame_after w closed.is_primitive closed.size false) n outer ≡ nesting_around closed (frames_with w n outer)
+closed-frame : (closed w : HolderFrame) (n : ℕ) (outer : List HolderFrame) → IsKept w n
+    → nest (frame_after w closed.is_primitive closed.announced_length false) n outer
+    ≡ nesting_around closed (frames_with w n outer)
 closed-frame closed w zero outer kept = refl
 closed-frame closed w (suc n) outer kept =
-    ap (λ (v : SiblingFrame). record { frame = top_frame; outer = frames_with v n outer })
-    (outer_frames-strings w closed.is_primitive closed.size false (sym kept))
+    ap (λ (v : HolderFrame). record { frame = top_frame; outer = frames_with v n outer })
+    (outer_frames-strings w closed.is_primitive closed.announced_length false (sym kept))
 
-closed-top : (w : SiblingFrame) (outer : List SiblingFrame) → length outer ≡ 0
-    → (record { frame = w; outer = outer } ≡ nesting_around w outer) × (None ≡ segments_by w outer)
+closed-top : (w : HolderFrame) (outer : List HolderFrame) → length outer ≡ 0
+    → (record { frame = w; outer = outer } ≡ nesting_around w outer) × (None ≡ closed_frame_inside w outer)
 closed-top w [] none = (refl, refl)
 closed-top w (v ∷ outer) none = absurd (omega arith)
 
-module _ (w : SiblingFrame) (floor level : ℕ) (outer : List KeptFrame) where
-  pub closes-without_frame : IsKept w (level - floor) → floor < level
-      → seen w floor (level - 1) outer ≡ nesting_close_step (seen w floor level outer)
+module _ (w : HolderFrame) (floor depth : ℕ) (outer : List KeptFrame) where
+  pub closes-without_frame : IsKept w (depth - floor) → floor < depth
+      → nesting_of w floor (depth - 1) outer ≡ nesting_close_step (nesting_of w floor depth outer)
   closes-without_frame kept above =
-      let one_more : level - floor ≡ suc (level - 1 - floor) = omega arith in
-      let same : IsKept w (suc (level - 1 - floor)) = subst (IsKept w) one_more kept in
-      rw one_more (closed-without_frame w (level - 1 - floor) (all_frames floor outer) same)
+      let one_more : depth - floor ≡ suc (depth - 1 - floor) = omega arith in
+      let same : IsKept w (suc (depth - 1 - floor)) = subst (IsKept w) one_more kept in
+      rw one_more (closed-without_frame w (depth - 1 - floor) (all_frames floor outer) same)
 
-  pub closes-top : floor ≤ level → AreKept floor outer → level ≡ 0
-      → (seen w floor level outer ≡ nesting_close_step (seen w floor level outer))
-      × (None ≡ segments_left (seen w floor level outer))
+  pub closes-top : floor ≤ depth → AreKept floor outer → depth ≡ 0
+      → (nesting_of w floor depth outer ≡ nesting_close_step (nesting_of w floor depth outer))
+      × (None ≡ closed_frame (nesting_of w floor depth outer))
   closes-top inside others top =
-      closed-top (innermost_frame w (level - floor)) (outer_frames w (level - floor) (all_frames floor outer))
-      (one_each w floor level outer inside others ∙ top)
+      closed-top (innermost_frame w (depth - floor)) (outer_frames w (depth - floor) (all_frames floor outer))
+      (one_each w floor depth outer inside others ∙ top)
 
-pub closes-frame : (w : SiblingFrame) (floor level : ℕ) (outer : List KeptFrame) → AreKept floor outer → floor ≡ level
-    → 0 < level
-    → (v : SiblingFrame) (lower : ℕ) (rest : List KeptFrame) → TakesBack w outer v lower rest
-    → seen v lower (level - 1) rest ≡ nesting_close_step (seen w floor level outer)
-closes-frame w floor level [] none at_floor any v lower rest back = absurd (omega arith)
-closes-frame w floor level (k ∷ outer) (above, kept, others) at_floor any v lower rest back =
-    let none_inside : level - level ≡ 0 = omega arith in
-    let same : IsKept k.frame (level - 1 - k.floor) =
+pub closes-frame : (w : HolderFrame) (floor depth : ℕ) (outer : List KeptFrame) → AreKept floor outer → floor ≡ depth
+    → 0 < depth
+    → (v : HolderFrame) (lower : ℕ) (rest : List KeptFrame) → TakesBack w outer v lower rest
+    → nesting_of v lower (depth - 1) rest ≡ nesting_close_step (nesting_of w floor depth outer)
+closes-frame w floor depth [] none at_floor any v lower rest back = absurd (omega arith)
+closes-frame w floor depth (k ∷ outer) (above, kept, others) at_floor any v lower rest back =
+    let none_inside : depth - depth ≡ 0 = omega arith in
+    let same : IsKept k.frame (depth - 1 - k.floor) =
     subst (λ (n : ℕ). IsKept k.frame (n - 1 - k.floor)) at_floor kept in
-    rw (back.frame, back.level, back.others, at_floor, none_inside)
-    (closed-frame w k.frame (level - 1 - k.floor) (all_frames k.floor outer) same)
+    rw (back.frame, back.same_floor, back.others, at_floor, none_inside)
+    (closed-frame w k.frame (depth - 1 - k.floor) (all_frames k.floor outer) same)

@@ -31,9 +31,9 @@ use Rattle.tlv_show.specs.Conditions.{Segments, end_conditions, has_high_form, h
 use Rattle.tlv_show.specs.Conditions.{segments_of, surroundings_of}
 use Rattle.tlv_show.specs.Found.{contents_findings, header_findings, end_findings}
 use Rattle.tlv_show.specs.Items.{Item, OpeningLine, ClosingLine, PrimitiveLines, PaddingLine, headers, items}
-use Rattle.tlv_show.proofs.FindingLemmas.ElementItems.{on_contents, on_end, on_header}
+use Rattle.tlv_show.specs.Items.{contents_items, end_items, header_items}
 use Rattle.tlv_show.specs.Site.{Site, is_padding, site_of_children, top_site}
-use Rattle.tlv_show.proofs.FindingLemmas.SitesAfter.{site_after, site_after_holder, site_after_padding}
+use Rattle.tlv_show.specs.Site.{site_after_primitive, site_after_holder, site_after_padding}
 use Rattle.tlv_show.specs.Spellings.{SomeSpelling, is_item_on_spelling, is_on_spelling}
 use Rattle.tlv_show.proofs.FindingLemmas.LongerHeaders.{longer_identifier-absent, longer_lengths, longer_lengths-absent}
 use Rattle.tlv_show.proofs.FindingLemmas.Spellings.{IsSoundReading, form_by, items-found, sound-reading_of}
@@ -91,20 +91,20 @@ padding-none false level offset = refl
 
 module _ (rules : Rules) (strict : rules ≢ Ber) where
   header-none : (s : Site) (h : HeaderValue) → IsRegular (form_by rules) h
-      → list_any is_item_on_spelling (on_header rules s h) ≡ false
+      → list_any is_item_on_spelling (header_items rules s h) ≡ false
   header-none s h r =
       items-found s.level h.offset (header_findings rules (surroundings_of s) h)
       ∙ found-with_header is_on_spelling rules (surroundings_of s) h ∙ header-absent rules s h strict r
 
   contents-none : (s : Site) (h : HeaderValue) (c : List ℕ)
-      → list_any is_item_on_spelling (on_contents rules s h c) ≡ false
+      → list_any is_item_on_spelling (contents_items rules s h c) ≡ false
   contents-none s h c =
       items-found s.level h.offset (contents_findings rules h c)
       ∙ all-found is_on_spelling rules (contents_conditions h c)
       ∙ contents-absent rules h c
 
   end-none : (s : Site) (h : HeaderValue) (inside : Forest)
-      → list_any is_item_on_spelling (on_end rules s h inside) ≡ false
+      → list_any is_item_on_spelling (end_items rules s h inside) ≡ false
   end-none s h inside =
       items-found s.level h.offset (end_findings rules (segments_of h (headers inside)))
       ∙ all-found is_on_spelling rules (end_conditions (segments_of h (headers inside)))
@@ -119,21 +119,21 @@ module _ (rules : Rules) (strict : rules ≢ Ber) where
       (padding-none (is_padding s.previous) s.level s.offset)
       (none-found (place_after p 1) (site_after_padding s) rest u.1 r)
   none-found p s (Primitive h c rest) u r =
-      both-none (on_header rules s h)
-      (PrimitiveLines s.level h c ∷ (on_contents rules s h c ++ items rules (site_after s h c) rest))
+      both-none (header_items rules s h)
+      (PrimitiveLines s.level h c ∷ (contents_items rules s h c ++ items rules (site_after_primitive s h c) rest))
       (header-none s h r.0)
-      (both-none (on_contents rules s h c) (items rules (site_after s h c) rest) (contents-none s h c)
-      (none-found (place_after p (length (octets_of h) + length c)) (site_after s h c) rest u.2 r.1))
+      (both-none (contents_items rules s h c) (items rules (site_after_primitive s h c) rest) (contents-none s h c)
+      (none-found (place_after p (length (octets_of h) + length c)) (site_after_primitive s h c) rest u.2 r.1))
   none-found p s (Holder h inside rest) u r =
-      let last : List Item = on_end rules s h inside ++ items rules (site_after_holder s h inside) rest in
+      let last : List Item = end_items rules s h inside ++ items rules (site_after_holder s h inside) rest in
       let held : List Item = items rules (site_of_children s h) inside in
-      both-none (on_header rules s h)
+      both-none (header_items rules s h)
       (OpeningLine s.level h
       ∷ (held ++ ClosingLine s.level (if h.constructed then end_octets_offset h inside else None) ∷ last))
       (header-none s h r.0)
       (both-none held (ClosingLine s.level (if h.constructed then end_octets_offset h inside else None) ∷ last)
       (none-found (place_of_children p h) (site_of_children s h) inside u.3 r.1)
-      (both-none (on_end rules s h inside) (items rules (site_after_holder s h inside) rest) (end-none s h inside)
+      (both-none (end_items rules s h inside) (items rules (site_after_holder s h inside) rest) (end-none s h inside)
       (none-found (place_after p (extent h inside)) (site_after_holder s h inside) rest u.4 r.2)))
   none-found p s (OpenPrimitive h c) u r = absurd u
   none-found p s (OpenHolder h inside) u r = absurd u

@@ -29,20 +29,20 @@ use Rattle.tlv_show.specs.Conditions.{length_octet, has_high_form, has_long_form
 use Rattle.tlv_show.specs.Conditions.{surroundings_of}
 use Rattle.tlv_show.specs.Found.{header_findings}
 use Rattle.tlv_show.specs.Items.{Item, OpeningLine, ClosingLine, PrimitiveLines, PaddingLine, items}
-use Rattle.tlv_show.proofs.FindingLemmas.ElementItems.{findings_at, on_contents, on_end, on_header}
+use Rattle.tlv_show.specs.Items.{finding_items, contents_items, end_items, header_items}
 use Rattle.tlv_show.specs.Site.{Site, is_padding, site_of_children, top_site}
-use Rattle.tlv_show.proofs.FindingLemmas.SitesAfter.{site_after, site_after_holder, site_after_padding}
+use Rattle.tlv_show.specs.Site.{site_after_primitive, site_after_holder, site_after_padding}
 use Rattle.tlv_show.specs.Spellings.{OneSpelling, is_item_on_spelling, is_on_spelling}
 use Rattle.tlv_show.proofs.FindingLemmas.FindingsOfHeaders.{any_of, found-with_header}
 
 -- ---- conditions whose findings are not reported
 
 pub items-found : (level offset : ℕ) (fs : List Finding)
-    → list_any is_item_on_spelling (findings_at level offset fs) ≡ list_any is_on_spelling fs
+    → list_any is_item_on_spelling (finding_items level offset fs) ≡ list_any is_on_spelling fs
 items-found level offset [] = refl
 items-found level offset (f ∷ fs) = ap (λ (b : Bool). is_on_spelling f || b) (items-found level offset fs)
 
-absent : (rules : Rules) (s : Site) (h : HeaderValue) → list_any is_item_on_spelling (on_header rules s h) ≡ false
+absent : (rules : Rules) (s : Site) (h : HeaderValue) → list_any is_item_on_spelling (header_items rules s h) ≡ false
     → any_of is_on_spelling rules (header_conditions (surroundings_of s) h) ≡ false
 absent rules s h e =
     sym (found-with_header is_on_spelling rules (surroundings_of s) h)
@@ -104,7 +104,7 @@ by-form false (Definite n) a e = refl
 by-form false Indefinite a e = absurd (cc (a))
 
 regular : (rules : Rules) (s : Site) (h : HeaderValue) → rules ≢ Ber → IsHeader h
-    → list_any is_item_on_spelling (on_header rules s h) ≡ false
+    → list_any is_item_on_spelling (header_items rules s h) ≡ false
     → IsRegular (form_by rules) h
 regular Ber s h strict valid e = absurd (strict refl)
 regular Der s h strict valid e =
@@ -137,22 +137,22 @@ module _ (rules : Rules) (strict : rules ≢ Ber) where
       (items rules (site_after_padding s) rest) e).1
   all-regular p s (Primitive h c rest) u e =
       let header =
-      none-in (on_header rules s h)
-      (PrimitiveLines s.level h c ∷ (on_contents rules s h c ++ items rules (site_after s h c) rest)) e in
-      let others = none-in (on_contents rules s h c) (items rules (site_after s h c) rest) header.1 in (
+      none-in (header_items rules s h)
+      (PrimitiveLines s.level h c ∷ (contents_items rules s h c ++ items rules (site_after_primitive s h c) rest)) e in
+      let others = none-in (contents_items rules s h c) (items rules (site_after_primitive s h c) rest) header.1 in (
         regular rules s h strict u.0.valid header.0,
-        all-regular (place_after p (length (octets_of h) + length c)) (site_after s h c) rest u.2 others.1,
+        all-regular (place_after p (length (octets_of h) + length c)) (site_after_primitive s h c) rest u.2 others.1,
       )
   all-regular p s (Holder h inside rest) u e =
-      let last : List Item = on_end rules s h inside ++ items rules (site_after_holder s h inside) rest in
+      let last : List Item = end_items rules s h inside ++ items rules (site_after_holder s h inside) rest in
       let held_and_last : List Item =
       items rules (site_of_children s h) inside
       ++ ClosingLine s.level (if h.constructed then end_octets_offset h inside else None) ∷ last in
-      let header = none-in (on_header rules s h) (OpeningLine s.level h ∷ held_and_last) e in
+      let header = none-in (header_items rules s h) (OpeningLine s.level h ∷ held_and_last) e in
       let held =
       none-in (items rules (site_of_children s h) inside)
       (ClosingLine s.level (if h.constructed then end_octets_offset h inside else None) ∷ last) header.1 in
-      let others = none-in (on_end rules s h inside) (items rules (site_after_holder s h inside) rest) held.1 in (
+      let others = none-in (end_items rules s h inside) (items rules (site_after_holder s h inside) rest) held.1 in (
         regular rules s h strict u.0.valid header.0,
         all-regular (place_of_children p h) (site_of_children s h) inside u.3 held.0,
         all-regular (place_after p (extent h inside)) (site_after_holder s h inside) rest u.4 others.1,

@@ -5,7 +5,7 @@ use Rattle.tlv_head.specs.Header.{HeaderValue}
 use Rattle.tlv_value.specs.declared.finding.Finding.TheVariants.{B01, B02, B03, B04, B05, B16, B17}
 use Rattle.tlv_value.specs.Checks.{findings_by}
 use Rattle.tlv_value.specs.Types.{is_a}
-use Rattle.tlv_show.specs.declared.sibling_frame.SiblingFrame.{SiblingFrame}
+use Rattle.tlv_show.specs.declared.holder_frame.HolderFrame.{HolderFrame}
 use Rattle.tlv_show.specs.declared.rules.Rules.TheVariants.{Ber}
 use Rattle.tlv_show.specs.Conditions.{has_high_form, number_bits, segment_type}
 use Rattle.tlv_show.specs.NestingState.{surroundings_in}
@@ -18,11 +18,11 @@ none-of_seven : (a b c d e f g : Bool) → a ≡ false → b ≡ false → c ≡
     → findings_by ((a, B01) ∷ (b, B02) ∷ (c, B03) ∷ (d, B04) ∷ (e, B05) ∷ (f, B16) ∷ (g, B17) ∷ []) ≡ []
 none-of_seven a b c d e f g p q r s t u v = rw (p, q, r, s, t, u, v) refl
 
-pub none-by_ber : (w : SiblingFrame) (h : HeaderValue) → w.has_segments ≡ false
+pub none-by_ber : (w : HolderFrame) (h : HeaderValue) → w.has_segments ≡ false
     → (has_high_form h && nat_lt h.number 31) ≡ false → (has_high_form h && number_bits h == 0) ≡ false → IsUsual h
     → header_findings Ber (surroundings_in w) h ≡ []
 none-by_ber w h outside number bits usual =
     basic-found (surroundings_in w) h
     ∙ none-of_seven _ _ _ _ _ _ _ number bits usual.assigned usual.primitive usual.constructed
     (ap (λ (k : Bool). (k && w.is_bit_string) && w.last_has_unused_bits) outside)
-    (ap (λ (k : Bool). k && not (is_a (segment_type (surroundings_in w)) h)) outside)
+    (ap (λ (k : Bool). k && not (is_a (segment_type (surroundings_in w).in_bit_string) h)) outside)

@@ -1,36 +1,32 @@
 -- What a `Finder` makes of an event, and what it returns.
-use Rattle.std.specs.Prelude.{ℕ, ◌≡◌, Bool, true, false, if◌then◌else◌, List, [], Option, Some, None}
+use Rattle.std.specs.Prelude.{ℕ, ◌≡◌, Bool, true, false, if◌then◌else◌, List, []}
 use Rattle.tlv_head.specs.Header.{HeaderValue}
-use Rattle.tlv_value.specs.ValueCheckState.{ValueCheckState}
 use Rattle.tlv_walk.specs.Events.{Begin, Bytes, Close, End, Enter, EventValue, Leave, Open, Pad, Unused}
 use Rattle.tlv_show.specs.declared.rules.Rules.{Rules}
-use Rattle.tlv_show.specs.FinderState.{OpenPrimitiveState, FinderState, FinderReport, new_check, without_findings}
+use Rattle.tlv_show.specs.FinderState.{CheckState, FinderState, new_check, without_findings}
 use Rattle.tlv_show.specs.FinderState.{finder_open_step, finder_begin_step, finder_bytes_step}
 use Rattle.tlv_show.specs.FinderState.{finder_end_step, finder_close_step}
 
 -- a finder of which no event has come
-abbrev pub new_finder : Rules → FinderReport
+abbrev pub new_finder : Rules → FinderState
 new_finder rules = without_findings (new_check rules)
 
--- the primitive that begins at `offset`, if one is open
-abbrev pub open_by : Bool → ℕ → ValueCheckState → Option OpenPrimitiveState
-open_by is_open offset check = if is_open then Some (record { offset = offset; check = check }) else None
-
 -- the state alone changes
-abbrev pub with_state : FinderState → FinderReport → FinderReport
-with_state s f = record f { state = s }
+abbrev pub with_state : CheckState → FinderState → FinderState
+with_state s f = record f { kept = s }
 
--- a finder returns whether there may be findings: if so, it says what they are; if not, there are none
-abbrev pub ReportsFindings : FinderReport → FinderReport → Bool → Type 0
-ReportsFindings f new true = new ≡ f
-ReportsFindings f new false = (new.state ≡ f.state) × (f.found ≡ [])
+-- what a finder has found with an event. It returns whether there may be findings: if so, it says what they are; if
+-- not, there are none
+abbrev pub HasFound : FinderState → FinderState → Bool → Type 0
+HasFound f new true = new ≡ f
+HasFound f new false = (new.kept ≡ f.kept) × (f.findings ≡ [])
 
 -- what is found, if the finder says that there may be findings
-abbrev pub with_findings_if : Bool → FinderReport → FinderReport
-with_findings_if has_findings f = if has_findings then f else without_findings f.state
+abbrev pub with_findings_if : Bool → FinderState → FinderState
+with_findings_if may_have_findings f = if may_have_findings then f else without_findings f.kept
 
 -- an event
-abbrev pub finder_step : FinderState → EventValue → FinderReport
+abbrev pub finder_step : CheckState → EventValue → FinderState
 finder_step s (Open h) = finder_open_step s h
 finder_step s (Begin h) = finder_begin_step s h
 finder_step s (Bytes octets) = without_findings (finder_bytes_step s octets)
@@ -42,16 +38,16 @@ finder_step s Leave = finder_close_step s
 finder_step s (Pad octets) = without_findings s
 
 -- all of a primitive: its header, its contents and its end. What is found with its end
-abbrev pub finder_whole_step : FinderState → HeaderValue → List ℕ → FinderReport
-finder_whole_step s h c = finder_end_step (finder_bytes_step (finder_begin_step s h).state c)
+abbrev pub finder_whole_step : CheckState → HeaderValue → List ℕ → FinderState
+finder_whole_step s h c = finder_end_step (finder_bytes_step (finder_begin_step s h).kept c)
 
 -- nothing is found with a primitive, and the state is that after its end
-pub record PassesPrimitive (old new : FinderReport) (h : HeaderValue) (c : List ℕ) : Type 0 where
-  pub begins : (finder_begin_step old.state h).found ≡ []
-  pub ends : (finder_whole_step old.state h c).found ≡ []
-  pub state : new ≡ with_state (finder_whole_step old.state h c).state old
+pub record PassesPrimitive (old new : FinderState) (h : HeaderValue) (c : List ℕ) : Type 0 where
+  pub begins : (finder_begin_step old.kept h).findings ≡ []
+  pub ends : (finder_whole_step old.kept h c).findings ≡ []
+  pub state : new ≡ with_state (finder_whole_step old.kept h c).kept old
 
 -- a finder returns whether it took a primitive with which nothing is found; if not, nothing changes
-abbrev pub PassesOrStays : FinderReport → FinderReport → HeaderValue → List ℕ → Bool → Type 0
+abbrev pub PassesOrStays : FinderState → FinderState → HeaderValue → List ℕ → Bool → Type 0
 PassesOrStays old new h c true = PassesPrimitive old new h c
 PassesOrStays old new h c false = new ≡ old

@@ -27,7 +27,7 @@ impl Lines<'_> {
             (whole_lines (finite.get self.old.names) header.now self.old.layout contents.now)
             result }
     {
-        self.enter(header);
+        self.set_after_header(header);
         self.offset = self.offset.saturating_add(contents.len() as u64);
         self.is_open = false;
         put_whole(header, self.layout, contents, self.names, out)

@@ -12,7 +12,7 @@ returns-in_err-put_finding g c =
       rest = _;
       is =
           append_assoc i.put.0 _ _
-          ∙ next_line c.args.style c.args.place.0 c.args.place.1 i.put.0 _ _ c.args.findings.now
+          ∙ next_line c.args.style c.args.level c.args.offset i.put.0 _ _ c.args.findings.now
           c.loop-finding.finding-index _ (omega arith) refl i.put.2;
     }))
 
@@ -25,7 +25,7 @@ loop-finding-preserved g c =
         puts_as g.D.Drain.state
             _ _ _ _ _ _ (puts_then g.D.Drain.state _ _ _ _ _ _ _ i.put.1 c.in_ok-put_finding.ensures) refl,
         append_assoc i.put.0 _ _
-            ∙ next_line c.args.style c.args.place.0 c.args.place.1 i.put.0 _ _ c.args.findings.now
+            ∙ next_line c.args.style c.args.level c.args.offset i.put.0 _ _ c.args.findings.now
             c.loop-finding.finding-index _ (omega arith) refl i.put.2,
       );
     }

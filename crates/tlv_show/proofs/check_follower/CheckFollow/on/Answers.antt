@@ -7,19 +7,19 @@ use Rattle.tlv_show.proofs.check_follower.CheckFollow.on.Goals as goal
 pub returns-in_err-put_findings-clause-puts : goal.returns-in_err-put_findings-clause-puts
 returns-in_err-put_findings-clause-puts g c =
     let text =
-    step-text c.args.self.now _ c.find-has_findings.new.self c.find-has_findings.result
-    (event_value_of c.args.event.now) (sym c.self.view_is) c.find-has_findings.ensures in
+    step-text c.args.self.now _ c.find-may_have_findings.new.self c.find-may_have_findings.result
+    (event_value_of c.args.event.now) (sym c.self.view_is) c.find-may_have_findings.ensures in
     puts_text g.D.Drain.state _ _ _ _ _ text
     (puts_failed_last g.D.Drain.state _ _ _ _ _ c.in_err-put_findings.ensures (search rules))
 
 pub returns-clause-puts : goal.returns-clause-puts
 returns-clause-puts g c =
     let text =
-    step-text c.args.self.now _ c.find-has_findings.new.self c.find-has_findings.result
-    (event_value_of c.args.event.now) (sym c.self.view_is) c.find-has_findings.ensures in
+    step-text c.args.self.now _ c.find-may_have_findings.new.self c.find-may_have_findings.result
+    (event_value_of c.args.event.now) (sym c.self.view_is) c.find-may_have_findings.ensures in
     puts_text g.D.Drain.state _ _ _ _ _ text (puts_as g.D.Drain.state _ _ _ _ _ _ c.in_ok-put_findings.ensures refl)
 
 pub returns-clause-state : goal.returns-clause-state
 returns-clause-state g c =
-    step-state c.args.self.now _ c.find-has_findings.new.self c.find-has_findings.result
-    (event_value_of c.args.event.now) (sym c.self.view_is) c.find-has_findings.ensures
+    step-state c.args.self.now _ c.find-may_have_findings.new.self c.find-may_have_findings.result
+    (event_value_of c.args.event.now) (sym c.self.view_is) c.find-may_have_findings.ensures

@@ -1,21 +1,21 @@
 use Rattle.std.proofs.Common.{rules}
 use Rattle.tlv_show.specs.DumpStep.{DumpState}
-use Rattle.tlv_show.proofs.DumpLemmas.DumpSteps.{found_failed, found_first}
+use Rattle.tlv_show.proofs.DumpLemmas.DumpSteps.{found_failed, found_before}
 use Rattle.tlv_show.proofs.dump_follower.Dump.begin.Goals as goal
 
 pub returns-in_err-put_findings-clause-puts : goal.returns-in_err-put_findings-clause-puts
 returns-in_err-put_findings-clause-puts g c =
-    let s : DumpState = record { lines = c.self.inside.lines; finder = c.self.inside.finder.state } in
+    let s : DumpState = record { lines = c.self.inside.lines; finder = c.self.inside.finder.kept } in
     rw (← c.self.view_is)
-    (found_failed g.D.Drain.state s _ c.begin-has_findings.new.self c.begin-has_findings.result
-    _ _ _ _ _ _ c.style-style.ensures c.begin-has_findings.ensures c.in_err-put_findings.ensures (search rules))
+    (found_failed g.D.Drain.state s _ c.begin-may_have_findings.new.self c.begin-may_have_findings.result
+    _ _ _ _ _ _ c.style-style.ensures c.begin-may_have_findings.ensures c.in_err-put_findings.ensures (search rules))
 
 pub returns-clause-puts : goal.returns-clause-puts
 returns-clause-puts g c =
-    let s : DumpState = record { lines = c.self.inside.lines; finder = c.self.inside.finder.state } in
+    let s : DumpState = record { lines = c.self.inside.lines; finder = c.self.inside.finder.kept } in
     rw (← c.self.view_is)
-    (found_first g.D.Drain.state s _ c.begin-has_findings.new.self c.begin-has_findings.result
-    _ _ _ _ _ _ _ c.style-style.ensures c.begin-has_findings.ensures c.in_ok-put_findings.ensures
+    (found_before g.D.Drain.state s _ c.begin-may_have_findings.new.self c.begin-may_have_findings.result
+    _ _ _ _ _ _ _ c.style-style.ensures c.begin-may_have_findings.ensures c.in_ok-put_findings.ensures
     c.begin.ensures.puts)
 
 pub returns-clause-state : goal.returns-clause-state

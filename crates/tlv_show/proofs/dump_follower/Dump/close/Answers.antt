@@ -6,7 +6,7 @@ use Rattle.tlv_io.proofs.Puts.{puts_failed}
 use Rattle.tlv_show.specs.declared.finding_lines.Style.TheVariants.{Dump}
 use Rattle.tlv_show.specs.LinesStep.{LinesState, lines_close_step}
 use Rattle.tlv_show.specs.DumpStep.{DumpState, dump_step}
-use Rattle.tlv_show.proofs.DumpLemmas.DumpSteps.{found_last}
+use Rattle.tlv_show.proofs.DumpLemmas.DumpSteps.{found_after}
 use Rattle.tlv_show.proofs.dump_follower.Dump.close.Goals as goal
 
 pub returns-in_err-close-clause-puts : goal.returns-in_err-close-clause-puts
@@ -20,7 +20,7 @@ same-columns s (Some offset) = refl
 
 pub returns-clause-puts : goal.returns-clause-puts
 returns-clause-puts g c =
-    let s : DumpState = record { lines = c.self.inside.lines; finder = c.self.inside.finder.state } in
+    let s : DumpState = record { lines = c.self.inside.lines; finder = c.self.inside.finder.kept } in
     let style =
     c.style-style.ensures ∙ ap (λ (l : LinesState). Dump l.layout.pure) c.in_ok-close.ensures.state
     ∙ ap Dump (same-columns c.self.inside.lines c.args.offset) in
@@ -28,5 +28,6 @@ returns-clause-puts g c =
     (λ (t : DumpState). Puts g.D.Drain.state c.args.out.now c.put_findings.new.out
     (dump_step t (Close c.args.offset)).put c.put_findings.result)
     c.self.view_is
-    (found_last g.D.Drain.state s _ c.close-has_findings.new.self c.close-has_findings.result _ _ _ _ _ _ _ style
-    c.close-has_findings.ensures c.in_ok-close.ensures.puts c.put_findings.ensures)
+    (found_after g.D.Drain.state s _ c.close-may_have_findings.new.self c.close-may_have_findings.result
+    _ _ _ _ _ _ _ style
+    c.close-may_have_findings.ensures c.in_ok-close.ensures.puts c.put_findings.ensures)

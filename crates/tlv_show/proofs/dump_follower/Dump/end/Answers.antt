@@ -5,7 +5,7 @@ use Rattle.tlv_io.proofs.Puts.{puts_failed}
 use Rattle.tlv_show.specs.declared.finding_lines.Style.TheVariants.{Dump}
 use Rattle.tlv_show.specs.LinesStep.{LinesState}
 use Rattle.tlv_show.specs.DumpStep.{DumpState, dump_step}
-use Rattle.tlv_show.proofs.DumpLemmas.DumpSteps.{found_last}
+use Rattle.tlv_show.proofs.DumpLemmas.DumpSteps.{found_after}
 use Rattle.tlv_show.proofs.dump_follower.Dump.end.Goals as goal
 
 pub returns-in_err-end-clause-puts : goal.returns-in_err-end-clause-puts
@@ -14,11 +14,11 @@ returns-in_err-end-clause-puts g c =
 
 pub returns-clause-puts : goal.returns-clause-puts
 returns-clause-puts g c =
-    let s : DumpState = record { lines = c.self.inside.lines; finder = c.self.inside.finder.state } in
+    let s : DumpState = record { lines = c.self.inside.lines; finder = c.self.inside.finder.kept } in
     let style = c.style-style.ensures ∙ ap (λ (l : LinesState). Dump l.layout.pure) c.in_ok-end.ensures.state in
     subst
     (λ (t : DumpState). Puts g.D.Drain.state c.args.out.now c.put_findings.new.out (dump_step t End).put
     c.put_findings.result)
     c.self.view_is
-    (found_last g.D.Drain.state s _ c.end-has_findings.new.self c.end-has_findings.result _ _ _ _ _ _ _ style
-    c.end-has_findings.ensures c.in_ok-end.ensures.puts c.put_findings.ensures)
+    (found_after g.D.Drain.state s _ c.end-may_have_findings.new.self c.end-may_have_findings.result _ _ _ _ _ _ _ style
+    c.end-may_have_findings.ensures c.in_ok-end.ensures.puts c.put_findings.ensures)

@@ -6,7 +6,7 @@ use Rattle.tlv_show.proofs.dump_follower.DumpFollow.whole.Goals as goal
 
 pub returns-in_err-whole-clause-puts : goal.returns-in_err-whole-clause-puts
 returns-in_err-whole-clause-puts g c =
-    let u : DumpState = dump_state c.self.inside.lines c.self.inside.finder.state in
+    let u : DumpState = dump_state c.self.inside.lines c.self.inside.finder.kept in
     let is =
     made_is c.args.self.now u c.self.inside.finder c.passes.new.self c.args.header.now c.args.octets.now
     c.contents_in-contents.result.now c.passes.result
@@ -16,7 +16,7 @@ returns-in_err-whole-clause-puts g c =
 
 pub returns-clause-puts : goal.returns-clause-puts
 returns-clause-puts g c =
-    let u : DumpState = dump_state c.self.inside.lines c.self.inside.finder.state in
+    let u : DumpState = dump_state c.self.inside.lines c.self.inside.finder.kept in
     let is =
     made_is c.args.self.now u c.self.inside.finder c.passes.new.self c.args.header.now c.args.octets.now
     c.contents_in-contents.result.now c.passes.result
@@ -25,7 +25,7 @@ returns-clause-puts g c =
 
 pub returns-clause-state : goal.returns-clause-state
 returns-clause-state g c =
-    let u : DumpState = dump_state c.self.inside.lines c.self.inside.finder.state in
+    let u : DumpState = dump_state c.self.inside.lines c.self.inside.finder.kept in
     let is =
     made_is c.args.self.now u c.self.inside.finder c.passes.new.self c.args.header.now c.args.octets.now
     c.contents_in-contents.result.now c.passes.result

@@ -2,8 +2,8 @@ use Rattle.std.proofs.Common.{◌≡◌, ◌-◌, ◌^◌, ◌<◌, ◌≤◌, �
 use Rattle.std.proofs.lemmas.Result.{on_ok_weaker}
 use Rattle.tlv_walk.specs.Follow.{Effect, each_octet}
 use Rattle.tlv_show.specs.LinesStep.{LinesState, lines_padding_step}
-use Rattle.tlv_show.specs.Private.LinesStep.{if_open}
-use Rattle.tlv_show.proofs.DumpLemmas.Dumped.{padded_first, padded_more}
+use Rattle.tlv_show.specs.Private.IfOpen.{if_open}
+use Rattle.tlv_show.proofs.DumpLemmas.OctetPieces.{padded_first, padded_more}
 use Rattle.tlv_io.proofs.Puts.{puts_nothing, puts_text}
 use Rattle.tlv_show.proofs.line_follower.Lines.pad.Goals as goal
 use Rattle.tlv_show.specs.SaturatingSum.{saturating_sum}

@@ -6,25 +6,25 @@ pub returns-then-self-clause-nest : goal.returns-then-self-clause-nest
 returns-then-self-clause-nest c =
     let n = c.self.inside in
     rw (← c.self.view_is)
-    (closes-without_frame n.frame n.floor n.level n.outer c.self.invariant.innermost c.if-self.true)
+    (closes-without_frame n.frame n.floor n.depth n.outer c.self.invariant.innermost c.if-self.true)
 
 pub returns-then-self-eq0-clause-nest : goal.returns-then-self-eq0-clause-nest
 returns-then-self-eq0-clause-nest c =
     let n = c.self.inside in
     let known = c.self.invariant in
     rw (← c.self.view_is)
-    (closes-top n.frame n.floor n.level n.outer known.inside known.others c.if-self-eq0.true).0
+    (closes-top n.frame n.floor n.depth n.outer known.inside known.others c.if-self-eq0.true).0
 
 pub returns-then-self-eq0-clause-segments : goal.returns-then-self-eq0-clause-segments
 returns-then-self-eq0-clause-segments c =
     let n = c.self.inside in
     let known = c.self.invariant in
     rw (← c.self.view_is)
-    (closes-top n.frame n.floor n.level n.outer known.inside known.others c.if-self-eq0.true).1
+    (closes-top n.frame n.floor n.depth n.outer known.inside known.others c.if-self-eq0.true).1
 
 pub returns-clause-nest : goal.returns-clause-nest
 returns-clause-nest c =
     let n = c.self.inside in
     rw (← c.self.view_is)
-    (closes-frame n.frame n.floor n.level n.outer c.self.invariant.others (omega arith) (omega arith)
+    (closes-frame n.frame n.floor n.depth n.outer c.self.invariant.others (omega arith) (omega arith)
     c.take_back.new.frame c.take_back.new.floor c.take_back.new.outer c.take_back.ensures)

@@ -6,5 +6,5 @@ use Rattle.tlv_show.proofs.nesting.Nesting.frame.Goals as goal
 pub returns-clause-around : goal.returns-clause-around
 returns-clause-around c =
     let n = c.self.inside in
-    around-same n.frame (n.level - n.floor) c.self.invariant.innermost
+    around-same n.frame (n.depth - n.floor) c.self.invariant.innermost
     ∙ ap (λ (s : NestingState). surroundings_in s.frame) c.self.view_is

@@ -10,5 +10,5 @@ returns c =
     let n = c.self.inside in
     let known = c.self.invariant in
     rw (← c.self.view_is, c.frame_of-self-inside.ensures, c.push.ensures)
-    (opens-frame n.frame n.floor n.level n.outer known.inside known.innermost known.others c.args.header.now
+    (opens-frame n.frame n.floor n.depth n.outer known.inside known.innermost known.others c.args.header.now
     (omega arith) (sym c.has_frame.ensures ∙ c.if-not-has_frame.false))

@@ -1,5 +1,5 @@
 use Rattle.std.proofs.Common.{rules}
-use Rattle.tlv_show.proofs.sibling_frame.frame_of.Goals as goal
+use Rattle.tlv_show.proofs.holder_frame.set_frame_after.Goals as goal
 
 pub returns : goal.returns
 returns c = search rules

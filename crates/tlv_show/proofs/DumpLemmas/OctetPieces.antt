@@ -96,44 +96,44 @@ dumped_bytes s (x ∷ xs) rested =
 -- ---- padding
 
 -- the same dump, elsewhere
-abbrev pub padded_at : LinesState → ℕ → Bool → LinesState
-padded_at s offset in_padding = record s { offset = offset; in_padding = in_padding }
+abbrev pub lines_at : LinesState → ℕ → Bool → LinesState
+lines_at s offset in_padding = record s { offset = offset; in_padding = in_padding }
 
 -- it had its line
 pub more_pad : (s : LinesState) (offset : ℕ) (xs : List ℕ)
-    → each_octet lines_padding_step (padded_at s offset true) xs
-    ≡ effect_with (padded_at s (saturating_sum offset (length xs)) true) []
-more_pad s offset [] = ap (λ (o : ℕ). effect_with (padded_at s o true) []) (sym (further-none offset))
+    → each_octet lines_padding_step (lines_at s offset true) xs
+    ≡ effect_with (lines_at s (saturating_sum offset (length xs)) true) []
+more_pad s offset [] = ap (λ (o : ℕ). effect_with (lines_at s o true) []) (sym (further-none offset))
 more_pad s offset (x ∷ xs) =
     more_pad s (saturating_sum offset 1) xs
-    ∙ ap (λ (o : ℕ). effect_with (padded_at s o true) [])
+    ∙ ap (λ (o : ℕ). effect_with (lines_at s o true) [])
     (further-more offset 1 (length xs) ∙ ap (saturating_sum offset) (omega arith))
 
 more_by : (s : LinesState) (offset : ℕ) (in_padding : Bool) (xs : List ℕ) → in_padding ≡ true
-    → each_octet lines_padding_step (padded_at s offset in_padding) xs
-    ≡ effect_with (padded_at s (saturating_sum offset (length xs)) in_padding) []
+    → each_octet lines_padding_step (lines_at s offset in_padding) xs
+    ≡ effect_with (lines_at s (saturating_sum offset (length xs)) in_padding) []
 more_by s offset true xs e = more_pad s offset xs
 more_by s offset false xs e = absurd (cc)
 
 pub padded_more : (s : LinesState) (xs : List ℕ) → s.in_padding ≡ true
     → each_octet lines_padding_step s xs
-    ≡ effect_with (padded_at s (saturating_sum s.offset (length xs)) s.in_padding) []
+    ≡ effect_with (lines_at s (saturating_sum s.offset (length xs)) s.in_padding) []
 padded_more s xs e = more_by s s.offset s.in_padding xs e
 
 -- it has its line with the first octet
 first_by : (s : LinesState) (offset : ℕ) (in_padding : Bool) (xs : List ℕ) → 0 < length xs → in_padding ≡ false
-    → each_octet lines_padding_step (padded_at s offset in_padding) xs
-    ≡ effect_with (padded_at s (saturating_sum offset (length xs)) true) (padding_line s.layout offset)
+    → each_octet lines_padding_step (lines_at s offset in_padding) xs
+    ≡ effect_with (lines_at s (saturating_sum offset (length xs)) true) (padding_line s.layout offset)
 first_by s offset true xs some e = absurd (cc)
 first_by s offset false [] some e = absurd (omega (arith, some))
 first_by s offset false (x ∷ xs) some e =
     ap (after_put (padding_line s.layout offset)) (more_pad s (saturating_sum offset 1) xs)
-    ∙ ap (λ (o : ℕ). effect_with (padded_at s o true) (padding_line s.layout offset ++ []))
+    ∙ ap (λ (o : ℕ). effect_with (lines_at s o true) (padding_line s.layout offset ++ []))
     (further-more offset 1 (length xs) ∙ ap (saturating_sum offset) (omega arith))
-    ∙ ap (effect_with (padded_at s (saturating_sum offset (length (x ∷ xs))) true))
+    ∙ ap (effect_with (lines_at s (saturating_sum offset (length (x ∷ xs))) true))
     (append-nil (padding_line s.layout offset))
 
 pub padded_first : (s : LinesState) (xs : List ℕ) → 0 < length xs → s.in_padding ≡ false
     → each_octet lines_padding_step s xs
-    ≡ effect_with (padded_at s (saturating_sum s.offset (length xs)) true) (padding_line s.layout s.offset)
+    ≡ effect_with (lines_at s (saturating_sum s.offset (length xs)) true) (padding_line s.layout s.offset)
 padded_first s xs some e = first_by s s.offset s.in_padding xs some e

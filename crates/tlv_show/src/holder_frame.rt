@@ -1,17 +1,17 @@
-//! What is kept of the elements that are beside one another.
+//! What is kept of an element that holds others, and of those that it holds so far.
 ghost use Rattle.std.specs.Prelude.{◌≡◌};
 ghost use Rattle.tlv_show.specs.NestingState.{frame_after, frame_of, top_frame};
 
-use crate::headers::{announced_length, is_bit_string, is_string};
+use crate::headers::{announced_length, has_segments, is_bit_string};
 use tlv_head::Header;
 
 /// What is kept of an element that holds others, and of those that it holds so far.
 #[derive(Clone, Copy, Default)]
-pub(crate) struct SiblingFrame {
+pub(crate) struct HolderFrame {
     /// Where the holder begins.
     pub offset: u64,
     /// How many contents octets its header announces.
-    pub size: u64,
+    pub announced_length: u64,
     /// Whether it is primitive: a string that wraps encodings.
     pub is_primitive: bool,
     /// Whether it is a constructed string, so that what it holds are segments.
@@ -25,63 +25,63 @@ pub(crate) struct SiblingFrame {
     /// Whether all that it holds so far is primitive.
     pub all_primitive: bool,
     /// How many octets of the value the segments have so far. It stops at 1001.
-    pub octets: u64,
+    pub value_length: u64,
     /// Whether the last that it holds is a primitive without contents octets.
     pub ends_empty: bool,
 }
 
 /// The frame of the top.
-pub(crate) fn top_frame() -> SiblingFrame
+pub(crate) fn top_frame() -> HolderFrame
     ensures { result ≡ top_frame }
 {
-    SiblingFrame {
+    HolderFrame {
         all_primitive: true,
-        ..SiblingFrame::default()
+        ..HolderFrame::default()
     }
 }
 
 /// The frame of an element of which nothing inside has come.
 #[inline(always)]
-pub(crate) fn frame_of(header: &Header) -> SiblingFrame
+pub(crate) fn frame_of(header: &Header) -> HolderFrame
     ensures { result ≡ frame_of header.now }
 {
-    let has_segments = header.constructed && is_string(header);
-    SiblingFrame {
+    let has_segments = has_segments(header);
+    HolderFrame {
         offset: header.offset,
-        size: announced_length(header),
+        announced_length: announced_length(header),
         is_primitive: !header.constructed,
         has_segments,
         is_bit_string: has_segments && is_bit_string(header),
         all_primitive: true,
-        ..SiblingFrame::default()
+        ..HolderFrame::default()
     }
 }
 
-/// Keeps what must be known of a segment that has come: whether it is primitive, how many contents
-/// octets it announces, and whether bits of it are unused. Of other elements nothing is kept.
+/// Makes of a frame the one after an element more: whether this is primitive, how many contents octets it announces,
+/// and whether bits of it are unused. Outside of strings nothing is kept of it.
 #[inline(always)]
-pub(crate) fn note_element(
-    frame: &mut SiblingFrame,
+pub(crate) fn set_frame_after(
+    frame: &mut HolderFrame,
     is_primitive: bool,
-    size: u64,
+    announced_length: u64,
     has_unused_bits: bool,
 )
-    ensures { frame.new ≡ frame_after frame.old is_primitive size has_unused_bits }
+    ensures { frame.new ≡ frame_after frame.old is_primitive announced_length has_unused_bits }
 {
     if !frame.has_segments {
         return;
     }
-    let octets = size.saturating_sub(u64::from(frame.is_bit_string));
+    let length = announced_length.saturating_sub(u64::from(frame.is_bit_string));
     frame.last_has_unused_bits = has_unused_bits;
-    frame.last_is_not_full = !(is_primitive && size == 1000);
+    frame.last_is_not_full = !(is_primitive && announced_length == 1000);
     frame.all_primitive = frame.all_primitive && is_primitive;
-    frame.octets = frame.octets.saturating_add(octets).min(1001);
-    frame.ends_empty = is_primitive && size == 0;
+    frame.value_length = frame.value_length.saturating_add(length).min(1001);
+    frame.ends_empty = is_primitive && announced_length == 0;
 }
 
 /// A frame, and its floor: how many elements hold what is directly in its element.
 #[derive(Clone, Copy, Default)]
 pub(crate) struct KeptFrame {
-    pub frame: SiblingFrame,
+    pub frame: HolderFrame,
     pub floor: u8,
 }

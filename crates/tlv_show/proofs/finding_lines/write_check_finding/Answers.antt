@@ -1,6 +1,6 @@
 use Rattle.std.proofs.Common.{◌∷◌, [], arith}
 use Rattle.tlv_value.proofs.TextLemmas.LineLengths.{added, prefix_short, number_short}
-use Rattle.tlv_show.proofs.finding_lines.write_listed.Goals as goal
+use Rattle.tlv_show.proofs.finding_lines.write_check_finding.Goals as goal
 
 pub add-requires : goal.add-requires
 add-requires c = omega (arith, number_short _ _ _ c.ranges.offset.fits c.number.ensures, c.requires)

@@ -1,0 +1,181 @@
+-- What a dump makes of the events of one element is the text of its items.
+use Rattle.std.specs.FinMap as finite
+use Rattle.std.proofs.Common.{◌≡◌, ℕ, ◌+◌, ◌-◌, ◌^◌, ◌<◌, ◌≤◌, ◌==◌, Bool, true, false, List, [], ◌∷◌, ◌++◌, length}
+use Rattle.std.proofs.Common.{refl, sym, ap, ap₂, ◌∙◌, arith, if◌then◌else◌}
+use Rattle.std.proofs.lemmas.Grind.{flat_map-append}
+use Rattle.std.specs.Prelude.{flat_map, Option, None}
+use Rattle.tlv_head.specs.Header.{HeaderValue, announced_length, octets_of, AllowsSize}
+use Rattle.tlv_value.specs.declared.finding.Finding.{Finding}
+use Rattle.tlv_value.specs.declared.layout.Layout.{Layout}
+use Rattle.tlv_value.specs.Names.{NamesTable}
+use Rattle.tlv_value.specs.ValueLines.{whole_lines}
+use Rattle.tlv_walk.specs.Events.{Begin, Bytes, End, EventValue, events, opening_events, closing_event, end_offset}
+use Rattle.tlv_walk.specs.Events.{end_octets_offset}
+use Rattle.tlv_walk.specs.Follow.{Effect, effect_of, effect_with}
+use Rattle.tlv_walk.specs.Forest.{Forest, is_whole, opening, spelling, end_octets, extent}
+use Rattle.tlv_walk.specs.Place.{Place, place_after, place_of_children, IsOpen}
+use Rattle.tlv_show.specs.declared.holder_frame.HolderFrame.{HolderFrame}
+use Rattle.tlv_show.specs.declared.rules.Rules.{Rules}
+use Rattle.tlv_show.specs.declared.finding_lines.Style.TheVariants.{Dump}
+use Rattle.tlv_show.specs.FindingLines.{styled_lines}
+use Rattle.tlv_show.specs.LinesStep.{LinesState}
+use Rattle.tlv_show.specs.DumpStep.{DumpState, dump_step}
+use Rattle.tlv_show.specs.FinderState.{CheckState, FinderState}
+use Rattle.tlv_show.specs.NestingState.{frame_under, surroundings_in, frame_after}
+use Rattle.tlv_show.specs.Found.{contents_findings, header_findings, end_findings}
+use Rattle.tlv_show.specs.Items.{Item, FindingAt, items, finding_items, headers}
+use Rattle.tlv_show.specs.Lines.{holder_line, closing_line}
+use Rattle.tlv_show.specs.Site.{Previous, Site, is_padding}
+use Rattle.tlv_show.specs.Texts.{item_text}
+use Rattle.tlv_show.proofs.DumpLemmas.DumpTexts.{at_level, holder_shown, ends_in_padding, primitive_shown}
+use Rattle.tlv_show.proofs.DumpLemmas.DumpTexts.{lines_between, closer_shown}
+use Rattle.tlv_show.proofs.FindingLemmas.FinderFolds.{frame_after_elements, offset-under}
+use Rattle.tlv_show.proofs.FindingLemmas.FinderSteps.{after_contents, later_header, after_primitive, opened-find}
+use Rattle.tlv_show.proofs.FindingLemmas.FinderSteps.{primitive-find, check_between, after_end, closed-find}
+use Rattle.tlv_show.proofs.FindingLemmas.HeaderFindings.{Knows}
+use Rattle.tlv_show.proofs.DumpLemmas.DumpEvents.{dump_state, then_shown, texts, opens-by, primitive-by, closes-by}
+use Rattle.tlv_value.specs.Types.{is_primitive}
+use Rattle.tlv_show.specs.Conditions.{segments_of}
+
+-- ---- elements, in this style, with these names and rules
+module _ (style : Layout) (names : NamesTable) (rules : Rules) where
+  abbrev pub item : Item → List ℕ
+  item i = item_text (finite.get names) style i
+
+  abbrev pub item_texts : List Item → List ℕ
+  item_texts l = flat_map item l
+
+  abbrev pub site : Place → Option HeaderValue → Previous → Site
+  site p holder previous = record { offset = p.offset; level = p.depth; holder = holder; previous = previous }
+
+  pub lines_of : (level offset : ℕ) (fs : List Finding)
+      → styled_lines (Dump style.pure) level offset fs ≡ item_texts (finding_items level offset fs)
+  lines_of level offset [] = refl
+  lines_of level offset (f ∷ fs) = ap (λ (l : List ℕ). item (FindingAt level offset f) ++ l) (lines_of level offset fs)
+
+  pub split : (xs ys : List Item) → item_texts (xs ++ ys) ≡ item_texts xs ++ item_texts ys
+  split xs ys = flat_map-append item xs ys
+
+  -- findings, and then other lines
+  pub found-first : (n level offset : ℕ) (gs fs : List Finding) (more : List ℕ) (rest : List Item) → n ≡ level → gs ≡ fs
+      → more ≡ item_texts rest
+      → styled_lines (Dump style.pure) n offset gs ++ more ≡ item_texts (finding_items level offset fs ++ rest)
+  found-first n level offset gs fs more rest e f g =
+      ap₂ (λ (k : ℕ) (hs : List Finding). styled_lines (Dump style.pure) k offset hs ++ more) e f
+      ∙ ap₂ (λ (a b : List ℕ). a ++ b) (lines_of level offset fs) g
+      ∙ sym (split (finding_items level offset fs) rest)
+
+  abbrev pub start : Place → Bool → HolderFrame → List HolderFrame → ℕ → DumpState
+  start p padded w outer n =
+      dump_state (lines_between style names p.depth p.offset padded) (check_between rules w outer n)
+
+  pub record IsShown (p : Place) (holder : Option HeaderValue) (previous : Previous) (w : HolderFrame)
+      (outer : List HolderFrame) (f : Forest) : Type 0 where
+    pub text : (n : ℕ)
+        → (effect_of dump_step (start p (is_padding previous) w outer n) (events f)).put
+        ≡ item_texts (items rules (site p holder previous) f)
+    pub after : (n : ℕ) → is_whole f ≡ true → (m : ℕ)
+        × ((effect_of dump_step (start p (is_padding previous) w outer n) (events f)).state
+        ≡ dump_state
+        (lines_between style names p.depth (p.offset + length (spelling f))
+        (ends_in_padding style names (is_padding previous) f))
+        (check_between rules (frame_after_elements w f) outer m))
+
+  -- elements after what was shown
+  pub shown-after : (p q : Place) (padded : Bool) (w : HolderFrame) (outer : List HolderFrame) (n m : ℕ)
+      (v : HolderFrame) (holder : Option HeaderValue) (previous : Previous) (es : List EventValue) (put : List ℕ)
+      (rest : Forest)
+      → q.depth ≡ p.depth
+      → effect_of dump_step (start p padded w outer n) es ≡ effect_with (start q (is_padding previous) v outer m) put
+      → IsShown q holder previous v outer rest
+      → effect_of dump_step (start p padded w outer n) (es ++ events rest)
+      ≡ record (effect_of dump_step (start q (is_padding previous) v outer m) (events rest))
+      { put = put ++ item_texts (items rules (site q holder previous) rest) }
+  shown-after p q padded w outer n m v holder previous es put rest d e t =
+      then_shown (start p padded w outer n) (start q (is_padding previous) v outer m) put es (events rest) e
+      ∙ ap (λ (l : List ℕ). record (effect_of dump_step (start q (is_padding previous) v outer m) (events rest))
+      { put = put ++ l })
+      (t.text m)
+
+  abbrev pub Known : Place → Option HeaderValue → Previous → HolderFrame → List HolderFrame → Type 0
+  Known p holder previous w outer =
+      Knows w (site p holder previous) × (length outer ≡ p.depth) × (p.padding ≡ true → holder ≡ None)
+
+  -- an element that holds others begins
+  pub opened-shown : (p : Place) (holder : Option HeaderValue) (previous : Previous) (w : HolderFrame)
+      (outer : List HolderFrame) (n : ℕ) (h : HeaderValue)
+      → Known p holder previous w outer
+      → h.offset ≡ p.offset → p.depth < 128 → p.offset + length (opening h) ≤ 2 ^ 64 - 1
+      → effect_of dump_step (start p (is_padding previous) w outer n) (opening_events h)
+      ≡ effect_with (start (place_of_children p h) false (frame_under w h) (w ∷ outer) (later_header rules w h n))
+      (styled_lines (Dump style.pure) (length outer) h.offset (header_findings rules (surroundings_in w) h)
+      ++ holder_line (at_level style names p.depth) h)
+  opened-shown p holder previous w outer n h k there low far =
+      opens-by (lines_between style names p.depth p.offset (is_padding previous)) (check_between rules w outer n) h
+      h.constructed (h.number == 3)
+      ∙ ap₂
+      (λ (d : Effect LinesState) (f : FinderState). effect_with (dump_state d.state f.kept)
+      (texts style f ++ d.put))
+      (holder_shown style names p.depth p.offset (is_padding previous) h there (omega (arith, low)) far)
+      (opened-find rules w outer n h (omega (arith, k.1, low)))
+
+  -- a primitive
+  pub primitive-shown : (p : Place) (padded : Bool) (w : HolderFrame) (outer : List HolderFrame) (n : ℕ)
+      (h : HeaderValue) (c : List ℕ)
+      → h.offset ≡ p.offset → announced_length h.size ≡ length c
+      → p.offset + (length (octets_of h) + length c) ≤ 2 ^ 64 - 1
+      → effect_of dump_step (start p padded w outer n) (Begin h ∷ Bytes c ∷ End ∷ [])
+      ≡ effect_with
+      (start (place_after p (length (octets_of h) + length c)) false (after_primitive rules w h c) outer
+      (after_contents rules w h c n))
+      (styled_lines (Dump style.pure) (length outer) h.offset (header_findings rules (surroundings_in w) h)
+      ++ (whole_lines (finite.get names) h (at_level style names p.depth) c
+      ++ styled_lines (Dump style.pure) (length outer) h.offset (contents_findings rules h c)))
+  primitive-shown p padded w outer n h c there size far =
+      primitive-by (lines_between style names p.depth p.offset padded) (check_between rules w outer n) h c
+      ∙ ap₂
+      (λ (d : Effect LinesState) (f : FinderState). effect_with (dump_state d.state f.kept)
+      (styled_lines (Dump style.pure) (length outer) h.offset (header_findings rules (surroundings_in w) h)
+      ++ (d.put ++ texts style f)))
+      (primitive_shown style names p.depth p.offset padded h c there size far)
+      (primitive-find rules w outer n h c (sym size))
+
+  -- an element that holds others ends
+  pub closed-shown : (p : Place) (w : HolderFrame) (outer : List HolderFrame) (n : ℕ) (h : HeaderValue)
+      (inside : Forest)
+      → IsOpen (place_of_children p h) inside → is_whole inside ≡ true → h.offset ≡ p.offset
+      → AllowsSize h.constructed h.size → p.offset + extent h inside ≤ 2 ^ 64 - 1
+      → effect_of dump_step
+      (dump_state
+      (lines_between style names (p.depth + 1) (p.offset + length (opening h) + length (spelling inside)) false)
+      (check_between rules (frame_after_elements (frame_under w h) inside) (w ∷ outer) n))
+      (closing_event h inside ∷ [])
+      ≡ effect_with
+      (start (place_after p (extent h inside)) false
+      (frame_after w (is_primitive h) (announced_length h.size) false) outer (after_end rules h inside n))
+      (closing_line (at_level style names p.depth) (if h.constructed then end_octets_offset h inside else None)
+      ++ styled_lines (Dump style.pure) (length outer) h.offset (end_findings rules (segments_of h (headers inside))))
+  closed-shown p w outer n h inside v whole there allowed far =
+      let end : ℕ = p.offset + length (opening h) + length (spelling inside) in
+      let close : List ℕ =
+      closing_line (at_level style names p.depth) (if h.constructed then end_octets_offset h inside else None) in
+      let last : List ℕ =
+      styled_lines (Dump style.pure) (length outer) h.offset (end_findings rules (segments_of h (headers inside))) in
+      let after : CheckState =
+      check_between rules (frame_after w (is_primitive h) (announced_length h.size) false) outer
+      (after_end rules h inside n) in
+      closes-by (lines_between style names (p.depth + 1) end false)
+      (check_between rules (frame_after_elements (frame_under w h) inside) (w ∷ outer) n)
+      (end_offset h.size (h.offset + length (opening h) + length (spelling inside))) h.constructed
+      ∙ ap₂
+      (λ (d : Effect LinesState) (f : FinderState). effect_with (dump_state d.state f.kept)
+      (d.put ++ texts style f))
+      (closer_shown style names p.depth end h inside (omega (arith, there)) allowed (omega (arith, far)))
+      (closed-find rules (place_of_children p h) w outer n h inside v whole)
+      ∙ ap (λ (l : List ℕ). effect_with
+      (dump_state (lines_between style names p.depth (end + length (end_octets h.size)) false) after) (close ++ l))
+      (offset-under rules (place_of_children p h) w h inside v whole (styled_lines (Dump style.pure) (length outer))
+      (λ offset. refl))
+      ∙ ap (λ (offset : ℕ). effect_with (dump_state (lines_between style names p.depth offset false) after)
+      (close ++ last))
+      (omega arith)
