@@ -5,7 +5,8 @@ use Rattle.std.specs.Prelude.{replicate}
 use Rattle.std.specs.Fmt.{digits}
 use Rattle.hex.specs.Hex.{encode_with}
 use Rattle.tlv_show.specs.declared.rules.Rules.TheVariants.{Ber, Der, Cer}
-use Rattle.tlv_show.proofs.RowWords.{padding_framing, inside_framing, full}
+use Rattle.tlv_show.proofs.RowWords.{inside_framing, full}
+use Rattle.tlv_walk.proofs.GrammarLemmas.Readings.{padding_framing}
 use Rattle.tlv_show.proofs.RowWords.{dump, check, lines}
 
 -- 04 06 30 80 05 00 00 00

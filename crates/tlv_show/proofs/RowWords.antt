@@ -5,7 +5,7 @@ use Rattle.tlv_value.specs.declared.layout.Layout.{Layout}
 use Rattle.tlv_value.specs.Value.{no_names}
 use Rattle.tlv_walk.specs.declared.framing.Framing.{Framing}
 use Rattle.tlv_walk.specs.Framing.{plain_framing}
-use Rattle.tlv_walk.proofs.GrammarLemmas.Readings.{padding_framing, reading}
+use Rattle.tlv_walk.proofs.GrammarLemmas.Readings.{reading}
 use Rattle.tlv_show.specs.CheckJob.{check_job}
 use Rattle.tlv_show.specs.ShowJob.{show_job}
 use Rattle.tlv_show.specs.declared.rules.Rules.{Rules}
@@ -13,9 +13,6 @@ use Rattle.tlv_show.specs.Texts.{finding_count, item_text}
 
 abbrev pub plain : Framing
 plain = plain_framing
-
-abbrev pub padding_framing : Framing
-padding_framing = record { inside = []; padding = true }
 
 abbrev pub inside_framing : ℕ → Framing
 inside_framing n = record { inside = n ∷ []; padding = false }

@@ -3,10 +3,10 @@ use Rattle.std.proofs.Common.{◌≡◌, true, false, [], ◌∷◌, refl}
 use Rattle.tlv_head.specs.Header.{HeaderValue}
 use Rattle.tlv_head.specs.Shortest.{HaveOneTag}
 use Rattle.tlv_walk.specs.Alike.{AreAlike, holders, nothing, padding, primitives}
-use Rattle.tlv_walk.proofs.GrammarLemmas.Readings.{reading}
+use Rattle.tlv_walk.proofs.GrammarLemmas.Readings.{padding_framing, reading}
 use Rattle.tlv_show.specs.declared.rules.Rules.TheVariants.{Ber, Der, Cer}
 use Rattle.tlv_show.specs.Spellings.{is_misspelled}
-use Rattle.tlv_show.proofs.RowWords.{inside_framing, padding_framing, plain}
+use Rattle.tlv_show.proofs.RowWords.{inside_framing, plain}
 
 one_tag : (h k : HeaderValue) → h.class ≡ k.class → h.constructed ≡ k.constructed → h.number ≡ k.number → HaveOneTag h k
 one_tag h k c f n = record { class = c; constructed = f; number = n }

@@ -3,7 +3,6 @@ ghost use Rattle.std.specs.Prelude.{◌≡◌, ◌≤◌, OnOk, length, refl};
 ghost use Rattle.tlv_walk.proofs.FollowerLemmas.Followed.{each_octet-goes_on, each_octet-joins};
 ghost use Rattle.tlv_walk.specs.Events.{Begin, Bytes, Close, End, Enter, event_value_of};
 ghost use Rattle.tlv_io.specs.Out.{Puts};
-ghost use Rattle.tlv_walk.specs.HasRead.{event_value_of};
 ghost use Rattle.tlv_show.specs.DumpStep.{dump_octet_step, dump_padding_step, dump_step, findings_before, new_dump};
 ghost use Rattle.tlv_show.specs.FinderState.{finder_open_step};
 ghost use Rattle.tlv_show.specs.LinesStep.{lines_open_step};
