@@ -25,9 +25,9 @@ front_of_rest : (f rest : Forest) (o : List ℕ) → spelling f ≡ o ++ spellin
     → octets_so_far f ≡ o ++ octets_so_far rest
     → is_whole f ≡ is_whole rest → IsFrontOf rest → IsFrontOf f
 front_of_rest f rest o all keeps whole r = record {
-  rest = r.after;
-  octets = all ∙ ap (λ (l : List ℕ). o ++ l) r.octets ∙ sym (append_assoc o (octets_so_far rest) r.after)
-      ∙ ap (λ (l : List ℕ). l ++ r.after) (sym keeps);
+  rest = r.rest;
+  octets = all ∙ ap (λ (l : List ℕ). o ++ l) r.octets ∙ sym (append_assoc o (octets_so_far rest) r.rest)
+      ∙ ap (λ (l : List ℕ). l ++ r.rest) (sym keeps);
   all = λ w. all ∙ ap (λ (l : List ℕ). o ++ l) (r.all (sym whole ∙ w)) ∙ sym keeps;
 }
 
