@@ -1,89 +1,93 @@
-//! Words after the program's name, and what they come to.
+//! Words after the program's name, and what they mean.
 use tlv_show::Rules;
 
-/// What words come to.
+/// What words mean.
 #[derive(Clone, Copy, Debug, PartialEq, Eq)]
-pub(crate) enum Comes<'a> {
+pub(crate) enum Meaning<'a> {
     Dump(Rules, Option<u32>, bool),
     Check(Rules),
     Extract(u64, bool),
     Indef,
     /// `clap` refuses them.
     Refused,
-    /// They ask for help or the version.
-    OctetsRun,
+    /// They ask for help or for the version.
+    HelpOrVersion,
     /// The value of this option is not in its range.
     Value(&'a str),
     Memory,
 }
 
-pub(crate) type Judged<'a> = (&'a [&'a str], Comes<'a>);
+/// Words, and what they mean.
+pub(crate) type CommandRow<'a> = (&'a [&'a str], Meaning<'a>);
 
 /// How many rows of a value are asked for.
-pub(crate) static LIMITS: [Judged<'static>; 8] = [
+pub(crate) static LIMITS: [CommandRow<'static>; 8] = [
     (
         &["dump", "--limit", "4294967295"],
-        Comes::Dump(Rules::Ber, Some(4294967295), false),
+        Meaning::Dump(Rules::Ber, Some(4294967295), false),
     ),
-    (&["dump", "--limit", "4294967296"], Comes::Value("--limit")),
-    (&["dump", "--limit", "+5"], Comes::Value("--limit")),
-    (&["dump", "--limit=", "--pure"], Comes::Value("--limit")),
+    (
+        &["dump", "--limit", "4294967296"],
+        Meaning::Value("--limit"),
+    ),
+    (&["dump", "--limit", "+5"], Meaning::Value("--limit")),
+    (&["dump", "--limit=", "--pure"], Meaning::Value("--limit")),
     (
         &["dump", "--limit", "0000000000005"],
-        Comes::Dump(Rules::Ber, Some(5), false),
+        Meaning::Dump(Rules::Ber, Some(5), false),
     ),
     (
         &["dump", "--limit", "00000000000005"],
-        Comes::Value("--limit"),
+        Meaning::Value("--limit"),
     ),
-    (&["dump", "--limit=-5"], Comes::Value("--limit")),
+    (&["dump", "--limit=-5"], Meaning::Value("--limit")),
     (
         &["dump", "--pure", "--limit", "3"],
-        Comes::Dump(Rules::Ber, Some(3), true),
+        Meaning::Dump(Rules::Ber, Some(3), true),
     ),
 ];
 
 /// Options twice, cut short, and with or without a value against their kind.
-pub(crate) static WRONG_OPTIONS: [Judged<'static>; 6] = [
-    (&["dump", "--limit", "-5"], Comes::Refused),
-    (&["dump", "--limit", "5", "--limit", "5"], Comes::Refused),
-    (&["dump", "--limit"], Comes::Refused),
-    (&["dump", "--lim", "5"], Comes::Refused),
-    (&["dump", "--pure=1"], Comes::Refused),
-    (&["dump", "--pure", "--pure"], Comes::Refused),
+pub(crate) static WRONG_OPTIONS: [CommandRow<'static>; 6] = [
+    (&["dump", "--limit", "-5"], Meaning::Refused),
+    (&["dump", "--limit", "5", "--limit", "5"], Meaning::Refused),
+    (&["dump", "--limit"], Meaning::Refused),
+    (&["dump", "--lim", "5"], Meaning::Refused),
+    (&["dump", "--pure=1"], Meaning::Refused),
+    (&["dump", "--pure", "--pure"], Meaning::Refused),
 ];
 
 /// Words that the command does not take, and one that it lacks.
-pub(crate) static WRONG_WORDS: [Judged<'static>; 6] = [
-    (&["dump", "a", "b"], Comes::Refused),
-    (&["extract"], Comes::Refused),
-    (&["indef", "--inside", "0"], Comes::Refused),
-    (&["check", "--limit", "1"], Comes::Refused),
-    (&["check", "--pure"], Comes::Refused),
+pub(crate) static WRONG_WORDS: [CommandRow<'static>; 6] = [
+    (&["dump", "a", "b"], Meaning::Refused),
+    (&["extract"], Meaning::Refused),
+    (&["indef", "--inside", "0"], Meaning::Refused),
+    (&["check", "--limit", "1"], Meaning::Refused),
+    (&["check", "--pure"], Meaning::Refused),
     (
         &["extract", "--offset", "0", "--rules", "der"],
-        Comes::Refused,
+        Meaning::Refused,
     ),
 ];
 
 /// Lists of the offsets of strings.
-pub(crate) static INSIDE: [Judged<'static>; 9] = [
-    (&["dump", "--inside", "5,3"], Comes::Value("--inside")),
-    (&["dump", "--inside", "3,3"], Comes::Value("--inside")),
-    (&["dump", "--inside", "4,"], Comes::Value("--inside")),
-    (&["dump", "--inside", ",4"], Comes::Value("--inside")),
-    (&["dump", "--inside", ""], Comes::Value("--inside")),
+pub(crate) static INSIDE: [CommandRow<'static>; 9] = [
+    (&["dump", "--inside", "5,3"], Meaning::Value("--inside")),
+    (&["dump", "--inside", "3,3"], Meaning::Value("--inside")),
+    (&["dump", "--inside", "4,"], Meaning::Value("--inside")),
+    (&["dump", "--inside", ",4"], Meaning::Value("--inside")),
+    (&["dump", "--inside", ""], Meaning::Value("--inside")),
     (
         &["dump", "--inside", "0,1099511627776"],
-        Comes::Dump(Rules::Ber, None, false),
+        Meaning::Dump(Rules::Ber, None, false),
     ),
     (
         &["dump", "--inside", "1099511627777"],
-        Comes::Value("--inside"),
+        Meaning::Value("--inside"),
     ),
     (
         &["dump", "--inside", "1,2,3,4,5,6,7,8,9,10,11,12,13,14,15,16"],
-        Comes::Dump(Rules::Ber, None, false),
+        Meaning::Dump(Rules::Ber, None, false),
     ),
     (
         &[
@@ -91,86 +95,86 @@ pub(crate) static INSIDE: [Judged<'static>; 9] = [
             "--inside",
             "1,2,3,4,5,6,7,8,9,10,11,12,13,14,15,16,17",
         ],
-        Comes::Value("--inside"),
+        Meaning::Value("--inside"),
     ),
 ];
 
 /// Words for help and the version, and others in their place.
-pub(crate) static SHOWN: [Judged<'static>; 9] = [
-    (&["dump", "-h"], Comes::Refused),
-    (&["dump", "--help"], Comes::OctetsRun),
-    (&["dump", "--version"], Comes::Refused),
-    (&["--version"], Comes::OctetsRun),
-    (&["--help"], Comes::OctetsRun),
-    (&["-h"], Comes::Refused),
-    (&["-V"], Comes::Refused),
-    (&["help"], Comes::Refused),
-    (&[], Comes::Refused),
+pub(crate) static HELP_AND_VERSION: [CommandRow<'static>; 9] = [
+    (&["dump", "-h"], Meaning::Refused),
+    (&["dump", "--help"], Meaning::HelpOrVersion),
+    (&["dump", "--version"], Meaning::Refused),
+    (&["--version"], Meaning::HelpOrVersion),
+    (&["--help"], Meaning::HelpOrVersion),
+    (&["-h"], Meaning::Refused),
+    (&["-V"], Meaning::Refused),
+    (&["help"], Meaning::Refused),
+    (&[], Meaning::Refused),
 ];
 
 /// Words for `extract` and `indef`.
-pub(crate) static CUTS: [Judged<'static>; 5] = [
+pub(crate) static CUTS: [CommandRow<'static>; 5] = [
     (
         &["extract", "--offset", "1099511627777"],
-        Comes::Value("--offset"),
+        Meaning::Value("--offset"),
     ),
     (
         &["extract", "--offset", "1099511627776"],
-        Comes::Extract(1099511627776, false),
+        Meaning::Extract(1099511627776, false),
     ),
     (
         &["extract", "--offset", "007", "--contents", "a.der"],
-        Comes::Extract(7, true),
+        Meaning::Extract(7, true),
     ),
-    (&["indef", "a.der"], Comes::Indef),
-    (&["indef", "--padding", "-"], Comes::Indef),
+    (&["indef", "a.der"], Meaning::Indef),
+    (&["indef", "--padding", "-"], Meaning::Indef),
 ];
 
 /// Whose rules `dump` and `check` go by.
-pub(crate) static RULES: [Judged<'static>; 7] = [
-    (&["dump"], Comes::Dump(Rules::Ber, None, false)),
+pub(crate) static RULES: [CommandRow<'static>; 7] = [
+    (&["dump"], Meaning::Dump(Rules::Ber, None, false)),
     (
         &["dump", "--rules", "der"],
-        Comes::Dump(Rules::Der, None, false),
+        Meaning::Dump(Rules::Der, None, false),
     ),
     (
         &["dump", "--rules=ber"],
-        Comes::Dump(Rules::Ber, None, false),
+        Meaning::Dump(Rules::Ber, None, false),
     ),
-    (&["check"], Comes::Check(Rules::Der)),
+    (&["check"], Meaning::Check(Rules::Der)),
     (
         &["check", "--rules", "cer", "--padding"],
-        Comes::Check(Rules::Cer),
+        Meaning::Check(Rules::Cer),
     ),
-    (&["check", "--rules", "ber"], Comes::Check(Rules::Ber)),
-    (&["check", "--rules", "xer"], Comes::Value("--rules")),
+    (&["check", "--rules", "ber"], Meaning::Check(Rules::Ber)),
+    (&["check", "--rules", "xer"], Meaning::Value("--rules")),
 ];
 
 /// Values out of range, of which one is reported.
-pub(crate) static REFUSED_VALUES: [Judged<'static>; 7] = [
+pub(crate) static REFUSED_VALUES: [CommandRow<'static>; 7] = [
     (
         &["dump", "--limit", "x", "--inside", "4,"],
-        Comes::Value("--limit"),
+        Meaning::Value("--limit"),
     ),
     (
         &["dump", "--inside", "4,", "--limit", "x"],
-        Comes::Value("--limit"),
+        Meaning::Value("--limit"),
     ),
     (
         &["extract", "--offset", "x", "--inside", "x"],
-        Comes::Value("--offset"),
+        Meaning::Value("--offset"),
     ),
     (
         &["extract", "--inside", "x", "--offset", "7"],
-        Comes::Value("--inside"),
+        Meaning::Value("--inside"),
     ),
     (
         &["dump", "--rules", "xer", "--limit", "x"],
-        Comes::Value("--rules"),
+        Meaning::Value("--rules"),
     ),
     (
         &["check", "--inside", "x", "--rules", "DER"],
-        Comes::Value("--rules"),
+        Meaning::Value("--rules"),
     ),
-    (&["check", "--inside", "x"], Comes::Value("--inside")),
+    (&["check", "--inside", "x"], Meaning::Value("--inside")),
 ];
