@@ -7,13 +7,13 @@ use Rattle.tlv_walk.specs.declared.follow.Go.TheVariants.{On, Enough}
 use Rattle.tlv_walk.specs.Events.{Begin, Bytes, Close, End, Enter, EventValue, Leave, Open, Pad, Unused}
 use Rattle.tlv_walk.specs.Follow.{Effect, effect_with}
 
--- a digit below 16
-abbrev pub digit : ℕ → ℕ
-digit n = slice_index (codes "0123456789abcdef") n
+-- the code of a digit below 16
+abbrev pub digit_code : ℕ → ℕ
+digit_code n = slice_index (codes "0123456789abcdef") n
 
 -- an octet as a space and two digits
 abbrev pub pair : ℕ → List ℕ
-pair octet = 32 ∷ digit (octet / 16) ∷ digit (octet % 16) ∷ []
+pair octet = 32 ∷ digit_code (octet / 16) ∷ digit_code (octet % 16) ∷ []
 
 abbrev pub pairs : List ℕ → List ℕ
 pairs octets = flat_map pair octets
@@ -24,29 +24,30 @@ pads octets = flat_map (λ x. codes "pad\n") octets
 
 -- an offset as a space and its last four decimal digits
 abbrev pub offset_text : ℕ → List ℕ
-offset_text n = 32 ∷ digit (n / 1000 % 10) ∷ digit (n / 100 % 10) ∷ digit (n / 10 % 10) ∷ digit (n % 10) ∷ []
+offset_text n =
+    32 ∷ digit_code (n / 1000 % 10) ∷ digit_code (n / 100 % 10) ∷ digit_code (n / 10 % 10) ∷ digit_code (n % 10) ∷ []
 
 -- the line of a header: a word, where the header is, and its octets
 abbrev pub header_line : List ℕ → HeaderValue → List ℕ
 header_line word h = word ++ offset_text h.offset ++ pairs (octets_of h) ++ 10 ∷ []
 
 -- the line of the end of a constructed element, with the offset of its end-of-contents octets, if it has them
-abbrev pub test_close_line : Option ℕ → List ℕ
-test_close_line None = codes "close\n"
-test_close_line (Some offset) = codes "close" ++ offset_text offset ++ 10 ∷ []
+abbrev pub close_event_line : Option ℕ → List ℕ
+close_event_line None = codes "close\n"
+close_event_line (Some offset) = codes "close" ++ offset_text offset ++ 10 ∷ []
 
--- an element end: n is how many end are to come up to the one that is enough, or 0 if none is
-abbrev pub end : ℕ → List ℕ → Effect ℕ
-end n octets = record { state = n - 1; put = octets; goes = if n == 1 then Enough else On }
+-- the end of an element: n is how many ends are to come up to the one that is enough, or 0 if none is
+abbrev pub end_step : ℕ → List ℕ → Effect ℕ
+end_step n octets = record { state = n - 1; put = octets; goes = if n == 1 then Enough else On }
 
 -- an event
-abbrev pub test_step : ℕ → EventValue → Effect ℕ
-test_step n (Open h) = effect_with n (header_line (codes "open") h)
-test_step n (Begin h) = effect_with n (header_line (codes "begin") h)
-test_step n (Enter h) = effect_with n (header_line (codes "enter") h)
-test_step n (Bytes octets) = effect_with n (pairs octets)
-test_step n (Pad octets) = effect_with n (pads octets)
-test_step n Unused = effect_with n (codes "unused\n")
-test_step n End = end n (codes " end\n")
-test_step n Leave = end n (codes "leave\n")
-test_step n (Close at) = end n (test_close_line at)
+abbrev pub event_lines_step : ℕ → EventValue → Effect ℕ
+event_lines_step n (Open h) = effect_with n (header_line (codes "open") h)
+event_lines_step n (Begin h) = effect_with n (header_line (codes "begin") h)
+event_lines_step n (Enter h) = effect_with n (header_line (codes "enter") h)
+event_lines_step n (Bytes octets) = effect_with n (pairs octets)
+event_lines_step n (Pad octets) = effect_with n (pads octets)
+event_lines_step n Unused = effect_with n (codes "unused\n")
+event_lines_step n End = end_step n (codes " end\n")
+event_lines_step n Leave = end_step n (codes "leave\n")
+event_lines_step n (Close at) = end_step n (close_event_line at)
