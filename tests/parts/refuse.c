@@ -23,7 +23,7 @@
 #include <sys/syscall.h>
 #include <unistd.h>
 
-/* The C library's own, under the names that nothing stands in front of. */
+/* The C library's own functions, under names that no other library defines. */
 extern void *__libc_malloc(size_t);
 extern void *__libc_calloc(size_t, size_t);
 extern void *__libc_realloc(void *, size_t);
@@ -32,7 +32,7 @@ extern void *__libc_memalign(size_t, size_t);
 static unsigned long first, last, count, refused;
 static uintptr_t begin, end;
 
-/* Finds where the program itself stands: it is the first of the objects that are loaded. */
+/* Finds where the program itself is in memory: it is the first of the objects that are loaded. */
 static int place(struct dl_phdr_info *info, size_t size, void *data) {
     (void)size, (void)data;
     for (int index = 0; index < info->dlpi_phnum; index++) {

@@ -21,8 +21,8 @@ NAMES = {
     "TagTooLong ReservedLength IndefinitePrimitive LengthTooLarge TooDeep Overrun BadInside",
     "Rattle.tlv_show.specs.declared.rules.Rules.TheVariants": "Ber Der Cer",
     "Rattle.tlv_value.specs.Names": "names_of",
-    "Rattle.tlv_run.proofs.RowWords": "check clean_with dump extract faulty framed indef lines named nameless "
-    "entries_table noted octets plain result result_with",
+    "Rattle.tlv_run.proofs.RowWords": "check clean_result dump extract fault_result framing_of indef lines named nameless "
+    "entries_table notice_result octets plain result result_with",
 }
 CODES = {
     "F01": "Empty",
@@ -112,7 +112,7 @@ def framing(given):
     if not {"--inside", "--padding"} & set(given):
         return "plain"
     offsets = [str(int(offset)) for offset in given.get("--inside", "").split(",") if offset]
-    return f"(framed {in_brackets(list_of(offsets))} {truth(given.get('--padding'))})"
+    return f"(framing_of {in_brackets(list_of(offsets))} {truth(given.get('--padding'))})"
 
 
 def command(words):
@@ -130,15 +130,15 @@ def command(words):
 
 
 def made(row):
-    """What the row says that is made of its input."""
+    """The end of a statement: what the row says that is made of its input."""
     fault = FAULT.fullmatch(row.message)
     if fault:
-        said = f"faulty {row.findings()} {CODES[fault[2]]} {fault[1]} {string(row.message)}"
+        said = f"fault_result {row.findings()} {CODES[fault[2]]} {fault[1]} {string(row.message)}"
     elif row.status:
-        said = f"noted {row.findings()} {string(row.message)}"
+        said = f"notice_result {row.findings()} {string(row.message)}"
     else:
-        said = "clean_with"
-    return f"{said} {output_of(row)}"
+        said = "clean_result"
+    return join_texts(f"    ≡ {said}", output_of(row))
 
 
 def entries(row):
@@ -167,7 +167,7 @@ def statement(number, row):
     stated = join_texts(join_texts(f"{name} : {result}", f"({asked})"), given)
     shown = f"unfolding digits encode_with is_utf8 chars encode\n{name} = {proof}\n"
     names = f"\n{read_names(name, row)}" if row.names is not None else ""
-    return f"{title}{stated}\n    ≡ {made(row)}\n{shown}{names}"
+    return f"{title}{stated}\n{made(row)}\n{shown}{names}"
 
 
 def use(module, names):

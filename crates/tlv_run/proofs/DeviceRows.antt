@@ -18,7 +18,7 @@ use Rattle.tlv_walk.specs.Forest.{Forest}
 use Rattle.tlv_walk.specs.Job.{Job}
 use Rattle.tlv_walk.specs.Reading.{AreOctets, IsReading}
 use Rattle.tlv_run.proofs.Results.{is_result, makes_unique}
-use Rattle.tlv_run.proofs.RowWords.{check, clean_with, dump, extract, faulty, lines, octets, plain, result}
+use Rattle.tlv_run.proofs.RowWords.{check, clean_result, dump, extract, fault_result, lines, octets, plain, result}
 use Rattle.tlv_run.specs.declared.command.Command.{Command}
 use Rattle.tlv_run.specs.RunsOctets.{IsReport, RunsOctets, ended, read_failed, settled, too_long}
 use Rattle.tlv_run.specs.Report.{ReportValue, device_report, report_with}
@@ -183,31 +183,31 @@ null_element = octets "05 00"
 abbrev null_lines : List ℕ
 null_lines = lines ("       0      0: NULL" ∷ [])
 
-null-made : result plain_dump null_element ≡ clean_with null_lines
+null-made : result plain_dump null_element ≡ clean_result null_lines
 unfolding digits
 null-made = refl
 
 -- the input ends: just enough room
 null-1 : Writes plain_dump null_element false 22 null_lines (report_with 0 [])
-null-1 = to-end plain_dump null_element (clean_with null_lines) refl refl refl null-made 22 refl
+null-1 = to-end plain_dump null_element (clean_result null_lines) refl refl refl null-made 22 refl
 
 -- the same with more room
 null-2 : Writes plain_dump null_element false 1000 null_lines (report_with 0 [])
-null-2 = to-end plain_dump null_element (clean_with null_lines) refl refl refl null-made 1000 refl
+null-2 = to-end plain_dump null_element (clean_result null_lines) refl refl refl null-made 1000 refl
 
 -- a read fails: the line was written before
 null-3 : Writes plain_dump null_element true 22 null_lines read_failed_report
 null-3 =
-    to-failure plain_dump null_element (clean_with null_lines) refl refl refl null-made 22 refl
-    (open-yet plain_dump null_element (clean_with null_lines) never-enough (λ final. final))
+    to-failure plain_dump null_element (clean_result null_lines) refl refl refl null-made 22 refl
+    (open-yet plain_dump null_element (clean_result null_lines) never-enough (λ final. final))
 
 -- an octet too little room, whatever comes after the octets
 null-4 : (fails : Bool) → Writes plain_dump null_element fails 21 (codes "       0      0: NULL") write_failed_report
-null-4 fails = little-room plain_dump null_element (clean_with null_lines) refl refl refl null-made fails 21 refl
+null-4 fails = little-room plain_dump null_element (clean_result null_lines) refl refl refl null-made fails 21 refl
 
 -- no room
 null-5 : (fails : Bool) → Writes plain_dump null_element fails 0 [] write_failed_report
-null-5 fails = little-room plain_dump null_element (clean_with null_lines) refl refl refl null-made fails 0 refl
+null-5 fails = little-room plain_dump null_element (clean_result null_lines) refl refl refl null-made fails 0 refl
 
 -- an unfinished header in a SEQUENCE, whose line has 28 octets
 abbrev unfinished : List ℕ
@@ -217,7 +217,7 @@ abbrev sequence_line : List ℕ
 sequence_line = lines ("       0      3: SEQUENCE {" ∷ [])
 
 abbrev unfinished_result : CommandResult
-unfinished_result = faulty 0 Short 3 "fault at 3: F02 input ends inside an encoding" sequence_line
+unfinished_result = fault_result 0 Short 3 "fault at 3: F02 input ends inside an encoding" sequence_line
 
 unfinished-made : result plain_dump unfinished ≡ unfinished_result
 unfolding digits
@@ -242,7 +242,7 @@ abbrev overrun_message : List ℕ
 overrun_message = codes "fault at 3: F11 element runs past the enclosing length"
 
 abbrev overrun_result : CommandResult
-overrun_result = faulty 0 Overrun 3 "fault at 3: F11 element runs past the enclosing length" sequence_line
+overrun_result = fault_result 0 Overrun 3 "fault at 3: F11 element runs past the enclosing length" sequence_line
 
 overrun-made : result plain_dump overrun ≡ overrun_result
 unfolding digits
@@ -270,7 +270,7 @@ abbrev indefinite_lines : List ℕ
 indefinite_lines = lines ("0 D01 indefinite length" ∷ [])
 
 abbrev indefinite_result : CommandResult
-indefinite_result = faulty 1 Short 2 "fault at 2: F02 input ends inside an encoding" indefinite_lines
+indefinite_result = fault_result 1 Short 2 "fault at 2: F02 input ends inside an encoding" indefinite_lines
 
 indefinite-made : result der_check indefinite ≡ indefinite_result
 unfolding digits
@@ -285,12 +285,12 @@ indefinite-1 =
 abbrev first_element : Command
 first_element = extract 0 false plain
 
-abbrev followed : List ℕ
-followed = octets "05 00 ff"
+abbrev null_and_more : List ℕ
+null_and_more = octets "05 00 ff"
 
-followed-made : result first_element followed ≡ clean_with (octets "05 00")
-followed-made = refl
+null_and_more-made : result first_element null_and_more ≡ clean_result (octets "05 00")
+null_and_more-made = refl
 
-followed-1 : Writes first_element followed true 2 (octets "05 00") (report_with 0 [])
-followed-1 =
-    to-enough first_element followed (clean_with (octets "05 00")) refl refl refl followed-made 2 refl refl
+null_and_more-1 : Writes first_element null_and_more true 2 (octets "05 00") (report_with 0 [])
+null_and_more-1 =
+    to-enough first_element null_and_more (clean_result (octets "05 00")) refl refl refl null_and_more-made 2 refl refl

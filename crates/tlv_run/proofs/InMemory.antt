@@ -1,17 +1,14 @@
 -- A job over octets in memory, whatever the reads give of them.
-use Rattle.std.proofs.Common.{◌≡◌, ◌≢◌, inl, inr, ℕ, zero, suc, ◌-◌, ◌<◌, ◌≤◌, slice_index_or, Fits, w8, Bool, true}
+use Rattle.std.proofs.Common.{◌≡◌, ◌≢◌, inl, inr, ℕ, ◌<◌, ◌≤◌, Bool, true}
 use Rattle.std.proofs.Common.{false, List, [], ◌∷◌, ◌++◌, length, take}
-use Rattle.std.proofs.Common.{refl, sym, ap, ◌∙◌, subst, arith, append_assoc, append-nil, length-append}
-use Rattle.arrayvec.specs.ArrayVec.{ArrayVec}
-use Rattle.std.proofs.lemmas.Bool.{cases_lt, lt-ltb, true≢false}
+use Rattle.std.proofs.Common.{refl, sym, ap, ◌∙◌, subst, arith, append-nil, length-append}
+use Rattle.std.proofs.lemmas.Bool.{true≢false}
 use Rattle.std.proofs.lemmas.List.Elements.{All-take}
-use Rattle.std.proofs.lemmas.List.{get_or_default, length-take, nil_from_length, take-append-le, take_all}
-use Rattle.std.proofs.Math.Seq.{take-append-add, take-append_seam}
-use Rattle.std.specs.Prelude.{if◌then◌else◌, Option, Some, None, Result, Ok, Err, ⊤}
-use Rattle.std.specs.Io.KnownBytes.{Appends, Consumes, IsAtEnd}
-use Rattle.tlv_value.specs.Names.{NamesTable}
+use Rattle.std.proofs.lemmas.List.{length-take, nil_from_length, take-append-le, take_all}
+use Rattle.std.proofs.Math.Seq.{take-append_seam}
+use Rattle.std.specs.Prelude.{Some, Result, Ok, Err, ⊤}
+use Rattle.std.specs.Io.KnownBytes.{IsAtEnd}
 use Rattle.tlv_walk.proofs.FollowerLemmas.Enough.{returns}
-use Rattle.tlv_io.proofs.Pieces.{GaveLast}
 use Rattle.tlv_walk.proofs.GrammarLemmas.Endings.{IsRefused, fault-halt}
 use Rattle.tlv_io.proofs.Puts.{more_left}
 use Rattle.tlv_io.proofs.Sends.{sends_appends}
@@ -22,54 +19,19 @@ use Rattle.tlv_walk.specs.declared.framing.Framing.{Framing}
 use Rattle.tlv_walk.specs.declared.run.DeviceFault.{DeviceFault}
 use Rattle.tlv_walk.specs.declared.run.DeviceFault.TheVariants.{ReadFailed, WriteFailed, InputTooLong}
 use Rattle.std.specs.List.{concat}
-use Rattle.tlv_io.specs.Device.{DrainState, LastReadValue, SourceState, failed, gave, never, new_source, next_count}
+use Rattle.tlv_io.specs.Device.{DrainState, SourceState, gave, next_count}
 use Rattle.tlv_io.specs.Device.{octets_given}
 use Rattle.tlv_walk.specs.Ending.{IsEnding, IsFinalEnding}
 use Rattle.tlv_walk.specs.Forest.{Forest, spelling}
 use Rattle.tlv_walk.specs.Job.{EndsWith, Job, Runs, WantMore, device_states}
-use Rattle.tlv_io.specs.MemSource.{MemSourceState}
 use Rattle.tlv_io.specs.Out.{Sends}
 use Rattle.tlv_walk.specs.Reading.{AreOctets, IsPrefixOf, IsReading}
-use Rattle.tlv_run.proofs.Results.{Stays, one_made, settled_stays, stays_for, text_on}
-use Rattle.tlv_run.specs.declared.command.Command.{Command}
-use Rattle.tlv_run.specs.Private.MemoryDevices.{ending_source_state, failing_source_state, failing_last_read}
-use Rattle.tlv_run.specs.Private.MemoryDevices.{bounded_drain_state}
+use Rattle.tlv_run.proofs.Results.{Stays, one_made, settled_stays}
 use Rattle.tlv_run.specs.RunsOctets.{IsReport, RunsOctets, ended, read_failed, settled, too_long}
-use Rattle.tlv_run.specs.Report.{ReportValue, device_report, report_of}
-use Rattle.tlv_run.specs.Results.{CommandResult, IsJobResult, IsSettled, command_job, command_result}
+use Rattle.tlv_run.specs.Report.{ReportValue, device_report, result_report}
+use Rattle.tlv_run.specs.Results.{CommandResult, IsJobResult, IsSettled, command_result}
 use Rattle.tlv_run.specs.RunsAndReports.{RunsAndReports}
-
--- what a slice holds of numbers that fit an octet
-octets_fit : (xs : List ℕ) → ((i : ℕ) → Fits w8 (slice_index_or xs i 0)) → AreOctets xs
-octets_fit xs fits k d less = below (slice_index_or xs k d) (rw (get_or_default xs k d 0 less) (fits k)) where
-  below : (x : ℕ) → Fits w8 x → x < 256
-  below x f = omega (arith, f)
-
--- what a source has left that knows its octets
-pub left_of : (a b : Option (List ℕ)) (o given : List ℕ) → a ≡ Some o → Consumes a b given
-    → (r : List ℕ) × (b ≡ Some r) × (o ≡ given ++ r)
-left_of None b o given e c = absurd (cc (e))
-left_of (Some x) None o given e c = absurd c
-left_of (Some x) (Some y) o given e c = let same : x ≡ o = cc in (y, refl, sym same ∙ c)
-
-pub at_end : (b : Option (List ℕ)) (r : List ℕ) → b ≡ Some r → IsAtEnd b → r ≡ []
-at_end None r e i = absurd (cc (e))
-at_end (Some x) r e i = let same : x ≡ r = cc in sym same ∙ i
-
--- what an empty drain took
-taken_of : (a b : Option (List ℕ)) (w sent : List ℕ) → a ≡ Some [] → b ≡ Some w → Appends a b sent → w ≡ sent
-taken_of a b w sent e d x = let y : Appends (Some []) (Some w) sent = rw (e, d) at x in y
-
--- the front of more octets goes on
-take_front : (n : ℕ) (xs ys : List ℕ) → (more : List ℕ) × (take n (xs ++ ys) ≡ take n xs ++ more)
-take_front n xs ys = elim (cases_lt (length xs) n) [
-  | inl less ↦ (
-    take (n - length xs) ys,
-    ap (λ (k : ℕ). take k (xs ++ ys)) (omega (arith, less)) ∙ take-append-add xs ys (n - length xs)
-        ∙ ap (λ (l : List ℕ). l ++ take (n - length xs) ys) (sym (take_all n xs (omega (arith, less)))),
-  )
-  | inr more ↦ ([], take-append-le n xs ys (omega (arith, more)) ∙ sym (append-nil (take n xs)))
-]
+use Rattle.tlv_run.proofs.KnownDevices.{at_end, failed_none, front_and_rest, gave_none, left_of, take_front, taken_of}
 
 -- if the octets are spelled whole, no octet of them is refused
 spelled_on : (framing : Framing) (b : List ℕ) (f : Forest) (e : Ending)
@@ -87,35 +49,12 @@ spelled_on framing b f (ending.Fault k) r s x final =
       length-append (spelling y.forest) (y.halt.octet ∷ y.halt.rest),
     )
 
--- what was sent of a text, and what is after it in a longer one
-front_and_rest : (written sent left text rest longer : List ℕ)
-    → written ≡ sent → sent ++ left ≡ text → text ++ rest ≡ longer → longer ≡ written ++ (left ++ rest)
-front_and_rest written sent left text rest longer w t l =
-    sym l ∙ ap (λ (xs : List ℕ). xs ++ rest) (sym t) ∙ append_assoc sent left rest
-    ∙ ap (λ (xs : List ℕ). xs ++ (left ++ rest)) (sym w)
-
-pub gave_none : (l : LastReadValue) (xs : List ℕ) → l ≡ gave 0 → GaveLast l xs → xs ≡ []
-gave_none l xs e (inr g) = g.1
-gave_none l xs e (inl g) = nothing xs (ap octets_in (sym e ∙ g)) where
-  octets_in : LastReadValue → ℕ
-  octets_in never = 0
-  octets_in (gave n) = n
-  octets_in failed = 0
-
-  nothing : (xs : List ℕ) → 0 ≡ length xs → xs ≡ []
-  nothing [] e = refl
-  nothing (x ∷ xs) e = absurd (cc (e))
-
-failed_none : (l : LastReadValue) (xs : List ℕ) → l ≡ failed → GaveLast l xs → xs ≡ []
-failed_none l xs e (inl g) = absurd (cc)
-failed_none l xs e (inr g) = g.1
-
 module _ (job : Job ReportValue) (stays : Stays job)
     (goes_on : (b c : List ℕ) (f g : Forest) → length (b ++ c) ≤ job.limit
     → IsReading job.framing b f → IsReading job.framing (b ++ c) g → IsPrefixOf (job.text f) (job.text g))
     (octets : List ℕ) (all : AreOctets octets) (read_fails : Bool) where
-  abbrev seen : List ℕ
-  seen = take job.limit octets
+  abbrev limited_octets : List ℕ
+  limited_octets = take job.limit octets
 
   -- octets that hold neither a fault nor enough settle nothing
   unsettled : (b : List ℕ) (made : CommandResult) → (x : IsJobResult job b made) → WantMore job b → IsSettled x → ⊥
@@ -142,7 +81,7 @@ module _ (job : Job ReportValue) (stays : Stays job)
     Comes report = RunsOctets job octets read_fails room (record { written = written; report = report })
 
     -- all was written
-    whole : (made : CommandResult) (report : ReportValue) → (x : IsJobResult job seen made)
+    whole : (made : CommandResult) (report : ReportValue) → (x : IsJobResult job limited_octets made)
         → written ≡ made.output → IsReport job octets read_fails x report → Comes report
     whole made report x e s = record {
       made = made;
@@ -153,7 +92,7 @@ module _ (job : Job ReportValue) (stays : Stays job)
     }
 
     -- a front was written, which fills the room, and there is more
-    short : (made : CommandResult) (rest : List ℕ) → (x : IsJobResult job seen made)
+    short : (made : CommandResult) (rest : List ℕ) → (x : IsJobResult job limited_octets made)
         → made.output ≡ written ++ rest → rest ≢ [] → length written ≡ room → Comes (device_report WriteFailed)
     short made rest x e more n = record {
       made = made;
@@ -191,12 +130,12 @@ module _ (job : Job ReportValue) (stays : Stays job)
         } in
         let sent : written ≡ m.output = all_sent (job.text x.reading) x.sends in
         let front = take_front job.limit given left.0 in
-        let is : seen ≡ b ++ front.0 = ap (take job.limit) left.2 ∙ front.1 in
+        let is : limited_octets ≡ b ++ front.0 = ap (take job.limit) left.2 ∙ front.1 in
         let final : IsSettled y → Comes report = λ (z : IsSettled y).
         let z =
         settled_stays job stays b front.0 m (subst AreOctets is (All-take (λ x. x < 256) job.limit octets all)) y
         z in
-        let z' : (z : IsJobResult job seen m) × IsSettled z =
+        let z' : (z : IsJobResult job limited_octets m) × IsSettled z =
         subst (λ (o : List ℕ). (z : IsJobResult job o m) × IsSettled z) (sym is) z in
         whole m report z'.0 sent
         (subst (λ (s : ReportValue). IsReport job octets read_fails z'.0 s) same (settled z'.1)) in
@@ -216,7 +155,7 @@ module _ (job : Job ReportValue) (stays : Stays job)
                   length-append (concat x.pieces.pieces) x.pieces.last,
                   ap length last,
                 ) in
-                let z : IsJobResult job seen m =
+                let z : IsJobResult job limited_octets m =
                 subst (λ (o : List ℕ). IsJobResult job o m) (sym (ap (take job.limit) whole_given)) y in
                 whole m report z sent
                 (subst (λ (s : ReportValue). IsReport job octets read_fails z s) same
@@ -225,16 +164,16 @@ module _ (job : Job ReportValue) (stays : Stays job)
         ]
 
     -- of octets that settle nothing, all of them or too many, all was written
-    unsettled_all : (f : Forest) (report : ReportValue) → IsReading job.framing seen f → WantMore job seen
-        → written ≡ job.text f
-        → ((made : CommandResult) → (x : IsJobResult job seen made) → (IsSettled x → ⊥)
+    unsettled_all : (f : Forest) (report : ReportValue) → IsReading job.framing limited_octets f
+        → WantMore job limited_octets → written ≡ job.text f
+        → ((made : CommandResult) → (x : IsJobResult job limited_octets made) → (IsSettled x → ⊥)
         → IsReport job octets read_fails x report)
         → Comes report
     unsettled_all f report r s sent says =
-        let one = one_made job seen (All-take (λ x. x < 256) job.limit octets all) in
-        let same : f ≡ one.1.reading = reading-unique job.framing seen f one.1.reading r one.1.is_reading in
+        let one = one_made job limited_octets (All-take (λ x. x < 256) job.limit octets all) in
+        let same : f ≡ one.1.reading = reading-unique job.framing limited_octets f one.1.reading r one.1.is_reading in
         whole one.0 report one.1 (sent ∙ ap job.text same ∙ sym (ap (λ (m : CommandResult). m.output) one.1.is_made))
-        (says one.0 one.1 (unsettled seen one.0 one.1 s))
+        (says one.0 one.1 (unsettled limited_octets one.0 one.1 s))
 
     run_read_failed : Runs job (device_states old from) (device_states new to) (Err ReadFailed)
         → Comes (device_report ReadFailed)
@@ -250,10 +189,10 @@ module _ (job : Job ReportValue) (stays : Stays job)
         let given_before : given ≡ before = ap (λ (l : List ℕ). before ++ l) last ∙ append-nil before in
         let is_given : octets ≡ given = left.2 ∙ ap (λ (l : List ℕ). given ++ l) none ∙ append-nil given in
         let few : length octets ≤ job.limit = omega (arith, x.within, ap length is_given, ap length given_before) in
-        let seen_is : seen ≡ before = take_all job.limit octets few ∙ is_given ∙ given_before in
+        let limited_is : limited_octets ≡ before = take_all job.limit octets few ∙ is_given ∙ given_before in
         unsettled_all x.reading (device_report ReadFailed)
         (subst (λ (o : List ℕ). IsReading job.framing (take job.limit o) x.reading) (sym is_given) x.is_reading)
-        (subst (WantMore job) (sym seen_is) x.wants_more)
+        (subst (WantMore job) (sym limited_is) x.wants_more)
         (all_sent (job.text x.reading) x.sends)
         (λ (made : CommandResult) y apart. read_failed apart after.0 few)
 
@@ -264,7 +203,7 @@ module _ (job : Job ReportValue) (stays : Stays job)
         let left = left_of old.left new.left octets given known x.pieces.consumed in
         let k = returns job given x.reading new (Err InputTooLong) x.comes in
         let many : job.limit < length given = k.0 in
-        let is : seen ≡ take job.limit given =
+        let is : limited_octets ≡ take job.limit given =
         ap (take job.limit) left.2 ∙ take-append-le job.limit given left.0 (omega (arith, many)) in
         let more : job.limit < length octets = omega (arith, many, ap length left.2, length-append given left.0) in
         unsettled_all x.reading (device_report InputTooLong)
@@ -280,8 +219,8 @@ module _ (job : Job ReportValue) (stays : Stays job)
         let left = left_of old.left new.left octets given known x.pieces.consumed in
         let b : List ℕ = take job.limit given in
         let front = take_front job.limit given left.0 in
-        let is : seen ≡ b ++ front.0 = ap (take job.limit) left.2 ∙ front.1 in
-        let one = one_made job seen (All-take (λ x. x < 256) job.limit octets all) in
+        let is : limited_octets ≡ b ++ front.0 = ap (take job.limit) left.2 ∙ front.1 in
+        let one = one_made job limited_octets (All-take (λ x. x < 256) job.limit octets all) in
         let few : length (b ++ front.0) ≤ job.limit = omega (arith, length-take job.limit octets, ap length is) in
         let reads : IsReading job.framing (b ++ front.0) one.1.reading =
         subst (λ (o : List ℕ). IsReading job.framing o one.1.reading) is one.1.is_reading in
@@ -298,7 +237,7 @@ module _ (job : Job ReportValue) (stays : Stays job)
 
     run_in : (result : Result ReportValue DeviceFault)
         → Runs job (device_states old from) (device_states new to) result
-        → Comes (report_of (λ (of_input : ReportValue). of_input) result)
+        → Comes (result_report result)
     run_in (Ok report) x = run_ok report x
     run_in (Err ReadFailed) x = run_read_failed x
     run_in (Err WriteFailed) x = run_short x
@@ -307,62 +246,3 @@ module _ (job : Job ReportValue) (stays : Stays job)
     pub runs_octets : (report : ReportValue)
         → RunsAndReports job (device_states old from) (device_states new to) report → Comes report
     runs_octets report x = subst Comes (sym x.report_is) (run_in x.result x.runs)
-
--- what a drain shows that has failed: it is full
-full_drain : (room : ℕ) (xs : List ℕ) (failures : ℕ) → (bounded_drain_state room xs failures).failures ≡ 1
-    → length xs ≤ room → length xs ≡ room
-full_drain room xs failures e few = elim (cases_lt (length xs) room) [
-  | inl less ↦
-      absurd (apart ((bounded_drain_state room xs failures).failures)
-      (ap (λ (k : Bool). if k then 0 else failures) (lt-ltb (length xs) room less)) e)
-  | inr more ↦ omega (arith, few, more)
-] where
-  apart : (n : ℕ) → n ≡ 0 → n ≡ 1 → ⊥
-  apart n e d = cc (e, d)
-
--- what a source shows that has failed after its octets: it has nothing left
-spent : (s : MemSourceState) (failures : ℕ) → failures ≡ 1 → IsAtEnd (failing_source_state s failures).left
-spent s zero e = absurd (cc (e))
-spent s (suc n) e = refl
-
--- and it never gave nothing
-gave_some : (l : LastReadValue) → failing_last_read l ≡ gave 0 → ⊥
-gave_some never e = cc (e)
-gave_some (gave zero) e = cc (e)
-gave_some (gave (suc n)) e = cc (e)
-gave_some failed e = cc (e)
-
-module _ (command : Command) (names : NamesTable) (octets : List ℕ)
-    (fit : (i : ℕ) → Fits w8 (slice_index_or octets i 0)) (room : ℕ)
-    (written kept : ArrayVec ℕ) (same : written ≡ kept) (fits : length written.items ≤ room) (failures : ℕ)
-    (from : DrainState) (from_is : from ≡ record { octets = Some []; failures = 0 }) (report : ReportValue) where
-  kept_is : written.items ≡ kept.items
-  kept_is = ap (λ (v : ArrayVec ℕ). v.items) same
-
-  filled : (bounded_drain_state room kept.items failures).failures ≡ 1 → length written.items ≡ room
-  filled k = ap length kept_is ∙ full_drain room kept.items failures k (omega (arith, ap length kept_is, fits))
-
-  pub to_end : (old : SourceState) (new : MemSourceState) → old ≡ new_source (Some octets)
-      → RunsAndReports (command_job command names) (device_states old from)
-      (device_states (ending_source_state new) (bounded_drain_state room kept.items failures)) report
-      → RunsOctets (command_job command names) octets false room (record { written = written.items; report = report })
-  to_end old new e x =
-      runs_octets (command_job command names) (stays_for command names) (text_on command names) octets
-      (octets_fit octets fit) false
-      old (ending_source_state new) from (bounded_drain_state room kept.items failures) room written.items
-      (ap (λ (s : SourceState). s.left) e) (ap (λ (s : SourceState). s.failures) e) (λ k. absurd (cc (k))) (λ _ _. refl)
-      (ap (λ (t : DrainState). t.octets) from_is) (ap (λ (t : DrainState). t.failures) from_is)
-      (ap Some (sym kept_is)) fits filled report x
-
-  pub until_failure : (old : SourceState) (new : MemSourceState) (failed_reads : ℕ) → old ≡ new_source (Some octets)
-      → RunsAndReports (command_job command names) (device_states old from)
-      (device_states (failing_source_state new failed_reads) (bounded_drain_state room kept.items failures)) report
-      → RunsOctets (command_job command names) octets true room (record { written = written.items; report = report })
-  until_failure old new failed_reads e x =
-      runs_octets (command_job command names) (stays_for command names) (text_on command names) octets
-      (octets_fit octets fit) true
-      old (failing_source_state new failed_reads) from (bounded_drain_state room kept.items failures) room written.items
-      (ap (λ (s : SourceState). s.left) e) (ap (λ (s : SourceState). s.failures) e)
-      (λ k. (refl, spent new failed_reads k)) (λ _ k. absurd (gave_some new.log.last k))
-      (ap (λ (t : DrainState). t.octets) from_is) (ap (λ (t : DrainState). t.failures) from_is)
-      (ap Some (sym kept_is)) fits filled report x

@@ -6,9 +6,14 @@ use Rattle.tlv_walk.specs.declared.run.DeviceFault.TheVariants.{ReadFailed, Writ
 use Rattle.tlv_io.specs.Device.{octets_given}
 use Rattle.tlv_walk.specs.Job.{DeviceStates, Job, Runs, WantMore, read_failed, too_long, write_failed}
 use Rattle.tlv_walk.proofs.FollowerLemmas.Enough.{comes_to, returns}
-use Rattle.tlv_run.specs.Report.{ReportValue, report_of}
+use Rattle.tlv_run.specs.Report.{ReportValue, device_report}
 use Rattle.tlv_run.specs.Results.{job_with_report}
 use Rattle.tlv_run.specs.RunsAndReports.{RunsAndReports}
+
+-- what is reported of a result, or of the device that failed
+abbrev pub report_of : {A : Type 0} → (A → ReportValue) → Result A DeviceFault → ReportValue
+report_of report (Ok a) = report a
+report_of report (Err fault) = device_report fault
 
 module _ {A : Type 0} (report : A → ReportValue) (job : Job A) where
   wants_too : (b : List ℕ) → WantMore job b → WantMore (job_with_report report job) b

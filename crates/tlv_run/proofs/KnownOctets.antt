@@ -12,10 +12,10 @@ use Rattle.tlv_walk.specs.declared.run.DeviceFault.TheVariants.{ReadFailed, Writ
 use Rattle.tlv_io.specs.Device.{next_count, octets_given}
 use Rattle.tlv_walk.specs.Job.{DeviceStates, Job, Runs}
 use Rattle.tlv_walk.specs.Reading.{AreOctets}
-use Rattle.tlv_run.proofs.InMemory.{at_end, left_of}
+use Rattle.tlv_run.proofs.KnownDevices.{at_end, left_of}
 use Rattle.tlv_run.proofs.Results.{Stays, limit_is, settled_stays, stays_for}
 use Rattle.tlv_run.specs.Laws.{RunsAreResults}
-use Rattle.tlv_run.specs.Report.{ReportValue, report_of}
+use Rattle.tlv_run.specs.Report.{ReportValue, result_report}
 use Rattle.tlv_run.specs.Results.{CommandResult, IsJobResult, IsSettled, command_job, command_result}
 
 -- a count below its end goes on
@@ -68,7 +68,7 @@ module _ (job : Job ReportValue) (stays : Stays job) (octets : List ℕ) (all : 
   gives : old.source.failures < 2 ^ 64 - 1 → new.source.failures ≡ old.source.failures
       → old.drain.failures < 2 ^ 64 - 1 → new.drain.failures ≡ old.drain.failures
       → (result : Result ReportValue DeviceFault) → Runs job old new result
-      → GivesReport (report_of (λ (of_input : ReportValue). of_input) result)
+      → GivesReport (result_report result)
   gives old_few quiet from_few took (Ok report) x = gives_ok report x
   gives old_few quiet from_few took (Err ReadFailed) x =
       absurd (goes_up old.source.failures old_few (sym x.failures ∙ quiet))

@@ -10,8 +10,10 @@ pub mod InMemory
 pub mod IndefKeptRows
 pub mod IndefRows
 pub mod InsideRows
+pub mod KnownDevices
 pub mod KnownOctets
 pub mod LayoutsRows
+pub mod MemoryRuns
 pub mod PaddingRows
 pub mod Results
 pub mod RowWords

@@ -117,11 +117,11 @@ module _ (job : Job ReportValue) where
 
 -- ---- commands
 
-pub one_result : InputsHaveOneResult
-one_result command names = one_made (command_job command names)
+pub inputs_have_one_result : InputsHaveOneResult
+inputs_have_one_result command names = one_made (command_job command names)
 
-abbrev made : List ℕ → Ending → ReportValue → CommandResult
-made t e report = record { output = t; ending = e; report = report }
+abbrev result_of_parts : List ℕ → Ending → ReportValue → CommandResult
+result_of_parts t e report = record { output = t; ending = e; report = report }
 
 pub stays_for : (command : Command) (names : NamesTable) → Stays (command_job command names)
 stays_for (Dump options names_file file) names b c f g r s e = absurd (true≢false (sym e))
@@ -133,9 +133,9 @@ stays_for (Extract offset contents framing file) names b c f g r s e =
     same_found framing b c f g r s offset contents e in (
       same_whole framing b c f g r s offset contents e ∙ e,
       λ (d : Ending).
-          ap (λ (t : List ℕ). made t d (cut_report offset (record { ending = d; found = has_element_at offset g })))
-          text
-          ∙ ap (λ (k : Bool). made (extract_text offset contents f) d
+          ap (λ (t : List ℕ). result_of_parts t d
+          (cut_report offset (record { ending = d; found = has_element_at offset g }))) text
+          ∙ ap (λ (k : Bool). result_of_parts (extract_text offset contents f) d
           (cut_report offset (record { ending = d; found = k }))) found,
     )
 stays_for (Indef padding file) names b c f g r s e = absurd (true≢false (sym e))
@@ -193,6 +193,6 @@ second_indef padding file names b m n x y =
           let end : n.ending ≡ m.ending =
           ending-unique (indef_framing padding) (indef_text x.reading) n.ending ending.Done d' d ∙ sym done in
           y.is_made ∙ ap (λ (e : Ending). command_result job y.reading e) end
-          ∙ ap (λ (o : List ℕ). made o m.ending (indef_report m.ending)) (ap indef_text same ∙ again.1)
+          ∙ ap (λ (o : List ℕ). result_of_parts o m.ending (indef_report m.ending)) (ap indef_text same ∙ again.1)
           ∙ sym x.is_made,
     )

@@ -27,13 +27,13 @@ use Rattle.tlv_run.specs.declared.command.Command.TheVariants.{Check, Dump, Extr
 
 -- ---- octets
 
-abbrev code_digit : ℕ → ℕ
-code_digit code = if nat_le code 57 then code - 48 else (code - 87)
+abbrev digit_value : ℕ → ℕ
+digit_value code = if nat_le code 57 then code - 48 else (code - 87)
 
 -- the octets of a text of pairs of hexadecimal digits, with a space between two of them
 abbrev octets_in : List ℕ → List ℕ
-octets_in (high ∷ low ∷ []) = (16 * code_digit high + code_digit low) ∷ []
-octets_in (high ∷ low ∷ space ∷ rest) = (16 * code_digit high + code_digit low) ∷ octets_in rest
+octets_in (high ∷ low ∷ []) = (16 * digit_value high + digit_value low) ∷ []
+octets_in (high ∷ low ∷ space ∷ rest) = (16 * digit_value high + digit_value low) ∷ octets_in rest
 octets_in codes = []
 
 abbrev pub octets : String → List ℕ
@@ -45,8 +45,8 @@ abbrev pub plain : Framing
 plain = plain_framing
 
 -- what the strings at these offsets hold is read as encodings; whether octets 00 may stand between encodings
-abbrev pub framed : List ℕ → Bool → Framing
-framed inside padding = record { inside = inside; padding = padding }
+abbrev pub framing_of : List ℕ → Bool → Framing
+framing_of inside padding = record { inside = inside; padding = padding }
 
 -- the most rows of each value, and whether the first columns are left out
 abbrev pub options_of : Rules → Option ℕ → Bool → Framing → Options
@@ -77,20 +77,20 @@ abbrev pub lines : List String → List ℕ
 lines texts = flat_map (λ text. codes text ++ 10 ∷ []) texts
 
 -- status 0, and no message
-abbrev pub clean_with : List ℕ → CommandResult
-clean_with output = record { output = output; ending = Done; report = clean }
+abbrev pub clean_result : List ℕ → CommandResult
+clean_result output = record { output = output; ending = Done; report = clean }
 
 -- status 1 with so many findings and this message
-abbrev pub noted : ℕ → String → List ℕ → CommandResult
-noted findings message output = record {
+abbrev pub notice_result : ℕ → String → List ℕ → CommandResult
+notice_result findings message output = record {
   output = output;
   ending = Done;
   report = record { status = 1; findings = findings; message = codes message };
 }
 
 -- status 2: so many findings, and a fault of this code at this offset, with this message
-abbrev pub faulty : ℕ → FaultCode → ℕ → String → List ℕ → CommandResult
-faulty findings code offset message output =
+abbrev pub fault_result : ℕ → FaultCode → ℕ → String → List ℕ → CommandResult
+fault_result findings code offset message output =
     record {
       output = output;
       ending = fault_ending code offset;
@@ -100,21 +100,21 @@ faulty findings code offset message output =
 -- ---- names of object identifiers
 
 -- a dump, by the names themselves in place of the table of names
-abbrev dumped_by : Rules → Option ℕ → Bool → Framing → NameOf → List ℕ → CommandResult
-dumped_by rules limit pure framing name_of octets =
+abbrev dump_result : Rules → Option ℕ → Bool → Framing → NameOf → List ℕ → CommandResult
+dump_result rules limit pure framing name_of octets =
     let show = show_job rules framing (item_text name_of (top_layout (options_of rules limit pure framing))) in
     record (result (dump rules limit pure framing) octets) { output = show.text (reading framing octets) }
 
 by_names : (rules : Rules) (limit : Option ℕ) (pure : Bool) (framing : Framing) (names : NamesTable) (name_of : NameOf)
     →
     finite.get names ≡ name_of → (octets : List ℕ)
-    → result_with names (dump rules limit pure framing) octets ≡ dumped_by rules limit pure framing name_of octets
+    → result_with names (dump rules limit pure framing) octets ≡ dump_result rules limit pure framing name_of octets
 by_names rules limit pure framing names name_of e octets =
-    ap (λ (by : NameOf). dumped_by rules limit pure framing by octets) e
+    ap (λ (by : NameOf). dump_result rules limit pure framing by octets) e
 
 -- without a names file nothing has a name
 pub nameless : (rules : Rules) (limit : Option ℕ) (pure : Bool) (framing : Framing) (octets : List ℕ) →
-    result (dump rules limit pure framing) octets ≡ dumped_by rules limit pure framing no_names octets
+    result (dump rules limit pure framing) octets ≡ dump_result rules limit pure framing no_names octets
 nameless rules limit pure framing =
     by_names rules limit pure framing finite.empty no_names (λ i text. finite.get-empty (slice_cmp nat_cmp) text i)
 
@@ -129,7 +129,7 @@ pub named : (entries : List (List ℕ × List ℕ)) (rules : Rules) (limit : Opt
     (octets : List ℕ)
     →
     result_with (entries_table entries) (dump rules limit pure framing) octets
-    ≡ dumped_by rules limit pure framing (name_in entries) octets
+    ≡ dump_result rules limit pure framing (name_in entries) octets
 named entries rules limit pure framing =
     by_names rules limit pure framing (entries_table entries) (name_in entries)
     (λ i text. finite.get-from_entries nat_list_cmp_total entries text i)

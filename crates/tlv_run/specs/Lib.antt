@@ -1,3 +1,4 @@
+pub mod BorrowedText
 pub mod CommandFiles
 pub mod Laws
 pub mod Report

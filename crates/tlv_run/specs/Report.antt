@@ -65,7 +65,7 @@ found_report offset found =
 abbrev pub cut_report : ℕ → Cut → ReportValue
 cut_report offset cut = ending_report cut.ending (found_report offset cut.found)
 
--- a copy that `indef` makes
+-- an input written with indefinite lengths
 abbrev pub indef_report : Ending → ReportValue
 indef_report e = ending_report e (report_with 0 [])
 
@@ -76,10 +76,10 @@ device_report ReadFailed = report_with 3 (codes "E1 read failed")
 device_report WriteFailed = report_with 3 (codes "E2 write failed")
 device_report InputTooLong = report_with 3 (codes "E3 input too long")
 
--- what is reported of a result, or of the device that failed
-abbrev pub report_of : {A : Type 0} → (A → ReportValue) → Result A DeviceFault → ReportValue
-report_of report (Ok a) = report a
-report_of report (Err fault) = device_report fault
+-- what is reported in the end: of the input, or of the device that failed
+abbrev pub result_report : Result ReportValue DeviceFault → ReportValue
+result_report (Ok report) = report
+result_report (Err fault) = device_report fault
 
 -- the file to read does not open
 abbrev pub unopened_report : ReportValue
@@ -87,13 +87,15 @@ unopened_report = report_with 3 (codes "E5 cannot open the file")
 
 -- ---- the names file
 
-abbrev pub line_with : List ℕ → ℕ → List ℕ → List ℕ
-line_with code line text = code ++ codes " line " ++ decimal line ++ text
+-- a code, the number of a line of the names file, and what is wrong with that line
+abbrev pub names_fault_line : List ℕ → ℕ → List ℕ → List ℕ
+names_fault_line code line text = code ++ codes " line " ++ decimal line ++ text
 
 abbrev pub names_report : NamesFault → ReportValue
-names_report (names.BadOid line) = report_with 4 (line_with (codes "N1") line (codes ": not an object identifier"))
-names_report (names.BadName line) = report_with 4 (line_with (codes "N2") line (codes ": no usable name"))
-names_report (names.Repeated line) = report_with 4 (line_with (codes "N3") line (codes ": repeated"))
+names_report (names.BadOid line) =
+    report_with 4 (names_fault_line (codes "N1") line (codes ": not an object identifier"))
+names_report (names.BadName line) = report_with 4 (names_fault_line (codes "N2") line (codes ": no usable name"))
+names_report (names.Repeated line) = report_with 4 (names_fault_line (codes "N3") line (codes ": repeated"))
 names_report names.TooLarge = report_with 4 (codes "N4 names file too large")
 names_report names.ReadFailed = report_with 4 (codes "N5 names file not read")
 names_report names.Memory = report_with 5 (codes "N6 out of memory")

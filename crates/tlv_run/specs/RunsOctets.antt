@@ -16,8 +16,8 @@ octets_run_value_of run = record { written = run.written.items; report = report_
 
 -- the job, all octets, and whether after them a read fails
 module _ (job : Job ReportValue) (octets : List ℕ) (read_fails : Bool) where
-  -- what is reported if all was written that is made of the octets, or of the first of them, no more than are read as
-  -- encodings: a line for each cause
+  -- what is reported if there was room for all of the output, by what comes after the octets that are read: a line for
+  -- each cause
   pub data IsReport {made : CommandResult} (x : IsJobResult job (take job.limit octets) made)
       : ReportValue → Type 0 where
     -- nothing counts that could follow

@@ -1,6 +1,6 @@
 //! The commands.
 ghost use Rattle.std.specs.Prelude.{◌≡◌};
-ghost use Rattle.std.specs.Prelude.{option_map};
+ghost use Rattle.tlv_run.specs.BorrowedText.{text_in};
 ghost use Rattle.tlv_run.specs.CommandFiles.{file_of, names_file_of};
 
 use crate::text::Text;
@@ -28,6 +28,7 @@ pub enum Command {
     Extract {
         /// Where the element's first identifier octet is, in octets from the start of the input.
         offset: u64,
+        /// Whether the contents alone are written.
         contents: bool,
         framing: Framing,
         file: Option<Text>,
@@ -42,7 +43,7 @@ pub enum Command {
 impl Command {
     /// The name of the file to read, if the command names one.
     pub fn file(&self) -> Option<&str>
-        ensures { option_map (λ name. name.now) result ≡ file_of self.now }
+        ensures { text_in result ≡ file_of self.now }
     {
         match self {
             Command::Dump { file, .. } => name_in(file),
@@ -54,7 +55,7 @@ impl Command {
 
     /// The name of the names file, if the command names one.
     pub fn names_file(&self) -> Option<&str>
-        ensures { option_map (λ name. name.now) result ≡ names_file_of self.now }
+        ensures { text_in result ≡ names_file_of self.now }
     {
         match self {
             Command::Dump { names, .. } => name_in(names),
@@ -66,7 +67,7 @@ impl Command {
 }
 
 fn name_in(text: &Option<Text>) -> Option<&str>
-    ensures { option_map (λ name. name.now) result ≡ text.now }
+    ensures { text_in result ≡ text.now }
 {
     match text {
         Some(name) => Some(name.as_str()),

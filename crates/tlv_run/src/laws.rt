@@ -4,7 +4,7 @@ ghost use Rattle.tlv_run.specs.Laws.{InputsHaveOneResult, OutputsGoOn, RunsAreRe
 ghost use Rattle.tlv_run.specs.Laws.{SettledResultsStay, StatusesShowSoundness};
 
 /// Each input has a result under each command, and only one.
-pub fn one_result()
+pub fn inputs_have_one_result()
     ensures { InputsHaveOneResult }
 {}
 

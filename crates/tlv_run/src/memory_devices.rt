@@ -1,31 +1,33 @@
-//! Devices over memory that fail in one place alone: two sources, and a drain with room for so many octets.
+//! The devices of `run_octets`: a source that ends, one that fails after its octets, and a drain with room for so many
+//! octets.
 ghost use Rattle.std.specs.Prelude.{◌≡◌, ◌<◌, ◌≤◌, [], None, Some, length};
 ghost use Rattle.tlv_io.specs.Device.{ReadsOnce, WritesOnce, new_source};
-ghost use Rattle.tlv_run.specs.Private.MemoryDevices.{ending_source_state, failing_source_state, bounded_drain_state};
+ghost use Rattle.tlv_run.specs.Private.MemoryDevices.{bounded_drain_state, failing_source_state};
+ghost use Rattle.tlv_run.specs.Private.MemoryDevices.{unfailing_source_state};
 
 use arrayvec::ArrayVec;
 use tlv_walk::{Drain, MemSource, ReadFault, Source, WriteFault};
 
 /// Octets in memory as a source of which no read fails.
 #[derive(Drop)]
-pub(crate) struct EndingSource<'a> {
+pub(crate) struct UnfailingSource<'a> {
     source: MemSource<'a>,
     ghost never_fails: { source.fail_at ≡ None },
 }
 
-impl<'a> EndingSource<'a> {
+impl<'a> UnfailingSource<'a> {
     /// A source that gives the octets, in pieces of at most `cuts`, and then ends.
-    pub(crate) fn new(octets: &'a [u8], cuts: &'a [u64]) -> EndingSource<'a>
-        ensures { ending_source_state result.source ≡ new_source (Some octets.now) }
+    pub(crate) fn new(octets: &'a [u8], cuts: &'a [u64]) -> UnfailingSource<'a>
+        ensures { unfailing_source_state result.source ≡ new_source (Some octets.now) }
     {
-        EndingSource {
+        UnfailingSource {
             source: MemSource::new(octets, cuts, None),
         }
     }
 }
 
-impl Source for EndingSource<'_> {
-    ghost state = { λ s. ending_source_state s.source };
+impl Source for UnfailingSource<'_> {
+    ghost state = { λ s. unfailing_source_state s.source };
 
     fn read(&mut self, to: &mut [u8]) -> Result<usize, ReadFault> {
         self.source.read(to)

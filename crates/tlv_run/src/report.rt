@@ -1,7 +1,7 @@
 //! What is reported of a run: the exit status and the message.
 ghost use Rattle.std.specs.Prelude.{◌≡◌, ◌+◌, ◌++◌, ◌≤◌, [], decimal, length};
 ghost use Rattle.tlv_run.specs.Report.{cut_report, device_report, ending_report, fault_line, findings_report};
-ghost use Rattle.tlv_run.specs.Report.{found_report, indef_report, line_with, names_report, outcome_report};
+ghost use Rattle.tlv_run.specs.Report.{found_report, indef_report, names_fault_line, names_report, outcome_report};
 ghost use Rattle.tlv_run.specs.Report.{report_value_of, report_with, unopened_report, unused_report};
 
 use arrayvec::ArrayVec;
@@ -130,10 +130,13 @@ pub fn names_report(fault: NamesFault) -> Report
     match fault {
         NamesFault::BadOid(line) => report_with(
             4,
-            line_with(b"N1", line, b": not an object identifier"),
+            names_fault_line(b"N1", line, b": not an object identifier"),
         ),
-        NamesFault::BadName(line) => report_with(4, line_with(b"N2", line, b": no usable name")),
-        NamesFault::Repeated(line) => report_with(4, line_with(b"N3", line, b": repeated")),
+        NamesFault::BadName(line) => report_with(
+            4,
+            names_fault_line(b"N2", line, b": no usable name"),
+        ),
+        NamesFault::Repeated(line) => report_with(4, names_fault_line(b"N3", line, b": repeated")),
         NamesFault::TooLarge => Report::with_message(4, b"N4 names file too large"),
         NamesFault::ReadFailed => Report::with_message(4, b"N5 names file not read"),
         NamesFault::Memory => Report::with_message(5, b"N6 out of memory"),
@@ -172,11 +175,11 @@ fn number_line(line: &[u8], number: u64) -> ArrayVec<u8, 128>
     message
 }
 
-/// A code, the number of a line, and what is wrong with it.
-fn line_with(code: &[u8], line: u32, what: &[u8]) -> ArrayVec<u8, 128>
+/// A code, the number of a line of the names file, and what is wrong with that line.
+fn names_fault_line(code: &[u8], line: u32, what: &[u8]) -> ArrayVec<u8, 128>
     requires code { length code.now ≤ 2 }
     requires what { length what.now ≤ 64 }
-    ensures { result.items ≡ line_with code.now line what.now }
+    ensures { result.items ≡ names_fault_line code.now line what.now }
 {
     let mut message = message_of(code);
     let mut digits = Buffer::new();

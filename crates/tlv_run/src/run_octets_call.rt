@@ -4,7 +4,7 @@ ghost use Rattle.tlv_run.specs.RunsOctets.{RunsOctets, octets_run_value_of};
 ghost use Rattle.tlv_run.specs.Results.{command_job};
 
 use crate::command::Command;
-use crate::memory_devices::{BoundedDrain, EndingSource, FailingSource};
+use crate::memory_devices::{BoundedDrain, FailingSource, UnfailingSource};
 use crate::report::Report;
 use crate::run_call::run;
 use arrayvec::ArrayVec;
@@ -72,7 +72,7 @@ fn run_to_end<const N: usize>(
     let report = run(
         command,
         names,
-        &mut EndingSource::new(octets, cuts),
+        &mut UnfailingSource::new(octets, cuts),
         &mut drain,
     );
     let written = drain.into_octets();

@@ -1,8 +1,8 @@
-//! A text of the command line.
+//! The name of a file, which owns its octets.
 use std::alloc::{AllocError, Global};
 use std::marker::Model;
 
-/// A text that owns its octets, as the name of a file.
+/// A text that owns its octets, such as the name of a file.
 #[derive(Debug, Drop)]
 pub struct Text {
     text: String,

@@ -1,1 +1,1 @@
-pub mod TestStep
+pub mod EventLinesStep

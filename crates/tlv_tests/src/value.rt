@@ -11,8 +11,8 @@ mod number_rows;
 mod object_rows;
 mod rows;
 mod text_rows;
+mod type_checks;
 mod type_rows;
-mod typed;
 mod types;
 mod unused;
 

@@ -32,14 +32,17 @@ requires_subcommand = refl
 -- the words are read as the command of the subcommand that is found in them
 pub read_as : (words : List Text) (found : Text × List Row) (wanted : Result Command Text)
     → fault_of tlvdump_app words ≡ [] → subcommand_of tlvdump_app words ≡ Some found
-    → matched_command found ≡ wanted → AreReadAs words wanted
+    → matched_command found.0 found.1 ≡ wanted → AreReadAs words wanted
 read_as words found wanted sound is gives =
-    record { no_fault = sound; same_result = ap (option_map matched_command) is ∙ ap Some gives }
+    record {
+      no_fault = sound;
+      same_result = ap (option_map (λ (name, matches). matched_command name matches)) is ∙ ap Some gives;
+    }
 
 -- the result for the subcommand that is found is that for the words
 pub result_of_found : (words : List Text) (found : Option (Text × List Row)) (r : Result Command UsageFault)
     → fault_of tlvdump_app words ≡ [] → found ≡ subcommand_of tlvdump_app words → is_some found ≡ true
-    → IfSome found (λ p. Returns (matched_command p) r)
+    → IfSome found (λ (name, matches). Returns (matched_command name matches) r)
     → IfOk r (λ command. AreReadAs words (Ok command)) × IfErr r (IsUsageFaultOf words)
 result_of_found words None r sound same has gives = absurd (false≢true has)
 result_of_found words (Some found) (Ok command) sound same has gives =
@@ -51,7 +54,7 @@ result_of_found words (Some found) (Err Memory) sound same has gives = (tt, tt)
 
 -- ---- words that `clap` refuses
 
--- the error is not want of memory
+-- the error is not lack of memory
 pub refused_by : (words : List Text) (error : Error) → HasKind (fault_of tlvdump_app words) error
     → (takes tlvdump_app words ≡ true → kind_of error ≡ OutOfMemory) → kind_of error ≢ OutOfMemory
     → AreRefusedBy words error

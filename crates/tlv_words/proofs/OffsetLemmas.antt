@@ -1,14 +1,14 @@
 -- Offsets with commas between them.
 use Rattle.std.proofs.Common.{◌≡◌, ◌∙◌, ◌+◌, ◌-◌, ◌≤◌, ◌<◌, ◌==◌, ℕ, suc, true, false, List, [], ◌∷◌, ◌++◌}
 use Rattle.std.proofs.Common.{Option, Some, None, IfSome, IfNone, length, refl, ap, arith, not, option_map}
-use Rattle.std.proofs.Common.{option_and_then, cond, if◌then◌else◌, drop, take}
+use Rattle.std.proofs.Common.{option_and_then, cond, drop, take}
 use Rattle.std.specs.Option.{option_map_or}
 use Rattle.std.specs.List.{onto_first, position_or_len}
 use Rattle.std.proofs.lemmas.List.{append-nil, length-drop, take_all}
 use Rattle.std.proofs.lemmas.List.Splits.{slice_split_first}
 use Rattle.clap.specs.Words.{Text}
 use Rattle.tlv_walk.specs.Inside.{can_name}
-use Rattle.tlv_words.specs.Values.{comma_parts, part_offsets}
+use Rattle.tlv_words.specs.Values.{comma_parts, nameable_offsets, part_offsets}
 
 -- ---- parts
 
@@ -23,21 +23,17 @@ one_part (x ∷ xs) h =
     ] h
 
 -- the part before the first comma, and the parts after it
-pub first_part : (xs : Text) (n : ℕ) → n ≡ position_or_len (λ x. x == 44) xs → n < length xs
+pub parts_at_comma : (xs : Text) (n : ℕ) → n ≡ position_or_len (λ x. x == 44) xs → n < length xs
     → comma_parts xs ≡ take n xs ∷ comma_parts (take (length xs - (n + 1)) (drop (n + 1) xs))
-first_part xs n e h =
+parts_at_comma xs n e h =
     let h' : position_or_len (λ x. x == 44) xs < length xs = rw (← e) h in
     let all : take (length xs - (n + 1)) (drop (n + 1) xs) ≡ drop (n + 1) xs =
     take_all _ _ (omega (arith, length-drop (n + 1) xs)) in
     rw (all, e) (slice_split_first (λ x. x == 44) xs 0 h')
 
--- the offsets, if they can be named
-abbrev pub offsets_or_none : List ℕ → Option (List ℕ)
-offsets_or_none ns = if can_name ns then Some ns else None
-
 -- what `Inside::new` makes of offsets
 pub inside_offsets : (r : Option (List ℕ)) (ns : List ℕ) → IfSome r (λ offsets. offsets ≡ ns)
-    → IfSome r (λ offsets. can_name ns ≡ true) → IfNone r (can_name ns ≡ false) → r ≡ offsets_or_none ns
+    → IfSome r (λ offsets. can_name ns ≡ true) → IfNone r (can_name ns ≡ false) → r ≡ nameable_offsets ns
 inside_offsets None ns same can cannot = rw cannot refl
 inside_offsets (Some offsets) ns same can cannot = rw can (ap Some same)
 
@@ -53,6 +49,6 @@ rest_offsets rest = option_map_or (λ text. part_offsets (comma_parts text)) res
 
 -- no part is left
 pub last_part : (all : Option (List ℕ)) (ns : List ℕ) (rest : Option Text) → rest ≡ None
-    → all ≡ with_next ns (rest_offsets rest) → offsets_or_none ns ≡ option_and_then offsets_or_none all
+    → all ≡ with_next ns (rest_offsets rest) → nameable_offsets ns ≡ option_and_then nameable_offsets all
 last_part all ns rest none e =
     let whole : all ≡ Some ns = e ∙ rw none (ap Some (append-nil ns)) in rw whole refl

@@ -1,4 +1,4 @@
--- What `command_of` returns: the command that the words ask for, or why they are refused.
+-- What `command_of` returns: the command that the words ask for, or why they ask for none.
 use Rattle.std.specs.Prelude.{◌≡◌, ◌≢◌, Bool, false, List, [], Option, Some, None, Result, Ok, Err}
 use Rattle.std.specs.Prelude.{⊤, codes, if◌then◌else◌, option_map}
 use Rattle.std.specs.Option.{option_map_or}
@@ -71,11 +71,9 @@ abbrev pub indef_command : List Row → Result Command Text
 indef_command matches =
     Ok (Indef (has_flag (codes "padding") matches) (first_of (codes "file") matches))
 
--- the command of a name and its matches, or the first option whose text is no value
-abbrev pub matched_command : Text × List Row → Result Command Text
-matched_command found =
-    let name = found.0 in
-    let matches = found.1 in
+-- the command of this name, by what `clap` matches below it, or the first option whose text is no value
+abbrev pub matched_command : Text → List Row → Result Command Text
+matched_command name matches =
     if bytes_eq name (codes "dump") then dump_command matches
     else (if bytes_eq name (codes "check") then check_command matches
     else (if bytes_eq name (codes "extract") then extract_command matches
@@ -87,16 +85,18 @@ matched_command found =
 -- first option whose text is no value
 pub record AreReadAs (words : List Text) (result : Result Command Text) : Type 0 where
   pub no_fault : fault_of tlvdump_app words ≡ []
-  pub same_result : option_map matched_command (subcommand_of tlvdump_app words) ≡ Some result
+  pub same_result :
+      option_map (λ (name, matches). matched_command name matches) (subcommand_of tlvdump_app words)
+      ≡ Some result
 
--- `clap` does not take the words: the error's kind is one that it may give at them, and is not want
--- of memory
+-- `clap` does not take the words: the error's kind is a kind that `clap` allows for these words, other than lack of
+-- memory
 pub record AreRefusedBy (words : List Text) (error : Error) : Type 0 where
   pub not_taken : takes tlvdump_app words ≡ false
   pub cause : IsAmong (kind_of error) (fault_of tlvdump_app words)
   pub not_memory : kind_of error ≢ OutOfMemory
 
--- why the words are refused: a line for each cause
+-- why the words ask for no command to be run: a line for each cause
 abbrev pub IsUsageFaultOf : List Text → UsageFault → Type 0
 -- `clap` does not take the words, or they ask for help or for the version
 IsUsageFaultOf words (Parser error) = AreRefusedBy words error

@@ -1,3 +1,2 @@
 pub mod CommandOf
 pub mod Parsers
-pub mod Values

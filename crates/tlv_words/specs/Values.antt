@@ -1,4 +1,4 @@
--- What the texts of options stand for. `None` is a text that is no value of the option.
+-- What the texts of options mean. `None` is a text that is no value of the option.
 use Rattle.std.specs.Prelude.{ℕ, ◌-◌, ◌^◌, ◌==◌, ◌&&◌, List, [], ◌∷◌, Option, Some, None}
 use Rattle.std.specs.Prelude.{codes, if◌then◌else◌, length, nat_le, nat_lt, option_and_then}
 use Rattle.std.specs.Prelude.{option_map}
@@ -34,11 +34,13 @@ part_offsets (part ∷ parts) =
     option_and_then (λ n. option_map (λ ns. n ∷ ns) (part_offsets parts))
     (bounded_number part input_limit)
 
+-- the offsets, if they can be named
+abbrev pub nameable_offsets : List ℕ → Option (List ℕ)
+nameable_offsets offsets = if can_name offsets then Some offsets else None
+
 -- 1 to 16 rising offsets with commas between them
 abbrev pub offset_list : Text → Option (List ℕ)
-offset_list text =
-    option_and_then (λ offsets. if can_name offsets then Some offsets else None)
-    (part_offsets (comma_parts text))
+offset_list text = option_and_then nameable_offsets (part_offsets (comma_parts text))
 
 -- ---- the value of an option, by its text or by none
 

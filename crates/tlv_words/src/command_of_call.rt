@@ -4,7 +4,7 @@ ghost use Rattle.clap.specs.Words.{first_of, subcommand_rows_of};
 ghost use Rattle.tlv_words.specs.CommandOf.{AreReadAs, IsUsageFaultOf, check_command, dump_command, extract_command};
 ghost use Rattle.tlv_words.specs.CommandOf.{framing_value, has_flag, indef_command, matched_command};
 ghost use Rattle.tlv_words.specs.Private.CommandOf.{IsFaultFor, Returns, matched_rows};
-ghost use Rattle.tlv_words.specs.Private.Values.{text_in};
+ghost use Rattle.tlv_run.specs.BorrowedText.{text_in};
 
 use crate::parser::tlvdump_parser;
 use crate::usage::UsageFault;
@@ -21,9 +21,9 @@ use tlv_walk::Framing;
 ///
 /// # Errors
 ///
-/// `Parser` if `clap` does not take the words, or they ask for help or for the version. `Value` if it finds no
-/// fault in them, with the first option whose text is no value, in the order rules, limit, offset, inside. `Memory` if
-/// memory is refused.
+/// `Parser` if `clap` does not take the words, or they ask for help or for the version. `Value` if `clap` finds no
+/// fault, but an option's text is no value: it names the first such option, in the order rules, limit, offset, inside.
+/// `Memory` if memory is refused.
 pub fn command_of(alloc: Global, words: &Words) -> Result<Command, UsageFault>
     ensures ok { IfOk result (λ command. AreReadAs words.now (Ok command)) }
     ensures err { IfErr result (IsUsageFaultOf words.now) }
@@ -52,7 +52,7 @@ fn usage_fault(error: clap::Error) -> UsageFault
 fn matched_command(alloc: Global, matches: &ArgMatches<'_>) -> Result<Command, UsageFault>
     requires { is_some (subcommand_rows_of matches.now) ≡ true }
     ensures { IfSome (subcommand_rows_of matches.now)
-        (λ found. Returns (matched_command found) result) }
+        (λ (name, matches). Returns (matched_command name matches) result) }
 {
     let Some((name, found)) = matches.subcommand() else {
         unreachable!();

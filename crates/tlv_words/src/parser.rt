@@ -143,7 +143,7 @@ fn program_parser<'a>(alloc: Global) -> Result<Command<'a>, AllocError>
         .arg(version_flag(alloc))
 }
 
-/// The parser with one more command. Here it is alone, so that a command that cannot be made leaves one thing to drop.
+/// The parser with one more command. A function of its own: if the command cannot be made, only the parser is dropped.
 fn with_command<'a>(
     parser: Command<'a>,
     command: Result<Command<'a>, AllocError>,

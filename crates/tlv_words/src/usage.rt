@@ -1,4 +1,4 @@
-//! Why the words of a command line are refused, and what the program reports then.
+//! Why the words of a command line ask for no command to be run, and what the program reports then.
 ghost use Rattle.std.specs.Prelude.{◌≡◌, ◌++◌, ◌≤◌, codes, length};
 ghost use Rattle.tlv_run.specs.Report.{report_value_of};
 ghost use Rattle.tlv_words.specs.Usage.{unprinted_report, usage_report, not_utf8_report};
@@ -7,10 +7,11 @@ use arrayvec::ArrayVec;
 use tlv_run::{Report, device_report};
 use tlv_walk::DeviceFault;
 
-/// Why the words of a command line are refused.
+/// Why words ask for no command to be run.
 #[derive(Debug, Drop)]
 pub enum UsageFault {
-    /// `clap` does not take the words, or they ask for help or for the version.
+    /// `clap` does not take the words, or they ask for help or for the version: it has no code, since `clap` writes its
+    /// own lines.
     Parser(clap::Error),
     /// U2: the value of this option is not in its range. The name is as on the command line, with `--`.
     Value(&'static str),

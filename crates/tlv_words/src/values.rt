@@ -4,7 +4,7 @@ ghost use Rattle.std.specs.List.{position_or_len};
 ghost use Rattle.std.specs.Option.{option_map_or};
 ghost use Rattle.tlv_words.specs.Values.{bounded_number, comma_parts, inside_value, limit_value, offset_list};
 ghost use Rattle.tlv_words.specs.Values.{offset_value, rules_value};
-ghost use Rattle.tlv_words.specs.Private.Values.{text_in};
+ghost use Rattle.tlv_run.specs.BorrowedText.{text_in};
 
 use arrayvec::ArrayVec;
 use tlv_show::Rules;

@@ -8,9 +8,9 @@ use tlv_run::Command;
 use tlv_walk::{Framing, Inside};
 
 /// Words, the offsets that they name, and whether they allow padding.
-type Framed<'a> = (&'a str, &'a [u64], bool);
+type FramingRow<'a> = (&'a str, &'a [u64], bool);
 
-static FRAMED: [Framed<'static>; 9] = [
+static FRAMINGS: [FramingRow<'static>; 9] = [
     ("dump", &[], false),
     ("dump --inside 0,5", &[0, 5], false),
     ("dump --padding", &[], true),
@@ -40,27 +40,20 @@ fn framing_of(command: &Command) -> Option<&Framing> {
     }
 }
 
-/// The framing as it is shown for debugging.
-fn shown(alloc: Global, framing: &Framing) -> Result<String, Fail> {
-    Ok(format!(in alloc; "{framing:?}")?)
-}
-
-/// Expects the words to have an input read so. Both are compared as they are shown for debugging.
-fn expect_framing(rt: &impl Abort, alloc: Global, row: &Framed<'_>) -> Result<(), Fail> {
+/// Expects the words to have an input read so.
+fn expect_framing(rt: &impl Abort, alloc: Global, row: &FramingRow<'_>) -> Result<(), Fail> {
     let (list, offsets, padding) = *row;
     let command = command_for(alloc, list)?;
     let (Some(inside), Some(framing)) = (Inside::new(offsets), framing_of(&command)) else {
         panic!(rt; "{list:?}: no offsets, or a command that names no strings");
     };
-    let got = shown(alloc, framing)?;
-    let wanted = shown(alloc, &Framing { inside, padding })?;
-    expect_eq(rt, list, got.as_str(), wanted.as_str());
+    expect_eq(rt, list, framing, &Framing { inside, padding });
     Ok(())
 }
 
 #[test]
 fn strings_and_padding_are_named(rt: HostRuntime) -> Result<(), Fail> {
-    for row in &FRAMED {
+    for row in &FRAMINGS {
         expect_framing(&rt, rt.alloc(), row)?;
     }
     Ok(())

@@ -3,15 +3,11 @@
 #![tactic(auto)]
 
 #[cfg(test)]
-mod broken;
-#[cfg(test)]
 mod expect;
 #[cfg(test)]
+mod failing_reads;
+#[cfg(test)]
 mod framings;
-#[cfg(test)]
-mod judged;
-#[cfg(test)]
-mod judged_rows;
 #[cfg(test)]
 mod long;
 #[cfg(test)]
@@ -26,6 +22,10 @@ mod rows;
 mod runs;
 #[cfg(test)]
 mod table;
+#[cfg(test)]
+mod words;
+#[cfg(test)]
+mod words_rows;
 
 /// Cuts into single octets: as many as the inputs of these tests have, and more.
 #[cfg(test)]

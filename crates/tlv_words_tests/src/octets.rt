@@ -12,24 +12,24 @@ use tlv_value::Names;
 /// Expects these octets, this status and this message.
 fn expect<const N: usize>(
     rt: &impl Abort,
-    shown: &OctetsRun<N>,
+    run: &OctetsRun<N>,
     written: &[u8],
     status: u8,
     message: &str,
 ) {
-    expect_eq(rt, "written", shown.written.as_slice(), written);
+    expect_eq(rt, "written", run.written.as_slice(), written);
     expect_eq(
         rt,
         "message",
-        shown.report.message.as_slice(),
+        run.report.message.as_slice(),
         message.as_bytes(),
     );
-    expect_eq(rt, "status", shown.report.status, status);
+    expect_eq(rt, "status", run.report.status, status);
 }
 
 /// Expects what the case says of its input in these pieces, or a failed write if its output is longer than the room.
-fn expect_shown(rt: &impl Abort, case: &Case<'_>, cuts: &[u64]) {
-    let shown = run_octets::<256>(
+fn expect_case(rt: &impl Abort, case: &Case<'_>, cuts: &[u64]) {
+    let run = run_octets::<256>(
         &case.command,
         &case.names,
         case.input.as_slice(),
@@ -38,16 +38,16 @@ fn expect_shown(rt: &impl Abort, case: &Case<'_>, cuts: &[u64]) {
     );
     let output = case.output.as_slice();
     match output.get(..256) {
-        Some(front) if output.len() > 256 => expect(rt, &shown, front, 3, WRITE_FAILED),
-        _ => expect(rt, &shown, output, case.status, case.message),
+        Some(front) if output.len() > 256 => expect(rt, &run, front, 3, WRITE_FAILED),
+        _ => expect(rt, &run, output, case.status, case.message),
     }
 }
 
 fn expect_cuts(rt: &impl Abort, case: &Case<'_>) {
-    expect_shown(rt, case, &[]);
-    expect_shown(rt, case, &ONES);
+    expect_case(rt, case, &[]);
+    expect_case(rt, case, &ONES);
     for cut in 1..case.input.len() {
-        expect_shown(rt, case, &[cut as u64]);
+        expect_case(rt, case, &[cut as u64]);
     }
 }
 
@@ -62,46 +62,70 @@ fn cuts_do_not_show(rt: HostRuntime) -> Result<(), Fail> {
     Ok(())
 }
 
-/// Words, an input, what is written of it before a read fails, the status and the message.
-type Broken<'a> = (&'a str, &'a [u8], &'a [u8], u8, &'a str);
+/// Words, an input, and what is written and reported of it if a read fails after it.
+struct FailureRow<'a> {
+    words: &'a str,
+    input: &'a [u8],
+    written: &'a [u8],
+    status: u8,
+    message: &'a str,
+}
 
 /// After these inputs a read fails.
-static BROKEN: [Broken<'static>; 6] = [
-    ("indef", b"\x30\x03\x02", b"\x30\x80", 3, READ_FAILED),
-    (
-        "check",
-        b"\x3a\x80\x04\x03Jon\x04\x02es\x00\x00",
-        b"0 D01 indefinite length\n0 D02 constructed string\n",
-        3,
-        READ_FAILED,
-    ),
-    ("extract --offset 9", b"", b"", 3, READ_FAILED),
-    (
-        "dump",
-        b"\x05\x00",
-        b"       0      0: NULL\n",
-        3,
-        READ_FAILED,
-    ),
+static FAILURES: [FailureRow<'static>; 6] = [
+    FailureRow {
+        words: "indef",
+        input: b"\x30\x03\x02",
+        written: b"\x30\x80",
+        status: 3,
+        message: READ_FAILED,
+    },
+    FailureRow {
+        words: "check",
+        input: b"\x3a\x80\x04\x03Jon\x04\x02es\x00\x00",
+        written: b"0 D01 indefinite length\n0 D02 constructed string\n",
+        status: 3,
+        message: READ_FAILED,
+    },
+    FailureRow {
+        words: "extract --offset 9",
+        input: b"",
+        written: b"",
+        status: 3,
+        message: READ_FAILED,
+    },
+    FailureRow {
+        words: "dump",
+        input: b"\x05\x00",
+        written: b"       0      0: NULL\n",
+        status: 3,
+        message: READ_FAILED,
+    },
     // No read is made after a refused octet, or after the element.
-    (
-        "dump",
-        b"\x05\x00\x00",
-        b"       0      0: NULL\n",
-        2,
-        "fault at 2: F03 end-of-contents outside an indefinite element",
-    ),
-    ("extract --offset 0", b"\x05\x00", b"\x05\x00", 0, ""),
+    FailureRow {
+        words: "dump",
+        input: b"\x05\x00\x00",
+        written: b"       0      0: NULL\n",
+        status: 2,
+        message: "fault at 2: F03 end-of-contents outside an indefinite element",
+    },
+    FailureRow {
+        words: "extract --offset 0",
+        input: b"\x05\x00",
+        written: b"\x05\x00",
+        status: 0,
+        message: "",
+    },
 ];
 
 #[test]
-fn octets_before_a_failed_read_are_shown(rt: HostRuntime) -> Result<(), Fail> {
-    for (list, input, written, status, message) in BROKEN {
-        let command = command_for(rt.alloc(), list)?;
+fn octets_before_a_failed_read_are_written(rt: HostRuntime) -> Result<(), Fail> {
+    for row in &FAILURES {
+        let command = command_for(rt.alloc(), row.words)?;
         for cuts in [&[], ONES.as_slice()] {
-            let shown = run_octets::<256>(&command, &Names::empty(), input, cuts, true);
-            expect(&rt, &shown, written, status, message);
-            expect_eq(&rt, list, shown.report.findings, 0);
+            let run = run_octets::<256>(&command, &Names::empty(), row.input, cuts, true);
+            expect(&rt, &run, row.written, row.status, row.message);
+            expect_eq(&rt, row.words, run.report.findings, 0);
         }
     }
     Ok(())
@@ -127,7 +151,7 @@ fn octets_past_the_room_are_not_written(rt: HostRuntime) -> Result<(), Fail> {
     Ok(())
 }
 
-/// There is room for a line without its line feed, and for all of it. Then a write fails, or none.
+/// There is room for a line without its line feed: a write fails; and for all of it: none does.
 #[test]
 fn room_for_the_output_is_enough(rt: HostRuntime) -> Result<(), Fail> {
     let input = b"\x05\x00";
@@ -145,11 +169,11 @@ fn room_for_the_output_is_enough(rt: HostRuntime) -> Result<(), Fail> {
     Ok(())
 }
 
-/// What writes nothing needs no room.
+/// A run that writes nothing needs no room.
 #[test]
 fn no_output_needs_no_room(rt: HostRuntime) -> Result<(), Fail> {
     let command = command_for(rt.alloc(), "check")?;
-    let shown = run_octets::<0>(&command, &Names::empty(), b"\x05\x00", &[], false);
-    expect(&rt, &shown, b"", 0, "");
+    let run = run_octets::<0>(&command, &Names::empty(), b"\x05\x00", &[], false);
+    expect(&rt, &run, b"", 0, "");
     Ok(())
 }

@@ -50,14 +50,14 @@ pub(crate) fn command_for(alloc: Global, text: &str) -> Result<Command, Fail> {
 pub(crate) fn number(text: &str) -> Result<u64, Fail> {
     match text.parse::<u64>() {
         Ok(number) => Ok(number),
-        Err(_) => Err(Fail::from("a row has no number where one must stand")),
+        Err(_) => Err(Fail::from("a row has no number where one must be")),
     }
 }
 
 fn status_of(text: &str) -> Result<u8, Fail> {
     match text.parse::<u8>() {
         Ok(status) => Ok(status),
-        Err(_) => Err(Fail::from("a row has no status where one must stand")),
+        Err(_) => Err(Fail::from("a row has no status where one must be")),
     }
 }
 
@@ -77,7 +77,7 @@ fn push_group(alloc: Global, octets: &mut Vec<u8>, group: &str) -> Result<(), Fa
     let (digits, times) = group.split_once('*').unwrap_or((group, "1"));
     match hex::decode(alloc, digits) {
         Ok(part) => push_times(octets, part.as_slice(), number(times)?),
-        Err(_) => Err(Fail::from("a row has no octets where they must stand")),
+        Err(_) => Err(Fail::from("a row has no octets where they must be")),
     }
 }
 

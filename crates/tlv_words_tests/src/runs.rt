@@ -24,7 +24,7 @@ pub(crate) struct Devices<'a> {
 
 /// What a run writes and reports.
 #[derive(Clone, Copy)]
-pub(crate) struct Outcome<'a> {
+pub(crate) struct RunResult<'a> {
     pub written: &'a [u8],
     pub status: u8,
     pub findings: u64,
@@ -41,8 +41,8 @@ pub(crate) fn sound(cuts: &[u64]) -> Devices<'_> {
 }
 
 /// What the case says that a run of its whole input writes and reports.
-fn outcome_of<'a>(case: &'a Case<'_>) -> Outcome<'a> {
-    Outcome {
+fn result_of<'a>(case: &'a Case<'_>) -> RunResult<'a> {
+    RunResult {
         written: case.output.as_slice(),
         status: case.status,
         findings: case.findings,
@@ -51,8 +51,8 @@ fn outcome_of<'a>(case: &'a Case<'_>) -> Outcome<'a> {
 }
 
 /// What a run reports whose device failed after these octets of output.
-fn failed<'a>(written: &'a [u8], message: &'a str) -> Outcome<'a> {
-    Outcome {
+fn failure<'a>(written: &'a [u8], message: &'a str) -> RunResult<'a> {
+    RunResult {
         written,
         status: 3,
         findings: 0,
@@ -61,8 +61,8 @@ fn failed<'a>(written: &'a [u8], message: &'a str) -> Outcome<'a> {
 }
 
 /// What a run reported, with what it wrote.
-fn outcome_in<'a>(report: &'a Report, written: &'a [u8]) -> Outcome<'a> {
-    Outcome {
+fn result_in<'a>(report: &'a Report, written: &'a [u8]) -> RunResult<'a> {
+    RunResult {
         written,
         status: report.status,
         findings: report.findings,
@@ -70,55 +70,55 @@ fn outcome_in<'a>(report: &'a Report, written: &'a [u8]) -> Outcome<'a> {
     }
 }
 
-/// Whether nothing that follows the octets of a run with this outcome could change it: an octet was
+/// Whether nothing that follows the octets of a run with this result could change it: an octet was
 /// refused, or the element of `extract` was whole.
-fn is_final(command: &Command, outcome: Outcome<'_>) -> bool {
-    if outcome.status == 2 {
-        let text = outcome.message;
+fn is_final(command: &Command, run_result: RunResult<'_>) -> bool {
+    if run_result.status == 2 {
+        let text = run_result.message;
         return !text.ends_with(b"F01 empty input")
             && !text.ends_with(b"F02 input ends inside an encoding");
     }
-    outcome.status == 0 && matches!(command, Command::Extract { .. })
+    run_result.status == 0 && matches!(command, Command::Extract { .. })
 }
 
-/// Runs the case's command over these octets into the room, and expects this outcome.
+/// Runs the case's command over these octets into the room, and expects this result.
 pub(crate) fn expect_run(
     rt: &impl Abort,
     case: &Case<'_>,
     octets: &[u8],
     devices: Devices<'_>,
     room: &mut [u8],
-    outcome: Outcome<'_>,
+    wanted: RunResult<'_>,
 ) {
     let mut source = MemSource::new(octets, devices.cuts, devices.fail_at);
     let mut drain = MemDrain::new(room, devices.most);
     let report = run(&case.command, &case.names, &mut source, &mut drain);
-    expect_eq(rt, case.place, drain.written(), outcome.written);
-    expect_eq(rt, case.place, report.message.as_slice(), outcome.message);
-    expect_eq(rt, case.place, report.status, outcome.status);
-    expect_eq(rt, case.place, report.findings, outcome.findings);
+    expect_eq(rt, case.place, drain.written(), wanted.written);
+    expect_eq(rt, case.place, report.message.as_slice(), wanted.message);
+    expect_eq(rt, case.place, report.status, wanted.status);
+    expect_eq(rt, case.place, report.findings, wanted.findings);
 }
 
-/// Expects the same outcome in single octets and in every cut into two pieces.
+/// Expects the same result in single octets and in every cut into two pieces.
 fn expect_in_pieces(
     rt: &impl Abort,
     case: &Case<'_>,
     octets: &[u8],
     room: &mut [u8],
-    outcome: Outcome<'_>,
+    wanted: RunResult<'_>,
 ) {
-    expect_run(rt, case, octets, sound(&ONES), room, outcome);
+    expect_run(rt, case, octets, sound(&ONES), room, wanted);
     for cut in 1..octets.len() {
-        expect_run(rt, case, octets, sound(&[cut as u64]), room, outcome);
+        expect_run(rt, case, octets, sound(&[cut as u64]), room, wanted);
     }
 }
 
-/// Expects the case's outcome of its input whole, in single octets and in every cut into two pieces.
+/// Expects the case's result of its input whole, in single octets and in every cut into two pieces.
 pub(crate) fn expect_whole(rt: &impl Abort, case: &Case<'_>, room: &mut [u8]) {
     let input = case.input.as_slice();
-    let outcome = outcome_of(case);
-    expect_run(rt, case, input, sound(&[]), room, outcome);
-    expect_in_pieces(rt, case, input, room, outcome);
+    let wanted = result_of(case);
+    expect_run(rt, case, input, sound(&[]), room, wanted);
+    expect_in_pieces(rt, case, input, room, wanted);
 }
 
 /// How many octets of the output have come with so many octets of the input, if the case says so.
@@ -150,7 +150,7 @@ fn expect_front(
     Ok(())
 }
 
-/// Expects of each prefix of the input a prefix of the output; of a short input the same outcome in whatever pieces.
+/// Expects of each prefix of the input a prefix of the output; of a short input the same result in whatever pieces.
 pub(crate) fn expect_fronts(
     rt: &impl Abort,
     case: &Case<'_>,
@@ -162,10 +162,10 @@ pub(crate) fn expect_fronts(
         let mut source = MemSource::new(front, &[], None);
         let mut drain = MemDrain::new(room, 4096);
         let report = run(&case.command, &case.names, &mut source, &mut drain);
-        let outcome = outcome_in(&report, drain.written());
-        expect_front(rt, case, count, outcome.written)?;
+        let run_result = result_in(&report, drain.written());
+        expect_front(rt, case, count, run_result.written)?;
         if case.input.len() <= SHORT {
-            expect_in_pieces(rt, case, front, other, outcome);
+            expect_in_pieces(rt, case, front, other, run_result);
         }
     }
     Ok(())
@@ -179,8 +179,8 @@ fn expect_failed_read(
     room: &mut [u8],
     written: &[u8],
 ) {
-    let outcome = failed(written, READ_FAILED);
-    expect_run(rt, case, case.input.as_slice(), devices, room, outcome);
+    let wanted = failure(written, READ_FAILED);
+    expect_run(rt, case, case.input.as_slice(), devices, room, wanted);
 }
 
 /// Each read of one octet fails in turn: what was written is the output of the octets before it. No
@@ -196,17 +196,17 @@ pub(crate) fn expect_failed_reads(
         let mut source = MemSource::new(front, &[], None);
         let mut drain = MemDrain::new(room, 4096);
         let report = run(&case.command, &case.names, &mut source, &mut drain);
-        let outcome = outcome_in(&report, drain.written());
+        let run_result = result_in(&report, drain.written());
         let devices = Devices {
             cuts: &ONES,
             fail_at: Some(count as u64),
             most: 4096,
         };
         let input = case.input.as_slice();
-        if is_final(&case.command, outcome) {
-            expect_run(rt, case, input, devices, other, outcome_of(case));
+        if is_final(&case.command, run_result) {
+            expect_run(rt, case, input, devices, other, result_of(case));
         } else {
-            expect_failed_read(rt, case, devices, other, outcome.written);
+            expect_failed_read(rt, case, devices, other, run_result.written);
         }
     }
 }
@@ -217,8 +217,8 @@ fn expect_too_little_room(rt: &impl Abort, case: &Case<'_>, devices: Devices<'_>
         let (Some(place), Some(written)) = (room.get_mut(..size), case.output.get(..size)) else {
             panic!(rt; "{}: no room", case.place);
         };
-        let outcome = failed(written, WRITE_FAILED);
-        expect_run(rt, case, case.input.as_slice(), devices, place, outcome);
+        let wanted = failure(written, WRITE_FAILED);
+        expect_run(rt, case, case.input.as_slice(), devices, place, wanted);
     }
 }
 
@@ -249,18 +249,18 @@ pub(crate) fn expect_final_fault(
     room: &mut [u8],
     longer: &mut [u8],
 ) {
-    let outcome = outcome_of(case);
+    let wanted = result_of(case);
     let count = case.input.len();
     let Some(longer) = longer.get_mut(..=count) else {
         panic!(rt; "{}: no room", case.place);
     };
-    if case.status != 2 || !is_final(&case.command, outcome) {
+    if case.status != 2 || !is_final(&case.command, wanted) {
         return;
     }
     longer[..count].copy_from_slice(case.input.as_slice());
     for octet in 0..=255 {
         longer[count] = octet;
-        expect_run(rt, case, longer, sound(&[]), room, outcome);
+        expect_run(rt, case, longer, sound(&[]), room, wanted);
     }
 }
 

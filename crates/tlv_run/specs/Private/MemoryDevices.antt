@@ -4,10 +4,10 @@ use Rattle.tlv_io.specs.Device.{DrainState, LastReadValue, SourceState, failed, 
 use Rattle.tlv_io.specs.MemSource.{MemSourceState, source_state_of}
 
 -- a source that fails with no read shows no failure
-abbrev pub ending_source_state : MemSourceState → SourceState
-ending_source_state source = record (source_state_of source) { failures = 0 }
+abbrev pub unfailing_source_state : MemSourceState → SourceState
+unfailing_source_state source = record (source_state_of source) { failures = 0 }
 
--- if another would give nothing, at its end, such a source fails
+-- at its end, where `MemSource` gives nothing, a failing source fails
 abbrev pub failing_last_read : LastReadValue → LastReadValue
 failing_last_read never = never
 failing_last_read (gave zero) = failed

@@ -136,8 +136,8 @@ pub(crate) static SHAPES: [Shape<'static>; 14] = [
     },
 ];
 
-/// Where a header stands: how many octets there are to the bound from its first one on, how many
-/// elements are open, and whether its offset is named.
+/// The place of a header: how many octets there are to the bound from its first one on, how many elements are open, and
+/// whether its offset is named.
 #[derive(Clone, Copy)]
 pub(crate) struct Place {
     pub room: Option<u64>,

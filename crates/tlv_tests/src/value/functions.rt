@@ -28,7 +28,7 @@ fn is_dotted(contents: &[u8], relative: bool, text: &mut ArrayVec<u8, 320>, want
     text.as_slice() == want.as_bytes() && is_there != want.is_empty()
 }
 
-/// Where there is no text, none is left of what was there before.
+/// If there is no text, none is left of what was there before.
 #[test]
 fn dotted_texts(rt: HostRuntime) {
     // 2^128 - 1, and 2^128.

@@ -1,4 +1,4 @@
-//! Where lines stand, how many are written, and names after object identifiers.
+//! The places of lines, how many are written, and names after object identifiers.
 use super::number_rows::LARGE_NUMBERS;
 use super::object_rows::LARGE_ARCS;
 use super::{OneName, PLAIN, are_shown, cut_at, expect_lines, expect_lines_named, show};
@@ -7,7 +7,7 @@ use std::alloc::Global;
 use tlv_value::{Layout, Names};
 use tlv_walk::MemSource;
 
-/// What stands for the rows that are left out.
+/// The line in place of the rows that are left out.
 const DOTS: &str = "                   ...";
 
 /// The table of a file with one name.
@@ -40,7 +40,8 @@ fn names_of_a_file_are_shown(rt: HostRuntime) {
     }
 }
 
-/// Elements inside others: the first column is the offset, and the tag text stands two columns further for each level.
+/// Elements inside others: the first column is the offset, and the tag text is two columns further to the right for
+/// each level.
 #[test]
 fn places(rt: HostRuntime) {
     let mut room = [0; 64];

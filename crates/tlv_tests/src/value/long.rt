@@ -37,7 +37,7 @@ fn letters_are_shown(rt: HostRuntime) {
     element[2] = 0x20;
     element[3] = 0x01;
     let mut room = [0; 12288];
-    // Where 4096 octets are read at a time, the first four are the header's.
+    // If 4096 octets are read at a time, the first four are the header's.
     for (first, size) in [(4092, 4096), (0, 1), (1, 63), (63, 64), (64, 65), (5, 1000)] {
         let pieces = Pieces {
             first,

@@ -1,5 +1,5 @@
 //! Readers and writers that fail.
-use super::lines::Lines;
+use super::event_lines::EventLines;
 use crate::expect::expect_eq;
 use std::io::{self, ErrorKind, Read, Write};
 use tlv_walk::{
@@ -34,7 +34,7 @@ fn an_interrupted_read_fails(rt: HostRuntime) {
     let mut drain = MemDrain::new(&mut room, 4096);
     let result = drive(
         &mut source,
-        &mut Lines::up_to(0),
+        &mut EventLines::up_to(0),
         &mut drain,
         &Framing::plain(),
     );
@@ -68,7 +68,7 @@ fn a_write_of_nothing_fails(rt: HostRuntime) {
     let mut drain = WriteDrain::new(Reluctant { writes: 0 });
     let result = drive(
         &mut source,
-        &mut Lines::up_to(0),
+        &mut EventLines::up_to(0),
         &mut drain,
         &Framing::plain(),
     );

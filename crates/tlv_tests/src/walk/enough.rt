@@ -1,12 +1,12 @@
 //! Walks up to the end that is enough.
-use super::lines::Lines;
-use super::{ONES, ReadLogState, WHOLE};
+use super::event_lines::EventLines;
+use super::{ONES, ReadPlan, WHOLE};
 use crate::expect::expect_eq;
 use std::process::Abort;
 use tlv_walk::{Ending, Framing, INPUT_LIMIT, MemDrain, MemSource, Run, drive};
 
 /// Walks up to the end of so many elements.
-fn expect_enough(rt: &impl Abort, ends: u64, reads: ReadLogState<'_>, run: Run, text: &[u8]) {
+fn expect_enough(rt: &impl Abort, ends: u64, reads: ReadPlan<'_>, run: Run, text: &[u8]) {
     let mut room = [0; 1024];
     let mut source = MemSource::new(
         b"\x30\x80\x02\x01\x05\x00\x00\x00",
@@ -16,7 +16,7 @@ fn expect_enough(rt: &impl Abort, ends: u64, reads: ReadLogState<'_>, run: Run, 
     let mut drain = MemDrain::new(&mut room, 4096);
     let result = drive(
         &mut source,
-        &mut Lines::up_to(ends),
+        &mut EventLines::up_to(ends),
         &mut drain,
         &Framing::plain(),
     );
@@ -41,7 +41,7 @@ fn octets_after_enough_are_not_followed(rt: HostRuntime) {
         ..FIRST_END
     };
     for cut in 1..9 {
-        let reads = ReadLogState {
+        let reads = ReadPlan {
             cuts: &[cut],
             ..WHOLE
         };
@@ -54,13 +54,13 @@ fn octets_after_enough_are_not_followed(rt: HostRuntime) {
 #[test]
 fn nothing_is_read_after_enough(rt: HostRuntime) {
     let first = b"open 0000 30 80\nbegin 0002 02 01\n 05 end\n";
-    let cut = ReadLogState {
+    let cut = ReadPlan {
         cuts: &[5],
         fail_at: Some(1),
         limit: INPUT_LIMIT,
     };
     expect_enough(&rt, 1, cut, FIRST_END, first);
-    let singly = ReadLogState {
+    let singly = ReadPlan {
         cuts: &ONES,
         fail_at: Some(5),
         limit: INPUT_LIMIT,

@@ -1,5 +1,5 @@
 //! Offsets that may be named, and framings.
-use super::lines::Lines;
+use super::event_lines::EventLines;
 use crate::expect::{expect, expect_eq, expect_eq_of};
 use std::process::Abort;
 use tlv_walk::{Ending, Framing, Inside, MemDrain, MemSource, Run, Walker, drive};
@@ -70,7 +70,12 @@ fn expect_unused(rt: &impl Abort, ends: u64, octets: u64, unused: Option<u64>) {
     let mut room = [0; 128];
     let mut source = MemSource::new(b"\x04\x02\x05\x00\x04\x00", &[], None);
     let mut drain = MemDrain::new(&mut room, 4096);
-    let result = drive(&mut source, &mut Lines::up_to(ends), &mut drain, &framing);
+    let result = drive(
+        &mut source,
+        &mut EventLines::up_to(ends),
+        &mut drain,
+        &framing,
+    );
     let run = Run {
         ending: Ending::Done,
         octets,

@@ -1,5 +1,5 @@
 //! Reads that are followed one by one.
-use super::lines::Lines;
+use super::event_lines::EventLines;
 use crate::expect::expect_eq;
 use crate::reads::{LENGTH, expect_again, expect_failure, expect_written};
 use tlv_walk::{Ending, Framing, MemDrain, MemSource, Run, Turn, Walker, turn};
@@ -16,7 +16,7 @@ fn turns_follow_one_read_each(rt: HostRuntime) {
     let mut room = [0; 128];
     let mut piece = [0; 4];
     let mut walker = Walker::new(&Framing::plain());
-    let mut lines = Lines::up_to(0);
+    let mut lines = EventLines::up_to(0);
     let mut source = MemSource::new(INPUT, &[], None);
     let mut drain = MemDrain::new(&mut room, 4096);
     expect_again(
@@ -73,7 +73,7 @@ fn a_turn_after_a_failed_read_goes_on(rt: HostRuntime) {
     let mut room = [0; 128];
     let mut piece = [0; 16];
     let mut walker = Walker::new(&Framing::plain());
-    let mut lines = Lines::up_to(0);
+    let mut lines = EventLines::up_to(0);
     let mut source = MemSource::new(INPUT, &[5], Some(1));
     let mut drain = MemDrain::new(&mut room, 4096);
     expect_again(

@@ -19,7 +19,7 @@ Returns wanted (Err (Parser error)) = ⊥
 Returns wanted (Err (Value option)) = wanted ≡ Err option.now
 Returns wanted (Err Memory) = ⊤
 
--- the fault for an error of `clap`: want of memory, or the error itself
+-- the fault for an error of `clap`: lack of memory, or the error itself
 abbrev pub IsFaultFor : Error → UsageFault → Type 0
 IsFaultFor error (Parser same) = (same ≡ error) × (kind_of error ≢ OutOfMemory)
 IsFaultFor error (Value option) = ⊥

@@ -1,4 +1,4 @@
-use Rattle.tlv_run.proofs.InMemory.{to_end}
+use Rattle.tlv_run.proofs.MemoryRuns.{to_end}
 use Rattle.tlv_run.proofs.run_octets_call.run_to_end.Goals as goal
 
 pub returns : goal.returns

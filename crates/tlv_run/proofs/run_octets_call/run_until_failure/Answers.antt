@@ -1,4 +1,4 @@
-use Rattle.tlv_run.proofs.InMemory.{until_failure}
+use Rattle.tlv_run.proofs.MemoryRuns.{until_failure}
 use Rattle.tlv_run.proofs.run_octets_call.run_until_failure.Goals as goal
 
 pub returns : goal.returns

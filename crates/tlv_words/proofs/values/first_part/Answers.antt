@@ -1,10 +1,10 @@
 use Rattle.std.proofs.Common.{rules}
-use Rattle.tlv_words.proofs.OffsetLemmas.{first_part, one_part}
+use Rattle.tlv_words.proofs.OffsetLemmas.{one_part, parts_at_comma}
 use Rattle.tlv_words.proofs.values.first_part.Goals as goal
 
 pub returns-then-end-text-clause-parts : goal.returns-then-end-text-clause-parts
 returns-then-end-text-clause-parts c =
-    first_part c.args.text.now c.first_part_length-end.result c.first_part_length-end.ensures.value (search rules)
+    parts_at_comma c.args.text.now c.first_part_length-end.result c.first_part_length-end.ensures.value (search rules)
 
 pub returns-else-end-text-clause-parts : goal.returns-else-end-text-clause-parts
 returns-else-end-text-clause-parts c =

@@ -1,7 +1,7 @@
 use Rattle.std.proofs.lemmas.Grind.{common_steps}
 use Rattle.std.proofs.Common.{◌≡◌, ◌∙◌, None, rules, arith}
 use Rattle.tlv_words.specs.Values.{comma_parts, part_offsets}
-use Rattle.tlv_words.specs.Private.Values.{text_in}
+use Rattle.tlv_run.specs.BorrowedText.{text_in}
 use Rattle.tlv_words.proofs.OffsetLemmas.{inside_offsets, last_part}
 use Rattle.tlv_words.proofs.values.offset_list.Goals as goal
 

@@ -1,7 +1,7 @@
 use Rattle.std.proofs.Common.{◌≡◌, ◌+◌, length}
 use Rattle.std.specs.Option.{option_map_or}
 use Rattle.tlv_words.specs.Values.{comma_parts, part_offsets}
-use Rattle.tlv_words.specs.Private.Values.{text_in}
+use Rattle.tlv_run.specs.BorrowedText.{text_in}
 use Rattle.tlv_words.proofs.OffsetLemmas.{rest_offsets, with_next}
 use Rattle.tlv_words.proofs.values.offset_list.Given as goal
 

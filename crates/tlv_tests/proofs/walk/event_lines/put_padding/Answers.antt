@@ -1,7 +1,7 @@
 use Rattle.std.proofs.Common.{rules}
 use Rattle.std.specs.Prelude.{codes}
 use Rattle.tlv_io.proofs.Puts.{fails_octet, puts_octet}
-use Rattle.tlv_tests.proofs.walk.lines.put_padding.Goals as goal
+use Rattle.tlv_tests.proofs.walk.event_lines.put_padding.Goals as goal
 
 pub returns-in_err-put : goal.returns-in_err-put
 returns-in_err-put g c =

@@ -1,6 +1,6 @@
 use Rattle.std.proofs.Common.{◌≡◌, ◌+◌, ◌*◌, ◌++◌, length}
-use Rattle.tlv_tests.specs.TestStep.{pairs}
-use Rattle.tlv_tests.proofs.walk.lines.push_pairs.Given as goal
+use Rattle.tlv_tests.specs.EventLinesStep.{pairs}
+use Rattle.tlv_tests.proofs.walk.event_lines.push_pairs.Given as goal
 
 abbrev pub invariant-loop-rest : goal.invariant-loop-rest
 invariant-loop-rest l = record {

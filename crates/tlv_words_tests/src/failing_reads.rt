@@ -2,14 +2,14 @@
 //! that is refused or a whole element.
 use crate::READ_FAILED;
 use crate::row::{Case, command_for};
-use crate::runs::{Devices, Outcome, expect_run};
+use crate::runs::{Devices, RunResult, expect_run};
 use std::alloc::Global;
 use std::process::Abort;
 use std::test::Fail;
 use tlv_value::Names;
 
 /// Words, an input, how many octets of it come before the second read fails, and what is written and reported.
-struct Broken<'a> {
+struct FailingRead<'a> {
     words: &'a str,
     input: &'a [u8],
     first: u64,
@@ -18,8 +18,8 @@ struct Broken<'a> {
     message: &'a str,
 }
 
-static BROKEN: [Broken<'static>; 7] = [
-    Broken {
+static FAILING_READS: [FailingRead<'static>; 7] = [
+    FailingRead {
         words: "dump",
         input: b"\x3a\x09\x04\x03Jon\x04\x02es",
         first: 4,
@@ -27,7 +27,7 @@ static BROKEN: [Broken<'static>; 7] = [
         status: 3,
         message: READ_FAILED,
     },
-    Broken {
+    FailingRead {
         words: "dump --rules der",
         input: b"\x3a\x80\x04\x03Jon\x04\x02es\x00\x00",
         first: 2,
@@ -38,7 +38,7 @@ static BROKEN: [Broken<'static>; 7] = [
         status: 3,
         message: READ_FAILED,
     },
-    Broken {
+    FailingRead {
         words: "check",
         input: b"\x3a\x80\x04\x03Jon\x04\x02es\x00\x00",
         first: 2,
@@ -46,7 +46,7 @@ static BROKEN: [Broken<'static>; 7] = [
         status: 3,
         message: READ_FAILED,
     },
-    Broken {
+    FailingRead {
         words: "indef",
         input: b"\x30\x03\x02\x01\x05",
         first: 3,
@@ -54,7 +54,7 @@ static BROKEN: [Broken<'static>; 7] = [
         status: 3,
         message: READ_FAILED,
     },
-    Broken {
+    FailingRead {
         words: "dump",
         input: b"\x30\x03\x02\x02\x01",
         first: 4,
@@ -62,7 +62,7 @@ static BROKEN: [Broken<'static>; 7] = [
         status: 2,
         message: "fault at 3: F11 element runs past the enclosing length",
     },
-    Broken {
+    FailingRead {
         words: "indef",
         input: b"\x30\x03\x02\x02\x01",
         first: 4,
@@ -70,7 +70,7 @@ static BROKEN: [Broken<'static>; 7] = [
         status: 2,
         message: "fault at 3: F11 element runs past the enclosing length",
     },
-    Broken {
+    FailingRead {
         words: "extract --offset 2",
         input: b"\x30\x80\x02\x01\x05\x02",
         first: 5,
@@ -80,41 +80,41 @@ static BROKEN: [Broken<'static>; 7] = [
     },
 ];
 
-fn case_of<'a>(alloc: Global, broken: &Broken<'a>) -> Result<Case<'a>, Fail> {
+fn case_of<'a>(alloc: Global, row: &FailingRead<'a>) -> Result<Case<'a>, Fail> {
     Ok(Case {
         place: "a second read that fails",
-        command: command_for(alloc, broken.words)?,
+        command: command_for(alloc, row.words)?,
         names: Names::empty(),
         input: Vec::new(alloc),
         output: Vec::new(alloc),
         come: "",
-        status: broken.status,
+        status: row.status,
         findings: 0,
-        message: broken.message,
+        message: row.message,
     })
 }
 
-fn expect_broken(rt: &impl Abort, alloc: Global, broken: &Broken<'_>) -> Result<(), Fail> {
-    let case = case_of(alloc, broken)?;
+fn expect_failing_read(rt: &impl Abort, alloc: Global, row: &FailingRead<'_>) -> Result<(), Fail> {
+    let case = case_of(alloc, row)?;
     let devices = Devices {
-        cuts: &[broken.first],
+        cuts: &[row.first],
         fail_at: Some(1),
         most: 4096,
     };
-    let outcome = Outcome {
-        written: broken.written,
-        status: broken.status,
+    let wanted = RunResult {
+        written: row.written,
+        status: row.status,
         findings: 0,
-        message: broken.message.as_bytes(),
+        message: row.message.as_bytes(),
     };
-    expect_run(rt, &case, broken.input, devices, &mut [0; 256], outcome);
+    expect_run(rt, &case, row.input, devices, &mut [0; 256], wanted);
     Ok(())
 }
 
 #[test]
 fn a_second_read_fails(rt: HostRuntime) -> Result<(), Fail> {
-    for broken in &BROKEN {
-        expect_broken(&rt, rt.alloc(), broken)?;
+    for row in &FAILING_READS {
+        expect_failing_read(&rt, rt.alloc(), row)?;
     }
     Ok(())
 }

@@ -1,6 +1,7 @@
-//! What words ask for, and why words are refused.
-use super::judged_rows::{
-    CUTS, Comes, INSIDE, Judged, LIMITS, REFUSED_VALUES, RULES, SHOWN, WRONG_OPTIONS, WRONG_WORDS,
+//! What words mean: the command that they ask for, or why they ask for none.
+use super::words_rows::{
+    CUTS, CommandRow, HELP_AND_VERSION, INSIDE, LIMITS, Meaning, REFUSED_VALUES, RULES,
+    WRONG_OPTIONS, WRONG_WORDS,
 };
 use crate::expect::expect_eq;
 use std::alloc::Global;
@@ -18,42 +19,42 @@ fn command(alloc: Global, list: &[&str]) -> Result<Command, UsageFault> {
     command_of(alloc, &words)
 }
 
-fn comes_of(asked: &Command) -> Comes<'static> {
+fn meaning_of(asked: &Command) -> Meaning<'static> {
     match asked {
-        Command::Dump { options, .. } => Comes::Dump(options.rules, options.limit, options.pure),
-        Command::Check { rules, .. } => Comes::Check(*rules),
+        Command::Dump { options, .. } => Meaning::Dump(options.rules, options.limit, options.pure),
+        Command::Check { rules, .. } => Meaning::Check(*rules),
         Command::Extract {
             offset,
             contents,
             ..
-        } => Comes::Extract(*offset, *contents),
-        Command::Indef { .. } => Comes::Indef,
+        } => Meaning::Extract(*offset, *contents),
+        Command::Indef { .. } => Meaning::Indef,
     }
 }
 
-fn refusal_of(fault: &UsageFault) -> Comes<'static> {
+fn meaning_of_fault(fault: &UsageFault) -> Meaning<'static> {
     match fault {
-        UsageFault::Value(name) => Comes::Value(*name),
-        UsageFault::Memory => Comes::Memory,
-        UsageFault::Parser(error) if error.use_stderr() => Comes::Refused,
-        UsageFault::Parser(_) => Comes::OctetsRun,
+        UsageFault::Value(name) => Meaning::Value(*name),
+        UsageFault::Memory => Meaning::Memory,
+        UsageFault::Parser(error) if error.use_stderr() => Meaning::Refused,
+        UsageFault::Parser(_) => Meaning::HelpOrVersion,
     }
 }
 
-fn expect_judged(rt: &impl Abort, alloc: Global, rows: &[Judged<'_>]) {
+fn expect_meanings(rt: &impl Abort, alloc: Global, rows: &[CommandRow<'_>]) {
     for row in rows {
         let (list, want) = *row;
-        let comes = match command(alloc, list) {
-            Ok(asked) => comes_of(&asked),
-            Err(fault) => refusal_of(&fault),
+        let meaning = match command(alloc, list) {
+            Ok(asked) => meaning_of(&asked),
+            Err(fault) => meaning_of_fault(&fault),
         };
-        expect_eq(rt, list, comes, want);
+        expect_eq(rt, list, meaning, want);
     }
 }
 
 /// Options and their values.
 #[test]
-fn options_are_judged(rt: HostRuntime) {
+fn options_have_meanings(rt: HostRuntime) {
     for rows in [
         LIMITS.as_slice(),
         &WRONG_OPTIONS,
@@ -61,15 +62,15 @@ fn options_are_judged(rt: HostRuntime) {
         &RULES,
         &REFUSED_VALUES,
     ] {
-        expect_judged(&rt, rt.alloc(), rows);
+        expect_meanings(&rt, rt.alloc(), rows);
     }
 }
 
 /// Commands, offsets and files, help and the version, and words that are none of these.
 #[test]
-fn other_words_are_judged(rt: HostRuntime) {
-    for rows in [WRONG_WORDS.as_slice(), &SHOWN, &CUTS] {
-        expect_judged(&rt, rt.alloc(), rows);
+fn other_words_have_meanings(rt: HostRuntime) {
+    for rows in [WRONG_WORDS.as_slice(), &HELP_AND_VERSION, &CUTS] {
+        expect_meanings(&rt, rt.alloc(), rows);
     }
 }
 

@@ -1,7 +1,7 @@
 use Rattle.std.proofs.Common.{rules}
-use Rattle.tlv_tests.specs.TestStep.{pair}
+use Rattle.tlv_tests.specs.EventLinesStep.{pair}
 use Rattle.tlv_io.proofs.Puts.{fails_octet, puts_octet}
-use Rattle.tlv_tests.proofs.walk.lines.put_pairs.Goals as goal
+use Rattle.tlv_tests.proofs.walk.event_lines.put_pairs.Goals as goal
 
 pub returns-in_err-put : goal.returns-in_err-put
 returns-in_err-put g c =

@@ -1,6 +1,6 @@
 use Rattle.std.proofs.Common.{rules, refl}
 use Rattle.tlv_io.proofs.Puts.{puts_as, puts_failed_last}
-use Rattle.tlv_tests.proofs.walk.lines.LinesFollow.on.Goals as goal
+use Rattle.tlv_tests.proofs.walk.event_lines.EventLinesFollow.on.Goals as goal
 
 pub returns-in_err-put_header-in-Begin-clause-puts : goal.returns-in_err-put_header-in-Begin-clause-puts
 returns-in_err-put_header-in-Begin-clause-puts g c =

@@ -3,8 +3,8 @@ use Rattle.std.proofs.lemmas.Bool.{true≢false}
 use Rattle.tlv_head.specs.declared.reader.Head.TheVariants.{More}
 use Rattle.tlv_head.specs.HeadReaderState.{CanPush, HeadReaderState}
 use Rattle.tlv_head.specs.Push.{Pushes, more, refused}
-use Rattle.tlv_tests.proofs.head.refusals_and_header.Goals as goal
-use Rattle.tlv_tests.proofs.head.refusals_and_header.Goals.{in-More, in_default}
+use Rattle.tlv_tests.proofs.head.refusals.refusals_and_header.Goals as goal
+use Rattle.tlv_tests.proofs.head.refusals.refusals_and_header.Goals.{in-More, in_default}
 
 -- a reader that took an octet, and is to take another
 goes_on : (old new : HeadReaderState) (x y : ℕ) → Pushes old x None 0 new More → old.offset ≤ 2 ^ 40

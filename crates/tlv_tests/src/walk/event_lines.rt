@@ -1,8 +1,9 @@
-//! A follower that writes each event as a line of text.
+//! `EventLines`, a follower that writes each event as a line of text.
 ghost use Rattle.std.specs.Prelude.{◌≡◌, ◌+◌, ◌*◌, ◌≤◌, ◌++◌, length};
 ghost use Rattle.arrayvec.specs.ArrayVec.{array_vec_len};
 ghost use Rattle.tlv_walk.specs.Follow.{HasEffect};
-ghost use Rattle.tlv_tests.specs.TestStep.{end, header_line, offset_text, pads, pair, pairs, test_close_line};
+ghost use Rattle.tlv_tests.specs.EventLinesStep.{close_event_line, end_step, header_line, offset_text};
+ghost use Rattle.tlv_tests.specs.EventLinesStep.{pads, pair, pairs};
 ghost use Rattle.tlv_io.specs.Out.{Puts};
 
 use arrayvec::ArrayVec;
@@ -14,11 +15,11 @@ const DIGITS: [u8; 16] = *b"0123456789abcdef";
 
 /// Writes each event as a line of text, but contents octets in front of their primitive's end.
 #[derive(Drop)]
-pub(crate) struct Lines {
+pub(crate) struct EventLines {
     ends: u64,
 }
 
-impl Model for Lines {
+impl Model for EventLines {
     ghost use Rattle.std.specs.Prelude.{ℕ};
 
     ghost Value = { ℕ };
@@ -26,17 +27,17 @@ impl Model for Lines {
     ghost view = { λ lines. lines.ends };
 }
 
-impl Lines {
+impl EventLines {
     /// A follower that has enough with the end of so many elements, or never if that is 0.
-    pub fn up_to(ends: u64) -> Lines
+    pub fn up_to(ends: u64) -> EventLines
         ensures { result ≡ ends }
     {
-        Lines { ends }
+        EventLines { ends }
     }
 
-    /// An element ends.
-    fn end<D: Drain>(&mut self, line: &[u8], out: &mut Out<'_, D>) -> Result<Go, WriteFault>
-        ensures state { HasEffect (end self.old line.now) self.new result }
+    /// Writes the line of the end of an element, and counts the end.
+    fn end_step<D: Drain>(&mut self, line: &[u8], out: &mut Out<'_, D>) -> Result<Go, WriteFault>
+        ensures state { HasEffect (end_step self.old line.now) self.new result }
         ensures puts { Puts D.state out.old out.new line.now result }
     {
         out.put(line)?;
@@ -97,8 +98,8 @@ fn header_line(word: &[u8], header: &Header) -> ArrayVec<u8, 512>
 }
 
 /// The line of the end of a constructed element.
-fn closing_line(at: Option<u64>) -> ArrayVec<u8, 11>
-    ensures { result.items ≡ test_close_line at }
+fn close_event_line(at: Option<u64>) -> ArrayVec<u8, 11>
+    ensures { result.items ≡ close_event_line at }
 {
     let mut line = ArrayVec::new();
     let _ = line.try_extend_from_slice(b"close");
@@ -141,14 +142,14 @@ fn put_padding<D: Drain>(octets: &[u8], out: &mut Out<'_, D>) -> Result<(), Writ
     Ok(())
 }
 
-impl Follow for Lines {
+impl Follow for EventLines {
     ghost use Rattle.std.specs.Prelude.{codes, refl};
     ghost use Rattle.std.proofs.Common.{ap};
     ghost use Rattle.std.proofs.lemmas.Grind.{flat_map-append};
     ghost use Rattle.tlv_walk.specs.Follow.{effect_with};
-    ghost use Rattle.tlv_tests.specs.TestStep.{pair, test_step};
+    ghost use Rattle.tlv_tests.specs.EventLinesStep.{pair, event_lines_step};
 
-    ghost next = { test_step };
+    ghost next = { event_lines_step };
 
     ghost bytes_join = { λ s x y. ap (effect_with s) (flat_map-append pair x y) };
 
@@ -170,9 +171,9 @@ impl Follow for Lines {
             Event::Bytes(octets) => put_pairs(octets, out)?,
             Event::Pad(octets) => put_padding(octets, out)?,
             Event::Unused => out.put(b"unused\n")?,
-            Event::End => return self.end(b" end\n", out),
-            Event::Leave => return self.end(b"leave\n", out),
-            Event::Close(at) => return self.end(closing_line(*at).as_slice(), out),
+            Event::End => return self.end_step(b" end\n", out),
+            Event::Leave => return self.end_step(b"leave\n", out),
+            Event::Close(at) => return self.end_step(close_event_line(*at).as_slice(), out),
         }
         Ok(Go::On)
     }

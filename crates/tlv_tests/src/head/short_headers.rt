@@ -1,0 +1,59 @@
+//! Short headers, which are read at once.
+use super::octets::{OFFSET, REFUSALS, SHAPES, Shape};
+use super::{front_header, is_of_shape};
+use crate::expect::{expect, expect_of};
+use std::process::Abort;
+use tlv_head::{Header, read_short};
+
+/// Whether the octets of the shape are read at once, if they are at most three and three, and otherwise are not.
+fn is_read_if_short(shape: &Shape<'_>) -> bool {
+    let lengths = shape.octets.len().saturating_sub(usize::from(shape.id_len));
+    let is_short = shape.id_len <= 3 && lengths <= 3;
+    match read_short(OFFSET, false, shape.octets) {
+        Some((fields, count)) => {
+            let header = Header::new(&fields, &shape.octets[..count]);
+            is_short && is_of_shape(&header, shape)
+        }
+        None => !is_short,
+    }
+}
+
+/// Expects no header to be read at once.
+fn expect_no_short(rt: &impl Abort, octets: &[u8]) {
+    let is_none = read_short(OFFSET, false, octets).is_none();
+    expect_of(rt, octets, is_none, "no header is read at once");
+}
+
+/// The same of each prefix of these octets.
+fn expect_no_short_fronts(rt: &impl Abort, octets: &[u8]) {
+    for i in 0..octets.len() {
+        expect_no_short(rt, &octets[..i]);
+    }
+}
+
+/// A header of at most three identifier and three length octets is read at once. No longer one is, no prefix of one,
+/// and nothing that is refused.
+#[test]
+fn short_headers_are_read_at_once(rt: HostRuntime) {
+    for shape in &SHAPES {
+        let is_right = is_read_if_short(shape);
+        expect_of(
+            &rt,
+            shape.octets,
+            is_right,
+            "they are read at once if they are short",
+        );
+        expect_no_short_fronts(&rt, shape.octets);
+    }
+    // Four identifier octets, and four length octets.
+    for octets in [b"\x1f\x81\x80\x01\x00".as_slice(), b"\x04\x83\x00\x00\x01"] {
+        expect(&rt, front_header(octets).is_some(), "a header is read");
+        expect_no_short(&rt, octets);
+    }
+    for refusal in &REFUSALS {
+        if !refusal.is_header {
+            expect_no_short(&rt, refusal.octets);
+        }
+    }
+    expect_no_short(&rt, b"\x00\x00");
+}
