@@ -11,7 +11,7 @@ use Rattle.std.specs.Prelude.{if◌then◌else◌, Option, Some, None, Result, O
 use Rattle.std.specs.Io.KnownBytes.{Appends, Consumes, IsAtEnd}
 use Rattle.tlv_value.specs.Names.{NamesTable}
 use Rattle.tlv_walk.proofs.FollowerLemmas.Enough.{Settled, ends_with, returns, settled_by}
-use Rattle.tlv_io.proofs.Pieces.{GaveLast}
+use Rattle.tlv_io.specs.Device.{GaveLast}
 use Rattle.tlv_walk.proofs.GrammarLemmas.Endings.{IsRefused, fault-halt}
 use Rattle.tlv_io.proofs.Puts.{more_left}
 use Rattle.tlv_io.proofs.Sends.{sends_appends}
@@ -293,7 +293,7 @@ module _ (job : Job ReportValue) (stays : Stays job)
         let output : one.0.output ≡ written ++ (x.sends.left ++ on.0) =
         front_and_rest written x.sends.sent x.sends.left (job.text x.reading) on.0 one.0.output sent x.sends.prefix
         text in
-        short one.0 (x.sends.left ++ on.0) one.1 output (more_left x.sends.left on.0 x.sends.not_all)
+        short one.0 (x.sends.left ++ on.0) one.1 output (more_left x.sends.left on.0 x.sends.lost)
         (full (x.sends.failures ∙ ap next_count unfailed ∙ one_failure))
 
     run_in : (result : Result ReportValue DeviceFault)

@@ -7,7 +7,7 @@ use Rattle.std.proofs.lemmas.List.{length-take-le}
 use Rattle.tlv_io.specs.declared.source.ReadFault.{ReadFault}
 use Rattle.std.specs.List.{concat}
 use Rattle.tlv_io.specs.Device.{Pieces, ReadsOnce, SourceState, gave, next_count, octets_given}
-use Rattle.tlv_io.proofs.Pieces.{Gathered, gathered_more, pieces_all, together_more}
+use Rattle.tlv_io.proofs.Pieces.{PiecesSoFar, pieces_so_far_more, pieces_all, together_more}
 use Rattle.tlv_value.specs.declared.names.fault.NamesFault.{NamesFault}
 use Rattle.tlv_value.specs.declared.names.fault.NamesFault.TheVariants.{BadOid, BadName, Repeated, TooLarge, ReadFailed}
 use Rattle.tlv_value.specs.declared.names.fault.NamesFault.TheVariants.{Memory}
@@ -19,7 +19,7 @@ use Rattle.tlv_value.specs.Private.NamesSteps.{Gives, GivesAll, IsTableOf, resul
 
 -- the octets that the reads so far gave
 pub record Given (old new : SourceState) (octets : List ℕ) : Type 0 where
-  pub gathered : Gathered old new
+  pub gathered : PiecesSoFar old new
   pub are : concat gathered.pieces ≡ octets
 
 module _ (old middle new : SourceState) (octets : List ℕ) (x : Given old middle octets)
@@ -104,7 +104,7 @@ module _ (old middle new : SourceState) (octets : List ℕ) (x : Given old middl
     pub given_more : (n ≡ 0 → ⊥) → (more : List ℕ) → more ≡ octets ++ take n piece → Given old new more
     given_more some more is = record {
       gathered =
-          gathered_more old middle new x.gathered (take n piece) r.octets.0 r.reads
+          pieces_so_far_more old middle new x.gathered (take n piece) r.octets.0 r.reads
           (omega (arith, some, r_length), few);
       are = together_more x.gathered.pieces (take n piece) ∙ all_are ∙ sym is;
     }

@@ -15,7 +15,7 @@ use Rattle.tlv_walk.specs.declared.run.Run.{Run}
 use Rattle.tlv_walk.specs.declared.run.Turn.{Turn}
 use Rattle.tlv_walk.specs.declared.run.Turn.TheVariants.{Again, Ended}
 use Rattle.std.specs.List.{concat}
-use Rattle.tlv_io.specs.Device.{DrainState, LastReadValue, SourceState, failed, failures_after, gave}
+use Rattle.tlv_io.specs.Device.{DrainState, GaveLast, LastReadValue, SourceState, failed, failures_after, gave}
 use Rattle.tlv_walk.specs.DriveJob.{Drives, drive_job, drive_states, event_octets, had_enough, run_over}
 use Rattle.tlv_walk.specs.Events.{AreEqualJoined, Bytes, EventValue, Pad, events}
 use Rattle.tlv_walk.specs.Follow.{Effect, GoesOn, Joins, IgnoresEmpty, effect_of, followed_events}
@@ -33,7 +33,7 @@ use Rattle.tlv_walk.specs.Wrappers.{first_other, entered_offsets}
 use Rattle.tlv_walk.proofs.FollowerLemmas.Followed.{events_enough, followed-alike, followed-enough, kept-alike}
 use Rattle.tlv_walk.proofs.FollowerLemmas.Following.{made_both, made_put}
 use Rattle.tlv_walk.proofs.FollowerLemmas.Enough.{comes_to, ends_so}
-use Rattle.tlv_io.proofs.Pieces.{GaveLast, gathered_more, pieces_all, together_more}
+use Rattle.tlv_io.proofs.Pieces.{pieces_so_far_more, pieces_all, together_more}
 use Rattle.tlv_io.proofs.Sends.{sends_ok, sends_then}
 use Rattle.tlv_walk.proofs.FollowerLemmas.Pauses.{stands_spelled, stands_yielded}
 use Rattle.tlv_walk.proofs.FollowerLemmas.Turns.{run_is}
@@ -197,7 +197,7 @@ module _ {S : Type 0} (next : S → EventValue → Effect S)
           let y = turned (Ok Again) is in
           let all : List EventValue = y.stands.all in record {
             gathered =
-                gathered_more old now.devices.source new.devices.source x.gathered r read.calls.octets
+                pieces_so_far_more old now.devices.source new.devices.source x.gathered r read.calls.octets
                 read.calls.reads (some_octets r y.some, few);
             octets = subst AreOctets (sym (together_more x.gathered.pieces r)) all_octets;
             failures = failed_so (Ok Again) is;
