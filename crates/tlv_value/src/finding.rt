@@ -29,7 +29,7 @@ pub enum Finding {
     B11,
     /// A last subidentifier of which octets lack (8.19.2, 8.20.2).
     B12,
-    /// A BIT STRING without its first octet (8.6.2.1).
+    /// A BIT STRING without its first octet (8.6.2).
     B13,
     /// More than 7 unused bits (8.6.2.2).
     B14,
@@ -37,7 +37,7 @@ pub enum Finding {
     B15,
     /// A segment after one with unused bits (8.6.4).
     B16,
-    /// A segment with another tag than its string's segments have (8.6.4.1, 8.7.3.2).
+    /// A segment with another tag than its string's segments have (8.6.4, 8.7.3).
     B17,
     /// Characters that the type does not have.
     B18,

@@ -6,7 +6,7 @@ ghost use Rattle.tlv_value.specs.Layout.{columns, margin, no_columns, spaces};
 ghost use Rattle.tlv_value.specs.Private.Rows.{row_indent};
 
 use crate::Layout;
-use tlv_head::{Class, padded_name};
+use tlv_head::{Class, type_name_block};
 use tlv_io::HeldOctets;
 
 /// Begins a line with its first columns, an offset and a length, and its indentation.
@@ -113,7 +113,7 @@ fn write_universal(held: &mut HeldOctets, number: u64)
     ensures text { held.new ≡ held.old ++ tag_text Class.Universal number }
     ensures bound { GrowsBy 40 held.old held.new }
 {
-    match padded_name(number) {
+    match type_name_block(number) {
         Some((name, size)) => held.add_prefix(name, size),
         None => write_bracketed(held, b"[UNIVERSAL                      ", 11, number),
     }

@@ -1,6 +1,6 @@
 //! Reads a header, one octet at a time.
 ghost use Rattle.std.specs.Prelude.{◌≡◌, ◌≢◌, ◌↔◌, [], ◌∷◌, false, IsTrue, Some};
-ghost use Rattle.tlv_head.specs.HeaderFields.{fields_hold};
+ghost use Rattle.tlv_head.specs.Header.{fields_hold};
 ghost use Rattle.tlv_head.specs.HeadReaderState.{ContentsFit};
 
 use crate::next_octet::{Next, Part, header_fields, read_octet};
@@ -76,8 +76,9 @@ impl HeadReader {
     /// [`Head::Whole`] comes exactly with the octet that completes a header whose element may be
     /// there. [`Head::Refused`] leaves the reader as it was; the refusals are decided in this order:
     /// Overrun if the bound is reached; TagTooLong, ReservedLength, IndefinitePrimitive and
-    /// LengthTooLarge by what the octets say; TooDeep at the header of an element that holds others
-    /// inside 128; Overrun at the header of contents that end beyond the bound.
+    /// LengthTooLarge by what the octets say; TooDeep if it completes the header of an element that
+    /// holds others, and 128 such are open; Overrun if it completes the header of contents that end
+    /// beyond the bound.
     pub fn push(&mut self, octet: u8, room: Option<u64>, depth: u8) -> Head
         requires { CanPush self.old octet room depth }
         ensures pushes { Pushes self.old octet room depth self.new result }

@@ -1,7 +1,7 @@
 use Rattle.std.proofs.Common.{◌≡◌, sym, ◌∙◌}
 use Rattle.tlv_head.proofs.GrammarLemmas.Scan.{origin_of}
 use Rattle.tlv_head.proofs.GrammarLemmas.Headers.{one-header}
-use Rattle.tlv_head.proofs.laws.one_header.Goals as goal
+use Rattle.tlv_head.proofs.laws.octets_begin_one_header.Goals as goal
 
 pub returns : goal.returns
 returns c = λ input offset named h g p q.

@@ -1,18 +1,18 @@
 use Rattle.std.proofs.Common.{◌≡◌, Bool, [], ◌∷◌, ◌+◌, ◌≤◌, length, arith, rules, refl, sym, ap, ◌∙◌, subst}
 use Rattle.std.proofs.lemmas.Bool.{false≢true}
-use Rattle.tlv_head.specs.declared.reader.Head.TheVariants.{Whole}
+use Rattle.tlv_head.specs.declared.head_reader.Head.TheVariants.{Whole}
 use Rattle.tlv_head.specs.declared.fault.FaultCode.TheVariants.{Overrun, TooDeep}
 use Rattle.tlv_head.specs.HeadReaderState.{HeadReaderState}
-use Rattle.tlv_head.specs.HeaderFields.{fields_hold}
+use Rattle.tlv_head.specs.Header.{fields_hold}
 use Rattle.tlv_head.specs.declared.header.HeaderFields.{HeaderFields}
 use Rattle.tlv_head.specs.Refusal.{IsRefusedOctet}
 use Rattle.tlv_head.specs.Push.{Completes, IsRefusedPush, Pushes, more, no_room, refused_octet, whole}
 use Rattle.tlv_head.proofs.ReaderLemmas.Exact.{exact, completes_unique, prefix_not_whole, refuses}
 use Rattle.tlv_head.proofs.ReaderLemmas.Unfinished.{length-carried, made_overrun, made_too_deep, made_whole}
 use Rattle.tlv_head.proofs.ReaderLemmas.Unfinished.{unfinished_part}
-use Rattle.tlv_head.proofs.reader.HeadReader.push.Goals as goal
-use Rattle.tlv_head.proofs.reader.HeadReader.push.Goals.{else-depth-ge128-via-then-depth-ge128+else-fields_hold}
-use Rattle.tlv_head.proofs.reader.HeadReader.push.Goals.{else-depth-ge128-via-else-depth-ge128}
+use Rattle.tlv_head.proofs.head_reader.HeadReader.push.Goals as goal
+use Rattle.tlv_head.proofs.head_reader.HeadReader.push.Goals.{else-depth-ge128-via-then-depth-ge128+else-fields_hold}
+use Rattle.tlv_head.proofs.head_reader.HeadReader.push.Goals.{else-depth-ge128-via-else-depth-ge128}
 
 -- whether the header that is made holds others
 holds_made : {b : Bool} {f g : HeaderFields} → b ≡ fields_hold f → f ≡ g → b ≡ fields_hold g
