@@ -9,7 +9,7 @@ use Rattle.std.proofs.lemmas.List.{get_or_default, length-take, nil_from_length,
 use Rattle.std.proofs.Math.Seq.{take-append-add, take-append_seam}
 use Rattle.std.specs.Prelude.{if◌then◌else◌, Option, Some, None, Result, Ok, Err, ⊤}
 use Rattle.std.specs.Io.KnownBytes.{Appends, Consumes, IsAtEnd}
-use Rattle.tlv_value.specs.Names.{NamesTable}
+use Rattle.tlv_value.specs.Names.{NamesValue}
 use Rattle.tlv_walk.proofs.FollowerLemmas.Enough.{Settled, ends_with, returns, settled_by}
 use Rattle.tlv_io.specs.Device.{GaveLast}
 use Rattle.tlv_walk.proofs.GrammarLemmas.Endings.{IsRefused, fault-halt}
@@ -332,7 +332,7 @@ gave_some (gave zero) e = cc (e)
 gave_some (gave (suc n)) e = cc (e)
 gave_some failed e = cc (e)
 
-module _ (command : Command) (names : NamesTable) (octets : List ℕ)
+module _ (command : Command) (names : NamesValue) (octets : List ℕ)
     (fit : (i : ℕ) → Fits w8 (slice_index_or octets i 0)) (room : ℕ)
     (written kept : ArrayVec ℕ) (same : written ≡ kept) (fits : length written.items ≤ room) (failures : ℕ)
     (from : DrainState) (from_is : from ≡ record { octets = Some []; failures = 0 }) (report : ReportValue) where

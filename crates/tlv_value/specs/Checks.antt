@@ -164,5 +164,5 @@ abbrev pub type_findings : ℕ → List ℕ → List Finding
 type_findings number c = findings_by (type_conditions number (facts_of number c))
 
 -- the same, of a primitive with this header
-abbrev pub findings_on_contents : HeaderValue → List ℕ → List Finding
-findings_on_contents h c = type_findings (type_number h) c
+abbrev pub all_contents_findings : HeaderValue → List ℕ → List Finding
+all_contents_findings h c = type_findings (type_number h) c

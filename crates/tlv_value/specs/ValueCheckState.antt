@@ -27,10 +27,10 @@ pub record ValueCheckState : Type 0 where
   pub first_octets : List ℕ
   pub last : ℕ
   -- whether each octet is one of its type, and whether a subidentifier is padded
-  pub allowed : Bool
-  pub padded : Bool
+  pub are_octets_allowed : Bool
+  pub is_padded : Bool
   -- of a UTF8String whether the rows that were full are well-formed, and the row that has begun
-  pub formed : Bool
+  pub rows_are_utf8 : Bool
   pub row : List ℕ
   -- the first 64 octets of a time
   pub time : List ℕ
@@ -43,9 +43,9 @@ new_value_check_of number size = record {
   left = size;
   first_octets = [];
   last = 0;
-  allowed = true;
-  padded = false;
-  formed = true;
+  are_octets_allowed = true;
+  is_padded = false;
+  rows_are_utf8 = true;
   row = [];
   time = [];
 }
@@ -81,7 +81,7 @@ notes_time number = is_number_of time_types number
 
 -- whether a subidentifier begins with 80, with these octets too
 abbrev pub is_padded_with : Bool → ℕ → List ℕ → Bool
-is_padded_with padded previous octets = padded || is_padded_after previous octets
+is_padded_with is_padded previous octets = is_padded || is_padded_after previous octets
 
 -- the state with more octets noted: the first ones and the last, what must be known of each, or the time
 abbrev pub with_first_noted : ValueCheckState → List ℕ → ValueCheckState
@@ -92,10 +92,10 @@ with_first_noted s octets = record s {
 
 abbrev pub with_each_noted : ValueCheckState → List ℕ → ValueCheckState
 with_each_noted s octets = record s {
-  allowed = s.allowed && list_all (allows_octet s.number) octets;
-  padded = if is_number_of object_types s.number then is_padded_with s.padded s.last octets else s.padded;
-  formed =
-      if eqb s.number universal.utf8_string then s.formed && all_utf8 (full_rows Utf8 s.row octets) else s.formed;
+  are_octets_allowed = s.are_octets_allowed && list_all (allows_octet s.number) octets;
+  is_padded = if is_number_of object_types s.number then is_padded_with s.is_padded s.last octets else s.is_padded;
+  rows_are_utf8 =
+      if eqb s.number universal.utf8_string then s.rows_are_utf8 && all_utf8 (full_rows Utf8 s.row octets) else s.rows_are_utf8;
   row = if eqb s.number universal.utf8_string then open_row Utf8 s.row octets else s.row;
   last = last_octet s.last octets;
 }
@@ -128,11 +128,11 @@ has_unused_bits s = eqb s.number universal.bit_string && begins_nonzero s.first_
 -- the characters are those of the type
 abbrev pub is_allowed : ValueCheckState → Bool
 is_allowed s =
-    (if eqb s.number universal.utf8_string then s.formed && is_utf8 s.row
+    (if eqb s.number universal.utf8_string then s.rows_are_utf8 && is_utf8 s.row
     else if eqb s.number universal.bmp_string then eqb (s.size % 2) 0
     else if eqb s.number universal.universal_string then eqb (s.size % 4) 0
     else true)
-    && s.allowed
+    && s.are_octets_allowed
 
 -- what is known of the contents at their end
 abbrev pub facts_in : ValueCheckState → ContentsFacts
@@ -140,7 +140,7 @@ facts_in s = record {
   size = s.size;
   first_octets = s.first_octets;
   last = s.last;
-  is_padded = s.padded;
+  is_padded = s.is_padded;
   is_allowed = is_allowed s;
   time = s.time;
 }

@@ -5,7 +5,7 @@ ghost use Rattle.tlv_value.specs.Types.{type_number};
 ghost use Rattle.tlv_value.specs.ValueCheckState.{value_check_after, findings_in, has_unused_bits};
 ghost use Rattle.tlv_value.specs.ValueCheckState.{is_allowed, new_value_check, new_value_check_of};
 ghost use Rattle.tlv_value.specs.ValueCheckState.{with_each_noted, with_first_noted};
-ghost use Rattle.tlv_value.specs.Checks.{findings_on_contents, is_padded_integer};
+ghost use Rattle.tlv_value.specs.Checks.{all_contents_findings, is_padded_integer};
 
 mod characters;
 mod findings;
@@ -16,7 +16,7 @@ mod times;
 use crate::Finding;
 use arrayvec::ArrayVec;
 pub(crate) use characters::are_allowed;
-pub(crate) use findings::are_set;
+pub(crate) use findings::is_any_set;
 use notes::{is_padded_with, notes_each, notes_first, notes_time};
 pub(crate) use notes::{is_padded_after, last_octet};
 pub(crate) use rows::is_utf8;
@@ -40,11 +40,11 @@ pub struct ValueCheck {
     /// The last octet, if the type asks for it; 0 before the first.
     last: u8,
     /// Whether each octet is one that the type has.
-    allowed: bool,
+    are_octets_allowed: bool,
     /// Whether a subidentifier begins with `80`.
-    padded: bool,
+    is_padded: bool,
     /// Whether the rows of a UTF8String that were full are well-formed.
-    formed: bool,
+    rows_are_utf8: bool,
     /// The octets of its row that has begun.
     row: ArrayVec<u8, 64>,
     /// The first octets of a time.
@@ -56,11 +56,11 @@ impl Model for ValueCheck {
 
     ghost Value = { ValueCheckState };
 
-    ghost use Rattle.tlv_value.specs.ValueCheckFields.{value_check_state_of, HasOpenRow};
+    ghost use Rattle.tlv_value.specs.ValueCheckFields.{value_check_state_of, ValueCheckFieldsAgree};
 
     ghost view = { value_check_state_of };
 
-    ghost invariant = { HasOpenRow };
+    ghost invariant = { ValueCheckFieldsAgree };
 }
 
 impl ValueCheck {
@@ -83,9 +83,9 @@ impl ValueCheck {
             second: 0,
             known: 0,
             last: 0,
-            allowed: true,
-            padded: false,
-            formed: true,
+            are_octets_allowed: true,
+            is_padded: false,
+            rows_are_utf8: true,
             row: ArrayVec::new(),
             time: ArrayVec::new(),
         }
@@ -102,9 +102,9 @@ impl ValueCheck {
         self.left = size;
         self.known = 0;
         self.last = 0;
-        self.allowed = true;
-        self.padded = false;
-        self.formed = true;
+        self.are_octets_allowed = true;
+        self.is_padded = false;
+        self.rows_are_utf8 = true;
         if !self.row.is_empty() {
             self.row.clear();
         }
@@ -182,12 +182,15 @@ impl ValueCheck {
     {
         match self.number {
             universal::OBJECT_IDENTIFIER | universal::RELATIVE_OID => {
-                self.padded = is_padded_with(self.padded, self.last, octets);
+                self.is_padded = is_padded_with(self.is_padded, self.last, octets);
             }
             universal::UTF8_STRING => {
-                self.formed = both(self.formed, take_rows(&mut self.row, octets));
+                self.rows_are_utf8 = both(self.rows_are_utf8, take_rows(&mut self.row, octets));
             }
-            _ => self.allowed = both(self.allowed, are_allowed(self.number, octets)),
+            _ => self.are_octets_allowed = both(
+                self.are_octets_allowed,
+                are_allowed(self.number, octets),
+            ),
         }
         self.last = last_octet(self.last, octets);
     }
@@ -200,7 +203,7 @@ impl ValueCheck {
         ensures whole { (h : HeaderValue) (c : List ℕ)
             → self.now ≡ value_check_after (new_value_check h) c
             → length c ≡ announced_length h.size
-            → result.items ≡ findings_on_contents h c }
+            → result.items ≡ all_contents_findings h c }
     {
         self.findings()
     }
@@ -234,12 +237,12 @@ impl ValueCheck {
         ensures { result ≡ is_allowed self.now }
     {
         let all = match self.number {
-            universal::UTF8_STRING => both(self.formed, is_utf8(self.row.as_slice())),
+            universal::UTF8_STRING => both(self.rows_are_utf8, is_utf8(self.row.as_slice())),
             universal::BMP_STRING => self.size % 2 == 0,
             universal::UNIVERSAL_STRING => self.size % 4 == 0,
             _ => true,
         };
-        both(all, self.allowed)
+        both(all, self.are_octets_allowed)
     }
 }
 

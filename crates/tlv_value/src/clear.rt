@@ -1,13 +1,13 @@
 //! A short look at all of the contents of a primitive.
 ghost use Rattle.std.specs.Prelude.{◌≡◌, ◌%◌, ◌^◌, ◌&&◌, ◌||◌, ◌==◌, [], IsTrue, eqb, false, length, nat_le};
 ghost use Rattle.std.specs.Prelude.{nat_lt, not, slice_index, true};
-ghost use Rattle.tlv_value.specs.Checks.{findings_on_contents, is_padded_after, is_padded_integer, last_octet};
+ghost use Rattle.tlv_value.specs.Checks.{all_contents_findings, is_padded_after, is_padded_integer, last_octet};
 ghost use Rattle.tlv_value.specs.Checks.{type_findings};
 ghost use Rattle.tlv_value.specs.Private.Checks.{generalized_time_findings, utc_time_findings};
 ghost use Rattle.tlv_value.specs.Types.{constructed_types, is_number_of, is_one_of, is_unassigned};
 ghost use Rattle.tlv_value.specs.Types.{is_unassigned_number};
 
-use crate::check::{are_allowed, are_set, is_padded_after, is_utf8, last_octet};
+use crate::check::{are_allowed, is_any_set, is_padded_after, is_utf8, last_octet};
 use crate::time::{general_canonical, utc_canonical};
 use tlv_head::{Class, Header, universal};
 
@@ -15,7 +15,7 @@ use tlv_head::{Class, Header, universal};
 /// type has no primitives, or that no type has its number, shows too: the type is asked for once, for both.
 #[inline(always)]
 pub fn is_clear(header: &Header, contents: &[u8]) -> bool
-    ensures contents { IsTrue result → findings_on_contents header.now contents.now ≡ [] }
+    ensures contents { IsTrue result → all_contents_findings header.now contents.now ≡ [] }
     ensures form { IsTrue result
         → (is_unassigned header.now || is_one_of constructed_types header.now) ≡ false }
 {
@@ -31,7 +31,7 @@ fn is_type_clear(number: u64, contents: &[u8]) -> bool
         → (is_unassigned_number number || is_number_of constructed_types number) ≡ false }
 {
     match number {
-        universal::BOOLEAN => is_truth(contents),
+        universal::BOOLEAN => is_canonical_boolean(contents),
         universal::INTEGER | universal::ENUMERATED => is_shortest(contents),
         universal::BIT_STRING => has_clear_bits(contents),
         universal::NULL => contents.is_empty(),
@@ -62,7 +62,7 @@ fn is_type_clear(number: u64, contents: &[u8]) -> bool
 
 /// Whether there is one octet, that of FALSE or of TRUE (8.2.1, 11.1).
 #[inline(always)]
-fn is_truth(contents: &[u8]) -> bool
+fn is_canonical_boolean(contents: &[u8]) -> bool
     ensures one { IsTrue result → (length contents.now == 1) ≡ true }
     ensures truth { IsTrue result
         → (slice_index contents.now 0 == 0 || slice_index contents.now 0 == 255) ≡ true }
@@ -102,7 +102,8 @@ fn has_clear_bits(contents: &[u8]) -> bool
 {
     match contents {
         [0, ..] => true,
-        [unused, _, ..] => *unused <= 7 && !are_set(*unused, last_octet(0, contents)),
+        [unused_bits, _, ..] => *unused_bits <= 7
+            && !is_any_set(*unused_bits, last_octet(0, contents)),
         _ => false,
     }
 }

@@ -77,7 +77,7 @@ impl Finding {
     pub fn code(self) -> &'static [u8]
         ensures { result.now ≡ finding_code self }
     {
-        let (wording, _) = self.padded_wording();
+        let (wording, _) = self.wording_block();
         &wording[..3]
     }
 
@@ -85,13 +85,13 @@ impl Finding {
     pub fn text(self) -> &'static [u8]
         ensures { result.now ≡ finding_text self }
     {
-        let (wording, count) = self.padded_wording();
+        let (wording, count) = self.wording_block();
         &wording[4..count]
     }
 
-    /// The code, a space and the text, with spaces after them, so that they can be copied at once, and how many octets
-    /// they are.
-    pub fn padded_wording(self) -> (&'static [u8; 48], usize)
+    /// A block that begins with the code, a space and the text, and has spaces after them, so that they can be copied at
+    /// once, and how many octets they are.
+    pub fn wording_block(self) -> (&'static [u8; 48], usize)
         ensures wording { take result.1 result.0.now ≡ finding_code self ++ 32 ∷ finding_text self }
         ensures count { (4 ≤ result.1) × (result.1 ≤ 44) }
     {

@@ -18,12 +18,12 @@ use tlv_head::{Class, Header};
 use tlv_io::{Drain, Out, WriteFault};
 
 /// Begins the first row of a long BIT STRING: with the first contents octet, if that cannot be read.
-fn begin_row(unused: u8, row: &mut ArrayVec<u8, 64>)
+fn begin_row(unused_bits: u8, row: &mut ArrayVec<u8, 64>)
     requires { row.old.items ≡ [] }
-    ensures { row.new.items ≡ row_octets Kind.Bits (unused ∷ []) }
+    ensures { row.new.items ≡ row_octets Kind.Bits (unused_bits ∷ []) }
 {
-    if unused > 7 {
-        row.push(unused);
+    if unused_bits > 7 {
+        row.push(unused_bits);
     }
 }
 
@@ -38,9 +38,9 @@ pub struct ValueText {
     /// How many octets are still to come.
     left: u64,
     /// Whether the line of a long value was written.
-    has_line: bool,
+    wrote_line: bool,
     /// How many rows were full.
-    rows: u64,
+    row_count: u64,
     /// The octets of the row that has begun, or of a held value.
     row: ArrayVec<u8, 64>,
 }
@@ -74,8 +74,8 @@ impl ValueText {
         ValueText {
             primitive,
             left: primitive.size,
-            has_line: !matches!(primitive.kind, Kind::Bits),
-            rows: 0,
+            wrote_line: !matches!(primitive.kind, Kind::Bits),
+            row_count: 0,
             row: ArrayVec::new(),
         }
     }
@@ -99,8 +99,8 @@ impl ValueText {
         ValueText {
             primitive,
             left: 0,
-            has_line: true,
-            rows: 0,
+            wrote_line: true,
+            row_count: 0,
             row: ArrayVec::new(),
         }
     }
@@ -124,7 +124,7 @@ impl ValueText {
             → self.now ≡ new_value_text h layout
             → Puts D.state out.old out.new (open_lines h layout []) result }
     {
-        if !self.primitive.is_long() || !self.has_line {
+        if !self.primitive.is_long() || !self.wrote_line {
             return Ok(());
         }
         self.primitive.put_bare(out)
@@ -151,16 +151,23 @@ impl ValueText {
             return Ok(());
         }
         let (kind, layout) = (self.primitive.kind, self.primitive.layout);
-        if self.has_line {
-            return put_rows(kind, layout, &mut self.row, &mut self.rows, octets, out);
+        if self.wrote_line {
+            return put_rows(
+                kind,
+                layout,
+                &mut self.row,
+                &mut self.row_count,
+                octets,
+                out,
+            );
         }
-        let Some((unused, rest)) = octets.split_first() else {
+        let Some((unused_bits, rest)) = octets.split_first() else {
             return Ok(());
         };
-        self.has_line = true;
-        begin_row(*unused, &mut self.row);
-        self.primitive.put_bits(*unused, out)?;
-        put_rows(kind, layout, &mut self.row, &mut self.rows, rest, out)
+        self.wrote_line = true;
+        begin_row(*unused_bits, &mut self.row);
+        self.primitive.put_bits_line(*unused_bits, out)?;
+        put_rows(kind, layout, &mut self.row, &mut self.row_count, rest, out)
     }
 
     /// Writes what is known with the last contents octet: after what was written before it, the rest of the lines
@@ -189,7 +196,7 @@ impl ValueText {
             return put_last(
                 self.primitive.kind,
                 self.primitive.layout,
-                self.rows,
+                self.row_count,
                 contents,
                 out,
             );

@@ -39,7 +39,7 @@ pub fn put_whole<N: NameTable, D: Drain>(
     if primitive.is_long() {
         // A reference to a copy: a value on its line then stays in registers.
         let long = primitive;
-        put_long(&long, contents, names, out)
+        put_long_lines(&long, contents, names, out)
     } else {
         primitive.put(contents, names, out)
     }
@@ -47,7 +47,7 @@ pub fn put_whole<N: NameTable, D: Drain>(
 
 /// Puts the lines of a primitive whose contents are too long for its line. It is apart, since it comes seldom.
 #[inline(never)]
-fn put_long<N: NameTable, D: Drain>(
+fn put_long_lines<N: NameTable, D: Drain>(
     primitive: &Primitive,
     contents: &[u8],
     names: &N,
@@ -59,7 +59,7 @@ fn put_long<N: NameTable, D: Drain>(
         (lines_in_steps (N.name_of names.now) (new_value_text_of primitive.now) contents.now)
         result }
 {
-    if primitive.has_pairs() {
+    if primitive.has_unlimited_pairs() {
         put_pairs(primitive, contents, out)
     } else {
         put_in_steps(primitive, contents, names, out)
@@ -82,7 +82,7 @@ fn put_pairs<D: Drain>(
         ++ row_lines primitive.now.kind primitive.now.layout 0
         (rows_of primitive.now.kind (row_octets primitive.now.kind contents.now))) result }
 {
-    primitive.put_long(contents, out)?;
+    primitive.put_long_line(contents, out)?;
     put_pair_rows(primitive.layout, row_octets(primitive.kind, contents), out)
 }
 

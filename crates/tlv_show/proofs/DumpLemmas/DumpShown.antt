@@ -9,7 +9,7 @@ use Rattle.tlv_head.specs.Header.{HeaderValue, announced_length, octets_of, wrap
 use Rattle.tlv_value.specs.declared.finding.Finding.{Finding}
 use Rattle.tlv_value.specs.declared.layout.Layout.{Layout}
 use Rattle.tlv_value.specs.ValueCheckState.{value_check_after, has_unused_bits, new_value_check}
-use Rattle.tlv_value.specs.Names.{NamesTable}
+use Rattle.tlv_value.specs.Names.{NamesValue}
 use Rattle.tlv_value.specs.ValueLines.{open_lines, whole_lines}
 use Rattle.tlv_value.specs.Types.{is_primitive}
 use Rattle.tlv_walk.specs.declared.follow.Go.{Go}
@@ -51,7 +51,7 @@ use Rattle.tlv_show.proofs.DumpLemmas.DumpEvents.{dump_state, then_shown, texts,
 use Rattle.tlv_show.specs.Conditions.{surroundings_of, segments_of}
 
 -- ---- elements, in this style, with these names and rules
-module _ (style : Layout) (names : NamesTable) (rules : Rules) where
+module _ (style : Layout) (names : NamesValue) (rules : Rules) where
   abbrev item : Item → List ℕ
   item i = item_text (finite.get names) style i
 

@@ -8,8 +8,8 @@ use Rattle.std.proofs.lemmas.Bool.Decides.{nat_tests}
 use Rattle.std.proofs.lemmas.List.Folds.{list_any-append}
 use Rattle.std.specs.Char.{is_ascii_digit}
 use Rattle.tlv_value.specs.Times.{◌then◌, ◌or◌, Form, canonical_fraction, canonical_generalized_time_form}
-use Rattle.tlv_value.specs.Times.{canonical_utc_time_form, day, digits, fraction, generalized_time_form}
-use Rattle.tlv_value.specs.Times.{generalized_zone, has_form, hour, is_rest_empty, mark, maybe, minute, no_octets, one}
+use Rattle.tlv_value.specs.Times.{canonical_utc_time_form, month_and_day, digits, fraction, generalized_time_form}
+use Rattle.tlv_value.specs.Times.{generalized_zone, has_form, hour, has_empty_rest, mark, maybe, minute, no_octets, one}
 use Rattle.tlv_value.specs.Times.{second, sign, two, utc_time_form}
 use Rattle.tlv_value.specs.Private.Checks.{generalized_time_findings, time_findings, utc_time_findings}
 
@@ -211,7 +211,7 @@ within-second w = within-then (within-first no_octets (within-same second)) w
 utc-within : Within canonical_utc_time_form utc_time_form
 utc-within =
     within-prefixes _ _ _ _ (within-same (two 0 99))
-    (within-prefixes _ _ _ _ (within-same day) (within-prefixes _ _ _ _ within-hour
+    (within-prefixes _ _ _ _ (within-same month_and_day) (within-prefixes _ _ _ _ within-hour
     (within-prefix _ _ _ (within-same minute)
     (within-second (within-first (sign then hour then minute) (within-same (mark 90)))))))
 
@@ -225,13 +225,13 @@ generalized-tail =
 generalized-within : Within canonical_generalized_time_form generalized_time_form
 generalized-within =
     within-prefixes _ _ _ _ (within-same (two 0 99))
-    (within-prefixes _ _ _ _ (within-same (two 0 99)) (within-prefixes _ _ _ _ (within-same day)
+    (within-prefixes _ _ _ _ (within-same (two 0 99)) (within-prefixes _ _ _ _ (within-same month_and_day)
     (within-prefix _ _ _ within-hour
     (within-then
     (within-first no_octets (within-then (within-same minute) (within-first no_octets (within-same second))))
     generalized-tail))))
 
-empty-any : (rests : List (List ℕ)) → is_rest_empty rests ≡ list_any is_nil rests
+empty-any : (rests : List (List ℕ)) → has_empty_rest rests ≡ list_any is_nil rests
 empty-any [] = refl
 empty-any ([] ∷ rests) = refl
 empty-any ((x ∷ xs) ∷ rests) = empty-any rests

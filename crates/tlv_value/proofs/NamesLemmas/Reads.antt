@@ -12,8 +12,8 @@ use Rattle.tlv_value.specs.declared.names.fault.NamesFault.{NamesFault}
 use Rattle.tlv_value.specs.declared.names.fault.NamesFault.TheVariants.{BadOid, BadName, Repeated, TooLarge, ReadFailed}
 use Rattle.tlv_value.specs.declared.names.fault.NamesFault.TheVariants.{Memory}
 use Rattle.std.specs.BTreeMap.{BTreeMap}
-use Rattle.tlv_value.specs.Names.{NamesTable, names_of}
-use Rattle.tlv_value.specs.NamesReading.{IsWholeFile, ReadsFrom, names_limit}
+use Rattle.tlv_value.specs.Names.{NamesValue, names_of}
+use Rattle.tlv_value.specs.NamesReading.{IsWholeFile, ReadsFrom, file_limit}
 use Rattle.tlv_value.specs.NamesFields.{table_in}
 use Rattle.tlv_value.specs.Private.NamesSteps.{Gives, GivesAll, IsTableOf, result_in}
 
@@ -23,7 +23,7 @@ pub record Given (old new : SourceState) (octets : List ℕ) : Type 0 where
   pub are : concat gathered.pieces ≡ octets
 
 module _ (old middle new : SourceState) (octets : List ℕ) (x : Given old middle octets)
-    (most : length octets ≤ names_limit) (failures : middle.failures ≡ old.failures) (piece : List ℕ)
+    (most : length octets ≤ file_limit) (failures : middle.failures ≡ old.failures) (piece : List ℕ)
     (room : length piece ≡ 4096) where
   -- a read that failed
   pub gives_failed : {Z : Type 0} → (e : ReadFault) → ReadsOnce middle new (Err e) piece
@@ -34,7 +34,7 @@ module _ (old middle new : SourceState) (octets : List ℕ) (x : Given old middl
         (inr (r.last, refl)) (omega arith);
     gives = (
       r.last,
-      subst (λ (l : List ℕ). length l ≤ names_limit) (sym (append-nil (concat x.gathered.pieces) ∙ x.are)) most,
+      subst (λ (l : List ℕ). length l ≤ file_limit) (sym (append-nil (concat x.gathered.pieces) ∙ x.are)) most,
     );
     failures = r.failures ∙ ap next_count failures;
   }
@@ -73,7 +73,7 @@ module _ (old middle new : SourceState) (octets : List ℕ) (x : Given old middl
         all_are ∙ ap (λ (k : ℕ). octets ++ take k piece) z ∙ none_taken ∙ sym is,
         r.last ∙ ap gave z,
         r.octets.1 z (omega (arith, room)),
-        subst (λ (l : List ℕ). length l ≤ names_limit) (sym is) most,
+        subst (λ (l : List ℕ). length l ≤ file_limit) (sym is) most,
       );
       failures = same_failures;
     }
@@ -81,7 +81,7 @@ module _ (old middle new : SourceState) (octets : List ℕ) (x : Given old middl
         none_taken : octets ++ take 0 piece ≡ octets
         none_taken = append-nil octets
 
-    pub gives_long : {Z : Type 0} → names_limit - length octets < n → Gives {Z = Z} old new (Err TooLarge)
+    pub gives_long : {Z : Type 0} → file_limit - length octets < n → Gives {Z = Z} old new (Err TooLarge)
     gives_long more = record {
       pieces = pieces_so;
       gives = record {
@@ -93,7 +93,7 @@ module _ (old middle new : SourceState) (octets : List ℕ) (x : Given old middl
       failures = same_failures;
     }
 
-    pub gives_memory : {Z : Type 0} → n ≤ names_limit - length octets → Gives {Z = Z} old new (Err Memory)
+    pub gives_memory : {Z : Type 0} → n ≤ file_limit - length octets → Gives {Z = Z} old new (Err Memory)
     gives_memory less = record {
       pieces = pieces_so;
       gives = omega (arith, less, most, length_all);
@@ -112,12 +112,12 @@ module _ (old middle new : SourceState) (octets : List ℕ) (x : Given old middl
 -- ---- what is made of all of them
 
 -- the octets that were read say the result
-said : {Z : Type 0} (new : SourceState) (octets : List ℕ) (v : Vec ℕ Z) (r : Result NamesTable NamesFault)
+said : {Z : Type 0} (new : SourceState) (octets : List ℕ) (v : Vec ℕ Z) (r : Result NamesValue NamesFault)
     → GivesAll new octets (Ok v) → names_of v.items ≡ r → IsWholeFile new octets r
 said new octets v r x n = record {
   ended = x.1;
   at_end = x.2;
-  within = subst (λ (l : List ℕ). length l ≤ names_limit) (sym x.0) x.3;
+  within = subst (λ (l : List ℕ). length l ≤ file_limit) (sym x.0) x.3;
   result_is = ap names_of x.0 ∙ n;
 }
 
@@ -152,7 +152,7 @@ judged old new v (Err TooLarge) x n = record {
 judged old new v (Err ReadFailed) x n = absurd n
 judged old new v (Err Memory) x n = record {
   pieces = x.pieces;
-  result_is = subst (λ (l : List ℕ). length l ≤ names_limit) (sym x.gives.0) x.gives.3;
+  result_is = subst (λ (l : List ℕ). length l ≤ file_limit) (sym x.gives.0) x.gives.3;
   failures = x.failures;
 }
 

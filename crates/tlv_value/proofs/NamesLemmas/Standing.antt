@@ -12,8 +12,8 @@ use Rattle.std.specs.FinMap as finite
 use Rattle.std.specs.FinMap.Entries as entries
 use Rattle.std.proofs.lemmas.Bool.{le-leb, lt-leb}
 use Rattle.std.proofs.lemmas.List.{nil_from_length}
-use Rattle.tlv_value.specs.Names.{Entry, NamesLine, NamesTable, entries_of, entry, first_refusal, has_entry}
-use Rattle.tlv_value.specs.Names.{line_entries, file_lines, long_line, most_names, names_line, names_of, no_entry}
+use Rattle.tlv_value.specs.Names.{Entry, NamesLine, NamesValue, entries_of, entry, first_refusal, has_entry}
+use Rattle.tlv_value.specs.Names.{line_entries, file_lines, long_line, entry_limit, names_line, names_of, no_entry}
 use Rattle.tlv_value.specs.Names.{no_name, no_object_identifier, line_refusal}
 use Rattle.tlv_value.specs.NamesFields.{texts_in}
 use Rattle.tlv_value.specs.Private.NamesSteps.{AddsLine, IsTableOf}
@@ -27,7 +27,7 @@ abbrev find : List ℕ → List Entry → Option (List ℕ)
 find = finite.find (slice_cmp nat_cmp)
 
 -- the table or refusal of lines that are below others
-abbrev pub judged : List NamesLine → List NamesLine → Result NamesTable NamesFault
+abbrev pub judged : List NamesLine → List NamesLine → Result NamesValue NamesFault
 judged above below =
     option_map_or Err (first_refusal above below) (Ok (finite.from_entries (entries_of (above ++ below))))
 
@@ -114,8 +114,8 @@ step octets rest below number es new u no_entry s e a =
     (ap length a.1 ∙ s.size ∙ ap length (sym (append-nil (entries_of s.above))))
 step octets rest below number es new u (entry dotted name) s e a =
     let absent : has_entry dotted es ≡ false = a.0 in
-    let few : nat_le most_names (length (entries_of s.above)) ≡ false =
-    lt-leb most_names (length (entries_of s.above)) (omega (arith, a.1, s.size)) in
+    let few : nat_le entry_limit (length (entries_of s.above)) ≡ false =
+    lt-leb entry_limit (length (entries_of s.above)) (omega (arith, a.1, s.size)) in
     let none : is_some (find dotted (entries_of s.above)) ≡ false =
     sym (among-find dotted (entries_of s.above)) ∙ among-above octets rest number es s dotted ∙ absent in
     go-on octets rest below number es new (entry dotted name) s e
@@ -154,8 +154,8 @@ stop Z T octets rest below number es new (Repeated n) (entry dotted name) s e a 
     (rw (among-above octets rest number es s dotted, known, line_number) refl)
 stop Z T octets rest below number es new TooLarge (entry dotted name) s e a =
     let absent : has_entry dotted es ≡ false = a.0 in
-    let many : nat_le most_names (length (entries_of s.above)) ≡ true =
-    le-leb most_names (length (entries_of s.above)) (omega (arith, a.1, s.size)) in
+    let many : nat_le entry_limit (length (entries_of s.above)) ≡ true =
+    le-leb entry_limit (length (entries_of s.above)) (omega (arith, a.1, s.size)) in
     refused octets rest below number es (entry dotted name) TooLarge s e
     (rw (among-above octets rest number es s dotted, absent, many) refl)
 stop Z T octets rest below number es new ReadFailed (entry dotted name) s e a = absurd a

@@ -28,11 +28,11 @@ impl ValueCheck {
             universal::NULL => add_if(self.size != 0, Finding::B09, &mut found),
             universal::OBJECT_IDENTIFIER => {
                 add_if(self.size == 0, Finding::B10, &mut found);
-                add_if(self.padded, Finding::B11, &mut found);
+                add_if(self.is_padded, Finding::B11, &mut found);
                 add_if(self.last >= 128, Finding::B12, &mut found);
             }
             universal::RELATIVE_OID => {
-                add_if(self.padded, Finding::B11, &mut found);
+                add_if(self.is_padded, Finding::B11, &mut found);
                 add_if(self.last >= 128, Finding::B12, &mut found);
             }
             universal::UTC_TIME => {
@@ -85,7 +85,7 @@ impl ValueCheck {
             found,
         );
         add_if(
-            self.size >= 2 && first <= 7 && are_set(first, self.last),
+            self.size >= 2 && first <= 7 && is_any_set(first, self.last),
             Finding::S03,
             found,
         );
@@ -131,11 +131,11 @@ fn add_time_findings(of_grammar: bool, is_canonical: bool, found: &mut ArrayVec<
 }
 
 /// Whether so many of the last bits of an octet are not all 0.
-pub(crate) fn are_set(bits: u8, octet: u8) -> bool
+pub(crate) fn is_any_set(bits: u8, octet: u8) -> bool
     requires { bits ≤ 7 }
     ensures { result ≡ not (eqb (octet % 2 ^ bits) 0) }
 {
-    let bits_above = match bits {
+    let power = match bits {
         0 => 1,
         1 => 2,
         2 => 4,
@@ -145,5 +145,5 @@ pub(crate) fn are_set(bits: u8, octet: u8) -> bool
         6 => 64,
         _ => 128,
     };
-    octet % bits_above != 0
+    octet % power != 0
 }

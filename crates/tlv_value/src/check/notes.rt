@@ -53,10 +53,10 @@ pub(crate) fn last_octet(previous: u8, octets: &[u8]) -> u8
 }
 
 /// Whether a subidentifier begins with `80`, with these octets too.
-pub(super) fn is_padded_with(padded: bool, previous: u8, octets: &[u8]) -> bool
-    ensures { result ≡ is_padded_with padded previous octets.now }
+pub(super) fn is_padded_with(is_padded: bool, previous: u8, octets: &[u8]) -> bool
+    ensures { result ≡ is_padded_with is_padded previous octets.now }
 {
-    padded || is_padded_after(previous, octets)
+    is_padded || is_padded_after(previous, octets)
 }
 
 /// Whether a subidentifier begins with `80`, after this octet.

@@ -10,7 +10,7 @@ use super::NamesFault;
 use super::arcs::is_dotted;
 
 /// The most octets of a line.
-const MOST_OCTETS: usize = 400;
+const LINE_LIMIT: usize = 400;
 
 /// The dotted text and the name on a line, or none if it is blank or a comment. `number` is the line's.
 pub(super) fn entry_or_refusal<'a>(
@@ -19,7 +19,7 @@ pub(super) fn entry_or_refusal<'a>(
 ) -> Result<Option<(&'a [u8], &'a [u8])>, NamesFault>
     ensures { texts_of result ≡ entry_or_refusal number (names_line line.now) }
 {
-    if line.len() > MOST_OCTETS {
+    if line.len() > LINE_LIMIT {
         return Err(NamesFault::TooLarge);
     }
     let text = without_outer_blanks(without_return(line));
@@ -52,7 +52,7 @@ pub(super) fn end_before(text: &[u8], mark: u8) -> usize
 }
 
 /// What is after the octet at `end`; nothing if the text ends there.
-pub(super) fn after_mark(text: &[u8], end: usize) -> &[u8]
+pub(super) fn rest_after(text: &[u8], end: usize) -> &[u8]
     ensures { result.now ≡ drop (end + 1) text.now }
 {
     if end < text.len() {

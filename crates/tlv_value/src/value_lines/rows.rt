@@ -6,7 +6,7 @@ ghost use Rattle.tlv_io.specs.LineTexts.{HasRoomFor};
 ghost use Rattle.tlv_io.specs.Out.{Puts};
 ghost use Rattle.tlv_value.specs.Layout.{inner_line, row_line};
 ghost use Rattle.tlv_value.specs.OpenRow.{IsOpenRow};
-ghost use Rattle.tlv_value.specs.Private.Rows.{full_line, full_lines, row_indent};
+ghost use Rattle.tlv_value.specs.Private.Rows.{pair_row_line, pair_row_lines, row_indent};
 ghost use Rattle.tlv_value.specs.Rows.{full_rows, open_row, rows_of};
 ghost use Rattle.tlv_value.specs.Value.{row_text};
 ghost use Rattle.tlv_value.specs.ValueLines.{row_lines};
@@ -30,9 +30,16 @@ pub(super) fn put_all_rows<D: Drain>(
         (row_lines Kind.Octets layout 0 (rows_of Kind.Octets contents.now)) result }
 {
     let mut row = ArrayVec::new();
-    let mut rows = 0;
-    put_rows(Kind::Octets, layout, &mut row, &mut rows, contents, out)?;
-    put_last(Kind::Octets, layout, rows, row.as_slice(), out)
+    let mut row_count = 0;
+    put_rows(
+        Kind::Octets,
+        layout,
+        &mut row,
+        &mut row_count,
+        contents,
+        out,
+    )?;
+    put_last(Kind::Octets, layout, row_count, row.as_slice(), out)
 }
 
 /// Puts the rows that are full, of the octets of the row that has begun and those after them. What is left begins a
@@ -41,20 +48,20 @@ pub(crate) fn put_rows<D: Drain>(
     kind: Kind,
     layout: Layout,
     row: &mut ArrayVec<u8, 64>,
-    rows: &mut u64,
+    row_count: &mut u64,
     octets: &[u8],
     out: &mut Out<'_, D>,
 ) -> Result<(), WriteFault>
     requires begun { IsOpenRow kind row.old.items }
-    requires counted { rows.old + length row.old.items + length octets.now < 2 ^ 64 }
+    requires counted { row_count.old + length row.old.items + length octets.now < 2 ^ 64 }
     ensures begun { IsOpenRow kind row.new.items }
-    ensures counted { rows.new + length row.new.items
-        ≤ rows.old + length row.old.items + length octets.now }
+    ensures counted { row_count.new + length row.new.items
+        ≤ row_count.old + length row.old.items + length octets.now }
     ensures row { OnOk result (row.new.items ≡ open_row kind row.old.items octets.now) }
     ensures rows { OnOk result
-        (rows.new ≡ rows.old + length (full_rows kind row.old.items octets.now)) }
+        (row_count.new ≡ row_count.old + length (full_rows kind row.old.items octets.now)) }
     ensures puts { Puts D.state out.old out.new
-        (row_lines kind layout rows.old (full_rows kind row.old.items octets.now)) result }
+        (row_lines kind layout row_count.old (full_rows kind row.old.items octets.now)) result }
 {
     let size = row_size(kind);
     let mut rest = octets;
@@ -63,7 +70,7 @@ pub(crate) fn put_rows<D: Drain>(
         if has_full_rows(layout, size, begun, rest) {
             let (full, more) = rest.as_chunks::<16>();
             rest = more;
-            *rows += full.len() as u64;
+            *row_count += full.len() as u64;
             put_full_rows(layout, full, out)?;
             continue;
         }
@@ -73,8 +80,8 @@ pub(crate) fn put_rows<D: Drain>(
             let _ = row.try_extend_from_slice(part);
             return Ok(());
         }
-        let index = *rows;
-        *rows += 1;
+        let index = *row_count;
+        *row_count += 1;
         put_full(kind, layout, index, row, part, out)?;
     }
     Ok(())
@@ -96,13 +103,13 @@ fn put_full_rows<D: Drain>(
     rows: &[[u8; 16]],
     out: &mut Out<'_, D>,
 ) -> Result<(), WriteFault>
-    ensures { Puts D.state out.old out.new (full_lines layout rows.now) result }
+    ensures { Puts D.state out.old out.new (pair_row_lines layout rows.now) result }
 {
     // A row is much shorter than the longest line, so the drain takes more with each write.
     let size = row_indent(layout) + 64;
     for row in rows {
         out.make_room_for(size)?;
-        write_full_line(&mut out.held, layout, row);
+        write_pair_row_line(&mut out.held, layout, row);
     }
     Ok(())
 }
@@ -115,7 +122,7 @@ pub(crate) fn put_pair_rows<D: Drain>(
     out: &mut Out<'_, D>,
 ) -> Result<(), WriteFault>
     ensures { Puts D.state out.old out.new
-        (full_lines layout (rows_of Kind.Octets octets.now)) result }
+        (pair_row_lines layout (rows_of Kind.Octets octets.now)) result }
 {
     let (full, last) = octets.as_chunks::<16>();
     put_full_rows(layout, full, out)?;
@@ -223,9 +230,9 @@ fn write_line(held: &mut HeldOctets, layout: Layout, kind: Kind, row: &[u8])
 
 /// Adds the line of a full row of pairs of digits.
 #[inline(always)]
-fn write_full_line(held: &mut HeldOctets, layout: Layout, row: &[u8; 16])
+fn write_pair_row_line(held: &mut HeldOctets, layout: Layout, row: &[u8; 16])
     requires { HasRoomFor held.old (row_indent layout + 64) }
-    ensures { held.new ≡ held.old ++ full_line layout row.now }
+    ensures { held.new ≡ held.old ++ pair_row_line layout row.now }
 {
     // Each pair brings the space before it.
     held.spaces(row_indent(layout) - 1);

@@ -6,12 +6,12 @@ use Rattle.tlv_value.proofs.text.begin_row.Goals as goal
 pub push-requires : goal.push-requires
 push-requires c = (omega arith, omega (arith, ap length c.requires))
 
-pub returns-then-unused-gt7 : goal.returns-then-unused-gt7
-returns-then-unused-gt7 c =
-    let b : nat_le c.args.unused 7 ≡ false = grind (arith, nat_tests) in
-    rw b (c.push.ensures.items ∙ ap (λ (row : List ℕ). row ++ c.args.unused ∷ []) c.requires)
+pub returns-then-unused_bits-gt7 : goal.returns-then-unused_bits-gt7
+returns-then-unused_bits-gt7 c =
+    let b : nat_le c.args.unused_bits 7 ≡ false = grind (arith, nat_tests) in
+    rw b (c.push.ensures.items ∙ ap (λ (row : List ℕ). row ++ c.args.unused_bits ∷ []) c.requires)
 
-pub returns-else-unused-gt7 : goal.returns-else-unused-gt7
-returns-else-unused-gt7 c =
-    let b : nat_le c.args.unused 7 ≡ true = grind (arith, nat_tests) in
+pub returns-else-unused_bits-gt7 : goal.returns-else-unused_bits-gt7
+returns-else-unused_bits-gt7 c =
+    let b : nat_le c.args.unused_bits 7 ≡ true = grind (arith, nat_tests) in
     rw b c.requires

@@ -36,8 +36,8 @@ pub returns-else-is_second_and_tail : goal.returns-else-is_second_and_tail
 returns-else-is_second_and_tail c =
     let rest : List ℕ = c.in-Some.rest.now in
     let r : Bool = c.is_second_and_tail.result in
-    with_hour c.args.contents.now rest c.is_tail.result c.in-Some.ensures
-    (maybe-left (minute then maybe second) tail rest r c.is_tail.result
+    with_hour c.args.contents.now rest c.is_generalized_tail.result c.in-Some.ensures
+    (maybe-left (minute then maybe second) tail rest r c.is_generalized_tail.result
     (with_minute rest c.in-Some-after_two_digits.after.now r c.in-Some-after_two_digits.ensures
     c.is_second_and_tail.ensures)
-    c.if-is_second_and_tail.false c.is_tail.ensures)
+    c.if-is_second_and_tail.false c.is_generalized_tail.ensures)

@@ -16,7 +16,7 @@ returns c = elim c.match-self.branch [
         c.last_octet-self-inside.ensures,
         w.self-inside-is,
         w.both-self-inside.ensures,
-        w.take_rows.ensures.formed,
+        w.take_rows.ensures.utf8,
         w.take_rows.ensures.row,
       )
       (text-noted (value_check_state_of c.self.inside) c.args.octets.now (search rules))

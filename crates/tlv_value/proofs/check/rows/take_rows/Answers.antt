@@ -18,7 +18,7 @@ use Rattle.tlv_value.proofs.check.rows.take_rows.Goals as goal
 pub loop-rest-init : goal.loop-rest-init
 loop-rest-init c =
     let p = open-parts Utf8 c.args.row.now.items c.args.octets.now c.requires in
-    record { begun = c.requires; row = p.1; formed = ap all_utf8 p.0 }
+    record { begun = c.requires; row = p.1; utf8 = ap all_utf8 p.0 }
 
 pub returns-then-is_empty-clause-begun : goal.returns-then-is_empty-clause-begun
 returns-then-is_empty-clause-begun c =
@@ -32,16 +32,16 @@ returns-then-is_empty-clause-begun c =
     c.fitting_length.ensures.fits
     (omega arith) c.fitting_length.ensures.within (omega arith))
 
-pub returns-then-is_empty-clause-formed : goal.returns-then-is_empty-clause-formed
-returns-then-is_empty-clause-formed c =
+pub returns-then-is_empty-clause-utf8 : goal.returns-then-is_empty-clause-utf8
+returns-then-is_empty-clause-utf8 c =
     let z : length c.split_at.result.1.now ≡ 0 =
     eqb-true (length c.split_at.result.1.now) 0 (sym c.if-is_empty.ensures) in
     let k =
     kept Utf8 c.len.result c.loop-rest.row.items c.fitting_length.result c.loop-rest.rest.now
     c.split_at.result.0.now c.len.ensures.value c.split_at.ensures.front c.fitting_length.ensures.fits
     (omega arith) c.fitting_length.ensures.within (omega arith) in
-    sym (and-nothing c.loop-rest.formed (rows_filled Utf8 c.loop-rest.row.items c.loop-rest.rest.now) k.0)
-    ∙ c.loop-rest.invariant.formed
+    sym (and-nothing c.loop-rest.rows_are_utf8 (rows_filled Utf8 c.loop-rest.row.items c.loop-rest.rest.now) k.0)
+    ∙ c.loop-rest.invariant.utf8
 
 pub returns-then-is_empty-clause-row : goal.returns-then-is_empty-clause-row
 returns-then-is_empty-clause-row c =
@@ -72,15 +72,15 @@ loop-rest-preserved c =
     c.split_at.ensures.back c.fitting_length.ensures.fits c.fitting_length.ensures.bound
     c.fitting_length.ensures.within (omega arith) c.fitting_length.ensures.next claim in
     let none : c.is_full_row_utf8.new.row.items ≡ [] = c.is_full_row_utf8.ensures.row in
-    let both : c.both-formed.result ≡ (c.loop-rest.formed && is_utf8 (row ++ part)) =
-    c.both-formed.ensures ∙ ap (λ (b : Bool). c.loop-rest.formed && b) c.is_full_row_utf8.ensures.formed in
+    let both : c.both-rows_are_utf8.result ≡ (c.loop-rest.rows_are_utf8 && is_utf8 (row ++ part)) =
+    c.both-rows_are_utf8.ensures ∙ ap (λ (b : Bool). c.loop-rest.rows_are_utf8 && b) c.is_full_row_utf8.ensures.utf8 in
     record {
       begun = rw none (none-open Utf8);
       row = rw none (sym t.1 ∙ i.row);
-      formed =
+      utf8 =
           rw none
           (ap (λ (b : Bool). b && all_utf8 (rows_filled Utf8 [] more)) both
-          ∙ and-row c.loop-rest.formed (row ++ part) (rows_filled Utf8 [] more)
+          ∙ and-row c.loop-rest.rows_are_utf8 (row ++ part) (rows_filled Utf8 [] more)
           (rows_filled Utf8 row c.loop-rest.rest.now) t.0
-          ∙ i.formed);
+          ∙ i.utf8);
     }

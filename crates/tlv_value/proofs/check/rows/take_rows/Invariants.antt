@@ -11,7 +11,7 @@ abbrev pub invariant-loop-rest : goal.invariant-loop-rest
 invariant-loop-rest l = record {
   begun : IsOpenRow Utf8 l.row.items;
   row : row_begun Utf8 l.row.items l.rest ≡ open_row Utf8 l.initial.row.items l.octets;
-  formed : (l.formed && all_utf8 (rows_filled Utf8 l.row.items l.rest))
+  utf8 : (l.rows_are_utf8 && all_utf8 (rows_filled Utf8 l.row.items l.rest))
       ≡ all_utf8 (full_rows Utf8 l.initial.row.items l.octets);
 }
 

@@ -9,7 +9,7 @@ returns-then-not-is_name c =
     let pair =
     full_pair c.args.line.now c.without_outer_blanks-text.result.now c.without_first_blanks-name.result.now
     c.end_before_blank-end.result
-    c.if-line-gt-MOST_OCTETS.false
+    c.if-line-gt-LINE_LIMIT.false
     (c.without_outer_blanks-text.ensures ∙ ap without_outer_blanks c.without_return.ensures)
     (sym c.is_empty.ensures ∙ c.if-is_empty.false)
     c.if-text-eq35.false c.end_before_blank-end.ensures.value c.without_first_blanks-name.ensures in
@@ -24,7 +24,7 @@ returns c =
     let pair =
     full_pair c.args.line.now c.without_outer_blanks-text.result.now c.without_first_blanks-name.result.now
     c.end_before_blank-end.result
-    c.if-line-gt-MOST_OCTETS.false
+    c.if-line-gt-LINE_LIMIT.false
     (c.without_outer_blanks-text.ensures ∙ ap without_outer_blanks c.without_return.ensures)
     (sym c.is_empty.ensures ∙ c.if-is_empty.false)
     c.if-text-eq35.false c.end_before_blank-end.ensures.value c.without_first_blanks-name.ensures in

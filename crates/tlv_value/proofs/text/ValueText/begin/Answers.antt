@@ -20,8 +20,8 @@ either true xs = refl
 either false xs = refl
 
 -- nor is one with that of a value whose line comes later
-begun-unlined : (s v : ValueTextState) → s ≡ v → s.kept.wrote_line ≡ false → [] ≡ begin_lines v
-begun-unlined s v same l =
+begun-before_line : (s v : ValueTextState) → s ≡ v → s.kept.wrote_line ≡ false → [] ≡ begin_lines v
+begun-before_line s v same l =
     either (is_long s.primitive.kind s.primitive.size) []
     ∙ ap (λ (b : Bool). if is_long s.primitive.kind s.primitive.size
     then (if b then primitive_line s.primitive [] else []) else [])
@@ -37,7 +37,7 @@ returns-then-not-is_long-clause-puts g c =
           begun-short (value_text_state_of t) c.args.self.now c.self.view_is
           (sym c.is_long.ensures ∙ w.if-not-is_long.true)
       | then-not-is_long-via-else-not-is_long+then-not-self w ↦
-          begun-unlined (value_text_state_of t) c.args.self.now c.self.view_is w.if-not-self.true
+          begun-before_line (value_text_state_of t) c.args.self.now c.self.view_is w.if-not-self.true
     ] in
     puts_text state_of _ _ _ _ _ none (puts_nothing state_of _ _)
 

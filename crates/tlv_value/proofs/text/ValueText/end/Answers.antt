@@ -13,9 +13,9 @@ put-requires g c =
     let t = c.self.inside in
     let l : is_long t.primitive.kind t.primitive.size ≡ false = sym c.is_long.ensures ∙ c.if-is_long.false in
     let left : t.left ≡ 0 = ap (λ (s : ValueTextState). s.left) c.self.view_is ∙ c.requires in
-    let held = c.self.invariant.held l in
+    let kept = c.self.invariant.kept l in
     held-most t.primitive.kind (length c.as_slice-contents.result.now) t.primitive.size l
-    (omega (arith, ap length c.as_slice-contents.ensures.value, held, left))
+    (omega (arith, ap length c.as_slice-contents.ensures.value, kept, left))
 
 pub returns-clause-puts : goal.returns-clause-puts
 returns-clause-puts g c =

@@ -26,7 +26,7 @@ returns g c =
     let row : c.as_slice.result.now ≡ open_row Octets [] octets =
     c.as_slice.ensures.value ∙ rw none at c.in_ok-put_rows.ensures.row in
     let zero : 0 + length (full_rows Octets [] octets) ≡ length (full_rows Octets [] octets) = omega arith in
-    let rows : c.put_rows.new.rows ≡ length (full_rows Octets [] octets) =
+    let rows : c.put_rows.new.row_count ≡ length (full_rows Octets [] octets) =
     rw none at c.in_ok-put_rows.ensures.rows ∙ zero in
     puts_then_as g.D.Drain.state _ _ _ _ _ _ _ _ put (rw (row, rows) at c.put_last.ensures)
     (rows-split Octets c.args.layout octets)

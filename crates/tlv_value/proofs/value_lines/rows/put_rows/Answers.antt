@@ -8,7 +8,7 @@ use Rattle.tlv_io.proofs.Puts.{puts_as, puts_failed_in, puts_nothing, puts_then_
 use Rattle.tlv_value.specs.Layout.{row_line}
 use Rattle.tlv_value.specs.RowSizes.{row_size}
 use Rattle.tlv_value.proofs.RowLemmas.FilledRows.{rows_filled}
-use Rattle.tlv_value.specs.Private.Rows.{full_lines}
+use Rattle.tlv_value.specs.Private.Rows.{pair_row_lines}
 use Rattle.tlv_value.specs.ValueLines.{row_lines}
 use Rattle.tlv_value.specs.Value.{row_text}
 use Rattle.tlv_value.proofs.RowLemmas.FullRows.{rows_turned}
@@ -84,7 +84,7 @@ loop-rest-preserved g c =
     c.fitting_length.ensures.within (omega arith) c.fitting_length.ensures.next claim in
     let p = progress kind c.len-begun.result m c.loop-rest.rest.now (omega arith) c.fitting_length.ensures.next claim in
     let none : c.put_full.new.row.items ≡ [] = c.put_full.ensures.row in
-    let line : List ℕ = row_line c.args.layout c.loop-rest.rows (row_text kind (row ++ part)) in
+    let line : List ℕ = row_line c.args.layout c.loop-rest.row_count (row_text kind (row ++ part)) in
     record {
       begun = rw none (none-open kind);
       counted = omega (arith, ap length none);
@@ -95,8 +95,8 @@ loop-rest-preserved g c =
         puts_then_as g.D.Drain.state _ _ _ i.put.0 line (i.put.0 ++ line) tt _ i.put.1 c.in_ok-put_full.ensures.puts
             refl,
         rw none
-            (append_assoc i.put.0 line (row_lines kind c.args.layout (c.loop-rest.rows + 1) (rows_filled kind [] more))
-            ∙ ap (λ (x : List ℕ). i.put.0 ++ x) (sym (ap (row_lines kind c.args.layout c.loop-rest.rows) t.0))
+            (append_assoc i.put.0 line (row_lines kind c.args.layout (c.loop-rest.row_count + 1) (rows_filled kind [] more))
+            ∙ ap (λ (x : List ℕ). i.put.0 ++ x) (sym (ap (row_lines kind c.args.layout c.loop-rest.row_count) t.0))
             ∙ i.put.2),
       );
     }
@@ -119,8 +119,8 @@ returns-in_err-put_full-clause-puts g c =
     c.split_at.ensures.front c.split_at.ensures.back c.fitting_length.ensures.fits
     c.fitting_length.ensures.bound
     c.fitting_length.ensures.within (omega arith) c.fitting_length.ensures.next claim in
-    let line : List ℕ = row_line c.args.layout c.loop-rest.rows (row_text kind (row ++ part)) in
-    let rest : List ℕ = row_lines kind c.args.layout (c.loop-rest.rows + 1) (rows_filled kind [] more) in
+    let line : List ℕ = row_line c.args.layout c.loop-rest.row_count (row_text kind (row ++ part)) in
+    let rest : List ℕ = row_lines kind c.args.layout (c.loop-rest.row_count + 1) (rows_filled kind [] more) in
     puts_failed_in g.D.Drain.state _ _ (i.put.0 ++ line)
     _ _ _ (puts_then_as g.D.Drain.state _ _ _ i.put.0 line (i.put.0 ++ line) tt _ i.put.1
     c.in_err-put_full.ensures.puts refl)
@@ -128,7 +128,7 @@ returns-in_err-put_full-clause-puts g c =
       rest = rest;
       is =
           append_assoc i.put.0 line rest
-          ∙ ap (λ (x : List ℕ). i.put.0 ++ x) (sym (ap (row_lines kind c.args.layout c.loop-rest.rows) t.0))
+          ∙ ap (λ (x : List ℕ). i.put.0 ++ x) (sym (ap (row_lines kind c.args.layout c.loop-rest.row_count) t.0))
           ∙ i.put.2;
     })
 
@@ -139,8 +139,8 @@ loop-rest-init g c =
       begun = c.requires.begun;
       counted = omega arith;
       row = p.1;
-      rows = ap (λ (rows : List (List ℕ)). c.args.rows.now + length rows) p.0;
-      put = ([], puts_nothing g.D.Drain.state _ tt, ap (row_lines c.args.kind c.args.layout c.args.rows.now) p.0);
+      rows = ap (λ (rows : List (List ℕ)). c.args.row_count.now + length rows) p.0;
+      put = ([], puts_nothing g.D.Drain.state _ tt, ap (row_lines c.args.kind c.args.layout c.args.row_count.now) p.0);
     }
 
 pub returns-clause-row : goal.returns-clause-row
@@ -160,13 +160,13 @@ loop-rest-preserved-then-has_full_rows g c =
     let f = c.has_full_rows.ensures.0 c.if-has_full_rows.true in
     let none : c.loop-rest.row.items ≡ [] = nil_from_length _ (omega (arith, c.len-begun.ensures.value, f.0)) in
     let t =
-    rows_turned kind (sym c.row_size-size.ensures ∙ f.1) c.args.layout f.2 c.loop-rest.rows c.loop-rest.rest.now
+    rows_turned kind (sym c.row_size-size.ensures ∙ f.1) c.args.layout f.2 c.loop-rest.row_count c.loop-rest.rest.now
     c.as_chunks.result.0.now more c.as_chunks.ensures.front c.as_chunks.ensures.back in
     let put = rw none at i.put.2 in
     let rows = rw none at i.rows in
-    let all : List ℕ = full_lines c.args.layout c.as_chunks.result.0.now in
+    let all : List ℕ = pair_row_lines c.args.layout c.as_chunks.result.0.now in
     let rest : List ℕ =
-    row_lines kind c.args.layout (c.loop-rest.rows + length c.as_chunks.result.0.now) (rows_filled kind [] more) in
+    row_lines kind c.args.layout (c.loop-rest.row_count + length c.as_chunks.result.0.now) (rows_filled kind [] more) in
     record {
       begun = i.begun;
       counted = omega (arith, i.counted, c.as_chunks.ensures.front_len, c.as_chunks.ensures.back_len);
@@ -187,12 +187,12 @@ returns-in_err-put_full_rows-clause-puts g c =
     let f = c.has_full_rows.ensures.0 c.if-has_full_rows.true in
     let none : c.loop-rest.row.items ≡ [] = nil_from_length _ (omega (arith, c.len-begun.ensures.value, f.0)) in
     let t =
-    rows_turned kind (sym c.row_size-size.ensures ∙ f.1) c.args.layout f.2 c.loop-rest.rows c.loop-rest.rest.now
+    rows_turned kind (sym c.row_size-size.ensures ∙ f.1) c.args.layout f.2 c.loop-rest.row_count c.loop-rest.rest.now
     c.as_chunks.result.0.now more c.as_chunks.ensures.front c.as_chunks.ensures.back in
     let put = rw none at i.put.2 in
-    let all : List ℕ = full_lines c.args.layout c.as_chunks.result.0.now in
+    let all : List ℕ = pair_row_lines c.args.layout c.as_chunks.result.0.now in
     let rest : List ℕ =
-    row_lines kind c.args.layout (c.loop-rest.rows + length c.as_chunks.result.0.now) (rows_filled kind [] more) in
+    row_lines kind c.args.layout (c.loop-rest.row_count + length c.as_chunks.result.0.now) (rows_filled kind [] more) in
     puts_failed_in g.D.Drain.state _ _ (i.put.0 ++ all)
     _ _ _ (puts_then_as g.D.Drain.state _ _ _ i.put.0 all (i.put.0 ++ all) tt _ i.put.1
     c.in_err-put_full_rows.ensures refl)

@@ -1,6 +1,6 @@
 use Rattle.tlv_value.specs.Times.{fraction, generalized_zone, maybe}
 use Rattle.tlv_value.proofs.CheckLemmas.Forms.{maybe-left, maybe-there}
-use Rattle.tlv_value.proofs.time.is_tail.Goals as goal
+use Rattle.tlv_value.proofs.time.is_generalized_tail.Goals as goal
 
 pub returns-then-is_fraction_and_zone : goal.returns-then-is_fraction_and_zone
 returns-then-is_fraction_and_zone c =
@@ -10,4 +10,4 @@ returns-then-is_fraction_and_zone c =
 pub returns-else-is_fraction_and_zone : goal.returns-else-is_fraction_and_zone
 returns-else-is_fraction_and_zone c =
     maybe-left fraction (maybe generalized_zone) c.args.octets.now c.is_fraction_and_zone.result
-    c.is_generalized_zone.result c.is_fraction_and_zone.ensures (cc) c.is_generalized_zone.ensures
+    c.is_generalized_zone_or_nothing.result c.is_fraction_and_zone.ensures (cc) c.is_generalized_zone_or_nothing.ensures

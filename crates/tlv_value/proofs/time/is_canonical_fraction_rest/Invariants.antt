@@ -1,6 +1,6 @@
 use Rattle.std.proofs.Common.{◌≡◌, length}
 use Rattle.tlv_value.specs.Times.{digits, has_form, mark, one, ◌then◌}
-use Rattle.tlv_value.proofs.time.is_canonical_fraction.Given as goal
+use Rattle.tlv_value.proofs.time.is_canonical_fraction_rest.Given as goal
 
 abbrev pub invariant-loop-rest : goal.invariant-loop-rest
 invariant-loop-rest l =

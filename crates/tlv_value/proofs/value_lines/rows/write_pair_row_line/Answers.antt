@@ -5,7 +5,7 @@ use Rattle.tlv_value.specs.Layout.{spaces}
 use Rattle.tlv_value.specs.Value.{spaced_pairs}
 use Rattle.tlv_value.proofs.RowLemmas.FullRows.{full_line_added}
 use Rattle.tlv_value.proofs.TextLemmas.LineLengths.{added}
-use Rattle.tlv_value.proofs.value_lines.rows.write_full_line.Goals as goal
+use Rattle.tlv_value.proofs.value_lines.rows.write_pair_row_line.Goals as goal
 
 pub add-requires : goal.add-requires
 add-requires c =
