@@ -113,11 +113,8 @@ names_line octets =
     else entry_line (without_outer_blanks (without_return octets))
 
 abbrev pub line_entries : NamesLine → List Entry
-line_entries no_entry = []
 line_entries (entry dotted name) = (dotted, name) ∷ []
-line_entries no_object_identifier = []
-line_entries no_name = []
-line_entries long_line = []
+line_entries _ = []
 
 abbrev pub entries_of : List NamesLine → List Entry
 entries_of lines = flat_map line_entries lines

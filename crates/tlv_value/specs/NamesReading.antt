@@ -1,11 +1,10 @@
 -- What reading a names file from a source comes to.
-use Rattle.std.specs.Prelude.{◌≡◌, ℕ, ◌+◌, ◌<◌, ◌≤◌, ◌⊎◌, List, length, Result, Ok, Err}
+use Rattle.std.specs.Prelude.{◌≡◌, ℕ, ◌+◌, ◌<◌, ◌≤◌, ◌⊎◌, List, length, Result, Err}
 use Rattle.std.specs.Io.KnownBytes.{IsAtEnd}
 use Rattle.tlv_io.specs.Device.{LastReadValue, Pieces, SourceState, failed, gave, next_count, octets_given}
 use Rattle.tlv_value.specs.Names.{NamesValue, names_of}
 use Rattle.tlv_value.specs.declared.names.fault.NamesFault.{NamesFault}
-use Rattle.tlv_value.specs.declared.names.fault.NamesFault.TheVariants.{BadOid, BadName, Repeated, TooLarge}
-use Rattle.tlv_value.specs.declared.names.fault.NamesFault.TheVariants.{ReadFailed, Memory}
+use Rattle.tlv_value.specs.declared.names.fault.NamesFault.TheVariants.{TooLarge, ReadFailed, Memory}
 
 -- how many octets a names file has at most
 abbrev pub file_limit : ℕ
@@ -29,23 +28,15 @@ pub record IsTooLong (last : LastReadValue) (octets : List ℕ) : Type 0 where
 
 -- the result of reading these octets, by what the last read gave and what is left to read
 abbrev pub ReadsNames : SourceState → List ℕ → Result NamesValue NamesFault → Type 0
-ReadsNames new octets (Ok table) = IsWholeFile new octets (Ok table)
-ReadsNames new octets (Err (BadOid n)) = IsWholeFile new octets (Err (BadOid n))
-ReadsNames new octets (Err (BadName n)) = IsWholeFile new octets (Err (BadName n))
-ReadsNames new octets (Err (Repeated n)) = IsWholeFile new octets (Err (Repeated n))
 ReadsNames new octets (Err TooLarge) = IsWholeFile new octets (Err TooLarge) ⊎ IsTooLong new.last octets
 ReadsNames new octets (Err ReadFailed) = (new.last ≡ failed) × (length octets ≤ file_limit)
 ReadsNames new octets (Err Memory) = length octets ≤ file_limit
+ReadsNames new octets result = IsWholeFile new octets result
 
 -- the failures of a source: one more if a read failed
 abbrev pub names_failures_after : {T : Type 0} → Result T NamesFault → ℕ → ℕ
-names_failures_after (Ok table) old = old
-names_failures_after (Err (BadOid n)) old = old
-names_failures_after (Err (BadName n)) old = old
-names_failures_after (Err (Repeated n)) old = old
-names_failures_after (Err TooLarge) old = old
 names_failures_after (Err ReadFailed) old = next_count old
-names_failures_after (Err Memory) old = old
+names_failures_after _ old = old
 
 -- some octets are read, in pieces, and the result is theirs
 pub record ReadsFrom (old new : SourceState) (result : Result NamesValue NamesFault) : Type 0 where

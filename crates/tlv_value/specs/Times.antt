@@ -93,10 +93,13 @@ fraction = (mark 46 or mark 44) then one 48 57 then digits
 abbrev pub generalized_zone : Form
 generalized_zone = mark 90 or (sign then hour then maybe minute)
 
+abbrev pub generalized_tail : Form
+generalized_tail = maybe fraction then maybe generalized_zone
+
 -- X.680 46.2
 abbrev pub generalized_time_form : Form
 generalized_time_form =
-    generalized_hour then maybe (minute then maybe second) then maybe fraction then maybe generalized_zone
+    generalized_hour then maybe (minute then maybe second) then generalized_tail
 
 -- midnight is hour 0 of the following day
 abbrev pub canonical_clock : Form

@@ -1,14 +1,14 @@
 -- What is to be kept of the contents of a primitive, so that what is found on them can be reported at their end.
 use Rattle.std.specs.List.{list_all}
-use Rattle.std.specs.Prelude.{ℕ, ◌-◌, ◌%◌, Bool, true, false, ◌&&◌, ◌||◌, not, eqb, if◌then◌else◌, List, []}
+use Rattle.std.specs.Prelude.{ℕ, ◌-◌, Bool, true, false, ◌&&◌, ◌||◌, not, eqb, if◌then◌else◌, List, []}
 use Rattle.std.specs.Prelude.{◌∷◌, ◌++◌, length, take}
 use Rattle.std.specs.Str.{is_utf8}
 use Rattle.tlv_head.specs.UniversalTypes as universal
 use Rattle.tlv_head.specs.Header.{HeaderValue, announced_length}
 use Rattle.tlv_value.specs.declared.kind.Kind.TheVariants.{Utf8}
 use Rattle.tlv_value.specs.declared.finding.Finding.{Finding}
-use Rattle.tlv_value.specs.Checks.{ContentsFacts, allows_octet, findings_by, is_padded_after, last_octet}
-use Rattle.tlv_value.specs.Checks.{type_conditions}
+use Rattle.tlv_value.specs.Checks.{ContentsFacts, allows_octet, are_whole_characters, findings_by, is_padded_after}
+use Rattle.tlv_value.specs.Checks.{last_octet, type_conditions}
 use Rattle.tlv_value.specs.Rows.{full_rows, open_row}
 use Rattle.tlv_value.specs.Types.{is_number_of, object_types, time_types, type_number}
 
@@ -129,9 +129,7 @@ has_unused_bits s = eqb s.number universal.bit_string && begins_nonzero s.first_
 abbrev pub is_allowed : ValueCheckState → Bool
 is_allowed s =
     (if eqb s.number universal.utf8_string then s.rows_are_utf8 && is_utf8 s.row
-    else if eqb s.number universal.bmp_string then eqb (s.size % 2) 0
-    else if eqb s.number universal.universal_string then eqb (s.size % 4) 0
-    else true)
+    else are_whole_characters s.number s.size)
     && s.are_octets_allowed
 
 -- what is known of the contents at their end

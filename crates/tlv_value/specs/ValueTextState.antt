@@ -37,6 +37,10 @@ new_primitive h layout = record {
   layout = layout;
 }
 
+-- it has too many contents octets for them to be on its line
+abbrev pub is_long_primitive : Primitive → Bool
+is_long_primitive p = is_long p.kind p.size
+
 -- its line, with this text after its tag
 abbrev pub primitive_line : Primitive → List ℕ → List ℕ
 primitive_line p text = element_line p.layout p.offset p.class p.number p.size text
@@ -63,7 +67,7 @@ idle_value_text = new_value_text_of (record {
   layout = record { level = 0; limit = None; pure = false };
 })
 
--- of a long value with a line
+-- what is kept after more octets of a long value whose line was written
 abbrev pub rows_after : Kind → KeptContents → List ℕ → KeptContents
 rows_after kind k octets = record {
   wrote_line = true;
@@ -71,33 +75,37 @@ rows_after kind k octets = record {
   row = open_row kind k.row octets;
 }
 
+-- the lines of the rows that are full with more octets
 abbrev pub full_row_lines : Kind → Layout → KeptContents → List ℕ → List ℕ
 full_row_lines kind layout k octets = row_lines kind layout k.row_count (full_rows kind k.row octets)
 
--- after its line, which came with its first contents octet
+-- what is kept of a long value whose line came with this first contents octet
 abbrev pub first_rows : Kind → ℕ → KeptContents
 first_rows kind x = record { wrote_line = true; row_count = 0; row = row_octets kind (x ∷ []) }
 
+-- what is kept after more octets of a long value whose line was not written: it comes with the first of them
 abbrev pub first_rows_after : Kind → KeptContents → List ℕ → KeptContents
 first_rows_after kind k [] = k
 first_rows_after kind k (x ∷ octets) = rows_after kind (first_rows kind x) octets
 
+-- that line, and the lines of the rows that are full with these octets
 abbrev pub first_row_lines : ValueTextState → List ℕ → List ℕ
 first_row_lines s [] = []
 first_row_lines s (x ∷ octets) =
     primitive_line s.primitive (long_text s.primitive.kind s.primitive.size (x ∷ []))
     ++ full_row_lines s.primitive.kind s.primitive.layout (first_rows s.primitive.kind x) octets
 
--- of a long value
+-- what is kept after more octets of a long value
 abbrev pub long_rows_after : ValueTextState → List ℕ → KeptContents
 long_rows_after s octets =
     if s.kept.wrote_line
     then rows_after s.primitive.kind s.kept octets
     else first_rows_after s.primitive.kind s.kept octets
 
+-- what is kept after more octets
 abbrev pub kept_after : ValueTextState → List ℕ → KeptContents
 kept_after s octets =
-    if is_long s.primitive.kind s.primitive.size
+    if is_long_primitive s.primitive
     then long_rows_after s octets
     else record s.kept { row = s.kept.row ++ octets }
 
@@ -112,14 +120,14 @@ value_text_for h layout octets = value_text_after (new_value_text h layout) octe
 -- the lines that are known with the header
 abbrev pub begin_lines : ValueTextState → List ℕ
 begin_lines s =
-    if is_long s.primitive.kind s.primitive.size
+    if is_long_primitive s.primitive
     then (if s.kept.wrote_line then primitive_line s.primitive [] else [])
     else []
 
 -- the lines that are known with more octets
 abbrev pub contents_lines : ValueTextState → List ℕ → List ℕ
 contents_lines s octets =
-    if is_long s.primitive.kind s.primitive.size
+    if is_long_primitive s.primitive
     then (if s.kept.wrote_line
     then full_row_lines s.primitive.kind s.primitive.layout s.kept octets
     else first_row_lines s octets)
@@ -134,6 +142,6 @@ primitive_lines name_of p octets =
 -- the lines that are known with the end
 abbrev pub end_lines : NameOf → ValueTextState → List ℕ
 end_lines name_of s =
-    if is_long s.primitive.kind s.primitive.size
+    if is_long_primitive s.primitive
     then row_lines s.primitive.kind s.primitive.layout s.kept.row_count (last_rows s.kept.row)
     else primitive_lines name_of s.primitive s.kept.row

@@ -3,12 +3,12 @@ ghost use Rattle.std.specs.Prelude.{◌≡◌, ◌%◌, ◌^◌, ◌&&◌, ◌||
 ghost use Rattle.std.specs.Prelude.{nat_lt, not, slice_index, true};
 ghost use Rattle.tlv_value.specs.Checks.{all_contents_findings, is_padded_after, is_padded_integer, last_octet};
 ghost use Rattle.tlv_value.specs.Checks.{type_findings};
-ghost use Rattle.tlv_value.specs.Private.Checks.{generalized_time_findings, utc_time_findings};
+ghost use Rattle.tlv_value.specs.Private.TimeFindings.{generalized_time_findings, utc_time_findings};
 ghost use Rattle.tlv_value.specs.Types.{constructed_types, is_number_of, is_one_of, is_unassigned};
 ghost use Rattle.tlv_value.specs.Types.{is_unassigned_number};
 
-use crate::check::{are_allowed, is_any_set, is_padded_after, is_utf8, last_octet};
 use crate::time::{general_canonical, utc_canonical};
+use crate::value_check::{are_allowed, is_any_set, is_padded_after, is_utf8, last_octet};
 use tlv_head::{Class, Header, universal};
 
 /// Whether nothing is found on these contents of a primitive with this header, as far as a short look shows. That its
@@ -80,7 +80,7 @@ fn is_shortest(contents: &[u8]) -> bool
         return false;
     };
     // No branch asks for the length, which often is another than that of the number before. If there is no second
-    // octet, one is in for it whose first bit is not that of the first.
+    // octet, one is taken whose first bit differs from that of the first.
     let is_single = contents.len() == 1;
     let flip = if is_single { 255 } else { 0 };
     let second = contents[usize::from(!is_single)] ^ flip;

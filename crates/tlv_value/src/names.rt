@@ -6,7 +6,7 @@ ghost use Rattle.tlv_value.specs.NamesReading.{ReadsFrom};
 
 mod arcs;
 mod fault;
-mod line;
+mod names_line;
 mod reading;
 mod table;
 

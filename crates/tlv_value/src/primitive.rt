@@ -5,12 +5,12 @@ ghost use Rattle.tlv_io.specs.Out.{Puts, held_octets};
 ghost use Rattle.tlv_value.specs.RowSizes.{row_size};
 ghost use Rattle.tlv_value.specs.Private.UndottedText.{undotted_text};
 ghost use Rattle.tlv_value.specs.Private.PrimitiveLines.{line_prefix};
-ghost use Rattle.tlv_value.specs.Value.{is_long, long_text, most_on_line};
-ghost use Rattle.tlv_value.specs.ValueTextState.{new_primitive, primitive_line, primitive_lines};
+ghost use Rattle.tlv_value.specs.Value.{long_text, most_on_line};
+ghost use Rattle.tlv_value.specs.ValueTextState.{is_long_primitive, new_primitive, primitive_line, primitive_lines};
 
 use crate::kind::{Kind, kind_of};
-use crate::line::write_element;
-use crate::rows::row_size;
+use crate::line_starts::write_element;
+use crate::row_sizes::row_size;
 use crate::value::{write_long_bits, write_long_value, write_undotted};
 use crate::value_lines::{put_object, put_relative};
 use crate::{Layout, NameTable};
@@ -48,7 +48,7 @@ impl Primitive {
     /// Whether it has too many contents octets for them to be on its line.
     #[inline(always)]
     pub fn is_long(&self) -> bool
-        ensures { result ≡ is_long self.now.kind self.now.size }
+        ensures { result ≡ is_long_primitive self.now }
     {
         let most = match self.kind {
             Kind::Octets | Kind::Boolean | Kind::Integer => 16,
@@ -111,7 +111,7 @@ impl Primitive {
     #[inline(always)]
     fn write_long_line(&self, held: &mut HeldOctets, contents: &[u8])
         requires room { HasRoomFor held.old 1024 }
-        requires long { is_long self.now.kind self.now.size ≡ true }
+        requires long { is_long_primitive self.now ≡ true }
         ensures { held.new
             ≡ held.old
             ++ primitive_line self.now (long_text self.now.kind self.now.size contents.now) }
@@ -153,7 +153,7 @@ impl Primitive {
         contents: &[u8],
         out: &mut Out<'_, D>,
     ) -> Result<(), WriteFault>
-        requires { is_long self.now.kind self.now.size ≡ true }
+        requires { is_long_primitive self.now ≡ true }
         ensures { Puts D.state out.old out.new
             (primitive_line self.now (long_text self.now.kind self.now.size contents.now)) result }
     {

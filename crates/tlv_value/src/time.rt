@@ -3,11 +3,10 @@
 //! A part of a form is a function that returns what is after the part with which the octets begin, or none if they do
 //! not begin with it.
 ghost use Rattle.std.specs.Prelude.{◌≡◌, option_copied, option_to_list};
-ghost use Rattle.tlv_value.specs.Times.{canonical_clock, canonical_fraction, canonical_generalized_time_form};
-ghost use Rattle.tlv_value.specs.Times.{canonical_second, canonical_utc_time_form, month_and_day, digits, fraction};
-ghost use Rattle.tlv_value.specs.Times.{generalized_hour, generalized_time_form, generalized_zone, has_form, hour};
-ghost use Rattle.tlv_value.specs.Times.{mark, maybe, minute, one, second, sign, two, utc_minute};
-ghost use Rattle.tlv_value.specs.Times.{utc_time_form, utc_zone, ◌or◌, ◌then◌};
+ghost use Rattle.tlv_value.specs.Times.{canonical_generalized_time_form, canonical_second, canonical_utc_time_form};
+ghost use Rattle.tlv_value.specs.Times.{digits, fraction, generalized_hour, generalized_tail, generalized_time_form};
+ghost use Rattle.tlv_value.specs.Times.{generalized_zone, has_form, hour, mark, maybe, minute, month_and_day, one};
+ghost use Rattle.tlv_value.specs.Times.{second, sign, two, utc_minute, utc_time_form, utc_zone, ◌or◌, ◌then◌};
 
 /// Whether the octets are of the grammar of UTCTime: `YYMMDDhhmm`, `ss` or nothing, and `Z`, `+hhmm` or `-hhmm`.
 #[inline(never)]
@@ -123,8 +122,7 @@ fn is_utc_difference(octets: &[u8]) -> bool
 
 /// `ss` or nothing, a fraction or nothing, and a zone or nothing.
 fn is_second_and_tail(octets: &[u8]) -> bool
-    ensures { result
-        ≡ has_form (maybe second then maybe fraction then maybe generalized_zone) octets.now }
+    ensures { result ≡ has_form (maybe second then generalized_tail) octets.now }
 {
     match after_two_digits(octets, 0, 60) {
         Some(after) => is_generalized_tail(after) || is_generalized_tail(octets),
@@ -134,7 +132,7 @@ fn is_second_and_tail(octets: &[u8]) -> bool
 
 /// A fraction or nothing, and a zone or nothing.
 fn is_generalized_tail(octets: &[u8]) -> bool
-    ensures { result ≡ has_form (maybe fraction then maybe generalized_zone) octets.now }
+    ensures { result ≡ has_form generalized_tail octets.now }
 {
     is_fraction_and_zone(octets) || is_generalized_zone_or_nothing(octets)
 }

@@ -6,9 +6,9 @@ ghost use Rattle.tlv_io.specs.Out.{Puts};
 ghost use Rattle.tlv_value.specs.RowSizes.{row_size};
 ghost use Rattle.tlv_value.specs.Private.PrimitiveLines.{lines_in_steps};
 ghost use Rattle.tlv_value.specs.Rows.{rows_of};
-ghost use Rattle.tlv_value.specs.Value.{is_long, long_text, row_octets};
+ghost use Rattle.tlv_value.specs.Value.{long_text, row_octets};
 ghost use Rattle.tlv_value.specs.ValueLines.{row_lines, whole_lines};
-ghost use Rattle.tlv_value.specs.ValueTextState.{new_value_text_of, primitive_line};
+ghost use Rattle.tlv_value.specs.ValueTextState.{is_long_primitive, new_value_text_of, primitive_line};
 
 use crate::kind::Kind;
 use crate::primitive::Primitive;
@@ -53,7 +53,7 @@ fn put_long_lines<N: NameTable, D: Drain>(
     names: &N,
     out: &mut Out<'_, D>,
 ) -> Result<(), WriteFault>
-    requires long { is_long primitive.now.kind primitive.now.size ≡ true }
+    requires long { is_long_primitive primitive.now ≡ true }
     requires whole { length contents.now ≡ primitive.now.size }
     ensures { Puts D.state out.old out.new
         (lines_in_steps (N.name_of names.now) (new_value_text_of primitive.now) contents.now)
@@ -76,7 +76,7 @@ fn put_pairs<D: Drain>(
 ) -> Result<(), WriteFault>
     requires pairs { row_size primitive.now.kind ≡ 16 }
     requires endless { primitive.now.layout.limit ≡ None }
-    requires long { is_long primitive.now.kind primitive.now.size ≡ true }
+    requires long { is_long_primitive primitive.now ≡ true }
     ensures { Puts D.state out.old out.new
         (primitive_line primitive.now (long_text primitive.now.kind primitive.now.size contents.now)
         ++ row_lines primitive.now.kind primitive.now.layout 0

@@ -13,7 +13,8 @@ use Rattle.tlv_head.specs.declared.fault.FaultCode.{FaultCode}
 use Rattle.tlv_head.specs.declared.fault.FaultCode.TheVariants.{StrayEnd, IndefinitePrimitive}
 use Rattle.tlv_head.proofs.GrammarLemmas.Scan.{Scan, Origin, origin_of, start, Fresh, High, Named, Long, Ready, Stuck}
 use Rattle.tlv_head.proofs.GrammarLemmas.Scan.{Over, leads, class_of, step, scan, scan_from-append, scan_from-past}
-use Rattle.tlv_head.proofs.GrammarLemmas.Scan.{scan-moved_header, moved_header, is_more, more-from_prefix, no-prefix, same-header}
+use Rattle.tlv_head.proofs.GrammarLemmas.Scan.{scan-moved_header, moved_header, is_more, more-from_prefix, no-prefix}
+use Rattle.tlv_head.proofs.GrammarLemmas.Scan.{same-header}
 use Rattle.tlv_head.proofs.GrammarLemmas.Meaning.{IsHighState, IsLongState, IsStateAfter, reads-step, reads-scan}
 use Rattle.tlv_head.proofs.GrammarLemmas.Meaning.{prefix-from_more, prefix-bytes}
 

@@ -167,7 +167,8 @@ IsUnended o = (d : IdentifierFields) × CarriesNumber d o
 
 -- an octet ends the high form or goes on with it
 carried-on : (p : Part) (id : IdentifierFields) (o : List ℕ) (x : ℕ) → CarriesNumber id o → Carries p (o ++ x ∷ [])
-    → ((d : IdentifierFields) → p ≡ Identifier d → ⊥) → (d : IdentifierFields) × (p ≡ Number d) × CarriesNumber d (o ++ x ∷ [])
+    → ((d : IdentifierFields) → p ≡ Identifier d → ⊥)
+        → (d : IdentifierFields) × (p ≡ Number d) × CarriesNumber d (o ++ x ∷ [])
 carried-on Start id o x h f not = absurd (snoc≢nil o x f)
 carried-on (Number d) id o x h f not = (d, refl, f)
 carried-on (Identifier d) id o x h f not = absurd (not d refl)
@@ -202,14 +203,16 @@ leads-on (Length d n left) x h not nor =
 leads-on Done x h not nor = let none : x ∷ [] ≡ [] = h in cc
 
 -- octets that begin with the high form so far begin with no identifier that ends within it
-none-after : (id : IdentifierFields) (o more : List ℕ) (c : Class) (k : Bool) (n : ℕ) (i rest : List ℕ) → CarriesNumber id o
+none-after : (id : IdentifierFields) (o more : List ℕ) (c : Class) (k : Bool) (n : ℕ) (i rest : List ℕ)
+    → CarriesNumber id o
     → IsIdentifier c k n i
     → length i ≤ length o → o ++ more ≡ i ++ rest → ⊥
 none-after id o more c k n i rest h p few e =
     let r = within-prefix o i more rest few e in unended id o c k n i r.0 h p r.1
 
 -- the high form has not ended with the third octet
-pub no-third : (xs : List ℕ) (id : IdentifierFields) → CarriesNumber id (get_or xs 0 0 ∷ get_or xs 1 0 ∷ get_or xs 2 0 ∷ [])
+pub no-third : (xs : List ℕ) (id : IdentifierFields)
+    → CarriesNumber id (get_or xs 0 0 ∷ get_or xs 1 0 ∷ get_or xs 2 0 ∷ [])
     → 3 ≤ length xs → BeginsWithNoIdentifier xs
 no-third [] id h some = absurd (omega arith)
 no-third (x ∷ []) id h some = absurd (omega arith)
@@ -229,7 +232,8 @@ no-short_identifier os none = λ h rest v e few less.
     prefix-nil (x ∷ a) b e = absurd (cc)
 
 -- and then a length that its form may have
-pub no-short_length : (os : List ℕ) (id : IdentifierFields) (id_len : ℕ) → BeginsWithIdentifier os id → id_len ≡ id.id_len
+pub no-short_length : (os : List ℕ) (id : IdentifierFields) (id_len : ℕ) → BeginsWithIdentifier os id
+    → id_len ≡ id.id_len
     → BeginsWithNoLength (take (length os - id_len) (drop id_len os)) id.constructed → BeginsWithNoShortHeader os
 no-short_length os id id_len b at none = λ h rest v e few less.
     let cut : os ≡ h.identifier ++ (h.lengths ++ rest) = e ∙ append_assoc h.identifier h.lengths rest in

@@ -203,7 +203,8 @@ unallowed id octets x h form e =
     (subst (λ (k : Bool). IsIdentifier id.class k id.number octets) form h.identified) e
 
 -- a length octet that makes the length too large
-pub too_large : (id : IdentifierFields) (n left : ℕ) (octets : List ℕ) (x : ℕ) → CarriesLength id n left octets → 6 ≤ left
+pub too_large : (id : IdentifierFields) (n left : ℕ) (octets : List ℕ) (x : ℕ) → CarriesLength id n left octets
+    → 6 ≤ left
     → x ≢ 0 → IsRefusedOctet octets x LengthTooLarge
 too_large id n left octets x h many nonzero =
     length_too_large id.class id.constructed id.number left h.prefix many nonzero

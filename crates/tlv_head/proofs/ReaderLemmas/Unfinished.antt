@@ -35,7 +35,8 @@ length-carried (Length id n left) os h =
 length-carried Done os h = rw h (omega arith)
 
 -- the header that the octets are
-abbrev pub made_header : (at : ℕ) (named : Bool) (id : IdentifierFields) (size : Size) (os : List ℕ) → MakesHeader id size os
+abbrev pub made_header : (at : ℕ) (named : Bool) (id : IdentifierFields) (size : Size) (os : List ℕ)
+    → MakesHeader id size os
     → HeaderValue
 made_header at named id size os m = record {
   offset = at;
@@ -48,7 +49,8 @@ made_header at named id size os m = record {
   lengths = m.lengths;
 }
 
-made_header-valid : (at : ℕ) (named : Bool) (id : IdentifierFields) (size : Size) (os : List ℕ) (m : MakesHeader id size os)
+made_header-valid : (at : ℕ) (named : Bool) (id : IdentifierFields) (size : Size) (os : List ℕ)
+    (m : MakesHeader id size os)
     → IsHeader (made_header at named id size os m)
 made_header-valid at named id size os m = record {
   identifier = m.identified.identified;
@@ -67,14 +69,16 @@ made_completes r id size os x m e = record {
   octets = sym m.octets_are ∙ ap (λ s. s ++ x ∷ []) e;
 }
 
-pub made_too_deep : (r : HeadReaderState) (id : IdentifierFields) (size : Size) (os : List ℕ) (x depth : ℕ) (room : Option ℕ)
+pub made_too_deep : (r : HeadReaderState) (id : IdentifierFields) (size : Size) (os : List ℕ) (x depth : ℕ)
+    (room : Option ℕ)
     → room ≢ Some 0 → MakesHeader id size (os ++ x ∷ []) → os ≡ r.octets
     → (id.constructed || is_wrapper r.named id.class id.constructed id.number size) ≡ true → 128 ≤ depth
     → IsRefusedPush r x room depth TooDeep
 made_too_deep r id size os x depth room n m e c low =
     too_deep n (made_header r.offset r.named id size (os ++ x ∷ []) m) (made_completes r id size os x m e) c low
 
-pub made_overrun : (r : HeadReaderState) (id : IdentifierFields) (size : Size) (os : List ℕ) (x depth : ℕ) (room : Option ℕ)
+pub made_overrun : (r : HeadReaderState) (id : IdentifierFields) (size : Size) (os : List ℕ) (x depth : ℕ)
+    (room : Option ℕ)
     → room ≢ Some 0 → MakesHeader id size (os ++ x ∷ []) → os ≡ r.octets
     → ((id.constructed || is_wrapper r.named id.class id.constructed id.number size) ≡ true → depth < 128)
     → (ContentsFit size room → ⊥) → IsRefusedPush r x room depth Overrun
@@ -137,7 +141,8 @@ unfinished_identifier id os h = zero_ends id (Definite 0) os (record {
 pub unfinished_number : (id : IdentifierFields) (os : List ℕ) → CarriesNumber id os → IsHeaderPrefix os
 unfinished_number id os h = zero_after os (unfinished_identifier _ _ (ends_number id 0 0 os h refl (lit< tt)))
 
-pub unfinished_length : (k : ℕ) (id : IdentifierFields) (n left : ℕ) (os : List ℕ) → left ≤ k → CarriesLength id n left os
+pub unfinished_length : (k : ℕ) (id : IdentifierFields) (n left : ℕ) (os : List ℕ) → left ≤ k
+    → CarriesLength id n left os
     → IsHeaderPrefix os
 unfinished_length zero id n left os below h = let some : 1 ≤ left = h.prefix.some in absurd (omega arith)
 unfinished_length (suc k) id n left os below h = elim (cases_eq (left - 1) 0) [

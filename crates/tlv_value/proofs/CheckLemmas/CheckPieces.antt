@@ -79,8 +79,8 @@ row-at : (b : Bool) (row x y : List ℕ)
 row-at true row x y = sym (rows-join Utf8 row x y).1
 row-at false row x y = refl
 
-abbrev built : ValueCheckState → ℕ → List ℕ → ℕ → Bool → Bool → Bool → List ℕ → List ℕ → ValueCheckState
-built s left first_octets last are_octets_allowed is_padded rows_are_utf8 row time = record {
+abbrev state_with : ValueCheckState → ℕ → List ℕ → ℕ → Bool → Bool → Bool → List ℕ → List ℕ → ValueCheckState
+state_with s left first_octets last are_octets_allowed is_padded rows_are_utf8 row time = record {
   number = s.number;
   size = s.size;
   left = left;
@@ -93,14 +93,14 @@ built s left first_octets last are_octets_allowed is_padded rows_are_utf8 row ti
   time = time;
 }
 
-built-eq : (s : ValueCheckState) (l l' : ℕ) (f f' : List ℕ) (t t' : ℕ) (a a' p p' m m' : Bool) (r r' i i' : List ℕ)
+state_with-eq : (s : ValueCheckState) (l l' : ℕ) (f f' : List ℕ) (t t' : ℕ) (a a' p p' m m' : Bool) (r r' i i' : List ℕ)
     → l ≡ l' → f ≡ f' → t ≡ t' → a ≡ a' → p ≡ p' → m ≡ m' → r ≡ r' → i ≡ i'
-    → built s l f t a p m r i ≡ built s l' f' t' a' p' m' r' i'
-built-eq s l l' f f' t t' a a' p p' m m' r r' i i' e1 e2 e3 e4 e5 e6 e7 e8 = rw (e1, e2, e3, e4, e5, e6, e7, e8) refl
+    → state_with s l f t a p m r i ≡ state_with s l' f' t' a' p' m' r' i'
+state_with-eq s l l' f f' t t' a a' p p' m m' r r' i i' e1 e2 e3 e4 e5 e6 e7 e8 = rw (e1, e2, e3, e4, e5, e6, e7, e8) refl
 
 -- what is noted, by what the type asks for
-abbrev noted_by : Bool → Bool → Bool → ValueCheckState → List ℕ → ValueCheckState
-noted_by first each time s octets =
+abbrev noted_state : Bool → Bool → Bool → ValueCheckState → List ℕ → ValueCheckState
+noted_state first each time s octets =
     if first then with_first_noted s octets
     else if each then with_each_noted s octets
     else if time then with_time_noted s octets
@@ -108,19 +108,19 @@ noted_by first each time s octets =
 
 abbrev by_kind : Bool → Bool → Bool → ValueCheckState → List ℕ → ValueCheckState
 by_kind f e t s octets =
-    record (noted_by f e t s octets) { number = s.number; size = s.size; left = s.left - length octets }
+    record (noted_state f e t s octets) { number = s.number; size = s.size; left = s.left - length octets }
 
 join-by : (f e t : Bool) (s : ValueCheckState) (x y : List ℕ)
     → by_kind f e t (by_kind f e t s x) y ≡ by_kind f e t s (x ++ y)
 join-by true e t s x y =
     let l : s.left - length x - length y ≡ s.left - length (x ++ y) = omega (arith, length-append x y) in
-    built-eq s (s.left - length x - length y) (s.left - length (x ++ y)) (take 2 (take 2 (s.first_octets ++ x) ++ y))
+    state_with-eq s (s.left - length x - length y) (s.left - length (x ++ y)) (take 2 (take 2 (s.first_octets ++ x) ++ y))
     (take 2 (s.first_octets ++ (x ++ y))) (last_octet (last_octet s.last x) y) (last_octet s.last (x ++ y))
     s.are_octets_allowed s.are_octets_allowed s.is_padded s.is_padded s.rows_are_utf8 s.rows_are_utf8 s.row s.row s.time s.time
     l (take-join 2 s.first_octets x y) (last-join s.last x y) refl refl refl refl refl
 join-by false true t s x y =
     let l : s.left - length x - length y ≡ s.left - length (x ++ y) = omega (arith, length-append x y) in
-    built-eq s (s.left - length x - length y) (s.left - length (x ++ y)) s.first_octets s.first_octets
+    state_with-eq s (s.left - length x - length y) (s.left - length (x ++ y)) s.first_octets s.first_octets
     (last_octet (last_octet s.last x) y) (last_octet s.last (x ++ y))
     (with_each_noted (with_each_noted s x) y).are_octets_allowed (with_each_noted s (x ++ y)).are_octets_allowed
     (with_each_noted (with_each_noted s x) y).is_padded (with_each_noted s (x ++ y)).is_padded
@@ -133,7 +133,7 @@ join-by false true t s x y =
     (formed-at (eqb s.number 12) s.rows_are_utf8 s.row x y) (row-at (eqb s.number 12) s.row x y) refl
 join-by false false true s x y =
     let l : s.left - length x - length y ≡ s.left - length (x ++ y) = omega (arith, length-append x y) in
-    built-eq s (s.left - length x - length y) (s.left - length (x ++ y)) s.first_octets s.first_octets s.last s.last
+    state_with-eq s (s.left - length x - length y) (s.left - length (x ++ y)) s.first_octets s.first_octets s.last s.last
     s.are_octets_allowed s.are_octets_allowed s.is_padded s.is_padded s.rows_are_utf8 s.rows_are_utf8 s.row s.row (take 64 (take 64 (s.time ++ x) ++ y))
     (take 64 (s.time ++ (x ++ y)))
     l refl refl refl refl refl refl (take-join 64 s.time x y)
@@ -147,7 +147,7 @@ checks-join s x y = join-by (notes_first s.number) (notes_each s.number) (notes_
 -- what is noted at the end
 
 noted-left : (f e t : Bool) (s : ValueCheckState) (c : List ℕ)
-    → facts_in (by_kind f e t s c) ≡ facts_in (noted_by f e t s c)
+    → facts_in (by_kind f e t s c) ≡ facts_in (noted_state f e t s c)
 noted-left true e t s c = refl
 noted-left false true t s c = refl
 noted-left false false true s c = refl
@@ -169,7 +169,7 @@ same-in-both false x = refl
 none-by : (f e t : Bool) (n size : ℕ) → by_kind f e t (new_value_check_of n size) [] ≡ new_value_check_of n size
 none-by true e t n size = ap (λ (l : ℕ). record (new_value_check_of n size) { left = l }) (omega arith)
 none-by false true t n size =
-    built-eq (new_value_check_of n size) (size - 0) size [] [] 0 0 true true
+    state_with-eq (new_value_check_of n size) (size - 0) size [] [] 0 0 true true
     (if is_number_of object_types n then false else false) false (if eqb n 12 then true else true) true
     (if eqb n 12 then [] else []) [] [] []
     (omega arith) refl refl refl (same-in-both (is_number_of object_types n) false) (same-in-both (eqb n 12) true)

@@ -18,11 +18,11 @@ use Rattle.tlv_value.specs.NamesFields.{table_in}
 use Rattle.tlv_value.specs.Private.NamesSteps.{Gives, GivesAll, IsTableOf, result_in}
 
 -- the octets that the reads so far gave
-pub record Given (old new : SourceState) (octets : List ℕ) : Type 0 where
+pub record OctetsSoFar (old new : SourceState) (octets : List ℕ) : Type 0 where
   pub gathered : PiecesSoFar old new
   pub are : concat gathered.pieces ≡ octets
 
-module _ (old middle new : SourceState) (octets : List ℕ) (x : Given old middle octets)
+module _ (old middle new : SourceState) (octets : List ℕ) (x : OctetsSoFar old middle octets)
     (most : length octets ≤ file_limit) (failures : middle.failures ≡ old.failures) (piece : List ℕ)
     (room : length piece ≡ 4096) where
   -- a read that failed
@@ -101,7 +101,7 @@ module _ (old middle new : SourceState) (octets : List ℕ) (x : Given old middl
     }
 
     -- or there are more
-    pub given_more : (n ≡ 0 → ⊥) → (more : List ℕ) → more ≡ octets ++ take n piece → Given old new more
+    pub given_more : (n ≡ 0 → ⊥) → (more : List ℕ) → more ≡ octets ++ take n piece → OctetsSoFar old new more
     given_more some more is = record {
       gathered =
           pieces_so_far_more old middle new x.gathered (take n piece) r.octets.0 r.reads
@@ -121,36 +121,36 @@ said new octets v r x n = record {
   result_is = ap names_of x.0 ∙ n;
 }
 
-pub judged : {Y Z : Type 0} (old new : SourceState) (v : Vec ℕ Y)
+pub reads-from_table : {Y Z : Type 0} (old new : SourceState) (v : Vec ℕ Y)
     (result : Result (BTreeMap (Vec ℕ Z) (Vec ℕ Z)) NamesFault)
     → Gives old new (Ok v) → IsTableOf v.items result → ReadsFrom old new (result_in result)
-judged old new v (Ok m) x n = record {
+reads-from_table old new v (Ok m) x n = record {
   pieces = x.pieces;
   result_is = said new (octets_given x.pieces) v (Ok (table_in m)) x.gives n;
   failures = x.failures;
 }
-judged old new v (Err (BadOid k)) x n = record {
+reads-from_table old new v (Err (BadOid k)) x n = record {
   pieces = x.pieces;
   result_is = said new (octets_given x.pieces) v (Err (BadOid k)) x.gives n;
   failures = x.failures;
 }
-judged old new v (Err (BadName k)) x n = record {
+reads-from_table old new v (Err (BadName k)) x n = record {
   pieces = x.pieces;
   result_is = said new (octets_given x.pieces) v (Err (BadName k)) x.gives n;
   failures = x.failures;
 }
-judged old new v (Err (Repeated k)) x n = record {
+reads-from_table old new v (Err (Repeated k)) x n = record {
   pieces = x.pieces;
   result_is = said new (octets_given x.pieces) v (Err (Repeated k)) x.gives n;
   failures = x.failures;
 }
-judged old new v (Err TooLarge) x n = record {
+reads-from_table old new v (Err TooLarge) x n = record {
   pieces = x.pieces;
   result_is = inl (said new (octets_given x.pieces) v (Err TooLarge) x.gives n);
   failures = x.failures;
 }
-judged old new v (Err ReadFailed) x n = absurd n
-judged old new v (Err Memory) x n = record {
+reads-from_table old new v (Err ReadFailed) x n = absurd n
+reads-from_table old new v (Err Memory) x n = record {
   pieces = x.pieces;
   result_is = subst (λ (l : List ℕ). length l ≤ file_limit) (sym x.gives.0) x.gives.3;
   failures = x.failures;

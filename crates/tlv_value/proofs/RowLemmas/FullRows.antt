@@ -102,17 +102,17 @@ module _ (kind : Kind) (short : row_size kind ≡ 16) where
         ap₂ (λ (k l : List ℕ). k ++ l) one (lines_of (i + 1) rows)
 
     -- the full rows of octets, and what is left of them
-    abbrev pub Turned : ℕ → List ℕ → List (List ℕ) → List ℕ → Type 0
-    Turned i octets rows more =
+    abbrev pub SplitsFullRows : ℕ → List ℕ → List (List ℕ) → List ℕ → Type 0
+    SplitsFullRows i octets rows more =
         (row_lines kind layout i (rows_filled kind [] octets)
         ≡ pair_row_lines layout rows ++ row_lines kind layout (i + length rows) (rows_filled kind [] more))
         × (row_begun kind [] octets ≡ row_begun kind [] more)
         × (length (rows_filled kind [] octets) ≡ length rows + length (rows_filled kind [] more))
 
-    pub rows_turned : (i : ℕ) (octets : List ℕ) (rows : List (List ℕ)) (more : List ℕ)
+    pub splits-full_rows : (i : ℕ) (octets : List ℕ) (rows : List (List ℕ)) (more : List ℕ)
         → rows ≡ first_chunks 16 (length octets / 16) octets → more ≡ drop (length octets / 16 * 16) octets
-        → Turned i octets rows more
-    rows_turned i octets rows more e f =
+        → SplitsFullRows i octets rows more
+    splits-full_rows i octets rows more e f =
         let t = rows_first (length octets / 16) octets (omega arith) in
         let all : rows_filled kind [] octets ≡ rows ++ rows_filled kind [] more = rw (e, f) t.0 in (
           ap (row_lines kind layout i) all ∙ row_lines-append kind layout i rows (rows_filled kind [] more)

@@ -95,7 +95,7 @@ shown-relative name_of p octets e =
     prefix-line p (short_value name_of Relative octets)
     ∙ relative_at name_of p.layout (primitive_line p) octets p.kind e
 
--- held values without rows
+-- values on their lines, without rows
 
 abbrev IsUndotted : NameOf → Kind → List ℕ → Type 0
 IsUndotted name_of kind row =
@@ -191,6 +191,6 @@ pub rows-first : (kind : Kind) (layout : Layout) (n : ℕ) (row begun rest : Lis
     → row_lines kind layout n (full_rows kind row rest) ≡ row_lines Bits layout 0 (full_rows Bits begun rest)
 rows-first kind layout n row begun rest e z r = rw (e, z, r) refl
 
--- a held value has few octets
+-- a value on its line has few octets
 pub held-most : (kind : Kind) (n size : ℕ) → is_long kind size ≡ false → n ≡ size → n ≤ most_on_line kind
 held-most kind n size l e = grind (arith, nat_tests)

@@ -169,7 +169,7 @@ joined-short [] = omega arith
 joined-short (x ∷ xs) =
     omega (arith, length-append (encode_lower (x ∷ [])) (spaced_pairs xs), pair-length x, spaced-short xs)
 
--- held values
+-- values on their lines
 
 octets-text-short : (octets : List ℕ) → length (octets_value octets).text ≤ 330
 octets-text-short octets =

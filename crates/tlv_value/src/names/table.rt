@@ -6,7 +6,7 @@ ghost use Rattle.tlv_value.specs.NamesFields.{texts_in};
 ghost use Rattle.tlv_value.specs.Private.NamesSteps.{Adds, AddsLine, IsTableOf};
 
 use super::NamesFault;
-use super::line::{end_before, entry_or_refusal, rest_after};
+use super::names_line::{end_before, entry_or_refusal, rest_after};
 use std::alloc::Allocator;
 use std::collections::BTreeMap;
 
