@@ -146,7 +146,11 @@ type_conditions number facts =
     -- 8.6.2.2: it is at most 7
     ∷ (number == universal.bit_string && nat_lt 7 (first_octet facts), B14)
     -- 8.6.2.3: it is 0 if no other octet follows
-    ∷ (number == universal.bit_string && facts.size == 1 && nat_le 1 (first_octet facts) && nat_le (first_octet facts) 7, B15)
+    ∷ (
+      number == universal.bit_string && facts.size == 1
+          && nat_le 1 (first_octet facts) && nat_le (first_octet facts) 7,
+      B15,
+    )
     -- X.680 41: a string of characters has those of its type
     ∷ (is_number_of character_types number && not facts.is_allowed, B18)
     -- X.680 46, 47: a time is of its grammar
@@ -154,9 +158,17 @@ type_conditions number facts =
     -- 11.1: TRUE is ff
     ∷ (number == universal.boolean && facts.size == 1 && not (first_octet facts == 0 || first_octet facts == 0xff), S02)
     -- 11.2.1: unused bits are 0
-    ∷ (number == universal.bit_string && nat_le 2 facts.size && nat_le (first_octet facts) 7 && not (unused_bits_value facts == 0), S03)
+    ∷ (
+      number == universal.bit_string && nat_le 2 facts.size && nat_le (first_octet facts) 7
+          && not (unused_bits_value facts == 0),
+      S03,
+    )
     -- 11.7, 11.8: a time is in the canonical form
-    ∷ (is_short_time number facts && times.has_form (time_form number) facts.time && not (times.has_form (canonical_form number) facts.time), S04)
+    ∷ (
+      is_short_time number facts && times.has_form (time_form number) facts.time
+          && not (times.has_form (canonical_form number) facts.time),
+      S04,
+    )
     ∷ []
 
 -- on these contents of a primitive with this header

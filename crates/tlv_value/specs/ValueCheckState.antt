@@ -95,7 +95,9 @@ with_each_noted s octets = record s {
   are_octets_allowed = s.are_octets_allowed && list_all (allows_octet s.number) octets;
   is_padded = if is_number_of object_types s.number then is_padded_with s.is_padded s.last octets else s.is_padded;
   rows_are_utf8 =
-      if eqb s.number universal.utf8_string then s.rows_are_utf8 && all_utf8 (full_rows Utf8 s.row octets) else s.rows_are_utf8;
+      if eqb s.number universal.utf8_string
+      then s.rows_are_utf8 && all_utf8 (full_rows Utf8 s.row octets)
+      else s.rows_are_utf8;
   row = if eqb s.number universal.utf8_string then open_row Utf8 s.row octets else s.row;
   last = last_octet s.last octets;
 }

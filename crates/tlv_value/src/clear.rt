@@ -1,6 +1,6 @@
 //! A short look at all of the contents of a primitive.
-ghost use Rattle.std.specs.Prelude.{◌≡◌, ◌%◌, ◌^◌, ◌&&◌, ◌||◌, ◌==◌, [], IsTrue, eqb, false, length, nat_le};
-ghost use Rattle.std.specs.Prelude.{nat_lt, not, slice_index, true};
+ghost use Rattle.std.specs.Prelude.{◌≡◌, ◌||◌, ◌==◌, [], IsTrue, eqb, false, length, nat_le};
+ghost use Rattle.tlv_head.specs.UniversalTypes.{bit_string, boolean};
 ghost use Rattle.tlv_value.specs.Checks.{all_contents_findings, is_padded_after, is_padded_integer, last_octet};
 ghost use Rattle.tlv_value.specs.Checks.{type_findings};
 ghost use Rattle.tlv_value.specs.Private.TimeFindings.{generalized_time_findings, utc_time_findings};
@@ -63,9 +63,7 @@ fn is_type_clear(number: u64, contents: &[u8]) -> bool
 /// Whether there is one octet, that of FALSE or of TRUE (8.2.1, 11.1).
 #[inline(always)]
 fn is_canonical_boolean(contents: &[u8]) -> bool
-    ensures one { IsTrue result → (length contents.now == 1) ≡ true }
-    ensures truth { IsTrue result
-        → (slice_index contents.now 0 == 0 || slice_index contents.now 0 == 255) ≡ true }
+    ensures { IsTrue result → type_findings boolean contents.now ≡ [] }
 {
     matches!(contents, [0 | 255])
 }
@@ -91,14 +89,7 @@ fn is_shortest(contents: &[u8]) -> bool
 /// Whether there is a number of unused bits, and so many bits, which are 0 (8.6.2, 11.2.1).
 #[inline(always)]
 fn has_clear_bits(contents: &[u8]) -> bool
-    ensures some { IsTrue result → (length contents.now == 0) ≡ false }
-    ensures few { IsTrue result → nat_lt 7 (slice_index contents.now 0) ≡ false }
-    ensures there { IsTrue result →
-        (length contents.now == 1 && nat_le 1 (slice_index contents.now 0)
-        && nat_le (slice_index contents.now 0) 7) ≡ false }
-    ensures zero { IsTrue result →
-        (nat_le 2 (length contents.now) && nat_le (slice_index contents.now 0) 7
-        && not (last_octet 0 contents.now % 2 ^ slice_index contents.now 0 == 0)) ≡ false }
+    ensures { IsTrue result → type_findings bit_string contents.now ≡ [] }
 {
     match contents {
         [0, ..] => true,

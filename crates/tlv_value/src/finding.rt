@@ -89,8 +89,8 @@ impl Finding {
         &wording[4..count]
     }
 
-    /// A block that begins with the code, a space and the text, and has spaces after them, so that they can be copied at
-    /// once, and how many octets they are.
+    /// A block that begins with the code, a space and the text, and has spaces after them, so that they can be copied
+    /// at once, and how many octets they are.
     pub fn wording_block(self) -> (&'static [u8; 48], usize)
         ensures wording { take result.1 result.0.now ≡ finding_code self ++ 32 ∷ finding_text self }
         ensures count { (4 ≤ result.1) × (result.1 ≤ 44) }

@@ -10,7 +10,7 @@ use crate::Layout;
 use tlv_head::{Class, type_name_block};
 use tlv_io::HeldOctets;
 
-/// Begins a line with its first columns, an offset and a length, and its indentation.
+/// Begins a line with its first columns, an offset and a size, and its indentation.
 #[inline(always)]
 pub fn begin_sized(held: &mut HeldOctets, layout: Layout, offset: u64, size: u64)
     requires { HasRoomFor held.old 592 }
@@ -22,7 +22,7 @@ pub fn begin_sized(held: &mut HeldOctets, layout: Layout, offset: u64, size: u64
     held.spaces(2 * usize::from(layout.level));
 }
 
-/// Adds first columns with an offset and a length, unless they are left out.
+/// Adds first columns with an offset and a size, unless they are left out.
 #[inline(always)]
 fn write_sized(held: &mut HeldOctets, pure: bool, offset: u64, size: u64)
     requires { HasRoomFor held.old 50 }

@@ -325,9 +325,9 @@ more-cases at s xs h some r false e = absurd (scan_from-past at s xs h e some r)
 pub more-from_prefix : (at : Origin) (o : List ℕ) → IsHeaderPrefix o → is_more (scan at o) ≡ true
 more-from_prefix at o f =
     let whole : scan at (o ++ f.more) ≡ Ready (moved_header at f.header) =
-        rw f.prefix (scan-moved_header at f.header f.valid) in
+    rw f.prefix (scan-moved_header at f.header f.valid) in
     more-cases at (scan at o) f.more (moved_header at f.header) f.proper
-        (rw (scan_from-append at Fresh o f.more) at whole)
+    (rw (scan_from-append at Fresh o f.more) at whole)
     (is_more (scan at o)) refl
 
 -- a header is no proper prefix of another

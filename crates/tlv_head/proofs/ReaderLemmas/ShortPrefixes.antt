@@ -168,7 +168,7 @@ IsUnended o = (d : IdentifierFields) × CarriesNumber d o
 -- an octet ends the high form or goes on with it
 carried-on : (p : Part) (id : IdentifierFields) (o : List ℕ) (x : ℕ) → CarriesNumber id o → Carries p (o ++ x ∷ [])
     → ((d : IdentifierFields) → p ≡ Identifier d → ⊥)
-        → (d : IdentifierFields) × (p ≡ Number d) × CarriesNumber d (o ++ x ∷ [])
+    → (d : IdentifierFields) × (p ≡ Number d) × CarriesNumber d (o ++ x ∷ [])
 carried-on Start id o x h f not = absurd (snoc≢nil o x f)
 carried-on (Number d) id o x h f not = (d, refl, f)
 carried-on (Identifier d) id o x h f not = absurd (not d refl)

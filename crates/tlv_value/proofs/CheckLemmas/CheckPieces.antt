@@ -96,7 +96,8 @@ state_with s left first_octets last are_octets_allowed is_padded rows_are_utf8 r
 state_with-eq : (s : ValueCheckState) (l l' : ℕ) (f f' : List ℕ) (t t' : ℕ) (a a' p p' m m' : Bool) (r r' i i' : List ℕ)
     → l ≡ l' → f ≡ f' → t ≡ t' → a ≡ a' → p ≡ p' → m ≡ m' → r ≡ r' → i ≡ i'
     → state_with s l f t a p m r i ≡ state_with s l' f' t' a' p' m' r' i'
-state_with-eq s l l' f f' t t' a a' p p' m m' r r' i i' e1 e2 e3 e4 e5 e6 e7 e8 = rw (e1, e2, e3, e4, e5, e6, e7, e8) refl
+state_with-eq s l l' f f' t t' a a' p p' m m' r r' i i' e1 e2 e3 e4 e5 e6 e7 e8 =
+    rw (e1, e2, e3, e4, e5, e6, e7, e8) refl
 
 -- what is noted, by what the type asks for
 abbrev noted_state : Bool → Bool → Bool → ValueCheckState → List ℕ → ValueCheckState
@@ -114,9 +115,11 @@ join-by : (f e t : Bool) (s : ValueCheckState) (x y : List ℕ)
     → by_kind f e t (by_kind f e t s x) y ≡ by_kind f e t s (x ++ y)
 join-by true e t s x y =
     let l : s.left - length x - length y ≡ s.left - length (x ++ y) = omega (arith, length-append x y) in
-    state_with-eq s (s.left - length x - length y) (s.left - length (x ++ y)) (take 2 (take 2 (s.first_octets ++ x) ++ y))
+    state_with-eq s (s.left - length x - length y) (s.left - length (x ++ y))
+    (take 2 (take 2 (s.first_octets ++ x) ++ y))
     (take 2 (s.first_octets ++ (x ++ y))) (last_octet (last_octet s.last x) y) (last_octet s.last (x ++ y))
-    s.are_octets_allowed s.are_octets_allowed s.is_padded s.is_padded s.rows_are_utf8 s.rows_are_utf8 s.row s.row s.time s.time
+    s.are_octets_allowed s.are_octets_allowed s.is_padded s.is_padded s.rows_are_utf8 s.rows_are_utf8 s.row s.row
+    s.time s.time
     l (take-join 2 s.first_octets x y) (last-join s.last x y) refl refl refl refl refl
 join-by false true t s x y =
     let l : s.left - length x - length y ≡ s.left - length (x ++ y) = omega (arith, length-append x y) in
@@ -133,8 +136,10 @@ join-by false true t s x y =
     (formed-at (eqb s.number 12) s.rows_are_utf8 s.row x y) (row-at (eqb s.number 12) s.row x y) refl
 join-by false false true s x y =
     let l : s.left - length x - length y ≡ s.left - length (x ++ y) = omega (arith, length-append x y) in
-    state_with-eq s (s.left - length x - length y) (s.left - length (x ++ y)) s.first_octets s.first_octets s.last s.last
-    s.are_octets_allowed s.are_octets_allowed s.is_padded s.is_padded s.rows_are_utf8 s.rows_are_utf8 s.row s.row (take 64 (take 64 (s.time ++ x) ++ y))
+    state_with-eq s (s.left - length x - length y) (s.left - length (x ++ y)) s.first_octets s.first_octets s.last
+    s.last
+    s.are_octets_allowed s.are_octets_allowed s.is_padded s.is_padded s.rows_are_utf8 s.rows_are_utf8 s.row s.row
+    (take 64 (take 64 (s.time ++ x) ++ y))
     (take 64 (s.time ++ (x ++ y)))
     l refl refl refl refl refl refl (take-join 64 s.time x y)
 join-by false false false s x y =

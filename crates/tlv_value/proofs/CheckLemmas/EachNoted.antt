@@ -56,6 +56,9 @@ text-noted s octets is_text =
 -- a string with a test of each octet
 pub characters-noted : (s : ValueCheckState) (octets : List ℕ) → is_number_of object_types s.number ≡ false
     → eqb s.number 12 ≡ false
-    → record s { are_octets_allowed = s.are_octets_allowed && list_all (allows_octet s.number) octets; last = last_octet s.last octets }
+    → record s {
+      are_octets_allowed = s.are_octets_allowed && list_all (allows_octet s.number) octets;
+      last = last_octet s.last octets;
+    }
     ≡ with_each_noted s octets
 characters-noted s octets object text = rw (object, text) refl

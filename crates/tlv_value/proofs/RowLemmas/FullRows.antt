@@ -154,7 +154,8 @@ full_line_added layout old (x ∷ xs) n e some whole =
 -- the lines of the full rows, and that of the last
 pub lines_cut : (layout : Layout) (octets : List ℕ) (rows : List (List ℕ)) (more : List ℕ)
     → rows ≡ first_chunks 16 (length octets / 16) octets → more ≡ drop (length octets / 16 * 16) octets
-    → pair_row_lines layout rows ++ pair_row_lines layout (last_rows more) ≡ pair_row_lines layout (rows_of Octets octets)
+    → pair_row_lines layout rows ++ pair_row_lines layout (last_rows more)
+    ≡ pair_row_lines layout (rows_of Octets octets)
 lines_cut layout octets rows more e f =
     sym (flat_map-append (pair_row_line layout) rows (last_rows more))
     ∙ ap (pair_row_lines layout) (rw (e, f) (sym (rows_cut Octets refl octets)))
@@ -175,11 +176,13 @@ no_last_line layout shown (x ∷ xs) none = absurd (grind (arith, nat_tests))
 module _ (layout : Layout) where
   -- one row more
   pub lines_more : (rows : List (List ℕ)) (i : ℕ) → i < length rows
-      → pair_row_lines layout (take i rows) ++ pair_row_line layout (get_or rows i []) ≡ pair_row_lines layout (take (i + 1) rows)
+      → pair_row_lines layout (take i rows) ++ pair_row_line layout (get_or rows i [])
+      ≡ pair_row_lines layout (take (i + 1) rows)
   lines_more rows i h =
       sym (ap (pair_row_lines layout) (take_more rows i [] h)
       ∙ flat_map-append (pair_row_line layout) (take i rows) (get_or rows i [] ∷ [])
-      ∙ ap (λ (l : List ℕ). pair_row_lines layout (take i rows) ++ l) (append-nil (pair_row_line layout (get_or rows i []))))
+      ∙ ap (λ (l : List ℕ). pair_row_lines layout (take i rows) ++ l)
+      (append-nil (pair_row_line layout (get_or rows i []))))
 
   -- the first rows, and those after them
   pub lines_split : (rows : List (List ℕ)) (i : ℕ)

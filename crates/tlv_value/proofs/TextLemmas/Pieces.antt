@@ -70,7 +70,8 @@ module _ (kind : Kind) (layout : Layout) (line : List ℕ → List ℕ) (size : 
       → kept_by long (kept_by long wrote_line k x).wrote_line (kept_by long wrote_line k x) y
       ≡ kept_by long wrote_line k (x ++ y)
   join-kept false wrote_line k x y e =
-      ap (λ (r : List ℕ). record { wrote_line = k.wrote_line; row_count = k.row_count; row = r }) (append_assoc k.row x y)
+      ap (λ (r : List ℕ). record { wrote_line = k.wrote_line; row_count = k.row_count; row = r })
+      (append_assoc k.row x y)
   join-kept true true k x y e = kept-join kind k x y
   join-kept true false k [] y e = rw e refl
   join-kept true false k (u ∷ x) y e = kept-join kind (first_rows kind u) x y

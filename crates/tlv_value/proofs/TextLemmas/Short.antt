@@ -23,7 +23,8 @@ use Rattle.tlv_value.specs.declared.kind.Kind.TheVariants.{Ucs2, Ucs4}
 use Rattle.tlv_io.specs.Cuts.{utf8_length}
 use Rattle.tlv_value.specs.Units.{escaped_number, escaped_octet, is_printable, octet_text, printable_text, quoted_text}
 use Rattle.tlv_value.specs.Units.{three_octets, unit_size, unit_text, units, utf8_number, without_zeros}
-use Rattle.tlv_value.specs.Value.{Value, bit_count_text, bits_value, boolean_value, integer_value, is_readable, joined_pairs}
+use Rattle.tlv_value.specs.Value.{Value, bit_count_text, bits_value, boolean_value, integer_value, is_readable}
+use Rattle.tlv_value.specs.Value.{joined_pairs}
 use Rattle.tlv_value.specs.Value.{octets_value, spaced_pairs, used_digits, value_on_line}
 
 -- what was added is at most so long

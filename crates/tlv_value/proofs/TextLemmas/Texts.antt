@@ -50,6 +50,7 @@ pub digits-cut : (held shown digits : List ℕ) (unused_bits n : ℕ) → unused
     → n ≡ length ((held ++ shown) ++ digits) - unused_bits
     → take n ((held ++ shown) ++ digits) ≡ held ++ (shown ++ take (8 - unused_bits) digits)
 digits-cut held shown digits unused_bits n h size e =
-    let m : n ≡ length (held ++ shown) + (8 - unused_bits) = omega (arith, e, length-append (held ++ shown) digits, size) in
+    let m : n ≡ length (held ++ shown) + (8 - unused_bits) =
+    omega (arith, e, length-append (held ++ shown) digits, size) in
     ap (λ (k : ℕ). take k ((held ++ shown) ++ digits)) m
     ∙ take-append-add (held ++ shown) digits (8 - unused_bits) ∙ append_assoc held shown (take (8 - unused_bits) digits)

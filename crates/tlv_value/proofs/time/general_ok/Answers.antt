@@ -6,7 +6,8 @@ use Rattle.tlv_value.proofs.time.general_ok.Goals as goal
 
 -- the minute is there
 with_minute : (rest after : List ℕ) (r : Bool) → after ∷ [] ≡ minute rest
-    → r ≡ has_form (maybe second then generalized_tail) after → r ≡ has_form ((minute then maybe second) then generalized_tail) rest
+    → r ≡ has_form (maybe second then generalized_tail) after
+    → r ≡ has_form ((minute then maybe second) then generalized_tail) rest
 with_minute rest after r e h =
     h ∙ sym (form-then minute (maybe second then generalized_tail) rest (Some after) e)
     ∙ sym (form-three minute (maybe second) generalized_tail rest)

@@ -1,7 +1,8 @@
 use Rattle.std.proofs.Common.{sym, ◌∙◌, arith}
 use Rattle.tlv_value.proofs.NamesLemmas.Texts.{shorter_end, last_end, empty_end}
 use Rattle.tlv_value.proofs.names.names_line.without_last_blanks.Goals as goal
-use Rattle.tlv_value.proofs.names.names_line.without_last_blanks.Goals.{then-loop-end-test+else-is_blank, else-loop-end-test}
+use Rattle.tlv_value.proofs.names.names_line.without_last_blanks.Goals.{then-loop-end-test+else-is_blank}
+use Rattle.tlv_value.proofs.names.names_line.without_last_blanks.Goals.{else-loop-end-test}
 
 pub loop-end-preserved : goal.loop-end-preserved
 loop-end-preserved c = record {

@@ -11,8 +11,6 @@ use Rattle.tlv_value.proofs.RowLemmas.FilledRows.{rows_filled}
 use Rattle.tlv_value.proofs.CheckLemmas.Noting.{and-nothing, and-row}
 use Rattle.tlv_value.proofs.RowLemmas.OneCut.{open-parts}
 use Rattle.tlv_value.proofs.RowLemmas.RowSteps.{kept, kept-open, none-open, turned}
-use Rattle.tlv_value.proofs.value_check.utf8_rows.take_rows.Goals.{else-len-part-lt64-via-then-len-part-lt64+else-is_empty}
-use Rattle.tlv_value.proofs.value_check.utf8_rows.take_rows.Goals.{else-len-part-lt64-via-else-len-part-lt64}
 use Rattle.tlv_value.proofs.value_check.utf8_rows.take_rows.Goals as goal
 
 pub loop-rest-init : goal.loop-rest-init
@@ -64,8 +62,8 @@ loop-rest-preserved c =
     let m : ℕ = c.fitting_length.result in
     let claim : (c.len.result + m ≡ row_size Utf8) ⊎ (m < length c.loop-rest.rest.now) =
     elim c.else-len-part-lt64.branch [
-      | else-len-part-lt64-via-then-len-part-lt64+else-is_empty w ↦ inr (grind (arith, nat_tests))
-      | else-len-part-lt64-via-else-len-part-lt64 w ↦ inl (omega arith)
+      | goal.else-len-part-lt64-via-then-len-part-lt64+else-is_empty w ↦ inr (grind (arith, nat_tests))
+      | goal.else-len-part-lt64-via-else-len-part-lt64 w ↦ inl (omega arith)
     ] in
     let t =
     turned Utf8 c.len.result row m c.loop-rest.rest.now part more c.len.ensures.value c.split_at.ensures.front

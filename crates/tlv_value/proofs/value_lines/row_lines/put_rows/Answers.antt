@@ -95,7 +95,8 @@ loop-rest-preserved g c =
         puts_then_as g.D.Drain.state _ _ _ i.put.0 line (i.put.0 ++ line) tt _ i.put.1 c.in_ok-put_full.ensures.puts
             refl,
         rw none
-            (append_assoc i.put.0 line (row_lines kind c.args.layout (c.loop-rest.row_count + 1) (rows_filled kind [] more))
+            (append_assoc i.put.0 line
+            (row_lines kind c.args.layout (c.loop-rest.row_count + 1) (rows_filled kind [] more))
             ∙ ap (λ (x : List ℕ). i.put.0 ++ x) (sym (ap (row_lines kind c.args.layout c.loop-rest.row_count) t.0))
             ∙ i.put.2),
       );
@@ -160,7 +161,8 @@ loop-rest-preserved-then-has_full_rows g c =
     let f = c.has_full_rows.ensures.0 c.if-has_full_rows.true in
     let none : c.loop-rest.row.items ≡ [] = nil_from_length _ (omega (arith, c.len-begun.ensures.value, f.0)) in
     let t =
-    splits-full_rows kind (sym c.row_size-size.ensures ∙ f.1) c.args.layout f.2 c.loop-rest.row_count c.loop-rest.rest.now
+    splits-full_rows kind (sym c.row_size-size.ensures ∙ f.1) c.args.layout f.2 c.loop-rest.row_count
+    c.loop-rest.rest.now
     c.as_chunks.result.0.now more c.as_chunks.ensures.front c.as_chunks.ensures.back in
     let put = rw none at i.put.2 in
     let rows = rw none at i.rows in
@@ -187,7 +189,8 @@ returns-in_err-put_full_rows-clause-puts g c =
     let f = c.has_full_rows.ensures.0 c.if-has_full_rows.true in
     let none : c.loop-rest.row.items ≡ [] = nil_from_length _ (omega (arith, c.len-begun.ensures.value, f.0)) in
     let t =
-    splits-full_rows kind (sym c.row_size-size.ensures ∙ f.1) c.args.layout f.2 c.loop-rest.row_count c.loop-rest.rest.now
+    splits-full_rows kind (sym c.row_size-size.ensures ∙ f.1) c.args.layout f.2 c.loop-rest.row_count
+    c.loop-rest.rest.now
     c.as_chunks.result.0.now more c.as_chunks.ensures.front c.as_chunks.ensures.back in
     let put = rw none at i.put.2 in
     let all : List ℕ = pair_row_lines c.args.layout c.as_chunks.result.0.now in

@@ -9,7 +9,8 @@ use Rattle.tlv_value.proofs.value_lines.row_lines.put_rows.Given as goal
 abbrev pub invariant-loop-rest : goal.invariant-loop-rest
 invariant-loop-rest g l = record {
   begun : IsOpenRow l.kind l.row.items;
-  counted : l.row_count + length l.row.items + length l.rest ≤ l.initial.row_count + length l.initial.row.items + length l.octets;
+  counted : l.row_count + length l.row.items + length l.rest
+      ≤ l.initial.row_count + length l.initial.row.items + length l.octets;
   row : row_begun l.kind l.row.items l.rest ≡ open_row l.kind l.initial.row.items l.octets;
   rows : l.row_count + length (rows_filled l.kind l.row.items l.rest)
       ≡ l.initial.row_count + length (full_rows l.kind l.initial.row.items l.octets);
