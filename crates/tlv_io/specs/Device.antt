@@ -29,7 +29,7 @@ pub record DrainState : Type 0 where
   pub octets : Option (List ℕ)
   pub failures : ℕ
 
--- no read was made
+-- the log of a source that was not read
 abbrev pub new_read_log : ReadLogState
 new_read_log = record { reads = 0; last = never; failures = 0 }
 

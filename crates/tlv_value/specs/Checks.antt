@@ -60,7 +60,7 @@ are_whole_characters number size =
     else if eqb number universal.universal_string then eqb (size % 4) 0
     else true
 
--- the contents have the characters of the type with this number: one of these types, or one of those with such a test
+-- the contents have the characters of the type with this number
 abbrev pub allows : ℕ → List ℕ → Bool
 allows number octets =
     if eqb number universal.utf8_string then is_utf8 octets

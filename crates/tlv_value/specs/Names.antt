@@ -107,6 +107,7 @@ entry_line (x ∷ xs) =
 abbrev pub line_limit : ℕ
 line_limit = 400
 
+-- what a line says; of one with more octets nothing else is looked at
 abbrev pub names_line : List ℕ → NamesLine
 names_line octets =
     if nat_lt line_limit (length octets) then long_line

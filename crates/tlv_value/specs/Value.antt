@@ -48,7 +48,7 @@ abbrev pub integer_value : List ℕ → Value
 integer_value [] = octets_value []
 integer_value (x ∷ xs) = value_on_line (signed_decimal (twos_complement (x ∷ xs)))
 
--- how many bits there are in so many octets, without those that are not used
+-- the number of bits of so many octets, without those that are not used
 abbrev pub bit_count_text : ℕ → ℕ → List ℕ
 bit_count_text unused_bits octet_count = decimal (8 * octet_count - unused_bits) ++ codes " bits"
 
