@@ -270,7 +270,13 @@ prefix-high_form = record {
 -- 30 80 00 00: a header and two octets
 begins-sequence : BeginsWith (0x30 ∷ 0x80 ∷ 0x00 ∷ 0x00 ∷ []) 0 false
     (first Universal true 16 Indefinite (0x30 ∷ []) (0x80 ∷ []))
-begins-sequence = record { valid = sequence-header; offset = refl; named = refl; rest = 0x00 ∷ 0x00 ∷ []; octets = refl }
+begins-sequence = record {
+  valid = sequence-header;
+  offset = refl;
+  named = refl;
+  rest = 0x00 ∷ 0x00 ∷ [];
+  octets = refl;
+}
 
 -- bf 1f 82 01 00, with the indefinite form
 respelled : spell_indefinite (first Context true 31 (Definite 256) (0xbf ∷ 0x1f ∷ []) (0x82 ∷ 0x01 ∷ 0x00 ∷ []))

@@ -5,6 +5,7 @@ use Rattle.std.specs.Option.{is_some, unwrap_or}
 use Rattle.tlv_head.specs.UniversalTypes as universal
 use Rattle.tlv_head.specs.declared.header.Class.{Class}
 use Rattle.tlv_head.specs.declared.header.Class.TheVariants.{Universal, Application, Context, Private}
+use Rattle.tlv_head.specs.declared.header.HeaderFields.{HeaderFields}
 use Rattle.tlv_head.specs.declared.header.Size.{Size}
 use Rattle.tlv_head.specs.declared.header.Size.TheVariants.{Definite, Indefinite}
 
@@ -110,13 +111,32 @@ is_wrapper named class constructed number size =
     named && not constructed && is_universal class
     && (eqb number universal.octet_string || (eqb number universal.bit_string && not (eqb (announced_length size) 0)))
 
+-- what a header says, without its octets
+abbrev pub fields_of : HeaderValue → HeaderFields
+fields_of h = record {
+  offset = h.offset;
+  named = h.named;
+  class = h.class;
+  constructed = h.constructed;
+  number = h.number;
+  size = h.size;
+  id_len = length h.identifier;
+}
+
+-- an element with these fields wraps encodings
+abbrev pub fields_wrap : HeaderFields → Bool
+fields_wrap f = is_wrapper f.named f.class f.constructed f.number f.size
+
+-- 8.1.2.5: its contents are encodings: it is constructed, or wraps them
+abbrev pub fields_hold : HeaderFields → Bool
+fields_hold f = f.constructed || fields_wrap f
+
 -- the same, of the element with this header
 abbrev pub wraps : HeaderValue → Bool
-wraps h = is_wrapper h.named h.class h.constructed h.number h.size
+wraps h = fields_wrap (fields_of h)
 
--- 8.1.2.5: the contents are encodings: the element is constructed, or wraps them
 abbrev pub holds : HeaderValue → Bool
-holds h = h.constructed || wraps h
+holds h = fields_hold (fields_of h)
 
 -- 8.1.3.6: identifier octets, and the indefinite form
 abbrev pub spell_indefinite : HeaderValue → List ℕ

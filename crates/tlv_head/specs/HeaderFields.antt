@@ -1,7 +1,7 @@
--- The fields of a header, and its octets.
-use Rattle.std.specs.Prelude.{ℕ, ◌<◌, ◌≤◌, Bool, ◌||◌, List, length, take, drop}
+-- A header by its fields and its octets.
+use Rattle.std.specs.Prelude.{ℕ, ◌<◌, ◌≤◌, List, length, take, drop}
 use Rattle.tlv_head.specs.declared.header.HeaderFields.{HeaderFields}
-use Rattle.tlv_head.specs.Header.{HeaderValue, is_wrapper}
+use Rattle.tlv_head.specs.Header.{HeaderValue}
 
 -- the header with these fields and octets
 abbrev pub new_header : HeaderFields → List ℕ → HeaderValue
@@ -15,26 +15,6 @@ new_header f octets = record {
   identifier = take f.id_len octets;
   lengths = drop f.id_len octets;
 }
-
--- what a header says, without its octets
-abbrev pub fields_of : HeaderValue → HeaderFields
-fields_of h = record {
-  offset = h.offset;
-  named = h.named;
-  class = h.class;
-  constructed = h.constructed;
-  number = h.number;
-  size = h.size;
-  id_len = length h.identifier;
-}
-
--- an element with these fields wraps encodings
-abbrev pub fields_wrap : HeaderFields → Bool
-fields_wrap f = is_wrapper f.named f.class f.constructed f.number f.size
-
--- its contents are encodings: it is constructed, or wraps them
-abbrev pub fields_hold : HeaderFields → Bool
-fields_hold f = f.constructed || fields_wrap f
 
 -- by their number the octets may be those of a header with these fields: there are at most 137, and the identifier has
 -- at most ten of them, and not all. They need not say the fields

@@ -3,28 +3,28 @@ use Rattle.std.specs.Prelude.{◌≡◌, ℕ, ◌+◌, ◌^◌, ◌-◌, ◌<◌
 use Rattle.tlv_head.specs.Header.{IsIdentifier, value_of}
 use Rattle.tlv_head.specs.Refusal.{IsLengthPrefix, IsNumberPrefix}
 use Rattle.tlv_head.specs.HeadReaderState.{HeadReaderState}
-use Rattle.tlv_head.specs.declared.next_octet.Identifier.{Identifier}
+use Rattle.tlv_head.specs.declared.next_octet.IdentifierFields.{IdentifierFields}
 use Rattle.tlv_head.specs.declared.next_octet.Part.{Part}
-use Rattle.tlv_head.specs.declared.next_octet.Part.TheVariants.{Start, Number, Length, Digits, Done}
-use Rattle.tlv_head.specs.declared.reader.HeadReader.TheInside.{Inside}
+use Rattle.tlv_head.specs.declared.next_octet.Part.TheVariants.{Start, Number, Identifier, Length, Done}
+use Rattle.tlv_head.specs.declared.head_reader.HeadReader.TheInside.{Inside}
 
 -- the identifier octets so far are in the high form
-pub record CarriesNumber (id : Identifier) (octets : List ℕ) : Type 0 where
+pub record CarriesNumber (id : IdentifierFields) (octets : List ℕ) : Type 0 where
   pub prefix : IsNumberPrefix id.class id.constructed octets
-  pub count : id.octets ≡ length prefix.digits + 1
+  pub count : id.id_len ≡ length prefix.digits + 1
   pub few : length prefix.digits ≤ 8
   pub value : id.number ≡ value_of 128 prefix.digits
 
 -- the octets are the identifier
-pub record CarriesIdentifier (id : Identifier) (octets : List ℕ) : Type 0 where
+pub record CarriesIdentifier (id : IdentifierFields) (octets : List ℕ) : Type 0 where
   pub identified : IsIdentifier id.class id.constructed id.number octets
-  pub count : id.octets ≡ length octets
+  pub count : id.id_len ≡ length octets
   pub few : length octets ≤ 10
 
 -- the octets are the identifier, the first length octet and digits
-pub record CarriesLength (id : Identifier) (n left : ℕ) (octets : List ℕ) : Type 0 where
+pub record CarriesLength (id : IdentifierFields) (n left : ℕ) (octets : List ℕ) : Type 0 where
   pub prefix : IsLengthPrefix id.class id.constructed id.number left octets
-  pub count : id.octets ≡ length prefix.identifier
+  pub count : id.id_len ≡ length prefix.identifier
   pub few : length prefix.identifier ≤ 10
   pub value : n ≡ value_of 256 prefix.digits
   -- so that zeros make a length below 2^40 of it
@@ -33,16 +33,13 @@ pub record CarriesLength (id : Identifier) (n left : ℕ) (octets : List ℕ) : 
 abbrev pub Carries : Part → List ℕ → Type 0
 Carries Start octets = octets ≡ []
 Carries (Number id) octets = CarriesNumber id octets
-Carries (Length id) octets = CarriesIdentifier id octets
-Carries (Digits id n left) octets = CarriesLength id n left octets
+Carries (Identifier id) octets = CarriesIdentifier id octets
+Carries (Length id n left) octets = CarriesLength id n left octets
 Carries Done octets = octets ≡ []
 
 abbrev pub is_done : Part → Bool
-is_done Start = false
-is_done (Number id) = false
-is_done (Length id) = false
-is_done (Digits id n left) = false
 is_done Done = true
+is_done _ = false
 
 -- what the fields of a reader say
 abbrev pub head_reader_state_of : Inside → HeadReaderState

@@ -2,7 +2,7 @@
 use Rattle.std.specs.Prelude.{◌≡◌, ◌≢◌, ◌⊎◌, ℕ, ◌<◌, Bool, List, [], ◌∷◌, ◌++◌, Option}
 use Rattle.tlv_head.specs.declared.fault.FaultCode.{FaultCode}
 use Rattle.tlv_head.specs.Header.{HeaderValue, IsHeader, octets_of}
-use Rattle.tlv_head.specs.declared.reader.Head.{Head}
+use Rattle.tlv_head.specs.declared.head_reader.Head.{Head}
 use Rattle.tlv_head.specs.HeadReaderState.{HeadReaderState}
 use Rattle.tlv_head.specs.Push.{Pushes}
 use Rattle.tlv_head.specs.declared.header.HeaderFields.{HeaderFields}

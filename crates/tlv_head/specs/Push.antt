@@ -3,8 +3,8 @@ use Rattle.std.specs.Prelude.{◌≡◌, ◌≢◌, ℕ, ◌+◌, ◌<◌, ◌�
 use Rattle.tlv_head.specs.declared.fault.Fault.{Fault}
 use Rattle.tlv_head.specs.declared.fault.FaultCode.{FaultCode}
 use Rattle.tlv_head.specs.declared.fault.FaultCode.TheVariants.{TooDeep, Overrun}
-use Rattle.tlv_head.specs.declared.reader.Head.{Head}
-use Rattle.tlv_head.specs.declared.reader.Head.TheVariants.{More, Whole, Refused}
+use Rattle.tlv_head.specs.declared.head_reader.Head.{Head}
+use Rattle.tlv_head.specs.declared.head_reader.Head.TheVariants.{More, Whole, Refused}
 use Rattle.tlv_head.specs.Header.{HeaderValue, IsHeader, holds, octets_of}
 use Rattle.tlv_head.specs.HeadReaderState.{ContentsFit, HeadReaderState, with_octet}
 use Rattle.tlv_head.specs.Refusal.{IsHeaderPrefix, IsRefusedOctet}

@@ -38,8 +38,8 @@ ShortestHeadersAreOne =
     → (h.identifier ≡ g.identifier) × (h.lengths ≡ g.lengths)
 
 -- no other header of one tag and one size has fewer octets
-abbrev pub ShortestHeadersAreShortest : Type 0
-ShortestHeadersAreShortest =
+abbrev pub NoHeaderIsShorter : Type 0
+NoHeaderIsShorter =
     (h g : HeaderValue) → IsHeader h → IsHeader g
     → HaveOneTag h g → h.size ≡ g.size → IsShortest h
     → (length h.identifier ≤ length g.identifier) × (length h.lengths ≤ length g.lengths)

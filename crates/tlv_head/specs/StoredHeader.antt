@@ -16,8 +16,8 @@ stored_header h = record {
   raw = record { items = octets_of h };
   id_len = length h.identifier;
   named = h.named;
-  number_octet = slice_index h.identifier 1;
-  length_octet = slice_index h.lengths 1;
+  second_identifier_octet = slice_index h.identifier 1;
+  second_length_octet = slice_index h.lengths 1;
 }
 
 -- what is said beside the octets
@@ -41,5 +41,5 @@ header_value_of h = new_header (fields_in h) h.raw.items
 abbrev pub HeaderFieldsAgree : Inside → Type 0
 HeaderFieldsAgree h =
     IsHeaderSized (fields_in h) h.raw.items
-    × (h.number_octet ≡ slice_index (take h.id_len h.raw.items) 1)
-    × (h.length_octet ≡ slice_index (drop h.id_len h.raw.items) 1)
+    × (h.second_identifier_octet ≡ slice_index (take h.id_len h.raw.items) 1)
+    × (h.second_length_octet ≡ slice_index (drop h.id_len h.raw.items) 1)

@@ -1,5 +1,5 @@
 -- The texts of tags: X.680, table 1.
-use Rattle.std.specs.Prelude.{ℕ, eqb, List, [], ◌∷◌, ◌++◌, codes, decimal}
+use Rattle.std.specs.Prelude.{ℕ, eqb, List, [], ◌∷◌, ◌++◌, codes, decimal, Option}
 use Rattle.std.specs.Map.{lookup}
 use Rattle.std.specs.Option.{unwrap_or}
 use Rattle.tlv_head.specs.UniversalTypes as universal
@@ -46,13 +46,17 @@ universal_names =
     ∷ (universal.relative_oid_iri, codes "RELATIVE-OID-IRI")
     ∷ []
 
+-- the name of the type with this number, if there is one
+abbrev pub type_name : ℕ → Option (List ℕ)
+type_name number = lookup (eqb number) universal_names
+
 -- a tag without a name, by its class and number
 abbrev pub bracketed_tag : List ℕ → ℕ → List ℕ
 bracketed_tag class number = 91 ∷ class ++ decimal number ++ 93 ∷ []
 
 abbrev pub tag_text : Class → ℕ → List ℕ
 tag_text Universal number =
-    unwrap_or (lookup (eqb number) universal_names) (bracketed_tag (codes "UNIVERSAL ") number)
+    unwrap_or (type_name number) (bracketed_tag (codes "UNIVERSAL ") number)
 tag_text Application number = bracketed_tag (codes "APPLICATION ") number
 tag_text Context number = bracketed_tag [] number
 tag_text Private number = bracketed_tag (codes "PRIVATE ") number

@@ -1,4 +1,4 @@
--- The universal types by their numbers: X.680, table 1. Other files import this one as `universal`.
+-- The universal types by their numbers: X.680, table 1.
 use Rattle.std.specs.Prelude.{ℕ}
 
 abbrev pub boolean : ℕ

@@ -11,9 +11,9 @@ pub enum FaultCode {
     StrayEnd,
     /// F04: the second end-of-contents octet is not `00` (8.1.5).
     BadEnd,
-    /// F05: the enclosing length is full before the end-of-contents octets (8.1.3.6).
+    /// F05: the enclosing length is full before the end-of-contents octets (8.1.5).
     MissingEnd,
-    /// F06: more than nine octets of tag number (8.1.2.4).
+    /// F06: more than nine octets of tag number (8.1.2.4.2).
     TagTooLong,
     /// F07: the first length octet is `ff` (8.1.3.5 c).
     ReservedLength,
@@ -23,7 +23,7 @@ pub enum FaultCode {
     LengthTooLarge,
     /// F10: more than 128 open elements.
     TooDeep,
-    /// F11: an element runs past the enclosing length (8.1.3).
+    /// F11: an element runs past the enclosing length (8.1.3.3).
     Overrun,
     /// F12: the first contents octet of a BIT STRING that wraps encodings is not `00` (8.6.2.2).
     BadInside,

@@ -52,9 +52,9 @@ pub struct Header {
     /// How many octets are the identifier.
     pub id_len: u8,
     pub(crate) named: bool,
-    /// These two are kept beside the octets, so that who asks for them need not have all octets moved.
-    pub(crate) number_octet: u8,
-    pub(crate) length_octet: u8,
+    /// Kept beside `raw`, as the next one is, so that a look at it moves no 137 octets.
+    pub(crate) second_identifier_octet: u8,
+    pub(crate) second_length_octet: u8,
 }
 
 /// What the octets of a header say, without the octets: small, while a [`Header`] has room for 137.
@@ -96,14 +96,14 @@ impl Model for Header {
       raw = record { items = take-append-drop h.id_len h.raw.items i };
       id_len = length-take-le h.id_len h.raw.items (le_of_lt k.0.identifier) i;
       named = h.named;
-      number_octet = sym k.1 i;
-      length_octet = sym k.2 i;
+      second_identifier_octet = sym k.1 i;
+      second_length_octet = sym k.2 i;
     } };
 }
 
 impl HeaderFields {
     ghost use Rattle.std.specs.Prelude.{◌≡◌};
-    ghost use Rattle.tlv_head.specs.HeaderFields.{fields_wrap};
+    ghost use Rattle.tlv_head.specs.Header.{fields_wrap};
 
     /// [`Header::wraps`], of the header with these fields.
     pub fn wraps(&self) -> bool
@@ -122,7 +122,8 @@ impl HeaderFields {
 impl Header {
     ghost use Rattle.std.specs.Prelude.{◌≤◌, length, slice_index};
     ghost use Rattle.tlv_head.specs.Header.{octets_of, wraps};
-    ghost use Rattle.tlv_head.specs.HeaderFields.{IsHeaderSized, fields_of, new_header};
+    ghost use Rattle.tlv_head.specs.Header.{fields_of};
+    ghost use Rattle.tlv_head.specs.HeaderFields.{IsHeaderSized, new_header};
 
     /// The header with these fields and octets: at most 137, of which at most ten, and not all, are the identifier.
     /// That the octets say these fields is for the caller to see to, as [`read_header`](crate::read_header) does.
@@ -133,7 +134,7 @@ impl Header {
     {
         let mut raw = ArrayVec::new();
         let _ = raw.try_extend_from_slice(octets);
-        let (number_octet, length_octet) = second_octets(fields.id_len, octets);
+        let (second_identifier_octet, second_length_octet) = second_octets(fields.id_len, octets);
         Header {
             offset: fields.offset,
             class: fields.class,
@@ -143,8 +144,8 @@ impl Header {
             raw,
             id_len: fields.id_len,
             named: fields.named,
-            number_octet,
-            length_octet,
+            second_identifier_octet,
+            second_length_octet,
         }
     }
 
@@ -155,7 +156,10 @@ impl Header {
         requires { IsHeaderSized fields.now raw.items }
         ensures { result ≡ new_header fields.now raw.items }
     {
-        let (number_octet, length_octet) = second_octets(fields.id_len, raw.as_slice());
+        let (second_identifier_octet, second_length_octet) = second_octets(
+            fields.id_len,
+            raw.as_slice(),
+        );
         Header {
             offset: fields.offset,
             class: fields.class,
@@ -165,8 +169,8 @@ impl Header {
             raw,
             id_len: fields.id_len,
             named: fields.named,
-            number_octet,
-            length_octet,
+            second_identifier_octet,
+            second_length_octet,
         }
     }
 
@@ -189,7 +193,7 @@ impl Header {
     /// then the length octets. There are at most 137.
     pub fn raw(&self) -> &[u8]
         ensures value { result.now ≡ octets_of self.now }
-        ensures within { length result.now ≤ 137 }
+        ensures short { length result.now ≤ 137 }
     {
         self.raw.as_slice()
     }
@@ -197,25 +201,25 @@ impl Header {
     /// The identifier octets: the first [`Header::id_len`] of [`Header::raw`]. There are at most ten.
     pub fn identifier(&self) -> &[u8]
         ensures value { result.now ≡ self.now.identifier }
-        ensures within { length result.now ≤ 10 }
+        ensures short { length result.now ≤ 10 }
     {
         &self.raw.as_slice()[..usize::from(self.id_len)]
     }
 
     /// The first subsequent identifier octet (8.1.2.4.2), or 0 if there is none.
     #[inline]
-    pub fn number_octet(&self) -> u8
+    pub fn second_identifier_octet(&self) -> u8
         ensures { result ≡ slice_index self.now.identifier 1 }
     {
-        self.number_octet
+        self.second_identifier_octet
     }
 
     /// The first subsequent length octet (8.1.3.5), or 0 if there is none.
     #[inline]
-    pub fn length_octet(&self) -> u8
+    pub fn second_length_octet(&self) -> u8
         ensures { result ≡ slice_index self.now.lengths 1 }
     {
-        self.length_octet
+        self.second_length_octet
     }
 
     /// Whether the contents are to be read as encodings although the element is primitive: it is an

@@ -6,7 +6,7 @@ ghost use Rattle.tlv_head.specs.Private.NextOctet.{BeginsWithIdentifier, BeginsW
 ghost use Rattle.tlv_head.specs.Private.NextOctet.{BeginsWithNoLength};
 
 use crate::next_octet::{
-    Identifier, Next, Part, first_identifier, header_fields, next_number, read_octet,
+    IdentifierFields, Next, Part, first_identifier, header_fields, next_number, read_octet,
 };
 use crate::{HeaderFields, Size};
 
@@ -20,7 +20,7 @@ pub fn read_header(offset: u64, named: bool, octets: &[u8]) -> Option<(HeaderFie
 {
     let mut part = Part::Start;
     for i in 0..octets.len() {
-        // It ends contents, or is refused where it is: no element begins with it (8.1.5).
+        // No header begins with `00`: it ends contents, or is refused (8.1.5).
         if i == 0 && octets[i] == 0 {
             return None;
         }
@@ -45,7 +45,7 @@ pub fn read_short(offset: u64, named: bool, octets: &[u8]) -> Option<(HeaderFiel
     ensures short { IfSome result (λ found. IsShortHeader found.0 found.1) }
 {
     let identifier = short_identifier(octets)?;
-    let id_len = usize::from(identifier.octets);
+    let id_len = usize::from(identifier.id_len);
     let (size, count) = short_length(identifier.constructed, &octets[id_len..])?;
     Some((
         header_fields(offset, named, identifier, size),
@@ -56,15 +56,15 @@ pub fn read_short(offset: u64, named: bool, octets: &[u8]) -> Option<(HeaderFiel
 /// The identifier with which the octets begin, if it has at most three. `None` if they begin with no such identifier
 /// that has an octet after it.
 #[inline(always)]
-fn short_identifier(octets: &[u8]) -> Option<Identifier>
+fn short_identifier(octets: &[u8]) -> Option<IdentifierFields>
     ensures { MatchOption result (BeginsWithNoIdentifier octets.now)
-        (λ id. BeginsWithIdentifier octets.now id × (id.octets ≤ 3)) }
+        (λ id. BeginsWithIdentifier octets.now id × (id.id_len ≤ 3)) }
 {
     if octets.is_empty() || octets[0] == 0 {
         return None;
     }
     let high = match first_identifier(octets[0]) {
-        Part::Length(identifier) => return Some(identifier),
+        Part::Identifier(identifier) => return Some(identifier),
         Part::Number(identifier) => identifier,
         _ => return None,
     };
@@ -72,9 +72,9 @@ fn short_identifier(octets: &[u8]) -> Option<Identifier>
         return None;
     }
     match next_number(high, octets[1]) {
-        Next::Unfinished(Part::Length(identifier)) => Some(identifier),
+        Next::Unfinished(Part::Identifier(identifier)) => Some(identifier),
         Next::Unfinished(Part::Number(higher)) => match next_number(higher, octets[2]) {
-            Next::Unfinished(Part::Length(identifier)) => Some(identifier),
+            Next::Unfinished(Part::Identifier(identifier)) => Some(identifier),
             _ => None,
         },
         _ => None,

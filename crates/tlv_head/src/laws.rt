@@ -2,11 +2,11 @@
 ghost use Rattle.tlv_head.specs.Laws.{HeadersAreNoPrefixes, HeadersHaveOneReading, OctetsBeginOneHeader};
 ghost use Rattle.tlv_head.specs.Laws.{OctetsGoOnOrAreRefused, PushesReturnOneHead, RefusalsAreFinal};
 ghost use Rattle.tlv_head.specs.Laws.{RefusedInputsBeginWithNone};
-ghost use Rattle.tlv_head.specs.Shortest.{HeadersHaveAShortest, ShortestHeadersAreOne, ShortestHeadersAreShortest};
+ghost use Rattle.tlv_head.specs.Shortest.{HeadersHaveAShortest, ShortestHeadersAreOne, NoHeaderIsShorter};
 
 /// Octets begin with one header at most: two headers that are at one offset and are both prefixes
 /// of one input are the same, and the same octets follow them.
-pub fn one_header()
+pub fn octets_begin_one_header()
     ensures { OctetsBeginOneHeader }
 {}
 
@@ -31,30 +31,30 @@ pub fn octets_go_on_or_are_refused()
     ensures { OctetsGoOnOrAreRefused }
 {}
 
-/// What [`HeadReader::push`](crate::HeadReader::push) promises leaves it one result.
-pub fn one_head()
+/// What [`HeadReader::push`](crate::HeadReader::push) promises determines what it returns.
+pub fn pushes_return_one_head()
     ensures { PushesReturnOneHead }
 {}
 
-/// What [`read_header`](crate::read_header) promises leaves it one header and one number of octets.
-pub fn one_reading()
+/// What [`read_header`](crate::read_header) promises determines what it returns.
+pub fn headers_have_one_reading()
     ensures { HeadersHaveOneReading }
 {}
 
 /// Two headers of one class, form, number and size have the same octets if both are as short as X.690 8.1.2 and 10.1
 /// say: a number below 31, and a length below 128, in one octet, and else no digits 0 in front.
-pub fn one_shortest_header()
+pub fn shortest_headers_are_one()
     ensures { ShortestHeadersAreOne }
 {}
 
 /// No other header of that class, form, number and size has fewer identifier octets than such a one,
 /// or fewer length octets.
-pub fn no_shorter_header()
-    ensures { ShortestHeadersAreShortest }
+pub fn no_header_is_shorter()
+    ensures { NoHeaderIsShorter }
 {}
 
 /// Each header can be spelled as short as that, but the one of the universal primitive 0, whose
 /// identifier octet would be the `00` of end-of-contents octets (8.1.5).
-pub fn some_shortest_header()
+pub fn headers_have_a_shortest()
     ensures { HeadersHaveAShortest }
 {}

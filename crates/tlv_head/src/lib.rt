@@ -3,16 +3,16 @@
 #![tactic(auto)]
 
 mod fault;
+mod head_reader;
 mod header;
 mod header_at_once;
 pub mod laws;
 mod next_octet;
-mod reader;
 mod tag;
 pub mod universal;
 
 pub use fault::{Fault, FaultCode};
+pub use head_reader::{Head, HeadReader};
 pub use header::{Class, Header, HeaderFields, Size, spell_indefinite};
 pub use header_at_once::{read_header, read_short};
-pub use reader::{Head, HeadReader};
-pub use tag::{padded_name, tag_text, type_name};
+pub use tag::{tag_text, type_name, type_name_block};

@@ -6,26 +6,27 @@ ghost use Rattle.tlv_head.specs.Private.NextOctet.{MakesNext};
 
 use crate::{Class, FaultCode, HeaderFields, Size};
 
-/// What the identifier octets so far say, and how many there are.
+/// What the identifier octets so far say, without the octets.
 #[derive(Clone, Copy)]
-pub(crate) struct Identifier {
+pub(crate) struct IdentifierFields {
     pub(crate) class: Class,
     pub(crate) constructed: bool,
     pub(crate) number: u64,
-    pub(crate) octets: u8,
+    /// How many octets they are.
+    pub(crate) id_len: u8,
 }
 
 /// What the octets so far are.
 #[derive(Clone, Copy)]
 pub(crate) enum Part {
     Start,
-    /// The high form (8.1.2.4), of which an octet is to follow.
-    Number(Identifier),
-    /// Identifier octets alone.
-    Length(Identifier),
-    /// A length so far (8.1.3.5), and how many of its octets are to follow.
-    Digits {
-        identifier: Identifier,
+    /// Identifier octets in the high form (8.1.2.4), of which an octet is to follow.
+    Number(IdentifierFields),
+    /// The identifier octets, all of them, and no length octet.
+    Identifier(IdentifierFields),
+    /// The identifier octets, the length so far (8.1.3.5), and how many of its octets are to follow.
+    Length {
+        identifier: IdentifierFields,
         length: u64,
         left: u8,
     },
@@ -36,7 +37,7 @@ pub(crate) enum Part {
 #[derive(Clone, Copy)]
 pub(crate) enum Next {
     Unfinished(Part),
-    Finished(Identifier, Size),
+    Finished(IdentifierFields, Size),
     Refused(FaultCode),
 }
 
@@ -45,7 +46,7 @@ pub(crate) enum Next {
 pub(crate) fn header_fields(
     offset: u64,
     named: bool,
-    identifier: Identifier,
+    identifier: IdentifierFields,
     size: Size,
 ) -> HeaderFields
     ensures { result ≡ record {
@@ -55,7 +56,7 @@ pub(crate) fn header_fields(
       constructed = identifier.constructed;
       number = identifier.number;
       size = size;
-      id_len = identifier.octets;
+      id_len = identifier.id_len;
     } }
 {
     HeaderFields {
@@ -65,7 +66,7 @@ pub(crate) fn header_fields(
         constructed: identifier.constructed,
         number: identifier.number,
         size,
-        id_len: identifier.octets,
+        id_len: identifier.id_len,
     }
 }
 
@@ -78,8 +79,8 @@ pub(crate) fn read_octet(part: Part, octet: u8) -> Next
     match part {
         Part::Start => Next::Unfinished(first_identifier(octet)),
         Part::Number(identifier) => next_number(identifier, octet),
-        Part::Length(identifier) => first_length(identifier, octet),
-        Part::Digits {
+        Part::Identifier(identifier) => first_length(identifier, octet),
+        Part::Length {
             identifier,
             length,
             left,
@@ -107,42 +108,42 @@ pub(crate) fn first_identifier(octet: u8) -> Part
     ensures { Carries result (octet ∷ []) }
 {
     let low = octet & 0x1f;
-    let identifier = Identifier {
+    let identifier = IdentifierFields {
         class: class_of(octet),
         constructed: octet >> 5 & 1 == 1,
         number: if low == 0x1f { 0 } else { u64::from(low) },
-        octets: 1,
+        id_len: 1,
     };
     if low == 0x1f {
         Part::Number(identifier)
     } else {
-        Part::Length(identifier)
+        Part::Identifier(identifier)
     }
 }
 
 /// A subsequent identifier octet (8.1.2.4.2).
 #[inline(always)]
-pub(crate) fn next_number(identifier: Identifier, octet: u8) -> Next
+pub(crate) fn next_number(identifier: IdentifierFields, octet: u8) -> Next
     requires { (octets : List ℕ) × CarriesNumber identifier octets }
     ensures { (octets : List ℕ) → CarriesNumber identifier octets → MakesNext octets octet result }
 {
-    if octet >= 0x80 && identifier.octets >= 9 {
+    if octet >= 0x80 && identifier.id_len >= 9 {
         return Next::Refused(FaultCode::TagTooLong);
     }
-    let identifier = Identifier {
+    let identifier = IdentifierFields {
         number: identifier.number * 128 + u64::from(octet & 0x7f),
-        octets: identifier.octets + 1,
+        id_len: identifier.id_len + 1,
         ..identifier
     };
     if octet >= 0x80 {
         Next::Unfinished(Part::Number(identifier))
     } else {
-        Next::Unfinished(Part::Length(identifier))
+        Next::Unfinished(Part::Identifier(identifier))
     }
 }
 
 /// The first length octet (8.1.3.4 to 8.1.3.6).
-fn first_length(identifier: Identifier, octet: u8) -> Next
+fn first_length(identifier: IdentifierFields, octet: u8) -> Next
     ensures { (octets : List ℕ) → CarriesIdentifier identifier octets
         → MakesNext octets octet result }
 {
@@ -151,7 +152,7 @@ fn first_length(identifier: Identifier, octet: u8) -> Next
     } else if octet == 0xff {
         Next::Refused(FaultCode::ReservedLength)
     } else if octet > 0x80 {
-        Next::Unfinished(Part::Digits {
+        Next::Unfinished(Part::Length {
             identifier,
             length: 0,
             left: octet - 0x80,
@@ -165,7 +166,7 @@ fn first_length(identifier: Identifier, octet: u8) -> Next
 
 /// A further length octet (8.1.3.5 b). A length of 2^40 or more is refused at the octet that makes
 /// it so, whatever follows.
-fn next_length(identifier: Identifier, length: u64, left: u8, octet: u8) -> Next
+fn next_length(identifier: IdentifierFields, length: u64, left: u8, octet: u8) -> Next
     requires { (octets : List ℕ) × CarriesLength identifier length left octets }
     ensures { (octets : List ℕ) → CarriesLength identifier length left octets
         → MakesNext octets octet result }
@@ -178,7 +179,7 @@ fn next_length(identifier: Identifier, length: u64, left: u8, octet: u8) -> Next
     if left == 0 {
         Next::Finished(identifier, Size::Definite(length))
     } else {
-        Next::Unfinished(Part::Digits {
+        Next::Unfinished(Part::Length {
             identifier,
             length,
             left,

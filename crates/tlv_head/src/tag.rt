@@ -1,8 +1,7 @@
 //! The texts of tags.
-ghost use Rattle.std.specs.Prelude.{◌≡◌, ◌≤◌, IfSome, eqb, length, take};
-ghost use Rattle.std.specs.Map.{lookup};
+ghost use Rattle.std.specs.Prelude.{◌≡◌, ◌≤◌, IfSome, length, take};
 ghost use Rattle.std.specs.Option.{option_copied, option_map};
-ghost use Rattle.tlv_head.specs.Tag.{tag_text, universal_names};
+ghost use Rattle.tlv_head.specs.Tag.{tag_text, type_name};
 
 use crate::{Class, universal};
 use arrayvec::ArrayVec;
@@ -11,20 +10,20 @@ use itoa::Buffer;
 /// The name of a universal type (X.680, table 1), in ASCII, as `INTEGER`: at most 17 octets. `None` if the number is
 /// not that of a type.
 pub fn type_name(number: u64) -> Option<&'static [u8]>
-    ensures name { option_copied result ≡ lookup (eqb number) universal_names }
+    ensures name { option_copied result ≡ type_name number }
     ensures short { IfSome result (λ name. length name.now ≤ 17) }
 {
-    let (name, size) = padded_name(number)?;
+    let (name, size) = type_name_block(number)?;
     Some(&name[..size])
 }
 
-/// The name of a universal type with spaces after it, so that it can be copied at once, and how many octets it has.
+/// A block that begins with the name of a universal type and has spaces after it, so that the name can be copied at
+/// once, and how many octets the name has.
 /// `None` if the number is not that of a type.
 #[inline(always)]
-pub fn padded_name(number: u64) -> Option<(&'static [u8; 32], usize)>
-    ensures name { option_map (λ padded. take padded.1 padded.0.now) result
-        ≡ lookup (eqb number) universal_names }
-    ensures short { IfSome result (λ padded. padded.1 ≤ 17) }
+pub fn type_name_block(number: u64) -> Option<(&'static [u8; 32], usize)>
+    ensures name { option_map (λ block. take block.1 block.0.now) result ≡ type_name number }
+    ensures short { IfSome result (λ block. block.1 ≤ 17) }
 {
     Some(match number {
         universal::BOOLEAN => (b"BOOLEAN                         ", 7),

@@ -158,7 +158,7 @@ module _ {D : Type 0} (state_of : D → DrainState) where
       prefix = q.prefix ∙ ap (λ (l : List ℕ). l ++ xs) (sym e);
       took = q.took;
       held = on_ok_weaker r (λ (z : q.left ≡ []). f ∙ sym z) q.all_sent;
-      lost = q.not_all;
+      lost = q.lost;
       failures = q.failures;
     }
 

@@ -48,7 +48,7 @@ module _ {T E : Type 0} (result : Result T E) where
     prefix = take-append-drop i octets;
     took = appends_kept old.octets middle.octets new.octets (take i octets) took kept;
     all_sent = all;
-    not_all = on_err_weaker result (some_left i octets) some;
+    lost = on_err_weaker result (some_left i octets) some;
     failures = failed ∙ ap (failures_after result) failures;
   }
 
@@ -68,7 +68,7 @@ module _ {T U E : Type 0} where
         (sym (append-nil p.sent) ∙ ap (λ (l : List ℕ). p.sent ++ l) (sym p.all_sent) ∙ p.prefix);
     took = Appends-trans a.octets b.octets c.octets p.sent q.sent p.took q.took;
     all_sent = q.all_sent;
-    not_all = q.not_all;
+    lost = q.lost;
     failures = q.failures ∙ ap (failures_after r) p.failures;
   }
 
@@ -82,7 +82,7 @@ module _ {T U E F : Type 0} where
     prefix = p.prefix ∙ z;
     took = p.took;
     all_sent = p.all_sent;
-    not_all = tt;
+    lost = tt;
     failures = p.failures;
   }
 
@@ -95,7 +95,7 @@ module _ {T U E F : Type 0} where
     prefix = sym (append_assoc p.sent p.left z.rest) ∙ ap (λ (l : List ℕ). l ++ z.rest) p.prefix ∙ z.is;
     took = p.took;
     all_sent = tt;
-    not_all = more_left p.left z.rest p.not_all;
+    lost = more_left p.left z.rest p.lost;
     failures = p.failures;
   }
 
@@ -115,7 +115,7 @@ module _ {T E : Type 0} where
     prefix = refl;
     took = Appends-nil a.octets;
     all_sent = refl;
-    not_all = tt;
+    lost = tt;
     failures = refl;
   }
 
@@ -135,7 +135,7 @@ module _ {D : Type 0} (state_of : D → DrainState) where
           prefix = p.prefix ∙ ap (λ (l : List ℕ). l ++ xs) none;
           took = p.took;
           all_sent = both r p.held empty;
-          not_all = p.lost;
+          lost = p.lost;
           failures = p.failures;
         })
       where

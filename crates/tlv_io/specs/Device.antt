@@ -29,15 +29,19 @@ pub record DrainState : Type 0 where
   pub octets : Option (List ℕ)
   pub failures : ℕ
 
+-- the log of a source that was not read
+abbrev pub new_read_log : ReadLogState
+new_read_log = record { reads = 0; last = never; failures = 0 }
+
 -- a source with these octets, of which nothing was read
 abbrev pub new_source : Option (List ℕ) → SourceState
 new_source left = record { left = left; reads = 0; last = never; failures = 0 }
 
--- a count after so many more; it stops at 2^64 - 1
+-- a count to which so many are added at once; it stops at 2^64 - 1
 abbrev pub count_after : ℕ → ℕ → ℕ
 count_after n more = min (n + more) (2 ^ 64 - 1)
 
--- a count after one more
+-- a count after one call more
 abbrev pub next_count : ℕ → ℕ
 next_count n = count_after n 1
 
@@ -61,20 +65,27 @@ module _ {E : Type 0} where
     pub last : new.last ≡ last_after result
     pub failures : new.failures ≡ failures_after result old.failures
 
-  -- one write of octets with which these begin: at least one, or it fails
+  -- one write of these octets: it takes a prefix of them, one octet or more, or fails
   pub record WritesOnce (old new : DrainState) (result : Result ℕ E) (from : List ℕ) : Type 0 where
     pub octets : WriteAppends old.octets new.octets result from
     pub some : IfOk result (λ n. (0 < n) × (n ≤ length from))
     pub failures : new.failures ≡ failures_after result old.failures
 
--- reads of a source, one or more: the octets that each gave, and the last. Each but the last gave between one octet
--- and 4096. The last gave as many as the source says, or failed and gave none
+-- a read that is not the last gave one octet to 4096
+abbrev pub IsPiece : List ℕ → Type 0
+IsPiece octets = (0 < length octets) × (length octets ≤ 4096)
+
+-- the last read gave these octets, or failed and gave none
+abbrev pub GaveLast : LastReadValue → List ℕ → Type 0
+GaveLast last octets = (last ≡ gave (length octets)) ⊎ ((last ≡ failed) × (octets ≡ []))
+
+-- reads of a source, one or more: the octets that each gave, and those of the last
 pub record Pieces (old new : SourceState) : Type 0 where
   pub pieces : List (List ℕ)
   pub last : List ℕ
-  pub each : All (λ octets. (0 < length octets) × (length octets ≤ 4096)) pieces
+  pub each : All IsPiece pieces
   pub short : length last ≤ 4096
-  pub gave_last : (new.last ≡ gave (length last)) ⊎ ((new.last ≡ failed) × (last ≡ []))
+  pub gave_last : GaveLast new.last last
   pub reads : new.reads ≡ count_after old.reads (length pieces + 1)
   pub consumed : Consumes old.left new.left (concat pieces ++ last)
 

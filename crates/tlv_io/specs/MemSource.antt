@@ -14,7 +14,7 @@ pub record MemSourceState : Type 0 where
 abbrev pub source_state_of : MemSourceState → SourceState
 source_state_of s = record { left = Some s.left; reads = s.log.reads; last = s.log.last; failures = s.log.failures }
 
--- of this many octets, as many as read i may give: its cut, at least one, or all of them after the cuts
+-- of this many octets, as many as the read with index i may give: its cut, at least one, or all of them after the cuts
 abbrev pub cut_count : List ℕ → ℕ → ℕ → ℕ
 cut_count cuts i count = option_map_or (λ cut. min count (max 1 cut)) (slice_get cuts i) count
 

@@ -22,7 +22,7 @@ module _ {T E : Type 0} where
     pub prefix : sent ++ left ≡ octets
     pub took : Appends old.octets new.octets sent
     pub all_sent : OnOk result (left ≡ [])
-    pub not_all : OnErr result (left ≢ [])
+    pub lost : OnErr result (left ≢ [])
     pub failures : new.failures ≡ failures_after result old.failures
 
   -- a call that puts octets to an `Out`. The drain takes a prefix of what was held and then these, after what it

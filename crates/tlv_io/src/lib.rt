@@ -2,15 +2,15 @@
 //! gathered in lines, and written.
 #![tactic(auto)]
 
-mod buffer;
 mod drain;
+mod held_octets;
 mod memory;
 mod out;
 mod source;
 mod stream;
 
-pub use buffer::HeldOctets;
 pub use drain::{Drain, WriteFault};
+pub use held_octets::HeldOctets;
 pub use memory::{MemDrain, MemSource};
 pub use out::Out;
 pub use source::{ReadFault, Source};

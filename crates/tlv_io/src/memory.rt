@@ -1,7 +1,7 @@
 //! A source and a drain over memory.
 
 ghost use Rattle.std.specs.Prelude.{◌≡◌, ◌<◌, ◌≤◌, ◌↔◌, [], IfOk, IsErr, Some, drop, length, max, take};
-ghost use Rattle.tlv_io.specs.Device.{ReadsOnce, WritesOnce, never};
+ghost use Rattle.tlv_io.specs.Device.{ReadsOnce, WritesOnce, new_read_log};
 ghost use Rattle.tlv_io.specs.MemSource.{cut_count, read_count, source_state_of};
 
 use crate::drain::{Drain, WriteFault};
@@ -40,7 +40,7 @@ impl<'a> MemSource<'a> {
           left = octets.now;
           cuts = cuts.now;
           fail_at = fail_at;
-          log = record { reads = 0; last = never; failures = 0 };
+          log = new_read_log;
         } }
     {
         MemSource {
@@ -82,11 +82,11 @@ impl Source for MemSource<'_> {
     }
 }
 
-/// How many of `count` octets read `read` may give.
-fn cut_count(cuts: &[u64], read: u64, count: usize) -> usize
-    ensures { result ≡ cut_count cuts.now read count }
+/// How many of `count` octets the read with this index may give.
+fn cut_count(cuts: &[u64], index: u64, count: usize) -> usize
+    ensures { result ≡ cut_count cuts.now index count }
 {
-    match cuts.get(read as usize) {
+    match cuts.get(index as usize) {
         Some(cut) => count.min((*cut).max(1) as usize),
         None => count,
     }

@@ -4,8 +4,8 @@ ghost use Rattle.std.specs.Prelude.{◌≡◌, ◌≤◌, ◌++◌, [], length, 
 ghost use Rattle.tlv_io.specs.LineTexts.{HasRoomFor};
 ghost use Rattle.tlv_io.specs.Out.{Puts, Sends, held_octets, drain_of};
 
-use crate::buffer::{CAPACITY, HeldOctets};
 use crate::drain::{Drain, WriteFault};
+use crate::held_octets::{CAPACITY, HeldOctets};
 
 /// Room for the longest line: an element's, at level 255, with 64 octets of contents.
 const LINE: usize = 1024;
@@ -72,7 +72,7 @@ impl<'d, D: Drain> Out<'d, D> {
     #[inline]
     pub fn put(&mut self, octets: &[u8]) -> Result<(), WriteFault>
         ensures puts { Puts D.state self.old self.new octets.now result }
-        ensures bound { length (held_octets self.new) ≤ 4096 }
+        ensures short { length (held_octets self.new) ≤ 4096 }
     {
         if octets.len() < self.held.room() {
             self.held.add(octets);
@@ -86,7 +86,7 @@ impl<'d, D: Drain> Out<'d, D> {
     #[inline(never)]
     fn put_past_room(&mut self, octets: &[u8]) -> Result<(), WriteFault>
         ensures puts { Puts D.state self.old self.new octets.now result }
-        ensures bound { length (held_octets self.new) ≤ 4096 }
+        ensures short { length (held_octets self.new) ≤ 4096 }
     {
         if octets.len() > self.held.room() {
             self.flush()?;
@@ -108,7 +108,7 @@ impl<'d, D: Drain> Out<'d, D> {
     pub fn flush(&mut self) -> Result<(), WriteFault>
         ensures puts { Puts D.state self.old self.new [] result }
         ensures empty { OnOk result (held_octets self.new ≡ []) }
-        ensures bound { length (held_octets self.new) ≤ 4096 }
+        ensures short { length (held_octets self.new) ≤ 4096 }
     {
         send(self.drain, self.held.as_slice())?;
         self.held.clear();

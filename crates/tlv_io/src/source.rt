@@ -1,8 +1,8 @@
 //! What octets are read from.
 
 ghost use Rattle.std.specs.Prelude.{◌≡◌, ◌<◌, length};
-ghost use Rattle.tlv_io.specs.Device.{ReadsOnce, SourceState, never};
-ghost use Rattle.tlv_io.specs.Private.Device.{read_log_after};
+ghost use Rattle.tlv_io.specs.Device.{ReadsOnce, SourceState, new_read_log};
+ghost use Rattle.tlv_io.specs.Private.ReadLog.{read_log_after};
 
 use std::marker::Model;
 
@@ -56,7 +56,7 @@ impl Model for ReadLog {
 impl ReadLog {
     /// The log of a source that was not read yet.
     pub(crate) fn new() -> ReadLog
-        ensures { result ≡ record { reads = 0; last = never; failures = 0 } }
+        ensures { result ≡ new_read_log }
     {
         ReadLog {
             reads: 0,

@@ -232,7 +232,7 @@ module _ (job : Job ReportValue) (stays : Stays job)
         let output : one.0.output ≡ written ++ (x.sends.left ++ on.0) =
         front_and_rest written x.sends.sent x.sends.left (job.text x.reading) on.0 one.0.output sent x.sends.prefix
         text in
-        short one.0 (x.sends.left ++ on.0) one.1 output (more_left x.sends.left on.0 x.sends.not_all)
+        short one.0 (x.sends.left ++ on.0) one.1 output (more_left x.sends.left on.0 x.sends.lost)
         (full (x.sends.failures ∙ ap next_count unfailed ∙ one_failure))
 
     run_in : (result : Result ReportValue DeviceFault)

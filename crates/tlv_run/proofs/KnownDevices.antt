@@ -7,7 +7,7 @@ use Rattle.std.proofs.lemmas.List.{take-append-le, take_all}
 use Rattle.std.proofs.Math.Seq.{take-append-add}
 use Rattle.std.specs.Prelude.{Option, Some, None}
 use Rattle.std.specs.Io.KnownBytes.{Appends, Consumes, IsAtEnd}
-use Rattle.tlv_io.proofs.Pieces.{GaveLast}
+use Rattle.tlv_io.specs.Device.{GaveLast}
 use Rattle.tlv_io.specs.Device.{LastReadValue, failed, gave, never}
 
 -- what a source has left that knows its octets

@@ -7,7 +7,7 @@ use Rattle.std.proofs.lemmas.Bool.{cases_lt, lt-ltb}
 use Rattle.std.proofs.lemmas.List.{get_or_default}
 use Rattle.std.specs.Prelude.{if◌then◌else◌, Some}
 use Rattle.std.specs.Io.KnownBytes.{IsAtEnd}
-use Rattle.tlv_value.specs.Names.{NamesTable}
+use Rattle.tlv_value.specs.Names.{NamesValue}
 use Rattle.tlv_io.specs.Device.{DrainState, LastReadValue, SourceState, failed, gave, never, new_source}
 use Rattle.tlv_walk.specs.Job.{device_states}
 use Rattle.tlv_io.specs.MemSource.{MemSourceState}
@@ -52,7 +52,7 @@ gave_some (gave zero) e = cc (e)
 gave_some (gave (suc n)) e = cc (e)
 gave_some failed e = cc (e)
 
-module _ (command : Command) (names : NamesTable) (octets : List ℕ)
+module _ (command : Command) (names : NamesValue) (octets : List ℕ)
     (fit : (i : ℕ) → Fits w8 (slice_index_or octets i 0)) (room : ℕ)
     (written kept : ArrayVec ℕ) (same : written ≡ kept) (fits : length written.items ≤ room) (failures : ℕ)
     (from : DrainState) (from_is : from ≡ record { octets = Some []; failures = 0 }) (report : ReportValue) where

@@ -10,7 +10,7 @@ use Rattle.tlv_cut.specs.IndefJob.{indef_framing}
 use Rattle.tlv_cut.specs.IndefReading.{indef_reading}
 use Rattle.tlv_cut.specs.IndefText.{indef_text}
 use Rattle.tlv_show.proofs.DumpLemmas.Longer.{checks_on, dumps_on}
-use Rattle.tlv_value.specs.Names.{NamesTable}
+use Rattle.tlv_value.specs.Names.{NamesValue}
 use Rattle.tlv_walk.proofs.GrammarLemmas.Endings.{ending, is-ending}
 use Rattle.tlv_walk.proofs.GrammarLemmas.Readings.{is-reading, reading, reading-unique}
 use Rattle.tlv_walk.proofs.GrammarLemmas.Unique.{ending-unique, refused-for-good}
@@ -123,7 +123,7 @@ inputs_have_one_result command names = one_made (command_job command names)
 abbrev result_of_parts : List ℕ → Ending → ReportValue → CommandResult
 result_of_parts t e report = record { output = t; ending = e; report = report }
 
-pub stays_for : (command : Command) (names : NamesTable) → Stays (command_job command names)
+pub stays_for : (command : Command) (names : NamesValue) → Stays (command_job command names)
 stays_for (Dump options names_file file) names b c f g r s e = absurd (true≢false (sym e))
 stays_for (Check rules framing file) names b c f g r s e = absurd (true≢false (sym e))
 stays_for (Extract offset contents framing file) names b c f g r s e =
@@ -144,13 +144,13 @@ pub settled_results : SettledResultsStay
 settled_results command names b c made octets x s =
     (settled_stays (command_job command names) (stays_for command names) b c made octets x s).0
 
-pub limit_is : (command : Command) (names : NamesTable) → (command_job command names).limit ≡ 2 ^ 40
+pub limit_is : (command : Command) (names : NamesValue) → (command_job command names).limit ≡ 2 ^ 40
 limit_is (Dump options names_file file) names = refl
 limit_is (Check rules framing file) names = refl
 limit_is (Extract offset contents framing file) names = refl
 limit_is (Indef padding file) names = refl
 
-pub text_on : (command : Command) (names : NamesTable) (b c : List ℕ) (f g : Forest)
+pub text_on : (command : Command) (names : NamesValue) (b c : List ℕ) (f g : Forest)
     → length (b ++ c) ≤ (command_job command names).limit
     → IsReading (command_job command names).framing b f → IsReading (command_job command names).framing (b ++ c) g
     → IsPrefixOf ((command_job command names).text f) ((command_job command names).text g)

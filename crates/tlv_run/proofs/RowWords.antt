@@ -12,7 +12,7 @@ use Rattle.tlv_show.specs.ShowJob.{show_job}
 use Rattle.tlv_show.specs.Texts.{item_text}
 use Rattle.tlv_show.specs.declared.options.Options.{Options}
 use Rattle.tlv_show.specs.declared.rules.Rules.{Rules}
-use Rattle.tlv_value.specs.Names.{NamesTable}
+use Rattle.tlv_value.specs.Names.{NamesValue}
 use Rattle.tlv_value.specs.Value.{NameOf, no_names}
 use Rattle.tlv_walk.specs.Framing.{plain_framing}
 use Rattle.tlv_walk.proofs.GrammarLemmas.Readings.{reading}
@@ -67,7 +67,7 @@ indef padding = Indef padding None
 
 -- ---- what is made of an input
 
-abbrev pub result_with : NamesTable → Command → List ℕ → CommandResult
+abbrev pub result_with : NamesValue → Command → List ℕ → CommandResult
 result_with names command octets = result_of (command_job command names) octets
 
 abbrev pub result : Command → List ℕ → CommandResult
@@ -105,7 +105,7 @@ dump_result rules limit pure framing name_of octets =
     let show = show_job rules framing (item_text name_of (top_layout (options_of rules limit pure framing))) in
     record (result (dump rules limit pure framing) octets) { output = show.text (reading framing octets) }
 
-by_names : (rules : Rules) (limit : Option ℕ) (pure : Bool) (framing : Framing) (names : NamesTable) (name_of : NameOf)
+by_names : (rules : Rules) (limit : Option ℕ) (pure : Bool) (framing : Framing) (names : NamesValue) (name_of : NameOf)
     →
     finite.get names ≡ name_of → (octets : List ℕ)
     → result_with names (dump rules limit pure framing) octets ≡ dump_result rules limit pure framing name_of octets
@@ -119,7 +119,7 @@ nameless rules limit pure framing =
     by_names rules limit pure framing finite.empty no_names (λ i text. finite.get-empty (slice_cmp nat_cmp) text i)
 
 -- the table of a names file with these entries
-abbrev pub entries_table : List (List ℕ × List ℕ) → NamesTable
+abbrev pub entries_table : List (List ℕ × List ℕ) → NamesValue
 entries_table entries = finite.from_entries entries
 
 abbrev name_in : List (List ℕ × List ℕ) → NameOf

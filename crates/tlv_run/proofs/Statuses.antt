@@ -5,7 +5,7 @@ use Rattle.tlv_cut.specs.ExtractText.{has_element_at}
 use Rattle.tlv_show.specs.declared.outcome.Outcome.{Outcome}
 use Rattle.tlv_show.specs.CheckJob.{check_job}
 use Rattle.tlv_show.specs.DumpJob.{dump_job}
-use Rattle.tlv_value.specs.Names.{NamesTable}
+use Rattle.tlv_value.specs.Names.{NamesValue}
 use Rattle.tlv_walk.proofs.GrammarLemmas.Endings.{done-sound, sound-done}
 use Rattle.tlv_walk.proofs.GrammarLemmas.Unique.{ending-unique}
 use Rattle.tlv_walk.specs.declared.ending.Ending.{Ending}
@@ -33,7 +33,7 @@ found_quiet : (offset : ℕ) (found : Bool) → (found_report offset found).stat
 found_quiet offset true e = absurd (cc (e))
 found_quiet offset false e = absurd (cc (e))
 
-done_quiet : (command : Command) (names : NamesTable) (f : Forest)
+done_quiet : (command : Command) (names : NamesValue) (f : Forest)
     → ((command_job command names).result f ending.Done).status ≡ 2 → ⊥
 done_quiet (Dump options names_file file) names f e =
     let outcome : Outcome = (dump_job options names).result f ending.Done in quiet outcome.unused outcome.findings e
@@ -42,7 +42,7 @@ done_quiet (Check rules framing file) names f e =
 done_quiet (Extract offset contents framing file) names f e = found_quiet offset (has_element_at offset f) e
 done_quiet (Indef padding file) names f e = absurd (cc (e))
 
-fault_loud : (command : Command) (names : NamesTable) (f : Forest) (e : Ending) → (e ≡ ending.Done → ⊥)
+fault_loud : (command : Command) (names : NamesValue) (f : Forest) (e : Ending) → (e ≡ ending.Done → ⊥)
     → ((command_job command names).result f e).status ≡ 2
 fault_loud command names f ending.Done apart = absurd (apart refl)
 fault_loud (Dump options names_file file) names f (ending.Fault k) apart = refl

@@ -1,7 +1,7 @@
 -- Laws of what commands make of inputs.
 use Rattle.std.specs.Prelude.{◌≡◌, ℕ, ◌^◌, ◌≤◌, Bool, List, ◌++◌, length, Option, ◌↔◌, ◌<◌, ◌-◌, Some, false}
 use Rattle.std.specs.Io.KnownBytes.{Appends}
-use Rattle.tlv_value.specs.Names.{NamesTable}
+use Rattle.tlv_value.specs.Names.{NamesValue}
 use Rattle.tlv_walk.specs.declared.ending.Ending.TheVariants.{Done}
 use Rattle.tlv_io.specs.Device.{SourceState}
 use Rattle.tlv_walk.specs.Job.{DeviceStates}
@@ -16,7 +16,7 @@ use Rattle.tlv_head.specs.InputLimit.{input_limit}
 -- an input has a result, and no other
 abbrev pub InputsHaveOneResult : Type 0
 InputsHaveOneResult =
-    (command : Command) (names : NamesTable) (b : List ℕ) → AreOctets b
+    (command : Command) (names : NamesValue) (b : List ℕ) → AreOctets b
     → (made : CommandResult)
     × IsCommandResult command names b made
     × ((other : CommandResult) → IsCommandResult command names b other → other ≡ made)
@@ -24,20 +24,20 @@ InputsHaveOneResult =
 -- at a fault other than F01 and F02, and if `extract` has its whole element, the result stays, whatever follows
 abbrev pub SettledResultsStay : Type 0
 SettledResultsStay =
-    (command : Command) (names : NamesTable) (b c : List ℕ) (made : CommandResult) → AreOctets (b ++ c)
+    (command : Command) (names : NamesValue) (b c : List ℕ) (made : CommandResult) → AreOctets (b ++ c)
     → (x : IsCommandResult command names b made) → IsSettled x → IsCommandResult command names (b ++ c) made
 
 -- what is written of an input of at most 2^40 octets goes on from what is written of a prefix
 abbrev pub OutputsGoOn : Type 0
 OutputsGoOn =
-    (command : Command) (names : NamesTable) (b c : List ℕ) (made more : CommandResult) → length (b ++ c) ≤ input_limit
+    (command : Command) (names : NamesValue) (b c : List ℕ) (made more : CommandResult) → length (b ++ c) ≤ input_limit
     → IsCommandResult command names b made → IsCommandResult command names (b ++ c) more
     → IsPrefixOf made.output more.output
 
 -- what `indef` wrote, read again by `indef`, is written unchanged; and if it ended without a fault it does so again
 abbrev pub SecondIndefIsTheFirst : Type 0
 SecondIndefIsTheFirst =
-    (padding : Bool) (file : Option (List ℕ)) (names : NamesTable) (b : List ℕ) (made again : CommandResult)
+    (padding : Bool) (file : Option (List ℕ)) (names : NamesValue) (b : List ℕ) (made again : CommandResult)
     → IsCommandResult (Indef padding file) names b made → IsCommandResult (Indef padding file) names made.output again
     → (again.output ≡ made.output) × (made.ending ≡ Done → again ≡ made)
 
@@ -57,7 +57,7 @@ pub record FailsNowhere (old new : DeviceStates) : Type 0 where
 -- what a run makes of a source that knows its octets, if neither device fails: the result of these octets
 abbrev pub RunsAreResults : Type 0
 RunsAreResults =
-    (command : Command) (names : NamesTable) (octets : List ℕ)
+    (command : Command) (names : NamesValue) (octets : List ℕ)
     (old new : DeviceStates) (report : ReportValue)
     → HasInput old.source octets → FailsNowhere old new
     → RunsAndReports (command_job command names) old new report
@@ -69,7 +69,7 @@ RunsAreResults =
 -- if no element is asked for, or it is not whole, the status 2 says just that the input is no sound list of encodings
 abbrev pub StatusesShowSoundness : Type 0
 StatusesShowSoundness =
-    (command : Command) (names : NamesTable) (b : List ℕ) (made : CommandResult)
+    (command : Command) (names : NamesValue) (b : List ℕ) (made : CommandResult)
     → (x : IsCommandResult command names b made)
     → let job = command_job command names in job.is_enough x.reading ≡ false
     → (made.report.status ≡ 2) ↔ (IsSoundList job.framing b → ⊥)

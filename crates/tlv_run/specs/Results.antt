@@ -4,7 +4,7 @@ use Rattle.tlv_cut.specs.ExtractJob.{extract_job}
 use Rattle.tlv_cut.specs.IndefJob.{indef_job}
 use Rattle.tlv_show.specs.CheckJob.{check_job}
 use Rattle.tlv_show.specs.DumpJob.{dump_job}
-use Rattle.tlv_value.specs.Names.{NamesTable}
+use Rattle.tlv_value.specs.Names.{NamesValue}
 use Rattle.tlv_walk.specs.declared.ending.Ending.{Ending}
 use Rattle.tlv_walk.specs.Forest.{Forest}
 use Rattle.tlv_walk.specs.Ending.{IsFinalEnding}
@@ -26,7 +26,7 @@ job_with_report report job = record {
 
 -- what each command wants of an input: what is written of its elements, when nothing more is wanted, and what is
 -- reported
-abbrev pub command_job : Command → NamesTable → Job ReportValue
+abbrev pub command_job : Command → NamesValue → Job ReportValue
 command_job (Dump options names_file file) names = job_with_report outcome_report (dump_job options names)
 command_job (Check rules framing file) names = job_with_report outcome_report (check_job rules framing)
 command_job (Extract offset contents framing file) names =
@@ -52,7 +52,7 @@ pub record IsJobResult (job : Job ReportValue) (b : List ℕ) (made : CommandRes
   pub is_made : made ≡ command_result job reading made.ending
 
 -- what a command makes of an input
-abbrev pub IsCommandResult : Command → NamesTable → List ℕ → CommandResult → Type 0
+abbrev pub IsCommandResult : Command → NamesValue → List ℕ → CommandResult → Type 0
 IsCommandResult command names = IsJobResult (command_job command names)
 
 -- nothing counts that could follow the octets: an octet is refused, or nothing more is wanted

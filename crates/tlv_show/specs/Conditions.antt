@@ -28,13 +28,13 @@ abbrev pub has_long_form : HeaderValue → Bool
 has_long_form h = nat_lt 1 (length h.lengths)
 
 -- the first of them
-abbrev pub length_octet : HeaderValue → ℕ
-length_octet h = slice_index h.lengths 1
+abbrev pub second_length_octet : HeaderValue → ℕ
+second_length_octet h = slice_index h.lengths 1
 
 -- 9.1, 10.1: it does not have the fewest octets: those of the long form are for 128 and more, and do not begin with 00
 abbrev pub is_length_padded : HeaderValue → Bool
 is_length_padded h =
-    has_long_form h && (nat_lt (announced_length h.size) 128 || length_octet h == 0)
+    has_long_form h && (nat_lt (announced_length h.size) 128 || second_length_octet h == 0)
 
 -- 8.6.2.2: a primitive BIT STRING with unused bits
 abbrev pub follows_unused_bits : Previous → Bool

@@ -1,7 +1,7 @@
 -- What a dump over all that a source gives comes to.
 use Rattle.std.specs.FinMap as finite
 use Rattle.tlv_value.specs.declared.layout.Layout.{Layout}
-use Rattle.tlv_value.specs.Names.{NamesTable}
+use Rattle.tlv_value.specs.Names.{NamesValue}
 use Rattle.tlv_walk.specs.Job.{Job}
 use Rattle.tlv_show.specs.declared.options.Options.{Options}
 use Rattle.tlv_show.specs.declared.outcome.Outcome.{Outcome}
@@ -13,6 +13,6 @@ abbrev pub top_layout : Options → Layout
 top_layout options = record { level = 0; limit = options.limit; pure = options.pure }
 
 -- all elements, as lines, with those of findings
-abbrev pub dump_job : Options → NamesTable → Job Outcome
+abbrev pub dump_job : Options → NamesValue → Job Outcome
 dump_job options names =
     show_job options.rules options.framing (item_text (finite.get names) (top_layout options))

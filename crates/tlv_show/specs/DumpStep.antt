@@ -1,7 +1,7 @@
 -- What a dump makes of events: the lines of elements, with those of what is found in them before and after.
 use Rattle.std.specs.Prelude.{ℕ, List, [], ◌∷◌, ◌++◌}
 use Rattle.tlv_value.specs.declared.layout.Layout.{Layout}
-use Rattle.tlv_value.specs.Names.{NamesTable}
+use Rattle.tlv_value.specs.Names.{NamesValue}
 use Rattle.tlv_walk.specs.Events.{Begin, Bytes, Close, End, Enter, EventValue, Leave, Open, Pad, Unused}
 use Rattle.tlv_walk.specs.Follow.{Effect, each_octet, effect_with}
 use Rattle.tlv_show.specs.declared.rules.Rules.{Rules}
@@ -18,7 +18,7 @@ pub record DumpState : Type 0 where
   pub finder : CheckState
 
 -- a dump of which nothing is written
-abbrev pub new_dump : Rules → Layout → NamesTable → DumpState
+abbrev pub new_dump : Rules → Layout → NamesValue → DumpState
 new_dump rules layout names = record { lines = new_lines layout names; finder = new_check rules }
 
 -- the lines of what is found

@@ -13,7 +13,7 @@ use Rattle.tlv_show.specs.Texts.{check_line, finding_count}
 use Rattle.tlv_show.specs.CheckStep.{check_step}
 use Rattle.tlv_show.specs.DumpStep.{new_dump}
 use Rattle.tlv_head.specs.Header.{HeaderValue, announced_length}
-use Rattle.tlv_value.specs.Names.{NamesTable}
+use Rattle.tlv_value.specs.Names.{NamesValue}
 use Rattle.tlv_value.specs.ValueLines.{whole_lines}
 use Rattle.tlv_walk.specs.Events.{Begin, Bytes, End, events}
 use Rattle.tlv_walk.specs.Follow.{effect_of, effect_with}
@@ -34,7 +34,7 @@ use Rattle.tlv_head.specs.InputLimit.{input_limit}
 -- the text of a longer input, of no more octets than are dumped, begins with that of the shorter
 abbrev pub DumpsGoOn : Type 0
 DumpsGoOn =
-    (options : Options) (names : NamesTable) (b c : List ℕ) (f g : Forest) → length (b ++ c) ≤ input_limit
+    (options : Options) (names : NamesValue) (b c : List ℕ) (f g : Forest) → length (b ++ c) ≤ input_limit
     → IsReading options.framing b f → IsReading options.framing (b ++ c) g
     → IsPrefixOf ((dump_job options names).text f) ((dump_job options names).text g)
 
@@ -68,7 +68,7 @@ PrimitivesAreShown =
 -- a `Dump` puts the text of a reading of no more octets than are dumped, counts its findings, and never has enough
 abbrev pub DumpsMakeTexts : Type 0
 DumpsMakeTexts =
-    (options : Options) (names : NamesTable) (b : List ℕ) (f : Forest)
+    (options : Options) (names : NamesValue) (b : List ℕ) (f : Forest)
     → length b ≤ input_limit → IsReading options.framing b f
     → let made = effect_of dump_step (new_dump options.rules (top_layout options) names) (events f) in
     (made.put ≡ (dump_job options names).text f)

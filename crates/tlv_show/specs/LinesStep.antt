@@ -4,7 +4,7 @@ use Rattle.std.specs.Prelude.{take, Option, Some, None}
 use Rattle.std.specs.FinMap as finite
 use Rattle.tlv_head.specs.Header.{HeaderValue, octets_of}
 use Rattle.tlv_value.specs.declared.layout.Layout.{Layout}
-use Rattle.tlv_value.specs.Names.{NamesTable}
+use Rattle.tlv_value.specs.Names.{NamesValue}
 use Rattle.tlv_value.specs.ValueTextState.{ValueTextState, begin_lines, contents_lines, end_lines}
 use Rattle.tlv_value.specs.ValueTextState.{new_value_text, value_text_after}
 use Rattle.tlv_walk.specs.Events.{Begin, Bytes, Close, End, Enter, EventValue, Leave, Open, Pad, Unused}
@@ -17,7 +17,7 @@ pub record LinesState : Type 0 where
   -- how lines are laid out: the level is how many elements are open that hold others
   pub layout : Layout
   -- the names of object identifiers
-  pub names : NamesTable
+  pub names : NamesValue
   -- the offset of the next octet
   pub offset : ℕ
   -- whether the last octets were padding
@@ -26,7 +26,7 @@ pub record LinesState : Type 0 where
   pub open_text : Option ValueTextState
 
 -- the lines of a dump before its first event
-abbrev pub new_lines : Layout → NamesTable → LinesState
+abbrev pub new_lines : Layout → NamesValue → LinesState
 new_lines layout names = record {
   layout = layout;
   names = names;
@@ -88,7 +88,7 @@ lines_octet_step s x =
     (value_contents_lines s.open_text (x ∷ []))
 
 -- a primitive ends, of which all contents octets have come
-abbrev pub value_end_lines : NamesTable → Option ValueTextState → List ℕ
+abbrev pub value_end_lines : NamesValue → Option ValueTextState → List ℕ
 value_end_lines names None = []
 value_end_lines names (Some t) = if eqb t.left 0 then end_lines (finite.get names) t else []
 

@@ -99,7 +99,7 @@ fn write_check_finding(held: &mut HeldOctets, offset: u64, finding: Finding)
     requires { HasRoomFor held.old 1024 }
     ensures { held.new ≡ held.old ++ check_finding_line offset finding }
 {
-    let (wording, count) = finding.padded_wording();
+    let (wording, count) = finding.wording_block();
     held.number(offset);
     held.add(b" ");
     held.add_prefix(wording, count);

@@ -87,7 +87,7 @@ fn is_tag_usual(header: &Header) -> bool
     ensures shortest { IsTrue result
         → (has_high_form header.now && number_bits header.now == 0) ≡ false }
 {
-    !has_high_form(header) || (header.number >= 31 && header.number_octet() % 128 != 0)
+    !has_high_form(header) || (header.number >= 31 && header.second_identifier_octet() % 128 != 0)
 }
 
 /// Whether the element is of a type that can have its form, and no constructed string; or of another class.
@@ -167,7 +167,7 @@ fn add_basic_findings(frame: &HolderFrame, header: &Header, found: &mut ArrayVec
     let is_high = has_high_form(header);
     add_if(is_high && header.number < 31, Finding::B01, found);
     add_if(
-        is_high && header.number_octet() % 128 == 0,
+        is_high && header.second_identifier_octet() % 128 == 0,
         Finding::B02,
         found,
     );

@@ -30,7 +30,7 @@ fn has_long_form(header: &Header) -> bool
 pub(crate) fn is_length_padded(header: &Header) -> bool
     ensures { result ≡ is_length_padded header.now }
 {
-    has_long_form(header) && (announced_length(header) < 128 || header.length_octet() == 0)
+    has_long_form(header) && (announced_length(header) < 128 || header.second_length_octet() == 0)
 }
 
 /// How many contents octets the header announces; none in the indefinite form.

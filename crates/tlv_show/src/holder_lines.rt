@@ -3,7 +3,7 @@ ghost use Rattle.std.specs.Prelude.{◌≡◌, ◌≤◌, ◌++◌, codes, lengt
 ghost use Rattle.std.specs.Option.{option_map_or};
 ghost use Rattle.tlv_io.specs.LineTexts.{GrowsBy, HasRoomFor};
 ghost use Rattle.tlv_io.specs.Out.{Puts};
-ghost use Rattle.tlv_value.specs.Layout.{columns, margin, no_columns};
+ghost use Rattle.tlv_value.specs.Layout.{columns, line_margin, no_columns};
 ghost use Rattle.tlv_show.specs.Lines.{closing_line, opening_line, padding_line, size_text};
 
 use tlv_head::{Header, Size};
@@ -71,7 +71,7 @@ fn write_opening(held: &mut HeldOctets, layout: Layout, header: &Header, word: &
 fn begin_opening(held: &mut HeldOctets, layout: Layout, offset: u64, size: Size)
     requires { HasRoomFor held.old 592 }
     ensures text { held.new
-        ≡ held.old ++ margin layout.pure (columns offset (size_text size)) layout.level }
+        ≡ held.old ++ line_margin layout (columns offset (size_text size)) }
     ensures bound { GrowsBy 553 held.old held.new }
 {
     match size {
@@ -95,8 +95,8 @@ fn write_closing(held: &mut HeldOctets, layout: Layout, offset: Option<u64>)
 fn begin_closing(held: &mut HeldOctets, layout: Layout, offset: Option<u64>)
     requires { HasRoomFor held.old 592 }
     ensures text { held.new
-        ≡ held.old ++ margin layout.pure
-        (option_map_or (λ offset. columns offset (codes "end")) offset no_columns) layout.level }
+        ≡ held.old ++ line_margin layout
+        (option_map_or (λ offset. columns offset (codes "end")) offset no_columns) }
     ensures bound { GrowsBy 553 held.old held.new }
 {
     match offset {

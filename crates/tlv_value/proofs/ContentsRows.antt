@@ -7,7 +7,7 @@ use Rattle.tlv_head.specs.declared.header.Size.TheVariants.{Definite}
 use Rattle.tlv_value.specs.declared.finding.Finding.TheVariants.{B08, B11, B12, B15, B19, S02, S03, S04}
 use Rattle.tlv_value.specs.declared.kind.Kind.TheVariants.{Octets, Integer}
 use Rattle.tlv_value.specs.Arcs.{arcs_of, subidentifiers}
-use Rattle.tlv_value.specs.Checks.{findings_on_contents}
+use Rattle.tlv_value.specs.Checks.{all_contents_findings}
 use Rattle.tlv_value.specs.Kind.{kind_of}
 use Rattle.tlv_value.specs.Number.{decimal_of}
 use Rattle.tlv_value.specs.Rows.{rows_of}
@@ -73,23 +73,23 @@ universal_header number = record {
   lengths = [];
 }
 
-padded-integer : findings_on_contents (universal_header 2) (0 ∷ 127 ∷ []) ≡ B08 ∷ []
+padded-integer : all_contents_findings (universal_header 2) (0 ∷ 127 ∷ []) ≡ B08 ∷ []
 padded-integer = refl
 
-true-of-one : findings_on_contents (universal_header 1) (1 ∷ []) ≡ S02 ∷ []
+true-of-one : all_contents_findings (universal_header 1) (1 ∷ []) ≡ S02 ∷ []
 true-of-one = refl
 
-unused-set : findings_on_contents (universal_header 3) (5 ∷ 191 ∷ []) ≡ S03 ∷ []
+unused-set : all_contents_findings (universal_header 3) (5 ∷ 191 ∷ []) ≡ S03 ∷ []
 unused-set = refl
 
-no-octet : findings_on_contents (universal_header 3) (3 ∷ []) ≡ B15 ∷ []
+no-octet : all_contents_findings (universal_header 3) (3 ∷ []) ≡ B15 ∷ []
 no-octet = refl
 
-padded-and-unfinished : findings_on_contents (universal_header 13) (5 ∷ 128 ∷ []) ≡ B11 ∷ B12 ∷ []
+padded-and-unfinished : all_contents_findings (universal_header 13) (5 ∷ 128 ∷ []) ≡ B11 ∷ B12 ∷ []
 padded-and-unfinished = refl
 
-month-13 : findings_on_contents (universal_header 23) (codes "9113062345Z") ≡ B19 ∷ []
+month-13 : all_contents_findings (universal_header 23) (codes "9113062345Z") ≡ B19 ∷ []
 month-13 = refl
 
-without-seconds : findings_on_contents (universal_header 23) (codes "9105062345Z") ≡ S04 ∷ []
+without-seconds : all_contents_findings (universal_header 23) (codes "9105062345Z") ≡ S04 ∷ []
 without-seconds = refl

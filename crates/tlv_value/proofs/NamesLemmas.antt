@@ -1,4 +1,4 @@
 pub mod Reads
-pub mod Standing
+pub mod LinesSoFar
 pub mod Tables
 pub mod Texts

@@ -2,7 +2,7 @@
 use Rattle.std.specs.Prelude.{◌≡◌, ◌↔◌, ℕ, true, List, ◌++◌, length, IsUtf8}
 use Rattle.tlv_head.specs.Header.{HeaderValue, announced_length}
 use Rattle.tlv_value.specs.declared.kind.Kind.TheVariants.{Utf8}
-use Rattle.tlv_value.specs.Checks.{findings_on_contents}
+use Rattle.tlv_value.specs.Checks.{all_contents_findings}
 use Rattle.tlv_value.specs.ValueCheckState.{ValueCheckState, all_utf8, findings_in, new_value_check}
 use Rattle.tlv_value.specs.ValueCheckState.{value_check_after}
 use Rattle.tlv_value.specs.Rows.{rows_of}
@@ -16,8 +16,8 @@ ChecksJoin = (s : ValueCheckState) (x y : List ℕ)
 abbrev pub FindingsEnd : Type 0
 FindingsEnd =
     (h : HeaderValue) (octets : List ℕ) → length octets ≡ announced_length h.size
-    → findings_in (value_check_after (new_value_check h) octets) ≡ findings_on_contents h octets
+    → findings_in (value_check_after (new_value_check h) octets) ≡ all_contents_findings h octets
 
 -- contents are well-formed UTF-8 exactly if each of their rows is
-abbrev pub RowsAreFormed : Type 0
-RowsAreFormed = (octets : List ℕ) → IsUtf8 octets ↔ (all_utf8 (rows_of Utf8 octets) ≡ true)
+abbrev pub RowsAreUtf8 : Type 0
+RowsAreUtf8 = (octets : List ℕ) → IsUtf8 octets ↔ (all_utf8 (rows_of Utf8 octets) ≡ true)

@@ -53,14 +53,19 @@ octet_test number =
 abbrev pub allows_octet : ℕ → ℕ → Bool
 allows_octet number x = option_map_or (λ test. test x) (octet_test number) true
 
--- the contents have the characters of the type with this number: one of these types, or UTF8String, UniversalString,
--- BMPString
+-- so many octets are whole characters: BMPString has two octets for each, UniversalString four
+abbrev pub are_whole_characters : ℕ → ℕ → Bool
+are_whole_characters number size =
+    if eqb number universal.bmp_string then eqb (size % 2) 0
+    else if eqb number universal.universal_string then eqb (size % 4) 0
+    else true
+
+-- the contents have the characters of the type with this number
 abbrev pub allows : ℕ → List ℕ → Bool
 allows number octets =
     if eqb number universal.utf8_string then is_utf8 octets
-    else if eqb number universal.universal_string then eqb (length octets % 4) 0
-    else if eqb number universal.bmp_string then eqb (length octets % 2) 0
-    else option_map_or (λ test. list_all test octets) (octet_test number) true
+    else are_whole_characters number (length octets)
+    && option_map_or (λ test. list_all test octets) (octet_test number) true
 
 -- ---- What the conditions go by
 
@@ -81,33 +86,33 @@ pub record ContentsFacts : Type 0 where
 
 -- of these contents of the type with this number
 abbrev pub facts_of : ℕ → List ℕ → ContentsFacts
-facts_of number c = record {
-  size = length c;
-  first_octets = c;
-  last = last_octet 0 c;
-  is_padded = is_padded_after 0 c;
-  is_allowed = allows number c;
-  time = c;
+facts_of number contents = record {
+  size = length contents;
+  first_octets = contents;
+  last = last_octet 0 contents;
+  is_padded = is_padded_after 0 contents;
+  is_allowed = allows number contents;
+  time = contents;
 }
 
 -- the first octet. In a BIT STRING it is the number of unused bits
 abbrev pub first_octet : ContentsFacts → ℕ
-first_octet c = slice_index c.first_octets 0
+first_octet facts = slice_index facts.first_octets 0
 
 -- 8.6.2.2: the number that the unused bits of the last octet make
 abbrev pub unused_bits_value : ContentsFacts → ℕ
-unused_bits_value c = c.last % 2 ^ first_octet c
+unused_bits_value facts = facts.last % 2 ^ first_octet facts
 
 -- 8.25: a UTCTime or GeneralizedTime of at most 64 octets: of a longer one the form is not looked at
 abbrev pub is_short_time : ℕ → ContentsFacts → Bool
-is_short_time n c = is_number_of time_types n && nat_le c.size 64
+is_short_time number facts = is_number_of time_types number && nat_le facts.size 64
 
 abbrev pub time_form : ℕ → times.Form
-time_form n = if n == universal.utc_time then times.utc_time_form else times.generalized_time_form
+time_form number = if number == universal.utc_time then times.utc_time_form else times.generalized_time_form
 
 abbrev pub canonical_form : ℕ → times.Form
-canonical_form n =
-    if n == universal.utc_time then times.canonical_utc_time_form else times.canonical_generalized_time_form
+canonical_form number =
+    if number == universal.utc_time then times.canonical_utc_time_form else times.canonical_generalized_time_form
 
 -- ---- The findings
 
@@ -121,48 +126,60 @@ findings_by rows = flat_map (λ row. finding_if row.0 row.1) rows
 
 -- what may be found on the contents of a primitive of the type with this number
 abbrev pub type_conditions : ℕ → ContentsFacts → List (Bool × Finding)
-type_conditions n c =
+type_conditions number facts =
     -- 8.2.1: a BOOLEAN has one octet
-    (n == universal.boolean && not (c.size == 1), B06)
+    (number == universal.boolean && not (facts.size == 1), B06)
     -- 8.3.1, 8.4: an INTEGER or ENUMERATED has one octet or more
-    ∷ (is_number_of integer_types n && c.size == 0, B07)
+    ∷ (is_number_of integer_types number && facts.size == 0, B07)
     -- 8.3.2, 8.4: its first nine bits are not all equal
-    ∷ (is_number_of integer_types n && is_padded_integer c.first_octets, B08)
+    ∷ (is_number_of integer_types number && is_padded_integer facts.first_octets, B08)
     -- 8.8.2: a NULL has no octets
-    ∷ (n == universal.null && not (c.size == 0), B09)
+    ∷ (number == universal.null && not (facts.size == 0), B09)
     -- 8.19.2: an OBJECT IDENTIFIER has one subidentifier or more
-    ∷ (n == universal.object_identifier && c.size == 0, B10)
+    ∷ (number == universal.object_identifier && facts.size == 0, B10)
     -- 8.19.2, 8.20.2: no subidentifier begins with 80
-    ∷ (is_number_of object_types n && c.is_padded, B11)
+    ∷ (is_number_of object_types number && facts.is_padded, B11)
     -- 8.19.2, 8.20.2: bit 8 is clear in the last octet of a subidentifier
-    ∷ (is_number_of object_types n && nat_le 128 c.last, B12)
+    ∷ (is_number_of object_types number && nat_le 128 facts.last, B12)
     -- 8.6.2: a BIT STRING has a first octet, the number of unused bits
-    ∷ (n == universal.bit_string && c.size == 0, B13)
+    ∷ (number == universal.bit_string && facts.size == 0, B13)
     -- 8.6.2.2: it is at most 7
-    ∷ (n == universal.bit_string && nat_lt 7 (first_octet c), B14)
+    ∷ (number == universal.bit_string && nat_lt 7 (first_octet facts), B14)
     -- 8.6.2.3: it is 0 if no other octet follows
-    ∷ (n == universal.bit_string && c.size == 1 && nat_le 1 (first_octet c) && nat_le (first_octet c) 7, B15)
+    ∷ (
+      number == universal.bit_string && facts.size == 1
+          && nat_le 1 (first_octet facts) && nat_le (first_octet facts) 7,
+      B15,
+    )
     -- X.680 41: a string of characters has those of its type
-    ∷ (is_number_of character_types n && not c.is_allowed, B18)
+    ∷ (is_number_of character_types number && not facts.is_allowed, B18)
     -- X.680 46, 47: a time is of its grammar
-    ∷ (is_short_time n c && not (times.has_form (time_form n) c.time), B19)
+    ∷ (is_short_time number facts && not (times.has_form (time_form number) facts.time), B19)
     -- 11.1: TRUE is ff
-    ∷ (n == universal.boolean && c.size == 1 && not (first_octet c == 0 || first_octet c == 0xff), S02)
+    ∷ (number == universal.boolean && facts.size == 1 && not (first_octet facts == 0 || first_octet facts == 0xff), S02)
     -- 11.2.1: unused bits are 0
-    ∷ (n == universal.bit_string && nat_le 2 c.size && nat_le (first_octet c) 7 && not (unused_bits_value c == 0), S03)
+    ∷ (
+      number == universal.bit_string && nat_le 2 facts.size && nat_le (first_octet facts) 7
+          && not (unused_bits_value facts == 0),
+      S03,
+    )
     -- 11.7, 11.8: a time is in the canonical form
-    ∷ (is_short_time n c && times.has_form (time_form n) c.time && not (times.has_form (canonical_form n) c.time), S04)
+    ∷ (
+      is_short_time number facts && times.has_form (time_form number) facts.time
+          && not (times.has_form (canonical_form number) facts.time),
+      S04,
+    )
     ∷ []
 
 -- on these contents of a primitive with this header
 abbrev pub contents_conditions : HeaderValue → List ℕ → List (Bool × Finding)
-contents_conditions h c = type_conditions (type_number h) (facts_of (type_number h) c)
+contents_conditions h contents = type_conditions (type_number h) (facts_of (type_number h) contents)
 
 -- what is found on these contents of a primitive of the type with this number, by the rules of BER, CER or DER, in
 -- order
 abbrev pub type_findings : ℕ → List ℕ → List Finding
-type_findings number c = findings_by (type_conditions number (facts_of number c))
+type_findings number contents = findings_by (type_conditions number (facts_of number contents))
 
 -- the same, of a primitive with this header
-abbrev pub findings_on_contents : HeaderValue → List ℕ → List Finding
-findings_on_contents h c = type_findings (type_number h) c
+abbrev pub all_contents_findings : HeaderValue → List ℕ → List Finding
+all_contents_findings h contents = type_findings (type_number h) contents

@@ -13,6 +13,10 @@ no_columns = spaces 17
 abbrev pub margin : Bool → List ℕ → ℕ → List ℕ
 margin pure first level = (if pure then [] else first) ++ spaces (2 * level)
 
+-- the same, in this layout
+abbrev pub line_margin : Layout → List ℕ → List ℕ
+line_margin layout first = margin layout.pure first layout.level
+
 abbrev pub line : Bool → List ℕ → ℕ → List ℕ → List ℕ
 line pure first level text = margin pure first level ++ text ++ 10 ∷ []
 

@@ -16,10 +16,10 @@ use Rattle.tlv_value.specs.declared.names.fault.NamesFault.{NamesFault}
 use Rattle.tlv_value.specs.declared.names.fault.NamesFault.TheVariants.{BadOid, BadName, Repeated, TooLarge}
 
 -- from dotted texts to names
-abbrev pub NamesTable : Type 0
-NamesTable = finite.FinMap (slice_cmp nat_cmp) (List ℕ)
+abbrev pub NamesValue : Type 0
+NamesValue = finite.FinMap (slice_cmp nat_cmp) (List ℕ)
 
-abbrev pub table_code : Coded NamesTable
+abbrev pub table_code : Coded NamesValue
 table_code = finite.code (coded_list coded_ℕ) (coded_list coded_ℕ)
 
 -- a dotted text and its name
@@ -103,18 +103,19 @@ entry_line (x ∷ xs) =
     if x == 35 then no_entry
     else pair_line (before_first is_blank (x ∷ xs)) (without_first_blanks (after_first is_blank (x ∷ xs)))
 
--- a line of at most 400 octets
+-- how many octets a line has at most, with its CR
+abbrev pub line_limit : ℕ
+line_limit = 400
+
+-- what a line says; of one with more octets nothing else is looked at
 abbrev pub names_line : List ℕ → NamesLine
 names_line octets =
-    if nat_lt 400 (length octets) then long_line
+    if nat_lt line_limit (length octets) then long_line
     else entry_line (without_outer_blanks (without_return octets))
 
 abbrev pub line_entries : NamesLine → List Entry
-line_entries no_entry = []
 line_entries (entry dotted name) = (dotted, name) ∷ []
-line_entries no_object_identifier = []
-line_entries no_name = []
-line_entries long_line = []
+line_entries _ = []
 
 abbrev pub entries_of : List NamesLine → List Entry
 entries_of lines = flat_map line_entries lines
@@ -124,15 +125,15 @@ abbrev pub has_entry : List ℕ → List Entry → Bool
 has_entry dotted entries = list_any (λ e. bytes_eq dotted e.0) entries
 
 -- how many names a table has at most
-abbrev pub most_names : ℕ
-most_names = 65536
+abbrev pub entry_limit : ℕ
+entry_limit = 65536
 
 -- why a line is refused that is below others, if it is; lines are numbered from 1
 abbrev pub line_refusal : List NamesLine → NamesLine → Option NamesFault
 line_refusal above no_entry = None
 line_refusal above (entry dotted name) =
     if has_entry dotted (entries_of above) then Some (Repeated (length above + 1))
-    else (if nat_le most_names (length (entries_of above)) then Some TooLarge else None)
+    else (if nat_le entry_limit (length (entries_of above)) then Some TooLarge else None)
 line_refusal above no_object_identifier = Some (BadOid (length above + 1))
 line_refusal above no_name = Some (BadName (length above + 1))
 line_refusal above long_line = Some TooLarge
@@ -143,9 +144,9 @@ first_refusal above [] = None
 first_refusal above (line ∷ below) =
     option_or (line_refusal above line) (first_refusal (above ++ line ∷ []) below)
 
-abbrev pub table_of : List NamesLine → Result NamesTable NamesFault
+abbrev pub table_of : List NamesLine → Result NamesValue NamesFault
 table_of lines = option_map_or Err (first_refusal [] lines) (Ok (finite.from_entries (entries_of lines)))
 
 -- what the octets of a names file say: the table of all lines, or the first refusal
-abbrev pub names_of : List ℕ → Result NamesTable NamesFault
+abbrev pub names_of : List ℕ → Result NamesValue NamesFault
 names_of octets = table_of (map names_line (file_lines octets))

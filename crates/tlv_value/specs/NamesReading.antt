@@ -1,54 +1,45 @@
 -- What reading a names file from a source comes to.
-use Rattle.std.specs.Prelude.{◌≡◌, ℕ, ◌+◌, ◌<◌, ◌≤◌, ◌⊎◌, List, length, Result, Ok, Err}
+use Rattle.std.specs.Prelude.{◌≡◌, ℕ, ◌+◌, ◌<◌, ◌≤◌, ◌⊎◌, List, length, Result, Err}
 use Rattle.std.specs.Io.KnownBytes.{IsAtEnd}
 use Rattle.tlv_io.specs.Device.{LastReadValue, Pieces, SourceState, failed, gave, next_count, octets_given}
-use Rattle.tlv_value.specs.Names.{NamesTable, names_of}
+use Rattle.tlv_value.specs.Names.{NamesValue, names_of}
 use Rattle.tlv_value.specs.declared.names.fault.NamesFault.{NamesFault}
-use Rattle.tlv_value.specs.declared.names.fault.NamesFault.TheVariants.{BadOid, BadName, Repeated, TooLarge}
-use Rattle.tlv_value.specs.declared.names.fault.NamesFault.TheVariants.{ReadFailed, Memory}
+use Rattle.tlv_value.specs.declared.names.fault.NamesFault.TheVariants.{TooLarge, ReadFailed, Memory}
 
 -- how many octets a names file has at most
-abbrev pub names_limit : ℕ
-names_limit = 1048576
+abbrev pub file_limit : ℕ
+file_limit = 1048576
 
 -- the source has ended, within the limit of octets, and these say the result
 pub record IsWholeFile
-    (new : SourceState) (octets : List ℕ) (result : Result NamesTable NamesFault)
+    (new : SourceState) (octets : List ℕ) (result : Result NamesValue NamesFault)
     : Type 0 where
   pub ended : new.last ≡ gave 0
   pub at_end : IsAtEnd new.left
-  pub within : length octets ≤ names_limit
+  pub within : length octets ≤ file_limit
   pub result_is : names_of octets ≡ result
 
 -- the last read gave the first octet beyond the limit
 pub record IsTooLong (last : LastReadValue) (octets : List ℕ) : Type 0 where
   pub count : ℕ
   pub gave_last : last ≡ gave count
-  pub beyond : names_limit < length octets
-  pub before : length octets ≤ names_limit + count
+  pub beyond : file_limit < length octets
+  pub before : length octets ≤ file_limit + count
 
 -- the result of reading these octets, by what the last read gave and what is left to read
-abbrev pub ReadsNames : SourceState → List ℕ → Result NamesTable NamesFault → Type 0
-ReadsNames new octets (Ok table) = IsWholeFile new octets (Ok table)
-ReadsNames new octets (Err (BadOid n)) = IsWholeFile new octets (Err (BadOid n))
-ReadsNames new octets (Err (BadName n)) = IsWholeFile new octets (Err (BadName n))
-ReadsNames new octets (Err (Repeated n)) = IsWholeFile new octets (Err (Repeated n))
+abbrev pub ReadsNames : SourceState → List ℕ → Result NamesValue NamesFault → Type 0
 ReadsNames new octets (Err TooLarge) = IsWholeFile new octets (Err TooLarge) ⊎ IsTooLong new.last octets
-ReadsNames new octets (Err ReadFailed) = (new.last ≡ failed) × (length octets ≤ names_limit)
-ReadsNames new octets (Err Memory) = length octets ≤ names_limit
+ReadsNames new octets (Err ReadFailed) = (new.last ≡ failed) × (length octets ≤ file_limit)
+ReadsNames new octets (Err Memory) = length octets ≤ file_limit
+ReadsNames new octets result = IsWholeFile new octets result
 
 -- the failures of a source: one more if a read failed
 abbrev pub names_failures_after : {T : Type 0} → Result T NamesFault → ℕ → ℕ
-names_failures_after (Ok table) old = old
-names_failures_after (Err (BadOid n)) old = old
-names_failures_after (Err (BadName n)) old = old
-names_failures_after (Err (Repeated n)) old = old
-names_failures_after (Err TooLarge) old = old
 names_failures_after (Err ReadFailed) old = next_count old
-names_failures_after (Err Memory) old = old
+names_failures_after _ old = old
 
 -- some octets are read, in pieces, and the result is theirs
-pub record ReadsFrom (old new : SourceState) (result : Result NamesTable NamesFault) : Type 0 where
+pub record ReadsFrom (old new : SourceState) (result : Result NamesValue NamesFault) : Type 0 where
   pub pieces : Pieces old new
   pub result_is : ReadsNames new (octets_given pieces) result
   pub failures : new.failures ≡ names_failures_after result old.failures

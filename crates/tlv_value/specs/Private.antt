@@ -1,5 +1,4 @@
 pub mod Arcs
-pub mod Checks
 pub mod UndottedText
 pub mod NamesSteps
 pub mod ObjectLines
@@ -7,3 +6,4 @@ pub mod Unescaped
 pub mod Room
 pub mod Rows
 pub mod PrimitiveLines
+pub mod TimeFindings

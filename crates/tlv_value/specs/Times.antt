@@ -7,14 +7,14 @@ use Rattle.std.specs.Char.{is_ascii_digit}
 abbrev pub Form : Type 0
 Form = List ℕ → List (List ℕ)
 
-abbrev pub is_rest_empty : List (List ℕ) → Bool
-is_rest_empty [] = false
-is_rest_empty ([] ∷ rests) = true
-is_rest_empty ((x ∷ xs) ∷ rests) = is_rest_empty rests
+abbrev pub has_empty_rest : List (List ℕ) → Bool
+has_empty_rest [] = false
+has_empty_rest ([] ∷ rests) = true
+has_empty_rest ((x ∷ xs) ∷ rests) = has_empty_rest rests
 
 -- the whole has the form
 abbrev pub has_form : Form → List ℕ → Bool
-has_form form octets = is_rest_empty (form octets)
+has_form form octets = has_empty_rest (form octets)
 
 infixr 20 ◌then◌
 abbrev pub ◌then◌ : Form → Form → Form
@@ -57,8 +57,8 @@ two low high (x ∷ y ∷ rest) =
     else []
 
 -- month and day
-abbrev pub day : Form
-day = two 1 12 then two 1 31
+abbrev pub month_and_day : Form
+month_and_day = two 1 12 then two 1 31
 
 abbrev pub hour : Form
 hour = two 0 24
@@ -74,7 +74,7 @@ abbrev pub sign : Form
 sign = mark 43 or mark 45
 
 abbrev pub utc_minute : Form
-utc_minute = two 0 99 then day then hour then minute
+utc_minute = two 0 99 then month_and_day then hour then minute
 
 abbrev pub utc_zone : Form
 utc_zone = mark 90 or (sign then hour then minute)
@@ -84,7 +84,7 @@ abbrev pub utc_time_form : Form
 utc_time_form = utc_minute then maybe second then utc_zone
 
 abbrev pub generalized_hour : Form
-generalized_hour = two 0 99 then two 0 99 then day then hour
+generalized_hour = two 0 99 then two 0 99 then month_and_day then hour
 
 -- 46 is the point, 44 the comma
 abbrev pub fraction : Form
@@ -93,17 +93,20 @@ fraction = (mark 46 or mark 44) then one 48 57 then digits
 abbrev pub generalized_zone : Form
 generalized_zone = mark 90 or (sign then hour then maybe minute)
 
+abbrev pub generalized_tail : Form
+generalized_tail = maybe fraction then maybe generalized_zone
+
 -- X.680 46.2
 abbrev pub generalized_time_form : Form
 generalized_time_form =
-    generalized_hour then maybe (minute then maybe second) then maybe fraction then maybe generalized_zone
+    generalized_hour then maybe (minute then maybe second) then generalized_tail
 
 -- midnight is hour 0 of the following day
 abbrev pub canonical_clock : Form
 canonical_clock = two 0 23 then minute then second
 
 abbrev pub canonical_second : Form
-canonical_second = two 0 99 then day then canonical_clock
+canonical_second = two 0 99 then month_and_day then canonical_clock
 
 -- 11.8
 abbrev pub canonical_utc_time_form : Form

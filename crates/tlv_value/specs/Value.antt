@@ -48,12 +48,13 @@ abbrev pub integer_value : List ℕ → Value
 integer_value [] = octets_value []
 integer_value (x ∷ xs) = value_on_line (signed_decimal (twos_complement (x ∷ xs)))
 
-abbrev pub bit_count : ℕ → ℕ → List ℕ
-bit_count unused_bits octets = decimal (8 * octets - unused_bits) ++ codes " bits"
+-- the number of bits of so many octets, without those that are not used
+abbrev pub bit_count_text : ℕ → ℕ → List ℕ
+bit_count_text unused_bits octet_count = decimal (8 * octet_count - unused_bits) ++ codes " bits"
 
 -- 8.6.2: the number of unused bits is at most 7, and 0 if there is no octet for them
 abbrev pub is_readable : ℕ → ℕ → Bool
-is_readable unused_bits octets = nat_le unused_bits 7 && (eqb unused_bits 0 || not (eqb octets 0))
+is_readable unused_bits octet_count = nat_le unused_bits 7 && (eqb unused_bits 0 || not (eqb octet_count 0))
 
 -- bits as digits
 abbrev pub digits_of_bits : List ℕ → List ℕ
@@ -70,7 +71,7 @@ abbrev pub bits_value : List ℕ → Value
 bits_value [] = octets_value []
 bits_value (unused_bits ∷ octets) =
     if is_readable unused_bits (length octets)
-    then value_on_line (bit_count unused_bits (length octets) ++ used_digits unused_bits octets)
+    then value_on_line (bit_count_text unused_bits (length octets) ++ used_digits unused_bits octets)
     else octets_value (unused_bits ∷ octets)
 
 -- a name after its object identifier
@@ -114,7 +115,7 @@ short_value name_of kind octets =
 -- bits, if its first octet can be read
 abbrev pub long_text : Kind → ℕ → List ℕ → List ℕ
 long_text Bits n (unused_bits ∷ octets) =
-    if nat_le unused_bits 7 then 0x20 ∷ bit_count unused_bits (n - 1) else []
+    if nat_le unused_bits 7 then 0x20 ∷ bit_count_text unused_bits (n - 1) else []
 long_text kind n octets = []
 
 -- the octets that are in rows: not such a first octet

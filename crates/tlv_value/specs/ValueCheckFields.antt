@@ -1,6 +1,6 @@
 -- What the fields of a `ValueCheck` say.
 use Rattle.std.specs.Prelude.{◌<◌, ◌≤◌, ◌∷◌, [], take}
-use Rattle.tlv_value.specs.declared.check.ValueCheck.TheInside.{Inside}
+use Rattle.tlv_value.specs.declared.value_check.ValueCheck.TheInside.{Inside}
 use Rattle.tlv_value.specs.declared.kind.Kind.TheVariants.{Utf8}
 use Rattle.tlv_value.specs.ValueCheckState.{ValueCheckState}
 use Rattle.tlv_value.specs.OpenRow.{IsOpenRow}
@@ -12,15 +12,15 @@ value_check_state_of t = record {
   left = t.left;
   first_octets = take t.known (t.first ∷ t.second ∷ []);
   last = t.last;
-  allowed = t.allowed;
-  padded = t.padded;
-  formed = t.formed;
+  are_octets_allowed = t.are_octets_allowed;
+  is_padded = t.is_padded;
+  rows_are_utf8 = t.rows_are_utf8;
   row = t.row.items;
   time = t.time.items;
 }
 
 -- the row of a UTF8String that has begun is kept (of any other type none), and two octets at most
-pub record HasOpenRow (t : Inside) : Type 0 where
+pub record ValueCheckFieldsAgree (t : Inside) : Type 0 where
   pub begun : IsOpenRow Utf8 t.row.items
   pub last : t.last < 256
   pub known : t.known ≤ 2

@@ -1,14 +1,14 @@
 -- What is to be kept of the contents of a primitive, so that what is found on them can be reported at their end.
 use Rattle.std.specs.List.{list_all}
-use Rattle.std.specs.Prelude.{ℕ, ◌-◌, ◌%◌, Bool, true, false, ◌&&◌, ◌||◌, not, eqb, if◌then◌else◌, List, []}
+use Rattle.std.specs.Prelude.{ℕ, ◌-◌, Bool, true, false, ◌&&◌, ◌||◌, not, eqb, if◌then◌else◌, List, []}
 use Rattle.std.specs.Prelude.{◌∷◌, ◌++◌, length, take}
 use Rattle.std.specs.Str.{is_utf8}
 use Rattle.tlv_head.specs.UniversalTypes as universal
 use Rattle.tlv_head.specs.Header.{HeaderValue, announced_length}
 use Rattle.tlv_value.specs.declared.kind.Kind.TheVariants.{Utf8}
 use Rattle.tlv_value.specs.declared.finding.Finding.{Finding}
-use Rattle.tlv_value.specs.Checks.{ContentsFacts, allows_octet, findings_by, is_padded_after, last_octet}
-use Rattle.tlv_value.specs.Checks.{type_conditions}
+use Rattle.tlv_value.specs.Checks.{ContentsFacts, allows_octet, are_whole_characters, findings_by, is_padded_after}
+use Rattle.tlv_value.specs.Checks.{last_octet, type_conditions}
 use Rattle.tlv_value.specs.Rows.{full_rows, open_row}
 use Rattle.tlv_value.specs.Types.{is_number_of, object_types, time_types, type_number}
 
@@ -27,10 +27,10 @@ pub record ValueCheckState : Type 0 where
   pub first_octets : List ℕ
   pub last : ℕ
   -- whether each octet is one of its type, and whether a subidentifier is padded
-  pub allowed : Bool
-  pub padded : Bool
+  pub are_octets_allowed : Bool
+  pub is_padded : Bool
   -- of a UTF8String whether the rows that were full are well-formed, and the row that has begun
-  pub formed : Bool
+  pub rows_are_utf8 : Bool
   pub row : List ℕ
   -- the first 64 octets of a time
   pub time : List ℕ
@@ -43,9 +43,9 @@ new_value_check_of number size = record {
   left = size;
   first_octets = [];
   last = 0;
-  allowed = true;
-  padded = false;
-  formed = true;
+  are_octets_allowed = true;
+  is_padded = false;
+  rows_are_utf8 = true;
   row = [];
   time = [];
 }
@@ -81,7 +81,7 @@ notes_time number = is_number_of time_types number
 
 -- whether a subidentifier begins with 80, with these octets too
 abbrev pub is_padded_with : Bool → ℕ → List ℕ → Bool
-is_padded_with padded previous octets = padded || is_padded_after previous octets
+is_padded_with is_padded previous octets = is_padded || is_padded_after previous octets
 
 -- the state with more octets noted: the first ones and the last, what must be known of each, or the time
 abbrev pub with_first_noted : ValueCheckState → List ℕ → ValueCheckState
@@ -92,10 +92,12 @@ with_first_noted s octets = record s {
 
 abbrev pub with_each_noted : ValueCheckState → List ℕ → ValueCheckState
 with_each_noted s octets = record s {
-  allowed = s.allowed && list_all (allows_octet s.number) octets;
-  padded = if is_number_of object_types s.number then is_padded_with s.padded s.last octets else s.padded;
-  formed =
-      if eqb s.number universal.utf8_string then s.formed && all_utf8 (full_rows Utf8 s.row octets) else s.formed;
+  are_octets_allowed = s.are_octets_allowed && list_all (allows_octet s.number) octets;
+  is_padded = if is_number_of object_types s.number then is_padded_with s.is_padded s.last octets else s.is_padded;
+  rows_are_utf8 =
+      if eqb s.number universal.utf8_string
+      then s.rows_are_utf8 && all_utf8 (full_rows Utf8 s.row octets)
+      else s.rows_are_utf8;
   row = if eqb s.number universal.utf8_string then open_row Utf8 s.row octets else s.row;
   last = last_octet s.last octets;
 }
@@ -128,11 +130,9 @@ has_unused_bits s = eqb s.number universal.bit_string && begins_nonzero s.first_
 -- the characters are those of the type
 abbrev pub is_allowed : ValueCheckState → Bool
 is_allowed s =
-    (if eqb s.number universal.utf8_string then s.formed && is_utf8 s.row
-    else if eqb s.number universal.bmp_string then eqb (s.size % 2) 0
-    else if eqb s.number universal.universal_string then eqb (s.size % 4) 0
-    else true)
-    && s.allowed
+    (if eqb s.number universal.utf8_string then s.rows_are_utf8 && is_utf8 s.row
+    else are_whole_characters s.number s.size)
+    && s.are_octets_allowed
 
 -- what is known of the contents at their end
 abbrev pub facts_in : ValueCheckState → ContentsFacts
@@ -140,7 +140,7 @@ facts_in s = record {
   size = s.size;
   first_octets = s.first_octets;
   last = s.last;
-  is_padded = s.padded;
+  is_padded = s.is_padded;
   is_allowed = is_allowed s;
   time = s.time;
 }

@@ -7,12 +7,17 @@ use Rattle.tlv_value.specs.declared.kind.Kind.{Kind}
 use Rattle.tlv_value.specs.declared.kind.Kind.TheVariants.{Bits}
 use Rattle.tlv_value.specs.declared.layout.Layout.{Layout}
 use Rattle.tlv_value.specs.Kind.{kind_of}
-use Rattle.tlv_value.specs.Layout.{columns, line, row_line}
+use Rattle.tlv_value.specs.Layout.{columns, line, line_margin, row_line}
 use Rattle.tlv_value.specs.Value.{NameOf, Value, is_long, long_value, row_text, whole_value}
 
 -- the kind of the element's type
 abbrev pub header_kind : HeaderValue → Kind
 header_kind h = kind_of h.class h.number
+
+-- what the line of an element of this class, number and length begins with
+abbrev pub element_prefix : Layout → ℕ → Class → ℕ → ℕ → List ℕ
+element_prefix layout offset class number n =
+    line_margin layout (columns offset (decimal n)) ++ tag_text class number
 
 -- the line of an element of this class, number and length, with this text after its tag
 abbrev pub element_line : Layout → ℕ → Class → ℕ → ℕ → List ℕ → List ℕ

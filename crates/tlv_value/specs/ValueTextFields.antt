@@ -1,26 +1,25 @@
 -- What the fields of a `ValueText` say.
 use Rattle.std.specs.Prelude.{◌≡◌, ◌+◌, ◌≤◌, true, false, length, []}
 use Rattle.tlv_value.specs.declared.kind.Kind.TheVariants.{Bits}
-use Rattle.tlv_value.specs.declared.text.ValueText.TheInside.{Inside}
+use Rattle.tlv_value.specs.declared.value_text.ValueText.TheInside.{Inside}
 use Rattle.tlv_value.specs.OpenRow.{IsOpenRow}
-use Rattle.tlv_value.specs.ValueTextState.{ValueTextState}
-use Rattle.tlv_value.specs.Value.{is_long}
+use Rattle.tlv_value.specs.ValueTextState.{ValueTextState, is_long_primitive}
 
 abbrev pub value_text_state_of : Inside → ValueTextState
 value_text_state_of t = record {
   primitive = t.primitive;
   left = t.left;
-  kept = record { wrote_line = t.has_line; rows = t.rows; row = t.row.items };
+  kept = record { wrote_line = t.wrote_line; row_count = t.row_count; row = t.row.items };
 }
 
 pub record ValueTextFieldsAgree (t : Inside) : Type 0 where
-  pub counted : t.rows + length t.row.items + t.left ≤ t.primitive.size
+  pub counted : t.row_count + length t.row.items + t.left ≤ t.primitive.size
   -- of a long value the row that has begun
-  pub begun : is_long t.primitive.kind t.primitive.size ≡ true
+  pub begun : is_long_primitive t.primitive ≡ true
       → IsOpenRow t.primitive.kind t.row.items
   -- of any other all octets that have come
-  pub held : is_long t.primitive.kind t.primitive.size ≡ false
+  pub kept : is_long_primitive t.primitive ≡ false
       → length t.row.items + t.left ≡ t.primitive.size
   -- before the first octet of a long BIT STRING
-  pub unlined : is_long t.primitive.kind t.primitive.size ≡ true → t.has_line ≡ false
-      → (t.primitive.kind ≡ Bits) × (t.row.items ≡ []) × (t.rows ≡ 0)
+  pub before_line : is_long_primitive t.primitive ≡ true → t.wrote_line ≡ false
+      → (t.primitive.kind ≡ Bits) × (t.row.items ≡ []) × (t.row_count ≡ 0)

@@ -13,9 +13,9 @@ use Rattle.tlv_value.specs.Value.{NameOf, is_long, long_text, row_octets, short_
 
 -- what is kept: of a long value whether its line was written, how many rows were full, and the octets of the row that
 -- has begun; of any other all octets
-pub record RowsState : Type 0 where
+pub record KeptContents : Type 0 where
   pub wrote_line : Bool
-  pub rows : ℕ
+  pub row_count : ℕ
   pub row : List ℕ
 
 -- what contracts see of a `ValueText`
@@ -24,7 +24,7 @@ pub record ValueTextState : Type 0 where
   pub primitive : Primitive
   -- how many octets are still to come
   pub left : ℕ
-  pub kept : RowsState
+  pub kept : KeptContents
 
 -- the primitive with this header, in this layout
 abbrev pub new_primitive : HeaderValue → Layout → Primitive
@@ -37,6 +37,10 @@ new_primitive h layout = record {
   layout = layout;
 }
 
+-- it has too many contents octets for them to be on its line
+abbrev pub is_long_primitive : Primitive → Bool
+is_long_primitive p = is_long p.kind p.size
+
 -- its line, with this text after its tag
 abbrev pub primitive_line : Primitive → List ℕ → List ℕ
 primitive_line p text = element_line p.layout p.offset p.class p.number p.size text
@@ -46,7 +50,7 @@ abbrev pub new_value_text_of : Primitive → ValueTextState
 new_value_text_of p = record {
   primitive = p;
   left = p.size;
-  kept = record { wrote_line = has_line p.kind []; rows = 0; row = [] };
+  kept = record { wrote_line = has_line p.kind []; row_count = 0; row = [] };
 }
 
 abbrev pub new_value_text : HeaderValue → Layout → ValueTextState
@@ -63,47 +67,51 @@ idle_value_text = new_value_text_of (record {
   layout = record { level = 0; limit = None; pure = false };
 })
 
--- of a long value with a line
-abbrev pub rows_after : Kind → RowsState → List ℕ → RowsState
+-- what is kept after more octets of a long value whose line was written
+abbrev pub rows_after : Kind → KeptContents → List ℕ → KeptContents
 rows_after kind k octets = record {
   wrote_line = true;
-  rows = k.rows + length (full_rows kind k.row octets);
+  row_count = k.row_count + length (full_rows kind k.row octets);
   row = open_row kind k.row octets;
 }
 
-abbrev pub full_row_lines : Kind → Layout → RowsState → List ℕ → List ℕ
-full_row_lines kind layout k octets = row_lines kind layout k.rows (full_rows kind k.row octets)
+-- the lines of the rows that are full with more octets
+abbrev pub full_row_lines : Kind → Layout → KeptContents → List ℕ → List ℕ
+full_row_lines kind layout k octets = row_lines kind layout k.row_count (full_rows kind k.row octets)
 
--- after its line, which came with its first contents octet
-abbrev pub first_rows : Kind → ℕ → RowsState
-first_rows kind x = record { wrote_line = true; rows = 0; row = row_octets kind (x ∷ []) }
+-- what is kept of a long value whose line came with this first contents octet
+abbrev pub first_rows : Kind → ℕ → KeptContents
+first_rows kind x = record { wrote_line = true; row_count = 0; row = row_octets kind (x ∷ []) }
 
-abbrev pub first_rows_after : Kind → RowsState → List ℕ → RowsState
+-- what is kept after more octets of a long value whose line was not written: it comes with the first of them
+abbrev pub first_rows_after : Kind → KeptContents → List ℕ → KeptContents
 first_rows_after kind k [] = k
 first_rows_after kind k (x ∷ octets) = rows_after kind (first_rows kind x) octets
 
+-- that line, and the lines of the rows that are full with these octets
 abbrev pub first_row_lines : ValueTextState → List ℕ → List ℕ
 first_row_lines s [] = []
 first_row_lines s (x ∷ octets) =
     primitive_line s.primitive (long_text s.primitive.kind s.primitive.size (x ∷ []))
     ++ full_row_lines s.primitive.kind s.primitive.layout (first_rows s.primitive.kind x) octets
 
--- of a long value
-abbrev pub long_rows_after : ValueTextState → List ℕ → RowsState
+-- what is kept after more octets of a long value
+abbrev pub long_rows_after : ValueTextState → List ℕ → KeptContents
 long_rows_after s octets =
     if s.kept.wrote_line
     then rows_after s.primitive.kind s.kept octets
     else first_rows_after s.primitive.kind s.kept octets
 
-abbrev pub rows_state_after : ValueTextState → List ℕ → RowsState
-rows_state_after s octets =
-    if is_long s.primitive.kind s.primitive.size
+-- what is kept after more octets
+abbrev pub kept_after : ValueTextState → List ℕ → KeptContents
+kept_after s octets =
+    if is_long_primitive s.primitive
     then long_rows_after s octets
     else record s.kept { row = s.kept.row ++ octets }
 
 -- the state after more octets
 abbrev pub value_text_after : ValueTextState → List ℕ → ValueTextState
-value_text_after s octets = record s { left = s.left - length octets; kept = rows_state_after s octets }
+value_text_after s octets = record s { left = s.left - length octets; kept = kept_after s octets }
 
 -- the state for contents of which these octets have come
 abbrev pub value_text_for : HeaderValue → Layout → List ℕ → ValueTextState
@@ -112,14 +120,14 @@ value_text_for h layout octets = value_text_after (new_value_text h layout) octe
 -- the lines that are known with the header
 abbrev pub begin_lines : ValueTextState → List ℕ
 begin_lines s =
-    if is_long s.primitive.kind s.primitive.size
+    if is_long_primitive s.primitive
     then (if s.kept.wrote_line then primitive_line s.primitive [] else [])
     else []
 
 -- the lines that are known with more octets
 abbrev pub contents_lines : ValueTextState → List ℕ → List ℕ
 contents_lines s octets =
-    if is_long s.primitive.kind s.primitive.size
+    if is_long_primitive s.primitive
     then (if s.kept.wrote_line
     then full_row_lines s.primitive.kind s.primitive.layout s.kept octets
     else first_row_lines s octets)
@@ -134,6 +142,6 @@ primitive_lines name_of p octets =
 -- the lines that are known with the end
 abbrev pub end_lines : NameOf → ValueTextState → List ℕ
 end_lines name_of s =
-    if is_long s.primitive.kind s.primitive.size
-    then row_lines s.primitive.kind s.primitive.layout s.kept.rows (last_rows s.kept.row)
+    if is_long_primitive s.primitive
+    then row_lines s.primitive.kind s.primitive.layout s.kept.row_count (last_rows s.kept.row)
     else primitive_lines name_of s.primitive s.kept.row

@@ -1,21 +1,21 @@
 //! A short look at all of the contents of a primitive.
-ghost use Rattle.std.specs.Prelude.{◌≡◌, ◌%◌, ◌^◌, ◌&&◌, ◌||◌, ◌==◌, [], IsTrue, eqb, false, length, nat_le};
-ghost use Rattle.std.specs.Prelude.{nat_lt, not, slice_index, true};
-ghost use Rattle.tlv_value.specs.Checks.{findings_on_contents, is_padded_after, is_padded_integer, last_octet};
+ghost use Rattle.std.specs.Prelude.{◌≡◌, ◌||◌, ◌==◌, [], IsTrue, eqb, false, length, nat_le};
+ghost use Rattle.tlv_head.specs.UniversalTypes.{bit_string, boolean};
+ghost use Rattle.tlv_value.specs.Checks.{all_contents_findings, is_padded_after, is_padded_integer, last_octet};
 ghost use Rattle.tlv_value.specs.Checks.{type_findings};
-ghost use Rattle.tlv_value.specs.Private.Checks.{generalized_time_findings, utc_time_findings};
+ghost use Rattle.tlv_value.specs.Private.TimeFindings.{generalized_time_findings, utc_time_findings};
 ghost use Rattle.tlv_value.specs.Types.{constructed_types, is_number_of, is_one_of, is_unassigned};
 ghost use Rattle.tlv_value.specs.Types.{is_unassigned_number};
 
-use crate::check::{are_allowed, are_set, is_padded_after, is_utf8, last_octet};
 use crate::time::{general_canonical, utc_canonical};
+use crate::value_check::{are_allowed, is_any_set, is_padded_after, is_utf8, last_octet};
 use tlv_head::{Class, Header, universal};
 
 /// Whether nothing is found on these contents of a primitive with this header, as far as a short look shows. That its
 /// type has no primitives, or that no type has its number, shows too: the type is asked for once, for both.
 #[inline(always)]
 pub fn is_clear(header: &Header, contents: &[u8]) -> bool
-    ensures contents { IsTrue result → findings_on_contents header.now contents.now ≡ [] }
+    ensures contents { IsTrue result → all_contents_findings header.now contents.now ≡ [] }
     ensures form { IsTrue result
         → (is_unassigned header.now || is_one_of constructed_types header.now) ≡ false }
 {
@@ -31,7 +31,7 @@ fn is_type_clear(number: u64, contents: &[u8]) -> bool
         → (is_unassigned_number number || is_number_of constructed_types number) ≡ false }
 {
     match number {
-        universal::BOOLEAN => is_truth(contents),
+        universal::BOOLEAN => is_canonical_boolean(contents),
         universal::INTEGER | universal::ENUMERATED => is_shortest(contents),
         universal::BIT_STRING => has_clear_bits(contents),
         universal::NULL => contents.is_empty(),
@@ -62,10 +62,8 @@ fn is_type_clear(number: u64, contents: &[u8]) -> bool
 
 /// Whether there is one octet, that of FALSE or of TRUE (8.2.1, 11.1).
 #[inline(always)]
-fn is_truth(contents: &[u8]) -> bool
-    ensures one { IsTrue result → (length contents.now == 1) ≡ true }
-    ensures truth { IsTrue result
-        → (slice_index contents.now 0 == 0 || slice_index contents.now 0 == 255) ≡ true }
+fn is_canonical_boolean(contents: &[u8]) -> bool
+    ensures { IsTrue result → type_findings boolean contents.now ≡ [] }
 {
     matches!(contents, [0 | 255])
 }
@@ -80,7 +78,7 @@ fn is_shortest(contents: &[u8]) -> bool
         return false;
     };
     // No branch asks for the length, which often is another than that of the number before. If there is no second
-    // octet, one is in for it whose first bit is not that of the first.
+    // octet, one is taken whose first bit differs from that of the first.
     let is_single = contents.len() == 1;
     let flip = if is_single { 255 } else { 0 };
     let second = contents[usize::from(!is_single)] ^ flip;
@@ -91,18 +89,12 @@ fn is_shortest(contents: &[u8]) -> bool
 /// Whether there is a number of unused bits, and so many bits, which are 0 (8.6.2, 11.2.1).
 #[inline(always)]
 fn has_clear_bits(contents: &[u8]) -> bool
-    ensures some { IsTrue result → (length contents.now == 0) ≡ false }
-    ensures few { IsTrue result → nat_lt 7 (slice_index contents.now 0) ≡ false }
-    ensures there { IsTrue result →
-        (length contents.now == 1 && nat_le 1 (slice_index contents.now 0)
-        && nat_le (slice_index contents.now 0) 7) ≡ false }
-    ensures zero { IsTrue result →
-        (nat_le 2 (length contents.now) && nat_le (slice_index contents.now 0) 7
-        && not (last_octet 0 contents.now % 2 ^ slice_index contents.now 0 == 0)) ≡ false }
+    ensures { IsTrue result → type_findings bit_string contents.now ≡ [] }
 {
     match contents {
         [0, ..] => true,
-        [unused, _, ..] => *unused <= 7 && !are_set(*unused, last_octet(0, contents)),
+        [unused_bits, _, ..] => *unused_bits <= 7
+            && !is_any_set(*unused_bits, last_octet(0, contents)),
         _ => false,
     }
 }

@@ -29,7 +29,7 @@ pub enum Finding {
     B11,
     /// A last subidentifier of which octets lack (8.19.2, 8.20.2).
     B12,
-    /// A BIT STRING without its first octet (8.6.2.1).
+    /// A BIT STRING without its first octet (8.6.2).
     B13,
     /// More than 7 unused bits (8.6.2.2).
     B14,
@@ -37,7 +37,7 @@ pub enum Finding {
     B15,
     /// A segment after one with unused bits (8.6.4).
     B16,
-    /// A segment with another tag than its string's segments have (8.6.4.1, 8.7.3.2).
+    /// A segment with another tag than its string's segments have (8.6.4, 8.7.3).
     B17,
     /// Characters that the type does not have.
     B18,
@@ -77,7 +77,7 @@ impl Finding {
     pub fn code(self) -> &'static [u8]
         ensures { result.now ≡ finding_code self }
     {
-        let (wording, _) = self.padded_wording();
+        let (wording, _) = self.wording_block();
         &wording[..3]
     }
 
@@ -85,13 +85,13 @@ impl Finding {
     pub fn text(self) -> &'static [u8]
         ensures { result.now ≡ finding_text self }
     {
-        let (wording, count) = self.padded_wording();
+        let (wording, count) = self.wording_block();
         &wording[4..count]
     }
 
-    /// The code, a space and the text, with spaces after them, so that they can be copied at once, and how many octets
-    /// they are.
-    pub fn padded_wording(self) -> (&'static [u8; 48], usize)
+    /// A block that begins with the code, a space and the text, and has spaces after them, so that they can be copied
+    /// at once, and how many octets they are.
+    pub fn wording_block(self) -> (&'static [u8; 48], usize)
         ensures wording { take result.1 result.0.now ≡ finding_code self ++ 32 ∷ finding_text self }
         ensures count { (4 ≤ result.1) × (result.1 ≤ 44) }
     {

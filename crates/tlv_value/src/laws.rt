@@ -1,6 +1,6 @@
 //! Laws of the definitions: each is the contract of a function that does nothing.
 
-ghost use Rattle.tlv_value.specs.CheckLaws.{ChecksJoin, FindingsEnd, RowsAreFormed};
+ghost use Rattle.tlv_value.specs.CheckLaws.{ChecksJoin, FindingsEnd, RowsAreUtf8};
 ghost use Rattle.tlv_value.specs.Laws.{LinesBegin, LinesEnd, LinesGoOn, PiecesJoin, RowsAreACut, RowsHaveOneCut};
 
 /// It does not matter into which pieces contents are cut.
@@ -34,8 +34,8 @@ pub fn findings_end()
 {}
 
 /// Contents are well-formed UTF-8 exactly if each of their rows is.
-pub fn rows_are_formed()
-    ensures { RowsAreFormed }
+pub fn rows_are_utf8()
+    ensures { RowsAreUtf8 }
 {}
 
 /// The rows of contents are a cut of them: no row has more octets than it has room for, no character is split, and each

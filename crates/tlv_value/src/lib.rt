@@ -2,7 +2,6 @@
 //! whatever pieces its octets come, and what is found on it.
 #![tactic(auto)]
 
-mod check;
 mod clear;
 mod decimal;
 mod dotted;
@@ -10,27 +9,28 @@ mod finding;
 mod kind;
 pub mod laws;
 mod layout;
-mod line;
+mod line_starts;
 mod name_table;
 mod names;
 mod primitive;
-mod rows;
-mod text;
+mod row_sizes;
 mod time;
 mod units;
 mod value;
+mod value_check;
 mod value_lines;
+mod value_text;
 mod whole;
 
-pub use check::ValueCheck;
 pub use clear::is_clear;
 pub use decimal::decimal_of;
 pub use dotted::dotted_of;
 pub use finding::Finding;
 pub use layout::Layout;
-pub use line::{begin_blank, begin_sized, begin_word, write_element, write_tag};
+pub use line_starts::{begin_blank, begin_sized, begin_word, write_element, write_tag};
 pub use name_table::NameTable;
 pub use names::{Names, NamesFault};
-pub use text::ValueText;
 pub use time::{general_canonical, general_ok, utc_canonical, utc_ok};
+pub use value_check::ValueCheck;
+pub use value_text::ValueText;
 pub use whole::put_whole;

@@ -6,7 +6,7 @@ ghost use Rattle.tlv_value.specs.NamesReading.{ReadsFrom};
 
 mod arcs;
 mod fault;
-mod line;
+mod names_line;
 mod reading;
 mod table;
 
@@ -25,10 +25,10 @@ pub struct Names<A: Allocator = Global> {
 }
 
 impl<A: Allocator> Model for Names<A> {
-    ghost use Rattle.tlv_value.specs.Names.{NamesTable, table_code};
+    ghost use Rattle.tlv_value.specs.Names.{NamesValue, table_code};
     ghost use Rattle.tlv_value.specs.NamesFields.{names_in};
 
-    ghost Value = { NamesTable };
+    ghost Value = { NamesValue };
 
     ghost coded = { table_code };
 

@@ -5,12 +5,12 @@ ghost use Rattle.tlv_io.specs.Out.{Puts, held_octets};
 ghost use Rattle.tlv_value.specs.RowSizes.{row_size};
 ghost use Rattle.tlv_value.specs.Private.UndottedText.{undotted_text};
 ghost use Rattle.tlv_value.specs.Private.PrimitiveLines.{line_prefix};
-ghost use Rattle.tlv_value.specs.Value.{is_long, long_text, most_on_line};
-ghost use Rattle.tlv_value.specs.ValueTextState.{new_primitive, primitive_line, primitive_lines};
+ghost use Rattle.tlv_value.specs.Value.{long_text, most_on_line};
+ghost use Rattle.tlv_value.specs.ValueTextState.{is_long_primitive, new_primitive, primitive_line, primitive_lines};
 
 use crate::kind::{Kind, kind_of};
-use crate::line::write_element;
-use crate::rows::row_size;
+use crate::line_starts::write_element;
+use crate::row_sizes::row_size;
 use crate::value::{write_long_bits, write_long_value, write_undotted};
 use crate::value_lines::{put_object, put_relative};
 use crate::{Layout, NameTable};
@@ -48,7 +48,7 @@ impl Primitive {
     /// Whether it has too many contents octets for them to be on its line.
     #[inline(always)]
     pub fn is_long(&self) -> bool
-        ensures { result ≡ is_long self.now.kind self.now.size }
+        ensures { result ≡ is_long_primitive self.now }
     {
         let most = match self.kind {
             Kind::Octets | Kind::Boolean | Kind::Integer => 16,
@@ -60,7 +60,7 @@ impl Primitive {
 
     /// Whether its rows are pairs of digits, and their number is not limited.
     #[inline(always)]
-    pub fn has_pairs(&self) -> bool
+    pub fn has_unlimited_pairs(&self) -> bool
         ensures { IsTrue result
             ↔ ((row_size self.now.kind ≡ 16) × (self.now.layout.limit ≡ None)) }
     {
@@ -95,23 +95,23 @@ impl Primitive {
     }
 
     /// Adds its line with the number of its bits, if it is a long BIT STRING.
-    fn write_bits(&self, held: &mut HeldOctets, unused: u8)
+    fn write_bits_line(&self, held: &mut HeldOctets, unused_bits: u8)
         requires room { HasRoomFor held.old 1024 }
         requires long { 9 < self.now.size }
         ensures { held.new
             ≡ held.old
-            ++ primitive_line self.now (long_text Kind.Bits self.now.size (unused ∷ [])) }
+            ++ primitive_line self.now (long_text Kind.Bits self.now.size (unused_bits ∷ [])) }
     {
         self.write_prefix(held);
-        write_long_bits(held, self.size, unused);
+        write_long_bits(held, self.size, unused_bits);
         held.add(b"\n");
     }
 
     /// Adds its line, if its value is in rows: with the number of its bits, if it is a BIT STRING.
     #[inline(always)]
-    fn write_long(&self, held: &mut HeldOctets, contents: &[u8])
+    fn write_long_line(&self, held: &mut HeldOctets, contents: &[u8])
         requires room { HasRoomFor held.old 1024 }
-        requires long { is_long self.now.kind self.now.size ≡ true }
+        requires long { is_long_primitive self.now ≡ true }
         ensures { held.new
             ≡ held.old
             ++ primitive_line self.now (long_text self.now.kind self.now.size contents.now) }
@@ -132,29 +132,33 @@ impl Primitive {
     }
 
     /// Puts its line with the number of its bits, if it is a long BIT STRING.
-    pub fn put_bits<D: Drain>(&self, unused: u8, out: &mut Out<'_, D>) -> Result<(), WriteFault>
+    pub fn put_bits_line<D: Drain>(
+        &self,
+        unused_bits: u8,
+        out: &mut Out<'_, D>,
+    ) -> Result<(), WriteFault>
         requires { 9 < self.now.size }
         ensures { Puts D.state out.old out.new
-            (primitive_line self.now (long_text Kind.Bits self.now.size (unused ∷ []))) result }
+            (primitive_line self.now (long_text Kind.Bits self.now.size (unused_bits ∷ []))) result }
     {
         out.make_room()?;
-        self.write_bits(&mut out.held, unused);
+        self.write_bits_line(&mut out.held, unused_bits);
         Ok(())
     }
 
     /// Puts its line, if its value is in rows: with the number of its bits, if it is a BIT STRING.
     #[inline(always)]
-    pub fn put_long<D: Drain>(
+    pub fn put_long_line<D: Drain>(
         &self,
         contents: &[u8],
         out: &mut Out<'_, D>,
     ) -> Result<(), WriteFault>
-        requires { is_long self.now.kind self.now.size ≡ true }
+        requires { is_long_primitive self.now ≡ true }
         ensures { Puts D.state out.old out.new
             (primitive_line self.now (long_text self.now.kind self.now.size contents.now)) result }
     {
         out.make_room()?;
-        self.write_long(&mut out.held, contents);
+        self.write_long_line(&mut out.held, contents);
         Ok(())
     }
 

@@ -3,11 +3,10 @@
 //! A part of a form is a function that returns what is after the part with which the octets begin, or none if they do
 //! not begin with it.
 ghost use Rattle.std.specs.Prelude.{◌≡◌, option_copied, option_to_list};
-ghost use Rattle.tlv_value.specs.Times.{canonical_clock, canonical_fraction, canonical_generalized_time_form};
-ghost use Rattle.tlv_value.specs.Times.{canonical_second, canonical_utc_time_form, day, digits, fraction};
-ghost use Rattle.tlv_value.specs.Times.{generalized_hour, generalized_time_form, generalized_zone, has_form, hour};
-ghost use Rattle.tlv_value.specs.Times.{mark, maybe, minute, one, second, sign, two, utc_minute};
-ghost use Rattle.tlv_value.specs.Times.{utc_time_form, utc_zone, ◌or◌, ◌then◌};
+ghost use Rattle.tlv_value.specs.Times.{canonical_generalized_time_form, canonical_second, canonical_utc_time_form};
+ghost use Rattle.tlv_value.specs.Times.{digits, fraction, generalized_hour, generalized_tail, generalized_time_form};
+ghost use Rattle.tlv_value.specs.Times.{generalized_zone, has_form, hour, mark, maybe, minute, month_and_day, one};
+ghost use Rattle.tlv_value.specs.Times.{second, sign, two, utc_minute, utc_time_form, utc_zone, ◌or◌, ◌then◌};
 
 /// Whether the octets are of the grammar of UTCTime: `YYMMDDhhmm`, `ss` or nothing, and `Z`, `+hhmm` or `-hhmm`.
 #[inline(never)]
@@ -43,8 +42,8 @@ pub fn general_ok(contents: &[u8]) -> bool
         return false;
     };
     match after_two_digits(rest, 0, 59) {
-        Some(after) => is_second_and_tail(after) || is_tail(rest),
-        None => is_tail(rest),
+        Some(after) => is_second_and_tail(after) || is_generalized_tail(rest),
+        None => is_generalized_tail(rest),
     }
 }
 
@@ -60,7 +59,7 @@ pub fn general_canonical(contents: &[u8]) -> bool
         return false;
     };
     match after_mark(rest, b'.') {
-        Some(fraction) => is_canonical_fraction(fraction) || is_zulu(rest),
+        Some(fraction) => is_canonical_fraction_rest(fraction) || is_zulu(rest),
         None => is_zulu(rest),
     }
 }
@@ -70,7 +69,7 @@ fn after_utc_minute(octets: &[u8]) -> Option<&[u8]>
     ensures { option_to_list (option_copied result) ≡ utc_minute octets.now }
 {
     let rest = after_two_digits(octets, 0, 99)?;
-    let rest = after_day(rest)?;
+    let rest = after_month_and_day(rest)?;
     let rest = after_two_digits(rest, 0, 24)?;
     after_two_digits(rest, 0, 59)
 }
@@ -81,7 +80,7 @@ fn after_generalized_hour(octets: &[u8]) -> Option<&[u8]>
 {
     let rest = after_two_digits(octets, 0, 99)?;
     let rest = after_two_digits(rest, 0, 99)?;
-    let rest = after_day(rest)?;
+    let rest = after_month_and_day(rest)?;
     after_two_digits(rest, 0, 24)
 }
 
@@ -90,15 +89,15 @@ fn after_canonical_second(octets: &[u8]) -> Option<&[u8]>
     ensures { option_to_list (option_copied result) ≡ canonical_second octets.now }
 {
     let rest = after_two_digits(octets, 0, 99)?;
-    let rest = after_day(rest)?;
+    let rest = after_month_and_day(rest)?;
     let rest = after_two_digits(rest, 0, 23)?;
     let rest = after_two_digits(rest, 0, 59)?;
     after_two_digits(rest, 0, 60)
 }
 
 /// What is after `MMDD`.
-fn after_day(octets: &[u8]) -> Option<&[u8]>
-    ensures { option_to_list (option_copied result) ≡ day octets.now }
+fn after_month_and_day(octets: &[u8]) -> Option<&[u8]>
+    ensures { option_to_list (option_copied result) ≡ month_and_day octets.now }
 {
     let rest = after_two_digits(octets, 1, 12)?;
     after_two_digits(rest, 1, 31)
@@ -123,20 +122,19 @@ fn is_utc_difference(octets: &[u8]) -> bool
 
 /// `ss` or nothing, a fraction or nothing, and a zone or nothing.
 fn is_second_and_tail(octets: &[u8]) -> bool
-    ensures { result
-        ≡ has_form (maybe second then maybe fraction then maybe generalized_zone) octets.now }
+    ensures { result ≡ has_form (maybe second then generalized_tail) octets.now }
 {
     match after_two_digits(octets, 0, 60) {
-        Some(after) => is_tail(after) || is_tail(octets),
-        None => is_tail(octets),
+        Some(after) => is_generalized_tail(after) || is_generalized_tail(octets),
+        None => is_generalized_tail(octets),
     }
 }
 
 /// A fraction or nothing, and a zone or nothing.
-fn is_tail(octets: &[u8]) -> bool
-    ensures { result ≡ has_form (maybe fraction then maybe generalized_zone) octets.now }
+fn is_generalized_tail(octets: &[u8]) -> bool
+    ensures { result ≡ has_form generalized_tail octets.now }
 {
-    is_fraction_and_zone(octets) || is_generalized_zone(octets)
+    is_fraction_and_zone(octets) || is_generalized_zone_or_nothing(octets)
 }
 
 /// A fraction, and a zone or nothing.
@@ -150,11 +148,11 @@ fn is_fraction_and_zone(octets: &[u8]) -> bool
     while let [b'0'..=b'9', more @ ..] = rest {
         rest = more;
     }
-    is_generalized_zone(rest)
+    is_generalized_zone_or_nothing(rest)
 }
 
 /// `Z`, `+hh`, `-hh`, `+hhmm`, `-hhmm` or nothing, and no more.
-fn is_generalized_zone(octets: &[u8]) -> bool
+fn is_generalized_zone_or_nothing(octets: &[u8]) -> bool
     ensures { result ≡ has_form (maybe generalized_zone) octets.now }
 {
     octets.is_empty() || is_zulu(octets) || is_generalized_difference(octets)
@@ -171,7 +169,7 @@ fn is_generalized_difference(octets: &[u8]) -> bool
 }
 
 /// Digits of which the last is not 0, and `Z`, and no more.
-fn is_canonical_fraction(octets: &[u8]) -> bool
+fn is_canonical_fraction_rest(octets: &[u8]) -> bool
     ensures { result ≡ has_form ((digits then one 49 57) then mark 90) octets.now }
 {
     let mut rest = octets;

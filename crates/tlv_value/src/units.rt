@@ -8,7 +8,7 @@ ghost use Rattle.tlv_value.specs.Units.{printable_text, unit_size, unit_text, un
 ghost use Rattle.tlv_value.specs.Units.{without_zeros};
 
 use crate::kind::Kind;
-use crate::rows::utf8_length;
+use crate::row_sizes::utf8_length;
 use tlv_io::HeldOctets;
 
 /// As many octets as a row of characters has at most.

@@ -5,7 +5,7 @@ ghost use Rattle.tlv_io.specs.LineTexts.{GrowsBy, HasRoomFor};
 ghost use Rattle.tlv_value.specs.Bits.{last_bits};
 ghost use Rattle.tlv_value.specs.Private.UndottedText.{undotted_text};
 ghost use Rattle.tlv_value.specs.Units.{quoted_text};
-ghost use Rattle.tlv_value.specs.Value.{bit_count, bits_value, boolean_value, digits_of_bits, integer_value};
+ghost use Rattle.tlv_value.specs.Value.{bit_count_text, bits_value, boolean_value, digits_of_bits, integer_value};
 ghost use Rattle.tlv_value.specs.Value.{is_long, is_readable, joined_pairs, long_text, most_on_line};
 ghost use Rattle.tlv_value.specs.Value.{row_text, used_digits};
 
@@ -44,7 +44,8 @@ fn write_joined_pairs(held: &mut HeldOctets, octets: &[u8])
     }
 }
 
-/// Adds a held value with a space before it, if there is one. An object identifier is shown in hexadecimal.
+/// Adds a value that fits on its line with a space before it, if there is one. An object identifier is shown in
+/// hexadecimal.
 #[inline(always)]
 pub(crate) fn write_undotted(held: &mut HeldOctets, kind: Kind, contents: &[u8])
     requires short { length contents.now ≤ most_on_line kind }
@@ -134,9 +135,9 @@ fn write_bits(held: &mut HeldOctets, contents: &[u8])
     ensures { held.new ≡ held.old ++ (bits_value contents.now).text }
 {
     match contents {
-        [unused, octets @ ..] if is_readable(*unused, octets.len()) => {
-            write_bit_count(held, *unused, octets.len() as u64);
-            write_used_digits(held, *unused, octets);
+        [unused_bits, octets @ ..] if is_readable(*unused_bits, octets.len()) => {
+            write_bit_count(held, *unused_bits, octets.len() as u64);
+            write_used_digits(held, *unused_bits, octets);
         }
         _ => held.spaced_pairs(contents),
     }
@@ -150,42 +151,42 @@ pub(crate) fn write_long_value(held: &mut HeldOctets, kind: Kind, size: u64, con
     ensures text { held.new ≡ held.old ++ long_text kind size contents.now }
     ensures bound { GrowsBy 45 held.old held.new }
 {
-    if let (Kind::Bits, [unused, ..]) = (kind, contents) {
-        write_long_bits(held, size, *unused);
+    if let (Kind::Bits, [unused_bits, ..]) = (kind, contents) {
+        write_long_bits(held, size, *unused_bits);
     }
 }
 
 /// Adds what is on the line of a long BIT STRING of this size: the number of its bits, if its first contents octet
 /// can be read.
-pub(crate) fn write_long_bits(held: &mut HeldOctets, size: u64, unused: u8)
+pub(crate) fn write_long_bits(held: &mut HeldOctets, size: u64, unused_bits: u8)
     requires long { 9 < size }
     requires room { HasRoomFor held.old 64 }
-    ensures text { held.new ≡ held.old ++ long_text Kind.Bits size (unused ∷ []) }
+    ensures text { held.new ≡ held.old ++ long_text Kind.Bits size (unused_bits ∷ []) }
     ensures bound { GrowsBy 45 held.old held.new }
 {
-    if unused <= 7 {
-        write_bit_count(held, unused, size - 1);
+    if unused_bits <= 7 {
+        write_bit_count(held, unused_bits, size - 1);
     }
 }
 
 /// Adds the number of bits of so many octets.
-fn write_bit_count(held: &mut HeldOctets, unused: u8, octets: u64)
-    requires some { unused ≤ 8 * octets }
+fn write_bit_count(held: &mut HeldOctets, unused_bits: u8, octet_count: u64)
+    requires some { unused_bits ≤ 8 * octet_count }
     requires room { HasRoomFor held.old 64 }
-    ensures text { held.new ≡ held.old ++ 32 ∷ bit_count unused octets }
+    ensures text { held.new ≡ held.old ++ 32 ∷ bit_count_text unused_bits octet_count }
     ensures bound { GrowsBy 45 held.old held.new }
 {
     held.add(b" ");
-    held.wide_number(8 * u128::from(octets) - u128::from(unused));
+    held.wide_number(8 * u128::from(octet_count) - u128::from(unused_bits));
     held.add(b" bits");
 }
 
 /// Adds the bits of octets, without those that are not used, after a space if there are any.
-fn write_used_digits(held: &mut HeldOctets, unused: u8, octets: &[u8])
-    requires unused { unused ≤ 7 }
+fn write_used_digits(held: &mut HeldOctets, unused_bits: u8, octets: &[u8])
+    requires unused_bits { unused_bits ≤ 7 }
     requires short { length octets.now ≤ 8 }
     requires room { HasRoomFor held.old 65 }
-    ensures { held.new ≡ held.old ++ used_digits unused octets.now }
+    ensures { held.new ≡ held.old ++ used_digits unused_bits octets.now }
 {
     let Some((last, prefix)) = octets.split_last() else {
         return;
@@ -195,14 +196,14 @@ fn write_used_digits(held: &mut HeldOctets, unused: u8, octets: &[u8])
         held.add(&digits_of_octet(*octet));
     }
     held.add(&digits_of_octet(*last));
-    held.truncate(held.len() - usize::from(unused));
+    held.truncate(held.len() - usize::from(unused_bits));
 }
 
 /// Whether the first contents octet of a BIT STRING can be read, before so many others.
-fn is_readable(unused: u8, octets: usize) -> bool
-    ensures { result ≡ is_readable unused octets }
+fn is_readable(unused_bits: u8, octet_count: usize) -> bool
+    ensures { result ≡ is_readable unused_bits octet_count }
 {
-    unused <= 7 && (unused == 0 || octets != 0)
+    unused_bits <= 7 && (unused_bits == 0 || octet_count != 0)
 }
 
 /// The bits of an octet as digits, the most significant first.

@@ -5,12 +5,12 @@ ghost use Rattle.tlv_io.specs.Out.{Puts, held_octets};
 ghost use Rattle.tlv_value.specs.Private.ObjectLines.{object_lines, octets_lines};
 ghost use Rattle.tlv_value.specs.Value.{no_names};
 
-mod rows;
+mod row_lines;
 
 use crate::dotted::write_dotted;
 use crate::{Layout, NameTable};
-use rows::put_all_rows;
-pub(crate) use rows::{put_last, put_pair_rows, put_rows};
+use row_lines::put_all_rows;
+pub(crate) use row_lines::{put_last, put_pair_rows, put_rows};
 use tlv_io::{Drain, Out, WriteFault};
 
 /// Puts the rest of the lines of an object identifier: its dotted text, with its name if it has one, or its octets.

@@ -6,9 +6,9 @@ ghost use Rattle.tlv_io.specs.Out.{Puts};
 ghost use Rattle.tlv_value.specs.RowSizes.{row_size};
 ghost use Rattle.tlv_value.specs.Private.PrimitiveLines.{lines_in_steps};
 ghost use Rattle.tlv_value.specs.Rows.{rows_of};
-ghost use Rattle.tlv_value.specs.Value.{is_long, long_text, row_octets};
+ghost use Rattle.tlv_value.specs.Value.{long_text, row_octets};
 ghost use Rattle.tlv_value.specs.ValueLines.{row_lines, whole_lines};
-ghost use Rattle.tlv_value.specs.ValueTextState.{new_value_text_of, primitive_line};
+ghost use Rattle.tlv_value.specs.ValueTextState.{is_long_primitive, new_value_text_of, primitive_line};
 
 use crate::kind::Kind;
 use crate::primitive::Primitive;
@@ -39,7 +39,7 @@ pub fn put_whole<N: NameTable, D: Drain>(
     if primitive.is_long() {
         // A reference to a copy: a value on its line then stays in registers.
         let long = primitive;
-        put_long(&long, contents, names, out)
+        put_long_lines(&long, contents, names, out)
     } else {
         primitive.put(contents, names, out)
     }
@@ -47,19 +47,19 @@ pub fn put_whole<N: NameTable, D: Drain>(
 
 /// Puts the lines of a primitive whose contents are too long for its line. It is apart, since it comes seldom.
 #[inline(never)]
-fn put_long<N: NameTable, D: Drain>(
+fn put_long_lines<N: NameTable, D: Drain>(
     primitive: &Primitive,
     contents: &[u8],
     names: &N,
     out: &mut Out<'_, D>,
 ) -> Result<(), WriteFault>
-    requires long { is_long primitive.now.kind primitive.now.size ≡ true }
+    requires long { is_long_primitive primitive.now ≡ true }
     requires whole { length contents.now ≡ primitive.now.size }
     ensures { Puts D.state out.old out.new
         (lines_in_steps (N.name_of names.now) (new_value_text_of primitive.now) contents.now)
         result }
 {
-    if primitive.has_pairs() {
+    if primitive.has_unlimited_pairs() {
         put_pairs(primitive, contents, out)
     } else {
         put_in_steps(primitive, contents, names, out)
@@ -76,13 +76,13 @@ fn put_pairs<D: Drain>(
 ) -> Result<(), WriteFault>
     requires pairs { row_size primitive.now.kind ≡ 16 }
     requires endless { primitive.now.layout.limit ≡ None }
-    requires long { is_long primitive.now.kind primitive.now.size ≡ true }
+    requires long { is_long_primitive primitive.now ≡ true }
     ensures { Puts D.state out.old out.new
         (primitive_line primitive.now (long_text primitive.now.kind primitive.now.size contents.now)
         ++ row_lines primitive.now.kind primitive.now.layout 0
         (rows_of primitive.now.kind (row_octets primitive.now.kind contents.now))) result }
 {
-    primitive.put_long(contents, out)?;
+    primitive.put_long_line(contents, out)?;
     put_pair_rows(primitive.layout, row_octets(primitive.kind, contents), out)
 }
 

@@ -13,7 +13,8 @@ use Rattle.tlv_head.specs.declared.fault.FaultCode.{FaultCode}
 use Rattle.tlv_head.specs.declared.fault.FaultCode.TheVariants.{StrayEnd, IndefinitePrimitive}
 use Rattle.tlv_head.proofs.GrammarLemmas.Scan.{Scan, Origin, origin_of, start, Fresh, High, Named, Long, Ready, Stuck}
 use Rattle.tlv_head.proofs.GrammarLemmas.Scan.{Over, leads, class_of, step, scan, scan_from-append, scan_from-past}
-use Rattle.tlv_head.proofs.GrammarLemmas.Scan.{scan-moved, moved, is_more, more-from_prefix, no-prefix, same-header}
+use Rattle.tlv_head.proofs.GrammarLemmas.Scan.{scan-moved_header, moved_header, is_more, more-from_prefix, no-prefix}
+use Rattle.tlv_head.proofs.GrammarLemmas.Scan.{same-header}
 use Rattle.tlv_head.proofs.GrammarLemmas.Meaning.{IsHighState, IsLongState, IsStateAfter, reads-step, reads-scan}
 use Rattle.tlv_head.proofs.GrammarLemmas.Meaning.{prefix-from_more, prefix-bytes}
 
@@ -139,12 +140,12 @@ explains at x Over o m r = absurd (cc)
 pub stuck-none : (at : Origin) (s : Scan) (o : List ℕ) → scan at o ≡ s → is_more s ≡ false
     → ((h : HeaderValue) → s ≡ Ready h → ⊥) → CannotBecomeHeader o
 stuck-none at s o e m n h [] v f =
-    let ready : scan at (o ++ []) ≡ Ready (moved at h) = rw f (scan-moved at h v) in
-    let ready' : scan at o ≡ Ready (moved at h) = rw append-nil at ready in
-    n (moved at h) (sym e ∙ ready')
+    let ready : scan at (o ++ []) ≡ Ready (moved_header at h) = rw f (scan-moved_header at h v) in
+    let ready' : scan at o ≡ Ready (moved_header at h) = rw append-nil at ready in
+    n (moved_header at h) (sym e ∙ ready')
 stuck-none at s o e m n h (x ∷ more) v f =
-    let ready : scan at (o ++ x ∷ more) ≡ Ready (moved at h) = rw f (scan-moved at h v) in
-    scan_from-past at s (x ∷ more) (moved at h) m (λ z. omega (arith, ap length z))
+    let ready : scan at (o ++ x ∷ more) ≡ Ready (moved_header at h) = rw f (scan-moved_header at h v) in
+    scan_from-past at s (x ∷ more) (moved_header at h) m (λ z. omega (arith, ap length z))
     (rw (scan_from-append at Fresh o (x ∷ more), e) at ready)
 
 -- one more octet makes a prefix of a header, or a header, or begins none

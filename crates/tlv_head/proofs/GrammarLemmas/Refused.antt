@@ -13,7 +13,7 @@ use Rattle.tlv_head.specs.Refusal.{CannotBecomeHeader, BeginsWithNoHeader, IsHea
 use Rattle.tlv_head.specs.Refusal.{indefinite_primitive, length_too_large, reserved_length, tag_too_long}
 use Rattle.tlv_head.proofs.GrammarLemmas.Scan.{Scan, Origin, start, Fresh, High, Named, Long, Ready, Stuck, Over, step}
 use Rattle.tlv_head.proofs.GrammarLemmas.Scan.{scan_from, scan, scan_from-append, scan_from-over, scan-identifier}
-use Rattle.tlv_head.proofs.GrammarLemmas.Scan.{scan-moved, moved, step-leading, is_more, more-from_prefix}
+use Rattle.tlv_head.proofs.GrammarLemmas.Scan.{scan-moved_header, moved_header, step-leading, is_more, more-from_prefix}
 use Rattle.tlv_head.proofs.GrammarLemmas.Headers.{prefixes, stuck-none}
 
 -- read from this state, a prefix of the octets is refused at its last octet
@@ -58,8 +58,8 @@ header-not_stuck h z o code v e s =
     let whole : scan start (octets_of h ++ z) ≡ Stuck code = ap (scan start) e ∙ s in
     let split : scan_from start (scan start (octets_of h)) z ≡ Stuck code =
     sym (scan_from-append start Fresh (octets_of h) z) ∙ whole in
-    past-header start (moved start h) z code
-    (ap (λ (t : Scan). scan_from start t z) (sym (scan-moved start h v)) ∙ split)
+    past-header start (moved_header start h) z code
+    (ap (λ (t : Scan). scan_from start t z) (sym (scan-moved_header start h v)) ∙ split)
 
 stuck-begins_with-none : (o : List ℕ) → IsStuckFrom start Fresh o → BeginsWithNoHeader o
 stuck-begins_with-none o r = λ h rest v e. elim (prefixes r.prefix (octets_of h) r.rest rest (sym r.octets ∙ e)) [

@@ -306,11 +306,11 @@ scan_from-past at (Stuck code) (x ∷ xs) h e some r = cc (scan_from-over at xs)
 scan_from-past at Over (x ∷ xs) h e some r = cc (scan_from-over at xs)
 
 -- a header read at any offset
-abbrev pub moved : Origin → HeaderValue → HeaderValue
-moved at h = head_of at h.class h.constructed h.number h.identifier h.size h.lengths
+abbrev pub moved_header : Origin → HeaderValue → HeaderValue
+moved_header at h = head_of at h.class h.constructed h.number h.identifier h.size h.lengths
 
-pub scan-moved : (at : Origin) (h : HeaderValue) → IsHeader h → scan at (octets_of h) ≡ Ready (moved at h)
-scan-moved at h valid = scan-header (moved at h) (record {
+pub scan-moved_header : (at : Origin) (h : HeaderValue) → IsHeader h → scan at (octets_of h) ≡ Ready (moved_header at h)
+scan-moved_header at h valid = scan-header (moved_header at h) (record {
   identifier = valid.identifier;
   lengths = valid.lengths;
   allowed = valid.allowed;
@@ -324,20 +324,22 @@ more-cases at s xs h some r false e = absurd (scan_from-past at s xs h e some r)
 -- after a prefix of a header more octets are needed
 pub more-from_prefix : (at : Origin) (o : List ℕ) → IsHeaderPrefix o → is_more (scan at o) ≡ true
 more-from_prefix at o f =
-    let whole : scan at (o ++ f.more) ≡ Ready (moved at f.header) = rw f.prefix (scan-moved at f.header f.valid) in
-    more-cases at (scan at o) f.more (moved at f.header) f.proper (rw (scan_from-append at Fresh o f.more) at whole)
+    let whole : scan at (o ++ f.more) ≡ Ready (moved_header at f.header) =
+    rw f.prefix (scan-moved_header at f.header f.valid) in
+    more-cases at (scan at o) f.more (moved_header at f.header) f.proper
+    (rw (scan_from-append at Fresh o f.more) at whole)
     (is_more (scan at o)) refl
 
 -- a header is no proper prefix of another
 pub no-prefix : (h g : HeaderValue) (xs : List ℕ) → IsHeader h → IsHeader g → xs ≢ []
     → octets_of h ++ xs ≡ octets_of g → ⊥
 no-prefix h g xs vh vg some e =
-    let whole : scan start (octets_of h ++ xs) ≡ Ready (moved start g) = rw e (scan-moved start g vg) in
-    let split : scan_from start (scan start (octets_of h)) xs ≡ Ready (moved start g) =
+    let whole : scan start (octets_of h ++ xs) ≡ Ready (moved_header start g) = rw e (scan-moved_header start g vg) in
+    let split : scan_from start (scan start (octets_of h)) xs ≡ Ready (moved_header start g) =
     rw (scan_from-append start Fresh (octets_of h) xs) at whole in
-    let past : scan_from start (Ready (moved start h)) xs ≡ Ready (moved start g) =
-    rw (scan-moved start h vh) at split in
-    scan_from-past start (Ready (moved start h)) xs (moved start g) refl some past
+    let past : scan_from start (Ready (moved_header start h)) xs ≡ Ready (moved_header start g) =
+    rw (scan-moved_header start h vh) at split in
+    scan_from-past start (Ready (moved_header start h)) xs (moved_header start g) refl some past
 
 -- two headers at one place with the same octets are one
 pub same-header : (h g : HeaderValue) → IsHeader h → IsHeader g → origin_of h ≡ origin_of g

@@ -4,8 +4,8 @@ use Rattle.std.proofs.Common.{arith, append-nil, length, subst}
 use Rattle.tlv_head.specs.declared.fault.FaultCode.{FaultCode}
 use Rattle.tlv_head.specs.declared.header.Size.{Size}
 use Rattle.tlv_head.specs.declared.header.Size.TheVariants.{Definite, Indefinite}
-use Rattle.tlv_head.specs.declared.reader.Head.{Head}
-use Rattle.tlv_head.specs.declared.reader.Head.TheVariants.{Whole, Refused}
+use Rattle.tlv_head.specs.declared.head_reader.Head.{Head}
+use Rattle.tlv_head.specs.declared.head_reader.Head.TheVariants.{Whole, Refused}
 use Rattle.tlv_head.specs.Header.{HeaderValue, holds}
 use Rattle.tlv_head.specs.HeadReaderState.{ContentsFit, HeadReaderState}
 use Rattle.tlv_head.specs.Refusal.{IsHeaderPrefix, IsRefusedOctet}

@@ -8,10 +8,10 @@ use Rattle.tlv_head.specs.declared.header.Class.{Class}
 use Rattle.tlv_head.specs.declared.header.Size.{Size}
 use Rattle.tlv_head.specs.declared.header.Size.TheVariants.{Definite, Indefinite}
 use Rattle.tlv_head.specs.declared.header.HeaderFields.{HeaderFields}
-use Rattle.tlv_head.specs.declared.next_octet.Identifier.{Identifier}
+use Rattle.tlv_head.specs.declared.next_octet.IdentifierFields.{IdentifierFields}
 use Rattle.tlv_head.specs.HeaderFields.{IsHeaderSized, new_header}
 use Rattle.tlv_head.specs.declared.next_octet.Part.{Part}
-use Rattle.tlv_head.specs.declared.next_octet.Part.TheVariants.{Start, Number, Length, Digits, Done}
+use Rattle.tlv_head.specs.declared.next_octet.Part.TheVariants.{Start, Number, Identifier, Length, Done}
 use Rattle.tlv_head.specs.Header.{HeaderValue, IsHeader, IsIdentifier, IsLength, octets_of}
 use Rattle.tlv_head.specs.HeaderSoFar.{Carries, is_done}
 use Rattle.tlv_head.specs.Private.NextOctet.{BeginsWithIdentifier, BeginsWithLength, MakesHeader}
@@ -27,8 +27,8 @@ IsBegun os = (os ≡ []) ⊎ IsHeaderPrefix os
 pub begun_part : (p : Part) (os : List ℕ) → Carries p os → is_done p ≡ false → IsBegun os
 begun_part Start os h e = inl h
 begun_part (Number id) os h e = inr (unfinished_number id os h)
-begun_part (Length id) os h e = inr (unfinished_identifier id os h)
-begun_part (Digits id n left) os h e = inr (unfinished_length left id n left os (omega arith) h)
+begun_part (Identifier id) os h e = inr (unfinished_identifier id os h)
+begun_part (Length id n left) os h e = inr (unfinished_length left id n left os (omega arith) h)
 begun_part Done os h e = absurd (cc)
 
 prefix_nil : (a b : List ℕ) → a ++ b ≡ [] → a ≡ []
@@ -77,10 +77,10 @@ header-two h v =
     )
 
 -- by their number the octets may be those of the header that was made
-pub made_sized : (os : List ℕ) (f : HeaderFields) (id : Identifier) (size : Size) → MakesHeader id size os
-    → f.id_len ≡ id.octets → IsHeaderSized f os
+pub made_sized : (os : List ℕ) (f : HeaderFields) (id : IdentifierFields) (size : Size) → MakesHeader id size os
+    → f.id_len ≡ id.id_len → IsHeaderSized f os
 made_sized os f id size m e =
-    let count : id.octets ≡ length m.identifier = m.identified.count in
+    let count : id.id_len ≡ length m.identifier = m.identified.count in
     let few : length m.identifier ≤ 10 = m.identified.few in
     let most : length m.lengths ≤ 127 = m.few in
     let some : 1 ≤ length m.lengths = m.some in
@@ -88,7 +88,7 @@ made_sized os f id size m e =
     rw m.octets_are (length-append m.identifier m.lengths) in
     record { identifier = omega (arith, e); few = omega (arith, e); room = omega arith }
 
-pub made_begins : (os rest : List ℕ) (offset : ℕ) (named : Bool) (id : Identifier) (size : Size)
+pub made_begins : (os rest : List ℕ) (offset : ℕ) (named : Bool) (id : IdentifierFields) (size : Size)
     → MakesHeader id size os
     → BeginsWith (os ++ rest) offset named
     (new_header
@@ -102,13 +102,13 @@ pub made_begins : (os rest : List ℕ) (offset : ℕ) (named : Bool) (id : Ident
       constructed = id.constructed;
       number = id.number;
       size = size;
-      id_len = id.octets;
+      id_len = id.id_len;
     })
     os)
 made_begins os rest offset named id size m =
-    let prefix : take id.octets os ≡ m.identifier =
+    let prefix : take id.id_len os ≡ m.identifier =
     rw (m.octets_are, m.identified.count) (take-append_seam m.identifier m.lengths) in
-    let back : drop id.octets os ≡ m.lengths =
+    let back : drop id.id_len os ≡ m.lengths =
     rw (m.octets_are, m.identified.count) (drop-append_seam m.identifier m.lengths) in
     record {
       valid = rw (prefix, back) (record {
@@ -123,8 +123,8 @@ made_begins os rest offset named id size m =
     }
 
 -- an identifier, and a length after it
-pub begins_short : (os : List ℕ) (offset : ℕ) (named : Bool) (id : Identifier) (size : Size) (id_len count : ℕ)
-    → BeginsWithIdentifier os id → id_len ≡ id.octets
+pub begins_short : (os : List ℕ) (offset : ℕ) (named : Bool) (id : IdentifierFields) (size : Size) (id_len count : ℕ)
+    → BeginsWithIdentifier os id → id_len ≡ id.id_len
     → BeginsWithLength (take (length os - id_len) (drop id_len os)) id.constructed size count
     → BeginsWithFields os offset named
     (record {
@@ -137,7 +137,7 @@ pub begins_short : (os : List ℕ) (offset : ℕ) (named : Bool) (id : Identifie
       constructed = id.constructed;
       number = id.number;
       size = size;
-      id_len = id.octets;
+      id_len = id.id_len;
     })
     (id_len + count)
 begins_short os offset named id size id_len count i e l =
@@ -175,7 +175,7 @@ begins_short os offset named id size id_len count i e l =
                 id.constructed;
             number = id.number;
             size = size;
-            id_len = id.octets;
+            id_len = id.id_len;
           })
           (take (id_len + count) os)))
           (take-append-drop (id_len + count) os)

@@ -8,9 +8,9 @@ use Rattle.tlv_head.specs.declared.header.Class.{Class}
 use Rattle.tlv_head.specs.declared.header.Size.{Size}
 use Rattle.tlv_head.specs.declared.header.Size.TheVariants.{Definite, Indefinite}
 use Rattle.tlv_head.specs.declared.fault.FaultCode.{FaultCode}
-use Rattle.tlv_head.specs.declared.next_octet.Identifier.{Identifier}
+use Rattle.tlv_head.specs.declared.next_octet.IdentifierFields.{IdentifierFields}
 use Rattle.tlv_head.specs.declared.next_octet.Part.{Part}
-use Rattle.tlv_head.specs.declared.next_octet.Part.TheVariants.{Start, Number, Length, Digits, Done}
+use Rattle.tlv_head.specs.declared.next_octet.Part.TheVariants.{Start, Number, Identifier, Length, Done}
 use Rattle.tlv_head.specs.declared.next_octet.Next.{Next}
 use Rattle.tlv_head.specs.declared.next_octet.Next.TheVariants.{Unfinished, Finished, Refused}
 use Rattle.tlv_head.specs.Header.{AllowsSize, IsIdentifier, IsLength, identifier_octet, with_bit_8}
@@ -105,7 +105,7 @@ snoc≢nil [] x e = cc
 snoc≢nil (y ∷ os) x e = cc
 
 -- a high form that has not ended has no identifier as a prefix
-unended : (id : Identifier) (o : List ℕ) (c : Class) (k : Bool) (n : ℕ) (i z : List ℕ) → CarriesNumber id o
+unended : (id : IdentifierFields) (o : List ℕ) (c : Class) (k : Bool) (n : ℕ) (i z : List ℕ) → CarriesNumber id o
     → IsIdentifier c k n i → o ≡ i ++ z → ⊥
 unended id o c k n i z h p e =
     let ended : CarriesIdentifier
@@ -113,7 +113,7 @@ unended id o c k n i z h p e =
       class = id.class;
       constructed = id.constructed;
       number = id.number * 128 + 0;
-      octets = id.octets + 1;
+      id_len = id.id_len + 1;
     })
     (o ++ 0 ∷ []) =
     ends_number id 0 0 o h refl (lit< tt) in
@@ -123,7 +123,7 @@ unended id o c k n i z h p e =
     omega (arith, ap length same, length-append o (0 ∷ []), ap length e, length-append i z)
 
 -- nor is one a prefix of it and another octet, if octets are left for a length
-unended-length : (id : Identifier) (o : List ℕ) (x : ℕ) (c : Class) (k : Bool) (n : ℕ) (i l : List ℕ)
+unended-length : (id : IdentifierFields) (o : List ℕ) (x : ℕ) (c : Class) (k : Bool) (n : ℕ) (i l : List ℕ)
     → CarriesNumber id o → IsIdentifier c k n i → 1 ≤ length l
     → o ++ x ∷ [] ≡ i ++ l → ⊥
 unended-length id o x c k n i l h p some e =
@@ -131,7 +131,7 @@ unended-length id o x c k n i l h p some e =
     unended id o c k n i r.0 h p r.1
 
 -- after the high form so far no octet is refused, if there are at most seven digits
-unrefused : (code : FaultCode) (id : Identifier) (o : List ℕ) (x : ℕ) → CarriesNumber id o → length o ≤ 8
+unrefused : (code : FaultCode) (id : IdentifierFields) (o : List ℕ) (x : ℕ) → CarriesNumber id o → length o ≤ 8
     → IsRefusedOctet o x code → ⊥
 unrefused code id o x h few (tag_too_long c k prefix eight flag) =
     let size : length o ≡ length prefix.digits + 1 =
@@ -143,7 +143,7 @@ unrefused code id o x h few (length_too_large c k n left prefix many nonzero) =
     unended id o c k n prefix.identifier _ h prefix.identified prefix.octets_are
 
 -- so an octet is read, and makes no header
-pub always-unfinished : (r : Next) (id : Identifier) (o : List ℕ) (x : ℕ) → CarriesNumber id o → length o ≤ 8
+pub always-unfinished : (r : Next) (id : IdentifierFields) (o : List ℕ) (x : ℕ) → CarriesNumber id o → length o ≤ 8
     → MakesNext o x r
     → ((p : Part) → r ≡ Unfinished p → ⊥) → ⊥
 always-unfinished (Unfinished p) id o x h few f not = not p refl
@@ -157,42 +157,43 @@ followed : (r : Next) (p : Part) (o : List ℕ) (x : ℕ) → MakesNext o x r �
 followed r p o x f e = subst (MakesNext o x) e f
 
 -- the high form goes on
-pub still-high : (r : Next) (p : Part) (d : Identifier) (o : List ℕ) (x : ℕ) → MakesNext o x r → r ≡ Unfinished p
+pub still-high : (r : Next) (p : Part) (d : IdentifierFields) (o : List ℕ) (x : ℕ) → MakesNext o x r → r ≡ Unfinished p
     → p ≡ Number d → CarriesNumber d (o ++ x ∷ [])
 still-high r p d o x f e g = followed r (Number d) o x f (e ∙ ap (λ (q : Part). Unfinished q) g)
 
 -- octets of the high form, which has not ended
 abbrev pub IsUnended : List ℕ → Type 0
-IsUnended o = (d : Identifier) × CarriesNumber d o
+IsUnended o = (d : IdentifierFields) × CarriesNumber d o
 
 -- an octet ends the high form or goes on with it
-carried-on : (p : Part) (id : Identifier) (o : List ℕ) (x : ℕ) → CarriesNumber id o → Carries p (o ++ x ∷ [])
-    → ((d : Identifier) → p ≡ Length d → ⊥) → (d : Identifier) × (p ≡ Number d) × CarriesNumber d (o ++ x ∷ [])
+carried-on : (p : Part) (id : IdentifierFields) (o : List ℕ) (x : ℕ) → CarriesNumber id o → Carries p (o ++ x ∷ [])
+    → ((d : IdentifierFields) → p ≡ Identifier d → ⊥)
+    → (d : IdentifierFields) × (p ≡ Number d) × CarriesNumber d (o ++ x ∷ [])
 carried-on Start id o x h f not = absurd (snoc≢nil o x f)
 carried-on (Number d) id o x h f not = (d, refl, f)
-carried-on (Length d) id o x h f not = absurd (not d refl)
-carried-on (Digits d n left) id o x h f not =
+carried-on (Identifier d) id o x h f not = absurd (not d refl)
+carried-on (Length d n left) id o x h f not =
     absurd (unended-length id o x d.class d.constructed d.number f.prefix.identifier _ h f.prefix.identified
     (omega arith) f.prefix.octets_are)
 carried-on Done id o x h f not = absurd (snoc≢nil o x f)
 
-pub goes-on : (r : Next) (p : Part) (id : Identifier) (o : List ℕ) (x : ℕ) → CarriesNumber id o → MakesNext o x r
+pub goes-on : (r : Next) (p : Part) (id : IdentifierFields) (o : List ℕ) (x : ℕ) → CarriesNumber id o → MakesNext o x r
     → r ≡ Unfinished p
-    → ((d : Identifier) → p ≡ Length d → ⊥) → IsUnended (o ++ x ∷ [])
+    → ((d : IdentifierFields) → p ≡ Identifier d → ⊥) → IsUnended (o ++ x ∷ [])
 goes-on r p id o x h f e not = let on = carried-on p id o x h (followed r p o x f e) not in (on.0, on.2)
 
-pub no-other : (r : Next) (p : Part) (id : Identifier) (o : List ℕ) (x : ℕ) → CarriesNumber id o → MakesNext o x r
+pub no-other : (r : Next) (p : Part) (id : IdentifierFields) (o : List ℕ) (x : ℕ) → CarriesNumber id o → MakesNext o x r
     → r ≡ Unfinished p
-    → ((d : Identifier) → p ≡ Length d → ⊥) → ((d : Identifier) → p ≡ Number d → ⊥) → ⊥
+    → ((d : IdentifierFields) → p ≡ Identifier d → ⊥) → ((d : IdentifierFields) → p ≡ Number d → ⊥) → ⊥
 no-other r p id o x h f e not nor = let on = carried-on p id o x h (followed r p o x f e) not in nor on.0 on.1
 
 -- the first octet is an identifier, or begins the high form
-pub leads-on : (p : Part) (x : ℕ) → Carries p (x ∷ []) → ((d : Identifier) → p ≡ Length d → ⊥)
-    → ((d : Identifier) → p ≡ Number d → ⊥) → ⊥
+pub leads-on : (p : Part) (x : ℕ) → Carries p (x ∷ []) → ((d : IdentifierFields) → p ≡ Identifier d → ⊥)
+    → ((d : IdentifierFields) → p ≡ Number d → ⊥) → ⊥
 leads-on Start x h not nor = let none : x ∷ [] ≡ [] = h in cc
 leads-on (Number d) x h not nor = nor d refl
-leads-on (Length d) x h not nor = not d refl
-leads-on (Digits d n left) x h not nor =
+leads-on (Identifier d) x h not nor = not d refl
+leads-on (Length d n left) x h not nor =
     some-identifier d.class d.constructed d.number h.prefix.identifier h.prefix.identified
     (short_prefix h.prefix.identifier _ _ x h.prefix.octets_are)
   where
@@ -202,14 +203,16 @@ leads-on (Digits d n left) x h not nor =
 leads-on Done x h not nor = let none : x ∷ [] ≡ [] = h in cc
 
 -- octets that begin with the high form so far begin with no identifier that ends within it
-none-after : (id : Identifier) (o more : List ℕ) (c : Class) (k : Bool) (n : ℕ) (i rest : List ℕ) → CarriesNumber id o
+none-after : (id : IdentifierFields) (o more : List ℕ) (c : Class) (k : Bool) (n : ℕ) (i rest : List ℕ)
+    → CarriesNumber id o
     → IsIdentifier c k n i
     → length i ≤ length o → o ++ more ≡ i ++ rest → ⊥
 none-after id o more c k n i rest h p few e =
     let r = within-prefix o i more rest few e in unended id o c k n i r.0 h p r.1
 
 -- the high form has not ended with the third octet
-pub no-third : (xs : List ℕ) (id : Identifier) → CarriesNumber id (get_or xs 0 0 ∷ get_or xs 1 0 ∷ get_or xs 2 0 ∷ [])
+pub no-third : (xs : List ℕ) (id : IdentifierFields)
+    → CarriesNumber id (get_or xs 0 0 ∷ get_or xs 1 0 ∷ get_or xs 2 0 ∷ [])
     → 3 ≤ length xs → BeginsWithNoIdentifier xs
 no-third [] id h some = absurd (omega arith)
 no-third (x ∷ []) id h some = absurd (omega arith)
@@ -229,16 +232,17 @@ no-short_identifier os none = λ h rest v e few less.
     prefix-nil (x ∷ a) b e = absurd (cc)
 
 -- and then a length that its form may have
-pub no-short_length : (os : List ℕ) (id : Identifier) (id_len : ℕ) → BeginsWithIdentifier os id → id_len ≡ id.octets
+pub no-short_length : (os : List ℕ) (id : IdentifierFields) (id_len : ℕ) → BeginsWithIdentifier os id
+    → id_len ≡ id.id_len
     → BeginsWithNoLength (take (length os - id_len) (drop id_len os)) id.constructed → BeginsWithNoShortHeader os
 no-short_length os id id_len b at none = λ h rest v e few less.
     let cut : os ≡ h.identifier ++ (h.lengths ++ rest) = e ∙ append_assoc h.identifier h.lengths rest in
-    let prefix : take id.octets os ≡ h.identifier =
-    one-identifier _ h.class _ h.constructed _ h.number (take id.octets os) h.identifier (drop id.octets os)
+    let prefix : take id.id_len os ≡ h.identifier =
+    one-identifier _ h.class _ h.constructed _ h.number (take id.id_len os) h.identifier (drop id.id_len os)
     (h.lengths ++ rest) b.carried.identified v.identifier
-    (take-append-drop id.octets os ∙ cut) in
+    (take-append-drop id.id_len os ∙ cut) in
     let form : id.constructed ≡ h.constructed =
-    one-form _ h.class _ h.constructed _ h.number (take id.octets os) h.identifier b.carried.identified
+    one-form _ h.class _ h.constructed _ h.number (take id.id_len os) h.identifier b.carried.identified
     v.identifier prefix in
     let count : id_len ≡ length h.identifier = at ∙ (b.carried.count ∙ ap length prefix) in
     let back : drop id_len os ≡ h.lengths ++ rest =

@@ -13,7 +13,7 @@ use Rattle.tlv_head.specs.declared.fault.FaultCode.TheVariants.{LengthTooLarge}
 use Rattle.tlv_head.specs.HeaderSoFar.{CarriesNumber, CarriesIdentifier, CarriesLength}
 use Rattle.tlv_head.specs.Private.NextOctet.{MakesHeader}
 use Rattle.tlv_head.specs.declared.header.Size.TheVariants.{Definite}
-use Rattle.tlv_head.specs.declared.next_octet.Identifier.{Identifier}
+use Rattle.tlv_head.specs.declared.next_octet.IdentifierFields.{IdentifierFields}
 use Rattle.tlv_head.proofs.NumberLemmas.Digits.{value_of-snoc, value_of-lt}
 use Rattle.tlv_head.proofs.GrammarLemmas.Meaning.{allows_definite}
 
@@ -39,7 +39,7 @@ length-lt n left some small =
     let p : 256 ^ (5 - left) ≤ 256 ^ 4 = pow-le-pow_right {n = 256} (lit< tt) k in
     omega arith
 
-pub number-lt : (id : Identifier) (octets : List ℕ) → CarriesNumber id octets → id.number < 2 ^ 56
+pub number-lt : (id : IdentifierFields) (octets : List ℕ) → CarriesNumber id octets → id.number < 2 ^ 56
 number-lt id octets h =
     let v : value_of 128 h.prefix.digits < 128 ^ length h.prefix.digits =
     value_of-lt 128 h.prefix.digits (lit< tt) h.prefix.each in
@@ -50,7 +50,7 @@ number-lt id octets h =
 prefix-snoc : (i ds os : List ℕ) (a b x : ℕ) → os ≡ i ++ a ∷ ds → b ≡ a → os ++ x ∷ [] ≡ i ++ (b ∷ (ds ++ x ∷ []))
 prefix-snoc i ds os a b x e f = rw (e, f) (append_assoc i (a ∷ ds) (x ∷ []))
 
-pub begins_length : (id : Identifier) (octets : List ℕ) (x : ℕ) → CarriesIdentifier id octets → 128 < x → x < 255
+pub begins_length : (id : IdentifierFields) (octets : List ℕ) (x : ℕ) → CarriesIdentifier id octets → 128 < x → x < 255
     → CarriesLength id 0 (x - 128) (octets ++ x ∷ [])
 begins_length id octets x h low high = record {
   prefix = record {
@@ -68,7 +68,7 @@ begins_length id octets x h low high = record {
   small = one-le-pow (5 - (x - 128)) 256 (lit< tt);
 }
 
-pub more_length : (id : Identifier) (n left x r : ℕ) (octets : List ℕ) → CarriesLength id n left octets → r ≡ x
+pub more_length : (id : IdentifierFields) (n left x r : ℕ) (octets : List ℕ) → CarriesLength id n left octets → r ≡ x
     → x < 256
     → (x ≡ 0) ⊎ (left - 1 < 5) → left - 1 ≢ 0 → CarriesLength id (n * 256 + r) (left - 1) (octets ++ x ∷ [])
 more_length id n left x r octets h e below zero_or_few rest =
@@ -92,7 +92,7 @@ more_length id n left x r octets h e below zero_or_few rest =
       small = rw e (small-step n x left some h.small below zero_or_few);
     }
 
-pub ends_length : (id : Identifier) (n left x r : ℕ) (octets : List ℕ) → CarriesLength id n left octets → r ≡ x
+pub ends_length : (id : IdentifierFields) (n left x r : ℕ) (octets : List ℕ) → CarriesLength id n left octets → r ≡ x
     → x < 256
     → (x ≡ 0) ⊎ (left - 1 < 5) → left - 1 ≡ 0 → MakesHeader id (Definite (n * 256 + r)) (octets ++ x ∷ [])
 ends_length id n left x r octets h e below zero_or_few rest =
@@ -122,7 +122,7 @@ ends_length id n left x r octets h e below zero_or_few rest =
     }
 
 -- a first octet with bits 5 to 1 set: no digits so far
-pub begins_number : (id : Identifier) (x : ℕ) → id.number ≡ 0 → id.octets ≡ 1
+pub begins_number : (id : IdentifierFields) (x : ℕ) → id.number ≡ 0 → id.id_len ≡ 1
     → x ≡ identifier_octet id.class id.constructed 31 → CarriesNumber id (x ∷ [])
 begins_number id x none first e = record {
   prefix = record { digits = []; each = All-nil (λ d. d < 128); octets_are = ap (λ (y : ℕ). y ∷ []) e };
@@ -131,20 +131,20 @@ begins_number id x none first e = record {
   value = none;
 }
 
-pub more_number : (id : Identifier) (x r : ℕ) (octets : List ℕ) → CarriesNumber id octets → x ≡ 128 + r → r < 128
-    → id.octets < 9
+pub more_number : (id : IdentifierFields) (x r : ℕ) (octets : List ℕ) → CarriesNumber id octets → x ≡ 128 + r → r < 128
+    → id.id_len < 9
     → CarriesNumber
     (record {
       class = id.class;
       constructed = id.constructed;
       number = id.number * 128 + r;
-      octets = id.octets + 1;
+      id_len = id.id_len + 1;
     })
     (octets ++ x ∷ [])
 more_number id x r octets h e below few =
     let len : length (h.prefix.digits ++ r ∷ []) ≡ length h.prefix.digits + 1 =
     omega (arith, length-append h.prefix.digits (r ∷ [])) in
-    let count : id.octets ≡ length h.prefix.digits + 1 = h.count in
+    let count : id.id_len ≡ length h.prefix.digits + 1 = h.count in
     record {
       prefix = record {
         digits = h.prefix.digits ++ r ∷ [];
@@ -156,17 +156,17 @@ more_number id x r octets h e below few =
       value = rw h.value (sym (value_of-snoc 128 h.prefix.digits r));
     }
 
-pub ends_number : (id : Identifier) (x r : ℕ) (octets : List ℕ) → CarriesNumber id octets → r ≡ x → x < 128
+pub ends_number : (id : IdentifierFields) (x r : ℕ) (octets : List ℕ) → CarriesNumber id octets → r ≡ x → x < 128
     → CarriesIdentifier
     (record {
       class = id.class;
       constructed = id.constructed;
       number = id.number * 128 + r;
-      octets = id.octets + 1;
+      id_len = id.id_len + 1;
     })
     (octets ++ x ∷ [])
 ends_number id x r octets h e below =
-    let count : id.octets ≡ length h.prefix.digits + 1 = h.count in
+    let count : id.id_len ≡ length h.prefix.digits + 1 = h.count in
     let size : length octets ≡ length h.prefix.digits + 1 =
     rw h.prefix.octets_are (omega (arith, length-map h.prefix.digits (λ d. 128 + d))) in
     let few : length h.prefix.digits ≤ 8 = h.few in
@@ -185,25 +185,26 @@ ends_number id x r octets h e below =
     }
 
 -- a ninth subsequent identifier octet that is not the last
-pub ninth_number : (id : Identifier) (octets : List ℕ) (x : ℕ) → CarriesNumber id octets → 9 ≤ id.octets → 128 ≤ x
+pub ninth_number : (id : IdentifierFields) (octets : List ℕ) (x : ℕ) → CarriesNumber id octets → 9 ≤ id.id_len → 128 ≤ x
     → IsRefusedOctet octets x TagTooLong
 ninth_number id octets x h many flag =
     tag_too_long id.class id.constructed h.prefix (omega (arith, h.few, h.count)) flag
 
 -- a first length octet ff
-pub all_ones : (id : Identifier) (octets : List ℕ) (x : ℕ) → CarriesIdentifier id octets → x ≡ 255
+pub all_ones : (id : IdentifierFields) (octets : List ℕ) (x : ℕ) → CarriesIdentifier id octets → x ≡ 255
     → IsRefusedOctet octets x ReservedLength
 all_ones id octets x h e = reserved_length id.class id.constructed id.number h.identified e
 
 -- a first length octet 80 of a primitive
-pub unallowed : (id : Identifier) (octets : List ℕ) (x : ℕ) → CarriesIdentifier id octets → id.constructed ≡ false
+pub unallowed : (id : IdentifierFields) (octets : List ℕ) (x : ℕ) → CarriesIdentifier id octets → id.constructed ≡ false
     → x ≡ 128 → IsRefusedOctet octets x IndefinitePrimitive
 unallowed id octets x h form e =
     indefinite_primitive id.class id.number
     (subst (λ (k : Bool). IsIdentifier id.class k id.number octets) form h.identified) e
 
 -- a length octet that makes the length too large
-pub too_large : (id : Identifier) (n left : ℕ) (octets : List ℕ) (x : ℕ) → CarriesLength id n left octets → 6 ≤ left
+pub too_large : (id : IdentifierFields) (n left : ℕ) (octets : List ℕ) (x : ℕ) → CarriesLength id n left octets
+    → 6 ≤ left
     → x ≢ 0 → IsRefusedOctet octets x LengthTooLarge
 too_large id n left octets x h many nonzero =
     length_too_large id.class id.constructed id.number left h.prefix many nonzero

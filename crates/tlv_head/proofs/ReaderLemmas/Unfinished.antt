@@ -12,9 +12,9 @@ use Rattle.tlv_head.specs.Private.NextOctet.{MakesHeader}
 use Rattle.tlv_head.specs.declared.fault.FaultCode.TheVariants.{TooDeep, Overrun}
 use Rattle.tlv_head.specs.declared.header.Size.{Size}
 use Rattle.tlv_head.specs.declared.header.Size.TheVariants.{Definite}
-use Rattle.tlv_head.specs.declared.next_octet.Identifier.{Identifier}
+use Rattle.tlv_head.specs.declared.next_octet.IdentifierFields.{IdentifierFields}
 use Rattle.tlv_head.specs.declared.next_octet.Part.{Part}
-use Rattle.tlv_head.specs.declared.next_octet.Part.TheVariants.{Start, Number, Length, Digits, Done}
+use Rattle.tlv_head.specs.declared.next_octet.Part.TheVariants.{Start, Number, Identifier, Length, Done}
 use Rattle.std.proofs.lemmas.List.{length-map}
 use Rattle.std.proofs.Math.Seq.{drop-append_seam, take-append_seam}
 use Rattle.tlv_head.proofs.ReaderLemmas.Steps.{ends_number, ends_length, more_length}
@@ -25,8 +25,8 @@ length-carried Start os h = rw h (omega arith)
 length-carried (Number id) os h =
     let few : length h.prefix.digits ≤ 8 = h.few in
     rw h.prefix.octets_are (omega (arith, length-map h.prefix.digits (λ d. 128 + d)))
-length-carried (Length id) os h = let few : length os ≤ 10 = h.few in omega arith
-length-carried (Digits id n left) os h =
+length-carried (Identifier id) os h = let few : length os ≤ 10 = h.few in omega arith
+length-carried (Length id n left) os h =
     let few : length h.prefix.identifier ≤ 10 = h.few in
     let some : 1 ≤ left = h.prefix.some in
     let most : length h.prefix.digits + left ≤ 126 = h.prefix.few in
@@ -34,10 +34,11 @@ length-carried (Digits id n left) os h =
     (omega (arith, length-append h.prefix.identifier ((128 + (length h.prefix.digits + left)) ∷ h.prefix.digits)))
 length-carried Done os h = rw h (omega arith)
 
--- the header that is made
-abbrev pub made : (at : ℕ) (named : Bool) (id : Identifier) (size : Size) (os : List ℕ) → MakesHeader id size os
+-- the header that the octets are
+abbrev pub made_header : (at : ℕ) (named : Bool) (id : IdentifierFields) (size : Size) (os : List ℕ)
+    → MakesHeader id size os
     → HeaderValue
-made at named id size os m = record {
+made_header at named id size os m = record {
   offset = at;
   named = named;
   class = id.class;
@@ -48,41 +49,44 @@ made at named id size os m = record {
   lengths = m.lengths;
 }
 
-made-valid : (at : ℕ) (named : Bool) (id : Identifier) (size : Size) (os : List ℕ) (m : MakesHeader id size os)
-    → IsHeader (made at named id size os m)
-made-valid at named id size os m = record {
+made_header-valid : (at : ℕ) (named : Bool) (id : IdentifierFields) (size : Size) (os : List ℕ)
+    (m : MakesHeader id size os)
+    → IsHeader (made_header at named id size os m)
+made_header-valid at named id size os m = record {
   identifier = m.identified.identified;
   lengths = m.sized;
   allowed = m.allowed;
 }
 
-made_completes : (r : HeadReaderState) (id : Identifier) (size : Size) (os : List ℕ) (x : ℕ)
+made_completes : (r : HeadReaderState) (id : IdentifierFields) (size : Size) (os : List ℕ) (x : ℕ)
     (m : MakesHeader id size (os ++ x ∷ []))
     → os ≡ r.octets
-    → Completes r (x ∷ []) (made r.offset r.named id size (os ++ x ∷ []) m)
+    → Completes r (x ∷ []) (made_header r.offset r.named id size (os ++ x ∷ []) m)
 made_completes r id size os x m e = record {
-  valid = made-valid r.offset r.named id size _ m;
+  valid = made_header-valid r.offset r.named id size _ m;
   offset = refl;
   named = refl;
   octets = sym m.octets_are ∙ ap (λ s. s ++ x ∷ []) e;
 }
 
-pub made_too_deep : (r : HeadReaderState) (id : Identifier) (size : Size) (os : List ℕ) (x depth : ℕ) (room : Option ℕ)
+pub made_too_deep : (r : HeadReaderState) (id : IdentifierFields) (size : Size) (os : List ℕ) (x depth : ℕ)
+    (room : Option ℕ)
     → room ≢ Some 0 → MakesHeader id size (os ++ x ∷ []) → os ≡ r.octets
     → (id.constructed || is_wrapper r.named id.class id.constructed id.number size) ≡ true → 128 ≤ depth
     → IsRefusedPush r x room depth TooDeep
 made_too_deep r id size os x depth room n m e c low =
-    too_deep n (made r.offset r.named id size (os ++ x ∷ []) m) (made_completes r id size os x m e) c low
+    too_deep n (made_header r.offset r.named id size (os ++ x ∷ []) m) (made_completes r id size os x m e) c low
 
-pub made_overrun : (r : HeadReaderState) (id : Identifier) (size : Size) (os : List ℕ) (x depth : ℕ) (room : Option ℕ)
+pub made_overrun : (r : HeadReaderState) (id : IdentifierFields) (size : Size) (os : List ℕ) (x depth : ℕ)
+    (room : Option ℕ)
     → room ≢ Some 0 → MakesHeader id size (os ++ x ∷ []) → os ≡ r.octets
     → ((id.constructed || is_wrapper r.named id.class id.constructed id.number size) ≡ true → depth < 128)
     → (ContentsFit size room → ⊥) → IsRefusedPush r x room depth Overrun
 made_overrun r id size os x depth room n m e c past =
-    overrun n (made r.offset r.named id size (os ++ x ∷ []) m) (made_completes r id size os x m e) c past
+    overrun n (made_header r.offset r.named id size (os ++ x ∷ []) m) (made_completes r id size os x m e) c past
 
 -- the octets that make a header, cut after its identifier
-pub made_whole : (r : HeadReaderState) (id : Identifier) (size : Size) (os : List ℕ) (x : ℕ)
+pub made_whole : (r : HeadReaderState) (id : IdentifierFields) (size : Size) (os : List ℕ) (x : ℕ)
     (m : MakesHeader id size (os ++ x ∷ []))
     → os ≡ r.octets
     → Completes r (x ∷ []) (record {
@@ -92,11 +96,11 @@ pub made_whole : (r : HeadReaderState) (id : Identifier) (size : Size) (os : Lis
       constructed = id.constructed;
       number = id.number;
       size = size;
-      identifier = take id.octets (os ++ x ∷ []);
-      lengths = drop id.octets (os ++ x ∷ []);
+      identifier = take id.id_len (os ++ x ∷ []);
+      lengths = drop id.id_len (os ++ x ∷ []);
     })
 made_whole r id size os x m e =
-    let count : id.octets ≡ length m.identifier = m.identified.count in
+    let count : id.id_len ≡ length m.identifier = m.identified.count in
     rw (m.octets_are, count, take-append_seam m.identifier m.lengths, drop-append_seam m.identifier m.lengths)
     (made_completes r id size os x m e)
 
@@ -113,16 +117,16 @@ zero_after os u = record {
   prefix = sym (append_assoc os (0 ∷ []) u.more) ∙ u.prefix;
 }
 
-zero_ends : (id : Identifier) (size : Size) (os : List ℕ) → MakesHeader id size (os ++ 0 ∷ []) → IsHeaderPrefix os
+zero_ends : (id : IdentifierFields) (size : Size) (os : List ℕ) → MakesHeader id size (os ++ 0 ∷ []) → IsHeaderPrefix os
 zero_ends id size os m = record {
-  header = made 0 false id size _ m;
+  header = made_header 0 false id size _ m;
   more = 0 ∷ [];
-  valid = made-valid 0 false id size _ m;
+  valid = made_header-valid 0 false id size _ m;
   proper = cons≢nil 0 [];
   prefix = m.octets_are;
 }
 
-pub unfinished_identifier : (id : Identifier) (os : List ℕ) → CarriesIdentifier id os → IsHeaderPrefix os
+pub unfinished_identifier : (id : IdentifierFields) (os : List ℕ) → CarriesIdentifier id os → IsHeaderPrefix os
 unfinished_identifier id os h = zero_ends id (Definite 0) os (record {
   identifier = os;
   lengths = 0 ∷ [];
@@ -134,10 +138,11 @@ unfinished_identifier id os h = zero_ends id (Definite 0) os (record {
   octets_are = refl;
 })
 
-pub unfinished_number : (id : Identifier) (os : List ℕ) → CarriesNumber id os → IsHeaderPrefix os
+pub unfinished_number : (id : IdentifierFields) (os : List ℕ) → CarriesNumber id os → IsHeaderPrefix os
 unfinished_number id os h = zero_after os (unfinished_identifier _ _ (ends_number id 0 0 os h refl (lit< tt)))
 
-pub unfinished_length : (k : ℕ) (id : Identifier) (n left : ℕ) (os : List ℕ) → left ≤ k → CarriesLength id n left os
+pub unfinished_length : (k : ℕ) (id : IdentifierFields) (n left : ℕ) (os : List ℕ) → left ≤ k
+    → CarriesLength id n left os
     → IsHeaderPrefix os
 unfinished_length zero id n left os below h = let some : 1 ≤ left = h.prefix.some in absurd (omega arith)
 unfinished_length (suc k) id n left os below h = elim (cases_eq (left - 1) 0) [
@@ -156,6 +161,6 @@ pub unfinished_part : (p : Part) (os : List ℕ) (x : ℕ) → Carries p (os ++ 
     → IsHeaderPrefix (os ++ x ∷ []) × (is_done p ≡ false)
 unfinished_part Start os x h = absurd (snoc≢nil os x h)
 unfinished_part (Number id) os x h = (unfinished_number id _ h, refl)
-unfinished_part (Length id) os x h = (unfinished_identifier id _ h, refl)
-unfinished_part (Digits id n left) os x h = (unfinished_length left id n left _ (omega arith) h, refl)
+unfinished_part (Identifier id) os x h = (unfinished_identifier id _ h, refl)
+unfinished_part (Length id n left) os x h = (unfinished_length left id n left _ (omega arith) h, refl)
 unfinished_part Done os x h = absurd (snoc≢nil os x h)

@@ -11,7 +11,7 @@ use Rattle.tlv_head.specs.declared.header.Size.TheVariants.{Definite, Indefinite
 use Rattle.tlv_head.specs.Header.{HeaderValue, IsHeader, IsHighForm, IsIdentifier, IsLength, announced_length}
 use Rattle.tlv_head.specs.Header.{identifier_octet, value_of, with_bit_8}
 use Rattle.tlv_head.specs.Shortest.{HaveOneTag, IsShortestIdentifier, IsShortestLength, ShortestHeadersAreOne}
-use Rattle.tlv_head.specs.Shortest.{ShortestHeadersAreShortest}
+use Rattle.tlv_head.specs.Shortest.{NoHeaderIsShorter}
 use Rattle.tlv_head.proofs.NumberLemmas.OneValue.{fewest-digits, same-digits}
 
 -- ---- identifier octets
@@ -149,7 +149,7 @@ pub shortest-length : (h g : HeaderValue) → IsHeader h → IsHeader g → h.si
     → length h.lengths ≤ length g.lengths
 shortest-length h g u v size s = length-le h.size h.lengths g.lengths u.lengths (moved-lengths h g v size) s
 
-pub shortest_are_shortest : ShortestHeadersAreShortest
+pub shortest_are_shortest : NoHeaderIsShorter
 shortest_are_shortest h g u v tag size s =
     (shortest-identifier h g u v tag s.identifier, shortest-length h g u v size s.lengths)
 

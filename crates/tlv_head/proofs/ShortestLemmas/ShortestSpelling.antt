@@ -14,17 +14,17 @@ use Rattle.tlv_head.proofs.ShortestLemmas.Shortest.{high-first, identifier-le, i
 use Rattle.tlv_head.proofs.ShortestLemmas.Shortest.{shortest-identifier, shortest-length}
 
 -- the same digits without leading zeros, before others
-record Stripped (b : ℕ) (digits tail : List ℕ) : Type 0 where
+record StrippedDigits (b : ℕ) (digits tail : List ℕ) : Type 0 where
   pub kept : List ℕ
   pub each : All (λ d. d < b) kept
   pub fewer : length kept ≤ length digits
   pub value : value_of b (kept ++ tail) ≡ value_of b (digits ++ tail)
   pub first : (kept ≡ []) ⊎ (slice_index (kept ++ tail) 0 ≢ 0)
 
-strip : (b : ℕ) (digits tail : List ℕ) → All (λ d. d < b) digits → Stripped b digits tail
+strip : (b : ℕ) (digits tail : List ℕ) → All (λ d. d < b) digits → StrippedDigits b digits tail
 strip b [] tail each = record { kept = []; each = each; fewer = le_refl _; value = refl; first = inl refl }
 strip b (zero ∷ digits) tail each =
-    let r : Stripped b digits tail = strip b digits tail (All-tail (λ d. d < b) zero digits each) in
+    let r : StrippedDigits b digits tail = strip b digits tail (All-tail (λ d. d < b) zero digits each) in
     record {
       kept = r.kept;
       each = r.each;
@@ -68,7 +68,7 @@ high-form : (class : Class) (constructed : Bool) (n : ℕ) (digits : List ℕ) (
     → All (λ d. d < 128) digits → last < 128 → length digits ≤ 8
     → n ≡ value_of 128 (digits ++ last ∷ []) → ShortIdentifier class constructed n
 high-form class constructed n digits last large each below few e =
-    let r : Stripped 128 digits (last ∷ []) = strip 128 digits (last ∷ []) each in
+    let r : StrippedDigits 128 digits (last ∷ []) = strip 128 digits (last ∷ []) each in
     let value : n ≡ value_of 128 (r.kept ++ last ∷ []) = e ∙ sym r.value in
     let nonzero : slice_index (r.kept ++ last ∷ []) 0 ≢ 0 = first-kept r.kept last n large value r.first in
     record {
@@ -118,7 +118,7 @@ first-of_length (x ∷ kept) n large e (inr first) = (omega arith, first)
 long-form : (n : ℕ) (digits : List ℕ) → 128 ≤ n → All (λ d. d < 256) digits → length digits ≤ 126 → n < 2 ^ 40
     → n ≡ value_of 256 digits → ShortLength (Definite n)
 long-form n digits large each few limit e =
-    let r : Stripped 256 digits [] = strip 256 digits [] each in
+    let r : StrippedDigits 256 digits [] = strip 256 digits [] each in
     let value : n ≡ value_of 256 (r.kept ++ []) = e ∙ ap (value_of 256) (sym (append-nil digits)) ∙ sym r.value in
     let first : (1 ≤ length r.kept) × (slice_index r.kept 0 ≢ 0) = first-of_length r.kept n large value r.first in
     record {

@@ -4,13 +4,13 @@ use Rattle.tlv_head.specs.declared.header.Class.{Class}
 use Rattle.tlv_head.specs.declared.header.Size.{Size}
 use Rattle.tlv_head.specs.Header.{AllowsSize, IsIdentifier, IsLength}
 use Rattle.tlv_head.specs.Refusal.{IsRefusedOctet}
-use Rattle.tlv_head.specs.declared.next_octet.Identifier.{Identifier}
+use Rattle.tlv_head.specs.declared.next_octet.IdentifierFields.{IdentifierFields}
 use Rattle.tlv_head.specs.declared.next_octet.Next.{Next}
 use Rattle.tlv_head.specs.declared.next_octet.Next.TheVariants.{Unfinished, Finished, Refused}
 use Rattle.tlv_head.specs.HeaderSoFar.{CarriesIdentifier, Carries}
 
 -- the octets are a header with these fields
-pub record MakesHeader (id : Identifier) (size : Size) (octets : List ℕ) : Type 0 where
+pub record MakesHeader (id : IdentifierFields) (size : Size) (octets : List ℕ) : Type 0 where
   pub identifier : List ℕ
   pub lengths : List ℕ
   pub identified : CarriesIdentifier id identifier
@@ -21,9 +21,9 @@ pub record MakesHeader (id : Identifier) (size : Size) (octets : List ℕ) : Typ
   pub octets_are : octets ≡ identifier ++ lengths
 
 -- octets begin with the identifier
-pub record BeginsWithIdentifier (octets : List ℕ) (id : Identifier) : Type 0 where
-  pub within : id.octets ≤ length octets
-  pub carried : CarriesIdentifier id (take id.octets octets)
+pub record BeginsWithIdentifier (octets : List ℕ) (id : IdentifierFields) : Type 0 where
+  pub within : id.id_len ≤ length octets
+  pub carried : CarriesIdentifier id (take id.id_len octets)
 
 -- octets begin with length octets, so many, that an element of that form may have
 pub record BeginsWithLength (octets : List ℕ) (constructed : Bool) (size : Size) (count : ℕ) : Type 0 where

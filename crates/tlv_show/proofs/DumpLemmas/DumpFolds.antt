@@ -2,7 +2,7 @@
 use Rattle.std.proofs.Common.{◌≡◌, ℕ, ◌^◌, ◌≤◌, List, [], ◌∷◌, length, refl, ap, ◌∙◌, arith, length-append}
 use Rattle.std.specs.FinMap as finite
 use Rattle.std.specs.Prelude.{None}
-use Rattle.tlv_value.specs.Names.{NamesTable}
+use Rattle.tlv_value.specs.Names.{NamesValue}
 use Rattle.tlv_walk.specs.declared.follow.Go.{Go}
 use Rattle.tlv_walk.specs.Events.{Begin, Bytes, Close, End, Enter, EventValue, Leave, Open, Pad, Unused, events}
 use Rattle.tlv_walk.specs.Follow.{Effect, effect_if_more, effect_of}
@@ -43,7 +43,7 @@ finder-run s (e ∷ es) =
     ∙ finder-run (dump_step s e).state es
     ∙ ap (λ (u : CheckState). (run_finder u es).state) (finder-by s e)
 
-module _ (options : Options) (names : NamesTable) (octets : List ℕ) (f : Forest) (short : length octets ≤ 2 ^ 40)
+module _ (options : Options) (names : NamesValue) (octets : List ℕ) (f : Forest) (short : length octets ≤ 2 ^ 40)
     (r : IsReading options.framing octets f) where
   pub text-made : (effect_of dump_step (new_dump options.rules (top_layout options) names) (events f)).put
       ≡ (dump_job options names).text f
@@ -60,7 +60,7 @@ module _ (options : Options) (names : NamesTable) (octets : List ℕ) (f : Fores
       (finder-run (new_dump options.rules (top_layout options) names) (events f))
       ∙ count-run options.rules options.framing octets f short r
 
-pub dumps : (options : Options) (names : NamesTable)
+pub dumps : (options : Options) (names : NamesValue)
     → Shower dump_step (new_dump options.rules (top_layout options) names) options.rules options.framing
     (item_text (finite.get names) (top_layout options)) (λ (s : DumpState). s.finder.finding_count)
 dumps options names = record {

@@ -7,7 +7,7 @@ use Rattle.std.specs.Prelude.{flat_map, Option, None}
 use Rattle.tlv_head.specs.Header.{HeaderValue, announced_length, octets_of, AllowsSize}
 use Rattle.tlv_value.specs.declared.finding.Finding.{Finding}
 use Rattle.tlv_value.specs.declared.layout.Layout.{Layout}
-use Rattle.tlv_value.specs.Names.{NamesTable}
+use Rattle.tlv_value.specs.Names.{NamesValue}
 use Rattle.tlv_value.specs.ValueLines.{whole_lines}
 use Rattle.tlv_walk.specs.Events.{Begin, Bytes, End, EventValue, events, opening_events, closing_event, end_offset}
 use Rattle.tlv_walk.specs.Events.{end_octets_offset}
@@ -38,7 +38,7 @@ use Rattle.tlv_value.specs.Types.{is_primitive}
 use Rattle.tlv_show.specs.Conditions.{segments_of}
 
 -- ---- elements, in this style, with these names and rules
-module _ (style : Layout) (names : NamesTable) (rules : Rules) where
+module _ (style : Layout) (names : NamesValue) (rules : Rules) where
   abbrev pub item : Item → List ℕ
   item i = item_text (finite.get names) style i
 

@@ -7,7 +7,7 @@ use Rattle.std.specs.Prelude.{Option, Some, None}
 use Rattle.tlv_head.specs.Header.{HeaderValue, announced_length, octets_of, wraps}
 use Rattle.tlv_value.specs.declared.layout.Layout.{Layout}
 use Rattle.tlv_value.specs.ValueCheckState.{value_check_after, has_unused_bits, new_value_check}
-use Rattle.tlv_value.specs.Names.{NamesTable}
+use Rattle.tlv_value.specs.Names.{NamesValue}
 use Rattle.tlv_value.specs.ValueLines.{open_lines, whole_lines}
 use Rattle.tlv_value.specs.Types.{is_primitive}
 use Rattle.tlv_walk.specs.declared.follow.Go.{Go}
@@ -50,7 +50,7 @@ use Rattle.tlv_show.proofs.DumpLemmas.DumpItems.{primitive-shown}
 use Rattle.tlv_show.proofs.DumpLemmas.DumpItems.{shown-after, site, split, start}
 
 -- elements, in this style, with these names and rules
-module _ (style : Layout) (names : NamesTable) (rules : Rules) where
+module _ (style : Layout) (names : NamesValue) (rules : Rules) where
   pub shows_forest : (p : Place) (holder : Option HeaderValue) (previous : Previous) (w : HolderFrame)
       (outer : List HolderFrame) (f : Forest)
       → IsOpen p f → p.offset + length (spelling f) ≤ 2 ^ 64 - 1 → Known style names rules p holder previous w outer

@@ -9,7 +9,7 @@ use Rattle.tlv_head.specs.declared.header.Size.{Size}
 use Rattle.tlv_head.specs.declared.header.Size.TheVariants.{Definite, Indefinite}
 use Rattle.tlv_head.specs.Header.{AllowsSize, HeaderValue, announced_length, octets_of}
 use Rattle.tlv_value.specs.declared.layout.Layout.{Layout}
-use Rattle.tlv_value.specs.Names.{NamesTable}
+use Rattle.tlv_value.specs.Names.{NamesValue}
 use Rattle.tlv_value.specs.ValueLines.{open_lines, whole_lines}
 use Rattle.tlv_value.specs.ValueTextState.{ValueTextState, begin_lines, contents_lines, end_lines, new_value_text}
 use Rattle.tlv_value.specs.ValueTextState.{value_text_after}
@@ -98,7 +98,7 @@ primitives_shown s h c size =
     ∙ ap (effect_with lines_after) (whole_shown (finite.get s.names) h s.layout c (sym size))
 
 -- of elements in this style, with these names
-module _ (style : Layout) (names : NamesTable) where
+module _ (style : Layout) (names : NamesValue) where
   abbrev pub at_level : ℕ → Layout
   at_level level = record style { level = level }
 

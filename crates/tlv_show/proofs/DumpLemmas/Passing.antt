@@ -4,7 +4,7 @@ use Rattle.std.specs.Prelude.{None, Ok, if◌then◌else◌, ◌&&◌, ◌||◌,
 use Rattle.std.specs.List.{filter}
 use Rattle.tlv_head.specs.Header.{HeaderValue, announced_length}
 use Rattle.tlv_value.specs.declared.finding.Finding.{Finding}
-use Rattle.tlv_value.specs.Checks.{findings_on_contents}
+use Rattle.tlv_value.specs.Checks.{all_contents_findings}
 use Rattle.tlv_value.specs.Types.{constructed_types, is_one_of, is_string, is_unassigned, primitive_types}
 use Rattle.tlv_io.specs.declared.drain.WriteFault.{WriteFault}
 use Rattle.tlv_walk.specs.declared.follow.Go.TheVariants as go
@@ -54,7 +54,7 @@ without_primitive s = record s { open_primitive = None }
 
 pub passed : (s : CheckState) (h : HeaderValue) (c : List ℕ) → announced_length h.size ≡ length c
     → s.holders.frame.has_segments ≡ false
-    → header_findings s.rules (surroundings_in s.holders.frame) h ≡ [] → findings_on_contents h c ≡ []
+    → header_findings s.rules (surroundings_in s.holders.frame) h ≡ [] → all_contents_findings h c ≡ []
     → finder_whole_step s h c ≡ record {
       kept = without_primitive s;
       level = depth_in s.holders;
@@ -91,7 +91,7 @@ passed s h c size w header contents =
 
 pub passes : (old new : FinderState) (h : HeaderValue) (c : List ℕ) → announced_length h.size ≡ length c
     → old.kept.holders.frame.has_segments ≡ false
-    → header_findings old.kept.rules (surroundings_in old.kept.holders.frame) h ≡ [] → findings_on_contents h c ≡ []
+    → header_findings old.kept.rules (surroundings_in old.kept.holders.frame) h ≡ [] → all_contents_findings h c ≡ []
     → new ≡ with_state (without_primitive old.kept) old → PassesPrimitive old new h c
 passes old new h c size w header contents e =
     let all = passed old.kept h c size w header contents in

@@ -4,7 +4,7 @@ use Rattle.std.proofs.lemmas.List.Elements.{filter-append}
 use Rattle.std.specs.List.{filter}
 use Rattle.std.specs.Prelude.{◌||◌, None, flat_map}
 use Rattle.tlv_value.specs.declared.finding.Finding.{Finding}
-use Rattle.tlv_value.specs.Checks.{findings_by, findings_on_contents}
+use Rattle.tlv_value.specs.Checks.{findings_by, all_contents_findings}
 use Rattle.tlv_walk.specs.Events.{end_octets_offset}
 use Rattle.tlv_walk.specs.Forest.{Forest, NoMore, PaddingOctet, Primitive, Holder, OpenPrimitive, OpenHolder}
 use Rattle.tlv_walk.specs.Forest.{OpenBitString, OpenHeader, OpenEndOctets}
@@ -78,7 +78,7 @@ module _ (rules : Rules) where
       ∷ (contents_items Ber s h c ++ items Ber (site_after_primitive s h c) rest))
       (PrimitiveLines s.level h c
       ∷ (contents_items rules s h c ++ items rules (site_after_primitive s h c) rest))
-      (same-found s.level h.offset (findings_on_contents h c) _ _ (same (site_after_primitive s h c) rest))
+      (same-found s.level h.offset (all_contents_findings h c) _ _ (same (site_after_primitive s h c) rest))
   same s (Holder h inside rest) =
       let last : Rules
       → List Item =

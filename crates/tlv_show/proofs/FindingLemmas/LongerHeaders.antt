@@ -12,7 +12,7 @@ use Rattle.tlv_head.proofs.ShortestLemmas.ShortestSpelling.{no-shorter_identifie
 use Rattle.tlv_head.proofs.ShortestLemmas.ShortestSpelling.{shorter-identifier, shorter-length}
 use Rattle.tlv_show.specs.declared.rules.Rules.{Rules}
 use Rattle.tlv_show.specs.declared.rules.Rules.TheVariants.{Ber, Der, Cer}
-use Rattle.tlv_show.specs.Conditions.{length_octet, has_high_form, has_long_form, header_conditions, number_bits}
+use Rattle.tlv_show.specs.Conditions.{second_length_octet, has_high_form, has_long_form, header_conditions, number_bits}
 use Rattle.tlv_show.specs.Conditions.{Surroundings}
 use Rattle.tlv_show.specs.Found.{header_findings}
 use Rattle.tlv_show.specs.Spellings.{LongerIdentifiersAreFound, LongerLengthsAreFound, is_on_identifier, is_on_lengths}
@@ -79,7 +79,7 @@ identifiers-found rules s h valid nonzero =
 -- ---- length octets
 
 abbrev pub longer_lengths : HeaderValue → Bool
-longer_lengths h = has_long_form h && (nat_lt (announced_length h.size) 128 || length_octet h == 0)
+longer_lengths h = has_long_form h && (nat_lt (announced_length h.size) 128 || second_length_octet h == 0)
 
 on-lengths : (rules : Rules) (s : Surroundings) (h : HeaderValue) → rules ≢ Ber
     → any_of is_on_lengths rules (header_conditions s h) ≡ longer_lengths h
@@ -94,12 +94,12 @@ longer_lengths-absent h s = elim (cases_lt 1 (length h.lengths)) [
       let large : 128 ≤ announced_length h.size =
       at-least (announced_length h.size) 128 (λ small. omega (arith, more, s.single small)) in
       let number : nat_lt (announced_length h.size) 128 ≡ false = grind (arith, nat_tests) in
-      let nonzero : length_octet h ≢ 0 = s.leading more in
-      let first : (length_octet h == 0) ≡ false = grind (arith, nat_tests) in
+      let nonzero : second_length_octet h ≢ 0 = s.leading more in
+      let first : (second_length_octet h == 0) ≡ false = grind (arith, nat_tests) in
       ap (λ (b : Bool). has_long_form h && b) (or_from _ _ number first) ∙ and-false (has_long_form h)
   | inr le ↦
       let short : has_long_form h ≡ false = grind (arith, nat_tests) in
-      ap (λ (b : Bool). b && (nat_lt (announced_length h.size) 128 || length_octet h == 0)) short
+      ap (λ (b : Bool). b && (nat_lt (announced_length h.size) 128 || second_length_octet h == 0)) short
 ]
 
 pub lengths-found : LongerLengthsAreFound

@@ -25,7 +25,7 @@ use Rattle.tlv_walk.proofs.GrammarLemmas.Endings.{done-sound, sound-reading}
 use Rattle.tlv_walk.proofs.GrammarLemmas.Readings.{reading-unique}
 use Rattle.tlv_show.specs.declared.rules.Rules.{Rules}
 use Rattle.tlv_show.specs.declared.rules.Rules.TheVariants.{Ber, Der, Cer}
-use Rattle.tlv_show.specs.Conditions.{length_octet, has_high_form, has_long_form, header_conditions, number_bits}
+use Rattle.tlv_show.specs.Conditions.{second_length_octet, has_high_form, has_long_form, header_conditions, number_bits}
 use Rattle.tlv_show.specs.Conditions.{surroundings_of}
 use Rattle.tlv_show.specs.Found.{header_findings}
 use Rattle.tlv_show.specs.Items.{Item, OpeningLine, ClosingLine, PrimitiveLines, PaddingLine, items}
@@ -69,20 +69,20 @@ high-form h a b more =
     (grind (arith, nat_tests), grind (arith, nat_tests))
 
 pub long-form : (h : HeaderValue)
-    → (has_long_form h && (nat_lt (announced_length h.size) 128 || length_octet h == 0)) ≡ false
+    → (has_long_form h && (nat_lt (announced_length h.size) 128 || second_length_octet h == 0)) ≡ false
     → 1 < length h.lengths → (128 ≤ announced_length h.size) × (slice_index h.lengths 1 ≢ 0)
 long-form h a more =
     let long : nat_lt 1 (length h.lengths) ≡ true = grind (arith, nat_tests) in
-    let neither : (nat_lt (announced_length h.size) 128 || length_octet h == 0) ≡ false = rw long at a in
-    let both : (nat_lt (announced_length h.size) 128 ≡ false) × ((length_octet h == 0) ≡ false) =
+    let neither : (nat_lt (announced_length h.size) 128 || second_length_octet h == 0) ≡ false = rw long at a in
+    let both : (nat_lt (announced_length h.size) 128 ≡ false) × ((second_length_octet h == 0) ≡ false) =
     or_parts _ _ neither in
     let large : nat_lt (announced_length h.size) 128 ≡ false = both.0 in
-    let nonzero : (length_octet h == 0) ≡ false = both.1 in
+    let nonzero : (second_length_octet h == 0) ≡ false = both.1 in
     (grind (arith, nat_tests), grind (arith, nat_tests))
 
 shortest : (h : HeaderValue) → IsHeader h → (has_high_form h && nat_lt h.number 31) ≡ false
     → (has_high_form h && number_bits h == 0) ≡ false
-    → (has_long_form h && (nat_lt (announced_length h.size) 128 || length_octet h == 0)) ≡ false → IsShortest h
+    → (has_long_form h && (nat_lt (announced_length h.size) 128 || second_length_octet h == 0)) ≡ false → IsShortest h
 shortest h valid a b c = record {
   identifier = identifier-from h valid (high-form h a b);
   lengths = lengths-from h valid (long-form h c);
@@ -109,12 +109,12 @@ regular : (rules : Rules) (s : Site) (h : HeaderValue) → rules ≢ Ber → IsH
 regular Ber s h strict valid e = absurd (strict refl)
 regular Der s h strict valid e =
     let none = none-of_four (has_high_form h && nat_lt h.number 31) (has_high_form h && number_bits h == 0)
-    (has_long_form h && (nat_lt (announced_length h.size) 128 || length_octet h == 0)) (is_indefinite h.size)
+    (has_long_form h && (nat_lt (announced_length h.size) 128 || second_length_octet h == 0)) (is_indefinite h.size)
     (absent Der s h e) in
     record { shortest = shortest h valid none.0 none.1 none.2; by_form = none.3 }
 regular Cer s h strict valid e =
     let none = none-of_four (has_high_form h && nat_lt h.number 31) (has_high_form h && number_bits h == 0)
-    (has_long_form h && (nat_lt (announced_length h.size) 128 || length_octet h == 0))
+    (has_long_form h && (nat_lt (announced_length h.size) 128 || second_length_octet h == 0))
     (h.constructed && not (is_indefinite h.size)) (absent Cer s h e) in
     record {
       shortest = shortest h valid none.0 none.1 none.2;

@@ -90,7 +90,7 @@ fn wordings(rt: HostRuntime) {
 /// The words of a finding, with spaces after them.
 #[test]
 fn wordings_are_padded(rt: HostRuntime) {
-    let (wording, count) = Finding::D01.padded_wording();
+    let (wording, count) = Finding::D01.wording_block();
     expect_eq(&rt, &wording[..count], b"D01 indefinite length".as_slice());
     expect_eq(&rt, count, 21);
 }

@@ -50,28 +50,28 @@ take-twice (suc n) (x ∷ xs) ys = ap (λ (t : List ℕ). x ∷ t) (take-twice n
 take-join : (n : ℕ) (prefix x y : List ℕ) → take n (take n (prefix ++ x) ++ y) ≡ take n (prefix ++ (x ++ y))
 take-join n prefix x y = take-twice n (prefix ++ x) y ∙ ap (take n) (append_assoc prefix x y)
 
-padded-at : (b padded : Bool) (previous : ℕ) (x y : List ℕ)
+padded-at : (b is_padded : Bool) (previous : ℕ) (x y : List ℕ)
     → (if b
-    then (if b then padded || is_padded_after previous x else padded) || is_padded_after (last_octet previous x) y
-    else (if b then padded || is_padded_after previous x else padded))
-    ≡ (if b then padded || is_padded_after previous (x ++ y) else padded)
-padded-at true padded previous x y =
-    or-assoc padded (is_padded_after previous x) (is_padded_after (last_octet previous x) y)
-    ∙ ap (λ (b : Bool). padded || b) (padded-join previous x y)
-padded-at false padded previous x y = refl
+    then (if b then is_padded || is_padded_after previous x else is_padded) || is_padded_after (last_octet previous x) y
+    else (if b then is_padded || is_padded_after previous x else is_padded))
+    ≡ (if b then is_padded || is_padded_after previous (x ++ y) else is_padded)
+padded-at true is_padded previous x y =
+    or-assoc is_padded (is_padded_after previous x) (is_padded_after (last_octet previous x) y)
+    ∙ ap (λ (b : Bool). is_padded || b) (padded-join previous x y)
+padded-at false is_padded previous x y = refl
 
-formed-at : (b formed : Bool) (row x y : List ℕ)
+formed-at : (b rows_are_utf8 : Bool) (row x y : List ℕ)
     → (if b
-    then (if b then formed && all_utf8 (full_rows Utf8 row x) else formed)
+    then (if b then rows_are_utf8 && all_utf8 (full_rows Utf8 row x) else rows_are_utf8)
     && all_utf8 (full_rows Utf8 (if b then open_row Utf8 row x else row) y)
-    else (if b then formed && all_utf8 (full_rows Utf8 row x) else formed))
-    ≡ (if b then formed && all_utf8 (full_rows Utf8 row (x ++ y)) else formed)
-formed-at true formed row x y =
-    and-assoc formed (all_utf8 (full_rows Utf8 row x)) (all_utf8 (full_rows Utf8 (open_row Utf8 row x) y))
-    ∙ ap (λ (b : Bool). formed && b)
+    else (if b then rows_are_utf8 && all_utf8 (full_rows Utf8 row x) else rows_are_utf8))
+    ≡ (if b then rows_are_utf8 && all_utf8 (full_rows Utf8 row (x ++ y)) else rows_are_utf8)
+formed-at true rows_are_utf8 row x y =
+    and-assoc rows_are_utf8 (all_utf8 (full_rows Utf8 row x)) (all_utf8 (full_rows Utf8 (open_row Utf8 row x) y))
+    ∙ ap (λ (b : Bool). rows_are_utf8 && b)
     (utf8-join (full_rows Utf8 row x) (full_rows Utf8 (open_row Utf8 row x) y)
     ∙ ap all_utf8 (sym (rows-join Utf8 row x y).0))
-formed-at false formed row x y = refl
+formed-at false rows_are_utf8 row x y = refl
 
 row-at : (b : Bool) (row x y : List ℕ)
     → (if b then open_row Utf8 (if b then open_row Utf8 row x else row) y else (if b then open_row Utf8 row x else row))
@@ -79,28 +79,29 @@ row-at : (b : Bool) (row x y : List ℕ)
 row-at true row x y = sym (rows-join Utf8 row x y).1
 row-at false row x y = refl
 
-abbrev built : ValueCheckState → ℕ → List ℕ → ℕ → Bool → Bool → Bool → List ℕ → List ℕ → ValueCheckState
-built s left first_octets last allowed padded formed row time = record {
+abbrev state_with : ValueCheckState → ℕ → List ℕ → ℕ → Bool → Bool → Bool → List ℕ → List ℕ → ValueCheckState
+state_with s left first_octets last are_octets_allowed is_padded rows_are_utf8 row time = record {
   number = s.number;
   size = s.size;
   left = left;
   first_octets = first_octets;
   last = last;
-  allowed = allowed;
-  padded = padded;
-  formed = formed;
+  are_octets_allowed = are_octets_allowed;
+  is_padded = is_padded;
+  rows_are_utf8 = rows_are_utf8;
   row = row;
   time = time;
 }
 
-built-eq : (s : ValueCheckState) (l l' : ℕ) (f f' : List ℕ) (t t' : ℕ) (a a' p p' m m' : Bool) (r r' i i' : List ℕ)
+state_with-eq : (s : ValueCheckState) (l l' : ℕ) (f f' : List ℕ) (t t' : ℕ) (a a' p p' m m' : Bool) (r r' i i' : List ℕ)
     → l ≡ l' → f ≡ f' → t ≡ t' → a ≡ a' → p ≡ p' → m ≡ m' → r ≡ r' → i ≡ i'
-    → built s l f t a p m r i ≡ built s l' f' t' a' p' m' r' i'
-built-eq s l l' f f' t t' a a' p p' m m' r r' i i' e1 e2 e3 e4 e5 e6 e7 e8 = rw (e1, e2, e3, e4, e5, e6, e7, e8) refl
+    → state_with s l f t a p m r i ≡ state_with s l' f' t' a' p' m' r' i'
+state_with-eq s l l' f f' t t' a a' p p' m m' r r' i i' e1 e2 e3 e4 e5 e6 e7 e8 =
+    rw (e1, e2, e3, e4, e5, e6, e7, e8) refl
 
 -- what is noted, by what the type asks for
-abbrev noted_by : Bool → Bool → Bool → ValueCheckState → List ℕ → ValueCheckState
-noted_by first each time s octets =
+abbrev noted_state : Bool → Bool → Bool → ValueCheckState → List ℕ → ValueCheckState
+noted_state first each time s octets =
     if first then with_first_noted s octets
     else if each then with_each_noted s octets
     else if time then with_time_noted s octets
@@ -108,33 +109,37 @@ noted_by first each time s octets =
 
 abbrev by_kind : Bool → Bool → Bool → ValueCheckState → List ℕ → ValueCheckState
 by_kind f e t s octets =
-    record (noted_by f e t s octets) { number = s.number; size = s.size; left = s.left - length octets }
+    record (noted_state f e t s octets) { number = s.number; size = s.size; left = s.left - length octets }
 
 join-by : (f e t : Bool) (s : ValueCheckState) (x y : List ℕ)
     → by_kind f e t (by_kind f e t s x) y ≡ by_kind f e t s (x ++ y)
 join-by true e t s x y =
     let l : s.left - length x - length y ≡ s.left - length (x ++ y) = omega (arith, length-append x y) in
-    built-eq s (s.left - length x - length y) (s.left - length (x ++ y)) (take 2 (take 2 (s.first_octets ++ x) ++ y))
+    state_with-eq s (s.left - length x - length y) (s.left - length (x ++ y))
+    (take 2 (take 2 (s.first_octets ++ x) ++ y))
     (take 2 (s.first_octets ++ (x ++ y))) (last_octet (last_octet s.last x) y) (last_octet s.last (x ++ y))
-    s.allowed s.allowed s.padded s.padded s.formed s.formed s.row s.row s.time s.time
+    s.are_octets_allowed s.are_octets_allowed s.is_padded s.is_padded s.rows_are_utf8 s.rows_are_utf8 s.row s.row
+    s.time s.time
     l (take-join 2 s.first_octets x y) (last-join s.last x y) refl refl refl refl refl
 join-by false true t s x y =
     let l : s.left - length x - length y ≡ s.left - length (x ++ y) = omega (arith, length-append x y) in
-    built-eq s (s.left - length x - length y) (s.left - length (x ++ y)) s.first_octets s.first_octets
+    state_with-eq s (s.left - length x - length y) (s.left - length (x ++ y)) s.first_octets s.first_octets
     (last_octet (last_octet s.last x) y) (last_octet s.last (x ++ y))
-    (with_each_noted (with_each_noted s x) y).allowed (with_each_noted s (x ++ y)).allowed
-    (with_each_noted (with_each_noted s x) y).padded (with_each_noted s (x ++ y)).padded
-    (with_each_noted (with_each_noted s x) y).formed (with_each_noted s (x ++ y)).formed
+    (with_each_noted (with_each_noted s x) y).are_octets_allowed (with_each_noted s (x ++ y)).are_octets_allowed
+    (with_each_noted (with_each_noted s x) y).is_padded (with_each_noted s (x ++ y)).is_padded
+    (with_each_noted (with_each_noted s x) y).rows_are_utf8 (with_each_noted s (x ++ y)).rows_are_utf8
     (with_each_noted (with_each_noted s x) y).row (with_each_noted s (x ++ y)).row s.time s.time
     l refl (last-join s.last x y)
-    (and-assoc s.allowed (list_all (allows_octet s.number) x) (list_all (allows_octet s.number) y)
-    ∙ ap (λ (b : Bool). s.allowed && b) (sym (list_all-append (allows_octet s.number) x y)))
-    (padded-at (is_number_of object_types s.number) s.padded s.last x y)
-    (formed-at (eqb s.number 12) s.formed s.row x y) (row-at (eqb s.number 12) s.row x y) refl
+    (and-assoc s.are_octets_allowed (list_all (allows_octet s.number) x) (list_all (allows_octet s.number) y)
+    ∙ ap (λ (b : Bool). s.are_octets_allowed && b) (sym (list_all-append (allows_octet s.number) x y)))
+    (padded-at (is_number_of object_types s.number) s.is_padded s.last x y)
+    (formed-at (eqb s.number 12) s.rows_are_utf8 s.row x y) (row-at (eqb s.number 12) s.row x y) refl
 join-by false false true s x y =
     let l : s.left - length x - length y ≡ s.left - length (x ++ y) = omega (arith, length-append x y) in
-    built-eq s (s.left - length x - length y) (s.left - length (x ++ y)) s.first_octets s.first_octets s.last s.last
-    s.allowed s.allowed s.padded s.padded s.formed s.formed s.row s.row (take 64 (take 64 (s.time ++ x) ++ y))
+    state_with-eq s (s.left - length x - length y) (s.left - length (x ++ y)) s.first_octets s.first_octets s.last
+    s.last
+    s.are_octets_allowed s.are_octets_allowed s.is_padded s.is_padded s.rows_are_utf8 s.rows_are_utf8 s.row s.row
+    (take 64 (take 64 (s.time ++ x) ++ y))
     (take 64 (s.time ++ (x ++ y)))
     l refl refl refl refl refl refl (take-join 64 s.time x y)
 join-by false false false s x y =
@@ -147,7 +152,7 @@ checks-join s x y = join-by (notes_first s.number) (notes_each s.number) (notes_
 -- what is noted at the end
 
 noted-left : (f e t : Bool) (s : ValueCheckState) (c : List ℕ)
-    → facts_in (by_kind f e t s c) ≡ facts_in (noted_by f e t s c)
+    → facts_in (by_kind f e t s c) ≡ facts_in (noted_state f e t s c)
 noted-left true e t s c = refl
 noted-left false true t s c = refl
 noted-left false false true s c = refl
@@ -169,7 +174,7 @@ same-in-both false x = refl
 none-by : (f e t : Bool) (n size : ℕ) → by_kind f e t (new_value_check_of n size) [] ≡ new_value_check_of n size
 none-by true e t n size = ap (λ (l : ℕ). record (new_value_check_of n size) { left = l }) (omega arith)
 none-by false true t n size =
-    built-eq (new_value_check_of n size) (size - 0) size [] [] 0 0 true true
+    state_with-eq (new_value_check_of n size) (size - 0) size [] [] 0 0 true true
     (if is_number_of object_types n then false else false) false (if eqb n 12 then true else true) true
     (if eqb n 12 then [] else []) [] [] []
     (omega arith) refl refl refl (same-in-both (is_number_of object_types n) false) (same-in-both (eqb n 12) true)

@@ -22,24 +22,24 @@ nothing-noted s octets none =
     (λ e. grind (arith, nat_tests, e, none)) (λ e. grind (arith, nat_tests, e, none)) in
     let object : is_number_of object_types s.number ≡ false = grind (arith, nat_tests) in
     let text : eqb s.number 12 ≡ false = grind (arith, nat_tests) in
-    rw (all, object, text, and-true s.allowed) refl
+    rw (all, object, text, and-true s.are_octets_allowed) refl
 
 -- an object identifier
 pub object-noted : (s : ValueCheckState) (octets : List ℕ) → is_number_of object_types s.number ≡ true
-    → record s { padded = s.padded || is_padded_after s.last octets; last = last_octet s.last octets }
+    → record s { is_padded = s.is_padded || is_padded_after s.last octets; last = last_octet s.last octets }
     ≡ with_each_noted s octets
 object-noted s octets object =
     let all : list_all (allows_octet s.number) octets ≡ true =
     all-other s.number octets (λ e. grind (arith, nat_tests, e, object)) (λ e. grind (arith, nat_tests, e, object))
     (λ e. grind (arith, nat_tests, e, object)) (λ e. grind (arith, nat_tests, e, object)) in
     let text : eqb s.number 12 ≡ false = grind (arith, nat_tests) in
-    rw (all, object, text, and-true s.allowed) refl
+    rw (all, object, text, and-true s.are_octets_allowed) refl
 
 -- a UTF8String
 pub text-noted : (s : ValueCheckState) (octets : List ℕ) → s.number ≡ 12
     → record s {
-      formed =
-          s.formed && all_utf8 (full_rows Utf8 s.row octets);
+      rows_are_utf8 =
+          s.rows_are_utf8 && all_utf8 (full_rows Utf8 s.row octets);
       row =
           open_row Utf8 s.row octets;
       last = last_octet s.last octets;
@@ -51,11 +51,14 @@ text-noted s octets is_text =
     (λ e. grind (arith, nat_tests, e, is_text)) (λ e. grind (arith, nat_tests, e, is_text)) in
     let object : is_number_of object_types s.number ≡ false = grind (arith, nat_tests) in
     let text : eqb s.number 12 ≡ true = grind (arith, nat_tests) in
-    rw (all, object, text, and-true s.allowed) refl
+    rw (all, object, text, and-true s.are_octets_allowed) refl
 
 -- a string with a test of each octet
 pub characters-noted : (s : ValueCheckState) (octets : List ℕ) → is_number_of object_types s.number ≡ false
     → eqb s.number 12 ≡ false
-    → record s { allowed = s.allowed && list_all (allows_octet s.number) octets; last = last_octet s.last octets }
+    → record s {
+      are_octets_allowed = s.are_octets_allowed && list_all (allows_octet s.number) octets;
+      last = last_octet s.last octets;
+    }
     ≡ with_each_noted s octets
 characters-noted s octets object text = rw (object, text) refl

@@ -163,13 +163,13 @@ room-unit : (n x : ℕ) (tail : List ℕ) → utf8_length x ≡ suc (length tail
 room-unit n x tail a q h zero g = rw a (grind (arith, nat_tests))
 room-unit n x tail a q h (suc i) g = rw (q i (omega arith)) (grind (arith, nat_tests))
 
-abbrev Filling : List ℕ → List ℕ → List ℕ → Type 0
-Filling row part rest =
+abbrev PartExtendsRow : List ℕ → List ℕ → List ℕ → Type 0
+PartExtendsRow row part rest =
     (rows_filled Utf8 row (part ++ rest) ≡ rows_filled Utf8 (row ++ part) rest)
     × (row_begun Utf8 row (part ++ rest) ≡ row_begun Utf8 (row ++ part) rest)
 
 fill : (row part rest : List ℕ) → HaveRoom Utf8 (length row) part (length part) → length row + length part < 64
-    → Filling row part rest
+    → PartExtendsRow row part rest
 fill row [] rest room h = rw (append-nil row) (refl, refl)
 fill row (x ∷ xs) rest room h =
     let l : length row + 0 ≡ length row = omega arith in
@@ -181,13 +181,13 @@ fill row (x ∷ xs) rest room h =
     let a = append_assoc row (x ∷ []) xs in
     rw (r, e) (t.0 ∙ ap (λ (w : List ℕ). rows_filled Utf8 w rest) a, t.1 ∙ ap (λ (w : List ℕ). row_begun Utf8 w rest) a)
 
-abbrev Filled : List ℕ → List ℕ → List ℕ → Type 0
-Filled row part rest =
+abbrev PartCompletesRow : List ℕ → List ℕ → List ℕ → Type 0
+PartCompletesRow row part rest =
     (rows_filled Utf8 row (part ++ rest) ≡ (row ++ part) ∷ rows_filled Utf8 [] rest)
     × (row_begun Utf8 row (part ++ rest) ≡ row_begun Utf8 [] rest)
 
 fill-up : (row part rest : List ℕ) → HaveRoom Utf8 (length row) part (length part) → length row + length part ≡ 64
-    → 1 ≤ length part → Filled row part rest
+    → 1 ≤ length part → PartCompletesRow row part rest
 fill-up row [] rest room h some = absurd (omega arith)
 fill-up row (x ∷ []) rest room h some =
     let l : length row + 0 ≡ length row = omega arith in

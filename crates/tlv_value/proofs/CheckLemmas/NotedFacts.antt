@@ -7,8 +7,8 @@ use Rattle.std.specs.List.{list_all}
 use Rattle.std.specs.Prelude.{slice_index}
 use Rattle.tlv_value.specs.declared.finding.Finding.{Finding}
 use Rattle.tlv_value.specs.declared.finding.Finding.TheVariants.{B06, B07, B08, B13, B14, B15, B18, B19, S02, S03, S04}
-use Rattle.tlv_value.specs.Checks.{ContentsFacts, allows, allows_octet, facts_of, finding_if, findings_by}
-use Rattle.tlv_value.specs.Checks.{is_padded_integer, last_octet, type_conditions, type_findings}
+use Rattle.tlv_value.specs.Checks.{ContentsFacts, allows, allows_octet, are_whole_characters, facts_of, finding_if}
+use Rattle.tlv_value.specs.Checks.{findings_by, is_padded_integer, last_octet, type_conditions, type_findings}
 use Rattle.tlv_value.specs.Types.{character_types, is_number_of}
 use Rattle.tlv_value.proofs.CheckLemmas.CheckWords.{allows_both}
 use Rattle.tlv_value.specs.ValueCheckState.{all_utf8, facts_in, is_allowed, new_value_check_of, notes_each}
@@ -22,12 +22,12 @@ use Rattle.tlv_value.specs.Times.{Form, canonical_generalized_time_form, canonic
 use Rattle.tlv_value.specs.Times.{has_form, utc_time_form}
 
 -- what is noted of all contents of the type with this number
-abbrev pub noted : ℕ → List ℕ → ContentsFacts
-noted number c = facts_in (with_octets_noted (new_value_check_of number (length c)) c)
+abbrev pub noted_facts : ℕ → List ℕ → ContentsFacts
+noted_facts number c = facts_in (with_octets_noted (new_value_check_of number (length c)) c)
 
 -- what is found by it is what is found by the whole contents
 abbrev Same : ℕ → List ℕ → Type 0
-Same n c = type_findings n c ≡ findings_by (type_conditions n (noted n c))
+Same n c = type_findings n c ≡ findings_by (type_conditions n (noted_facts n c))
 
 first-noted : (c : List ℕ) → slice_index c 0 ≡ slice_index (take 2 c) 0
 first-noted [] = refl
@@ -67,13 +67,13 @@ bits-same c =
     (first-noted c)
 
 -- a time of at most 64 octets is noted as it is
-time-by : (short : Bool) (form canonical : Form) (c noted : List ℕ) → (short ≡ true → noted ≡ c)
+time-by : (short : Bool) (form canonical : Form) (c time : List ℕ) → (short ≡ true → time ≡ c)
     → finding_if (short && not (has_form form c)) B19
     ++ (finding_if (short && has_form form c && not (has_form canonical c)) S04 ++ [])
-    ≡ finding_if (short && not (has_form form noted)) B19
-    ++ (finding_if (short && has_form form noted && not (has_form canonical noted)) S04 ++ [])
-time-by false form canonical c noted e = refl
-time-by true form canonical c noted e =
+    ≡ finding_if (short && not (has_form form time)) B19
+    ++ (finding_if (short && has_form form time && not (has_form canonical time)) S04 ++ [])
+time-by false form canonical c time e = refl
+time-by true form canonical c time e =
     ap (λ (d : List ℕ). finding_if (not (has_form form d)) B19
     ++ (finding_if (has_form form d && not (has_form canonical d)) S04 ++ []))
     (sym (e refl))
@@ -109,9 +109,9 @@ allows-both n c =
     at false false false true t u v e f g h i j k = both-at n 22 c h refl
     at false false false false true u v e f g h i j k = both-at n 26 c i refl
     at false false false false false true v e f g h i j k =
-        both-at n 28 c j (with-each (eqb (length c % 4) 0) (allows_octet 28) (λ x. refl) c)
+        both-at n 28 c j (ap (λ (l : Bool). eqb (length c % 4) 0 && l) (all-is (allows_octet 28) (λ x. refl) c))
     at false false false false false false true e f g h i j k =
-        both-at n 30 c k (with-each (eqb (length c % 2) 0) (allows_octet 30) (λ x. refl) c)
+        both-at n 30 c k (ap (λ (l : Bool). eqb (length c % 2) 0 && l) (all-is (allows_octet 30) (λ x. refl) c))
     at false false false false false false false e f g h i j k =
         let l : allows_both n c ≡ true = rw (e, j, k) (all-is (allows_octet n) (λ x. rw (f, g, h, i) refl) c) in
         let r : allows n c ≡ true = rw (e, f, g, h, i, j, k) refl in
@@ -122,15 +122,9 @@ allowed-each : (n : ℕ) (c : List ℕ) (text : Bool)
     → ((if text
     then (if text then true && all_utf8 (full_rows Utf8 [] c) else true)
     && is_utf8 (if text then open_row Utf8 [] c else [])
-    else if eqb n 30 then eqb (length c % 2) 0
-    else if eqb n 28 then eqb (length c % 4) 0
-    else true)
+    else are_whole_characters n (length c))
     && (true && list_all (allows_octet n) c))
-    ≡ ((if text then is_utf8 c
-    else if eqb n 30 then eqb (length c % 2) 0
-    else if eqb n 28 then eqb (length c % 4) 0
-    else true)
-    && list_all (allows_octet n) c)
+    ≡ ((if text then is_utf8 c else are_whole_characters n (length c)) && list_all (allows_octet n) c)
 allowed-each n c true = ap (λ (f : Bool). f && list_all (allows_octet n) c) (rows-formed_at c)
 allowed-each n c false = refl
 
@@ -160,7 +154,7 @@ other-same : (n : ℕ) (c : List ℕ) → eqb n 1 ≡ false → eqb n 2 ≡ fals
 other-same n c e1 e2 e3 e5 e6 e10 e13 e23 e24 =
     other-by n (facts_of n c) e1 e2 e3 e5 e6 e10 e13 e23 e24
     ∙ ap (on_characters n) (sym (other-allowed n c e1 e2 e3 e10 e23 e24))
-    ∙ sym (other-by n (noted n c) e1 e2 e3 e5 e6 e10 e13 e23 e24)
+    ∙ sym (other-by n (noted_facts n c) e1 e2 e3 e5 e6 e10 e13 e23 e24)
 
 -- ---- all types
 

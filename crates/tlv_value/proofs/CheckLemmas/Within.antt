@@ -7,11 +7,11 @@ use Rattle.std.proofs.lemmas.Bool.{or_cases, leb-true, le-leb}
 use Rattle.std.proofs.lemmas.Bool.Decides.{nat_tests}
 use Rattle.std.proofs.lemmas.List.Folds.{list_any-append}
 use Rattle.std.specs.Char.{is_ascii_digit}
-use Rattle.tlv_value.specs.Times.{◌then◌, ◌or◌, Form, canonical_fraction, canonical_generalized_time_form}
-use Rattle.tlv_value.specs.Times.{canonical_utc_time_form, day, digits, fraction, generalized_time_form}
-use Rattle.tlv_value.specs.Times.{generalized_zone, has_form, hour, is_rest_empty, mark, maybe, minute, no_octets, one}
-use Rattle.tlv_value.specs.Times.{second, sign, two, utc_time_form}
-use Rattle.tlv_value.specs.Private.Checks.{generalized_time_findings, time_findings, utc_time_findings}
+use Rattle.tlv_value.specs.Times.{Form, canonical_fraction, canonical_generalized_time_form, canonical_utc_time_form}
+use Rattle.tlv_value.specs.Times.{digits, generalized_tail, generalized_time_form, has_empty_rest, has_form, hour}
+use Rattle.tlv_value.specs.Times.{mark, maybe, minute, month_and_day, no_octets, one, second, sign, two}
+use Rattle.tlv_value.specs.Times.{utc_time_form, ◌or◌, ◌then◌}
+use Rattle.tlv_value.specs.Private.TimeFindings.{generalized_time_findings, time_findings, utc_time_findings}
 
 abbrev is_nil : List ℕ → Bool
 is_nil [] = true
@@ -211,11 +211,11 @@ within-second w = within-then (within-first no_octets (within-same second)) w
 utc-within : Within canonical_utc_time_form utc_time_form
 utc-within =
     within-prefixes _ _ _ _ (within-same (two 0 99))
-    (within-prefixes _ _ _ _ (within-same day) (within-prefixes _ _ _ _ within-hour
+    (within-prefixes _ _ _ _ (within-same month_and_day) (within-prefixes _ _ _ _ within-hour
     (within-prefix _ _ _ (within-same minute)
     (within-second (within-first (sign then hour then minute) (within-same (mark 90)))))))
 
-generalized-tail : Within (maybe canonical_fraction then mark 90) (maybe fraction then maybe generalized_zone)
+generalized-tail : Within (maybe canonical_fraction then mark 90) generalized_tail
 generalized-tail =
     within-then
     (within-or (within-then (within-first (mark 44) (within-same (mark 46))) within-digits) (within-same no_octets))
@@ -225,13 +225,13 @@ generalized-tail =
 generalized-within : Within canonical_generalized_time_form generalized_time_form
 generalized-within =
     within-prefixes _ _ _ _ (within-same (two 0 99))
-    (within-prefixes _ _ _ _ (within-same (two 0 99)) (within-prefixes _ _ _ _ (within-same day)
+    (within-prefixes _ _ _ _ (within-same (two 0 99)) (within-prefixes _ _ _ _ (within-same month_and_day)
     (within-prefix _ _ _ within-hour
     (within-then
     (within-first no_octets (within-then (within-same minute) (within-first no_octets (within-same second))))
     generalized-tail))))
 
-empty-any : (rests : List (List ℕ)) → is_rest_empty rests ≡ list_any is_nil rests
+empty-any : (rests : List (List ℕ)) → has_empty_rest rests ≡ list_any is_nil rests
 empty-any [] = refl
 empty-any ([] ∷ rests) = refl
 empty-any ((x ∷ xs) ∷ rests) = empty-any rests

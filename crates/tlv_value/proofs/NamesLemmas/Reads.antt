@@ -7,23 +7,23 @@ use Rattle.std.proofs.lemmas.List.{length-take-le}
 use Rattle.tlv_io.specs.declared.source.ReadFault.{ReadFault}
 use Rattle.std.specs.List.{concat}
 use Rattle.tlv_io.specs.Device.{Pieces, ReadsOnce, SourceState, gave, next_count, octets_given}
-use Rattle.tlv_io.proofs.Pieces.{Gathered, gathered_more, pieces_all, together_more}
+use Rattle.tlv_io.proofs.Pieces.{PiecesSoFar, pieces_so_far_more, pieces_all, together_more}
 use Rattle.tlv_value.specs.declared.names.fault.NamesFault.{NamesFault}
 use Rattle.tlv_value.specs.declared.names.fault.NamesFault.TheVariants.{BadOid, BadName, Repeated, TooLarge, ReadFailed}
 use Rattle.tlv_value.specs.declared.names.fault.NamesFault.TheVariants.{Memory}
 use Rattle.std.specs.BTreeMap.{BTreeMap}
-use Rattle.tlv_value.specs.Names.{NamesTable, names_of}
-use Rattle.tlv_value.specs.NamesReading.{IsWholeFile, ReadsFrom, names_limit}
+use Rattle.tlv_value.specs.Names.{NamesValue, names_of}
+use Rattle.tlv_value.specs.NamesReading.{IsWholeFile, ReadsFrom, file_limit}
 use Rattle.tlv_value.specs.NamesFields.{table_in}
 use Rattle.tlv_value.specs.Private.NamesSteps.{Gives, GivesAll, IsTableOf, result_in}
 
 -- the octets that the reads so far gave
-pub record Given (old new : SourceState) (octets : List ℕ) : Type 0 where
-  pub gathered : Gathered old new
+pub record OctetsSoFar (old new : SourceState) (octets : List ℕ) : Type 0 where
+  pub gathered : PiecesSoFar old new
   pub are : concat gathered.pieces ≡ octets
 
-module _ (old middle new : SourceState) (octets : List ℕ) (x : Given old middle octets)
-    (most : length octets ≤ names_limit) (failures : middle.failures ≡ old.failures) (piece : List ℕ)
+module _ (old middle new : SourceState) (octets : List ℕ) (x : OctetsSoFar old middle octets)
+    (most : length octets ≤ file_limit) (failures : middle.failures ≡ old.failures) (piece : List ℕ)
     (room : length piece ≡ 4096) where
   -- a read that failed
   pub gives_failed : {Z : Type 0} → (e : ReadFault) → ReadsOnce middle new (Err e) piece
@@ -34,7 +34,7 @@ module _ (old middle new : SourceState) (octets : List ℕ) (x : Given old middl
         (inr (r.last, refl)) (omega arith);
     gives = (
       r.last,
-      subst (λ (l : List ℕ). length l ≤ names_limit) (sym (append-nil (concat x.gathered.pieces) ∙ x.are)) most,
+      subst (λ (l : List ℕ). length l ≤ file_limit) (sym (append-nil (concat x.gathered.pieces) ∙ x.are)) most,
     );
     failures = r.failures ∙ ap next_count failures;
   }
@@ -73,7 +73,7 @@ module _ (old middle new : SourceState) (octets : List ℕ) (x : Given old middl
         all_are ∙ ap (λ (k : ℕ). octets ++ take k piece) z ∙ none_taken ∙ sym is,
         r.last ∙ ap gave z,
         r.octets.1 z (omega (arith, room)),
-        subst (λ (l : List ℕ). length l ≤ names_limit) (sym is) most,
+        subst (λ (l : List ℕ). length l ≤ file_limit) (sym is) most,
       );
       failures = same_failures;
     }
@@ -81,7 +81,7 @@ module _ (old middle new : SourceState) (octets : List ℕ) (x : Given old middl
         none_taken : octets ++ take 0 piece ≡ octets
         none_taken = append-nil octets
 
-    pub gives_long : {Z : Type 0} → names_limit - length octets < n → Gives {Z = Z} old new (Err TooLarge)
+    pub gives_long : {Z : Type 0} → file_limit - length octets < n → Gives {Z = Z} old new (Err TooLarge)
     gives_long more = record {
       pieces = pieces_so;
       gives = record {
@@ -93,7 +93,7 @@ module _ (old middle new : SourceState) (octets : List ℕ) (x : Given old middl
       failures = same_failures;
     }
 
-    pub gives_memory : {Z : Type 0} → n ≤ names_limit - length octets → Gives {Z = Z} old new (Err Memory)
+    pub gives_memory : {Z : Type 0} → n ≤ file_limit - length octets → Gives {Z = Z} old new (Err Memory)
     gives_memory less = record {
       pieces = pieces_so;
       gives = omega (arith, less, most, length_all);
@@ -101,10 +101,10 @@ module _ (old middle new : SourceState) (octets : List ℕ) (x : Given old middl
     }
 
     -- or there are more
-    pub given_more : (n ≡ 0 → ⊥) → (more : List ℕ) → more ≡ octets ++ take n piece → Given old new more
+    pub given_more : (n ≡ 0 → ⊥) → (more : List ℕ) → more ≡ octets ++ take n piece → OctetsSoFar old new more
     given_more some more is = record {
       gathered =
-          gathered_more old middle new x.gathered (take n piece) r.octets.0 r.reads
+          pieces_so_far_more old middle new x.gathered (take n piece) r.octets.0 r.reads
           (omega (arith, some, r_length), few);
       are = together_more x.gathered.pieces (take n piece) ∙ all_are ∙ sym is;
     }
@@ -112,47 +112,47 @@ module _ (old middle new : SourceState) (octets : List ℕ) (x : Given old middl
 -- ---- what is made of all of them
 
 -- the octets that were read say the result
-said : {Z : Type 0} (new : SourceState) (octets : List ℕ) (v : Vec ℕ Z) (r : Result NamesTable NamesFault)
+said : {Z : Type 0} (new : SourceState) (octets : List ℕ) (v : Vec ℕ Z) (r : Result NamesValue NamesFault)
     → GivesAll new octets (Ok v) → names_of v.items ≡ r → IsWholeFile new octets r
 said new octets v r x n = record {
   ended = x.1;
   at_end = x.2;
-  within = subst (λ (l : List ℕ). length l ≤ names_limit) (sym x.0) x.3;
+  within = subst (λ (l : List ℕ). length l ≤ file_limit) (sym x.0) x.3;
   result_is = ap names_of x.0 ∙ n;
 }
 
-pub judged : {Y Z : Type 0} (old new : SourceState) (v : Vec ℕ Y)
+pub reads-from_table : {Y Z : Type 0} (old new : SourceState) (v : Vec ℕ Y)
     (result : Result (BTreeMap (Vec ℕ Z) (Vec ℕ Z)) NamesFault)
     → Gives old new (Ok v) → IsTableOf v.items result → ReadsFrom old new (result_in result)
-judged old new v (Ok m) x n = record {
+reads-from_table old new v (Ok m) x n = record {
   pieces = x.pieces;
   result_is = said new (octets_given x.pieces) v (Ok (table_in m)) x.gives n;
   failures = x.failures;
 }
-judged old new v (Err (BadOid k)) x n = record {
+reads-from_table old new v (Err (BadOid k)) x n = record {
   pieces = x.pieces;
   result_is = said new (octets_given x.pieces) v (Err (BadOid k)) x.gives n;
   failures = x.failures;
 }
-judged old new v (Err (BadName k)) x n = record {
+reads-from_table old new v (Err (BadName k)) x n = record {
   pieces = x.pieces;
   result_is = said new (octets_given x.pieces) v (Err (BadName k)) x.gives n;
   failures = x.failures;
 }
-judged old new v (Err (Repeated k)) x n = record {
+reads-from_table old new v (Err (Repeated k)) x n = record {
   pieces = x.pieces;
   result_is = said new (octets_given x.pieces) v (Err (Repeated k)) x.gives n;
   failures = x.failures;
 }
-judged old new v (Err TooLarge) x n = record {
+reads-from_table old new v (Err TooLarge) x n = record {
   pieces = x.pieces;
   result_is = inl (said new (octets_given x.pieces) v (Err TooLarge) x.gives n);
   failures = x.failures;
 }
-judged old new v (Err ReadFailed) x n = absurd n
-judged old new v (Err Memory) x n = record {
+reads-from_table old new v (Err ReadFailed) x n = absurd n
+reads-from_table old new v (Err Memory) x n = record {
   pieces = x.pieces;
-  result_is = subst (λ (l : List ℕ). length l ≤ names_limit) (sym x.gives.0) x.gives.3;
+  result_is = subst (λ (l : List ℕ). length l ≤ file_limit) (sym x.gives.0) x.gives.3;
   failures = x.failures;
 }
 

@@ -164,9 +164,9 @@ long-arc d e ds h =
 
 -- the number that digits write, each by its place
 
-abbrev weighed : List ℕ → ℕ
-weighed [] = 0
-weighed (x ∷ xs) = (x - 48) * 10 ^ length xs + weighed xs
+abbrev weight : List ℕ → ℕ
+weight [] = 0
+weight (x ∷ xs) = (x - 48) * 10 ^ length xs + weight xs
 
 all-digits : (ds : List ℕ) → list_all is_ascii_digit ds ≡ true → AllDigits 10 ds
 all-digits [] h = tt
@@ -175,9 +175,9 @@ all-digits (d ∷ ds) h =
     let known = digit-between d both.0 in
     (omega (arith, digit_value_digit d known, known.1), all-digits ds both.1)
 
-weighed-arc : (arc : List ℕ) → is_arc arc ≡ true → weighed arc ≡ digits_value 10 arc
-weighed-arc arc a =
-    (numerals_by_weight (AllDigits 10) tells_digits weighed (record { empty = refl; more = λ c cs k. refl })).same arc
+weight-arc : (arc : List ℕ) → is_arc arc ≡ true → weight arc ≡ digits_value 10 arc
+weight-arc arc a =
+    (numerals_by_weight (AllDigits 10) tells_digits weight (record { empty = refl; more = λ c cs k. refl })).same arc
     (all-digits arc (arc-parts arc a).0)
 
 -- a number of one, two and more digits
@@ -192,10 +192,10 @@ forty_of_two (d ∷ e ∷ []) a h =
     let e_low : 48 ≤ e = known.second_low in
     let e_high : e ≤ 57 = known.second_high in
     elim (cases_lt 51 d) [
-      | inl p ↦ lt-leb d 51 p ∙ sym (lt-leb (weighed (d ∷ e ∷ [])) 39 (omega arith))
-      | inr p ↦ le-leb d 51 p ∙ sym (le-leb (weighed (d ∷ e ∷ [])) 39 (omega arith))
+      | inl p ↦ lt-leb d 51 p ∙ sym (lt-leb (weight (d ∷ e ∷ [])) 39 (omega arith))
+      | inr p ↦ le-leb d 51 p ∙ sym (le-leb (weight (d ∷ e ∷ [])) 39 (omega arith))
     ]
-    ∙ ap (λ (n : ℕ). nat_le n 39) (weighed-arc (d ∷ e ∷ []) a)
+    ∙ ap (λ (n : ℕ). nat_le n 39) (weight-arc (d ∷ e ∷ []) a)
 forty_of_two (d ∷ e ∷ f ∷ ds) a h = absurd (omega arith)
 
 large : (d p : ℕ) → 49 ≤ d → 1 ≤ p → 10 ≤ (d - 48) * (10 * p)
@@ -218,8 +218,8 @@ ten_of_more (d ∷ e ∷ ds) a h =
     let low : 1 ≤ 10 ^ n = one-le-pow n 10 (omega arith) in
     let same : 10 ^ suc n ≡ 10 * 10 ^ n = pow-succ' 10 n in
     let more : 10 ≤ (d - 48) * 10 ^ suc n = rw same (large d (10 ^ n) (long-arc d e ds a).first_low low) in
-    let all : 10 ≤ weighed (d ∷ e ∷ ds) = omega (arith, more) in
-    subst (λ (k : ℕ). 10 ≤ k) (weighed-arc (d ∷ e ∷ ds) a) all
+    let all : 10 ≤ weight (d ∷ e ∷ ds) = omega (arith, more) in
+    subst (λ (k : ℕ). 10 ≤ k) (weight-arc (d ∷ e ∷ ds) a) all
 
 pub forty_of_more : (arc : List ℕ) → is_arc arc ≡ true → 2 < length arc → nat_le (digits_value 10 arc) 39 ≡ false
 forty_of_more [] a h = absurd (omega arith)
@@ -231,14 +231,14 @@ forty_of_more (d ∷ e ∷ f ∷ ds) a h =
     let same : 10 ^ suc (suc n) ≡ 10 * (10 * 10 ^ n) = pow-succ' 10 (suc n) ∙ ap (λ m. 10 * m) (pow-succ' 10 n) in
     let more : 100 ≤ (d - 48) * 10 ^ suc (suc n) =
     rw same (larger d (10 ^ n) (long-arc d e (f ∷ ds) a).first_low low) in
-    ap (λ (k : ℕ). nat_le k 39) (sym (weighed-arc (d ∷ e ∷ f ∷ ds) a))
-    ∙ lt-leb (weighed (d ∷ e ∷ f ∷ ds)) 39 (omega (arith, more))
+    ap (λ (k : ℕ). nat_le k 39) (sym (weight-arc (d ∷ e ∷ f ∷ ds) a))
+    ∙ lt-leb (weight (d ∷ e ∷ f ∷ ds)) 39 (omega (arith, more))
 
 pub three_of_one : (arc : List ℕ) → is_arc arc ≡ true → length arc ≤ 1 → 50 < get_or arc 0 0 → 3 ≤ digits_value 10 arc
 three_of_one [] a h g = absurd (omega arith)
 three_of_one (d ∷ []) a h g =
-    let all : 3 ≤ weighed (d ∷ []) = omega arith in
-    subst (λ (k : ℕ). 3 ≤ k) (weighed-arc (d ∷ []) a) all
+    let all : 3 ≤ weight (d ∷ []) = omega arith in
+    subst (λ (k : ℕ). 3 ≤ k) (weight-arc (d ∷ []) a) all
 three_of_one (d ∷ e ∷ ds) a h g = absurd (omega arith)
 
 pub no_first : (first second : List ℕ) → 3 ≤ digits_value 10 first → may_begin first second ≡ false

@@ -16,7 +16,7 @@ use Rattle.tlv_value.specs.RowSizes.{character_length, row_size}
 use Rattle.tlv_value.specs.Kind.{is_text}
 use Rattle.tlv_value.specs.Layout.{margin, no_columns, row_line, spaces}
 use Rattle.tlv_value.specs.Private.Room.{HaveRoom}
-use Rattle.tlv_value.specs.Private.Rows.{full_line, full_lines}
+use Rattle.tlv_value.specs.Private.Rows.{pair_row_line, pair_row_lines}
 use Rattle.tlv_value.specs.Rows.{rows_of}
 use Rattle.tlv_value.proofs.RowLemmas.FilledRows.{row_begun, rows-filled, rows_filled}
 use Rattle.tlv_value.specs.ValueLines.{row_lines}
@@ -94,25 +94,25 @@ module _ (kind : Kind) (short : row_size kind ≡ 16) where
 
   module _ (layout : Layout) (endless : layout.limit ≡ None) where
     -- their lines, if there is no limit to rows
-    lines_of : (i : ℕ) (rows : List (List ℕ)) → row_lines kind layout i rows ≡ full_lines layout rows
+    lines_of : (i : ℕ) (rows : List (List ℕ)) → row_lines kind layout i rows ≡ pair_row_lines layout rows
     lines_of i [] = refl
     lines_of i (row ∷ rows) =
-        let one : row_line layout i (row_text kind row) ≡ full_line layout row =
+        let one : row_line layout i (row_text kind row) ≡ pair_row_line layout row =
         rw (endless, not_text kind short) refl in
         ap₂ (λ (k l : List ℕ). k ++ l) one (lines_of (i + 1) rows)
 
     -- the full rows of octets, and what is left of them
-    abbrev pub Turned : ℕ → List ℕ → List (List ℕ) → List ℕ → Type 0
-    Turned i octets rows more =
+    abbrev pub SplitsFullRows : ℕ → List ℕ → List (List ℕ) → List ℕ → Type 0
+    SplitsFullRows i octets rows more =
         (row_lines kind layout i (rows_filled kind [] octets)
-        ≡ full_lines layout rows ++ row_lines kind layout (i + length rows) (rows_filled kind [] more))
+        ≡ pair_row_lines layout rows ++ row_lines kind layout (i + length rows) (rows_filled kind [] more))
         × (row_begun kind [] octets ≡ row_begun kind [] more)
         × (length (rows_filled kind [] octets) ≡ length rows + length (rows_filled kind [] more))
 
-    pub rows_turned : (i : ℕ) (octets : List ℕ) (rows : List (List ℕ)) (more : List ℕ)
+    pub splits-full_rows : (i : ℕ) (octets : List ℕ) (rows : List (List ℕ)) (more : List ℕ)
         → rows ≡ first_chunks 16 (length octets / 16) octets → more ≡ drop (length octets / 16 * 16) octets
-        → Turned i octets rows more
-    rows_turned i octets rows more e f =
+        → SplitsFullRows i octets rows more
+    splits-full_rows i octets rows more e f =
         let t = rows_first (length octets / 16) octets (omega arith) in
         let all : rows_filled kind [] octets ≡ rows ++ rows_filled kind [] more = rw (e, f) t.0 in (
           ap (row_lines kind layout i) all ∙ row_lines-append kind layout i rows (rows_filled kind [] more)
@@ -124,9 +124,9 @@ module _ (kind : Kind) (short : row_size kind ≡ 16) where
 
 -- the lines of all rows, if there is no limit to them
 pub pair_lines : (kind : Kind) → row_size kind ≡ 16 → (layout : Layout) → layout.limit ≡ None → (octets : List ℕ)
-    → full_lines layout (rows_of Octets octets) ≡ row_lines kind layout 0 (rows_of kind octets)
+    → pair_row_lines layout (rows_of Octets octets) ≡ row_lines kind layout 0 (rows_of kind octets)
 pair_lines kind short layout endless octets =
-    ap (full_lines layout) (rows_cut Octets refl octets ∙ sym (rows_cut kind short octets))
+    ap (pair_row_lines layout) (rows_cut Octets refl octets ∙ sym (rows_cut kind short octets))
     ∙ sym (lines_of kind short layout endless 0 (rows_of kind octets))
 
 -- ---- the line of a full row
@@ -137,7 +137,7 @@ pairs_joined x xs = refl
 
 pub full_line_added : (layout : Layout) (old row : List ℕ) (n : ℕ)
     → spaces n ≡ margin layout.pure no_columns (layout.level + 1) → 2 ≤ n → length row ≡ 16
-    → old ++ spaces (n - 1) ++ spaced_pairs row ++ 10 ∷ [] ≡ old ++ full_line layout row
+    → old ++ spaces (n - 1) ++ spaced_pairs row ++ 10 ∷ [] ≡ old ++ pair_row_line layout row
 full_line_added layout old [] n e some whole = absurd (omega (arith, whole))
 full_line_added layout old (x ∷ xs) n e some whole =
     let text : List ℕ = row_text Octets (x ∷ xs) in
@@ -154,19 +154,20 @@ full_line_added layout old (x ∷ xs) n e some whole =
 -- the lines of the full rows, and that of the last
 pub lines_cut : (layout : Layout) (octets : List ℕ) (rows : List (List ℕ)) (more : List ℕ)
     → rows ≡ first_chunks 16 (length octets / 16) octets → more ≡ drop (length octets / 16 * 16) octets
-    → full_lines layout rows ++ full_lines layout (last_rows more) ≡ full_lines layout (rows_of Octets octets)
+    → pair_row_lines layout rows ++ pair_row_lines layout (last_rows more)
+    ≡ pair_row_lines layout (rows_of Octets octets)
 lines_cut layout octets rows more e f =
-    sym (flat_map-append (full_line layout) rows (last_rows more))
-    ∙ ap (full_lines layout) (rw (e, f) (sym (rows_cut Octets refl octets)))
+    sym (flat_map-append (pair_row_line layout) rows (last_rows more))
+    ∙ ap (pair_row_lines layout) (rw (e, f) (sym (rows_cut Octets refl octets)))
 
 -- the line of the last, if there is one
 pub last_line : (layout : Layout) (row : List ℕ) → eqb (length row) 0 ≡ false
-    → full_line layout row ≡ full_lines layout (last_rows row)
+    → pair_row_line layout row ≡ pair_row_lines layout (last_rows row)
 last_line layout [] some = absurd (grind (arith, nat_tests))
-last_line layout (x ∷ xs) some = sym (append-nil (full_line layout (x ∷ xs)))
+last_line layout (x ∷ xs) some = sym (append-nil (pair_row_line layout (x ∷ xs)))
 
 pub no_last_line : (layout : Layout) (shown row : List ℕ) → eqb (length row) 0 ≡ true
-    → shown ≡ shown ++ full_lines layout (last_rows row)
+    → shown ≡ shown ++ pair_row_lines layout (last_rows row)
 no_last_line layout shown [] none = sym (append-nil shown)
 no_last_line layout shown (x ∷ xs) none = absurd (grind (arith, nat_tests))
 
@@ -175,15 +176,17 @@ no_last_line layout shown (x ∷ xs) none = absurd (grind (arith, nat_tests))
 module _ (layout : Layout) where
   -- one row more
   pub lines_more : (rows : List (List ℕ)) (i : ℕ) → i < length rows
-      → full_lines layout (take i rows) ++ full_line layout (get_or rows i []) ≡ full_lines layout (take (i + 1) rows)
+      → pair_row_lines layout (take i rows) ++ pair_row_line layout (get_or rows i [])
+      ≡ pair_row_lines layout (take (i + 1) rows)
   lines_more rows i h =
-      sym (ap (full_lines layout) (take_more rows i [] h)
-      ∙ flat_map-append (full_line layout) (take i rows) (get_or rows i [] ∷ [])
-      ∙ ap (λ (l : List ℕ). full_lines layout (take i rows) ++ l) (append-nil (full_line layout (get_or rows i []))))
+      sym (ap (pair_row_lines layout) (take_more rows i [] h)
+      ∙ flat_map-append (pair_row_line layout) (take i rows) (get_or rows i [] ∷ [])
+      ∙ ap (λ (l : List ℕ). pair_row_lines layout (take i rows) ++ l)
+      (append-nil (pair_row_line layout (get_or rows i []))))
 
   -- the first rows, and those after them
   pub lines_split : (rows : List (List ℕ)) (i : ℕ)
-      → full_lines layout (take i rows) ++ full_lines layout (drop i rows) ≡ full_lines layout rows
+      → pair_row_lines layout (take i rows) ++ pair_row_lines layout (drop i rows) ≡ pair_row_lines layout rows
   lines_split rows i =
-      sym (flat_map-append (full_line layout) (take i rows) (drop i rows))
-      ∙ ap (full_lines layout) (take-append-drop i rows)
+      sym (flat_map-append (pair_row_line layout) (take i rows) (drop i rows))
+      ∙ ap (pair_row_lines layout) (take-append-drop i rows)

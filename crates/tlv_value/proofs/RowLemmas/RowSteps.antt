@@ -54,8 +54,8 @@ module _ (kind : Kind) where
       (length row + m ≡ row_size kind)
       ⊎ ((m < length rest) × (has_room kind (length row + m) (get_or rest m 0) ≡ false))
 
-  abbrev Turned : List ℕ → ℕ → List ℕ → Type 0
-  Turned row m rest =
+  abbrev CompletesRow : List ℕ → ℕ → List ℕ → Type 0
+  CompletesRow row m rest =
       (rows_filled kind row rest ≡ (row ++ take m rest) ∷ rows_filled kind [] (drop m rest))
       × (row_begun kind row rest ≡ row_begun kind [] (drop m rest))
 
@@ -72,7 +72,7 @@ module _ (kind : Kind) where
       inr (omega arith, rw l e.1)
 
   -- none of the octets
-  turn-none : (row rest : List ℕ) → length row < row_size kind → FillsRow row 0 rest → Turned row 0 rest
+  turn-none : (row rest : List ℕ) → length row < row_size kind → FillsRow row 0 rest → CompletesRow row 0 rest
   turn-none row rest h (inl e) = absurd (omega arith)
   turn-none row [] h (inr e) = absurd (omega arith)
   turn-none row (x ∷ xs) h (inr e) =
@@ -84,8 +84,8 @@ module _ (kind : Kind) where
   turn-one : (row : List ℕ) (m x : ℕ) (xs : List ℕ) (last : Bool) → eqb (length row + 1) (row_size kind) ≡ last
       → has_room kind (length row) x ≡ true
       → length row + suc m ≤ row_size kind
-      → (length row + 1 < row_size kind → Turned (row ++ x ∷ []) m xs)
-      → Turned row (suc m) (x ∷ xs)
+      → (length row + 1 < row_size kind → CompletesRow (row ++ x ∷ []) m xs)
+      → CompletesRow row (suc m) (x ∷ xs)
   turn-one row m x xs true e r h more =
       let z : m ≡ 0 = grind (arith, nat_tests) in
       rw (r, e, z) (refl, refl)
@@ -97,7 +97,7 @@ module _ (kind : Kind) where
   -- a row is filled: it is put, and the next begins
   pub next_row : (row : List ℕ) (m : ℕ) (rest : List ℕ) → HaveRoom kind (length row) rest m
       → length row + m ≤ row_size kind → m ≤ length rest → length row < row_size kind
-      → FillsRow row m rest → Turned row m rest
+      → FillsRow row m rest → CompletesRow row m rest
   next_row row zero rest room h w b f = turn-none row rest b f
   next_row row (suc m) [] room h w b f = absurd (omega arith)
   next_row row (suc m) (x ∷ xs) room h w b f =

@@ -43,7 +43,8 @@ abbrev texts : List ℕ → Bool → Bool → List ℕ → Option (List ℕ)
 texts t first relative vs = if all_below (2 ^ 128) vs then Some (t ++ parts_text first relative vs) else None
 
 -- a number past the limit stays past it
-too-large-at : (n x : ℕ) (xs : List ℕ) (last : Bool) → nat_lt x 128 ≡ last → ends_with_arc (not last) xs ≡ true → 2 ^ 128 ≤ n
+too-large-at : (n x : ℕ) (xs : List ℕ) (last : Bool) → nat_lt x 128 ≡ last → ends_with_arc (not last) xs ≡ true
+    → 2 ^ 128 ≤ n
     → ((m : ℕ) → ends_with_arc true xs ≡ true → 2 ^ 128 ≤ m → all_below (2 ^ 128) (carry m xs) ≡ false)
     → all_below (2 ^ 128) (if last then (n * 128 + x % 128) ∷ carry 0 xs else carry (n * 128 + x % 128) xs) ≡ false
 too-large-at n x xs true e h g more =
@@ -51,7 +52,8 @@ too-large-at n x xs true e h g more =
     rw v refl
 too-large-at n x xs false e h g more = more (n * 128 + x % 128) h (omega arith)
 
-too-large : (n : ℕ) (xs : List ℕ) → ends_with_arc true xs ≡ true → 2 ^ 128 ≤ n → all_below (2 ^ 128) (carry n xs) ≡ false
+too-large : (n : ℕ) (xs : List ℕ) → ends_with_arc true xs ≡ true → 2 ^ 128 ≤ n
+    → all_below (2 ^ 128) (carry n xs) ≡ false
 too-large n [] e h = cc
 too-large n (x ∷ xs) e h = too-large-at n x xs (nat_lt x 128) refl e h (λ m. too-large m xs)
 
@@ -132,7 +134,8 @@ carry-parts-at n x xs true e more =
 carry-parts-at n x xs false e more =
     more (n * 128 + x % 128) true e ∙ add_first-onto n x (parts_of xs) (parts-some xs e)
 
-carry-parts : (n : ℕ) (xs : List ℕ) (begun : Bool) → ends_with_arc begun xs ≡ true → carry n xs ≡ add_first n (parts_of xs)
+carry-parts : (n : ℕ) (xs : List ℕ) (begun : Bool) → ends_with_arc begun xs ≡ true
+    → carry n xs ≡ add_first n (parts_of xs)
 carry-parts n [] begun e = refl
 carry-parts n (x ∷ xs) begun e = carry-parts-at n x xs (nat_lt x 128) e (λ m b. carry-parts m xs b)
 
@@ -206,7 +209,8 @@ run-within t first relative n v c i e h g b =
 
 pub run-last : (t : List ℕ) (first relative : Bool) (n v : ℕ) (c : List ℕ) (i : ℕ) → v ≡ n * 128 + get_or c i 0 % 128
     → i < length c → n < 2 ^ 121 → get_or c i 0 < 128
-    → arcs_run t first relative n (drop i c) ≡ arcs_run (t ++ arcs_text first relative v) false relative 0 (drop (i + 1) c)
+    → arcs_run t first relative n (drop i c)
+    ≡ arcs_run (t ++ arcs_text first relative v) false relative 0 (drop (i + 1) c)
 run-last t first relative n v c i e h g b =
     let small : nat_lt n (2 ^ 121) ≡ true = grind (arith, nat_tests) in
     let last : nat_lt (get_or c i 0) 128 ≡ true = grind (arith, nat_tests) in

@@ -15,9 +15,9 @@ use Rattle.tlv_value.specs.Private.PrimitiveLines.{line_prefix}
 use Rattle.tlv_value.specs.declared.primitive.Primitive.{Primitive}
 use Rattle.tlv_value.specs.Rows.{full_rows}
 use Rattle.tlv_value.specs.ValueLines.{row_lines}
-use Rattle.tlv_value.specs.ValueTextState.{RowsState, ValueTextState, contents_lines, end_lines, primitive_line}
+use Rattle.tlv_value.specs.ValueTextState.{KeptContents, ValueTextState, contents_lines, end_lines, primitive_line}
 use Rattle.tlv_value.specs.ValueTextState.{primitive_lines}
-use Rattle.tlv_value.specs.Value.{NameOf, Value, bit_count, bits_value, boolean_value, integer_value, is_long}
+use Rattle.tlv_value.specs.Value.{NameOf, Value, bit_count_text, bits_value, boolean_value, integer_value, is_long}
 use Rattle.tlv_value.specs.Value.{is_readable, long_text, most_on_line, no_names, octets_value, row_octets, row_text}
 use Rattle.tlv_value.specs.Value.{short_value, used_digits, value_on_line}
 use Rattle.tlv_value.specs.Private.UndottedText.{undotted_text}
@@ -95,7 +95,7 @@ shown-relative name_of p octets e =
     prefix-line p (short_value name_of Relative octets)
     ∙ relative_at name_of p.layout (primitive_line p) octets p.kind e
 
--- held values without rows
+-- values on their lines, without rows
 
 abbrev IsUndotted : NameOf → Kind → List ℕ → Type 0
 IsUndotted name_of kind row =
@@ -123,7 +123,7 @@ if-rows false x y e f = f
 bits-rows : (row : List ℕ) → length row ≤ 9 → (bits_value row).rows ≡ []
 bits-rows [] h = refl
 bits-rows (u ∷ row) h =
-    if-rows (is_readable u (length row)) (value_on_line (bit_count u (length row) ++ used_digits u row))
+    if-rows (is_readable u (length row)) (value_on_line (bit_count_text u (length row) ++ used_digits u row))
     (octets_value (u ∷ row)) refl (octets-rows (u ∷ row) (omega arith))
 
 pub held-undotted : (name_of : NameOf) (kind : Kind) (row : List ℕ) → (kind ≡ Object → ⊥) → (kind ≡ Relative → ⊥)
@@ -154,11 +154,11 @@ shown-undotted name_of p octets o r h =
     undotted_at name_of p.kind p.layout (line_prefix p) octets (held-undotted name_of p.kind octets o r h)
     ∙ shown-prefix name_of p octets
 
-abbrev pub state_by : Primitive → ℕ → RowsState → ValueTextState
+abbrev pub state_by : Primitive → ℕ → KeptContents → ValueTextState
 state_by p left kept = record { primitive = p; left = left; kept = kept }
 
 -- with its end a primitive that is not long has all its lines
-pub ended-shown : (name_of : NameOf) (p : Primitive) (left : ℕ) (kept : RowsState) → is_long p.kind p.size ≡ false
+pub ended-shown : (name_of : NameOf) (p : Primitive) (left : ℕ) (kept : KeptContents) → is_long p.kind p.size ≡ false
     → end_lines name_of (state_by p left kept) ≡ primitive_lines name_of p kept.row
 ended-shown name_of p left kept l = rw l refl
 
@@ -183,7 +183,7 @@ pub new-first : (s : ValueTextState) (x : ℕ) (rest : List ℕ) → s.primitive
 new-first s x rest e u l =
     new-first_at s.primitive.kind s.kept.wrote_line s.primitive.size s.primitive.layout (primitive_line s.primitive) x
     rest
-    (row_lines s.primitive.kind s.primitive.layout s.kept.rows (full_rows s.primitive.kind s.kept.row (x ∷ rest)))
+    (row_lines s.primitive.kind s.primitive.layout s.kept.row_count (full_rows s.primitive.kind s.kept.row (x ∷ rest)))
     e u l
 
 -- the rows after it
@@ -191,6 +191,6 @@ pub rows-first : (kind : Kind) (layout : Layout) (n : ℕ) (row begun rest : Lis
     → row_lines kind layout n (full_rows kind row rest) ≡ row_lines Bits layout 0 (full_rows Bits begun rest)
 rows-first kind layout n row begun rest e z r = rw (e, z, r) refl
 
--- a held value has few octets
+-- a value on its line has few octets
 pub held-most : (kind : Kind) (n size : ℕ) → is_long kind size ≡ false → n ≡ size → n ≤ most_on_line kind
 held-most kind n size l e = grind (arith, nat_tests)

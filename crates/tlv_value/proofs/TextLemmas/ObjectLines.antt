@@ -1,4 +1,4 @@
--- The lines of a held object identifier, as they are put.
+-- The lines of an object identifier of at most 64 octets, as they are put.
 use Rattle.std.proofs.Common.{◌≡◌, ◌≤◌, ℕ, ◌+◌, ◌-◌, Bool, true, false, List, [], ◌∷◌, ◌++◌, length, take, drop, refl}
 use Rattle.std.proofs.Common.{sym, ap, ◌∙◌, arith, append_assoc, append-nil}
 use Rattle.std.specs.Prelude.{Option, Some, None, is_some, unwrap_or, nat_le}

@@ -14,48 +14,48 @@ use Rattle.tlv_value.specs.Laws.{LinesBegin, LinesEnd, LinesGoOn, PiecesJoin}
 use Rattle.tlv_value.specs.Rows.{full_rows, full_rows_in, open_row, open_row_in, rows_of}
 use Rattle.tlv_value.specs.Private.PrimitiveLines.{lines_in_steps}
 use Rattle.tlv_value.specs.ValueLines.{has_line, open_lines, row_lines, whole_lines}
-use Rattle.tlv_value.specs.ValueTextState.{RowsState, ValueTextState, begin_lines, contents_lines, end_lines}
+use Rattle.tlv_value.specs.ValueTextState.{KeptContents, ValueTextState, begin_lines, contents_lines, end_lines}
 use Rattle.tlv_value.specs.ValueTextState.{first_rows, first_rows_after, full_row_lines, new_value_text_of}
 use Rattle.tlv_value.specs.ValueTextState.{new_value_text, primitive_line, primitive_lines, new_primitive, rows_after}
-use Rattle.tlv_value.specs.ValueTextState.{rows_state_after, value_text_for, value_text_after}
+use Rattle.tlv_value.specs.ValueTextState.{kept_after, value_text_for, value_text_after}
 use Rattle.tlv_value.specs.Value.{NameOf, is_long, long_text, long_value, row_octets, short_value}
 use Rattle.std.proofs.lemmas.Bool.Decides.{nat_tests}
 use Rattle.tlv_value.proofs.TextLemmas.Puts.{row_lines-append}
 use Rattle.tlv_value.proofs.RowLemmas.FilledRows.{rows-filled}
 use Rattle.tlv_value.proofs.RowLemmas.OneCut.{rows-join, rows-parts}
 
-abbrev kept_with : ℕ → List ℕ → RowsState
-kept_with n r = record { wrote_line = true; rows = n; row = r }
+abbrev kept_with : ℕ → List ℕ → KeptContents
+kept_with n r = record { wrote_line = true; row_count = n; row = r }
 
 kept-eq : (n m : ℕ) (r q : List ℕ) → n ≡ m → r ≡ q → kept_with n r ≡ kept_with m q
 kept-eq n m r q e f = ap (λ (j : ℕ). kept_with j r) e ∙ ap (kept_with m) f
 
 module _ (kind : Kind) where
   -- what is kept, and what is written, of two pieces
-  kept-join : (k : RowsState) (x y : List ℕ) → rows_after kind (rows_after kind k x) y ≡ rows_after kind k (x ++ y)
+  kept-join : (k : KeptContents) (x y : List ℕ) → rows_after kind (rows_after kind k x) y ≡ rows_after kind k (x ++ y)
   kept-join k x y =
       let j = rows-join kind k.row x y in
-      let n : k.rows + length (full_rows kind k.row x) + length (full_rows kind (open_row kind k.row x) y)
-      ≡ k.rows + length (full_rows kind k.row (x ++ y)) =
+      let n : k.row_count + length (full_rows kind k.row x) + length (full_rows kind (open_row kind k.row x) y)
+      ≡ k.row_count + length (full_rows kind k.row (x ++ y)) =
       omega (arith, ap length j.0, length-append (full_rows kind k.row x) (full_rows kind (open_row kind k.row x) y)) in
-      kept-eq (k.rows + length (full_rows kind k.row x) + length (full_rows kind (open_row kind k.row x) y))
-      (k.rows + length (full_rows kind k.row (x ++ y))) (open_row kind (open_row kind k.row x) y)
+      kept-eq (k.row_count + length (full_rows kind k.row x) + length (full_rows kind (open_row kind k.row x) y))
+      (k.row_count + length (full_rows kind k.row (x ++ y))) (open_row kind (open_row kind k.row x) y)
       (open_row kind k.row (x ++ y)) n (sym j.1)
 
-  new-join : (layout : Layout) (k : RowsState) (x y : List ℕ)
+  new-join : (layout : Layout) (k : KeptContents) (x y : List ℕ)
       → full_row_lines kind layout k (x ++ y)
       ≡ full_row_lines kind layout k x ++ full_row_lines kind layout (rows_after kind k x) y
   new-join layout k x y =
-      ap (row_lines kind layout k.rows) (rows-join kind k.row x y).0
-      ∙ row_lines-append kind layout k.rows (full_rows kind k.row x) (full_rows kind (open_row kind k.row x) y)
+      ap (row_lines kind layout k.row_count) (rows-join kind k.row x y).0
+      ∙ row_lines-append kind layout k.row_count (full_rows kind k.row x) (full_rows kind (open_row kind k.row x) y)
 
 -- the parts of a state that do not change are left out here: the tests, the lines and what is kept
 module _ (kind : Kind) (layout : Layout) (line : List ℕ → List ℕ) (size : ℕ) where
-  abbrev kept_by : Bool → Bool → RowsState → List ℕ → RowsState
+  abbrev kept_by : Bool → Bool → KeptContents → List ℕ → KeptContents
   kept_by long wrote_line k x =
       if long then (if wrote_line then rows_after kind k x else first_rows_after kind k x) else record {
         wrote_line = k.wrote_line;
-        rows = k.rows;
+        row_count = k.row_count;
         row = k.row ++ x;
       }
 
@@ -63,19 +63,20 @@ module _ (kind : Kind) (layout : Layout) (line : List ℕ → List ℕ) (size : 
   first_new [] = []
   first_new (u ∷ x) = line (long_text kind size (u ∷ [])) ++ full_row_lines kind layout (first_rows kind u) x
 
-  abbrev new_by : Bool → Bool → RowsState → List ℕ → List ℕ
+  abbrev new_by : Bool → Bool → KeptContents → List ℕ → List ℕ
   new_by long wrote_line k x = if long then (if wrote_line then full_row_lines kind layout k x else first_new x) else []
 
-  join-kept : (long wrote_line : Bool) (k : RowsState) (x y : List ℕ) → k.wrote_line ≡ wrote_line
+  join-kept : (long wrote_line : Bool) (k : KeptContents) (x y : List ℕ) → k.wrote_line ≡ wrote_line
       → kept_by long (kept_by long wrote_line k x).wrote_line (kept_by long wrote_line k x) y
       ≡ kept_by long wrote_line k (x ++ y)
   join-kept false wrote_line k x y e =
-      ap (λ (r : List ℕ). record { wrote_line = k.wrote_line; rows = k.rows; row = r }) (append_assoc k.row x y)
+      ap (λ (r : List ℕ). record { wrote_line = k.wrote_line; row_count = k.row_count; row = r })
+      (append_assoc k.row x y)
   join-kept true true k x y e = kept-join kind k x y
   join-kept true false k [] y e = rw e refl
   join-kept true false k (u ∷ x) y e = kept-join kind (first_rows kind u) x y
 
-  join-new : (long wrote_line : Bool) (k : RowsState) (x y : List ℕ) → k.wrote_line ≡ wrote_line
+  join-new : (long wrote_line : Bool) (k : KeptContents) (x y : List ℕ) → k.wrote_line ≡ wrote_line
       → new_by long wrote_line k (x ++ y)
       ≡ new_by long wrote_line k x
       ++ new_by long (kept_by long wrote_line k x).wrote_line (kept_by long wrote_line k x) y
@@ -87,7 +88,7 @@ module _ (kind : Kind) (layout : Layout) (line : List ℕ → List ℕ) (size : 
       ∙ sym (append_assoc (line (long_text kind size (u ∷ []))) (full_row_lines kind layout (first_rows kind u) x)
       (full_row_lines kind layout (rows_after kind (first_rows kind u) x) y))
 
-abbrev with_kept : ValueTextState → ℕ → RowsState → ValueTextState
+abbrev with_kept : ValueTextState → ℕ → KeptContents → ValueTextState
 with_kept s left k = record { primitive = s.primitive; left = left; kept = k }
 
 new_by-new : (s : ValueTextState) (x : List ℕ)
@@ -106,12 +107,12 @@ pieces-join s x y =
     let t =
     join-new s.primitive.kind s.primitive.layout (primitive_line s.primitive) s.primitive.size
     (is_long s.primitive.kind s.primitive.size) s.kept.wrote_line s.kept x y refl in (
-      ap (λ (n : ℕ). with_kept s n (rows_state_after (value_text_after s x) y)) l
+      ap (λ (n : ℕ). with_kept s n (kept_after (value_text_after s x) y)) l
           ∙ ap (with_kept s (s.left - length (x ++ y))) k,
       sym (new_by-new s (x ++ y)) ∙ t
           ∙ ap (λ (r : List ℕ). r
           ++ new_by s.primitive.kind s.primitive.layout (primitive_line s.primitive) s.primitive.size
-          (is_long s.primitive.kind s.primitive.size) (rows_state_after s x).wrote_line (rows_state_after s x)
+          (is_long s.primitive.kind s.primitive.size) (kept_after s x).wrote_line (kept_after s x)
           y)
           (new_by-new s x)
           ∙ ap (λ (r : List ℕ). contents_lines s x ++ r) (new_by-new (value_text_after s x) y),
@@ -128,8 +129,8 @@ first-open_row : (u : ℕ) (rest : List ℕ) (b : Bool)
 first-open_row u rest true = refl
 first-open_row u rest false = refl
 
-abbrev begin_kept : Kind → RowsState
-begin_kept kind = record { wrote_line = has_line kind []; rows = 0; row = [] }
+abbrev begin_kept : Kind → KeptContents
+begin_kept kind = record { wrote_line = has_line kind []; row_count = 0; row = [] }
 
 module _ (layout : Layout) (line : List ℕ → List ℕ) (size : ℕ) where
   abbrev begun_at : Kind → Bool → List ℕ
@@ -168,9 +169,9 @@ module _ (layout : Layout) (line : List ℕ → List ℕ) (size : ℕ) where
       ++ row_lines kind layout 0
       (if long then long_value true kind size octets else short_value name_of kind octets).rows
 
-  abbrev ended_at : NameOf → Kind → Bool → RowsState → List ℕ
+  abbrev ended_at : NameOf → Kind → Bool → KeptContents → List ℕ
   ended_at name_of kind long k =
-      if long then row_lines kind layout k.rows (last_rows k.row)
+      if long then row_lines kind layout k.row_count (last_rows k.row)
       else line (short_value name_of kind k.row).text
       ++ row_lines kind layout 0 (short_value name_of kind k.row).rows
 
@@ -255,7 +256,7 @@ after-nothing_at kind layout line size false wrote_line e = refl
 after-nothing_at kind layout line size true true e =
     ap (λ (rows : List (List ℕ)). kept_with (0 + length (full_rows_in kind rows)) (open_row_in kind rows))
     (rows-filled kind [])
-    ∙ ap (λ (b : Bool). record { wrote_line = b; rows = 0; row = [] }) e
+    ∙ ap (λ (b : Bool). record { wrote_line = b; row_count = 0; row = [] }) e
 after-nothing_at kind layout line size true false e = refl
 
 pub after-nothing : (h : HeaderValue) (layout : Layout)
@@ -263,7 +264,7 @@ pub after-nothing : (h : HeaderValue) (layout : Layout)
 after-nothing h layout =
     let s : ValueTextState = new_value_text h layout in
     let l : s.left - 0 ≡ s.left = omega arith in
-    ap (λ (n : ℕ). with_kept s n (rows_state_after s [])) l
+    ap (λ (n : ℕ). with_kept s n (kept_after s [])) l
     ∙ ap (with_kept s s.left)
     (after-nothing_at s.primitive.kind s.primitive.layout (primitive_line s.primitive) s.primitive.size
     (is_long s.primitive.kind s.primitive.size) s.kept.wrote_line refl)

@@ -23,7 +23,8 @@ use Rattle.tlv_value.specs.declared.kind.Kind.TheVariants.{Ucs2, Ucs4}
 use Rattle.tlv_io.specs.Cuts.{utf8_length}
 use Rattle.tlv_value.specs.Units.{escaped_number, escaped_octet, is_printable, octet_text, printable_text, quoted_text}
 use Rattle.tlv_value.specs.Units.{three_octets, unit_size, unit_text, units, utf8_number, without_zeros}
-use Rattle.tlv_value.specs.Value.{Value, bit_count, bits_value, boolean_value, integer_value, is_readable, joined_pairs}
+use Rattle.tlv_value.specs.Value.{Value, bit_count_text, bits_value, boolean_value, integer_value, is_readable}
+use Rattle.tlv_value.specs.Value.{joined_pairs}
 use Rattle.tlv_value.specs.Value.{octets_value, spaced_pairs, used_digits, value_on_line}
 
 -- what was added is at most so long
@@ -169,7 +170,7 @@ joined-short [] = omega arith
 joined-short (x ∷ xs) =
     omega (arith, length-append (encode_lower (x ∷ [])) (spaced_pairs xs), pair-length x, spaced-short xs)
 
--- held values
+-- values on their lines
 
 octets-text-short : (octets : List ℕ) → length (octets_value octets).text ≤ 330
 octets-text-short octets =
@@ -199,10 +200,10 @@ integer-short (x ∷ xs) h =
     let f : FitsSigned w128 (twos_complement (x ∷ xs)) = twos-fits_all (x ∷ xs) h in
     omega (arith, signed-short (twos_complement (x ∷ xs)) f.sfits)
 
-used-short : (unused : ℕ) (octets : List ℕ) → length octets ≤ 8 → length (used_digits unused octets) ≤ 65
-used-short unused [] h = omega arith
-used-short unused (x ∷ octets) h =
-    let n : ℕ = 8 * length (x ∷ octets) - unused in
+used-short : (unused_bits : ℕ) (octets : List ℕ) → length octets ≤ 8 → length (used_digits unused_bits octets) ≤ 65
+used-short unused_bits [] h = omega arith
+used-short unused_bits (x ∷ octets) h =
+    let n : ℕ = 8 * length (x ∷ octets) - unused_bits in
     omega (
       arith,
       length-map (take n (bits_of (x ∷ octets))) (λ bit. 48 + bit),
@@ -210,29 +211,29 @@ used-short unused (x ∷ octets) h =
       length-bits (x ∷ octets),
     )
 
-pub count-short : (unused octets : ℕ) → octets < 2 ^ 64 → length (bit_count unused octets) ≤ 44
-count-short unused octets h =
+pub count-short : (unused_bits octets : ℕ) → octets < 2 ^ 64 → length (bit_count_text unused_bits octets) ≤ 44
+count-short unused_bits octets h =
     omega (
       arith,
-      length-append (decimal (8 * octets - unused)) (codes " bits"),
-      digits-short (8 * octets - unused) (omega arith),
+      length-append (decimal (8 * octets - unused_bits)) (codes " bits"),
+      digits-short (8 * octets - unused_bits) (omega arith),
     )
 
 pub bits-short : (octets : List ℕ) → length octets ≤ 9 → length (bits_value octets).text ≤ 330
 bits-short [] h = omega arith
-bits-short (unused ∷ octets) h =
-    elim (is_readable unused (length octets)) as (λ b. length
-    (if b then value_on_line (bit_count unused (length octets) ++ used_digits unused octets)
-    else octets_value (unused ∷ octets)).text
+bits-short (unused_bits ∷ octets) h =
+    elim (is_readable unused_bits (length octets)) as (λ b. length
+    (if b then value_on_line (bit_count_text unused_bits (length octets) ++ used_digits unused_bits octets)
+    else octets_value (unused_bits ∷ octets)).text
     ≤ 330) [
       | true ↦
           omega (
             arith,
-            length-append (bit_count unused (length octets)) (used_digits unused octets),
-            count-short unused (length octets) (omega arith),
-            used-short unused octets (omega arith),
+            length-append (bit_count_text unused_bits (length octets)) (used_digits unused_bits octets),
+            count-short unused_bits (length octets) (omega arith),
+            used-short unused_bits octets (omega arith),
           )
-      | false ↦ octets-text-short (unused ∷ octets)
+      | false ↦ octets-text-short (unused_bits ∷ octets)
     ]
 
 pub text-short : (kind : Kind) (octets : List ℕ) → length octets ≤ 64 → length (32 ∷ quoted_text kind octets) ≤ 330

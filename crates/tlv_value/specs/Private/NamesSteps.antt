@@ -10,9 +10,9 @@ use Rattle.std.specs.Borrow.{Bor}
 use Rattle.std.specs.BTreeMap.{BTreeMap}
 use Rattle.std.specs.Io.KnownBytes.{IsAtEnd}
 use Rattle.tlv_io.specs.Device.{Pieces, SourceState, failed, gave, octets_given}
-use Rattle.tlv_value.specs.Names.{Entry, NamesLine, NamesTable, entry, has_entry, long_line, most_names}
+use Rattle.tlv_value.specs.Names.{Entry, NamesLine, NamesValue, entry, has_entry, long_line, entry_limit}
 use Rattle.tlv_value.specs.Names.{names_of, no_entry, no_name, no_object_identifier}
-use Rattle.tlv_value.specs.NamesReading.{IsTooLong, names_failures_after, names_limit}
+use Rattle.tlv_value.specs.NamesReading.{IsTooLong, names_failures_after, file_limit}
 use Rattle.tlv_value.specs.declared.names.fault.NamesFault.{NamesFault}
 use Rattle.tlv_value.specs.declared.names.fault.NamesFault.TheVariants.{BadOid, BadName, Repeated, TooLarge}
 use Rattle.tlv_value.specs.declared.names.fault.NamesFault.TheVariants.{ReadFailed, Memory}
@@ -36,15 +36,13 @@ abbrev pub Adds : {T : Type 0}
     → ℕ → List ℕ → List ℕ → List Entry → List Entry → Result T NamesFault → Type 0
 Adds number dotted name old new (Ok done) =
     (has_entry dotted old ≡ false)
-    × (length old < most_names)
+    × (length old < entry_limit)
     × (new ≡ finite.put (slice_cmp nat_cmp) dotted name old)
     × (length new ≡ length old + 1)
-Adds number dotted name old new (Err (BadOid n)) = ⊥
-Adds number dotted name old new (Err (BadName n)) = ⊥
 Adds number dotted name old new (Err (Repeated n)) = (has_entry dotted old ≡ true) × (n ≡ number)
-Adds number dotted name old new (Err TooLarge) = (has_entry dotted old ≡ false) × (most_names ≤ length old)
-Adds number dotted name old new (Err ReadFailed) = ⊥
+Adds number dotted name old new (Err TooLarge) = (has_entry dotted old ≡ false) × (entry_limit ≤ length old)
 Adds number dotted name old new (Err Memory) = Unit {0}
+Adds number dotted name old new (Err fault) = ⊥
 
 -- what a line says is added to the entries, or refused
 abbrev pub AddsLine : {T : Type 0} → ℕ → NamesLine → List Entry → List Entry → Result T NamesFault → Type 0
@@ -58,28 +56,23 @@ AddsLine number long_line old new result = IsErrOf result TooLarge
 abbrev pub IsTableOf : {Z : Type 0}
     → List ℕ → Result (BTreeMap (Vec ℕ Z) (Vec ℕ Z)) NamesFault → Type 0
 IsTableOf octets (Ok table) = names_of octets ≡ Ok (finite.from_entries (texts_in table))
-IsTableOf octets (Err (BadOid n)) = names_of octets ≡ Err (BadOid n)
-IsTableOf octets (Err (BadName n)) = names_of octets ≡ Err (BadName n)
-IsTableOf octets (Err (Repeated n)) = names_of octets ≡ Err (Repeated n)
-IsTableOf octets (Err TooLarge) = names_of octets ≡ Err TooLarge
 IsTableOf octets (Err ReadFailed) = ⊥
 IsTableOf octets (Err Memory) = Unit {0}
+IsTableOf octets (Err fault) = names_of octets ≡ Err fault
 
 abbrev pub result_in : {Z : Type 0}
-    → Result (BTreeMap (Vec ℕ Z) (Vec ℕ Z)) NamesFault → Result NamesTable NamesFault
+    → Result (BTreeMap (Vec ℕ Z) (Vec ℕ Z)) NamesFault → Result NamesValue NamesFault
 result_in (Ok m) = Ok (table_in m)
 result_in (Err fault) = Err fault
 
 -- all octets of a source, by what its last read gave
 abbrev pub GivesAll : {Z : Type 0} → SourceState → List ℕ → Result (Vec ℕ Z) NamesFault → Type 0
 GivesAll new octets (Ok v) =
-    (octets ≡ v.items) × (new.last ≡ gave 0) × IsAtEnd new.left × (length v.items ≤ names_limit)
-GivesAll new octets (Err (BadOid n)) = ⊥
-GivesAll new octets (Err (BadName n)) = ⊥
-GivesAll new octets (Err (Repeated n)) = ⊥
+    (octets ≡ v.items) × (new.last ≡ gave 0) × IsAtEnd new.left × (length v.items ≤ file_limit)
 GivesAll new octets (Err TooLarge) = IsTooLong new.last octets
-GivesAll new octets (Err ReadFailed) = (new.last ≡ failed) × (length octets ≤ names_limit)
-GivesAll new octets (Err Memory) = length octets ≤ names_limit
+GivesAll new octets (Err ReadFailed) = (new.last ≡ failed) × (length octets ≤ file_limit)
+GivesAll new octets (Err Memory) = length octets ≤ file_limit
+GivesAll new octets (Err fault) = ⊥
 
 -- they are read in pieces
 pub record Gives {Z : Type 0} (old new : SourceState) (result : Result (Vec ℕ Z) NamesFault) : Type 0 where

@@ -1,14 +1,13 @@
 -- The lines of a primitive, by what its header says of it.
-use Rattle.std.specs.Prelude.{ℕ, List, ◌++◌, decimal}
-use Rattle.tlv_head.specs.Tag.{tag_text}
+use Rattle.std.specs.Prelude.{ℕ, List, ◌++◌}
 use Rattle.tlv_value.specs.declared.primitive.Primitive.{Primitive}
 use Rattle.tlv_value.specs.Value.{NameOf}
-use Rattle.tlv_value.specs.Layout.{columns, margin}
+use Rattle.tlv_value.specs.ValueLines.{element_prefix}
 use Rattle.tlv_value.specs.ValueTextState.{ValueTextState, begin_lines, contents_lines, end_lines, value_text_after}
 
 -- what its line begins with
 abbrev pub line_prefix : Primitive → List ℕ
-line_prefix p = margin p.layout.pure (columns p.offset (decimal p.size)) p.layout.level ++ tag_text p.class p.number
+line_prefix p = element_prefix p.layout p.offset p.class p.number p.size
 
 -- the lines that are known with the header, with all contents, and with the end
 abbrev pub lines_in_steps : NameOf → ValueTextState → List ℕ → List ℕ

@@ -1,4 +1,4 @@
--- Where a row is, and the lines of full rows.
+-- Where a row is, and the lines of rows of pairs of digits.
 use Rattle.std.specs.Prelude.{ℕ, ◌+◌, ◌*◌, if◌then◌else◌, List, flat_map}
 use Rattle.tlv_value.specs.declared.kind.Kind.TheVariants.{Octets}
 use Rattle.tlv_value.specs.declared.layout.Layout.{Layout}
@@ -10,8 +10,8 @@ abbrev pub row_indent : Layout → ℕ
 row_indent layout = (if layout.pure then 0 else 17) + 2 * (layout.level + 1)
 
 -- the lines of rows of pairs of digits, if there is no limit to rows
-abbrev pub full_line : Layout → List ℕ → List ℕ
-full_line layout row = inner_line layout (row_text Octets row)
+abbrev pub pair_row_line : Layout → List ℕ → List ℕ
+pair_row_line layout row = inner_line layout (row_text Octets row)
 
-abbrev pub full_lines : Layout → List (List ℕ) → List ℕ
-full_lines layout rows = flat_map (full_line layout) rows
+abbrev pub pair_row_lines : Layout → List (List ℕ) → List ℕ
+pair_row_lines layout rows = flat_map (pair_row_line layout) rows

@@ -3,8 +3,7 @@ use Rattle.std.specs.Prelude.{◌≡◌, ℕ, ◌<◌, Bool, true, false, ◌&&�
 use Rattle.std.specs.Prelude.{flat_map, slice_index}
 use Rattle.tlv_io.specs.LineTexts.{AddsIfRoom}
 use Rattle.tlv_value.specs.declared.kind.Kind.{Kind}
-use Rattle.tlv_value.specs.declared.kind.Kind.TheVariants.{Octets, Boolean, Integer, Bits, Object, Relative}
-use Rattle.tlv_value.specs.declared.kind.Kind.TheVariants.{Text, Utf8, Ucs2, Ucs4}
+use Rattle.tlv_value.specs.declared.kind.Kind.TheVariants.{Text, Utf8}
 use Rattle.tlv_value.specs.Units.{is_printable, unit_text, units}
 
 -- a printable character of ASCII that is neither the quotation mark nor the reverse solidus
@@ -13,16 +12,9 @@ is_unescaped x = is_printable x && not (eqb x 0x22 || eqb x 0x5c)
 
 -- a character of ASCII has one octet
 abbrev pub has_ascii : Kind → Bool
-has_ascii Octets = false
-has_ascii Boolean = false
-has_ascii Integer = false
-has_ascii Bits = false
-has_ascii Object = false
-has_ascii Relative = false
 has_ascii Text = true
 has_ascii Utf8 = true
-has_ascii Ucs2 = false
-has_ascii Ucs4 = false
+has_ascii _ = false
 
 -- the first n of the octets are such characters
 abbrev pub AreUnescaped : Kind → List ℕ → ℕ → Type 0

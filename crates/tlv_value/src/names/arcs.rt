@@ -5,7 +5,7 @@ ghost use Rattle.std.specs.List.{list_all};
 ghost use Rattle.std.specs.Str.Parse.{digits_value};
 ghost use Rattle.tlv_value.specs.Names.{are_first_arcs, dotted_parts, is_arc, is_dotted, may_begin};
 
-use super::line::{after_mark, end_before};
+use super::names_line::{end_before, rest_after};
 
 /// Whether the text is two or more arcs with dots between them, of which the first is 0, 1 or 2, and the second at most
 /// 39 below 0 and 1 (ITU-T X.660). Arcs are decimals without a leading zero, of any size.
@@ -28,7 +28,7 @@ fn are_arcs(text: &[u8]) -> bool
         if end == rest.len() {
             return true;
         }
-        rest = after_mark(rest, end);
+        rest = rest_after(rest, end);
     }
 }
 
@@ -63,7 +63,7 @@ fn are_first_arcs(text: &[u8]) -> bool
     if end == text.len() {
         return false;
     }
-    let rest = after_mark(text, end);
+    let rest = rest_after(text, end);
     may_begin(&text[..end], &rest[..end_before(rest, b'.')])
 }
 

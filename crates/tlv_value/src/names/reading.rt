@@ -8,7 +8,7 @@ use std::alloc::Allocator;
 use tlv_io::Source;
 
 /// The most octets of a names file.
-const MOST_OCTETS: usize = 1_048_576;
+const FILE_LIMIT: usize = 1_048_576;
 
 /// Reads the source to its end, and then judges its lines.
 pub(super) fn read_in<A: Allocator + Copy, S: Source>(
@@ -34,7 +34,7 @@ fn read_octets<A: Allocator, S: Source>(alloc: A, source: &mut S) -> Result<Vec<
         if count == 0 {
             return Ok(octets);
         }
-        if count > MOST_OCTETS - octets.len() {
+        if count > FILE_LIMIT - octets.len() {
             return Err(NamesFault::TooLarge);
         }
         if octets.extend_from_slice(&piece[..count]).is_err() {

@@ -1,12 +1,12 @@
 //! The table of a names file.
 ghost use Rattle.std.specs.Prelude.{◌≡◌, ◌≤◌, length};
 ghost use Rattle.tlv_value.specs.Names.{names_line};
-ghost use Rattle.tlv_value.specs.NamesReading.{names_limit};
+ghost use Rattle.tlv_value.specs.NamesReading.{file_limit};
 ghost use Rattle.tlv_value.specs.NamesFields.{texts_in};
 ghost use Rattle.tlv_value.specs.Private.NamesSteps.{Adds, AddsLine, IsTableOf};
 
 use super::NamesFault;
-use super::line::{after_mark, end_before, entry_or_refusal};
+use super::names_line::{end_before, entry_or_refusal, rest_after};
 use std::alloc::Allocator;
 use std::collections::BTreeMap;
 
@@ -14,11 +14,11 @@ use std::collections::BTreeMap;
 pub(super) type Table<A> = BTreeMap<Vec<u8, A>, Vec<u8, A>, A>;
 
 /// The most entries of a table.
-const MOST_ENTRIES: usize = 65_536;
+const ENTRY_LIMIT: usize = 65_536;
 
 /// The table of all lines, or the first refusal.
 pub(super) fn names_of<A: Allocator + Copy>(alloc: A, octets: &[u8]) -> Result<Table<A>, NamesFault>
-    requires { length octets.now ≤ names_limit }
+    requires { length octets.now ≤ file_limit }
     ensures { IsTableOf octets.now result }
 {
     let mut table = BTreeMap::new(alloc);
@@ -28,7 +28,7 @@ pub(super) fn names_of<A: Allocator + Copy>(alloc: A, octets: &[u8]) -> Result<T
         let end = end_before(rest, b'\n');
         number += 1;
         add_line(alloc, &mut table, &rest[..end], number)?;
-        rest = after_mark(rest, end);
+        rest = rest_after(rest, end);
     }
     Ok(table)
 }
@@ -63,7 +63,7 @@ fn add<A: Allocator + Copy>(
     if table.contains_key(dotted) {
         return Err(NamesFault::Repeated(number));
     }
-    if table.len() >= MOST_ENTRIES {
+    if table.len() >= ENTRY_LIMIT {
         return Err(NamesFault::TooLarge);
     }
     let Ok(key) = Vec::from_slice(alloc, dotted) else {

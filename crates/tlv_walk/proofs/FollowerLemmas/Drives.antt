@@ -34,7 +34,8 @@ use Rattle.tlv_walk.specs.Wrappers.{first_other, entered_offsets}
 use Rattle.tlv_walk.proofs.FollowerLemmas.Followed.{events_enough, followed-alike, followed-enough, kept-alike}
 use Rattle.tlv_walk.proofs.FollowerLemmas.Following.{made_both, made_put}
 use Rattle.tlv_walk.proofs.FollowerLemmas.Enough.{comes_to}
-use Rattle.tlv_io.proofs.Pieces.{GaveLast, gathered_more, pieces_all, together_more}
+use Rattle.tlv_io.specs.Device.{GaveLast}
+use Rattle.tlv_io.proofs.Pieces.{pieces_so_far_more, pieces_all, together_more}
 use Rattle.tlv_io.proofs.Sends.{sends_ok, sends_then}
 use Rattle.tlv_walk.proofs.FollowerLemmas.Pauses.{stands_spelled, stands_yielded}
 use Rattle.tlv_walk.proofs.FollowerLemmas.SoFar.{gave_last, gave_none, given_short, given_octets, enters_each, Walking}
@@ -197,7 +198,7 @@ module _ {S : Type 0} (next : S → EventValue → Effect S)
           let y = turned (Ok Again) is in
           let all : List EventValue = y.stands.all in record {
             gathered =
-                gathered_more old now.devices.source new.devices.source x.gathered r read.calls.octets
+                pieces_so_far_more old now.devices.source new.devices.source x.gathered r read.calls.octets
                 read.calls.reads (some_octets r y.some, few);
             octets = subst AreOctets (sym (together_more x.gathered.pieces r)) all_octets;
             failures = failed_so (Ok Again) is;

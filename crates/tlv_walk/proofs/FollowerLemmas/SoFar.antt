@@ -9,7 +9,7 @@ use Rattle.tlv_walk.specs.declared.follow.Go.TheVariants as go
 use Rattle.tlv_walk.specs.declared.framing.Framing.{Framing}
 use Rattle.tlv_walk.specs.declared.run.DeviceFault.{DeviceFault}
 use Rattle.std.specs.List.{concat}
-use Rattle.tlv_io.specs.Device.{DrainState, LastReadValue, SourceState, failed, gave, never}
+use Rattle.tlv_io.specs.Device.{DrainState, GaveLast, LastReadValue, SourceState, failed, gave, never}
 use Rattle.tlv_walk.specs.Events.{Begin, Bytes, Close, End, Enter, EventValue, Leave, Open, Pad, Unused}
 use Rattle.tlv_walk.specs.Follow.{Effect, effect_of}
 use Rattle.tlv_walk.specs.FollowsEvents.{FollowsEvents}
@@ -20,7 +20,7 @@ use Rattle.tlv_walk.specs.Stands.{IsIdle, Stands}
 use Rattle.tlv_walk.specs.OneTurn.{LastReadGaveUpTo, TurnStates, last_octets, turn_states}
 use Rattle.tlv_walk.specs.Wrappers.{entered_offsets}
 use Rattle.tlv_walk.proofs.FollowerLemmas.Following.{made_none}
-use Rattle.tlv_io.proofs.Pieces.{GaveLast, Gathered, gathered_none}
+use Rattle.tlv_io.proofs.Pieces.{PiecesSoFar, no_pieces_so_far}
 use Rattle.tlv_io.proofs.Sends.{sends_nothing}
 
 -- ---- reads
@@ -72,7 +72,7 @@ module _ {S : Type 0} (next : S → EventValue → Effect S) where
   -- the walk so far: the octets given, the events yielded of them, and what was made of these
   pub record Walking (framing : Framing) (s : S) (old : SourceState) (from : DrainState) (now : TurnStates S) : Type
       0 where
-    pub gathered : Gathered old now.devices.source
+    pub gathered : PiecesSoFar old now.devices.source
     pub octets : AreOctets (concat gathered.pieces)
     pub failures : now.devices.source.failures ≡ old.failures
     pub yielded : List EventValue
@@ -86,7 +86,7 @@ module _ {S : Type 0} (next : S → EventValue → Effect S) where
       → Stands (new_walker framing) [] []
       → Walking framing s old from (turn_states (new_walker framing) s old from)
   walking_none framing s old from st = record {
-    gathered = gathered_none old;
+    gathered = no_pieces_so_far old;
     octets = All-nil (λ x. x < 256);
     failures = refl;
     yielded = [];

@@ -7,8 +7,9 @@ use Rattle.tlv_head.specs.declared.fault.FaultCode.{FaultCode}
 use Rattle.tlv_head.specs.declared.fault.FaultCode.TheVariants.{StrayEnd}
 use Rattle.tlv_head.specs.Header.{HeaderValue, announced_length, holds, is_wrapper, octets_of}
 use Rattle.tlv_head.specs.Refusal.{IsRefusedOctet}
-use Rattle.tlv_head.proofs.GrammarLemmas.Scan.{Origin, Scan, Fresh, High, Named, Long, Ready, Stuck, Over, moved, step}
-use Rattle.tlv_head.proofs.GrammarLemmas.Scan.{scan, scan-moved, more-from_prefix}
+use Rattle.tlv_head.proofs.GrammarLemmas.Scan.{Origin, Scan, Fresh, High, Named, Long, Ready, Stuck}
+use Rattle.tlv_head.proofs.GrammarLemmas.Scan.{Over, moved_header, step}
+use Rattle.tlv_head.proofs.GrammarLemmas.Scan.{scan, scan-moved_header, more-from_prefix}
 use Rattle.tlv_head.proofs.GrammarLemmas.Meaning.{IsStateAfter, reads-step, reads-scan, prefix-bytes}
 use Rattle.tlv_head.proofs.GrammarLemmas.Headers.{IsHeadRefusal, Explains, explains}
 use Rattle.tlv_head.proofs.GrammarLemmas.Refused.{refused-stuck}
@@ -161,13 +162,13 @@ stuck-refusal p o x code t room r =
 
 -- the header as it is read there
 read-there : (p : Place) (o : List ℕ) (x : ℕ) (h : HeaderValue) (t : Bool) → Fits p (length o + 1) → IsHeaderAt p t h
-    → octets_of h ≡ o ++ x ∷ [] → push p (OpenHeader o) x ≡ complete p (moved (origin p) h)
+    → octets_of h ≡ o ++ x ∷ [] → push p (OpenHeader o) x ≡ complete p (moved_header (origin p) h)
 read-there p o x h t room s octets =
-    push-scan p o x (Ready (moved (origin p) h)) room
-    (ap (scan (origin p)) (sym octets) ∙ scan-moved (origin p) h s.valid)
+    push-scan p o x (Ready (moved_header (origin p) h)) room
+    (ap (scan (origin p)) (sym octets) ∙ scan-moved_header (origin p) h s.valid)
 
 -- the header as it is read there holds others if the header does
-holds-there : (p : Place) (h : HeaderValue) (t : Bool) → IsHeaderAt p t h → holds (moved (origin p) h) ≡ holds h
+holds-there : (p : Place) (h : HeaderValue) (t : Bool) → IsHeaderAt p t h → holds (moved_header (origin p) h) ≡ holds h
 holds-there p h t s =
     ap (λ (named : Bool). h.constructed || is_wrapper named h.class h.constructed h.number h.size) (sym s.named)
 
@@ -185,11 +186,11 @@ fault-refusal e x code t (bad_end {p = p} room nz) = rw (fits-within p.bound (p.
 fault-refusal e x code t (no_room {p = p} {o = o} a) = rw (no-fit p (length o + 1) a)
 fault-refusal e x code t (refused_octet {p = p} {o = o} room r) = stuck-refusal p o x code t room r
 fault-refusal e x code t (too_deep {p = p} {o = o} room h s octets deep) =
-    let test : (holds (moved (origin p) h) && leb 128 p.depth) ≡ true =
+    let test : (holds (moved_header (origin p) h) && leb 128 p.depth) ≡ true =
     and_from _ _ (holds-there p h true s ∙ s.form) (le-leb 128 p.depth deep) in
     ap refusal (read-there p o x h true room s octets) ∙ rw test
 fault-refusal e x code t (overrun {p = p} {o = o} room h s octets k past) =
-    let test : (holds (moved (origin p) h) && leb 128 p.depth) ≡ false =
+    let test : (holds (moved_header (origin p) h) && leb 128 p.depth) ≡ false =
     not-deep _ p.depth (λ q. k (sym (holds-there p h (holds h) s) ∙ q)) in
     let none : fits p (length (octets_of h) + announced_length h.size) ≡ false = no-fit p _ past in
     ap refusal (read-there p o x h (holds h) room s octets) ∙ rw (test, none)

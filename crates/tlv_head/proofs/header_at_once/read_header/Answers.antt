@@ -35,7 +35,7 @@ returns-in-Finished c =
                 c.in-Finished.identifier.number;
             size =
                 c.in-Finished.size;
-            id_len = c.in-Finished.identifier.octets;
+            id_len = c.in-Finished.identifier.id_len;
           })
           octets))
           (take-append-drop (i + 1) xs)

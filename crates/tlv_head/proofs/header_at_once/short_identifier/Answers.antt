@@ -7,7 +7,7 @@ use Rattle.tlv_head.proofs.header_at_once.short_identifier.Goals as goal
 
 pub returns-in_default : goal.returns-in_default
 returns-in_default c =
-    absurd (leads-on c.first_identifier.result _ c.first_identifier.ensures c.in_default.not-Length
+    absurd (leads-on c.first_identifier.result _ c.first_identifier.ensures c.in_default.not-Identifier
     c.in_default.not-Number)
 
 pub returns-in_default-next_number : goal.returns-in_default-next_number

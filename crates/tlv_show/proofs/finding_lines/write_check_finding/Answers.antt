@@ -9,11 +9,11 @@ pub add_prefix-requires : goal.add_prefix-requires
 add_prefix-requires c =
     let first = number_short _ _ _ c.ranges.offset.fits c.number.ensures in
     let second = added _ _ (32 ∷ []) c.add.ensures in
-    (omega arith, (omega (arith, c.padded_wording-count.ensures.count), omega (arith, first, second, c.requires)))
+    (omega arith, (omega (arith, c.wording_block-count.ensures.count), omega (arith, first, second, c.requires)))
 
 pub add-requires-2 : goal.add-requires-2
 add-requires-2 c =
     let first = number_short _ _ _ c.ranges.offset.fits c.number.ensures in
     let second = added _ _ (32 ∷ []) c.add.ensures in
-    let third = prefix_short _ _ _ c.padded_wording-count.result.1 c.add_prefix.ensures in
-    omega (arith, first, second, third, c.padded_wording-count.ensures.count, c.requires)
+    let third = prefix_short _ _ _ c.wording_block-count.result.1 c.add_prefix.ensures in
+    omega (arith, first, second, third, c.wording_block-count.ensures.count, c.requires)

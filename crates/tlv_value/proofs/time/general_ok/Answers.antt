@@ -1,33 +1,30 @@
 use Rattle.std.proofs.Common.{◌≡◌, ◌∷◌, [], List, ℕ, sym, ◌∙◌}
 use Rattle.std.specs.Prelude.{Bool, Some}
-use Rattle.tlv_value.specs.Times.{Form, fraction, generalized_hour, generalized_zone, has_form, maybe, minute, second}
-use Rattle.tlv_value.specs.Times.{◌then◌}
+use Rattle.tlv_value.specs.Times.{generalized_hour, generalized_tail, has_form, maybe, minute, second, ◌then◌}
 use Rattle.tlv_value.proofs.CheckLemmas.Forms.{form-then, form-three, maybe-left, maybe-there}
 use Rattle.tlv_value.proofs.time.general_ok.Goals as goal
 
-abbrev tail : Form
-tail = maybe fraction then maybe generalized_zone
-
 -- the minute is there
 with_minute : (rest after : List ℕ) (r : Bool) → after ∷ [] ≡ minute rest
-    → r ≡ has_form (maybe second then tail) after → r ≡ has_form ((minute then maybe second) then tail) rest
+    → r ≡ has_form (maybe second then generalized_tail) after
+    → r ≡ has_form ((minute then maybe second) then generalized_tail) rest
 with_minute rest after r e h =
-    h ∙ sym (form-then minute (maybe second then tail) rest (Some after) e)
-    ∙ sym (form-three minute (maybe second) tail rest)
+    h ∙ sym (form-then minute (maybe second then generalized_tail) rest (Some after) e)
+    ∙ sym (form-three minute (maybe second) generalized_tail rest)
 
 -- the hour is there
 with_hour : (c rest : List ℕ) (r : Bool) → rest ∷ [] ≡ generalized_hour c
-    → r ≡ has_form (maybe (minute then maybe second) then tail) rest
-    → r ≡ has_form (generalized_hour then maybe (minute then maybe second) then tail) c
+    → r ≡ has_form (maybe (minute then maybe second) then generalized_tail) rest
+    → r ≡ has_form (generalized_hour then maybe (minute then maybe second) then generalized_tail) c
 with_hour c rest r e h =
-    h ∙ sym (form-then generalized_hour (maybe (minute then maybe second) then tail) c (Some rest) e)
+    h ∙ sym (form-then generalized_hour (maybe (minute then maybe second) then generalized_tail) c (Some rest) e)
 
 pub returns-then-is_second_and_tail : goal.returns-then-is_second_and_tail
 returns-then-is_second_and_tail c =
     let rest : List ℕ = c.in-Some.rest.now in
     let r : Bool = c.is_second_and_tail.result in
     with_hour c.args.contents.now rest r c.in-Some.ensures
-    (maybe-there (minute then maybe second) tail rest r
+    (maybe-there (minute then maybe second) generalized_tail rest r
     (with_minute rest c.in-Some-after_two_digits.after.now r c.in-Some-after_two_digits.ensures
     c.is_second_and_tail.ensures)
     c.if-is_second_and_tail.true)
@@ -36,8 +33,8 @@ pub returns-else-is_second_and_tail : goal.returns-else-is_second_and_tail
 returns-else-is_second_and_tail c =
     let rest : List ℕ = c.in-Some.rest.now in
     let r : Bool = c.is_second_and_tail.result in
-    with_hour c.args.contents.now rest c.is_tail.result c.in-Some.ensures
-    (maybe-left (minute then maybe second) tail rest r c.is_tail.result
+    with_hour c.args.contents.now rest c.is_generalized_tail.result c.in-Some.ensures
+    (maybe-left (minute then maybe second) generalized_tail rest r c.is_generalized_tail.result
     (with_minute rest c.in-Some-after_two_digits.after.now r c.in-Some-after_two_digits.ensures
     c.is_second_and_tail.ensures)
-    c.if-is_second_and_tail.false c.is_tail.ensures)
+    c.if-is_second_and_tail.false c.is_generalized_tail.ensures)

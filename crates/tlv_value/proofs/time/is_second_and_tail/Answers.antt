@@ -1,20 +1,20 @@
 use Rattle.std.proofs.Common.{sym, ◌∙◌}
 use Rattle.std.specs.Prelude.{Some}
-use Rattle.tlv_value.specs.Times.{Form, fraction, generalized_zone, maybe, second, ◌then◌}
+use Rattle.tlv_value.specs.Times.{generalized_tail, second, ◌then◌}
 use Rattle.tlv_value.proofs.CheckLemmas.Forms.{form-then, maybe-left, maybe-there}
 use Rattle.tlv_value.proofs.time.is_second_and_tail.Goals as goal
 
-abbrev tail : Form
-tail = maybe fraction then maybe generalized_zone
+pub returns-then-is_generalized_tail : goal.returns-then-is_generalized_tail
+returns-then-is_generalized_tail c =
+    maybe-there second generalized_tail c.args.octets.now c.is_generalized_tail.result
+    (c.is_generalized_tail.ensures
+    ∙ sym (form-then second generalized_tail c.args.octets.now (Some c.in-Some.after.now) c.in-Some.ensures))
+    c.if-is_generalized_tail.true
 
-pub returns-then-is_tail : goal.returns-then-is_tail
-returns-then-is_tail c =
-    maybe-there second tail c.args.octets.now c.is_tail.result
-    (c.is_tail.ensures ∙ sym (form-then second tail c.args.octets.now (Some c.in-Some.after.now) c.in-Some.ensures))
-    c.if-is_tail.true
-
-pub returns-else-is_tail : goal.returns-else-is_tail
-returns-else-is_tail c =
-    maybe-left second tail c.args.octets.now c.is_tail.result c.is_tail-else-is_tail.result
-    (c.is_tail.ensures ∙ sym (form-then second tail c.args.octets.now (Some c.in-Some.after.now) c.in-Some.ensures))
-    c.if-is_tail.false c.is_tail-else-is_tail.ensures
+pub returns-else-is_generalized_tail : goal.returns-else-is_generalized_tail
+returns-else-is_generalized_tail c =
+    maybe-left second generalized_tail c.args.octets.now c.is_generalized_tail.result
+    c.is_generalized_tail-else-is_generalized_tail.result
+    (c.is_generalized_tail.ensures
+    ∙ sym (form-then second generalized_tail c.args.octets.now (Some c.in-Some.after.now) c.in-Some.ensures))
+    c.if-is_generalized_tail.false c.is_generalized_tail-else-is_generalized_tail.ensures

@@ -6,7 +6,7 @@ use Rattle.tlv_value.proofs.value.write_bit_count.Goals as goal
 pub add-requires-2 : goal.add-requires-2
 add-requires-2 c =
     let n : ℕ = 8 * c.from.result - c.from-2.result in
-    let short : length (decimal n) ≤ 39 = digits-short n (omega (arith, c.from.ensures, c.ranges.octets.fits)) in
+    let short : length (decimal n) ≤ 39 = digits-short n (omega (arith, c.from.ensures, c.ranges.octet_count.fits)) in
     omega (
       arith,
       ap length c.wide_number.ensures,
@@ -20,7 +20,7 @@ add-requires-2 c =
 pub returns-clause-bound : goal.returns-clause-bound
 returns-clause-bound c =
     let n : ℕ = 8 * c.from.result - c.from-2.result in
-    let short : length (decimal n) ≤ 39 = digits-short n (omega (arith, c.from.ensures, c.ranges.octets.fits)) in
+    let short : length (decimal n) ≤ 39 = digits-short n (omega (arith, c.from.ensures, c.ranges.octet_count.fits)) in
     omega (
       arith,
       ap length c.add-2.ensures,

@@ -59,11 +59,11 @@ returns c =
     c.add-2.ensures ∙ ap₂ (λ (l d : List ℕ). l ++ d) looped c.digits_of_octet-2.ensures in
     let n : ℕ = c.len.result - c.from.result in
     let cut =
-    digits-cut c.args.held.now shown digits c.args.unused n c.requires.unused
+    digits-cut c.args.held.now shown digits c.args.unused_bits n c.requires.unused_bits
     (length-digits_of_octet c.in-Some.last.now)
     (omega (arith, c.len.ensures.count, ap length added, c.from.ensures)) in
-    let used : used_digits c.args.unused c.args.octets.now ≡ shown ++ take (8 - c.args.unused) digits =
-    ap (used_digits c.args.unused) c.in-Some.ensures.cases.0
-    ∙ used-last c.args.unused prefix c.in-Some.last.now c.requires.unused in
+    let used : used_digits c.args.unused_bits c.args.octets.now ≡ shown ++ take (8 - c.args.unused_bits) digits =
+    ap (used_digits c.args.unused_bits) c.in-Some.ensures.cases.0
+    ∙ used-last c.args.unused_bits prefix c.in-Some.last.now c.requires.unused_bits in
     c.truncate.ensures ∙ ap (λ (l : List ℕ). take n l) added ∙ cut
     ∙ ap (λ (l : List ℕ). c.args.held.now ++ l) (sym used)

@@ -7,8 +7,8 @@ use Rattle.tlv_value.specs.ValueLines.{row_lines}
 use Rattle.tlv_value.proofs.RowLemmas.FullRows.{pair_lines}
 use Rattle.tlv_value.proofs.whole.put_pairs.Goals as goal
 
-pub returns-in_err-put_long : goal.returns-in_err-put_long
-returns-in_err-put_long g c = puts_failed g.D.Drain.state _ _ _ _ _ _ c.in_err-put_long.ensures (search rules)
+pub returns-in_err-put_long_line : goal.returns-in_err-put_long_line
+returns-in_err-put_long_line g c = puts_failed g.D.Drain.state _ _ _ _ _ _ c.in_err-put_long_line.ensures (search rules)
 
 pub returns : goal.returns
 returns g c =
@@ -17,5 +17,5 @@ returns g c =
     let rows =
     pair_lines p.kind c.requires.pairs p.layout c.requires.endless c.row_octets.result.now
     ∙ ap (λ (octets : List ℕ). row_lines p.kind p.layout 0 (rows_of p.kind octets)) c.row_octets.ensures in
-    puts_then_as g.D.Drain.state _ _ _ _ _ _ _ _ c.in_ok-put_long.ensures c.put_pair_rows.ensures
+    puts_then_as g.D.Drain.state _ _ _ _ _ _ _ _ c.in_ok-put_long_line.ensures c.put_pair_rows.ensures
     (ap (λ (t : List ℕ). line ++ t) rows)

@@ -15,7 +15,7 @@ returns-then-is_long g c =
     c.new-primitive.ensures in
     puts_text g.D.Drain.state
     _ _ _ _ _ (steps ∙ whole-new name_of c.args.header.now c.args.layout c.args.contents.now (sym c.requires))
-    c.put_long.ensures
+    c.put_long_lines.ensures
 
 pub returns-else-is_long : goal.returns-else-is_long
 returns-else-is_long g c =

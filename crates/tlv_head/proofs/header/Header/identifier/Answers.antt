@@ -4,5 +4,5 @@ use Rattle.tlv_head.proofs.header.Header.identifier.Goals as goal
 pub returns-clause-value : goal.returns-clause-value
 returns-clause-value c = rw (← c.self.view_is, c.from.ensures, c.as_slice.ensures.value) refl
 
-pub returns-clause-within : goal.returns-clause-within
-returns-clause-within c = search rules
+pub returns-clause-short : goal.returns-clause-short
+returns-clause-short c = search rules

@@ -28,6 +28,6 @@ returns-in_err-send-clause-puts g c =
       prefix = search rules;
       took = s.took;
       held = tt;
-      lost = s.not_all;
+      lost = s.lost;
       failures = s.failures;
     }

@@ -20,9 +20,9 @@ pub loop-rest-preserved : goal.loop-rest-preserved
 loop-rest-preserved c = record {
   within =
       omega
-      (arith, ap length c.after_mark-rest.ensures, length-drop (c.end_before-end.result + 1) c.loop-rest.rest.now);
+      (arith, ap length c.rest_after-rest.ensures, length-drop (c.end_before-end.result + 1) c.loop-rest.rest.now);
   same = c.loop-rest.invariant.same
       ∙ rest_arcs c.loop-rest.rest.now c.end_before-end.result c.end_before-end.ensures.value (omega arith)
       (sym c.is_arc.ensures ∙ c.if-not-is_arc.false)
-      ∙ ap (λ (xs : List ℕ). list_all is_arc (dotted_parts xs)) (sym c.after_mark-rest.ensures);
+      ∙ ap (λ (xs : List ℕ). list_all is_arc (dotted_parts xs)) (sym c.rest_after-rest.ensures);
 }

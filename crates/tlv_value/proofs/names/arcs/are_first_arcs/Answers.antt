@@ -16,14 +16,14 @@ pub may_begin-requires-clause-second : goal.may_begin-requires-clause-second
 may_begin-requires-clause-second c =
     let first = first_arc c.args.text.now c.end_before-end.result c.end_before-end.ensures.value c.requires in
     let all = rest_arcs c.args.text.now c.end_before-end.result c.end_before-end.ensures.value (omega arith) first in
-    first_arc c.after_mark-rest.result.now c.end_before.result c.end_before.ensures.value
-    (ap (λ (xs : List ℕ). list_all is_arc (dotted_parts xs)) c.after_mark-rest.ensures ∙ sym all ∙ c.requires)
+    first_arc c.rest_after-rest.result.now c.end_before.result c.end_before.ensures.value
+    (ap (λ (xs : List ℕ). list_all is_arc (dotted_parts xs)) c.rest_after-rest.ensures ∙ sym all ∙ c.requires)
 
 pub returns : goal.returns
 returns c =
     c.may_begin.ensures
     ∙ ap (λ (xs : List ℕ). may_begin (take c.end_before-end.result c.args.text.now) (take c.end_before.result xs))
-    c.after_mark-rest.ensures
+    c.rest_after-rest.ensures
     ∙ two_parts c.args.text.now c.end_before-end.result c.end_before.result c.end_before-end.ensures.value
     (omega arith)
-    (c.end_before.ensures.value ∙ ap (λ (xs : List ℕ). position_or_len (λ x. x == 46) xs) c.after_mark-rest.ensures)
+    (c.end_before.ensures.value ∙ ap (λ (xs : List ℕ). position_or_len (λ x. x == 46) xs) c.rest_after-rest.ensures)

@@ -1,5 +1,5 @@
 use Rattle.std.proofs.lemmas.Result.{err_from_is_err_and}
-use Rattle.tlv_value.proofs.NamesLemmas.Reads.{judged, unread}
+use Rattle.tlv_value.proofs.NamesLemmas.Reads.{reads-from_table, unread}
 use Rattle.tlv_value.proofs.names.reading.read_in.Goals as goal
 
 pub returns-in_err-octets : goal.returns-in_err-octets
@@ -8,4 +8,4 @@ returns-in_err-octets g c =
     (unread _ _ _ c.in_err-octets.ensures)
 
 pub returns : goal.returns
-returns g c = judged _ _ _ _ c.in_ok-octets.ensures (rw c.as_slice.ensures.value at c.names_of.ensures)
+returns g c = reads-from_table _ _ _ _ c.in_ok-octets.ensures (rw c.as_slice.ensures.value at c.names_of.ensures)

@@ -1,11 +1,11 @@
 use Rattle.std.proofs.Common.{rules, arith, refl}
-use Rattle.tlv_io.proofs.Pieces.{gathered_none}
+use Rattle.tlv_io.proofs.Pieces.{no_pieces_so_far}
 use Rattle.tlv_value.proofs.NamesLemmas.Reads.{given_more, gives_end, gives_failed, gives_long, gives_memory}
 use Rattle.tlv_value.proofs.names.reading.read_octets.Goals as goal
 
 pub loop-count-init : goal.loop-count-init
 loop-count-init g c = record {
-  given = record { gathered = gathered_none (g.S.Source.state c.args.source.now); are = search rules };
+  given = record { gathered = no_pieces_so_far (g.S.Source.state c.args.source.now); are = search rules };
   most = search rules;
   piece = search rules;
   failures = refl;

@@ -1,15 +1,15 @@
 use Rattle.std.proofs.Common.{◌≡◌, ◌-◌, ◌≤◌, length}
-use Rattle.tlv_value.specs.NamesReading.{names_limit}
-use Rattle.tlv_value.proofs.NamesLemmas.Reads.{Given}
+use Rattle.tlv_value.specs.NamesReading.{file_limit}
+use Rattle.tlv_value.proofs.NamesLemmas.Reads.{OctetsSoFar}
 use Rattle.tlv_value.proofs.names.reading.read_octets.Given as goal
 
 abbrev pub invariant-loop-count : goal.invariant-loop-count
 invariant-loop-count g l = record {
-  given : Given (g.S.Source.state l.initial.source) (g.S.Source.state l.source) l.octets.items;
-  most : length l.octets.items ≤ names_limit;
+  given : OctetsSoFar (g.S.Source.state l.initial.source) (g.S.Source.state l.source) l.octets.items;
+  most : length l.octets.items ≤ file_limit;
   piece : length l.piece ≡ 4096;
   failures : (g.S.Source.state l.source).failures ≡ (g.S.Source.state l.initial.source).failures;
 }
 
 abbrev pub decreases-loop-count : goal.decreases-loop-count
-decreases-loop-count g l = names_limit - length l.octets.items
+decreases-loop-count g l = file_limit - length l.octets.items

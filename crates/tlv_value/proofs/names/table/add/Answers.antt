@@ -9,8 +9,8 @@ returns-then-contains_key g c = (
   refl,
 )
 
-pub returns-then-len-ge-MOST_ENTRIES : goal.returns-then-len-ge-MOST_ENTRIES
-returns-then-len-ge-MOST_ENTRIES g c = (
+pub returns-then-len-ge-ENTRY_LIMIT : goal.returns-then-len-ge-ENTRY_LIMIT
+returns-then-len-ge-ENTRY_LIMIT g c = (
   among-texts c.args.dotted.now c.args.table.now c.contains_key.result c.contains_key.ensures ∙ c.if-contains_key.false,
   omega (arith, length-texts c.args.table.now, c.len.ensures.len),
 )

@@ -4,7 +4,7 @@ use Rattle.std.proofs.lemmas.Grind.{common_steps}
 use Rattle.std.proofs.lemmas.Result.{err_from_is_err_and}
 use Rattle.tlv_value.specs.Names.{names_line}
 use Rattle.tlv_value.specs.NamesFields.{texts_in}
-use Rattle.tlv_value.proofs.NamesLemmas.Standing.{Standing, start, step, stop, done, next_line}
+use Rattle.tlv_value.proofs.NamesLemmas.LinesSoFar.{LinesSoFar, start, step, stop, done, next_line}
 use Rattle.tlv_value.proofs.names.table.names_of.Goals as goal
 
 pub loop-rest-init : goal.loop-rest-init
@@ -22,13 +22,13 @@ loop-rest-preserved g c =
       within =
           omega (
             arith,
-            ap length c.after_mark-rest.ensures,
+            ap length c.rest_after-rest.ensures,
             length-drop (c.end_before-end.result + 1) c.loop-rest.rest.now,
           );
       standing =
           subst
-          (λ (xs : List ℕ). Standing c.args.octets.now xs (c.loop-rest.number + 1) (texts_in c.add_line.new.table))
-          (sym c.after_mark-rest.ensures)
+          (λ (xs : List ℕ). LinesSoFar c.args.octets.now xs (c.loop-rest.number + 1) (texts_in c.add_line.new.table))
+          (sym c.rest_after-rest.ensures)
           (step c.args.octets.now c.loop-rest.rest.now (drop (c.end_before-end.result + 1) c.loop-rest.rest.now)
           c.loop-rest.number (texts_in c.loop-rest.table)
           (texts_in c.add_line.new.table) c.in_ok-add_line.field-0

@@ -1,12 +1,12 @@
 use Rattle.std.proofs.Common.{◌≤◌, ◌+◌, length}
 use Rattle.tlv_value.specs.NamesFields.{texts_in}
-use Rattle.tlv_value.proofs.NamesLemmas.Standing.{Standing}
+use Rattle.tlv_value.proofs.NamesLemmas.LinesSoFar.{LinesSoFar}
 use Rattle.tlv_value.proofs.names.table.names_of.Given as goal
 
 abbrev pub invariant-loop-rest : goal.invariant-loop-rest
 invariant-loop-rest g l = record {
   within : l.number + length l.rest ≤ length l.octets;
-  standing : Standing l.octets l.rest l.number (texts_in l.table);
+  standing : LinesSoFar l.octets l.rest l.number (texts_in l.table);
 }
 
 abbrev pub decreases-loop-rest : goal.decreases-loop-rest

@@ -1,0 +1,5 @@
+use Rattle.tlv_head.proofs.ShortestLemmas.Shortest.{shortest_are_shortest}
+use Rattle.tlv_head.proofs.laws.no_header_is_shorter.Goals as goal
+
+pub returns : goal.returns
+returns c = shortest_are_shortest

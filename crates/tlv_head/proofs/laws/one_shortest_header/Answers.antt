@@ -1,5 +1,0 @@
-use Rattle.tlv_head.proofs.ShortestLemmas.Shortest.{shortest_are_one}
-use Rattle.tlv_head.proofs.laws.one_shortest_header.Goals as goal
-
-pub returns : goal.returns
-returns c = shortest_are_one

@@ -1,0 +1,5 @@
+use Rattle.tlv_head.proofs.ReaderLemmas.Exact.{one-result}
+use Rattle.tlv_head.proofs.laws.pushes_return_one_head.Goals as goal
+
+pub returns : goal.returns
+returns c = one-result

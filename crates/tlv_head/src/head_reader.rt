@@ -1,0 +1,140 @@
+//! Reads a header, one octet at a time.
+ghost use Rattle.std.specs.Prelude.{◌≡◌, ◌≢◌, ◌↔◌, [], ◌∷◌, false, IsTrue, Some};
+ghost use Rattle.tlv_head.specs.Header.{fields_hold};
+ghost use Rattle.tlv_head.specs.HeadReaderState.{ContentsFit};
+
+use crate::next_octet::{Next, Part, header_fields, read_octet};
+use crate::{Fault, FaultCode, Header, HeaderFields, Size};
+use arrayvec::ArrayVec;
+use std::marker::Model;
+
+/// What an octet makes of a header that is being read.
+#[derive(Clone, PartialEq, Eq, Debug, Drop)]
+pub enum Head {
+    /// The octet was taken, and others are to follow.
+    More,
+    /// The octet was taken, and completes this header.
+    Whole(Header),
+    /// The octet was not taken. The fault has its offset.
+    Refused(Fault),
+}
+
+/// Reads a header, one octet at a time.
+#[derive(Drop)]
+pub struct HeadReader {
+    offset: u64,
+    named: bool,
+    part: Part,
+    raw: ArrayVec<u8, 137>,
+}
+
+impl Model for HeadReader {
+    ghost use Rattle.tlv_head.specs.HeadReaderState.{HeadReaderState};
+
+    ghost Value = { HeadReaderState };
+
+    ghost use Rattle.tlv_head.specs.HeaderSoFar.{Carries, head_reader_state_of};
+
+    ghost view = { head_reader_state_of };
+
+    ghost invariant = { λ r. Carries r.part r.raw.items };
+}
+
+impl HeadReader {
+    ghost use Rattle.std.specs.Prelude.{true};
+    ghost use Rattle.tlv_head.specs.Header.{HeaderValue};
+    ghost use Rattle.tlv_head.specs.Push.{Completes, FitsThere, Pushes};
+    ghost use Rattle.tlv_head.specs.HeadReaderState.{CanPush};
+
+    /// A reader of the header whose first octet is at `offset`. `named` says that the user named
+    /// this offset as that of a string which holds encodings ([`Header::wraps`]).
+    pub fn new(offset: u64, named: bool) -> HeadReader
+        ensures { result ≡ record { offset = offset; named = named; octets = []; done = false } }
+    {
+        HeadReader {
+            offset,
+            named,
+            part: Part::Start,
+            raw: ArrayVec::new(),
+        }
+    }
+
+    /// Whether the header is whole. Then no octet may be pushed.
+    pub fn done(&self) -> bool
+        ensures { result ≡ self.now.done }
+    {
+        matches!(self.part, Part::Done)
+    }
+
+    /// Takes the next octet. `room` is the number of octets up to the end of the innermost definite
+    /// element, this octet included (`None`: there is no such element), and `depth` the number of
+    /// open elements.
+    ///
+    /// The header is not whole yet ([`HeadReader::done`]), its offset at most 2^40, and `depth` at most 128. A first
+    /// octet is not `00`, and its room not 0.
+    ///
+    /// [`Head::Whole`] comes exactly with the octet that completes a header whose element may be
+    /// there. [`Head::Refused`] leaves the reader as it was; the refusals are decided in this order:
+    /// Overrun if the bound is reached; TagTooLong, ReservedLength, IndefinitePrimitive and
+    /// LengthTooLarge by what the octets say; TooDeep if it completes the header of an element that
+    /// holds others, and 128 such are open; Overrun if it completes the header of contents that end
+    /// beyond the bound.
+    pub fn push(&mut self, octet: u8, room: Option<u64>, depth: u8) -> Head
+        requires { CanPush self.old octet room depth }
+        ensures pushes { Pushes self.old octet room depth self.new result }
+
+        // Nothing else is returned for the octet that completes a header that may be there.
+        ensures whole { (h : HeaderValue) → Completes self.old (octet ∷ []) h → room ≢ Some 0
+            → FitsThere h room depth
+            → result ≡ Head.Whole h }
+    {
+        let offset = self.offset + self.raw.len() as u64;
+        if room == Some(0) {
+            return refusal(FaultCode::Overrun, offset);
+        }
+        match read_octet(self.part, octet) {
+            Next::Refused(code) => refusal(code, offset),
+            Next::Unfinished(part) => {
+                self.raw.push(octet);
+                self.part = part;
+                Head::More
+            }
+            Next::Finished(identifier, size) => {
+                let fields = header_fields(self.offset, self.named, identifier, size);
+                if depth >= 128 && fields_hold(&fields) {
+                    return refusal(FaultCode::TooDeep, offset);
+                }
+                if !contents_fit(size, room) {
+                    return refusal(FaultCode::Overrun, offset);
+                }
+                self.raw.push(octet);
+                self.part = Part::Done;
+                Head::Whole(Header::with_raw(&fields, self.raw.take()))
+            }
+        }
+    }
+}
+
+fn refusal(code: FaultCode, offset: u64) -> Head
+    ensures { result ≡ Head.Refused (record { code = code; offset = offset }) }
+{
+    Head::Refused(Fault { code, offset })
+}
+
+/// Whether an element with these fields holds others: it is constructed, or a string that wraps encodings.
+fn fields_hold(fields: &HeaderFields) -> bool
+    ensures { result ≡ fields_hold fields.now }
+{
+    fields.constructed || fields.wraps()
+}
+
+/// Whether contents of this size end within the room that the header's last octet has.
+fn contents_fit(size: Size, room: Option<u64>) -> bool
+    requires { room ≢ Some 0 }
+    ensures { IsTrue result ↔ ContentsFit size room }
+{
+    match (size, room) {
+        (Size::Definite(length), Some(room)) => length < room,
+        _ => true,
+    }
+}

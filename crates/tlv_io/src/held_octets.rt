@@ -1,0 +1,160 @@
+//! Octets that are on their way to a drain.
+ghost use Rattle.std.specs.Prelude.{◌≡◌, ◌+◌, ◌*◌, ◌≤◌, ◌++◌, [], length, take};
+ghost use Rattle.tlv_io.specs.LineTexts.{AddsIfRoom, HasRoomFor, spaced_pairs, spaces};
+
+mod numbers;
+mod texts;
+
+use std::marker::Model;
+use texts::{fill_spaces, write_spaced_pairs, write_spaced_row};
+
+/// As many octets as are held at most.
+pub(crate) const CAPACITY: usize = 4096;
+
+/// At most 4096 octets, to which texts are added in place.
+///
+/// An `ArrayVec` is filled with blanks when it is cleared, which an [`Out`](crate::Out) would pay for at each flush.
+#[derive(Drop)]
+pub struct HeldOctets {
+    len: usize,
+    octets: [u8; CAPACITY],
+}
+
+impl Model for HeldOctets {
+    ghost use Rattle.std.specs.Prelude.{◌≤◌, ℕ, List, take};
+
+    ghost Value = { List ℕ };
+
+    ghost view = { λ held. take held.len held.octets };
+
+    ghost invariant = { λ held. held.len ≤ 4096 };
+}
+
+impl HeldOctets {
+    /// No octets.
+    pub fn new() -> HeldOctets
+        ensures { result ≡ [] }
+    {
+        HeldOctets {
+            len: 0,
+            octets: [0; CAPACITY],
+        }
+    }
+
+    /// The octets.
+    #[inline]
+    pub fn as_slice(&self) -> &[u8]
+        ensures octets { result.now ≡ self.now }
+        ensures short { length self.now ≤ 4096 }
+    {
+        &self.octets[..self.len()]
+    }
+
+    /// How many octets there are.
+    ///
+    /// The compiler does not read the invariant. The test shows it that the count is small, so that octets which are
+    /// written after the first `len` are not written over the count, and it need not be read again after each text.
+    #[inline(always)]
+    pub fn len(&self) -> usize
+        ensures count { result ≡ length self.now }
+        ensures short { result ≤ 4096 }
+    {
+        if self.len > CAPACITY {
+            unreachable!();
+        }
+        self.len
+    }
+
+    /// Drops all octets but the first `len`.
+    #[inline]
+    pub fn truncate(&mut self, len: usize)
+        requires { len ≤ length self.old }
+        ensures { self.new ≡ take len self.old }
+    {
+        self.len = len;
+    }
+
+    /// Adds octets, for which there is room.
+    #[inline(always)]
+    pub fn add(&mut self, octets: &[u8])
+        requires { HasRoomFor self.old (length octets.now) }
+        ensures { self.new ≡ self.old ++ octets.now }
+    {
+        let len = self.len();
+        let end = len + octets.len();
+        self.octets[len..end].copy_from_slice(octets);
+        self.len = end;
+    }
+
+    /// Adds the first of these octets. There is room for all, so that they can be copied at once.
+    #[inline(always)]
+    pub fn add_prefix<const N: usize>(&mut self, octets: &[u8; N], count: usize)
+        requires few { count ≤ N }
+        requires room { HasRoomFor self.old N }
+        ensures { self.new ≡ self.old ++ take count octets.now }
+    {
+        let len = self.len();
+        self.octets[len..len + N].copy_from_slice(octets);
+        self.len = len + count;
+    }
+
+    /// Adds octets, if there is room for them, and else nothing.
+    #[inline]
+    pub fn add_if_room(&mut self, octets: &[u8])
+        ensures added { AddsIfRoom self.old self.new octets.now }
+        ensures unchanged { (HasRoomFor self.old (length octets.now) → ⊥) → self.new ≡ self.old }
+    {
+        if octets.len() <= self.room() {
+            self.add(octets);
+        }
+    }
+
+    /// Adds spaces. There is room for 32 more, so that they can be copied many at a time.
+    #[inline(always)]
+    pub fn spaces(&mut self, count: usize)
+        requires { HasRoomFor self.old (count + 32) }
+        ensures { self.new ≡ self.old ++ spaces count }
+    {
+        let len = self.len();
+        fill_spaces(&mut self.octets[len..], count);
+        self.len = len + count;
+    }
+
+    /// Adds octets as pairs of digits, each after a space.
+    #[inline(always)]
+    pub fn spaced_pairs(&mut self, octets: &[u8])
+        requires { HasRoomFor self.old (3 * length octets.now) }
+        ensures { self.new ≡ self.old ++ spaced_pairs octets.now }
+    {
+        let len = self.len();
+        write_spaced_pairs(octets, &mut self.octets[len..]);
+        self.len = len + 3 * octets.len();
+    }
+
+    /// Adds 16 octets as pairs of digits, each after a space.
+    #[inline(always)]
+    pub fn spaced_row(&mut self, octets: &[u8; 16])
+        requires { HasRoomFor self.old 48 }
+        ensures { self.new ≡ self.old ++ spaced_pairs octets.now }
+    {
+        let len = self.len();
+        write_spaced_row(octets, &mut self.octets[len..]);
+        self.len = len + 48;
+    }
+
+    /// How many octets more can be held.
+    #[inline(always)]
+    pub(crate) fn room(&self) -> usize
+        ensures { result + length self.now ≡ 4096 }
+    {
+        CAPACITY - self.len()
+    }
+
+    /// Drops all octets.
+    #[inline]
+    pub(crate) fn clear(&mut self)
+        ensures { self.new ≡ [] }
+    {
+        self.len = 0;
+    }
+}

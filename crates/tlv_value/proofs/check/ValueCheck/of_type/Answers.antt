@@ -1,5 +1,0 @@
-use Rattle.std.proofs.Common.{rules}
-use Rattle.tlv_value.proofs.check.ValueCheck.of_type.Goals as goal
-
-pub returns : goal.returns
-returns c = search rules

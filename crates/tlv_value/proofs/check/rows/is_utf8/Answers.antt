@@ -1,5 +1,0 @@
-use Rattle.tlv_value.proofs.TextLemmas.UnitSteps.{is_utf8-same}
-use Rattle.tlv_value.proofs.check.rows.is_utf8.Goals as goal
-
-pub returns : goal.returns
-returns c = is_utf8-same c.args.octets.now c.is_utf8.result c.is_utf8.ensures

@@ -1,5 +1,0 @@
-use Rattle.tlv_value.proofs.CheckLemmas.Formed.{rows-formed}
-use Rattle.tlv_value.proofs.laws.rows_are_formed.Goals as goal
-
-pub returns : goal.returns
-returns c = rows-formed

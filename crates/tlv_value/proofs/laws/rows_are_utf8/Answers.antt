@@ -1,0 +1,5 @@
+use Rattle.tlv_value.proofs.CheckLemmas.Formed.{rows-formed}
+use Rattle.tlv_value.proofs.laws.rows_are_utf8.Goals as goal
+
+pub returns : goal.returns
+returns c = rows-formed

@@ -1,0 +1,23 @@
+use Rattle.std.proofs.Common.{◌∷◌, [], arith}
+use Rattle.tlv_value.proofs.TextLemmas.LineLengths.{added, prefix_short, number_short}
+use Rattle.tlv_value.proofs.line_starts.write_bracketed.Goals as goal
+
+pub add-requires : goal.add-requires
+add-requires c =
+    omega (
+      arith,
+      prefix_short _ _ c.args.prefix.now c.args.count c.add_prefix.ensures,
+      number_short _ _ _ c.ranges.number.fits c.number.ensures,
+      c.requires.room,
+      c.requires.short,
+    )
+
+pub returns-clause-bound : goal.returns-clause-bound
+returns-clause-bound c =
+    omega (
+      arith,
+      prefix_short _ _ c.args.prefix.now c.args.count c.add_prefix.ensures,
+      number_short _ _ _ c.ranges.number.fits c.number.ensures,
+      added _ _ (93 ∷ []) c.add.ensures,
+      c.requires.short,
+    )

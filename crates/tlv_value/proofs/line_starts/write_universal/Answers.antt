@@ -1,0 +1,14 @@
+use Rattle.std.proofs.Common.{◌≡◌, ◌++◌, ◌∙◌, ℕ, List, ap, sym}
+use Rattle.std.specs.Prelude.{codes, eqb, Option, None}
+use Rattle.std.specs.Map.{lookup}
+use Rattle.std.specs.Option.{unwrap_or}
+use Rattle.tlv_head.specs.Tag.{bracketed_tag, universal_names}
+use Rattle.tlv_value.proofs.line_starts.write_universal.Goals as goal
+
+pub returns-in-None-clause-text : goal.returns-in-None-clause-text
+returns-in-None-clause-text c =
+    let none : lookup (eqb c.args.number) universal_names ≡ None = sym c.in-None.ensures.name in
+    c.write_bracketed.ensures.text
+    ∙ ap (λ (name : Option (List ℕ)). c.args.held.now
+    ++ unwrap_or name (bracketed_tag (codes "UNIVERSAL ") c.args.number))
+    (sym none)

@@ -1,7 +1,0 @@
-use Rattle.std.proofs.Common.{◌≡◌, drop}
-use Rattle.std.specs.List.{list_all}
-use Rattle.tlv_value.specs.Units.{is_printable}
-use Rattle.tlv_value.proofs.names.line.are_printable.Given as goal
-
-abbrev pub invariant-loop-octet : goal.invariant-loop-octet
-invariant-loop-octet l = list_all is_printable l.text ≡ list_all is_printable (drop l.octet-index l.text)

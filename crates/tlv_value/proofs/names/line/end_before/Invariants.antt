@@ -1,7 +1,0 @@
-use Rattle.std.proofs.Common.{◌≡◌, ◌+◌, ◌==◌, drop}
-use Rattle.std.specs.List.{position_or_len}
-use Rattle.tlv_value.proofs.names.line.end_before.Given as goal
-
-abbrev pub invariant-loop-i : goal.invariant-loop-i
-invariant-loop-i l =
-    position_or_len (λ x. x == l.mark) l.text ≡ l.i + position_or_len (λ x. x == l.mark) (drop l.i l.text)

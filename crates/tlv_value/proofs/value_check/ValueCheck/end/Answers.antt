@@ -1,0 +1,8 @@
+use Rattle.std.proofs.Common.{ap, ◌∙◌}
+use Rattle.tlv_value.specs.ValueCheckState.{ValueCheckState, findings_in}
+use Rattle.tlv_value.proofs.CheckLemmas.CheckPieces.{findings-end}
+use Rattle.tlv_value.proofs.value_check.ValueCheck.end.Goals as goal
+
+pub returns-clause-whole : goal.returns-clause-whole
+returns-clause-whole c h octets e size =
+    c.findings.ensures ∙ ap (λ (s : ValueCheckState). findings_in s) e ∙ findings-end h octets size

@@ -1,0 +1,23 @@
+use Rattle.std.proofs.Common.{◌≡◌, ℕ, ◌+◌, ◌≤◌, ◌++◌, List, length}
+use Rattle.tlv_io.proofs.Puts.{HasPut}
+use Rattle.tlv_value.specs.OpenRow.{IsOpenRow}
+use Rattle.tlv_value.proofs.RowLemmas.FilledRows.{row_begun, rows_filled}
+use Rattle.tlv_value.specs.Rows.{full_rows, open_row}
+use Rattle.tlv_value.specs.ValueLines.{row_lines}
+use Rattle.tlv_value.proofs.value_lines.row_lines.put_rows.Given as goal
+
+abbrev pub invariant-loop-rest : goal.invariant-loop-rest
+invariant-loop-rest g l = record {
+  begun : IsOpenRow l.kind l.row.items;
+  counted : l.row_count + length l.row.items + length l.rest
+      ≤ l.initial.row_count + length l.initial.row.items + length l.octets;
+  row : row_begun l.kind l.row.items l.rest ≡ open_row l.kind l.initial.row.items l.octets;
+  rows : l.row_count + length (rows_filled l.kind l.row.items l.rest)
+      ≡ l.initial.row_count + length (full_rows l.kind l.initial.row.items l.octets);
+  put : (text : List ℕ) × HasPut g.D.Drain.state l.initial.out l.out text
+      × (text ++ row_lines l.kind l.layout l.row_count (rows_filled l.kind l.row.items l.rest)
+      ≡ row_lines l.kind l.layout l.initial.row_count (full_rows l.kind l.initial.row.items l.octets));
+}
+
+abbrev pub decreases-loop-rest : goal.decreases-loop-rest
+decreases-loop-rest g l = length l.rest + length l.rest + length l.row.items

@@ -1,0 +1,154 @@
+//! How lines begin.
+ghost use Rattle.std.specs.Prelude.{◌≡◌, ◌+◌, ◌≤◌, ◌++◌, ◌∷◌, [], decimal, if◌then◌else◌, take};
+ghost use Rattle.tlv_io.specs.LineTexts.{GrowsBy, HasRoomFor};
+ghost use Rattle.tlv_head.specs.Tag.{tag_text};
+ghost use Rattle.tlv_value.specs.Layout.{columns, line_margin, margin, no_columns, spaces};
+ghost use Rattle.tlv_value.specs.Private.Rows.{row_indent};
+ghost use Rattle.tlv_value.specs.ValueLines.{element_prefix};
+
+use crate::Layout;
+use tlv_head::{Class, type_name_block};
+use tlv_io::HeldOctets;
+
+/// Begins a line with its first columns, an offset and a size, and its indentation.
+#[inline(always)]
+pub fn begin_sized(held: &mut HeldOctets, layout: Layout, offset: u64, size: u64)
+    requires { HasRoomFor held.old 592 }
+    ensures text { held.new
+        ≡ held.old ++ line_margin layout (columns offset (decimal size)) }
+    ensures bound { GrowsBy 553 held.old held.new }
+{
+    write_sized(held, layout.pure, offset, size);
+    held.spaces(2 * usize::from(layout.level));
+}
+
+/// Adds first columns with an offset and a size, unless they are left out.
+#[inline(always)]
+fn write_sized(held: &mut HeldOctets, pure: bool, offset: u64, size: u64)
+    requires { HasRoomFor held.old 50 }
+    ensures text { held.new ≡ held.old ++ (if pure then [] else columns offset (decimal size)) }
+    ensures bound { GrowsBy 43 held.old held.new }
+{
+    if !pure {
+        held.columns(offset, size);
+    }
+}
+
+/// Begins a line with an offset and a word, which takes six places, and its indentation.
+#[inline(always)]
+pub fn begin_word(held: &mut HeldOctets, layout: Layout, offset: u64, word: &[u8; 6])
+    requires { HasRoomFor held.old 592 }
+    ensures text { held.new
+        ≡ held.old ++ line_margin layout (columns offset word.now) }
+    ensures bound { GrowsBy 553 held.old held.new }
+{
+    write_worded(held, layout.pure, offset, word);
+    held.spaces(2 * usize::from(layout.level));
+}
+
+/// Adds first columns with an offset and a word, unless they are left out.
+#[inline(always)]
+fn write_worded(held: &mut HeldOctets, pure: bool, offset: u64, word: &[u8; 6])
+    requires { HasRoomFor held.old 50 }
+    ensures text { held.new ≡ held.old ++ (if pure then [] else columns offset word.now) }
+    ensures bound { GrowsBy 43 held.old held.new }
+{
+    if !pure {
+        held.word_columns(offset, word);
+    }
+}
+
+/// Begins a line that has no offset, with its indentation.
+#[inline(always)]
+pub fn begin_blank(held: &mut HeldOctets, layout: Layout)
+    requires { HasRoomFor held.old 592 }
+    ensures text { held.new ≡ held.old ++ line_margin layout no_columns }
+    ensures bound { GrowsBy 553 held.old held.new }
+{
+    held.spaces(blank_columns(layout.pure) + 2 * usize::from(layout.level));
+}
+
+/// How many spaces are before a row.
+#[inline(always)]
+pub(crate) fn row_indent(layout: Layout) -> usize
+    ensures value { result ≡ row_indent layout }
+    ensures text { spaces result ≡ margin layout.pure no_columns (layout.level + 1) }
+    ensures some { 2 ≤ result }
+    ensures bound { result ≤ 529 }
+{
+    blank_columns(layout.pure) + 2 * (usize::from(layout.level) + 1)
+}
+
+/// How many spaces are in place of the first columns.
+#[inline(always)]
+fn blank_columns(pure: bool) -> usize
+    ensures { result ≡ (if pure then 0 else 17) }
+{
+    if pure { 0 } else { 17 }
+}
+
+/// Adds the text of a tag: at most 40 octets.
+#[inline(always)]
+pub fn write_tag(held: &mut HeldOctets, class: Class, number: u64)
+    requires { HasRoomFor held.old 40 }
+    ensures text { held.new ≡ held.old ++ tag_text class number }
+    ensures bound { GrowsBy 40 held.old held.new }
+{
+    match class {
+        Class::Universal => write_universal(held, number),
+        Class::Application => write_bracketed(
+            held,
+            b"[APPLICATION                    ",
+            13,
+            number,
+        ),
+        Class::Context => write_bracketed(held, b"[                               ", 1, number),
+        Class::Private => write_bracketed(held, b"[PRIVATE                        ", 9, number),
+    }
+}
+
+/// Adds the text of a universal tag: the name of its type, if it has one.
+#[inline(always)]
+fn write_universal(held: &mut HeldOctets, number: u64)
+    requires { HasRoomFor held.old 40 }
+    ensures text { held.new ≡ held.old ++ tag_text Class.Universal number }
+    ensures bound { GrowsBy 40 held.old held.new }
+{
+    match type_name_block(number) {
+        Some((name, size)) => held.add_prefix(name, size),
+        None => write_bracketed(held, b"[UNIVERSAL                      ", 11, number),
+    }
+}
+
+/// Adds the text of a tag that has no name: what begins it, the number and a bracket. What begins it
+/// is the first of 32 octets, so that no copy depends on how many they are.
+#[inline]
+fn write_bracketed(held: &mut HeldOctets, prefix: &[u8; 32], count: usize, number: u64)
+    requires short { count ≤ 16 }
+    requires room { HasRoomFor held.old 40 }
+    ensures text { held.new ≡ held.old ++ (take count prefix.now ++ decimal number ++ 93 ∷ []) }
+    ensures bound { GrowsBy 40 held.old held.new }
+{
+    held.add_prefix(prefix, count);
+    held.number(number);
+    held.add(b"]");
+}
+
+/// Begins the line of an element with its first columns, its indentation and its tag text.
+#[inline(always)]
+pub fn write_element(
+    held: &mut HeldOctets,
+    layout: Layout,
+    offset: u64,
+    class: Class,
+    number: u64,
+    size: u64,
+)
+    requires { HasRoomFor held.old 640 }
+    ensures text { held.new
+        ≡ held.old ++ element_prefix layout offset class number size }
+    ensures bound { GrowsBy 593 held.old held.new }
+{
+    begin_sized(held, layout, offset, size);
+    write_tag(held, class, number);
+}

@@ -1,0 +1,138 @@
+//! What a line of a names file says.
+ghost use Rattle.std.specs.Prelude.{◌≡◌, ◌==◌, ◌+◌, ◌≤◌, drop, length};
+ghost use Rattle.std.specs.List.{list_all, position_or_len};
+ghost use Rattle.tlv_value.specs.Names.{is_blank, is_name, names_line, without_first_blanks};
+ghost use Rattle.tlv_value.specs.Names.{without_last_blanks, without_outer_blanks, without_return};
+ghost use Rattle.tlv_value.specs.Units.{is_printable};
+ghost use Rattle.tlv_value.specs.Private.NamesSteps.{entry_or_refusal, texts_of};
+
+use super::NamesFault;
+use super::arcs::is_dotted;
+
+/// The most octets of a line.
+const LINE_LIMIT: usize = 400;
+
+/// The dotted text and the name on a line, or none if it is blank or a comment. `number` is the line's.
+pub(super) fn entry_or_refusal<'a>(
+    line: &'a [u8],
+    number: u32,
+) -> Result<Option<(&'a [u8], &'a [u8])>, NamesFault>
+    ensures { texts_of result ≡ entry_or_refusal number (names_line line.now) }
+{
+    if line.len() > LINE_LIMIT {
+        return Err(NamesFault::TooLarge);
+    }
+    let text = without_outer_blanks(without_return(line));
+    if text.is_empty() || text[0] == b'#' {
+        return Ok(None);
+    }
+    let end = end_before_blank(text);
+    let dotted = &text[..end];
+    if !is_dotted(dotted) {
+        return Err(NamesFault::BadOid(number));
+    }
+    let name = without_first_blanks(&text[end..]);
+    if !is_name(name) {
+        return Err(NamesFault::BadName(number));
+    }
+    Ok(Some((dotted, name)))
+}
+
+/// Where the octet first is, or the end.
+pub(super) fn end_before(text: &[u8], mark: u8) -> usize
+    ensures value { result ≡ position_or_len (λ x. x == mark) text.now }
+    ensures within { result ≤ length text.now }
+{
+    for (i, octet) in text.iter().enumerate() {
+        if *octet == mark {
+            return i;
+        }
+    }
+    text.len()
+}
+
+/// What is after the octet at `end`; nothing if the text ends there.
+pub(super) fn rest_after(text: &[u8], end: usize) -> &[u8]
+    ensures { result.now ≡ drop (end + 1) text.now }
+{
+    if end < text.len() {
+        &text[end + 1..]
+    } else {
+        &[]
+    }
+}
+
+/// Where the first space or tab is, or the end.
+fn end_before_blank(text: &[u8]) -> usize
+    ensures value { result ≡ position_or_len is_blank text.now }
+    ensures within { result ≤ length text.now }
+{
+    for (i, octet) in text.iter().enumerate() {
+        if is_blank(*octet) {
+            return i;
+        }
+    }
+    text.len()
+}
+
+fn is_blank(octet: u8) -> bool
+    ensures { result ≡ is_blank octet }
+{
+    octet == b' ' || octet == b'\t'
+}
+
+/// Without the one CR at the end, if there is one.
+fn without_return(line: &[u8]) -> &[u8]
+    ensures { result.now ≡ without_return line.now }
+{
+    match line.split_last() {
+        Some((b'\r', prefix)) => prefix,
+        _ => line,
+    }
+}
+
+/// Without the spaces and tabs at both ends.
+fn without_outer_blanks(text: &[u8]) -> &[u8]
+    ensures { result.now ≡ without_outer_blanks text.now }
+{
+    without_last_blanks(without_first_blanks(text))
+}
+
+fn without_first_blanks(text: &[u8]) -> &[u8]
+    ensures { result.now ≡ without_first_blanks text.now }
+{
+    for (i, octet) in text.iter().enumerate() {
+        if !is_blank(*octet) {
+            return &text[i..];
+        }
+    }
+    &[]
+}
+
+fn without_last_blanks(text: &[u8]) -> &[u8]
+    ensures { result.now ≡ without_last_blanks text.now }
+{
+    let mut end = text.len();
+    while end > 0 && is_blank(text[end - 1]) {
+        end -= 1;
+    }
+    &text[..end]
+}
+
+/// Whether the text is one or more printable octets.
+fn is_name(text: &[u8]) -> bool
+    ensures { result ≡ is_name text.now }
+{
+    !text.is_empty() && are_printable(text)
+}
+
+fn are_printable(text: &[u8]) -> bool
+    ensures { result ≡ list_all is_printable text.now }
+{
+    for octet in text {
+        if *octet < b' ' || *octet > b'~' {
+            return false;
+        }
+    }
+    true
+}

@@ -1,0 +1,263 @@
+//! What is found on the contents of a primitive.
+ghost use Rattle.std.specs.Prelude.{◌≡◌, ◌+◌, ◌≤◌, ◌&&◌, ℕ, List, length, slice_index};
+ghost use Rattle.tlv_head.specs.Header.{HeaderValue, announced_length};
+ghost use Rattle.tlv_value.specs.Types.{type_number};
+ghost use Rattle.tlv_value.specs.ValueCheckState.{value_check_after, findings_in, has_unused_bits};
+ghost use Rattle.tlv_value.specs.ValueCheckState.{is_allowed, new_value_check, new_value_check_of};
+ghost use Rattle.tlv_value.specs.ValueCheckState.{with_each_noted, with_first_noted};
+ghost use Rattle.tlv_value.specs.Checks.{all_contents_findings, is_padded_integer};
+
+mod characters;
+mod findings;
+mod notes;
+mod utf8_rows;
+
+use crate::Finding;
+use arrayvec::ArrayVec;
+pub(crate) use characters::are_allowed;
+pub(crate) use findings::is_any_set;
+use notes::{is_padded_with, note_time, notes_each, notes_first, notes_time};
+pub(crate) use notes::{is_padded_after, last_octet};
+use std::marker::Model;
+use tlv_head::{Class, Header, universal};
+pub(crate) use utf8_rows::is_utf8;
+use utf8_rows::take_rows;
+
+/// Finds what is wrong with the contents of a primitive, in whatever pieces they come.
+#[derive(Drop)]
+pub struct ValueCheck {
+    /// The universal number of its type.
+    number: u64,
+    size: u64,
+    /// How many octets are still to come.
+    left: u64,
+    /// The first two octets, if the type asks for them, and how many of them have come.
+    first: u8,
+    second: u8,
+    known: u8,
+    /// The last octet, if the type asks for it; 0 before the first.
+    last: u8,
+    /// Whether each octet is one that the type has.
+    are_octets_allowed: bool,
+    /// Whether a subidentifier begins with `80`.
+    is_padded: bool,
+    /// Whether the rows of a UTF8String that were full are well-formed.
+    rows_are_utf8: bool,
+    /// The octets of its row that has begun.
+    row: ArrayVec<u8, 64>,
+    /// The first octets of a time.
+    time: ArrayVec<u8, 64>,
+}
+
+impl Model for ValueCheck {
+    ghost use Rattle.tlv_value.specs.ValueCheckState.{ValueCheckState};
+
+    ghost Value = { ValueCheckState };
+
+    ghost use Rattle.tlv_value.specs.ValueCheckFields.{value_check_state_of, ValueCheckFieldsAgree};
+
+    ghost view = { value_check_state_of };
+
+    ghost invariant = { ValueCheckFieldsAgree };
+}
+
+impl ValueCheck {
+    /// For the primitive with this header, of whose contents no octet has come.
+    pub fn new(header: &Header) -> ValueCheck
+        ensures { result ≡ new_value_check header.now }
+    {
+        ValueCheck::of_type(type_number(header), header.size.announced_length())
+    }
+
+    /// For a primitive of the universal type with this number, with so many contents octets, of which none has come.
+    pub fn of_type(number: u64, size: u64) -> ValueCheck
+        ensures { result ≡ new_value_check_of number size }
+    {
+        ValueCheck {
+            number,
+            size,
+            left: size,
+            first: 0,
+            second: 0,
+            known: 0,
+            last: 0,
+            are_octets_allowed: true,
+            is_padded: false,
+            rows_are_utf8: true,
+            row: ArrayVec::new(),
+            time: ArrayVec::new(),
+        }
+    }
+
+    /// Begins anew, for the primitive with this header.
+    #[inline(always)]
+    pub fn restart(&mut self, header: &Header)
+        ensures { self.new ≡ new_value_check header.now }
+    {
+        let size = header.size.announced_length();
+        self.number = type_number(header);
+        self.size = size;
+        self.left = size;
+        self.known = 0;
+        self.last = 0;
+        self.are_octets_allowed = true;
+        self.is_padded = false;
+        self.rows_are_utf8 = true;
+        if !self.row.is_empty() {
+            self.row.clear();
+        }
+        if !self.time.is_empty() {
+            self.time.clear();
+        }
+    }
+
+    /// How many contents octets are still to come.
+    pub fn left(&self) -> u64
+        ensures { result ≡ self.now.left }
+    {
+        self.left
+    }
+
+    /// How many contents octets the primitive has.
+    pub fn size(&self) -> u64
+        ensures { result ≡ self.now.size }
+    {
+        self.size
+    }
+
+    /// Whether it is a BIT STRING whose first contents octet has come and is not `00` (8.6.2.2).
+    pub fn has_unused_bits(&self) -> bool
+        ensures { result ≡ has_unused_bits self.now }
+    {
+        self.number == universal::BIT_STRING && self.known != 0 && self.first != 0
+    }
+
+    /// Takes more contents octets.
+    #[inline(always)]
+    pub fn bytes(&mut self, octets: &[u8])
+        requires { length octets.now ≤ self.old.left }
+        ensures state { self.new ≡ value_check_after self.old octets.now }
+        ensures left { self.new.left + length octets.now ≡ self.old.left }
+    {
+        self.left -= octets.len() as u64;
+        if notes_first(self.number) {
+            self.note_first(octets);
+        } else if notes_each(self.number) {
+            self.note_each(octets);
+        } else if notes_time(self.number) {
+            note_time(&mut self.time, octets);
+        }
+    }
+
+    /// Notes the first two of the octets, and the last one.
+    #[inline(always)]
+    fn note_first(&mut self, octets: &[u8])
+        ensures { self.new ≡ with_first_noted self.old octets.now }
+    {
+        match octets {
+            [] => {}
+            [first, rest @ ..] => {
+                if self.known == 0 {
+                    self.known = 1;
+                    self.first = *first;
+                    if let [second, ..] = rest {
+                        self.known = 2;
+                        self.second = *second;
+                    }
+                } else if self.known == 1 {
+                    self.known = 2;
+                    self.second = *first;
+                }
+            }
+        }
+        self.last = last_octet(self.last, octets);
+    }
+
+    /// Notes what must be known of each of the octets.
+    #[inline(always)]
+    fn note_each(&mut self, octets: &[u8])
+        ensures { self.new ≡ with_each_noted self.old octets.now }
+    {
+        match self.number {
+            universal::OBJECT_IDENTIFIER | universal::RELATIVE_OID => {
+                self.is_padded = is_padded_with(self.is_padded, self.last, octets);
+            }
+            universal::UTF8_STRING => {
+                self.rows_are_utf8 = both(self.rows_are_utf8, take_rows(&mut self.row, octets));
+            }
+            _ => self.are_octets_allowed = both(
+                self.are_octets_allowed,
+                are_allowed(self.number, octets),
+            ),
+        }
+        self.last = last_octet(self.last, octets);
+    }
+
+    /// What is found on the contents, in order, by the rules of BER, CER or DER.
+    #[inline(always)]
+    pub fn end(&self) -> ArrayVec<Finding, 16>
+        requires { self.now.left ≡ 0 }
+        ensures found { result.items ≡ findings_in self.now }
+        ensures whole { (h : HeaderValue) (c : List ℕ)
+            → self.now ≡ value_check_after (new_value_check h) c
+            → length c ≡ announced_length h.size
+            → result.items ≡ all_contents_findings h c }
+    {
+        self.findings()
+    }
+
+    /// The first octet, if the type asks for it; 0 before the first.
+    #[inline(always)]
+    fn first_octet(&self) -> u8
+        ensures { result ≡ slice_index self.now.first_octets 0 }
+    {
+        if self.known == 0 { 0 } else { self.first }
+    }
+
+    /// Whether the first nine bits of a number are all equal (8.3.2).
+    #[inline(always)]
+    fn is_padded_integer(&self) -> bool
+        ensures { result ≡ is_padded_integer self.now.first_octets }
+    {
+        if self.known < 2 {
+            return false;
+        }
+        match self.first {
+            0 => self.second < 128,
+            255 => self.second >= 128,
+            _ => false,
+        }
+    }
+
+    /// Whether the contents have the characters of their type.
+    #[inline(always)]
+    fn is_allowed(&self) -> bool
+        ensures { result ≡ is_allowed self.now }
+    {
+        let all = match self.number {
+            universal::UTF8_STRING => both(self.rows_are_utf8, is_utf8(self.row.as_slice())),
+            universal::BMP_STRING => self.size % 2 == 0,
+            universal::UNIVERSAL_STRING => self.size % 4 == 0,
+            _ => true,
+        };
+        both(all, self.are_octets_allowed)
+    }
+}
+
+/// The universal number of the type. Of another class it is that of OCTET STRING, on whose contents nothing is found.
+#[inline(always)]
+fn type_number(header: &Header) -> u64
+    ensures { result ≡ type_number header.now }
+{
+    if matches!(header.class, Class::Universal) {
+        header.number
+    } else {
+        universal::OCTET_STRING
+    }
+}
+
+fn both(first: bool, second: bool) -> bool
+    ensures { result ≡ (first && second) }
+{
+    first && second
+}

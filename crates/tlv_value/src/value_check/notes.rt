@@ -1,0 +1,88 @@
+//! What is noted of contents octets while they come.
+ghost use Rattle.std.specs.Prelude.{◌≡◌, ◌++◌, take};
+ghost use Rattle.tlv_value.specs.ValueCheckState.{is_padded_with, notes_each, notes_first, notes_time};
+ghost use Rattle.tlv_value.specs.Checks.{is_padded_after, last_octet};
+
+use arrayvec::ArrayVec;
+use tlv_head::universal;
+
+/// Whether the first octets of the type with this universal number are looked at, and the last one: BOOLEAN, INTEGER,
+/// BIT STRING, ENUMERATED.
+#[inline(always)]
+pub(super) fn notes_first(number: u64) -> bool
+    ensures { result ≡ notes_first number }
+{
+    matches!(
+        number,
+        universal::BOOLEAN | universal::INTEGER | universal::BIT_STRING | universal::ENUMERATED
+    )
+}
+
+/// Whether each contents octet of the type with this universal number is looked at.
+#[inline(always)]
+pub(super) fn notes_each(number: u64) -> bool
+    ensures { result ≡ notes_each number }
+{
+    matches!(
+        number,
+        universal::OBJECT_IDENTIFIER
+            | universal::UTF8_STRING
+            | universal::RELATIVE_OID
+            | universal::NUMERIC_STRING
+            | universal::PRINTABLE_STRING
+            | universal::IA5_STRING
+            | universal::VISIBLE_STRING
+    )
+}
+
+/// Whether the type with this universal number is one of the two times.
+#[inline(always)]
+pub(super) fn notes_time(number: u64) -> bool
+    ensures { result ≡ notes_time number }
+{
+    matches!(number, universal::UTC_TIME | universal::GENERALIZED_TIME)
+}
+
+/// The last of the octets, or the one before them.
+pub(crate) fn last_octet(previous: u8, octets: &[u8]) -> u8
+    ensures { result ≡ last_octet previous octets.now }
+{
+    match octets {
+        [.., last] => *last,
+        [] => previous,
+    }
+}
+
+/// Whether a subidentifier begins with `80`, with these octets too.
+pub(super) fn is_padded_with(is_padded: bool, previous: u8, octets: &[u8]) -> bool
+    ensures { result ≡ is_padded_with is_padded previous octets.now }
+{
+    is_padded || is_padded_after(previous, octets)
+}
+
+/// Whether a subidentifier begins with `80`, after this octet.
+pub(crate) fn is_padded_after(previous: u8, octets: &[u8]) -> bool
+    ensures { result ≡ is_padded_after previous octets.now }
+{
+    // Most have no octet 80 at all, which is seen for many octets at once. The loop is then left out.
+    if !octets.contains(&128) {
+        return false;
+    }
+    let mut previous = previous;
+    for octet in octets {
+        if previous < 128 && *octet == 128 {
+            return true;
+        }
+        previous = *octet;
+    }
+    false
+}
+
+/// Keeps the first octets of a time.
+#[inline(never)]
+pub(super) fn note_time(time: &mut ArrayVec<u8, 64>, octets: &[u8])
+    ensures { time.new.items ≡ take 64 (time.old.items ++ octets.now) }
+{
+    let room = octets.len().min(time.remaining_capacity());
+    let _ = time.try_extend_from_slice(&octets[..room]);
+}

@@ -1,0 +1,250 @@
+//! Rows on their way to an [`Out`].
+ghost use Rattle.std.specs.Prelude.{◌≡◌, ◌+◌, ◌<◌, ◌≤◌, ◌^◌, ◌++◌, [], codes, if◌then◌else◌, length, IsTrue};
+ghost use Rattle.std.specs.Prelude.{None, OnOk, ◌↔◌};
+ghost use Rattle.tlv_io.specs.Cuts.{last_rows};
+ghost use Rattle.tlv_io.specs.LineTexts.{HasRoomFor};
+ghost use Rattle.tlv_io.specs.Out.{Puts};
+ghost use Rattle.tlv_value.specs.Layout.{inner_line, row_line};
+ghost use Rattle.tlv_value.specs.OpenRow.{IsOpenRow};
+ghost use Rattle.tlv_value.specs.Private.Rows.{pair_row_line, pair_row_lines, row_indent};
+ghost use Rattle.tlv_value.specs.Rows.{full_rows, open_row, rows_of};
+ghost use Rattle.tlv_value.specs.Value.{row_text};
+ghost use Rattle.tlv_value.specs.ValueLines.{row_lines};
+
+use crate::Layout;
+use crate::kind::Kind;
+use crate::line_starts::row_indent;
+use crate::row_sizes::{fitting_length, row_size};
+use crate::value::write_row;
+use arrayvec::ArrayVec;
+use tlv_io::{Drain, HeldOctets, Out, WriteFault};
+
+/// Puts rows of all of the octets.
+pub(super) fn put_all_rows<D: Drain>(
+    layout: Layout,
+    contents: &[u8],
+    out: &mut Out<'_, D>,
+) -> Result<(), WriteFault>
+    requires { length contents.now ≤ 64 }
+    ensures { Puts D.state out.old out.new
+        (row_lines Kind.Octets layout 0 (rows_of Kind.Octets contents.now)) result }
+{
+    let mut row = ArrayVec::new();
+    let mut row_count = 0;
+    put_rows(
+        Kind::Octets,
+        layout,
+        &mut row,
+        &mut row_count,
+        contents,
+        out,
+    )?;
+    put_last(Kind::Octets, layout, row_count, row.as_slice(), out)
+}
+
+/// Puts the rows that are full, of the octets of the row that has begun and those after them. What is left begins a
+/// row.
+pub(crate) fn put_rows<D: Drain>(
+    kind: Kind,
+    layout: Layout,
+    row: &mut ArrayVec<u8, 64>,
+    row_count: &mut u64,
+    octets: &[u8],
+    out: &mut Out<'_, D>,
+) -> Result<(), WriteFault>
+    requires begun { IsOpenRow kind row.old.items }
+    requires counted { row_count.old + length row.old.items + length octets.now < 2 ^ 64 }
+    ensures begun { IsOpenRow kind row.new.items }
+    ensures counted { row_count.new + length row.new.items
+        ≤ row_count.old + length row.old.items + length octets.now }
+    ensures row { OnOk result (row.new.items ≡ open_row kind row.old.items octets.now) }
+    ensures rows { OnOk result
+        (row_count.new ≡ row_count.old + length (full_rows kind row.old.items octets.now)) }
+    ensures puts { Puts D.state out.old out.new
+        (row_lines kind layout row_count.old (full_rows kind row.old.items octets.now)) result }
+{
+    let size = row_size(kind);
+    let mut rest = octets;
+    while !rest.is_empty() {
+        let begun = row.len();
+        if has_full_rows(layout, size, begun, rest) {
+            let (full, more) = rest.as_chunks::<16>();
+            rest = more;
+            *row_count += full.len() as u64;
+            put_full_rows(layout, full, out)?;
+            continue;
+        }
+        let (part, more) = rest.split_at(fitting_length(kind, begun, rest));
+        rest = more;
+        if begun + part.len() < size && rest.is_empty() {
+            let _ = row.try_extend_from_slice(part);
+            return Ok(());
+        }
+        let index = *row_count;
+        *row_count += 1;
+        put_full(kind, layout, index, row, part, out)?;
+    }
+    Ok(())
+}
+
+/// Whether the octets begin with full rows of pairs of digits, while no row has begun and their number is not limited.
+#[inline(always)]
+fn has_full_rows(layout: Layout, size: usize, begun: usize, octets: &[u8]) -> bool
+    ensures { IsTrue result
+        ↔ ((begun ≡ 0) × (size ≡ 16) × (layout.limit ≡ None) × (16 ≤ length octets.now)) }
+{
+    begun == 0 && size == 16 && layout.limit.is_none() && octets.len() >= 16
+}
+
+/// Puts full rows of pairs of digits, from where their octets are. There is no limit to them.
+#[inline(always)]
+fn put_full_rows<D: Drain>(
+    layout: Layout,
+    rows: &[[u8; 16]],
+    out: &mut Out<'_, D>,
+) -> Result<(), WriteFault>
+    ensures { Puts D.state out.old out.new (pair_row_lines layout rows.now) result }
+{
+    // A row is much shorter than the longest line, so the drain takes more with each write.
+    let size = row_indent(layout) + 64;
+    for row in rows {
+        out.make_room_for(size)?;
+        write_pair_row_line(&mut out.held, layout, row);
+    }
+    Ok(())
+}
+
+/// Puts rows of pairs of digits, of all of the octets, from where they are. There is no limit to them.
+#[inline(always)]
+pub(crate) fn put_pair_rows<D: Drain>(
+    layout: Layout,
+    octets: &[u8],
+    out: &mut Out<'_, D>,
+) -> Result<(), WriteFault>
+    ensures { Puts D.state out.old out.new
+        (pair_row_lines layout (rows_of Kind.Octets octets.now)) result }
+{
+    let (full, last) = octets.as_chunks::<16>();
+    put_full_rows(layout, full, out)?;
+    if last.is_empty() {
+        return Ok(());
+    }
+    out.make_room()?;
+    write_line(&mut out.held, layout, Kind::Octets, last);
+    Ok(())
+}
+
+/// Puts the row that has begun with the octets that fill it: from where they are, if they are the whole row.
+fn put_full<D: Drain>(
+    kind: Kind,
+    layout: Layout,
+    index: u64,
+    row: &mut ArrayVec<u8, 64>,
+    part: &[u8],
+    out: &mut Out<'_, D>,
+) -> Result<(), WriteFault>
+    requires { length row.old.items + length part.now ≤ 64 }
+    ensures row { row.new.items ≡ [] }
+    ensures puts { Puts D.state out.old out.new
+        (row_line layout index (row_text kind (row.old.items ++ part.now))) result }
+{
+    if row.is_empty() {
+        return put_row(kind, layout, index, part, out);
+    }
+    let _ = row.try_extend_from_slice(part);
+    let put = put_row(kind, layout, index, row.as_slice(), out);
+    row.clear();
+    put
+}
+
+/// Puts a last row, if there is one.
+pub(crate) fn put_last<D: Drain>(
+    kind: Kind,
+    layout: Layout,
+    index: u64,
+    row: &[u8],
+    out: &mut Out<'_, D>,
+) -> Result<(), WriteFault>
+    requires { length row.now ≤ 64 }
+    ensures { Puts D.state out.old out.new
+        (row_lines kind layout index (last_rows row.now)) result }
+{
+    if row.is_empty() {
+        return Ok(());
+    }
+    put_row(kind, layout, index, row, out)
+}
+
+/// Puts a row, unless that is beyond the limit.
+#[inline(always)]
+fn put_row<D: Drain>(
+    kind: Kind,
+    layout: Layout,
+    index: u64,
+    row: &[u8],
+    out: &mut Out<'_, D>,
+) -> Result<(), WriteFault>
+    requires { length row.now ≤ 64 }
+    ensures { Puts D.state out.old out.new (row_line layout index (row_text kind row.now)) result }
+{
+    if let Some(limit) = layout.limit
+        && index >= u64::from(limit)
+    {
+        return put_dots(layout, index == u64::from(limit), out);
+    }
+    out.make_room()?;
+    write_line(&mut out.held, layout, kind, row);
+    Ok(())
+}
+
+/// Puts three dots in place of the first row beyond the limit.
+#[inline(never)]
+fn put_dots<D: Drain>(
+    layout: Layout,
+    is_first: bool,
+    out: &mut Out<'_, D>,
+) -> Result<(), WriteFault>
+    ensures { Puts D.state out.old out.new
+        (if is_first then inner_line layout (codes "...") else [])
+        result }
+{
+    if !is_first {
+        return Ok(());
+    }
+    out.make_room()?;
+    write_dots(&mut out.held, layout);
+    Ok(())
+}
+
+/// Adds the line of a row.
+#[inline(always)]
+fn write_line(held: &mut HeldOctets, layout: Layout, kind: Kind, row: &[u8])
+    requires room { HasRoomFor held.old 1024 }
+    requires short { length row.now ≤ 64 }
+    ensures { held.new ≡ held.old ++ inner_line layout (row_text kind row.now) }
+{
+    held.spaces(row_indent(layout) - 1);
+    write_row(held, kind, row);
+    held.add(b"\n");
+}
+
+/// Adds the line of a full row of pairs of digits.
+#[inline(always)]
+fn write_pair_row_line(held: &mut HeldOctets, layout: Layout, row: &[u8; 16])
+    requires { HasRoomFor held.old (row_indent layout + 64) }
+    ensures { held.new ≡ held.old ++ pair_row_line layout row.now }
+{
+    // Each pair brings the space before it.
+    held.spaces(row_indent(layout) - 1);
+    held.spaced_row(row);
+    held.add(b"\n");
+}
+
+/// Adds the line of three dots.
+fn write_dots(held: &mut HeldOctets, layout: Layout)
+    requires { HasRoomFor held.old 1024 }
+    ensures { held.new ≡ held.old ++ inner_line layout (codes "...") }
+{
+    held.spaces(row_indent(layout));
+    held.add(b"...\n");
+}

@@ -1,0 +1,206 @@
+//! The lines of a primitive, from its contents in pieces.
+ghost use Rattle.std.specs.Prelude.{◌≡◌, ◌+◌, ◌<◌, ◌≤◌, ◌++◌, ◌∷◌, [], ℕ, List, length, OnOk};
+ghost use Rattle.tlv_head.specs.Header.{HeaderValue, announced_length};
+ghost use Rattle.tlv_io.specs.Out.{Puts};
+ghost use Rattle.tlv_value.specs.PutsRest.{PutsRest};
+ghost use Rattle.tlv_value.specs.Value.{row_octets};
+ghost use Rattle.tlv_value.specs.ValueLines.{open_lines, whole_lines};
+ghost use Rattle.tlv_value.specs.ValueTextState.{begin_lines, contents_lines, end_lines, idle_value_text};
+ghost use Rattle.tlv_value.specs.ValueTextState.{new_value_text, new_value_text_of, value_text_for, value_text_after};
+
+use crate::kind::Kind;
+use crate::primitive::Primitive;
+use crate::value_lines::{put_last, put_rows};
+use crate::{Layout, NameTable};
+use arrayvec::ArrayVec;
+use std::marker::Model;
+use tlv_head::{Class, Header};
+use tlv_io::{Drain, Out, WriteFault};
+
+/// Begins the first row of a long BIT STRING: with the first contents octet, if that cannot be read.
+fn begin_row(unused_bits: u8, row: &mut ArrayVec<u8, 64>)
+    requires { row.old.items ≡ [] }
+    ensures { row.new.items ≡ row_octets Kind.Bits (unused_bits ∷ []) }
+{
+    if unused_bits > 7 {
+        row.push(unused_bits);
+    }
+}
+
+/// Writes the lines of a primitive from its contents, in whatever pieces they come.
+///
+/// A value that fits on its element's line is kept until its last octet has come. The line of a long
+/// value comes with the header (that of a BIT STRING with its first contents octet), and each row
+/// when it is full or with the last octet. At most 64 octets are kept.
+#[derive(Drop)]
+pub struct ValueText {
+    primitive: Primitive,
+    /// How many octets are still to come.
+    left: u64,
+    /// Whether the line of a long value was written.
+    wrote_line: bool,
+    /// How many rows were full.
+    row_count: u64,
+    /// The octets of the row that has begun, or of a value that fits on its line.
+    row: ArrayVec<u8, 64>,
+}
+
+impl Model for ValueText {
+    ghost use Rattle.tlv_value.specs.ValueTextState.{ValueTextState};
+
+    ghost Value = { ValueTextState };
+
+    ghost use Rattle.tlv_value.specs.ValueTextFields.{ValueTextFieldsAgree, value_text_state_of};
+
+    ghost view = { value_text_state_of };
+
+    ghost invariant = { ValueTextFieldsAgree };
+}
+
+impl ValueText {
+    /// For the primitive with this header, of whose contents no octet has come.
+    #[inline(always)]
+    pub fn new(header: &Header, layout: Layout) -> ValueText
+        ensures { result ≡ new_value_text header.now layout }
+    {
+        ValueText::of(Primitive::new(header, layout))
+    }
+
+    /// For this primitive, of whose contents no octet has come.
+    #[inline(always)]
+    pub(crate) fn of(primitive: Primitive) -> ValueText
+        ensures { result ≡ new_value_text_of primitive }
+    {
+        ValueText {
+            primitive,
+            left: primitive.size,
+            wrote_line: !matches!(primitive.kind, Kind::Bits),
+            row_count: 0,
+            row: ArrayVec::new(),
+        }
+    }
+
+    /// For no primitive yet: as for an empty one that is of no universal type, at the top.
+    pub fn idle() -> ValueText
+        ensures { result ≡ idle_value_text }
+    {
+        let primitive = Primitive {
+            offset: 0,
+            class: Class::Private,
+            number: 0,
+            size: 0,
+            kind: Kind::Octets,
+            layout: Layout {
+                level: 0,
+                limit: None,
+                pure: false,
+            },
+        };
+        ValueText {
+            primitive,
+            left: 0,
+            wrote_line: true,
+            row_count: 0,
+            row: ArrayVec::new(),
+        }
+    }
+
+    /// How many contents octets are still to come.
+    pub fn left(&self) -> u64
+        ensures { result ≡ self.now.left }
+    {
+        self.left
+    }
+
+    /// Writes what is known with the header: the lines of its primitive without contents so far.
+    ///
+    /// # Errors
+    ///
+    /// `WriteFault` exactly if the drain's failures rose in the call.
+    #[inline(always)]
+    pub fn begin<D: Drain>(&self, out: &mut Out<'_, D>) -> Result<(), WriteFault>
+        ensures puts { Puts D.state out.old out.new (begin_lines self.now) result }
+        ensures whole { (h : HeaderValue) (layout : Layout)
+            → self.now ≡ new_value_text h layout
+            → Puts D.state out.old out.new (open_lines h layout []) result }
+    {
+        if !self.primitive.is_long() || !self.wrote_line {
+            return Ok(());
+        }
+        self.primitive.put_bare(out)
+    }
+
+    /// Writes what is known with more contents octets: after the lines of its primitive with the contents before
+    /// them, the rest of its lines with these too.
+    ///
+    /// # Errors
+    ///
+    /// `WriteFault` exactly if the drain's failures rose in the call.
+    pub fn bytes<D: Drain>(&mut self, octets: &[u8], out: &mut Out<'_, D>) -> Result<(), WriteFault>
+        requires { length octets.now ≤ self.old.left }
+        ensures state { OnOk result (self.new ≡ value_text_after self.old octets.now) }
+        ensures puts { Puts D.state out.old out.new (contents_lines self.old octets.now) result }
+        ensures whole { (h : HeaderValue) (layout : Layout) (c : List ℕ)
+            → self.old ≡ value_text_for h layout c
+            → PutsRest D.state out.old out.new
+            (open_lines h layout c) (open_lines h layout (c ++ octets.now)) result }
+    {
+        self.left -= octets.len() as u64;
+        if !self.primitive.is_long() {
+            let _ = self.row.try_extend_from_slice(octets);
+            return Ok(());
+        }
+        let (kind, layout) = (self.primitive.kind, self.primitive.layout);
+        if self.wrote_line {
+            return put_rows(
+                kind,
+                layout,
+                &mut self.row,
+                &mut self.row_count,
+                octets,
+                out,
+            );
+        }
+        let Some((unused_bits, rest)) = octets.split_first() else {
+            return Ok(());
+        };
+        self.wrote_line = true;
+        begin_row(*unused_bits, &mut self.row);
+        self.primitive.put_bits_line(*unused_bits, out)?;
+        put_rows(kind, layout, &mut self.row, &mut self.row_count, rest, out)
+    }
+
+    /// Writes what is known with the last contents octet: after what was written before it, the rest of the lines
+    /// of the whole primitive.
+    ///
+    /// # Errors
+    ///
+    /// `WriteFault` exactly if the drain's failures rose in the call.
+    pub fn end<N: NameTable, D: Drain>(
+        &mut self,
+        names: &N,
+        out: &mut Out<'_, D>,
+    ) -> Result<(), WriteFault>
+        requires { self.old.left ≡ 0 }
+        ensures state { self.new ≡ self.old }
+        ensures puts { Puts D.state out.old out.new
+            (end_lines (N.name_of names.now) self.old) result }
+        ensures whole { (h : HeaderValue) (layout : Layout) (c : List ℕ)
+            → self.old ≡ value_text_for h layout c
+            → length c ≡ announced_length h.size
+            → PutsRest D.state out.old out.new
+            (open_lines h layout c) (whole_lines (N.name_of names.now) h layout c) result }
+    {
+        let contents = self.row.as_slice();
+        if self.primitive.is_long() {
+            return put_last(
+                self.primitive.kind,
+                self.primitive.layout,
+                self.row_count,
+                contents,
+                out,
+            );
+        }
+        self.primitive.put(contents, names, out)
+    }
+}
