@@ -123,7 +123,7 @@ fields_of h = record {
   id_len = length h.identifier;
 }
 
--- an element with these fields wraps encodings
+-- an element with these fields is a string that holds encodings
 abbrev pub fields_wrap : HeaderFields → Bool
 fields_wrap f = is_wrapper f.named f.class f.constructed f.number f.size
 

@@ -25,7 +25,7 @@ pub enum FaultCode {
     TooDeep,
     /// F11: an element runs past the enclosing length (8.1.3.3).
     Overrun,
-    /// F12: the first contents octet of a BIT STRING that wraps encodings is not `00` (8.6.2.2).
+    /// F12: the first contents octet of a BIT STRING that holds encodings is not `00` (8.6.2.2).
     BadInside,
 }
 

@@ -121,7 +121,7 @@ fn refusal(code: FaultCode, offset: u64) -> Head
     Head::Refused(Fault { code, offset })
 }
 
-/// Whether an element with these fields holds others: it is constructed, or a string that wraps encodings.
+/// Whether an element with these fields holds others: it is constructed, or a string that holds encodings.
 fn fields_hold(fields: &HeaderFields) -> bool
     ensures { result ≡ fields_hold fields.now }
 {

@@ -231,7 +231,7 @@ impl Header {
     }
 }
 
-ghost use Rattle.std.specs.Prelude.{◌≡◌, ◌≤◌, drop, eqb, length, slice_index, take, true};
+ghost use Rattle.std.specs.Prelude.{◌≡◌, ◌≤◌, drop, length, slice_index, take, true};
 ghost use Rattle.tlv_head.specs.Header.{announced_length, spell_indefinite, is_wrapper};
 
 /// The second octets of an identifier of so many octets and of the length after it, or 0 if there is none.

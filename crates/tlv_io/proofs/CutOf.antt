@@ -1,7 +1,7 @@
 -- There is a cut of any octets: the rows that they make one after another, octet by octet.
 use Rattle.std.proofs.Common.{◌≡◌, ◌≢◌, ◌⊎◌, inl, inr, ℕ, zero, suc, ◌+◌, ◌<◌, ◌≤◌, Bool, true, false, List, [], ◌∷◌}
 use Rattle.std.proofs.Common.{◌++◌, length, get_or, refl, ap, ◌∙◌, arith, ⊎_elim, append_assoc, length-append}
-use Rattle.std.specs.Prelude.{eqb, nat_le, if◌then◌else◌}
+use Rattle.std.specs.Prelude.{eqb, if◌then◌else◌}
 use Rattle.std.specs.Int.{is_in_range}
 use Rattle.std.proofs.lemmas.Bool.{eqb-true, leb-true}
 use Rattle.std.proofs.lemmas.Bool.Decides.{nat_tests}

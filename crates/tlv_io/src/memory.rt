@@ -1,6 +1,6 @@
 //! A source and a drain over memory.
 
-ghost use Rattle.std.specs.Prelude.{◌≡◌, ◌<◌, ◌≤◌, ◌↔◌, [], IfOk, IsErr, Some, drop, length, max, take};
+ghost use Rattle.std.specs.Prelude.{◌≡◌, ◌<◌, ◌≤◌, ◌↔◌, [], IfOk, IsErr, Some, length, max, take};
 ghost use Rattle.tlv_io.specs.Device.{ReadsOnce, WritesOnce, new_read_log};
 ghost use Rattle.tlv_io.specs.MemSource.{cut_count, read_count, source_state_of};
 

@@ -1,6 +1,6 @@
 //! Octets on their way to a drain.
 
-ghost use Rattle.std.specs.Prelude.{◌≡◌, ◌≤◌, ◌++◌, [], length, OnOk};
+ghost use Rattle.std.specs.Prelude.{◌≡◌, ◌≤◌, [], length, OnOk};
 ghost use Rattle.tlv_io.specs.LineTexts.{HasRoomFor};
 ghost use Rattle.tlv_io.specs.Out.{Puts, Sends, held_octets, drain_of};
 

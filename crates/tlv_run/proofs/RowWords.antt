@@ -1,6 +1,6 @@
 -- The words of the proof files that `tests/make-rows` writes from tests/rows: commands, and what is made of an
 -- input. Each result is the only one of its input, by `is_result` and `makes_unique` of Results.
-use Rattle.std.proofs.Common.{◌≡◌, ℕ, ◌+◌, ◌-◌, ◌*◌, false, Bool, List, [], ◌∷◌, ◌++◌, None, Option, codes, ap}
+use Rattle.std.proofs.Common.{◌≡◌, ℕ, ◌+◌, ◌-◌, ◌*◌, Bool, List, [], ◌∷◌, ◌++◌, None, Option, codes, ap}
 use Rattle.std.specs.Prelude.{flat_map, if◌then◌else◌, nat_le}
 use Rattle.std.specs.Cmp.Lexicographic.{nat_list_cmp_total, slice_cmp}
 use Rattle.std.specs.FinMap as finite

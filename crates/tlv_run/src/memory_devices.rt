@@ -1,7 +1,7 @@
 //! The devices of `run_octets`: a source that ends, one that fails after its octets, and a drain with room for so many
 //! octets.
 ghost use Rattle.std.specs.Prelude.{◌≡◌, ◌<◌, ◌≤◌, [], None, Some, length};
-ghost use Rattle.tlv_io.specs.Device.{ReadsOnce, WritesOnce, new_source};
+ghost use Rattle.tlv_io.specs.Device.{new_source};
 ghost use Rattle.tlv_run.specs.Private.MemoryDevices.{bounded_drain_state, failing_source_state};
 ghost use Rattle.tlv_run.specs.Private.MemoryDevices.{unfailing_source_state};
 

@@ -15,7 +15,7 @@ size_text size = option_map_or decimal (definite_length size) (codes "indef")
 abbrev pub text_line : Layout → List ℕ → List ℕ → List ℕ
 text_line layout first text = line layout.pure first layout.level text
 
--- what is after the tag of an element that holds others: whether it is constructed, or a string that wraps encodings
+-- what is after the tag of an element that holds others: whether it is constructed, or a string that holds encodings
 abbrev pub opening_word : Bool → List ℕ
 opening_word constructed = if constructed then codes " {" else codes " wraps {"
 

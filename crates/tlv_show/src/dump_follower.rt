@@ -151,7 +151,7 @@ impl Dump<'_> {
         self.lines.open(header, word, out)
     }
 
-    /// A string that wraps encodings begins. Such strings are few, so this is no part of `put_lines`.
+    /// A string that holds encodings begins. Such strings are few, so this is no part of `put_lines`.
     #[inline(never)]
     fn open_wrapper<D: Drain>(
         &mut self,

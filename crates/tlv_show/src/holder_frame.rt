@@ -12,7 +12,7 @@ pub(crate) struct HolderFrame {
     pub offset: u64,
     /// How many contents octets its header announces.
     pub announced_length: u64,
-    /// Whether it is primitive: a string that wraps encodings.
+    /// Whether it is primitive: a string that holds encodings.
     pub is_primitive: bool,
     /// Whether it is a constructed string, so that what it holds are segments.
     pub has_segments: bool,

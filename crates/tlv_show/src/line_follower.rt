@@ -76,7 +76,7 @@ impl<'n> Lines<'n> {
         }
     }
 
-    /// The count of unused bits of a BIT STRING that wraps encodings: it has no line.
+    /// The count of unused bits of a BIT STRING that holds encodings: it has no line.
     #[inline(always)]
     pub fn unused(&mut self)
         ensures { self.new ≡ (lines_step self.old Unused).state }

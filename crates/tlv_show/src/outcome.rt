@@ -7,6 +7,6 @@ pub struct Outcome {
     pub ending: Ending,
     /// How many findings there are, also if their lines are left out.
     pub findings: u64,
-    /// The first of the named offsets at which no string was found whose contents are encodings.
+    /// The first of the named offsets at which no string was found that holds encodings.
     pub unused: Option<u64>,
 }

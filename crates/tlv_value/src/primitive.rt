@@ -3,7 +3,6 @@ ghost use Rattle.std.specs.Prelude.{◌≡◌, ◌<◌, ◌≤◌, ◌++◌, ◌
 ghost use Rattle.tlv_io.specs.LineTexts.{GrowsBy, HasRoomFor};
 ghost use Rattle.tlv_io.specs.Out.{Puts, held_octets};
 ghost use Rattle.tlv_value.specs.RowSizes.{row_size};
-ghost use Rattle.tlv_value.specs.Private.UndottedText.{undotted_text};
 ghost use Rattle.tlv_value.specs.Private.PrimitiveLines.{line_prefix};
 ghost use Rattle.tlv_value.specs.Value.{long_text, most_on_line};
 ghost use Rattle.tlv_value.specs.ValueTextState.{is_long_primitive, new_primitive, primitive_line, primitive_lines};

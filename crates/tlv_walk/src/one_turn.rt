@@ -1,5 +1,5 @@
 //! One read of a source, followed.
-ghost use Rattle.std.specs.Prelude.{◌≡◌, [], ◌+◌, ◌≤◌, IfOk, length};
+ghost use Rattle.std.specs.Prelude.{◌≡◌, [], IfOk};
 ghost use Rattle.tlv_walk.specs.Follow.{HasEffect};
 ghost use Rattle.tlv_walk.specs.Private.ResultOfPause.{IsResultOfPause, run_of};
 ghost use Rattle.tlv_walk.specs.Private.FollowsPiece.{FollowsAndFlushes, FollowsPart, FollowsPiece, follow_states};
@@ -9,7 +9,6 @@ ghost use Rattle.tlv_walk.specs.WalkerState.{IsWithinInputLimit};
 ghost use Rattle.tlv_io.specs.Out.{Puts, held_octets, drain_of};
 ghost use Rattle.tlv_walk.specs.Events.{event_value_of};
 ghost use Rattle.tlv_walk.specs.OneTurn.{CanTurn, FollowsOneRead, turn_states};
-ghost use Rattle.tlv_head.specs.InputLimit.{input_limit};
 
 use crate::walker::WholePrimitive;
 use crate::{

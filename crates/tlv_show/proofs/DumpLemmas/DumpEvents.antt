@@ -147,5 +147,5 @@ part-by l s h c =
     ∙ ap (λ (k : Effect LinesState). first ++ (b.put ++ (k.put ++ []))) is
     ∙ sym (ap
     (λ (k : Effect LinesState). first
-        ++ (and_then b (λ z. effect_if_more k.goes k (λ w. effect_of lines_step w []))).put)
+    ++ (and_then b (λ z. effect_if_more k.goes k (λ w. effect_of lines_step w []))).put)
     is)

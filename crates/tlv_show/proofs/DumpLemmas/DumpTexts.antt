@@ -81,7 +81,7 @@ primitives_shown s h c size =
     let took = take-all (announced_length h.size) c (omega (arith, size)) in
     let none : announced_length h.size - length c ≡ 0 = omega (arith, size) in
     ap (λ (k : Effect LinesState). after_put (begin_lines t)
-        (effect_if_more k.goes k (λ w. effect_of lines_step w (End ∷ []))))
+    (effect_if_more k.goes k (λ w. effect_of lines_step w (End ∷ []))))
     (dumped_bytes u c (λ e. rested-new h s.layout))
     ∙ ap (λ (l : List ℕ). effect_with lines_after
     (begin_lines t

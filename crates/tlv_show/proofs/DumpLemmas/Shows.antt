@@ -11,7 +11,7 @@ use Rattle.tlv_io.specs.Device.{DrainState, SourceState}
 use Rattle.tlv_walk.specs.DriveJob.{Drives, drive_job, drive_states, enough_run, whole_run}
 use Rattle.tlv_walk.specs.Events.{EventValue, events}
 use Rattle.tlv_walk.specs.Follow.{Effect, effect_of, followed_events, had_enough}
-use Rattle.tlv_walk.specs.Forest.{Forest, spelling}
+use Rattle.tlv_walk.specs.Forest.{Forest}
 use Rattle.tlv_walk.specs.Job.{Runs, device_states}
 use Rattle.tlv_walk.specs.Reading.{IsReading}
 use Rattle.tlv_walk.specs.Wrappers.{first_without_wrapper}
@@ -53,7 +53,7 @@ module _ {S : Type 0} (next : S → EventValue → Effect S) (first : S) (rules 
       → (drive_job next framing (2 ^ 40) first).result f e ≡ whole_run framing f e
   run_on f e =
       ap (λ (g : Go). if had_enough g then enough_run framing (followed_events next first (events f))
-          else whole_run framing f e)
+      else whole_run framing f e)
       (w.goes_on first (events f))
 
   pub shows_ok : (run : Run) (outcome : Outcome) → outcome.ending ≡ run.ending → outcome.findings ≡ count_in t

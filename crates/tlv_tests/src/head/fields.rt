@@ -7,7 +7,10 @@ use tlv_head::{Header, HeaderFields, Size, spell_indefinite};
 /// The octets after the first of the identifier and of the length, if the octets begin with a header.
 fn second_octets(octets: &[u8]) -> Option<(u8, u8)> {
     let header = front_header(octets)?;
-    Some((header.second_identifier_octet(), header.second_length_octet()))
+    Some((
+        header.second_identifier_octet(),
+        header.second_length_octet(),
+    ))
 }
 
 #[test]

@@ -193,7 +193,7 @@ pub(crate) static REFUSALS: [Refusal; 13] = [
         code: FaultCode::LengthTooLarge,
         is_header: false,
     },
-    // A constructed element inside 128 open ones, and a string that wraps encodings.
+    // A constructed element inside 128 open ones, and a string that holds encodings.
     Refusal {
         octets: b"\x30\x00",
         place: Place { depth: 128, ..TOP },

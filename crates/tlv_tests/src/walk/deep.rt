@@ -74,7 +74,7 @@ fn a_129th_element_is_refused(rt: HostRuntime) -> Result<(), Fail> {
     Ok(())
 }
 
-/// A string that wraps encodings counts among the open elements, and one that does not is none.
+/// A string that holds encodings counts among the open elements, and one that does not is none.
 #[test]
 fn a_named_string_inside_128_elements(rt: HostRuntime) -> Result<(), Fail> {
     let input = nested(rt.alloc(), 128, b"\x04\x00")?;

@@ -1,5 +1,5 @@
 //! The table of a names file.
-ghost use Rattle.std.specs.Prelude.{◌≡◌, ◌≤◌, length};
+ghost use Rattle.std.specs.Prelude.{◌≤◌, length};
 ghost use Rattle.tlv_value.specs.Names.{names_line};
 ghost use Rattle.tlv_value.specs.NamesReading.{file_limit};
 ghost use Rattle.tlv_value.specs.NamesFields.{texts_in};

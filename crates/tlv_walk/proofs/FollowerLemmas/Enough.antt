@@ -5,7 +5,6 @@ use Rattle.std.specs.Io.KnownBytes.{IsAtEnd}
 use Rattle.tlv_io.specs.Device.{SourceState, failed, gave}
 use Rattle.tlv_walk.specs.declared.ending.Ending.{Ending}
 use Rattle.tlv_walk.specs.declared.ending.Ending.TheVariants.{Done}
-use Rattle.tlv_walk.specs.declared.framing.Framing.{Framing}
 use Rattle.tlv_walk.specs.declared.run.DeviceFault.{DeviceFault}
 use Rattle.tlv_walk.specs.declared.run.DeviceFault.TheVariants.{ReadFailed, WriteFailed, InputTooLong}
 use Rattle.tlv_walk.specs.Ending.{IsEnding, IsFinalEnding}

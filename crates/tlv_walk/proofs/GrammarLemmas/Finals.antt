@@ -10,8 +10,6 @@ use Rattle.tlv_walk.specs.declared.ending.Ending.TheVariants.{Done, Fault}
 use Rattle.tlv_walk.specs.declared.framing.Framing.{Framing}
 use Rattle.tlv_walk.specs.Ending.{IsEnding, IsFault, IsFinalCode, OpenEnd, bad_inside, missing_end, bad_end, no_room}
 use Rattle.tlv_walk.specs.Ending.{refused_octet, too_deep, overrun, no_end, stray_end, done, empty, refused, short}
-use Rattle.tlv_walk.specs.Forest.{Forest}
-use Rattle.tlv_walk.specs.Place.{Place}
 use Rattle.tlv_walk.proofs.GrammarLemmas.Endings.{offset_in}
 
 -- no cause in the octets of a header is that the input ends too early
