@@ -20,7 +20,7 @@ use Rattle.tlv_walk.specs.Reading.{AreOctets, IsReading}
 use Rattle.tlv_run.proofs.Results.{is_result, makes_unique}
 use Rattle.tlv_run.proofs.RowWords.{check, clean_result, dump, extract, fault_result, lines, octets, plain, result}
 use Rattle.tlv_run.specs.declared.command.Command.{Command}
-use Rattle.tlv_run.specs.RunsOctets.{IsReport, RunsOctets, ended, read_failed, settled, too_long}
+use Rattle.tlv_run.specs.RunsOctets.{IsReport, RunsOctets, at_source_end, read_failed, at_settled_result, too_long}
 use Rattle.tlv_run.specs.Report.{ReportValue, device_report, report_with}
 use Rattle.tlv_run.specs.Results.{CommandResult, IsJobResult, IsSettled, command_job}
 
@@ -56,22 +56,22 @@ module _ (command : Command) (b : List ℕ) where
 
   ended-at : (made : CommandResult) (y : Makes made) (r : ReportValue) → length b ≤ job.limit
       → IsReport job b false y r → r ≡ made.report
-  ended-at made y r few (settled s) = refl
-  ended-at made y r few (ended f l) = refl
+  ended-at made y r few (at_settled_result s) = refl
+  ended-at made y r few (at_source_end f l) = refl
   ended-at made y r few (read_failed n f l) = absurd (cc (f))
   ended-at made y r few (too_long n less) = absurd (omega arith)
 
   settled-at : (fails : Bool) (made : CommandResult) (y : Makes made) (r : ReportValue) → IsSettled y
       → IsReport job b fails y r → r ≡ made.report
-  settled-at fails made y r s (settled t) = refl
-  settled-at fails made y r s (ended f l) = refl
+  settled-at fails made y r s (at_settled_result t) = refl
+  settled-at fails made y r s (at_source_end f l) = refl
   settled-at fails made y r s (read_failed n f l) = absurd (n s)
   settled-at fails made y r s (too_long n less) = absurd (n s)
 
   read-failed-at : (made : CommandResult) (y : Makes made) (r : ReportValue) → length b ≤ job.limit
       → (IsSettled y → ⊥) → IsReport job b true y r → r ≡ device_report ReadFailed
-  read-failed-at made y r few n (settled s) = absurd (n s)
-  read-failed-at made y r few n (ended f l) = absurd (cc (f))
+  read-failed-at made y r few n (at_settled_result s) = absurd (n s)
+  read-failed-at made y r few n (at_source_end f l) = absurd (cc (f))
   read-failed-at made y r few n (read_failed m f l) = refl
   read-failed-at made y r few n (too_long m less) = absurd (omega arith)
 

@@ -27,7 +27,7 @@ use Rattle.tlv_walk.specs.Job.{EndsWith, Job, Runs, WantMore, device_states}
 use Rattle.tlv_io.specs.Out.{Sends}
 use Rattle.tlv_walk.specs.Reading.{AreOctets, IsPrefixOf, IsReading}
 use Rattle.tlv_run.proofs.Results.{Stays, one_made, settled_stays}
-use Rattle.tlv_run.specs.RunsOctets.{IsReport, RunsOctets, ended, read_failed, settled, too_long}
+use Rattle.tlv_run.specs.RunsOctets.{IsReport, RunsOctets, at_source_end, read_failed, at_settled_result, too_long}
 use Rattle.tlv_run.specs.Report.{ReportValue, device_report, result_report}
 use Rattle.tlv_run.specs.Results.{CommandResult, IsJobResult, IsSettled, command_result}
 use Rattle.tlv_run.specs.RunsAndReports.{RunsAndReports}
@@ -138,7 +138,7 @@ module _ (job : Job ReportValue) (stays : Stays job)
         let z' : (z : IsJobResult job limited_octets m) × IsSettled z =
         subst (λ (o : List ℕ). (z : IsJobResult job o m) × IsSettled z) (sym is) z in
         whole m report z'.0 sent
-        (subst (λ (s : ReportValue). IsReport job octets read_fails z'.0 s) same (settled z'.1)) in
+        (subst (λ (s : ReportValue). IsReport job octets read_fails z'.0 s) same (at_settled_result z'.1)) in
         elim k.3 [
           | inl enough ↦ final (inl enough)
           | inr rest ↦ elim rest [
@@ -159,7 +159,7 @@ module _ (job : Job ReportValue) (stays : Stays job)
                 subst (λ (o : List ℕ). IsJobResult job o m) (sym (ap (take job.limit) whole_given)) y in
                 whole m report z sent
                 (subst (λ (s : ReportValue). IsReport job octets read_fails z s) same
-                (ended (ends (x.failures ∙ quiet) end.0) few))
+                (at_source_end (ends (x.failures ∙ quiet) end.0) few))
           ]
         ]
 

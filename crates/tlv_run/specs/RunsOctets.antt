@@ -21,9 +21,9 @@ module _ (job : Job ReportValue) (octets : List ℕ) (read_fails : Bool) where
   pub data IsReport {made : CommandResult} (x : IsJobResult job (take job.limit octets) made)
       : ReportValue → Type 0 where
     -- nothing counts that could follow
-    settled : IsSettled x → IsReport x made.report
+    at_settled_result : IsSettled x → IsReport x made.report
     -- the input ends with the octets
-    ended : read_fails ≡ false → length octets ≤ job.limit → IsReport x made.report
+    at_source_end : read_fails ≡ false → length octets ≤ job.limit → IsReport x made.report
     -- after the octets a read failed
     read_failed : (IsSettled x → ⊥) → read_fails ≡ true → length octets ≤ job.limit
         → IsReport x (device_report ReadFailed)

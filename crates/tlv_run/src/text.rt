@@ -1,4 +1,4 @@
-//! The name of a file, which owns its octets.
+//! A text that owns its octets.
 use std::alloc::{AllocError, Global};
 use std::marker::Model;
 

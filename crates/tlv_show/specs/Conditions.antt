@@ -27,7 +27,7 @@ number_bits h = slice_index h.identifier 1 % 128
 abbrev pub has_long_form : HeaderValue → Bool
 has_long_form h = nat_lt 1 (length h.lengths)
 
--- the first of them
+-- 8.1.3.5: the first subsequent length octet, which is the second of all
 abbrev pub second_length_octet : HeaderValue → ℕ
 second_length_octet h = slice_index h.lengths 1
 

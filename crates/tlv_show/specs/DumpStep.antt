@@ -15,6 +15,7 @@ use Rattle.tlv_show.specs.FinderState.{without_findings}
 -- what contracts see of a `Dump`
 pub record DumpState : Type 0 where
   pub lines : LinesState
+  -- what its finder keeps
   pub finder : CheckState
 
 -- a dump of which nothing is written

@@ -24,9 +24,9 @@ abbrev pub opening_line : Layout → HeaderValue → List ℕ → List ℕ
 opening_line layout h word =
     text_line layout (columns h.offset (size_text h.size)) (tag_text h.class h.number ++ word)
 
--- with the word that is after its tag in a dump
-abbrev pub holder_line : Layout → HeaderValue → List ℕ
-holder_line layout h = opening_line layout h (opening_word h.constructed)
+-- its line in a dump: the word says whether it is constructed
+abbrev pub dump_opening_line : Layout → HeaderValue → List ℕ
+dump_opening_line layout h = opening_line layout h (opening_word h.constructed)
 
 -- its end, with the offset of its end-of-contents octets, if it has them
 abbrev pub closing_line : Layout → Option ℕ → List ℕ

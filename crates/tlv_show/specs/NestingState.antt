@@ -51,18 +51,18 @@ frame_under w h = if has_frame w h then frame_of h else top_frame
 -- after a segment more: whether it is primitive, how many contents octets it announces, and whether bits of it are
 -- unused
 abbrev pub frame_after_segment : HolderFrame → Bool → ℕ → Bool → HolderFrame
-frame_after_segment w primitive contents_length unused_bits = record w {
+frame_after_segment w primitive announced unused_bits = record w {
   last_has_unused_bits = unused_bits;
-  last_is_not_full = not (primitive && contents_length == 1000);
+  last_is_not_full = not (primitive && announced == 1000);
   all_primitive = w.all_primitive && primitive;
-  value_length = min (w.value_length + (contents_length - bits_octet_count w.is_bit_string)) 1001;
-  ends_empty = primitive && contents_length == 0;
+  value_length = min (w.value_length + (announced - bits_octet_count w.is_bit_string)) 1001;
+  ends_empty = primitive && announced == 0;
 }
 
 -- after an element more: outside of strings nothing is asked of it
 abbrev pub frame_after : HolderFrame → Bool → ℕ → Bool → HolderFrame
-frame_after w primitive contents_length unused_bits =
-    if w.has_segments then frame_after_segment w primitive contents_length unused_bits else w
+frame_after w primitive announced unused_bits =
+    if w.has_segments then frame_after_segment w primitive announced unused_bits else w
 
 -- ---- What a frame says to the conditions
 
@@ -108,8 +108,8 @@ nesting_open_step n h =
 
 -- a primitive ends: how many contents octets it announces, and whether bits of it are unused
 abbrev pub nesting_primitive_step : NestingState → ℕ → Bool → NestingState
-nesting_primitive_step n contents_length unused_bits =
-    record n { frame = frame_after n.frame true contents_length unused_bits }
+nesting_primitive_step n announced unused_bits =
+    record n { frame = frame_after n.frame true announced unused_bits }
 
 -- an element that holds others ends, inside the frames around it
 abbrev pub nesting_around : HolderFrame → List HolderFrame → NestingState

@@ -12,7 +12,7 @@ pub data Previous : Type 0 where
   Start : Previous
   -- octets 00 between encodings
   Padding : Previous
-  -- an element. Of a primitive that wraps nothing the first contents octet is kept, if there is one
+  -- an element. Of a primitive that holds no encodings the first contents octet is kept, if there is one
   Sibling : (header : HeaderValue) (first : Option ℕ) → Previous
 
 pub record Site : Type 0 where

@@ -7,8 +7,8 @@ ghost use Rattle.tlv_show.specs.FinderState.{finder_close_step, finder_end_step,
 ghost use Rattle.tlv_show.specs.FinderState.{with_findings, with_header_findings};
 ghost use Rattle.tlv_show.specs.Found.{end_findings};
 ghost use Rattle.tlv_show.specs.NestingState.{depth_in, segments_in};
-ghost use Rattle.tlv_show.specs.Private.FinderState.{PassesOrStays, HasFound};
-ghost use Rattle.tlv_show.specs.Private.FinderState.{finder_step, new_finder, with_state};
+ghost use Rattle.tlv_show.specs.Private.FinderState.{PassesOrStays, ReturnsFindings};
+ghost use Rattle.tlv_show.specs.Private.FinderState.{finder_step, new_finder, with_check_state};
 
 use crate::Rules;
 use crate::contents_findings::add_contents_findings;
@@ -103,7 +103,7 @@ impl Finder {
     /// findings stay those of an event before.
     #[inline(always)]
     pub fn find(&mut self, event: &Event<'_>) -> bool
-        ensures { HasFound
+        ensures { ReturnsFindings
             (finder_step self.old.kept (event_value_of event.now)) self.new result }
     {
         match event {
@@ -143,7 +143,7 @@ impl Finder {
     /// Finds what is to be found with a header, after a short look. Returns whether there may be findings.
     #[inline(always)]
     fn find_with_header(&mut self, header: &Header) -> bool
-        ensures { HasFound
+        ensures { ReturnsFindings
             (with_header_findings self.old.kept header.now self.old.kept) self.new result }
     {
         if has_no_header_findings(self.rules, self.holders.frame(), header) {
@@ -174,7 +174,7 @@ impl Finder {
     /// Keeps where a primitive begins, and that nothing of its contents has come.
     #[inline(always)]
     fn set_in_primitive(&mut self, header: &Header)
-        ensures { self.new ≡ with_state (finder_in_primitive self.old.kept header.now) self.old }
+        ensures { self.new ≡ with_check_state (finder_in_primitive self.old.kept header.now) self.old }
     {
         self.offset = header.offset;
         self.is_open = true;
@@ -184,7 +184,7 @@ impl Finder {
     /// An element that holds others begins.
     #[inline(always)]
     pub fn open(&mut self, header: &Header) -> bool
-        ensures { HasFound (finder_open_step self.old.kept header.now) self.new result }
+        ensures { ReturnsFindings (finder_open_step self.old.kept header.now) self.new result }
     {
         // Most such elements are no strings, and nothing is found with them.
         if has_no_header_findings(self.rules, self.holders.frame(), header) {
@@ -199,7 +199,7 @@ impl Finder {
     /// A primitive begins.
     #[inline(always)]
     pub fn begin(&mut self, header: &Header) -> bool
-        ensures { HasFound (finder_begin_step self.old.kept header.now) self.new result }
+        ensures { ReturnsFindings (finder_begin_step self.old.kept header.now) self.new result }
     {
         let may_have_findings = self.find_with_header(header);
         self.set_in_primitive(header);
@@ -209,7 +209,7 @@ impl Finder {
     /// Contents of a primitive go on. Only as many octets as were announced are counted.
     #[inline(always)]
     pub fn bytes(&mut self, octets: &[u8])
-        ensures { self.new ≡ with_state (finder_bytes_step self.old.kept octets.now) self.old }
+        ensures { self.new ≡ with_check_state (finder_bytes_step self.old.kept octets.now) self.old }
     {
         if self.is_open && !octets.is_empty() {
             let count = self.check.left().min(octets.len() as u64) as usize;
@@ -220,7 +220,7 @@ impl Finder {
     /// A primitive ends.
     #[inline(always)]
     pub fn end(&mut self) -> bool
-        ensures { HasFound (finder_end_step self.old.kept) self.new result }
+        ensures { ReturnsFindings (finder_end_step self.old.kept) self.new result }
     {
         if !self.is_open {
             return false;
@@ -244,7 +244,7 @@ impl Finder {
     /// An element that holds others ends.
     #[inline(always)]
     pub fn close(&mut self) -> bool
-        ensures { HasFound (finder_close_step self.old.kept) self.new result }
+        ensures { ReturnsFindings (finder_close_step self.old.kept) self.new result }
     {
         match self.holders.close() {
             Some(closed) => self.find_with_end(&closed),
@@ -255,7 +255,7 @@ impl Finder {
     /// Finds what is to be found with the end of an element that held segments.
     #[inline(never)]
     fn find_with_end(&mut self, closed: &HolderFrame) -> bool
-        ensures { HasFound
+        ensures { ReturnsFindings
             (with_findings self.old.kept (depth_in self.old.kept.holders) closed.now.offset
             (end_findings self.old.kept.rules (segments_in closed.now)))
             self.new result }

@@ -48,7 +48,7 @@ pub(crate) fn add_header_findings(
 pub(crate) fn has_no_header_findings(rules: Rules, frame: &HolderFrame, header: &Header) -> bool
     ensures findings { IsTrue result
         → header_findings rules (surroundings_in frame.now) header.now ≡ [] }
-    ensures segments { IsTrue result → has_frame frame.now header.now ≡ false }
+    ensures no_frame { IsTrue result → has_frame frame.now header.now ≡ false }
 {
     is_usual(header) && has_no_header_findings_if_usual(rules, frame, header)
 }

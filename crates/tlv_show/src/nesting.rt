@@ -2,7 +2,7 @@
 ghost use Rattle.std.specs.Prelude.{◌≡◌, false, true};
 ghost use Rattle.tlv_show.specs.NestingState.{depth_in, has_frame, nesting_close_step, nesting_open_step};
 ghost use Rattle.tlv_show.specs.NestingState.{nesting_primitive_step, new_nesting, surroundings_in};
-ghost use Rattle.tlv_show.specs.Private.Nesting.{TakesBack, closed_frame};
+ghost use Rattle.tlv_show.specs.Private.Nesting.{TakesBack, closed_string_frame};
 
 use crate::headers::has_segments;
 use crate::holder_frame::{HolderFrame, KeptFrame, frame_of, set_frame_after, top_frame};
@@ -121,7 +121,7 @@ impl Nesting {
     #[inline(always)]
     pub fn close(&mut self) -> Option<HolderFrame>
         ensures nest { self.new ≡ nesting_close_step self.old }
-        ensures segments { result ≡ closed_frame self.old }
+        ensures closed { result ≡ closed_string_frame self.old }
     {
         if self.depth > self.floor {
             // It has no frame.

@@ -24,13 +24,13 @@ fn writes<F: Follow>(follower: &mut F, written: &[u8]) -> bool {
 #[test]
 fn followers_write_by_themselves(rt: HostRuntime) {
     let mut follower = Extract::new(2, true);
-    expect(&rt, !follower.found(), "nothing is found at first");
+    expect(&rt, !follower.has_found(), "nothing is found at first");
     expect(
         &rt,
         writes(&mut follower, b"\x05"),
         "the contents are written",
     );
-    expect(&rt, follower.found(), "the element is found");
+    expect(&rt, follower.has_found(), "the element is found");
     let is_written = writes(&mut Indef::new(), INDEFINITE);
     expect(&rt, is_written, "the indefinite form is written");
 }

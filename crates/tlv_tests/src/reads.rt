@@ -1,7 +1,7 @@
 //! Reads that are followed one by one.
-ghost use Rattle.std.specs.Prelude.{◌<◌, ◌≤◌, length};
+ghost use Rattle.std.specs.Prelude.{◌≤◌};
 ghost use Rattle.tlv_walk.specs.Stands.{CanTake};
-ghost use Rattle.tlv_head.specs.InputLimit.{input_limit};
+ghost use Rattle.tlv_walk.specs.OneTurn.{CanTurn};
 
 use crate::expect::expect_eq;
 use std::process::Abort;
@@ -21,10 +21,7 @@ pub(crate) fn expect_again<F: Follow>(
     limit: u64,
     written: &[u8],
 )
-    requires piece { (0 < length piece.old) × (length piece.old ≤ 4096) }
-    requires limit { limit ≤ input_limit }
-    requires taken { walker.old.offset ≤ limit }
-    requires ready { CanTake walker.old }
+    requires { CanTurn walker.old piece.old limit }
     ensures taken { walker.new.offset ≤ limit }
     ensures ready { CanTake walker.new }
 {
@@ -45,10 +42,7 @@ pub(crate) fn expect_failure<F: Follow>(
     limit: u64,
     written: &[u8],
 )
-    requires piece { (0 < length piece.old) × (length piece.old ≤ 4096) }
-    requires limit { limit ≤ input_limit }
-    requires taken { walker.old.offset ≤ limit }
-    requires ready { CanTake walker.old }
+    requires { CanTurn walker.old piece.old limit }
     ensures taken { walker.new.offset ≤ limit }
     ensures ready { CanTake walker.new }
 {

@@ -3,7 +3,7 @@ mod calls;
 mod turns;
 
 use crate::expect::expect_eq;
-use crate::reads::{LENGTH, expect_again, expect_written};
+use crate::reads::{LENGTH, expect_again};
 use std::process::Abort;
 use std::test::Fail;
 use tlv_head::{Header, read_header};

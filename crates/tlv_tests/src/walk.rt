@@ -95,13 +95,13 @@ fn framing_of(rt: &impl Abort, row: &Row<'_>) -> Framing {
     }
 }
 
-/// Walks over the row's input, and expects this outcome.
+/// Walks over the row's input, and expects this result.
 fn expect_walk(
     rt: &impl Abort,
     row: &Row<'_>,
     reads: ReadPlan<'_>,
     drain: &mut MemDrain<'_>,
-    outcome: WalkResult<'_>,
+    wanted: WalkResult<'_>,
 ) {
     let mut source = MemSource::new(row.input, reads.cuts, reads.fail_at);
     let result = drive_up_to(
@@ -111,17 +111,17 @@ fn expect_walk(
         reads.limit.min(INPUT_LIMIT),
         &framing_of(rt, row),
     );
-    expect_eq_of(rt, row.name, result, outcome.result);
-    expect_eq_of(rt, row.name, drain.written(), outcome.written);
+    expect_eq_of(rt, row.name, result, wanted.result);
+    expect_eq_of(rt, row.name, drain.written(), wanted.written);
 }
 
-/// Expects the row's own outcome.
+/// Expects the row's own result.
 fn expect_row(rt: &impl Abort, row: &Row<'_>, text: &[u8], reads: ReadPlan<'_>, room: &mut [u8]) {
-    let outcome = WalkResult {
+    let wanted = WalkResult {
         written: text,
         result: Ok(run_of(row)),
     };
-    expect_walk(rt, row, reads, &mut MemDrain::new(room, 4096), outcome);
+    expect_walk(rt, row, reads, &mut MemDrain::new(room, 4096), wanted);
 }
 
 /// Expects it whole, in single octets, and in every cut into two pieces.

@@ -138,7 +138,8 @@ impl Primitive {
     ) -> Result<(), WriteFault>
         requires { 9 < self.now.size }
         ensures { Puts D.state out.old out.new
-            (primitive_line self.now (long_text Kind.Bits self.now.size (unused_bits ∷ []))) result }
+            (primitive_line self.now (long_text Kind.Bits self.now.size (unused_bits ∷ [])))
+            result }
     {
         out.make_room()?;
         self.write_bits_line(&mut out.held, unused_bits);

@@ -1,4 +1,4 @@
--- What `command_of` returns: the command that the words ask for, or why they ask for none.
+-- What `command_of` returns: the command that the words ask for, or why there is none.
 use Rattle.std.specs.Prelude.{◌≡◌, ◌≢◌, Bool, false, List, [], Option, Some, None, Result, Ok, Err}
 use Rattle.std.specs.Prelude.{⊤, codes, if◌then◌else◌, option_map}
 use Rattle.std.specs.Option.{option_map_or}
@@ -96,7 +96,7 @@ pub record AreRefusedBy (words : List Text) (error : Error) : Type 0 where
   pub cause : IsAmong (kind_of error) (fault_of tlvdump_app words)
   pub not_memory : kind_of error ≢ OutOfMemory
 
--- why the words ask for no command to be run: a line for each cause
+-- why there is no command to run: a line for each cause
 abbrev pub IsUsageFaultOf : List Text → UsageFault → Type 0
 -- `clap` does not take the words, or they ask for help or for the version
 IsUsageFaultOf words (Parser error) = AreRefusedBy words error

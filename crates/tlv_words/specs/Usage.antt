@@ -1,4 +1,4 @@
--- What the program reports if the words of its command line ask for no command to be run.
+-- What the program reports if there is no command to run.
 use Rattle.std.specs.Prelude.{ℕ, [], ◌++◌, codes, take}
 use Rattle.clap.specs.Words.{kind_of}
 use Rattle.clap.specs.declared.error.kind.ErrorKind.{ErrorKind}

@@ -52,7 +52,7 @@ fn usage_fault(error: clap::Error) -> UsageFault
 fn matched_command(alloc: Global, matches: &ArgMatches<'_>) -> Result<Command, UsageFault>
     requires { is_some (subcommand_rows_of matches.now) ≡ true }
     ensures { IfSome (subcommand_rows_of matches.now)
-        (λ (name, matches). Returns (matched_command name matches) result) }
+        (λ (name, rows). Returns (matched_command name rows) result) }
 {
     let Some((name, found)) = matches.subcommand() else {
         unreachable!();

@@ -1,4 +1,4 @@
-//! The words of `tlvdump`'s command line: the command that they ask for, or why they ask for none.
+//! The words of `tlvdump`'s command line: the command that they ask for, or why there is none.
 #![tactic(auto)]
 
 mod command_of_call;

@@ -1,4 +1,4 @@
-//! Why the words of a command line ask for no command to be run, and what the program reports then.
+//! Why there is no command to run, and what the program reports then.
 ghost use Rattle.std.specs.Prelude.{◌≡◌, ◌++◌, ◌≤◌, codes, length};
 ghost use Rattle.tlv_run.specs.Report.{report_value_of};
 ghost use Rattle.tlv_words.specs.Usage.{unprinted_report, usage_report, not_utf8_report};
@@ -7,11 +7,10 @@ use arrayvec::ArrayVec;
 use tlv_run::{Report, device_report};
 use tlv_walk::DeviceFault;
 
-/// Why words ask for no command to be run.
+/// Why there is no command to run.
 #[derive(Debug, Drop)]
 pub enum UsageFault {
-    /// `clap` does not take the words, or they ask for help or for the version: it has no code, since `clap` writes its
-    /// own lines.
+    /// `clap` does not take the words, or they ask for help or for the version. There is no code: the text is `clap`'s own.
     Parser(clap::Error),
     /// U2: the value of this option is not in its range. The name is as on the command line, with `--`.
     Value(&'static str),
@@ -19,7 +18,7 @@ pub enum UsageFault {
     Memory,
 }
 
-/// The report if the words are refused, or ask for help or for the version. What `clap` has to say is no part of it.
+/// The report if there is no command to run. What `clap` has to say is no part of it.
 pub fn usage_report(fault: &UsageFault) -> Report
     ensures { report_value_of result ≡ usage_report fault.now }
 {

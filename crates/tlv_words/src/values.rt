@@ -8,10 +8,7 @@ ghost use Rattle.tlv_run.specs.BorrowedText.{text_in};
 
 use arrayvec::ArrayVec;
 use tlv_show::Rules;
-use tlv_walk::Inside;
-
-/// The largest offset that an option may have, in octets: 2^40.
-const MOST_OFFSET: u64 = 1 << 40;
+use tlv_walk::{INPUT_LIMIT, Inside};
 
 /// The number that the text is: 1 to 13 digits, with leading zeros or without, of a number up to `most`.
 fn bounded_number(text: &[u8], most: u64) -> Option<u64>
@@ -62,7 +59,7 @@ pub(crate) fn limit_value(text: Option<&str>) -> Option<Option<u32>>
 pub(crate) fn offset_value(text: Option<&str>) -> Option<u64>
     ensures { result ≡ offset_value (text_in text.entry) }
 {
-    bounded_number(text?.as_bytes(), MOST_OFFSET)
+    bounded_number(text?.as_bytes(), INPUT_LIMIT)
 }
 
 /// The offsets that the text lists. Without a text there are none.
@@ -83,7 +80,7 @@ fn offset_list(text: &[u8]) -> Option<Inside>
     let mut rest = Some(text);
     while let Some(parts) = rest {
         let (first, others) = first_part(parts);
-        let offset = bounded_number(first, MOST_OFFSET)?;
+        let offset = bounded_number(first, INPUT_LIMIT)?;
         if offsets.is_full() {
             return None;
         }

@@ -3,7 +3,6 @@ use super::{ONES, READ_FAILED, WRITE_FAILED};
 use crate::expect::expect_eq;
 use crate::row::{Case, case_of, command_for};
 use crate::table::tables;
-use std::alloc::Global;
 use std::process::Abort;
 use std::test::Fail;
 use tlv_run::{OctetsRun, run_octets};

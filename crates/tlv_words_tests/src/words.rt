@@ -1,4 +1,4 @@
-//! What words mean: the command that they ask for, or why they ask for none.
+//! What words mean: the command that they ask for, or why there is none.
 use super::words_rows::{
     CUTS, CommandRow, HELP_AND_VERSION, INSIDE, LIMITS, Meaning, REFUSED_VALUES, RULES,
     WRONG_OPTIONS, WRONG_WORDS,

@@ -24,7 +24,7 @@ use Rattle.tlv_show.specs.FinderState.{CheckState, FinderState}
 use Rattle.tlv_show.specs.NestingState.{frame_under, surroundings_in, frame_after}
 use Rattle.tlv_show.specs.Found.{contents_findings, header_findings, end_findings}
 use Rattle.tlv_show.specs.Items.{Item, FindingAt, items, finding_items, headers}
-use Rattle.tlv_show.specs.Lines.{holder_line, closing_line}
+use Rattle.tlv_show.specs.Lines.{dump_opening_line, closing_line}
 use Rattle.tlv_show.specs.Site.{Previous, Site, is_padding}
 use Rattle.tlv_show.specs.Texts.{item_text}
 use Rattle.tlv_show.proofs.DumpLemmas.DumpTexts.{at_level, holder_shown, ends_in_padding, primitive_shown}
@@ -109,7 +109,7 @@ module _ (style : Layout) (names : NamesValue) (rules : Rules) where
       → effect_of dump_step (start p (is_padding previous) w outer n) (opening_events h)
       ≡ effect_with (start (place_of_children p h) false (frame_under w h) (w ∷ outer) (later_header rules w h n))
       (styled_lines (Dump style.pure) (length outer) h.offset (header_findings rules (surroundings_in w) h)
-      ++ holder_line (at_level style names p.depth) h)
+      ++ dump_opening_line (at_level style names p.depth) h)
   opened-shown p holder previous w outer n h k there low far =
       opens-by (lines_between style names p.depth p.offset (is_padding previous)) (check_between rules w outer n) h
       h.constructed (h.number == 3)

@@ -31,7 +31,7 @@ use Rattle.tlv_show.specs.Items.{Item, OpeningLine, ClosingLine, PrimitiveLines,
 use Rattle.tlv_show.specs.Items.{PaddingLine, headers, items}
 use Rattle.tlv_show.specs.Items.{finding_items}
 use Rattle.tlv_show.specs.Lines.{closing_line, opening_line, padding_line, opening_word}
-use Rattle.tlv_show.specs.Lines.{holder_line}
+use Rattle.tlv_show.specs.Lines.{dump_opening_line}
 use Rattle.tlv_show.specs.Site.{Previous, Padding, Sibling, Site, Start, is_padding, site_of_children}
 use Rattle.tlv_show.specs.Site.{site_after_primitive, site_after_holder, site_after_padding}
 use Rattle.tlv_show.proofs.FindingLemmas.SiteWords.{first_contents_octet}
@@ -165,7 +165,7 @@ module _ (style : Layout) (names : NamesValue) (rules : Rules) where
       outer rest v.2 (omega (arith, b, size))
       (knows-after w s (site_after_holder s h inside) h None false k.0 refl refl refl, k.1, k.2) in
       let end : ℕ = p.offset + length (opening h) + length (spelling inside) in
-      let line : List ℕ = holder_line (at_level style names p.depth) h in
+      let line : List ℕ = dump_opening_line (at_level style names p.depth) h in
       let close : List ℕ =
       closing_line (at_level style names p.depth) (if h.constructed then end_octets_offset h inside else None) in
       let first : List ℕ =
@@ -288,7 +288,7 @@ module _ (style : Layout) (names : NamesValue) (rules : Rules) where
       (omega (arith, b, size)) (knows-inside w s h, omega (arith, k.1), λ e. absurd (cc (e))) in
       let first : List ℕ =
       styled_lines (Dump style.pure) (length outer) h.offset (header_findings rules (surroundings_in w) h) in
-      let line : List ℕ = holder_line (at_level style names p.depth) h in
+      let line : List ℕ = dump_opening_line (at_level style names p.depth) h in
       record {
         text = λ n.
             ap (λ (x : Effect DumpState). x.put)

@@ -13,7 +13,7 @@ use Rattle.tlv_show.specs.LinesStep.{lines_octet_step, lines_padding_step}
 use Rattle.tlv_show.specs.DumpStep.{DumpState, dump_octet_step, dump_padding_step, dump_step, finding_lines}
 use Rattle.tlv_show.specs.FinderState.{CheckState, FinderState, finder_bytes_step}
 use Rattle.tlv_show.specs.FindingLines.{last_finding_lines}
-use Rattle.tlv_show.specs.Private.FinderState.{HasFound, with_findings_if}
+use Rattle.tlv_show.specs.Private.FinderState.{ReturnsFindings, with_findings_if}
 use Rattle.tlv_show.specs.declared.finding_lines.Style.{Style}
 use Rattle.tlv_show.specs.declared.finding_lines.Style.TheVariants.{Dump}
 use Rattle.tlv_show.proofs.FindingLemmas.CheckLaws.{found-join, last-same}
@@ -76,7 +76,7 @@ all_on s (e ∷ es) =
 
 module _ {D : Type 0} (taken : D → DrainState) (s : DumpState) (f last : FinderState) (may_have_findings : Bool)
     (style : Style) where
-  lines-last : style ≡ Dump s.lines.layout.pure → HasFound f last may_have_findings
+  lines-last : style ≡ Dump s.lines.layout.pure → ReturnsFindings f last may_have_findings
       → last_finding_lines style (with_findings_if may_have_findings last) ≡ finding_lines s f
   lines-last is says =
       ap (λ (y : Style). last_finding_lines y (with_findings_if may_have_findings last)) is
@@ -84,21 +84,21 @@ module _ {D : Type 0} (taken : D → DrainState) (s : DumpState) (f last : Finde
 
   module _ {T U E : Type 0} where
     pub found_failed : (a b : Out D) (put : List ℕ) (e : E) (r : Result U E) → style ≡ Dump s.lines.layout.pure
-        → HasFound f last may_have_findings
+        → ReturnsFindings f last may_have_findings
         → Puts {T = T} {E = E} taken a b (last_finding_lines style (with_findings_if may_have_findings last)) (Err e)
         → IsErr r → Puts taken a b (finding_lines s f ++ put) r
     found_failed a b put e r is says failed err =
         puts_failed taken a b _ put e r (puts_text taken a b _ _ (Err e) (lines-last is says) failed) err
 
     pub found_before : (a b c : Out D) (put : List ℕ) (x : T) (r : Result U E) → style ≡ Dump s.lines.layout.pure
-        → HasFound f last may_have_findings
+        → ReturnsFindings f last may_have_findings
         → Puts {T = T} {E = E} taken a b (last_finding_lines style (with_findings_if may_have_findings last)) (Ok x)
         → Puts taken b c put r → Puts taken a c (finding_lines s f ++ put) r
     found_before a b c put x r is says found lines =
         puts_then taken a b c _ put x r (puts_text taken a b _ _ (Ok x) (lines-last is says) found) lines
 
     pub found_after : (a b c : Out D) (put : List ℕ) (x : T) (r : Result U E) → style ≡ Dump s.lines.layout.pure
-        → HasFound f last may_have_findings
+        → ReturnsFindings f last may_have_findings
         → Puts {T = T} {E = E} taken a b put (Ok x)
         → Puts taken b c (last_finding_lines style (with_findings_if may_have_findings last)) r
         → Puts taken a c (put ++ finding_lines s f) r

@@ -26,7 +26,7 @@ use Rattle.tlv_walk.proofs.FollowerLemmas.Followed.{followed-more}
 use Rattle.tlv_walk.proofs.GrammarLemmas.Spellings.{length-opening}
 use Rattle.tlv_show.specs.LinesStep.{LinesState, lines_step, lines_after_header}
 use Rattle.tlv_show.specs.Lines.{closing_line, opening_line, padding_line, opening_word}
-use Rattle.tlv_show.specs.Lines.{holder_line}
+use Rattle.tlv_show.specs.Lines.{dump_opening_line}
 use Rattle.tlv_show.proofs.DumpLemmas.OctetPieces.{after_put, dumped_bytes, rested-new}
 use Rattle.tlv_show.proofs.DumpLemmas.Always.{all_on}
 use Rattle.tlv_show.specs.SaturatingSum.{saturating_sum}
@@ -177,12 +177,12 @@ module _ (style : Layout) (names : NamesValue) where
   pub holder_shown : (level offset : ℕ) (padded : Bool) (h : HeaderValue) → h.offset ≡ offset → level + 1 ≤ 255
       → offset + length (opening h) ≤ 2 ^ 64 - 1
       → effect_of lines_step (lines_between level offset padded) (opening_events h)
-      ≡ effect_with (lines_between (level + 1) (offset + length (opening h)) false) (holder_line (at_level level) h)
+      ≡ effect_with (lines_between (level + 1) (offset + length (opening h)) false) (dump_opening_line (at_level level) h)
   holder_shown level offset padded h there low far_enough =
       holder_by level offset padded h.constructed (eqb h.number 3) h there low
       (omega (arith, far_enough, length-opening h))
       ∙ settled (level + 1) (level + 1) (offset + (length (octets_of h) + length (lead h)))
-      (offset + length (opening h)) false false (holder_line (at_level level) h) (holder_line (at_level level) h)
+      (offset + length (opening h)) false false (dump_opening_line (at_level level) h) (dump_opening_line (at_level level) h)
       refl (omega (arith, length-opening h)) refl refl
 
   -- ---- and ends

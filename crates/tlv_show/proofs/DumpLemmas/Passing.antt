@@ -23,7 +23,7 @@ use Rattle.tlv_show.specs.CheckStep.{check_step, findings_effect}
 use Rattle.tlv_show.specs.FindingLines.{styled_lines}
 use Rattle.tlv_show.specs.FinderState.{CheckState, FinderState, finder_begin_step, finder_bytes_step}
 use Rattle.tlv_show.specs.NestingState.{depth_in, frame_after, frame_after_segment, surroundings_in}
-use Rattle.tlv_show.specs.Private.FinderState.{PassesOrStays, PassesPrimitive, finder_whole_step, with_state}
+use Rattle.tlv_show.specs.Private.FinderState.{PassesOrStays, PassesPrimitive, finder_whole_step, with_check_state}
 use Rattle.tlv_show.specs.Private.UsualTypes.{IsUsual}
 use Rattle.tlv_show.specs.Found.{is_shown, header_findings}
 use Rattle.tlv_show.proofs.FindingLemmas.CheckLaws.{each-found}
@@ -92,13 +92,13 @@ passed s h c size w header contents =
 pub passes : (old new : FinderState) (h : HeaderValue) (c : List ℕ) → announced_length h.size ≡ length c
     → old.kept.holders.frame.has_segments ≡ false
     → header_findings old.kept.rules (surroundings_in old.kept.holders.frame) h ≡ [] → all_contents_findings h c ≡ []
-    → new ≡ with_state (without_primitive old.kept) old → PassesPrimitive old new h c
+    → new ≡ with_check_state (without_primitive old.kept) old → PassesPrimitive old new h c
 passes old new h c size w header contents e =
     let all = passed old.kept h c size w header contents in
     record {
       begins = header;
       ends = ap (λ (f : FinderState). f.findings) all;
-      state = e ∙ ap (λ (f : FinderState). with_state f.kept old) (sym all);
+      kept = e ∙ ap (λ (f : FinderState). with_check_state f.kept old) (sym all);
     }
 
 -- ---- a check

@@ -14,7 +14,7 @@ use Rattle.tlv_show.specs.CheckStep.{check_octet_step, check_step, findings_effe
 use Rattle.tlv_show.specs.FindingLines.{last_finding_lines, styled_lines}
 use Rattle.tlv_show.specs.FinderState.{CheckState, FinderState, OpenPrimitiveState, finder_bytes_step}
 use Rattle.tlv_show.specs.FinderState.{open_primitive_after}
-use Rattle.tlv_show.specs.Private.FinderState.{HasFound, finder_step, with_findings_if}
+use Rattle.tlv_show.specs.Private.FinderState.{ReturnsFindings, finder_step, with_findings_if}
 use Rattle.tlv_show.proofs.DumpLemmas.OctetPieces.{take-both}
 
 primitive-join : (v : Option OpenPrimitiveState) (x y : List ℕ)
@@ -58,25 +58,25 @@ step-is s Leave = refl
 step-is s (Pad octets) = refl
 
 -- what was reported, if anything was, is all that there is
-pub last-same : (style : Style) (f v : FinderState) (may_have_findings : Bool) → HasFound f v may_have_findings
+pub last-same : (style : Style) (f v : FinderState) (may_have_findings : Bool) → ReturnsFindings f v may_have_findings
     → last_finding_lines style (with_findings_if may_have_findings v) ≡ last_finding_lines style f
 last-same style f v true e = ap (last_finding_lines style) e
 last-same style f v false e = sym (ap (styled_lines style f.level f.offset) e.1)
 
-pub last-state : (f v : FinderState) (may_have_findings : Bool) → HasFound f v may_have_findings
+pub last-state : (f v : FinderState) (may_have_findings : Bool) → ReturnsFindings f v may_have_findings
     → v.kept ≡ f.kept
 last-state f v true e = ap (λ (u : FinderState). u.kept) e
 last-state f v false e = e.0
 
 -- what was reported and put is what the step says
 module _ (s t : CheckState) (v : FinderState) (may_have_findings : Bool) (e : EventValue) where
-  pub step-text : s ≡ t → HasFound (finder_step t e) v may_have_findings
+  pub step-text : s ≡ t → ReturnsFindings (finder_step t e) v may_have_findings
       → last_finding_lines Check (with_findings_if may_have_findings v) ≡ (check_step s e).put
   step-text i f =
       rw i
       (last-same Check (finder_step t e) v may_have_findings f
       ∙ ap (λ (k : Effect CheckState). k.put) (sym (step-is t e)))
 
-  pub step-state : s ≡ t → HasFound (finder_step t e) v may_have_findings
+  pub step-state : s ≡ t → ReturnsFindings (finder_step t e) v may_have_findings
       → (v.kept ≡ (check_step s e).state) × (go.On ≡ (check_step s e).goes)
   step-state i f = rw i (rw (step-is t e) (last-state (finder_step t e) v may_have_findings f, refl))

@@ -10,7 +10,7 @@ use Rattle.tlv_show.specs.NestingState.{NestingState, frame_after, frame_after_s
 use Rattle.tlv_show.specs.NestingState.{nesting_around, nesting_close_step, nesting_open_step, surroundings_in}
 use Rattle.tlv_show.specs.NestingState.{top_frame}
 use Rattle.tlv_show.specs.Private.Nesting.{AreKept, IsKept, TakesBack, all_frames, frames_with, innermost_frame}
-use Rattle.tlv_show.specs.Private.Nesting.{outer_frames, closed_frame_inside, closed_frame}
+use Rattle.tlv_show.specs.Private.Nesting.{outer_frames, closed_string_frame_inside, closed_string_frame}
 
 -- ---- how many there are
 
@@ -152,7 +152,7 @@ closed-frame closed w (suc n) outer kept =
     (outer_frames-strings w closed.is_primitive closed.announced_length false (sym kept))
 
 closed-top : (w : HolderFrame) (outer : List HolderFrame) → length outer ≡ 0
-    → (record { frame = w; outer = outer } ≡ nesting_around w outer) × (None ≡ closed_frame_inside w outer)
+    → (record { frame = w; outer = outer } ≡ nesting_around w outer) × (None ≡ closed_string_frame_inside w outer)
 closed-top w [] none = (refl, refl)
 closed-top w (v ∷ outer) none = absurd (omega arith)
 
@@ -166,7 +166,7 @@ module _ (w : HolderFrame) (floor depth : ℕ) (outer : List KeptFrame) where
 
   pub closes-top : floor ≤ depth → AreKept floor outer → depth ≡ 0
       → (nesting_of w floor depth outer ≡ nesting_close_step (nesting_of w floor depth outer))
-      × (None ≡ closed_frame (nesting_of w floor depth outer))
+      × (None ≡ closed_string_frame (nesting_of w floor depth outer))
   closes-top inside others top =
       closed-top (innermost_frame w (depth - floor)) (outer_frames w (depth - floor) (all_frames floor outer))
       (one_each w floor depth outer inside others ∙ top)

@@ -11,15 +11,14 @@ use Rattle.tlv_show.specs.FinderState.{finder_end_step, finder_close_step}
 abbrev pub new_finder : Rules → FinderState
 new_finder rules = without_findings (new_check rules)
 
--- the state alone changes
-abbrev pub with_state : CheckState → FinderState → FinderState
-with_state s f = record f { kept = s }
+-- what is kept alone changes
+abbrev pub with_check_state : CheckState → FinderState → FinderState
+with_check_state s f = record f { kept = s }
 
--- what a finder has found with an event. It returns whether there may be findings: if so, it says what they are; if
--- not, there are none
-abbrev pub HasFound : FinderState → FinderState → Bool → Type 0
-HasFound f new true = new ≡ f
-HasFound f new false = (new.kept ≡ f.kept) × (f.findings ≡ [])
+-- a finder returns whether there may be findings with an event: if so, it says what they are; if not, there are none
+abbrev pub ReturnsFindings : FinderState → FinderState → Bool → Type 0
+ReturnsFindings f new true = new ≡ f
+ReturnsFindings f new false = (new.kept ≡ f.kept) × (f.findings ≡ [])
 
 -- what is found, if the finder says that there may be findings
 abbrev pub with_findings_if : Bool → FinderState → FinderState
@@ -41,11 +40,11 @@ finder_step s (Pad octets) = without_findings s
 abbrev pub finder_whole_step : CheckState → HeaderValue → List ℕ → FinderState
 finder_whole_step s h c = finder_end_step (finder_bytes_step (finder_begin_step s h).kept c)
 
--- nothing is found with a primitive, and the state is that after its end
+-- nothing is found with a primitive, and what is kept is what is kept after its end
 pub record PassesPrimitive (old new : FinderState) (h : HeaderValue) (c : List ℕ) : Type 0 where
   pub begins : (finder_begin_step old.kept h).findings ≡ []
   pub ends : (finder_whole_step old.kept h c).findings ≡ []
-  pub state : new ≡ with_state (finder_whole_step old.kept h c).kept old
+  pub kept : new ≡ with_check_state (finder_whole_step old.kept h c).kept old
 
 -- a finder returns whether it took a primitive with which nothing is found; if not, nothing changes
 abbrev pub PassesOrStays : FinderState → FinderState → HeaderValue → List ℕ → Bool → Type 0

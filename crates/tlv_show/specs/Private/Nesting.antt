@@ -11,12 +11,12 @@ use Rattle.tlv_show.specs.NestingState.{NestingState, frame_after, top_frame}
 abbrev pub frame_if_segments : HolderFrame → Option HolderFrame
 frame_if_segments w = if w.has_segments then Some w else None
 
-abbrev pub closed_frame_inside : HolderFrame → List HolderFrame → Option HolderFrame
-closed_frame_inside closed [] = None
-closed_frame_inside closed (w ∷ outer) = frame_if_segments closed
+abbrev pub closed_string_frame_inside : HolderFrame → List HolderFrame → Option HolderFrame
+closed_string_frame_inside closed [] = None
+closed_string_frame_inside closed (w ∷ outer) = frame_if_segments closed
 
-abbrev pub closed_frame : NestingState → Option HolderFrame
-closed_frame s = closed_frame_inside s.frame s.outer
+abbrev pub closed_string_frame : NestingState → Option HolderFrame
+closed_string_frame s = closed_string_frame_inside s.frame s.outer
 
 -- ---- Those that are kept
 
@@ -33,7 +33,7 @@ abbrev pub outer_frames : HolderFrame → ℕ → List HolderFrame → List Hold
 outer_frames w zero outer = outer
 outer_frames w (suc without_frame) outer = frames_with w without_frame outer
 
--- those outside of an element that has a frame, by its floor. It is itself at the level `floor - 1`; outside of it,
+-- those outside of an element that has a frame, by its floor. It is itself inside `floor - 1` others; outside of it,
 -- from the floor of `k` on, elements without a frame are open
 abbrev pub all_frames : ℕ → List KeptFrame → List HolderFrame
 all_frames floor [] = []

@@ -87,9 +87,9 @@ fn wordings(rt: HostRuntime) {
     expect_eq(&rt, Finding::B08.text(), b"integer is padded".as_slice());
 }
 
-/// The words of a finding, with spaces after them.
+/// The code and the text of a finding are the first octets of its block.
 #[test]
-fn wordings_are_padded(rt: HostRuntime) {
+fn wordings_begin_their_blocks(rt: HostRuntime) {
     let (wording, count) = Finding::D01.wording_block();
     expect_eq(&rt, &wording[..count], b"D01 indefinite length".as_slice());
     expect_eq(&rt, count, 21);

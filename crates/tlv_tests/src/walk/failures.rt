@@ -23,11 +23,11 @@ fn expect_failed_reads(rt: &impl Abort, alloc: Global, rows: &[Row<'_>]) -> Resu
                 expect_row(rt, row, text.as_slice(), reads, &mut room);
                 continue;
             }
-            let outcome = WalkResult {
+            let wanted = WalkResult {
                 written: text.as_slice(),
                 result: Err(DeviceFault::ReadFailed),
             };
-            expect_walk(rt, row, reads, &mut MemDrain::new(&mut room, 4096), outcome);
+            expect_walk(rt, row, reads, &mut MemDrain::new(&mut room, 4096), wanted);
         }
     }
     Ok(())
@@ -61,11 +61,11 @@ fn expect_limits(
                 expect_row(rt, row, text.as_slice(), reads, &mut room);
                 continue;
             }
-            let outcome = WalkResult {
+            let wanted = WalkResult {
                 written: text.as_slice(),
                 result: Err(DeviceFault::InputTooLong),
             };
-            expect_walk(rt, row, reads, &mut MemDrain::new(&mut room, 4096), outcome);
+            expect_walk(rt, row, reads, &mut MemDrain::new(&mut room, 4096), wanted);
         }
     }
     Ok(())
@@ -92,12 +92,12 @@ fn expect_too_little_room(
     assert!(rt; text.len() <= room.len());
     let reads = ReadPlan { cuts, ..WHOLE };
     for size in 0..text.len() {
-        let outcome = WalkResult {
+        let wanted = WalkResult {
             written: &text[..size],
             result: Err(DeviceFault::WriteFailed),
         };
         let mut drain = MemDrain::new(&mut room[..size], most);
-        expect_walk(rt, row, reads, &mut drain, outcome);
+        expect_walk(rt, row, reads, &mut drain, wanted);
     }
     expect_row(rt, row, text, reads, &mut room[..text.len()]);
 }
@@ -142,11 +142,11 @@ fn octets_before_a_failed_read_are_followed(rt: HostRuntime) {
         fail_at: Some(1),
         limit: INPUT_LIMIT,
     };
-    let outcome = WalkResult {
+    let wanted = WalkResult {
         written: b"open 0000 3a 09\nbegin 0002 04 03\n",
         result: Err(DeviceFault::ReadFailed),
     };
     let mut room = [0; 64];
     let mut drain = MemDrain::new(&mut room, 4096);
-    expect_walk(&rt, &ENCODINGS[1], reads, &mut drain, outcome);
+    expect_walk(&rt, &ENCODINGS[1], reads, &mut drain, wanted);
 }
