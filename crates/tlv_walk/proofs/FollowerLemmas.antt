@@ -7,4 +7,5 @@ pub mod Jobs
 pub mod Parts
 pub mod Pauses
 pub mod SoFar
+pub mod TurnEnds
 pub mod Turns
