@@ -4,6 +4,7 @@ pub mod Enough
 pub mod Followed
 pub mod Following
 pub mod Jobs
+pub mod MadeAll
 pub mod Parts
 pub mod Pauses
 pub mod SoFar

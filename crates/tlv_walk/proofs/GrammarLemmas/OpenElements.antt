@@ -10,7 +10,7 @@ use Rattle.tlv_walk.specs.Forest.{OpenPrimitive, PaddingOctet, Primitive, conten
 use Rattle.tlv_walk.specs.Forest.{lead, opening, spelling}
 use Rattle.tlv_walk.specs.Place.{Fits, IsAnnouncedAt, IsHeaderAt, IsOpen, Place, place_after, place_of_children}
 use Rattle.tlv_walk.proofs.GrammarLemmas.Lengths.{LacksOctets}
-use Rattle.tlv_walk.proofs.GrammarLemmas.Bounds.{HasAllContents, fits, fits-inside, has_length, lead-zero, length-full}
+use Rattle.tlv_walk.proofs.GrammarLemmas.Bounds.{HasAllContents, fits-inside, has_length, lead-zero, length-full}
 use Rattle.tlv_walk.proofs.GrammarLemmas.Bounds.{length-lacks, within-le, within-outside}
 use Rattle.tlv_walk.proofs.GrammarLemmas.Spellings.{length-holder, length-opening, length-primitive}
 use Rattle.tlv_walk.proofs.GrammarLemmas.PushSteps.{is_filled_by, holder_so_far, primitive_so_far, holder_begun}

@@ -1,7 +1,7 @@
 -- A spelling that elements can have at any place, and the offsets that are then named: those of an element that holds
 -- others and of what is after it are joined.
 use Rattle.std.proofs.Common.{◌≡◌, not, ℕ, ◌+◌, ◌*◌, ◌<◌, ◌≤◌, Bool, false, List, ◌++◌, length, ◌∙◌, arith}
-use Rattle.tlv_walk.specs.Alike.{AreAlike, padding}
+use Rattle.tlv_walk.specs.Alike.{AreAlike}
 use Rattle.tlv_walk.specs.Forest.{Forest, spelling}
 use Rattle.tlv_walk.specs.Inside.{is_among}
 use Rattle.tlv_walk.specs.Place.{Place}
@@ -62,8 +62,8 @@ pub record JoinsOffsets (constructed : Bool) (inner others : ℕ → List ℕ) (
   pub of_others : (offset i : ℕ) → offset + far ≤ i
       → is_among i (joint_names constructed inner others begins far offset) ≡ is_among i (others (offset + far))
 
-pub joins : (constructed : Bool) (inner others : ℕ → List ℕ) (begins count far rest : ℕ) → 1 ≤ begins → begins + count ≤ far
-    → ComeAfter inner → AreWithin inner count → ComeAfter others → AreWithin others rest
+pub joins : (constructed : Bool) (inner others : ℕ → List ℕ) (begins count far rest : ℕ) → 1 ≤ begins
+    → begins + count ≤ far → ComeAfter inner → AreWithin inner count → ComeAfter others → AreWithin others rest
     → JoinsOffsets constructed inner others begins count far rest
 joins constructed inner others begins count far rest some on inner_after inner_within others_after others_within =
     record {

@@ -135,7 +135,7 @@ pub phase_at : (w : WalkerState) (b : List ℕ) (yielded : List EventValue) (s :
     → HasZipper w b yielded s → IsPhaseOf f s.tail (place_of w.framing s)
 phase_at w b yielded s f e has = subst (λ (g : PhaseValue). IsPhaseOf g s.tail (place_of w.framing s)) e has.phase
 
--- contents of a primitive
+-- the tail in the contents of a primitive
 pub contents_tail : (left : ℕ) (t : Tail) (p : Place) → IsPhaseOf (phase.InPrimitive left) t p
     → (h : HeaderValue) × (c : List ℕ) × (t ≡ PrimitiveTail h c)
 contents_tail left NoTail p x = absurd x
@@ -144,7 +144,7 @@ contents_tail left (BitStringTail h) p x = absurd x
 contents_tail left (HeaderTail o) p x = absurd x
 contents_tail left EndOctetsTail p x = absurd x
 
--- between elements
+-- the tail between elements, and after the first of the end-of-contents octets
 pub between_tail : (t : Tail) (p : Place) → IsPhaseOf phase.Between t p → t ≡ NoTail
 between_tail NoTail p x = refl
 between_tail (PrimitiveTail h c) p x = absurd x
