@@ -4,7 +4,9 @@ pub mod Enough
 pub mod Followed
 pub mod Following
 pub mod Jobs
+pub mod MadeAll
 pub mod Parts
 pub mod Pauses
 pub mod SoFar
+pub mod TurnEnds
 pub mod Turns

@@ -3,6 +3,7 @@ pub mod Bounds
 pub mod Endings
 pub mod Faults
 pub mod Finals
+pub mod FramedInputs
 pub mod Inputs
 pub mod Lengths
 pub mod Pop
@@ -16,4 +17,6 @@ pub mod ShortHeaders
 pub mod Sound
 pub mod Spellings
 pub mod OpenEnds
+pub mod OpenElements
+pub mod PlacedSpelling
 pub mod Unique

@@ -19,3 +19,4 @@ pub mod ZipperReading
 pub mod Waiting
 pub mod Zipper
 pub mod ZipperEvents
+pub mod ZipperGrowth

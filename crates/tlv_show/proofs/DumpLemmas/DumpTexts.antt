@@ -144,7 +144,9 @@ module _ (style : Layout) (names : NamesValue) where
       ≡ open_lines h (at_level level) c
   part_shown level offset padded h c size =
       let t : ValueTextState = new_value_text h (at_level level) in
-      ap (λ (k : Effect LinesState). (after_put (begin_lines t) (effect_if_more k.goes k (λ w. effect_of lines_step w []))).put)
+      ap
+      (λ (k : Effect LinesState).
+      (after_put (begin_lines t) (effect_if_more k.goes k (λ w. effect_of lines_step w []))).put)
       (dumped_bytes (lines_in_primitive level offset padded h) c (λ e. rested-new h (at_level level)))
       ∙ ap (λ (l : List ℕ). begin_lines t ++ (contents_lines t l ++ [])) (take-all (announced_length h.size) c size)
       ∙ ap (λ (l : List ℕ). begin_lines t ++ l) (append-nil (contents_lines t c))

@@ -11,8 +11,8 @@ use Rattle.tlv_walk.specs.Place.{IsOpen, Place, place_after, place_of_children}
 use Rattle.tlv_walk.specs.Events.{Begin, Bytes, End, Enter, EventValue, Pad, Unused, closing_event, events}
 use Rattle.tlv_walk.specs.Events.{opening_events, single_octets}
 use Rattle.tlv_walk.proofs.GrammarLemmas.Bounds.{fits}
-use Rattle.tlv_walk.proofs.GrammarLemmas.PushSteps.{PushStep, Grown, Ended, Refused, holder_so_far, push_after, is_filled_by}
-use Rattle.tlv_walk.proofs.GrammarLemmas.PushSteps.{primitive_so_far, push, settle}
+use Rattle.tlv_walk.proofs.GrammarLemmas.PushSteps.{PushStep, Grown, Ended, Refused, holder_so_far, push_after}
+use Rattle.tlv_walk.proofs.GrammarLemmas.PushSteps.{is_filled_by, primitive_so_far, push, settle}
 use Rattle.tlv_walk.proofs.EventLemmas.Joined.{apart-before, apart-more, bytes_apart}
 
 -- the events of what a step gives

@@ -1,6 +1,6 @@
 -- A walk over all that a source gives, turn by turn.
 use Rattle.std.proofs.Common.{◌≡◌, ◌≢◌, ◌⊎◌, inl, inr, ℕ, ◌≤◌, ◌<◌, Bool, true, false, List, [], ◌∷◌, ◌++◌, length}
-use Rattle.std.proofs.Common.{take, flat_map, refl, sym, ap, ap₂, ◌∙◌, subst, arith, append-nil}
+use Rattle.std.proofs.Common.{take, refl, sym, ap, ap₂, ◌∙◌, subst, arith, append-nil}
 use Rattle.std.proofs.lemmas.List.{take_all}
 use Rattle.std.proofs.lemmas.List.Elements.{All-append}
 use Rattle.std.specs.Prelude.{if◌then◌else◌, Option, Result, Ok, Err, ⊤}
@@ -16,10 +16,10 @@ use Rattle.tlv_walk.specs.declared.run.Run.{Run}
 use Rattle.tlv_walk.specs.declared.run.Turn.{Turn}
 use Rattle.tlv_walk.specs.declared.run.Turn.TheVariants.{Again, Ended}
 use Rattle.std.specs.List.{concat}
-use Rattle.tlv_io.specs.Device.{DrainState, LastReadValue, SourceState, failed, failures_after, gave}
+use Rattle.tlv_io.specs.Device.{DrainState, LastReadValue, SourceState, failed, failures_after, gave, GaveLast}
 use Rattle.tlv_walk.specs.DriveJob.{Drives, drive_job, drive_states, enough_run, whole_run}
-use Rattle.tlv_walk.specs.Events.{AreEqualJoined, Bytes, EventValue, Pad, event_octets, events}
-use Rattle.tlv_walk.specs.Follow.{Effect, GoesOn, Joins, IgnoresEmpty, effect_of, followed_events, had_enough}
+use Rattle.tlv_walk.specs.Events.{AreEqualJoined, EventValue, events}
+use Rattle.tlv_walk.specs.Follow.{Effect, effect_of, followed_events, had_enough}
 use Rattle.tlv_walk.specs.FollowsEvents.{FollowsEvents}
 use Rattle.tlv_walk.specs.Forest.{Forest, spelling}
 use Rattle.tlv_walk.specs.Ending.{IsFinalEnding}
@@ -30,189 +30,127 @@ use Rattle.tlv_walk.specs.Reading.{AreOctets, IsReading}
 use Rattle.tlv_walk.specs.Stands.{Stands}
 use Rattle.tlv_walk.specs.OneTurn.{EndsIn, FollowsMore, FollowsOneRead, LastReadWas, LastReadGaveUpTo, HasEnoughIn}
 use Rattle.tlv_walk.specs.OneTurn.{TurnStates, TurnsTo, WalkEnds, at_enough, at_fault, at_input_end, last_octets}
-use Rattle.tlv_walk.specs.Wrappers.{first_other, entered_offsets}
-use Rattle.tlv_walk.proofs.FollowerLemmas.Followed.{events_enough, followed-alike, followed-enough, kept-alike}
+use Rattle.tlv_walk.specs.Wrappers.{first_other}
 use Rattle.tlv_walk.proofs.FollowerLemmas.Following.{made_both, made_put}
 use Rattle.tlv_walk.proofs.FollowerLemmas.Enough.{comes_to}
-use Rattle.tlv_io.specs.Device.{GaveLast}
 use Rattle.tlv_io.proofs.Pieces.{pieces_so_far_more, pieces_all, together_more}
 use Rattle.tlv_io.proofs.Sends.{sends_ok, sends_then}
 use Rattle.tlv_walk.proofs.FollowerLemmas.Pauses.{stands_spelled, stands_yielded}
-use Rattle.tlv_walk.proofs.FollowerLemmas.SoFar.{gave_last, gave_none, given_short, given_octets, enters_each, Walking}
+use Rattle.tlv_walk.proofs.FollowerLemmas.SoFar.{gave_last, gave_none, given_short, given_octets, Walking}
+use Rattle.tlv_walk.proofs.FollowerLemmas.MadeAll.{MadeAll, PieceLaws, alike, enough_enters, enough_octets, made_all}
+use Rattle.tlv_walk.proofs.FollowerLemmas.MadeAll.{made_enough}
 
-module _ {S : Type 0} (next : S → EventValue → Effect S)
-    (bytes_join : Joins next Bytes) (bytes_empty : IgnoresEmpty next Bytes) (bytes_go_on : GoesOn next Bytes)
-    (pad_join : Joins next Pad) (pad_empty : IgnoresEmpty next Pad) (pad_go_on : GoesOn next Pad) where
-  alike : (s : S) (es fs : List EventValue) → AreEqualJoined es fs → effect_of next s es ≡ effect_of next s fs
-  alike = followed-alike next bytes_join bytes_empty bytes_go_on pad_join pad_empty pad_go_on
+module _ {S : Type 0} (next : S → EventValue → Effect S) (framing : Framing) (limit : ℕ) (s : S) (old : SourceState)
+    (from : DrainState) (now : TurnStates S) (x : Walking next framing s old from now) where
+  abbrev b : List ℕ
+  b = concat x.gathered.pieces
 
-  octets_alike : (s : S) (es fs : List EventValue) → AreEqualJoined es fs
-      → flat_map event_octets (followed_events next s es) ≡ flat_map event_octets (followed_events next s fs)
-  octets_alike s es fs e =
-      kept-alike next bytes_join bytes_empty bytes_go_on pad_join pad_empty pad_go_on event_octets (λ x y. refl) refl
-      (λ x y. refl) refl s es fs e
+  first_reading : IsReading framing b x.stands.has_events.reading
+  first_reading =
+      subst (λ (g : Framing). IsReading g b x.stands.has_events.reading) x.same x.stands.has_events.is_reading
 
-  enters_alike : (s : S) (es fs : List EventValue) → AreEqualJoined es fs
-      → entered_offsets (followed_events next s es) ≡ entered_offsets (followed_events next s fs)
-  enters_alike s es fs e =
-      enters_each (followed_events next s es)
-      ∙ kept-alike next bytes_join bytes_empty bytes_go_on pad_join pad_empty pad_go_on
-      (λ e. entered_offsets (e ∷ [])) (λ x y. refl) refl (λ x y. refl) refl s es fs e
-      ∙ sym (enters_each (followed_events next s fs))
+  first_spelled : spelling x.stands.has_events.reading ≡ b
+  first_spelled =
+      stands_spelled now.walker b x.yielded x.stands.has_events.reading x.stands x.stands.has_events.is_reading
 
-  -- what was made of all events of a forest
-  pub record MadeAll (s t : S) (f : Forest) (goes : Go) (text : List ℕ) : Type 0 where
-    pub state : t ≡ (effect_of next s (events f)).state
-    pub wants : (effect_of next s (events f)).goes ≡ goes
-    pub text_is : text ≡ (effect_of next s (events f)).put
+  module _ (new : TurnStates S) (piece : List ℕ) (result : Result Turn DeviceFault)
+      (read : FollowsOneRead next now new limit piece result)
+      (room : length piece ≡ 4096) (below : now.walker.offset ≤ limit) where
+    abbrev r : List ℕ
+    r = last_octets new.devices.source.last piece
 
-  made_all : (s t : S) (es : List EventValue) (f : Forest) (goes : Go) → FollowsEvents next s t es goes
-      → AreEqualJoined es (events f) → MadeAll s t f goes (effect_of next s es).put
-  made_all s t es f goes m e =
-      let same : effect_of next s es ≡ effect_of next s (events f) = alike s es (events f) e in record {
-        state = m.state ∙ ap (λ (k : Effect S). k.state) same;
-        wants = sym (ap (λ (k : Effect S). k.goes) same) ∙ m.wants;
-        text_is = ap (λ (k : Effect S). k.put) same;
-      }
+    few : length r ≤ 4096
+    few = given_short new.devices.source.last piece 4096 (omega (arith, room))
 
-  -- if there was enough before the last of them
-  made_enough : (s t : S) (es others : List EventValue) (f : Forest) → FollowsEvents next s t es go.Enough
-      → AreEqualJoined (es ++ others) (events f) → MadeAll s t f go.Enough (effect_of next s es).put
-  made_enough s t es others f m e =
-      let same : effect_of next s es ≡ effect_of next s (events f) =
-      sym (followed-enough next s es others m.wants) ∙ alike s (es ++ others) (events f) e in record {
-        state = m.state ∙ ap (λ (k : Effect S). k.state) same;
-        wants = sym (ap (λ (k : Effect S). k.goes) same) ∙ m.wants;
-        text_is = ap (λ (k : Effect S). k.put) same;
-      }
+    within : length b ≤ limit
+    within = omega (arith, x.stands.private_state.has_state.offset, below)
 
-  -- the events followed are then these
-  enough_events : (s t : S) (es others : List EventValue) → FollowsEvents next s t es go.Enough
-      → followed_events next s (es ++ others) ≡ es
-  enough_events s t es others m = events_enough next s es others m.wants ∙ m.all
+    all_octets : AreOctets (b ++ r)
+    all_octets = All-append (λ x. x < 256) b r x.octets (given_octets new.devices.source.last piece read.octets)
 
-  enough_octets : (s t : S) (es others : List EventValue) (f : Forest) → FollowsEvents next s t es go.Enough
-      → AreEqualJoined (es ++ others) (events f)
-      → flat_map event_octets es ≡ flat_map event_octets (followed_events next s (events f))
-  enough_octets s t es others f m e =
-      ap (flat_map event_octets) (sym (enough_events s t es others m)) ∙ octets_alike s (es ++ others) (events f) e
+    -- the octets that were walked over
+    abbrev walked_octets : List ℕ
+    walked_octets = take limit (b ++ r)
 
-  enough_enters : (s t : S) (es others : List EventValue) (f : Forest) → FollowsEvents next s t es go.Enough
-      → AreEqualJoined (es ++ others) (events f)
-      → entered_offsets es ≡ entered_offsets (followed_events next s (events f))
-  enough_enters s t es others f m e =
-      ap entered_offsets (sym (enough_events s t es others m)) ∙ enters_alike s (es ++ others) (events f) e
+    turned : (answer : Result Turn DeviceFault) → result ≡ answer → TurnsTo next now new limit b x.yielded r answer
+    turned answer is =
+        subst (λ (k : Result Turn DeviceFault). TurnsTo next now new limit b x.yielded r k) is
+        (read.turned b x.yielded x.stands)
 
-  module _ (framing : Framing) (limit : ℕ) (s : S) (old : SourceState) (from : DrainState) (now : TurnStates S)
-      (x : Walking next framing s old from now) where
-    abbrev b : List ℕ
-    b = concat x.gathered.pieces
+    gave_so : (answer : Result Turn DeviceFault) → result ≡ answer
+        → LastReadWas (length piece) answer new.devices.source.last
+    gave_so answer is =
+        subst (λ (k : Result Turn DeviceFault). LastReadWas (length piece) k new.devices.source.last) is
+        read.calls.last
 
-    first_reading : IsReading framing b x.stands.has_events.reading
-    first_reading =
-        subst (λ (g : Framing). IsReading g b x.stands.has_events.reading) x.same x.stands.has_events.is_reading
+    failed_so : (answer : Result Turn DeviceFault) → result ≡ answer
+        → new.devices.source.failures ≡ failures_after (source_result answer) old.failures
+    failed_so answer is =
+        read.calls.failed_reads
+        ∙ ap (λ (k : Result Turn DeviceFault). failures_after (source_result k) now.devices.source.failures) is
+        ∙ ap (failures_after (source_result answer)) x.failures
 
-    first_made : MadeAll s now.follower x.stands.has_events.reading go.On (effect_of next s x.yielded).put
-    first_made =
-        made_all s now.follower x.yielded x.stands.has_events.reading go.On x.made
-        (stands_yielded now.walker b x.yielded x.stands.has_events.reading x.stands x.idle
-        x.stands.has_events.is_reading)
+    -- what was sent before and in this turn
+    sent : (more : List EventValue) (result : Result ⊤ DeviceFault)
+        → Sends now.devices.drain new.devices.drain (effect_of next now.follower more).put result
+        → Sends from new.devices.drain (effect_of next s (x.yielded ++ more)).put result
+    sent more result k =
+        subst (λ (l : List ℕ). Sends from new.devices.drain l result)
+        (made_put next s now.follower x.yielded more x.made)
+        (sends_then from now.devices.drain new.devices.drain (effect_of next s x.yielded).put
+        (effect_of next now.follower more).put tt result x.sends k)
 
-    first_spelled : spelling x.stands.has_events.reading ≡ b
-    first_spelled =
-        stands_spelled now.walker b x.yielded x.stands.has_events.reading x.stands x.stands.has_events.is_reading
+    -- all events that were followed, and what was sent of them
+    followed : (all : List EventValue) (goes : Go) → FollowsMore next now new x.yielded all goes
+        → FollowsEvents next s new.follower all goes
+    followed all goes k =
+        subst (λ (es : List EventValue). FollowsEvents next s new.follower es goes) k.all_is
+        (made_both next s now.follower new.follower x.yielded k.more goes x.made k.made)
 
-    -- the octets so far hold neither a fault nor enough
-    first_wants : WantMore (drive_job next framing limit s) b
-    first_wants = (x.stands.has_events.reading, first_reading, first_spelled, ap had_enough first_made.wants)
+    sent_all : (all : List EventValue) (goes : Go) → FollowsMore next now new x.yielded all goes
+        → Sends {T = ⊤} {E = DeviceFault} from new.devices.drain (effect_of next s all).put (Ok tt)
+    sent_all all goes k =
+        subst
+        (λ (es : List EventValue). Sends {T = ⊤} {E = DeviceFault} from new.devices.drain
+        (effect_of next s es).put (Ok tt))
+        k.all_is (sent k.more (Ok tt) k.put)
 
-    module _ (new : TurnStates S) (piece : List ℕ) (result : Result Turn DeviceFault)
-        (read : FollowsOneRead next now new limit piece result)
-        (room : length piece ≡ 4096) (below : now.walker.offset ≤ limit) where
-      abbrev r : List ℕ
-      r = last_octets new.devices.source.last piece
+    some_octets : (o : List ℕ) → o ≢ [] → 0 < length o
+    some_octets [] n = absurd (n refl)
+    some_octets (z ∷ o) n = omega arith
 
-      few : length r ≤ 4096
-      few = given_short new.devices.source.last piece 4096 (omega (arith, room))
+    -- the walk goes on
+    pub walking_on : result ≡ Ok Again → Walking next framing s old from new
+    walking_on is =
+        let y = turned (Ok Again) is in
+        let all : List EventValue = y.stands.all in record {
+          gathered =
+              pieces_so_far_more old now.devices.source new.devices.source x.gathered r read.calls.octets
+              read.calls.reads (some_octets r y.some, few);
+          octets = subst AreOctets (sym (together_more x.gathered.pieces r)) all_octets;
+          failures = failed_so (Ok Again) is;
+          yielded = all;
+          made = followed all go.On y.stands.follows;
+          sends = sent_all all go.On y.stands.follows;
+          same = y.stands.follows.framing ∙ x.same;
+          stands =
+              subst (λ (o : List ℕ). Stands new.walker o all) (sym (together_more x.gathered.pieces r))
+              y.stands.stands;
+          idle = y.stands.idle;
+        }
 
-      within : length b ≤ limit
-      within = omega (arith, x.stands.private_state.has_state.offset, below)
+    -- ---- the walk has ended
 
-      all_octets : AreOctets (b ++ r)
-      all_octets = All-append (λ x. x < 256) b r x.octets (given_octets new.devices.source.last piece read.octets)
+    module _ (laws : PieceLaws next) where
+      first_made : MadeAll next s now.follower x.stands.has_events.reading go.On (effect_of next s x.yielded).put
+      first_made =
+          made_all next laws s now.follower x.yielded x.stands.has_events.reading go.On x.made
+          (stands_yielded now.walker b x.yielded x.stands.has_events.reading x.stands x.idle
+          x.stands.has_events.is_reading)
 
-      -- the octets that were walked over
-      abbrev walked_octets : List ℕ
-      walked_octets = take limit (b ++ r)
-
-      turned : (answer : Result Turn DeviceFault) → result ≡ answer → TurnsTo next now new limit b x.yielded r answer
-      turned answer is =
-          subst (λ (k : Result Turn DeviceFault). TurnsTo next now new limit b x.yielded r k) is
-          (read.turned b x.yielded x.stands)
-
-      gave_so : (answer : Result Turn DeviceFault) → result ≡ answer
-          → LastReadWas (length piece) answer new.devices.source.last
-      gave_so answer is =
-          subst (λ (k : Result Turn DeviceFault). LastReadWas (length piece) k new.devices.source.last) is
-          read.calls.last
-
-      failed_so : (answer : Result Turn DeviceFault) → result ≡ answer
-          → new.devices.source.failures ≡ failures_after (source_result answer) old.failures
-      failed_so answer is =
-          read.calls.failed_reads
-          ∙ ap (λ (k : Result Turn DeviceFault). failures_after (source_result k) now.devices.source.failures) is
-          ∙ ap (failures_after (source_result answer)) x.failures
-
-      -- what was sent before and in this turn
-      sent : (more : List EventValue) (result : Result ⊤ DeviceFault)
-          → Sends now.devices.drain new.devices.drain (effect_of next now.follower more).put result
-          → Sends from new.devices.drain (effect_of next s (x.yielded ++ more)).put result
-      sent more result k =
-          subst (λ (l : List ℕ). Sends from new.devices.drain l result)
-          (made_put next s now.follower x.yielded more x.made)
-          (sends_then from now.devices.drain new.devices.drain (effect_of next s x.yielded).put
-          (effect_of next now.follower more).put tt result x.sends k)
-
-      -- all events that were followed, and what was sent of them
-      followed : (all : List EventValue) (goes : Go) → FollowsMore next now new x.yielded all goes
-          → FollowsEvents next s new.follower all goes
-      followed all goes k =
-          subst (λ (es : List EventValue). FollowsEvents next s new.follower es goes) k.all_is
-          (made_both next s now.follower new.follower x.yielded k.more goes x.made k.made)
-
-      sent_all : (all : List EventValue) (goes : Go) → FollowsMore next now new x.yielded all goes
-          → Sends {T = ⊤} {E = DeviceFault} from new.devices.drain (effect_of next s all).put (Ok tt)
-      sent_all all goes k =
-          subst
-          (λ (es : List EventValue). Sends {T = ⊤} {E = DeviceFault} from new.devices.drain
-          (effect_of next s es).put (Ok tt))
-          k.all_is (sent k.more (Ok tt) k.put)
-
-      some_octets : (o : List ℕ) → o ≢ [] → 0 < length o
-      some_octets [] n = absurd (n refl)
-      some_octets (z ∷ o) n = omega arith
-
-      -- the walk goes on
-      pub walking_on : result ≡ Ok Again → Walking next framing s old from new
-      walking_on is =
-          let y = turned (Ok Again) is in
-          let all : List EventValue = y.stands.all in record {
-            gathered =
-                pieces_so_far_more old now.devices.source new.devices.source x.gathered r read.calls.octets
-                read.calls.reads (some_octets r y.some, few);
-            octets = subst AreOctets (sym (together_more x.gathered.pieces r)) all_octets;
-            failures = failed_so (Ok Again) is;
-            yielded = all;
-            made = followed all go.On y.stands.follows;
-            sends = sent_all all go.On y.stands.follows;
-            same = y.stands.follows.framing ∙ x.same;
-            stands =
-                subst (λ (o : List ℕ). Stands new.walker o all) (sym (together_more x.gathered.pieces r))
-                y.stands.stands;
-            idle = y.stands.idle;
-          }
-
-      -- ---- the walk has ended
+      -- the octets so far hold neither a fault nor enough
+      first_wants : WantMore (drive_job next framing limit s) b
+      first_wants = (x.stands.has_events.reading, first_reading, first_spelled, ap had_enough first_made.wants)
 
       abbrev Driven : Result Run DeviceFault → Type 0
       Driven answer =
@@ -221,7 +159,7 @@ module _ {S : Type 0} (next : S → EventValue → Effect S)
 
       runs_by : (answer : Result Run DeviceFault) (f : Forest) → GaveLast new.devices.source.last r
           → IsReading framing walked_octets f → (es : List EventValue)
-          → (goes : Go) (k : MadeAll s new.follower f goes (effect_of next s es).put)
+          → (goes : Go) (k : MadeAll next s new.follower f goes (effect_of next s es).put)
           → source_result answer ≡ source_result result
           → Sends from new.devices.drain (effect_of next s es).put (drain_result answer)
           → ComesTo (drive_job next framing limit s) (b ++ r) f new.devices.source answer
@@ -242,7 +180,7 @@ module _ {S : Type 0} (next : S → EventValue → Effect S)
         comes = comes;
       }
 
-      is_enough_so : (f : Forest) (goes : Go) (text : List ℕ) → MadeAll s new.follower f goes text
+      is_enough_so : (f : Forest) (goes : Go) (text : List ℕ) → MadeAll next s new.follower f goes text
           → had_enough (effect_of next s (events f)).goes ≡ had_enough goes
       is_enough_so f goes text k = ap had_enough k.wants
 
@@ -263,8 +201,8 @@ module _ {S : Type 0} (next : S → EventValue → Effect S)
           let is_reading : IsReading framing walked_octets f =
           subst (λ (k : Framing). IsReading k walked_octets f) x.same y.has_events.is_reading in
           let made : FollowsEvents next s new.follower es go.On = followed es go.On y.follows in
-          let k : MadeAll s new.follower f go.On (effect_of next s es).put =
-          made_all s new.follower es f go.On made y.has_events.all_events in
+          let k : MadeAll next s new.follower f go.On (effect_of next s es).put =
+          made_all next laws s new.follower es f go.On made y.has_events.all_events in
           let answer : run ≡ (drive_job next framing limit s).result f run.ending =
           y.run_is ∙ ap (λ (k : Framing). whole_run k f run.ending) x.same
           ∙ ap (result_if f run.ending) (sym (is_enough_so f go.On (effect_of next s es).put k)) in
@@ -297,16 +235,16 @@ module _ {S : Type 0} (next : S → EventValue → Effect S)
           let others : (others : List EventValue) × AreEqualJoined (es ++ others) (events f) =
           (y.others, y.has_events.all_events) in
           let made : FollowsEvents next s new.follower es go.Enough = followed es go.Enough y.follows in
-          let k : MadeAll s new.follower f go.Enough (effect_of next s es).put =
-          made_enough s new.follower es others.0 f made others.1 in
+          let k : MadeAll next s new.follower f go.Enough (effect_of next s es).put =
+          made_enough next laws s new.follower es others.0 f made others.1 in
           let ending_is : run.ending ≡ Done = ap (λ (k : Run). k.ending) y.run_is in
           let enough : had_enough (effect_of next s (events f)).goes ≡ true =
           is_enough_so f go.Enough (effect_of next s es).put k in
           let answer : run ≡ (drive_job next framing limit s).result f run.ending =
           y.run_is ∙ ap (λ (k : Framing). enough_run k es) x.same
           ∙ ap₂ (λ (n : ℕ) (u : Option ℕ). record (enough_run framing es) { octets = n; unused = u })
-          (ap length (enough_octets s new.follower es others.0 f made others.1))
-          (ap (first_other framing.inside) (enough_enters s new.follower es others.0 f made others.1))
+          (ap length (enough_octets next laws s new.follower es others.0 f made others.1))
+          (ap (first_other framing.inside) (enough_enters next laws s new.follower es others.0 f made others.1))
           ∙ ap (result_if f run.ending) (sym enough) in record {
             runs =
                 runs_by (Ok run) f (gave_last new.devices.source.last piece g) is_reading es go.Enough k
@@ -343,7 +281,7 @@ module _ {S : Type 0} (next : S → EventValue → Effect S)
           let all : b ≡ walked_octets =
           sym (ap (λ (o : List ℕ). take limit (b ++ o)) none ∙ ap (λ (o : List ℕ). take limit o) (append-nil b)
           ∙ take_all limit b within) in
-          let k : MadeAll s new.follower f go.On (effect_of next s x.yielded).put = record {
+          let k : MadeAll next s new.follower f go.On (effect_of next s x.yielded).put = record {
             state = y.same.follower ∙ first_made.state;
             wants = first_made.wants;
             text_is = first_made.text_is;
@@ -368,7 +306,7 @@ module _ {S : Type 0} (next : S → EventValue → Effect S)
           let f : Forest = y.has_events.reading in
           let es : List EventValue = x.yielded ++ y.more in
           let same : effect_of next s es ≡ effect_of next s (events f) =
-          alike s es (events f) y.has_events.all_events in record {
+          alike next laws s es (events f) y.has_events.all_events in record {
             runs = record {
               pieces =
                   pieces_all old now.devices.source new.devices.source x.gathered r read.calls.octets read.calls.reads
@@ -397,8 +335,8 @@ module _ {S : Type 0} (next : S → EventValue → Effect S)
           let is_reading : IsReading framing walked_octets f =
           subst (λ (k : Framing). IsReading k walked_octets f) (z.follows.framing ∙ x.same)
           z.stands.has_events.is_reading in
-          let k : MadeAll s new.follower f go.On (effect_of next s es).put =
-          made_all s new.follower es f go.On (followed es go.On z.follows)
+          let k : MadeAll next s new.follower f go.On (effect_of next s es).put =
+          made_all next laws s new.follower es f go.On (followed es go.On z.follows)
           (stands_yielded new.walker walked_octets es f z.stands z.idle z.stands.has_events.is_reading) in
           let wants : WantMore (drive_job next framing limit s) walked_octets = (
             f,

@@ -125,7 +125,7 @@ pub lacks-within : (s : Size) (start : ℕ) (outside : Option ℕ) (m : ℕ) →
 lacks-within (Definite n) start outside m e less = omega arith
 lacks-within Indefinite start outside m e less = absurd (cc)
 
--- `lead-announced`, by the fields
+-- `lead-announced_length`, by the fields
 lead-least : (constructed named : Bool) (class : Class) (number : ℕ) (size : Size)
     → (constructed || is_wrapper named class constructed number size) ≡ true
     → length (lead_by constructed (eqb number 3)) ≤ announced_length size

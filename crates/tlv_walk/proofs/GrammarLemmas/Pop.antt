@@ -17,7 +17,7 @@ use Rattle.tlv_walk.proofs.GrammarLemmas.Spellings.{append_assoc-3, append_assoc
 use Rattle.tlv_walk.proofs.GrammarLemmas.Spellings.{length-primitive}
 use Rattle.tlv_walk.proofs.GrammarLemmas.PushSteps.{IsWholeHolder, IsWholePrimitive, Grown, Ended, holder_so_far}
 use Rattle.tlv_walk.proofs.GrammarLemmas.PushSteps.{push_after, is_filled_by, primitive_so_far, push, settle}
-use Rattle.tlv_walk.proofs.GrammarLemmas.Push.{reaches, size-definite}
+use Rattle.tlv_walk.proofs.GrammarLemmas.OpenElements.{reaches, size-definite}
 use Rattle.tlv_walk.proofs.GrammarLemmas.PopHeaders.{back, Popped, header-popped, holder_begun-popped, lead-popped}
 use Rattle.tlv_walk.proofs.GrammarLemmas.PopHeaders.{front-popped, is_nil, is_push}
 

@@ -14,7 +14,7 @@ use Rattle.tlv_walk.specs.Place.{Fits, IsAnnouncedAt, IsHeaderAt, IsOpen, Place}
 use Rattle.tlv_walk.proofs.GrammarLemmas.Bounds.{fits-within, lead-zero, within-le}
 use Rattle.tlv_walk.proofs.GrammarLemmas.PushSteps.{Grown, begin, complete, element_begun, holder_begun, holder_so_far}
 use Rattle.tlv_walk.proofs.GrammarLemmas.PushSteps.{origin, push}
-use Rattle.tlv_walk.proofs.GrammarLemmas.Push.{element_begun-sound, holder_so_far-sound}
+use Rattle.tlv_walk.proofs.GrammarLemmas.OpenElements.{element_begun-sound, holder_so_far-sound}
 
 -- a list is empty, or has a last element
 pub data Back (o : List ℕ) : Type 0 where

@@ -97,7 +97,8 @@ push p NoMore x =
     cond (fits p 1) (cond (eqb x 0) (zero_between p.indefinite p.padding) (Grown (OpenHeader (x ∷ []))))
     (Refused MissingEnd)
 push p (PaddingOctet rest) x = push_after PaddingOctet (push (place_after p 1) rest x)
-push p (Primitive h c rest) x = push_after (Primitive h c) (push (place_after p (length (octets_of h) + length c)) rest x)
+push p (Primitive h c rest) x =
+    push_after (Primitive h c) (push (place_after p (length (octets_of h) + length c)) rest x)
 push p (Holder h inside rest) x = push_after (Holder h inside) (push (place_after p (extent h inside)) rest x)
 push p (OpenPrimitive h c) x = Grown (primitive_so_far h (c ++ x ∷ []))
 push p (OpenHolder h inside) x = settle h (push (place_of_children p h) inside x)

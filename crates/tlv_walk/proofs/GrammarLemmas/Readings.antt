@@ -163,7 +163,8 @@ halt-longer w f code b c r =
     }
 
 -- a push_all that is right is so after one more octet
-turn-run : (w : Framing) (r : PushRun) (b : List ℕ) (x : ℕ) → x < 256 → IsRightRun w r b → IsRightRun w (push_next w r x) (b ++ x ∷ [])
+turn-run : (w : Framing) (r : PushRun) (b : List ℕ) (x : ℕ) → x < 256 → IsRightRun w r b
+    → IsRightRun w (push_next w r x) (b ++ x ∷ [])
 turn-run w (Going f) b x h r =
     rw (← r.spelled) (took-run w f x (push (top_place w) f x) r.is_open refl (push-sound (top_place w) f x h r.is_open))
 turn-run w (Halted f code) b x h r = halt-longer w f code b (x ∷ []) r

@@ -14,7 +14,7 @@ use Rattle.tlv_walk.specs.Private.Zipper.{AreLayers, AreWhole, Layer, frames_of,
 use Rattle.tlv_walk.specs.Stands.{is_end_at}
 use Rattle.tlv_walk.proofs.GrammarLemmas.Bounds.{HasAllContents, fits-inside, has_length, length-full}
 use Rattle.tlv_walk.proofs.GrammarLemmas.PushSteps.{Spells, is_filled_by}
-use Rattle.tlv_walk.proofs.GrammarLemmas.Push.{holder-sound, reaches, unfilled-lacks}
+use Rattle.tlv_walk.proofs.GrammarLemmas.OpenElements.{holder-sound, reaches, unfilled-lacks}
 use Rattle.tlv_walk.proofs.GrammarLemmas.Spellings.{length-opening}
 use Rattle.tlv_walk.proofs.WalkerLemmas.Zipper.{followed_by, open-followed_by, open-within, settled_forest}
 use Rattle.tlv_walk.proofs.WalkerLemmas.Zipper.{spelling-followed_by, spelling-within, whole-followed_by}

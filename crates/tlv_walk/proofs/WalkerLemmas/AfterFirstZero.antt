@@ -14,7 +14,7 @@ use Rattle.tlv_walk.specs.Place.{IsWithin}
 use Rattle.tlv_walk.specs.Private.Stack.{room_to}
 use Rattle.tlv_walk.specs.Private.Zipper.{HasZipper}
 use Rattle.tlv_walk.specs.Private.Yields.{Continues, RefusesOctet, YieldsEvent, YieldsFault, YieldsStep}
-use Rattle.tlv_walk.proofs.WalkerLemmas.Moves.{continues_both}
+use Rattle.tlv_walk.proofs.WalkerLemmas.ZipperGrowth.{continues_both}
 
 module _ (old middle new : WalkerState) (x : ℕ) (first : Continues old middle (x ∷ []) [])
     (same : middle.framing ≡ old.framing) (kept : middle.stack ≡ old.stack) where

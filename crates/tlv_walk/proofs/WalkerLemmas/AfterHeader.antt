@@ -18,8 +18,8 @@ use Rattle.tlv_walk.specs.Private.Zipper.{BitStringTail, NoTail, HasZipper, Prim
 use Rattle.tlv_walk.specs.Private.Zipper.{IsPhaseOf, Layer, Tail, Zipper, events_of_layers, events_of_tail, frame_at}
 use Rattle.tlv_walk.specs.Private.Zipper.{frames_of, place_in, place_of, spelling_of_layers, spelling_of_tail}
 use Rattle.tlv_walk.specs.Private.Yields.{Continues}
-use Rattle.tlv_walk.proofs.WalkerLemmas.Moves.{between_tail, phase_at, spelled_after, tail_state, yielded_after}
-use Rattle.tlv_walk.proofs.WalkerLemmas.Moves.{with_tail}
+use Rattle.tlv_walk.proofs.WalkerLemmas.ZipperGrowth.{between_tail, phase_at, spelled_after, tail_state, yielded_after}
+use Rattle.tlv_walk.proofs.WalkerLemmas.ZipperGrowth.{with_tail}
 use Rattle.tlv_walk.proofs.WalkerLemmas.Places.{place-bound, place-depth, place-inside, walker-offset}
 
 -- a walker that is at a header, or after the octets of one that the reader has

@@ -28,9 +28,9 @@ use Rattle.tlv_head.specs.Refusal.{BeginsWith}
 use Rattle.tlv_walk.specs.Private.Zipper.{NoTail, HasZipper, PrimitiveTail, Zipper, frame_at, place_of}
 use Rattle.tlv_walk.proofs.WalkerLemmas.AfterHeader.{AtHeader, Completed, at_new, holding_state, lead_state}
 use Rattle.tlv_walk.proofs.WalkerLemmas.AfterHeader.{primitive_state}
-use Rattle.tlv_walk.proofs.WalkerLemmas.Moves.{with_tail}
+use Rattle.tlv_walk.proofs.WalkerLemmas.ZipperGrowth.{with_tail}
 use Rattle.tlv_walk.proofs.WalkerLemmas.Places.{place-bound}
-use Rattle.tlv_walk.proofs.GrammarLemmas.Push.{size-definite}
+use Rattle.tlv_walk.proofs.GrammarLemmas.OpenElements.{size-definite}
 
 -- the event that a header is yielded with
 abbrev pub event_of : HeaderKind → HeaderValue → EventValue

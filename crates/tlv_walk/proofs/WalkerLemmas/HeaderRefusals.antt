@@ -26,7 +26,7 @@ use Rattle.tlv_walk.specs.Private.Stack.{room_to}
 use Rattle.tlv_walk.specs.Private.Zipper.{HasZipper, HeaderTail, Zipper, place_of}
 use Rattle.tlv_walk.specs.Private.Yields.{RefusesOctet}
 use Rattle.tlv_walk.proofs.WalkerLemmas.HeaderSteps.{HasTaken, TakenState, in_header, taken_state}
-use Rattle.tlv_walk.proofs.WalkerLemmas.Moves.{phase_at, with_tail}
+use Rattle.tlv_walk.proofs.WalkerLemmas.ZipperGrowth.{phase_at, with_tail}
 use Rattle.tlv_walk.proofs.WalkerLemmas.Places.{place-bound, place-depth}
 use Rattle.tlv_walk.proofs.WalkerLemmas.Refusals.{left_none, left_some}
 use Rattle.tlv_walk.proofs.WalkerLemmas.ZipperEndings.{state-fault}

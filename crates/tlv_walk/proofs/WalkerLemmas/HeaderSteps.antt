@@ -31,7 +31,7 @@ use Rattle.tlv_walk.specs.Private.Yields.{Continues, YieldsEvent}
 use Rattle.tlv_walk.proofs.WalkerLemmas.AfterHeader.{AtHeader, Completed, at_front, at_new, front_state}
 use Rattle.tlv_walk.proofs.WalkerLemmas.HeaderKinds.{count_after_header, framing_after_header, state_after_header}
 use Rattle.tlv_walk.proofs.WalkerLemmas.HeaderKinds.{event_of}
-use Rattle.tlv_walk.proofs.WalkerLemmas.Moves.{phase_at, with_tail}
+use Rattle.tlv_walk.proofs.WalkerLemmas.ZipperGrowth.{phase_at, with_tail}
 
 -- ---- the walker that the reader was taken from
 

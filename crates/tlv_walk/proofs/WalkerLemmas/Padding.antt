@@ -10,8 +10,8 @@ use Rattle.tlv_walk.specs.WalkerState.{WalkerState}
 use Rattle.tlv_walk.specs.Place.{IsOpen, Place, place_after}
 use Rattle.tlv_walk.specs.Private.Zipper.{NoTail, HasZipper, IsPhaseOf, Layer, Zipper, place_in, place_of}
 use Rattle.tlv_walk.specs.Private.Yields.{Continues}
-use Rattle.tlv_walk.proofs.WalkerLemmas.Moves.{are_whole, element-either, between_tail, phase_at, spelled_whole}
-use Rattle.tlv_walk.proofs.WalkerLemmas.Moves.{tail_state, yielded_whole, with_layers}
+use Rattle.tlv_walk.proofs.WalkerLemmas.ZipperGrowth.{are_whole, element-either, between_tail, phase_at, spelled_whole}
+use Rattle.tlv_walk.proofs.WalkerLemmas.ZipperGrowth.{tail_state, yielded_whole, with_layers}
 use Rattle.tlv_walk.proofs.WalkerLemmas.Zipper.{followed_by}
 
 -- octets 00 between encodings

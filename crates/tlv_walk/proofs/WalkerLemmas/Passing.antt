@@ -19,7 +19,8 @@ use Rattle.tlv_walk.specs.Private.Yields.{Continues}
 use Rattle.tlv_walk.specs.Stack.{bound_of}
 use Rattle.tlv_walk.specs.Place.{IsWithin}
 use Rattle.tlv_walk.proofs.WalkerLemmas.HeaderKinds.{takes_quick_header}
-use Rattle.tlv_walk.proofs.WalkerLemmas.Moves.{continues_both, yields_passed}
+use Rattle.tlv_walk.proofs.WalkerLemmas.ZipperGrowth.{continues_both}
+use Rattle.tlv_walk.proofs.WalkerLemmas.Moves.{yields_passed}
 
 -- the contents of a primitive with which the octets begin
 abbrev contents_at : WholePrimitive → List ℕ → List ℕ

@@ -20,7 +20,7 @@ use Rattle.tlv_walk.specs.Private.Zipper.{BitStringTail, NoTail, HasZipper, EndO
 use Rattle.tlv_walk.specs.Private.Zipper.{place_in, place_of}
 use Rattle.tlv_walk.specs.Private.Yields.{RefusesOctet}
 use Rattle.tlv_walk.proofs.WalkerLemmas.AfterHeader.{lead_tail}
-use Rattle.tlv_walk.proofs.WalkerLemmas.Moves.{between_tail, lone_tail, phase_at, tail_state, with_tail}
+use Rattle.tlv_walk.proofs.WalkerLemmas.ZipperGrowth.{between_tail, lone_tail, phase_at, tail_state, with_tail}
 use Rattle.tlv_walk.proofs.WalkerLemmas.Places.{place-bound, walker-offset}
 use Rattle.tlv_walk.proofs.WalkerLemmas.ZipperEndings.{state-fault, zipper_end}
 use Rattle.tlv_walk.proofs.WalkerLemmas.Zipper.{place-indefinite}

@@ -14,7 +14,7 @@ use Rattle.tlv_walk.specs.Private.WalkerState.{CountsStep, Refuses, TakesAll, Yi
 use Rattle.tlv_walk.specs.Private.WrapperCount.{wrapper_count_after}
 use Rattle.tlv_walk.specs.Phase.{PhaseValue, Between, InHeader, InPrimitive, InBitString, InEndOctets, Refused}
 use Rattle.tlv_walk.specs.Wrappers.{entered_offsets}
-use Rattle.tlv_walk.proofs.WalkerLemmas.Moves.{found_in-append}
+use Rattle.tlv_walk.proofs.WalkerLemmas.ZipperGrowth.{found_in-append}
 use Rattle.tlv_walk.proofs.EventLemmas.Wrappers.{enters-append}
 use Rattle.tlv_walk.specs.declared.ending.Ending.TheVariants as ending
 use Rattle.tlv_walk.specs.Ending.{IsEnding}

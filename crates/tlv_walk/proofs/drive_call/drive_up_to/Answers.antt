@@ -11,6 +11,7 @@ use Rattle.tlv_walk.specs.Follow.{Effect}
 use Rattle.tlv_io.specs.Out.{drain_of}
 use Rattle.tlv_walk.proofs.FollowerLemmas.SoFar.{walking_none}
 use Rattle.tlv_walk.proofs.FollowerLemmas.Drives.{drives_ended, drives_err, walking_on}
+use Rattle.tlv_walk.proofs.FollowerLemmas.MadeAll.{laws_by}
 use Rattle.tlv_walk.proofs.drive_call.drive_up_to.Goals as goal
 
 -- what a walk comes to, said of the drain that was lent
@@ -34,19 +35,16 @@ turns-init g c = record {
 }
 
 pub turns-preserved : goal.turns-preserved
-turns-preserved g c =
-    let law = g.met.F.Follow in
-    record {
-      taken = search rules;
-      walking =
-          walking_on g.F.Follow.next law.bytes_join law.bytes_empty law.bytes_go_on law.pad_join law.pad_empty
-          law.pad_go_on _ _ _ _ _ _ c.turns.invariant.walking
-          _ _ _ c.turn_with.ensures.read (search rules) c.turns.invariant.taken (search rules);
-      ready = search rules;
-      piece = search rules;
-      empty = search rules;
-      same_reference = search rules;
-    }
+turns-preserved g c = record {
+  taken = search rules;
+  walking =
+      walking_on g.F.Follow.next _ _ _ _ _ _ c.turns.invariant.walking _ _ _ c.turn_with.ensures.read (search rules)
+      c.turns.invariant.taken (search rules);
+  ready = search rules;
+  piece = search rules;
+  empty = search rules;
+  same_reference = search rules;
+}
 
 pub returns-in_err-turn_with : goal.returns-in_err-turn_with
 returns-in_err-turn_with g c =
@@ -54,15 +52,17 @@ returns-in_err-turn_with g c =
     let p = err_from_is_err_and c.from_residual.result c.from_residual.ensures.1 in rw (p.1, p.2)
     (drives_lent g.F.Follow.next g.D.Drain.state _ _ _ _ _ _ _ _ (drain_of c.new-out.result).now
     (drain_of c.turn_with.new.out).now _ (sym c.new-out.ensures.taken) (search rules)
-    (drives_err g.F.Follow.next law.bytes_join law.bytes_empty law.bytes_go_on law.pad_join law.pad_empty
-    law.pad_go_on _ _ _ _ _ _ c.turns.invariant.walking
-    _ _ _ c.turn_with.ensures.read (search rules) c.turns.invariant.taken c.in_err-turn_with.field-0.0 (search rules)))
+    (drives_err g.F.Follow.next _ _ _ _ _ _ c.turns.invariant.walking _ _ _ c.turn_with.ensures.read (search rules)
+    c.turns.invariant.taken
+    (laws_by g.F.Follow.next law.bytes_join law.bytes_empty law.bytes_go_on law.pad_join law.pad_empty law.pad_go_on)
+    c.in_err-turn_with.field-0.0 (search rules)))
 
 pub returns-in-Ended : goal.returns-in-Ended
 returns-in-Ended g c =
     let law = g.met.F.Follow in
     drives_lent g.F.Follow.next g.D.Drain.state _ _ _ _ _ _ _ _ (drain_of c.new-out.result).now
     (drain_of c.turn_with.new.out).now _ (sym c.new-out.ensures.taken) (search rules)
-    (drives_ended g.F.Follow.next law.bytes_join law.bytes_empty law.bytes_go_on law.pad_join law.pad_empty
-    law.pad_go_on _ _ _ _ _ _ c.turns.invariant.walking
-    _ _ _ c.turn_with.ensures.read (search rules) c.turns.invariant.taken _ (search rules))
+    (drives_ended g.F.Follow.next _ _ _ _ _ _ c.turns.invariant.walking _ _ _ c.turn_with.ensures.read (search rules)
+    c.turns.invariant.taken
+    (laws_by g.F.Follow.next law.bytes_join law.bytes_empty law.bytes_go_on law.pad_join law.pad_empty law.pad_go_on)
+    _ (search rules))

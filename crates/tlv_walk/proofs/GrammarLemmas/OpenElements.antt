@@ -1,0 +1,161 @@
+-- An open forest ends within its bound, and an element is an open forest from its header on, as its contents come.
+use Rattle.std.proofs.Common.{◌≡◌, inl, inr, ℕ, ◌+◌, ◌≤◌, Bool, true, false, ◌&&◌, ◌||◌, leb, List, [], ◌∷◌, ◌++◌}
+use Rattle.std.proofs.Common.{length, refl, sym, ap, ◌∙◌, arith, append-nil, length-append, eq-eqb, ne_eqb, leb-false}
+use Rattle.std.proofs.lemmas.Bool.{cases_eq, cases_Bool, and_parts, true≢false}
+use Rattle.tlv_head.specs.declared.header.Size.{Size}
+use Rattle.tlv_head.specs.declared.header.Size.TheVariants.{Definite, Indefinite}
+use Rattle.tlv_head.specs.Header.{AllowsSize, HeaderValue, IsHeader, announced_length, holds, octets_of, wraps}
+use Rattle.tlv_walk.specs.Forest.{Forest, Holder, NoMore, OpenBitString, OpenEndOctets, OpenHeader, OpenHolder}
+use Rattle.tlv_walk.specs.Forest.{OpenPrimitive, PaddingOctet, Primitive, contents_length, end_octets, extent, is_whole}
+use Rattle.tlv_walk.specs.Forest.{lead, opening, spelling}
+use Rattle.tlv_walk.specs.Place.{Fits, IsAnnouncedAt, IsHeaderAt, IsOpen, Place, place_after, place_of_children}
+use Rattle.tlv_walk.proofs.GrammarLemmas.Lengths.{LacksOctets}
+use Rattle.tlv_walk.proofs.GrammarLemmas.Bounds.{HasAllContents, fits-inside, has_length, lead-zero, length-full}
+use Rattle.tlv_walk.proofs.GrammarLemmas.Bounds.{length-lacks, within-le, within-outside}
+use Rattle.tlv_walk.proofs.GrammarLemmas.Spellings.{length-holder, length-opening, length-primitive}
+use Rattle.tlv_walk.proofs.GrammarLemmas.PushSteps.{is_filled_by, holder_so_far, primitive_so_far, holder_begun}
+use Rattle.tlv_walk.proofs.GrammarLemmas.PushSteps.{element_begun, Spells}
+
+-- if what an element holds ends within the bound inside, the element so far ends within that outside
+reaches-open_holder : (p : Place) (h : HeaderValue) (inside : Forest)
+    → Fits p (length (octets_of h) + announced_length h.size)
+    → Fits (place_of_children p h) (length (spelling inside))
+    → Fits p (length (opening h ++ spelling inside))
+reaches-open_holder p h inside f g =
+    let size : length (opening h ++ spelling inside)
+    ≡ length (octets_of h) + (length (lead h) + length (spelling inside)) =
+    omega (arith, length-append (opening h) (spelling inside), length-opening h) in
+    within-le p.bound _ _ (omega arith)
+    (within-outside h.size (p.offset + length (octets_of h)) p.bound (length (lead h) + length (spelling inside))
+    (within-le p.bound _ _ (omega arith) f)
+    (within-le (place_of_children p h).bound _ _ (omega (arith, length-opening h)) g))
+
+-- an open forest ends within the bound
+pub reaches : (p : Place) (f : Forest) → Fits p 0 → IsOpen p f → Fits p (length (spelling f))
+reaches p NoMore z w = z
+reaches p (PaddingOctet rest) z w =
+    within-le p.bound _ _ (omega arith) (reaches (place_after p 1) rest (within-le p.bound _ _ (omega arith) w.0.2) w.1)
+reaches p (Primitive h c rest) z w =
+    within-le p.bound _ _ (omega (arith, length-primitive h c rest))
+    (reaches (place_after p (length (octets_of h) + length c)) rest (within-le p.bound _ _ (omega arith) w.0.0.fits)
+    w.1)
+reaches p (Holder h inside rest) z w =
+    within-le p.bound _ _ (omega (arith, length-holder h inside rest))
+    (reaches (place_after p (extent h inside)) rest (within-le p.bound _ _ (omega arith) w.0.0.fits) w.2)
+reaches p (OpenPrimitive h c) z w = within-le p.bound _ _ (omega (arith, length-append (octets_of h) c, w.1)) w.0.fits
+reaches p (OpenHolder h inside) z w =
+    reaches-open_holder p h inside w.0.0.fits
+    (reaches (place_of_children p h) inside (fits-inside p h w.0.0.header.form w.0.0.fits) w.1)
+reaches p (OpenBitString h) z w = within-le p.bound _ _ (omega arith) w.0.fits
+reaches p (OpenHeader o) z w = w.2
+reaches p OpenEndOctets z w = w.1
+
+-- 8.1.3.2 a): the length of a primitive is definite
+definite-primitive : (constructed : Bool) (s : Size) → constructed ≡ false → AllowsSize constructed s
+    → (n : ℕ) × (s ≡ Definite n)
+definite-primitive true s e a = absurd (true≢false e)
+definite-primitive false (Definite n) e a = (n, refl)
+definite-primitive false Indefinite e a = absurd (cc (a))
+
+-- what holds no others is no constructed element
+not-holding : (constructed wraps : Bool) → (constructed || wraps) ≡ false → constructed ≡ false
+not-holding true wraps e = absurd (true≢false e)
+not-holding false wraps e = refl
+
+-- an element that holds no others has a definite length
+pub size-definite : (h : HeaderValue) → IsHeader h → holds h ≡ false → (n : ℕ) × (h.size ≡ Definite n)
+size-definite h valid e = definite-primitive h.constructed h.size (not-holding h.constructed (wraps h) e) valid.allowed
+
+-- contents octets of a primitive, no more than announced
+pub primitive_so_far-sound : (p : Place) (h : HeaderValue) (c : List ℕ) (n : ℕ) → IsHeaderAt p false h
+    → h.size ≡ Definite n → length c ≤ n → Fits p (length (octets_of h) + n)
+    → Spells p (octets_of h ++ c) (primitive_so_far h c)
+primitive_so_far-sound p h c n header e most f =
+    let all : announced_length h.size ≡ n = ap announced_length e in
+    elim (cases_eq (length c) n) [
+      | inl full ↦ rw (eq-eqb (length c) (announced_length h.size) (full ∙ sym all)) (record {
+        is_open = (
+          (record { header = header; shallow = λ e. absurd (cc (e)); fits = rw full f }, e ∙ ap Definite (sym full)),
+          tt,
+        );
+        spelled = ap (λ (t : List ℕ). octets_of h ++ t) (append-nil c);
+      })
+      | inr less ↦ rw (ne_eqb (length c) (announced_length h.size) (λ z. less (z ∙ all))) (record {
+        is_open = (
+          record { header = header; shallow = λ e. absurd (cc (e)); fits = within-le p.bound _ _ (omega arith) f },
+          omega arith,
+        );
+        spelled = refl;
+      })
+    ]
+
+-- an element that holds others, with all its contents octets by its definite length
+pub holder-sound : (p : Place) (h : HeaderValue) (g : Forest) → IsAnnouncedAt p true h
+    → IsOpen (place_of_children p h) g
+    → is_whole g ≡ true → HasAllContents h.size (contents_length h g)
+    → Spells p (opening h ++ spelling g) (Holder h g NoMore)
+holder-sound p h g entry w whole full =
+    let none : length (end_octets h.size) ≡ 0 = ap length full.ends in
+    record {
+      is_open = (
+        (
+          record {
+            header = entry.header;
+            shallow = entry.shallow;
+            fits = within-le p.bound _ _ (omega (arith, full.all, length-opening h)) entry.fits;
+          },
+          whole,
+          full.filled,
+        ),
+        w,
+        tt,
+      );
+      spelled =
+          ap (λ (t : List ℕ). opening h ++ (spelling g ++ (t ++ []))) full.ends
+          ∙ ap (λ (t : List ℕ). opening h ++ t) (append-nil (spelling g));
+    }
+
+-- an element that is not filled lacks octets, if what it holds is whole
+pub unfilled-lacks : (p : Place) (h : HeaderValue) (g : Forest) → is_filled_by h g ≡ false → is_whole g ≡ true
+    → Fits (place_of_children p h) (length (spelling g)) → LacksOctets h.size (contents_length h g)
+unfilled-lacks p h g e whole there =
+    let short : has_length h.size (contents_length h g) ≡ false = rw whole at e in
+    length-lacks h.size (p.offset + length (octets_of h)) p.bound
+    _ (within-le (place_of_children p h).bound _ _ (omega (arith, length-opening h)) there) short
+
+-- what an element holds is open: so is the element
+pub holder_so_far-sound : (p : Place) (h : HeaderValue) (g : Forest) → IsAnnouncedAt p true h
+    → IsOpen (place_of_children p h) g → Spells p (opening h ++ spelling g) (holder_so_far h g)
+holder_so_far-sound p h g entry w = elim (cases_Bool (is_filled_by h g)) [
+  | inl e ↦
+      let parts : (is_whole g ≡ true) × (has_length h.size (contents_length h g) ≡ true) = and_parts _ _ e in
+      rw e (holder-sound p h g entry w parts.0 (length-full h.size _ parts.1))
+  | inr e ↦
+      let there : Fits (place_of_children p h) (length (spelling g)) =
+      reaches (place_of_children p h) g (fits-inside p h entry.header.form entry.fits) w in
+      rw e (record { is_open = ((entry, λ whole. unfilled-lacks p h g e whole there), w); spelled = refl })
+]
+
+-- an element that holds none yet
+holder_begun-sound : (p : Place) (h : HeaderValue) (l : List ℕ) → lead h ≡ l → IsAnnouncedAt p true h
+    → Spells p (octets_of h) (holder_begun h l)
+holder_begun-sound p h [] e entry =
+    let r : Spells p (opening h ++ []) (holder_so_far h NoMore) = holder_so_far-sound p h NoMore entry tt in
+    let none : opening h ++ [] ≡ octets_of h =
+    append-nil (opening h) ∙ ap (λ (t : List ℕ). octets_of h ++ t) e ∙ append-nil (octets_of h) in
+    record { is_open = r.is_open; spelled = r.spelled ∙ none }
+holder_begun-sound p h (x ∷ xs) e entry = record { is_open = (entry, lead-zero h x xs e); spelled = refl }
+
+-- a header where one may be is an open forest
+pub element_begun-sound : (p : Place) (h : HeaderValue) (k : Bool) → IsHeaderAt p k h → (k && leb 128 p.depth) ≡ false
+    → Fits p (length (octets_of h) + announced_length h.size)
+    → Spells p (octets_of h) (element_begun k h)
+element_begun-sound p h true header d f = holder_begun-sound p h (lead h) refl (record {
+  header = header;
+  shallow = λ _. leb-false 128 p.depth d;
+  fits = f;
+})
+element_begun-sound p h false header d f =
+    let n : (n : ℕ) × (h.size ≡ Definite n) = size-definite h header.valid header.form in
+    let f' : Fits p (length (octets_of h) + n.0) = rw (ap announced_length n.1) at f in
+    rw (append-nil (octets_of h)) at (primitive_so_far-sound p h [] n.0 header n.1 (omega arith) f')
