@@ -140,6 +140,6 @@ whole-state s t old new h o c true e f same q =
     let p = subst (λ (l : List ℕ). PassesPrimitive old new h l) same q in
     let all = whole-checked old.kept h o p.begins p.ends in
     rw (e, f) (
-      ap (λ (u : FinderState). u.kept) p.state ∙ sym (ap (λ (k : Effect CheckState). k.state) all),
+      ap (λ (u : FinderState). u.kept) p.kept ∙ sym (ap (λ (k : Effect CheckState). k.state) all),
       ap (λ (k : Effect CheckState). k.goes) all,
     )

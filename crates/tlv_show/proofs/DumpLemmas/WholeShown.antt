@@ -76,7 +76,7 @@ module _ (s u : DumpState) (old new : FinderState) (h : HeaderValue) (o c : List
   stands_after l e =
       let p = took old new h c x on passes in
       ap₂ dump_state e
-      (ap (λ (f : FinderState). f.kept) p.state
+      (ap (λ (f : FinderState). f.kept) p.kept
       ∙ ap (λ (f : CheckState). (finder_whole_step f h c).kept) (sym finder))
 
 -- ---- by a call that may leave them to others

@@ -15,8 +15,8 @@ returns-then-self-eq0-clause-nest c =
     rw (← c.self.view_is)
     (closes-top n.frame n.floor n.depth n.outer known.inside known.others c.if-self-eq0.true).0
 
-pub returns-then-self-eq0-clause-segments : goal.returns-then-self-eq0-clause-segments
-returns-then-self-eq0-clause-segments c =
+pub returns-then-self-eq0-clause-closed : goal.returns-then-self-eq0-clause-closed
+returns-then-self-eq0-clause-closed c =
     let n = c.self.inside in
     let known = c.self.invariant in
     rw (← c.self.view_is)
