@@ -131,10 +131,11 @@ fields_wrap f = is_wrapper f.named f.class f.constructed f.number f.size
 abbrev pub fields_hold : HeaderFields → Bool
 fields_hold f = f.constructed || fields_wrap f
 
--- the same, of the element with this header
+-- the element with this header is a string that holds encodings
 abbrev pub wraps : HeaderValue → Bool
 wraps h = fields_wrap (fields_of h)
 
+-- the contents of the element with this header are encodings
 abbrev pub holds : HeaderValue → Bool
 holds h = fields_hold (fields_of h)
 

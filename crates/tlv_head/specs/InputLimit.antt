@@ -1,6 +1,6 @@
 -- How many octets an input may have.
 use Rattle.std.specs.Prelude.{ℕ, ◌^◌}
 
--- the most octets that are read of an input, and so the largest offset
+-- the most octets that an input may have, and so the largest offset
 abbrev pub input_limit : ℕ
 input_limit = 2 ^ 40

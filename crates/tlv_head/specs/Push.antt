@@ -24,7 +24,7 @@ pub record FitsThere (h : HeaderValue) (room : Option ℕ) (depth : ℕ) : Type 
 
 -- why the octet x is refused: a line for each cause. The bound is looked at before the octet
 pub data IsRefusedPush (r : HeadReaderState) (x : ℕ) (room : Option ℕ) (depth : ℕ) : FaultCode → Type 0 where
-  -- F11, 8.1.3.3: the header passes the bound
+  -- F11, 8.1.3.3: the header does not end within the bound
   no_room : room ≡ Some 0 → IsRefusedPush r x room depth Overrun
   -- F06 to F09: no header goes on with that octet
   refused_octet : {code : FaultCode} → room ≢ Some 0 → IsRefusedOctet r.octets x code

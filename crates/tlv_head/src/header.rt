@@ -237,8 +237,8 @@ ghost use Rattle.tlv_head.specs.Header.{announced_length, spell_indefinite, is_w
 /// The second octets of an identifier of so many octets and of the length after it, or 0 if there is none.
 pub(crate) fn second_octets(id_len: u8, octets: &[u8]) -> (u8, u8)
     requires { id_len ≤ length octets.now }
-    ensures number { result.0 ≡ slice_index (take id_len octets.now) 1 }
-    ensures length { result.1 ≡ slice_index (drop id_len octets.now) 1 }
+    ensures identifier { result.0 ≡ slice_index (take id_len octets.now) 1 }
+    ensures lengths { result.1 ≡ slice_index (drop id_len octets.now) 1 }
 {
     let (identifier, lengths) = octets.split_at(usize::from(id_len));
     (second_of(identifier), second_of(lengths))

@@ -71,7 +71,7 @@ module _ {E : Type 0} where
     pub some : IfOk result (λ n. (0 < n) × (n ≤ length from))
     pub failures : new.failures ≡ failures_after result old.failures
 
--- a read that is not the last gave one octet to 4096
+-- what a read gave that is not the last: 1 to 4096 octets
 abbrev pub IsPiece : List ℕ → Type 0
 IsPiece octets = (0 < length octets) × (length octets ≤ 4096)
 
@@ -79,7 +79,7 @@ IsPiece octets = (0 < length octets) × (length octets ≤ 4096)
 abbrev pub GaveLast : LastReadValue → List ℕ → Type 0
 GaveLast last octets = (last ≡ gave (length octets)) ⊎ ((last ≡ failed) × (octets ≡ []))
 
--- reads of a source, one or more: the octets that each gave, and those of the last
+-- reads of a source, one or more: the octets that each but the last gave, and those that the last gave
 pub record Pieces (old new : SourceState) : Type 0 where
   pub pieces : List (List ℕ)
   pub last : List ℕ

@@ -1,4 +1,4 @@
-//! Octets that are on their way to a drain.
+//! The octets that an `Out` holds, to which texts are added in place.
 ghost use Rattle.std.specs.Prelude.{◌≡◌, ◌+◌, ◌*◌, ◌≤◌, ◌++◌, [], length, take};
 ghost use Rattle.tlv_io.specs.LineTexts.{AddsIfRoom, HasRoomFor, spaced_pairs, spaces};
 

@@ -1,4 +1,4 @@
-//! Octets on their way to a drain.
+//! An [`Out`]: it holds octets, and hands them to a drain.
 
 ghost use Rattle.std.specs.Prelude.{◌≡◌, ◌≤◌, [], length, OnOk};
 ghost use Rattle.tlv_io.specs.LineTexts.{HasRoomFor};

@@ -88,7 +88,7 @@ is_string h =
     is_one_of string_types h
     || (is_universal h.class && nat_le universal.numeric_string h.number && nat_le h.number universal.universal_string)
 
--- 8.1.2.5: the element is primitive. A string that holds encodings is so too
+-- 8.1.2.5: the element is primitive, as a string that holds encodings is
 abbrev pub is_primitive : HeaderValue → Bool
 is_primitive h = not h.constructed
 

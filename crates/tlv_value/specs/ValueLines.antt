@@ -14,15 +14,15 @@ use Rattle.tlv_value.specs.Value.{NameOf, Value, is_long, long_value, row_text, 
 abbrev pub header_kind : HeaderValue → Kind
 header_kind h = kind_of h.class h.number
 
--- what the line of an element of this class, number and length begins with
+-- what the line of an element of this class, number and size begins with
 abbrev pub element_prefix : Layout → ℕ → Class → ℕ → ℕ → List ℕ
-element_prefix layout offset class number n =
-    line_margin layout (columns offset (decimal n)) ++ tag_text class number
+element_prefix layout offset class number size =
+    line_margin layout (columns offset (decimal size)) ++ tag_text class number
 
--- the line of an element of this class, number and length, with this text after its tag
+-- the line of an element of this class, number and size, with this text after its tag
 abbrev pub element_line : Layout → ℕ → Class → ℕ → ℕ → List ℕ → List ℕ
-element_line layout offset class number n text =
-    line layout.pure (columns offset (decimal n)) layout.level (tag_text class number ++ text)
+element_line layout offset class number size text =
+    line layout.pure (columns offset (decimal size)) layout.level (tag_text class number ++ text)
 
 -- rows in order, the first of which has this number
 abbrev pub row_lines : Kind → Layout → ℕ → List (List ℕ) → List ℕ

@@ -68,8 +68,8 @@ idle_value_text = new_value_text_of (record {
 })
 
 -- what is kept after more octets of a long value whose line was written
-abbrev pub rows_after : Kind → KeptContents → List ℕ → KeptContents
-rows_after kind k octets = record {
+abbrev pub kept_after_line : Kind → KeptContents → List ℕ → KeptContents
+kept_after_line kind k octets = record {
   wrote_line = true;
   row_count = k.row_count + length (full_rows kind k.row octets);
   row = open_row kind k.row octets;
@@ -80,33 +80,33 @@ abbrev pub full_row_lines : Kind → Layout → KeptContents → List ℕ → Li
 full_row_lines kind layout k octets = row_lines kind layout k.row_count (full_rows kind k.row octets)
 
 -- what is kept of a long value whose line came with this first contents octet
-abbrev pub first_rows : Kind → ℕ → KeptContents
-first_rows kind x = record { wrote_line = true; row_count = 0; row = row_octets kind (x ∷ []) }
+abbrev pub kept_with_line : Kind → ℕ → KeptContents
+kept_with_line kind x = record { wrote_line = true; row_count = 0; row = row_octets kind (x ∷ []) }
 
 -- what is kept after more octets of a long value whose line was not written: it comes with the first of them
-abbrev pub first_rows_after : Kind → KeptContents → List ℕ → KeptContents
-first_rows_after kind k [] = k
-first_rows_after kind k (x ∷ octets) = rows_after kind (first_rows kind x) octets
+abbrev pub kept_before_line : Kind → KeptContents → List ℕ → KeptContents
+kept_before_line kind k [] = k
+kept_before_line kind k (x ∷ octets) = kept_after_line kind (kept_with_line kind x) octets
 
 -- that line, and the lines of the rows that are full with these octets
 abbrev pub first_row_lines : ValueTextState → List ℕ → List ℕ
 first_row_lines s [] = []
 first_row_lines s (x ∷ octets) =
     primitive_line s.primitive (long_text s.primitive.kind s.primitive.size (x ∷ []))
-    ++ full_row_lines s.primitive.kind s.primitive.layout (first_rows s.primitive.kind x) octets
+    ++ full_row_lines s.primitive.kind s.primitive.layout (kept_with_line s.primitive.kind x) octets
 
 -- what is kept after more octets of a long value
-abbrev pub long_rows_after : ValueTextState → List ℕ → KeptContents
-long_rows_after s octets =
+abbrev pub long_kept_after : ValueTextState → List ℕ → KeptContents
+long_kept_after s octets =
     if s.kept.wrote_line
-    then rows_after s.primitive.kind s.kept octets
-    else first_rows_after s.primitive.kind s.kept octets
+    then kept_after_line s.primitive.kind s.kept octets
+    else kept_before_line s.primitive.kind s.kept octets
 
 -- what is kept after more octets
 abbrev pub kept_after : ValueTextState → List ℕ → KeptContents
 kept_after s octets =
     if is_long_primitive s.primitive
-    then long_rows_after s octets
+    then long_kept_after s octets
     else record s.kept { row = s.kept.row ++ octets }
 
 -- the state after more octets

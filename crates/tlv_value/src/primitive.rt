@@ -85,7 +85,7 @@ impl Primitive {
 
     /// Adds its line without a value.
     #[inline(always)]
-    fn write_bare(&self, held: &mut HeldOctets)
+    fn write_bare_line(&self, held: &mut HeldOctets)
         requires { HasRoomFor held.old 1024 }
         ensures { held.new ≡ held.old ++ primitive_line self.now [] }
     {
@@ -122,11 +122,11 @@ impl Primitive {
 
     /// Puts its line without a value.
     #[inline(always)]
-    pub fn put_bare<D: Drain>(&self, out: &mut Out<'_, D>) -> Result<(), WriteFault>
+    pub fn put_bare_line<D: Drain>(&self, out: &mut Out<'_, D>) -> Result<(), WriteFault>
         ensures { Puts D.state out.old out.new (primitive_line self.now []) result }
     {
         out.make_room()?;
-        self.write_bare(&mut out.held);
+        self.write_bare_line(&mut out.held);
         Ok(())
     }
 

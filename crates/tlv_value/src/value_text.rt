@@ -127,7 +127,7 @@ impl ValueText {
         if !self.primitive.is_long() || !self.wrote_line {
             return Ok(());
         }
-        self.primitive.put_bare(out)
+        self.primitive.put_bare_line(out)
     }
 
     /// Writes what is known with more contents octets: after the lines of its primitive with the contents before

@@ -75,7 +75,7 @@ fn put_pairs<D: Drain>(
     out: &mut Out<'_, D>,
 ) -> Result<(), WriteFault>
     requires pairs { row_size primitive.now.kind ≡ 16 }
-    requires endless { primitive.now.layout.limit ≡ None }
+    requires unlimited { primitive.now.layout.limit ≡ None }
     requires long { is_long_primitive primitive.now ≡ true }
     ensures { Puts D.state out.old out.new
         (primitive_line primitive.now (long_text primitive.now.kind primitive.now.size contents.now)

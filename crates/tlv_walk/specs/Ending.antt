@@ -21,37 +21,41 @@ pub record OpenEnd : Type 0 where
   pub place : Place
   pub forest : Forest
 
+-- the open end with this there
+abbrev pub end_at : Place → Forest → OpenEnd
+end_at p f = record { place = p; forest = f }
+
 -- the innermost open end of a forest that begins at p
 abbrev pub open_end : Place → Forest → OpenEnd
 open_end p (PaddingOctet rest) = open_end (place_after p 1) rest
 open_end p (Primitive h c rest) = open_end (place_after p (primitive_extent h c)) rest
 open_end p (Holder h children rest) = open_end (place_after p (extent h children)) rest
 open_end p (OpenHolder h children) = open_end (place_of_children p h) children
-open_end p end = record { place = p; forest = end }
+open_end p end = end_at p end
 
 -- why the octet x is refused at an open end: a line for each cause. The bound is looked at before the octet
 pub data IsFault (x : ℕ) : OpenEnd → FaultCode → Type 0 where
   -- 8.6.2.2: a wrapping BIT STRING must begin with 00
-  bad_inside : {p : Place} {h : HeaderValue} → x ≢ 0 → IsFault x (open_end p (OpenBitString h)) BadInside
+  bad_inside : {p : Place} {h : HeaderValue} → x ≢ 0 → IsFault x (end_at p (OpenBitString h)) BadInside
   -- 8.1.5: the second 00 is missing at the bound, or is another octet
-  missing_end : {p : Place} → (Fits p 2 → ⊥) → IsFault x (open_end p OpenEndOctets) MissingEnd
-  bad_end : {p : Place} → Fits p 2 → x ≢ 0 → IsFault x (open_end p OpenEndOctets) BadEnd
+  missing_end : {p : Place} → (Fits p 2 → ⊥) → IsFault x (end_at p OpenEndOctets) MissingEnd
+  bad_end : {p : Place} → Fits p 2 → x ≢ 0 → IsFault x (end_at p OpenEndOctets) BadEnd
   -- 8.1.3.3: the header does not end within the bound
-  no_room : {p : Place} {o : List ℕ} → (Fits p (length o + 1) → ⊥) → IsFault x (open_end p (OpenHeader o)) Overrun
+  no_room : {p : Place} {o : List ℕ} → (Fits p (length o + 1) → ⊥) → IsFault x (end_at p (OpenHeader o)) Overrun
   -- F06 to F09: no header goes on with that octet
   refused_octet : {p : Place} {o : List ℕ} {code : FaultCode} → Fits p (length o + 1) → IsRefusedOctet o x code
-      → IsFault x (open_end p (OpenHeader o)) code
+      → IsFault x (end_at p (OpenHeader o)) code
   -- 8.1.4: the header of an element that holds others, inside 128 of them
   too_deep : {p : Place} {o : List ℕ} → Fits p (length o + 1) → (h : HeaderValue) → IsHeaderAt p true h
-      → octets_of h ≡ o ++ x ∷ [] → 128 ≤ p.depth → IsFault x (open_end p (OpenHeader o)) TooDeep
+      → octets_of h ≡ o ++ x ∷ [] → 128 ≤ p.depth → IsFault x (end_at p (OpenHeader o)) TooDeep
   -- 8.1.3.3: the header of contents that end beyond the bound
   overrun : {p : Place} {o : List ℕ} → Fits p (length o + 1) → (h : HeaderValue) → IsHeaderAt p (holds h) h
       → octets_of h ≡ o ++ x ∷ [] → (holds h ≡ true → p.depth < 128)
-      → (Fits p (length (octets_of h) + announced_length h.size) → ⊥) → IsFault x (open_end p (OpenHeader o)) Overrun
+      → (Fits p (length (octets_of h) + announced_length h.size) → ⊥) → IsFault x (end_at p (OpenHeader o)) Overrun
   -- 8.1.5: no end-of-contents octets before the bound
-  no_end : {p : Place} → p.indefinite ≡ true → (Fits p 1 → ⊥) → IsFault x (open_end p NoMore) MissingEnd
+  no_end : {p : Place} → p.indefinite ≡ true → (Fits p 1 → ⊥) → IsFault x (end_at p NoMore) MissingEnd
   -- 8.1.5: 00 where no end-of-contents octets can be, and no padding
-  stray_end : {p : Place} → p.indefinite ≡ false → p.padding ≡ false → x ≡ 0 → IsFault x (open_end p NoMore) StrayEnd
+  stray_end : {p : Place} → p.indefinite ≡ false → p.padding ≡ false → x ≡ 0 → IsFault x (end_at p NoMore) StrayEnd
 
 abbrev pub fault_at : FaultCode → ℕ → FaultOf
 fault_at code offset = record { code = code; offset = offset }

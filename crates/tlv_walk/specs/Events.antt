@@ -36,7 +36,7 @@ event_octets Unused = 0 ∷ []
 event_octets (Close (Some offset)) = 0 ∷ 0 ∷ []
 event_octets e = []
 
--- an event, apart from where its octets lie in memory
+-- an event of the code, as such a value
 abbrev pub event_value_of : Event → EventValue
 event_value_of (event.Open h) = Open h
 event_value_of (event.Begin h) = Begin h

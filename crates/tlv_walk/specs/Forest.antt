@@ -26,10 +26,11 @@ pub data Forest : Type 0 where
   -- the first of the end-of-contents octets
   OpenEndOctets : Forest
 
--- 8.6.2.2: the contents octets of a wrapper before what it holds: in a BIT STRING 00, no bit unused
+-- 8.6.2.2: contents octets before what is held, by whether the element is constructed, and is a BIT STRING
 abbrev pub lead_by : Bool → Bool → List ℕ
 lead_by constructed bit_string = if constructed then [] else (if bit_string then 0 ∷ [] else [])
 
+-- the contents octets of a wrapper before what it holds: in a BIT STRING 00, no bit unused
 abbrev pub lead : HeaderValue → List ℕ
 lead h = lead_by h.constructed (eqb h.number universal.bit_string)
 

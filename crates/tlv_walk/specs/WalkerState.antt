@@ -40,7 +40,7 @@ pub record IsInHeader (r : HeadReaderState) (offset : ℕ) : Type 0 where
   pub some : r.octets ≢ []
   pub end : r.offset + length r.octets ≡ offset
 
--- by phase, how many octets came for which no event was yielded: at least one for each open element, those of a header
+-- by phase, how many more octets were taken than events yielded, at least: one for each open element, those of a header
 -- that has begun, and a first 00. And what is open ends within the bound
 abbrev pub CountsFitPhase : PhaseValue → List FrameValue → ℕ → ℕ → Type 0
 CountsFitPhase Between stack offset events = events + length stack ≤ offset

@@ -6,10 +6,11 @@ use Rattle.tlv_walk.specs.Events.{Enter, EventValue}
 use Rattle.tlv_walk.specs.Forest.{Forest, PaddingOctet, Primitive, Holder, OpenHolder, OpenBitString}
 use Rattle.tlv_walk.specs.Inside.{is_among}
 
--- of an element that holds others: the offset, if it is a wrapper
+-- the offset of an element that holds others, if it is a wrapper: by whether it is constructed
 abbrev pub wrapper_by : Bool → ℕ → List ℕ
 wrapper_by constructed offset = if constructed then [] else offset ∷ []
 
+-- the same, by its header
 abbrev pub wrapper_at : HeaderValue → List ℕ
 wrapper_at h = wrapper_by h.constructed h.offset
 

@@ -34,7 +34,7 @@ impl<T: Copy + Default> Frames<T> {
     #[inline(always)]
     pub fn len(&self) -> usize
         ensures count { result ≡ length self.now }
-        ensures bound { result ≤ 128 }
+        ensures within { result ≤ 128 }
     {
         self.outermost_first.len()
     }

@@ -26,12 +26,12 @@ pub fn spellings_are_exact()
 {}
 
 /// Each input has a reading, and only one.
-pub fn one_reading()
+pub fn octets_have_one_reading()
     ensures { OctetsHaveOneReading }
 {}
 
 /// Each input has an ending, and only one.
-pub fn one_ending()
+pub fn octets_have_one_ending()
     ensures { OctetsHaveOneEnding }
 {}
 

@@ -90,7 +90,7 @@ pub(crate) fn turn_with<F: Follow, S: Source, D: Drain>(
     result_of_pause(walker, pause, count, walked)
 }
 
-/// Returns what a turn does after this pause, if `followed` of the `read` octets were followed.
+/// What a turn returns after this pause, if it read `read` octets and followed `followed` of them.
 fn result_of_pause(
     walker: &Walker,
     pause: Pause,
@@ -109,7 +109,7 @@ fn result_of_pause(
     }
 }
 
-/// Returns the run of a walker, with this ending.
+/// The run of a walker, with this ending; `enough` says whether the follower had enough.
 fn run_of(walker: &Walker, ending: Ending, enough: bool) -> Run
     ensures { result ≡ run_of walker.now ending enough }
 {

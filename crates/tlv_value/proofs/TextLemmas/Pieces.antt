@@ -15,8 +15,8 @@ use Rattle.tlv_value.specs.Rows.{full_rows, full_rows_in, open_row, open_row_in,
 use Rattle.tlv_value.specs.Private.PrimitiveLines.{lines_in_steps}
 use Rattle.tlv_value.specs.ValueLines.{has_line, open_lines, row_lines, whole_lines}
 use Rattle.tlv_value.specs.ValueTextState.{KeptContents, ValueTextState, begin_lines, contents_lines, end_lines}
-use Rattle.tlv_value.specs.ValueTextState.{first_rows, first_rows_after, full_row_lines, new_value_text_of}
-use Rattle.tlv_value.specs.ValueTextState.{new_value_text, primitive_line, primitive_lines, new_primitive, rows_after}
+use Rattle.tlv_value.specs.ValueTextState.{kept_with_line, kept_before_line, full_row_lines, new_value_text_of}
+use Rattle.tlv_value.specs.ValueTextState.{new_value_text, primitive_line, primitive_lines, new_primitive, kept_after_line}
 use Rattle.tlv_value.specs.ValueTextState.{kept_after, value_text_for, value_text_after}
 use Rattle.tlv_value.specs.Value.{NameOf, is_long, long_text, long_value, row_octets, short_value}
 use Rattle.std.proofs.lemmas.Bool.Decides.{nat_tests}
@@ -32,7 +32,7 @@ kept-eq n m r q e f = ap (λ (j : ℕ). kept_with j r) e ∙ ap (kept_with m) f
 
 module _ (kind : Kind) where
   -- what is kept, and what is written, of two pieces
-  kept-join : (k : KeptContents) (x y : List ℕ) → rows_after kind (rows_after kind k x) y ≡ rows_after kind k (x ++ y)
+  kept-join : (k : KeptContents) (x y : List ℕ) → kept_after_line kind (kept_after_line kind k x) y ≡ kept_after_line kind k (x ++ y)
   kept-join k x y =
       let j = rows-join kind k.row x y in
       let n : k.row_count + length (full_rows kind k.row x) + length (full_rows kind (open_row kind k.row x) y)
@@ -44,7 +44,7 @@ module _ (kind : Kind) where
 
   new-join : (layout : Layout) (k : KeptContents) (x y : List ℕ)
       → full_row_lines kind layout k (x ++ y)
-      ≡ full_row_lines kind layout k x ++ full_row_lines kind layout (rows_after kind k x) y
+      ≡ full_row_lines kind layout k x ++ full_row_lines kind layout (kept_after_line kind k x) y
   new-join layout k x y =
       ap (row_lines kind layout k.row_count) (rows-join kind k.row x y).0
       ∙ row_lines-append kind layout k.row_count (full_rows kind k.row x) (full_rows kind (open_row kind k.row x) y)
@@ -53,7 +53,7 @@ module _ (kind : Kind) where
 module _ (kind : Kind) (layout : Layout) (line : List ℕ → List ℕ) (size : ℕ) where
   abbrev kept_by : Bool → Bool → KeptContents → List ℕ → KeptContents
   kept_by long wrote_line k x =
-      if long then (if wrote_line then rows_after kind k x else first_rows_after kind k x) else record {
+      if long then (if wrote_line then kept_after_line kind k x else kept_before_line kind k x) else record {
         wrote_line = k.wrote_line;
         row_count = k.row_count;
         row = k.row ++ x;
@@ -61,7 +61,7 @@ module _ (kind : Kind) (layout : Layout) (line : List ℕ → List ℕ) (size : 
 
   abbrev first_new : List ℕ → List ℕ
   first_new [] = []
-  first_new (u ∷ x) = line (long_text kind size (u ∷ [])) ++ full_row_lines kind layout (first_rows kind u) x
+  first_new (u ∷ x) = line (long_text kind size (u ∷ [])) ++ full_row_lines kind layout (kept_with_line kind u) x
 
   abbrev new_by : Bool → Bool → KeptContents → List ℕ → List ℕ
   new_by long wrote_line k x = if long then (if wrote_line then full_row_lines kind layout k x else first_new x) else []
@@ -74,7 +74,7 @@ module _ (kind : Kind) (layout : Layout) (line : List ℕ → List ℕ) (size : 
       (append_assoc k.row x y)
   join-kept true true k x y e = kept-join kind k x y
   join-kept true false k [] y e = rw e refl
-  join-kept true false k (u ∷ x) y e = kept-join kind (first_rows kind u) x y
+  join-kept true false k (u ∷ x) y e = kept-join kind (kept_with_line kind u) x y
 
   join-new : (long wrote_line : Bool) (k : KeptContents) (x y : List ℕ) → k.wrote_line ≡ wrote_line
       → new_by long wrote_line k (x ++ y)
@@ -84,9 +84,9 @@ module _ (kind : Kind) (layout : Layout) (line : List ℕ → List ℕ) (size : 
   join-new true true k x y e = new-join kind layout k x y
   join-new true false k [] y e = rw e refl
   join-new true false k (u ∷ x) y e =
-      ap (λ (t : List ℕ). line (long_text kind size (u ∷ [])) ++ t) (new-join kind layout (first_rows kind u) x y)
-      ∙ sym (append_assoc (line (long_text kind size (u ∷ []))) (full_row_lines kind layout (first_rows kind u) x)
-      (full_row_lines kind layout (rows_after kind (first_rows kind u) x) y))
+      ap (λ (t : List ℕ). line (long_text kind size (u ∷ [])) ++ t) (new-join kind layout (kept_with_line kind u) x y)
+      ∙ sym (append_assoc (line (long_text kind size (u ∷ []))) (full_row_lines kind layout (kept_with_line kind u) x)
+      (full_row_lines kind layout (kept_after_line kind (kept_with_line kind u) x) y))
 
 abbrev with_kept : ValueTextState → ℕ → KeptContents → ValueTextState
 with_kept s left k = record { primitive = s.primitive; left = left; kept = k }

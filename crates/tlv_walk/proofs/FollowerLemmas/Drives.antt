@@ -63,7 +63,7 @@ module _ {S : Type 0} (next : S → EventValue → Effect S) (framing : Framing)
     few = given_short new.devices.source.last piece 4096 (omega (arith, room))
 
     within : length b ≤ limit
-    within = omega (arith, x.stands.private_state.has_state.offset, below)
+    within = omega (arith, x.stands.private_state.has_zipper.offset, below)
 
     all_octets : AreOctets (b ++ r)
     all_octets = All-append (λ x. x < 256) b r x.octets (given_octets new.devices.source.last piece read.octets)

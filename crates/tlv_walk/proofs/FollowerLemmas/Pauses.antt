@@ -9,7 +9,7 @@ use Rattle.tlv_walk.specs.declared.one_turn.Pause.TheVariants as pause
 use Rattle.tlv_io.specs.Device.{DrainState}
 use Rattle.tlv_walk.specs.Events.{AreEqualJoined, EventValue, events}
 use Rattle.tlv_walk.specs.Follow.{Effect, effect_of}
-use Rattle.tlv_walk.specs.Private.FollowsPiece.{FailsAfter, FollowsAndFlushes, FollowsPiece, FollowsToFault}
+use Rattle.tlv_walk.specs.Private.FollowsPiece.{WriteFailsAt, FollowsAndFlushes, FollowsPiece, FollowsToFault}
 use Rattle.tlv_walk.specs.Private.FollowsPiece.{BeginEventsOf}
 use Rattle.tlv_walk.specs.Private.FollowsPiece.{Pauses, FollowStates, WalksToFault, follow_states}
 use Rattle.tlv_walk.specs.Forest.{Forest, spelling}
@@ -35,11 +35,11 @@ use Rattle.tlv_walk.proofs.WalkerLemmas.Zipper.{reading_of}
 pub stands_spelled : (v : WalkerState) (b : List ℕ) (yielded : List EventValue) (f : Forest) → Stands v b yielded
     → IsReading v.framing b f → spelling f ≡ b
 stands_spelled v b yielded f st r =
-    let spells : Spells (top_place v.framing) b (reading_of st.private_state.state) =
-    state-spells v b yielded st.private_state.state st.private_state.has_state in
+    let spells : Spells (top_place v.framing) b (reading_of st.private_state.zipper) =
+    state-spells v b yielded st.private_state.zipper st.private_state.has_zipper in
     ap spelling
-    (reading-unique v.framing b f (reading_of st.private_state.state) r
-    (state-reading v b yielded st.private_state.state st.private_state.has_state))
+    (reading-unique v.framing b f (reading_of st.private_state.zipper) r
+    (state-reading v b yielded st.private_state.zipper st.private_state.has_zipper))
     ∙ spells.spelled
 
 -- if nothing waits, all events of the reading were yielded
@@ -103,7 +103,7 @@ module _ {S : Type 0} (next : S → EventValue → Effect S) where
         )
 
     pauses_failing : (x y : FollowStates S D) (piece : List ℕ) (more : List EventValue) (why : Pause)
-        → Pauses next x y piece more (Ok why) → FailsAfter next x y piece more
+        → Pauses next x y piece more (Ok why) → WriteFailsAt next x y piece more
     pauses_failing x y piece more pause.UsedUp k = record {
       yields = walked_goes_on x.walker y.walker piece [] more k.follows.walked;
     }

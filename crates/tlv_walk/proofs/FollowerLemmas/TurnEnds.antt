@@ -97,7 +97,7 @@ module _ {S D : Type 0} (next : S → EventValue → Effect S) (old new : TurnSt
         run_is =
             run_with run v ending.Done true (length (flat_map event_octets (yielded ++ more)))
             (first_other w.framing.inside (entered_offsets (yielded ++ more))) is
-            (there.private_state.has_state.offset ∙ ap length (sym front))
+            (there.private_state.has_zipper.offset ∙ ap length (sym front))
             (stands-entered v (b ++ walked.taken) (yielded ++ more) there
             ∙ ap (λ (g : Framing). first_other g.inside (entered_offsets (yielded ++ more))) walked.framing)
             ∙ ap (λ (x : Run). record (enough_run w.framing (yielded ++ more)) { ending = x.ending }) is;
@@ -157,7 +157,7 @@ used_up_ends next old new o yielded run e x is ends =
           (subst (λ (g : Framing). IsEnding g o e) same ends);
       run_is =
           run_with run v e false (length (spelling f)) (first_without_wrapper w.framing.inside f) is
-          (x.stands.private_state.has_state.offset ∙ ap length (sym (stands_spelled v o all f x.stands r)))
+          (x.stands.private_state.has_zipper.offset ∙ ap length (sym (stands_spelled v o all f x.stands r)))
           (stands_unused v o all x.stands ∙ ap (λ (g : Framing). first_without_wrapper g.inside f) same);
       walker = took_all x.stands x.idle;
     }

@@ -74,9 +74,9 @@ module _ {S D : Type 0} (next : S → EventValue → Effect S) (old new : TurnSt
   reached =
       ap (λ (o : List ℕ). b ++ o) (
       is_piece ∙ ap (λ (k : ℕ). take k p) is_m ∙ taken_within limit offset n p
-      ∙ ap (λ (k : ℕ). take (limit - k) (take n p)) st.private_state.has_state.offset
+      ∙ ap (λ (k : ℕ). take (limit - k) (take n p)) st.private_state.has_zipper.offset
       ∙ ap (λ (o : List ℕ). take (limit - length b) o) (sym is_r)
-      ) ∙ limit_after limit b r (omega (arith, st.private_state.has_state.offset, below))
+      ) ∙ limit_after limit b r (omega (arith, st.private_state.has_zipper.offset, below))
 
   -- the reading of these
   read : (f : Forest) × IsReading old.walker.framing (b ++ piece) f
@@ -102,14 +102,14 @@ module _ {S D : Type 0} (next : S → EventValue → Effect S) (old new : TurnSt
       → TurnsTo next old new limit b yielded r (Ok Again)
   turns_again why x fits some' = record {
     some = λ e. some' (sym many ∙ ap length e);
-    within = omega (arith, length-append b r, many, st.private_state.has_state.offset, fits, below, is_m);
+    within = omega (arith, length-append b r, many, st.private_state.has_zipper.offset, fits, below, is_m);
     stands = subst (λ (o : List ℕ). StandsAfter next old new (b ++ o) yielded) (all_within fits) (used why x);
   }
 
   turns_long : (why : Pause) → Followed why pause.UsedUp → m < n
       → TurnsTo next old new limit b yielded r (Err InputTooLong)
   turns_long why x more = record {
-    beyond = omega (arith, length-append b r, many, st.private_state.has_state.offset, more, below, is_m);
+    beyond = omega (arith, length-append b r, many, st.private_state.has_zipper.offset, more, below, is_m);
     stands = subst (λ (o : List ℕ). StandsAfter next old new o yielded) reached (used why x);
   }
 

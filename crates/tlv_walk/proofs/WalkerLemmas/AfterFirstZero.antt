@@ -36,14 +36,14 @@ module _ (old middle new : WalkerState) (x : ℕ) (first : Continues old middle 
     piece_is = ap (λ (o : List ℕ). x ∷ o) r.piece_is;
     rest_is = r.rest_is;
     refuses = λ b yielded s has.
-        let one = first.keeps_zipper b yielded s has in
+        let one = first.next_zipper b yielded s has in
         let two = r.refuses (b ++ x ∷ []) (yielded ++ []) one.0 one.1 in
         let spelled : (b ++ x ∷ []) ++ r.taken ≡ b ++ x ∷ r.taken = append_assoc b (x ∷ []) r.taken in record {
           walker = two.walker;
-          state = two.state;
-          has_state = subst (λ (o : List ℕ). HasZipper two.walker o yielded two.state) spelled
-              (subst (λ (es : List EventValue). HasZipper two.walker ((b ++ x ∷ []) ++ r.taken) es two.state)
-              (append-nil yielded) two.has_state);
+          zipper = two.zipper;
+          has_zipper = subst (λ (o : List ℕ). HasZipper two.walker o yielded two.zipper) spelled
+              (subst (λ (es : List EventValue). HasZipper two.walker ((b ++ x ∷ []) ++ r.taken) es two.zipper)
+              (append-nil yielded) two.has_zipper);
           idle = two.idle;
           offset = two.offset;
           ends = λ c. subst (λ (w : Framing). IsEnding w ((b ++ x ∷ r.taken) ++ r.octet ∷ c) (ending.Fault f)) same

@@ -283,7 +283,7 @@ pub yields_unused : (w : WalkerState) → w.phase ≡ phase.InBitString
 yields_unused w e = record {
   framing = refl;
   found = refl;
-  keeps_zipper = λ b yielded s has.
+  next_zipper = λ b yielded s has.
       let t = lead_tail s.tail _ (phase_at w b yielded s _ e has) in
       let has' : HasZipper w b yielded (with_tail s (BitStringTail t.0)) = tail_state w b yielded s _ t.1 has in
       (_, unused_state w b yielded s t.0 has' (phase_at w b yielded (with_tail s (BitStringTail t.0)) _ e has'));

@@ -181,7 +181,7 @@ pub yields_second : (w : WalkerState) → w.phase ≡ phase.InEndOctets → IsWi
 yields_second w e room = record {
   framing = refl;
   found = refl;
-  keeps_zipper = λ b yielded s has.
+  next_zipper = λ b yielded s has.
       let t = lone_tail s.tail _ (phase_at w b yielded s _ e has) in
       let has' : HasZipper w b yielded (with_tail s EndOctetsTail) = tail_state w b yielded s _ t has in
       second_from w b yielded s s.layers has' (phase_at w b yielded (with_tail s EndOctetsTail) _ e has') room;
@@ -246,7 +246,7 @@ pub yields_filled : (w : WalkerState) → w.phase ≡ phase.Between → (f : Fra
 yields_filled w e f fs is full = record {
   framing = refl;
   found = ap (wrapper_count_after w.framing.inside w.wrapper_count) (sym (ending_enters f));
-  keeps_zipper = λ b yielded s has.
+  next_zipper = λ b yielded s has.
       let t = between_tail s.tail _ (phase_at w b yielded s _ e has) in
       filled_from w b yielded s s.layers (tail_state w b yielded s _ t has) e f fs is full;
 }

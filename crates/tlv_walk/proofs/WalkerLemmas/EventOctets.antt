@@ -168,8 +168,8 @@ octets_tail f t p i k = absurd i
 pub stands-yielded_octets : (w : WalkerState) (b : List ℕ) (yielded : List EventValue) → Stands w b yielded
     → IsAfterEvent w.phase → flat_map event_octets yielded ≡ b
 stands-yielded_octets w b yielded st k =
-    let s : Zipper = st.private_state.state in
-    let h : HasZipper w b yielded s = st.private_state.has_state in
+    let s : Zipper = st.private_state.zipper in
+    let h : HasZipper w b yielded s = st.private_state.has_zipper in
     octets_joined yielded (events_of_zipper s) h.same_events
     ∙ octets_append (events_of_layers s.layers) (events s.here ++ events_of_tail s.tail)
     ∙ ap (λ (t : List ℕ). t ++ flat_map event_octets (events s.here ++ events_of_tail s.tail))

@@ -13,18 +13,18 @@ use Rattle.tlv_walk.proofs.WalkerLemmas.ZipperEndings.{state-done, state-empty, 
 pub finish_done : (w : WalkerState) (b : List ℕ) (yielded : List EventValue) → Stands w b yielded
     → w.phase ≡ phase.Between → w.stack ≡ [] → w.has_element ≡ true → IsEnding w.framing b ending.Done
 finish_done w b yielded st e none some =
-    state-done w b yielded st.private_state.state st.private_state.has_state e none some
+    state-done w b yielded st.private_state.zipper st.private_state.has_zipper e none some
 
 pub finish_empty : (w : WalkerState) (b : List ℕ) (yielded : List EventValue) → Stands w b yielded
     → w.phase ≡ phase.Between → w.stack ≡ [] → w.has_element ≡ false
     → IsEnding w.framing b (ending.Fault (fault_at Empty w.offset))
 finish_empty w b yielded st e none no_element =
-    subst (λ (n : ℕ). IsEnding w.framing b (fault_ending Empty n)) (sym st.private_state.has_state.offset)
-    (state-empty w b yielded st.private_state.state st.private_state.has_state e none no_element)
+    subst (λ (n : ℕ). IsEnding w.framing b (fault_ending Empty n)) (sym st.private_state.has_zipper.offset)
+    (state-empty w b yielded st.private_state.zipper st.private_state.has_zipper e none no_element)
 
 pub finish_short : (w : WalkerState) (b : List ℕ) (yielded : List EventValue) → Stands w b yielded
     → (EventWaits w → ⊥) → (w.phase ≡ phase.Between → w.stack ≡ [] → ⊥)
     → IsEnding w.framing b (ending.Fault (fault_at Short w.offset))
 finish_short w b yielded st idle inside =
-    subst (λ (n : ℕ). IsEnding w.framing b (fault_ending Short n)) (sym st.private_state.has_state.offset)
-    (state-short w b yielded st.private_state.state st.private_state.has_state idle inside)
+    subst (λ (n : ℕ). IsEnding w.framing b (fault_ending Short n)) (sym st.private_state.has_zipper.offset)
+    (state-short w b yielded st.private_state.zipper st.private_state.has_zipper idle inside)

@@ -23,15 +23,15 @@ use Rattle.tlv_walk.proofs.WalkerLemmas.Waiting.{idle}
 
 pub read_depth : (w : WalkerState) (b : List ℕ) (f : Forest) → HasRead w b f → IsIdle w → length w.stack ≡ depth_of f
 read_depth w b f (took yielded st e) none =
-    state-depth w b yielded st.private_state.state st.private_state.has_state (idle w none)
+    state-depth w b yielded st.private_state.zipper st.private_state.has_zipper (idle w none)
     ∙ ap depth_of
     (reading-unique w.framing b _ st.has_events.reading
-    (state-reading w b yielded st.private_state.state st.private_state.has_state) st.has_events.is_reading
+    (state-reading w b yielded st.private_state.zipper st.private_state.has_zipper) st.has_events.is_reading
     ∙ e)
 read_depth w b f (refused x yielded g st e) none = st.depth ∙ ap depth_of e
 
 pub read_offset : (w : WalkerState) (b : List ℕ) (f : Forest) → HasRead w b f → w.offset ≡ length b
-read_offset w b f (took yielded st e) = st.private_state.has_state.offset
+read_offset w b f (took yielded st e) = st.private_state.has_zipper.offset
 read_offset w b f (refused x yielded g st e) = st.offset
 
 pub read_unused : (w : WalkerState) (b : List ℕ) (f : Forest) → HasRead w b f
@@ -43,10 +43,10 @@ read_unused w b f (refused x yielded g st e) = st.unused ∙ ap (first_without_w
 pub never_refused : (w : WalkerState) (b : List ℕ) (yielded : List EventValue) (f : Fault) → Stands w b yielded
     → w.phase ≡ Refused f → ⊥
 never_refused w b yielded f st e =
-    no_phase st.private_state.state.tail (place_of w.framing st.private_state.state)
+    no_phase st.private_state.zipper.tail (place_of w.framing st.private_state.zipper)
     (subst
-    (λ (p : PhaseValue). IsPhaseOf p st.private_state.state.tail (place_of w.framing st.private_state.state))
-    e st.private_state.has_state.phase)
+    (λ (p : PhaseValue). IsPhaseOf p st.private_state.zipper.tail (place_of w.framing st.private_state.zipper))
+    e st.private_state.has_zipper.phase)
   where
     no_phase : (t : Tail) (p : Place) → IsPhaseOf (Refused f) t p → ⊥
     no_phase t p h = h

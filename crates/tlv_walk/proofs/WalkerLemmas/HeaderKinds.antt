@@ -211,7 +211,7 @@ takes_quick_header w v piece named f count o k e begins front name shallow fits 
     record {
       framing = framing_after_header w v f (f.offset + length o) k takes;
       found = count_after_header w v f o (f.offset + length o) k takes;
-      keeps_zipper = λ b yielded s has.
+      next_zipper = λ b yielded s has.
           state_after_header w v b yielded (with_tail s NoTail) r o f o k (at_new w b yielded s r has e refl refl name)
           completed
           (subst (λ (x : List ℕ). TakesHeader w v f (f.offset + length x) k) (sym whole) takes);

@@ -174,8 +174,8 @@ refuses_header w u r q piece rest others x depth offset f over k e within place 
           (reader_there (in_header w q) (b ++ k.taken) yielded t.state q depth refl has' (deep ∙ ap length same))
           (subst (λ (o : Option ℕ). IsRefusedPush q x o depth f.code) left refused) in record {
             walker = in_header w q;
-            state = with_tail t.state (HeaderTail q.octets);
-            has_state = has';
+            zipper = with_tail t.state (HeaderTail q.octets);
+            has_zipper = has';
             idle = refl;
             offset = there;
             ends =

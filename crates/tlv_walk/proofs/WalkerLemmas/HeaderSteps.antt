@@ -132,7 +132,7 @@ pub yields_unfinished : (w u : WalkerState) (r q : HeadReaderState) (piece : Lis
 yields_unfinished w u r q piece offset over k some e fits = record {
   framing = handed_framing w u r over;
   found = handed_wrappers w u r over;
-  keeps_zipper = λ b yielded s has.
+  next_zipper = λ b yielded s has.
       let t : TakenState w u q k.taken b yielded =
       taken_state w u r q piece [] over k some (subst (IsWithin (bound_of u.stack)) (sym e) fits) b yielded s has in
       let new : in_header w q ≡ record u { phase = phase.InHeader q; offset = offset } =
@@ -191,7 +191,7 @@ yields_after u new f o offset k can e does w r t over makes = record {
       ∙ ap₂
       (λ (g : Framing) (n : ℕ). wrapper_count_after g.inside n (entered_offsets (event_of k (new_header f o) ∷ [])))
       (handed_framing w u r over) (handed_wrappers w u r over);
-  keeps_zipper = λ b yielded s has.
+  next_zipper = λ b yielded s has.
       let h = handed w u r over b yielded s has in
       state_after_header w new b yielded h.0 r t f o k h.1 (completed_without w u r t (new_header f o) h.2 can makes)
       (subst (λ (n : ℕ). TakesHeader w new f n k) e (takes_without w u new f offset k h.2 does));

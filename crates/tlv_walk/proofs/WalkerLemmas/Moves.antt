@@ -67,7 +67,7 @@ yields_contents w left t n e most len =
     (sym len) (record {
       framing = refl;
       found = refl;
-      keeps_zipper = λ b yielded s has.
+      next_zipper = λ b yielded s has.
           let k = contents_tail left s.tail _ (phase_at w b yielded s _ e has) in
           (_, contents_state w b yielded s k.0 k.1 t left (tail_state w b yielded s _ k.2 has) e most);
     })
@@ -116,7 +116,7 @@ pub yields_end : (w : WalkerState) → w.phase ≡ phase.InPrimitive 0
 yields_end w e = record {
   framing = refl;
   found = refl;
-  keeps_zipper = λ b yielded s has.
+  next_zipper = λ b yielded s has.
       let k = contents_tail 0 s.tail _ (phase_at w b yielded s _ e has) in
       (_, end_state w b yielded s k.0 k.1 (tail_state w b yielded s _ k.2 has) e);
 }
@@ -147,7 +147,7 @@ pub yields_zero : (w : WalkerState) → w.phase ≡ phase.Between → IsInIndefi
 yields_zero w e i f = record {
   framing = refl;
   found = refl;
-  keeps_zipper = λ b yielded s has.
+  next_zipper = λ b yielded s has.
       let t = between_tail s.tail _ (phase_at w b yielded s _ e has) in
       let has' : HasZipper w b yielded (with_tail s NoTail) = tail_state w b yielded s _ t has in
       zero_from w b yielded s s.layers refl has' i f;
@@ -206,7 +206,7 @@ yields_passed w t n e =
     record {
       framing = both.framing;
       found = both.found;
-      keeps_zipper = λ b yielded s has.
-          let g = both.keeps_zipper b yielded s has in
+      next_zipper = λ b yielded s has.
+          let g = both.next_zipper b yielded s has in
           (g.0, counted_state _ n _ _ g.0 g.1);
     }

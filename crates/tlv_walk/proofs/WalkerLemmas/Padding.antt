@@ -100,7 +100,7 @@ yields_pad w t n e none padding zeros len =
     (sym len) (record {
       framing = refl;
       found = refl;
-      keeps_zipper = λ b yielded s has.
+      next_zipper = λ b yielded s has.
           let tail = between_tail s.tail _ (phase_at w b yielded s _ e has) in
           pad_from w b yielded s t s.layers (tail_state w b yielded s _ tail has) e none padding zeros;
     })

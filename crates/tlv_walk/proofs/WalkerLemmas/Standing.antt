@@ -54,7 +54,7 @@ stands_all old new piece rest es t = let k = t.continues in record {
   taken = t.taken;
   piece_is = t.piece_is;
   framing = k.framing;
-  stands = λ b yielded st. let u = k.keeps_zipper b yielded st.private_state.state st.private_state.has_state in
+  stands = λ b yielded st. let u = k.next_zipper b yielded st.private_state.zipper st.private_state.has_zipper in
       stands new (b ++ t.taken) (yielded ++ es) u.0 u.1
       (subst (λ (f : Framing). can_name f.inside ≡ true) (sym k.framing) st.private_state.named)
       (found_on old new yielded es k.framing st.private_state.found k.found);
@@ -65,23 +65,23 @@ abbrev refused_reading : (old : WalkerState) (g : Framing) (piece rest : List �
     → (r : RefusesOctet old piece rest f) → (b : List ℕ) (yielded : List EventValue) → Stands old b yielded
     → IsRefusedAfter g (b ++ r.taken) r.octet yielded f
 refused_reading old g piece rest f same r b yielded st =
-    let u = r.refuses b yielded st.private_state.state st.private_state.has_state in
-    let all : AreEqualJoined (yielded ++ waiting_events u.walker) (events (reading_of u.state)) =
-    state-events u.walker (b ++ r.taken) yielded u.state u.has_state in
-    let spells : Spells (top_place u.walker.framing) (b ++ r.taken) (reading_of u.state) =
-    state-spells u.walker (b ++ r.taken) yielded u.state u.has_state in
-    let there : f.offset ≡ length (b ++ r.taken) = u.offset ∙ u.has_state.offset in
-    let is_open : IsOpen (top_place old.framing) (reading_of u.state) =
-    subst (λ (w : Framing). IsOpen (top_place w) (reading_of u.state)) u.framing spells.is_open in
+    let u = r.refuses b yielded st.private_state.zipper st.private_state.has_zipper in
+    let all : AreEqualJoined (yielded ++ waiting_events u.walker) (events (reading_of u.zipper)) =
+    state-events u.walker (b ++ r.taken) yielded u.zipper u.has_zipper in
+    let spells : Spells (top_place u.walker.framing) (b ++ r.taken) (reading_of u.zipper) =
+    state-spells u.walker (b ++ r.taken) yielded u.zipper u.has_zipper in
+    let there : f.offset ≡ length (b ++ r.taken) = u.offset ∙ u.has_zipper.offset in
+    let is_open : IsOpen (top_place old.framing) (reading_of u.zipper) =
+    subst (λ (w : Framing). IsOpen (top_place w) (reading_of u.zipper)) u.framing spells.is_open in
     record {
-      reading = reading_of u.state;
+      reading = reading_of u.zipper;
       spelled = spells.spelled;
       offset = there;
       all_events =
-          subst (λ (es : List EventValue). AreEqualJoined es (events (reading_of u.state)))
+          subst (λ (es : List EventValue). AreEqualJoined es (events (reading_of u.zipper)))
           (ap (λ (es : List EventValue). yielded ++ es) u.idle ∙ append-nil yielded) all;
-      stays = λ c. subst (λ (w : Framing). IsReading w ((b ++ r.taken) ++ r.octet ∷ c) (reading_of u.state)) (sym same)
-          (refused-reading old.framing (b ++ r.taken) r.octet c f (reading_of u.state)
+      stays = λ c. subst (λ (w : Framing). IsReading w ((b ++ r.taken) ++ r.octet ∷ c) (reading_of u.zipper)) (sym same)
+          (refused-reading old.framing (b ++ r.taken) r.octet c f (reading_of u.zipper)
           (record { is_open = is_open; spelled = spells.spelled }) there (u.ends c));
       ends =
           λ c. subst (λ (w : Framing). IsEnding w ((b ++ r.taken) ++ r.octet ∷ c) (ending.Fault f)) (sym same)
@@ -96,7 +96,7 @@ refused_walker : (old new : WalkerState) (piece rest : List ℕ) (f : Fault) →
     → (r : RefusesOctet old piece rest f) → (b : List ℕ) (yielded : List EventValue) → Stands old b yielded
     → StandsRefused new (b ++ r.taken) r.octet yielded f
 refused_walker old new piece rest f k r b yielded st =
-    let u = r.refuses b yielded st.private_state.state st.private_state.has_state in
+    let u = r.refuses b yielded st.private_state.zipper st.private_state.has_zipper in
     let framing : new.framing ≡ old.framing = k.framing in
     let named : can_name new.framing.inside ≡ true =
     subst (λ (g : Framing). can_name g.inside ≡ true) (sym framing) st.private_state.named in
@@ -112,7 +112,7 @@ refused_walker old new piece rest f k r b yielded st =
           omega (
             arith,
             k.counts,
-            st.private_state.has_state.offset,
+            st.private_state.has_zipper.offset,
             ap length r.piece_is,
             ap length r.rest_is,
             length-append r.taken (r.octet ∷ r.others),
@@ -120,7 +120,7 @@ refused_walker old new piece rest f k r b yielded st =
           );
       depth =
           ap (λ (fs : List FrameValue). length fs) (k.stack ∙ sym u.stack)
-          ∙ state-depth u.walker (b ++ r.taken) yielded u.state u.has_state (idle u.walker u.idle);
+          ∙ state-depth u.walker (b ++ r.taken) yielded u.zipper u.has_zipper (idle u.walker u.idle);
       unused =
           ap (slice_get new.framing.inside) found
           ∙ yielded_unused new.framing yielded [] there.reading named (there.stays []).is_open refl
@@ -163,7 +163,7 @@ uses_up old new piece rest n k t =
       };
       none_left = k.none_left;
       stands = λ b yielded st.
-          let u = t.keeps_zipper b yielded st.private_state.state st.private_state.has_state in
+          let u = t.next_zipper b yielded st.private_state.zipper st.private_state.has_zipper in
           subst (λ (es : List EventValue). Stands new (b ++ piece) es) (append-nil yielded)
           (stands new (b ++ piece) (yielded ++ []) u.0 u.1
           (subst (λ (f : Framing). can_name f.inside ≡ true) (sym t.framing) st.private_state.named)

@@ -15,7 +15,7 @@ use Rattle.tlv_walk.specs.Wrappers.{entered_offsets}
 use Rattle.tlv_walk.proofs.EventLemmas.Wrappers.{enters-append}
 use Rattle.tlv_walk.specs.Place.{IsOpen, Place, place_after}
 use Rattle.tlv_walk.specs.Private.Zipper.{AreWhole, BitStringTail, NoTail, HasZipper, PrimitiveTail, EndOctetsTail}
-use Rattle.tlv_walk.specs.Private.Zipper.{HeaderTail, IsPhaseOf, Layer, Tail, Zipper, layers_have_element}
+use Rattle.tlv_walk.specs.Private.Zipper.{HeaderTail, IsPhaseOf, Layer, Tail, Zipper, has_element_before_tail}
 use Rattle.tlv_walk.specs.Private.Zipper.{events_of_layers, place_of, spelling_of_layers}
 use Rattle.tlv_walk.specs.Private.Yields.{Continues}
 use Rattle.tlv_walk.proofs.EventLemmas.Joined.{apart-before, apart-from_joined, apart-more, joined-from_apart}
@@ -50,9 +50,9 @@ pub continues_both : (u v w : WalkerState) (s t : List ℕ) (d e : List EventVal
 continues_both u v w s t d e f g = record {
   framing = g.framing ∙ f.framing;
   found = found_both u v w d e f.framing f.found g.found;
-  keeps_zipper = λ b yielded st has.
-      let one = f.keeps_zipper b yielded st has in
-      let two = g.keeps_zipper (b ++ s) (yielded ++ d) one.0 one.1 in (
+  next_zipper = λ b yielded st has.
+      let one = f.next_zipper b yielded st has in
+      let two = g.next_zipper (b ++ s) (yielded ++ d) one.0 one.1 in (
         two.0,
         subst (λ (x : List ℕ). HasZipper w x (yielded ++ (d ++ e)) two.0) (append_assoc b s t)
             (subst (λ (x : List EventValue). HasZipper w ((b ++ s) ++ t) x two.0) (append_assoc yielded d e) two.1),
@@ -118,7 +118,7 @@ element-either (OpenHeader octets) g e = absurd (cc)
 element-either OpenEndOctets g e = absurd (cc)
 
 pub began : (ls : List Layer) (here more : Forest) → is_whole here ≡ true → has_element more ≡ true
-    → layers_have_element ls (followed_by here more) ≡ true
+    → has_element_before_tail ls (followed_by here more) ≡ true
 began [] here more w e =
     element-either here more w ∙ (ap (λ (k : Bool). has_element here || k) e ∙ or-true (has_element here))
 began (l ∷ ls) here more w e = refl

@@ -271,7 +271,7 @@ stands w b yielded s h n k =
         is_reading = state-reading w b yielded s h;
         all_events = state-events w b yielded s h;
       };
-      private_state = record { state = s; has_state = h; named = n; found = k };
+      private_state = record { zipper = s; has_zipper = h; named = n; found = k };
     }
 
 -- the state of a new walker: nothing is open, and nothing came

@@ -80,8 +80,8 @@ module _ {S D : Type 0} (next : S → EventValue → Effect S) (old new : Follow
     pub follows : Follows piece rest more go.Enough
     pub after_event : IsAfterEvent new.walker.phase
 
-  -- the drain failed at what is put at these events, or before; the piece yields them, and then others
-  pub record FailsAfter (piece : List ℕ) (more : List EventValue) : Type 0 where
+  -- the drain failed at what is put at one of these events; the piece yields them, and then others
+  pub record WriteFailsAt (piece : List ℕ) (more : List EventValue) : Type 0 where
     pub yields : (b : List ℕ) (yielded : List EventValue) → Stands old.walker b yielded
         → BeginEventsOf old.walker.framing (b ++ piece) (yielded ++ more)
 
@@ -90,7 +90,7 @@ module _ {S D : Type 0} (next : S → EventValue → Effect S) (old new : Follow
   Pauses piece more (Ok pause.UsedUp) = FollowsAll piece more
   Pauses piece more (Ok (pause.Fault f)) = FollowsToFault piece more f
   Pauses piece more (Ok pause.Enough) = FollowsToEnough piece more
-  Pauses piece more (Err e) = FailsAfter piece more
+  Pauses piece more (Err e) = WriteFailsAt piece more
 
   -- a prefix of a piece was followed, which has one event or more, and more is wanted
   pub record TakesPart (piece rest : List ℕ) (more : List EventValue) : Type 0 where
@@ -108,7 +108,7 @@ module _ {S D : Type 0} (next : S → EventValue → Effect S) (old new : Follow
   abbrev pub TakesPartOrNone : List ℕ → List ℕ → List EventValue → Result Bool WriteFault → Type 0
   TakesPartOrNone piece rest more (Ok true) = TakesPart piece rest more
   TakesPartOrNone piece rest more (Ok false) = TakesNone piece rest more
-  TakesPartOrNone piece rest more (Err e) = FailsAfter piece more
+  TakesPartOrNone piece rest more (Err e) = WriteFailsAt piece more
 
 module _ {S D : Type 0} (next : S → EventValue → Effect S) (state_of : D → DrainState)
     (old new : FollowStates S D) where

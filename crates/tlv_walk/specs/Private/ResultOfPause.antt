@@ -24,7 +24,7 @@ abbrev pub IsLastRun : Run → WalkerState → Type 0
 IsLastRun run w = (e : Ending) × (run ≡ run_of w e false)
     × ((o : List ℕ) (yielded : List EventValue) → Stands w o yielded → IsEnding w.framing o e)
 
--- what a turn returns after this pause of a walker, if of so many octets that were read so many were followed
+-- what a turn returns after this pause of a walker, if it read so many octets, and followed so many of them
 abbrev pub IsResultOfPause : ℕ → ℕ → WalkerState → Pause → Result Turn DeviceFault → Type 0
 IsResultOfPause read followed w pause.Enough (Ok (Ended run)) = run ≡ run_of w ending.Done true
 IsResultOfPause read followed w (pause.Fault f) (Ok (Ended run)) = run ≡ run_of w (ending.Fault f) false

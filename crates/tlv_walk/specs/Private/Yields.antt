@@ -14,11 +14,11 @@ use Rattle.tlv_walk.specs.Wrappers.{entered_offsets}
 use Rattle.tlv_walk.specs.Stands.{IsIdle}
 use Rattle.tlv_walk.specs.StepsTo.{RefusesAgain}
 
--- from whatever zipper the walker had, it came to one with these octets and with more events
+-- from whatever zipper the walker had, it came to one that has these octets and these events in addition
 pub record Continues (old new : WalkerState) (taken : List ℕ) (more : List EventValue) : Type 0 where
   pub framing : new.framing ≡ old.framing
   pub found : new.wrapper_count ≡ wrapper_count_after old.framing.inside old.wrapper_count (entered_offsets more)
-  pub keeps_zipper : (b : List ℕ) (yielded : List EventValue) (s : Zipper) → HasZipper old b yielded s
+  pub next_zipper : (b : List ℕ) (yielded : List EventValue) (s : Zipper) → HasZipper old b yielded s
       → (t : Zipper) × HasZipper new (b ++ taken) (yielded ++ more) t
 
 -- a prefix of a piece was taken, and these events were yielded
@@ -32,12 +32,12 @@ abbrev pub YieldsEvent : WalkerState → WalkerState → List ℕ → List ℕ �
 YieldsEvent old new piece rest e = YieldsEvents old new piece rest (e ∷ [])
 
 -- after the octets b, of which these events were yielded, an octet is refused, whatever follows it: a walker has a
--- state of these octets and events, and no event waits
+-- zipper of these octets and events, and no event waits
 pub record RefusesAfter (old : WalkerState) (b : List ℕ) (octet : ℕ) (yielded : List EventValue) (f : Fault)
     : Type 0 where
   pub walker : WalkerState
-  pub state : Zipper
-  pub has_state : HasZipper walker b yielded state
+  pub zipper : Zipper
+  pub has_zipper : HasZipper walker b yielded zipper
   pub idle : IsIdle walker
   pub offset : f.offset ≡ walker.offset
   pub ends : (c : List ℕ) → IsEnding old.framing (b ++ octet ∷ c) (ending.Fault f)

@@ -77,7 +77,7 @@ frames_of framing [] = []
 frames_of framing (l ∷ ls) =
     frame_at (place_after (place_in framing ls) (length (spelling l.before))) l.header ∷ frames_of framing ls
 
--- the frames of a state: a wrapping BIT STRING has one before its first contents octet
+-- the frames of a zipper: a wrapping BIT STRING has one before its first contents octet
 abbrev pub stack_of : Framing → List Layer → Place → Tail → List FrameValue
 stack_of framing ls p NoTail = frames_of framing ls
 stack_of framing ls p (PrimitiveTail h c) = frames_of framing ls
@@ -125,14 +125,14 @@ events_of_tail EndOctetsTail = []
 abbrev pub events_of_zipper : Zipper → List EventValue
 events_of_zipper s = events_of_layers s.layers ++ (events s.here ++ events_of_tail s.tail)
 
--- whether an octet of an element came: in the layers and in the whole elements
-abbrev pub layers_have_element : List Layer → Forest → Bool
-layers_have_element [] here = has_element here
-layers_have_element (l ∷ ls) here = true
+-- whether an octet of an element came, apart from what is open after the whole elements
+abbrev pub has_element_before_tail : List Layer → Forest → Bool
+has_element_before_tail [] here = has_element here
+has_element_before_tail (l ∷ ls) here = true
 
--- and in all of the zipper
+-- whether an octet of an element came
 abbrev pub zipper_has_element : List Layer → Forest → Tail → Bool
-zipper_has_element layers here NoTail = layers_have_element layers here
+zipper_has_element layers here NoTail = has_element_before_tail layers here
 zipper_has_element layers here (PrimitiveTail h c) = true
 zipper_has_element layers here (BitStringTail h) = true
 zipper_has_element layers here (HeaderTail octets) = true
@@ -149,10 +149,10 @@ pub record HasZipper (w : WalkerState) (b : List ℕ) (yielded : List EventValue
   pub same_events : AreEqualJoined yielded (events_of_zipper s)
   pub element : w.has_element ≡ zipper_has_element s.layers s.here s.tail
 
--- what proofs keep of a walker that stands for these octets and events: a state that it has, and the wrappers that it
+-- what proofs keep of a walker that stands for these octets and events: a zipper that it has, and the wrappers that it
 -- found
 pub record HasPrivateState (w : WalkerState) (b : List ℕ) (yielded : List EventValue) : Type 0 where
-  pub state : Zipper
-  pub has_state : HasZipper w b yielded state
+  pub zipper : Zipper
+  pub has_zipper : HasZipper w b yielded zipper
   pub named : can_name w.framing.inside ≡ true
   pub found : w.wrapper_count ≡ wrapper_count_after w.framing.inside 0 (entered_offsets yielded)

@@ -202,7 +202,7 @@ impl Walker {
     /// end within the bound.
     #[inline(always)]
     pub(super) fn fits_there(&self, fields: &HeaderFields, octets: &[u8]) -> bool
-        requires place { fields.now.offset ≡ self.now.offset }
+        requires offset { fields.now.offset ≡ self.now.offset }
         requires limit { fields.now.offset + length octets.now ≤ input_limit }
         requires length { announced_length fields.now.size < 2 ^ 40 }
         ensures shallow { IsTrue result → holds (new_header fields.now octets.now) ≡ true

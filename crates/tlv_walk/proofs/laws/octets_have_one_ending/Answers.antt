@@ -1,6 +1,6 @@
 use Rattle.tlv_walk.proofs.GrammarLemmas.Endings.{ending, is-ending}
 use Rattle.tlv_walk.proofs.GrammarLemmas.Unique.{ending-unique}
-use Rattle.tlv_walk.proofs.laws.one_ending.Goals as goal
+use Rattle.tlv_walk.proofs.laws.octets_have_one_ending.Goals as goal
 
 pub returns : goal.returns
 returns c = λ framing b octets.

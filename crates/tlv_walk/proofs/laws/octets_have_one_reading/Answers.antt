@@ -1,5 +1,5 @@
 use Rattle.tlv_walk.proofs.GrammarLemmas.Readings.{is-reading, reading, reading-unique}
-use Rattle.tlv_walk.proofs.laws.one_reading.Goals as goal
+use Rattle.tlv_walk.proofs.laws.octets_have_one_reading.Goals as goal
 
 pub returns : goal.returns
 returns c = λ framing b octets.
