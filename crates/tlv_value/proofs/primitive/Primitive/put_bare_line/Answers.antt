@@ -6,4 +6,4 @@ pub returns-in_err-make_room : goal.returns-in_err-make_room
 returns-in_err-make_room g c = puts_no_room g.D.Drain.state _ _ _ _ _ c.in_err-make_room.ensures.puts (search rules)
 
 pub returns : goal.returns
-returns g c = puts_line g.D.Drain.state _ _ _ _ _ _ c.in_ok-make_room.ensures.puts refl c.write_bare.ensures
+returns g c = puts_line g.D.Drain.state _ _ _ _ _ _ c.in_ok-make_room.ensures.puts refl c.write_bare_line.ensures
