@@ -174,7 +174,8 @@ impl Finder {
     /// Keeps where a primitive begins, and that nothing of its contents has come.
     #[inline(always)]
     fn set_in_primitive(&mut self, header: &Header)
-        ensures { self.new ≡ with_check_state (finder_in_primitive self.old.kept header.now) self.old }
+        ensures { self.new
+            ≡ with_check_state (finder_in_primitive self.old.kept header.now) self.old }
     {
         self.offset = header.offset;
         self.is_open = true;
@@ -209,7 +210,8 @@ impl Finder {
     /// Contents of a primitive go on. Only as many octets as were announced are counted.
     #[inline(always)]
     pub fn bytes(&mut self, octets: &[u8])
-        ensures { self.new ≡ with_check_state (finder_bytes_step self.old.kept octets.now) self.old }
+        ensures { self.new
+            ≡ with_check_state (finder_bytes_step self.old.kept octets.now) self.old }
     {
         if self.is_open && !octets.is_empty() {
             let count = self.check.left().min(octets.len() as u64) as usize;

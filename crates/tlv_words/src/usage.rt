@@ -10,7 +10,8 @@ use tlv_walk::DeviceFault;
 /// Why there is no command to run.
 #[derive(Debug, Drop)]
 pub enum UsageFault {
-    /// `clap` does not take the words, or they ask for help or for the version. There is no code: the text is `clap`'s own.
+    /// `clap` does not take the words, or they ask for help or for the version. There is no code: the text is
+    /// `clap`'s own.
     Parser(clap::Error),
     /// U2: the value of this option is not in its range. The name is as on the command line, with `--`.
     Value(&'static str),

@@ -179,12 +179,14 @@ module _ (style : Layout) (names : NamesValue) where
   pub holder_shown : (level offset : ℕ) (padded : Bool) (h : HeaderValue) → h.offset ≡ offset → level + 1 ≤ 255
       → offset + length (opening h) ≤ 2 ^ 64 - 1
       → effect_of lines_step (lines_between level offset padded) (opening_events h)
-      ≡ effect_with (lines_between (level + 1) (offset + length (opening h)) false) (dump_opening_line (at_level level) h)
+      ≡ effect_with (lines_between (level + 1) (offset + length (opening h)) false)
+      (dump_opening_line (at_level level) h)
   holder_shown level offset padded h there low far_enough =
       holder_by level offset padded h.constructed (eqb h.number 3) h there low
       (omega (arith, far_enough, length-opening h))
       ∙ settled (level + 1) (level + 1) (offset + (length (octets_of h) + length (lead h)))
-      (offset + length (opening h)) false false (dump_opening_line (at_level level) h) (dump_opening_line (at_level level) h)
+      (offset + length (opening h)) false false (dump_opening_line (at_level level) h)
+      (dump_opening_line (at_level level) h)
       refl (omega (arith, length-opening h)) refl refl
 
   -- ---- and ends

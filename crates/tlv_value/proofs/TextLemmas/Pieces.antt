@@ -16,7 +16,8 @@ use Rattle.tlv_value.specs.Private.PrimitiveLines.{lines_in_steps}
 use Rattle.tlv_value.specs.ValueLines.{has_line, open_lines, row_lines, whole_lines}
 use Rattle.tlv_value.specs.ValueTextState.{KeptContents, ValueTextState, begin_lines, contents_lines, end_lines}
 use Rattle.tlv_value.specs.ValueTextState.{kept_with_line, kept_before_line, full_row_lines, new_value_text_of}
-use Rattle.tlv_value.specs.ValueTextState.{new_value_text, primitive_line, primitive_lines, new_primitive, kept_after_line}
+use Rattle.tlv_value.specs.ValueTextState.{new_value_text, primitive_line, primitive_lines, new_primitive}
+use Rattle.tlv_value.specs.ValueTextState.{kept_after_line}
 use Rattle.tlv_value.specs.ValueTextState.{kept_after, value_text_for, value_text_after}
 use Rattle.tlv_value.specs.Value.{NameOf, is_long, long_text, long_value, row_octets, short_value}
 use Rattle.std.proofs.lemmas.Bool.Decides.{nat_tests}
@@ -32,7 +33,8 @@ kept-eq n m r q e f = ap (λ (j : ℕ). kept_with j r) e ∙ ap (kept_with m) f
 
 module _ (kind : Kind) where
   -- what is kept, and what is written, of two pieces
-  kept-join : (k : KeptContents) (x y : List ℕ) → kept_after_line kind (kept_after_line kind k x) y ≡ kept_after_line kind k (x ++ y)
+  kept-join : (k : KeptContents) (x y : List ℕ)
+      → kept_after_line kind (kept_after_line kind k x) y ≡ kept_after_line kind k (x ++ y)
   kept-join k x y =
       let j = rows-join kind k.row x y in
       let n : k.row_count + length (full_rows kind k.row x) + length (full_rows kind (open_row kind k.row x) y)
