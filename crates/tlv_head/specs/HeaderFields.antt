@@ -21,4 +21,4 @@ new_header f octets = record {
 pub record IsHeaderSized (f : HeaderFields) (octets : List ℕ) : Type 0 where
   pub identifier : f.id_len < length octets
   pub few : f.id_len ≤ 10
-  pub room : length octets ≤ 137
+  pub short : length octets ≤ 137

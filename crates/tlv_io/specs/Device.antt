@@ -60,7 +60,7 @@ module _ {E : Type 0} where
   -- one read into room that then holds these octets
   pub record ReadsOnce (old new : SourceState) (result : Result ℕ E) (to : List ℕ) : Type 0 where
     pub octets : ReadConsumes old.left new.left result to
-    pub bound : ReadsAtMost result to
+    pub within : ReadsAtMost result to
     pub reads : new.reads ≡ next_count old.reads
     pub last : new.last ≡ last_after result
     pub failures : new.failures ≡ failures_after result old.failures

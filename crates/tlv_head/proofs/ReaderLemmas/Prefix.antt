@@ -86,7 +86,7 @@ made_sized os f id size m e =
     let some : 1 ≤ length m.lengths = m.some in
     let all : length os ≡ length m.identifier + length m.lengths =
     rw m.octets_are (length-append m.identifier m.lengths) in
-    record { identifier = omega (arith, e); few = omega (arith, e); room = omega arith }
+    record { identifier = omega (arith, e); few = omega (arith, e); short = omega arith }
 
 pub made_begins : (os rest : List ℕ) (offset : ℕ) (named : Bool) (id : IdentifierFields) (size : Size)
     → MakesHeader id size os

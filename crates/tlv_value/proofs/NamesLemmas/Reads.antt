@@ -46,13 +46,13 @@ module _ (old middle new : SourceState) (octets : List ℕ) (x : OctetsSoFar old
 
   module _ (n : ℕ) (r : ReadsOnce {E = ReadFault} middle new (Ok n) piece) where
     pub r_length : length (take n piece) ≡ n
-    r_length = length-take-le n piece r.bound.0
+    r_length = length-take-le n piece r.within.0
 
     pub all_are : concat x.gathered.pieces ++ take n piece ≡ octets ++ take n piece
     all_are = ap (λ (l : List ℕ). l ++ take n piece) x.are
 
     pub few : length (take n piece) ≤ 4096
-    few = omega (arith, r_length, r.bound.0, room)
+    few = omega (arith, r_length, r.within.0, room)
 
     -- and these are all
     abbrev pub pieces_so : Pieces old new
