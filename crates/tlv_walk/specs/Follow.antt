@@ -1,5 +1,5 @@
 -- What a follower makes of events.
-use Rattle.std.specs.Prelude.{◌≡◌, ℕ, Bool, true, false, List, [], ◌∷◌, ◌++◌, drop, length, Result, Ok, Err, IfOk}
+use Rattle.std.specs.Prelude.{◌≡◌, ℕ, Bool, true, false, List, [], ◌∷◌, ◌++◌, drop, length}
 use Rattle.tlv_head.specs.Header.{HeaderValue, announced_length, octets_of}
 use Rattle.tlv_walk.specs.declared.follow.Go.{Go}
 use Rattle.tlv_walk.specs.declared.follow.Go.TheVariants as go
@@ -53,10 +53,6 @@ abbrev pub followed_events : {S : Type 0} → (S → EventValue → Effect S) �
 followed_events next s [] = []
 followed_events next s (e ∷ es) = e ∷ events_if_more (next s e).goes (followed_events next (next s e).state es)
 
--- a call in which this was made leaves that state, and returns whether more is wanted
-abbrev pub HasEffect : {S E : Type 0} → Effect S → S → Result Go E → Type 0
-HasEffect made new result = IfOk result (λ go. (new ≡ made.state) × (go ≡ made.goes))
-
 -- of the octets of an element, those after its header
 abbrev pub contents_in : HeaderValue → List ℕ → List ℕ
 contents_in h octets = drop (length (octets_of h)) octets
@@ -73,18 +69,6 @@ whole_events h octets = Begin h ∷ Bytes (contents_in h octets) ∷ End ∷ []
 -- what a follower makes of it
 abbrev pub whole_effect : {S : Type 0} → (S → EventValue → Effect S) → S → HeaderValue → List ℕ → Effect S
 whole_effect next s h octets = effect_of next s (whole_events h octets)
-
--- what is put by a call that may leave its events to others: nothing if it does
-abbrev pub put_if_followed : {E : Type 0} → Result Bool E → List ℕ → List ℕ
-put_if_followed (Ok false) octets = []
-put_if_followed (Ok true) octets = octets
-put_if_followed (Err e) octets = octets
-
--- the state that such a call leaves: nothing changes if it leaves its events to others, and else more is wanted
-abbrev pub HasEffectOrNone : {S E : Type 0} → Effect S → S → S → Result Bool E → Type 0
-HasEffectOrNone made old new (Ok false) = new ≡ old
-HasEffectOrNone made old new (Ok true) = (new ≡ made.state) × (made.goes ≡ go.On)
-HasEffectOrNone made old new (Err e) = Unit {0}
 
 -- what octets make in two parts they make in one
 abbrev pub Joins : {S : Type 0} → (S → EventValue → Effect S) → (List ℕ → EventValue) → Type 0

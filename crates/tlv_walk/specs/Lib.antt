@@ -17,6 +17,7 @@ pub mod Stands
 pub mod HasRead
 pub mod StepsTo
 pub mod Depth
+pub mod HasEffect
 pub mod FollowsEvents
 pub mod OneTurn
 pub mod Job

@@ -2,9 +2,8 @@
 ghost use Rattle.std.specs.Prelude.{◌≡◌, true};
 ghost use Rattle.tlv_head.specs.HeaderFields.{IsHeaderSized, new_header};
 ghost use Rattle.tlv_walk.specs.Events.{Bytes, EventValue, Open, Pad, event_value_of};
-ghost use Rattle.tlv_walk.specs.Follow.{Effect, GoesOn, HasEffect, HasEffectOrNone, IsWholeElement, Joins};
-ghost use Rattle.tlv_walk.specs.Follow.{IgnoresEmpty, put_if_followed, whole_effect};
-ghost use Rattle.tlv_io.specs.Out.{Puts};
+ghost use Rattle.tlv_walk.specs.Follow.{Effect, GoesOn, IgnoresEmpty, IsWholeElement, Joins, whole_effect};
+ghost use Rattle.tlv_walk.specs.HasEffect.{HasEffectOrNone, ReturnsEffect};
 
 use crate::{Drain, Event, Out, WriteFault};
 use tlv_head::{Header, HeaderFields};
@@ -32,9 +31,8 @@ pub trait Follow {
     /// `WriteFault` exactly if a write failed. The drain then has a prefix of what was put before
     /// and what was to be put now.
     fn on<D: Drain>(&mut self, event: &Event<'_>, out: &mut Out<'_, D>) -> Result<Go, WriteFault>
-        ensures puts { Puts D.state out.old out.new
-            (next self.old (event_value_of event.now)).put result }
-        ensures state { HasEffect (next self.old (event_value_of event.now)) self.new result };
+        ensures { ReturnsEffect D.state (next self.old (event_value_of event.now)) out.old out.new
+            self.new result };
 
     /// Follows a primitive of which all octets are at hand, header and contents: its header, its contents and its
     /// end, one after another, and wants more after each. Returns whether it did. It may always leave them to
@@ -51,11 +49,8 @@ pub trait Follow {
         out: &mut Out<'_, D>,
     ) -> Result<bool, WriteFault>
         requires whole { IsWholeElement header.now octets.now }
-        ensures puts { Puts D.state out.old out.new
-            (put_if_followed result (whole_effect next self.old header.now octets.now).put)
-            result }
-        ensures state { HasEffectOrNone (whole_effect next self.old header.now octets.now)
-            self.old self.new result }
+        ensures { HasEffectOrNone D.state (whole_effect next self.old header.now octets.now)
+            out.old out.new self.old self.new result }
     {
         Ok(false)
     }
@@ -75,10 +70,8 @@ pub trait Follow {
     ) -> Result<Go, WriteFault>
         requires sized { IsHeaderSized fields.now octets.now }
         requires constructed { fields.now.constructed ≡ true }
-        ensures puts { Puts D.state out.old out.new
-            (next self.old (Open (new_header fields.now octets.now))).put result }
-        ensures state { HasEffect
-            (next self.old (Open (new_header fields.now octets.now))) self.new result }
+        ensures { ReturnsEffect D.state (next self.old (Open (new_header fields.now octets.now)))
+            out.old out.new self.new result }
     {
         self.on(&Event::Open(Header::new(fields, octets)), out)
     }

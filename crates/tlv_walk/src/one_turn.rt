@@ -1,6 +1,6 @@
 //! One read of a source, followed.
 ghost use Rattle.std.specs.Prelude.{◌≡◌, [], IfOk};
-ghost use Rattle.tlv_walk.specs.Follow.{HasEffect};
+ghost use Rattle.tlv_walk.specs.HasEffect.{ReturnsEffect};
 ghost use Rattle.tlv_walk.specs.Private.ResultOfPause.{IsResultOfPause, run_of};
 ghost use Rattle.tlv_walk.specs.Private.FollowsPiece.{FollowsAndFlushes, FollowsPart, FollowsPiece, follow_states};
 ghost use Rattle.tlv_walk.specs.Private.WalkerState.{CanPass};
@@ -244,9 +244,8 @@ fn follow_event<F: Follow, D: Drain>(
     event: &Event<'_>,
     out: &mut Out<'_, D>,
 ) -> Result<Go, WriteFault>
-    ensures puts { Puts D.state out.old out.new
-        (F.next follower.old (event_value_of event.now)).put result }
-    ensures state { HasEffect (F.next follower.old (event_value_of event.now)) follower.new result }
+    ensures { ReturnsEffect D.state (F.next follower.old (event_value_of event.now))
+        out.old out.new follower.new result }
 {
     follower.on(event, out)
 }

@@ -14,6 +14,7 @@ use Rattle.tlv_io.specs.Device.{DrainState}
 use Rattle.tlv_walk.specs.Events.{AreEqualJoined, EventValue, events, single_octets}
 use Rattle.tlv_walk.specs.Follow.{Effect, and_then, effect_of, followed_events}
 use Rattle.tlv_walk.specs.FollowsEvents.{FollowsEvents}
+use Rattle.tlv_walk.specs.HasEffect.{ReturnsEffect}
 use Rattle.tlv_walk.specs.Private.FollowsPiece.{Follows, FollowsPiece, BeginEventsOf, FollowStates, WalksOver}
 use Rattle.tlv_walk.specs.Private.FollowsPiece.{WalksToFault}
 use Rattle.tlv_walk.specs.Private.FollowsPiece.{follow_states}
@@ -174,21 +175,20 @@ module _ {S : Type 0} (next : S → EventValue → Effect S) where
     -- it followed one event more
     pub follows_event : (x y z : FollowStates S D) (piece rest left : List ℕ) (e : EventValue) (goes : Go)
         → HasFollowed x y piece rest go.On → WalksOver y.walker z.walker rest left (e ∷ [])
-        → (z.follower ≡ (next y.follower e).state) × (goes ≡ (next y.follower e).goes) → (g : Go)
-        → Puts {T = Go} {E = WriteFault} state_of y.out z.out (next y.follower e).put (Ok g)
+        → ReturnsEffect state_of (next y.follower e) y.out z.out z.follower (Ok goes)
         → HasFollowed x z piece left goes
-    follows_event x y z piece rest left e goes h walks has g p = record {
+    follows_event x y z piece rest left e goes h walks effect = record {
       more = h.more ++ e ∷ [];
       follows = record {
         made =
             made_both x.follower y.follower z.follower h.more (e ∷ []) goes h.follows.made
-            (made_event y.follower z.follower e goes has.0 has.1);
+            (made_event y.follower z.follower e goes effect.has.state effect.goes);
         walked = walked_both x.walker y.walker z.walker piece rest left h.more (e ∷ []) h.follows.walked walks;
       };
       puts =
           puts_then_as state_of x.out y.out z.out (effect_of next x.follower h.more).put (next y.follower e).put
           (effect_of next x.follower (h.more ++ e ∷ [])).put tt (Ok tt) h.puts
-          (puts_as state_of y.out z.out (next y.follower e).put (next y.follower e).put g tt p refl)
+          (puts_as state_of y.out z.out (next y.follower e).put (next y.follower e).put goes tt effect.has.puts refl)
           (one_put x.follower y.follower h.more e h.follows.made);
     }
 
@@ -218,9 +218,9 @@ module _ {S : Type 0} (next : S → EventValue → Effect S) where
     pub fails_event : (x y z : FollowStates S D) (v : WalkerState) (piece rest left : List ℕ) (e : EventValue)
         → HasFollowed x y piece rest go.On
         → WalksOver y.walker v rest left (e ∷ []) → (i j : WriteFault)
-        → Puts {T = Go} {E = WriteFault} state_of y.out z.out (next y.follower e).put (Err i)
+        → ReturnsEffect state_of (next y.follower e) y.out z.out z.follower (Err i)
         → FollowsPiece next state_of x z piece (Err j)
-    fails_event x y z v piece rest left e h walks i j p = record {
+    fails_event x y z v piece rest left e h walks i j effect = record {
       more = h.more ++ e ∷ [];
       pauses = record {
         yields =
@@ -229,7 +229,7 @@ module _ {S : Type 0} (next : S → EventValue → Effect S) where
       };
       puts = puts_failed_last state_of x.out z.out _ i (Err j)
           (puts_then_as state_of x.out y.out z.out (effect_of next x.follower h.more).put (next y.follower e).put
-          (effect_of next x.follower (h.more ++ e ∷ [])).put tt (Err i) h.puts p
+          (effect_of next x.follower (h.more ++ e ∷ [])).put tt (Err i) h.puts effect.has.puts
           (one_put x.follower y.follower h.more e h.follows.made))
           refl;
     }

@@ -6,14 +6,17 @@ use Rattle.std.proofs.lemmas.List.{take-append-drop}
 use Rattle.std.specs.Prelude.{Ok, Err}
 use Rattle.tlv_head.specs.Header.{HeaderValue}
 use Rattle.tlv_io.specs.declared.drain.WriteFault.{WriteFault}
+use Rattle.tlv_io.specs.declared.out.Out.{Out}
 use Rattle.tlv_walk.specs.declared.follow.Go.{Go}
 use Rattle.tlv_walk.specs.declared.follow.Go.TheVariants as go
 use Rattle.tlv_walk.specs.declared.framing.Framing.{Framing}
 use Rattle.tlv_walk.specs.declared.walker.quick.WholePrimitive.{WholePrimitive}
 use Rattle.tlv_io.specs.Device.{DrainState}
 use Rattle.tlv_walk.specs.Events.{EventValue}
-use Rattle.tlv_walk.specs.Follow.{Effect, effect_of, followed_events, events_if_more, effect_if_more, whole_events}
+use Rattle.tlv_walk.specs.Follow.{Effect, effect_of, followed_events, events_if_more, effect_if_more, whole_effect}
+use Rattle.tlv_walk.specs.Follow.{whole_events}
 use Rattle.tlv_walk.specs.FollowsEvents.{FollowsEvents}
+use Rattle.tlv_walk.specs.HasEffect.{HasEffect, HasEffectOrNone}
 use Rattle.tlv_walk.specs.WalkerState.{WalkerState}
 use Rattle.tlv_io.specs.Out.{Puts}
 use Rattle.tlv_walk.specs.Private.FollowsPiece.{FollowsPart, FollowsPiece, BeginEventsOf, TakesNone, TakesPart}
@@ -77,23 +80,36 @@ module _ {S : Type 0} (next : S → EventValue → Effect S) where
           refl;
     }
 
+    -- the effect of a call that followed its events
+    effect_some : (made : Effect S) (a b : Out D) (before after : S) (r : Bool) → r ≡ true
+        → HasEffectOrNone state_of made a b before after (Ok r)
+        → HasEffect {T = Bool} state_of made a b after (Ok true) × (made.goes ≡ go.On)
+    effect_some made a b before after true e x = x
+    effect_some made a b before after false e x = absurd (true≢false (sym e))
+
+    -- that of a call that left them to others
+    effect_none : (made : Effect S) (a b : Out D) (before after : S) (r : Bool) → r ≡ false
+        → HasEffectOrNone state_of made a b before after (Ok r)
+        → Puts {T = Bool} {E = WriteFault} state_of a b [] (Ok false) × (after ≡ before)
+    effect_none made a b before after false e x = x
+    effect_none made a b before after true e x = absurd (true≢false e)
+
     -- a primitive that lies whole at the front of a piece was followed
-    pub part_whole : {T : Type 0} (x y : FollowStates S D) (piece rest : List ℕ) (p : WholePrimitive)
-        (h : HeaderValue) (r : T)
-        → h ≡ header_at p piece
-        → y.follower ≡ (effect_of next x.follower (whole_events h (take p.octet_count piece))).state
-        → (effect_of next x.follower (whole_events h (take p.octet_count piece))).goes ≡ go.On
-        → Puts {T = T} {E = WriteFault} state_of x.out y.out
-        (effect_of next x.follower (whole_events h (take p.octet_count piece))).put (Ok r)
+    pub part_whole : (x y : FollowStates S D) (piece rest : List ℕ) (p : WholePrimitive) (h : HeaderValue) (r : Bool)
+        → h ≡ header_at p piece → r ≡ true
+        → HasEffectOrNone state_of (whole_effect next x.follower h (take p.octet_count piece))
+        x.out y.out x.follower y.follower (Ok r)
         → YieldsEvents x.walker y.walker piece rest (whole_events (header_at p piece) (take p.octet_count piece))
         → Passes x.walker y.walker piece rest
         → FollowsPart next state_of x y piece rest (Ok true)
-    part_whole x y piece rest p h r same state goes put yields passes =
-        let all : List EventValue = whole_events h (take p.octet_count piece) in record {
+    part_whole x y piece rest p h r same followed effect yields passes =
+        let all : List EventValue = whole_events h (take p.octet_count piece) in
+        let some = effect_some (effect_of next x.follower all) x.out y.out x.follower y.follower r followed effect in
+        record {
           more = all;
           takes = record {
             follows = record {
-              made = made_all x.follower y.follower all state goes;
+              made = made_all x.follower y.follower all some.0.state some.1;
               walked =
                   stands_all x.walker y.walker piece rest all
                   (subst
@@ -103,20 +119,30 @@ module _ {S : Type 0} (next : S → EventValue → Effect S) where
             };
             passes = passes;
           };
-          puts =
-              puts_as state_of x.out y.out (effect_of next x.follower all).put (effect_of next x.follower all).put r
-              true
-              put refl;
+          puts = some.0.puts;
+        }
+
+    -- the follower left it to others
+    pub part_left : (x y : FollowStates S D) (piece : List ℕ) (made : Effect S) (r : Bool)
+        → r ≡ false → y.walker ≡ x.walker
+        → HasEffectOrNone state_of made x.out y.out x.follower y.follower (Ok r)
+        → FollowsPart next state_of x y piece piece (Ok false)
+    part_left x y piece made r left same effect =
+        let none = effect_none made x.out y.out x.follower y.follower r left effect in
+        record {
+          more = [];
+          takes = record { walker = same; follower = none.1; all_left = refl; no_event = refl };
+          puts = none.0;
         }
 
     -- the drain failed at it
-    pub part_fails : {T : Type 0} (x y : FollowStates S D) (piece rest : List ℕ) (p : WholePrimitive)
+    pub part_fails : (x y : FollowStates S D) (piece rest : List ℕ) (p : WholePrimitive)
         (h : HeaderValue) (e f : WriteFault)
         → CanPass x.walker piece p → h ≡ header_at p piece
-        → Puts {T = T} {E = WriteFault} state_of x.out y.out
-        (effect_of next x.follower (whole_events h (take p.octet_count piece))).put (Err e)
+        → HasEffectOrNone state_of (whole_effect next x.follower h (take p.octet_count piece))
+        x.out y.out x.follower y.follower (Err e)
         → FollowsPart next state_of x y piece rest (Err f)
-    part_fails x y piece rest p h e f can same put = record {
+    part_fails x y piece rest p h e f can same effect = record {
       more = whole_events h (take p.octet_count piece);
       takes = record {
         yields =
@@ -128,7 +154,7 @@ module _ {S : Type 0} (next : S → EventValue → Effect S) where
             (whole_events g (take p.octet_count piece)))
             (sym same) (walked_primitive x.walker piece p can));
       };
-      puts = puts_failed_last state_of x.out y.out _ e (Err f) put refl;
+      puts = puts_failed_last state_of x.out y.out _ e (Err f) effect.puts refl;
     }
 
     -- ---- a part after what was followed

@@ -66,8 +66,7 @@ events-preserved g c =
         follows =
             rw (w.out-is, w.follower-is, w.walker-is, w.rest-is, ← on, w.go-is)
             (follows_event g.F.Follow.next g.D.Drain.state _ _ _ _ _ _ _ _ left
-            (stands_all _ _ _ _ _ w.in-Some.ensures.yields) w.in_ok-go-in-Some.ensures.state
-            _ w.in_ok-go-in-Some.ensures.puts);
+            (stands_all _ _ _ _ _ w.in-Some.ensures.yields) w.in_ok-go-in-Some.ensures);
         walked =
             rw (w.walker-is, w.rest-is)
             (w.in-Some.ensures.steps.0.counts
@@ -81,7 +80,7 @@ events-preserved g c =
             (follows_event g.F.Follow.next g.D.Drain.state _ _ _ _ _ _ _ _ left
             (unmoved_event _ _ _ _ _ _ _ (w.in-None.ensures.steps.0) (w.in-None.ensures.steps.1)
             (stands_all _ _ _ _ _ w.in-Some-constructed.ensures.yields))
-            w.in_ok-go-in-Some-constructed.ensures.state _ w.in_ok-go-in-Some-constructed.ensures.puts);
+            w.in_ok-go-in-Some-constructed.ensures);
         walked =
             rw (w.walker-is, w.rest-is)
             (w.in-Some-constructed.ensures.steps.0.counts
@@ -97,7 +96,7 @@ events-preserved g c =
             (unmoved_event _ _ _ _ _ _ _ (w.in-None-constructed.ensures.steps.0 ∙ w.in-None.ensures.steps.0)
             (w.in-None-constructed.ensures.steps.1 ∙ w.in-None.ensures.steps.1)
             (stands_all _ _ _ _ _ w.in-Some-contents_event.ensures.yields))
-            w.in_ok-go-in-Some-contents_event.ensures.state _ w.in_ok-go-in-Some-contents_event.ensures.puts);
+            w.in_ok-go-in-Some-contents_event.ensures);
         walked =
             rw (w.walker-is, w.rest-is)
             (w.in-Some-contents_event.ensures.steps.0.counts
@@ -117,7 +116,7 @@ events-preserved g c =
             (w.in-None-contents_event.ensures.steps.1 ∙ w.in-None-constructed.ensures.steps.1
             ∙ w.in-None.ensures.steps.1)
             (walked_event _ _ _ _ _ w.in-Event.ensures))
-            w.in_ok-go-in-Event.ensures.state _ w.in_ok-go-in-Event.ensures.puts);
+            w.in_ok-go-in-Event.ensures);
         walked =
             rw (w.walker-is, w.rest-is)
             (event_offset _ _ _ _ _ w.in-Event.ensures
@@ -146,7 +145,7 @@ returns-in_err-go-in-Some g c =
     c.in_ok-follow_primitive.ensures in
     rw p.1
     (fails_event g.F.Follow.next g.D.Drain.state _ _ _ _ _ _ _ _ left (stands_all _ _ _ _ _ c.in-Some.ensures.yields)
-    _ _ c.in_err-go-in-Some.ensures.puts)
+    _ _ c.in_err-go-in-Some.ensures)
 
 pub returns-in_err-go-in-Some-constructed : goal.returns-in_err-go-in-Some-constructed
 returns-in_err-go-in-Some-constructed g c =
@@ -160,7 +159,7 @@ returns-in_err-go-in-Some-constructed g c =
     (fails_event g.F.Follow.next g.D.Drain.state _ _ _ _ _ _ _ _ left
     (unmoved_event _ _ _ _ _ _ _ (c.in-None.ensures.steps.0) (c.in-None.ensures.steps.1)
     (stands_all _ _ _ _ _ c.in-Some-constructed.ensures.yields))
-    _ _ c.in_err-go-in-Some-constructed.ensures.puts)
+    _ _ c.in_err-go-in-Some-constructed.ensures)
 
 pub returns-in_err-go-in-Some-contents_event : goal.returns-in_err-go-in-Some-contents_event
 returns-in_err-go-in-Some-contents_event g c =
@@ -175,7 +174,7 @@ returns-in_err-go-in-Some-contents_event g c =
     (unmoved_event _ _ _ _ _ _ _ (c.in-None-constructed.ensures.steps.0 ∙ c.in-None.ensures.steps.0)
     (c.in-None-constructed.ensures.steps.1 ∙ c.in-None.ensures.steps.1)
     (stands_all _ _ _ _ _ c.in-Some-contents_event.ensures.yields))
-    _ _ c.in_err-go-in-Some-contents_event.ensures.puts)
+    _ _ c.in_err-go-in-Some-contents_event.ensures)
 
 pub returns-in_err-go-in-Event : goal.returns-in_err-go-in-Event
 returns-in_err-go-in-Event g c =
@@ -192,7 +191,7 @@ returns-in_err-go-in-Event g c =
     (c.in-None-contents_event.ensures.steps.1 ∙ c.in-None-constructed.ensures.steps.1
     ∙ c.in-None.ensures.steps.1)
     (walked_event _ _ _ _ _ c.in-Event.ensures))
-    _ _ c.in_err-go-in-Event.ensures.puts)
+    _ _ c.in_err-go-in-Event.ensures)
 
 pub returns-in-NeedMore : goal.returns-in-NeedMore
 returns-in-NeedMore g c =
@@ -228,15 +227,14 @@ returns-then-eq g c =
       | in-Some+in_ok-go-in-Some w ↦ rw (w.out-is, w.follower-is, w.walker-is)
           (pauses_enough g.F.Follow.next g.D.Drain.state
           _ _ _ _ _ (follows_event g.F.Follow.next g.D.Drain.state _ _ _ _ _ _ _ _ left
-          (stands_all _ _ _ _ _ w.in-Some.ensures.yields) w.in_ok-go-in-Some.ensures.state
-          _ w.in_ok-go-in-Some.ensures.puts)
+          (stands_all _ _ _ _ _ w.in-Some.ensures.yields) w.in_ok-go-in-Some.ensures)
           (sym w.go-is ∙ enough) w.in-Some.ensures.steps.0.has_yielded.after_event)
       | in-None+in-Some-constructed+in_ok-go-in-Some-constructed w ↦ rw (w.out-is, w.follower-is, w.walker-is)
           (pauses_enough g.F.Follow.next g.D.Drain.state
           _ _ _ _ _ (follows_event g.F.Follow.next g.D.Drain.state _ _ _ _ _ _ _ _ left
           (unmoved_event _ _ _ _ _ _ _ (w.in-None.ensures.steps.0) (w.in-None.ensures.steps.1)
           (stands_all _ _ _ _ _ w.in-Some-constructed.ensures.yields))
-          w.in_ok-go-in-Some-constructed.ensures.state _ w.in_ok-go-in-Some-constructed.ensures.puts)
+          w.in_ok-go-in-Some-constructed.ensures)
           (sym w.go-is ∙ enough) w.in-Some-constructed.ensures.steps.0.has_yielded.after_event)
       | in-None+in-None-constructed+in-Some-contents_event+in_ok-go-in-Some-contents_event w ↦
           rw (w.out-is, w.follower-is, w.walker-is)
@@ -245,7 +243,7 @@ returns-then-eq g c =
           (unmoved_event _ _ _ _ _ _ _ (w.in-None-constructed.ensures.steps.0 ∙ w.in-None.ensures.steps.0)
           (w.in-None-constructed.ensures.steps.1 ∙ w.in-None.ensures.steps.1)
           (stands_all _ _ _ _ _ w.in-Some-contents_event.ensures.yields))
-          w.in_ok-go-in-Some-contents_event.ensures.state _ w.in_ok-go-in-Some-contents_event.ensures.puts)
+          w.in_ok-go-in-Some-contents_event.ensures)
           (sym w.go-is ∙ enough) w.in-Some-contents_event.ensures.steps.0.has_yielded.after_event)
       | in-None+in-None-constructed+in-None-contents_event+in-Event+in_ok-go-in-Event w ↦
           rw (w.out-is, w.follower-is, w.walker-is)
@@ -257,6 +255,6 @@ returns-then-eq g c =
           (w.in-None-contents_event.ensures.steps.1 ∙ w.in-None-constructed.ensures.steps.1
           ∙ w.in-None.ensures.steps.1)
           (walked_event _ _ _ _ _ w.in-Event.ensures))
-          w.in_ok-go-in-Event.ensures.state _ w.in_ok-go-in-Event.ensures.puts)
+          w.in_ok-go-in-Event.ensures)
           (sym w.go-is ∙ enough) w.in-Event.ensures.has_yielded.after_event)
     ]

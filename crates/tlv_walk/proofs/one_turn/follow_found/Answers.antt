@@ -13,10 +13,9 @@ pub returns-in_err-whole : goal.returns-in_err-whole
 returns-in_err-whole g c =
     let p = err_from_is_err_and c.from_residual.result c.from_residual.ensures.1 in rw p.1
     (part_fails g.F.Follow.next g.D.Drain.state _ _ _ _ c.args.primitive.now c.new-header.result _ _ c.requires.can
-    c.new-header.ensures c.in_err-whole.ensures.puts)
+    c.new-header.ensures c.in_err-whole.ensures)
 
 pub returns : goal.returns
 returns g c =
     part_whole g.F.Follow.next g.D.Drain.state _ _ c.args.piece.now.now _ c.args.primitive.now c.new-header.result
-    true c.new-header.ensures
-    (search rules) (search rules) (search rules) c.pass.ensures.yields c.pass.ensures.passes
+    _ c.new-header.ensures (search rules) c.in_ok-whole.ensures c.pass.ensures.yields c.pass.ensures.passes
