@@ -1,6 +1,6 @@
 //! The follower of `extract`: it writes one element, or its contents.
 ghost use Rattle.std.specs.Prelude.{◌≡◌};
-ghost use Rattle.tlv_walk.specs.Follow.{HasEffect};
+ghost use Rattle.tlv_walk.specs.HasEffect.{ReturnsEffect};
 ghost use Rattle.tlv_io.specs.Out.{Puts};
 ghost use Rattle.tlv_cut.specs.ExtractStep.{extract_begin_step_at, extract_contents_step, extract_end_step};
 ghost use Rattle.tlv_cut.specs.ExtractStep.{has_found, new_extract, extract_octet_step};
@@ -70,10 +70,8 @@ impl Extract {
         octets: &[u8],
         out: &mut Out<'_, D>,
     ) -> Result<Go, WriteFault>
-        ensures state { HasEffect
-            (extract_begin_step_at self.old offset octets.now) self.new result }
-        ensures puts { Puts D.state out.old out.new
-            (extract_begin_step_at self.old offset octets.now).put result }
+        ensures { ReturnsEffect D.state (extract_begin_step_at self.old offset octets.now)
+            out.old out.new self.new result }
     {
         match self.position {
             Position::Before if offset == self.offset => {
@@ -93,9 +91,8 @@ impl Extract {
 
     /// Contents octets come.
     fn contents<D: Drain>(&self, octets: &[u8], out: &mut Out<'_, D>) -> Result<Go, WriteFault>
-        ensures state { HasEffect (extract_contents_step self.now octets.now) self.now result }
-        ensures puts { Puts D.state out.old out.new
-            (extract_contents_step self.now octets.now).put result }
+        ensures { ReturnsEffect D.state (extract_contents_step self.now octets.now)
+            out.old out.new self.now result }
     {
         self.put_contents(octets, out)?;
         Ok(Go::On)
@@ -114,9 +111,8 @@ impl Extract {
 
     /// An element ends, with these end-of-contents octets.
     fn end<D: Drain>(&mut self, octets: &[u8], out: &mut Out<'_, D>) -> Result<Go, WriteFault>
-        ensures state { HasEffect (extract_end_step self.old octets.now) self.new result }
-        ensures puts { Puts D.state out.old out.new
-            (extract_end_step self.old octets.now).put result }
+        ensures { ReturnsEffect D.state (extract_end_step self.old octets.now)
+            out.old out.new self.new result }
     {
         match self.position {
             Position::Within(0) => {

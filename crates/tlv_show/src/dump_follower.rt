@@ -1,8 +1,8 @@
 //! The follower that writes a dump.
-ghost use Rattle.std.specs.Prelude.{◌≡◌, ◌≤◌, OnOk, length, refl};
+ghost use Rattle.std.specs.Prelude.{◌≡◌, ◌≤◌, length, refl};
 ghost use Rattle.tlv_walk.proofs.FollowerLemmas.Followed.{each_octet-goes_on, each_octet-joins};
 ghost use Rattle.tlv_walk.specs.Events.{Begin, Bytes, Close, End, Enter, event_value_of};
-ghost use Rattle.tlv_io.specs.Out.{Puts};
+ghost use Rattle.tlv_walk.specs.HasEffect.{HasEffect};
 ghost use Rattle.tlv_show.specs.DumpStep.{dump_octet_step, dump_padding_step, dump_step, findings_before, new_dump};
 ghost use Rattle.tlv_show.specs.FinderState.{finder_open_step};
 ghost use Rattle.tlv_show.specs.LinesStep.{lines_open_step};
@@ -108,10 +108,8 @@ impl Dump<'_> {
         event: &Event<'_>,
         out: &mut Out<'_, D>,
     ) -> Result<(), WriteFault>
-        ensures state { OnOk result
-            (self.new ≡ (dump_step self.old (event_value_of event.now)).state) }
-        ensures puts { Puts D.state out.old out.new
-            (dump_step self.old (event_value_of event.now)).put result }
+        ensures { HasEffect D.state (dump_step self.old (event_value_of event.now))
+            out.old out.new self.new result }
     {
         match event {
             Event::Open(header) => self.open(header, b" {", out),
@@ -138,12 +136,10 @@ impl Dump<'_> {
         out: &mut Out<'_, D>,
     ) -> Result<(), WriteFault>
         requires { length word.now ≤ 16 }
-        ensures state { OnOk result
-            (self.new ≡ (findings_before self.old (finder_open_step self.old.finder header.now)
-            (lines_open_step self.old.lines header.now word.now)).state) }
-        ensures puts { Puts D.state out.old out.new
+        ensures { HasEffect D.state
             (findings_before self.old (finder_open_step self.old.finder header.now)
-            (lines_open_step self.old.lines header.now word.now)).put result }
+            (lines_open_step self.old.lines header.now word.now))
+            out.old out.new self.new result }
     {
         let may_have_findings = self.finder.open(header);
         let style = self.lines.style();
@@ -158,9 +154,8 @@ impl Dump<'_> {
         header: &Header,
         out: &mut Out<'_, D>,
     ) -> Result<(), WriteFault>
-        ensures state { OnOk result (self.new ≡ (dump_step self.old (Enter header.now)).state) }
-        ensures puts { Puts D.state out.old out.new
-            (dump_step self.old (Enter header.now)).put result }
+        ensures { HasEffect D.state (dump_step self.old (Enter header.now))
+            out.old out.new self.new result }
     {
         self.open(header, b" wraps {", out)
     }
@@ -168,9 +163,8 @@ impl Dump<'_> {
     /// A primitive begins of which not all octets are at hand, or with which something is found.
     #[inline(never)]
     fn begin<D: Drain>(&mut self, header: &Header, out: &mut Out<'_, D>) -> Result<(), WriteFault>
-        ensures state { OnOk result (self.new ≡ (dump_step self.old (Begin header.now)).state) }
-        ensures puts { Puts D.state out.old out.new
-            (dump_step self.old (Begin header.now)).put result }
+        ensures { HasEffect D.state (dump_step self.old (Begin header.now))
+            out.old out.new self.new result }
     {
         let may_have_findings = self.finder.begin(header);
         let style = self.lines.style();
@@ -181,9 +175,8 @@ impl Dump<'_> {
     /// Contents of a primitive go on.
     #[inline]
     fn bytes<D: Drain>(&mut self, octets: &[u8], out: &mut Out<'_, D>) -> Result<(), WriteFault>
-        ensures state { OnOk result (self.new ≡ (dump_step self.old (Bytes octets.now)).state) }
-        ensures puts { Puts D.state out.old out.new
-            (dump_step self.old (Bytes octets.now)).put result }
+        ensures { HasEffect D.state (dump_step self.old (Bytes octets.now))
+            out.old out.new self.new result }
     {
         self.finder.bytes(octets);
         self.lines.bytes(octets, out)
@@ -192,8 +185,7 @@ impl Dump<'_> {
     /// A primitive ends.
     #[inline]
     fn end<D: Drain>(&mut self, out: &mut Out<'_, D>) -> Result<(), WriteFault>
-        ensures state { OnOk result (self.new ≡ (dump_step self.old End).state) }
-        ensures puts { Puts D.state out.old out.new (dump_step self.old End).put result }
+        ensures { HasEffect D.state (dump_step self.old End) out.old out.new self.new result }
     {
         let may_have_findings = self.finder.end();
         self.lines.end(out)?;
@@ -208,8 +200,8 @@ impl Dump<'_> {
         offset: Option<u64>,
         out: &mut Out<'_, D>,
     ) -> Result<(), WriteFault>
-        ensures state { OnOk result (self.new ≡ (dump_step self.old (Close offset)).state) }
-        ensures puts { Puts D.state out.old out.new (dump_step self.old (Close offset)).put result }
+        ensures { HasEffect D.state (dump_step self.old (Close offset))
+            out.old out.new self.new result }
     {
         let may_have_findings = self.finder.close();
         self.lines.close(offset, out)?;

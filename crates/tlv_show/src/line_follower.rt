@@ -2,6 +2,7 @@
 ghost use Rattle.std.specs.Prelude.{◌≡◌, ◌≤◌, ◌-◌, OnOk, length};
 ghost use Rattle.tlv_walk.specs.Events.{Unused};
 ghost use Rattle.tlv_walk.specs.Follow.{each_octet};
+ghost use Rattle.tlv_walk.specs.HasEffect.{HasEffect};
 ghost use Rattle.tlv_io.specs.Out.{Puts};
 ghost use Rattle.tlv_show.specs.LinesStep.{lines_begin_step, lines_close_step, lines_end_step};
 ghost use Rattle.tlv_show.specs.LinesStep.{lines_octet_step, lines_open_step, lines_padding_step, lines_step};
@@ -102,10 +103,8 @@ impl<'n> Lines<'n> {
         out: &mut Out<'_, D>,
     ) -> Result<(), WriteFault>
         requires { length word.now ≤ 16 }
-        ensures state { OnOk result
-            (self.new ≡ (lines_open_step self.old header.now word.now).state) }
-        ensures puts { Puts D.state out.old out.new
-            (lines_open_step self.old header.now word.now).put result }
+        ensures { HasEffect D.state (lines_open_step self.old header.now word.now)
+            out.old out.new self.new result }
     {
         put_opening(self.layout, header, word, out)?;
         self.layout.level = self.layout.level.saturating_add(1);
@@ -119,8 +118,8 @@ impl<'n> Lines<'n> {
         offset: Option<u64>,
         out: &mut Out<'_, D>,
     ) -> Result<(), WriteFault>
-        ensures state { OnOk result (self.new ≡ (lines_close_step self.old offset).state) }
-        ensures puts { Puts D.state out.old out.new (lines_close_step self.old offset).put result }
+        ensures { HasEffect D.state (lines_close_step self.old offset)
+            out.old out.new self.new result }
     {
         self.layout.level = self.layout.level.saturating_sub(1);
         if let Some(offset) = offset {
@@ -136,9 +135,8 @@ impl<'n> Lines<'n> {
         header: &Header,
         out: &mut Out<'_, D>,
     ) -> Result<(), WriteFault>
-        ensures state { OnOk result (self.new ≡ (lines_begin_step self.old header.now).state) }
-        ensures puts { Puts D.state out.old out.new
-            (lines_begin_step self.old header.now).put result }
+        ensures { HasEffect D.state (lines_begin_step self.old header.now)
+            out.old out.new self.new result }
     {
         self.set_after_header(header);
         self.is_open = true;
@@ -149,10 +147,8 @@ impl<'n> Lines<'n> {
     /// Contents of a primitive go on.
     #[inline(always)]
     pub fn bytes<D: Drain>(&mut self, octets: &[u8], out: &mut Out<'_, D>) -> Result<(), WriteFault>
-        ensures state { OnOk result
-            (self.new ≡ (each_octet lines_octet_step self.old octets.now).state) }
-        ensures puts { Puts D.state out.old out.new
-            (each_octet lines_octet_step self.old octets.now).put result }
+        ensures { HasEffect D.state (each_octet lines_octet_step self.old octets.now)
+            out.old out.new self.new result }
     {
         if octets.is_empty() {
             return Ok(());
@@ -173,10 +169,8 @@ impl<'n> Lines<'n> {
 
     /// Padding goes on. A run of it has one line, which comes with its first octet.
     pub fn pad<D: Drain>(&mut self, octets: &[u8], out: &mut Out<'_, D>) -> Result<(), WriteFault>
-        ensures state { OnOk result
-            (self.new ≡ (each_octet lines_padding_step self.old octets.now).state) }
-        ensures puts { Puts D.state out.old out.new
-            (each_octet lines_padding_step self.old octets.now).put result }
+        ensures { HasEffect D.state (each_octet lines_padding_step self.old octets.now)
+            out.old out.new self.new result }
     {
         if octets.is_empty() {
             return Ok(());

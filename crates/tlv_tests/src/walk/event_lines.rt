@@ -1,7 +1,7 @@
 //! `EventLines`, a follower that writes each event as a line of text.
 ghost use Rattle.std.specs.Prelude.{◌≡◌, ◌+◌, ◌*◌, ◌≤◌, ◌++◌, length};
 ghost use Rattle.arrayvec.specs.ArrayVec.{array_vec_len};
-ghost use Rattle.tlv_walk.specs.Follow.{HasEffect};
+ghost use Rattle.tlv_walk.specs.HasEffect.{ReturnsEffect};
 ghost use Rattle.tlv_tests.specs.EventLinesStep.{close_event_line, end_step, header_line, offset_text};
 ghost use Rattle.tlv_tests.specs.EventLinesStep.{pads, pair, pairs};
 ghost use Rattle.tlv_io.specs.Out.{Puts};
@@ -37,8 +37,8 @@ impl EventLines {
 
     /// Writes the line of the end of an element, and counts the end.
     fn end_step<D: Drain>(&mut self, line: &[u8], out: &mut Out<'_, D>) -> Result<Go, WriteFault>
-        ensures state { HasEffect (end_step self.old line.now) self.new result }
-        ensures puts { Puts D.state out.old out.new line.now result }
+        ensures { ReturnsEffect D.state (end_step self.old line.now)
+            out.old out.new self.new result }
     {
         out.put(line)?;
         let is_last = self.ends == 1;
