@@ -8,8 +8,8 @@ use Rattle.tlv_walk.specs.declared.follow.Go.TheVariants.{On}
 use Rattle.tlv_io.specs.declared.out.Out.{Out}
 use Rattle.tlv_io.specs.Device.{DrainState}
 use Rattle.tlv_walk.specs.Events.{Begin, Bytes, End}
-use Rattle.tlv_walk.specs.Follow.{Effect, HasEffectOrNone, contents_in, effect_with, no_effect, put_if_followed}
-use Rattle.tlv_walk.specs.Follow.{whole_events}
+use Rattle.tlv_walk.specs.Follow.{Effect, contents_in, effect_with, no_effect, whole_events}
+use Rattle.tlv_walk.specs.HasEffect.{HasEffectOrNone}
 use Rattle.tlv_io.specs.Out.{Puts}
 use Rattle.tlv_walk.proofs.FollowerLemmas.Followed.{followed-one}
 use Rattle.tlv_io.proofs.Puts.{HasPut, puts_as, puts_failed_last, puts_nothing, puts_text}
@@ -72,35 +72,33 @@ not_true true e = absurd (true≢false (sym e))
 pub differ : (m n i j : ℕ) → m ≡ i → n ≡ j → not (i == j) ≡ true → (m == n) ≡ false
 differ m n i j e f t = rw (e, f) (not_true (i == j) t)
 
--- ---- what is put by a call that may leave the events to other calls, and its state
+-- ---- what a call does that may leave the events to other calls
 
-module _ {S D : Type 0} (state_of : D → DrainState) (a b : Out D) where
-  pub whole_put : (m : Effect S) (xs : List ℕ) → HasPut state_of a b xs → xs ≡ m.put
-      → Puts {T = Bool} {E = WriteFault} state_of a b (put_if_followed {E = WriteFault} (Ok true) m.put) (Ok true)
-  whole_put m xs p e = puts_as state_of a b xs m.put tt true p e
+module _ {D : Type 0} (state_of : D → DrainState) (a b : Out D) (s : ExtractState) (m : Effect ExtractState) where
+  -- all octets were put
+  pub has_put_whole : (xs : List ℕ) → m ≡ effect_with s xs
+      → HasPut state_of a b xs → HasEffectOrNone state_of m a b s s (Ok true)
+  has_put_whole xs e p = (
+    record {
+      puts = puts_as state_of a b xs m.put tt true p (sym (ap (λ (t : Effect ExtractState). t.put) e));
+      state = sym (ap (λ (t : Effect ExtractState). t.state) e);
+    },
+    ap (λ (t : Effect ExtractState). t.goes) e,
+  )
 
-  pub whole_failed : (m : Effect S) (xs : List ℕ) (e : WriteFault) (r : Result Bool WriteFault)
-      → Puts {T = ⊤} {E = WriteFault} state_of a b xs (Err e) → IsErr r
-      → xs ≡ m.put → Puts state_of a b (put_if_followed r m.put) r
-  whole_failed m xs e (Ok x) p h z = absurd (true≢false (sym h))
-  whole_failed m xs e (Err f) p h z =
-      puts_text state_of a b xs m.put (Err f) z (puts_failed_last state_of a b xs e (Err f) p h)
+  -- a write failed
+  pub has_failed_whole : (xs : List ℕ) (e : WriteFault) (r : Result Bool WriteFault) (t : ExtractState)
+      → m ≡ effect_with s xs
+      → Puts {T = ⊤} {E = WriteFault} state_of a b xs (Err e) → IsErr r → HasEffectOrNone state_of m a b s t r
+  has_failed_whole xs e (Ok x) t same p h = absurd (true≢false (sym h))
+  has_failed_whole xs e (Err f) t same p h = record {
+    puts = puts_text state_of a b xs m.put (Err f) (sym (ap (λ (u : Effect ExtractState). u.put) same))
+        (puts_failed_last state_of a b xs e (Err f) p h);
+    state = tt;
+  }
 
-pub no_put : {S D : Type 0} (state_of : D → DrainState) (a : Out D) (s : S) (m : Effect S) (x : Bool)
-    → (x ≡ true → m ≡ no_effect s)
-    → Puts {T = Bool} {E = WriteFault} state_of a a (put_if_followed {E = WriteFault} (Ok x) m.put) (Ok x)
-no_put {S = S} state_of a s m false e = puts_nothing state_of a false
-no_put {S = S} state_of a s m true e =
-    puts_text state_of a a [] m.put (Ok true) (sym (ap (λ (t : Effect S). t.put) (e refl)))
-    (puts_nothing state_of a true)
-
-pub no_step : {S : Type 0} (s : S) (m : Effect S) (x : Bool) → (x ≡ true → m ≡ no_effect s)
-    → HasEffectOrNone {E = WriteFault} m s s (Ok x)
-no_step {S = S} s m false e = refl
-no_step {S = S} s m true e =
-    (sym (ap (λ (t : Effect S). t.state) (e refl)), ap (λ (t : Effect S). t.goes) (e refl))
-
-pub whole_step : (s : ExtractState) (m : Effect ExtractState) (xs : List ℕ) → m ≡ effect_with s xs
-    → HasEffectOrNone {E = WriteFault} m s s (Ok true)
-whole_step s m xs e =
-    (sym (ap (λ (t : Effect ExtractState). t.state) e), ap (λ (t : Effect ExtractState). t.goes) e)
+-- nothing was put: the events are left to other calls, or make nothing
+pub has_put_none : {D : Type 0} (state_of : D → DrainState) (a : Out D) (s : ExtractState) (m : Effect ExtractState)
+    (x : Bool) → (x ≡ true → m ≡ no_effect s) → HasEffectOrNone state_of m a a s s (Ok x)
+has_put_none state_of a s m false e = (puts_nothing state_of a false, refl)
+has_put_none state_of a s m true e = has_put_whole state_of a a s m [] (e refl) (puts_nothing state_of a tt)

@@ -11,8 +11,8 @@ use Rattle.tlv_walk.specs.declared.follow.Go.TheVariants as go
 use Rattle.tlv_io.specs.declared.out.Out.{Out}
 use Rattle.tlv_io.specs.Device.{DrainState}
 use Rattle.tlv_walk.specs.Events.{Bytes, End}
-use Rattle.tlv_walk.specs.Follow.{Effect, HasEffectOrNone, contents_in, effect_if_more, effect_of, no_effect}
-use Rattle.tlv_walk.specs.Follow.{put_if_followed}
+use Rattle.tlv_walk.specs.Follow.{Effect, contents_in, effect_if_more, effect_of, no_effect}
+use Rattle.tlv_walk.specs.HasEffect.{HasEffectOrNone}
 use Rattle.tlv_walk.specs.Follow.{whole_events}
 use Rattle.tlv_io.specs.Out.{Puts}
 use Rattle.tlv_walk.proofs.FollowerLemmas.Followed.{followed-one}
@@ -119,27 +119,20 @@ whole-checked s h o begins ends =
     ∙ followed-one check_step (finder_bytes_step t c) End
     ∙ lists-none (finder_whole_step s h c) ends
 
-module _ {D : Type 0} (state_of : D → DrainState) (a : Out D) (s : CheckState) (old new : FinderState)
-    (h : HeaderValue) (o : List ℕ) where
-  pub whole-put : (x : Bool) (c : List ℕ) → s ≡ old.kept → c ≡ contents_in h o → PassesOrStays old new h c x
-      → Puts {T = Bool} {E = WriteFault} state_of a a
-      (put_if_followed {E = WriteFault} (Ok x) (effect_of check_step s (whole_events h o)).put) (Ok x)
-  whole-put false c e same p = puts_nothing state_of a false
-  whole-put true c e same q =
-      let p = subst (λ (l : List ℕ). PassesPrimitive old new h l) same q in
-      rw e
-      (puts_text state_of a a [] _ (Ok true)
-      (sym (ap (λ (k : Effect CheckState). k.put) (whole-checked old.kept h o p.begins p.ends)))
-      (puts_nothing state_of a true))
-
-pub whole-state : (s t : CheckState) (old new : FinderState) (h : HeaderValue) (o c : List ℕ) (x : Bool)
+pub has_checked_whole : {D : Type 0} (state_of : D → DrainState) (a : Out D) (s t : CheckState) (old new : FinderState)
+    (h : HeaderValue) (o c : List ℕ) (x : Bool)
     → s ≡ old.kept → t ≡ new.kept → c ≡ contents_in h o → PassesOrStays old new h c x
-    → HasEffectOrNone {E = WriteFault} (effect_of check_step s (whole_events h o)) s t (Ok x)
-whole-state s t old new h o c false e f same p = f ∙ ap (λ (u : FinderState). u.kept) p ∙ sym e
-whole-state s t old new h o c true e f same q =
+    → HasEffectOrNone state_of (effect_of check_step s (whole_events h o)) a a s t (Ok x)
+has_checked_whole state_of a s t old new h o c false e f same p =
+    (puts_nothing state_of a false, f ∙ ap (λ (u : FinderState). u.kept) p ∙ sym e)
+has_checked_whole state_of a s t old new h o c true e f same q =
     let p = subst (λ (l : List ℕ). PassesPrimitive old new h l) same q in
     let all = whole-checked old.kept h o p.begins p.ends in
     rw (e, f) (
-      ap (λ (u : FinderState). u.kept) p.kept ∙ sym (ap (λ (k : Effect CheckState). k.state) all),
+      record {
+        puts = puts_text state_of a a [] _ (Ok true) (sym (ap (λ (k : Effect CheckState). k.put) all))
+            (puts_nothing state_of a true);
+        state = ap (λ (u : FinderState). u.kept) p.kept ∙ sym (ap (λ (k : Effect CheckState). k.state) all);
+      },
       ap (λ (k : Effect CheckState). k.goes) all,
     )

@@ -10,8 +10,9 @@ use Rattle.tlv_io.specs.declared.drain.WriteFault.{WriteFault}
 use Rattle.tlv_io.specs.declared.out.Out.{Out}
 use Rattle.tlv_io.specs.Device.{DrainState}
 use Rattle.tlv_walk.specs.Events.{Begin, Bytes, End}
-use Rattle.tlv_walk.specs.Follow.{Effect, HasEffectOrNone, IsWholeElement, contents_in, effect_of, effect_with}
-use Rattle.tlv_walk.specs.Follow.{put_if_followed, whole_events}
+use Rattle.tlv_walk.specs.Follow.{Effect, IsWholeElement, contents_in, effect_of, effect_with}
+use Rattle.tlv_walk.specs.HasEffect.{HasEffectOrNone}
+use Rattle.tlv_walk.specs.Follow.{whole_events}
 use Rattle.tlv_io.specs.Out.{Puts}
 use Rattle.tlv_io.proofs.Puts.{HasPut, puts_as, puts_failed_last, puts_text}
 use Rattle.tlv_show.specs.declared.finding_lines.Style.TheVariants.{Dump}
@@ -83,19 +84,22 @@ module _ (s u : DumpState) (old new : FinderState) (h : HeaderValue) (o c : List
 
 module _ {D : Type 0} (state_of : D → DrainState) (a b : Out D) (m : Effect DumpState) (s : DumpState) (put : List ℕ)
     (is : m ≡ effect_with s put) where
-  pub shown-put : HasPut state_of a b put
-      → Puts {T = Bool} {E = WriteFault} state_of a b (put_if_followed {E = WriteFault} (Ok true) m.put) (Ok true)
-  shown-put p = puts_as state_of a b put m.put tt true p (sym (ap (λ (k : Effect DumpState). k.put) is))
+  pub shown : (old new : DumpState) → new ≡ s → HasPut state_of a b put
+      → HasEffectOrNone state_of m a b old new (Ok true)
+  shown old new e p = (
+    record {
+      puts = puts_as state_of a b put m.put tt true p (sym (ap (λ (k : Effect DumpState). k.put) is));
+      state = e ∙ sym (ap (λ (k : Effect DumpState). k.state) is);
+    },
+    ap (λ (k : Effect DumpState). k.goes) is,
+  )
 
-  pub shown-failed : (e : WriteFault) (r : Result Bool WriteFault)
+  pub shown-failed : (old new : DumpState) (e : WriteFault) (r : Result Bool WriteFault)
       → Puts {T = ⊤} {E = WriteFault} state_of a b put (Err e) → IsErr r
-      → Puts state_of a b (put_if_followed r m.put) r
-  shown-failed e (Ok x) p h = absurd (true≢false (sym h))
-  shown-failed e (Err f) p h =
-      puts_text state_of a b put m.put (Err f) (sym (ap (λ (k : Effect DumpState). k.put) is))
-      (puts_failed_last state_of a b put e (Err f) p h)
-
-pub shown-state : (m : Effect DumpState) (old new s : DumpState) (put : List ℕ) → m ≡ effect_with s put → new ≡ s
-    → HasEffectOrNone {E = WriteFault} m old new (Ok true)
-shown-state m old new s put is e =
-    (e ∙ sym (ap (λ (k : Effect DumpState). k.state) is), ap (λ (k : Effect DumpState). k.goes) is)
+      → HasEffectOrNone state_of m a b old new r
+  shown-failed old new e (Ok x) p h = absurd (true≢false (sym h))
+  shown-failed old new e (Err f) p h = record {
+    puts = puts_text state_of a b put m.put (Err f) (sym (ap (λ (k : Effect DumpState). k.put) is))
+        (puts_failed_last state_of a b put e (Err f) p h);
+    state = tt;
+  }

@@ -29,29 +29,23 @@ extract_begin_step_at-inside s count offset octets e =
     subst (λ (w : Position). extract_begin_step_at (at w) offset octets
     ≡ extract_step_to (at w) (Within (min (count + 1) 255)) octets On) (sym e) refl
 
-pub returns-in_ok-put-in-Within-clause-state : goal.returns-in_ok-put-in-Within-clause-state
-returns-in_ok-put-in-Within-clause-state g c =
+pub returns-in_ok-put-in-Within : goal.returns-in_ok-put-in-Within
+returns-in_ok-put-in-Within g c =
     let is = ap (λ (s : ExtractState). s.position) (sym c.self.view_is) ∙ c.in-Within.is in
     let one_more = extract_begin_step_at-inside c.args.self.now c.in-Within.count c.args.offset c.args.octets.now is in
-    rw (one_more, ← c.self.view_is, c.saturating_add.ensures) (refl, refl)
+    rw (one_more, ← c.self.view_is, c.saturating_add.ensures)
+    (record { has = record { puts = search rules; state = refl }; goes = refl })
 
-pub returns-after-not-self-clause-state : goal.returns-after-not-self-clause-state
-returns-after-not-self-clause-state g c =
-    rw (
-      (extract_begin_step_at-wanted c.args.self.now c.args.offset c.args.octets.now
-          (ap (λ (s : ExtractState). s.position) (sym c.self.view_is) ∙ c.in-Before.is)
-          (c.if-offset-self.true ∙ ap (λ (s : ExtractState). s.offset) c.self.view_is)),
-      ← c.self.view_is,
-    ) (refl, refl)
-
-pub returns-in_err-put-in-Before-clause-puts : goal.returns-in_err-put-in-Before-clause-puts
-returns-in_err-put-in-Before-clause-puts g c =
-    rw (extract_begin_step_at-wanted c.args.self.now c.args.offset c.args.octets.now
+pub returns-after-not-self : goal.returns-after-not-self
+returns-after-not-self g c =
+    let begins = extract_begin_step_at-wanted c.args.self.now c.args.offset c.args.octets.now
     (ap (λ (s : ExtractState). s.position) (sym c.self.view_is) ∙ c.in-Before.is)
-    (c.if-offset-self.true ∙ ap (λ (s : ExtractState). s.offset) c.self.view_is)) (search rules)
+    (c.if-offset-self.true ∙ ap (λ (s : ExtractState). s.offset) c.self.view_is) in
+    rw (begins, ← c.self.view_is) (record { has = record { puts = search rules; state = refl }; goes = refl })
 
-pub returns-after-not-self-clause-puts : goal.returns-after-not-self-clause-puts
-returns-after-not-self-clause-puts g c =
-    rw (extract_begin_step_at-wanted c.args.self.now c.args.offset c.args.octets.now
+pub returns-in_err-put-in-Before : goal.returns-in_err-put-in-Before
+returns-in_err-put-in-Before g c =
+    let begins = extract_begin_step_at-wanted c.args.self.now c.args.offset c.args.octets.now
     (ap (λ (s : ExtractState). s.position) (sym c.self.view_is) ∙ c.in-Before.is)
-    (c.if-offset-self.true ∙ ap (λ (s : ExtractState). s.offset) c.self.view_is)) (search rules)
+    (c.if-offset-self.true ∙ ap (λ (s : ExtractState). s.offset) c.self.view_is) in
+    rw begins (search rules)

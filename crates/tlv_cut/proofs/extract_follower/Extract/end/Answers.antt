@@ -14,8 +14,8 @@ extract_end_step-last s octets e =
     subst (λ (w : Position). extract_end_step (at w) octets
     ≡ extract_step_to (at w) After (outer_octets s.contents_only octets) Enough) (sym e) refl
 
-pub returns-in_err-put-in-Within-eq0-clause-puts : goal.returns-in_err-put-in-Within-eq0-clause-puts
-returns-in_err-put-in-Within-eq0-clause-puts g c =
+pub returns-in_err-put-in-Within-eq0 : goal.returns-in_err-put-in-Within-eq0
+returns-in_err-put-in-Within-eq0 g c =
     let is_zero = sym c.in-Within-eq0.field-0-is ∙ c.in-Within-eq0.field-0-test in
     let position : c.args.self.now.position ≡ Within 0 =
     ap (λ (s : ExtractState). s.position) (sym c.self.view_is) ∙ c.in-Within-eq0.is ∙ ap Within is_zero in
@@ -23,19 +23,13 @@ returns-in_err-put-in-Within-eq0-clause-puts g c =
     ap (λ (s : ExtractState). s.contents_only) (sym c.self.view_is) ∙ c.if-not-self.true in
     rw (position, whole) (search rules)
 
-pub returns-after-not-self-clause-state : goal.returns-after-not-self-clause-state
-returns-after-not-self-clause-state g c =
-    let is_zero = sym c.in-Within-eq0.field-0-is ∙ c.in-Within-eq0.field-0-test in
-    let is : c.args.self.now.position ≡ Within 0 =
-    ap (λ (s : ExtractState). s.position) (sym c.self.view_is) ∙ c.in-Within-eq0.is ∙ ap Within is_zero in
-    rw (extract_end_step-last c.args.self.now c.args.octets.now is, ← c.self.view_is) (refl, refl)
-
-pub returns-after-not-self-clause-puts : goal.returns-after-not-self-clause-puts
-returns-after-not-self-clause-puts g c =
+pub returns-after-not-self : goal.returns-after-not-self
+returns-after-not-self g c =
     let is_zero = sym c.in-Within-eq0.field-0-is ∙ c.in-Within-eq0.field-0-test in
     let position : c.args.self.now.position ≡ Within 0 =
     ap (λ (s : ExtractState). s.position) (sym c.self.view_is) ∙ c.in-Within-eq0.is ∙ ap Within is_zero in
-    elim c.if-not-self.branch [
+    let ends = extract_end_step-last c.args.self.now c.args.octets.now position in
+    let puts = elim c.if-not-self.branch [
       | then-not-self+in_ok-put-in-Within-eq0 w ↦
           let whole : c.args.self.now.contents_only ≡ false =
           ap (λ (s : ExtractState). s.contents_only) (sym c.self.view_is) ∙ w.if-not-self.true in
@@ -44,4 +38,5 @@ returns-after-not-self-clause-puts g c =
           let part : c.args.self.now.contents_only ≡ true =
           ap (λ (s : ExtractState). s.contents_only) (sym c.self.view_is) ∙ w.if-not-self.false in
           rw (position, part, w.out-is) (search rules)
-    ]
+    ] in
+    record { has = record { puts = puts; state = rw (ends, ← c.self.view_is) refl }; goes = rw ends refl }

@@ -1,8 +1,8 @@
 use Rattle.std.proofs.Common.{rules}
 use Rattle.tlv_cut.proofs.extract_follower.ExtractFollow.on.Goals as goal
 
-pub returns-in-Unused-clause-puts : goal.returns-in-Unused-clause-puts
-returns-in-Unused-clause-puts g c = search rules
+pub returns-in-Unused : goal.returns-in-Unused
+returns-in-Unused g c = search rules
 
-pub returns-in-Close-None-clause-puts : goal.returns-in-Close-None-clause-puts
-returns-in-Close-None-clause-puts g c = search rules
+pub returns-in-Close-None : goal.returns-in-Close-None
+returns-in-Close-None g c = search rules

@@ -6,16 +6,15 @@ use Rattle.tlv_show.specs.FinderState.{CheckState, FinderState}
 use Rattle.tlv_show.proofs.DumpLemmas.DumpSteps.{each-shown}
 use Rattle.tlv_show.proofs.dump_follower.Dump.bytes.Goals as goal
 
-pub returns-clause-state : goal.returns-clause-state
-returns-clause-state g c =
+pub returns : goal.returns
+returns g c =
     let s : DumpState = record { lines = c.self.inside.lines; finder = c.self.inside.finder.kept } in
     rw (← c.self.view_is, each-shown s c.args.octets.now)
-    (on_ok_weaker c.bytes-2.result
-    (λ e. ap₂ (λ (l : LinesState) (f : CheckState). record { lines = l; finder = f }) e
-    (ap (λ (u : FinderState). u.kept) c.bytes.ensures))
-    c.bytes-2.ensures.state)
-
-pub returns-clause-puts : goal.returns-clause-puts
-returns-clause-puts g c =
-    let s : DumpState = record { lines = c.self.inside.lines; finder = c.self.inside.finder.kept } in
-    rw (← c.self.view_is, each-shown s c.args.octets.now) c.bytes-2.ensures.puts
+    (record {
+      puts = c.bytes-2.ensures.puts;
+      state =
+          on_ok_weaker c.bytes-2.result
+          (λ e. ap₂ (λ (l : LinesState) (f : CheckState). record { lines = l; finder = f }) e
+          (ap (λ (u : FinderState). u.kept) c.bytes.ensures))
+          c.bytes-2.ensures.state;
+    })

@@ -8,17 +8,24 @@ use Rattle.tlv_show.specs.DumpStep.{DumpState, dump_step}
 use Rattle.tlv_show.proofs.DumpLemmas.DumpSteps.{found_after}
 use Rattle.tlv_show.proofs.dump_follower.Dump.end.Goals as goal
 
-pub returns-in_err-end-clause-puts : goal.returns-in_err-end-clause-puts
-returns-in_err-end-clause-puts g c =
-    rw (← c.self.view_is) (puts_failed g.D.Drain.state _ _ _ _ _ _ c.in_err-end.ensures.puts (search rules))
+pub returns-in_err-end : goal.returns-in_err-end
+returns-in_err-end g c = record {
+  puts = rw (← c.self.view_is) (puts_failed g.D.Drain.state _ _ _ _ _ _ c.in_err-end.ensures.puts (search rules));
+  state = search rules;
+}
 
-pub returns-clause-puts : goal.returns-clause-puts
-returns-clause-puts g c =
+pub returns : goal.returns
+returns g c =
     let s : DumpState = record { lines = c.self.inside.lines; finder = c.self.inside.finder.kept } in
     let style = c.style-style.ensures ∙ ap (λ (l : LinesState). Dump l.layout.pure) c.in_ok-end.ensures.state in
-    subst
-    (λ (t : DumpState). Puts g.D.Drain.state c.args.out.now c.put_findings.new.out (dump_step t End).put
-    c.put_findings.result)
-    c.self.view_is
-    (found_after g.D.Drain.state s _ c.end-may_have_findings.new.self c.end-may_have_findings.result _ _ _ _ _ _ _ style
-    c.end-may_have_findings.ensures c.in_ok-end.ensures.puts c.put_findings.ensures)
+    record {
+      puts =
+          subst
+          (λ (t : DumpState). Puts g.D.Drain.state c.args.out.now c.put_findings.new.out (dump_step t End).put
+          c.put_findings.result)
+          c.self.view_is
+          (found_after g.D.Drain.state s _ c.end-may_have_findings.new.self c.end-may_have_findings.result
+          _ _ _ _ _ _ _ style
+          c.end-may_have_findings.ensures c.in_ok-end.ensures.puts c.put_findings.ensures);
+      state = search rules;
+    }

@@ -3,20 +3,26 @@ use Rattle.tlv_show.specs.DumpStep.{DumpState}
 use Rattle.tlv_show.proofs.DumpLemmas.DumpSteps.{found_failed, found_before}
 use Rattle.tlv_show.proofs.dump_follower.Dump.open.Goals as goal
 
-pub returns-in_err-put_findings-clause-puts : goal.returns-in_err-put_findings-clause-puts
-returns-in_err-put_findings-clause-puts g c =
+pub returns-in_err-put_findings : goal.returns-in_err-put_findings
+returns-in_err-put_findings g c =
     let s : DumpState = record { lines = c.self.inside.lines; finder = c.self.inside.finder.kept } in
-    rw (← c.self.view_is)
-    (found_failed g.D.Drain.state s _ c.open-may_have_findings.new.self c.open-may_have_findings.result
-    _ _ _ _ _ _ c.style-style.ensures c.open-may_have_findings.ensures c.in_err-put_findings.ensures (search rules))
+    record {
+      puts =
+          rw (← c.self.view_is)
+          (found_failed g.D.Drain.state s _ c.open-may_have_findings.new.self c.open-may_have_findings.result
+          _ _ _ _ _ _ c.style-style.ensures c.open-may_have_findings.ensures c.in_err-put_findings.ensures
+          (search rules));
+      state = search rules;
+    }
 
-pub returns-clause-puts : goal.returns-clause-puts
-returns-clause-puts g c =
+pub returns : goal.returns
+returns g c =
     let s : DumpState = record { lines = c.self.inside.lines; finder = c.self.inside.finder.kept } in
-    rw (← c.self.view_is)
-    (found_before g.D.Drain.state s _ c.open-may_have_findings.new.self c.open-may_have_findings.result
-    _ _ _ _ _ _ _ c.style-style.ensures c.open-may_have_findings.ensures c.in_ok-put_findings.ensures
-    c.open.ensures.puts)
-
-pub returns-clause-state : goal.returns-clause-state
-returns-clause-state g c = search rules
+    record {
+      puts =
+          rw (← c.self.view_is)
+          (found_before g.D.Drain.state s _ c.open-may_have_findings.new.self c.open-may_have_findings.result
+          _ _ _ _ _ _ _ c.style-style.ensures c.open-may_have_findings.ensures c.in_ok-put_findings.ensures
+          c.open.ensures.puts);
+      state = search rules;
+    }

@@ -4,10 +4,17 @@ use Rattle.tlv_io.proofs.Puts.{puts_failed_last}
 use Rattle.tlv_show.proofs.DumpLemmas.DumpSteps.{one_on}
 use Rattle.tlv_show.proofs.dump_follower.DumpFollow.on.Goals as goal
 
-pub returns-in_err-put_lines-clause-puts : goal.returns-in_err-put_lines-clause-puts
-returns-in_err-put_lines-clause-puts g c =
-    puts_failed_last g.D.Drain.state _ _ _ _ _ c.in_err-put_lines.ensures.puts (search rules)
+pub returns-in_err-put_lines : goal.returns-in_err-put_lines
+returns-in_err-put_lines g c = record {
+  has = record {
+    puts = puts_failed_last g.D.Drain.state _ _ _ _ _ c.in_err-put_lines.ensures.puts (search rules);
+    state = search rules;
+  };
+  goes = search rules;
+}
 
-pub returns-clause-state : goal.returns-clause-state
-returns-clause-state g c =
-    (c.in_ok-put_lines.ensures.state, sym (one_on c.args.self.now (event_value_of c.args.event.now)))
+pub returns : goal.returns
+returns g c = record {
+  has = record { puts = search rules; state = c.in_ok-put_lines.ensures.state };
+  goes = sym (one_on c.args.self.now (event_value_of c.args.event.now));
+}

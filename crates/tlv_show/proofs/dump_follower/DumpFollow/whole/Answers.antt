@@ -1,30 +1,21 @@
 use Rattle.std.proofs.Common.{rules, refl}
 use Rattle.tlv_show.specs.DumpStep.{DumpState}
 use Rattle.tlv_show.proofs.DumpLemmas.DumpEvents.{dump_state}
-use Rattle.tlv_show.proofs.DumpLemmas.WholeShown.{made_is, shown-failed, shown-put, shown-state, stands_after}
+use Rattle.tlv_show.proofs.DumpLemmas.WholeShown.{made_is, shown, shown-failed, stands_after}
 use Rattle.tlv_show.proofs.dump_follower.DumpFollow.whole.Goals as goal
 
-pub returns-in_err-whole-clause-puts : goal.returns-in_err-whole-clause-puts
-returns-in_err-whole-clause-puts g c =
+pub returns-in_err-whole : goal.returns-in_err-whole
+returns-in_err-whole g c =
     let u : DumpState = dump_state c.self.inside.lines c.self.inside.finder.kept in
     let is =
     made_is c.args.self.now u c.self.inside.finder c.passes.new.self c.args.header.now c.args.octets.now
     c.contents_in-contents.result.now c.passes.result
     c.self.view_is refl c.contents_in-contents.ensures c.requires.whole (search rules) c.passes.ensures in
-    shown-failed g.D.Drain.state c.args.out.now c.whole.new.out _ _ _ is _ c.from_residual.result
+    shown-failed g.D.Drain.state c.args.out.now c.whole.new.out _ _ _ is c.args.self.now _ _ c.from_residual.result
     c.in_err-whole.ensures.puts c.from_residual.ensures.0
 
-pub returns-clause-puts : goal.returns-clause-puts
-returns-clause-puts g c =
-    let u : DumpState = dump_state c.self.inside.lines c.self.inside.finder.kept in
-    let is =
-    made_is c.args.self.now u c.self.inside.finder c.passes.new.self c.args.header.now c.args.octets.now
-    c.contents_in-contents.result.now c.passes.result
-    c.self.view_is refl c.contents_in-contents.ensures c.requires.whole (search rules) c.passes.ensures in
-    shown-put g.D.Drain.state c.args.out.now c.whole.new.out _ _ _ is c.in_ok-whole.ensures.puts
-
-pub returns-clause-state : goal.returns-clause-state
-returns-clause-state g c =
+pub returns : goal.returns
+returns g c =
     let u : DumpState = dump_state c.self.inside.lines c.self.inside.finder.kept in
     let is =
     made_is c.args.self.now u c.self.inside.finder c.passes.new.self c.args.header.now c.args.octets.now
@@ -35,7 +26,7 @@ returns-clause-state g c =
     c.contents_in-contents.result.now c.passes.result
     c.self.view_is refl c.contents_in-contents.ensures c.requires.whole (search rules) c.passes.ensures
     c.whole.new.self c.whole.ensures.state in
-    shown-state _ c.args.self.now _ _ _ is new
+    shown g.D.Drain.state c.args.out.now c.whole.new.out _ _ _ is c.args.self.now _ new c.in_ok-whole.ensures.puts
 
 pub whole-requires : goal.whole-requires
 whole-requires g c = search rules

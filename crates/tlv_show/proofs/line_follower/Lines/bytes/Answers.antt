@@ -9,8 +9,8 @@ use Rattle.tlv_io.proofs.Puts.{puts_text}
 use Rattle.tlv_show.proofs.line_follower.Lines.bytes.Goals as goal
 use Rattle.tlv_show.specs.SaturatingSum.{saturating_sum}
 
-pub returns-clause-state : goal.returns-clause-state
-returns-clause-state g c =
+pub returns : goal.returns
+returns g c =
     let s = c.self.inside in
     let octets = c.args.octets.now in
     let some : 0 < length octets = search arith in
@@ -20,19 +20,14 @@ returns-clause-state g c =
     ∙ dumped_bytes _ octets (λ e. absurd (omega (arith, some, ap length e))) in
     let there : c.saturating_add-self-inside.result ≡ saturating_sum s.offset (length octets) =
     omega (arith, c.saturating_add-self-inside.ensures, within) in
-    on_ok_weaker c.put_bytes.result
-    (λ e. ap₂
-    (λ (o : ℕ) (v : Option ValueTextState).
-    record { layout = s.layout; names = s.names.now; offset = o; in_padding = s.in_padding; open_text = v })
-    there e
-    ∙ sym (ap (λ (t : Effect LinesState). t.state) is))
-    c.put_bytes.ensures.state
-
-pub returns-clause-puts : goal.returns-clause-puts
-returns-clause-puts g c =
-    let octets = c.args.octets.now in
-    let some : 0 < length octets = search arith in
-    let is =
-    ap (λ (s : LinesState). each_octet lines_octet_step s octets) (sym c.self.view_is)
-    ∙ dumped_bytes _ octets (λ e. absurd (omega (arith, some, ap length e))) in
-    puts_text g.D.Drain.state _ _ _ _ _ (sym (ap (λ (t : Effect LinesState). t.put) is)) c.put_bytes.ensures.puts
+    record {
+      puts = puts_text g.D.Drain.state _ _ _ _ _ (sym (ap (λ (t : Effect LinesState). t.put) is))
+          c.put_bytes.ensures.puts;
+      state = on_ok_weaker c.put_bytes.result
+          (λ e. ap₂
+          (λ (o : ℕ) (v : Option ValueTextState).
+          record { layout = s.layout; names = s.names.now; offset = o; in_padding = s.in_padding; open_text = v })
+          there e
+          ∙ sym (ap (λ (t : Effect LinesState). t.state) is))
+          c.put_bytes.ensures.state;
+    }

@@ -1,8 +1,5 @@
 use Rattle.std.proofs.Common.{rules}
 use Rattle.tlv_show.proofs.line_follower.Lines.close.Goals as goal
 
-pub returns-clause-state : goal.returns-clause-state
-returns-clause-state g c = search rules
-
-pub returns-clause-puts : goal.returns-clause-puts
-returns-clause-puts g c = search rules
+pub returns : goal.returns
+returns g c = record { puts = search rules; state = search rules }

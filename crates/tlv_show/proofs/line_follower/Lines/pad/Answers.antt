@@ -8,8 +8,8 @@ use Rattle.tlv_io.proofs.Puts.{puts_nothing, puts_text}
 use Rattle.tlv_show.proofs.line_follower.Lines.pad.Goals as goal
 use Rattle.tlv_show.specs.SaturatingSum.{saturating_sum}
 
-pub returns-then-self-clause-state : goal.returns-then-self-clause-state
-returns-then-self-clause-state g c =
+pub returns-then-self : goal.returns-then-self
+returns-then-self g c =
     let s = c.self.inside in
     let within : s.offset ≤ 2 ^ 64 - 1 = omega arith in
     let there : c.saturating_add-self-inside.result ≡ saturating_sum s.offset (length c.args.octets.now) =
@@ -17,29 +17,25 @@ returns-then-self-clause-state g c =
     let is =
     ap (λ (s : LinesState). each_octet lines_padding_step s c.args.octets.now) (sym c.self.view_is)
     ∙ padded_more _ c.args.octets.now c.if-self.true in
-    ap (λ (o : ℕ).
     record {
-      layout =
-          s.layout;
-      names = s.names.now;
-      offset = o;
-      in_padding = s.in_padding;
-      open_text = if_open s.is_open s.text;
-    })
-    there
-    ∙ sym (ap (λ (t : Effect LinesState). t.state) is)
+      puts = puts_text g.D.Drain.state _ _ _ _ _ (sym (ap (λ (t : Effect LinesState). t.put) is))
+          (puts_nothing g.D.Drain.state _ tt);
+      state =
+          ap (λ (o : ℕ).
+          record {
+            layout =
+                s.layout;
+            names = s.names.now;
+            offset = o;
+            in_padding = s.in_padding;
+            open_text = if_open s.is_open s.text;
+          })
+          there
+          ∙ sym (ap (λ (t : Effect LinesState). t.state) is);
+    }
 
-pub returns-then-self-clause-puts : goal.returns-then-self-clause-puts
-returns-then-self-clause-puts g c =
-    let s = c.self.inside in
-    let is =
-    ap (λ (s : LinesState). each_octet lines_padding_step s c.args.octets.now) (sym c.self.view_is)
-    ∙ padded_more _ c.args.octets.now c.if-self.true in
-    puts_text g.D.Drain.state _ _ _ _ _ (sym (ap (λ (t : Effect LinesState). t.put) is))
-    (puts_nothing g.D.Drain.state _ tt)
-
-pub returns-clause-state : goal.returns-clause-state
-returns-clause-state g c =
+pub returns : goal.returns
+returns g c =
     let s = c.self.inside in
     let within : s.offset ≤ 2 ^ 64 - 1 = omega arith in
     let some : 0 < length c.args.octets.now = search arith in
@@ -48,26 +44,21 @@ returns-clause-state g c =
     let is =
     ap (λ (s : LinesState). each_octet lines_padding_step s c.args.octets.now) (sym c.self.view_is)
     ∙ padded_first _ c.args.octets.now some c.if-self.false in
-    on_ok_weaker c.put_padding.result
-    (λ
-    _. ap (λ (o : ℕ).
     record {
-      layout =
-          s.layout;
-      names = s.names.now;
-      offset = o;
-      in_padding = true;
-      open_text = if_open s.is_open s.text;
-    })
-    there
-    ∙ sym (ap (λ (t : Effect LinesState). t.state) is))
-    c.put_padding.ensures.held
-
-pub returns-clause-puts : goal.returns-clause-puts
-returns-clause-puts g c =
-    let s = c.self.inside in
-    let some : 0 < length c.args.octets.now = search arith in
-    let is =
-    ap (λ (s : LinesState). each_octet lines_padding_step s c.args.octets.now) (sym c.self.view_is)
-    ∙ padded_first _ c.args.octets.now some c.if-self.false in
-    puts_text g.D.Drain.state _ _ _ _ _ (sym (ap (λ (t : Effect LinesState). t.put) is)) c.put_padding.ensures
+      puts = puts_text g.D.Drain.state _ _ _ _ _ (sym (ap (λ (t : Effect LinesState). t.put) is))
+          c.put_padding.ensures;
+      state = on_ok_weaker c.put_padding.result
+          (λ
+          _. ap (λ (o : ℕ).
+          record {
+            layout =
+                s.layout;
+            names = s.names.now;
+            offset = o;
+            in_padding = true;
+            open_text = if_open s.is_open s.text;
+          })
+          there
+          ∙ sym (ap (λ (t : Effect LinesState). t.state) is))
+          c.put_padding.ensures.held;
+    }
