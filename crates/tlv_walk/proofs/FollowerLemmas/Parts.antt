@@ -83,7 +83,7 @@ module _ {S : Type 0} (next : S → EventValue → Effect S) where
     -- the effect of a call that followed its events
     effect_some : (made : Effect S) (a b : Out D) (before after : S) (r : Bool) → r ≡ true
         → HasEffectOrNone state_of made a b before after (Ok r)
-        → HasEffect {T = Bool} state_of made a b after (Ok true) × (made.goes ≡ go.On)
+        → HasEffect state_of made a b after (Ok true) × (made.goes ≡ go.On)
     effect_some made a b before after true e x = x
     effect_some made a b before after false e x = absurd (true≢false (sym e))
 

@@ -1,4 +1,4 @@
-use Rattle.std.proofs.Common.{rules, true}
+use Rattle.std.proofs.Common.{rules}
 use Rattle.std.proofs.lemmas.Result.{err_from_is_err_and}
 use Rattle.tlv_walk.proofs.FollowerLemmas.Parts.{part_fails, part_whole}
 use Rattle.tlv_walk.proofs.WalkerLemmas.Passing.{is_whole_element}
