@@ -29,14 +29,19 @@ returns-after-not-self g c =
     let position : c.args.self.now.position ≡ Within 0 =
     ap (λ (s : ExtractState). s.position) (sym c.self.view_is) ∙ c.in-Within-eq0.is ∙ ap Within is_zero in
     let ends = extract_end_step-last c.args.self.now c.args.octets.now position in
-    let puts = elim c.if-not-self.branch [
-      | then-not-self+in_ok-put-in-Within-eq0 w ↦
-          let whole : c.args.self.now.contents_only ≡ false =
-          ap (λ (s : ExtractState). s.contents_only) (sym c.self.view_is) ∙ w.if-not-self.true in
-          rw (position, whole, w.out-is) (search rules)
-      | else-not-self w ↦
-          let part : c.args.self.now.contents_only ≡ true =
-          ap (λ (s : ExtractState). s.contents_only) (sym c.self.view_is) ∙ w.if-not-self.false in
-          rw (position, part, w.out-is) (search rules)
-    ] in
-    record { has = record { puts = puts; state = rw (ends, ← c.self.view_is) refl }; goes = rw ends refl }
+    record {
+      has = record {
+        puts = elim c.if-not-self.branch [
+          | then-not-self+in_ok-put-in-Within-eq0 w ↦
+              let whole : c.args.self.now.contents_only ≡ false =
+              ap (λ (s : ExtractState). s.contents_only) (sym c.self.view_is) ∙ w.if-not-self.true in
+              rw (position, whole, w.out-is) (search rules)
+          | else-not-self w ↦
+              let part : c.args.self.now.contents_only ≡ true =
+              ap (λ (s : ExtractState). s.contents_only) (sym c.self.view_is) ∙ w.if-not-self.false in
+              rw (position, part, w.out-is) (search rules)
+        ];
+        state = rw (ends, ← c.self.view_is) refl;
+      };
+      goes = rw ends refl;
+    }
