@@ -6,7 +6,6 @@ use Rattle.tlv_head.specs.Header.{HeaderValue, announced_length}
 use Rattle.tlv_value.specs.declared.finding.Finding.{Finding}
 use Rattle.tlv_value.specs.Checks.{all_contents_findings}
 use Rattle.tlv_value.specs.Types.{constructed_types, is_one_of, is_string, is_unassigned, primitive_types}
-use Rattle.tlv_io.specs.declared.drain.WriteFault.{WriteFault}
 use Rattle.tlv_walk.specs.declared.follow.Go.TheVariants as go
 use Rattle.tlv_io.specs.declared.out.Out.{Out}
 use Rattle.tlv_io.specs.Device.{DrainState}
@@ -14,7 +13,6 @@ use Rattle.tlv_walk.specs.Events.{Bytes, End}
 use Rattle.tlv_walk.specs.Follow.{Effect, contents_in, effect_if_more, effect_of, no_effect}
 use Rattle.tlv_walk.specs.HasEffect.{HasEffectOrNone}
 use Rattle.tlv_walk.specs.Follow.{whole_events}
-use Rattle.tlv_io.specs.Out.{Puts}
 use Rattle.tlv_walk.proofs.FollowerLemmas.Followed.{followed-one}
 use Rattle.tlv_io.proofs.Puts.{puts_nothing, puts_text}
 use Rattle.tlv_show.specs.declared.holder_frame.HolderFrame.{HolderFrame}

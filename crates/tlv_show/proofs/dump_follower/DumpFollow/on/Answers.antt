@@ -1,6 +1,6 @@
-use Rattle.std.proofs.Common.{rules, sym}
+use Rattle.std.proofs.Common.{refl, rules, sym}
 use Rattle.tlv_walk.specs.Events.{event_value_of}
-use Rattle.tlv_io.proofs.Puts.{puts_failed_last}
+use Rattle.tlv_io.proofs.Puts.{puts_as, puts_failed_last}
 use Rattle.tlv_show.proofs.DumpLemmas.DumpSteps.{one_on}
 use Rattle.tlv_show.proofs.dump_follower.DumpFollow.on.Goals as goal
 
@@ -15,6 +15,9 @@ returns-in_err-put_lines g c = record {
 
 pub returns : goal.returns
 returns g c = record {
-  has = record { puts = search rules; state = c.in_ok-put_lines.ensures.state };
+  has = record {
+    puts = puts_as g.D.Drain.state _ _ _ _ _ _ c.in_ok-put_lines.ensures.puts refl;
+    state = c.in_ok-put_lines.ensures.state;
+  };
   goes = sym (one_on c.args.self.now (event_value_of c.args.event.now));
 }
