@@ -7,7 +7,7 @@ use Rattle.tlv_value.specs.declared.kind.Kind.{Kind}
 use Rattle.tlv_value.specs.declared.kind.Kind.TheVariants.{Bits}
 use Rattle.tlv_value.specs.declared.layout.Layout.{Layout}
 use Rattle.tlv_value.specs.Kind.{kind_of}
-use Rattle.tlv_value.specs.Layout.{columns, line, line_margin, row_line}
+use Rattle.tlv_value.specs.Layout.{columns, line_margin, row_line}
 use Rattle.tlv_value.specs.Value.{NameOf, Value, is_long, long_value, row_text, whole_value}
 
 -- the kind of the element's type
@@ -22,7 +22,7 @@ element_prefix layout offset class number size =
 -- the line of an element of this class, number and size, with this text after its tag
 abbrev pub element_line : Layout → ℕ → Class → ℕ → ℕ → List ℕ → List ℕ
 element_line layout offset class number size text =
-    line layout.pure (columns offset (decimal size)) layout.level (tag_text class number ++ text)
+    element_prefix layout offset class number size ++ text ++ 10 ∷ []
 
 -- rows in order, the first of which has this number
 abbrev pub row_lines : Kind → Layout → ℕ → List (List ℕ) → List ℕ

@@ -3,14 +3,12 @@ use Rattle.std.proofs.Common.{◌≡◌, ℕ, ◌+◌, ◌≤◌, Bool, true, fa
 use Rattle.std.proofs.Common.{arith, append_assoc, append-nil}
 use Rattle.std.specs.Prelude.{nat_le, if◌then◌else◌}
 use Rattle.std.proofs.lemmas.Bool.Decides.{nat_tests}
-use Rattle.tlv_head.specs.Tag.{tag_text}
-use Rattle.std.specs.Prelude.{decimal}
 use Rattle.tlv_value.specs.declared.kind.Kind.{Kind}
 use Rattle.tlv_value.specs.declared.kind.Kind.TheVariants.{Octets, Boolean, Integer, Bits, Object, Relative, Text, Utf8}
 use Rattle.tlv_value.specs.declared.kind.Kind.TheVariants.{Ucs2, Ucs4}
 use Rattle.tlv_value.specs.declared.layout.Layout.{Layout}
-use Rattle.tlv_value.specs.Layout.{columns, margin, row_line}
-use Rattle.tlv_value.specs.Private.ObjectLines.{object_lines, rest_of_lines}
+use Rattle.tlv_value.specs.Layout.{row_line}
+use Rattle.tlv_value.specs.Private.ObjectLines.{object_lines}
 use Rattle.tlv_value.specs.Private.PrimitiveLines.{line_prefix}
 use Rattle.tlv_value.specs.declared.primitive.Primitive.{Primitive}
 use Rattle.tlv_value.specs.Rows.{full_rows}
@@ -35,31 +33,18 @@ relative-rows layout i [] = refl
 relative-rows layout i (row ∷ rows) =
     ap (λ (t : List ℕ). row_line layout i (row_text Octets row) ++ t) (relative-rows layout (i + 1) rows)
 
--- a line in parts, and rows after it
-line-prefix : (margin tag text rows : List ℕ)
-    → (margin ++ tag) ++ ((text ++ 10 ∷ []) ++ rows) ≡ ((margin ++ (tag ++ text)) ++ 10 ∷ []) ++ rows
-line-prefix margin tag text rows =
-    sym (append_assoc (margin ++ tag) (text ++ 10 ∷ []) rows)
-    ∙ ap (λ (t : List ℕ). t ++ rows)
-    (sym (append_assoc (margin ++ tag) text (10 ∷ []))
-    ∙ ap (λ (t : List ℕ). t ++ 10 ∷ []) (append_assoc margin tag text))
-
-prefix-line : (p : Primitive) (v : Value)
-    → line_prefix p ++ rest_of_lines p.layout [] v ≡ primitive_line p v.text ++ row_lines Octets p.layout 0 v.rows
-prefix-line p v =
-    line-prefix (margin p.layout.pure (columns p.offset (decimal p.size)) p.layout.level) (tag_text p.class p.number)
-    v.text (row_lines Octets p.layout 0 v.rows)
-
 -- what the line of a primitive begins with, and the rest of its lines
+prefix-line : (p : Primitive) (text rows : List ℕ)
+    → line_prefix p ++ ((text ++ 10 ∷ []) ++ rows) ≡ primitive_line p text ++ rows
+prefix-line p text rows = simp append_assoc
+
 pub shown-prefix : (name_of : NameOf) (p : Primitive) (octets : List ℕ)
     → line_prefix p
     ++ (((short_value name_of p.kind octets).text ++ 10 ∷ [])
     ++ row_lines p.kind p.layout 0 (short_value name_of p.kind octets).rows)
     ≡ primitive_lines name_of p octets
 shown-prefix name_of p octets =
-    let v : Value = short_value name_of p.kind octets in
-    line-prefix (margin p.layout.pure (columns p.offset (decimal p.size)) p.layout.level) (tag_text p.class p.number)
-    v.text (row_lines p.kind p.layout 0 v.rows)
+    let v : Value = short_value name_of p.kind octets in prefix-line p v.text (row_lines p.kind p.layout 0 v.rows)
 
 module _ (name_of : NameOf) (layout : Layout) (line : List ℕ → List ℕ) (octets : List ℕ) where
   abbrev shown_by : Kind → List ℕ
@@ -87,12 +72,15 @@ module _ (name_of : NameOf) (layout : Layout) (line : List ℕ → List ℕ) (oc
 pub shown-object : (name_of : NameOf) (p : Primitive) (octets : List ℕ) → p.kind ≡ Object
     → line_prefix p ++ object_lines name_of p.layout [] false octets ≡ primitive_lines name_of p octets
 shown-object name_of p octets e =
-    prefix-line p (short_value name_of Object octets) ∙ object_at name_of p.layout (primitive_line p) octets p.kind e
+    let v : Value = short_value name_of Object octets in
+    prefix-line p v.text (row_lines Octets p.layout 0 v.rows)
+    ∙ object_at name_of p.layout (primitive_line p) octets p.kind e
 
 pub shown-relative : (name_of : NameOf) (p : Primitive) (octets : List ℕ) → p.kind ≡ Relative
     → line_prefix p ++ object_lines no_names p.layout [] true octets ≡ primitive_lines name_of p octets
 shown-relative name_of p octets e =
-    prefix-line p (short_value name_of Relative octets)
+    let v : Value = short_value name_of Relative octets in
+    prefix-line p v.text (row_lines Octets p.layout 0 v.rows)
     ∙ relative_at name_of p.layout (primitive_line p) octets p.kind e
 
 -- values on their lines, without rows
