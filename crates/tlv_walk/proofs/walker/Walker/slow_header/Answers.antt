@@ -5,7 +5,4 @@ pub read_on-requires-clause-read : goal.read_on-requires-clause-read
 read_on-requires-clause-read c = search rules
 
 pub returns-then-matches : goal.returns-then-matches
-returns-then-matches c = record {
-  counts = search rules;
-  yields = search rules;
-}
+returns-then-matches c = search rules
