@@ -65,14 +65,13 @@ impl Walker {
     ghost use Rattle.std.specs.Prelude.{[], false};
     ghost use Rattle.tlv_walk.specs.Phase as phases;
     ghost use Rattle.tlv_walk.specs.WalkerState.{IfRefused, IsWithinInputLimit, new_walker, unused_of};
-    ghost use Rattle.tlv_walk.specs.Private.WalkerState.{CountsStep};
     ghost use Rattle.tlv_walk.specs.Ending.{IsEnding, ShowsSoundness, fault_at};
     ghost use Rattle.tlv_walk.specs.Depth.{depth_of};
     ghost use Rattle.tlv_walk.specs.Stands.{CanTake, IsIdle, Stands};
     ghost use Rattle.tlv_walk.specs.Wrappers.{first_without_wrapper};
     ghost use Rattle.tlv_walk.specs.StepsTo.{RefusesAgain, StepsTo};
     ghost use Rattle.tlv_walk.specs.HasRead.{IfAtEnd, IfRead};
-    ghost use Rattle.tlv_walk.specs.Private.Yields.{YieldsStep};
+    ghost use Rattle.tlv_walk.specs.Private.Yields.{Steps};
     ghost use Rattle.tlv_head.specs.InputLimit.{input_limit};
 
     /// A walker that has taken nothing.
@@ -199,8 +198,7 @@ impl Walker {
     /// Takes octets from the front of the piece, up to the next event, by what they belong to.
     fn next_step<'a>(&mut self, piece: &mut &'a [u8]) -> Step<'a>
         requires { IsWithinInputLimit self.old piece.old.now }
-        ensures steps { CountsStep self.old self.new piece.old.now piece.new.now result }
-        ensures yields { YieldsStep self.old self.new piece.old.now piece.new.now result }
+        ensures steps { Steps self.old self.new piece.old.now piece.new.now result }
         ensures again { IfRefused self.old (λ fault. (result ≡ Step.Fault fault)
             × RefusesAgain self.old self.new piece.old.now piece.new.now fault) }
     {

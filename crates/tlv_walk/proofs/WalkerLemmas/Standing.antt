@@ -10,7 +10,7 @@ use Rattle.tlv_walk.specs.declared.framing.Framing.{Framing}
 use Rattle.tlv_walk.specs.Events.{AreEqualJoined, EventValue, IsNoEmptyPart, event_value_of, events}
 use Rattle.tlv_walk.specs.Inside.{can_name}
 use Rattle.tlv_walk.specs.WalkerState.{HasNotRefused, WalkerState}
-use Rattle.tlv_walk.specs.Private.WalkerState.{CountsStep, Refuses, TakesAll, YieldsOne}
+use Rattle.tlv_walk.specs.Private.WalkerState.{Refuses, TakesAll, YieldsOne}
 use Rattle.tlv_walk.specs.Private.WrapperCount.{wrapper_count_after}
 use Rattle.tlv_walk.specs.Phase.{PhaseValue, Between, InHeader, InPrimitive, InBitString, InEndOctets, Refused}
 use Rattle.tlv_walk.specs.Wrappers.{entered_offsets}
@@ -24,7 +24,7 @@ use Rattle.tlv_walk.specs.Stands.{Stands, waiting_events}
 use Rattle.tlv_walk.specs.StepsTo.{RefusesAgain, RefusesNext, StepsTo, UsesUpPiece, YieldsNext}
 use Rattle.tlv_walk.specs.HasRead.{IsRefusedAfter, StandsRefused}
 use Rattle.tlv_walk.specs.Private.FollowsPiece.{WalksOver}
-use Rattle.tlv_walk.specs.Private.Yields.{Continues, RefusesOctet, YieldsEvent, YieldsEvents, YieldsFault, YieldsStep}
+use Rattle.tlv_walk.specs.Private.Yields.{Continues, RefusesOctet, Steps, YieldsEvent, YieldsEvents, YieldsFault}
 use Rattle.std.specs.Prelude.{slice_get}
 use Rattle.tlv_walk.proofs.GrammarLemmas.Endings.{refused-reading}
 use Rattle.tlv_walk.proofs.GrammarLemmas.Finals.{refused-final}
@@ -209,25 +209,23 @@ fault_now old new piece rest f n k (inl r) = inl (refuses_now old new piece rest
 fault_now old new piece rest f n k (inr r) = absurd (n f r.refused)
 
 steps_now : (old new : WalkerState) (piece rest : List ℕ) (s : Step) → HasNotRefused old
-    → CountsStep old new piece rest s → YieldsStep old new piece rest s → StepsTo old new piece rest s
-steps_now old new piece rest (step.Event e) n k t = reports old new piece rest e n k.0 k.1 t
-steps_now old new piece rest step.NeedMore n k t = uses_up old new piece rest n k t
-steps_now old new piece rest (step.Fault f) n k t = fault_now old new piece rest f n k t
+    → Steps old new piece rest s → StepsTo old new piece rest s
+steps_now old new piece rest (step.Event e) n k = reports old new piece rest e n k.counts.0 k.counts.1 k.yields
+steps_now old new piece rest step.NeedMore n k = uses_up old new piece rest n k.counts k.yields
+steps_now old new piece rest (step.Fault f) n k = fault_now old new piece rest f n k.counts k.yields
 
-steps_by : (old new : WalkerState) (piece rest : List ℕ) (s : Step) → CountsStep old new piece rest s
-    → YieldsStep old new piece rest s
+steps_by : (old new : WalkerState) (piece rest : List ℕ) (s : Step) → Steps old new piece rest s
     → ((f : Fault) → old.phase ≡ Refused f → (s ≡ step.Fault f) × RefusesAgain old new piece rest f)
     → ((f : Fault) × (old.phase ≡ Refused f)) ⊎ HasNotRefused old
     → StepsTo old new piece rest s
-steps_by old new piece rest s k t again (inl x) =
+steps_by old new piece rest s k again (inl x) =
     let a = again x.0 x.1 in subst (λ (r : Step). StepsTo old new piece rest r) (sym a.0) (inr a.1)
-steps_by old new piece rest s k t again (inr n) = steps_now old new piece rest s n k t
+steps_by old new piece rest s k again (inr n) = steps_now old new piece rest s n k
 
-pub steps_to : (old new : WalkerState) (piece rest : List ℕ) (s : Step) → CountsStep old new piece rest s
-    → YieldsStep old new piece rest s
+pub steps_to : (old new : WalkerState) (piece rest : List ℕ) (s : Step) → Steps old new piece rest s
     → ((f : Fault) → old.phase ≡ Refused f → (s ≡ step.Fault f) × RefusesAgain old new piece rest f)
     → StepsTo old new piece rest s
-steps_to old new piece rest s k t again = steps_by old new piece rest s k t again (refused_before old.phase)
+steps_to old new piece rest s k again = steps_by old new piece rest s k again (refused_before old.phase)
 
 -- ---- what is known of a step that yielded an event
 

@@ -8,6 +8,7 @@ use Rattle.tlv_walk.specs.declared.event.Step.TheVariants as step
 use Rattle.tlv_walk.specs.Ending.{IsEnding}
 use Rattle.tlv_walk.specs.Events.{EventValue, event_value_of}
 use Rattle.tlv_walk.specs.WalkerState.{WalkerState}
+use Rattle.tlv_walk.specs.Private.WalkerState.{CountsAtOnce, CountsStep}
 use Rattle.tlv_walk.specs.Private.WrapperCount.{wrapper_count_after}
 use Rattle.tlv_walk.specs.Private.Zipper.{HasZipper, Zipper}
 use Rattle.tlv_walk.specs.Wrappers.{entered_offsets}
@@ -63,8 +64,18 @@ abbrev pub YieldsAtOnce : WalkerState → WalkerState → List ℕ → List ℕ 
 YieldsAtOnce old new piece rest (Some e) = YieldsEvent old new piece rest (event_value_of e)
 YieldsAtOnce old new piece rest None = Unit {0}
 
+-- what a call that may yield an event at once makes of the walker, and what it yields
+pub record StepsAtOnce (old new : WalkerState) (piece rest : List ℕ) (result : Option Event) : Type 0 where
+  pub counts : CountsAtOnce old new piece rest result
+  pub yields : YieldsAtOnce old new piece rest result
+
 -- what a step yields
 abbrev pub YieldsStep : WalkerState → WalkerState → List ℕ → List ℕ → Step → Type 0
 YieldsStep old new piece rest (step.Event e) = YieldsEvent old new piece rest (event_value_of e)
 YieldsStep old new piece rest step.NeedMore = Continues old new piece []
 YieldsStep old new piece rest (step.Fault f) = YieldsFault old new piece rest f
+
+-- what a step makes of the walker, and what it yields
+pub record Steps (old new : WalkerState) (piece rest : List ℕ) (result : Step) : Type 0 where
+  pub counts : CountsStep old new piece rest result
+  pub yields : YieldsStep old new piece rest result

@@ -3,8 +3,8 @@ ghost use Rattle.std.specs.Prelude.{◌≡◌, ◌≢◌, ◌<◌, ◌≤◌, �
 ghost use Rattle.tlv_walk.specs.Phase as phases;
 ghost use Rattle.tlv_walk.specs.Events.{IsNoEmptyPart, event_value_of};
 ghost use Rattle.tlv_walk.specs.WalkerState.{IsWithinInputLimit};
-ghost use Rattle.tlv_walk.specs.Private.WalkerState.{CountsStep, YieldsAt, YieldsOne};
-ghost use Rattle.tlv_walk.specs.Private.Yields.{Continues, YieldsEvent, YieldsStep};
+ghost use Rattle.tlv_walk.specs.Private.WalkerState.{YieldsAt, YieldsOne};
+ghost use Rattle.tlv_walk.specs.Private.Yields.{Continues, Steps, YieldsEvent};
 
 use super::{Phase, Walker};
 use crate::{Event, Step};
@@ -70,8 +70,7 @@ impl Walker {
     pub(super) fn unused_octet<'a>(&mut self, piece: &mut &'a [u8]) -> Step<'a>
         requires phase { self.old.phase ≡ phases.InBitString }
         requires limit { IsWithinInputLimit self.old piece.old.now }
-        ensures steps { CountsStep self.old self.new piece.old.now piece.new.now result }
-        ensures yields { YieldsStep self.old self.new piece.old.now piece.new.now result }
+        ensures { Steps self.old self.new piece.old.now piece.new.now result }
     {
         let octets: &'a [u8] = *piece;
         let [octet, rest @ ..] = octets else {

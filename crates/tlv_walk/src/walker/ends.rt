@@ -4,8 +4,8 @@ ghost use Rattle.tlv_walk.specs.Phase as phases;
 ghost use Rattle.tlv_walk.specs.Events.{IsNoEmptyPart, event_value_of};
 ghost use Rattle.tlv_walk.specs.Private.Stack.{IsFilled};
 ghost use Rattle.tlv_walk.specs.WalkerState.{IsWithinInputLimit};
-ghost use Rattle.tlv_walk.specs.Private.WalkerState.{CountsAtOnce, CountsStep, YieldsAt, close_event_if_taken};
-ghost use Rattle.tlv_walk.specs.Private.Yields.{Continues, YieldsAtOnce, YieldsStep};
+ghost use Rattle.tlv_walk.specs.Private.WalkerState.{YieldsAt, close_event_if_taken};
+ghost use Rattle.tlv_walk.specs.Private.Yields.{Continues, Steps, StepsAtOnce};
 
 use super::{Phase, Walker};
 use crate::{Event, Step};
@@ -17,8 +17,7 @@ impl Walker {
         requires phase { self.old.phase ≡ phases.Between }
         requires room { IsFilled self.old.stack self.old.offset → ⊥ }
         requires limit { IsWithinInputLimit self.old piece.old.now }
-        ensures steps { CountsStep self.old self.new piece.old.now piece.new.now result }
-        ensures yields { YieldsStep self.old self.new piece.old.now piece.new.now result }
+        ensures { Steps self.old self.new piece.old.now piece.new.now result }
     {
         let octets: &'a [u8] = *piece;
         let [octet, rest @ ..] = octets else {
@@ -67,9 +66,7 @@ impl Walker {
     pub(super) fn take_end_octets<'a>(&mut self, piece: &mut &'a [u8]) -> Option<Option<u64>>
         requires phase { self.old.phase ≡ phases.Between }
         requires limit { IsWithinInputLimit self.old piece.old.now }
-        ensures steps { CountsAtOnce self.old self.new piece.old.now piece.new.now
-            (close_event_if_taken result) }
-        ensures yields { YieldsAtOnce self.old self.new piece.old.now piece.new.now
+        ensures { StepsAtOnce self.old self.new piece.old.now piece.new.now
             (close_event_if_taken result) }
     {
         let octets: &'a [u8] = *piece;
@@ -94,8 +91,7 @@ impl Walker {
     pub(super) fn second_zero<'a>(&mut self, piece: &mut &'a [u8]) -> Step<'a>
         requires phase { self.old.phase ≡ phases.InEndOctets }
         requires limit { IsWithinInputLimit self.old piece.old.now }
-        ensures steps { CountsStep self.old self.new piece.old.now piece.new.now result }
-        ensures yields { YieldsStep self.old self.new piece.old.now piece.new.now result }
+        ensures { Steps self.old self.new piece.old.now piece.new.now result }
     {
         let octets: &'a [u8] = *piece;
         let [octet, rest @ ..] = octets else {

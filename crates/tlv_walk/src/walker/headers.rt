@@ -7,13 +7,13 @@ ghost use Rattle.tlv_walk.specs.Phase as phases;
 ghost use Rattle.tlv_walk.specs.Inside.{is_among};
 ghost use Rattle.tlv_walk.specs.Events.{IsNoEmptyPart, event_value_of};
 ghost use Rattle.tlv_walk.specs.WalkerState.{IsWithinInputLimit};
-ghost use Rattle.tlv_walk.specs.Private.WalkerState.{CanBegin, CanTakeHeader, CanRead, CanReadOn, CountsAtOnce};
-ghost use Rattle.tlv_walk.specs.Private.WalkerState.{CountsStep, TakesHeader, YieldsAt};
+ghost use Rattle.tlv_walk.specs.Private.WalkerState.{CanBegin, CanTakeHeader, CanRead, CanReadOn, CountsStep};
+ghost use Rattle.tlv_walk.specs.Private.WalkerState.{TakesHeader, YieldsAt};
 ghost use Rattle.tlv_walk.specs.Private.WrapperCount.{next_wrapper_count};
 ghost use Rattle.tlv_walk.specs.Private.ReadsOn.{YieldsFrom, YieldsHeader};
 ghost use Rattle.tlv_walk.specs.Stack.{bound_of};
 ghost use Rattle.tlv_walk.specs.Place.{IsWithin};
-ghost use Rattle.tlv_walk.specs.Private.Yields.{YieldsAtOnce, YieldsStep};
+ghost use Rattle.tlv_walk.specs.Private.Yields.{Steps, StepsAtOnce};
 ghost use Rattle.tlv_head.specs.InputLimit.{input_limit};
 
 use super::{Phase, Walker};
@@ -39,8 +39,7 @@ impl Walker {
     pub(super) fn header<'a>(&mut self, piece: &mut &'a [u8]) -> Step<'a>
         requires begins { CanBegin self.old piece.old.now }
         requires limit { IsWithinInputLimit self.old piece.old.now }
-        ensures steps { CountsStep self.old self.new piece.old.now piece.new.now result }
-        ensures yields { YieldsStep self.old self.new piece.old.now piece.new.now result }
+        ensures { Steps self.old self.new piece.old.now piece.new.now result }
     {
         let named = is_among(self.offset, &self.framing.inside);
         if let Some((fields, count)) = read_header(self.offset, named, *piece)
@@ -64,8 +63,7 @@ impl Walker {
         requires begins { BeginsWithFields piece.old.now self.old.offset
             (is_among self.old.offset self.old.framing.inside) fields.now count }
         requires limit { IsWithinInputLimit self.old piece.old.now }
-        ensures steps { CountsAtOnce self.old self.new piece.old.now piece.new.now result }
-        ensures yields { YieldsAtOnce self.old self.new piece.old.now piece.new.now result }
+        ensures { StepsAtOnce self.old self.new piece.old.now piece.new.now result }
     {
         let octets: &'a [u8] = *piece;
         let (front, rest) = octets.split_at(count);
@@ -84,8 +82,7 @@ impl Walker {
     pub(super) fn slow_header<'a>(&mut self, piece: &mut &'a [u8]) -> Step<'a>
         requires begins { CanRead self.old piece.old.now }
         requires limit { IsWithinInputLimit self.old piece.old.now }
-        ensures steps { CountsStep self.old self.new piece.old.now piece.new.now result }
-        ensures yields { YieldsStep self.old self.new piece.old.now piece.new.now result }
+        ensures { Steps self.old self.new piece.old.now piece.new.now result }
     {
         if matches!(self.phase, Phase::InHeader) {
             let reader = replace(&mut self.reader, HeadReader::new(0, false));

@@ -3,9 +3,9 @@ ghost use Rattle.std.specs.Prelude.{◌≡◌, IfSome, take, true};
 ghost use Rattle.tlv_head.specs.HeaderFields.{IsHeaderSized};
 ghost use Rattle.tlv_walk.specs.Follow.{whole_events};
 ghost use Rattle.tlv_walk.specs.WalkerState.{IsWithinInputLimit};
-ghost use Rattle.tlv_walk.specs.Private.WalkerState.{CanPass, CountsAtOnce, Passes, close_event_if_taken, header_at};
+ghost use Rattle.tlv_walk.specs.Private.WalkerState.{CanPass, Passes, close_event_if_taken, header_at};
 ghost use Rattle.tlv_walk.specs.Private.WalkerState.{open_event_if_taken};
-ghost use Rattle.tlv_walk.specs.Private.Yields.{YieldsAtOnce, YieldsEvents};
+ghost use Rattle.tlv_walk.specs.Private.Yields.{StepsAtOnce, YieldsEvents};
 
 use super::{Phase, Walker};
 use crate::Event;
@@ -94,9 +94,7 @@ impl Walker {
         piece: &mut &'a [u8],
     ) -> Option<(HeaderFields, &'a [u8])>
         requires { IsWithinInputLimit self.old piece.old.now }
-        ensures steps { CountsAtOnce self.old self.new piece.old.now piece.new.now
-            (open_event_if_taken result) }
-        ensures yields { YieldsAtOnce self.old self.new piece.old.now piece.new.now
+        ensures steps { StepsAtOnce self.old self.new piece.old.now piece.new.now
             (open_event_if_taken result) }
         ensures sized { IfSome result (λ found. IsHeaderSized found.0 found.1.now) }
         ensures constructed { IfSome result (λ found. found.0.constructed ≡ true) }
@@ -131,9 +129,7 @@ impl Walker {
     #[inline(always)]
     pub(crate) fn close<'a>(&mut self, piece: &mut &'a [u8]) -> Option<Option<u64>>
         requires { IsWithinInputLimit self.old piece.old.now }
-        ensures steps { CountsAtOnce self.old self.new piece.old.now piece.new.now
-            (close_event_if_taken result) }
-        ensures yields { YieldsAtOnce self.old self.new piece.old.now piece.new.now
+        ensures { StepsAtOnce self.old self.new piece.old.now piece.new.now
             (close_event_if_taken result) }
     {
         if !matches!(self.phase, Phase::Between) {
@@ -155,8 +151,7 @@ impl Walker {
     #[inline(always)]
     pub(crate) fn contents_event<'a>(&mut self, piece: &mut &'a [u8]) -> Option<Event<'a>>
         requires { IsWithinInputLimit self.old piece.old.now }
-        ensures steps { CountsAtOnce self.old self.new piece.old.now piece.new.now result }
-        ensures yields { YieldsAtOnce self.old self.new piece.old.now piece.new.now result }
+        ensures { StepsAtOnce self.old self.new piece.old.now piece.new.now result }
     {
         let Phase::InPrimitive(left) = self.phase else {
             return None;

@@ -69,7 +69,7 @@ events-preserved g c =
             (stands_all _ _ _ _ _ w.in-Some.ensures.yields) w.in_ok-go-in-Some.ensures);
         walked =
             rw (w.walker-is, w.rest-is)
-            (w.in-Some.ensures.steps.0.counts
+            (w.in-Some.ensures.counts.0.counts
             ∙ left_walked g.F.Follow.next g.D.Drain.state _ _ _ _ _ c.if-branch.false
             c.in_ok-follow_primitive.ensures
             ∙ c.events.invariant.walked);
@@ -78,13 +78,13 @@ events-preserved g c =
         follows =
             rw (w.out-is, w.follower-is, w.walker-is, w.rest-is, ← on, w.go-is)
             (follows_event g.F.Follow.next g.D.Drain.state _ _ _ _ _ _ _ _ left
-            (unmoved_event _ _ _ _ _ _ _ (w.in-None.ensures.steps.0) (w.in-None.ensures.steps.1)
-            (stands_all _ _ _ _ _ w.in-Some-constructed.ensures.yields))
+            (unmoved_event _ _ _ _ _ _ _ (w.in-None.ensures.counts.0) (w.in-None.ensures.counts.1)
+            (stands_all _ _ _ _ _ w.in-Some-constructed.ensures.steps.yields))
             w.in_ok-go-in-Some-constructed.ensures);
         walked =
             rw (w.walker-is, w.rest-is)
-            (w.in-Some-constructed.ensures.steps.0.counts
-            ∙ unmoved _ _ _ _ (w.in-None.ensures.steps.0) (w.in-None.ensures.steps.1)
+            (w.in-Some-constructed.ensures.steps.counts.0.counts
+            ∙ unmoved _ _ _ _ (w.in-None.ensures.counts.0) (w.in-None.ensures.counts.1)
             ∙ left_walked g.F.Follow.next g.D.Drain.state _ _ _ _ _ c.if-branch.false
             c.in_ok-follow_primitive.ensures
             ∙ c.events.invariant.walked);
@@ -93,15 +93,15 @@ events-preserved g c =
         follows =
             rw (w.out-is, w.follower-is, w.walker-is, w.rest-is, ← on, w.go-is)
             (follows_event g.F.Follow.next g.D.Drain.state _ _ _ _ _ _ _ _ left
-            (unmoved_event _ _ _ _ _ _ _ (w.in-None-constructed.ensures.steps.0 ∙ w.in-None.ensures.steps.0)
-            (w.in-None-constructed.ensures.steps.1 ∙ w.in-None.ensures.steps.1)
+            (unmoved_event _ _ _ _ _ _ _ (w.in-None-constructed.ensures.steps.counts.0 ∙ w.in-None.ensures.counts.0)
+            (w.in-None-constructed.ensures.steps.counts.1 ∙ w.in-None.ensures.counts.1)
             (stands_all _ _ _ _ _ w.in-Some-contents_event.ensures.yields))
             w.in_ok-go-in-Some-contents_event.ensures);
         walked =
             rw (w.walker-is, w.rest-is)
-            (w.in-Some-contents_event.ensures.steps.0.counts
-            ∙ unmoved _ _ _ _ (w.in-None-constructed.ensures.steps.0 ∙ w.in-None.ensures.steps.0)
-            (w.in-None-constructed.ensures.steps.1 ∙ w.in-None.ensures.steps.1)
+            (w.in-Some-contents_event.ensures.counts.0.counts
+            ∙ unmoved _ _ _ _ (w.in-None-constructed.ensures.steps.counts.0 ∙ w.in-None.ensures.counts.0)
+            (w.in-None-constructed.ensures.steps.counts.1 ∙ w.in-None.ensures.counts.1)
             ∙ left_walked g.F.Follow.next g.D.Drain.state _ _ _ _ _ c.if-branch.false
             c.in_ok-follow_primitive.ensures
             ∙ c.events.invariant.walked);
@@ -111,20 +111,20 @@ events-preserved g c =
             rw (w.out-is, w.follower-is, w.walker-is, w.rest-is, ← on, w.go-is)
             (follows_event g.F.Follow.next g.D.Drain.state _ _ _ _ _ _ _ _ left
             (unmoved_event
-            _ _ _ _ _ _ _ (w.in-None-contents_event.ensures.steps.0
-            ∙ w.in-None-constructed.ensures.steps.0 ∙ w.in-None.ensures.steps.0)
-            (w.in-None-contents_event.ensures.steps.1 ∙ w.in-None-constructed.ensures.steps.1
-            ∙ w.in-None.ensures.steps.1)
+            _ _ _ _ _ _ _ (w.in-None-contents_event.ensures.counts.0
+            ∙ w.in-None-constructed.ensures.steps.counts.0 ∙ w.in-None.ensures.counts.0)
+            (w.in-None-contents_event.ensures.counts.1 ∙ w.in-None-constructed.ensures.steps.counts.1
+            ∙ w.in-None.ensures.counts.1)
             (walked_event _ _ _ _ _ w.in-Event.ensures))
             w.in_ok-go-in-Event.ensures);
         walked =
             rw (w.walker-is, w.rest-is)
             (event_offset _ _ _ _ _ w.in-Event.ensures
             ∙ unmoved
-            _ _ _ _ (w.in-None-contents_event.ensures.steps.0 ∙ w.in-None-constructed.ensures.steps.0
-            ∙ w.in-None.ensures.steps.0)
-            (w.in-None-contents_event.ensures.steps.1 ∙ w.in-None-constructed.ensures.steps.1
-            ∙ w.in-None.ensures.steps.1)
+            _ _ _ _ (w.in-None-contents_event.ensures.counts.0 ∙ w.in-None-constructed.ensures.steps.counts.0
+            ∙ w.in-None.ensures.counts.0)
+            (w.in-None-contents_event.ensures.counts.1 ∙ w.in-None-constructed.ensures.steps.counts.1
+            ∙ w.in-None.ensures.counts.1)
             ∙ left_walked g.F.Follow.next g.D.Drain.state _ _ _ _ _ c.if-branch.false
             c.in_ok-follow_primitive.ensures
             ∙ c.events.invariant.walked);
@@ -157,8 +157,8 @@ returns-in_err-go-in-Some-constructed g c =
     c.in_ok-follow_primitive.ensures in
     rw p.1
     (fails_event g.F.Follow.next g.D.Drain.state _ _ _ _ _ _ _ _ left
-    (unmoved_event _ _ _ _ _ _ _ (c.in-None.ensures.steps.0) (c.in-None.ensures.steps.1)
-    (stands_all _ _ _ _ _ c.in-Some-constructed.ensures.yields))
+    (unmoved_event _ _ _ _ _ _ _ (c.in-None.ensures.counts.0) (c.in-None.ensures.counts.1)
+    (stands_all _ _ _ _ _ c.in-Some-constructed.ensures.steps.yields))
     _ _ c.in_err-go-in-Some-constructed.ensures)
 
 pub returns-in_err-go-in-Some-contents_event : goal.returns-in_err-go-in-Some-contents_event
@@ -171,8 +171,8 @@ returns-in_err-go-in-Some-contents_event g c =
     c.in_ok-follow_primitive.ensures in
     rw p.1
     (fails_event g.F.Follow.next g.D.Drain.state _ _ _ _ _ _ _ _ left
-    (unmoved_event _ _ _ _ _ _ _ (c.in-None-constructed.ensures.steps.0 ∙ c.in-None.ensures.steps.0)
-    (c.in-None-constructed.ensures.steps.1 ∙ c.in-None.ensures.steps.1)
+    (unmoved_event _ _ _ _ _ _ _ (c.in-None-constructed.ensures.steps.counts.0 ∙ c.in-None.ensures.counts.0)
+    (c.in-None-constructed.ensures.steps.counts.1 ∙ c.in-None.ensures.counts.1)
     (stands_all _ _ _ _ _ c.in-Some-contents_event.ensures.yields))
     _ _ c.in_err-go-in-Some-contents_event.ensures)
 
@@ -186,10 +186,10 @@ returns-in_err-go-in-Event g c =
     rw p.1
     (fails_event g.F.Follow.next g.D.Drain.state _ _ _ _ _ _ _ _ left
     (unmoved_event
-    _ _ _ _ _ _ _ (c.in-None-contents_event.ensures.steps.0 ∙ c.in-None-constructed.ensures.steps.0
-    ∙ c.in-None.ensures.steps.0)
-    (c.in-None-contents_event.ensures.steps.1 ∙ c.in-None-constructed.ensures.steps.1
-    ∙ c.in-None.ensures.steps.1)
+    _ _ _ _ _ _ _ (c.in-None-contents_event.ensures.counts.0 ∙ c.in-None-constructed.ensures.steps.counts.0
+    ∙ c.in-None.ensures.counts.0)
+    (c.in-None-contents_event.ensures.counts.1 ∙ c.in-None-constructed.ensures.steps.counts.1
+    ∙ c.in-None.ensures.counts.1)
     (walked_event _ _ _ _ _ c.in-Event.ensures))
     _ _ c.in_err-go-in-Event.ensures)
 
@@ -200,8 +200,10 @@ returns-in-NeedMore g c =
     c.if-branch.false c.in_ok-follow_primitive.ensures)
     (unmoved_step c.contents_event.new.self _ c.step-next.new.self c.contents_event.new.piece.now
     _ c.step-next.new.piece.now step.NeedMore
-    (c.in-None-contents_event.ensures.steps.0 ∙ c.in-None-constructed.ensures.steps.0 ∙ c.in-None.ensures.steps.0)
-    (c.in-None-contents_event.ensures.steps.1 ∙ c.in-None-constructed.ensures.steps.1 ∙ c.in-None.ensures.steps.1)
+    (c.in-None-contents_event.ensures.counts.0 ∙ c.in-None-constructed.ensures.steps.counts.0
+    ∙ c.in-None.ensures.counts.0)
+    (c.in-None-contents_event.ensures.counts.1 ∙ c.in-None-constructed.ensures.steps.counts.1
+    ∙ c.in-None.ensures.counts.1)
     c.in-NeedMore.ensures)
     (left_walked g.F.Follow.next g.D.Drain.state _ _ _ _ _ c.if-branch.false c.in_ok-follow_primitive.ensures
     ∙ c.events.invariant.walked)
@@ -213,8 +215,10 @@ returns-in-Fault g c =
     c.if-branch.false c.in_ok-follow_primitive.ensures)
     (unmoved_step c.contents_event.new.self _ c.step-next.new.self c.contents_event.new.piece.now
     _ c.step-next.new.piece.now (step.Fault c.in-Fault.fault)
-    (c.in-None-contents_event.ensures.steps.0 ∙ c.in-None-constructed.ensures.steps.0 ∙ c.in-None.ensures.steps.0)
-    (c.in-None-contents_event.ensures.steps.1 ∙ c.in-None-constructed.ensures.steps.1 ∙ c.in-None.ensures.steps.1)
+    (c.in-None-contents_event.ensures.counts.0 ∙ c.in-None-constructed.ensures.steps.counts.0
+    ∙ c.in-None.ensures.counts.0)
+    (c.in-None-contents_event.ensures.counts.1 ∙ c.in-None-constructed.ensures.steps.counts.1
+    ∙ c.in-None.ensures.counts.1)
     c.in-Fault.ensures)
 
 pub returns-then-eq : goal.returns-then-eq
@@ -228,32 +232,32 @@ returns-then-eq g c =
           (pauses_enough g.F.Follow.next g.D.Drain.state
           _ _ _ _ _ (follows_event g.F.Follow.next g.D.Drain.state _ _ _ _ _ _ _ _ left
           (stands_all _ _ _ _ _ w.in-Some.ensures.yields) w.in_ok-go-in-Some.ensures)
-          (sym w.go-is ∙ enough) w.in-Some.ensures.steps.0.has_yielded.after_event)
+          (sym w.go-is ∙ enough) w.in-Some.ensures.counts.0.has_yielded.after_event)
       | in-None+in-Some-constructed+in_ok-go-in-Some-constructed w ↦ rw (w.out-is, w.follower-is, w.walker-is)
           (pauses_enough g.F.Follow.next g.D.Drain.state
           _ _ _ _ _ (follows_event g.F.Follow.next g.D.Drain.state _ _ _ _ _ _ _ _ left
-          (unmoved_event _ _ _ _ _ _ _ (w.in-None.ensures.steps.0) (w.in-None.ensures.steps.1)
-          (stands_all _ _ _ _ _ w.in-Some-constructed.ensures.yields))
+          (unmoved_event _ _ _ _ _ _ _ (w.in-None.ensures.counts.0) (w.in-None.ensures.counts.1)
+          (stands_all _ _ _ _ _ w.in-Some-constructed.ensures.steps.yields))
           w.in_ok-go-in-Some-constructed.ensures)
-          (sym w.go-is ∙ enough) w.in-Some-constructed.ensures.steps.0.has_yielded.after_event)
+          (sym w.go-is ∙ enough) w.in-Some-constructed.ensures.steps.counts.0.has_yielded.after_event)
       | in-None+in-None-constructed+in-Some-contents_event+in_ok-go-in-Some-contents_event w ↦
           rw (w.out-is, w.follower-is, w.walker-is)
           (pauses_enough g.F.Follow.next g.D.Drain.state
           _ _ _ _ _ (follows_event g.F.Follow.next g.D.Drain.state _ _ _ _ _ _ _ _ left
-          (unmoved_event _ _ _ _ _ _ _ (w.in-None-constructed.ensures.steps.0 ∙ w.in-None.ensures.steps.0)
-          (w.in-None-constructed.ensures.steps.1 ∙ w.in-None.ensures.steps.1)
+          (unmoved_event _ _ _ _ _ _ _ (w.in-None-constructed.ensures.steps.counts.0 ∙ w.in-None.ensures.counts.0)
+          (w.in-None-constructed.ensures.steps.counts.1 ∙ w.in-None.ensures.counts.1)
           (stands_all _ _ _ _ _ w.in-Some-contents_event.ensures.yields))
           w.in_ok-go-in-Some-contents_event.ensures)
-          (sym w.go-is ∙ enough) w.in-Some-contents_event.ensures.steps.0.has_yielded.after_event)
+          (sym w.go-is ∙ enough) w.in-Some-contents_event.ensures.counts.0.has_yielded.after_event)
       | in-None+in-None-constructed+in-None-contents_event+in-Event+in_ok-go-in-Event w ↦
           rw (w.out-is, w.follower-is, w.walker-is)
           (pauses_enough g.F.Follow.next g.D.Drain.state
           _ _ _ _ _ (follows_event g.F.Follow.next g.D.Drain.state _ _ _ _ _ _ _ _ left
           (unmoved_event
-          _ _ _ _ _ _ _ (w.in-None-contents_event.ensures.steps.0 ∙ w.in-None-constructed.ensures.steps.0
-          ∙ w.in-None.ensures.steps.0)
-          (w.in-None-contents_event.ensures.steps.1 ∙ w.in-None-constructed.ensures.steps.1
-          ∙ w.in-None.ensures.steps.1)
+          _ _ _ _ _ _ _ (w.in-None-contents_event.ensures.counts.0 ∙ w.in-None-constructed.ensures.steps.counts.0
+          ∙ w.in-None.ensures.counts.0)
+          (w.in-None-contents_event.ensures.counts.1 ∙ w.in-None-constructed.ensures.steps.counts.1
+          ∙ w.in-None.ensures.counts.1)
           (walked_event _ _ _ _ _ w.in-Event.ensures))
           w.in_ok-go-in-Event.ensures)
           (sym w.go-is ∙ enough) w.in-Event.ensures.has_yielded.after_event)

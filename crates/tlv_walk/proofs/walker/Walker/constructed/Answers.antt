@@ -6,23 +6,26 @@ use Rattle.tlv_walk.specs.Private.Yields.{Continues}
 use Rattle.tlv_walk.proofs.WalkerLemmas.HeaderKinds.{constructed_kind, event_of, takes_quick_header}
 use Rattle.tlv_walk.proofs.walker.Walker.constructed.Goals as goal
 
-pub returns-clause-yields : goal.returns-clause-yields
-returns-clause-yields c =
+pub returns-clause-steps : goal.returns-clause-steps
+returns-clause-steps c =
     let named = c.is_among-named.result in
     let begins : BeginsWithFields c.args.piece.now.now c.args.self.now.offset named c.in_ok-fields.fields
     c.in_ok-fields.count =
     rw (← c.self.view_is) c.in_ok-fields.ensures.begins in record {
-      taken = c.split_at.result.0.now;
-      piece_is = search rules;
-      continues =
-          (subst
-          (λ (k : HeaderKind). Continues c.args.self.now c.take_header.new.self c.split_at.result.0.now
-          (event_of k (new_header c.in_ok-fields.fields c.split_at.result.0.now) ∷ []))
-          (constructed_kind c.args.self.now c.take_header.new.self c.in_ok-fields.fields _ c.take_header.result
-          (search rules)
-          c.take_header.ensures.takes)
-          (takes_quick_header c.args.self.now c.take_header.new.self c.args.piece.now.now named c.in_ok-fields.fields
-          c.in_ok-fields.count c.split_at.result.0.now c.take_header.result
-          (search rules) begins c.split_at.ensures.front (search rules) (search rules) (search rules)
-          c.take_header.ensures.takes));
+      counts = search rules;
+      yields = record {
+        taken = c.split_at.result.0.now;
+        piece_is = search rules;
+        continues =
+            (subst
+            (λ (k : HeaderKind). Continues c.args.self.now c.take_header.new.self c.split_at.result.0.now
+            (event_of k (new_header c.in_ok-fields.fields c.split_at.result.0.now) ∷ []))
+            (constructed_kind c.args.self.now c.take_header.new.self c.in_ok-fields.fields _ c.take_header.result
+            (search rules)
+            c.take_header.ensures.takes)
+            (takes_quick_header c.args.self.now c.take_header.new.self c.args.piece.now.now named c.in_ok-fields.fields
+            c.in_ok-fields.count c.split_at.result.0.now c.take_header.result
+            (search rules) begins c.split_at.ensures.front (search rules) (search rules) (search rules)
+            c.take_header.ensures.takes));
+      };
     }

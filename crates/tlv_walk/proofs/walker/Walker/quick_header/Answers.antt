@@ -11,50 +11,59 @@ take_header-requires-clause-can c =
     c.requires.begins c.split_at.ensures.front
     c.requires.fewer c.requires.limit (search rules) (search rules)
 
-pub returns-in-Constructed-clause-yields : goal.returns-in-Constructed-clause-yields
-returns-in-Constructed-clause-yields c = record {
-  taken = c.split_at.result.0.now;
-  piece_is = search rules;
-  continues =
-      rw c.new.ensures
-      (subst
-      (λ (k : HeaderKind). Continues c.args.self.now c.take_header.new.self c.split_at.result.0.now
-      (event_of k (new_header c.args.fields.now c.split_at.result.0.now) ∷ []))
-      c.in-Constructed.is
-      (takes_quick_header c.args.self.now c.take_header.new.self c.args.piece.now.now _ c.args.fields.now c.args.count
-      c.split_at.result.0.now c.take_header.result
-      c.requires.phase c.requires.begins c.split_at.ensures.front refl (search rules) (search rules)
-      c.take_header.ensures.takes));
+pub returns-in-Constructed : goal.returns-in-Constructed
+returns-in-Constructed c = record {
+  counts = search rules;
+  yields = record {
+    taken = c.split_at.result.0.now;
+    piece_is = search rules;
+    continues =
+        rw c.new.ensures
+        (subst
+        (λ (k : HeaderKind). Continues c.args.self.now c.take_header.new.self c.split_at.result.0.now
+        (event_of k (new_header c.args.fields.now c.split_at.result.0.now) ∷ []))
+        c.in-Constructed.is
+        (takes_quick_header c.args.self.now c.take_header.new.self c.args.piece.now.now _ c.args.fields.now c.args.count
+        c.split_at.result.0.now c.take_header.result
+        c.requires.phase c.requires.begins c.split_at.ensures.front refl (search rules) (search rules)
+        c.take_header.ensures.takes));
+  };
 }
 
-pub returns-in-Wrapper-clause-yields : goal.returns-in-Wrapper-clause-yields
-returns-in-Wrapper-clause-yields c = record {
-  taken = c.split_at.result.0.now;
-  piece_is = search rules;
-  continues =
-      rw c.new-in-Wrapper.ensures
-      (subst
-      (λ (k : HeaderKind). Continues c.args.self.now c.take_header.new.self c.split_at.result.0.now
-      (event_of k (new_header c.args.fields.now c.split_at.result.0.now) ∷ []))
-      c.in-Wrapper.is
-      (takes_quick_header c.args.self.now c.take_header.new.self c.args.piece.now.now _ c.args.fields.now c.args.count
-      c.split_at.result.0.now c.take_header.result
-      c.requires.phase c.requires.begins c.split_at.ensures.front refl (search rules) (search rules)
-      c.take_header.ensures.takes));
+pub returns-in-Wrapper : goal.returns-in-Wrapper
+returns-in-Wrapper c = record {
+  counts = search rules;
+  yields = record {
+    taken = c.split_at.result.0.now;
+    piece_is = search rules;
+    continues =
+        rw c.new-in-Wrapper.ensures
+        (subst
+        (λ (k : HeaderKind). Continues c.args.self.now c.take_header.new.self c.split_at.result.0.now
+        (event_of k (new_header c.args.fields.now c.split_at.result.0.now) ∷ []))
+        c.in-Wrapper.is
+        (takes_quick_header c.args.self.now c.take_header.new.self c.args.piece.now.now _ c.args.fields.now c.args.count
+        c.split_at.result.0.now c.take_header.result
+        c.requires.phase c.requires.begins c.split_at.ensures.front refl (search rules) (search rules)
+        c.take_header.ensures.takes));
+  };
 }
 
-pub returns-in-Primitive-clause-yields : goal.returns-in-Primitive-clause-yields
-returns-in-Primitive-clause-yields c = record {
-  taken = c.split_at.result.0.now;
-  piece_is = search rules;
-  continues =
-      rw c.new-in-Primitive.ensures
-      (subst
-      (λ (k : HeaderKind). Continues c.args.self.now c.take_header.new.self c.split_at.result.0.now
-      (event_of k (new_header c.args.fields.now c.split_at.result.0.now) ∷ []))
-      c.in-Primitive.is
-      (takes_quick_header c.args.self.now c.take_header.new.self c.args.piece.now.now _ c.args.fields.now c.args.count
-      c.split_at.result.0.now c.take_header.result
-      c.requires.phase c.requires.begins c.split_at.ensures.front refl (search rules) (search rules)
-      c.take_header.ensures.takes));
+pub returns-in-Primitive : goal.returns-in-Primitive
+returns-in-Primitive c = record {
+  counts = search rules;
+  yields = record {
+    taken = c.split_at.result.0.now;
+    piece_is = search rules;
+    continues =
+        rw c.new-in-Primitive.ensures
+        (subst
+        (λ (k : HeaderKind). Continues c.args.self.now c.take_header.new.self c.split_at.result.0.now
+        (event_of k (new_header c.args.fields.now c.split_at.result.0.now) ∷ []))
+        c.in-Primitive.is
+        (takes_quick_header c.args.self.now c.take_header.new.self c.args.piece.now.now _ c.args.fields.now c.args.count
+        c.split_at.result.0.now c.take_header.result
+        c.requires.phase c.requires.begins c.split_at.ensures.front refl (search rules) (search rules)
+        c.take_header.ensures.takes));
+  };
 }

@@ -3,11 +3,14 @@ use Rattle.std.proofs.lemmas.Grind.{common_steps}
 use Rattle.tlv_walk.proofs.WalkerLemmas.Closing.{yields_both}
 use Rattle.tlv_walk.proofs.walker.Walker.take_end_octets.Goals as goal
 
-pub returns-clause-yields : goal.returns-clause-yields
-returns-clause-yields c = record {
-  taken = 0 ∷ 0 ∷ [];
-  piece_is = grind (arith, common_steps);
-  continues = rw (← c.self.view_is, c.pop.ensures.rest) (yields_both _ (search rules) (search rules) (search rules));
+pub returns : goal.returns
+returns c = record {
+  counts = search rules;
+  yields = record {
+    taken = 0 ∷ 0 ∷ [];
+    piece_is = grind (arith, common_steps);
+    continues = rw (← c.self.view_is, c.pop.ensures.rest) (yields_both _ (search rules) (search rules) (search rules));
+  };
 }
 
 pub invariant_of-self : goal.invariant_of-self
