@@ -36,8 +36,7 @@ fields_in h = record {
 abbrev pub header_value_of : Inside → HeaderValue
 header_value_of h = new_header (fields_in h) h.raw.items
 
--- by their number the octets may be those of a header with these fields, and the two that are kept beside them are the
--- second ones of the identifier and of the length
+-- the octets have room, and the two that are kept beside them are the second ones of the identifier and of the length
 abbrev pub HeaderFieldsAgree : Inside → Type 0
 HeaderFieldsAgree h =
     IsHeaderSized (fields_in h) h.raw.items

@@ -1,8 +1,8 @@
 //! Laws of the definitions: each is the contract of a function that does nothing.
-ghost use Rattle.tlv_head.specs.Laws.{HeadersAreNoPrefixes, HeadersHaveOneReading, OctetsBeginOneHeader};
-ghost use Rattle.tlv_head.specs.Laws.{OctetsGoOnOrAreRefused, PushesReturnOneHead, RefusalsAreFinal};
-ghost use Rattle.tlv_head.specs.Laws.{RefusedInputsBeginWithNone};
-ghost use Rattle.tlv_head.specs.Shortest.{HeadersHaveAShortest, ShortestHeadersAreOne, NoHeaderIsShorter};
+ghost use Rattle.tlv_head.specs.Laws.{HeadersAreNoPrefixes, HeadersHaveAShortest, NoHeaderIsShorter};
+ghost use Rattle.tlv_head.specs.Laws.{OctetsBeginOneHeader, OctetsGoOnOrAreRefused, PushesReturnOneHead};
+ghost use Rattle.tlv_head.specs.Laws.{ReadHeaderReturnsOneHeader, RefusalsAreFinal, RefusedInputsBeginWithNone};
+ghost use Rattle.tlv_head.specs.Laws.{ShortestHeadersAreOne};
 
 /// Octets begin with one header at most: two headers that are at one offset and are both prefixes
 /// of one input are the same, and the same octets follow them.
@@ -37,8 +37,8 @@ pub fn pushes_return_one_head()
 {}
 
 /// What [`read_header`](crate::read_header) promises determines what it returns.
-pub fn headers_have_one_reading()
-    ensures { HeadersHaveOneReading }
+pub fn read_header_returns_one_header()
+    ensures { ReadHeaderReturnsOneHeader }
 {}
 
 /// Two headers of one class, form, number and size have the same octets if both are as short as X.690 8.1.2 and 10.1

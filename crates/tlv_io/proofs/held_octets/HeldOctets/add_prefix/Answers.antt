@@ -1,5 +1,5 @@
 use Rattle.std.proofs.Common.{◌∙◌, ◌++◌, List, ℕ, ap, arith, length, take}
-use Rattle.tlv_io.proofs.BufferTexts.{prefix_written, held_up_to}
+use Rattle.tlv_io.proofs.HeldTexts.{prefix_written, held_up_to}
 use Rattle.tlv_io.proofs.held_octets.HeldOctets.add_prefix.Goals as goal
 
 pub returns : goal.returns

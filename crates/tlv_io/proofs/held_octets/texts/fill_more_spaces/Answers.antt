@@ -1,5 +1,5 @@
 use Rattle.std.proofs.Common.{rules, arith}
-use Rattle.tlv_io.proofs.BufferTexts.{spaces_of_more, spaces_step}
+use Rattle.tlv_io.proofs.HeldTexts.{spaces_of_more, spaces_step}
 use Rattle.tlv_io.proofs.held_octets.texts.fill_more_spaces.Goals as goal
 
 pub loop-done-preserved : goal.loop-done-preserved

@@ -1,6 +1,6 @@
 use Rattle.std.proofs.Common.{arith}
 use Rattle.std.proofs.lemmas.List.{length-take-le}
-use Rattle.tlv_io.proofs.BufferTexts.{spaces_prefix}
+use Rattle.tlv_io.proofs.HeldTexts.{spaces_prefix}
 use Rattle.tlv_io.proofs.held_octets.texts.fill_spaces.Goals as goal
 
 pub slice_bounds-copy_from_slice-end-2 : goal.slice_bounds-copy_from_slice-end-2

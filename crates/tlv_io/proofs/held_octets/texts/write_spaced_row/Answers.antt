@@ -1,6 +1,6 @@
 use Rattle.std.proofs.Common.{rules, ◌≡◌, ℕ, ◌++◌, [], ◌∷◌, List, ap, drop, get_or, refl, arith}
 use Rattle.hex.specs.Hex.{encode_lower}
-use Rattle.tlv_io.proofs.BufferTexts.{row_step, row_whole}
+use Rattle.tlv_io.proofs.HeldTexts.{row_step, row_whole}
 use Rattle.tlv_io.proofs.held_octets.texts.write_spaced_row.Goals as goal
 
 pub loop-i-init : goal.loop-i-init

@@ -22,9 +22,9 @@ octets-count : (octets : List ℕ) (offset : ℕ) (named : Bool) (f : HeaderFiel
 octets-count octets offset named f n b =
     ap length (take-append-drop f.id_len (take n octets)) ∙ length-take-le n octets b.within
 
-pub one-reading : (octets : List ℕ) (offset : ℕ) (named : Bool) (f g : HeaderFields) (m n : ℕ)
+pub one_header_returned : (octets : List ℕ) (offset : ℕ) (named : Bool) (f g : HeaderFields) (m n : ℕ)
     → BeginsWithFields octets offset named f m → BeginsWithFields octets offset named g n → (f ≡ g) × (m ≡ n)
-one-reading octets offset named f g m n p q =
+one_header_returned octets offset named f g m n p q =
     let h : HeaderValue = new_header f (take m octets) in
     let k : HeaderValue = new_header g (take n octets) in
     let origin : origin_of h ≡ origin_of k =
