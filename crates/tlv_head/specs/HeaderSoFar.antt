@@ -27,9 +27,10 @@ pub record CarriesLength (id : IdentifierFields) (n left : ℕ) (octets : List �
   pub count : id.id_len ≡ length prefix.identifier
   pub few : length prefix.identifier ≤ 10
   pub value : n ≡ value_of 256 prefix.digits
-  -- so that zeros make a length below 2^40 of it
+  -- so that the length is below 2^40 if the octets left are 00
   pub small : n < 256 ^ (5 - left)
 
+-- the octets so far are this part of a header, of which the fields say what its octets say
 abbrev pub Carries : Part → List ℕ → Type 0
 Carries Start octets = octets ≡ []
 Carries (Number id) octets = CarriesNumber id octets

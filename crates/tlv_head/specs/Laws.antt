@@ -26,7 +26,7 @@ abbrev pub RefusalsAreFinal : Type 0
 RefusalsAreFinal = (code : FaultCode) (octets : List ℕ) (x : ℕ) → IsRefusedOctet octets x code
     → CannotBecomeHeader (octets ++ x ∷ [])
 
--- and no input that goes on after them begins with a header
+-- if an octet is refused with F06 to F09, no input that begins with the octets up to it begins with a header
 abbrev pub RefusedInputsBeginWithNone : Type 0
 RefusedInputsBeginWithNone =
     (code : FaultCode) (octets : List ℕ) (x : ℕ) (more : List ℕ) → IsRefusedOctet octets x code
@@ -67,16 +67,16 @@ ShortestHeadersAreOne =
     → HaveOneTagAndForm h g → h.size ≡ g.size → IsShortest h → IsShortest g
     → (h.identifier ≡ g.identifier) × (h.lengths ≡ g.lengths)
 
--- if a header is as short as these rules say, no other of its tag, form and size has fewer identifier octets or fewer
--- length octets
+-- if a header is as short as 8.1.2 and 10.1 say, no other of its tag, form and size has fewer identifier octets or
+-- fewer length octets
 abbrev pub NoHeaderIsShorter : Type 0
 NoHeaderIsShorter =
     (h g : HeaderValue) → IsHeader h → IsHeader g
     → HaveOneTagAndForm h g → h.size ≡ g.size → IsShortest h
     → (length h.identifier ≤ length g.identifier) × (length h.lengths ≤ length g.lengths)
 
--- each header but that of the universal primitive 0, whose low form would be 00, can be spelled as short as these
--- rules say
+-- each header but that of the universal primitive 0, whose low form would be 00, can be spelled as short as 8.1.2 and
+-- 10.1 say
 abbrev pub HeadersHaveAShortest : Type 0
 HeadersHaveAShortest =
     (h : HeaderValue) → IsHeader h → identifier_octet h.class h.constructed h.number ≢ 0

@@ -12,6 +12,7 @@ pub record IsShortestLength (n : ℕ) (octets : List ℕ) : Type 0 where
   pub single : n < 128 → length octets ≡ 1
   pub leading : 1 < length octets → slice_index octets 1 ≢ 0
 
+-- the identifier and the length are both as short as 8.1.2 and 10.1 say
 pub record IsShortest (h : HeaderValue) : Type 0 where
   pub identifier : IsShortestIdentifier h.number h.identifier
   pub lengths : IsShortestLength (announced_length h.size) h.lengths

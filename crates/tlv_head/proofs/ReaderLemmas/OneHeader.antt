@@ -1,4 +1,4 @@
--- The octets and their offset determine what `read_header` finds.
+-- The octets, their offset and whether it is named determine what `read_header` returns.
 use Rattle.std.proofs.Common.{◌≡◌, ℕ, ◌<◌, Bool, List, length, take, ap, sym, ◌∙◌, arith}
 use Rattle.std.proofs.lemmas.List.{length-take-le, take-append-drop}
 use Rattle.tlv_head.specs.declared.header.HeaderFields.{HeaderFields}
