@@ -45,4 +45,9 @@ is_whole_header _ = false
 
 -- what the fields of a reader say
 abbrev pub head_reader_state_of : Inside → HeadReaderState
-head_reader_state_of r = record { offset = r.offset; named = r.named; octets = r.raw.items; done = is_whole_header r.part }
+head_reader_state_of r = record {
+  offset = r.offset;
+  named = r.named;
+  octets = r.raw.items;
+  done = is_whole_header r.part;
+}
