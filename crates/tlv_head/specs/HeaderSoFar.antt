@@ -30,7 +30,7 @@ pub record CarriesLength (id : IdentifierFields) (n left : ℕ) (octets : List �
   -- so that the length is below 2^40 if the octets left are 00
   pub small : n < 256 ^ (5 - left)
 
--- the octets so far are this part of a header, of which the fields say what its octets say
+-- the octets so far are this part of a header, and its fields are what they say; of a whole header none are kept
 abbrev pub Carries : Part → List ℕ → Type 0
 Carries Start octets = octets ≡ []
 Carries (Number id) octets = CarriesNumber id octets
