@@ -1,5 +1,5 @@
--- How octets are cut into rows, as a condition on rows: by how many octets a full row has, and how many are to be kept
--- in one row, from an octet on.
+-- How octets are cut into rows, as a condition on rows: by how many octets a row has room for, and how many are to be
+-- kept in one row, from an octet on.
 use Rattle.std.specs.Prelude.{◌≡◌, ◌≢◌, ◌⊎◌, ℕ, ◌+◌, ◌<◌, ◌≤◌, Bool, nat_le, if◌then◌else◌, List, [], ◌∷◌, ◌++◌}
 use Rattle.std.specs.Prelude.{length, slice_index}
 use Rattle.std.specs.Int.{is_in_range}
@@ -32,7 +32,8 @@ module _ (size : ℕ) (wanted : ℕ → ℕ) where
   AreRows [] = Unit {0}
   AreRows (row ∷ rows) = IsRow row × AreRows rows
 
-  -- a row before another has no room, or none for the first octet of the other
+  -- a row before another has no room, or none for the octets that are to be kept in one row from the first octet of
+  -- the other on
   abbrev pub IsFull : List ℕ → List ℕ → Type 0
   IsFull row next = (length row ≡ size) ⊎ (size < length row + wanted (slice_index next 0))
 
@@ -41,6 +42,7 @@ module _ (size : ℕ) (wanted : ℕ → ℕ) where
   AreFull (row ∷ []) = Unit {0}
   AreFull (row ∷ next ∷ rows) = IsFull row next × AreFull (next ∷ rows)
 
+  -- the rows are a cut of the octets: they are the octets in order, each is a row, and each but the last is full
   pub record IsCut (octets : List ℕ) (rows : List (List ℕ)) : Type 0 where
     pub together : octets_of_rows rows ≡ octets
     pub each : AreRows rows

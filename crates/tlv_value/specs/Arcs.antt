@@ -34,7 +34,7 @@ is_finished octets = nat_le 1 (length octets) && nat_lt (slice_index octets (len
 abbrev pub dotted_arcs : List ℕ → List ℕ
 dotted_arcs arcs = join_by decimal (codes ".") arcs
 
--- the arcs of 1 to 64 octets
+-- the dotted text of 1 to 64 octets: none if the last subidentifier is unfinished, or one is 2^128 or more
 abbrev pub dotted_of : Bool → List ℕ → Option (List ℕ)
 dotted_of relative octets =
     if is_finished octets && nat_le (length octets) 64 && list_all (λ v. nat_lt v (2 ^ 128)) (subidentifiers octets)

@@ -1,11 +1,11 @@
--- The lines of a value: what begins them, and what is left out.
+-- The lines of a dump: what begins them, and what is left out.
 use Rattle.std.specs.Prelude.{ℕ, ◌+◌, ◌*◌, Bool, eqb, nat_lt, if◌then◌else◌, List, [], ◌∷◌, ◌++◌, Option}
 use Rattle.std.specs.Prelude.{Some, None, codes}
 use Rattle.std.specs.Option.{option_map_or}
 use Rattle.tlv_value.specs.declared.layout.Layout.{Layout}
 pub use Rattle.tlv_io.specs.LineTexts.{columns, at_right, spaces}
 
--- the first columns of a row
+-- 17 spaces, in place of the first columns, for a line that has no offset
 abbrev pub no_columns : List ℕ
 no_columns = spaces 17
 
@@ -20,7 +20,7 @@ line_margin layout first = margin layout.pure first layout.level
 abbrev pub line : Bool → List ℕ → ℕ → List ℕ → List ℕ
 line pure first level text = margin pure first level ++ text ++ 10 ∷ []
 
--- a line one level further in, without first columns
+-- a line one level further in, with blank first columns
 abbrev pub inner_line : Layout → List ℕ → List ℕ
 inner_line layout text = line layout.pure no_columns (layout.level + 1) text
 

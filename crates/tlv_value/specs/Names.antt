@@ -19,6 +19,7 @@ use Rattle.tlv_value.specs.declared.names.fault.NamesFault.TheVariants.{BadOid, 
 abbrev pub NamesValue : Type 0
 NamesValue = finite.FinMap (slice_cmp nat_cmp) (List ℕ)
 
+-- how the kit codes such a table, for `Model`
 abbrev pub table_code : Coded NamesValue
 table_code = finite.code (coded_list coded_ℕ) (coded_list coded_ℕ)
 
@@ -58,7 +59,7 @@ is_arc part =
     && list_all is_ascii_digit part
     && ((length part == 1) || not (slice_index part 0 == 48))
 
--- X.660: the first arc is 0, 1 or 2, and below 0 and 1 the second is at most 39
+-- X.660: the first arc is 0, 1 or 2, and if it is 0 or 1, the second is at most 39
 abbrev pub may_begin : List ℕ → List ℕ → Bool
 may_begin first second =
     (digits_value 10 first == 2) || (nat_lt (digits_value 10 first) 2 && nat_le (digits_value 10 second) 39)
@@ -90,6 +91,7 @@ pub data NamesLine : Type 0 where
   no_name : NamesLine
   long_line : NamesLine
 
+-- what a line says that has these two parts
 abbrev pub pair_line : List ℕ → List ℕ → NamesLine
 pair_line dotted name =
     if is_dotted dotted
@@ -124,7 +126,7 @@ entries_of lines = flat_map line_entries lines
 abbrev pub has_entry : List ℕ → List Entry → Bool
 has_entry dotted entries = list_any (λ e. bytes_eq dotted e.0) entries
 
--- how many names a table has at most
+-- how many entries a table has at most
 abbrev pub entry_limit : ℕ
 entry_limit = 65536
 

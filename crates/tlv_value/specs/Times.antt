@@ -73,6 +73,7 @@ second = two 0 60
 abbrev pub sign : Form
 sign = mark 43 or mark 45
 
+-- year to minute
 abbrev pub utc_minute : Form
 utc_minute = two 0 99 then month_and_day then hour then minute
 
@@ -83,6 +84,7 @@ utc_zone = mark 90 or (sign then hour then minute)
 abbrev pub utc_time_form : Form
 utc_time_form = utc_minute then maybe second then utc_zone
 
+-- year to hour
 abbrev pub generalized_hour : Form
 generalized_hour = two 0 99 then two 0 99 then month_and_day then hour
 
@@ -105,6 +107,7 @@ generalized_time_form =
 abbrev pub canonical_clock : Form
 canonical_clock = two 0 23 then minute then second
 
+-- year to second, as the canonical form has it
 abbrev pub canonical_second : Form
 canonical_second = two 0 99 then month_and_day then canonical_clock
 

@@ -19,7 +19,7 @@ value_check_state_of t = record {
   time = t.time.items;
 }
 
--- the row of a UTF8String that has begun is kept (of any other type none), and two octets at most
+-- the row that is kept is an open row of UTF-8, at most two first octets are known, and the last one is below 256
 pub record ValueCheckFieldsAgree (t : Inside) : Type 0 where
   pub begun : IsOpenRow Utf8 t.row.items
   pub last : t.last < 256

@@ -35,7 +35,7 @@ pub record ValueCheckState : Type 0 where
   -- the first 64 octets of a time
   pub time : List ℕ
 
--- of so many octets
+-- the state before any octet, for a primitive of the universal type with this number and so many contents octets
 abbrev pub new_value_check_of : ℕ → ℕ → ValueCheckState
 new_value_check_of number size = record {
   number = number;

@@ -45,7 +45,7 @@ is_long_primitive p = is_long p.kind p.size
 abbrev pub primitive_line : Primitive → List ℕ → List ℕ
 primitive_line p text = element_line p.layout p.offset p.class p.number p.size text
 
--- before any octet
+-- the state before any octet of this primitive
 abbrev pub new_value_text_of : Primitive → ValueTextState
 new_value_text_of p = record {
   primitive = p;
@@ -56,7 +56,7 @@ new_value_text_of p = record {
 abbrev pub new_value_text : HeaderValue → Layout → ValueTextState
 new_value_text h layout = new_value_text_of (new_primitive h layout)
 
--- for no primitive yet: as for an empty one that is of no universal type, at the top
+-- the state for no primitive yet: as for an empty one that is of no universal type, at the top
 abbrev pub idle_value_text : ValueTextState
 idle_value_text = new_value_text_of (record {
   offset = 0;
@@ -133,7 +133,7 @@ contents_lines s octets =
     else first_row_lines s octets)
     else []
 
--- the lines of a primitive with these contents, if its value is on its line
+-- the lines of a primitive with these contents, if they are not long
 abbrev pub primitive_lines : NameOf → Primitive → List ℕ → List ℕ
 primitive_lines name_of p octets =
     primitive_line p (short_value name_of p.kind octets).text

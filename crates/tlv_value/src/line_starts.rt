@@ -10,7 +10,8 @@ use crate::Layout;
 use tlv_head::{Class, type_name_block};
 use tlv_io::HeldOctets;
 
-/// Begins a line with its first columns, an offset and a size, and its indentation.
+/// Begins a line with its first columns (an offset and a number of contents octets), unless `layout.pure` leaves
+/// them out, and its indentation.
 #[inline(always)]
 pub fn begin_sized(held: &mut HeldOctets, layout: Layout, offset: u64, size: u64)
     requires { HasRoomFor held.old 592 }
@@ -22,7 +23,7 @@ pub fn begin_sized(held: &mut HeldOctets, layout: Layout, offset: u64, size: u64
     held.spaces(2 * usize::from(layout.level));
 }
 
-/// Adds first columns with an offset and a size, unless they are left out.
+/// Adds first columns with an offset and a number of contents octets, unless they are left out.
 #[inline(always)]
 fn write_sized(held: &mut HeldOctets, pure: bool, offset: u64, size: u64)
     requires { HasRoomFor held.old 50 }
@@ -34,7 +35,8 @@ fn write_sized(held: &mut HeldOctets, pure: bool, offset: u64, size: u64)
     }
 }
 
-/// Begins a line with an offset and a word, which takes six places, and its indentation.
+/// Begins a line with its first columns (an offset and a word, which takes six places), unless `layout.pure` leaves
+/// them out, and its indentation.
 #[inline(always)]
 pub fn begin_word(held: &mut HeldOctets, layout: Layout, offset: u64, word: &[u8; 6])
     requires { HasRoomFor held.old 592 }
@@ -58,7 +60,8 @@ fn write_worded(held: &mut HeldOctets, pure: bool, offset: u64, word: &[u8; 6])
     }
 }
 
-/// Begins a line that has no offset, with its indentation.
+/// Begins a line that has no offset: with 17 spaces in place of the first columns, unless `layout.pure` leaves them
+/// out, and its indentation.
 #[inline(always)]
 pub fn begin_blank(held: &mut HeldOctets, layout: Layout)
     requires { HasRoomFor held.old 592 }
@@ -120,8 +123,8 @@ fn write_universal(held: &mut HeldOctets, number: u64)
     }
 }
 
-/// Adds the text of a tag that has no name: what begins it, the number and a bracket. What begins it
-/// is the first of 32 octets, so that no copy depends on how many they are.
+/// Adds the text of a tag that has no name: what begins it, the number and a bracket. What begins it are
+/// the first `count` of 32 octets, so that no copy depends on how many they are.
 #[inline]
 fn write_bracketed(held: &mut HeldOctets, prefix: &[u8; 32], count: usize, number: u64)
     requires short { count ≤ 16 }
@@ -134,7 +137,8 @@ fn write_bracketed(held: &mut HeldOctets, prefix: &[u8; 32], count: usize, numbe
     held.add(b"]");
 }
 
-/// Begins the line of an element with its first columns, its indentation and its tag text.
+/// Begins the line of an element, up to its tag text: with its first columns, unless `layout.pure` leaves them out, its
+/// indentation and the tag text.
 #[inline(always)]
 pub fn write_element(
     held: &mut HeldOctets,

@@ -93,7 +93,7 @@ impl Primitive {
         held.add(b"\n");
     }
 
-    /// Adds its line with the number of its bits, if it is a long BIT STRING.
+    /// Adds the line of a long BIT STRING, with the number of its bits.
     fn write_bits_line(&self, held: &mut HeldOctets, unused_bits: u8)
         requires room { HasRoomFor held.old 1024 }
         requires long { 9 < self.now.size }
@@ -106,7 +106,7 @@ impl Primitive {
         held.add(b"\n");
     }
 
-    /// Adds its line, if its value is in rows: with the number of its bits, if it is a BIT STRING.
+    /// Adds the line of a long value: of a BIT STRING with the number of its bits.
     #[inline(always)]
     fn write_long_line(&self, held: &mut HeldOctets, contents: &[u8])
         requires room { HasRoomFor held.old 1024 }
@@ -130,7 +130,7 @@ impl Primitive {
         Ok(())
     }
 
-    /// Puts its line with the number of its bits, if it is a long BIT STRING.
+    /// Puts the line of a long BIT STRING, with the number of its bits.
     pub fn put_bits_line<D: Drain>(
         &self,
         unused_bits: u8,
@@ -146,7 +146,7 @@ impl Primitive {
         Ok(())
     }
 
-    /// Puts its line, if its value is in rows: with the number of its bits, if it is a BIT STRING.
+    /// Puts the line of a long value: of a BIT STRING with the number of its bits.
     #[inline(always)]
     pub fn put_long_line<D: Drain>(
         &self,
@@ -173,7 +173,7 @@ impl Primitive {
         Ok(())
     }
 
-    /// Puts its lines, if its value is on its line.
+    /// Puts the lines of a primitive that is not long.
     #[inline(always)]
     pub fn put<N: NameTable, D: Drain>(
         &self,

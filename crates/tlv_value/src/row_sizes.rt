@@ -6,7 +6,7 @@ ghost use Rattle.tlv_value.specs.Private.Room.{HaveRoom, has_room};
 
 use crate::kind::Kind;
 
-/// How many octets a full row has.
+/// How many octets a row has room for.
 pub(crate) fn row_size(kind: Kind) -> usize
     ensures { result ≡ row_size kind }
 {

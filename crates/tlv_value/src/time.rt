@@ -1,7 +1,7 @@
 //! Times as texts: UTCTime and GeneralizedTime (X.680 46 and 47), and their canonical forms (11.7, 11.8).
 //!
-//! A part of a form is a function that returns what is after the part with which the octets begin, or none if they do
-//! not begin with it.
+//! `after_..` returns what is after a part with which the octets begin, or none if they do not begin with it. `is_..`
+//! says whether the octets are such parts, and no more.
 ghost use Rattle.std.specs.Prelude.{◌≡◌, option_copied, option_to_list};
 ghost use Rattle.tlv_value.specs.Times.{canonical_generalized_time_form, canonical_second, canonical_utc_time_form};
 ghost use Rattle.tlv_value.specs.Times.{digits, fraction, generalized_hour, generalized_tail, generalized_time_form};

@@ -14,7 +14,7 @@ use tlv_io::HeldOctets;
 /// As many octets as a row of characters has at most.
 const ROW: usize = 64;
 
-/// Adds the characters of a row, of which each octet may take five.
+/// Adds the characters of a row. There is room for five octets for each of its octets; it takes four at most.
 pub(crate) fn write_characters(held: &mut HeldOctets, kind: Kind, row: &[u8])
     requires short { length row.now ≤ 64 }
     requires room { HasRoomFor held.old 320 }
@@ -204,7 +204,7 @@ fn is_unescaped(octet: u8) -> bool
     matches!(octet, 0x20..=0x7e) && octet != b'"' && octet != b'\\'
 }
 
-/// Whether a character of ASCII has one octet.
+/// Whether a character of ASCII has one octet in contents of this kind.
 fn has_ascii(kind: Kind) -> bool
     ensures { result ≡ has_ascii kind }
 {

@@ -97,7 +97,7 @@ fn write_integer(held: &mut HeldOctets, contents: &[u8])
     if contents.len() > 8 {
         write_wide_integer(held, contents);
     } else if let Some(number) = short_decimal_of(contents) {
-        // A space and a sign, and of both what there is: no branch asks for the sign.
+        // The first octet of `SIGN`, or the first two if the number is negative: no branch asks for the sign.
         held.add_prefix(SIGN, 1 + usize::from(number < 0));
         held.number(number.unsigned_abs());
     }

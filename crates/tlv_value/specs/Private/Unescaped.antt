@@ -10,7 +10,7 @@ use Rattle.tlv_value.specs.Units.{is_printable, unit_text, units}
 abbrev pub is_unescaped : ℕ → Bool
 is_unescaped x = is_printable x && not (eqb x 0x22 || eqb x 0x5c)
 
--- a character of ASCII has one octet
+-- a character of ASCII has one octet in contents of this kind
 abbrev pub has_ascii : Kind → Bool
 has_ascii Text = true
 has_ascii Utf8 = true

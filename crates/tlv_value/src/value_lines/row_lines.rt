@@ -105,7 +105,7 @@ fn put_full_rows<D: Drain>(
 ) -> Result<(), WriteFault>
     ensures { Puts D.state out.old out.new (pair_row_lines layout rows.now) result }
 {
-    // A row is much shorter than the longest line, so the drain takes more with each write.
+    // A row is much shorter than what `make_room` makes room for, so the drain takes more with each write.
     let size = row_indent(layout) + 64;
     for row in rows {
         out.make_room_for(size)?;
@@ -175,7 +175,7 @@ pub(crate) fn put_last<D: Drain>(
     put_row(kind, layout, index, row, out)
 }
 
-/// Puts a row, unless that is beyond the limit.
+/// Puts a row; beyond the limit three dots for the first, and nothing for the others.
 #[inline(always)]
 fn put_row<D: Drain>(
     kind: Kind,
