@@ -1,5 +1,5 @@
 pub mod Puts
 pub mod Sends
-pub mod BufferTexts
+pub mod HeldTexts
 pub mod Pieces
 pub mod CutOf

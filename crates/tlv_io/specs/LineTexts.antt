@@ -6,9 +6,10 @@ use Rattle.hex.specs.Hex.{encode_lower}
 abbrev pub HasRoomFor : List ℕ → ℕ → Type 0
 HasRoomFor held count = length held + count ≤ 4096
 
--- at most so many octets were added
-abbrev pub GrowsBy : ℕ → List ℕ → List ℕ → Type 0
-GrowsBy n old new = length new ≤ length old + n
+-- the text was added to the octets held, which are at most n more than before
+pub record AddsAtMost (n : ℕ) (old new added : List ℕ) : Type 0 where
+  pub text : new ≡ old ++ added
+  pub within : length new ≤ length old + n
 
 -- the text was added to the octets held, if there was room for it
 abbrev pub AddsIfRoom : List ℕ → List ℕ → List ℕ → Type 0

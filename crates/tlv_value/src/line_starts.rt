@@ -1,6 +1,6 @@
 //! How lines begin.
 ghost use Rattle.std.specs.Prelude.{◌≡◌, ◌+◌, ◌≤◌, ◌++◌, ◌∷◌, [], decimal, if◌then◌else◌, take};
-ghost use Rattle.tlv_io.specs.LineTexts.{GrowsBy, HasRoomFor};
+ghost use Rattle.tlv_io.specs.LineTexts.{AddsAtMost, HasRoomFor};
 ghost use Rattle.tlv_head.specs.Tag.{tag_text};
 ghost use Rattle.tlv_value.specs.Layout.{columns, line_margin, margin, no_columns, spaces};
 ghost use Rattle.tlv_value.specs.Private.Rows.{row_indent};
@@ -15,9 +15,8 @@ use tlv_io::HeldOctets;
 #[inline(always)]
 pub fn begin_sized(held: &mut HeldOctets, layout: Layout, offset: u64, size: u64)
     requires { HasRoomFor held.old 592 }
-    ensures text { held.new
-        ≡ held.old ++ line_margin layout (columns offset (decimal size)) }
-    ensures bound { GrowsBy 553 held.old held.new }
+    ensures { AddsAtMost 553 held.old held.new
+        (line_margin layout (columns offset (decimal size))) }
 {
     write_sized(held, layout.pure, offset, size);
     held.spaces(2 * usize::from(layout.level));
@@ -27,8 +26,7 @@ pub fn begin_sized(held: &mut HeldOctets, layout: Layout, offset: u64, size: u64
 #[inline(always)]
 fn write_sized(held: &mut HeldOctets, pure: bool, offset: u64, size: u64)
     requires { HasRoomFor held.old 50 }
-    ensures text { held.new ≡ held.old ++ (if pure then [] else columns offset (decimal size)) }
-    ensures bound { GrowsBy 43 held.old held.new }
+    ensures { AddsAtMost 43 held.old held.new (if pure then [] else columns offset (decimal size)) }
 {
     if !pure {
         held.columns(offset, size);
@@ -40,9 +38,7 @@ fn write_sized(held: &mut HeldOctets, pure: bool, offset: u64, size: u64)
 #[inline(always)]
 pub fn begin_word(held: &mut HeldOctets, layout: Layout, offset: u64, word: &[u8; 6])
     requires { HasRoomFor held.old 592 }
-    ensures text { held.new
-        ≡ held.old ++ line_margin layout (columns offset word.now) }
-    ensures bound { GrowsBy 553 held.old held.new }
+    ensures { AddsAtMost 553 held.old held.new (line_margin layout (columns offset word.now)) }
 {
     write_worded(held, layout.pure, offset, word);
     held.spaces(2 * usize::from(layout.level));
@@ -52,8 +48,7 @@ pub fn begin_word(held: &mut HeldOctets, layout: Layout, offset: u64, word: &[u8
 #[inline(always)]
 fn write_worded(held: &mut HeldOctets, pure: bool, offset: u64, word: &[u8; 6])
     requires { HasRoomFor held.old 50 }
-    ensures text { held.new ≡ held.old ++ (if pure then [] else columns offset word.now) }
-    ensures bound { GrowsBy 43 held.old held.new }
+    ensures { AddsAtMost 43 held.old held.new (if pure then [] else columns offset word.now) }
 {
     if !pure {
         held.word_columns(offset, word);
@@ -65,8 +60,7 @@ fn write_worded(held: &mut HeldOctets, pure: bool, offset: u64, word: &[u8; 6])
 #[inline(always)]
 pub fn begin_blank(held: &mut HeldOctets, layout: Layout)
     requires { HasRoomFor held.old 592 }
-    ensures text { held.new ≡ held.old ++ line_margin layout no_columns }
-    ensures bound { GrowsBy 553 held.old held.new }
+    ensures { AddsAtMost 553 held.old held.new (line_margin layout no_columns) }
 {
     held.spaces(blank_columns(layout.pure) + 2 * usize::from(layout.level));
 }
@@ -77,7 +71,7 @@ pub(crate) fn row_indent(layout: Layout) -> usize
     ensures value { result ≡ row_indent layout }
     ensures text { spaces result ≡ margin layout.pure no_columns (layout.level + 1) }
     ensures some { 2 ≤ result }
-    ensures bound { result ≤ 529 }
+    ensures within { result ≤ 529 }
 {
     blank_columns(layout.pure) + 2 * (usize::from(layout.level) + 1)
 }
@@ -94,8 +88,7 @@ fn blank_columns(pure: bool) -> usize
 #[inline(always)]
 pub fn write_tag(held: &mut HeldOctets, class: Class, number: u64)
     requires { HasRoomFor held.old 40 }
-    ensures text { held.new ≡ held.old ++ tag_text class number }
-    ensures bound { GrowsBy 40 held.old held.new }
+    ensures { AddsAtMost 40 held.old held.new (tag_text class number) }
 {
     match class {
         Class::Universal => write_universal(held, number),
@@ -114,8 +107,7 @@ pub fn write_tag(held: &mut HeldOctets, class: Class, number: u64)
 #[inline(always)]
 fn write_universal(held: &mut HeldOctets, number: u64)
     requires { HasRoomFor held.old 40 }
-    ensures text { held.new ≡ held.old ++ tag_text Class.Universal number }
-    ensures bound { GrowsBy 40 held.old held.new }
+    ensures { AddsAtMost 40 held.old held.new (tag_text Class.Universal number) }
 {
     match type_name_block(number) {
         Some((name, size)) => held.add_prefix(name, size),
@@ -127,10 +119,9 @@ fn write_universal(held: &mut HeldOctets, number: u64)
 /// the first `count` of 32 octets, so that no copy depends on how many they are.
 #[inline]
 fn write_bracketed(held: &mut HeldOctets, prefix: &[u8; 32], count: usize, number: u64)
-    requires short { count ≤ 16 }
+    requires within { count ≤ 16 }
     requires room { HasRoomFor held.old 40 }
-    ensures text { held.new ≡ held.old ++ (take count prefix.now ++ decimal number ++ 93 ∷ []) }
-    ensures bound { GrowsBy 40 held.old held.new }
+    ensures { AddsAtMost 40 held.old held.new (take count prefix.now ++ decimal number ++ 93 ∷ []) }
 {
     held.add_prefix(prefix, count);
     held.number(number);
@@ -149,9 +140,7 @@ pub fn write_element(
     size: u64,
 )
     requires { HasRoomFor held.old 640 }
-    ensures text { held.new
-        ≡ held.old ++ element_prefix layout offset class number size }
-    ensures bound { GrowsBy 593 held.old held.new }
+    ensures { AddsAtMost 593 held.old held.new (element_prefix layout offset class number size) }
 {
     begin_sized(held, layout, offset, size);
     write_tag(held, class, number);

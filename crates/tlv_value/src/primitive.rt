@@ -1,6 +1,6 @@
 //! A primitive by what its header says.
 ghost use Rattle.std.specs.Prelude.{◌≡◌, ◌<◌, ◌≤◌, ◌++◌, ◌∷◌, [], IsTrue, None, OnOk, length, true, ◌↔◌};
-ghost use Rattle.tlv_io.specs.LineTexts.{GrowsBy, HasRoomFor};
+ghost use Rattle.tlv_io.specs.LineTexts.{AddsAtMost, HasRoomFor};
 ghost use Rattle.tlv_io.specs.Out.{Puts, held_octets};
 ghost use Rattle.tlv_value.specs.RowSizes.{row_size};
 ghost use Rattle.tlv_value.specs.Private.PrimitiveLines.{line_prefix};
@@ -70,8 +70,7 @@ impl Primitive {
     #[inline(always)]
     fn write_prefix(&self, held: &mut HeldOctets)
         requires { HasRoomFor held.old 640 }
-        ensures text { held.new ≡ held.old ++ line_prefix self.now }
-        ensures bound { GrowsBy 593 held.old held.new }
+        ensures { AddsAtMost 593 held.old held.new (line_prefix self.now) }
     {
         write_element(
             held,

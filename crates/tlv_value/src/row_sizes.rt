@@ -20,7 +20,7 @@ pub(crate) fn row_size(kind: Kind) -> usize
 pub(crate) fn fitting_length(kind: Kind, begun: usize, octets: &[u8]) -> usize
     requires { begun ≤ row_size kind }
     ensures within { result ≤ length octets.now }
-    ensures bound { begun + result ≤ row_size kind }
+    ensures short { begun + result ≤ row_size kind }
     ensures fits { HaveRoom kind begun octets.now result }
     ensures next { result < length octets.now
         → has_room kind (begun + result) (slice_index octets.now result) ≡ false }
@@ -41,7 +41,7 @@ pub(crate) fn fitting_length(kind: Kind, begun: usize, octets: &[u8]) -> usize
 /// How many octets a character of UTF-8 has that begins with this octet (RFC 3629); 1 if none does.
 pub(crate) fn utf8_length(octet: u8) -> usize
     ensures value { result ≡ utf8_length octet }
-    ensures most { result ≤ 4 }
+    ensures within { result ≤ 4 }
 {
     match octet {
         0xc2..=0xdf => 2,

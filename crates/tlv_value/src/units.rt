@@ -275,7 +275,7 @@ fn utf8_unit_size(octets: &[u8]) -> usize
 /// The number of a character of two to four octets.
 fn utf8_number(unit: &[u8]) -> u32
     ensures value { result ≡ utf8_number unit.now }
-    ensures bound { result < 2097152 }
+    ensures within { result < 2097152 }
 {
     match unit {
         [a, b] => u32::from(*a) % 32 * 64 + u32::from(*b) % 64,

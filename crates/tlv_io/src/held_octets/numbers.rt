@@ -100,7 +100,7 @@ impl HeldOctets {
 
     /// Adds a number, in decimal, at the right of eight places; a longer one takes as many as it needs.
     #[inline(always)]
-    pub fn right_8(&mut self, number: u64)
+    fn right_8(&mut self, number: u64)
         requires { HasRoomFor self.old 20 }
         ensures { self.new ≡ self.old ++ at_right 8 (decimal number) }
     {
@@ -117,7 +117,7 @@ impl HeldOctets {
 
     /// Adds a number, in decimal, at the right of six places; a longer one takes as many as it needs.
     #[inline(always)]
-    pub fn right_6(&mut self, number: u64)
+    fn right_6(&mut self, number: u64)
         requires { HasRoomFor self.old 20 }
         ensures { self.new ≡ self.old ++ at_right 6 (decimal number) }
     {

@@ -1,7 +1,7 @@
 use Rattle.std.proofs.Common.{◌∙◌, ◌++◌, decimal, ap, sym, arith, rules}
 use Rattle.std.proofs.lemmas.Fmt.{length-decimal-le}
 use Rattle.tlv_io.specs.LineTexts.{at_right}
-use Rattle.tlv_io.proofs.BufferTexts.{right_written, held_up_to, long_number}
+use Rattle.tlv_io.proofs.HeldTexts.{right_written, held_up_to, long_number}
 use Rattle.tlv_io.proofs.held_octets.HeldOctets.right_6.Goals as goal
 
 pub write_digits-requires : goal.write_digits-requires

@@ -1,6 +1,6 @@
 use Rattle.std.proofs.Common.{◌∙◌, ◌++◌, List, ℕ, ap, arith, length, length-take}
 use Rattle.tlv_io.specs.LineTexts.{spaced_pairs}
-use Rattle.tlv_io.proofs.BufferTexts.{prefix_written, held_up_to, pairs-size}
+use Rattle.tlv_io.proofs.HeldTexts.{prefix_written, held_up_to, pairs-size}
 use Rattle.tlv_io.proofs.held_octets.HeldOctets.spaced_row.Goals as goal
 
 pub returns : goal.returns

@@ -1,6 +1,6 @@
 use Rattle.std.proofs.Common.{◌∷◌, [], decimal, arith}
 use Rattle.tlv_io.specs.LineTexts.{at_right}
-use Rattle.tlv_io.proofs.BufferTexts.{added, columns_added, right-short}
+use Rattle.tlv_io.proofs.HeldTexts.{added, columns_added, right-short}
 use Rattle.tlv_io.proofs.held_octets.HeldOctets.wide_columns.Goals as goal
 
 pub add-requires : goal.add-requires

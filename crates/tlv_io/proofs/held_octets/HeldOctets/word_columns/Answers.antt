@@ -1,7 +1,7 @@
 use Rattle.std.proofs.Common.{◌≤◌, ◌∙◌, ◌++◌, List, ℕ, decimal, ap, arith, rules, length}
 use Rattle.std.proofs.lemmas.Fmt.{length-decimal-le}
 use Rattle.tlv_io.specs.LineTexts.{columns}
-use Rattle.tlv_io.proofs.BufferTexts.{held_up_to, offset_written, word_written}
+use Rattle.tlv_io.proofs.HeldTexts.{held_up_to, offset_written, word_written}
 use Rattle.tlv_io.proofs.held_octets.HeldOctets.word_columns.Goals as goal
 
 pub write_digits-requires : goal.write_digits-requires

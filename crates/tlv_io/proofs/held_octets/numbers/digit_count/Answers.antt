@@ -1,6 +1,6 @@
 use Rattle.std.proofs.Common.{sym}
 use Rattle.itoa.proofs.Decimal.{length_one}
-use Rattle.tlv_io.proofs.BufferTexts.{digits_of_power}
+use Rattle.tlv_io.proofs.HeldTexts.{digits_of_power}
 use Rattle.tlv_io.proofs.held_octets.numbers.digit_count.Goals as goal
 
 pub returns-then-number-lt10 : goal.returns-then-number-lt10

@@ -1,5 +1,5 @@
 use Rattle.std.proofs.Common.{rules, arith}
-use Rattle.tlv_io.proofs.BufferTexts.{spaces_of_more, spaces_step}
+use Rattle.tlv_io.proofs.HeldTexts.{spaces_of_more, spaces_step}
 use Rattle.tlv_io.proofs.held_octets.texts.fill_more_spaces.Goals as goal
 
 pub loop-done-preserved : goal.loop-done-preserved
@@ -12,7 +12,10 @@ loop-done-preserved c =
       bound = omega (arith, c.loop-done-test.true);
     }
 
-pub returns-clause-text : goal.returns-clause-text
-returns-clause-text c =
-    spaces_of_more c.args.count c.loop-done.done c.loop-done.to (omega (arith, c.loop-done-test.false))
-    c.loop-done.invariant.blank
+pub returns : goal.returns
+returns c = record {
+  text =
+      spaces_of_more c.args.count c.loop-done.done c.loop-done.to (omega (arith, c.loop-done-test.false))
+      c.loop-done.invariant.blank;
+  size = c.loop-done.invariant.size;
+}

@@ -1,6 +1,6 @@
 use Rattle.std.proofs.Common.{rules, ◌≡◌, ℕ, [], ◌∷◌, get_or, arith}
 use Rattle.hex.specs.Hex.{encode_lower}
-use Rattle.tlv_io.proofs.BufferTexts.{pairs_step}
+use Rattle.tlv_io.proofs.HeldTexts.{pairs_step}
 use Rattle.tlv_io.proofs.held_octets.texts.write_spaced_pairs.Goals as goal
 
 pub loop-i-preserved : goal.loop-i-preserved

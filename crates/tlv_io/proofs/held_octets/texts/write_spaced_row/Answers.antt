@@ -1,6 +1,6 @@
 use Rattle.std.proofs.Common.{rules, ◌≡◌, ℕ, ◌++◌, [], ◌∷◌, List, ap, drop, get_or, refl, arith}
 use Rattle.hex.specs.Hex.{encode_lower}
-use Rattle.tlv_io.proofs.BufferTexts.{row_step, row_whole}
+use Rattle.tlv_io.proofs.HeldTexts.{row_step, row_whole}
 use Rattle.tlv_io.proofs.held_octets.texts.write_spaced_row.Goals as goal
 
 pub loop-i-init : goal.loop-i-init
@@ -22,8 +22,11 @@ loop-i-preserved c =
       size = search rules;
     }
 
-pub returns-clause-text : goal.returns-clause-text
-returns-clause-text c =
-    let p = c.loop-i.invariant.pairs in
-    row_whole c.args.octets.now c.loop-i.to p.0 c.loop-i.i (omega (arith, c.loop-i.auto.i-end, c.loop-i-test.false))
-    c.told-octets p.1
+pub returns : goal.returns
+returns c =
+    let p = c.loop-i.invariant.pairs in record {
+      text =
+          row_whole c.args.octets.now c.loop-i.to p.0 c.loop-i.i
+          (omega (arith, c.loop-i.auto.i-end, c.loop-i-test.false)) c.told-octets p.1;
+      size = search rules;
+    }

@@ -67,7 +67,7 @@ loop-rest-preserved c =
     ] in
     let t =
     turned Utf8 c.len.result row m c.loop-rest.rest.now part more c.len.ensures.value c.split_at.ensures.front
-    c.split_at.ensures.back c.fitting_length.ensures.fits c.fitting_length.ensures.bound
+    c.split_at.ensures.back c.fitting_length.ensures.fits c.fitting_length.ensures.short
     c.fitting_length.ensures.within (omega arith) c.fitting_length.ensures.next claim in
     let none : c.is_full_row_utf8.new.row.items ≡ [] = c.is_full_row_utf8.ensures.row in
     let both : c.both-rows_are_utf8.result ≡ (c.loop-rest.rows_are_utf8 && is_utf8 (row ++ part)) =

@@ -80,7 +80,7 @@ loop-rest-preserved g c =
     let t =
     turned kind c.len-begun.result row m c.loop-rest.rest.now part more c.len-begun.ensures.value
     c.split_at.ensures.front c.split_at.ensures.back c.fitting_length.ensures.fits
-    c.fitting_length.ensures.bound
+    c.fitting_length.ensures.short
     c.fitting_length.ensures.within (omega arith) c.fitting_length.ensures.next claim in
     let p = progress kind c.len-begun.result m c.loop-rest.rest.now (omega arith) c.fitting_length.ensures.next claim in
     let none : c.put_full.new.row.items ≡ [] = c.put_full.ensures.row in
@@ -118,7 +118,7 @@ returns-in_err-put_full-clause-puts g c =
     let t =
     turned kind c.len-begun.result row m c.loop-rest.rest.now part more c.len-begun.ensures.value
     c.split_at.ensures.front c.split_at.ensures.back c.fitting_length.ensures.fits
-    c.fitting_length.ensures.bound
+    c.fitting_length.ensures.short
     c.fitting_length.ensures.within (omega arith) c.fitting_length.ensures.next claim in
     let line : List ℕ = row_line c.args.layout c.loop-rest.row_count (row_text kind (row ++ part)) in
     let rest : List ℕ = row_lines kind c.args.layout (c.loop-rest.row_count + 1) (rows_filled kind [] more) in

@@ -6,14 +6,14 @@ use Rattle.tlv_value.proofs.TextLemmas.LineLengths.{added}
 use Rattle.tlv_value.proofs.value_lines.row_lines.write_dots.Goals as goal
 
 pub spaces-requires : goal.spaces-requires
-spaces-requires c = omega (arith, c.requires, c.row_indent.ensures.bound)
+spaces-requires c = omega (arith, c.requires, c.row_indent.ensures.within)
 
 pub add-requires : goal.add-requires
 add-requires c =
     omega (
       arith,
       c.requires,
-      c.row_indent.ensures.bound,
+      c.row_indent.ensures.within,
       added _ _ (spaces c.row_indent.result) c.spaces.ensures,
       length-replicate {A = ℕ} c.row_indent.result 32,
     )
