@@ -1,6 +1,5 @@
 pub mod NotedFacts
 pub mod CheckPieces
-pub mod CheckWords
 pub mod EachNoted
 pub mod Formed
 pub mod Forms

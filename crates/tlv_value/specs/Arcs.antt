@@ -9,9 +9,12 @@ abbrev pub parts_of : List ℕ → List (List ℕ)
 parts_of [] = []
 parts_of (x ∷ xs) = if nat_lt x 128 then (x ∷ []) ∷ parts_of xs else onto_first x (parts_of xs)
 
--- of each part bits 7 to 1 of its octets, put together
+-- of a part bits 7 to 1 of its octets, put together
+abbrev pub subidentifier : List ℕ → ℕ
+subidentifier part = value_of 128 (map (λ x. x % 128) part)
+
 abbrev pub subidentifiers : List ℕ → List ℕ
-subidentifiers octets = map (λ part. value_of 128 (map (λ x. x % 128) part)) (parts_of octets)
+subidentifiers octets = map subidentifier (parts_of octets)
 
 -- 8.19.4: the two arcs that the first subidentifier stands for
 abbrev pub first_arcs : ℕ → List ℕ

@@ -63,9 +63,9 @@ are_whole_characters number size =
 -- the contents have the characters of the type with this number
 abbrev pub allows : ℕ → List ℕ → Bool
 allows number octets =
-    if eqb number universal.utf8_string then is_utf8 octets
-    else are_whole_characters number (length octets)
-    && option_map_or (λ test. list_all test octets) (octet_test number) true
+    (if eqb number universal.utf8_string then is_utf8 octets
+    else are_whole_characters number (length octets))
+    && list_all (allows_octet number) octets
 
 -- ---- What the conditions go by
 

@@ -8,6 +8,7 @@ use Rattle.std.specs.Option.{option_map_or, option_or}
 use Rattle.std.specs.Ordering.{nat_cmp}
 use Rattle.std.specs.Cmp.Lexicographic.{slice_cmp}
 use Rattle.std.specs.Str.{bytes_eq}
+use Rattle.std.specs.Str.Lines.{strip_carriage_return}
 use Rattle.std.specs.Str.Parse.{digits_value}
 use Rattle.std.specs.Coded.{Coded, coded_list, coded_ℕ}
 use Rattle.std.specs.FinMap as finite
@@ -31,11 +32,6 @@ Entry = List ℕ × List ℕ
 abbrev pub file_lines : List ℕ → List (List ℕ)
 file_lines [] = []
 file_lines (x ∷ xs) = if x == 10 then [] ∷ file_lines xs else onto_first x (file_lines xs)
-
--- without the one CR at the end, if there is one
-abbrev pub without_return : List ℕ → List ℕ
-without_return line =
-    if slice_index line (length line - 1) == 13 then take (length line - 1) line else line
 
 -- a space or a tab
 abbrev pub is_blank : ℕ → Bool
@@ -113,7 +109,7 @@ line_limit = 400
 abbrev pub names_line : List ℕ → NamesLine
 names_line octets =
     if nat_lt line_limit (length octets) then long_line
-    else entry_line (without_outer_blanks (without_return octets))
+    else entry_line (without_outer_blanks (strip_carriage_return octets))
 
 abbrev pub line_entries : NamesLine → List Entry
 line_entries (entry dotted name) = (dotted, name) ∷ []

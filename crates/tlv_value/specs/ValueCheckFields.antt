@@ -14,7 +14,7 @@ value_check_state_of t = record {
   last = t.last;
   are_octets_allowed = t.are_octets_allowed;
   is_padded = t.is_padded;
-  rows_are_utf8 = t.rows_are_utf8;
+  are_full_rows_utf8 = t.are_full_rows_utf8;
   row = t.row.items;
   time = t.time.items;
 }

@@ -14,7 +14,7 @@ use Rattle.tlv_value.specs.Value.{NameOf, is_long, long_text, row_octets, short_
 -- what is kept: of a long value whether its line was written, how many rows were full, and the octets of the row that
 -- has begun; of any other all octets
 pub record KeptContents : Type 0 where
-  pub wrote_line : Bool
+  pub has_put_line : Bool
   pub row_count : ℕ
   pub row : List ℕ
 
@@ -50,7 +50,7 @@ abbrev pub new_value_text_of : Primitive → ValueTextState
 new_value_text_of p = record {
   primitive = p;
   left = p.size;
-  kept = record { wrote_line = has_line p.kind []; row_count = 0; row = [] };
+  kept = record { has_put_line = has_line p.kind []; row_count = 0; row = [] };
 }
 
 abbrev pub new_value_text : HeaderValue → Layout → ValueTextState
@@ -70,7 +70,7 @@ idle_value_text = new_value_text_of (record {
 -- what is kept after more octets of a long value whose line was written
 abbrev pub kept_after_line : Kind → KeptContents → List ℕ → KeptContents
 kept_after_line kind k octets = record {
-  wrote_line = true;
+  has_put_line = true;
   row_count = k.row_count + length (full_rows kind k.row octets);
   row = open_row kind k.row octets;
 }
@@ -81,7 +81,7 @@ full_row_lines kind layout k octets = row_lines kind layout k.row_count (full_ro
 
 -- what is kept of a long value whose line came with this first contents octet
 abbrev pub kept_with_line : Kind → ℕ → KeptContents
-kept_with_line kind x = record { wrote_line = true; row_count = 0; row = row_octets kind (x ∷ []) }
+kept_with_line kind x = record { has_put_line = true; row_count = 0; row = row_octets kind (x ∷ []) }
 
 -- what is kept after more octets of a long value whose line was not written: it comes with the first of them
 abbrev pub kept_before_line : Kind → KeptContents → List ℕ → KeptContents
@@ -98,7 +98,7 @@ first_row_lines s (x ∷ octets) =
 -- what is kept after more octets of a long value
 abbrev pub long_kept_after : ValueTextState → List ℕ → KeptContents
 long_kept_after s octets =
-    if s.kept.wrote_line
+    if s.kept.has_put_line
     then kept_after_line s.primitive.kind s.kept octets
     else kept_before_line s.primitive.kind s.kept octets
 
@@ -121,14 +121,14 @@ value_text_for h layout octets = value_text_after (new_value_text h layout) octe
 abbrev pub begin_lines : ValueTextState → List ℕ
 begin_lines s =
     if is_long_primitive s.primitive
-    then (if s.kept.wrote_line then primitive_line s.primitive [] else [])
+    then (if s.kept.has_put_line then primitive_line s.primitive [] else [])
     else []
 
 -- the lines that are known with more octets
 abbrev pub contents_lines : ValueTextState → List ℕ → List ℕ
 contents_lines s octets =
     if is_long_primitive s.primitive
-    then (if s.kept.wrote_line
+    then (if s.kept.has_put_line
     then full_row_lines s.primitive.kind s.primitive.layout s.kept octets
     else first_row_lines s octets)
     else []

@@ -70,8 +70,8 @@ pub enum Finding {
 }
 
 impl Finding {
-    ghost use Rattle.std.specs.Prelude.{◌≡◌, ◌≤◌, ◌++◌, ◌∷◌, take};
-    ghost use Rattle.tlv_value.specs.Finding.{finding_code, finding_text};
+    ghost use Rattle.std.specs.Prelude.{◌≡◌, ◌≤◌, take};
+    ghost use Rattle.tlv_value.specs.Finding.{finding_code, finding_text, finding_wording};
 
     /// The three characters that name the finding, as `B01`.
     pub fn code(self) -> &'static [u8]
@@ -92,7 +92,7 @@ impl Finding {
     /// A block that begins with the code, a space and the text, and has spaces after them, so that they can be copied
     /// at once, and how many octets they are.
     pub fn wording_block(self) -> (&'static [u8; 48], usize)
-        ensures wording { take result.1 result.0.now ≡ finding_code self ++ 32 ∷ finding_text self }
+        ensures wording { take result.1 result.0.now ≡ finding_wording self }
         ensures count { (4 ≤ result.1) × (result.1 ≤ 44) }
     {
         match self {

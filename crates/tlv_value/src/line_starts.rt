@@ -2,7 +2,7 @@
 ghost use Rattle.std.specs.Prelude.{◌≡◌, ◌+◌, ◌≤◌, ◌++◌, ◌∷◌, [], decimal, if◌then◌else◌, take};
 ghost use Rattle.tlv_io.specs.LineTexts.{AddsAtMost, HasRoomFor};
 ghost use Rattle.tlv_head.specs.Tag.{tag_text};
-ghost use Rattle.tlv_value.specs.Layout.{columns, line_margin, margin, no_columns, spaces};
+ghost use Rattle.tlv_value.specs.Layout.{columns, line_margin, margin, blank_columns, spaces};
 ghost use Rattle.tlv_value.specs.Private.Rows.{row_indent};
 ghost use Rattle.tlv_value.specs.ValueLines.{element_prefix};
 
@@ -60,25 +60,25 @@ fn write_worded(held: &mut HeldOctets, pure: bool, offset: u64, word: &[u8; 6])
 #[inline(always)]
 pub fn begin_blank(held: &mut HeldOctets, layout: Layout)
     requires { HasRoomFor held.old 592 }
-    ensures { AddsAtMost 553 held.old held.new (line_margin layout no_columns) }
+    ensures { AddsAtMost 553 held.old held.new (line_margin layout blank_columns) }
 {
-    held.spaces(blank_columns(layout.pure) + 2 * usize::from(layout.level));
+    held.spaces(blank_column_count(layout.pure) + 2 * usize::from(layout.level));
 }
 
 /// How many spaces are before a row.
 #[inline(always)]
 pub(crate) fn row_indent(layout: Layout) -> usize
     ensures value { result ≡ row_indent layout }
-    ensures text { spaces result ≡ margin layout.pure no_columns (layout.level + 1) }
+    ensures text { spaces result ≡ margin layout.pure blank_columns (layout.level + 1) }
     ensures some { 2 ≤ result }
     ensures within { result ≤ 529 }
 {
-    blank_columns(layout.pure) + 2 * (usize::from(layout.level) + 1)
+    blank_column_count(layout.pure) + 2 * (usize::from(layout.level) + 1)
 }
 
 /// How many spaces are in place of the first columns.
 #[inline(always)]
-fn blank_columns(pure: bool) -> usize
+fn blank_column_count(pure: bool) -> usize
     ensures { result ≡ (if pure then 0 else 17) }
 {
     if pure { 0 } else { 17 }
@@ -131,7 +131,7 @@ fn write_bracketed(held: &mut HeldOctets, prefix: &[u8; 32], count: usize, numbe
 /// Begins the line of an element, up to its tag text: with its first columns, unless `layout.pure` leaves them out, its
 /// indentation and the tag text.
 #[inline(always)]
-pub fn write_element(
+pub(crate) fn begin_element(
     held: &mut HeldOctets,
     layout: Layout,
     offset: u64,

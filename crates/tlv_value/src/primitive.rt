@@ -8,7 +8,7 @@ ghost use Rattle.tlv_value.specs.Value.{long_text, most_on_line};
 ghost use Rattle.tlv_value.specs.ValueTextState.{is_long_primitive, new_primitive, primitive_line, primitive_lines};
 
 use crate::kind::{Kind, kind_of};
-use crate::line_starts::write_element;
+use crate::line_starts::begin_element;
 use crate::row_sizes::row_size;
 use crate::value::{write_long_bits, write_long_value, write_undotted};
 use crate::value_lines::{put_object, put_relative};
@@ -72,7 +72,7 @@ impl Primitive {
         requires { HasRoomFor held.old 640 }
         ensures { AddsAtMost 593 held.old held.new (line_prefix self.now) }
     {
-        write_element(
+        begin_element(
             held,
             self.layout,
             self.offset,

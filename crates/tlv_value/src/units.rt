@@ -2,7 +2,7 @@
 ghost use Rattle.std.specs.List.{list_all};
 ghost use Rattle.std.specs.Prelude.{◌≡◌, ◌+◌, ◌*◌, ◌<◌, ◌≤◌, ◌++◌, false, flat_map, length, slice_index, take, true};
 ghost use Rattle.tlv_io.specs.LineTexts.{AddsIfRoom, HasRoomFor};
-ghost use Rattle.tlv_value.specs.Private.Unescaped.{AreUnescaped, IsPart, has_ascii, is_unescaped};
+ghost use Rattle.tlv_value.specs.Private.Unescaped.{AreUnescaped, IsPart, has_ascii_octets, is_unescaped};
 ghost use Rattle.tlv_value.specs.Units.{escaped_number, escaped_octet, is_printable, octet_text};
 ghost use Rattle.tlv_value.specs.Units.{printable_text, unit_size, unit_text, units, utf8_number};
 ghost use Rattle.tlv_value.specs.Units.{without_zeros};
@@ -22,7 +22,7 @@ pub(crate) fn write_characters(held: &mut HeldOctets, kind: Kind, row: &[u8])
 {
     // Most rows are written as they are. They are looked at and copied as a block of one size, so that no branch goes
     // by how many octets there are.
-    if has_ascii(kind) {
+    if has_ascii_octets(kind) {
         let block = block_of(row);
         if are_unescaped(&block) {
             return held.add_prefix(&block, row.len());
@@ -205,8 +205,8 @@ fn is_unescaped(octet: u8) -> bool
 }
 
 /// Whether a character of ASCII has one octet in contents of this kind.
-fn has_ascii(kind: Kind) -> bool
-    ensures { result ≡ has_ascii kind }
+fn has_ascii_octets(kind: Kind) -> bool
+    ensures { result ≡ has_ascii_octets kind }
 {
     matches!(kind, Kind::Text | Kind::Utf8)
 }
@@ -228,10 +228,10 @@ fn are_unescaped(octets: &[u8; ROW]) -> bool
 fn unescaped_size(kind: Kind, octets: &[u8]) -> usize
     ensures within { result ≤ length octets.now }
     ensures unescaped { AreUnescaped kind octets.now result }
-    ensures next { result < length octets.now → has_ascii kind ≡ true
+    ensures next { result < length octets.now → has_ascii_octets kind ≡ true
         → is_unescaped (slice_index octets.now result) ≡ false }
 {
-    if !has_ascii(kind) {
+    if !has_ascii_octets(kind) {
         return 0;
     }
     for i in 0..octets.len() {

@@ -38,7 +38,7 @@ pub struct ValueText {
     /// How many octets are still to come.
     left: u64,
     /// Whether the line of a long value was put.
-    wrote_line: bool,
+    has_put_line: bool,
     /// How many rows were full.
     row_count: u64,
     /// The octets of the row that has begun, or of a value that is not long.
@@ -74,7 +74,7 @@ impl ValueText {
         ValueText {
             primitive,
             left: primitive.size,
-            wrote_line: !matches!(primitive.kind, Kind::Bits),
+            has_put_line: !matches!(primitive.kind, Kind::Bits),
             row_count: 0,
             row: ArrayVec::new(),
         }
@@ -99,7 +99,7 @@ impl ValueText {
         ValueText {
             primitive,
             left: 0,
-            wrote_line: true,
+            has_put_line: true,
             row_count: 0,
             row: ArrayVec::new(),
         }
@@ -124,7 +124,7 @@ impl ValueText {
             → self.now ≡ new_value_text h layout
             → Puts D.state out.old out.new (open_lines h layout []) result }
     {
-        if !self.primitive.is_long() || !self.wrote_line {
+        if !self.primitive.is_long() || !self.has_put_line {
             return Ok(());
         }
         self.primitive.put_bare_line(out)
@@ -151,7 +151,7 @@ impl ValueText {
             return Ok(());
         }
         let (kind, layout) = (self.primitive.kind, self.primitive.layout);
-        if self.wrote_line {
+        if self.has_put_line {
             return put_rows(
                 kind,
                 layout,
@@ -164,7 +164,7 @@ impl ValueText {
         let Some((unused_bits, rest)) = octets.split_first() else {
             return Ok(());
         };
-        self.wrote_line = true;
+        self.has_put_line = true;
         begin_row(*unused_bits, &mut self.row);
         self.primitive.put_bits_line(*unused_bits, out)?;
         put_rows(kind, layout, &mut self.row, &mut self.row_count, rest, out)

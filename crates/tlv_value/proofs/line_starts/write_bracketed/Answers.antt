@@ -1,4 +1,4 @@
-use Rattle.std.proofs.Common.{◌∷◌, [], arith, rules}
+use Rattle.std.proofs.Common.{◌∷◌, [], append_assoc, arith, refl}
 use Rattle.tlv_value.proofs.TextLemmas.LineLengths.{added, prefix_short, number_short}
 use Rattle.tlv_value.proofs.line_starts.write_bracketed.Goals as goal
 
@@ -14,7 +14,7 @@ add-requires c =
 
 pub returns : goal.returns
 returns c = record {
-  text = search rules;
+  text = rw (c.add.ensures, c.number.ensures, c.add_prefix.ensures) (simp append_assoc refl);
   within =
     omega (
       arith,

@@ -1,4 +1,4 @@
-use Rattle.std.proofs.Common.{ℕ, ◌-◌, ◌*◌, ◌≤◌, ◌∷◌, [], length, ap, arith, length-append, rules}
+use Rattle.std.proofs.Common.{ℕ, ◌-◌, ◌*◌, ◌≤◌, ◌∷◌, [], append_assoc, length, ap, arith, length-append, refl}
 use Rattle.std.specs.Prelude.{codes, decimal}
 use Rattle.tlv_value.proofs.TextLemmas.Short.{digits-short}
 use Rattle.tlv_value.proofs.value.write_bit_count.Goals as goal
@@ -21,7 +21,7 @@ pub returns : goal.returns
 returns c =
     let n : ℕ = 8 * c.from.result - c.from-2.result in
     let short : length (decimal n) ≤ 39 = digits-short n (omega (arith, c.from.ensures, c.ranges.octet_count.fits)) in
-    record { text = search rules; within = omega (
+    record { text = rw (c.add-2.ensures, c.wide_number.ensures, c.add.ensures) (simp append_assoc refl); within = omega (
       arith,
       ap length c.add-2.ensures,
       length-append c.wide_number.new.self (codes " bits"),
