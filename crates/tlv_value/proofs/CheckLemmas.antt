@@ -5,3 +5,4 @@ pub mod Formed
 pub mod Forms
 pub mod Noting
 pub mod Within
+pub mod Clear

@@ -1,5 +1,5 @@
 -- Codes and texts of the findings.
-use Rattle.std.specs.Prelude.{ℕ, List, ◌++◌, codes}
+use Rattle.std.specs.Prelude.{ℕ, List, ◌∷◌, ◌++◌, codes}
 use Rattle.tlv_value.specs.declared.finding.Finding.{Finding}
 use Rattle.tlv_value.specs.declared.finding.Finding.TheVariants.{B01, B02, B03, B04, B05, B06, B07, B08, B09}
 use Rattle.tlv_value.specs.declared.finding.Finding.TheVariants.{B10, B11, B12, B13, B14, B15, B16, B17, B18}
@@ -48,4 +48,4 @@ finding_text finding = (code_and_text finding).1
 
 -- the code, a space and the text
 abbrev pub finding_wording : Finding → List ℕ
-finding_wording finding = finding_code finding ++ codes " " ++ finding_text finding
+finding_wording finding = finding_code finding ++ 0x20 ∷ finding_text finding

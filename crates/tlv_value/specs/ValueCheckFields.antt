@@ -21,6 +21,6 @@ value_check_state_of t = record {
 
 -- the row that is kept is an open row of UTF-8, at most two first octets are known, and the last one is below 256
 pub record ValueCheckFieldsAgree (t : Inside) : Type 0 where
-  pub begun : IsOpenRow Utf8 t.row.items
+  pub is_open : IsOpenRow Utf8 t.row.items
   pub last : t.last < 256
   pub known : t.known ≤ 2

@@ -15,7 +15,7 @@ value_text_state_of t = record {
 pub record ValueTextFieldsAgree (t : Inside) : Type 0 where
   pub counted : t.row_count + length t.row.items + t.left ≤ t.primitive.size
   -- of a long value the row that has begun
-  pub begun : is_long_primitive t.primitive ≡ true
+  pub is_open : is_long_primitive t.primitive ≡ true
       → IsOpenRow t.primitive.kind t.row.items
   -- of any other all octets that have come
   pub kept : is_long_primitive t.primitive ≡ false

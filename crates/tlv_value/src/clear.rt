@@ -102,8 +102,8 @@ fn has_clear_bits(contents: &[u8]) -> bool
 /// Whether each subidentifier begins and ends as it has to (8.19.2, 8.20.2).
 #[inline(always)]
 fn are_subidentifiers(contents: &[u8]) -> bool
-    ensures begun { IsTrue result → is_padded_after 0 contents.now ≡ false }
-    ensures ended { IsTrue result → nat_le 128 (last_octet 0 contents.now) ≡ false }
+    ensures begins { IsTrue result → is_padded_after 0 contents.now ≡ false }
+    ensures ends { IsTrue result → nat_le 128 (last_octet 0 contents.now) ≡ false }
 {
     last_octet(0, contents) < 128 && !is_padded_after(0, contents)
 }

@@ -183,7 +183,10 @@ impl ValueCheck {
                 self.is_padded = is_padded_with(self.is_padded, self.last, octets);
             }
             universal::UTF8_STRING => {
-                self.are_full_rows_utf8 = both(self.are_full_rows_utf8, take_rows(&mut self.row, octets));
+                self.are_full_rows_utf8 = both(
+                    self.are_full_rows_utf8,
+                    take_rows(&mut self.row, octets),
+                );
             }
             _ => self.are_octets_allowed = both(
                 self.are_octets_allowed,

@@ -15,7 +15,7 @@ pub(super) fn take_rows(row: &mut ArrayVec<u8, 64>, octets: &[u8]) -> bool
     requires { IsOpenRow Kind.Utf8 row.old.items }
     ensures utf8 { result ≡ list_all is_utf8 (full_rows Kind.Utf8 row.old.items octets.now) }
     ensures row { row.new.items ≡ open_row Kind.Utf8 row.old.items octets.now }
-    ensures begun { IsOpenRow Kind.Utf8 row.new.items }
+    ensures is_open { IsOpenRow Kind.Utf8 row.new.items }
 {
     let mut are_full_rows_utf8 = true;
     let mut rest = octets;

@@ -52,9 +52,9 @@ pub(crate) fn put_rows<D: Drain>(
     octets: &[u8],
     out: &mut Out<'_, D>,
 ) -> Result<(), WriteFault>
-    requires begun { IsOpenRow kind row.old.items }
+    requires is_open { IsOpenRow kind row.old.items }
     requires counted { row_count.old + length row.old.items + length octets.now < 2 ^ 64 }
-    ensures begun { IsOpenRow kind row.new.items }
+    ensures is_open { IsOpenRow kind row.new.items }
     ensures counted { row_count.new + length row.new.items
         ≤ row_count.old + length row.old.items + length octets.now }
     ensures row { OnOk result (row.new.items ≡ open_row kind row.old.items octets.now) }

@@ -16,11 +16,11 @@ pub returns : goal.returns
 returns c = record {
   text = rw (c.add.ensures, c.number.ensures, c.add_prefix.ensures) (simp append_assoc refl);
   within =
-    omega (
-      arith,
-      prefix_short _ _ c.args.prefix.now c.args.count c.add_prefix.ensures,
-      number_short _ _ _ c.ranges.number.fits c.number.ensures,
-      added _ _ (93 ∷ []) c.add.ensures,
-      c.requires.within,
-    );
+      omega (
+        arith,
+        prefix_short _ _ c.args.prefix.now c.args.count c.add_prefix.ensures,
+        number_short _ _ _ c.ranges.number.fits c.number.ensures,
+        added _ _ (93 ∷ []) c.add.ensures,
+        c.requires.within,
+      );
 }

@@ -8,9 +8,9 @@ use Rattle.tlv_value.proofs.line_starts.write_universal.Goals as goal
 pub returns-in-None : goal.returns-in-None
 returns-in-None c =
     let none : lookup (eqb c.args.number) universal_names ≡ None = sym c.in-None.ensures.name in record {
-    text = c.write_bracketed.ensures.text
-    ∙ ap (λ (name : Option (List ℕ)). c.args.held.now
-    ++ unwrap_or name (bracketed_tag (codes "UNIVERSAL ") c.args.number))
-    (sym none);
-    within = c.write_bracketed.ensures.within;
+      text = c.write_bracketed.ensures.text
+          ∙ ap (λ (name : Option (List ℕ)). c.args.held.now
+          ++ unwrap_or name (bracketed_tag (codes "UNIVERSAL ") c.args.number))
+          (sym none);
+      within = c.write_bracketed.ensures.within;
     }

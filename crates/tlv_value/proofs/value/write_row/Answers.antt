@@ -6,12 +6,18 @@ use Rattle.tlv_value.proofs.value.write_row.Goals as goal
 
 pub returns-in-Text : goal.returns-in-Text
 returns-in-Text c =
-    record { text = search rules; within = grown c.args.held.now c.write_quoted.new.held (32 ∷ quoted_text c.args.kind c.args.row.now) 323
-    c.write_quoted.ensures
-    (omega (arith, quoted-short c.args.kind c.args.row.now, c.requires.short)); }
+    record {
+      text = search rules;
+      within = grown c.args.held.now c.write_quoted.new.held (32 ∷ quoted_text c.args.kind c.args.row.now) 323
+          c.write_quoted.ensures
+          (omega (arith, quoted-short c.args.kind c.args.row.now, c.requires.short));
+    }
 
 pub returns-in_default : goal.returns-in_default
 returns-in_default c =
-    record { text = search rules; within = grown c.args.held.now c.write_joined_pairs.new.held (32 ∷ joined_pairs c.args.row.now) 323
-    c.write_joined_pairs.ensures
-    (omega (arith, joined-short c.args.row.now, c.requires.short)); }
+    record {
+      text = search rules;
+      within = grown c.args.held.now c.write_joined_pairs.new.held (32 ∷ joined_pairs c.args.row.now) 323
+          c.write_joined_pairs.ensures
+          (omega (arith, joined-short c.args.row.now, c.requires.short));
+    }

@@ -7,31 +7,46 @@ use Rattle.tlv_value.proofs.value.write_undotted.Goals as goal
 pub returns-in-Boolean : goal.returns-in-Boolean
 returns-in-Boolean c =
     let octets : List ℕ = c.args.contents.now in
-    record { text = search rules; within = grown c.args.held.now c.write_boolean.new.held (boolean_value octets).text 330 c.write_boolean.ensures
-    (boolean-short octets (rw c.in-Boolean.is at c.requires.short)); }
+    record {
+      text = search rules;
+      within = grown c.args.held.now c.write_boolean.new.held (boolean_value octets).text 330 c.write_boolean.ensures
+          (boolean-short octets (rw c.in-Boolean.is at c.requires.short));
+    }
 
 pub returns-in-Integer : goal.returns-in-Integer
 returns-in-Integer c =
     let octets : List ℕ = c.args.contents.now in
-    record { text = search rules; within = grown c.args.held.now c.write_integer.new.held (integer_value octets).text 330 c.write_integer.ensures
-    (integer-short octets (rw c.in-Integer.is at c.requires.short)); }
+    record {
+      text = search rules;
+      within = grown c.args.held.now c.write_integer.new.held (integer_value octets).text 330 c.write_integer.ensures
+          (integer-short octets (rw c.in-Integer.is at c.requires.short));
+    }
 
 pub returns-in-Bits : goal.returns-in-Bits
 returns-in-Bits c =
     let octets : List ℕ = c.args.contents.now in
-    record { text = search rules; within = grown c.args.held.now c.write_bits.new.held (bits_value octets).text 330 c.write_bits.ensures
-    (bits-short octets (rw c.in-Bits.is at c.requires.short)); }
+    record {
+      text = search rules;
+      within = grown c.args.held.now c.write_bits.new.held (bits_value octets).text 330 c.write_bits.ensures
+          (bits-short octets (rw c.in-Bits.is at c.requires.short));
+    }
 
 pub returns-in-Text : goal.returns-in-Text
 returns-in-Text c =
     let octets : List ℕ = c.args.contents.now in
     let short : length octets ≤ 64 = search rules in
-    record { text = search rules; within = grown c.args.held.now c.write_quoted.new.held (32 ∷ quoted_text c.args.kind octets) 330 c.write_quoted.ensures
-    (text-short c.args.kind octets short); }
+    record {
+      text = search rules;
+      within = grown c.args.held.now c.write_quoted.new.held (32 ∷ quoted_text c.args.kind octets) 330 c.write_quoted.ensures
+          (text-short c.args.kind octets short);
+    }
 
 pub returns-in-Octets : goal.returns-in-Octets
 returns-in-Octets c =
     let octets : List ℕ = c.args.contents.now in
     let short : length octets ≤ 64 = search rules in
-    record { text = search rules; within = grown c.args.held.now c.spaced_pairs.new.self (spaced_pairs octets) 330 c.spaced_pairs.ensures
-    (pairs-short octets short); }
+    record {
+      text = search rules;
+      within = grown c.args.held.now c.spaced_pairs.new.self (spaced_pairs octets) 330 c.spaced_pairs.ensures
+          (pairs-short octets short);
+    }

@@ -16,17 +16,17 @@ use Rattle.tlv_value.proofs.value_check.utf8_rows.take_rows.Goals as goal
 pub loop-rest-init : goal.loop-rest-init
 loop-rest-init c =
     let p = open-parts Utf8 c.args.row.now.items c.args.octets.now c.requires in
-    record { begun = c.requires; row = p.1; utf8 = ap (list_all is_utf8) p.0 }
+    record { is_open = c.requires; row = p.1; utf8 = ap (list_all is_utf8) p.0 }
 
-pub returns-then-is_empty-clause-begun : goal.returns-then-is_empty-clause-begun
-returns-then-is_empty-clause-begun c =
+pub returns-then-is_empty-clause-is_open : goal.returns-then-is_empty-clause-is_open
+returns-then-is_empty-clause-is_open c =
     let z : length c.split_at.result.1.now ≡ 0 =
     eqb-true (length c.split_at.result.1.now) 0 (sym c.if-is_empty.ensures) in
     let t : c.try_extend_from_slice.new.self.items ≡ c.loop-rest.row.items ++ c.split_at.result.0.now =
     grind (arith, common_steps) in
     rw t
     (kept-open Utf8 c.len.result c.loop-rest.row.items c.fitting_length.result c.loop-rest.rest.now
-    c.split_at.result.0.now c.loop-rest.invariant.begun c.len.ensures.value c.split_at.ensures.front
+    c.split_at.result.0.now c.loop-rest.invariant.is_open c.len.ensures.value c.split_at.ensures.front
     c.fitting_length.ensures.fits
     (omega arith) c.fitting_length.ensures.within (omega arith))
 
@@ -73,7 +73,7 @@ loop-rest-preserved c =
     let both : c.both-are_full_rows_utf8.result ≡ (c.loop-rest.are_full_rows_utf8 && is_utf8 (row ++ part)) =
     c.both-are_full_rows_utf8.ensures ∙ ap (λ (b : Bool). c.loop-rest.are_full_rows_utf8 && b) c.is_full_row_utf8.ensures.utf8 in
     record {
-      begun = rw none (none-open Utf8);
+      is_open = rw none (none-open Utf8);
       row = rw none (sym t.1 ∙ i.row);
       utf8 =
           rw none

@@ -10,7 +10,7 @@ use Rattle.tlv_value.proofs.value_check.utf8_rows.take_rows.Given as goal
 
 abbrev pub invariant-loop-rest : goal.invariant-loop-rest
 invariant-loop-rest l = record {
-  begun : IsOpenRow Utf8 l.row.items;
+  is_open : IsOpenRow Utf8 l.row.items;
   row : row_begun Utf8 l.row.items l.rest ≡ open_row Utf8 l.initial.row.items l.octets;
   utf8 : (l.are_full_rows_utf8 && list_all is_utf8 (rows_filled Utf8 l.row.items l.rest))
       ≡ list_all is_utf8 (full_rows Utf8 l.initial.row.items l.octets);
