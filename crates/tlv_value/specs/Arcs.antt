@@ -9,7 +9,7 @@ abbrev pub parts_of : List ℕ → List (List ℕ)
 parts_of [] = []
 parts_of (x ∷ xs) = if nat_lt x 128 then (x ∷ []) ∷ parts_of xs else onto_first x (parts_of xs)
 
--- of a part bits 7 to 1 of its octets, put together
+-- the number that a part stands for: bits 7 to 1 of its octets, put together
 abbrev pub subidentifier : List ℕ → ℕ
 subidentifier part = value_of 128 (map (λ x. x % 128) part)
 

@@ -90,7 +90,7 @@ object_value name_of relative octets =
 
 -- ---- Of any kind
 
--- the longest contents that wait for their last octet, so that they are on the line
+-- the longest contents that wait for their last octet, so that they can be on the line
 abbrev pub most_on_line : Kind → ℕ
 most_on_line Bits = 9
 most_on_line Object = 64

@@ -11,7 +11,7 @@ use Rattle.tlv_value.specs.Rows.{full_rows, open_row}
 use Rattle.tlv_value.specs.ValueLines.{element_line, has_line, header_kind, row_lines}
 use Rattle.tlv_value.specs.Value.{NameOf, is_long, long_text, row_octets, short_value}
 
--- what is kept: of a long value whether its line was written, how many rows were full, and the octets of the row that
+-- what is kept: of a long value whether its line was put, how many rows were full, and the octets of the row that
 -- has begun; of any other all octets
 pub record KeptContents : Type 0 where
   pub has_put_line : Bool
@@ -67,7 +67,7 @@ idle_value_text = new_value_text_of (record {
   layout = record { level = 0; limit = None; pure = false };
 })
 
--- what is kept after more octets of a long value whose line was written
+-- what is kept after more octets of a long value whose line was put
 abbrev pub kept_after_line : Kind → KeptContents → List ℕ → KeptContents
 kept_after_line kind k octets = record {
   has_put_line = true;
@@ -83,7 +83,7 @@ full_row_lines kind layout k octets = row_lines kind layout k.row_count (full_ro
 abbrev pub kept_with_line : Kind → ℕ → KeptContents
 kept_with_line kind x = record { has_put_line = true; row_count = 0; row = row_octets kind (x ∷ []) }
 
--- what is kept after more octets of a long value whose line was not written: it comes with the first of them
+-- what is kept after more octets of a long value whose line was not put: it comes with the first of them
 abbrev pub kept_before_line : Kind → KeptContents → List ℕ → KeptContents
 kept_before_line kind k [] = k
 kept_before_line kind k (x ∷ octets) = kept_after_line kind (kept_with_line kind x) octets

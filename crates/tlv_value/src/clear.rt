@@ -11,8 +11,8 @@ use crate::time::{general_canonical, utc_canonical};
 use crate::value_check::{are_allowed, is_any_set, is_padded_after, is_utf8, last_octet};
 use tlv_head::{Class, Header, universal};
 
-/// Whether nothing is found on these contents of a primitive with this header. `false` says nothing: it is a short look.
-/// It is `false` too if the type has no primitives, or if no universal type has the number.
+/// Whether nothing is found on these contents of a primitive with this header. `false` says nothing: it is a short
+/// look. It is `false` too if the type has no primitives, or if no universal type has the number.
 #[inline(always)]
 pub fn is_clear(header: &Header, contents: &[u8]) -> bool
     ensures contents { IsTrue result → all_contents_findings header.now contents.now ≡ [] }

@@ -43,7 +43,7 @@ fn write_joined_pairs(held: &mut HeldOctets, octets: &[u8])
     }
 }
 
-/// Adds a value that fits on its line with a space before it, if there is one. An object identifier is shown in
+/// Adds a value that is not long, with a space before it, if there is one. An object identifier is shown in
 /// hexadecimal.
 #[inline(always)]
 pub(crate) fn write_undotted(held: &mut HeldOctets, kind: Kind, contents: &[u8])

@@ -37,10 +37,12 @@ padded-join previous (z ∷ x) y =
     or-assoc (nat_lt previous 128 && eqb z 128) (is_padded_after z x) (is_padded_after (last_octet z x) y)
     ∙ ap (λ (b : Bool). (nat_lt previous 128 && eqb z 128) || b) (padded-join z x y)
 
-utf8-join : (rows more : List (List ℕ)) → (list_all is_utf8 rows && list_all is_utf8 more) ≡ list_all is_utf8 (rows ++ more)
+utf8-join : (rows more : List (List ℕ))
+    → (list_all is_utf8 rows && list_all is_utf8 more) ≡ list_all is_utf8 (rows ++ more)
 utf8-join [] more = refl
 utf8-join (row ∷ rows) more =
-    and-assoc (is_utf8 row) (list_all is_utf8 rows) (list_all is_utf8 more) ∙ ap (λ (b : Bool). is_utf8 row && b) (utf8-join rows more)
+    and-assoc (is_utf8 row) (list_all is_utf8 rows) (list_all is_utf8 more)
+    ∙ ap (λ (b : Bool). is_utf8 row && b) (utf8-join rows more)
 
 take-twice : (n : ℕ) (xs ys : List ℕ) → take n (take n xs ++ ys) ≡ take n (xs ++ ys)
 take-twice zero xs ys = refl
@@ -67,7 +69,8 @@ formed-at : (b are_full_rows_utf8 : Bool) (row x y : List ℕ)
     else (if b then are_full_rows_utf8 && list_all is_utf8 (full_rows Utf8 row x) else are_full_rows_utf8))
     ≡ (if b then are_full_rows_utf8 && list_all is_utf8 (full_rows Utf8 row (x ++ y)) else are_full_rows_utf8)
 formed-at true are_full_rows_utf8 row x y =
-    and-assoc are_full_rows_utf8 (list_all is_utf8 (full_rows Utf8 row x)) (list_all is_utf8 (full_rows Utf8 (open_row Utf8 row x) y))
+    and-assoc are_full_rows_utf8 (list_all is_utf8 (full_rows Utf8 row x))
+    (list_all is_utf8 (full_rows Utf8 (open_row Utf8 row x) y))
     ∙ ap (λ (b : Bool). are_full_rows_utf8 && b)
     (utf8-join (full_rows Utf8 row x) (full_rows Utf8 (open_row Utf8 row x) y)
     ∙ ap (list_all is_utf8) (sym (rows-join Utf8 row x y).0))
@@ -118,8 +121,8 @@ join-by true e t s x y =
     state_with-eq s (s.left - length x - length y) (s.left - length (x ++ y))
     (take 2 (take 2 (s.first_octets ++ x) ++ y))
     (take 2 (s.first_octets ++ (x ++ y))) (last_octet (last_octet s.last x) y) (last_octet s.last (x ++ y))
-    s.are_octets_allowed s.are_octets_allowed s.is_padded s.is_padded s.are_full_rows_utf8 s.are_full_rows_utf8 s.row s.row
-    s.time s.time
+    s.are_octets_allowed s.are_octets_allowed s.is_padded s.is_padded s.are_full_rows_utf8 s.are_full_rows_utf8
+    s.row s.row s.time s.time
     l (take-join 2 s.first_octets x y) (last-join s.last x y) refl refl refl refl refl
 join-by false true t s x y =
     let l : s.left - length x - length y ≡ s.left - length (x ++ y) = omega (arith, length-append x y) in
@@ -138,7 +141,8 @@ join-by false false true s x y =
     let l : s.left - length x - length y ≡ s.left - length (x ++ y) = omega (arith, length-append x y) in
     state_with-eq s (s.left - length x - length y) (s.left - length (x ++ y)) s.first_octets s.first_octets s.last
     s.last
-    s.are_octets_allowed s.are_octets_allowed s.is_padded s.is_padded s.are_full_rows_utf8 s.are_full_rows_utf8 s.row s.row
+    s.are_octets_allowed s.are_octets_allowed s.is_padded s.is_padded s.are_full_rows_utf8 s.are_full_rows_utf8
+    s.row s.row
     (take 64 (take 64 (s.time ++ x) ++ y))
     (take 64 (s.time ++ (x ++ y)))
     l refl refl refl refl refl refl (take-join 64 s.time x y)

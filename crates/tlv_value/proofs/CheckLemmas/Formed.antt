@@ -49,7 +49,8 @@ joined_at row x xs true true more e u =
     let first : IsUtf8 (row ++ x ∷ []) =
     IsUtf8-from_is_utf8 (row ++ x ∷ [])
     (and_left (is_utf8 (row ++ x ∷ [])) (list_all is_utf8 (rows_filled Utf8 [] xs)) e) in
-    let rest : IsUtf8 xs = more [] (and_right (is_utf8 (row ++ x ∷ [])) (list_all is_utf8 (rows_filled Utf8 [] xs)) e) u in
+    let rest : IsUtf8 xs =
+    more [] (and_right (is_utf8 (row ++ x ∷ [])) (list_all is_utf8 (rows_filled Utf8 [] xs)) e) u in
     rw (← append_assoc row (x ∷ []) xs) (IsUtf8-append (row ++ x ∷ []) xs first rest)
 joined_at row x xs true false more e u = rw (← append_assoc row (x ∷ []) xs) (more (row ++ x ∷ []) e u)
 joined_at row x xs false last more e u =
@@ -274,7 +275,8 @@ same-bool false true f g = g refl
 all-formed : (c : List ℕ) → IsUtf8 c → AreFormed [] c
 all-formed c u = rw (← u.1.1) (formed [] u.0 u.1.0 IsUtf8-nil (omega arith))
 
-steps-formed : (c : List ℕ) → ((true && list_all is_utf8 (rows_filled Utf8 [] c)) && is_utf8 (row_begun Utf8 [] c)) ≡ is_utf8 c
+steps-formed : (c : List ℕ)
+    → ((true && list_all is_utf8 (rows_filled Utf8 [] c)) && is_utf8 (row_begun Utf8 [] c)) ≡ is_utf8 c
 steps-formed c =
     same-bool (list_all is_utf8 (rows_filled Utf8 [] c) && is_utf8 (row_begun Utf8 [] c)) (is_utf8 c)
     (λ e. is_utf8-from_IsUtf8 c
@@ -289,9 +291,11 @@ pub rows-formed_at : (c : List ℕ)
     → ((true && list_all is_utf8 (full_rows Utf8 [] c)) && is_utf8 (open_row Utf8 [] c)) ≡ is_utf8 c
 rows-formed_at c =
     let p = cut-parts Utf8 c in
-    ap₂ (λ (rows : List (List ℕ)) (row : List ℕ). list_all is_utf8 rows && is_utf8 row) (sym p.0) (sym p.1) ∙ steps-formed c
+    ap₂ (λ (rows : List (List ℕ)) (row : List ℕ). list_all is_utf8 rows && is_utf8 row) (sym p.0) (sym p.1)
+    ∙ steps-formed c
 
-utf8-append : (rows more : List (List ℕ)) → list_all is_utf8 (rows ++ more) ≡ (list_all is_utf8 rows && list_all is_utf8 more)
+utf8-append : (rows more : List (List ℕ))
+    → list_all is_utf8 (rows ++ more) ≡ (list_all is_utf8 rows && list_all is_utf8 more)
 utf8-append [] more = refl
 utf8-append (row ∷ rows) more =
     ap (λ (b : Bool). is_utf8 row && b) (utf8-append rows more)

@@ -9,8 +9,8 @@ use Rattle.std.proofs.lemmas.List.Folds.{list_any-append}
 use Rattle.std.specs.Char.{is_ascii_digit}
 use Rattle.tlv_value.specs.Times.{Form, canonical_fraction, canonical_generalized_time_form, canonical_utc_time_form}
 use Rattle.tlv_value.specs.Times.{digits, generalized_tail, generalized_time_form, has_empty_rest, has_form, hour}
-use Rattle.tlv_value.specs.Times.{mark, maybe, minute, month_and_day, no_octets, octet_between, second, sign, two_digits}
-use Rattle.tlv_value.specs.Times.{utc_time_form, ◌or◌, ◌then◌}
+use Rattle.tlv_value.specs.Times.{mark, maybe, minute, month_and_day, no_octets, octet_between, second, sign}
+use Rattle.tlv_value.specs.Times.{two_digits, utc_time_form, ◌or◌, ◌then◌}
 use Rattle.tlv_value.specs.Private.TimeFindings.{generalized_time_findings, time_findings, utc_time_findings}
 
 abbrev is_nil : List ℕ → Bool
@@ -158,7 +158,8 @@ not-zero x h = grind (arith, nat_tests)
 
 -- digits, and one after them that is not 0, are digits
 abbrev IsMore : (List ℕ → Bool) → List ℕ → Type 0
-IsMore test octets = list_any test ((digits then octet_between 49 57) octets) ≡ true → list_any test (digits octets) ≡ true
+IsMore test octets =
+    list_any test ((digits then octet_between 49 57) octets) ≡ true → list_any test (digits octets) ≡ true
 
 -- a digit before digits
 digit-first :

@@ -320,7 +320,8 @@ full_text : (text : List ℕ) → 0 < length text → (get_or text 0 0 ≡ 35 �
 full_text [] some mark = absurd (omega arith)
 full_text (x ∷ xs) some mark = let e : (x == 35) ≡ false = ne_eqb x 35 mark in rw e refl
 
-pub full_entry : (line text : List ℕ) (end : ℕ) → length line ≤ 400 → text ≡ without_outer_blanks (strip_carriage_return line)
+pub full_entry : (line text : List ℕ) (end : ℕ) → length line ≤ 400
+    → text ≡ without_outer_blanks (strip_carriage_return line)
     → 0 < length text → (get_or text 0 0 ≡ 35 → ⊥)
     → end ≡ position_or_len is_blank text
     → names_line line ≡ pair_line (take end text) (without_first_blanks (drop end text))

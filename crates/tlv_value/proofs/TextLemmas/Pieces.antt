@@ -66,7 +66,8 @@ module _ (kind : Kind) (layout : Layout) (line : List ℕ → List ℕ) (size : 
   first_new (u ∷ x) = line (long_text kind size (u ∷ [])) ++ full_row_lines kind layout (kept_with_line kind u) x
 
   abbrev new_by : Bool → Bool → KeptContents → List ℕ → List ℕ
-  new_by long has_put_line k x = if long then (if has_put_line then full_row_lines kind layout k x else first_new x) else []
+  new_by long has_put_line k x =
+      if long then (if has_put_line then full_row_lines kind layout k x else first_new x) else []
 
   join-kept : (long has_put_line : Bool) (k : KeptContents) (x y : List ℕ) → k.has_put_line ≡ has_put_line
       → kept_by long (kept_by long has_put_line k x).has_put_line (kept_by long has_put_line k x) y

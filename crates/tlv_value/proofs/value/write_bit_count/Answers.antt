@@ -22,7 +22,9 @@ returns c =
     let n : ℕ = 8 * c.from.result - c.from-2.result in
     let short : length (decimal n) ≤ 39 = digits-short n (omega (arith, c.from.ensures, c.ranges.octet_count.fits)) in
     record {
-      text = rw (c.add-2.ensures, c.wide_number.ensures, c.add.ensures, c.from.ensures, c.from-2.ensures) (simp append_assoc refl);
+      text =
+          rw (c.add-2.ensures, c.wide_number.ensures, c.add.ensures, c.from.ensures, c.from-2.ensures)
+          (simp append_assoc refl);
       within = omega (
         arith,
         ap length c.add-2.ensures,

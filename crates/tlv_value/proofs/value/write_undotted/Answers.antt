@@ -37,8 +37,9 @@ returns-in-Text c =
     let short : length octets ≤ 64 = search rules in
     record {
       text = search rules;
-      within = grown c.args.held.now c.write_quoted.new.held (32 ∷ quoted_text c.args.kind octets) 330 c.write_quoted.ensures
-          (text-short c.args.kind octets short);
+      within =
+          grown c.args.held.now c.write_quoted.new.held (32 ∷ quoted_text c.args.kind octets) 330
+          c.write_quoted.ensures (text-short c.args.kind octets short);
     }
 
 pub returns-in-Octets : goal.returns-in-Octets

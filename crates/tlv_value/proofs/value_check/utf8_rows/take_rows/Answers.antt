@@ -71,7 +71,8 @@ loop-rest-preserved c =
     c.fitting_length.ensures.within (omega arith) c.fitting_length.ensures.next claim in
     let none : c.is_full_row_utf8.new.row.items ≡ [] = c.is_full_row_utf8.ensures.row in
     let both : c.both-are_full_rows_utf8.result ≡ (c.loop-rest.are_full_rows_utf8 && is_utf8 (row ++ part)) =
-    c.both-are_full_rows_utf8.ensures ∙ ap (λ (b : Bool). c.loop-rest.are_full_rows_utf8 && b) c.is_full_row_utf8.ensures.utf8 in
+    c.both-are_full_rows_utf8.ensures
+    ∙ ap (λ (b : Bool). c.loop-rest.are_full_rows_utf8 && b) c.is_full_row_utf8.ensures.utf8 in
     record {
       is_open = rw none (none-open Utf8);
       row = rw none (sym t.1 ∙ i.row);
