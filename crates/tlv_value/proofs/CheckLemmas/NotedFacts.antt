@@ -40,10 +40,6 @@ padded-noted (x ∷ y ∷ c) = refl
 take-all : (n : ℕ) (c : List ℕ) → length c ≤ n → take n c ≡ c
 take-all n c h = grind (arith, common_steps)
 
-all-is : (test : ℕ → Bool) → ((x : ℕ) → test x ≡ true) → (c : List ℕ) → list_all test c ≡ true
-all-is test e [] = refl
-all-is test e (x ∷ c) = rw (e x) (all-is test e c)
-
 -- ---- type by type: those of which more is asked than the number of octets, and what was noted of each octet
 
 boolean-same : (c : List ℕ) → Same 1 c
