@@ -1,16 +1,21 @@
 -- There is a cut of any octets: the rows that they make one after another, octet by octet.
 use Rattle.std.proofs.Common.{◌≡◌, ◌≢◌, ◌⊎◌, inl, inr, ℕ, zero, suc, ◌+◌, ◌<◌, ◌≤◌, Bool, true, false, List, [], ◌∷◌}
 use Rattle.std.proofs.Common.{◌++◌, length, get_or, refl, ap, ◌∙◌, arith, ⊎_elim, append_assoc, length-append}
-use Rattle.std.specs.Prelude.{eqb, if◌then◌else◌}
+use Rattle.std.specs.Prelude.{eqb, nat_le, if◌then◌else◌, All}
+use Rattle.std.specs.List.{concat}
+use Rattle.std.proofs.lemmas.List.Elements.{All-cons, All-nil}
 use Rattle.std.specs.Int.{is_in_range}
 use Rattle.std.proofs.lemmas.Bool.{eqb-true, leb-true}
 use Rattle.std.proofs.lemmas.Bool.Decides.{nat_tests}
-use Rattle.tlv_io.specs.Cuts.{AreFull, AreRows, RowsOf, IsCut, IsFull, IsRow, has_room_by, last_rows, octets_of_rows}
-use Rattle.tlv_io.specs.Cuts.{utf8_length}
+use Rattle.tlv_io.specs.Cuts.{AreFull, RowsOf, IsCut, IsFull, IsRow, last_rows, utf8_length}
 
 -- ---- octet by octet
 
 module _ (size : ℕ) (wanted : ℕ → ℕ) where
+  -- after so many octets of a row there is room for the octet x, and for those that are to be kept in one row with it
+  abbrev pub has_room_by : ℕ → ℕ → Bool
+  has_room_by octets x = nat_le (octets + wanted x) size
+
   -- the row is full with one octet more
   abbrev lacks_one_octet : List ℕ → Bool
   lacks_one_octet row = eqb (length row + 1) size
@@ -21,7 +26,7 @@ module _ (size : ℕ) (wanted : ℕ → ℕ) where
   rows_filled_by row [] = []
   rows_filled_by row (x ∷ xs) =
       let more = row ++ x ∷ [] in
-      if has_room_by size wanted (length row) x
+      if has_room_by (length row) x
       then (if lacks_one_octet row then more ∷ rows_filled_by [] xs else rows_filled_by more xs)
       else row ∷ rows_filled_by (x ∷ []) xs
 
@@ -29,7 +34,7 @@ module _ (size : ℕ) (wanted : ℕ → ℕ) where
   abbrev pub row_begun_by : List ℕ → List ℕ → List ℕ
   row_begun_by row [] = row
   row_begun_by row (x ∷ xs) =
-      if has_room_by size wanted (length row) x
+      if has_room_by (length row) x
       then (if lacks_one_octet row then row_begun_by [] xs else row_begun_by (row ++ x ∷ []) xs)
       else row_begun_by (x ∷ []) xs
 
@@ -105,8 +110,8 @@ module _ (size : ℕ) (wanted : ℕ → ℕ) (some : 1 ≤ size) (fits : (x : �
   HeadIs x (row ∷ rows) = get_or row 0 0 ≡ x
 
   record CutOn (row xs : List ℕ) (rows : List (List ℕ)) : Type 0 where
-    together : octets_of_rows rows ≡ row ++ xs
-    each : AreRows size wanted rows
+    together : concat rows ≡ row ++ xs
+    each : All (IsRow size wanted) rows
     full : AreFull size wanted rows
     head : 1 ≤ length row → HeadIs (get_or row 0 0) rows
 
@@ -124,10 +129,17 @@ module _ (size : ℕ) (wanted : ℕ → ℕ) (some : 1 ≤ size) (fits : (x : �
   head-of x rows next more e h = rw e at h
 
   cut-end : (row : List ℕ) → AllFit size wanted row → length row < size → CutOn row [] (last_rows row)
-  cut-end [] f h = record { together = refl; each = tt; full = tt; head = λ s. absurd (omega arith) }
+  cut-end [] f h = record {
+    together = refl;
+    each = All-nil (IsRow size wanted);
+    full = tt;
+    head = λ s. absurd (omega arith);
+  }
   cut-end (x ∷ row) f h = record {
     together = refl;
-    each = (is-row (x ∷ row) f (omega arith) (omega arith), tt);
+    each =
+        All-cons (IsRow size wanted) (x ∷ row) [] (is-row (x ∷ row) f (omega arith) (omega arith))
+        (All-nil (IsRow size wanted));
     full = tt;
     head = λ s. refl;
   }
@@ -161,7 +173,9 @@ module _ (size : ℕ) (wanted : ℕ → ℕ) (some : 1 ≤ size) (fits : (x : �
       let rows = rows_after_row [] xs in
       record {
         together = ap (λ (t : List ℕ). (row ++ x ∷ []) ++ t) c.together ∙ append_assoc row (x ∷ []) xs;
-        each = (is-row (row ++ x ∷ []) (fit-more size wanted row x f r) (omega (arith, n)) (omega (arith, n)), c.each);
+        each =
+            All-cons (IsRow size wanted) (row ++ x ∷ []) rows
+            (is-row (row ++ x ∷ []) (fit-more size wanted row x f r) (omega (arith, n)) (omega (arith, n))) c.each;
         full = full-before (row ++ x ∷ []) rows c.full (λ next rest e. inl n);
         head = λ s. head-more row x ((row ++ x ∷ []) ∷ rows) refl s;
       }
@@ -186,7 +200,7 @@ module _ (size : ℕ) (wanted : ℕ → ℕ) (some : 1 ≤ size) (fits : (x : �
       let none : size < length row + wanted x = grind (arith, nat_tests) in
       record {
         together = ap (λ (t : List ℕ). row ++ t) c.together;
-        each = (is-row row f (omega arith) s, c.each);
+        each = All-cons (IsRow size wanted) row rows (is-row row f (omega arith) s) c.each;
         full =
             full-before row rows c.full
             (λ next rest e. inr (rw (head-of x rows next rest e (c.head (omega arith))) none));

@@ -1,12 +1,9 @@
--- How octets are cut into rows, as a condition on rows: by how many octets a full row has, and how many are to be kept
--- in one row, from an octet on.
-use Rattle.std.specs.Prelude.{◌≡◌, ◌≢◌, ◌⊎◌, ℕ, ◌+◌, ◌<◌, ◌≤◌, Bool, nat_le, if◌then◌else◌, List, [], ◌∷◌, ◌++◌}
-use Rattle.std.specs.Prelude.{length, slice_index}
+-- How octets are cut into rows, as a condition on rows: by how many octets a row has room for, and how many are to be
+-- kept in one row, from an octet on.
+use Rattle.std.specs.Prelude.{◌≡◌, ◌≢◌, ◌⊎◌, ℕ, ◌+◌, ◌<◌, ◌≤◌, if◌then◌else◌, All, List, [], ◌∷◌, length}
+use Rattle.std.specs.Prelude.{slice_index}
+use Rattle.std.specs.List.{concat}
 use Rattle.std.specs.Int.{is_in_range}
-
-abbrev pub octets_of_rows : List (List ℕ) → List ℕ
-octets_of_rows [] = []
-octets_of_rows (row ∷ rows) = row ++ octets_of_rows rows
 
 -- a last row, if it has octets
 abbrev pub last_rows : List ℕ → List (List ℕ)
@@ -18,21 +15,14 @@ module _ (size : ℕ) (wanted : ℕ → ℕ) where
   abbrev pub SplitsNone : List ℕ → Type 0
   SplitsNone row = (i : ℕ) → i < length row → i + wanted (slice_index row i) ≤ size
 
-  -- after so many octets of a row there is room for the octet x, and for those that are to be kept in one row with it
-  abbrev pub has_room_by : ℕ → ℕ → Bool
-  has_room_by octets x = nat_le (octets + wanted x) size
-
   -- a row has octets, no more than it has room for, and splits none that are to be kept in one row
   pub record IsRow (row : List ℕ) : Type 0 where
     pub some : row ≢ []
     pub short : length row ≤ size
     pub whole : SplitsNone row
 
-  abbrev pub AreRows : List (List ℕ) → Type 0
-  AreRows [] = Unit {0}
-  AreRows (row ∷ rows) = IsRow row × AreRows rows
-
-  -- a row before another has no room, or none for the first octet of the other
+  -- a row before another has no room, or none for the octets that are to be kept in one row from the first octet of
+  -- the other on
   abbrev pub IsFull : List ℕ → List ℕ → Type 0
   IsFull row next = (length row ≡ size) ⊎ (size < length row + wanted (slice_index next 0))
 
@@ -41,9 +31,10 @@ module _ (size : ℕ) (wanted : ℕ → ℕ) where
   AreFull (row ∷ []) = Unit {0}
   AreFull (row ∷ next ∷ rows) = IsFull row next × AreFull (next ∷ rows)
 
+  -- the rows are a cut of the octets: they are the octets in order, each is a row, and each but the last is full
   pub record IsCut (octets : List ℕ) (rows : List (List ℕ)) : Type 0 where
-    pub together : octets_of_rows rows ≡ octets
-    pub each : AreRows rows
+    pub together : concat rows ≡ octets
+    pub each : All IsRow rows
     pub full : AreFull rows
 
   -- rows that are a cut of the octets

@@ -1,16 +1,17 @@
--- Lines that grow, and texts that they are made of.
+-- What is added to the octets that an `Out` holds, and texts that lines are made of.
 use Rattle.std.specs.Prelude.{◌≡◌, ℕ, ◌+◌, ◌-◌, ◌≤◌, List, [], ◌∷◌, ◌++◌, codes, decimal, flat_map, length, replicate}
 use Rattle.hex.specs.Hex.{encode_lower}
 
--- a line of these octets has room for so many more
+-- an `Out` that holds these octets has room for so many more
 abbrev pub HasRoomFor : List ℕ → ℕ → Type 0
-HasRoomFor line count = length line + count ≤ 4096
+HasRoomFor held count = length held + count ≤ 4096
 
--- at most so many octets were added
-abbrev pub GrowsBy : ℕ → List ℕ → List ℕ → Type 0
-GrowsBy n old new = length new ≤ length old + n
+-- the text was added to the octets held, which are at most n more than before
+pub record AddsAtMost (n : ℕ) (old new added : List ℕ) : Type 0 where
+  pub text : new ≡ old ++ added
+  pub within : length new ≤ length old + n
 
--- the text was added to the line, if there was room for it
+-- the text was added to the octets held, if there was room for it
 abbrev pub AddsIfRoom : List ℕ → List ℕ → List ℕ → Type 0
 AddsIfRoom old new text = HasRoomFor old (length text) → new ≡ old ++ text
 
@@ -21,7 +22,7 @@ spaces n = replicate n 0x20
 abbrev pub at_right : ℕ → List ℕ → List ℕ
 at_right places text = spaces (places - length text) ++ text
 
--- the first columns of a line: where an element is, and how many contents octets it has, or a word
+-- the first columns of a line: an offset, and how many contents octets an element has, or a word
 abbrev pub columns : ℕ → List ℕ → List ℕ
 columns offset word = at_right 8 (decimal offset) ++ codes " " ++ at_right 6 word ++ codes ": "
 

@@ -1,2 +1,3 @@
 pub mod LastRead
 pub mod ReadLog
+pub mod WritesOver

@@ -89,7 +89,7 @@ impl HeldOctets {
     /// Adds the first of these octets. There is room for all, so that they can be copied at once.
     #[inline(always)]
     pub fn add_prefix<const N: usize>(&mut self, octets: &[u8; N], count: usize)
-        requires few { count ≤ N }
+        requires within { count ≤ N }
         requires room { HasRoomFor self.old N }
         ensures { self.new ≡ self.old ++ take count octets.now }
     {

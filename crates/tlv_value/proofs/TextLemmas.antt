@@ -1,4 +1,4 @@
-pub mod ArcWords
+pub mod ArcTexts
 pub mod Arcs
 pub mod Ends
 pub mod LineLengths
@@ -9,7 +9,6 @@ pub mod UnescapedUnits
 pub mod Puts
 pub mod Rests
 pub mod Short
-pub mod Subidentifier
 pub mod Texts
 pub mod TypeKinds
 pub mod UnitSteps

@@ -9,9 +9,12 @@ abbrev pub parts_of : List ℕ → List (List ℕ)
 parts_of [] = []
 parts_of (x ∷ xs) = if nat_lt x 128 then (x ∷ []) ∷ parts_of xs else onto_first x (parts_of xs)
 
--- of each part bits 7 to 1 of its octets, put together
+-- the number that a part stands for: bits 7 to 1 of its octets, put together
+abbrev pub subidentifier : List ℕ → ℕ
+subidentifier part = value_of 128 (map (λ x. x % 128) part)
+
 abbrev pub subidentifiers : List ℕ → List ℕ
-subidentifiers octets = map (λ part. value_of 128 (map (λ x. x % 128) part)) (parts_of octets)
+subidentifiers octets = map subidentifier (parts_of octets)
 
 -- 8.19.4: the two arcs that the first subidentifier stands for
 abbrev pub first_arcs : ℕ → List ℕ
@@ -34,7 +37,7 @@ is_finished octets = nat_le 1 (length octets) && nat_lt (slice_index octets (len
 abbrev pub dotted_arcs : List ℕ → List ℕ
 dotted_arcs arcs = join_by decimal (codes ".") arcs
 
--- the arcs of 1 to 64 octets
+-- the dotted text of 1 to 64 octets: none if the last subidentifier is unfinished, or one is 2^128 or more
 abbrev pub dotted_of : Bool → List ℕ → Option (List ℕ)
 dotted_of relative octets =
     if is_finished octets && nat_le (length octets) 64 && list_all (λ v. nat_lt v (2 ^ 128)) (subidentifiers octets)

@@ -1,9 +1,11 @@
 -- Laws of what is found on contents.
+use Rattle.std.specs.Str.{is_utf8}
+use Rattle.std.specs.List.{list_all}
 use Rattle.std.specs.Prelude.{◌≡◌, ◌↔◌, ℕ, true, List, ◌++◌, length, IsUtf8}
 use Rattle.tlv_head.specs.Header.{HeaderValue, announced_length}
 use Rattle.tlv_value.specs.declared.kind.Kind.TheVariants.{Utf8}
 use Rattle.tlv_value.specs.Checks.{all_contents_findings}
-use Rattle.tlv_value.specs.ValueCheckState.{ValueCheckState, all_utf8, findings_in, new_value_check}
+use Rattle.tlv_value.specs.ValueCheckState.{ValueCheckState, findings_in, new_value_check}
 use Rattle.tlv_value.specs.ValueCheckState.{value_check_after}
 use Rattle.tlv_value.specs.Rows.{rows_of}
 
@@ -20,4 +22,4 @@ FindingsEnd =
 
 -- contents are well-formed UTF-8 exactly if each of their rows is
 abbrev pub RowsAreUtf8 : Type 0
-RowsAreUtf8 = (octets : List ℕ) → IsUtf8 octets ↔ (all_utf8 (rows_of Utf8 octets) ≡ true)
+RowsAreUtf8 = (octets : List ℕ) → IsUtf8 octets ↔ (list_all is_utf8 (rows_of Utf8 octets) ≡ true)

@@ -63,9 +63,9 @@ are_whole_characters number size =
 -- the contents have the characters of the type with this number
 abbrev pub allows : ℕ → List ℕ → Bool
 allows number octets =
-    if eqb number universal.utf8_string then is_utf8 octets
-    else are_whole_characters number (length octets)
-    && option_map_or (λ test. list_all test octets) (octet_test number) true
+    (if eqb number universal.utf8_string then is_utf8 octets
+    else are_whole_characters number (length octets))
+    && list_all (allows_octet number) octets
 
 -- ---- What the conditions go by
 
@@ -84,7 +84,7 @@ pub record ContentsFacts : Type 0 where
   -- the first octets of a time: 64, if there are as many, or more
   pub time : List ℕ
 
--- of these contents of the type with this number
+-- what is known of these contents, of the type with this number
 abbrev pub facts_of : ℕ → List ℕ → ContentsFacts
 facts_of number contents = record {
   size = length contents;
@@ -171,7 +171,7 @@ type_conditions number facts =
     )
     ∷ []
 
--- on these contents of a primitive with this header
+-- what may be found on these contents of a primitive with this header
 abbrev pub contents_conditions : HeaderValue → List ℕ → List (Bool × Finding)
 contents_conditions h contents = type_conditions (type_number h) (facts_of (type_number h) contents)
 

@@ -1,4 +1,4 @@
--- How the contents of a primitive are read, by its tag: X.680, table 1.
+-- How the contents of a primitive are shown, by its tag: X.680, table 1.
 use Rattle.std.specs.Prelude.{ℕ, Bool, true, false, eqb, List, [], ◌∷◌}
 use Rattle.std.specs.Map.{lookup}
 use Rattle.std.specs.Option.{unwrap_or}
@@ -9,7 +9,7 @@ use Rattle.tlv_value.specs.declared.kind.Kind.{Kind}
 use Rattle.tlv_value.specs.declared.kind.Kind.TheVariants.{Octets, Boolean, Integer, Bits, Object, Relative}
 use Rattle.tlv_value.specs.declared.kind.Kind.TheVariants.{Text, Utf8, Ucs2, Ucs4}
 
--- the universal types whose contents are read as more than octets
+-- the universal types whose contents are not shown as pairs of digits
 abbrev pub universal_kinds : List (ℕ × Kind)
 universal_kinds =
     (universal.boolean, Boolean)

@@ -18,7 +18,7 @@ PiecesJoin =
     → (value_text_after (value_text_after s x) y ≡ value_text_after s (x ++ y))
     × (contents_lines s (x ++ y) ≡ contents_lines s x ++ contents_lines (value_text_after s x) y)
 
--- with the header, the lines of a primitive without contents so far; the state then stands for none
+-- with the header, the lines of a primitive without contents so far; the state is then the one before any octet
 abbrev pub LinesBegin : Type 0
 LinesBegin =
     (h : HeaderValue) (layout : Layout)

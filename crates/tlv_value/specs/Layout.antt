@@ -1,13 +1,13 @@
--- The lines of a value: what begins them, and what is left out.
+-- The lines of a dump: what begins them, and what is left out.
 use Rattle.std.specs.Prelude.{ℕ, ◌+◌, ◌*◌, Bool, eqb, nat_lt, if◌then◌else◌, List, [], ◌∷◌, ◌++◌, Option}
 use Rattle.std.specs.Prelude.{Some, None, codes}
 use Rattle.std.specs.Option.{option_map_or}
 use Rattle.tlv_value.specs.declared.layout.Layout.{Layout}
 pub use Rattle.tlv_io.specs.LineTexts.{columns, at_right, spaces}
 
--- the first columns of a row
-abbrev pub no_columns : List ℕ
-no_columns = spaces 17
+-- 17 spaces, in place of the first columns, for a line that has no offset
+abbrev pub blank_columns : List ℕ
+blank_columns = spaces 17
 
 -- what is before the text of a line: its first columns, and the indentation of its level
 abbrev pub margin : Bool → List ℕ → ℕ → List ℕ
@@ -20,17 +20,17 @@ line_margin layout first = margin layout.pure first layout.level
 abbrev pub line : Bool → List ℕ → ℕ → List ℕ → List ℕ
 line pure first level text = margin pure first level ++ text ++ 10 ∷ []
 
--- a line one level further in, without first columns
+-- a line one level further in, with blank first columns
 abbrev pub inner_line : Layout → List ℕ → List ℕ
-inner_line layout text = line layout.pure no_columns (layout.level + 1) text
+inner_line layout text = line layout.pure blank_columns (layout.level + 1) text
 
 -- a row of this number, from 0 on: above the limit the first row is three dots, and the others have no line
-abbrev pub row_within_limit : Option ℕ → ℕ → List ℕ → Option (List ℕ)
-row_within_limit None i text = Some text
-row_within_limit (Some limit) i text =
+abbrev pub row_by_limit : Option ℕ → ℕ → List ℕ → Option (List ℕ)
+row_by_limit None i text = Some text
+row_by_limit (Some limit) i text =
     if nat_lt i limit then Some text
     else if eqb i limit then Some (codes "...")
     else None
 
 abbrev pub row_line : Layout → ℕ → List ℕ → List ℕ
-row_line layout i text = option_map_or (inner_line layout) (row_within_limit layout.limit i text) []
+row_line layout i text = option_map_or (inner_line layout) (row_by_limit layout.limit i text) []

@@ -1,6 +1,6 @@
 -- The names file: lines of an object identifier and its name.
-use Rattle.std.specs.Prelude.{ℕ, ◌+◌, ◌-◌, ◌==◌, Bool, false, ◌&&◌, ◌||◌, not, nat_le, nat_lt, if◌then◌else◌}
-use Rattle.std.specs.Prelude.{List, [], ◌∷◌, ◌++◌, length, map, flat_map, take, slice_index, Option, Some}
+use Rattle.std.specs.Prelude.{ℕ, ◌+◌, ◌==◌, Bool, false, ◌&&◌, ◌||◌, not, nat_le, nat_lt, if◌then◌else◌}
+use Rattle.std.specs.Prelude.{List, [], ◌∷◌, ◌++◌, length, map, flat_map, slice_index, Option, Some}
 use Rattle.std.specs.Prelude.{None, Result, Ok, Err}
 use Rattle.std.specs.Char.{is_ascii_digit}
 use Rattle.std.specs.List.{list_all, list_any, onto_first, slice_split, before_first, after_first}
@@ -8,6 +8,7 @@ use Rattle.std.specs.Option.{option_map_or, option_or}
 use Rattle.std.specs.Ordering.{nat_cmp}
 use Rattle.std.specs.Cmp.Lexicographic.{slice_cmp}
 use Rattle.std.specs.Str.{bytes_eq}
+use Rattle.std.specs.Str.Lines.{strip_carriage_return}
 use Rattle.std.specs.Str.Parse.{digits_value}
 use Rattle.std.specs.Coded.{Coded, coded_list, coded_ℕ}
 use Rattle.std.specs.FinMap as finite
@@ -19,6 +20,7 @@ use Rattle.tlv_value.specs.declared.names.fault.NamesFault.TheVariants.{BadOid, 
 abbrev pub NamesValue : Type 0
 NamesValue = finite.FinMap (slice_cmp nat_cmp) (List ℕ)
 
+-- how the kit codes such a table, for `Model`
 abbrev pub table_code : Coded NamesValue
 table_code = finite.code (coded_list coded_ℕ) (coded_list coded_ℕ)
 
@@ -30,11 +32,6 @@ Entry = List ℕ × List ℕ
 abbrev pub file_lines : List ℕ → List (List ℕ)
 file_lines [] = []
 file_lines (x ∷ xs) = if x == 10 then [] ∷ file_lines xs else onto_first x (file_lines xs)
-
--- without the one CR at the end, if there is one
-abbrev pub without_return : List ℕ → List ℕ
-without_return line =
-    if slice_index line (length line - 1) == 13 then take (length line - 1) line else line
 
 -- a space or a tab
 abbrev pub is_blank : ℕ → Bool
@@ -58,7 +55,7 @@ is_arc part =
     && list_all is_ascii_digit part
     && ((length part == 1) || not (slice_index part 0 == 48))
 
--- X.660: the first arc is 0, 1 or 2, and below 0 and 1 the second is at most 39
+-- X.660: the first arc is 0, 1 or 2, and if it is 0 or 1, the second is at most 39
 abbrev pub may_begin : List ℕ → List ℕ → Bool
 may_begin first second =
     (digits_value 10 first == 2) || (nat_lt (digits_value 10 first) 2 && nat_le (digits_value 10 second) 39)
@@ -90,6 +87,7 @@ pub data NamesLine : Type 0 where
   no_name : NamesLine
   long_line : NamesLine
 
+-- what a line says that has these two parts
 abbrev pub pair_line : List ℕ → List ℕ → NamesLine
 pair_line dotted name =
     if is_dotted dotted
@@ -111,7 +109,7 @@ line_limit = 400
 abbrev pub names_line : List ℕ → NamesLine
 names_line octets =
     if nat_lt line_limit (length octets) then long_line
-    else entry_line (without_outer_blanks (without_return octets))
+    else entry_line (without_outer_blanks (strip_carriage_return octets))
 
 abbrev pub line_entries : NamesLine → List Entry
 line_entries (entry dotted name) = (dotted, name) ∷ []
@@ -124,7 +122,7 @@ entries_of lines = flat_map line_entries lines
 abbrev pub has_entry : List ℕ → List Entry → Bool
 has_entry dotted entries = list_any (λ e. bytes_eq dotted e.0) entries
 
--- how many names a table has at most
+-- how many entries a table has at most
 abbrev pub entry_limit : ℕ
 entry_limit = 65536
 

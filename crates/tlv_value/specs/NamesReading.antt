@@ -10,13 +10,22 @@ use Rattle.tlv_value.specs.declared.names.fault.NamesFault.TheVariants.{TooLarge
 abbrev pub file_limit : ℕ
 file_limit = 1048576
 
--- the source has ended, within the limit of octets, and these say the result
-pub record IsWholeFile
-    (new : SourceState) (octets : List ℕ) (result : Result NamesValue NamesFault)
-    : Type 0 where
+-- the source has ended after these octets, within the limit
+pub record EndsWithin (new : SourceState) (octets : List ℕ) : Type 0 where
   pub ended : new.last ≡ gave 0
   pub at_end : IsAtEnd new.left
   pub within : length octets ≤ file_limit
+
+-- a read has failed after these octets, within the limit
+pub record FailsWithin (new : SourceState) (octets : List ℕ) : Type 0 where
+  pub failed_last : new.last ≡ failed
+  pub within : length octets ≤ file_limit
+
+-- the source has ended, and the octets say the result
+pub record IsWholeFile
+    (new : SourceState) (octets : List ℕ) (result : Result NamesValue NamesFault)
+    : Type 0 where
+  pub ends : EndsWithin new octets
   pub result_is : names_of octets ≡ result
 
 -- the last read gave the first octet beyond the limit
@@ -29,7 +38,7 @@ pub record IsTooLong (last : LastReadValue) (octets : List ℕ) : Type 0 where
 -- the result of reading these octets, by what the last read gave and what is left to read
 abbrev pub ReadsNames : SourceState → List ℕ → Result NamesValue NamesFault → Type 0
 ReadsNames new octets (Err TooLarge) = IsWholeFile new octets (Err TooLarge) ⊎ IsTooLong new.last octets
-ReadsNames new octets (Err ReadFailed) = (new.last ≡ failed) × (length octets ≤ file_limit)
+ReadsNames new octets (Err ReadFailed) = FailsWithin new octets
 ReadsNames new octets (Err Memory) = length octets ≤ file_limit
 ReadsNames new octets result = IsWholeFile new octets result
 

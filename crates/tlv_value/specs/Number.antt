@@ -13,7 +13,7 @@ signed_sum (bit ∷ bits) = pos (value_of 2 bits) -ℤ pos (bit * 2 ^ length bit
 abbrev pub twos_complement : List ℕ → ℤ
 twos_complement octets = signed_sum (bits_of octets)
 
--- of 1 to 16 octets
+-- the number that 1 to 16 octets are
 abbrev pub decimal_of : List ℕ → Option ℤ
 decimal_of octets =
     if nat_le 1 (length octets) && nat_le (length octets) 16 then Some (twos_complement octets) else None

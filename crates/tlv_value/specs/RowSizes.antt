@@ -5,7 +5,7 @@ use Rattle.tlv_value.specs.declared.kind.Kind.{Kind}
 use Rattle.tlv_value.specs.declared.kind.Kind.TheVariants.{Utf8}
 use Rattle.tlv_value.specs.Kind.{is_text}
 
--- how many octets a full row has
+-- how many octets a row has room for
 abbrev pub row_size : Kind → ℕ
 row_size kind = if is_text kind then 64 else 16
 

@@ -17,13 +17,13 @@ cut_of_contents kind octets = cut_of_octets (is_text kind) octets
 abbrev pub rows_of : Kind → List ℕ → List (List ℕ)
 rows_of kind octets = (cut_of_contents kind octets).rows
 
--- those that are full whatever octets follow: all but a last one that is shorter than a full row
+-- those that are full whatever octets follow: all but a last one that has fewer octets than a row has room for
 abbrev pub full_rows_in : Kind → List (List ℕ) → List (List ℕ)
 full_rows_in kind [] = []
 full_rows_in kind (row ∷ []) = if eqb (length row) (row_size kind) then row ∷ [] else []
 full_rows_in kind (row ∷ next ∷ rows) = row ∷ full_rows_in kind (next ∷ rows)
 
--- the octets of the last row, if it is not full
+-- the octets of the last row, if it has fewer than a row has room for
 abbrev pub open_row_in : Kind → List (List ℕ) → List ℕ
 open_row_in kind [] = []
 open_row_in kind (row ∷ []) = if eqb (length row) (row_size kind) then [] else row

@@ -31,12 +31,12 @@ abbrev pub maybe : Form → Form
 maybe form = form or no_octets
 
 -- one octet from low to high
-abbrev pub one : ℕ → ℕ → Form
-one low high [] = []
-one low high (x ∷ xs) = if nat_le low x && nat_le x high then xs ∷ [] else []
+abbrev pub octet_between : ℕ → ℕ → Form
+octet_between low high [] = []
+octet_between low high (x ∷ xs) = if nat_le low x && nat_le x high then xs ∷ [] else []
 
 abbrev pub mark : ℕ → Form
-mark x = one x x
+mark x = octet_between x x
 
 -- digits, or none: 48 is 0, 57 is 9
 abbrev pub digits : Form
@@ -48,33 +48,34 @@ abbrev pub two_digit_number : ℕ → ℕ → ℕ
 two_digit_number x y = 10 * (x - 48) + (y - 48)
 
 -- two digits, of a number from low to high
-abbrev pub two : ℕ → ℕ → Form
-two low high [] = []
-two low high (x ∷ []) = []
-two low high (x ∷ y ∷ rest) =
+abbrev pub two_digits : ℕ → ℕ → Form
+two_digits low high [] = []
+two_digits low high (x ∷ []) = []
+two_digits low high (x ∷ y ∷ rest) =
     if is_ascii_digit x && is_ascii_digit y && nat_le low (two_digit_number x y) && nat_le (two_digit_number x y) high
     then rest ∷ []
     else []
 
 -- month and day
 abbrev pub month_and_day : Form
-month_and_day = two 1 12 then two 1 31
+month_and_day = two_digits 1 12 then two_digits 1 31
 
 abbrev pub hour : Form
-hour = two 0 24
+hour = two_digits 0 24
 
 abbrev pub minute : Form
-minute = two 0 59
+minute = two_digits 0 59
 
 abbrev pub second : Form
-second = two 0 60
+second = two_digits 0 60
 
 -- 43 is +, 45 is -, 90 is Z
 abbrev pub sign : Form
 sign = mark 43 or mark 45
 
+-- year to minute
 abbrev pub utc_minute : Form
-utc_minute = two 0 99 then month_and_day then hour then minute
+utc_minute = two_digits 0 99 then month_and_day then hour then minute
 
 abbrev pub utc_zone : Form
 utc_zone = mark 90 or (sign then hour then minute)
@@ -83,12 +84,13 @@ utc_zone = mark 90 or (sign then hour then minute)
 abbrev pub utc_time_form : Form
 utc_time_form = utc_minute then maybe second then utc_zone
 
+-- year to hour
 abbrev pub generalized_hour : Form
-generalized_hour = two 0 99 then two 0 99 then month_and_day then hour
+generalized_hour = two_digits 0 99 then two_digits 0 99 then month_and_day then hour
 
 -- 46 is the point, 44 the comma
 abbrev pub fraction : Form
-fraction = (mark 46 or mark 44) then one 48 57 then digits
+fraction = (mark 46 or mark 44) then octet_between 48 57 then digits
 
 abbrev pub generalized_zone : Form
 generalized_zone = mark 90 or (sign then hour then maybe minute)
@@ -103,10 +105,11 @@ generalized_time_form =
 
 -- midnight is hour 0 of the following day
 abbrev pub canonical_clock : Form
-canonical_clock = two 0 23 then minute then second
+canonical_clock = two_digits 0 23 then minute then second
 
+-- year to second, as the canonical form has it
 abbrev pub canonical_second : Form
-canonical_second = two 0 99 then month_and_day then canonical_clock
+canonical_second = two_digits 0 99 then month_and_day then canonical_clock
 
 -- 11.8
 abbrev pub canonical_utc_time_form : Form
@@ -114,8 +117,8 @@ canonical_utc_time_form = canonical_second then mark 90
 
 -- 11.7.3: no zero ends the fraction
 abbrev pub canonical_fraction : Form
-canonical_fraction = mark 46 then digits then one 49 57
+canonical_fraction = mark 46 then digits then octet_between 49 57
 
 -- 11.7
 abbrev pub canonical_generalized_time_form : Form
-canonical_generalized_time_form = (two 0 99 then canonical_second) then maybe canonical_fraction then mark 90
+canonical_generalized_time_form = (two_digits 0 99 then canonical_second) then maybe canonical_fraction then mark 90

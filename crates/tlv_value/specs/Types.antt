@@ -72,8 +72,9 @@ constructed_types =
 abbrev pub is_always_constructed : HeaderValue → Bool
 is_always_constructed h = is_one_of constructed_types h
 
-abbrev pub string_types : List ℕ
-string_types =
+-- the strings whose numbers are not from NumericString to UniversalString
+abbrev pub other_string_types : List ℕ
+other_string_types =
     universal.bit_string
     ∷ universal.octet_string
     ∷ universal.object_descriptor
@@ -85,7 +86,7 @@ string_types =
 -- NumericString to UniversalString, the times among them
 abbrev pub is_string : HeaderValue → Bool
 is_string h =
-    is_one_of string_types h
+    is_one_of other_string_types h
     || (is_universal h.class && nat_le universal.numeric_string h.number && nat_le h.number universal.universal_string)
 
 -- 8.1.2.5: the element is primitive, as a string that holds encodings is

@@ -17,7 +17,7 @@ is_printable x = nat_le 0x20 x && nat_le x 0x7e
 abbrev pub escaped_octet : ℕ → List ℕ
 escaped_octet x = codes "\\x" ++ encode_lower (x ∷ [])
 
--- of a character of one octet, or of an octet that belongs to none
+-- the text of a character of one octet, or of an octet that belongs to no character
 abbrev pub octet_text : ℕ → List ℕ
 octet_text x = if is_printable x then printable_text x else escaped_octet x
 
@@ -46,7 +46,7 @@ three_octets n = n / 65536 % 256 ∷ n / 256 % 256 ∷ n % 256 ∷ []
 abbrev pub character_octets : List ℕ → List ℕ
 character_octets octets = take (utf8_length (slice_index octets 0)) octets
 
--- how many of the first octets make a unit: a character, or an octet that belongs to none
+-- how many of the first octets make a unit: a character, or an octet that belongs to no character
 abbrev pub unit_size : Kind → List ℕ → ℕ
 unit_size Ucs2 octets = if nat_le 2 (length octets) then 2 else 1
 unit_size Ucs4 octets = if nat_le 4 (length octets) then 4 else 1
@@ -73,7 +73,7 @@ unit_text Ucs4 (a ∷ b ∷ c ∷ d ∷ []) =
     else escaped_number (a ∷ b ∷ c ∷ d ∷ [])
 unit_text Ucs4 (a ∷ more) = escaped_octet a
 unit_text Utf8 (a ∷ b ∷ more) = escaped_number (three_octets (utf8_number (a ∷ b ∷ more)))
--- an octet that is a character by itself, or belongs to none
+-- an octet that is a character by itself, or belongs to no character
 unit_text kind (a ∷ more) = octet_text a
 
 -- a row of characters, in quotation marks

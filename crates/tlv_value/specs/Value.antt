@@ -90,7 +90,7 @@ object_value name_of relative octets =
 
 -- ---- Of any kind
 
--- the longest contents that wait for their last octet, so that they are on the line
+-- the longest contents that wait for their last octet, so that they can be on the line
 abbrev pub most_on_line : Kind → ℕ
 most_on_line Bits = 9
 most_on_line Object = 64
@@ -101,7 +101,7 @@ most_on_line kind = row_size kind
 abbrev pub is_long : Kind → ℕ → Bool
 is_long kind n = nat_lt (most_on_line kind) n
 
--- the value of contents that are no longer
+-- the value of contents that are not long
 abbrev pub short_value : NameOf → Kind → List ℕ → Value
 short_value name_of Boolean octets = boolean_value octets
 short_value name_of Integer octets = integer_value octets
@@ -131,7 +131,7 @@ long_value whole kind n octets = record {
   rows = known_rows whole kind (row_octets kind octets);
 }
 
--- contents that are whole
+-- the value of contents that are whole
 abbrev pub whole_value : NameOf → Kind → List ℕ → Value
 whole_value name_of kind octets =
     if is_long kind (length octets)

@@ -14,13 +14,13 @@ value_check_state_of t = record {
   last = t.last;
   are_octets_allowed = t.are_octets_allowed;
   is_padded = t.is_padded;
-  rows_are_utf8 = t.rows_are_utf8;
+  are_full_rows_utf8 = t.are_full_rows_utf8;
   row = t.row.items;
   time = t.time.items;
 }
 
--- the row of a UTF8String that has begun is kept (of any other type none), and two octets at most
+-- the row that is kept is an open row of UTF-8, at most two first octets are known, and the last one is below 256
 pub record ValueCheckFieldsAgree (t : Inside) : Type 0 where
-  pub begun : IsOpenRow Utf8 t.row.items
+  pub is_open : IsOpenRow Utf8 t.row.items
   pub last : t.last < 256
   pub known : t.known ≤ 2

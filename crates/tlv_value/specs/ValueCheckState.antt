@@ -12,10 +12,6 @@ use Rattle.tlv_value.specs.Checks.{last_octet, type_conditions}
 use Rattle.tlv_value.specs.Rows.{full_rows, open_row}
 use Rattle.tlv_value.specs.Types.{is_number_of, object_types, time_types, type_number}
 
-abbrev pub all_utf8 : List (List ℕ) → Bool
-all_utf8 [] = true
-all_utf8 (row ∷ rows) = is_utf8 row && all_utf8 rows
-
 -- what contracts see of a `ValueCheck`
 pub record ValueCheckState : Type 0 where
   -- the universal number of the type
@@ -30,12 +26,12 @@ pub record ValueCheckState : Type 0 where
   pub are_octets_allowed : Bool
   pub is_padded : Bool
   -- of a UTF8String whether the rows that were full are well-formed, and the row that has begun
-  pub rows_are_utf8 : Bool
+  pub are_full_rows_utf8 : Bool
   pub row : List ℕ
   -- the first 64 octets of a time
   pub time : List ℕ
 
--- of so many octets
+-- the state before any octet, for a primitive of the universal type with this number and so many contents octets
 abbrev pub new_value_check_of : ℕ → ℕ → ValueCheckState
 new_value_check_of number size = record {
   number = number;
@@ -45,7 +41,7 @@ new_value_check_of number size = record {
   last = 0;
   are_octets_allowed = true;
   is_padded = false;
-  rows_are_utf8 = true;
+  are_full_rows_utf8 = true;
   row = [];
   time = [];
 }
@@ -94,10 +90,10 @@ abbrev pub with_each_noted : ValueCheckState → List ℕ → ValueCheckState
 with_each_noted s octets = record s {
   are_octets_allowed = s.are_octets_allowed && list_all (allows_octet s.number) octets;
   is_padded = if is_number_of object_types s.number then is_padded_with s.is_padded s.last octets else s.is_padded;
-  rows_are_utf8 =
+  are_full_rows_utf8 =
       if eqb s.number universal.utf8_string
-      then s.rows_are_utf8 && all_utf8 (full_rows Utf8 s.row octets)
-      else s.rows_are_utf8;
+      then s.are_full_rows_utf8 && list_all is_utf8 (full_rows Utf8 s.row octets)
+      else s.are_full_rows_utf8;
   row = if eqb s.number universal.utf8_string then open_row Utf8 s.row octets else s.row;
   last = last_octet s.last octets;
 }
@@ -130,7 +126,7 @@ has_unused_bits s = eqb s.number universal.bit_string && begins_nonzero s.first_
 -- the characters are those of the type
 abbrev pub is_allowed : ValueCheckState → Bool
 is_allowed s =
-    (if eqb s.number universal.utf8_string then s.rows_are_utf8 && is_utf8 s.row
+    (if eqb s.number universal.utf8_string then s.are_full_rows_utf8 && is_utf8 s.row
     else are_whole_characters s.number s.size)
     && s.are_octets_allowed
 

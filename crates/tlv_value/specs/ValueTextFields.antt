@@ -9,17 +9,17 @@ abbrev pub value_text_state_of : Inside → ValueTextState
 value_text_state_of t = record {
   primitive = t.primitive;
   left = t.left;
-  kept = record { wrote_line = t.wrote_line; row_count = t.row_count; row = t.row.items };
+  kept = record { has_put_line = t.has_put_line; row_count = t.row_count; row = t.row.items };
 }
 
 pub record ValueTextFieldsAgree (t : Inside) : Type 0 where
   pub counted : t.row_count + length t.row.items + t.left ≤ t.primitive.size
   -- of a long value the row that has begun
-  pub begun : is_long_primitive t.primitive ≡ true
+  pub is_open : is_long_primitive t.primitive ≡ true
       → IsOpenRow t.primitive.kind t.row.items
   -- of any other all octets that have come
   pub kept : is_long_primitive t.primitive ≡ false
       → length t.row.items + t.left ≡ t.primitive.size
   -- before the first octet of a long BIT STRING
-  pub before_line : is_long_primitive t.primitive ≡ true → t.wrote_line ≡ false
+  pub before_line : is_long_primitive t.primitive ≡ true → t.has_put_line ≡ false
       → (t.primitive.kind ≡ Bits) × (t.row.items ≡ []) × (t.row_count ≡ 0)

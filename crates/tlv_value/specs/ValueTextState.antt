@@ -11,10 +11,10 @@ use Rattle.tlv_value.specs.Rows.{full_rows, open_row}
 use Rattle.tlv_value.specs.ValueLines.{element_line, has_line, header_kind, row_lines}
 use Rattle.tlv_value.specs.Value.{NameOf, is_long, long_text, row_octets, short_value}
 
--- what is kept: of a long value whether its line was written, how many rows were full, and the octets of the row that
+-- what is kept: of a long value whether its line was put, how many rows were full, and the octets of the row that
 -- has begun; of any other all octets
 pub record KeptContents : Type 0 where
-  pub wrote_line : Bool
+  pub has_put_line : Bool
   pub row_count : ℕ
   pub row : List ℕ
 
@@ -45,18 +45,18 @@ is_long_primitive p = is_long p.kind p.size
 abbrev pub primitive_line : Primitive → List ℕ → List ℕ
 primitive_line p text = element_line p.layout p.offset p.class p.number p.size text
 
--- before any octet
+-- the state before any octet of this primitive
 abbrev pub new_value_text_of : Primitive → ValueTextState
 new_value_text_of p = record {
   primitive = p;
   left = p.size;
-  kept = record { wrote_line = has_line p.kind []; row_count = 0; row = [] };
+  kept = record { has_put_line = has_line p.kind []; row_count = 0; row = [] };
 }
 
 abbrev pub new_value_text : HeaderValue → Layout → ValueTextState
 new_value_text h layout = new_value_text_of (new_primitive h layout)
 
--- for no primitive yet: as for an empty one that is of no universal type, at the top
+-- the state for no primitive yet: as for an empty one that is of no universal type, at the top
 abbrev pub idle_value_text : ValueTextState
 idle_value_text = new_value_text_of (record {
   offset = 0;
@@ -67,10 +67,10 @@ idle_value_text = new_value_text_of (record {
   layout = record { level = 0; limit = None; pure = false };
 })
 
--- what is kept after more octets of a long value whose line was written
+-- what is kept after more octets of a long value whose line was put
 abbrev pub kept_after_line : Kind → KeptContents → List ℕ → KeptContents
 kept_after_line kind k octets = record {
-  wrote_line = true;
+  has_put_line = true;
   row_count = k.row_count + length (full_rows kind k.row octets);
   row = open_row kind k.row octets;
 }
@@ -81,9 +81,9 @@ full_row_lines kind layout k octets = row_lines kind layout k.row_count (full_ro
 
 -- what is kept of a long value whose line came with this first contents octet
 abbrev pub kept_with_line : Kind → ℕ → KeptContents
-kept_with_line kind x = record { wrote_line = true; row_count = 0; row = row_octets kind (x ∷ []) }
+kept_with_line kind x = record { has_put_line = true; row_count = 0; row = row_octets kind (x ∷ []) }
 
--- what is kept after more octets of a long value whose line was not written: it comes with the first of them
+-- what is kept after more octets of a long value whose line was not put: it comes with the first of them
 abbrev pub kept_before_line : Kind → KeptContents → List ℕ → KeptContents
 kept_before_line kind k [] = k
 kept_before_line kind k (x ∷ octets) = kept_after_line kind (kept_with_line kind x) octets
@@ -98,7 +98,7 @@ first_row_lines s (x ∷ octets) =
 -- what is kept after more octets of a long value
 abbrev pub long_kept_after : ValueTextState → List ℕ → KeptContents
 long_kept_after s octets =
-    if s.kept.wrote_line
+    if s.kept.has_put_line
     then kept_after_line s.primitive.kind s.kept octets
     else kept_before_line s.primitive.kind s.kept octets
 
@@ -121,19 +121,19 @@ value_text_for h layout octets = value_text_after (new_value_text h layout) octe
 abbrev pub begin_lines : ValueTextState → List ℕ
 begin_lines s =
     if is_long_primitive s.primitive
-    then (if s.kept.wrote_line then primitive_line s.primitive [] else [])
+    then (if s.kept.has_put_line then primitive_line s.primitive [] else [])
     else []
 
 -- the lines that are known with more octets
 abbrev pub contents_lines : ValueTextState → List ℕ → List ℕ
 contents_lines s octets =
     if is_long_primitive s.primitive
-    then (if s.kept.wrote_line
+    then (if s.kept.has_put_line
     then full_row_lines s.primitive.kind s.primitive.layout s.kept octets
     else first_row_lines s octets)
     else []
 
--- the lines of a primitive with these contents, if its value is on its line
+-- the lines of a primitive with these contents, if they are not long
 abbrev pub primitive_lines : NameOf → Primitive → List ℕ → List ℕ
 primitive_lines name_of p octets =
     primitive_line p (short_value name_of p.kind octets).text

@@ -11,8 +11,8 @@ use crate::time::{general_canonical, utc_canonical};
 use crate::value_check::{are_allowed, is_any_set, is_padded_after, is_utf8, last_octet};
 use tlv_head::{Class, Header, universal};
 
-/// Whether nothing is found on these contents of a primitive with this header, as far as a short look shows. That its
-/// type has no primitives, or that no type has its number, shows too: the type is asked for once, for both.
+/// Whether nothing is found on these contents of a primitive with this header. `false` says nothing: it is a short
+/// look. It is `false` too if the type has no primitives, or if no universal type has the number.
 #[inline(always)]
 pub fn is_clear(header: &Header, contents: &[u8]) -> bool
     ensures contents { IsTrue result → all_contents_findings header.now contents.now ≡ [] }
@@ -22,8 +22,8 @@ pub fn is_clear(header: &Header, contents: &[u8]) -> bool
     !matches!(header.class, Class::Universal) || is_type_clear(header.number, contents)
 }
 
-/// Whether the universal type with this number has primitives, and nothing is found on these contents of one, as far as
-/// a short look shows.
+/// Whether the universal type with this number has primitives, and nothing is found on these contents of one. `false`
+/// says nothing: it is a short look.
 #[inline(always)]
 fn is_type_clear(number: u64, contents: &[u8]) -> bool
     ensures contents { IsTrue result → type_findings number contents.now ≡ [] }
@@ -102,8 +102,8 @@ fn has_clear_bits(contents: &[u8]) -> bool
 /// Whether each subidentifier begins and ends as it has to (8.19.2, 8.20.2).
 #[inline(always)]
 fn are_subidentifiers(contents: &[u8]) -> bool
-    ensures begun { IsTrue result → is_padded_after 0 contents.now ≡ false }
-    ensures ended { IsTrue result → nat_le 128 (last_octet 0 contents.now) ≡ false }
+    ensures begins { IsTrue result → is_padded_after 0 contents.now ≡ false }
+    ensures ends { IsTrue result → nat_le 128 (last_octet 0 contents.now) ≡ false }
 {
     last_octet(0, contents) < 128 && !is_padded_after(0, contents)
 }

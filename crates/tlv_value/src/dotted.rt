@@ -1,6 +1,6 @@
 //! Object identifiers as dotted texts.
 ghost use Rattle.std.specs.Prelude.{◌≡◌, ◌<◌, ◌≤◌, ◌++◌, ◌∷◌, [], if◌then◌else◌, is_some, length, true, unwrap_or};
-ghost use Rattle.tlv_io.specs.LineTexts.{GrowsBy, HasRoomFor};
+ghost use Rattle.tlv_io.specs.LineTexts.{AddsAtMost, HasRoomFor};
 ghost use Rattle.tlv_value.specs.Arcs.{dotted_arcs, dotted_of, first_arcs, is_finished};
 ghost use Rattle.tlv_value.specs.Private.Arcs.{arcs_text};
 
@@ -31,10 +31,8 @@ pub(crate) fn write_dotted(held: &mut HeldOctets, contents: &[u8], relative: boo
     requires short { length contents.now ≤ 64 }
     requires room { HasRoomFor held.old 320 }
     ensures exists { result ≡ is_some (dotted_of relative contents.now) }
-    ensures text { held.new
-        ≡ (if result then held.old ++ 32 ∷ unwrap_or (dotted_of relative contents.now) []
-        else held.old) }
-    ensures bound { GrowsBy 259 held.old held.new }
+    ensures adds { AddsAtMost 259 held.old held.new
+        (if result then 32 ∷ unwrap_or (dotted_of relative contents.now) [] else []) }
 {
     if !is_finished(contents) {
         return false;
@@ -70,8 +68,8 @@ fn write_short(held: &mut HeldOctets, contents: &[u8], relative: bool)
     requires short { length contents.now ≤ 9 }
     requires room { HasRoomFor held.old 320 }
     ensures exists { is_some (dotted_of relative contents.now) ≡ true }
-    ensures text { held.new ≡ held.old ++ 32 ∷ unwrap_or (dotted_of relative contents.now) [] }
-    ensures bound { GrowsBy 259 held.old held.new }
+    ensures adds { AddsAtMost 259 held.old held.new
+        (32 ∷ unwrap_or (dotted_of relative contents.now) []) }
 {
     held.add(b" ");
     let mut first = true;

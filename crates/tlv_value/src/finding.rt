@@ -1,7 +1,7 @@
 //! What may be found on an element.
 
-/// What the rules of X.690 find on an element. The letter says whose rule is broken: `B` of all encodings (clause 8),
-/// `S` of both CER and DER (clauses 9 to 11), `D` of DER alone (10), `C` of CER alone (9).
+/// What the rules of X.690 find on an element. The letter says whose rule is broken: `B` of all encodings (clause 8,
+/// and X.680), `S` of both CER and DER (clauses 9 to 11), `D` of DER alone (10), `C` of CER alone (9).
 #[derive(Clone, Copy, Debug, Default, PartialEq, Eq)]
 pub enum Finding {
     /// The high form for a number below 31 (8.1.2.2).
@@ -9,11 +9,11 @@ pub enum Finding {
     B01,
     /// The high form with leading zero bits (8.1.2.4.2 c).
     B02,
-    /// A universal number that is not assigned.
+    /// A universal number that is not assigned (X.680, table 1).
     B03,
-    /// A constructed element of a type that is primitive.
+    /// A constructed element of a type that is primitive (8.2.1 and others).
     B04,
-    /// A primitive element of a type that is constructed.
+    /// A primitive element of a type that is constructed (8.9.1 and others).
     B05,
     /// A BOOLEAN that has not one octet (8.2.1).
     B06,
@@ -39,9 +39,9 @@ pub enum Finding {
     B16,
     /// A segment with another tag than its string's segments have (8.6.4, 8.7.3).
     B17,
-    /// Characters that the type does not have.
+    /// Characters that the type does not have (X.680 41).
     B18,
-    /// A time that is not of its type's grammar.
+    /// A time that is not of its type's grammar (X.680 46, 47).
     B19,
     /// A length that is not the shortest (9.1, 10.1).
     S01,
@@ -70,8 +70,8 @@ pub enum Finding {
 }
 
 impl Finding {
-    ghost use Rattle.std.specs.Prelude.{◌≡◌, ◌≤◌, ◌++◌, ◌∷◌, take};
-    ghost use Rattle.tlv_value.specs.Finding.{finding_code, finding_text};
+    ghost use Rattle.std.specs.Prelude.{◌≡◌, ◌≤◌, take};
+    ghost use Rattle.tlv_value.specs.Finding.{finding_code, finding_text, finding_wording};
 
     /// The three characters that name the finding, as `B01`.
     pub fn code(self) -> &'static [u8]
@@ -92,7 +92,7 @@ impl Finding {
     /// A block that begins with the code, a space and the text, and has spaces after them, so that they can be copied
     /// at once, and how many octets they are.
     pub fn wording_block(self) -> (&'static [u8; 48], usize)
-        ensures wording { take result.1 result.0.now ≡ finding_code self ++ 32 ∷ finding_text self }
+        ensures wording { take result.1 result.0.now ≡ finding_wording self }
         ensures count { (4 ≤ result.1) × (result.1 ≤ 44) }
     {
         match self {

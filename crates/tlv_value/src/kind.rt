@@ -1,10 +1,10 @@
-//! How the contents of a primitive are read.
+//! How the contents of a primitive are shown.
 ghost use Rattle.std.specs.Prelude.{◌≡◌};
 ghost use Rattle.tlv_value.specs.Kind.{kind_of};
 
 use tlv_head::Class;
 
-/// How the contents of a primitive are read.
+/// How the contents of a primitive are shown.
 #[derive(Clone, Copy, Debug, PartialEq, Eq)]
 pub(crate) enum Kind {
     /// Octets, of which nothing is known.
@@ -29,7 +29,7 @@ pub(crate) enum Kind {
     Ucs4,
 }
 
-/// How the contents of the universal types are read, by their numbers.
+/// How the contents of the universal types are shown, by their numbers.
 static KINDS: [Kind; 31] = [
     Kind::Octets,
     Kind::Boolean,
@@ -64,7 +64,7 @@ static KINDS: [Kind; 31] = [
     Kind::Ucs2,
 ];
 
-/// How the contents of a primitive with this tag are read.
+/// How the contents of a primitive with this tag are shown.
 #[inline(always)]
 pub(crate) fn kind_of(class: Class, number: u64) -> Kind
     ensures { result ≡ kind_of class number }

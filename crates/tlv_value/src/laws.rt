@@ -8,17 +8,18 @@ pub fn pieces_join()
     ensures { PiecesJoin }
 {}
 
-/// What `begin` writes are the lines of a primitive of which no contents octet has come. The state stands for none.
+/// What `begin` puts are the lines of a primitive of which no contents octet has come. The state of a
+/// [`ValueText`](crate::ValueText) is then the one before any contents octet.
 pub fn lines_begin()
     ensures { LinesBegin }
 {}
 
-/// What `bytes` writes is what its octets add to the lines of a primitive that is still open.
+/// What `bytes` puts is what its octets add to the lines of a primitive that is still open.
 pub fn lines_go_on()
     ensures { LinesGoOn }
 {}
 
-/// What `end` writes is the rest of the lines of the whole primitive.
+/// What `end` puts is the rest of the lines of the whole primitive.
 pub fn lines_end()
     ensures { LinesEnd }
 {}
@@ -39,7 +40,7 @@ pub fn rows_are_utf8()
 {}
 
 /// The rows of contents are a cut of them: no row has more octets than it has room for, no character is split, and each
-/// row but the last has no room for the next octet.
+/// row but the last has no room for the character that begins with the next octet.
 pub fn rows_are_a_cut()
     ensures { RowsAreACut }
 {}

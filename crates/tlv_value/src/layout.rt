@@ -1,11 +1,12 @@
-//! How the lines of a value are laid out.
+//! How the lines of a dump are laid out.
 
-/// How the lines of a value are laid out.
+/// How the lines of a dump are laid out.
 #[derive(Clone, Copy, Debug, PartialEq, Eq)]
 pub struct Layout {
-    /// How many elements hold this one.
+    /// How many elements hold the element of the line.
     pub level: u8,
-    /// How many rows are written; one more is written as `...`, and the others are left out. Without a limit all are.
+    /// How many rows of a value are written. If there are more, the next is `...`, and the others are left out. `None`:
+    /// all rows are written.
     pub limit: Option<u32>,
     /// Whether the first columns are left out.
     pub pure: bool,

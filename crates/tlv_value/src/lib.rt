@@ -27,7 +27,7 @@ pub use decimal::decimal_of;
 pub use dotted::dotted_of;
 pub use finding::Finding;
 pub use layout::Layout;
-pub use line_starts::{begin_blank, begin_sized, begin_word, write_element, write_tag};
+pub use line_starts::{begin_blank, begin_sized, begin_word, write_tag};
 pub use name_table::NameTable;
 pub use names::{Names, NamesFault};
 pub use time::{general_canonical, general_ok, utc_canonical, utc_ok};

@@ -1,8 +1,8 @@
 //! How lines begin.
 ghost use Rattle.std.specs.Prelude.{◌≡◌, ◌+◌, ◌≤◌, ◌++◌, ◌∷◌, [], decimal, if◌then◌else◌, take};
-ghost use Rattle.tlv_io.specs.LineTexts.{GrowsBy, HasRoomFor};
+ghost use Rattle.tlv_io.specs.LineTexts.{AddsAtMost, HasRoomFor};
 ghost use Rattle.tlv_head.specs.Tag.{tag_text};
-ghost use Rattle.tlv_value.specs.Layout.{columns, line_margin, margin, no_columns, spaces};
+ghost use Rattle.tlv_value.specs.Layout.{columns, line_margin, margin, blank_columns, spaces};
 ghost use Rattle.tlv_value.specs.Private.Rows.{row_indent};
 ghost use Rattle.tlv_value.specs.ValueLines.{element_prefix};
 
@@ -10,37 +10,35 @@ use crate::Layout;
 use tlv_head::{Class, type_name_block};
 use tlv_io::HeldOctets;
 
-/// Begins a line with its first columns, an offset and a size, and its indentation.
+/// Begins a line with its first columns (an offset and a number of contents octets), unless `layout.pure` leaves
+/// them out, and its indentation.
 #[inline(always)]
 pub fn begin_sized(held: &mut HeldOctets, layout: Layout, offset: u64, size: u64)
     requires { HasRoomFor held.old 592 }
-    ensures text { held.new
-        ≡ held.old ++ line_margin layout (columns offset (decimal size)) }
-    ensures bound { GrowsBy 553 held.old held.new }
+    ensures { AddsAtMost 553 held.old held.new
+        (line_margin layout (columns offset (decimal size))) }
 {
     write_sized(held, layout.pure, offset, size);
     held.spaces(2 * usize::from(layout.level));
 }
 
-/// Adds first columns with an offset and a size, unless they are left out.
+/// Adds first columns with an offset and a number of contents octets, unless they are left out.
 #[inline(always)]
 fn write_sized(held: &mut HeldOctets, pure: bool, offset: u64, size: u64)
     requires { HasRoomFor held.old 50 }
-    ensures text { held.new ≡ held.old ++ (if pure then [] else columns offset (decimal size)) }
-    ensures bound { GrowsBy 43 held.old held.new }
+    ensures { AddsAtMost 43 held.old held.new (if pure then [] else columns offset (decimal size)) }
 {
     if !pure {
         held.columns(offset, size);
     }
 }
 
-/// Begins a line with an offset and a word, which takes six places, and its indentation.
+/// Begins a line with its first columns (an offset and a word, which takes six places), unless `layout.pure` leaves
+/// them out, and its indentation.
 #[inline(always)]
 pub fn begin_word(held: &mut HeldOctets, layout: Layout, offset: u64, word: &[u8; 6])
     requires { HasRoomFor held.old 592 }
-    ensures text { held.new
-        ≡ held.old ++ line_margin layout (columns offset word.now) }
-    ensures bound { GrowsBy 553 held.old held.new }
+    ensures { AddsAtMost 553 held.old held.new (line_margin layout (columns offset word.now)) }
 {
     write_worded(held, layout.pure, offset, word);
     held.spaces(2 * usize::from(layout.level));
@@ -50,38 +48,37 @@ pub fn begin_word(held: &mut HeldOctets, layout: Layout, offset: u64, word: &[u8
 #[inline(always)]
 fn write_worded(held: &mut HeldOctets, pure: bool, offset: u64, word: &[u8; 6])
     requires { HasRoomFor held.old 50 }
-    ensures text { held.new ≡ held.old ++ (if pure then [] else columns offset word.now) }
-    ensures bound { GrowsBy 43 held.old held.new }
+    ensures { AddsAtMost 43 held.old held.new (if pure then [] else columns offset word.now) }
 {
     if !pure {
         held.word_columns(offset, word);
     }
 }
 
-/// Begins a line that has no offset, with its indentation.
+/// Begins a line that has no offset: with 17 spaces in place of the first columns, unless `layout.pure` leaves them
+/// out, and its indentation.
 #[inline(always)]
 pub fn begin_blank(held: &mut HeldOctets, layout: Layout)
     requires { HasRoomFor held.old 592 }
-    ensures text { held.new ≡ held.old ++ line_margin layout no_columns }
-    ensures bound { GrowsBy 553 held.old held.new }
+    ensures { AddsAtMost 553 held.old held.new (line_margin layout blank_columns) }
 {
-    held.spaces(blank_columns(layout.pure) + 2 * usize::from(layout.level));
+    held.spaces(blank_column_count(layout.pure) + 2 * usize::from(layout.level));
 }
 
 /// How many spaces are before a row.
 #[inline(always)]
 pub(crate) fn row_indent(layout: Layout) -> usize
     ensures value { result ≡ row_indent layout }
-    ensures text { spaces result ≡ margin layout.pure no_columns (layout.level + 1) }
+    ensures text { spaces result ≡ margin layout.pure blank_columns (layout.level + 1) }
     ensures some { 2 ≤ result }
-    ensures bound { result ≤ 529 }
+    ensures within { result ≤ 529 }
 {
-    blank_columns(layout.pure) + 2 * (usize::from(layout.level) + 1)
+    blank_column_count(layout.pure) + 2 * (usize::from(layout.level) + 1)
 }
 
 /// How many spaces are in place of the first columns.
 #[inline(always)]
-fn blank_columns(pure: bool) -> usize
+fn blank_column_count(pure: bool) -> usize
     ensures { result ≡ (if pure then 0 else 17) }
 {
     if pure { 0 } else { 17 }
@@ -91,8 +88,7 @@ fn blank_columns(pure: bool) -> usize
 #[inline(always)]
 pub fn write_tag(held: &mut HeldOctets, class: Class, number: u64)
     requires { HasRoomFor held.old 40 }
-    ensures text { held.new ≡ held.old ++ tag_text class number }
-    ensures bound { GrowsBy 40 held.old held.new }
+    ensures { AddsAtMost 40 held.old held.new (tag_text class number) }
 {
     match class {
         Class::Universal => write_universal(held, number),
@@ -111,8 +107,7 @@ pub fn write_tag(held: &mut HeldOctets, class: Class, number: u64)
 #[inline(always)]
 fn write_universal(held: &mut HeldOctets, number: u64)
     requires { HasRoomFor held.old 40 }
-    ensures text { held.new ≡ held.old ++ tag_text Class.Universal number }
-    ensures bound { GrowsBy 40 held.old held.new }
+    ensures { AddsAtMost 40 held.old held.new (tag_text Class.Universal number) }
 {
     match type_name_block(number) {
         Some((name, size)) => held.add_prefix(name, size),
@@ -120,23 +115,23 @@ fn write_universal(held: &mut HeldOctets, number: u64)
     }
 }
 
-/// Adds the text of a tag that has no name: what begins it, the number and a bracket. What begins it
-/// is the first of 32 octets, so that no copy depends on how many they are.
+/// Adds the text of a tag that has no name: what begins it, the number and a bracket. What begins it are
+/// the first `count` of 32 octets, so that no copy depends on how many they are.
 #[inline]
 fn write_bracketed(held: &mut HeldOctets, prefix: &[u8; 32], count: usize, number: u64)
-    requires short { count ≤ 16 }
+    requires within { count ≤ 16 }
     requires room { HasRoomFor held.old 40 }
-    ensures text { held.new ≡ held.old ++ (take count prefix.now ++ decimal number ++ 93 ∷ []) }
-    ensures bound { GrowsBy 40 held.old held.new }
+    ensures { AddsAtMost 40 held.old held.new (take count prefix.now ++ decimal number ++ 93 ∷ []) }
 {
     held.add_prefix(prefix, count);
     held.number(number);
     held.add(b"]");
 }
 
-/// Begins the line of an element with its first columns, its indentation and its tag text.
+/// Begins the line of an element, up to its tag text: with its first columns, unless `layout.pure` leaves them out, its
+/// indentation and the tag text.
 #[inline(always)]
-pub fn write_element(
+pub(crate) fn begin_element(
     held: &mut HeldOctets,
     layout: Layout,
     offset: u64,
@@ -145,9 +140,7 @@ pub fn write_element(
     size: u64,
 )
     requires { HasRoomFor held.old 640 }
-    ensures text { held.new
-        ≡ held.old ++ element_prefix layout offset class number size }
-    ensures bound { GrowsBy 593 held.old held.new }
+    ensures { AddsAtMost 593 held.old held.new (element_prefix layout offset class number size) }
 {
     begin_sized(held, layout, offset, size);
     write_tag(held, class, number);

@@ -53,11 +53,10 @@ impl<A: Allocator> Names<A> {
     ///
     /// # Errors
     ///
-    /// `ReadFailed` exactly if the source's failures rose in the call, and `TooLarge` once it gave more than
-    /// 1,048,576 octets; nothing more is read then. Of the lines the first refusal counts: `TooLarge` for one of more
-    /// than 400 octets, with its CR, `BadOid` and `BadName` for its parts, `Repeated` if its dotted text is in
-    /// an earlier line, and `TooLarge` for an entry after the first 65,536. `Memory` at any time, if memory is
-    /// refused.
+    /// `ReadFailed` exactly if a read failed, and `TooLarge` once the source gave more than 1,048,576 octets; nothing
+    /// more is read then. Of the lines the first refusal counts: `TooLarge` for one of more than 400 octets, with its
+    /// CR, `BadOid` and `BadName` for its parts, `Repeated` if its dotted text is in an earlier line, and `TooLarge`
+    /// for an entry after the first 65,536. `Memory` at any time, if memory is refused.
     pub fn read<S: Source>(alloc: A, source: &mut S) -> Result<Names<A>, NamesFault>
     where
         A: Copy,

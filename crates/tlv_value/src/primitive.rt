@@ -1,6 +1,6 @@
 //! A primitive by what its header says.
 ghost use Rattle.std.specs.Prelude.{◌≡◌, ◌<◌, ◌≤◌, ◌++◌, ◌∷◌, [], IsTrue, None, OnOk, length, true, ◌↔◌};
-ghost use Rattle.tlv_io.specs.LineTexts.{GrowsBy, HasRoomFor};
+ghost use Rattle.tlv_io.specs.LineTexts.{AddsAtMost, HasRoomFor};
 ghost use Rattle.tlv_io.specs.Out.{Puts, held_octets};
 ghost use Rattle.tlv_value.specs.RowSizes.{row_size};
 ghost use Rattle.tlv_value.specs.Private.PrimitiveLines.{line_prefix};
@@ -8,7 +8,7 @@ ghost use Rattle.tlv_value.specs.Value.{long_text, most_on_line};
 ghost use Rattle.tlv_value.specs.ValueTextState.{is_long_primitive, new_primitive, primitive_line, primitive_lines};
 
 use crate::kind::{Kind, kind_of};
-use crate::line_starts::write_element;
+use crate::line_starts::begin_element;
 use crate::row_sizes::row_size;
 use crate::value::{write_long_bits, write_long_value, write_undotted};
 use crate::value_lines::{put_object, put_relative};
@@ -70,10 +70,9 @@ impl Primitive {
     #[inline(always)]
     fn write_prefix(&self, held: &mut HeldOctets)
         requires { HasRoomFor held.old 640 }
-        ensures text { held.new ≡ held.old ++ line_prefix self.now }
-        ensures bound { GrowsBy 593 held.old held.new }
+        ensures { AddsAtMost 593 held.old held.new (line_prefix self.now) }
     {
-        write_element(
+        begin_element(
             held,
             self.layout,
             self.offset,
@@ -93,7 +92,7 @@ impl Primitive {
         held.add(b"\n");
     }
 
-    /// Adds its line with the number of its bits, if it is a long BIT STRING.
+    /// Adds the line of a long BIT STRING, with the number of its bits.
     fn write_bits_line(&self, held: &mut HeldOctets, unused_bits: u8)
         requires room { HasRoomFor held.old 1024 }
         requires long { 9 < self.now.size }
@@ -106,7 +105,7 @@ impl Primitive {
         held.add(b"\n");
     }
 
-    /// Adds its line, if its value is in rows: with the number of its bits, if it is a BIT STRING.
+    /// Adds the line of a long value: of a BIT STRING with the number of its bits.
     #[inline(always)]
     fn write_long_line(&self, held: &mut HeldOctets, contents: &[u8])
         requires room { HasRoomFor held.old 1024 }
@@ -130,7 +129,7 @@ impl Primitive {
         Ok(())
     }
 
-    /// Puts its line with the number of its bits, if it is a long BIT STRING.
+    /// Puts the line of a long BIT STRING, with the number of its bits.
     pub fn put_bits_line<D: Drain>(
         &self,
         unused_bits: u8,
@@ -146,7 +145,7 @@ impl Primitive {
         Ok(())
     }
 
-    /// Puts its line, if its value is in rows: with the number of its bits, if it is a BIT STRING.
+    /// Puts the line of a long value: of a BIT STRING with the number of its bits.
     #[inline(always)]
     pub fn put_long_line<D: Drain>(
         &self,
@@ -173,7 +172,7 @@ impl Primitive {
         Ok(())
     }
 
-    /// Puts its lines, if its value is on its line.
+    /// Puts the lines of a primitive that is not long.
     #[inline(always)]
     pub fn put<N: NameTable, D: Drain>(
         &self,

@@ -6,7 +6,7 @@ ghost use Rattle.tlv_value.specs.Private.Room.{HaveRoom, has_room};
 
 use crate::kind::Kind;
 
-/// How many octets a full row has.
+/// How many octets a row has room for.
 pub(crate) fn row_size(kind: Kind) -> usize
     ensures { result ≡ row_size kind }
 {
@@ -20,7 +20,7 @@ pub(crate) fn row_size(kind: Kind) -> usize
 pub(crate) fn fitting_length(kind: Kind, begun: usize, octets: &[u8]) -> usize
     requires { begun ≤ row_size kind }
     ensures within { result ≤ length octets.now }
-    ensures bound { begun + result ≤ row_size kind }
+    ensures short { begun + result ≤ row_size kind }
     ensures fits { HaveRoom kind begun octets.now result }
     ensures next { result < length octets.now
         → has_room kind (begun + result) (slice_index octets.now result) ≡ false }
@@ -41,7 +41,7 @@ pub(crate) fn fitting_length(kind: Kind, begun: usize, octets: &[u8]) -> usize
 /// How many octets a character of UTF-8 has that begins with this octet (RFC 3629); 1 if none does.
 pub(crate) fn utf8_length(octet: u8) -> usize
     ensures value { result ≡ utf8_length octet }
-    ensures most { result ≤ 4 }
+    ensures within { result ≤ 4 }
 {
     match octet {
         0xc2..=0xdf => 2,

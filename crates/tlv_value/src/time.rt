@@ -1,12 +1,13 @@
 //! Times as texts: UTCTime and GeneralizedTime (X.680 46 and 47), and their canonical forms (11.7, 11.8).
 //!
-//! A part of a form is a function that returns what is after the part with which the octets begin, or none if they do
-//! not begin with it.
+//! `after_..` returns what is after a part with which the octets begin, or none if they do not begin with it. `is_..`
+//! says whether the octets are such parts, and no more.
 ghost use Rattle.std.specs.Prelude.{◌≡◌, option_copied, option_to_list};
 ghost use Rattle.tlv_value.specs.Times.{canonical_generalized_time_form, canonical_second, canonical_utc_time_form};
 ghost use Rattle.tlv_value.specs.Times.{digits, fraction, generalized_hour, generalized_tail, generalized_time_form};
-ghost use Rattle.tlv_value.specs.Times.{generalized_zone, has_form, hour, mark, maybe, minute, month_and_day, one};
-ghost use Rattle.tlv_value.specs.Times.{second, sign, two, utc_minute, utc_time_form, utc_zone, ◌or◌, ◌then◌};
+ghost use Rattle.tlv_value.specs.Times.{generalized_zone, has_form, hour, mark, maybe, minute, month_and_day};
+ghost use Rattle.tlv_value.specs.Times.{octet_between, second, sign, two_digits, utc_minute, utc_time_form, utc_zone};
+ghost use Rattle.tlv_value.specs.Times.{◌or◌, ◌then◌};
 
 /// Whether the octets are of the grammar of UTCTime: `YYMMDDhhmm`, `ss` or nothing, and `Z`, `+hhmm` or `-hhmm`.
 #[inline(never)]
@@ -170,7 +171,7 @@ fn is_generalized_difference(octets: &[u8]) -> bool
 
 /// Digits of which the last is not 0, and `Z`, and no more.
 fn is_canonical_fraction_rest(octets: &[u8]) -> bool
-    ensures { result ≡ has_form ((digits then one 49 57) then mark 90) octets.now }
+    ensures { result ≡ has_form ((digits then octet_between 49 57) then mark 90) octets.now }
 {
     let mut rest = octets;
     while let [b'0'..=b'9', more @ ..] = rest {
@@ -219,7 +220,7 @@ fn after_mark(octets: &[u8], octet: u8) -> Option<&[u8]>
 /// What is after two digits of a number from `low` to `high`.
 #[inline(always)]
 fn after_two_digits(octets: &[u8], low: u8, high: u8) -> Option<&[u8]>
-    ensures { option_to_list (option_copied result) ≡ two low high octets.now }
+    ensures { option_to_list (option_copied result) ≡ two_digits low high octets.now }
 {
     let [tens @ b'0'..=b'9', ones @ b'0'..=b'9', rest @ ..] = octets else {
         return None;

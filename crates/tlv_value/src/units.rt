@@ -2,7 +2,7 @@
 ghost use Rattle.std.specs.List.{list_all};
 ghost use Rattle.std.specs.Prelude.{◌≡◌, ◌+◌, ◌*◌, ◌<◌, ◌≤◌, ◌++◌, false, flat_map, length, slice_index, take, true};
 ghost use Rattle.tlv_io.specs.LineTexts.{AddsIfRoom, HasRoomFor};
-ghost use Rattle.tlv_value.specs.Private.Unescaped.{AreUnescaped, IsPart, has_ascii, is_unescaped};
+ghost use Rattle.tlv_value.specs.Private.Unescaped.{AreUnescaped, IsPart, has_ascii_octets, is_unescaped};
 ghost use Rattle.tlv_value.specs.Units.{escaped_number, escaped_octet, is_printable, octet_text};
 ghost use Rattle.tlv_value.specs.Units.{printable_text, unit_size, unit_text, units, utf8_number};
 ghost use Rattle.tlv_value.specs.Units.{without_zeros};
@@ -14,7 +14,7 @@ use tlv_io::HeldOctets;
 /// As many octets as a row of characters has at most.
 const ROW: usize = 64;
 
-/// Adds the characters of a row, of which each octet may take five.
+/// Adds the characters of a row. There is room for five octets for each of its octets; it takes four at most.
 pub(crate) fn write_characters(held: &mut HeldOctets, kind: Kind, row: &[u8])
     requires short { length row.now ≤ 64 }
     requires room { HasRoomFor held.old 320 }
@@ -22,7 +22,7 @@ pub(crate) fn write_characters(held: &mut HeldOctets, kind: Kind, row: &[u8])
 {
     // Most rows are written as they are. They are looked at and copied as a block of one size, so that no branch goes
     // by how many octets there are.
-    if has_ascii(kind) {
+    if has_ascii_octets(kind) {
         let block = block_of(row);
         if are_unescaped(&block) {
             return held.add_prefix(&block, row.len());
@@ -204,9 +204,9 @@ fn is_unescaped(octet: u8) -> bool
     matches!(octet, 0x20..=0x7e) && octet != b'"' && octet != b'\\'
 }
 
-/// Whether a character of ASCII has one octet.
-fn has_ascii(kind: Kind) -> bool
-    ensures { result ≡ has_ascii kind }
+/// Whether a character of ASCII has one octet in contents of this kind.
+fn has_ascii_octets(kind: Kind) -> bool
+    ensures { result ≡ has_ascii_octets kind }
 {
     matches!(kind, Kind::Text | Kind::Utf8)
 }
@@ -228,10 +228,10 @@ fn are_unescaped(octets: &[u8; ROW]) -> bool
 fn unescaped_size(kind: Kind, octets: &[u8]) -> usize
     ensures within { result ≤ length octets.now }
     ensures unescaped { AreUnescaped kind octets.now result }
-    ensures next { result < length octets.now → has_ascii kind ≡ true
+    ensures next { result < length octets.now → has_ascii_octets kind ≡ true
         → is_unescaped (slice_index octets.now result) ≡ false }
 {
-    if !has_ascii(kind) {
+    if !has_ascii_octets(kind) {
         return 0;
     }
     for i in 0..octets.len() {
@@ -275,7 +275,7 @@ fn utf8_unit_size(octets: &[u8]) -> usize
 /// The number of a character of two to four octets.
 fn utf8_number(unit: &[u8]) -> u32
     ensures value { result ≡ utf8_number unit.now }
-    ensures bound { result < 2097152 }
+    ensures within { result < 2097152 }
 {
     match unit {
         [a, b] => u32::from(*a) % 32 * 64 + u32::from(*b) % 64,

@@ -1,7 +1,7 @@
 //! The texts of values.
 ghost use Rattle.std.specs.Prelude.{◌≡◌, ◌-◌, ◌*◌, ◌<◌, ◌≤◌, ◌++◌, ◌∷◌, [], length, true};
 ghost use Rattle.std.specs.Fmt.{signed_decimal};
-ghost use Rattle.tlv_io.specs.LineTexts.{GrowsBy, HasRoomFor};
+ghost use Rattle.tlv_io.specs.LineTexts.{AddsAtMost, HasRoomFor};
 ghost use Rattle.tlv_value.specs.Bits.{last_bits};
 ghost use Rattle.tlv_value.specs.Private.UndottedText.{undotted_text};
 ghost use Rattle.tlv_value.specs.Units.{quoted_text};
@@ -21,8 +21,7 @@ const SIGN: &[u8; 32] = b" -                              ";
 pub(crate) fn write_row(held: &mut HeldOctets, kind: Kind, row: &[u8])
     requires short { length row.now ≤ 64 }
     requires room { HasRoomFor held.old 400 }
-    ensures text { held.new ≡ held.old ++ 32 ∷ row_text kind row.now }
-    ensures bound { GrowsBy 323 held.old held.new }
+    ensures { AddsAtMost 323 held.old held.new (32 ∷ row_text kind row.now) }
 {
     match kind {
         Kind::Text | Kind::Utf8 | Kind::Ucs2 | Kind::Ucs4 => write_quoted(held, kind, row),
@@ -44,14 +43,13 @@ fn write_joined_pairs(held: &mut HeldOctets, octets: &[u8])
     }
 }
 
-/// Adds a value that fits on its line with a space before it, if there is one. An object identifier is shown in
+/// Adds a value that is not long, with a space before it, if there is one. An object identifier is shown in
 /// hexadecimal.
 #[inline(always)]
 pub(crate) fn write_undotted(held: &mut HeldOctets, kind: Kind, contents: &[u8])
     requires short { length contents.now ≤ most_on_line kind }
     requires room { HasRoomFor held.old 400 }
-    ensures text { held.new ≡ held.old ++ undotted_text kind contents.now }
-    ensures bound { GrowsBy 330 held.old held.new }
+    ensures { AddsAtMost 330 held.old held.new (undotted_text kind contents.now) }
 {
     match kind {
         Kind::Boolean => write_boolean(held, contents),
@@ -97,7 +95,7 @@ fn write_integer(held: &mut HeldOctets, contents: &[u8])
     if contents.len() > 8 {
         write_wide_integer(held, contents);
     } else if let Some(number) = short_decimal_of(contents) {
-        // A space and a sign, and of both what there is: no branch asks for the sign.
+        // The first octet of `SIGN`, or the first two if the number is negative: no branch asks for the sign.
         held.add_prefix(SIGN, 1 + usize::from(number < 0));
         held.number(number.unsigned_abs());
     }
@@ -148,8 +146,7 @@ fn write_bits(held: &mut HeldOctets, contents: &[u8])
 pub(crate) fn write_long_value(held: &mut HeldOctets, kind: Kind, size: u64, contents: &[u8])
     requires long { is_long kind size ≡ true }
     requires room { HasRoomFor held.old 64 }
-    ensures text { held.new ≡ held.old ++ long_text kind size contents.now }
-    ensures bound { GrowsBy 45 held.old held.new }
+    ensures { AddsAtMost 45 held.old held.new (long_text kind size contents.now) }
 {
     if let (Kind::Bits, [unused_bits, ..]) = (kind, contents) {
         write_long_bits(held, size, *unused_bits);
@@ -161,8 +158,7 @@ pub(crate) fn write_long_value(held: &mut HeldOctets, kind: Kind, size: u64, con
 pub(crate) fn write_long_bits(held: &mut HeldOctets, size: u64, unused_bits: u8)
     requires long { 9 < size }
     requires room { HasRoomFor held.old 64 }
-    ensures text { held.new ≡ held.old ++ long_text Kind.Bits size (unused_bits ∷ []) }
-    ensures bound { GrowsBy 45 held.old held.new }
+    ensures { AddsAtMost 45 held.old held.new (long_text Kind.Bits size (unused_bits ∷ [])) }
 {
     if unused_bits <= 7 {
         write_bit_count(held, unused_bits, size - 1);
@@ -173,8 +169,7 @@ pub(crate) fn write_long_bits(held: &mut HeldOctets, size: u64, unused_bits: u8)
 fn write_bit_count(held: &mut HeldOctets, unused_bits: u8, octet_count: u64)
     requires some { unused_bits ≤ 8 * octet_count }
     requires room { HasRoomFor held.old 64 }
-    ensures text { held.new ≡ held.old ++ 32 ∷ bit_count_text unused_bits octet_count }
-    ensures bound { GrowsBy 45 held.old held.new }
+    ensures { AddsAtMost 45 held.old held.new (32 ∷ bit_count_text unused_bits octet_count) }
 {
     held.add(b" ");
     held.wide_number(8 * u128::from(octet_count) - u128::from(unused_bits));

@@ -42,7 +42,7 @@ pub struct ValueCheck {
     /// Whether a subidentifier begins with `80`.
     is_padded: bool,
     /// Whether the rows of a UTF8String that were full are well-formed.
-    rows_are_utf8: bool,
+    are_full_rows_utf8: bool,
     /// The octets of its row that has begun.
     row: ArrayVec<u8, 64>,
     /// The first octets of a time.
@@ -83,7 +83,7 @@ impl ValueCheck {
             last: 0,
             are_octets_allowed: true,
             is_padded: false,
-            rows_are_utf8: true,
+            are_full_rows_utf8: true,
             row: ArrayVec::new(),
             time: ArrayVec::new(),
         }
@@ -102,7 +102,7 @@ impl ValueCheck {
         self.last = 0;
         self.are_octets_allowed = true;
         self.is_padded = false;
-        self.rows_are_utf8 = true;
+        self.are_full_rows_utf8 = true;
         if !self.row.is_empty() {
             self.row.clear();
         }
@@ -183,7 +183,10 @@ impl ValueCheck {
                 self.is_padded = is_padded_with(self.is_padded, self.last, octets);
             }
             universal::UTF8_STRING => {
-                self.rows_are_utf8 = both(self.rows_are_utf8, take_rows(&mut self.row, octets));
+                self.are_full_rows_utf8 = both(
+                    self.are_full_rows_utf8,
+                    take_rows(&mut self.row, octets),
+                );
             }
             _ => self.are_octets_allowed = both(
                 self.are_octets_allowed,
@@ -235,7 +238,7 @@ impl ValueCheck {
         ensures { result ≡ is_allowed self.now }
     {
         let all = match self.number {
-            universal::UTF8_STRING => both(self.rows_are_utf8, is_utf8(self.row.as_slice())),
+            universal::UTF8_STRING => both(self.are_full_rows_utf8, is_utf8(self.row.as_slice())),
             universal::BMP_STRING => self.size % 2 == 0,
             universal::UNIVERSAL_STRING => self.size % 4 == 0,
             _ => true,

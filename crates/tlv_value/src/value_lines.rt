@@ -23,7 +23,7 @@ pub(crate) fn put_object<N: NameTable, D: Drain>(
     requires room { HasRoomFor (held_octets out.old) 400 }
     requires short { length contents.now ≤ 64 }
     ensures { Puts D.state out.old out.new
-        (object_lines (N.name_of names.now) layout [] false contents.now) result }
+        (object_lines (N.name_of names.now) layout false contents.now) result }
 {
     let start = out.held.len() + 1;
     if !write_dotted(&mut out.held, contents, false) {
@@ -57,7 +57,7 @@ pub(crate) fn put_relative<D: Drain>(
     requires room { HasRoomFor (held_octets out.old) 400 }
     requires short { length contents.now ≤ 64 }
     ensures { Puts D.state out.old out.new
-        (object_lines no_names layout [] true contents.now) result }
+        (object_lines no_names layout true contents.now) result }
 {
     if !write_dotted(&mut out.held, contents, true) {
         return put_octets(layout, contents, out);
@@ -75,7 +75,7 @@ fn put_octets<D: Drain>(
 ) -> Result<(), WriteFault>
     requires room { HasRoomFor (held_octets out.old) 400 }
     requires short { length contents.now ≤ 64 }
-    ensures { Puts D.state out.old out.new (octets_lines layout [] contents.now) result }
+    ensures { Puts D.state out.old out.new (octets_lines layout contents.now) result }
 {
     if contents.len() <= 16 {
         out.held.spaced_pairs(contents);

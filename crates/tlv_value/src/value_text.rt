@@ -27,7 +27,7 @@ fn begin_row(unused_bits: u8, row: &mut ArrayVec<u8, 64>)
     }
 }
 
-/// Writes the lines of a primitive from its contents, in whatever pieces they come.
+/// Puts the lines of a primitive from its contents, in whatever pieces they come.
 ///
 /// A value that fits on its element's line is kept until its last octet has come. The line of a long
 /// value comes with the header (that of a BIT STRING with its first contents octet), and each row
@@ -37,11 +37,11 @@ pub struct ValueText {
     primitive: Primitive,
     /// How many octets are still to come.
     left: u64,
-    /// Whether the line of a long value was written.
-    wrote_line: bool,
+    /// Whether the line of a long value was put.
+    has_put_line: bool,
     /// How many rows were full.
     row_count: u64,
-    /// The octets of the row that has begun, or of a value that fits on its line.
+    /// The octets of the row that has begun, or of a value that is not long.
     row: ArrayVec<u8, 64>,
 }
 
@@ -74,7 +74,7 @@ impl ValueText {
         ValueText {
             primitive,
             left: primitive.size,
-            wrote_line: !matches!(primitive.kind, Kind::Bits),
+            has_put_line: !matches!(primitive.kind, Kind::Bits),
             row_count: 0,
             row: ArrayVec::new(),
         }
@@ -99,7 +99,7 @@ impl ValueText {
         ValueText {
             primitive,
             left: 0,
-            wrote_line: true,
+            has_put_line: true,
             row_count: 0,
             row: ArrayVec::new(),
         }
@@ -112,11 +112,11 @@ impl ValueText {
         self.left
     }
 
-    /// Writes what is known with the header: the lines of its primitive without contents so far.
+    /// Puts what is known with the header: the lines of its primitive without contents so far.
     ///
     /// # Errors
     ///
-    /// `WriteFault` exactly if the drain's failures rose in the call.
+    /// `WriteFault` exactly if a write failed.
     #[inline(always)]
     pub fn begin<D: Drain>(&self, out: &mut Out<'_, D>) -> Result<(), WriteFault>
         ensures puts { Puts D.state out.old out.new (begin_lines self.now) result }
@@ -124,18 +124,18 @@ impl ValueText {
             → self.now ≡ new_value_text h layout
             → Puts D.state out.old out.new (open_lines h layout []) result }
     {
-        if !self.primitive.is_long() || !self.wrote_line {
+        if !self.primitive.is_long() || !self.has_put_line {
             return Ok(());
         }
         self.primitive.put_bare_line(out)
     }
 
-    /// Writes what is known with more contents octets: after the lines of its primitive with the contents before
+    /// Puts what is known with more contents octets: after the lines of its primitive with the contents before
     /// them, the rest of its lines with these too.
     ///
     /// # Errors
     ///
-    /// `WriteFault` exactly if the drain's failures rose in the call.
+    /// `WriteFault` exactly if a write failed.
     pub fn bytes<D: Drain>(&mut self, octets: &[u8], out: &mut Out<'_, D>) -> Result<(), WriteFault>
         requires { length octets.now ≤ self.old.left }
         ensures state { OnOk result (self.new ≡ value_text_after self.old octets.now) }
@@ -151,7 +151,7 @@ impl ValueText {
             return Ok(());
         }
         let (kind, layout) = (self.primitive.kind, self.primitive.layout);
-        if self.wrote_line {
+        if self.has_put_line {
             return put_rows(
                 kind,
                 layout,
@@ -164,18 +164,18 @@ impl ValueText {
         let Some((unused_bits, rest)) = octets.split_first() else {
             return Ok(());
         };
-        self.wrote_line = true;
+        self.has_put_line = true;
         begin_row(*unused_bits, &mut self.row);
         self.primitive.put_bits_line(*unused_bits, out)?;
         put_rows(kind, layout, &mut self.row, &mut self.row_count, rest, out)
     }
 
-    /// Writes what is known with the last contents octet: after what was written before it, the rest of the lines
+    /// Puts what is known with the last contents octet: after what was put before it, the rest of the lines
     /// of the whole primitive.
     ///
     /// # Errors
     ///
-    /// `WriteFault` exactly if the drain's failures rose in the call.
+    /// `WriteFault` exactly if a write failed.
     pub fn end<N: NameTable, D: Drain>(
         &mut self,
         names: &N,

@@ -1,5 +1,5 @@
 //! The lines of a primitive of which all contents are at hand. Those of a value that is on its line, or in rows of
-//! pairs of digits, are made at once: no contents are copied, and its type is asked for once.
+//! pairs of digits without a limit, are made at once: no contents are copied, and its type is asked for once.
 ghost use Rattle.std.specs.Prelude.{◌≡◌, ◌++◌, None, length, true};
 ghost use Rattle.tlv_head.specs.Header.{announced_length};
 ghost use Rattle.tlv_io.specs.Out.{Puts};
@@ -22,7 +22,7 @@ use tlv_io::{Drain, Out, WriteFault};
 ///
 /// # Errors
 ///
-/// `WriteFault` exactly if the drain's failures rose in the call.
+/// `WriteFault` exactly if a write failed.
 #[inline(always)]
 pub fn put_whole<N: NameTable, D: Drain>(
     header: &Header,

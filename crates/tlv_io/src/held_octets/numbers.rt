@@ -6,7 +6,7 @@ use super::HeldOctets;
 use itoa::{Buffer, write_digits};
 
 impl HeldOctets {
-    /// Adds a number.
+    /// Adds a number in decimal.
     #[inline(always)]
     pub fn number(&mut self, number: u64)
         requires { HasRoomFor self.old 20 }
@@ -17,7 +17,7 @@ impl HeldOctets {
         self.len = end;
     }
 
-    /// Adds a number that may have more than 64 bits.
+    /// Adds a number, which may have more than 64 bits, in decimal.
     #[inline(always)]
     pub fn wide_number(&mut self, number: u128)
         requires { HasRoomFor self.old 40 }
@@ -30,7 +30,7 @@ impl HeldOctets {
         }
     }
 
-    /// Adds a number of more than 64 bits.
+    /// Adds a number of more than 64 bits, in decimal.
     #[inline(never)]
     fn wider_number(&mut self, number: u128)
         requires { HasRoomFor self.old 40 }
@@ -40,7 +40,7 @@ impl HeldOctets {
         self.add(digits.format(number).as_bytes());
     }
 
-    /// Adds the columns that a line begins with: an offset and a size.
+    /// Adds the columns that a line begins with: an offset and a number of contents octets, in decimal.
     #[inline(always)]
     pub fn columns(&mut self, offset: u64, size: u64)
         requires { HasRoomFor self.old 43 }
@@ -69,7 +69,7 @@ impl HeldOctets {
         self.add(b": ");
     }
 
-    /// Adds the columns that a line begins with: an offset and a word.
+    /// Adds the columns that a line begins with: an offset, in decimal, and a word.
     #[inline(always)]
     pub fn word_columns(&mut self, offset: u64, word: &[u8; 6])
         requires { HasRoomFor self.old 29 }
@@ -98,9 +98,9 @@ impl HeldOctets {
         self.add(b": ");
     }
 
-    /// Adds a number at the right of eight places; a longer one takes as many as it needs.
+    /// Adds a number, in decimal, at the right of eight places; a longer one takes as many as it needs.
     #[inline(always)]
-    pub fn right_8(&mut self, number: u64)
+    fn right_8(&mut self, number: u64)
         requires { HasRoomFor self.old 20 }
         ensures { self.new ≡ self.old ++ at_right 8 (decimal number) }
     {
@@ -115,9 +115,9 @@ impl HeldOctets {
         }
     }
 
-    /// Adds a number at the right of six places; a longer one takes as many as it needs.
+    /// Adds a number, in decimal, at the right of six places; a longer one takes as many as it needs.
     #[inline(always)]
-    pub fn right_6(&mut self, number: u64)
+    fn right_6(&mut self, number: u64)
         requires { HasRoomFor self.old 20 }
         ensures { self.new ≡ self.old ++ at_right 6 (decimal number) }
     {

@@ -1,13 +1,13 @@
 //! Texts that are written over the first of some octets.
-ghost use Rattle.std.specs.Prelude.{◌≡◌, ◌+◌, ◌*◌, ◌≤◌, length, take};
+ghost use Rattle.std.specs.Prelude.{◌+◌, ◌*◌, ◌≤◌, length};
 ghost use Rattle.tlv_io.specs.LineTexts.{spaced_pairs, spaces};
+ghost use Rattle.tlv_io.specs.Private.WritesOver.{WritesOver};
 
 /// Writes spaces, and up to 32 more after them.
 #[inline(always)]
 pub(super) fn fill_spaces(to: &mut [u8], count: usize)
     requires { count + 32 ≤ length to.old }
-    ensures text { take count to.new ≡ spaces count }
-    ensures size { length to.new ≡ length to.old }
+    ensures { WritesOver count to.old to.new (spaces count) }
 {
     to[..32].copy_from_slice(&[b' '; 32]);
     if count > 32 {
@@ -19,8 +19,7 @@ pub(super) fn fill_spaces(to: &mut [u8], count: usize)
 #[inline(never)]
 fn fill_more_spaces(to: &mut [u8], count: usize)
     requires { count + 32 ≤ length to.old }
-    ensures text { take count to.new ≡ spaces count }
-    ensures size { length to.new ≡ length to.old }
+    ensures { WritesOver count to.old to.new (spaces count) }
 {
     let mut done = 0;
     while done < count {
@@ -33,8 +32,7 @@ fn fill_more_spaces(to: &mut [u8], count: usize)
 #[inline(always)]
 pub(super) fn write_spaced_pairs(octets: &[u8], to: &mut [u8])
     requires { 3 * length octets.now ≤ length to.old }
-    ensures text { take (3 * length octets.now) to.new ≡ spaced_pairs octets.now }
-    ensures size { length to.new ≡ length to.old }
+    ensures { WritesOver (3 * length octets.now) to.old to.new (spaced_pairs octets.now) }
 {
     for i in 0..octets.len() {
         to[3 * i] = b' ';
@@ -46,8 +44,7 @@ pub(super) fn write_spaced_pairs(octets: &[u8], to: &mut [u8])
 #[inline(always)]
 pub(super) fn write_spaced_row(octets: &[u8; 16], to: &mut [u8])
     requires { 48 ≤ length to.old }
-    ensures text { take 48 to.new ≡ spaced_pairs octets.now }
-    ensures size { length to.new ≡ length to.old }
+    ensures { WritesOver 48 to.old to.new (spaced_pairs octets.now) }
 {
     to[..48].copy_from_slice(&[b' '; 48]);
     for i in 0..16 {

@@ -8,7 +8,7 @@ use Rattle.std.specs.Str.{is_utf8}
 use Rattle.tlv_head.specs.Header.{HeaderValue, announced_length}
 use Rattle.tlv_value.specs.declared.kind.Kind.TheVariants.{Utf8}
 use Rattle.tlv_value.specs.CheckLaws.{ChecksJoin, FindingsEnd}
-use Rattle.tlv_value.specs.ValueCheckState.{ValueCheckState, all_utf8, value_check_after, new_value_check}
+use Rattle.tlv_value.specs.ValueCheckState.{ValueCheckState, value_check_after, new_value_check}
 use Rattle.tlv_value.specs.ValueCheckState.{new_value_check_of, notes_each, notes_first, facts_in, notes_time}
 use Rattle.tlv_value.specs.ValueCheckState.{with_each_noted, with_first_noted, with_octets_noted, with_time_noted}
 use Rattle.tlv_value.specs.Checks.{ContentsFacts, allows_octet, findings_by, is_padded_after, last_octet}
@@ -37,10 +37,12 @@ padded-join previous (z ∷ x) y =
     or-assoc (nat_lt previous 128 && eqb z 128) (is_padded_after z x) (is_padded_after (last_octet z x) y)
     ∙ ap (λ (b : Bool). (nat_lt previous 128 && eqb z 128) || b) (padded-join z x y)
 
-utf8-join : (rows more : List (List ℕ)) → (all_utf8 rows && all_utf8 more) ≡ all_utf8 (rows ++ more)
+utf8-join : (rows more : List (List ℕ))
+    → (list_all is_utf8 rows && list_all is_utf8 more) ≡ list_all is_utf8 (rows ++ more)
 utf8-join [] more = refl
 utf8-join (row ∷ rows) more =
-    and-assoc (is_utf8 row) (all_utf8 rows) (all_utf8 more) ∙ ap (λ (b : Bool). is_utf8 row && b) (utf8-join rows more)
+    and-assoc (is_utf8 row) (list_all is_utf8 rows) (list_all is_utf8 more)
+    ∙ ap (λ (b : Bool). is_utf8 row && b) (utf8-join rows more)
 
 take-twice : (n : ℕ) (xs ys : List ℕ) → take n (take n xs ++ ys) ≡ take n (xs ++ ys)
 take-twice zero xs ys = refl
@@ -60,18 +62,19 @@ padded-at true is_padded previous x y =
     ∙ ap (λ (b : Bool). is_padded || b) (padded-join previous x y)
 padded-at false is_padded previous x y = refl
 
-formed-at : (b rows_are_utf8 : Bool) (row x y : List ℕ)
+formed-at : (b are_full_rows_utf8 : Bool) (row x y : List ℕ)
     → (if b
-    then (if b then rows_are_utf8 && all_utf8 (full_rows Utf8 row x) else rows_are_utf8)
-    && all_utf8 (full_rows Utf8 (if b then open_row Utf8 row x else row) y)
-    else (if b then rows_are_utf8 && all_utf8 (full_rows Utf8 row x) else rows_are_utf8))
-    ≡ (if b then rows_are_utf8 && all_utf8 (full_rows Utf8 row (x ++ y)) else rows_are_utf8)
-formed-at true rows_are_utf8 row x y =
-    and-assoc rows_are_utf8 (all_utf8 (full_rows Utf8 row x)) (all_utf8 (full_rows Utf8 (open_row Utf8 row x) y))
-    ∙ ap (λ (b : Bool). rows_are_utf8 && b)
+    then (if b then are_full_rows_utf8 && list_all is_utf8 (full_rows Utf8 row x) else are_full_rows_utf8)
+    && list_all is_utf8 (full_rows Utf8 (if b then open_row Utf8 row x else row) y)
+    else (if b then are_full_rows_utf8 && list_all is_utf8 (full_rows Utf8 row x) else are_full_rows_utf8))
+    ≡ (if b then are_full_rows_utf8 && list_all is_utf8 (full_rows Utf8 row (x ++ y)) else are_full_rows_utf8)
+formed-at true are_full_rows_utf8 row x y =
+    and-assoc are_full_rows_utf8 (list_all is_utf8 (full_rows Utf8 row x))
+    (list_all is_utf8 (full_rows Utf8 (open_row Utf8 row x) y))
+    ∙ ap (λ (b : Bool). are_full_rows_utf8 && b)
     (utf8-join (full_rows Utf8 row x) (full_rows Utf8 (open_row Utf8 row x) y)
-    ∙ ap all_utf8 (sym (rows-join Utf8 row x y).0))
-formed-at false rows_are_utf8 row x y = refl
+    ∙ ap (list_all is_utf8) (sym (rows-join Utf8 row x y).0))
+formed-at false are_full_rows_utf8 row x y = refl
 
 row-at : (b : Bool) (row x y : List ℕ)
     → (if b then open_row Utf8 (if b then open_row Utf8 row x else row) y else (if b then open_row Utf8 row x else row))
@@ -80,7 +83,7 @@ row-at true row x y = sym (rows-join Utf8 row x y).1
 row-at false row x y = refl
 
 abbrev state_with : ValueCheckState → ℕ → List ℕ → ℕ → Bool → Bool → Bool → List ℕ → List ℕ → ValueCheckState
-state_with s left first_octets last are_octets_allowed is_padded rows_are_utf8 row time = record {
+state_with s left first_octets last are_octets_allowed is_padded are_full_rows_utf8 row time = record {
   number = s.number;
   size = s.size;
   left = left;
@@ -88,7 +91,7 @@ state_with s left first_octets last are_octets_allowed is_padded rows_are_utf8 r
   last = last;
   are_octets_allowed = are_octets_allowed;
   is_padded = is_padded;
-  rows_are_utf8 = rows_are_utf8;
+  are_full_rows_utf8 = are_full_rows_utf8;
   row = row;
   time = time;
 }
@@ -118,8 +121,8 @@ join-by true e t s x y =
     state_with-eq s (s.left - length x - length y) (s.left - length (x ++ y))
     (take 2 (take 2 (s.first_octets ++ x) ++ y))
     (take 2 (s.first_octets ++ (x ++ y))) (last_octet (last_octet s.last x) y) (last_octet s.last (x ++ y))
-    s.are_octets_allowed s.are_octets_allowed s.is_padded s.is_padded s.rows_are_utf8 s.rows_are_utf8 s.row s.row
-    s.time s.time
+    s.are_octets_allowed s.are_octets_allowed s.is_padded s.is_padded s.are_full_rows_utf8 s.are_full_rows_utf8
+    s.row s.row s.time s.time
     l (take-join 2 s.first_octets x y) (last-join s.last x y) refl refl refl refl refl
 join-by false true t s x y =
     let l : s.left - length x - length y ≡ s.left - length (x ++ y) = omega (arith, length-append x y) in
@@ -127,18 +130,19 @@ join-by false true t s x y =
     (last_octet (last_octet s.last x) y) (last_octet s.last (x ++ y))
     (with_each_noted (with_each_noted s x) y).are_octets_allowed (with_each_noted s (x ++ y)).are_octets_allowed
     (with_each_noted (with_each_noted s x) y).is_padded (with_each_noted s (x ++ y)).is_padded
-    (with_each_noted (with_each_noted s x) y).rows_are_utf8 (with_each_noted s (x ++ y)).rows_are_utf8
+    (with_each_noted (with_each_noted s x) y).are_full_rows_utf8 (with_each_noted s (x ++ y)).are_full_rows_utf8
     (with_each_noted (with_each_noted s x) y).row (with_each_noted s (x ++ y)).row s.time s.time
     l refl (last-join s.last x y)
     (and-assoc s.are_octets_allowed (list_all (allows_octet s.number) x) (list_all (allows_octet s.number) y)
     ∙ ap (λ (b : Bool). s.are_octets_allowed && b) (sym (list_all-append (allows_octet s.number) x y)))
     (padded-at (is_number_of object_types s.number) s.is_padded s.last x y)
-    (formed-at (eqb s.number 12) s.rows_are_utf8 s.row x y) (row-at (eqb s.number 12) s.row x y) refl
+    (formed-at (eqb s.number 12) s.are_full_rows_utf8 s.row x y) (row-at (eqb s.number 12) s.row x y) refl
 join-by false false true s x y =
     let l : s.left - length x - length y ≡ s.left - length (x ++ y) = omega (arith, length-append x y) in
     state_with-eq s (s.left - length x - length y) (s.left - length (x ++ y)) s.first_octets s.first_octets s.last
     s.last
-    s.are_octets_allowed s.are_octets_allowed s.is_padded s.is_padded s.rows_are_utf8 s.rows_are_utf8 s.row s.row
+    s.are_octets_allowed s.are_octets_allowed s.is_padded s.is_padded s.are_full_rows_utf8 s.are_full_rows_utf8
+    s.row s.row
     (take 64 (take 64 (s.time ++ x) ++ y))
     (take 64 (s.time ++ (x ++ y)))
     l refl refl refl refl refl refl (take-join 64 s.time x y)

@@ -1,10 +1,11 @@
 -- What is noted of each contents octet, type by type. Of most types it is nothing.
+use Rattle.std.specs.Str.{is_utf8}
 use Rattle.std.proofs.Common.{◌≡◌, ℕ, Bool, true, false, List, refl, arith}
 use Rattle.std.specs.List.{list_all}
 use Rattle.std.specs.Prelude.{◌&&◌, ◌||◌, eqb}
 use Rattle.std.proofs.lemmas.Bool.Decides.{nat_tests}
 use Rattle.tlv_value.specs.Types.{is_number_of, object_types}
-use Rattle.tlv_value.specs.ValueCheckState.{ValueCheckState, all_utf8, notes_each, with_each_noted}
+use Rattle.tlv_value.specs.ValueCheckState.{ValueCheckState, notes_each, with_each_noted}
 use Rattle.tlv_value.specs.Checks.{allows_octet, is_padded_after, last_octet}
 use Rattle.tlv_value.specs.declared.kind.Kind.TheVariants.{Utf8}
 use Rattle.tlv_value.specs.Rows.{full_rows, open_row}
@@ -38,8 +39,8 @@ object-noted s octets object =
 -- a UTF8String
 pub text-noted : (s : ValueCheckState) (octets : List ℕ) → s.number ≡ 12
     → record s {
-      rows_are_utf8 =
-          s.rows_are_utf8 && all_utf8 (full_rows Utf8 s.row octets);
+      are_full_rows_utf8 =
+          s.are_full_rows_utf8 && list_all is_utf8 (full_rows Utf8 s.row octets);
       row =
           open_row Utf8 s.row octets;
       last = last_octet s.last octets;

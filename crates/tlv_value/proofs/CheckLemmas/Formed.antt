@@ -1,4 +1,5 @@
 -- UTF-8, row by row.
+use Rattle.std.specs.List.{list_all}
 use Rattle.std.proofs.Common.{◌≡◌, ◌↔◌, ℕ, zero, suc, ◌+◌, ◌/◌, ◌%◌, ◌<◌, ◌≤◌, Bool, true, false, List, [], ◌∷◌, ◌++◌}
 use Rattle.std.proofs.Common.{length, get_or, refl, sym, ap, ap₂, ◌∙◌, arith, ⊎_elim, append_assoc, append-nil}
 use Rattle.std.proofs.Common.{length-append}
@@ -10,7 +11,6 @@ use Rattle.std.proofs.lemmas.Bool.Decides.{nat_tests}
 use Rattle.std.proofs.lemmas.Str.{IsUtf8-append, IsUtf8-encode, IsUtf8-nil, IsUtf8-from_is_utf8, is_utf8-from_IsUtf8}
 use Rattle.tlv_io.specs.Cuts.{last_rows, utf8_length}
 use Rattle.tlv_value.specs.declared.kind.Kind.TheVariants.{Utf8}
-use Rattle.tlv_value.specs.ValueCheckState.{all_utf8}
 use Rattle.tlv_value.specs.Private.Room.{HaveRoom, has_room}
 use Rattle.tlv_value.proofs.RowLemmas.FilledRows.{row_begun, rows_filled}
 use Rattle.tlv_value.specs.Rows.{full_rows, open_row, rows_of}
@@ -36,8 +36,8 @@ gathered : List ℕ → List ℕ → Type 0
 gathered row xs = IsUtf8 (row ++ xs)
 
 joined_at : (row : List ℕ) (x : ℕ) (xs : List ℕ) (room last : Bool)
-    → ((r : List ℕ) → all_utf8 (rows_filled Utf8 r xs) ≡ true → IsUtf8 (row_begun Utf8 r xs) → IsUtf8 (r ++ xs))
-    → all_utf8
+    → ((r : List ℕ) → list_all is_utf8 (rows_filled Utf8 r xs) ≡ true → IsUtf8 (row_begun Utf8 r xs) → IsUtf8 (r ++ xs))
+    → list_all is_utf8
     (if room then (if last then (row ++ x ∷ []) ∷ rows_filled Utf8 [] xs else rows_filled Utf8 (row ++ x ∷ []) xs)
     else row ∷ rows_filled Utf8 (x ∷ []) xs)
     ≡ true
@@ -48,16 +48,17 @@ joined_at : (row : List ℕ) (x : ℕ) (xs : List ℕ) (room last : Bool)
 joined_at row x xs true true more e u =
     let first : IsUtf8 (row ++ x ∷ []) =
     IsUtf8-from_is_utf8 (row ++ x ∷ [])
-    (and_left (is_utf8 (row ++ x ∷ [])) (all_utf8 (rows_filled Utf8 [] xs)) e) in
-    let rest : IsUtf8 xs = more [] (and_right (is_utf8 (row ++ x ∷ [])) (all_utf8 (rows_filled Utf8 [] xs)) e) u in
+    (and_left (is_utf8 (row ++ x ∷ [])) (list_all is_utf8 (rows_filled Utf8 [] xs)) e) in
+    let rest : IsUtf8 xs =
+    more [] (and_right (is_utf8 (row ++ x ∷ [])) (list_all is_utf8 (rows_filled Utf8 [] xs)) e) u in
     rw (← append_assoc row (x ∷ []) xs) (IsUtf8-append (row ++ x ∷ []) xs first rest)
 joined_at row x xs true false more e u = rw (← append_assoc row (x ∷ []) xs) (more (row ++ x ∷ []) e u)
 joined_at row x xs false last more e u =
     IsUtf8-append row (x ∷ xs)
-    (IsUtf8-from_is_utf8 row (and_left (is_utf8 row) (all_utf8 (rows_filled Utf8 (x ∷ []) xs)) e))
-    (more (x ∷ []) (and_right (is_utf8 row) (all_utf8 (rows_filled Utf8 (x ∷ []) xs)) e) u)
+    (IsUtf8-from_is_utf8 row (and_left (is_utf8 row) (list_all is_utf8 (rows_filled Utf8 (x ∷ []) xs)) e))
+    (more (x ∷ []) (and_right (is_utf8 row) (list_all is_utf8 (rows_filled Utf8 (x ∷ []) xs)) e) u)
 
-joined : (row xs : List ℕ) → all_utf8 (rows_filled Utf8 row xs) ≡ true → IsUtf8 (row_begun Utf8 row xs)
+joined : (row xs : List ℕ) → list_all is_utf8 (rows_filled Utf8 row xs) ≡ true → IsUtf8 (row_begun Utf8 row xs)
     → IsUtf8 (row ++ xs)
 joined row [] e u = rw (append-nil row) u
 joined row (x ∷ xs) e u =
@@ -206,10 +207,10 @@ fill-up row (x ∷ y ∷ xs) rest room h some =
 
 -- all rows and the row that has begun are well-formed
 abbrev AreFormed : List ℕ → List ℕ → Type 0
-AreFormed row xs = (all_utf8 (rows_filled Utf8 row xs) ≡ true) × IsUtf8 (row_begun Utf8 row xs)
+AreFormed row xs = (list_all is_utf8 (rows_filled Utf8 row xs) ≡ true) × IsUtf8 (row_begun Utf8 row xs)
 
-put_row : (row : List ℕ) (rows all : List (List ℕ)) → IsUtf8 row → all_utf8 rows ≡ true → all ≡ row ∷ rows
-    → all_utf8 all ≡ true
+put_row : (row : List ℕ) (rows all : List (List ℕ)) → IsUtf8 row → list_all is_utf8 rows ≡ true → all ≡ row ∷ rows
+    → list_all is_utf8 all ≡ true
 put_row row rows all u e f = rw (f, is_utf8-from_IsUtf8 row u) e
 
 module _ (row : List ℕ) (x : ℕ) (tail rest : List ℕ) (announced_length : utf8_length x ≡ suc (length tail))
@@ -227,7 +228,7 @@ module _ (row : List ℕ) (x : ℕ) (tail rest : List ℕ) (announced_length : u
       more (row ++ x ∷ tail) (IsUtf8-append row (x ∷ tail) u v)
       (let w : length row + suc (length tail) < 64 =
       grind (arith, nat_tests) in omega (arith, length-append row (x ∷ tail))) in
-      (ap all_utf8 f.0 ∙ g.0, rw f.1 g.1)
+      (ap (list_all is_utf8) f.0 ∙ g.0, rw f.1 g.1)
   unit-within true e l =
       let f =
       fill-up row (x ∷ tail) rest (room-unit (length row) x tail announced_length quiet l)
@@ -274,39 +275,42 @@ same-bool false true f g = g refl
 all-formed : (c : List ℕ) → IsUtf8 c → AreFormed [] c
 all-formed c u = rw (← u.1.1) (formed [] u.0 u.1.0 IsUtf8-nil (omega arith))
 
-steps-formed : (c : List ℕ) → ((true && all_utf8 (rows_filled Utf8 [] c)) && is_utf8 (row_begun Utf8 [] c)) ≡ is_utf8 c
+steps-formed : (c : List ℕ)
+    → ((true && list_all is_utf8 (rows_filled Utf8 [] c)) && is_utf8 (row_begun Utf8 [] c)) ≡ is_utf8 c
 steps-formed c =
-    same-bool (all_utf8 (rows_filled Utf8 [] c) && is_utf8 (row_begun Utf8 [] c)) (is_utf8 c)
+    same-bool (list_all is_utf8 (rows_filled Utf8 [] c) && is_utf8 (row_begun Utf8 [] c)) (is_utf8 c)
     (λ e. is_utf8-from_IsUtf8 c
-    (joined [] c (and_left (all_utf8 (rows_filled Utf8 [] c)) (is_utf8 (row_begun Utf8 [] c)) e)
+    (joined [] c (and_left (list_all is_utf8 (rows_filled Utf8 [] c)) (is_utf8 (row_begun Utf8 [] c)) e)
     (IsUtf8-from_is_utf8 (row_begun Utf8 [] c)
-    (and_right (all_utf8 (rows_filled Utf8 [] c)) (is_utf8 (row_begun Utf8 [] c)) e))))
+    (and_right (list_all is_utf8 (rows_filled Utf8 [] c)) (is_utf8 (row_begun Utf8 [] c)) e))))
     (λ e. let a =
     all-formed c (IsUtf8-from_is_utf8 c e) in rw (a.0, is_utf8-from_IsUtf8 (row_begun Utf8 [] c) a.1) refl)
 
 -- the rows of all octets, and the last one, which need not be full
 pub rows-formed_at : (c : List ℕ)
-    → ((true && all_utf8 (full_rows Utf8 [] c)) && is_utf8 (open_row Utf8 [] c)) ≡ is_utf8 c
+    → ((true && list_all is_utf8 (full_rows Utf8 [] c)) && is_utf8 (open_row Utf8 [] c)) ≡ is_utf8 c
 rows-formed_at c =
     let p = cut-parts Utf8 c in
-    ap₂ (λ (rows : List (List ℕ)) (row : List ℕ). all_utf8 rows && is_utf8 row) (sym p.0) (sym p.1) ∙ steps-formed c
+    ap₂ (λ (rows : List (List ℕ)) (row : List ℕ). list_all is_utf8 rows && is_utf8 row) (sym p.0) (sym p.1)
+    ∙ steps-formed c
 
-utf8-append : (rows more : List (List ℕ)) → all_utf8 (rows ++ more) ≡ (all_utf8 rows && all_utf8 more)
+utf8-append : (rows more : List (List ℕ))
+    → list_all is_utf8 (rows ++ more) ≡ (list_all is_utf8 rows && list_all is_utf8 more)
 utf8-append [] more = refl
 utf8-append (row ∷ rows) more =
     ap (λ (b : Bool). is_utf8 row && b) (utf8-append rows more)
-    ∙ and-assoc (is_utf8 row) (all_utf8 rows) (all_utf8 more)
+    ∙ and-assoc (is_utf8 row) (list_all is_utf8 rows) (list_all is_utf8 more)
 
-last-formed : (row : List ℕ) → all_utf8 (last_rows row) ≡ is_utf8 row
+last-formed : (row : List ℕ) → list_all is_utf8 (last_rows row) ≡ is_utf8 row
 last-formed [] = sym (is_utf8-from_IsUtf8 [] IsUtf8-nil)
 last-formed (x ∷ row) = and-true (is_utf8 (x ∷ row))
 
-rows-all : (c : List ℕ) → all_utf8 (rows_of Utf8 c) ≡ is_utf8 c
+rows-all : (c : List ℕ) → list_all is_utf8 (rows_of Utf8 c) ≡ is_utf8 c
 rows-all c =
     utf8-append (rows_filled Utf8 [] c) (last_rows (row_begun Utf8 [] c))
-    ∙ ap (λ (b : Bool). all_utf8 (rows_filled Utf8 [] c) && b) (last-formed (row_begun Utf8 [] c))
+    ∙ ap (λ (b : Bool). list_all is_utf8 (rows_filled Utf8 [] c) && b) (last-formed (row_begun Utf8 [] c))
     ∙ steps-formed c
 
-pub rows-formed : (octets : List ℕ) → IsUtf8 octets ↔ (all_utf8 (rows_of Utf8 octets) ≡ true)
+pub rows-formed : (octets : List ℕ) → IsUtf8 octets ↔ (list_all is_utf8 (rows_of Utf8 octets) ≡ true)
 rows-formed octets =
     (λ u. rows-all octets ∙ is_utf8-from_IsUtf8 octets u, λ e. IsUtf8-from_is_utf8 octets (sym (rows-all octets) ∙ e))

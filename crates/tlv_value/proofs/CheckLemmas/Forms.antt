@@ -2,7 +2,7 @@
 use Rattle.std.proofs.Common.{◌≡◌, ℕ, Bool, true, false, ◌||◌, List, [], ◌∷◌, ◌++◌, refl, sym, ap, ◌∙◌, append_assoc}
 use Rattle.std.proofs.Common.{append-nil}
 use Rattle.std.specs.Prelude.{Option, Some, None, flat_map, option_to_list}
-use Rattle.tlv_value.specs.Times.{Form, has_empty_rest, has_form, ◌then◌, ◌or◌, maybe}
+use Rattle.tlv_value.specs.Times.{Form, has_empty_rest, has_form, ◌then◌, maybe}
 
 -- something is left, and the test holds of it
 abbrev pub holds_of : (List ℕ → Bool) → Option (List ℕ) → Bool

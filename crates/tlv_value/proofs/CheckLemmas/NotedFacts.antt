@@ -10,8 +10,7 @@ use Rattle.tlv_value.specs.declared.finding.Finding.TheVariants.{B06, B07, B08, 
 use Rattle.tlv_value.specs.Checks.{ContentsFacts, allows, allows_octet, are_whole_characters, facts_of, finding_if}
 use Rattle.tlv_value.specs.Checks.{findings_by, is_padded_integer, last_octet, type_conditions, type_findings}
 use Rattle.tlv_value.specs.Types.{character_types, is_number_of}
-use Rattle.tlv_value.proofs.CheckLemmas.CheckWords.{allows_both}
-use Rattle.tlv_value.specs.ValueCheckState.{all_utf8, facts_in, is_allowed, new_value_check_of, notes_each}
+use Rattle.tlv_value.specs.ValueCheckState.{facts_in, is_allowed, new_value_check_of, notes_each}
 use Rattle.tlv_value.specs.ValueCheckState.{with_each_noted, with_octets_noted}
 use Rattle.tlv_value.specs.Rows.{full_rows, open_row}
 use Rattle.tlv_value.specs.declared.kind.Kind.TheVariants.{Utf8}
@@ -40,10 +39,6 @@ padded-noted (x ∷ y ∷ c) = refl
 
 take-all : (n : ℕ) (c : List ℕ) → length c ≤ n → take n c ≡ c
 take-all n c h = grind (arith, common_steps)
-
-all-is : (test : ℕ → Bool) → ((x : ℕ) → test x ≡ true) → (c : List ℕ) → list_all test c ≡ true
-all-is test e [] = refl
-all-is test e (x ∷ c) = rw (e x) (all-is test e c)
 
 -- ---- type by type: those of which more is asked than the number of octets, and what was noted of each octet
 
@@ -88,39 +83,10 @@ general-same c =
     time-by (nat_le (length c) 64) generalized_time_form canonical_generalized_time_form c (take 64 c)
     (λ e. take-all 64 c (leb-true (length c) 64 e))
 
--- what the contents have as a whole, and what each octet has
-both-at : (n k : ℕ) (c : List ℕ) → eqb n k ≡ true → allows_both k c ≡ allows k c → allows_both n c ≡ allows n c
-both-at n k c e h = subst (λ (m : ℕ). allows_both m c ≡ allows m c) (sym (eqb-true n k e)) h
-
-with-each : (k : Bool) (test : ℕ → Bool) → ((x : ℕ) → test x ≡ true) → (c : List ℕ) → (k && list_all test c) ≡ k
-with-each true test e c = all-is test e c
-with-each false test e c = refl
-
-allows-both : (n : ℕ) (c : List ℕ) → allows_both n c ≡ allows n c
-allows-both n c =
-    at (eqb n 12) (eqb n 18) (eqb n 19) (eqb n 22) (eqb n 26) (eqb n 28) (eqb n 30) refl refl refl refl refl refl refl
-  where
-    at : (p q r s t u v : Bool) → eqb n 12 ≡ p → eqb n 18 ≡ q → eqb n 19 ≡ r → eqb n 22 ≡ s → eqb n 26 ≡ t
-        → eqb n 28 ≡ u → eqb n 30 ≡ v
-        → allows_both n c ≡ allows n c
-    at true q r s t u v e f g h i j k = both-at n 12 c e (with-each (is_utf8 c) (allows_octet 12) (λ x. refl) c)
-    at false true r s t u v e f g h i j k = both-at n 18 c f refl
-    at false false true s t u v e f g h i j k = both-at n 19 c g refl
-    at false false false true t u v e f g h i j k = both-at n 22 c h refl
-    at false false false false true u v e f g h i j k = both-at n 26 c i refl
-    at false false false false false true v e f g h i j k =
-        both-at n 28 c j (ap (λ (l : Bool). eqb (length c % 4) 0 && l) (all-is (allows_octet 28) (λ x. refl) c))
-    at false false false false false false true e f g h i j k =
-        both-at n 30 c k (ap (λ (l : Bool). eqb (length c % 2) 0 && l) (all-is (allows_octet 30) (λ x. refl) c))
-    at false false false false false false false e f g h i j k =
-        let l : allows_both n c ≡ true = rw (e, j, k) (all-is (allows_octet n) (λ x. rw (f, g, h, i) refl) c) in
-        let r : allows n c ≡ true = rw (e, f, g, h, i, j, k) refl in
-        l ∙ sym r
-
 -- any other type
 allowed-each : (n : ℕ) (c : List ℕ) (text : Bool)
     → ((if text
-    then (if text then true && all_utf8 (full_rows Utf8 [] c) else true)
+    then (if text then true && list_all is_utf8 (full_rows Utf8 [] c) else true)
     && is_utf8 (if text then open_row Utf8 [] c else [])
     else are_whole_characters n (length c))
     && (true && list_all (allows_octet n) c))
@@ -131,12 +97,12 @@ allowed-each n c false = refl
 other-allowed : (n : ℕ) (c : List ℕ) → eqb n 1 ≡ false → eqb n 2 ≡ false → eqb n 3 ≡ false → eqb n 10 ≡ false
     → eqb n 23 ≡ false → eqb n 24 ≡ false
     → is_allowed (with_octets_noted (new_value_check_of n (length c)) c) ≡ allows n c
-other-allowed n c e1 e2 e3 e10 e23 e24 = rw (e1, e2, e3, e10, e23, e24) (by (notes_each n) refl) ∙ allows-both n c
+other-allowed n c e1 e2 e3 e10 e23 e24 = rw (e1, e2, e3, e10, e23, e24) (by (notes_each n) refl)
   where
     by : (k : Bool) → notes_each n ≡ k
         → is_allowed
         (if k then with_each_noted (new_value_check_of n (length c)) c else new_value_check_of n (length c))
-        ≡ allows_both n c
+        ≡ allows n c
     by true e = allowed-each n c (eqb n 12)
     by false e = ap is_allowed (sym (nothing-noted (new_value_check_of n (length c)) c e)) ∙ allowed-each n c (eqb n 12)
 

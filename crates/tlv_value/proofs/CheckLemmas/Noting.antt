@@ -7,7 +7,6 @@ use Rattle.std.proofs.lemmas.Bool.Decides.{nat_tests}
 use Rattle.std.proofs.Math.Seq.{take-append-add}
 use Rattle.std.proofs.lemmas.List.{drop_more, take_min}
 use Rattle.std.specs.Str.{is_utf8}
-use Rattle.tlv_value.specs.ValueCheckState.{all_utf8}
 use Rattle.tlv_value.specs.Checks.{allows_octet, is_padded_after, last_octet}
 
 allows-other : (number x : ℕ) → (number ≡ 18 → ⊥) → (number ≡ 19 → ⊥) → (number ≡ 22 → ⊥) → (number ≡ 26 → ⊥)
@@ -53,11 +52,11 @@ last-some previous (x ∷ xs) h =
 
 -- a row more, and no row more
 pub and-row : (formed : Bool) (row : List ℕ) (rows all : List (List ℕ)) → all ≡ row ∷ rows
-    → ((formed && is_utf8 row) && all_utf8 rows) ≡ (formed && all_utf8 all)
+    → ((formed && is_utf8 row) && list_all is_utf8 rows) ≡ (formed && list_all is_utf8 all)
 and-row true row rows all e = rw e refl
 and-row false row rows all e = refl
 
-pub and-nothing : (formed : Bool) (all : List (List ℕ)) → all ≡ [] → (formed && all_utf8 all) ≡ formed
+pub and-nothing : (formed : Bool) (all : List (List ℕ)) → all ≡ [] → (formed && list_all is_utf8 all) ≡ formed
 and-nothing true all e = rw e refl
 and-nothing false all e = refl
 

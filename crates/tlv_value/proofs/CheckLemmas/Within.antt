@@ -9,8 +9,8 @@ use Rattle.std.proofs.lemmas.List.Folds.{list_any-append}
 use Rattle.std.specs.Char.{is_ascii_digit}
 use Rattle.tlv_value.specs.Times.{Form, canonical_fraction, canonical_generalized_time_form, canonical_utc_time_form}
 use Rattle.tlv_value.specs.Times.{digits, generalized_tail, generalized_time_form, has_empty_rest, has_form, hour}
-use Rattle.tlv_value.specs.Times.{mark, maybe, minute, month_and_day, no_octets, one, second, sign, two}
-use Rattle.tlv_value.specs.Times.{utc_time_form, ◌or◌, ◌then◌}
+use Rattle.tlv_value.specs.Times.{mark, maybe, minute, month_and_day, no_octets, octet_between, second, sign}
+use Rattle.tlv_value.specs.Times.{two_digits, utc_time_form, ◌or◌, ◌then◌}
 use Rattle.tlv_value.specs.Private.TimeFindings.{generalized_time_findings, time_findings, utc_time_findings}
 
 abbrev is_nil : List ℕ → Bool
@@ -118,16 +118,16 @@ if-within test true false rests w h = absurd (let e = w refl in cc)
 if-within test false b rests w h = absurd cc
 
 -- two digits of a number with a greater limit
-within-two : (low high more : ℕ) → high ≤ more → Within (two low high) (two low more)
-within-two low high more le = record { leaves = leave }
+within-two_digits : (low high more : ℕ) → high ≤ more → Within (two_digits low high) (two_digits low more)
+within-two_digits low high more le = record { leaves = leave }
   where
     greater : (n : ℕ) → nat_le n high ≡ true → nat_le n more ≡ true
     greater n h = le-leb n more (let t = leb-true n high h in omega arith)
 
     leave :
         (test : List ℕ → Bool) (octets : List ℕ)
-        → list_any test (two low high octets) ≡ true
-        → list_any test (two low more octets) ≡ true
+        → list_any test (two_digits low high octets) ≡ true
+        → list_any test (two_digits low more octets) ≡ true
     leave test [] h = h
     leave test (x ∷ []) h = h
     leave test (x ∷ y ∷ rest) h =
@@ -158,21 +158,22 @@ not-zero x h = grind (arith, nat_tests)
 
 -- digits, and one after them that is not 0, are digits
 abbrev IsMore : (List ℕ → Bool) → List ℕ → Type 0
-IsMore test octets = list_any test ((digits then one 49 57) octets) ≡ true → list_any test (digits octets) ≡ true
+IsMore test octets =
+    list_any test ((digits then octet_between 49 57) octets) ≡ true → list_any test (digits octets) ≡ true
 
 -- a digit before digits
 digit-first :
     (test : List ℕ → Bool) (x : ℕ) (xs : List ℕ)
     → IsMore test xs
-    → list_any test ((digits then one 49 57) (x ∷ xs)) ≡ true
+    → list_any test ((digits then octet_between 49 57) (x ∷ xs)) ≡ true
     → (is_ascii_digit x ≡ true) × (list_any test (digits xs) ≡ true)
 digit-first test x xs more h =
-    let first : List (List ℕ) = one 49 57 (x ∷ xs) in
-    let second : List (List ℕ) = flat_map (one 49 57) (if is_ascii_digit x then digits xs else []) in
+    let first : List (List ℕ) = octet_between 49 57 (x ∷ xs) in
+    let second : List (List ℕ) = flat_map (octet_between 49 57) (if is_ascii_digit x then digits xs else []) in
     go (or_cases (list_any test first) (list_any test second) (sym (list_any-append test first second) ∙ h))
   where
-    go : (list_any test (one 49 57 (x ∷ xs)) ≡ true)
-        ⊎ (list_any test (flat_map (one 49 57) (if is_ascii_digit x then digits xs else [])) ≡ true)
+    go : (list_any test (octet_between 49 57 (x ∷ xs)) ≡ true)
+        ⊎ (list_any test (flat_map (octet_between 49 57) (if is_ascii_digit x then digits xs else [])) ≡ true)
         → (is_ascii_digit x ≡ true) × (list_any test (digits xs) ≡ true)
     go (inl e) =
         let t =
@@ -180,7 +181,7 @@ digit-first test x xs more h =
         (not-zero x t.0, no-digits test xs t.1)
     go (inr e) =
         let t =
-        there (λ (rests : List (List ℕ)). list_any test (flat_map (one 49 57) rests)) (is_ascii_digit x)
+        there (λ (rests : List (List ℕ)). list_any test (flat_map (octet_between 49 57) rests)) (is_ascii_digit x)
         (digits xs) refl e in (t.0, more t.1)
 
 digits-more : (test : List ℕ → Bool) (octets : List ℕ) → IsMore test octets
@@ -190,19 +191,19 @@ digits-more test (x ∷ xs) h =
     or-right (test (x ∷ xs)) (list_any test (if is_ascii_digit x then digits xs else [])) (rw t.0 t.1)
 
 -- digits of which the last is not 0 are one digit or more
-within-digits : Within (digits then one 49 57) (one 48 57 then digits)
+within-digits : Within (digits then octet_between 49 57) (octet_between 48 57 then digits)
 within-digits = record { leaves = leave }
   where
     leave :
         (test : List ℕ → Bool) (octets : List ℕ)
-        → list_any test ((digits then one 49 57) octets) ≡ true
-        → list_any test ((one 48 57 then digits) octets) ≡ true
+        → list_any test ((digits then octet_between 49 57) octets) ≡ true
+        → list_any test ((octet_between 48 57 then digits) octets) ≡ true
     leave test [] h = absurd cc
     leave test (x ∷ xs) h =
         let t = digit-first test x xs (digits-more test xs) h in rw (t.0, append-nil (digits xs)) t.1
 
-within-hour : Within (two 0 23) hour
-within-hour = within-two 0 23 24 (omega arith)
+within-hour : Within (two_digits 0 23) hour
+within-hour = within-two_digits 0 23 24 (omega arith)
 
 within-second : {f g : Form} → Within f g → Within (second then f) (maybe second then g)
 within-second w = within-then (within-first no_octets (within-same second)) w
@@ -210,7 +211,7 @@ within-second w = within-then (within-first no_octets (within-same second)) w
 -- 11.8
 utc-within : Within canonical_utc_time_form utc_time_form
 utc-within =
-    within-prefixes _ _ _ _ (within-same (two 0 99))
+    within-prefixes _ _ _ _ (within-same (two_digits 0 99))
     (within-prefixes _ _ _ _ (within-same month_and_day) (within-prefixes _ _ _ _ within-hour
     (within-prefix _ _ _ (within-same minute)
     (within-second (within-first (sign then hour then minute) (within-same (mark 90)))))))
@@ -224,8 +225,8 @@ generalized-tail =
 -- 11.7
 generalized-within : Within canonical_generalized_time_form generalized_time_form
 generalized-within =
-    within-prefixes _ _ _ _ (within-same (two 0 99))
-    (within-prefixes _ _ _ _ (within-same (two 0 99)) (within-prefixes _ _ _ _ (within-same month_and_day)
+    within-prefixes _ _ _ _ (within-same (two_digits 0 99))
+    (within-prefixes _ _ _ _ (within-same (two_digits 0 99)) (within-prefixes _ _ _ _ (within-same month_and_day)
     (within-prefix _ _ _ within-hour
     (within-then
     (within-first no_octets (within-then (within-same minute) (within-first no_octets (within-same second))))

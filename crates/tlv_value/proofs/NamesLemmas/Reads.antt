@@ -32,10 +32,11 @@ module _ (old middle new : SourceState) (octets : List ℕ) (x : OctetsSoFar old
     pieces =
         pieces_all old middle new x.gathered [] (consumes_kept middle.left new.left r.octets) r.reads
         (inr (r.last, refl)) (omega arith);
-    gives = (
-      r.last,
-      subst (λ (l : List ℕ). length l ≤ file_limit) (sym (append-nil (concat x.gathered.pieces) ∙ x.are)) most,
-    );
+    gives = record {
+      failed_last = r.last;
+      within =
+          subst (λ (l : List ℕ). length l ≤ file_limit) (sym (append-nil (concat x.gathered.pieces) ∙ x.are)) most;
+    };
     failures = r.failures ∙ ap next_count failures;
   }
     where
@@ -71,9 +72,11 @@ module _ (old middle new : SourceState) (octets : List ℕ) (x : OctetsSoFar old
       pieces = pieces_so;
       gives = (
         all_are ∙ ap (λ (k : ℕ). octets ++ take k piece) z ∙ none_taken ∙ sym is,
-        r.last ∙ ap gave z,
-        r.octets.1 z (omega (arith, room)),
-        subst (λ (l : List ℕ). length l ≤ file_limit) (sym is) most,
+        record {
+          ended = r.last ∙ ap gave z;
+          at_end = r.octets.1 z (omega (arith, room));
+          within = omega (arith, most, length_all, z);
+        },
       );
       failures = same_failures;
     }
@@ -114,12 +117,7 @@ module _ (old middle new : SourceState) (octets : List ℕ) (x : OctetsSoFar old
 -- the octets that were read say the result
 said : {Z : Type 0} (new : SourceState) (octets : List ℕ) (v : Vec ℕ Z) (r : Result NamesValue NamesFault)
     → GivesAll new octets (Ok v) → names_of v.items ≡ r → IsWholeFile new octets r
-said new octets v r x n = record {
-  ended = x.1;
-  at_end = x.2;
-  within = subst (λ (l : List ℕ). length l ≤ file_limit) (sym x.0) x.3;
-  result_is = ap names_of x.0 ∙ n;
-}
+said new octets v r x n = record { ends = x.1; result_is = ap names_of x.0 ∙ n }
 
 pub reads-from_table : {Y Z : Type 0} (old new : SourceState) (v : Vec ℕ Y)
     (result : Result (BTreeMap (Vec ℕ Z) (Vec ℕ Z)) NamesFault)
@@ -152,7 +150,7 @@ reads-from_table old new v (Err TooLarge) x n = record {
 reads-from_table old new v (Err ReadFailed) x n = absurd n
 reads-from_table old new v (Err Memory) x n = record {
   pieces = x.pieces;
-  result_is = subst (λ (l : List ℕ). length l ≤ file_limit) (sym x.gives.0) x.gives.3;
+  result_is = x.gives.1.within;
   failures = x.failures;
 }
 

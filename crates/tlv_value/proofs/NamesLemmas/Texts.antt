@@ -13,7 +13,8 @@ use Rattle.std.proofs.lemmas.List.Splits.{slice_split_first}
 use Rattle.std.specs.List.{onto_first}
 use Rattle.tlv_value.specs.Names.{are_first_arcs, dotted_parts, entry, entry_line, is_arc, is_blank, is_dotted, is_name}
 use Rattle.tlv_value.specs.Names.{file_lines, may_begin, names_line, no_name, pair_line, without_first_blanks}
-use Rattle.tlv_value.specs.Names.{without_last_blanks, without_outer_blanks, without_return}
+use Rattle.tlv_value.specs.Names.{without_last_blanks, without_outer_blanks}
+use Rattle.std.specs.Str.Lines.{strip_carriage_return}
 use Rattle.std.specs.Char.{is_ascii_digit}
 use Rattle.std.specs.Str.Parse.{AllDigits, digits_value}
 use Rattle.std.proofs.lemmas.Str.{digit_value_digit}
@@ -319,7 +320,8 @@ full_text : (text : List ℕ) → 0 < length text → (get_or text 0 0 ≡ 35 �
 full_text [] some mark = absurd (omega arith)
 full_text (x ∷ xs) some mark = let e : (x == 35) ≡ false = ne_eqb x 35 mark in rw e refl
 
-pub full_entry : (line text : List ℕ) (end : ℕ) → length line ≤ 400 → text ≡ without_outer_blanks (without_return line)
+pub full_entry : (line text : List ℕ) (end : ℕ) → length line ≤ 400
+    → text ≡ without_outer_blanks (strip_carriage_return line)
     → 0 < length text → (get_or text 0 0 ≡ 35 → ⊥)
     → end ≡ position_or_len is_blank text
     → names_line line ≡ pair_line (take end text) (without_first_blanks (drop end text))
@@ -328,7 +330,7 @@ full_entry line text end h e some mark at =
     rw (short, ← e, at, blanks_from_first text) (full_text text some mark)
 
 pub full_pair : (line text name : List ℕ) (end : ℕ) → length line ≤ 400
-    → text ≡ without_outer_blanks (without_return line) → (length text == 0) ≡ false → (get_or text 0 0 ≡ 35 → ⊥)
+    → text ≡ without_outer_blanks (strip_carriage_return line) → (length text == 0) ≡ false → (get_or text 0 0 ≡ 35 → ⊥)
     → end ≡ position_or_len is_blank text → name ≡ without_first_blanks (take (length text - end) (drop end text))
     → names_line line ≡ pair_line (take end text) name
 full_pair line text name end h e some mark at n =

@@ -14,7 +14,7 @@ use Rattle.tlv_value.specs.declared.kind.Kind.TheVariants.{Ucs2, Ucs4}
 use Rattle.tlv_value.specs.declared.layout.Layout.{Layout}
 use Rattle.tlv_value.specs.RowSizes.{character_length, row_size}
 use Rattle.tlv_value.specs.Kind.{is_text}
-use Rattle.tlv_value.specs.Layout.{margin, no_columns, row_line, spaces}
+use Rattle.tlv_value.specs.Layout.{margin, blank_columns, row_line, spaces}
 use Rattle.tlv_value.specs.Private.Room.{HaveRoom}
 use Rattle.tlv_value.specs.Private.Rows.{pair_row_line, pair_row_lines}
 use Rattle.tlv_value.specs.Rows.{rows_of}
@@ -136,12 +136,12 @@ pairs_joined : (x : ℕ) (xs : List ℕ) → spaced_pairs (x ∷ xs) ≡ 32 ∷ 
 pairs_joined x xs = refl
 
 pub full_line_added : (layout : Layout) (old row : List ℕ) (n : ℕ)
-    → spaces n ≡ margin layout.pure no_columns (layout.level + 1) → 2 ≤ n → length row ≡ 16
+    → spaces n ≡ margin layout.pure blank_columns (layout.level + 1) → 2 ≤ n → length row ≡ 16
     → old ++ spaces (n - 1) ++ spaced_pairs row ++ 10 ∷ [] ≡ old ++ pair_row_line layout row
 full_line_added layout old [] n e some whole = absurd (omega (arith, whole))
 full_line_added layout old (x ∷ xs) n e some whole =
     let text : List ℕ = row_text Octets (x ∷ xs) in
-    let indent : spaces (n - 1) ++ 32 ∷ [] ≡ margin layout.pure no_columns (layout.level + 1) =
+    let indent : spaces (n - 1) ++ 32 ∷ [] ≡ margin layout.pure blank_columns (layout.level + 1) =
     replicate_more (n - 1) 32 ∙ ap spaces (omega (arith, some)) ∙ e in
     ap (λ (l : List ℕ). old ++ spaces (n - 1) ++ l ++ 10 ∷ []) (pairs_joined x xs)
     ∙ joined (spaces (n - 1)) text

@@ -6,8 +6,10 @@ use Rattle.std.proofs.Math.Seq.{drop-append_seam, get_or-append_seam, take-appen
 use Rattle.std.proofs.lemmas.Bool.{eqb-true}
 use Rattle.std.proofs.lemmas.Bool.Decides.{nat_tests}
 use Rattle.std.proofs.lemmas.List.{get_or_append_left}
-use Rattle.std.specs.Prelude.{eqb, if◌then◌else◌}
-use Rattle.tlv_io.specs.Cuts.{AreFull, AreRows, IsFull, IsRow, last_rows, octets_of_rows}
+use Rattle.std.specs.Prelude.{eqb, if◌then◌else◌, All}
+use Rattle.std.specs.List.{concat}
+use Rattle.std.proofs.lemmas.List.Elements.{All-head, All-tail}
+use Rattle.tlv_io.specs.Cuts.{AreFull, IsFull, IsRow, last_rows}
 use Rattle.tlv_io.proofs.CutOf.{nil-or}
 use Rattle.tlv_value.specs.declared.kind.Kind.{Kind}
 use Rattle.tlv_value.specs.RowSizes.{character_length, row_size}
@@ -24,11 +26,14 @@ last-row [] h = absurd (omega arith)
 last-row (x ∷ row) h = refl
 
 module _ (kind : Kind) where
-  has-octet : (row : List ℕ) → IsRow (row_size kind) (character_length kind) row → 1 ≤ length row
+  abbrev Row : List ℕ → Type 0
+  Row row = IsRow (row_size kind) (character_length kind) row
+
+  has-octet : (row : List ℕ) → Row row → 1 ≤ length row
   has-octet row r = nil-or row r.some
 
   -- each octet of a row has room after those before it
-  row-room : (row rest : List ℕ) → IsRow (row_size kind) (character_length kind) row
+  row-room : (row rest : List ℕ) → Row row
       → HaveRoom kind 0 (row ++ rest) (length row)
   row-room row rest r i h =
       let same : get_or (row ++ rest) i 0 ≡ get_or row i 0 = get_or_append_left row rest 0 i h in
@@ -52,7 +57,7 @@ module _ (kind : Kind) where
 
   -- a full row, and the rows of the octets after it
   parts-first : (row rest : List ℕ) (rows : List (List ℕ)) (last : List ℕ)
-      → IsRow (row_size kind) (character_length kind) row → FillsRow kind [] (length row) (row ++ rest)
+      → Row row → FillsRow kind [] (length row) (row ++ rest)
       → AreParts rest rows last
       → AreParts (row ++ rest) (row ∷ rows) last
   parts-first row rest rows last r f more =
@@ -66,7 +71,7 @@ module _ (kind : Kind) where
 
   -- a last row
   parts-last : (row : List ℕ) (full : Bool) → eqb (length row) (row_size kind) ≡ full
-      → IsRow (row_size kind) (character_length kind) row
+      → Row row
       → AreParts (row ++ []) (if full then row ∷ [] else []) (if full then [] else row)
   parts-last row true e r =
       let n : length row ≡ row_size kind = eqb-true (length row) (row_size kind) e in
@@ -78,16 +83,16 @@ module _ (kind : Kind) where
       rw (append-nil row) (keep kind [] row room (omega arith))
 
   -- the parts of a cut
-  parts : (rows : List (List ℕ)) → AreRows (row_size kind) (character_length kind) rows
-      → AreFull (row_size kind) (character_length kind) rows
-      → AreParts (octets_of_rows rows) (full_rows_in kind rows) (open_row_in kind rows)
+  parts : (rows : List (List ℕ)) → All Row rows → AreFull (row_size kind) (character_length kind) rows
+      → AreParts (concat rows) (full_rows_in kind rows) (open_row_in kind rows)
   parts [] each full = (refl, refl)
-  parts (row ∷ []) each full = parts-last row (eqb (length row) (row_size kind)) refl each.0
+  parts (row ∷ []) each full = parts-last row (eqb (length row) (row_size kind)) refl (All-head Row row [] each)
   parts (row ∷ next ∷ rows) each full =
-      parts-first row (octets_of_rows (next ∷ rows)) (full_rows_in kind (next ∷ rows))
-      (open_row_in kind (next ∷ rows)) each.0
-      (as-filled row next (octets_of_rows rows) (has-octet next each.1.0) full.0)
-      (parts (next ∷ rows) each.1 full.1)
+      let after = All-tail Row row (next ∷ rows) each in
+      parts-first row (concat (next ∷ rows)) (full_rows_in kind (next ∷ rows)) (open_row_in kind (next ∷ rows))
+      (All-head Row row (next ∷ rows) each)
+      (as-filled row next (concat rows) (has-octet next (All-head Row next rows after)) full.0)
+      (parts (next ∷ rows) after full.1)
 
   -- its full rows and the octets of the last one are all of it
   last-part : (row : List ℕ) (full : Bool) → 1 ≤ length row
@@ -95,11 +100,12 @@ module _ (kind : Kind) where
   last-part row true h = refl
   last-part row false h = last-row row h
 
-  all-parts : (rows : List (List ℕ)) → AreRows (row_size kind) (character_length kind) rows
-      → full_rows_in kind rows ++ last_rows (open_row_in kind rows) ≡ rows
+  all-parts : (rows : List (List ℕ)) → All Row rows → full_rows_in kind rows ++ last_rows (open_row_in kind rows) ≡ rows
   all-parts [] each = refl
-  all-parts (row ∷ []) each = last-part row (eqb (length row) (row_size kind)) (has-octet row each.0)
-  all-parts (row ∷ next ∷ rows) each = ap (λ (x : List (List ℕ)). row ∷ x) (all-parts (next ∷ rows) each.1)
+  all-parts (row ∷ []) each =
+      last-part row (eqb (length row) (row_size kind)) (has-octet row (All-head Row row [] each))
+  all-parts (row ∷ next ∷ rows) each =
+      ap (λ (x : List (List ℕ)). row ∷ x) (all-parts (next ∷ rows) (All-tail Row row (next ∷ rows) each))
 
 pub rows-one-cut : RowsHaveOneCut
 rows-one-cut kind octets rows cut =

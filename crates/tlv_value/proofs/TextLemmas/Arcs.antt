@@ -12,9 +12,9 @@ use Rattle.std.proofs.lemmas.Bool.Decides.{nat_tests}
 use Rattle.std.proofs.lemmas.Fmt.{decimal_digit, length-decimal-le_wide}
 use Rattle.std.proofs.Math.Nat.{one-le-pow, pow-le-pow_right, pow-suc}
 use Rattle.tlv_value.specs.Arcs.{arcs_of, dotted_arcs, dotted_of, first_arcs, is_finished, parts_of, subidentifiers}
-use Rattle.tlv_value.proofs.TextLemmas.Subidentifier.{subidentifier}
+use Rattle.tlv_value.specs.Arcs.{subidentifier}
 use Rattle.tlv_value.specs.Private.Arcs.{arcs_text}
-use Rattle.tlv_value.proofs.TextLemmas.ArcWords.{after_dots, all_below}
+use Rattle.tlv_value.proofs.TextLemmas.ArcTexts.{after_dots, all_below}
 
 -- the text goes on with the subidentifiers of these octets, of which the first has begun with n
 abbrev pub arcs_run : List ℕ → Bool → Bool → ℕ → List ℕ → Option (List ℕ)

@@ -70,14 +70,14 @@ module _ (name_of : NameOf) (layout : Layout) (line : List ℕ → List ℕ) (oc
       (sym (relative-rows layout 0 (short_value name_of Relative octets).rows)))
 
 pub shown-object : (name_of : NameOf) (p : Primitive) (octets : List ℕ) → p.kind ≡ Object
-    → line_prefix p ++ object_lines name_of p.layout [] false octets ≡ primitive_lines name_of p octets
+    → line_prefix p ++ object_lines name_of p.layout false octets ≡ primitive_lines name_of p octets
 shown-object name_of p octets e =
     let v : Value = short_value name_of Object octets in
     prefix-line p v.text (row_lines Octets p.layout 0 v.rows)
     ∙ object_at name_of p.layout (primitive_line p) octets p.kind e
 
 pub shown-relative : (name_of : NameOf) (p : Primitive) (octets : List ℕ) → p.kind ≡ Relative
-    → line_prefix p ++ object_lines no_names p.layout [] true octets ≡ primitive_lines name_of p octets
+    → line_prefix p ++ object_lines no_names p.layout true octets ≡ primitive_lines name_of p octets
 shown-relative name_of p octets e =
     let v : Value = short_value name_of Relative octets in
     prefix-line p v.text (row_lines Octets p.layout 0 v.rows)
@@ -152,24 +152,24 @@ ended-shown name_of p left kept l = rw l refl
 
 -- the first contents octet of a long BIT STRING
 
-new-first_at : (kind : Kind) (wrote_line : Bool) (size : ℕ) (layout : Layout) (line : List ℕ → List ℕ) (x : ℕ)
+new-first_at : (kind : Kind) (has_put_line : Bool) (size : ℕ) (layout : Layout) (line : List ℕ → List ℕ) (x : ℕ)
     (rest rows_part : List ℕ)
-    → kind ≡ Bits → wrote_line ≡ false → is_long kind size ≡ true
+    → kind ≡ Bits → has_put_line ≡ false → is_long kind size ≡ true
     → (if is_long kind size
-    then (if wrote_line then rows_part
+    then (if has_put_line then rows_part
     else (line (long_text kind size (x ∷ []))
     ++ row_lines kind layout 0 (full_rows kind (row_octets kind (x ∷ [])) rest)))
     else [])
     ≡ line (long_text Bits size (x ∷ [])) ++ row_lines Bits layout 0 (full_rows Bits (row_octets Bits (x ∷ [])) rest)
-new-first_at kind wrote_line size layout line x rest rows_part e u l = rw (l, u, e) refl
+new-first_at kind has_put_line size layout line x rest rows_part e u l = rw (l, u, e) refl
 
-pub new-first : (s : ValueTextState) (x : ℕ) (rest : List ℕ) → s.primitive.kind ≡ Bits → s.kept.wrote_line ≡ false
+pub new-first : (s : ValueTextState) (x : ℕ) (rest : List ℕ) → s.primitive.kind ≡ Bits → s.kept.has_put_line ≡ false
     → is_long s.primitive.kind s.primitive.size ≡ true
     → contents_lines s (x ∷ rest)
     ≡ primitive_line s.primitive (long_text Bits s.primitive.size (x ∷ []))
     ++ row_lines Bits s.primitive.layout 0 (full_rows Bits (row_octets Bits (x ∷ [])) rest)
 new-first s x rest e u l =
-    new-first_at s.primitive.kind s.kept.wrote_line s.primitive.size s.primitive.layout (primitive_line s.primitive) x
+    new-first_at s.primitive.kind s.kept.has_put_line s.primitive.size s.primitive.layout (primitive_line s.primitive) x
     rest
     (row_lines s.primitive.kind s.primitive.layout s.kept.row_count (full_rows s.primitive.kind s.kept.row (x ∷ rest)))
     e u l

@@ -26,7 +26,7 @@ use Rattle.tlv_value.proofs.RowLemmas.FilledRows.{rows-filled}
 use Rattle.tlv_value.proofs.RowLemmas.OneCut.{rows-join, rows-parts}
 
 abbrev kept_with : ℕ → List ℕ → KeptContents
-kept_with n r = record { wrote_line = true; row_count = n; row = r }
+kept_with n r = record { has_put_line = true; row_count = n; row = r }
 
 kept-eq : (n m : ℕ) (r q : List ℕ) → n ≡ m → r ≡ q → kept_with n r ≡ kept_with m q
 kept-eq n m r q e f = ap (λ (j : ℕ). kept_with j r) e ∙ ap (kept_with m) f
@@ -54,9 +54,9 @@ module _ (kind : Kind) where
 -- the parts of a state that do not change are left out here: the tests, the lines and what is kept
 module _ (kind : Kind) (layout : Layout) (line : List ℕ → List ℕ) (size : ℕ) where
   abbrev kept_by : Bool → Bool → KeptContents → List ℕ → KeptContents
-  kept_by long wrote_line k x =
-      if long then (if wrote_line then kept_after_line kind k x else kept_before_line kind k x) else record {
-        wrote_line = k.wrote_line;
+  kept_by long has_put_line k x =
+      if long then (if has_put_line then kept_after_line kind k x else kept_before_line kind k x) else record {
+        has_put_line = k.has_put_line;
         row_count = k.row_count;
         row = k.row ++ x;
       }
@@ -66,23 +66,24 @@ module _ (kind : Kind) (layout : Layout) (line : List ℕ → List ℕ) (size : 
   first_new (u ∷ x) = line (long_text kind size (u ∷ [])) ++ full_row_lines kind layout (kept_with_line kind u) x
 
   abbrev new_by : Bool → Bool → KeptContents → List ℕ → List ℕ
-  new_by long wrote_line k x = if long then (if wrote_line then full_row_lines kind layout k x else first_new x) else []
+  new_by long has_put_line k x =
+      if long then (if has_put_line then full_row_lines kind layout k x else first_new x) else []
 
-  join-kept : (long wrote_line : Bool) (k : KeptContents) (x y : List ℕ) → k.wrote_line ≡ wrote_line
-      → kept_by long (kept_by long wrote_line k x).wrote_line (kept_by long wrote_line k x) y
-      ≡ kept_by long wrote_line k (x ++ y)
-  join-kept false wrote_line k x y e =
-      ap (λ (r : List ℕ). record { wrote_line = k.wrote_line; row_count = k.row_count; row = r })
+  join-kept : (long has_put_line : Bool) (k : KeptContents) (x y : List ℕ) → k.has_put_line ≡ has_put_line
+      → kept_by long (kept_by long has_put_line k x).has_put_line (kept_by long has_put_line k x) y
+      ≡ kept_by long has_put_line k (x ++ y)
+  join-kept false has_put_line k x y e =
+      ap (λ (r : List ℕ). record { has_put_line = k.has_put_line; row_count = k.row_count; row = r })
       (append_assoc k.row x y)
   join-kept true true k x y e = kept-join kind k x y
   join-kept true false k [] y e = rw e refl
   join-kept true false k (u ∷ x) y e = kept-join kind (kept_with_line kind u) x y
 
-  join-new : (long wrote_line : Bool) (k : KeptContents) (x y : List ℕ) → k.wrote_line ≡ wrote_line
-      → new_by long wrote_line k (x ++ y)
-      ≡ new_by long wrote_line k x
-      ++ new_by long (kept_by long wrote_line k x).wrote_line (kept_by long wrote_line k x) y
-  join-new false wrote_line k x y e = refl
+  join-new : (long has_put_line : Bool) (k : KeptContents) (x y : List ℕ) → k.has_put_line ≡ has_put_line
+      → new_by long has_put_line k (x ++ y)
+      ≡ new_by long has_put_line k x
+      ++ new_by long (kept_by long has_put_line k x).has_put_line (kept_by long has_put_line k x) y
+  join-new false has_put_line k x y e = refl
   join-new true true k x y e = new-join kind layout k x y
   join-new true false k [] y e = rw e refl
   join-new true false k (u ∷ x) y e =
@@ -95,7 +96,7 @@ with_kept s left k = record { primitive = s.primitive; left = left; kept = k }
 
 new_by-new : (s : ValueTextState) (x : List ℕ)
     → new_by s.primitive.kind s.primitive.layout (primitive_line s.primitive) s.primitive.size
-    (is_long s.primitive.kind s.primitive.size) s.kept.wrote_line s.kept x
+    (is_long s.primitive.kind s.primitive.size) s.kept.has_put_line s.kept x
     ≡ contents_lines s x
 new_by-new s [] = refl
 new_by-new s (u ∷ x) = refl
@@ -105,16 +106,16 @@ pieces-join s x y =
     let l : s.left - length x - length y ≡ s.left - length (x ++ y) = omega (arith, length-append x y) in
     let k =
     join-kept s.primitive.kind s.primitive.layout (primitive_line s.primitive) s.primitive.size
-    (is_long s.primitive.kind s.primitive.size) s.kept.wrote_line s.kept x y refl in
+    (is_long s.primitive.kind s.primitive.size) s.kept.has_put_line s.kept x y refl in
     let t =
     join-new s.primitive.kind s.primitive.layout (primitive_line s.primitive) s.primitive.size
-    (is_long s.primitive.kind s.primitive.size) s.kept.wrote_line s.kept x y refl in (
+    (is_long s.primitive.kind s.primitive.size) s.kept.has_put_line s.kept x y refl in (
       ap (λ (n : ℕ). with_kept s n (kept_after (value_text_after s x) y)) l
           ∙ ap (with_kept s (s.left - length (x ++ y))) k,
       sym (new_by-new s (x ++ y)) ∙ t
           ∙ ap (λ (r : List ℕ). r
           ++ new_by s.primitive.kind s.primitive.layout (primitive_line s.primitive) s.primitive.size
-          (is_long s.primitive.kind s.primitive.size) (kept_after s x).wrote_line (kept_after s x)
+          (is_long s.primitive.kind s.primitive.size) (kept_after s x).has_put_line (kept_after s x)
           y)
           (new_by-new s x)
           ∙ ap (λ (r : List ℕ). contents_lines s x ++ r) (new_by-new (value_text_after s x) y),
@@ -132,7 +133,7 @@ first-open_row u rest true = refl
 first-open_row u rest false = refl
 
 abbrev begin_kept : Kind → KeptContents
-begin_kept kind = record { wrote_line = has_line kind []; row_count = 0; row = [] }
+begin_kept kind = record { has_put_line = has_line kind []; row_count = 0; row = [] }
 
 module _ (layout : Layout) (line : List ℕ → List ℕ) (size : ℕ) where
   abbrev begun_at : Kind → Bool → List ℕ
@@ -237,9 +238,9 @@ open-lines h layout octets =
 
 -- with no octets a primitive that begins has no lines more, and is kept as it is
 
-new-nothing_at : (kind : Kind) (layout : Layout) (line : List ℕ → List ℕ) (size : ℕ) (long wrote_line : Bool)
-    → new_by kind layout line size long wrote_line (begin_kept kind) [] ≡ []
-new-nothing_at kind layout line size false wrote_line = refl
+new-nothing_at : (kind : Kind) (layout : Layout) (line : List ℕ → List ℕ) (size : ℕ) (long has_put_line : Bool)
+    → new_by kind layout line size long has_put_line (begin_kept kind) [] ≡ []
+new-nothing_at kind layout line size false has_put_line = refl
 new-nothing_at kind layout line size true true =
     ap (λ (rows : List (List ℕ)). row_lines kind layout 0 (full_rows_in kind rows)) (rows-filled kind [])
 new-nothing_at kind layout line size true false = refl
@@ -249,16 +250,16 @@ new-nothing h layout =
     let s : ValueTextState = new_value_text h layout in
     sym (new_by-new s [])
     ∙ new-nothing_at s.primitive.kind s.primitive.layout (primitive_line s.primitive) s.primitive.size
-    (is_long s.primitive.kind s.primitive.size) s.kept.wrote_line
+    (is_long s.primitive.kind s.primitive.size) s.kept.has_put_line
 
-after-nothing_at : (kind : Kind) (layout : Layout) (line : List ℕ → List ℕ) (size : ℕ) (long wrote_line : Bool)
-    → wrote_line ≡ has_line kind []
-    → kept_by kind layout line size long wrote_line (begin_kept kind) [] ≡ begin_kept kind
-after-nothing_at kind layout line size false wrote_line e = refl
+after-nothing_at : (kind : Kind) (layout : Layout) (line : List ℕ → List ℕ) (size : ℕ) (long has_put_line : Bool)
+    → has_put_line ≡ has_line kind []
+    → kept_by kind layout line size long has_put_line (begin_kept kind) [] ≡ begin_kept kind
+after-nothing_at kind layout line size false has_put_line e = refl
 after-nothing_at kind layout line size true true e =
     ap (λ (rows : List (List ℕ)). kept_with (0 + length (full_rows_in kind rows)) (open_row_in kind rows))
     (rows-filled kind [])
-    ∙ ap (λ (b : Bool). record { wrote_line = b; row_count = 0; row = [] }) e
+    ∙ ap (λ (b : Bool). record { has_put_line = b; row_count = 0; row = [] }) e
 after-nothing_at kind layout line size true false e = refl
 
 pub after-nothing : (h : HeaderValue) (layout : Layout)
@@ -269,7 +270,7 @@ after-nothing h layout =
     ap (λ (n : ℕ). with_kept s n (kept_after s [])) l
     ∙ ap (with_kept s s.left)
     (after-nothing_at s.primitive.kind s.primitive.layout (primitive_line s.primitive) s.primitive.size
-    (is_long s.primitive.kind s.primitive.size) s.kept.wrote_line refl)
+    (is_long s.primitive.kind s.primitive.size) s.kept.has_put_line refl)
 
 pub lines-begin : LinesBegin
 lines-begin h layout = (

@@ -10,7 +10,7 @@ use Rattle.std.specs.Str.{is_utf8}
 use Rattle.tlv_value.specs.declared.kind.Kind.{Kind}
 use Rattle.tlv_value.specs.declared.kind.Kind.TheVariants.{Octets, Boolean, Integer, Bits, Object, Relative, Text, Utf8}
 use Rattle.tlv_value.specs.declared.kind.Kind.TheVariants.{Ucs2, Ucs4}
-use Rattle.tlv_value.specs.Private.Unescaped.{has_ascii, is_unescaped}
+use Rattle.tlv_value.specs.Private.Unescaped.{has_ascii_octets, is_unescaped}
 use Rattle.tlv_io.specs.Cuts.{utf8_length}
 use Rattle.tlv_value.specs.Units.{octet_text, unit_size, unit_text, units}
 use Rattle.tlv_value.proofs.TextLemmas.UnitSteps.{units-step}
@@ -30,7 +30,7 @@ size-one : (n x : ℕ) (xs : List ℕ) (b : Bool) → n ≡ 1 → 1 ≡ (if b th
 size-one n x xs true e = rw e refl
 size-one n x xs false e = refl
 
-unescaped-size : (kind : Kind) (x : ℕ) (xs : List ℕ) → has_ascii kind ≡ true → is_unescaped x ≡ true
+unescaped-size : (kind : Kind) (x : ℕ) (xs : List ℕ) → has_ascii_octets kind ≡ true → is_unescaped x ≡ true
     → 1 ≡ unit_size kind (x ∷ xs)
 unescaped-size Octets x xs a h = refl
 unescaped-size Boolean x xs a h = refl
@@ -44,7 +44,7 @@ unescaped-size Utf8 x xs a h =
 unescaped-size Ucs2 x xs a h = absurd (cc)
 unescaped-size Ucs4 x xs a h = absurd (cc)
 
-unescaped-text : (kind : Kind) (x : ℕ) → has_ascii kind ≡ true → is_unescaped x ≡ true
+unescaped-text : (kind : Kind) (x : ℕ) → has_ascii_octets kind ≡ true → is_unescaped x ≡ true
     → unit_text kind (x ∷ []) ≡ x ∷ []
 unescaped-text Octets x a h = unescaped-octet x h
 unescaped-text Boolean x a h = unescaped-octet x h
@@ -58,7 +58,7 @@ unescaped-text Ucs2 x a h = absurd (cc)
 unescaped-text Ucs4 x a h = absurd (cc)
 
 -- the first n octets are n units, which are written as they are
-pub unescaped-units : (kind : Kind) (n : ℕ) (octets : List ℕ) → n ≤ length octets → has_ascii kind ≡ true
+pub unescaped-units : (kind : Kind) (n : ℕ) (octets : List ℕ) → n ≤ length octets → has_ascii_octets kind ≡ true
     → ((i : ℕ) → i < n → is_unescaped (get_or octets i 0) ≡ true)
     → flat_map (unit_text kind) (units kind 0 octets)
     ≡ take n octets ++ flat_map (unit_text kind) (units kind 0 (drop n octets))
@@ -72,7 +72,7 @@ unescaped-units kind (suc n) (x ∷ xs) h a p =
     ∙ ap (λ (t : List ℕ). x ∷ t) (unescaped-units kind n xs (omega arith) a (λ i g. p (suc i) (omega arith)))
 
 -- a row of such characters is written as it is
-pub unescaped-row : (kind : Kind) (row : List ℕ) → has_ascii kind ≡ true → list_all is_unescaped row ≡ true
+pub unescaped-row : (kind : Kind) (row : List ℕ) → has_ascii_octets kind ≡ true → list_all is_unescaped row ≡ true
     → flat_map (unit_text kind) (units kind 0 row) ≡ row
 unescaped-row kind [] a p = refl
 unescaped-row kind (x ∷ xs) a p =

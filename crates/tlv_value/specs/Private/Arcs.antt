@@ -2,7 +2,8 @@
 use Rattle.std.specs.Prelude.{ℕ, Bool, true, false, List, ◌∷◌, decimal}
 use Rattle.tlv_value.specs.Arcs.{dotted_arcs, first_arcs}
 
--- the arcs of a subidentifier, as they are in the dotted text
+-- the arcs of a subidentifier, as they are in the dotted text. The first argument says whether the subidentifier is
+-- the first, the second whether the object identifier is relative
 abbrev pub arcs_text : Bool → Bool → ℕ → List ℕ
 arcs_text true true v = decimal v
 arcs_text true false v = dotted_arcs (first_arcs v)

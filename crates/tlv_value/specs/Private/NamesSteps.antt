@@ -8,11 +8,10 @@ use Rattle.std.specs.Cmp.Lexicographic.{slice_cmp}
 use Rattle.std.specs.FinMap as finite
 use Rattle.std.specs.Borrow.{Bor}
 use Rattle.std.specs.BTreeMap.{BTreeMap}
-use Rattle.std.specs.Io.KnownBytes.{IsAtEnd}
-use Rattle.tlv_io.specs.Device.{Pieces, SourceState, failed, gave, octets_given}
+use Rattle.tlv_io.specs.Device.{Pieces, SourceState, octets_given}
 use Rattle.tlv_value.specs.Names.{Entry, NamesLine, NamesValue, entry, has_entry, long_line, entry_limit}
 use Rattle.tlv_value.specs.Names.{names_of, no_entry, no_name, no_object_identifier}
-use Rattle.tlv_value.specs.NamesReading.{IsTooLong, names_failures_after, file_limit}
+use Rattle.tlv_value.specs.NamesReading.{EndsWithin, FailsWithin, IsTooLong, names_failures_after, file_limit}
 use Rattle.tlv_value.specs.declared.names.fault.NamesFault.{NamesFault}
 use Rattle.tlv_value.specs.declared.names.fault.NamesFault.TheVariants.{BadOid, BadName, Repeated, TooLarge}
 use Rattle.tlv_value.specs.declared.names.fault.NamesFault.TheVariants.{ReadFailed, Memory}
@@ -67,10 +66,9 @@ result_in (Err fault) = Err fault
 
 -- all octets of a source, by what its last read gave
 abbrev pub GivesAll : {Z : Type 0} → SourceState → List ℕ → Result (Vec ℕ Z) NamesFault → Type 0
-GivesAll new octets (Ok v) =
-    (octets ≡ v.items) × (new.last ≡ gave 0) × IsAtEnd new.left × (length v.items ≤ file_limit)
+GivesAll new octets (Ok v) = (octets ≡ v.items) × EndsWithin new octets
 GivesAll new octets (Err TooLarge) = IsTooLong new.last octets
-GivesAll new octets (Err ReadFailed) = (new.last ≡ failed) × (length octets ≤ file_limit)
+GivesAll new octets (Err ReadFailed) = FailsWithin new octets
 GivesAll new octets (Err Memory) = length octets ≤ file_limit
 GivesAll new octets (Err fault) = ⊥
 

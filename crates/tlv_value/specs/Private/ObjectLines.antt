@@ -5,12 +5,14 @@ use Rattle.tlv_value.specs.declared.layout.Layout.{Layout}
 use Rattle.tlv_value.specs.ValueLines.{row_lines}
 use Rattle.tlv_value.specs.Value.{NameOf, Value, object_value, octets_value}
 
-abbrev pub rest_of_lines : Layout → List ℕ → Value → List ℕ
-rest_of_lines layout line v = (line ++ v.text ++ 10 ∷ []) ++ row_lines Octets layout 0 v.rows
+-- the rest of the line after the tag, and the rows below it
+abbrev pub rest_of_lines : Layout → Value → List ℕ
+rest_of_lines layout v = (v.text ++ 10 ∷ []) ++ row_lines Octets layout 0 v.rows
 
-abbrev pub octets_lines : Layout → List ℕ → List ℕ → List ℕ
-octets_lines layout line octets = rest_of_lines layout line (octets_value octets)
+-- the same, of octets that are shown as pairs of digits
+abbrev pub octets_lines : Layout → List ℕ → List ℕ
+octets_lines layout octets = rest_of_lines layout (octets_value octets)
 
-abbrev pub object_lines : NameOf → Layout → List ℕ → Bool → List ℕ → List ℕ
-object_lines name_of layout line relative octets =
-    rest_of_lines layout line (object_value name_of relative octets)
+-- the same, of an object identifier, or of a relative one
+abbrev pub object_lines : NameOf → Layout → Bool → List ℕ → List ℕ
+object_lines name_of layout relative octets = rest_of_lines layout (object_value name_of relative octets)

@@ -1,12 +1,11 @@
 -- What has room in a row.
-use Rattle.std.specs.Prelude.{◌≡◌, ℕ, ◌+◌, ◌<◌, Bool, true, List, slice_index}
-use Rattle.tlv_io.specs.Cuts.{has_room_by}
+use Rattle.std.specs.Prelude.{◌≡◌, ℕ, ◌+◌, ◌<◌, Bool, true, nat_le, List, slice_index}
 use Rattle.tlv_value.specs.declared.kind.Kind.{Kind}
 use Rattle.tlv_value.specs.RowSizes.{character_length, row_size}
 
--- the octet has room in a row of so many octets
+-- after so many octets of a row there is room for the octet x, and for those that are to be kept in one row with it
 abbrev pub has_room : Kind → ℕ → ℕ → Bool
-has_room kind octets x = has_room_by (row_size kind) (character_length kind) octets x
+has_room kind octets x = nat_le (octets + character_length kind x) (row_size kind)
 
 -- the first n of the octets have room after so many others
 abbrev pub HaveRoom : Kind → ℕ → List ℕ → ℕ → Type 0

@@ -9,7 +9,7 @@ use Rattle.tlv_value.specs.Value.{row_text}
 abbrev pub row_indent : Layout → ℕ
 row_indent layout = (if layout.pure then 0 else 17) + 2 * (layout.level + 1)
 
--- the lines of rows of pairs of digits, if there is no limit to rows
+-- the line of a row of pairs of digits, if there is no limit to rows
 abbrev pub pair_row_line : Layout → List ℕ → List ℕ
 pair_row_line layout row = inner_line layout (row_text Octets row)
 

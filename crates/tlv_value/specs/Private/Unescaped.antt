@@ -10,16 +10,16 @@ use Rattle.tlv_value.specs.Units.{is_printable, unit_text, units}
 abbrev pub is_unescaped : ℕ → Bool
 is_unescaped x = is_printable x && not (eqb x 0x22 || eqb x 0x5c)
 
--- a character of ASCII has one octet
-abbrev pub has_ascii : Kind → Bool
-has_ascii Text = true
-has_ascii Utf8 = true
-has_ascii _ = false
+-- a character of ASCII has one octet in contents of this kind
+abbrev pub has_ascii_octets : Kind → Bool
+has_ascii_octets Text = true
+has_ascii_octets Utf8 = true
+has_ascii_octets _ = false
 
 -- the first n of the octets are such characters
 abbrev pub AreUnescaped : Kind → List ℕ → ℕ → Type 0
 AreUnescaped kind octets n =
-    (0 < n → has_ascii kind ≡ true) × ((i : ℕ) → i < n → is_unescaped (slice_index octets i) ≡ true)
+    (0 < n → has_ascii_octets kind ≡ true) × ((i : ℕ) → i < n → is_unescaped (slice_index octets i) ≡ true)
 
 -- the first n of the octets were written after what was held, if there is room
 abbrev pub IsPart : Kind → List ℕ → List ℕ → List ℕ → ℕ → Type 0

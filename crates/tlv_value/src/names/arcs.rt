@@ -7,8 +7,8 @@ ghost use Rattle.tlv_value.specs.Names.{are_first_arcs, dotted_parts, is_arc, is
 
 use super::names_line::{end_before, rest_after};
 
-/// Whether the text is two or more arcs with dots between them, of which the first is 0, 1 or 2, and the second at most
-/// 39 below 0 and 1 (ITU-T X.660). Arcs are decimals without a leading zero, of any size.
+/// Whether the text is two or more arcs with dots between them, of which the first is 0, 1 or 2, and if it is 0 or 1,
+/// the second is at most 39 (ITU-T X.660). Arcs are decimals without a leading zero, of any size.
 pub(super) fn is_dotted(text: &[u8]) -> bool
     ensures { result ≡ is_dotted text.now }
 {

@@ -2,7 +2,8 @@
 ghost use Rattle.std.specs.Prelude.{◌≡◌, ◌==◌, ◌+◌, ◌≤◌, drop, length};
 ghost use Rattle.std.specs.List.{list_all, position_or_len};
 ghost use Rattle.tlv_value.specs.Names.{is_blank, is_name, names_line, without_first_blanks};
-ghost use Rattle.tlv_value.specs.Names.{without_last_blanks, without_outer_blanks, without_return};
+ghost use Rattle.tlv_value.specs.Names.{without_last_blanks, without_outer_blanks};
+ghost use Rattle.std.specs.Str.Lines.{strip_carriage_return};
 ghost use Rattle.tlv_value.specs.Units.{is_printable};
 ghost use Rattle.tlv_value.specs.Private.NamesSteps.{entry_or_refusal, texts_of};
 
@@ -22,7 +23,7 @@ pub(super) fn entry_or_refusal<'a>(
     if line.len() > LINE_LIMIT {
         return Err(NamesFault::TooLarge);
     }
-    let text = without_outer_blanks(without_return(line));
+    let text = without_outer_blanks(strip_carriage_return(line));
     if text.is_empty() || text[0] == b'#' {
         return Ok(None);
     }
@@ -82,8 +83,8 @@ fn is_blank(octet: u8) -> bool
 }
 
 /// Without the one CR at the end, if there is one.
-fn without_return(line: &[u8]) -> &[u8]
-    ensures { result.now ≡ without_return line.now }
+fn strip_carriage_return(line: &[u8]) -> &[u8]
+    ensures { result.now ≡ strip_carriage_return line.now }
 {
     match line.split_last() {
         Some((b'\r', prefix)) => prefix,

@@ -1,7 +1,7 @@
 //! Whether a UTF8String is well-formed, row by row.
+ghost use Rattle.std.specs.List.{list_all};
 ghost use Rattle.std.specs.Prelude.{◌≡◌, ◌+◌, ◌≤◌, ◌++◌, [], length};
 ghost use Rattle.std.specs.Str.{is_utf8};
-ghost use Rattle.tlv_value.specs.ValueCheckState.{all_utf8};
 ghost use Rattle.tlv_value.specs.OpenRow.{IsOpenRow};
 ghost use Rattle.tlv_value.specs.Rows.{full_rows, open_row};
 
@@ -13,22 +13,22 @@ use arrayvec::ArrayVec;
 /// Takes octets after the row that has begun. Returns whether the rows that are then full are well-formed.
 pub(super) fn take_rows(row: &mut ArrayVec<u8, 64>, octets: &[u8]) -> bool
     requires { IsOpenRow Kind.Utf8 row.old.items }
-    ensures utf8 { result ≡ all_utf8 (full_rows Kind.Utf8 row.old.items octets.now) }
+    ensures utf8 { result ≡ list_all is_utf8 (full_rows Kind.Utf8 row.old.items octets.now) }
     ensures row { row.new.items ≡ open_row Kind.Utf8 row.old.items octets.now }
-    ensures begun { IsOpenRow Kind.Utf8 row.new.items }
+    ensures is_open { IsOpenRow Kind.Utf8 row.new.items }
 {
-    let mut rows_are_utf8 = true;
+    let mut are_full_rows_utf8 = true;
     let mut rest = octets;
     while !rest.is_empty() {
         let (part, more) = rest.split_at(fitting_length(Kind::Utf8, row.len(), rest));
         rest = more;
         if row.len() + part.len() < 64 && rest.is_empty() {
             let _ = row.try_extend_from_slice(part);
-            return rows_are_utf8;
+            return are_full_rows_utf8;
         }
-        rows_are_utf8 = both(rows_are_utf8, is_full_row_utf8(row, part));
+        are_full_rows_utf8 = both(are_full_rows_utf8, is_full_row_utf8(row, part));
     }
-    rows_are_utf8
+    are_full_rows_utf8
 }
 
 /// Whether the row that has begun is well-formed with the octets that fill it. The row is then empty.

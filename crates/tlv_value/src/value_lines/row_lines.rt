@@ -52,9 +52,9 @@ pub(crate) fn put_rows<D: Drain>(
     octets: &[u8],
     out: &mut Out<'_, D>,
 ) -> Result<(), WriteFault>
-    requires begun { IsOpenRow kind row.old.items }
+    requires is_open { IsOpenRow kind row.old.items }
     requires counted { row_count.old + length row.old.items + length octets.now < 2 ^ 64 }
-    ensures begun { IsOpenRow kind row.new.items }
+    ensures is_open { IsOpenRow kind row.new.items }
     ensures counted { row_count.new + length row.new.items
         ≤ row_count.old + length row.old.items + length octets.now }
     ensures row { OnOk result (row.new.items ≡ open_row kind row.old.items octets.now) }
@@ -105,7 +105,7 @@ fn put_full_rows<D: Drain>(
 ) -> Result<(), WriteFault>
     ensures { Puts D.state out.old out.new (pair_row_lines layout rows.now) result }
 {
-    // A row is much shorter than the longest line, so the drain takes more with each write.
+    // A row is much shorter than what `make_room` makes room for, so the drain takes more with each write.
     let size = row_indent(layout) + 64;
     for row in rows {
         out.make_room_for(size)?;
@@ -175,7 +175,7 @@ pub(crate) fn put_last<D: Drain>(
     put_row(kind, layout, index, row, out)
 }
 
-/// Puts a row, unless that is beyond the limit.
+/// Puts a row; beyond the limit three dots for the first, and nothing for the others.
 #[inline(always)]
 fn put_row<D: Drain>(
     kind: Kind,

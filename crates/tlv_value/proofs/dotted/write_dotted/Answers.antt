@@ -1,9 +1,10 @@
 use Rattle.std.proofs.Common.{◌≡◌, ℕ, ◌+◌, ◌*◌, ◌%◌, ◌++◌, ◌∷◌, true, List, get_or, refl, sym, ap, ◌∙◌, arith}
-use Rattle.std.proofs.Common.{append_assoc, rules}
+use Rattle.std.proofs.Common.{[], append_assoc, append-nil, rules}
 use Rattle.std.proofs.lemmas.Grind.{common_steps}
 use Rattle.tlv_value.specs.Arcs.{is_finished}
 use Rattle.tlv_value.specs.Private.Arcs.{arcs_text}
 use Rattle.tlv_value.proofs.TextLemmas.Arcs.{room-last, room-within, run-end, run-last, run-none, run-within}
+use Rattle.tlv_value.proofs.TextLemmas.Short.{adds_short}
 use Rattle.tlv_value.proofs.dotted.write_dotted.Goals.{then-octet-lt128, else-octet-lt128}
 use Rattle.tlv_value.proofs.dotted.write_dotted.Goals as goal
 
@@ -56,28 +57,24 @@ returns-clause-exists c =
     c.loop-octet.octet-index f (omega arith) (omega arith) same)
     refl
 
-pub returns-clause-text : goal.returns-clause-text
-returns-clause-text c =
+pub returns-clause-adds : goal.returns-clause-adds
+returns-clause-adds c =
     let f : is_finished c.args.contents.now ≡ true = grind (arith, common_steps) in
     let (text, held, room, same) = c.loop-octet.invariant in
     rw (run-end c.args.relative c.args.contents.now text c.loop-octet.first c.loop-octet.number
     c.loop-octet.octet-index f (omega arith) (omega arith) same)
-    held
+    (adds_short _ _ (32 ∷ text) 259 held (omega (arith, room)))
 
 pub truncate-requires : goal.truncate-requires
 truncate-requires c = grind (arith, common_steps)
 
-pub returns-then-number-clause-text : goal.returns-then-number-clause-text
-returns-then-number-clause-text c = grind (arith, common_steps)
-
-pub returns-then-number-clause-bound : goal.returns-then-number-clause-bound
-returns-then-number-clause-bound c = grind (arith, common_steps)
+pub returns-then-number-clause-adds : goal.returns-then-number-clause-adds
+returns-then-number-clause-adds c =
+    let same : c.truncate.new.self ≡ c.args.held.now = grind (arith, common_steps) in
+    adds_short _ _ [] 259 (same ∙ sym (append-nil c.args.held.now)) (omega arith)
 
 pub write_arcs-requires : goal.write_arcs-requires
 write_arcs-requires c = grind (arith, common_steps)
-
-pub returns-clause-bound : goal.returns-clause-bound
-returns-clause-bound c = grind (arith, common_steps)
 
 pub write_short-requires-clause-short : goal.write_short-requires-clause-short
 write_short-requires-clause-short c = search rules

@@ -2,6 +2,7 @@ use Rattle.std.proofs.Common.{◌≡◌, ℕ, ◌+◌, ◌*◌, ◌%◌, ◌++�
 use Rattle.tlv_value.specs.Private.Arcs.{arcs_text}
 use Rattle.tlv_value.proofs.TextLemmas.Arcs.{few-bits, none-yet, one-more, room-last, room-within, run-end, run-last}
 use Rattle.tlv_value.proofs.TextLemmas.Arcs.{run-within}
+use Rattle.tlv_value.proofs.TextLemmas.Short.{adds_short}
 use Rattle.tlv_value.proofs.dotted.write_short.Goals.{then-octet-lt128, else-octet-lt128}
 use Rattle.tlv_value.proofs.dotted.write_short.Goals as goal
 
@@ -71,10 +72,10 @@ returns-clause-exists c =
     (omega (arith, c.loop-octet-test.false)) same)
     refl
 
-pub returns-clause-text : goal.returns-clause-text
-returns-clause-text c =
+pub returns-clause-adds : goal.returns-clause-adds
+returns-clause-adds c =
     let (text, held, room, same, small) = c.loop-octet.invariant in
     rw (run-end c.args.relative c.args.contents.now text c.loop-octet.first c.loop-octet.number
     c.loop-octet.octet-index c.requires.finished (omega (arith, c.requires.short))
     (omega (arith, c.loop-octet-test.false)) same)
-    held
+    (adds_short _ _ (32 ∷ text) 259 held (omega (arith, room)))

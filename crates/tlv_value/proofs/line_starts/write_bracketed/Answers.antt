@@ -1,4 +1,4 @@
-use Rattle.std.proofs.Common.{◌∷◌, [], arith}
+use Rattle.std.proofs.Common.{◌∷◌, [], append_assoc, arith, refl}
 use Rattle.tlv_value.proofs.TextLemmas.LineLengths.{added, prefix_short, number_short}
 use Rattle.tlv_value.proofs.line_starts.write_bracketed.Goals as goal
 
@@ -9,15 +9,18 @@ add-requires c =
       prefix_short _ _ c.args.prefix.now c.args.count c.add_prefix.ensures,
       number_short _ _ _ c.ranges.number.fits c.number.ensures,
       c.requires.room,
-      c.requires.short,
+      c.requires.within,
     )
 
-pub returns-clause-bound : goal.returns-clause-bound
-returns-clause-bound c =
-    omega (
-      arith,
-      prefix_short _ _ c.args.prefix.now c.args.count c.add_prefix.ensures,
-      number_short _ _ _ c.ranges.number.fits c.number.ensures,
-      added _ _ (93 ∷ []) c.add.ensures,
-      c.requires.short,
-    )
+pub returns : goal.returns
+returns c = record {
+  text = rw (c.add.ensures, c.number.ensures, c.add_prefix.ensures) (simp append_assoc refl);
+  within =
+      omega (
+        arith,
+        prefix_short _ _ c.args.prefix.now c.args.count c.add_prefix.ensures,
+        number_short _ _ _ c.ranges.number.fits c.number.ensures,
+        added _ _ (93 ∷ []) c.add.ensures,
+        c.requires.within,
+      );
+}

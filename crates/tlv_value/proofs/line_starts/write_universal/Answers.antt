@@ -5,10 +5,12 @@ use Rattle.std.specs.Option.{unwrap_or}
 use Rattle.tlv_head.specs.Tag.{bracketed_tag, universal_names}
 use Rattle.tlv_value.proofs.line_starts.write_universal.Goals as goal
 
-pub returns-in-None-clause-text : goal.returns-in-None-clause-text
-returns-in-None-clause-text c =
-    let none : lookup (eqb c.args.number) universal_names ≡ None = sym c.in-None.ensures.name in
-    c.write_bracketed.ensures.text
-    ∙ ap (λ (name : Option (List ℕ)). c.args.held.now
-    ++ unwrap_or name (bracketed_tag (codes "UNIVERSAL ") c.args.number))
-    (sym none)
+pub returns-in-None : goal.returns-in-None
+returns-in-None c =
+    let none : lookup (eqb c.args.number) universal_names ≡ None = sym c.in-None.ensures.name in record {
+      text = c.write_bracketed.ensures.text
+          ∙ ap (λ (name : Option (List ℕ)). c.args.held.now
+          ++ unwrap_or name (bracketed_tag (codes "UNIVERSAL ") c.args.number))
+          (sym none);
+      within = c.write_bracketed.ensures.within;
+    }

@@ -1,10 +1,11 @@
 use Rattle.std.proofs.Common.{◌≡◌, length}
-use Rattle.tlv_value.specs.Times.{digits, has_form, mark, one, ◌then◌}
+use Rattle.tlv_value.specs.Times.{digits, has_form, mark, octet_between, ◌then◌}
 use Rattle.tlv_value.proofs.time.is_canonical_fraction_rest.Given as goal
 
 abbrev pub invariant-loop-rest : goal.invariant-loop-rest
 invariant-loop-rest l =
-    has_form ((digits then one 49 57) then mark 90) l.rest ≡ has_form ((digits then one 49 57) then mark 90) l.octets
+    has_form ((digits then octet_between 49 57) then mark 90) l.rest
+    ≡ has_form ((digits then octet_between 49 57) then mark 90) l.octets
 
 abbrev pub decreases-loop-rest : goal.decreases-loop-rest
 decreases-loop-rest l = length l.rest

@@ -1,6 +1,6 @@
 use Rattle.std.proofs.Common.{sym, ◌∙◌}
 use Rattle.std.specs.Prelude.{Some}
-use Rattle.tlv_value.specs.Times.{generalized_tail, second, ◌then◌}
+use Rattle.tlv_value.specs.Times.{generalized_tail, second}
 use Rattle.tlv_value.proofs.CheckLemmas.Forms.{form-then, maybe-left, maybe-there}
 use Rattle.tlv_value.proofs.time.is_second_and_tail.Goals as goal
 

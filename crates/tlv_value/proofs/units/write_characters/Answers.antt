@@ -13,7 +13,7 @@ returns-then-are_unescaped c =
     c.add_prefix.ensures
     ∙ ap (λ (l : List ℕ). c.args.held.now ++ l)
     (c.block_of-block.ensures
-    ∙ sym (unescaped-row c.args.kind row (sym c.has_ascii.ensures ∙ c.if-has_ascii.true) unescaped))
+    ∙ sym (unescaped-row c.args.kind row (sym c.has_ascii_octets.ensures ∙ c.if-has_ascii_octets.true) unescaped))
 
 pub returns : goal.returns
 returns c = c.write_units.ensures

@@ -4,34 +4,50 @@ use Rattle.tlv_value.specs.Units.{quoted_text}
 use Rattle.tlv_value.proofs.TextLemmas.Short.{bits-short, boolean-short, grown, integer-short, pairs-short, text-short}
 use Rattle.tlv_value.proofs.value.write_undotted.Goals as goal
 
-pub returns-in-Boolean-clause-bound : goal.returns-in-Boolean-clause-bound
-returns-in-Boolean-clause-bound c =
+pub returns-in-Boolean : goal.returns-in-Boolean
+returns-in-Boolean c =
     let octets : List ℕ = c.args.contents.now in
-    grown c.args.held.now c.write_boolean.new.held (boolean_value octets).text 330 c.write_boolean.ensures
-    (boolean-short octets (rw c.in-Boolean.is at c.requires.short))
+    record {
+      text = search rules;
+      within = grown c.args.held.now c.write_boolean.new.held (boolean_value octets).text 330 c.write_boolean.ensures
+          (boolean-short octets (rw c.in-Boolean.is at c.requires.short));
+    }
 
-pub returns-in-Integer-clause-bound : goal.returns-in-Integer-clause-bound
-returns-in-Integer-clause-bound c =
+pub returns-in-Integer : goal.returns-in-Integer
+returns-in-Integer c =
     let octets : List ℕ = c.args.contents.now in
-    grown c.args.held.now c.write_integer.new.held (integer_value octets).text 330 c.write_integer.ensures
-    (integer-short octets (rw c.in-Integer.is at c.requires.short))
+    record {
+      text = search rules;
+      within = grown c.args.held.now c.write_integer.new.held (integer_value octets).text 330 c.write_integer.ensures
+          (integer-short octets (rw c.in-Integer.is at c.requires.short));
+    }
 
-pub returns-in-Bits-clause-bound : goal.returns-in-Bits-clause-bound
-returns-in-Bits-clause-bound c =
+pub returns-in-Bits : goal.returns-in-Bits
+returns-in-Bits c =
     let octets : List ℕ = c.args.contents.now in
-    grown c.args.held.now c.write_bits.new.held (bits_value octets).text 330 c.write_bits.ensures
-    (bits-short octets (rw c.in-Bits.is at c.requires.short))
+    record {
+      text = search rules;
+      within = grown c.args.held.now c.write_bits.new.held (bits_value octets).text 330 c.write_bits.ensures
+          (bits-short octets (rw c.in-Bits.is at c.requires.short));
+    }
 
-pub returns-in-Text-clause-bound : goal.returns-in-Text-clause-bound
-returns-in-Text-clause-bound c =
+pub returns-in-Text : goal.returns-in-Text
+returns-in-Text c =
     let octets : List ℕ = c.args.contents.now in
     let short : length octets ≤ 64 = search rules in
-    grown c.args.held.now c.write_quoted.new.held (32 ∷ quoted_text c.args.kind octets) 330 c.write_quoted.ensures
-    (text-short c.args.kind octets short)
+    record {
+      text = search rules;
+      within =
+          grown c.args.held.now c.write_quoted.new.held (32 ∷ quoted_text c.args.kind octets) 330
+          c.write_quoted.ensures (text-short c.args.kind octets short);
+    }
 
-pub returns-in-Octets-clause-bound : goal.returns-in-Octets-clause-bound
-returns-in-Octets-clause-bound c =
+pub returns-in-Octets : goal.returns-in-Octets
+returns-in-Octets c =
     let octets : List ℕ = c.args.contents.now in
     let short : length octets ≤ 64 = search rules in
-    grown c.args.held.now c.spaced_pairs.new.self (spaced_pairs octets) 330 c.spaced_pairs.ensures
-    (pairs-short octets short)
+    record {
+      text = search rules;
+      within = grown c.args.held.now c.spaced_pairs.new.self (spaced_pairs octets) 330 c.spaced_pairs.ensures
+          (pairs-short octets short);
+    }

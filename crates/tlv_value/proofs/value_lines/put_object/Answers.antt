@@ -14,7 +14,7 @@ returns-in-Some g c =
     let d : dotted_of false c.args.contents.now ≡ Some text =
     some_text _ (sym c.write_dotted.ensures.exists ∙ c.if-not-write_dotted.false) in
     let h : c.write_dotted.new.held ≡ c.args.out.now.held ++ 32 ∷ text =
-    rw c.if-not-write_dotted.false at c.write_dotted.ensures.text in
+    rw c.if-not-write_dotted.false at c.write_dotted.ensures.adds.text in
     let b =
     after_space c.args.out.now.held c.as_slice.result.now text (c.len-start.result + 1)
     (c.as_slice.ensures.octets ∙ h) (ap (λ n. n + 1) c.len-start.ensures.count) in
@@ -31,7 +31,7 @@ returns-in-None g c =
     let d : dotted_of false c.args.contents.now ≡ Some text =
     some_text _ (sym c.write_dotted.ensures.exists ∙ c.if-not-write_dotted.false) in
     let h : c.write_dotted.new.held ≡ c.args.out.now.held ++ 32 ∷ text =
-    rw c.if-not-write_dotted.false at c.write_dotted.ensures.text in
+    rw c.if-not-write_dotted.false at c.write_dotted.ensures.adds.text in
     let b =
     after_space c.args.out.now.held c.as_slice.result.now text (c.len-start.result + 1)
     (c.as_slice.ensures.octets ∙ h) (ap (λ n. n + 1) c.len-start.ensures.count) in

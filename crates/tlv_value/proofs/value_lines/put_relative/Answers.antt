@@ -1,4 +1,4 @@
-use Rattle.std.proofs.Common.{◌≡◌, ◌++◌, ◌∷◌, [], ◌∙◌, ℕ, List, refl, sym, ap, append_assoc, append-nil, true}
+use Rattle.std.proofs.Common.{◌≡◌, ◌++◌, ◌∷◌, [], ◌∙◌, ℕ, List, refl, sym, ap, append_assoc, true}
 use Rattle.std.specs.Prelude.{None, Some, unwrap_or}
 use Rattle.tlv_io.proofs.Puts.{puts_held, puts_then_as}
 use Rattle.tlv_value.specs.Arcs.{dotted_of}
@@ -11,7 +11,7 @@ returns-then-not-write_dotted g c =
     let d : dotted_of true c.args.contents.now ≡ None =
     no_text _ (sym c.write_dotted.ensures.exists ∙ c.if-not-write_dotted.true) in
     let state_of = g.D.Drain.state in
-    let same = (rw c.if-not-write_dotted.true at c.write_dotted.ensures.text) ∙ sym (append-nil c.args.out.now.held) in
+    let same = rw c.if-not-write_dotted.true at c.write_dotted.ensures.adds.text in
     puts_then_as state_of _ _ _ [] _ _ (tt {0}) _ (puts_held state_of _ _ [] (tt {0}) refl same) c.put_octets.ensures
     (object_octets no_names c.args.layout true c.args.contents.now d)
 
@@ -21,7 +21,7 @@ returns g c =
     let d : dotted_of true c.args.contents.now ≡ Some text =
     some_text _ (sym c.write_dotted.ensures.exists ∙ c.if-not-write_dotted.false) in
     let h : c.write_dotted.new.held ≡ c.args.out.now.held ++ 32 ∷ text =
-    rw c.if-not-write_dotted.false at c.write_dotted.ensures.text in
+    rw c.if-not-write_dotted.false at c.write_dotted.ensures.adds.text in
     let all =
     c.add.ensures ∙ ap (λ (l : List ℕ). l ++ 10 ∷ []) h ∙ append_assoc c.args.out.now.held (32 ∷ text) (10 ∷ []) in
     puts_held g.D.Drain.state _ _ _ _ refl

@@ -12,7 +12,10 @@ loop-done-preserved c =
       bound = omega (arith, c.loop-done-test.true);
     }
 
-pub returns-clause-text : goal.returns-clause-text
-returns-clause-text c =
-    spaces_of_more c.args.count c.loop-done.done c.loop-done.to (omega (arith, c.loop-done-test.false))
-    c.loop-done.invariant.blank
+pub returns : goal.returns
+returns c = record {
+  text =
+      spaces_of_more c.args.count c.loop-done.done c.loop-done.to (omega (arith, c.loop-done-test.false))
+      c.loop-done.invariant.blank;
+  size = c.loop-done.invariant.size;
+}

@@ -22,8 +22,11 @@ loop-i-preserved c =
       size = search rules;
     }
 
-pub returns-clause-text : goal.returns-clause-text
-returns-clause-text c =
-    let p = c.loop-i.invariant.pairs in
-    row_whole c.args.octets.now c.loop-i.to p.0 c.loop-i.i (omega (arith, c.loop-i.auto.i-end, c.loop-i-test.false))
-    c.told-octets p.1
+pub returns : goal.returns
+returns c =
+    let p = c.loop-i.invariant.pairs in record {
+      text =
+          row_whole c.args.octets.now c.loop-i.to p.0 c.loop-i.i
+          (omega (arith, c.loop-i.auto.i-end, c.loop-i-test.false)) c.told-octets p.1;
+      size = search rules;
+    }

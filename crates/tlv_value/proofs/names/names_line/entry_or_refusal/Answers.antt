@@ -10,7 +10,7 @@ returns-then-not-is_name c =
     full_pair c.args.line.now c.without_outer_blanks-text.result.now c.without_first_blanks-name.result.now
     c.end_before_blank-end.result
     c.if-line-gt-LINE_LIMIT.false
-    (c.without_outer_blanks-text.ensures ∙ ap without_outer_blanks c.without_return.ensures)
+    (c.without_outer_blanks-text.ensures ∙ ap without_outer_blanks c.strip_carriage_return.ensures)
     (sym c.is_empty.ensures ∙ c.if-is_empty.false)
     c.if-text-eq35.false c.end_before_blank-end.ensures.value c.without_first_blanks-name.ensures in
     sym (ap (entry_or_refusal c.args.number)
@@ -25,7 +25,7 @@ returns c =
     full_pair c.args.line.now c.without_outer_blanks-text.result.now c.without_first_blanks-name.result.now
     c.end_before_blank-end.result
     c.if-line-gt-LINE_LIMIT.false
-    (c.without_outer_blanks-text.ensures ∙ ap without_outer_blanks c.without_return.ensures)
+    (c.without_outer_blanks-text.ensures ∙ ap without_outer_blanks c.strip_carriage_return.ensures)
     (sym c.is_empty.ensures ∙ c.if-is_empty.false)
     c.if-text-eq35.false c.end_before_blank-end.ensures.value c.without_first_blanks-name.ensures in
     sym (ap (entry_or_refusal c.args.number)

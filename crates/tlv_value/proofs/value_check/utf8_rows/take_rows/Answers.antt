@@ -1,3 +1,4 @@
+use Rattle.std.specs.List.{list_all}
 use Rattle.std.proofs.Common.{◌≡◌, ◌⊎◌, inl, inr, ℕ, ◌+◌, ◌<◌, ◌++◌, [], Bool, List, length, sym, ap, ◌∙◌, arith}
 use Rattle.std.specs.Prelude.{◌&&◌}
 use Rattle.std.specs.Str.{is_utf8}
@@ -5,7 +6,6 @@ use Rattle.std.proofs.lemmas.Bool.{eqb-true}
 use Rattle.std.proofs.lemmas.Bool.Decides.{nat_tests}
 use Rattle.std.proofs.lemmas.Grind.{common_steps}
 use Rattle.tlv_value.specs.declared.kind.Kind.TheVariants.{Utf8}
-use Rattle.tlv_value.specs.ValueCheckState.{all_utf8}
 use Rattle.tlv_value.specs.RowSizes.{row_size}
 use Rattle.tlv_value.proofs.RowLemmas.FilledRows.{rows_filled}
 use Rattle.tlv_value.proofs.CheckLemmas.Noting.{and-nothing, and-row}
@@ -16,17 +16,17 @@ use Rattle.tlv_value.proofs.value_check.utf8_rows.take_rows.Goals as goal
 pub loop-rest-init : goal.loop-rest-init
 loop-rest-init c =
     let p = open-parts Utf8 c.args.row.now.items c.args.octets.now c.requires in
-    record { begun = c.requires; row = p.1; utf8 = ap all_utf8 p.0 }
+    record { is_open = c.requires; row = p.1; utf8 = ap (list_all is_utf8) p.0 }
 
-pub returns-then-is_empty-clause-begun : goal.returns-then-is_empty-clause-begun
-returns-then-is_empty-clause-begun c =
+pub returns-then-is_empty-clause-is_open : goal.returns-then-is_empty-clause-is_open
+returns-then-is_empty-clause-is_open c =
     let z : length c.split_at.result.1.now ≡ 0 =
     eqb-true (length c.split_at.result.1.now) 0 (sym c.if-is_empty.ensures) in
     let t : c.try_extend_from_slice.new.self.items ≡ c.loop-rest.row.items ++ c.split_at.result.0.now =
     grind (arith, common_steps) in
     rw t
     (kept-open Utf8 c.len.result c.loop-rest.row.items c.fitting_length.result c.loop-rest.rest.now
-    c.split_at.result.0.now c.loop-rest.invariant.begun c.len.ensures.value c.split_at.ensures.front
+    c.split_at.result.0.now c.loop-rest.invariant.is_open c.len.ensures.value c.split_at.ensures.front
     c.fitting_length.ensures.fits
     (omega arith) c.fitting_length.ensures.within (omega arith))
 
@@ -38,7 +38,7 @@ returns-then-is_empty-clause-utf8 c =
     kept Utf8 c.len.result c.loop-rest.row.items c.fitting_length.result c.loop-rest.rest.now
     c.split_at.result.0.now c.len.ensures.value c.split_at.ensures.front c.fitting_length.ensures.fits
     (omega arith) c.fitting_length.ensures.within (omega arith) in
-    sym (and-nothing c.loop-rest.rows_are_utf8 (rows_filled Utf8 c.loop-rest.row.items c.loop-rest.rest.now) k.0)
+    sym (and-nothing c.loop-rest.are_full_rows_utf8 (rows_filled Utf8 c.loop-rest.row.items c.loop-rest.rest.now) k.0)
     ∙ c.loop-rest.invariant.utf8
 
 pub returns-then-is_empty-clause-row : goal.returns-then-is_empty-clause-row
@@ -67,18 +67,19 @@ loop-rest-preserved c =
     ] in
     let t =
     turned Utf8 c.len.result row m c.loop-rest.rest.now part more c.len.ensures.value c.split_at.ensures.front
-    c.split_at.ensures.back c.fitting_length.ensures.fits c.fitting_length.ensures.bound
+    c.split_at.ensures.back c.fitting_length.ensures.fits c.fitting_length.ensures.short
     c.fitting_length.ensures.within (omega arith) c.fitting_length.ensures.next claim in
     let none : c.is_full_row_utf8.new.row.items ≡ [] = c.is_full_row_utf8.ensures.row in
-    let both : c.both-rows_are_utf8.result ≡ (c.loop-rest.rows_are_utf8 && is_utf8 (row ++ part)) =
-    c.both-rows_are_utf8.ensures ∙ ap (λ (b : Bool). c.loop-rest.rows_are_utf8 && b) c.is_full_row_utf8.ensures.utf8 in
+    let both : c.both-are_full_rows_utf8.result ≡ (c.loop-rest.are_full_rows_utf8 && is_utf8 (row ++ part)) =
+    c.both-are_full_rows_utf8.ensures
+    ∙ ap (λ (b : Bool). c.loop-rest.are_full_rows_utf8 && b) c.is_full_row_utf8.ensures.utf8 in
     record {
-      begun = rw none (none-open Utf8);
+      is_open = rw none (none-open Utf8);
       row = rw none (sym t.1 ∙ i.row);
       utf8 =
           rw none
-          (ap (λ (b : Bool). b && all_utf8 (rows_filled Utf8 [] more)) both
-          ∙ and-row c.loop-rest.rows_are_utf8 (row ++ part) (rows_filled Utf8 [] more)
+          (ap (λ (b : Bool). b && list_all is_utf8 (rows_filled Utf8 [] more)) both
+          ∙ and-row c.loop-rest.are_full_rows_utf8 (row ++ part) (rows_filled Utf8 [] more)
           (rows_filled Utf8 row c.loop-rest.rest.now) t.0
           ∙ i.utf8);
     }

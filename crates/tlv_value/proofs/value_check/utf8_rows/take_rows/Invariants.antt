@@ -1,7 +1,8 @@
+use Rattle.std.specs.Str.{is_utf8}
+use Rattle.std.specs.List.{list_all}
 use Rattle.std.proofs.Common.{◌≡◌, ◌+◌, length}
 use Rattle.std.specs.Prelude.{◌&&◌}
 use Rattle.tlv_value.specs.declared.kind.Kind.TheVariants.{Utf8}
-use Rattle.tlv_value.specs.ValueCheckState.{all_utf8}
 use Rattle.tlv_value.specs.OpenRow.{IsOpenRow}
 use Rattle.tlv_value.proofs.RowLemmas.FilledRows.{row_begun, rows_filled}
 use Rattle.tlv_value.specs.Rows.{full_rows, open_row}
@@ -9,10 +10,10 @@ use Rattle.tlv_value.proofs.value_check.utf8_rows.take_rows.Given as goal
 
 abbrev pub invariant-loop-rest : goal.invariant-loop-rest
 invariant-loop-rest l = record {
-  begun : IsOpenRow Utf8 l.row.items;
+  is_open : IsOpenRow Utf8 l.row.items;
   row : row_begun Utf8 l.row.items l.rest ≡ open_row Utf8 l.initial.row.items l.octets;
-  utf8 : (l.rows_are_utf8 && all_utf8 (rows_filled Utf8 l.row.items l.rest))
-      ≡ all_utf8 (full_rows Utf8 l.initial.row.items l.octets);
+  utf8 : (l.are_full_rows_utf8 && list_all is_utf8 (rows_filled Utf8 l.row.items l.rest))
+      ≡ list_all is_utf8 (full_rows Utf8 l.initial.row.items l.octets);
 }
 
 abbrev pub decreases-loop-rest : goal.decreases-loop-rest

@@ -18,15 +18,15 @@ use Rattle.tlv_value.proofs.value_lines.row_lines.put_rows.Goals.{else-begun-par
 use Rattle.tlv_value.proofs.value_lines.row_lines.put_rows.Goals.{else-begun-part-via-else-begun-part}
 use Rattle.tlv_value.proofs.value_lines.row_lines.put_rows.Goals as goal
 
-pub returns-then-is_empty-clause-begun : goal.returns-then-is_empty-clause-begun
-returns-then-is_empty-clause-begun g c =
+pub returns-then-is_empty-clause-is_open : goal.returns-then-is_empty-clause-is_open
+returns-then-is_empty-clause-is_open g c =
     let z : length c.split_at.result.1.now ≡ 0 =
     eqb-true (length c.split_at.result.1.now) 0 (sym c.if-is_empty.ensures) in
     let t : c.try_extend_from_slice.new.self.items ≡ c.loop-rest.row.items ++ c.split_at.result.0.now =
     grind (arith, common_steps) in
     rw t
     (kept-open c.args.kind c.len-begun.result c.loop-rest.row.items c.fitting_length.result c.loop-rest.rest.now
-    c.split_at.result.0.now c.loop-rest.invariant.begun c.len-begun.ensures.value c.split_at.ensures.front
+    c.split_at.result.0.now c.loop-rest.invariant.is_open c.len-begun.ensures.value c.split_at.ensures.front
     c.fitting_length.ensures.fits
     (omega arith) c.fitting_length.ensures.within (omega arith))
 
@@ -80,13 +80,13 @@ loop-rest-preserved g c =
     let t =
     turned kind c.len-begun.result row m c.loop-rest.rest.now part more c.len-begun.ensures.value
     c.split_at.ensures.front c.split_at.ensures.back c.fitting_length.ensures.fits
-    c.fitting_length.ensures.bound
+    c.fitting_length.ensures.short
     c.fitting_length.ensures.within (omega arith) c.fitting_length.ensures.next claim in
     let p = progress kind c.len-begun.result m c.loop-rest.rest.now (omega arith) c.fitting_length.ensures.next claim in
     let none : c.put_full.new.row.items ≡ [] = c.put_full.ensures.row in
     let line : List ℕ = row_line c.args.layout c.loop-rest.row_count (row_text kind (row ++ part)) in
     record {
-      begun = rw none (none-open kind);
+      is_open = rw none (none-open kind);
       counted = omega (arith, ap length none);
       row = rw none (sym t.1 ∙ i.row);
       rows = rw none (omega (arith, ap length t.0));
@@ -118,7 +118,7 @@ returns-in_err-put_full-clause-puts g c =
     let t =
     turned kind c.len-begun.result row m c.loop-rest.rest.now part more c.len-begun.ensures.value
     c.split_at.ensures.front c.split_at.ensures.back c.fitting_length.ensures.fits
-    c.fitting_length.ensures.bound
+    c.fitting_length.ensures.short
     c.fitting_length.ensures.within (omega arith) c.fitting_length.ensures.next claim in
     let line : List ℕ = row_line c.args.layout c.loop-rest.row_count (row_text kind (row ++ part)) in
     let rest : List ℕ = row_lines kind c.args.layout (c.loop-rest.row_count + 1) (rows_filled kind [] more) in
@@ -135,9 +135,9 @@ returns-in_err-put_full-clause-puts g c =
 
 pub loop-rest-init : goal.loop-rest-init
 loop-rest-init g c =
-    let p = open-parts c.args.kind c.args.row.now.items c.args.octets.now c.requires.begun in
+    let p = open-parts c.args.kind c.args.row.now.items c.args.octets.now c.requires.is_open in
     record {
-      begun = c.requires.begun;
+      is_open = c.requires.is_open;
       counted = omega arith;
       row = p.1;
       rows = ap (λ (rows : List (List ℕ)). c.args.row_count.now + length rows) p.0;
@@ -170,7 +170,7 @@ loop-rest-preserved-then-has_full_rows g c =
     let rest : List ℕ =
     row_lines kind c.args.layout (c.loop-rest.row_count + length c.as_chunks.result.0.now) (rows_filled kind [] more) in
     record {
-      begun = i.begun;
+      is_open = i.is_open;
       counted = omega (arith, i.counted, c.as_chunks.ensures.front_len, c.as_chunks.ensures.back_len);
       row = rw none (sym t.1 ∙ (rw none at i.row));
       rows = rw none (omega (arith, rows, t.2));

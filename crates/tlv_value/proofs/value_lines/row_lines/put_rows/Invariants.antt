@@ -8,7 +8,7 @@ use Rattle.tlv_value.proofs.value_lines.row_lines.put_rows.Given as goal
 
 abbrev pub invariant-loop-rest : goal.invariant-loop-rest
 invariant-loop-rest g l = record {
-  begun : IsOpenRow l.kind l.row.items;
+  is_open : IsOpenRow l.kind l.row.items;
   counted : l.row_count + length l.row.items + length l.rest
       ≤ l.initial.row_count + length l.initial.row.items + length l.octets;
   row : row_begun l.kind l.row.items l.rest ≡ open_row l.kind l.initial.row.items l.octets;

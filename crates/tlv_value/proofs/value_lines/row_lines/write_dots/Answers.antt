@@ -1,19 +1,19 @@
 use Rattle.std.proofs.Common.{◌++◌, ◌∷◌, [], ◌∙◌, ◌+◌, List, ℕ, ap, append_assoc, arith, sym}
 use Rattle.std.specs.Prelude.{codes}
 use Rattle.std.proofs.lemmas.List.{length-replicate}
-use Rattle.tlv_value.specs.Layout.{margin, no_columns, spaces}
+use Rattle.tlv_value.specs.Layout.{margin, blank_columns, spaces}
 use Rattle.tlv_value.proofs.TextLemmas.LineLengths.{added}
 use Rattle.tlv_value.proofs.value_lines.row_lines.write_dots.Goals as goal
 
 pub spaces-requires : goal.spaces-requires
-spaces-requires c = omega (arith, c.requires, c.row_indent.ensures.bound)
+spaces-requires c = omega (arith, c.requires, c.row_indent.ensures.within)
 
 pub add-requires : goal.add-requires
 add-requires c =
     omega (
       arith,
       c.requires,
-      c.row_indent.ensures.bound,
+      c.row_indent.ensures.within,
       added _ _ (spaces c.row_indent.result) c.spaces.ensures,
       length-replicate {A = ℕ} c.row_indent.result 32,
     )
@@ -21,7 +21,7 @@ add-requires c =
 pub returns : goal.returns
 returns c =
     let held : List ℕ = c.args.held.now in
-    let indent : List ℕ = margin c.args.layout.pure no_columns (c.args.layout.level + 1) in
+    let indent : List ℕ = margin c.args.layout.pure blank_columns (c.args.layout.level + 1) in
     let dots : List ℕ = codes "...\n" in
     c.add.ensures
     ∙ ap (λ (l : List ℕ). l ++ dots) (c.spaces.ensures ∙ ap (λ (l : List ℕ). held ++ l) c.row_indent.ensures.text)

@@ -1,6 +1,6 @@
 use Rattle.std.proofs.Common.{◌-◌, ◌++◌, ◌∷◌, [], ◌∙◌, List, ℕ, ap, arith}
 use Rattle.std.proofs.lemmas.List.{length-replicate}
-use Rattle.tlv_io.proofs.BufferTexts.{pairs-size}
+use Rattle.tlv_io.proofs.HeldTexts.{pairs-size}
 use Rattle.tlv_value.specs.Layout.{spaces}
 use Rattle.tlv_value.specs.Value.{spaced_pairs}
 use Rattle.tlv_value.proofs.RowLemmas.FullRows.{full_line_added}
@@ -19,7 +19,7 @@ add-requires c =
       pairs,
       pairs-size c.args.row.now,
       c.told-row,
-      c.row_indent.ensures.bound,
+      c.row_indent.ensures.within,
       c.requires,
     )
 

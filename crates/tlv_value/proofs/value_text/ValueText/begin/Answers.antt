@@ -12,7 +12,7 @@ use Rattle.tlv_value.proofs.value_text.ValueText.begin.Goals as goal
 -- with the header of a value that is not long no line is known
 begun-short : (s v : ValueTextState) → s ≡ v → is_long s.primitive.kind s.primitive.size ≡ false → [] ≡ begin_lines v
 begun-short s v same l =
-    sym (ap (λ (b : Bool). if b then (if s.kept.wrote_line then primitive_line s.primitive [] else []) else []) l)
+    sym (ap (λ (b : Bool). if b then (if s.kept.has_put_line then primitive_line s.primitive [] else []) else []) l)
     ∙ ap begin_lines same
 
 either : (b : Bool) (xs : List ℕ) → xs ≡ (if b then xs else xs)
@@ -20,7 +20,7 @@ either true xs = refl
 either false xs = refl
 
 -- nor is one with that of a value whose line comes later
-begun-before_line : (s v : ValueTextState) → s ≡ v → s.kept.wrote_line ≡ false → [] ≡ begin_lines v
+begun-before_line : (s v : ValueTextState) → s ≡ v → s.kept.has_put_line ≡ false → [] ≡ begin_lines v
 begun-before_line s v same l =
     either (is_long s.primitive.kind s.primitive.size) []
     ∙ ap (λ (b : Bool). if is_long s.primitive.kind s.primitive.size

@@ -14,7 +14,7 @@ use Rattle.tlv_value.proofs.value_text.ValueText.bytes.Goals as goal
 
 -- the line, and then the rows
 new-both : (s v : ValueTextState) (x : ℕ) (rest octets : List ℕ) → s ≡ v → s.primitive.kind ≡ Bits
-    → s.kept.wrote_line ≡ false → is_long s.primitive.kind s.primitive.size ≡ true → octets ≡ x ∷ rest
+    → s.kept.has_put_line ≡ false → is_long s.primitive.kind s.primitive.size ≡ true → octets ≡ x ∷ rest
     → primitive_line s.primitive (long_text Bits s.primitive.size (x ∷ []))
     ++ row_lines Bits s.primitive.layout 0 (full_rows Bits (row_octets Bits (x ∷ [])) rest)
     ≡ contents_lines v octets
