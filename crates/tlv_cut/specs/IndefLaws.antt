@@ -5,7 +5,7 @@ use Rattle.tlv_walk.specs.Ending.{IsEnding}
 use Rattle.tlv_walk.specs.Events.{events}
 use Rattle.tlv_walk.specs.Follow.{effect_of, effect_with}
 use Rattle.tlv_walk.specs.Forest.{Forest, spelling}
-use Rattle.tlv_walk.specs.Place.{IsOpen, top_place}
+use Rattle.tlv_walk.specs.Place.{KeepsRules, top_place}
 use Rattle.tlv_walk.specs.Reading.{IsPrefixOf, IsReading}
 use Rattle.tlv_walk.specs.LongerInputs.{ForLongerInputs}
 use Rattle.tlv_cut.specs.IndefText.{indef_text}
@@ -23,9 +23,9 @@ IndefTextGoesOn = ForLongerInputs (λ f g. IsPrefixOf (indef_text f) (indef_text
 
 -- what is written are the octets of elements that keep all rules
 abbrev pub IndefTextKeepsRules : Type 0
-IndefTextKeepsRules = (padding : Bool) (f : Forest) → IsOpen (top_place (indef_framing padding)) f
+IndefTextKeepsRules = (padding : Bool) (f : Forest) → KeepsRules (top_place (indef_framing padding)) f
     → (spelling (indef_reading f) ≡ indef_text f)
-    × IsOpen (top_place (indef_framing padding)) (indef_reading f)
+    × KeepsRules (top_place (indef_framing padding)) (indef_reading f)
 
 -- what is written is read as those elements, and of these the same octets are written again
 abbrev pub IndefTextIsReadBack : Type 0

@@ -10,11 +10,11 @@ use Rattle.tlv_walk.specs.Events.{EventValue, event_octets, events}
 use Rattle.tlv_walk.specs.Follow.{Effect, effect_of, followed_events, had_enough}
 use Rattle.tlv_walk.specs.Forest.{Forest, spelling}
 use Rattle.tlv_walk.specs.Job.{DeviceStates, Job, Runs, device_states, drain_result}
-use Rattle.tlv_walk.specs.Wrappers.{first_other, first_without_wrapper, entered_offsets}
+use Rattle.tlv_walk.specs.Wrappers.{first_not_among, first_without_wrapper, entered_offsets}
 
 -- the run over a forest of which all events were followed, with this ending
-abbrev pub whole_run : Framing → Forest → Ending → Run
-whole_run framing f e =
+abbrev pub run_over : Framing → Forest → Ending → Run
+run_over framing f e =
     record { ending = e; octets = length (spelling f); enough = false; unused = first_without_wrapper framing.inside f }
 
 -- the run that ends after the last of these events, with which a follower had enough
@@ -24,7 +24,7 @@ enough_run framing es =
       ending = ending.Done;
       octets = length (flat_map event_octets es);
       enough = true;
-      unused = first_other framing.inside (entered_offsets es);
+      unused = first_not_among framing.inside (entered_offsets es);
     }
 
 -- what takes part in a walk over all that a source gives, as it is before the walk or after it: the follower's
@@ -45,7 +45,7 @@ module _ {S : Type 0} (next : S → EventValue → Effect S) where
     text = λ f. (effect_of next s (events f)).put;
     is_enough = λ f. had_enough (effect_of next s (events f)).goes;
     result = λ f e. if had_enough (effect_of next s (events f)).goes
-        then enough_run framing (followed_events next s (events f)) else whole_run framing f e;
+        then enough_run framing (followed_events next s (events f)) else run_over framing f e;
   }
 
   -- what it comes to, and the state that it leaves

@@ -6,7 +6,7 @@ use Rattle.tlv_walk.specs.declared.framing.Framing.{Framing}
 use Rattle.tlv_walk.specs.Phase.{Refused}
 use Rattle.tlv_walk.specs.Ending.{IsEnding}
 use Rattle.tlv_walk.specs.Events.{AreEqualJoined, EventValue, events}
-use Rattle.tlv_walk.specs.WalkerState.{WalkerState, unused_of}
+use Rattle.tlv_walk.specs.WalkerState.{WalkerState, unused_offset}
 use Rattle.tlv_walk.specs.Depth.{depth_of}
 use Rattle.tlv_walk.specs.Stands.{IsIdle, Stands}
 use Rattle.tlv_walk.specs.Forest.{Forest, spelling}
@@ -33,7 +33,7 @@ pub record StandsRefused (w : WalkerState) (b : List ℕ) (octet : ℕ) (yielded
   pub phase : w.phase ≡ Refused f
   pub offset : w.offset ≡ length b
   pub depth : length w.stack ≡ depth_of refused.reading
-  pub unused : unused_of w ≡ first_without_wrapper w.framing.inside refused.reading
+  pub unused : unused_offset w ≡ first_without_wrapper w.framing.inside refused.reading
 
 -- what a walker has read: the octets that it took, and their reading. Once it refused an octet, these are the octets
 -- before that one

@@ -10,7 +10,7 @@ use Rattle.tlv_walk.specs.declared.run.Run.{Run}
 use Rattle.tlv_walk.specs.declared.run.Turn.{Turn}
 use Rattle.tlv_walk.specs.declared.run.Turn.TheVariants.{Again, Ended}
 use Rattle.tlv_io.specs.Device.{DrainState, LastReadValue, SourceState, failed, failures_after, gave, never, next_count}
-use Rattle.tlv_walk.specs.DriveJob.{enough_run, whole_run}
+use Rattle.tlv_walk.specs.DriveJob.{enough_run, run_over}
 use Rattle.tlv_walk.specs.Ending.{IsEnding, IsFinalEnding}
 use Rattle.tlv_walk.specs.Events.{EventValue, event_octets}
 use Rattle.tlv_walk.specs.Follow.{Effect, effect_of}
@@ -20,7 +20,7 @@ use Rattle.tlv_walk.specs.WalkerState.{WalkerState}
 use Rattle.tlv_io.specs.Out.{Sends}
 use Rattle.tlv_walk.specs.Reading.{AreOctets, IsPrefixOf}
 use Rattle.tlv_walk.specs.HasRead.{StandsAtEnd}
-use Rattle.tlv_walk.specs.Stands.{CanTake, HasEvents, IsIdle, Stands}
+use Rattle.tlv_walk.specs.Stands.{IsReady, HasEvents, IsIdle, Stands}
 
 -- the octets that the last read gave, with which the piece begins
 abbrev pub last_octets : LastReadValue → List ℕ → List ℕ
@@ -45,10 +45,10 @@ LastReadWas room (Err InputTooLong) last = LastReadGaveUpTo room last
 pub record CanTurn (walker : WalkerState) (piece : List ℕ) (limit : ℕ) : Type 0 where
   -- the piece has at least one octet, and no more than 4096
   pub some : 0 < length piece
-  pub few : length piece ≤ 4096
+  pub short : length piece ≤ 4096
   pub in_range : limit ≤ input_limit
   pub within : walker.offset ≤ limit
-  pub ready : CanTake walker
+  pub ready : IsReady walker
 
 -- what takes part in a turn, as it is before the turn or after it: the walker, the follower's state and the devices
 pub record TurnStates (S : Type 0) : Type 0 where
@@ -104,7 +104,7 @@ module _ {S : Type 0} (next : S → EventValue → Effect S) (old new : TurnStat
     pub follows : FollowsMore yielded all go.On
     pub has_events : HasEvents old.walker.framing octets all
     pub ending : IsEnding old.walker.framing octets run.ending
-    pub run_is : run ≡ whole_run old.walker.framing has_events.reading run.ending
+    pub run_is : run ≡ run_over old.walker.framing has_events.reading run.ending
     pub walker : StandsAtEnd new.walker octets all
 
   -- the follower had enough with the last of the events that it followed, after which the octets have others; the
@@ -163,12 +163,12 @@ module _ {S : Type 0} (next : S → EventValue → Effect S) (old new : TurnStat
   pub record HasMovedWithin (limit : ℕ) : Type 0 where
     pub moved : old.walker.offset < new.walker.offset
     pub within : new.walker.offset ≤ limit
-    pub ready : CanTake new.walker
+    pub ready : IsReady new.walker
 
   -- the walker took as many octets as the limit, and can take the next one
   pub record IsAtLimit (limit : ℕ) : Type 0 where
     pub at_limit : new.walker.offset ≡ limit
-    pub ready : CanTake new.walker
+    pub ready : IsReady new.walker
 
   -- how a walk can go on after a turn. If more is to be read, or more was read than the limit allows, the next octet
   -- can be taken; after a failed read nothing has changed

@@ -5,7 +5,7 @@ use Rattle.tlv_head.specs.Header.{definite_length}
 use Rattle.tlv_walk.specs.declared.framing.Framing.{Framing}
 use Rattle.tlv_walk.specs.Forest.{Forest, Holder, NoMore, PaddingOctet, Primitive, contents_length, extent}
 use Rattle.tlv_walk.specs.Forest.{has_element, primitive_extent, spelling}
-use Rattle.tlv_walk.specs.Place.{IsHeaderAt, IsOpen, Place, place_after, place_of_children, top_place}
+use Rattle.tlv_walk.specs.Place.{IsHeaderAt, KeepsRules, Place, place_after, place_of_children, top_place}
 
 -- octets, each below 256
 abbrev pub AreOctets : List ℕ → Type 0
@@ -17,9 +17,9 @@ IsPrefixOf p b = (rest : List ℕ) × (p ++ rest ≡ b)
 
 -- the reading of an input: the open forest that spells the longest prefix of it that any open forest spells
 pub record IsReading (framing : Framing) (b : List ℕ) (f : Forest) : Type 0 where
-  pub is_open : IsOpen (top_place framing) f
+  pub keeps_rules : KeepsRules (top_place framing) f
   pub is_prefix : IsPrefixOf (spelling f) b
-  pub longest : (g : Forest) → IsOpen (top_place framing) g → IsPrefixOf (spelling g) b
+  pub longest : (g : Forest) → KeepsRules (top_place framing) g → IsPrefixOf (spelling g) b
       → length (spelling g) ≤ length (spelling f)
 
 -- 8.1.1 to 8.1.5: nothing is open, each definite length is that of the contents, and no element is held by

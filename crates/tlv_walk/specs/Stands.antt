@@ -43,8 +43,8 @@ abbrev pub IsIdle : WalkerState → Type 0
 IsIdle w = waiting_events w ≡ []
 
 -- an octet can be taken: no event waits, and no octet was refused
-abbrev pub CanTake : WalkerState → Type 0
-CanTake w = IsIdle w × HasNotRefused w
+abbrev pub IsReady : WalkerState → Type 0
+IsReady w = IsIdle w × HasNotRefused w
 
 -- octets have a reading, and these are its events, however contents and padding are cut
 pub record HasEvents (framing : Framing) (octets : List ℕ) (es : List EventValue) : Type 0 where

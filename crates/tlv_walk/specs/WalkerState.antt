@@ -68,7 +68,7 @@ IsWithinInputLimit w piece = w.offset + length piece ≤ input_limit
 
 -- what holds after an event: no more events were yielded than octets taken, and each of these belongs to an event
 pub record HasYieldedEvent (w : WalkerState) : Type 0 where
-  pub fewer_events : w.events ≤ w.offset
+  pub within : w.events ≤ w.offset
   pub after_event : IsAfterEvent w.phase
 
 -- no octet was refused
@@ -80,5 +80,5 @@ abbrev pub IfRefused : WalkerState → (Fault → Type 0) → Type 0
 IfRefused w P = (f : Fault) → w.phase ≡ Refused f → P f
 
 -- the first of the named offsets that is not known to be a wrapper's
-abbrev pub unused_of : WalkerState → Option ℕ
-unused_of w = slice_get w.framing.inside w.wrapper_count
+abbrev pub unused_offset : WalkerState → Option ℕ
+unused_offset w = slice_get w.framing.inside w.wrapper_count

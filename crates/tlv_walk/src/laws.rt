@@ -7,16 +7,16 @@ ghost use Rattle.tlv_walk.specs.Ending.{IsEnding};
 ghost use Rattle.tlv_walk.specs.Events.{AreEqualJoined, EventValue, single_octets};
 ghost use Rattle.tlv_walk.specs.Follow.{effect_of};
 ghost use Rattle.tlv_walk.specs.Forest.{Forest, is_whole};
-ghost use Rattle.tlv_walk.specs.Laws.{EventsGoOn, FaultsAreFinal, FaultsAreRight, PrefixesAreOpen};
+ghost use Rattle.tlv_walk.specs.Laws.{EventsGoOn, FaultsAreFinal, FaultsAreRight, PrefixesKeepRules};
 ghost use Rattle.tlv_walk.specs.Laws.{OctetsHaveOneEnding, OctetsHaveOneReading, SpellingsAreExact};
-ghost use Rattle.tlv_walk.specs.Place.{IsOpen, top_place};
+ghost use Rattle.tlv_walk.specs.Place.{KeepsRules, top_place};
 ghost use Rattle.tlv_walk.specs.Reading.{IsSound, IsSoundList};
 
 use crate::Follow;
 
 /// Wherever an open forest is cut off, what is left is an open forest.
-pub fn prefixes_are_open()
-    ensures { PrefixesAreOpen }
+pub fn prefixes_keep_rules()
+    ensures { PrefixesKeepRules }
 {}
 
 /// Octets can be read in one way only: two open forests at one place that have one spelling are
@@ -67,7 +67,7 @@ pub fn joined_is_apart()
 /// A sound list is an open forest in which nothing is open.
 pub fn sound_is_whole()
     ensures { (framing : Framing) (f : Forest)
-        → IsSound (top_place framing) f ↔ (IsOpen (top_place framing) f × (is_whole f ≡ true)) }
+        → IsSound (top_place framing) f ↔ (KeepsRules (top_place framing) f × (is_whole f ≡ true)) }
 {}
 
 /// Nothing that a follower does shows how contents and padding were cut into pieces: of events that

@@ -2,9 +2,9 @@
 ghost use Rattle.std.specs.Prelude.{◌≡◌, [], IfOk};
 ghost use Rattle.tlv_walk.specs.HasEffect.{ReturnsEffect};
 ghost use Rattle.tlv_walk.specs.Private.ResultOfPause.{IsResultOfPause, run_of};
-ghost use Rattle.tlv_walk.specs.Private.FollowsPiece.{FollowsAndFlushes, FollowsPart, FollowsPiece, follow_states};
-ghost use Rattle.tlv_walk.specs.Private.WalkerState.{CanPass};
-ghost use Rattle.tlv_walk.specs.Stands.{CanTake};
+ghost use Rattle.tlv_walk.specs.Private.FollowsPiece.{FollowsAndFlushes, FollowsPrefix, FollowsPiece, follow_states};
+ghost use Rattle.tlv_walk.specs.Private.WalkerCalls.{CanPass};
+ghost use Rattle.tlv_walk.specs.Stands.{IsReady};
 ghost use Rattle.tlv_walk.specs.WalkerState.{IsWithinInputLimit};
 ghost use Rattle.tlv_io.specs.Out.{Puts, held_octets, drain_of};
 ghost use Rattle.tlv_walk.specs.Events.{event_value_of};
@@ -97,7 +97,7 @@ fn result_of_pause(
     read: usize,
     followed: usize,
 ) -> Result<Turn, DeviceFault>
-    requires { pause ≡ Pause.UsedUp → CanTake walker.now }
+    requires { pause ≡ Pause.UsedUp → IsReady walker.now }
     ensures { IsResultOfPause read followed walker.now pause result }
 {
     match pause {
@@ -194,7 +194,7 @@ fn follow_primitive<F: Follow, D: Drain>(
     out: &mut Out<'_, D>,
 ) -> Result<bool, WriteFault>
     requires { IsWithinInputLimit walker.old piece.old.now }
-    ensures { FollowsPart F.next D.state
+    ensures { FollowsPrefix F.next D.state
         (follow_states walker.old follower.old out.old)
         (follow_states walker.new follower.new out.new)
         piece.old.now piece.new.now result }
@@ -222,7 +222,7 @@ fn follow_found<F: Follow, D: Drain>(
 ) -> Result<bool, WriteFault>
     requires can { CanPass walker.old piece.old.now primitive.now }
     requires limit { IsWithinInputLimit walker.old piece.old.now }
-    ensures { FollowsPart F.next D.state
+    ensures { FollowsPrefix F.next D.state
         (follow_states walker.old follower.old out.old)
         (follow_states walker.new follower.new out.new)
         piece.old.now piece.new.now result }

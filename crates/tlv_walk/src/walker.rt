@@ -64,10 +64,10 @@ impl Model for Walker {
 impl Walker {
     ghost use Rattle.std.specs.Prelude.{[], false};
     ghost use Rattle.tlv_walk.specs.Phase as phases;
-    ghost use Rattle.tlv_walk.specs.WalkerState.{IfRefused, IsWithinInputLimit, new_walker, unused_of};
+    ghost use Rattle.tlv_walk.specs.WalkerState.{IfRefused, IsWithinInputLimit, new_walker, unused_offset};
     ghost use Rattle.tlv_walk.specs.Ending.{IsEnding, ShowsSoundness, fault_at};
     ghost use Rattle.tlv_walk.specs.Depth.{depth_of};
-    ghost use Rattle.tlv_walk.specs.Stands.{CanTake, IsIdle, Stands};
+    ghost use Rattle.tlv_walk.specs.Stands.{IsReady, IsIdle, Stands};
     ghost use Rattle.tlv_walk.specs.Wrappers.{first_without_wrapper};
     ghost use Rattle.tlv_walk.specs.StepsTo.{RefusesAgain, StepsTo};
     ghost use Rattle.tlv_walk.specs.HasRead.{IfAtEnd, IfRead};
@@ -78,7 +78,7 @@ impl Walker {
     pub fn new(framing: &Framing) -> Walker
         ensures state { result ≡ new_walker framing.now }
         ensures stands { Stands result [] [] }
-        ensures ready { CanTake result }
+        ensures ready { IsReady result }
     {
         Walker {
             stack: Stack::new(),
@@ -122,7 +122,7 @@ impl Walker {
 
     /// The first of the named offsets at which no string that holds encodings was found.
     pub fn unused(&self) -> Option<u64>
-        ensures value { result ≡ unused_of self.now }
+        ensures value { result ≡ unused_offset self.now }
         ensures first { IfRead self.now
             (λ b f. result ≡ first_without_wrapper self.now.framing.inside f) }
     {
@@ -152,7 +152,7 @@ impl Walker {
         if let Phase::Refused(fault) = &self.phase {
             return Ending::Fault(*fault);
         }
-        if !self.is_outermost() {
+        if !self.has_nothing_open() {
             return self.ended_by(FaultCode::Short);
         }
         if self.has_element {
@@ -162,7 +162,7 @@ impl Walker {
     }
 
     /// Whether nothing is open.
-    fn is_outermost(&self) -> bool
+    fn has_nothing_open(&self) -> bool
         ensures { IsTrue result ↔ ((self.now.phase ≡ phases.Between) × (self.now.stack ≡ [])) }
     {
         match &self.phase {

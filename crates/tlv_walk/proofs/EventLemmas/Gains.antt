@@ -7,7 +7,7 @@ use Rattle.tlv_head.specs.declared.fault.FaultCode.TheVariants.{BadEnd, BadInsid
 use Rattle.tlv_head.specs.Header.{HeaderValue, announced_length, octets_of}
 use Rattle.tlv_walk.specs.Forest.{Forest, NoMore, PaddingOctet, Primitive, Holder, OpenPrimitive, OpenHolder}
 use Rattle.tlv_walk.specs.Forest.{OpenBitString, OpenHeader, OpenEndOctets, extent, lead}
-use Rattle.tlv_walk.specs.Place.{IsOpen, Place, place_after, place_of_children}
+use Rattle.tlv_walk.specs.Place.{KeepsRules, Place, place_after, place_of_children}
 use Rattle.tlv_walk.specs.Events.{Begin, Bytes, End, Enter, EventValue, Pad, Unused, closing_event, events}
 use Rattle.tlv_walk.specs.Events.{opening_events, single_octets}
 use Rattle.tlv_walk.proofs.GrammarLemmas.Bounds.{fits}
@@ -127,7 +127,7 @@ open_bit_string-brings h x e = elim (cases_Bool (eqb x 0)) [
 ]
 
 -- the events of the forest pushed are those before, and then those that the octet brings
-pub push-brings : (p : Place) (f : Forest) (x : ℕ) → IsOpen p f → Brings (events f ++ gain_events p f x) (push p f x)
+pub push-brings : (p : Place) (f : Forest) (x : ℕ) → KeepsRules p f → Brings (events f ++ gain_events p f x) (push p f x)
 push-brings p NoMore x w = step-brings (push p NoMore x)
 push-brings p (PaddingOctet rest) x w =
     follow-brings PaddingOctet (Pad (0 ∷ []) ∷ []) (events rest) _ _ (λ g. refl)

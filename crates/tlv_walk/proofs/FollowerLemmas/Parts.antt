@@ -19,9 +19,9 @@ use Rattle.tlv_walk.specs.FollowsEvents.{FollowsEvents}
 use Rattle.tlv_walk.specs.HasEffect.{HasEffect, HasEffectOrNone}
 use Rattle.tlv_walk.specs.WalkerState.{WalkerState}
 use Rattle.tlv_io.specs.Out.{Puts}
-use Rattle.tlv_walk.specs.Private.FollowsPiece.{FollowsPart, FollowsPiece, BeginEventsOf, TakesNone, TakesPart}
-use Rattle.tlv_walk.specs.Private.FollowsPiece.{TakesPartOrNone, FollowStates, WalksOver}
-use Rattle.tlv_walk.specs.Private.WalkerState.{CanPass, Passes, header_at}
+use Rattle.tlv_walk.specs.Private.FollowsPiece.{FollowsPrefix, FollowsPiece, BeginEventsOf, TakesNone, TakesPrefix}
+use Rattle.tlv_walk.specs.Private.FollowsPiece.{TakesPrefixOrNone, FollowStates, WalksOver}
+use Rattle.tlv_walk.specs.Private.WalkerCalls.{CanPass, Passes, header_at}
 use Rattle.tlv_walk.specs.Private.Yields.{YieldsEvents}
 use Rattle.tlv_walk.proofs.FollowerLemmas.Following.{HasFollowed, made_both, made_put, walked_both, walked_goes_on}
 use Rattle.tlv_walk.proofs.WalkerLemmas.Passing.{walker_after_primitive, yields_primitive}
@@ -60,7 +60,7 @@ module _ {S : Type 0} (next : S → EventValue → Effect S) where
     -- the drain failed after what was followed
     pub fails_part : (x y z : FollowStates S D) (piece rest left : List ℕ) (e f : WriteFault)
         → HasFollowed next state_of x y piece rest go.On
-        → FollowsPart next state_of y z rest left (Err e) → FollowsPiece next state_of x z piece (Err f)
+        → FollowsPrefix next state_of y z rest left (Err e) → FollowsPiece next state_of x z piece (Err f)
     fails_part x y z piece rest left e f h p = record {
       more = h.more ++ p.more;
       pauses = record {
@@ -101,7 +101,7 @@ module _ {S : Type 0} (next : S → EventValue → Effect S) where
         x.out y.out x.follower y.follower (Ok r)
         → YieldsEvents x.walker y.walker piece rest (whole_events (header_at p piece) (take p.octet_count piece))
         → Passes x.walker y.walker piece rest
-        → FollowsPart next state_of x y piece rest (Ok true)
+        → FollowsPrefix next state_of x y piece rest (Ok true)
     part_whole x y piece rest p h r same followed effect yields passes =
         let all : List EventValue = whole_events h (take p.octet_count piece) in
         let some = effect_some (effect_of next x.follower all) x.out y.out x.follower y.follower r followed effect in
@@ -126,7 +126,7 @@ module _ {S : Type 0} (next : S → EventValue → Effect S) where
     pub part_left : (x y : FollowStates S D) (piece : List ℕ) (made : Effect S) (r : Bool)
         → r ≡ false → y.walker ≡ x.walker
         → HasEffectOrNone state_of made x.out y.out x.follower y.follower (Ok r)
-        → FollowsPart next state_of x y piece piece (Ok false)
+        → FollowsPrefix next state_of x y piece piece (Ok false)
     part_left x y piece made r left same effect =
         let none = effect_none made x.out y.out x.follower y.follower r left effect in
         record {
@@ -141,7 +141,7 @@ module _ {S : Type 0} (next : S → EventValue → Effect S) where
         → CanPass x.walker piece p → h ≡ header_at p piece
         → HasEffectOrNone state_of (whole_effect next x.follower h (take p.octet_count piece))
         x.out y.out x.follower y.follower (Err e)
-        → FollowsPart next state_of x y piece rest (Err f)
+        → FollowsPrefix next state_of x y piece rest (Err f)
     part_fails x y piece rest p h e f can same effect = record {
       more = whole_events h (take p.octet_count piece);
       takes = record {
@@ -160,21 +160,21 @@ module _ {S : Type 0} (next : S → EventValue → Effect S) where
     -- ---- a part after what was followed
 
     part_some : (y z : FollowStates S D) (rest left : List ℕ) (more : List EventValue) (k : Bool) → k ≡ true
-        → TakesPartOrNone next y z rest left more (Ok k) → TakesPart next y z rest left more
+        → TakesPrefixOrNone next y z rest left more (Ok k) → TakesPrefix next y z rest left more
     part_some y z rest left more true e p = p
     part_some y z rest left more false e p = absurd (true≢false (sym e))
 
     part_none : (y z : FollowStates S D) (rest left : List ℕ) (more : List EventValue) (k : Bool) → k ≡ false
-        → TakesPartOrNone next y z rest left more (Ok k) → TakesNone next y z rest left more
+        → TakesPrefixOrNone next y z rest left more (Ok k) → TakesNone next y z rest left more
     part_none y z rest left more false e p = p
     part_none y z rest left more true e p = absurd (true≢false e)
 
     -- it was followed
     pub follows_part : (x y z : FollowStates S D) (piece rest left : List ℕ) (k : Bool)
         → HasFollowed next state_of x y piece rest go.On → k ≡ true
-        → FollowsPart next state_of y z rest left (Ok k) → HasFollowed next state_of x z piece left go.On
+        → FollowsPrefix next state_of y z rest left (Ok k) → HasFollowed next state_of x z piece left go.On
     follows_part x y z piece rest left k h e p =
-        let t : TakesPart next y z rest left p.more = part_some y z rest left p.more k e p.takes in record {
+        let t : TakesPrefix next y z rest left p.more = part_some y z rest left p.more k e p.takes in record {
           more = h.more ++ p.more;
           follows = record {
             made = made_both next x.follower y.follower z.follower h.more p.more go.On h.follows.made t.follows.made;
@@ -191,13 +191,13 @@ module _ {S : Type 0} (next : S → EventValue → Effect S) where
         }
 
     pub part_passes : (y z : FollowStates S D) (rest left : List ℕ) (k : Bool) → k ≡ true
-        → FollowsPart next state_of y z rest left (Ok k) → Passes y.walker z.walker rest left
+        → FollowsPrefix next state_of y z rest left (Ok k) → Passes y.walker z.walker rest left
     part_passes y z rest left k e p = (part_some y z rest left p.more k e p.takes).passes
 
     -- nothing of it was taken
     pub follows_left : (x y z : FollowStates S D) (piece rest left : List ℕ) (k : Bool)
         → HasFollowed next state_of x y piece rest go.On → k ≡ false
-        → FollowsPart next state_of y z rest left (Ok k) → HasFollowed next state_of x z piece left go.On
+        → FollowsPrefix next state_of y z rest left (Ok k) → HasFollowed next state_of x z piece left go.On
     follows_left x y z piece rest left k h e p =
         let n : TakesNone next y z rest left p.more = part_none y z rest left p.more k e p.takes in record {
           more = h.more;
@@ -216,7 +216,7 @@ module _ {S : Type 0} (next : S → EventValue → Effect S) where
         }
 
     pub left_walked : (y z : FollowStates S D) (rest left : List ℕ) (k : Bool) → k ≡ false
-        → FollowsPart next state_of y z rest left (Ok k)
+        → FollowsPrefix next state_of y z rest left (Ok k)
         → z.walker.offset + length left ≡ y.walker.offset + length rest
     left_walked y z rest left k e p =
         let n : TakesNone next y z rest left p.more =

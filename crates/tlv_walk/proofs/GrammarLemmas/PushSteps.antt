@@ -10,7 +10,7 @@ use Rattle.tlv_walk.specs.Forest.{Forest, Holder, NoMore, OpenBitString, OpenEnd
 use Rattle.tlv_walk.specs.Forest.{OpenPrimitive, PaddingOctet, Primitive, contents_length, extent, is_whole, lead}
 use Rattle.tlv_walk.specs.Forest.{spelling}
 use Rattle.tlv_walk.specs.Inside.{is_among}
-use Rattle.tlv_walk.specs.Place.{Fits, IsElementAt, IsOpen, Place, place_after, place_of_children}
+use Rattle.tlv_walk.specs.Place.{Fits, IsElementAt, KeepsRules, Place, place_after, place_of_children}
 use Rattle.tlv_walk.proofs.GrammarLemmas.Lengths.{HasLength}
 use Rattle.tlv_walk.proofs.GrammarLemmas.Bounds.{fits, has_length}
 
@@ -109,12 +109,12 @@ push p OpenEndOctets x = cond (fits p 2) (cond (eqb x 0) (Ended NoMore) (Refused
 
 -- an open forest there spells the octets
 pub record Spells (p : Place) (o : List ℕ) (g : Forest) : Type 0 where
-  pub is_open : IsOpen p g
+  pub keeps_rules : KeepsRules p g
   pub spelled : spelling g ≡ o
 
 -- the octets are whole elements and the end-of-contents octets
 pub record Ends (p : Place) (o : List ℕ) (g : Forest) : Type 0 where
-  pub is_open : IsOpen p g
+  pub keeps_rules : KeepsRules p g
   pub whole : is_whole g ≡ true
   pub indefinite : p.indefinite ≡ true
   pub spelled : spelling g ++ 0 ∷ 0 ∷ [] ≡ o

@@ -14,13 +14,13 @@ use Rattle.tlv_head.specs.Push as push
 use Rattle.tlv_head.specs.Push.{Completes, IsRefusedPush}
 use Rattle.tlv_head.proofs.ReaderLemmas.Prefix.{header-two}
 use Rattle.tlv_walk.specs.Phase as phase
-use Rattle.tlv_walk.specs.Ending.{IsEnding, IsFault, fault_ending, no_room, open_end, overrun, refused_octet, too_deep}
+use Rattle.tlv_walk.specs.Ending.{IsEnding, IsRefusedAt, fault_ending, no_room, open_end, overrun, refused_octet, too_deep}
 use Rattle.tlv_walk.specs.Forest.{OpenHeader}
 use Rattle.tlv_walk.specs.Events.{EventValue}
 use Rattle.tlv_walk.specs.Inside.{is_among}
 use Rattle.tlv_walk.specs.WalkerState.{WalkerState}
 use Rattle.tlv_walk.specs.Place.{Fits, IsHeaderAt, IsWithin, Place}
-use Rattle.tlv_walk.specs.Private.ReadsOn.{HandsOver}
+use Rattle.tlv_walk.specs.Private.HandsOver.{HandsOver}
 use Rattle.tlv_walk.specs.Stack.{FrameValue, bound_of}
 use Rattle.tlv_walk.specs.Private.Stack.{room_to}
 use Rattle.tlv_walk.specs.Private.Zipper.{HasZipper, HeaderTail, Zipper, place_of}
@@ -69,12 +69,12 @@ refused-some code r x room depth (push.overrun left h completes shallow past) so
 -- ---- what a reader refuses is a fault there
 
 -- the contents end past the bound
-past_bound : (size : Size) (b : Option ℕ) (n m : ℕ) → (ContentsFit size (room_to b n) → ⊥)
+beyond_bound : (size : Size) (b : Option ℕ) (n m : ℕ) → (ContentsFit size (room_to b n) → ⊥)
     → n + 1 + announced_length size ≤ m → IsWithin b m → ⊥
-past_bound (Definite k) None n m past h f = past tt
-past_bound Indefinite None n m past h f = past tt
-past_bound (Definite k) (Some b) n m past h f = past (omega arith)
-past_bound Indefinite (Some b) n m past h f = past (omega arith)
+beyond_bound (Definite k) None n m past h f = past tt
+beyond_bound Indefinite None n m past h f = past tt
+beyond_bound (Definite k) (Some b) n m past h f = past (omega arith)
+beyond_bound Indefinite (Some b) n m past h f = past (omega arith)
 
 -- where a reader is
 pub record IsReader (p : Place) (q : HeadReaderState) (room : Option ℕ) (depth : ℕ) : Type 0 where
@@ -103,7 +103,7 @@ room_there p q room depth k some =
 
 -- each cause of a reader is a line of the faults
 pub refused_fault : (p : Place) (q : HeadReaderState) (room : Option ℕ) (depth x : ℕ) (code : FaultCode)
-    → IsReader p q room depth → IsRefusedPush q x room depth code → IsFault x (open_end p (OpenHeader q.octets)) code
+    → IsReader p q room depth → IsRefusedPush q x room depth code → IsRefusedAt (open_end p (OpenHeader q.octets)) x code
 refused_fault p q room depth x code k (push.no_room none) =
     no_room
     (left_none p.bound (p.offset + length q.octets) (p.offset + (length q.octets + 1)) (sym k.left ∙ none)
@@ -118,7 +118,7 @@ refused_fault p q room depth x code k (push.overrun left h completes shallow pas
     overrun (room_there p q room depth k left) h (header_there p q room depth x h (holds h) refl k completes)
     completes.octets
     (λ e. subst (λ (n : ℕ). n < 128) k.depths (shallow e))
-    (past_bound h.size p.bound (p.offset + length q.octets) _ (λ f. past (subst (ContentsFit h.size) (sym k.left) f))
+    (beyond_bound h.size p.bound (p.offset + length q.octets) _ (λ f. past (subst (ContentsFit h.size) (sym k.left) f))
     (omega (arith, ap length completes.octets, length-append q.octets (x ∷ []))))
 
 -- ---- a walker refuses it
@@ -169,7 +169,7 @@ refuses_header w u r q piece rest others x depth offset f over k e within place 
           let left : room_to (bound_of u.stack) offset ≡ room_to (bound_of w.stack) (q.offset + length q.octets) =
           ap (λ (fs : List FrameValue). room_to (bound_of fs) offset) same
           ∙ ap (room_to (bound_of w.stack)) (sym place) in
-          let faulty : IsFault x (open_end (place_of w.framing t.state) (OpenHeader q.octets)) f.code =
+          let faulty : IsRefusedAt (open_end (place_of w.framing t.state) (OpenHeader q.octets)) x f.code =
           refused_fault _ q _ depth x f.code
           (reader_there (in_header w q) (b ++ k.taken) yielded t.state q depth refl has' (deep ∙ ap length same))
           (subst (λ (o : Option ℕ). IsRefusedPush q x o depth f.code) left refused) in record {

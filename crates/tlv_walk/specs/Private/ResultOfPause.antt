@@ -11,17 +11,17 @@ use Rattle.tlv_walk.specs.declared.one_turn.Pause.{Pause}
 use Rattle.tlv_walk.specs.declared.one_turn.Pause.TheVariants as pause
 use Rattle.tlv_walk.specs.Ending.{IsEnding}
 use Rattle.tlv_walk.specs.Events.{EventValue}
-use Rattle.tlv_walk.specs.WalkerState.{WalkerState, unused_of}
+use Rattle.tlv_walk.specs.WalkerState.{WalkerState, unused_offset}
 use Rattle.tlv_walk.specs.Stands.{Stands}
 
 -- the run of a walker, with this ending
 abbrev pub run_of : WalkerState → Ending → Bool → Run
 run_of w e enough =
-    record { ending = e; octets = w.offset; enough = enough; unused = unused_of w }
+    record { ending = e; octets = w.offset; enough = enough; unused = unused_offset w }
 
 -- the run of a walker that is after the last octet of the input
-abbrev pub IsLastRun : Run → WalkerState → Type 0
-IsLastRun run w = (e : Ending) × (run ≡ run_of w e false)
+abbrev pub IsRunAtEnd : Run → WalkerState → Type 0
+IsRunAtEnd run w = (e : Ending) × (run ≡ run_of w e false)
     × ((o : List ℕ) (yielded : List EventValue) → Stands w o yielded → IsEnding w.framing o e)
 
 -- what a turn returns after this pause of a walker, if it read so many octets, and followed so many of them
@@ -29,6 +29,6 @@ abbrev pub IsResultOfPause : ℕ → ℕ → WalkerState → Pause → Result Tu
 IsResultOfPause read followed w pause.Enough (Ok (Ended run)) = run ≡ run_of w ending.Done true
 IsResultOfPause read followed w (pause.Fault f) (Ok (Ended run)) = run ≡ run_of w (ending.Fault f) false
 IsResultOfPause read followed w pause.UsedUp (Err InputTooLong) = followed < read
-IsResultOfPause read followed w pause.UsedUp (Ok (Ended run)) = (followed < read → ⊥) × (read ≡ 0) × IsLastRun run w
+IsResultOfPause read followed w pause.UsedUp (Ok (Ended run)) = (followed < read → ⊥) × (read ≡ 0) × IsRunAtEnd run w
 IsResultOfPause read followed w pause.UsedUp (Ok Again) = (followed < read → ⊥) × (read ≡ 0 → ⊥)
 IsResultOfPause read followed w why result = ⊥

@@ -13,7 +13,7 @@ use Rattle.tlv_walk.specs.Inside.{can_name, is_among}
 use Rattle.tlv_walk.specs.WalkerState.{WalkerState}
 use Rattle.tlv_walk.specs.Private.WrapperCount.{wrapper_count_after}
 use Rattle.tlv_walk.specs.Private.Stack.{frame_with}
-use Rattle.tlv_walk.specs.Place.{Fits, IsAnnouncedAt, IsHeaderAt, IsOpen, Place, place_after, place_of_children}
+use Rattle.tlv_walk.specs.Place.{Fits, IsAnnouncedAt, IsHeaderAt, KeepsRules, Place, place_after, place_of_children}
 use Rattle.tlv_walk.specs.Place.{top_place}
 use Rattle.tlv_walk.specs.Wrappers.{entered_offsets}
 
@@ -52,7 +52,7 @@ place_of framing s = place_after (place_in framing s.layers) (length (spelling s
 
 -- whole elements are there, and nothing is open
 pub record AreWhole (p : Place) (f : Forest) : Type 0 where
-  pub is_open : IsOpen p f
+  pub keeps_rules : KeepsRules p f
   pub whole : is_whole f ≡ true
 
 -- each layer's elements are whole, and its header may be after them
@@ -89,10 +89,10 @@ stack_of framing ls p EndOctetsTail = frames_of framing ls
 abbrev pub IsPhaseOf : PhaseValue → Tail → Place → Type 0
 IsPhaseOf phase.Between NoTail p = Unit {0}
 IsPhaseOf (phase.InHeader r) (HeaderTail octets) p =
-    (r.octets ≡ octets) × (r.offset ≡ p.offset) × (r.named ≡ is_among p.offset p.inside) × IsOpen p (OpenHeader octets)
+    (r.octets ≡ octets) × (r.offset ≡ p.offset) × (r.named ≡ is_among p.offset p.inside) × KeepsRules p (OpenHeader octets)
 IsPhaseOf (phase.InPrimitive left) (PrimitiveTail h c) p = IsContents p h c left
-IsPhaseOf phase.InBitString (BitStringTail h) p = IsOpen p (OpenBitString h)
-IsPhaseOf phase.InEndOctets EndOctetsTail p = IsOpen p OpenEndOctets
+IsPhaseOf phase.InBitString (BitStringTail h) p = KeepsRules p (OpenBitString h)
+IsPhaseOf phase.InEndOctets EndOctetsTail p = KeepsRules p OpenEndOctets
 IsPhaseOf f t p = ⊥
 
 -- the octets

@@ -24,13 +24,13 @@ use Rattle.tlv_walk.specs.Stack.{bound_of}
 use Rattle.tlv_walk.specs.Place.{IsWithin}
 use Rattle.tlv_walk.specs.Private.Stack.{frame_with, room_in}
 use Rattle.tlv_walk.specs.Private.WrapperCount.{next_wrapper_count}
-use Rattle.tlv_walk.specs.Stands.{CanTake}
+use Rattle.tlv_walk.specs.Stands.{IsReady}
 use Rattle.tlv_walk.specs.Events.{IsNoEmptyPart}
 use Rattle.tlv_walk.specs.WalkerState.{HasYieldedEvent, WalkerState}
 use Rattle.tlv_head.specs.InputLimit.{input_limit}
 
 -- an event was yielded, and the walker is at this offset
-pub record YieldsAt (old new : WalkerState) (end : ℕ) : Type 0 where
+pub record CountsAt (old new : WalkerState) (end : ℕ) : Type 0 where
   pub offset : new.offset ≡ end
   pub events : new.events ≡ old.events + 1
   pub has_yielded : HasYieldedEvent new
@@ -61,11 +61,11 @@ CanRead w piece = CanBegin w piece ⊎ (HasBegunHeader w.phase × (piece ≢ [])
 pub record CanReadOn (w : WalkerState) (r : HeadReaderState) (piece : List ℕ) : Type 0 where
   pub unfinished : r.done ≡ false
   pub end : r.offset + length r.octets ≡ w.offset
-  pub fewer : w.events + length w.stack ≤ r.offset
+  pub counted : w.events + length w.stack ≤ r.offset
   pub first : (r.octets ≢ []) ⊎ CanBegin w piece
 
 -- as many octets were taken as left the piece, and one event was yielded
-pub record YieldsOne (old new : WalkerState) (piece rest : List ℕ) : Type 0 where
+pub record CountsOne (old new : WalkerState) (piece rest : List ℕ) : Type 0 where
   pub counts : new.offset + length rest ≡ old.offset + length piece
   pub events : new.events ≡ old.events + 1
   pub has_yielded : HasYieldedEvent new
@@ -75,7 +75,7 @@ pub record TakesAll (old new : WalkerState) (piece rest : List ℕ) : Type 0 whe
   pub counts : new.offset ≡ old.offset + length piece
   pub none_left : rest ≡ []
   pub events : new.events ≡ old.events
-  pub ready : CanTake new
+  pub ready : IsReady new
 
 -- an octet was refused, and what is open stays open
 pub record Refuses (old new : WalkerState) (piece rest : List ℕ) (fault : FaultOf) : Type 0 where
@@ -88,19 +88,19 @@ pub record Refuses (old new : WalkerState) (piece rest : List ℕ) (fault : Faul
 
 -- what a step makes of the offset, the count of events and the phase
 abbrev pub CountsStep : WalkerState → WalkerState → List ℕ → List ℕ → Step → Type 0
-CountsStep old new piece rest (step.Event e) = YieldsOne old new piece rest × IsNoEmptyPart e
+CountsStep old new piece rest (step.Event e) = CountsOne old new piece rest × IsNoEmptyPart e
 CountsStep old new piece rest step.NeedMore = TakesAll old new piece rest
 CountsStep old new piece rest (step.Fault f) = Refuses old new piece rest f
 
 -- the same of an event that came at once; nothing, if none came
 abbrev pub CountsAtOnce : WalkerState → WalkerState → List ℕ → List ℕ → Option Event → Type 0
-CountsAtOnce old new piece rest (Some e) = YieldsOne old new piece rest × IsNoEmptyPart e
+CountsAtOnce old new piece rest (Some e) = CountsOne old new piece rest × IsNoEmptyPart e
 CountsAtOnce old new piece rest None = (new ≡ old) × (rest ≡ piece)
 
 -- a header that may be there, and of which the walker has taken a part at most
 pub record CanTakeHeader (w : WalkerState) (h : HeaderValue) : Type 0 where
   pub valid : IsHeader h
-  pub fewer : w.events + length w.stack ≤ h.offset
+  pub counted : w.events + length w.stack ≤ h.offset
   pub limit : h.offset + length (octets_of h) ≤ input_limit
   pub shallow : holds h ≡ true → length w.stack < 128
   pub fits : IsWithin (bound_of w.stack) (h.offset + length (octets_of h) + announced_length h.size)
