@@ -11,7 +11,7 @@ use Rattle.tlv_walk.specs.LongerInputs.{ForLongerInputs}
 use Rattle.tlv_cut.specs.IndefText.{indef_text}
 use Rattle.tlv_cut.specs.IndefStep.{IndefState, indef_step}
 use Rattle.tlv_cut.specs.IndefJob.{indef_framing}
-use Rattle.tlv_cut.specs.IndefReading.{indef_reading}
+use Rattle.tlv_cut.specs.IndefReading.{IsReadBack, indef_reading}
 
 -- of the events of elements an `Indef` makes what `indef` writes, and it wants more
 abbrev pub IndefMakesItsText : Type 0
@@ -30,9 +30,7 @@ IndefTextKeepsRules = (padding : Bool) (f : Forest) → KeepsRules (top_place (i
 -- what is written is read as those elements, and of these the same octets are written again
 abbrev pub IndefTextIsReadBack : Type 0
 IndefTextIsReadBack = (padding : Bool) (b : List ℕ) (f : Forest)
-    → IsReading (indef_framing padding) b f
-    → IsReading (indef_framing padding) (indef_text f) (indef_reading f)
-    × (indef_text (indef_reading f) ≡ indef_text f)
+    → IsReading (indef_framing padding) b f → IsReadBack padding f (indef_text f)
 
 -- if an input ends without a fault, so does what is written for it
 abbrev pub IndefTextIsDone : Type 0

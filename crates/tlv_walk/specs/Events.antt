@@ -1,5 +1,5 @@
 -- What a walk over elements yields, in order.
-use Rattle.std.specs.Prelude.{◌≡◌, ◌≢◌, ℕ, ◌+◌, if◌then◌else◌, List, [], ◌∷◌, ◌++◌, length, map, Option, Some, None}
+use Rattle.std.specs.Prelude.{◌≡◌, ◌≢◌, ℕ, ◌+◌, if◌then◌else◌, List, [], ◌∷◌, ◌++◌, flat_map, length, map, Option, Some, None}
 use Rattle.tlv_head.specs.declared.header.Size.{Size}
 use Rattle.tlv_head.specs.declared.header.Size.TheVariants.{Definite, Indefinite}
 use Rattle.tlv_head.specs.Header.{HeaderValue, octets_of}
@@ -35,6 +35,10 @@ event_octets (Pad octets) = octets
 event_octets Unused = 0 ∷ []
 event_octets (Close (Some offset)) = 0 ∷ 0 ∷ []
 event_octets e = []
+
+-- the octets that events are of
+abbrev pub octets_of_events : List EventValue → List ℕ
+octets_of_events es = flat_map event_octets es
 
 -- an event of the code, as such a value
 abbrev pub event_value_of : Event → EventValue

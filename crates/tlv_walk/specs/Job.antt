@@ -50,6 +50,10 @@ EndsWith framing octets true e = e ≡ ending.Done
 EndsWith framing octets false e = IsEnding framing octets e
 
 module _ {A : Type 0} (job : Job A) where
+  -- of the octets that were given, those that are read as encodings: no more than the limit
+  abbrev pub octets_read : List ℕ → List ℕ
+  octets_read given = take job.limit given
+
   -- the octets hold no fault, and after them more is wanted
   abbrev pub WantMore : List ℕ → Type 0
   WantMore octets = (f : Forest) × IsReading job.framing octets f × (spelling f ≡ octets) × (job.is_enough f ≡ false)
@@ -65,16 +69,16 @@ module _ {A : Type 0} (job : Job A) where
     -- there was enough
     at_enough : job.is_enough f ≡ true → ComesTo given f new (Ok (job.result f ending.Done))
     -- an octet is refused, whatever follows
-    at_fault : (e : Ending) → HasEnding (take job.limit given) f e → IsFinalEnding e
+    at_fault : (e : Ending) → HasEnding (octets_read given) f e → IsFinalEnding e
         → ComesTo given f new (Ok (job.result f e))
     -- the source has ended
-    at_input_end : (e : Ending) → HasEnding (take job.limit given) f e → new.last ≡ gave 0 → IsAtEnd new.left
+    at_input_end : (e : Ending) → HasEnding (octets_read given) f e → new.last ≡ gave 0 → IsAtEnd new.left
         → ComesTo given f new (Ok (job.result f e))
     -- a device failed
     read_failed : new.last ≡ failed → ComesTo given f new (Err ReadFailed)
     write_failed : ComesTo given f new (Err WriteFailed)
     -- the source gave more octets than the limit, and those up to it were no reason to stop
-    too_long : job.limit < length given → WantMore (take job.limit given) → ComesTo given f new (Err InputTooLong)
+    too_long : job.limit < length given → WantMore (octets_read given) → ComesTo given f new (Err InputTooLong)
 
   -- a source was read to its end, to a fault or to enough, and what that makes was sent to a drain
   pub record Runs (old new : DeviceStates) (result : Result A DeviceFault) : Type 0 where
@@ -85,6 +89,6 @@ module _ {A : Type 0} (job : Job A) where
     pub within : length (concat pieces.pieces) ≤ job.limit
     -- no more octets are read as encodings than the limit
     pub reading : Forest
-    pub is_reading : IsReading job.framing (take job.limit (octets_given pieces)) reading
+    pub is_reading : IsReading job.framing (octets_read (octets_given pieces)) reading
     pub sends : Sends old.drain new.drain (job.text reading) (drain_result result)
     pub comes : ComesTo (octets_given pieces) reading new.source result

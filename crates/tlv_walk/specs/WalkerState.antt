@@ -40,18 +40,22 @@ pub record IsInHeader (r : HeadReaderState) (offset : ℕ) : Type 0 where
   pub some : r.octets ≢ []
   pub end : r.offset + length r.octets ≡ offset
 
+-- the least number of octets of which so many events can be yielded and these elements be open: one for each
+abbrev pub least_octets : ℕ → List FrameValue → ℕ
+least_octets events stack = events + length stack
+
 -- by phase, how many more octets were taken than events yielded, at least: one for each open element, those of a header
 -- that has begun, and a first 00. And what is open ends within the bound
 abbrev pub CountsFitPhase : PhaseValue → List FrameValue → ℕ → ℕ → Type 0
-CountsFitPhase Between stack offset events = events + length stack ≤ offset
+CountsFitPhase Between stack offset events = least_octets events stack ≤ offset
 CountsFitPhase (InHeader r) stack offset events =
-    IsInHeader r offset × (events + length stack + length r.octets ≤ offset)
+    IsInHeader r offset × (least_octets events stack + length r.octets ≤ offset)
 CountsFitPhase (InPrimitive left) stack offset events =
-    IsWithin (bound_of stack) (offset + left) × (events + length stack + 1 ≤ offset)
+    IsWithin (bound_of stack) (offset + left) × (least_octets events stack + 1 ≤ offset)
 CountsFitPhase InBitString stack offset events =
-    IsInWrapper stack × IsWithin (bound_of stack) (offset + 1) × (events + length stack ≤ offset)
-CountsFitPhase InEndOctets stack offset events = IsInIndefinite stack × (events + length stack + 1 ≤ offset)
-CountsFitPhase (Refused fault) stack offset events = events + length stack ≤ offset
+    IsInWrapper stack × IsWithin (bound_of stack) (offset + 1) × (least_octets events stack ≤ offset)
+CountsFitPhase InEndOctets stack offset events = IsInIndefinite stack × (least_octets events stack + 1 ≤ offset)
+CountsFitPhase (Refused fault) stack offset events = least_octets events stack ≤ offset
 
 pub record IsWalkerState (w : WalkerState) : Type 0 where
   pub nested : IsNested w.stack

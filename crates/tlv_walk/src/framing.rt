@@ -1,4 +1,5 @@
 //! How an input is to be read.
+use crate::INPUT_LIMIT;
 use arrayvec::ArrayVec;
 use std::marker::Model;
 
@@ -45,7 +46,7 @@ impl Inside {
         let mut named = ArrayVec::new();
         let mut least = 0;
         for &offset in offsets {
-            if named.is_full() || offset < least || offset > 1 << 40 {
+            if named.is_full() || offset < least || offset > INPUT_LIMIT {
                 return None;
             }
             named.push(offset);
@@ -70,6 +71,8 @@ impl Inside {
         self.offsets.get(index).copied()
     }
 
+    /// A copy. `clone` is not called, since its result is that of a call that takes memory, and may be an error; this
+    /// takes none.
     pub(crate) fn copied(&self) -> Inside
         ensures { result ≡ self.now }
     {
@@ -93,6 +96,7 @@ impl Framing {
         }
     }
 
+    /// A copy, which takes no memory and cannot fail, as [`Inside::copied`].
     pub(crate) fn copied(&self) -> Framing
         ensures { result ≡ self.now }
     {

@@ -67,24 +67,24 @@ pub(crate) fn turn_with<F: Follow, S: Source, D: Drain>(
     follower: &mut F,
     source: &mut S,
     out: &mut Out<'_, D>,
-    piece: &mut [u8],
+    room: &mut [u8],
     limit: u64,
 ) -> Result<Turn, DeviceFault>
-    requires can { CanTurn walker.old piece.old limit }
+    requires can { CanTurn walker.old room.old limit }
     requires empty { held_octets out.old ≡ [] }
     ensures read { FollowsOneRead F.next
         (turn_states walker.old follower.old (S.state source.old) (D.state (drain_of out.old).now))
         (turn_states walker.new follower.new (S.state source.new) (D.state (drain_of out.new).now))
-        limit piece.new result }
+        limit room.new result }
     ensures same_reference { (drain_of out.new).ghost_name ≡ (drain_of out.old).ghost_name }
     ensures empty { IfOk result (λ t. t ≡ Turn.Again → held_octets out.new ≡ []) }
 {
-    let Ok(count) = source.read(piece) else {
+    let Ok(count) = source.read(room) else {
         return Err(DeviceFault::ReadFailed);
     };
     let allowed = limit - walker.offset();
     let walked = allowed.min(count as u64) as usize;
-    let Ok(pause) = follow_and_flush(walker, follower, &piece[..walked], out) else {
+    let Ok(pause) = follow_and_flush(walker, follower, &room[..walked], out) else {
         return Err(DeviceFault::WriteFailed);
     };
     result_of_pause(walker, pause, count, walked)

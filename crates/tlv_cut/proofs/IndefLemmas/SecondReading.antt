@@ -10,7 +10,7 @@ use Rattle.tlv_walk.proofs.GrammarLemmas.Readings.{Going, reading-unique, run-re
 use Rattle.tlv_walk.proofs.GrammarLemmas.Sound.{sound-whole}
 use Rattle.tlv_cut.specs.IndefText.{indef_text, with_indefinite_lengths}
 use Rattle.tlv_cut.specs.IndefJob.{indef_framing}
-use Rattle.tlv_cut.specs.IndefReading.{indef_reading}
+use Rattle.tlv_cut.specs.IndefReading.{IsReadBack, indef_reading}
 use Rattle.tlv_cut.proofs.IndefLemmas.Rules.{IsFree, keeps_rules, some, whole}
 use Rattle.tlv_cut.proofs.IndefLemmas.Offsets.{indef_text-again, spelling-with_offsets_from}
 
@@ -25,13 +25,14 @@ indef_text_keeps_rules padding f v =
     (spelling-with_offsets_from 0 (with_indefinite_lengths f), keeps_rules p p f (top_free padding) v)
 
 pub indef_text_is_read_back : (padding : Bool) (b : List ℕ) (f : Forest) → IsReading (indef_framing padding) b f
-    → IsReading (indef_framing padding) (indef_text f) (indef_reading f) × (indef_text (indef_reading f) ≡ indef_text f)
+    → IsReadBack padding f (indef_text f)
 indef_text_is_read_back padding b f r =
-    let o = indef_text_keeps_rules padding f r.keeps_rules in (
-      run-reading (indef_framing padding) (Going (indef_reading f)) (indef_text f)
-          (record { keeps_rules = o.1; spelled = o.0 }),
-      indef_text-again 0 f,
-    )
+    let o = indef_text_keeps_rules padding f r.keeps_rules in record {
+      is_reading =
+          run-reading (indef_framing padding) (Going (indef_reading f)) (indef_text f)
+          (record { keeps_rules = o.1; spelled = o.0 });
+      same_again = indef_text-again 0 f;
+    }
 
 -- what is written for a sound list of encodings has no fault
 sound_again : (padding : Bool) (b : List ℕ) (f : Forest) → IsReading (indef_framing padding) b f → is_whole f ≡ true
@@ -39,7 +40,7 @@ sound_again : (padding : Bool) (b : List ℕ) (f : Forest) → IsReading (indef_
     → IsEnding (indef_framing padding) (indef_text f) Done
 sound_again padding b f r w e =
     let o = indef_text_keeps_rules padding f r.keeps_rules in
-    done (indef_reading f) (indef_text_is_read_back padding b f r).0 o.0 (some 0 f w e) (whole 0 f w)
+    done (indef_reading f) (indef_text_is_read_back padding b f r).is_reading o.0 (some 0 f w e) (whole 0 f w)
 
 pub indef_text_is_done : (padding : Bool) (b : List ℕ) (f : Forest) → IsReading (indef_framing padding) b f
     → IsEnding (indef_framing padding) b Done

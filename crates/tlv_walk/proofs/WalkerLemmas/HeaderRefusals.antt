@@ -154,7 +154,7 @@ refuses_header w u r q piece rest others x depth offset f over k e within place 
       taken = k.taken;
       octet = x;
       others = others;
-      piece_is = k.piece_is ∙ ap (λ (l : List ℕ). k.taken ++ l) e;
+      piece_is = k.piece_is;
       rest_is = e;
       refuses = λ b yielded s has.
           let t : TakenState w u q k.taken b yielded =

@@ -114,8 +114,7 @@ refused_walker old new piece rest f k r b yielded st =
             k.counts,
             st.private_state.has_zipper.offset,
             ap length r.piece_is,
-            ap length r.rest_is,
-            length-append r.taken (r.octet ∷ r.others),
+            length-append r.taken rest,
             length-append b r.taken,
           );
       depth =
@@ -178,10 +177,9 @@ refuses_now old new piece rest f n k r = record {
   takes = record {
     not_refused = n;
     taken = r.taken;
-    piece_is = r.piece_is ∙ ap (λ (o : List ℕ). r.taken ++ o) (sym r.rest_is);
+    piece_is = r.piece_is;
     framing = k.framing;
-    offset =
-        omega (arith, k.counts, ap length r.piece_is, ap length r.rest_is, length-append r.taken (r.octet ∷ r.others));
+    offset = omega (arith, k.counts, ap length r.piece_is, length-append r.taken rest);
     events = omega (arith, k.events);
   };
   octet = r.octet;

@@ -20,13 +20,13 @@ use Rattle.tlv_head.specs.declared.header.HeaderFields.{HeaderFields}
 use Rattle.tlv_walk.specs.declared.walker.quick.WholePrimitive.{WholePrimitive}
 use Rattle.tlv_walk.specs.Inside.{is_among}
 use Rattle.tlv_walk.specs.Phase.{Between, InBitString, InEndOctets, InHeader, InPrimitive, PhaseValue, Refused}
-use Rattle.tlv_walk.specs.Stack.{bound_of}
+use Rattle.tlv_walk.specs.Stack.{FrameValue, bound_of}
 use Rattle.tlv_walk.specs.Place.{IsWithin}
 use Rattle.tlv_walk.specs.Private.Stack.{frame_with, room_in}
 use Rattle.tlv_walk.specs.Private.WrapperCount.{next_wrapper_count}
 use Rattle.tlv_walk.specs.Stands.{IsReady}
 use Rattle.tlv_walk.specs.Events.{IsNoEmptyPart}
-use Rattle.tlv_walk.specs.WalkerState.{HasYieldedEvent, WalkerState}
+use Rattle.tlv_walk.specs.WalkerState.{HasYieldedEvent, WalkerState, least_octets}
 use Rattle.tlv_head.specs.InputLimit.{input_limit}
 
 -- an event was yielded, and the walker is at this offset
@@ -61,12 +61,16 @@ CanRead w piece = CanBegin w piece ⊎ (HasBegunHeader w.phase × (piece ≢ [])
 pub record CanReadOn (w : WalkerState) (r : HeadReaderState) (piece : List ℕ) : Type 0 where
   pub unfinished : r.done ≡ false
   pub end : r.offset + length r.octets ≡ w.offset
-  pub counted : w.events + length w.stack ≤ r.offset
+  pub counted : least_octets w.events w.stack ≤ r.offset
   pub first : (r.octets ≢ []) ⊎ CanBegin w piece
+
+-- as many octets were taken as left the piece
+abbrev pub CountsOctets : WalkerState → WalkerState → List ℕ → List ℕ → Type 0
+CountsOctets old new piece rest = new.offset + length rest ≡ old.offset + length piece
 
 -- as many octets were taken as left the piece, and one event was yielded
 pub record CountsOne (old new : WalkerState) (piece rest : List ℕ) : Type 0 where
-  pub counts : new.offset + length rest ≡ old.offset + length piece
+  pub counts : CountsOctets old new piece rest
   pub events : new.events ≡ old.events + 1
   pub has_yielded : HasYieldedEvent new
 
@@ -79,7 +83,7 @@ pub record TakesAll (old new : WalkerState) (piece rest : List ℕ) : Type 0 whe
 
 -- an octet was refused, and what is open stays open
 pub record Refuses (old new : WalkerState) (piece rest : List ℕ) (fault : FaultOf) : Type 0 where
-  pub counts : new.offset + length rest ≡ old.offset + length piece
+  pub counts : CountsOctets old new piece rest
   pub events : new.events ≡ old.events
   pub phase : new.phase ≡ Refused fault
   pub framing : new.framing ≡ old.framing
@@ -100,7 +104,7 @@ CountsAtOnce old new piece rest None = (new ≡ old) × (rest ≡ piece)
 -- a header that may be there, and of which the walker has taken a part at most
 pub record CanTakeHeader (w : WalkerState) (h : HeaderValue) : Type 0 where
   pub valid : IsHeader h
-  pub counted : w.events + length w.stack ≤ h.offset
+  pub counted : least_octets w.events w.stack ≤ h.offset
   pub limit : h.offset + length (octets_of h) ≤ input_limit
   pub shallow : holds h ≡ true → length w.stack < 128
   pub fits : IsWithin (bound_of w.stack) (h.offset + length (octets_of h) + announced_length h.size)
@@ -108,6 +112,10 @@ pub record CanTakeHeader (w : WalkerState) (h : HeaderValue) : Type 0 where
 -- after a whole header
 abbrev pub after_header : WalkerState → PhaseValue → ℕ → WalkerState
 after_header w phase offset = record w { phase = phase; offset = offset; events = w.events + 1; has_element = true }
+
+-- the open elements with the one more that has this header, whose contents begin at the offset
+abbrev pub stack_with : List FrameValue → HeaderFields → ℕ → List FrameValue
+stack_with stack f offset = frame_with offset (bound_of stack) f.size f.constructed ∷ stack
 
 -- what a walker becomes that takes a header
 abbrev pub TakesHeader : WalkerState → WalkerState → HeaderFields → ℕ → HeaderKind → Type 0
@@ -117,13 +125,13 @@ TakesHeader old new f offset kind.Primitive =
 TakesHeader old new f offset kind.Constructed =
     (f.constructed ≡ true)
     × (new ≡ record (after_header old Between offset) {
-      stack = frame_with offset (bound_of old.stack) f.size f.constructed ∷ old.stack;
+      stack = stack_with old.stack f offset;
     })
 TakesHeader old new f offset kind.Wrapper =
     (f.constructed ≡ false)
     × (fields_wrap f ≡ true)
     × (new ≡ record (after_header old (if eqb f.number universal.bit_string then InBitString else Between) offset) {
-      stack = frame_with offset (bound_of old.stack) f.size f.constructed ∷ old.stack;
+      stack = stack_with old.stack f offset;
       wrapper_count = next_wrapper_count old.framing.inside old.wrapper_count f.offset;
     })
 
@@ -152,6 +160,6 @@ close_event_if_taken found = option_map event.Close found
 
 -- a prefix of a piece was taken, and some events were yielded
 pub record Passes (old new : WalkerState) (piece rest : List ℕ) : Type 0 where
-  pub counts : new.offset + length rest ≡ old.offset + length piece
+  pub counts : CountsOctets old new piece rest
   pub more : old.events < new.events
   pub has_yielded : HasYieldedEvent new

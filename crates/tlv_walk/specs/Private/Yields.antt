@@ -50,7 +50,7 @@ pub record RefusesOctet (old : WalkerState) (piece rest : List ℕ) (f : Fault) 
   pub taken : List ℕ
   pub octet : ℕ
   pub others : List ℕ
-  pub piece_is : piece ≡ taken ++ octet ∷ others
+  pub piece_is : piece ≡ taken ++ rest
   pub rest_is : rest ≡ octet ∷ others
   pub refuses : (b : List ℕ) (yielded : List EventValue) (s : Zipper) → HasZipper old b yielded s
       → RefusesWithZipper old (b ++ taken) octet yielded f

@@ -6,7 +6,7 @@ ghost use Rattle.tlv_head.specs.ReadHeader.{BeginsWithFields};
 ghost use Rattle.tlv_walk.specs.Phase as phases;
 ghost use Rattle.tlv_walk.specs.Inside.{is_among};
 ghost use Rattle.tlv_walk.specs.Events.{IsNoEmptyPart, event_value_of};
-ghost use Rattle.tlv_walk.specs.WalkerState.{IsWithinInputLimit};
+ghost use Rattle.tlv_walk.specs.WalkerState.{IsWithinInputLimit, least_octets};
 ghost use Rattle.tlv_walk.specs.Private.WalkerCalls.{CanBegin, CanTakeHeader, CanRead, CanReadOn, CountsStep};
 ghost use Rattle.tlv_walk.specs.Private.WalkerCalls.{TakesHeader, CountsAt};
 ghost use Rattle.tlv_walk.specs.Private.WrapperCount.{next_wrapper_count};
@@ -59,7 +59,7 @@ impl Walker {
         piece: &mut &'a [u8],
     ) -> Option<Event<'a>>
         requires phase { self.old.phase ≡ phases.Between }
-        requires counted { self.old.events + length self.old.stack ≤ self.old.offset }
+        requires counted { least_octets self.old.events self.old.stack ≤ self.old.offset }
         requires begins { BeginsWithFields piece.old.now self.old.offset
             (is_among self.old.offset self.old.framing.inside) fields.now count }
         requires limit { IsWithinInputLimit self.old piece.old.now }
@@ -185,7 +185,8 @@ impl Walker {
     fn found_wrapper(&mut self, offset: u64)
         ensures { self.new
             ≡ record self.old {
-              wrapper_count = next_wrapper_count self.old.framing.inside self.old.wrapper_count offset;
+              wrapper_count = next_wrapper_count
+                  self.old.framing.inside self.old.wrapper_count offset;
             } }
     {
         if let Some(named) = self.framing.inside.get(self.wrapper_count)

@@ -13,7 +13,7 @@ invariant-turns g l = record {
       (g.D.Drain.state (drain_of l.initial.out).now)
       (turn_states l.walker l.follower (g.S.Source.state l.source) (g.D.Drain.state (drain_of l.out).now));
   ready : IsReady l.walker;
-  piece : length l.piece ≡ 4096;
+  room : length l.room ≡ 4096;
   empty : held_octets l.out ≡ [];
   same_reference : (drain_of l.out).ghost_name ≡ (drain_of l.initial.out).ghost_name;
 }
