@@ -21,13 +21,14 @@ IndefMakesItsText = (s : IndefState) (f : Forest) → effect_of indef_step s (ev
 abbrev pub IndefTextGoesOn : Type 0
 IndefTextGoesOn = ForLongerInputs (λ f g. IsPrefixOf (indef_text f) (indef_text g))
 
--- what is written are the octets of elements that keep all rules
+-- what is written of elements that keep the rules are the octets of elements that keep them too
 abbrev pub IndefTextKeepsRules : Type 0
 IndefTextKeepsRules = (padding : Bool) (f : Forest) → KeepsRules (top_place (indef_framing padding)) f
     → (spelling (indef_reading f) ≡ indef_text f)
     × KeepsRules (top_place (indef_framing padding)) (indef_reading f)
 
--- what is written is read as those elements, and of these the same octets are written again
+-- what is written for an input is read back: as the same elements with indefinite lengths, and for these the same
+-- octets are written again
 abbrev pub IndefTextIsReadBack : Type 0
 IndefTextIsReadBack = (padding : Bool) (b : List ℕ) (f : Forest)
     → IsReading (indef_framing padding) b f → IsReadBack padding f (indef_text f)

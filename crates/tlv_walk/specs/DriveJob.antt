@@ -33,6 +33,7 @@ pub record DriveStates (S : Type 0) : Type 0 where
   pub follower : S
   pub devices : DeviceStates
 
+-- a walk with these states
 abbrev pub drive_states : {S : Type 0} → S → SourceState → DrainState → DriveStates S
 drive_states follower source drain = record { follower = follower; devices = device_states source drain }
 
@@ -52,7 +53,7 @@ module _ {S : Type 0} (next : S → EventValue → Effect S) where
         then enough_run framing (followed_events next s (events f)) else run_over framing f e;
   }
 
-  -- what it comes to, and the state that it leaves
+  -- what a walk, followed from this state on, comes to, and the follower's state after it
   pub record Drives (framing : Framing) (limit : ℕ) (old new : DriveStates S) (result : Result Run DeviceFault)
       : Type 0 where
     pub runs : Runs (drive_job framing limit old.follower) old.devices new.devices result

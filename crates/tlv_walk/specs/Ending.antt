@@ -41,11 +41,12 @@ pub data IsRefusedAt : OpenEnd → ℕ → FaultCode → Type 0 where
   missing_end : {x : ℕ} {p : Place} → (Fits p 2 → ⊥) → IsRefusedAt (end_at p OpenEndOctets) x MissingEnd
   bad_end : {x : ℕ} {p : Place} → Fits p 2 → x ≢ 0 → IsRefusedAt (end_at p OpenEndOctets) x BadEnd
   -- 8.1.3.3: the header does not end within the bound
-  no_room : {x : ℕ} {p : Place} {o : List ℕ} → (Fits p (length o + 1) → ⊥) → IsRefusedAt (end_at p (OpenHeader o)) x Overrun
+  no_room : {x : ℕ} {p : Place} {o : List ℕ} → (Fits p (length o + 1) → ⊥)
+      → IsRefusedAt (end_at p (OpenHeader o)) x Overrun
   -- F06 to F09: no header goes on with that octet
   refused_octet : {x : ℕ} {p : Place} {o : List ℕ} {code : FaultCode} → Fits p (length o + 1) → IsRefusedOctet o x code
       → IsRefusedAt (end_at p (OpenHeader o)) x code
-  -- 8.1.4: the header of an element that holds others, inside 128 of them
+  -- a limit of our own: the header of an element that holds others, inside 128 of them
   too_deep : {x : ℕ} {p : Place} {o : List ℕ} → Fits p (length o + 1) → (h : HeaderValue) → IsHeaderAt p true h
       → octets_of h ≡ o ++ x ∷ [] → 128 ≤ p.depth → IsRefusedAt (end_at p (OpenHeader o)) x TooDeep
   -- 8.1.3.3: the header of contents that end beyond the bound
@@ -55,11 +56,14 @@ pub data IsRefusedAt : OpenEnd → ℕ → FaultCode → Type 0 where
   -- 8.1.5: no end-of-contents octets before the bound
   no_end : {x : ℕ} {p : Place} → p.indefinite ≡ true → (Fits p 1 → ⊥) → IsRefusedAt (end_at p NoMore) x MissingEnd
   -- 8.1.5: 00 where no end-of-contents octets can be, and no padding
-  stray_end : {x : ℕ} {p : Place} → p.indefinite ≡ false → p.padding ≡ false → x ≡ 0 → IsRefusedAt (end_at p NoMore) x StrayEnd
+  stray_end : {x : ℕ} {p : Place} → p.indefinite ≡ false → p.padding ≡ false → x ≡ 0
+      → IsRefusedAt (end_at p NoMore) x StrayEnd
 
+-- the fault with this code, at this offset
 abbrev pub fault_at : FaultCode → ℕ → FaultOf
 fault_at code offset = record { code = code; offset = offset }
 
+-- the ending with this fault
 abbrev pub fault_ending : FaultCode → ℕ → Ending
 fault_ending code offset = Fault (fault_at code offset)
 

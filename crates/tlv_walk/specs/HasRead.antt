@@ -55,8 +55,8 @@ pub record RefusesAt (w : WalkerState) (octets : List ℕ) (yielded : List Event
   pub octets_are : taken ++ octet ∷ others ≡ octets
   pub stands : StandsRefused w taken octet yielded f
 
--- what a walker stands for that walked over these octets to the end, and yielded these events: all of them, or those
--- before the one that it refused
+-- a walker that walked over these octets to their end and yielded these events: it stands for all the octets, or for
+-- those before the octet that it refused
 pub data StandsAtEnd (w : WalkerState) (octets : List ℕ) (yielded : List EventValue) : Type 0 where
   took_all : Stands w octets yielded → IsIdle w → StandsAtEnd w octets yielded
   refused_one : (f : Fault) → RefusesAt w octets yielded f → StandsAtEnd w octets yielded

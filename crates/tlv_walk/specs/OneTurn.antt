@@ -56,6 +56,7 @@ pub record TurnStates (S : Type 0) : Type 0 where
   pub follower : S
   pub devices : DeviceStates
 
+-- a turn with these states
 abbrev pub turn_states : {S : Type 0} → WalkerState → S → SourceState → DrainState → TurnStates S
 turn_states walker follower source drain =
     record { walker = walker; follower = follower; devices = device_states source drain }
@@ -111,7 +112,7 @@ module _ {S : Type 0} (next : S → EventValue → Effect S) (old new : TurnStat
     pub run_is : run ≡ run_over old.walker.framing has_events.reading run.ending
     pub walker : StandsAtEnd new.walker octets all
 
-  -- the follower had enough with the last of the events that it followed, after which the octets have others; the
+  -- the follower had enough with the last of the events that it followed, after which the octets may have others; the
   -- walker stands for the octets of those that were followed, and the run is that over them
   pub record HasEnoughIn (octets : List ℕ) (yielded : List EventValue) (run : Run) : Type 0 where
     pub all : List EventValue
@@ -156,6 +157,7 @@ module _ {S : Type 0} (next : S → EventValue → Effect S) (old new : TurnStat
       pub beyond : limit < length (taken ++ given)
       pub stands : StandsAfter (octets_followed limit taken given) yielded
 
+    -- what a turn comes to, by its result
     abbrev pub TurnsTo : Result Turn DeviceFault → Type 0
     TurnsTo (Ok Again) = WalksOn
     TurnsTo (Ok (Ended run)) = WalkEnds run
@@ -163,19 +165,20 @@ module _ {S : Type 0} (next : S → EventValue → Effect S) (old new : TurnStat
     TurnsTo (Err WriteFailed) = WriteFailsIn (octets_followed limit taken given) yielded
     TurnsTo (Err InputTooLong) = ExceedsLimit
 
-  -- the walker took octets, in all no more than the limit, and can take the next one
+  -- the walker took octets, in all no more than the limit, and is ready for the next one
   pub record HasMovedWithin (limit : ℕ) : Type 0 where
     pub moved : old.walker.offset < new.walker.offset
     pub within : new.walker.offset ≤ limit
     pub ready : IsReady new.walker
 
-  -- the walker took as many octets as the limit, and can take the next one
+  -- the walker took as many octets as the limit, and is ready for the next one
   pub record IsAtLimit (limit : ℕ) : Type 0 where
     pub at_limit : new.walker.offset ≡ limit
     pub ready : IsReady new.walker
 
-  -- how a walk can go on after a turn. If more is to be read, or more was read than the limit allows, the next octet
-  -- can be taken; after a failed read nothing has changed
+  -- how a walk can go on after a turn. If more is to be read, the walker is ready for the next octet; after a failed
+  -- read nothing has changed. If there were more octets than the limit, the walker is at it, and ready for the next
+  -- octet; but the octets beyond it were read from the source, and are lost
   abbrev pub CanGoOn : ℕ → Result Turn DeviceFault → Type 0
   CanGoOn limit (Ok Again) = HasMovedWithin limit
   CanGoOn limit (Ok (Ended run)) = ⊤
@@ -183,8 +186,8 @@ module _ {S : Type 0} (next : S → EventValue → Effect S) (old new : TurnStat
   CanGoOn limit (Err WriteFailed) = ⊤
   CanGoOn limit (Err InputTooLong) = IsAtLimit limit
 
-  -- one read of a source, of which what it gave is followed and flushed. The array into which it is made is `room` after
-  -- it
+  -- one read of a source, of which what it gave is followed and flushed. The array into which it is made is `room`
+  -- after it
   pub record FollowsOneRead (limit : ℕ) (room : List ℕ) (result : Result Turn DeviceFault) : Type 0 where
     -- what the devices did
     pub calls : CallsDevices room result

@@ -22,7 +22,7 @@ pub record Place : Type 0 where
   pub bound : Option ℕ
   -- the innermost element that holds it has an indefinite length
   pub indefinite : Bool
-  -- octets 00 may be there between encodings
+  -- there may be padding
   pub padding : Bool
   -- the offsets that the user named
   pub inside : List ℕ
@@ -76,7 +76,8 @@ pub record IsHeaderAt (p : Place) (holding : Bool) (h : HeaderValue) : Type 0 wh
   pub named : h.named ≡ is_among p.offset p.inside
   pub form : holds h ≡ holding
 
--- 8.1.4: an element is there, in at most 127 others if it holds others, and n octets of it end within the bound
+-- 8.1.4: an element is there; by a limit of our own in at most 127 others, if it holds others; and n octets of it end
+-- within the bound
 pub record IsElementAt (p : Place) (holding : Bool) (h : HeaderValue) (n : ℕ) : Type 0 where
   pub header : IsHeaderAt p holding h
   pub shallow : holding ≡ true → p.depth < 128
@@ -86,11 +87,13 @@ pub record IsElementAt (p : Place) (holding : Bool) (h : HeaderValue) (n : ℕ) 
 abbrev pub IsAnnouncedAt : Place → Bool → HeaderValue → Type 0
 IsAnnouncedAt p holding h = IsElementAt p holding h (length (octets_of h) + announced_length h.size)
 
--- an open forest: each element in it keeps the rules, and no octet and no announced end lies beyond the bound
+-- a forest that keeps the rules, and may be open at its end: each element in it keeps them, and no octet and no
+-- announced end lies beyond the bound
 abbrev pub KeepsRules : Place → Forest → Type 0
 KeepsRules p NoMore = Unit {0}
--- an octet 00 between encodings
-KeepsRules p (PaddingOctet rest) = ((p.padding ≡ true) × (p.indefinite ≡ false) × Fits p 1) × KeepsRules (place_after p 1) rest
+-- padding
+KeepsRules p (PaddingOctet rest) =
+    ((p.padding ≡ true) × (p.indefinite ≡ false) × Fits p 1) × KeepsRules (place_after p 1) rest
 -- 8.1.4: a primitive with all its contents octets
 KeepsRules p (Primitive h c rest) =
     (IsElementAt p false h (primitive_extent h c) × (h.size ≡ Definite (length c)))

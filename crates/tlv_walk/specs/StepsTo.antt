@@ -28,7 +28,7 @@ pub record YieldsNext (old new : WalkerState) (piece rest : List ℕ) (e : Event
   pub has_octets : IsNoEmptyPart e
   pub has_yielded : HasYieldedEvent new
 
--- no event, and none is to come before the next octet, which can be taken: all octets of the piece were taken
+-- no event: all octets of the piece were taken, and the walker is ready for the next octet
 pub record UsesUpPiece (old new : WalkerState) (piece rest : List ℕ) : Type 0 where
   pub takes : TakesOctets old new piece rest []
   pub none_left : rest ≡ []

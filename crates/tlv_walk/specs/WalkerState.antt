@@ -9,6 +9,7 @@ use Rattle.tlv_walk.specs.Stack.{FrameValue, IsInIndefinite, IsInWrapper, IsNest
 use Rattle.tlv_walk.specs.Place.{IsWithin}
 use Rattle.tlv_head.specs.InputLimit.{input_limit}
 
+-- the state of a walker
 pub record WalkerState : Type 0 where
   -- the open elements, innermost first
   pub stack : List FrameValue
@@ -23,6 +24,7 @@ pub record WalkerState : Type 0 where
   -- how many of the named offsets, from the first on, are those of wrappers
   pub wrapper_count : ℕ
 
+-- a walker that has taken nothing
 abbrev pub new_walker : Framing → WalkerState
 new_walker framing = record {
   stack = [];
@@ -57,6 +59,7 @@ CountsFitPhase InBitString stack offset events =
 CountsFitPhase InEndOctets stack offset events = IsInIndefinite stack × (least_octets events stack + 1 ≤ offset)
 CountsFitPhase (Refused fault) stack offset events = least_octets events stack ≤ offset
 
+-- what always holds of a walker's state
 pub record IsWalkerState (w : WalkerState) : Type 0 where
   pub nested : IsNested w.stack
   pub within : IsWithin (bound_of w.stack) w.offset

@@ -6,11 +6,11 @@ use Rattle.tlv_walk.specs.Events.{Enter, EventValue}
 use Rattle.tlv_walk.specs.Forest.{Forest, PaddingOctet, Primitive, Holder, OpenHolder, OpenBitString}
 use Rattle.tlv_walk.specs.Inside.{is_among}
 
--- the offset of an element that holds others, if it is a wrapper: by whether it is constructed
+-- the offset of an element that holds others, or none if it is no wrapper: by whether it is constructed
 abbrev pub wrapper_offset_by : Bool → ℕ → List ℕ
 wrapper_offset_by constructed offset = if constructed then [] else offset ∷ []
 
--- the same, by its header
+-- the offset of an element that holds others, or none if it is no wrapper: by its header
 abbrev pub wrapper_offset : HeaderValue → List ℕ
 wrapper_offset h = wrapper_offset_by h.constructed h.offset
 

@@ -28,7 +28,11 @@ pub fn drive<S: Source, F: Follow, D: Drain>(
 }
 
 /// Reads the source until it ends, an octet is refused or the follower has enough, and lets the
-/// follower follow what is read. Makes no read after that, and at most `limit` + 1 in all.
+/// follower follow what is read. Makes no read after that, and at most `limit` + 1 reads in all.
+/// `limit` is a number of octets, at most 2^40.
+///
+/// Returns the ending, how many octets were walked over, whether the follower had enough, and the
+/// first offset named in vain ([`Run`]).
 ///
 /// If the follower never has enough, the ending is `Done` exactly if the octets read are a sound list of
 /// encodings, and if an octet is refused, no input that begins with them is one.

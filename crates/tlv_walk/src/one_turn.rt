@@ -21,27 +21,30 @@ use tlv_head::{Fault, Header};
 enum Pause {
     /// It is used up, and no event waits.
     UsedUp,
+    /// An octet is refused.
     Fault(Fault),
+    /// The follower had enough.
     Enough,
 }
 
 /// Makes one read into `piece`, lets the follower follow what it gave, and flushes what that put.
 ///
-/// `piece` has 1 to 4096 octets. The walker is within `limit` and has refused no octet, and no event
-/// waits.
+/// `piece` is the array into which the read is made: it has 1 to 4096 octets. `limit` is a number of
+/// octets, at most 2^40. The walker is within it and has refused no octet, and no event waits.
 ///
-/// Returns `Again` if the octets have neither a fault nor enough for the follower, and the source has
-/// not ended; otherwise `Ended`. The walker's octets count towards `limit`: of those that go beyond
-/// it none is walked over.
+/// Returns `Again` if the octets are within the limit, hold neither a fault nor enough for the
+/// follower, and the source has not ended; `Ended` if the walk has ended. The octets that the walker
+/// took before count towards `limit`: of those that go beyond it none is walked over.
 ///
 /// # Errors
 ///
 /// `ReadFailed` exactly if a read failed, and `WriteFailed` exactly if a write failed.
-/// `InputTooLong` if the source gave more octets than `limit`, and those up to the limit held
-/// neither a fault nor enough; they are followed and flushed.
+/// `InputTooLong` if the walker's octets and those of the read are together more than `limit`, and
+/// those up to the limit hold neither a fault nor enough; they are followed and flushed.
 ///
-/// After `ReadFailed` walker and follower are as they were; after `InputTooLong` the walker is at
-/// the limit. Another turn may follow then. After `WriteFailed` nothing is promised of them.
+/// After `ReadFailed` walker and follower are as they were, and another turn may follow. After
+/// `InputTooLong` the walker is at the limit; the octets of this read beyond it are lost, so another
+/// turn would leave them out. After `WriteFailed` nothing is promised of walker and follower.
 pub fn turn<F: Follow, S: Source, D: Drain>(
     walker: &mut Walker,
     follower: &mut F,

@@ -1,5 +1,5 @@
-//! A machine that takes an encoding in pieces, and keeps a frame for each open element that holds
-//! others.
+//! A machine that takes the octets of an input in pieces, and keeps a frame for each open element
+//! that holds others.
 ghost use Rattle.std.specs.Prelude.{◌≡◌, ◌≤◌, ◌↔◌, IsTrue, length};
 
 mod contents;
@@ -93,7 +93,7 @@ impl Walker {
     }
 
     /// How many elements are open that hold others: constructed ones, and strings that hold encodings.
-    /// At most 128.
+    /// At most 128. An element that is filled counts until its end is yielded.
     pub fn depth(&self) -> u8
         ensures value { result ≡ length self.now.stack }
         ensures within { result ≤ 128 }
@@ -120,7 +120,8 @@ impl Walker {
         self.events
     }
 
-    /// The first of the named offsets at which no string that holds encodings was found.
+    /// The first of the named offsets at which no string that holds encodings was found, in octets
+    /// from the start of the input.
     pub fn unused(&self) -> Option<u64>
         ensures value { result ≡ unused_offset self.now }
         ensures first { IfRead self.now
@@ -141,7 +142,8 @@ impl Walker {
     }
 
     /// What the input comes to, if it ends here. After a fault it is that fault. It is `Done` exactly if
-    /// the input is a sound list of encodings. No event may wait ([`Walker::waiting`]).
+    /// the input is a sound list of encodings. If it is a fault other than F01 and F02, no input that
+    /// begins with these octets is a sound list. No event may wait ([`Walker::waiting`]).
     pub fn finish(&self) -> Ending
         requires { IsIdle self.now }
         ensures ending { IfAtEnd self.now (λ octets. IsEnding self.now.framing octets result) }

@@ -1,4 +1,4 @@
--- The same elements with indefinite lengths keep all rules.
+-- The same elements with indefinite lengths keep the rules.
 use Rattle.std.specs.Option.{option_map_or}
 use Rattle.std.proofs.Common.{refl, sym, ap, ◌∙◌, subst}
 use Rattle.std.specs.Prelude.{◌≡◌, ℕ, ◌+◌, ◌<◌, ◌≤◌, Bool, true, false, ◌||◌, eqb, if◌then◌else◌, List, []}
@@ -199,7 +199,8 @@ keeps_rules p q (Holder h inside rest) k v =
       keeps_rules (place_of_children p h) (place_of_children q header) inside (free_inside p q h header refl k) v.1,
       follows q h offset (with_indefinite_lengths inside)
           (with_offsets_from (q.offset + n) (with_indefinite_lengths rest))
-          (keeps_rules (place_after p (extent h inside)) (place_after q n) rest (free_after p q (extent h inside) n k) v.2),
+          (keeps_rules (place_after p (extent h inside)) (place_after q n) rest (free_after p q
+          (extent h inside) n k) v.2),
     )
 keeps_rules p q (OpenPrimitive h c) k v = (
   record {

@@ -49,8 +49,9 @@ forest-goes_on p (suc n) f g t l w v e = elim (back t) [
       brings
 ]
 
--- of two open forests at one place, if one spelling goes on from the other the events do
-pub events-go_on : (p : Place) (f g : Forest) (t : List ℕ) → KeepsRules p f → KeepsRules p g → spelling g ≡ spelling f ++ t
+-- of two forests at one place that keep the rules, if one spelling goes on from the other the events do
+pub events-go_on : (p : Place) (f g : Forest) (t : List ℕ) → KeepsRules p f → KeepsRules p g
+    → spelling g ≡ spelling f ++ t
     → GoesFurther (events f) (events g)
 events-go_on p f g t w v e = forest-goes_on p (length t) f g t refl w v e
 

@@ -85,7 +85,7 @@ waiting-wraps h e = elim (cases_Bool h.constructed) [
   | inr c ↦ rw c
 ]
 
--- the wrappers of an open forest are those that its events enter
+-- the wrappers of a forest that keeps the rules are those that its events enter
 pub wrapper_offsets-entered : (p : Place) (f : Forest) → KeepsRules p f → wrapper_offsets f ≡ entered_offsets (events f)
 wrapper_offsets-entered p NoMore w = refl
 wrapper_offsets-entered p (PaddingOctet rest) w = wrapper_offsets-entered (place_after p 1) rest w.1
@@ -203,7 +203,7 @@ wrapper-named p h header = elim (cases_Bool h.constructed) [
       rw c (named, tt)
 ]
 
--- the wrappers of an open forest are among the offsets named
+-- the wrappers of a forest that keeps the rules are among the offsets named
 pub wrapper_offsets-named : (p : Place) (f : Forest) → KeepsRules p f → AreNamed p.inside (wrapper_offsets f)
 wrapper_offsets-named p NoMore w = tt
 wrapper_offsets-named p (PaddingOctet rest) w = wrapper_offsets-named (place_after p 1) rest w.1

@@ -126,7 +126,8 @@ module _ {S D : Type 0} (next : S → EventValue → Effect S) (old new : TurnSt
       let on = used why x in
       at_input_end
       (ends_in run
-      (used_up_ends next old new (b ++ piece) yielded run e on is (ends (b ++ piece) on.all (took_all on.stands on.idle))))
+      (used_up_ends next old new (b ++ piece) yielded run e on is (ends (b ++ piece) on.all
+      (took_all on.stands on.idle))))
       (is_r ∙ ap (λ (k : ℕ). take k p) none)
 
   turns_fault : (run : Run) (e : Fault) (why : Pause) → Followed why (pause.Fault e)

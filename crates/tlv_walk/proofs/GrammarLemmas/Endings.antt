@@ -67,7 +67,7 @@ run-ending w (Halted f code) b each r =
 pub is-ending : (w : Framing) (b : List ℕ) → All (λ x. x < 256) b → IsEnding w b (ending w b)
 is-ending w b each = run-ending w (push_all w b) b each (is-run w b each)
 
--- the input is the spelling of an open forest with one or more elements in which nothing is open
+-- the input is the spelling of a forest that keeps the rules, with one or more elements, in which nothing is open
 pub record IsDone (w : Framing) (b : List ℕ) : Type 0 where
   pub forest : Forest
   pub spells : Spells (top_place w) b forest
@@ -173,7 +173,7 @@ fault-place w b e f (short g r s n) i = inl (sym (ap offset_in i))
 fault-place w b e f (done g r s n t) i = absurd (cc (i))
 fault-place w b e f (refused g x rest code r s k) i = inr (g, r, sym (ap offset_in i))
 
--- if the octet after p is refused and p is the spelling of an open forest, that is the reading
+-- if the octet after p is refused and p is the spelling of a forest that keeps the rules, that is the reading
 pub refused-reading : (w : Framing) (p : List ℕ) (x : ℕ) (c : List ℕ) (f : FaultOf) (g : Forest)
     → Spells (top_place w) p g → f.offset ≡ length p → IsEnding w (p ++ x ∷ c) (Fault f) → IsReading w (p ++ x ∷ c) g
 refused-reading w p x c f g v there e = elim (fault-place w (p ++ x ∷ c) (Fault f) f e refl) [
@@ -183,5 +183,6 @@ refused-reading w p x c f g v there e = elim (fault-place w (p ++ x ∷ c) (Faul
       front-same (spelling r.0) (spelling g) (r.1.is_prefix.0) (x ∷ c)
       (r.1.is_prefix.1 ∙ ap (λ (o : List ℕ). o ++ x ∷ c) (sym v.spelled))
       (sym r.2 ∙ there ∙ ap length (sym v.spelled)) in
-      subst (λ (h : Forest). IsReading w (p ++ x ∷ c) h) (unique (top_place w) r.0 g r.1.keeps_rules v.keeps_rules same) r.1
+      subst (λ (h : Forest). IsReading w (p ++ x ∷ c) h) (unique
+      (top_place w) r.0 g r.1.keeps_rules v.keeps_rules same) r.1
 ]

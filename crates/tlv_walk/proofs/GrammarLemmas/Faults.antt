@@ -16,7 +16,8 @@ use Rattle.tlv_head.proofs.GrammarLemmas.Refused.{refused-stuck}
 use Rattle.tlv_walk.specs.declared.framing.Framing.{Framing}
 use Rattle.tlv_walk.specs.Forest.{Forest, NoMore, OpenPrimitive, OpenBitString, OpenHeader, OpenEndOctets}
 use Rattle.tlv_walk.specs.Place.{Fits, IsHeaderAt, KeepsRules, Place, top_place}
-use Rattle.tlv_walk.specs.Ending.{IsRefusedAt, bad_inside, missing_end, bad_end, no_room, refused_octet, too_deep, overrun}
+use Rattle.tlv_walk.specs.Ending.{IsRefusedAt, bad_inside, missing_end, bad_end, no_room, refused_octet, too_deep}
+use Rattle.tlv_walk.specs.Ending.{overrun}
 use Rattle.tlv_walk.specs.Ending.{no_end, stray_end, OpenEnd, open_end}
 use Rattle.tlv_walk.proofs.GrammarLemmas.Bounds.{fits, fits-within, within-fits}
 use Rattle.tlv_walk.proofs.GrammarLemmas.PushSteps.{PushStep, Grown, Ended, Refused, begin, complete, origin, push}
@@ -30,8 +31,8 @@ too-long p n e f = true≢false (sym (fits-within p.bound (p.offset + n) f) ∙ 
 
 -- what passes the bound does not fit
 no-fit : (p : Place) (n : ℕ) → (Fits p n → ⊥) → fits p n ≡ false
-no-fit p n past = elim (cases_Bool (fits p n)) [
-  | inl e ↦ absurd (past (within-fits p.bound (p.offset + n) e))
+no-fit p n beyond = elim (cases_Bool (fits p n)) [
+  | inl e ↦ absurd (beyond (within-fits p.bound (p.offset + n) e))
   | inr e ↦ e
 ]
 
@@ -40,14 +41,14 @@ abbrev pub Blames : Place → Forest → ℕ → Option FaultCode → Type 0
 Blames p e x None = Unit {0}
 Blames p e x (Some code) = IsRefusedAt (record { place = p; forest = e }) x code
 
--- an octet 00 between encodings is refused as a stray end
+-- an octet 00 between elements is refused as a stray end
 zero-blames : (p : Place) (x : ℕ) (i a : Bool) → p.indefinite ≡ i → p.padding ≡ a → x ≡ 0
     → Blames p NoMore x (refusal (zero_between i a))
 zero-blames p x true a e d z = tt
 zero-blames p x false true e d z = tt
 zero-blames p x false false e d z = stray_end e d z
 
--- between encodings
+-- between elements
 between-blames : (p : Place) (x : ℕ) → (p.indefinite ≡ false → Fits p 1) → Blames p NoMore x (refusal (push p NoMore x))
 between-blames p x room = elim (cases_Bool (fits p 1)) [
   | inl f ↦ elim (cases_eq x 0) [
@@ -155,7 +156,8 @@ blames p OpenEndOctets x h t = end-blames p x
 blames p f x h t = absurd t
 
 -- an octet that is refused for the octets of a header alone is refused there
-stuck-refusal : (p : Place) (o : List ℕ) (x : ℕ) (code : FaultCode) → KeepsRules p (OpenHeader o) → Fits p (length o + 1)
+stuck-refusal : (p : Place) (o : List ℕ) (x : ℕ) (code : FaultCode) → KeepsRules p (OpenHeader o)
+    → Fits p (length o + 1)
     → IsRefusedOctet o x code → refusal (push p (OpenHeader o) x) ≡ Some code
 stuck-refusal p o x code t room r =
     ap refusal (push-scan p o x (Stuck code) room (refused-stuck (origin p) code o x t.1 r))
@@ -189,10 +191,10 @@ fault-refusal e x code t (too_deep {p = p} {o = o} room h s octets deep) =
     let test : (holds (moved_header (origin p) h) && leb 128 p.depth) ≡ true =
     and_from _ _ (holds-there p h true s ∙ s.form) (le-leb 128 p.depth deep) in
     ap refusal (read-there p o x h true room s octets) ∙ rw test
-fault-refusal e x code t (overrun {p = p} {o = o} room h s octets k past) =
+fault-refusal e x code t (overrun {p = p} {o = o} room h s octets k beyond) =
     let test : (holds (moved_header (origin p) h) && leb 128 p.depth) ≡ false =
     not-deep _ p.depth (λ q. k (sym (holds-there p h (holds h) s) ∙ q)) in
-    let none : fits p (length (octets_of h) + announced_length h.size) ≡ false = no-fit p _ past in
+    let none : fits p (length (octets_of h) + announced_length h.size) ≡ false = no-fit p _ beyond in
     ap refusal (read-there p o x h (holds h) room s octets) ∙ rw (test, none)
 fault-refusal e x code t (no_end {p = p} i a) = rw (no-fit p 1 a)
 fault-refusal e x code t (stray_end {p = p} i d z) = rw (fits-within p.bound (p.offset + 1) (t.1 i), eq-eqb x 0 z, i, d)
@@ -203,7 +205,7 @@ refusal-code (Grown g) code e = absurd (cc)
 refusal-code (Ended g) code e = absurd (cc)
 refusal-code (Refused c) code e = let same : c ≡ code = cc in ap Refused same
 
--- the innermost open end of an open forest that is the whole input so far
+-- the innermost open end of a forest that keeps the rules and is the whole input so far
 open_end-top : (w : Framing) (f : Forest) → KeepsRules (top_place w) f
     → IsOpenEndAt (open_end (top_place w) f).place (open_end (top_place w) f).forest
 open_end-top w f v = open_end-fact (top_place w) f tt (λ _ _. tt) v

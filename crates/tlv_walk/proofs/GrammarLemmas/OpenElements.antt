@@ -1,4 +1,5 @@
--- An open forest ends within its bound, and an element is an open forest from its header on, as its contents come.
+-- A forest that keeps the rules ends within its bound, and an element keeps the rules from its header on, as its
+-- contents come.
 use Rattle.std.proofs.Common.{◌≡◌, inl, inr, ℕ, ◌+◌, ◌≤◌, Bool, true, false, ◌&&◌, ◌||◌, leb, List, [], ◌∷◌, ◌++◌}
 use Rattle.std.proofs.Common.{length, refl, sym, ap, ◌∙◌, arith, append-nil, length-append, eq-eqb, ne_eqb, leb-false}
 use Rattle.std.proofs.lemmas.Bool.{cases_eq, cases_Bool, and_parts, true≢false}
@@ -30,7 +31,7 @@ reaches-open_holder p h inside f g =
     (within-le p.bound _ _ (omega arith) f)
     (within-le (place_of_children p h).bound _ _ (omega (arith, length-opening h)) g))
 
--- an open forest ends within the bound
+-- a forest that keeps the rules ends within the bound
 pub reaches : (p : Place) (f : Forest) → Fits p 0 → KeepsRules p f → Fits p (length (spelling f))
 reaches p NoMore z w = z
 reaches p (PaddingOctet rest) z w =
@@ -146,7 +147,7 @@ holder_begun-spells p h [] e entry =
     record { keeps_rules = r.keeps_rules; spelled = r.spelled ∙ none }
 holder_begun-spells p h (x ∷ xs) e entry = record { keeps_rules = (entry, lead-zero h x xs e); spelled = refl }
 
--- a header where one may be is an open forest
+-- a header where one may be keeps the rules
 pub element_begun-spells : (p : Place) (h : HeaderValue) (k : Bool) → IsHeaderAt p k h → (k && leb 128 p.depth) ≡ false
     → Fits p (length (octets_of h) + announced_length h.size)
     → Spells p (octets_of h) (element_begun k h)

@@ -72,7 +72,7 @@ room-inside p h inside e i w =
     within-le (place_of_children p h).bound _ _ (omega (arith, length-opening h))
     (lacks-within h.size (p.offset + length (octets_of h)) p.bound (contents_length h inside) i (e.0.1 w))
 
--- it holds of the innermost open end of an open forest with room
+-- it holds of the innermost open end of a forest that keeps the rules, with room
 pub open_end-fact : (p : Place) (f : Forest) → Fits p 0 → HasRoom p f → KeepsRules p f
     → IsOpenEndAt (open_end p f).place (open_end p f).forest
 open_end-fact p NoMore z r w = (z, λ i. r i refl)

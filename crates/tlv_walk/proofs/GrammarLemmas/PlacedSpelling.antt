@@ -19,7 +19,7 @@ pub record IsLike (p q : Place) : Type 0 where
 abbrev pub ComeAfter : (ℕ → List ℕ) → Type 0
 ComeAfter names = (offset i : ℕ) → i < offset → is_among i (names offset) ≡ false
 
--- nor past so many octets from there
+-- nor beyond so many octets from there
 abbrev pub AreWithin : (ℕ → List ℕ) → ℕ → Type 0
 AreWithin names n = (offset i : ℕ) → offset + n ≤ i → is_among i (names offset) ≡ false
 

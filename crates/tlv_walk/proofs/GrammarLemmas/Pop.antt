@@ -1,4 +1,4 @@
--- Every open forest with an octet is a shorter one, and the octet pushed.
+-- Every forest that keeps the rules and has an octet is a shorter one, and the octet pushed.
 use Rattle.std.proofs.Common.{◌≡◌, ◌⊎◌, inl, inr, ℕ, ◌+◌, ◌<◌, ◌≤◌, true, false, List, [], ◌∷◌, ◌++◌, length, refl, sym}
 use Rattle.std.proofs.Common.{ap, ◌∙◌, arith, append_assoc, append-nil, length-append, eq-eqb, ne_eqb}
 use Rattle.std.proofs.lemmas.Bool.{cases_Bool, and_from, true≢false}
@@ -90,7 +90,8 @@ holder_so_far-open h f lacks = elim (cases_Bool (is_whole f)) [
 
 -- contents before the last octet lack octets
 lacks-before : (p : Place) (h : HeaderValue) (f g : Forest) (x : ℕ) → IsAnnouncedAt p true h
-    → KeepsRules (place_of_children p h) g → spelling g ≡ spelling f ++ x ∷ [] → LacksOctets h.size (contents_length h f)
+    → KeepsRules (place_of_children p h) g → spelling g ≡ spelling f ++ x ∷ []
+    → LacksOctets h.size (contents_length h f)
 lacks-before p h f g x entry w spelled =
     within-lacks h.size (p.offset + length (octets_of h)) p.bound (contents_length h f)
     (within-le (place_of_children p h).bound
@@ -251,7 +252,7 @@ followed p q f o rest r w spelled pushed = record {
   pushed = pushed r.last ∙ ap (push_after f) r.pushed;
 }
 
--- an open forest has no octet, or is a shorter one and the octet pushed
+-- a forest that keeps the rules has no octet, or is a shorter one and the octet pushed
 pub pop : (p : Place) (g : Forest) → KeepsRules p g → (g ≡ NoMore) ⊎ Popped p g
 pop p NoMore w = inl refl
 pop p (PaddingOctet rest) w = inr (elim (pop (place_after p 1) rest w.1) [
@@ -267,7 +268,8 @@ pop p (Primitive h c rest) w = inr (elim (pop (place_after p (length (octets_of 
 pop p (Holder h inside rest) w = inr (elim (pop (place_after p (extent h inside)) rest w.2) [
   | inl e ↦ rw e (holder-popped p h inside w.0 w.1 (pop (place_of_children p h) inside w.1))
   | inr r ↦
-      followed p _ (Holder h inside) (opening h ++ (spelling inside ++ end_octets h.size)) rest r (w.0, w.1, r.keeps_rules)
+      followed p _ (Holder h inside) (opening h ++ (spelling inside ++ end_octets h.size)) rest r
+      (w.0, w.1, r.keeps_rules)
       (λ g. sym (append_assoc-3 (opening h) (spelling inside) (end_octets h.size) (spelling g))) (λ x. refl)
 ])
 pop p (OpenPrimitive h c) w = inr (open_primitive-popped p h c w)

@@ -1,4 +1,4 @@
--- An open forest that ends in a header, or in the front of one, is a shorter one and the octet pushed.
+-- A forest that keeps the rules and ends in a header, or in a prefix of one, is a shorter one and the octet pushed.
 use Rattle.std.proofs.Common.{◌≡◌, ◌≢◌, inl, inr, ℕ, ◌+◌, ◌≤◌, Bool, true, false, ◌&&◌, leb, List, [], ◌∷◌, ◌++◌}
 use Rattle.std.proofs.Common.{length, refl, sym, ap, ◌∙◌, arith, append_assoc, append-nil, length-append, ne_eqb}
 use Rattle.std.proofs.lemmas.Bool.{lt-leb}
@@ -31,7 +31,7 @@ pub back : (xs : List ℕ) → Back xs
 back [] = is_nil refl
 back (x ∷ xs) = back-cons x xs (back xs)
 
--- an open forest, and the octet that makes g of it
+-- a forest that keeps the rules, and the octet that makes g of it
 pub record Popped (p : Place) (g : Forest) : Type 0 where
   pub from : Forest
   pub last : ℕ

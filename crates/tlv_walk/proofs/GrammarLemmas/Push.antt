@@ -1,4 +1,4 @@
--- One more octet after an open forest gives what is right.
+-- One more octet after a forest that keeps the rules gives what is right.
 use Rattle.std.proofs.Common.{◌≡◌, ◌≢◌, inl, inr, ℕ, ◌+◌, ◌<◌, Bool, true, false, ◌&&◌, leb, List, [], ◌∷◌, ◌++◌}
 use Rattle.std.proofs.Common.{length, refl, sym, ap, ◌∙◌, arith, append_assoc, append-nil, length-append, eq-eqb}
 use Rattle.std.proofs.Common.{ne_eqb}
@@ -18,7 +18,8 @@ use Rattle.tlv_walk.proofs.GrammarLemmas.Spellings.{append_assoc-3, append_assoc
 use Rattle.tlv_walk.proofs.GrammarLemmas.PushSteps.{IsWholePrimitive, IsWholeHolder, PushStep, origin, holder_so_far}
 use Rattle.tlv_walk.proofs.GrammarLemmas.PushSteps.{complete, begin, zero_between, push_after, settle, push, Spells}
 use Rattle.tlv_walk.proofs.GrammarLemmas.PushSteps.{IsStep, Grown, Ended, Refused}
-use Rattle.tlv_walk.proofs.GrammarLemmas.OpenElements.{element_begun-spells, holder_so_far-spells, primitive_so_far-spells}
+use Rattle.tlv_walk.proofs.GrammarLemmas.OpenElements.{element_begun-spells, holder_so_far-spells}
+use Rattle.tlv_walk.proofs.GrammarLemmas.OpenElements.{primitive_so_far-spells}
 use Rattle.tlv_walk.proofs.GrammarLemmas.OpenElements.{size-definite}
 
 -- a header that is complete
@@ -73,14 +74,14 @@ front-step p o x h front = elim (cases_Bool (fits p (length o + 1))) [
   | inr f ↦ rw f tt
 ]
 
--- an octet 00 between encodings
+-- an octet 00 between elements
 zero-sound : (p : Place) (i a : Bool) → p.indefinite ≡ i → p.padding ≡ a → Fits p 1
     → IsStep p (0 ∷ []) (zero_between i a)
 zero-sound p true a e d f = record { keeps_rules = (e, f); spelled = refl }
 zero-sound p false true e d f = record { keeps_rules = ((d, e, f), tt); spelled = refl }
 zero-sound p false false e d f = tt
 
--- between encodings
+-- between elements
 no_more-step : (p : Place) (x : ℕ) → x < 256 → IsStep p (x ∷ []) (push p NoMore x)
 no_more-step p x h = elim (cases_Bool (fits p 1)) [
   | inl f ↦ elim (cases_eq x 0) [
@@ -136,7 +137,8 @@ open_bit_string-step p h x w = elim (cases_eq x 0) [
 -- a step of what follows padding
 padding-step : (p : Place) (o : List ℕ) (s : PushStep) → (p.padding ≡ true) × (p.indefinite ≡ false) × Fits p 1
     → IsStep (place_after p 1) o s → IsStep p (0 ∷ o) (push_after PaddingOctet s)
-padding-step p o (Grown g) w r = record { keeps_rules = (w, r.keeps_rules); spelled = ap (λ (t : List ℕ). 0 ∷ t) r.spelled }
+padding-step p o (Grown g) w r =
+    record { keeps_rules = (w, r.keeps_rules); spelled = ap (λ (t : List ℕ). 0 ∷ t) r.spelled }
 padding-step p o (Ended g) w r = absurd (true≢false (sym r.indefinite ∙ w.1))
 padding-step p o (Refused code) w r = tt
 
@@ -207,20 +209,21 @@ open_holder-step p h o (Ended g) entry r =
     }
 open_holder-step p h o (Refused code) entry r = tt
 
--- a step of an open forest is right: the forest that it gives is open, and spells the octet too
-pub push-sound : (p : Place) (f : Forest) (x : ℕ) → x < 256 → KeepsRules p f → IsStep p (spelling f ++ x ∷ []) (push p f x)
-push-sound p NoMore x h w = no_more-step p x h
-push-sound p (PaddingOctet rest) x h w = padding-step p _ _ w.0 (push-sound (place_after p 1) rest x h w.1)
-push-sound p (Primitive header c rest) x h w =
+-- a step of a forest that keeps the rules is right: the forest that it gives keeps them, and spells the octet too
+pub push-steps : (p : Place) (f : Forest) (x : ℕ) → x < 256 → KeepsRules p f
+    → IsStep p (spelling f ++ x ∷ []) (push p f x)
+push-steps p NoMore x h w = no_more-step p x h
+push-steps p (PaddingOctet rest) x h w = padding-step p _ _ w.0 (push-steps (place_after p 1) rest x h w.1)
+push-steps p (Primitive header c rest) x h w =
     rw (append_assoc-3 (octets_of header) c (spelling rest) (x ∷ []))
-    (primitive-step p header c _ _ w.0 (push-sound (place_after p (length (octets_of header) + length c)) rest x h w.1))
-push-sound p (Holder header inside rest) x h w =
+    (primitive-step p header c _ _ w.0 (push-steps (place_after p (length (octets_of header) + length c)) rest x h w.1))
+push-steps p (Holder header inside rest) x h w =
     rw (append_assoc-4 (opening header) (spelling inside) (end_octets header.size) (spelling rest) (x ∷ []))
-    (holder-step p header inside _ _ w.0 w.1 (push-sound (place_after p (extent header inside)) rest x h w.2))
-push-sound p (OpenPrimitive header c) x h w = open_primitive-step p header c x w
-push-sound p (OpenHolder header inside) x h w =
+    (holder-step p header inside _ _ w.0 w.1 (push-steps (place_after p (extent header inside)) rest x h w.2))
+push-steps p (OpenPrimitive header c) x h w = open_primitive-step p header c x w
+push-steps p (OpenHolder header inside) x h w =
     rw (append_assoc (opening header) (spelling inside) (x ∷ []))
-    (open_holder-step p header _ _ w.0.0 (push-sound (place_of_children p header) inside x h w.1))
-push-sound p (OpenBitString header) x h w = open_bit_string-step p header x w
-push-sound p (OpenHeader o) x h w = front-step p o x h w.1
-push-sound p OpenEndOctets x h w = end_octets-step p x w.0
+    (open_holder-step p header _ _ w.0.0 (push-steps (place_of_children p header) inside x h w.1))
+push-steps p (OpenBitString header) x h w = open_bit_string-step p header x w
+push-steps p (OpenHeader o) x h w = front-step p o x h w.1
+push-steps p OpenEndOctets x h w = end_octets-step p x w.0

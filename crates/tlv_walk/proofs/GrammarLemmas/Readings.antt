@@ -13,7 +13,7 @@ use Rattle.tlv_walk.specs.Place.{KeepsRules, Place, top_place}
 use Rattle.tlv_walk.specs.Reading.{IsPrefixOf, IsReading}
 use Rattle.tlv_walk.proofs.GrammarLemmas.Spellings.{front-of, front-same}
 use Rattle.tlv_walk.proofs.GrammarLemmas.PushSteps.{PushStep, Grown, Ended, Refused, IsStep, Spells, push}
-use Rattle.tlv_walk.proofs.GrammarLemmas.Push.{push-sound}
+use Rattle.tlv_walk.proofs.GrammarLemmas.Push.{push-steps}
 use Rattle.tlv_walk.proofs.GrammarLemmas.PopHeaders.{Popped, back, is_nil, is_push}
 use Rattle.tlv_walk.proofs.GrammarLemmas.Pop.{pop}
 
@@ -28,7 +28,8 @@ pub record PoppedBy (p : Place) (f : Forest) (o : List ℕ) (x : ℕ) : Type 0 w
   pub octet : popped.last ≡ x
 
 -- it is popped by the last octet of its spelling
-pub popped-by : (p : Place) (f : Forest) (o : List ℕ) (x : ℕ) → KeepsRules p f → spelling f ≡ o ++ x ∷ [] → PoppedBy p f o x
+pub popped-by : (p : Place) (f : Forest) (o : List ℕ) (x : ℕ) → KeepsRules p f → spelling f ≡ o ++ x ∷ []
+    → PoppedBy p f o x
 popped-by p f o x w e = elim (pop p f w) [
   | inl stop ↦ let e' : [] ≡ o ++ x ∷ [] =
       rw stop at e in absurd (omega (arith, ap length e', length-append o (x ∷ [])))
@@ -51,8 +52,9 @@ prefix-within p (suc n) f s t l w e = elim (back t) [
       q.spelled
 ]
 
--- each front of an open forest's spelling is an open forest's spelling
-pub prefix : (p : Place) (f : Forest) (s t : List ℕ) → KeepsRules p f → spelling f ≡ s ++ t → (g : Forest) × Spells p s g
+-- each prefix of the spelling of a forest that keeps the rules is the spelling of one that keeps them
+pub prefix : (p : Place) (f : Forest) (s t : List ℕ) → KeepsRules p f → spelling f ≡ s ++ t
+    → (g : Forest) × Spells p s g
 prefix p f s t w e = prefix-within p (length t) f s t refl w e
 
 -- forests that are popped alike are the same
@@ -62,7 +64,7 @@ same-pushed p f g q r e l =
     let b : push p r.from r.last ≡ Grown g = r.pushed in
     cc (a, b)
 
--- an open forest that spells nothing is empty
+-- a forest that keeps the rules and spells nothing is empty
 pub unique-empty : (p : Place) (f : Forest) → KeepsRules p f → spelling f ≡ [] → f ≡ NoMore
 unique-empty p f w e = elim (pop p f w) [
   | inl stop ↦ stop
@@ -85,12 +87,13 @@ unique-within p (suc n) f g o l w v e d = elim (back o) [
       same-pushed p f g q.popped r.popped same (q.octet ∙ sym r.octet)
 ]
 
--- two open forests at one place with one spelling are the same
+-- two forests at one place that keep the rules and have one spelling are the same
 pub unique : (p : Place) (f g : Forest) → KeepsRules p f → KeepsRules p g → spelling f ≡ spelling g → f ≡ g
 unique p f g w v e = unique-within p (length (spelling g)) f g (spelling g) refl w v e refl
 
--- the octet that leads from one open forest to another is pushed
-pub push-complete : (p : Place) (f g : Forest) (x : ℕ) → KeepsRules p f → KeepsRules p g → spelling g ≡ spelling f ++ x ∷ []
+-- the octet that leads from one forest that keeps the rules to another is pushed
+pub push-complete : (p : Place) (f g : Forest) (x : ℕ) → KeepsRules p f → KeepsRules p g
+    → spelling g ≡ spelling f ++ x ∷ []
     → push p f x ≡ Grown g
 push-complete p f g x w v e =
     let q : PoppedBy p g (spelling f) x = popped-by p g (spelling f) x v e in
@@ -166,7 +169,8 @@ halt-longer w f code b c r =
 turn-run : (w : Framing) (r : PushRun) (b : List ℕ) (x : ℕ) → x < 256 → IsRightRun w r b
     → IsRightRun w (push_next w r x) (b ++ x ∷ [])
 turn-run w (Going f) b x h r =
-    rw (← r.spelled) (took-run w f x (push (top_place w) f x) r.keeps_rules refl (push-sound (top_place w) f x h r.keeps_rules))
+    rw (← r.spelled)
+    (took-run w f x (push (top_place w) f x) r.keeps_rules refl (push-steps (top_place w) f x h r.keeps_rules))
 turn-run w (Halted f code) b x h r = halt-longer w f code b (x ∷ []) r
 
 -- and after more octets
@@ -182,7 +186,7 @@ run_from-run w r b (x ∷ xs) each v =
 pub is-run : (w : Framing) (b : List ℕ) → All (λ x. x < 256) b → IsRightRun w (push_all w b) b
 is-run w b each = run_from-run w (Going NoMore) [] b each (record { keeps_rules = tt; spelled = refl })
 
--- no open forest spells the octet that is refused
+-- no forest that keeps the rules spells the octet that is refused
 pub halt-longest : (w : Framing) (f : Forest) (code : FaultCode) (b : List ℕ) → IsHalt w f code b → (g : Forest)
     → KeepsRules (top_place w) g → IsPrefixOf (spelling g) b
     → length (spelling g) ≤ length (spelling f)

@@ -214,7 +214,8 @@ module _ (form : Bool → Bool) (definite : form false ≡ false) where
                 t.regular,
               );
               spelled = ap₂ (λ (x y : List ℕ). begins ++ (x ++ (ends ++ y))) i.spelled t.spelled;
-              names_are = ap₂ (λ (x y : List ℕ). wrapper_offset_by constructed q.offset ++ (x ++ y)) i.names_are others_are;
+              names_are =
+                  ap₂ (λ (x y : List ℕ). wrapper_offset_by constructed q.offset ++ (x ++ y)) i.names_are others_are;
             };
       }
 

@@ -1,4 +1,4 @@
--- Sound elements are open forests in which nothing is open, and the other way.
+-- Sound elements are forests that keep the rules and in which nothing is open, and the other way.
 use Rattle.std.proofs.Common.{◌≡◌, ◌+◌, true, false, length, refl, arith}
 use Rattle.tlv_head.specs.Header.{HeaderValue, octets_of}
 use Rattle.tlv_walk.specs.declared.framing.Framing.{Framing}
@@ -30,7 +30,7 @@ fits-contents p h inside same f =
     (filled-within h.size (p.offset + length (octets_of h)) p.bound (contents_length h inside) same
     (within-le p.bound _ _ (omega (arith, length-opening h)) f))
 
--- sound elements that end within the bound are an open forest
+-- sound elements that end within the bound keep the rules
 pub sound-open : (p : Place) (f : Forest) → (p.padding ≡ true → p.indefinite ≡ false) → Fits p (length (spelling f))
     → IsSound p f → KeepsRules p f
 sound-open p NoMore d z s = tt
@@ -64,7 +64,7 @@ sound-open p (OpenBitString h) d z s = absurd s
 sound-open p (OpenHeader octets) d z s = absurd s
 sound-open p OpenEndOctets d z s = absurd s
 
--- an open forest in which nothing is open is sound
+-- a forest that keeps the rules and in which nothing is open is sound
 pub open-sound : (p : Place) (f : Forest) → KeepsRules p f → is_whole f ≡ true → IsSound p f
 open-sound p NoMore w t = tt
 open-sound p (PaddingOctet rest) w t = (w.0.0, open-sound (place_after p 1) rest w.1 t)

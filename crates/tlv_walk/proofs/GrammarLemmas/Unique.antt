@@ -12,7 +12,8 @@ use Rattle.tlv_walk.specs.Forest.{Forest, NoMore, PaddingOctet, Primitive, Holde
 use Rattle.tlv_walk.specs.Forest.{OpenBitString, OpenHeader, OpenEndOctets, has_element, is_whole, spelling}
 use Rattle.tlv_walk.specs.Place.{top_place}
 use Rattle.tlv_walk.specs.Reading.{CannotBecomeSound, IsReading, IsSoundList}
-use Rattle.tlv_walk.specs.Ending.{IsEnding, IsRefusedAt, IsFinalEnding, ShowsSoundness, done, empty, fault_ending, refused}
+use Rattle.tlv_walk.specs.Ending.{IsEnding, IsRefusedAt, IsFinalEnding, ShowsSoundness, done, empty, fault_ending}
+use Rattle.tlv_walk.specs.Ending.{refused}
 use Rattle.tlv_walk.specs.Ending.{short, open_end}
 use Rattle.tlv_walk.proofs.GrammarLemmas.Readings.{Halted, IsHalt, halt-longer, reading-unique, run-reading}
 use Rattle.tlv_walk.proofs.GrammarLemmas.Faults.{fault-unique}

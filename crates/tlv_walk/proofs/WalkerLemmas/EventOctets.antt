@@ -114,7 +114,8 @@ octets_append : (xs ys : List EventValue)
 octets_append xs ys = flat_map-append event_octets xs ys
 
 -- of whole elements
-octets_whole : (p : Place) (f : Forest) → KeepsRules p f → is_whole f ≡ true → flat_map event_octets (events f) ≡ spelling f
+octets_whole : (p : Place) (f : Forest) → KeepsRules p f → is_whole f ≡ true
+    → flat_map event_octets (events f) ≡ spelling f
 octets_whole p NoMore o e = refl
 octets_whole p (PaddingOctet rest) o e = ap (λ (l : List ℕ). 0 ∷ l) (octets_whole (place_after p 1) rest o.1 e)
 octets_whole p (Primitive h c rest) o e =

@@ -14,7 +14,8 @@ use Rattle.tlv_head.specs.Push as push
 use Rattle.tlv_head.specs.Push.{Completes, IsRefusedPush}
 use Rattle.tlv_head.proofs.ReaderLemmas.Prefix.{header-two}
 use Rattle.tlv_walk.specs.Phase as phase
-use Rattle.tlv_walk.specs.Ending.{IsEnding, IsRefusedAt, fault_ending, no_room, open_end, overrun, refused_octet, too_deep}
+use Rattle.tlv_walk.specs.Ending.{IsEnding, IsRefusedAt, fault_ending, no_room, open_end, overrun, refused_octet}
+use Rattle.tlv_walk.specs.Ending.{too_deep}
 use Rattle.tlv_walk.specs.Forest.{OpenHeader}
 use Rattle.tlv_walk.specs.Events.{EventValue}
 use Rattle.tlv_walk.specs.Inside.{is_among}
@@ -64,17 +65,17 @@ pub refused-some : (code : FaultCode) (r : HeadReaderState) (x : ℕ) (room : Op
 refused-some code r x room depth (push.no_room none) some e = some none
 refused-some code r x room depth (push.refused_octet left octet) some e = refused-after r.octets x code octet e
 refused-some code r x room depth (push.too_deep left h completes holding deep) some e = completes-two r x h completes e
-refused-some code r x room depth (push.overrun left h completes shallow past) some e = completes-two r x h completes e
+refused-some code r x room depth (push.overrun left h completes shallow beyond) some e = completes-two r x h completes e
 
 -- ---- what a reader refuses is a fault there
 
--- the contents end past the bound
+-- the contents end beyond the bound
 beyond_bound : (size : Size) (b : Option ℕ) (n m : ℕ) → (ContentsFit size (room_to b n) → ⊥)
     → n + 1 + announced_length size ≤ m → IsWithin b m → ⊥
-beyond_bound (Definite k) None n m past h f = past tt
-beyond_bound Indefinite None n m past h f = past tt
-beyond_bound (Definite k) (Some b) n m past h f = past (omega arith)
-beyond_bound Indefinite (Some b) n m past h f = past (omega arith)
+beyond_bound (Definite k) None n m beyond h f = beyond tt
+beyond_bound Indefinite None n m beyond h f = beyond tt
+beyond_bound (Definite k) (Some b) n m beyond h f = beyond (omega arith)
+beyond_bound Indefinite (Some b) n m beyond h f = beyond (omega arith)
 
 -- where a reader is
 pub record IsReader (p : Place) (q : HeadReaderState) (room : Option ℕ) (depth : ℕ) : Type 0 where
@@ -103,7 +104,8 @@ room_there p q room depth k some =
 
 -- each cause of a reader is a line of the faults
 pub refused_fault : (p : Place) (q : HeadReaderState) (room : Option ℕ) (depth x : ℕ) (code : FaultCode)
-    → IsReader p q room depth → IsRefusedPush q x room depth code → IsRefusedAt (open_end p (OpenHeader q.octets)) x code
+    → IsReader p q room depth → IsRefusedPush q x room depth code
+    → IsRefusedAt (open_end p (OpenHeader q.octets)) x code
 refused_fault p q room depth x code k (push.no_room none) =
     no_room
     (left_none p.bound (p.offset + length q.octets) (p.offset + (length q.octets + 1)) (sym k.left ∙ none)
@@ -114,11 +116,12 @@ refused_fault p q room depth x code k (push.too_deep left h completes holding de
     too_deep (room_there p q room depth k left) h (header_there p q room depth x h true holding k completes)
     completes.octets
     (subst (λ (n : ℕ). 128 ≤ n) k.depths deep)
-refused_fault p q room depth x code k (push.overrun left h completes shallow past) =
+refused_fault p q room depth x code k (push.overrun left h completes shallow beyond) =
     overrun (room_there p q room depth k left) h (header_there p q room depth x h (holds h) refl k completes)
     completes.octets
     (λ e. subst (λ (n : ℕ). n < 128) k.depths (shallow e))
-    (beyond_bound h.size p.bound (p.offset + length q.octets) _ (λ f. past (subst (ContentsFit h.size) (sym k.left) f))
+    (beyond_bound h.size p.bound (p.offset + length q.octets) _ (λ f. beyond (subst (ContentsFit h.size)
+    (sym k.left) f))
     (omega (arith, ap length completes.octets, length-append q.octets (x ∷ []))))
 
 -- ---- a walker refuses it

@@ -14,7 +14,7 @@ use Rattle.tlv_walk.proofs.WalkerLemmas.ZipperGrowth.{are_whole, element-either,
 use Rattle.tlv_walk.proofs.WalkerLemmas.ZipperGrowth.{tail_state, yielded_whole, with_layers}
 use Rattle.tlv_walk.proofs.WalkerLemmas.Zipper.{followed_by}
 
--- octets 00 between encodings
+-- padding
 abbrev pub padding_octets : List ℕ → Forest
 padding_octets [] = NoMore
 padding_octets (x ∷ xs) = PaddingOctet (padding_octets xs)

@@ -8,7 +8,8 @@ use Rattle.tlv_walk.specs.declared.ending.Ending.TheVariants as ending
 use Rattle.tlv_head.specs.declared.fault.Fault.{Fault}
 use Rattle.tlv_walk.specs.Phase.{PhaseValue}
 use Rattle.tlv_walk.specs.Phase as phase
-use Rattle.tlv_walk.specs.Ending.{IsEnding, IsRefusedAt, bad_end, bad_inside, fault_at, fault_ending, missing_end, no_end}
+use Rattle.tlv_walk.specs.Ending.{IsEnding, IsRefusedAt, bad_end, bad_inside, fault_at, fault_ending, missing_end}
+use Rattle.tlv_walk.specs.Ending.{no_end}
 use Rattle.tlv_walk.specs.Ending.{stray_end}
 use Rattle.tlv_walk.specs.Events.{EventValue}
 use Rattle.tlv_walk.specs.WalkerState.{WalkerState}

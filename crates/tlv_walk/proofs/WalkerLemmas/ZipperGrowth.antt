@@ -98,7 +98,8 @@ spelled_whole ls here more old t b whole e f =
 
 -- whole elements, and then one more
 pub are_whole : (p : Place) (here more : Forest) → AreWhole p here
-    → KeepsRules (place_after p (length (spelling here))) more → is_whole more ≡ true → AreWhole p (followed_by here more)
+    → KeepsRules (place_after p (length (spelling here))) more → is_whole more ≡ true
+    → AreWhole p (followed_by here more)
 are_whole p here more h o w = record {
   keeps_rules = open-followed_by p here more h o;
   whole = whole-followed_by here more h.whole ∙ w;

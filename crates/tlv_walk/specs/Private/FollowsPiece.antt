@@ -51,6 +51,7 @@ pub record FollowStates (S D : Type 0) : Type 0 where
   pub follower : S
   pub out : Out D
 
+-- the following of a piece with these states
 abbrev pub follow_states : {S D : Type 0} → WalkerState → S → Out D → FollowStates S D
 follow_states walker follower out = record { walker = walker; follower = follower; out = out }
 
@@ -62,7 +63,7 @@ module _ {S D : Type 0} (next : S → EventValue → Effect S) (old new : Follow
     pub made : FollowsEvents next old.follower new.follower more goes
     pub walked : WalksOver old.walker new.walker piece rest more
 
-  -- all of a piece was followed, and the next octet can be taken
+  -- all of a piece was followed, and the walker is ready for the next octet
   pub record FollowsAll (piece : List ℕ) (more : List EventValue) : Type 0 where
     pub follows : Follows piece [] more go.On
     pub offset : new.walker.offset ≡ old.walker.offset + length piece

@@ -21,13 +21,14 @@ end_from Definite n = bound_from n
 end_from Indefinite n = None
 end_from Wrapper n = bound_from n
 
--- it is a wrapper
+-- whether it is a wrapper
 abbrev pub wraps_from : FrameKind → Bool
 wraps_from Input = false
 wraps_from Definite = false
 wraps_from Indefinite = false
 wraps_from Wrapper = true
 
+-- what the fields of a frame say of its element
 abbrev pub frame_from : Frame → FrameValue
 frame_from f = record { end = end_from f.kind f.bound; bound = bound_from f.bound; wrapper = wraps_from f.kind }
 
@@ -37,7 +38,7 @@ abbrev pub frames_from : Frame → List Frame → List FrameValue
 frames_from innermost [] = []
 frames_from innermost (f ∷ fs) = frame_from innermost ∷ frames_from f fs
 
--- the input has no bound
+-- the frame of the input, which has no bound
 abbrev pub IsInput : Frame → Type 0
 IsInput f = (f.kind ≡ Input) × (f.bound ≡ unbounded)
 

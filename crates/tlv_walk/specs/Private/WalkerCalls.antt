@@ -53,7 +53,7 @@ HasBegunHeader InBitString = ⊥
 HasBegunHeader InEndOctets = ⊥
 HasBegunHeader (Refused fault) = ⊥
 
--- the piece begins with octets of a header
+-- the piece begins where a header begins or goes on
 abbrev pub CanRead : WalkerState → List ℕ → Type 0
 CanRead w piece = CanBegin w piece ⊎ (HasBegunHeader w.phase × (piece ≢ []))
 
@@ -96,12 +96,14 @@ CountsStep old new piece rest (step.Event e) = CountsOne old new piece rest × I
 CountsStep old new piece rest step.NeedMore = TakesAll old new piece rest
 CountsStep old new piece rest (step.Fault f) = Refuses old new piece rest f
 
--- the same of an event that came at once; nothing, if none came
+-- what a call that may yield an event at once makes of the offset, the count of events and the phase: nothing, if it
+-- yields none
 abbrev pub CountsAtOnce : WalkerState → WalkerState → List ℕ → List ℕ → Option Event → Type 0
 CountsAtOnce old new piece rest (Some e) = CountsOne old new piece rest × IsNoEmptyPart e
 CountsAtOnce old new piece rest None = (new ≡ old) × (rest ≡ piece)
 
--- a header that may be there, and of which the walker has taken a part at most
+-- a header that may be there: not too deep, within the bound and the limit, and before it as many octets as events and
+-- open elements, at least
 pub record CanTakeHeader (w : WalkerState) (h : HeaderValue) : Type 0 where
   pub valid : IsHeader h
   pub counted : least_octets w.events w.stack ≤ h.offset
@@ -109,7 +111,7 @@ pub record CanTakeHeader (w : WalkerState) (h : HeaderValue) : Type 0 where
   pub shallow : holds h ≡ true → length w.stack < 128
   pub fits : IsWithin (bound_of w.stack) (h.offset + length (octets_of h) + announced_length h.size)
 
--- after a whole header
+-- a walker after a whole header
 abbrev pub after_header : WalkerState → PhaseValue → ℕ → WalkerState
 after_header w phase offset = record w { phase = phase; offset = offset; events = w.events + 1; has_element = true }
 
@@ -145,7 +147,7 @@ pub record CanPass (w : WalkerState) (piece : List ℕ) (p : WholePrimitive) : T
   pub within : p.octet_count ≤ length piece
   pub fits : IsWithin (bound_of w.stack) (w.offset + p.octet_count)
 
--- its header
+-- the header of such a primitive
 abbrev pub header_at : WholePrimitive → List ℕ → HeaderValue
 header_at p piece = new_header p.fields (take p.header_length piece)
 

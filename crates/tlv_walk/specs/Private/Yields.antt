@@ -28,7 +28,7 @@ pub record YieldsEvents (old new : WalkerState) (piece rest : List ℕ) (es : Li
   pub piece_is : piece ≡ taken ++ rest
   pub continues : Continues old new taken es
 
--- the same of one event
+-- a prefix of a piece was taken, and this event was yielded
 abbrev pub YieldsEvent : WalkerState → WalkerState → List ℕ → List ℕ → EventValue → Type 0
 YieldsEvent old new piece rest e = YieldsEvents old new piece rest (e ∷ [])
 

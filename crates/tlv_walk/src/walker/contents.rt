@@ -1,4 +1,4 @@
-//! How a walker takes the contents of primitives, and octets between encodings.
+//! How a walker takes the contents of primitives, and padding.
 ghost use Rattle.std.specs.Prelude.{◌≡◌, ◌≢◌, ◌<◌, ◌≤◌, ◌∷◌, [], All, Some, length, slice_get, take, true};
 ghost use Rattle.tlv_walk.specs.Phase as phases;
 ghost use Rattle.tlv_walk.specs.Events.{IsNoEmptyPart, event_value_of};
@@ -45,7 +45,7 @@ impl Walker {
         Event::End
     }
 
-    /// Takes the octets `00` at the front of the piece.
+    /// Takes the padding at the front of the piece.
     pub(super) fn padding<'a>(&mut self, piece: &mut &'a [u8]) -> Event<'a>
         requires phase { self.old.phase ≡ phases.Between }
         requires zero { slice_get piece.old.now 0 ≡ Some 0 }

@@ -15,6 +15,7 @@ use tlv_head::{HeaderFields, Size, read_short};
 /// A primitive that lies whole at the front of a piece.
 #[derive(Clone, Copy)]
 pub(crate) struct WholePrimitive {
+    /// The fields of its header.
     pub fields: HeaderFields,
     /// How many octets its header has.
     pub header_length: usize,

@@ -14,8 +14,12 @@ use Rattle.tlv_walk.proofs.FollowerLemmas.Parts.{fails_part, follows_left, follo
 use Rattle.tlv_walk.proofs.WalkerLemmas.Standing.{event_offset, stands_all, walked_event}
 use Rattle.tlv_walk.proofs.one_turn.follow.Goals.{in-Some+in_ok-go-in-Some}
 use Rattle.tlv_walk.proofs.one_turn.follow.Goals.{in-None+in-Some-constructed+in_ok-go-in-Some-constructed}
-use Rattle.tlv_walk.proofs.one_turn.follow.Goals.{in-None+in-None-constructed+in-Some-contents_event+in_ok-go-in-Some-contents_event}
-use Rattle.tlv_walk.proofs.one_turn.follow.Goals.{in-None+in-None-constructed+in-None-contents_event+in-Event+in_ok-go-in-Event}
+use Rattle.tlv_walk.proofs.one_turn.follow.Goals.{
+  in-None+in-None-constructed+in-Some-contents_event+in_ok-go-in-Some-contents_event,
+}
+use Rattle.tlv_walk.proofs.one_turn.follow.Goals.{
+  in-None+in-None-constructed+in-None-contents_event+in-Event+in_ok-go-in-Event,
+}
 use Rattle.tlv_walk.proofs.one_turn.follow.Goals as goal
 
 -- nothing was taken
