@@ -22,7 +22,7 @@ use Rattle.tlv_walk.specs.Reading.{AreOctets, IsPrefixOf}
 use Rattle.tlv_walk.specs.HasRead.{StandsAtEnd}
 use Rattle.tlv_walk.specs.Stands.{IsReady, HasEvents, IsIdle, Stands}
 
--- the octets that the last read gave, with which the array begins into which it was made
+-- the octets that the last read gave, by what the array into which it was made then holds
 abbrev pub last_octets : LastReadValue → List ℕ → List ℕ
 last_octets never room = []
 last_octets (gave n) room = take n room
@@ -34,7 +34,7 @@ LastReadGaveUpTo most never = ⊥
 LastReadGaveUpTo most (gave n) = n ≤ most
 LastReadGaveUpTo most failed = ⊥
 
--- what the read gave, by the result of the turn
+-- what the read of a turn gave, by the result of the turn: no more than so many octets
 abbrev pub LastReadWas : ℕ → Result Turn DeviceFault → LastReadValue → Type 0
 LastReadWas most (Ok turn) last = LastReadGaveUpTo most last
 LastReadWas most (Err ReadFailed) last = last ≡ failed
@@ -186,8 +186,8 @@ module _ {S : Type 0} (next : S → EventValue → Effect S) (old new : TurnStat
   CanGoOn limit (Err WriteFailed) = ⊤
   CanGoOn limit (Err InputTooLong) = IsAtLimit limit
 
-  -- one read of a source, of which what it gave is followed and flushed. The array into which it is made is `room`
-  -- after it
+  -- what a turn does: it makes one read, and what that gave is followed and flushed. `room` is what the array into which
+  -- it was made holds after the turn
   pub record FollowsOneRead (limit : ℕ) (room : List ℕ) (result : Result Turn DeviceFault) : Type 0 where
     -- what the devices did
     pub calls : CallsDevices room result

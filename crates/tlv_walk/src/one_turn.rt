@@ -6,7 +6,7 @@ ghost use Rattle.tlv_walk.specs.Private.FollowsPiece.{FollowsAndFlushes, Follows
 ghost use Rattle.tlv_walk.specs.Private.WalkerCalls.{CanPass};
 ghost use Rattle.tlv_walk.specs.Stands.{IsReady};
 ghost use Rattle.tlv_walk.specs.WalkerState.{IsWithinInputLimit};
-ghost use Rattle.tlv_io.specs.Out.{Puts, held_octets, drain_of};
+ghost use Rattle.tlv_io.specs.Out.{held_octets, drain_of};
 ghost use Rattle.tlv_walk.specs.Events.{event_value_of};
 ghost use Rattle.tlv_walk.specs.OneTurn.{CanTurn, FollowsOneRead, turn_states};
 
