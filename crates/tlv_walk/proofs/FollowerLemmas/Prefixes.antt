@@ -1,4 +1,4 @@
--- Parts of a piece, followed: one after another.
+-- Prefixes of a piece, followed one after another.
 use Rattle.std.proofs.Common.{◌≡◌, ℕ, ◌+◌, Bool, true, false, List, [], ◌∷◌, ◌++◌, length, take, drop, refl, sym, ap}
 use Rattle.std.proofs.Common.{ap₂, ◌∙◌, subst, append_assoc, append-nil}
 use Rattle.std.proofs.lemmas.Bool.{true≢false}
@@ -157,7 +157,7 @@ module _ {S : Type 0} (next : S → EventValue → Effect S) where
       puts = puts_failed_last state_of x.out y.out _ e (Err f) effect.puts refl;
     }
 
-    -- ---- a part after what was followed
+    -- ---- a prefix after what was followed
 
     prefix_some : (y z : FollowStates S D) (rest left : List ℕ) (more : List EventValue) (k : Bool) → k ≡ true
         → TakesPrefixOrNone next y z rest left more (Ok k) → TakesPrefix next y z rest left more
