@@ -11,8 +11,8 @@ use Rattle.tlv_walk.specs.LongerInputs.{ForLongerInputs}
 use Rattle.tlv_cut.specs.ExtractText.{extract_text, has_element_at, has_whole_element_at}
 use Rattle.tlv_cut.specs.ExtractStep.{ExtractState, extract_step, has_found, new_extract}
 
--- what is written of the element at the offset n are octets of the input b, from that offset on:
--- a header, contents and, if the element is whole, end-of-contents octets
+-- what is written of the element at the offset n are octets of the input b, from that offset on: a header, contents
+-- and, if the element is whole and its length is indefinite, end-of-contents octets
 pub record IsInInput (b : List ℕ) (n : ℕ) (f : Forest) : Type 0 where
   -- the octets before the element, and those after what is written of it
   pub before : List ℕ
@@ -61,7 +61,7 @@ pub record MakesExtract (n : ℕ) (contents_only : Bool) (f : Forest) (x : Effec
   pub goes : x.goes ≡ go_of (has_whole_element_at n f)
   pub found : has_found x.state ≡ has_element_at n f
 
--- an `Extract` makes that of the events of a reading
+-- of the events of a reading an `Extract` makes what `extract` writes
 abbrev pub ExtractMakesItsText : Type 0
 ExtractMakesItsText = (framing : Framing) (b : List ℕ) (f : Forest) → IsReading framing b f
     → (n : ℕ) (contents_only : Bool)

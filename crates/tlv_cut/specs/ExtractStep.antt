@@ -43,7 +43,7 @@ extract_step_to s position octets goes =
     record { state = record s { position = position }; put = octets; goes = goes }
 
 -- an element begins at this offset, with these octets for its header: the one wanted, one that it holds, or
--- another. The count of those that it holds stops at 255
+-- another. The count of those that are open in it stops at 255
 abbrev pub extract_begin_step_at : ExtractState → ℕ → List ℕ → Effect ExtractState
 extract_begin_step_at s offset octets = by_position s.position
   where

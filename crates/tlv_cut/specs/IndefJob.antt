@@ -6,7 +6,7 @@ use Rattle.tlv_walk.specs.Job.{Job}
 use Rattle.tlv_cut.specs.IndefText.{indef_text}
 use Rattle.tlv_head.specs.InputLimit.{input_limit}
 
--- no string is read as encodings, and padding may be between encodings, or not
+-- no string is read as encodings; there may be padding, or not
 abbrev pub indef_framing : Bool → Framing
 indef_framing padding = record { inside = []; padding = padding }
 

@@ -5,13 +5,13 @@ use Rattle.tlv_walk.specs.Ending.{IsEnding}
 use Rattle.tlv_walk.specs.Events.{events}
 use Rattle.tlv_walk.specs.Follow.{effect_of, effect_with}
 use Rattle.tlv_walk.specs.Forest.{Forest, spelling}
-use Rattle.tlv_walk.specs.Place.{IsOpen, top_place}
+use Rattle.tlv_walk.specs.Place.{KeepsRules, top_place}
 use Rattle.tlv_walk.specs.Reading.{IsPrefixOf, IsReading}
 use Rattle.tlv_walk.specs.LongerInputs.{ForLongerInputs}
 use Rattle.tlv_cut.specs.IndefText.{indef_text}
 use Rattle.tlv_cut.specs.IndefStep.{IndefState, indef_step}
 use Rattle.tlv_cut.specs.IndefJob.{indef_framing}
-use Rattle.tlv_cut.specs.IndefReading.{indef_reading}
+use Rattle.tlv_cut.specs.IndefReading.{IsReadBack, indef_reading}
 
 -- of the events of elements an `Indef` makes what `indef` writes, and it wants more
 abbrev pub IndefMakesItsText : Type 0
@@ -21,18 +21,17 @@ IndefMakesItsText = (s : IndefState) (f : Forest) → effect_of indef_step s (ev
 abbrev pub IndefTextGoesOn : Type 0
 IndefTextGoesOn = ForLongerInputs (λ f g. IsPrefixOf (indef_text f) (indef_text g))
 
--- what is written are the octets of elements that keep all rules
+-- what is written of elements that keep the rules are the octets of elements that keep them too
 abbrev pub IndefTextKeepsRules : Type 0
-IndefTextKeepsRules = (padding : Bool) (f : Forest) → IsOpen (top_place (indef_framing padding)) f
+IndefTextKeepsRules = (padding : Bool) (f : Forest) → KeepsRules (top_place (indef_framing padding)) f
     → (spelling (indef_reading f) ≡ indef_text f)
-    × IsOpen (top_place (indef_framing padding)) (indef_reading f)
+    × KeepsRules (top_place (indef_framing padding)) (indef_reading f)
 
--- what is written is read as those elements, and of these the same octets are written again
+-- what is written for an input is read back: as the same elements with indefinite lengths, and for these the same
+-- octets are written again
 abbrev pub IndefTextIsReadBack : Type 0
 IndefTextIsReadBack = (padding : Bool) (b : List ℕ) (f : Forest)
-    → IsReading (indef_framing padding) b f
-    → IsReading (indef_framing padding) (indef_text f) (indef_reading f)
-    × (indef_text (indef_reading f) ≡ indef_text f)
+    → IsReading (indef_framing padding) b f → IsReadBack padding f (indef_text f)
 
 -- if an input ends without a fault, so does what is written for it
 abbrev pub IndefTextIsDone : Type 0

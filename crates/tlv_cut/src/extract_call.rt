@@ -18,7 +18,9 @@ pub struct Cut {
 ///
 /// It is the element whose first identifier octet is at `offset`, in octets from the start of the
 /// input. If no element begins there, nothing is written. `framing` says which strings are read as
-/// encodings, and whether padding may be between the outermost elements.
+/// encodings, and whether there may be padding.
+///
+/// Returns whether the element was found, and the ending ([`Cut`]).
 ///
 /// The octets of an element that does not end are written too. Those of an unfinished header are not,
 /// nor is the first of the end-of-contents octets without the second. Nothing more is read once the
@@ -26,8 +28,7 @@ pub struct Cut {
 ///
 /// # Errors
 ///
-/// - `ReadFailed` exactly if the source counted a failed read in the call.
-/// - `WriteFailed` exactly if the drain counted a failed write in the call.
+/// - `ReadFailed` exactly if a read failed, and `WriteFailed` exactly if a write failed.
 /// - `InputTooLong` if the source gave more than 2^40 octets, and among the first 2^40 there is
 ///   neither an octet that is refused nor the end of the element.
 pub fn extract<S: Source, D: Drain>(

@@ -173,13 +173,13 @@ impl Follow for Extract {
         out: &mut Out<'_, D>,
     ) -> Result<bool, WriteFault> {
         match self.position {
-            // The element wanted is left to `on`, which has enough at its end.
+            // The element wanted goes to `on`, which has enough at its end.
             Position::Before => Ok(header.offset != self.offset),
             Position::Within(count) if count < 255 => {
                 out.put(octets)?;
                 Ok(true)
             }
-            // At 255 the count would not go up before it goes down, so this is left to `on` too.
+            // At 255 the count would not go up before it goes down, so this goes to `on` too.
             Position::Within(_) => Ok(false),
             Position::After => Ok(true),
         }

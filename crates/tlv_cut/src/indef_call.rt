@@ -9,17 +9,18 @@ use tlv_walk::{DeviceFault, Drain, Ending, Framing, Inside, Source, drive};
 /// constructed element (X.690, 8.1.3.6). Returns the ending of the input.
 ///
 /// It reads up to the end of the input, or to the first octet that is refused. If the input ends in
-/// a fault, no end-of-contents octets are written for the elements that are still open.
+/// a fault, no end-of-contents octets are written for the elements that are still open. The octets of
+/// an unfinished header are not written either, nor is the first of the end-of-contents octets without
+/// the second.
 ///
 /// If the ending is `Done`, what was written is read, with the same `padding`, as the same elements with
 /// indefinite lengths. Its ending is `Done` too, and of it `indef` writes the same octets again.
 ///
-/// With `padding`, octets `00` may be between the encodings, and are written as they are.
+/// With `padding`, there may be padding, which is written as it is.
 ///
 /// # Errors
 ///
-/// - `ReadFailed` exactly if the source counted a failed read in the call.
-/// - `WriteFailed` exactly if the drain counted a failed write in the call.
+/// - `ReadFailed` exactly if a read failed, and `WriteFailed` exactly if a write failed.
 /// - `InputTooLong` if the source gave more than 2^40 octets, and none of the first 2^40 is
 ///   refused.
 pub fn indef<S: Source, D: Drain>(

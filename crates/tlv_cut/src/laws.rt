@@ -17,7 +17,8 @@ ghost use Rattle.tlv_cut.specs.IndefLaws.{
 };
 
 /// What `extract` writes of an element are octets of the input as they are, from the element's
-/// offset on: its header, its contents and, if it is whole, its end-of-contents octets.
+/// offset on: its header, its contents and, if it is whole and its length is indefinite, its
+/// end-of-contents octets.
 pub fn extract_text_is_in_the_input()
     ensures { ExtractTextIsInTheInput }
 {}
@@ -60,7 +61,7 @@ pub fn indef_text_goes_on()
 {}
 
 /// What `indef` writes are the octets of the same elements with indefinite lengths, and these keep
-/// all rules.
+/// the rules.
 pub fn indef_text_keeps_rules()
     ensures { IndefTextKeepsRules }
 {}

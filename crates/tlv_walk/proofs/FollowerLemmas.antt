@@ -5,7 +5,7 @@ pub mod Followed
 pub mod Following
 pub mod Jobs
 pub mod MadeAll
-pub mod Parts
+pub mod Prefixes
 pub mod Pauses
 pub mod SoFar
 pub mod TurnEnds

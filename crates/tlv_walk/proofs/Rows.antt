@@ -56,8 +56,8 @@ unused-bits = refl
 bits-cut-off : ending wrapping (3 ∷ 1 ∷ []) ≡ fault_ending Short 2
 bits-cut-off = refl
 
-past-wrapper : ending wrapping (4 ∷ 2 ∷ 5 ∷ 1 ∷ []) ≡ fault_ending Overrun 3
-past-wrapper = refl
+beyond-wrapper : ending wrapping (4 ∷ 2 ∷ 5 ∷ 1 ∷ []) ≡ fault_ending Overrun 3
+beyond-wrapper = refl
 
 zero-in-wrapper : ending wrapping (4 ∷ 1 ∷ 0 ∷ []) ≡ fault_ending StrayEnd 2
 zero-in-wrapper = refl
@@ -83,8 +83,8 @@ indefinite-primitive = refl
 length-too-large : ending plain_framing (4 ∷ 134 ∷ 1 ∷ []) ≡ fault_ending LengthTooLarge 2
 length-too-large = refl
 
-past-sequence : ending wrapping (48 ∷ 5 ∷ 4 ∷ 0 ∷ 5 ∷ 3 ∷ 0 ∷ []) ≡ fault_ending Overrun 5
-past-sequence = refl
+beyond-sequence : ending wrapping (48 ∷ 5 ∷ 4 ∷ 0 ∷ 5 ∷ 3 ∷ 0 ∷ []) ≡ fault_ending Overrun 5
+beyond-sequence = refl
 
 wrapped-twice : ending wrapping (4 ∷ 5 ∷ 4 ∷ 1 ∷ 7 ∷ 4 ∷ 0 ∷ []) ≡ Done
 wrapped-twice = refl

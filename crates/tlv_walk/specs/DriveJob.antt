@@ -1,20 +1,20 @@
 -- What a walk over all that a source gives comes to.
-use Rattle.std.specs.Prelude.{◌≡◌, ℕ, true, false, if◌then◌else◌, List, flat_map, length, Result, OnOk}
+use Rattle.std.specs.Prelude.{◌≡◌, ℕ, true, false, if◌then◌else◌, List, length, Result, OnOk}
 use Rattle.tlv_walk.specs.declared.ending.Ending.{Ending}
 use Rattle.tlv_walk.specs.declared.ending.Ending.TheVariants as ending
 use Rattle.tlv_walk.specs.declared.framing.Framing.{Framing}
 use Rattle.tlv_walk.specs.declared.run.DeviceFault.{DeviceFault}
 use Rattle.tlv_walk.specs.declared.run.Run.{Run}
 use Rattle.tlv_io.specs.Device.{DrainState, SourceState}
-use Rattle.tlv_walk.specs.Events.{EventValue, event_octets, events}
+use Rattle.tlv_walk.specs.Events.{EventValue, events, octets_of_events}
 use Rattle.tlv_walk.specs.Follow.{Effect, effect_of, followed_events, had_enough}
 use Rattle.tlv_walk.specs.Forest.{Forest, spelling}
 use Rattle.tlv_walk.specs.Job.{DeviceStates, Job, Runs, device_states, drain_result}
-use Rattle.tlv_walk.specs.Wrappers.{first_other, first_without_wrapper, entered_offsets}
+use Rattle.tlv_walk.specs.Wrappers.{first_not_among, first_without_wrapper, entered_offsets}
 
 -- the run over a forest of which all events were followed, with this ending
-abbrev pub whole_run : Framing → Forest → Ending → Run
-whole_run framing f e =
+abbrev pub run_over : Framing → Forest → Ending → Run
+run_over framing f e =
     record { ending = e; octets = length (spelling f); enough = false; unused = first_without_wrapper framing.inside f }
 
 -- the run that ends after the last of these events, with which a follower had enough
@@ -22,9 +22,9 @@ abbrev pub enough_run : Framing → List EventValue → Run
 enough_run framing es =
     record {
       ending = ending.Done;
-      octets = length (flat_map event_octets es);
+      octets = length (octets_of_events es);
       enough = true;
-      unused = first_other framing.inside (entered_offsets es);
+      unused = first_not_among framing.inside (entered_offsets es);
     }
 
 -- what takes part in a walk over all that a source gives, as it is before the walk or after it: the follower's
@@ -33,24 +33,29 @@ pub record DriveStates (S : Type 0) : Type 0 where
   pub follower : S
   pub devices : DeviceStates
 
+-- a walk with these states
 abbrev pub drive_states : {S : Type 0} → S → SourceState → DrainState → DriveStates S
 drive_states follower source drain = record { follower = follower; devices = device_states source drain }
 
 module _ {S : Type 0} (next : S → EventValue → Effect S) where
+  -- what a follower makes of all events of a forest
+  abbrev pub forest_effect : S → Forest → Effect S
+  forest_effect s f = effect_of next s (events f)
+
   -- a walk, followed from this state on
   abbrev pub drive_job : Framing → ℕ → S → Job Run
   drive_job framing limit s = record {
     framing = framing;
     limit = limit;
-    text = λ f. (effect_of next s (events f)).put;
-    is_enough = λ f. had_enough (effect_of next s (events f)).goes;
-    result = λ f e. if had_enough (effect_of next s (events f)).goes
-        then enough_run framing (followed_events next s (events f)) else whole_run framing f e;
+    text = λ f. (forest_effect s f).put;
+    is_enough = λ f. had_enough (forest_effect s f).goes;
+    result = λ f e. if had_enough (forest_effect s f).goes
+        then enough_run framing (followed_events next s (events f)) else run_over framing f e;
   }
 
-  -- what it comes to, and the state that it leaves
+  -- what a walk, followed from this state on, comes to, and the follower's state after it
   pub record Drives (framing : Framing) (limit : ℕ) (old new : DriveStates S) (result : Result Run DeviceFault)
       : Type 0 where
     pub runs : Runs (drive_job framing limit old.follower) old.devices new.devices result
     pub state : OnOk (drain_result result)
-        (new.follower ≡ (effect_of next old.follower (events runs.reading)).state)
+        (new.follower ≡ (forest_effect old.follower runs.reading).state)

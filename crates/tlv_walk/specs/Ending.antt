@@ -34,32 +34,36 @@ open_end p (OpenHolder h children) = open_end (place_of_children p h) children
 open_end p end = end_at p end
 
 -- why the octet x is refused at an open end: a line for each cause. The bound is looked at before the octet
-pub data IsFault (x : ℕ) : OpenEnd → FaultCode → Type 0 where
+pub data IsRefusedAt : OpenEnd → ℕ → FaultCode → Type 0 where
   -- 8.6.2.2: a wrapping BIT STRING must begin with 00
-  bad_inside : {p : Place} {h : HeaderValue} → x ≢ 0 → IsFault x (end_at p (OpenBitString h)) BadInside
+  bad_inside : {x : ℕ} {p : Place} {h : HeaderValue} → x ≢ 0 → IsRefusedAt (end_at p (OpenBitString h)) x BadInside
   -- 8.1.5: the second 00 is missing at the bound, or is another octet
-  missing_end : {p : Place} → (Fits p 2 → ⊥) → IsFault x (end_at p OpenEndOctets) MissingEnd
-  bad_end : {p : Place} → Fits p 2 → x ≢ 0 → IsFault x (end_at p OpenEndOctets) BadEnd
+  missing_end : {x : ℕ} {p : Place} → (Fits p 2 → ⊥) → IsRefusedAt (end_at p OpenEndOctets) x MissingEnd
+  bad_end : {x : ℕ} {p : Place} → Fits p 2 → x ≢ 0 → IsRefusedAt (end_at p OpenEndOctets) x BadEnd
   -- 8.1.3.3: the header does not end within the bound
-  no_room : {p : Place} {o : List ℕ} → (Fits p (length o + 1) → ⊥) → IsFault x (end_at p (OpenHeader o)) Overrun
+  no_room : {x : ℕ} {p : Place} {o : List ℕ} → (Fits p (length o + 1) → ⊥)
+      → IsRefusedAt (end_at p (OpenHeader o)) x Overrun
   -- F06 to F09: no header goes on with that octet
-  refused_octet : {p : Place} {o : List ℕ} {code : FaultCode} → Fits p (length o + 1) → IsRefusedOctet o x code
-      → IsFault x (end_at p (OpenHeader o)) code
-  -- 8.1.4: the header of an element that holds others, inside 128 of them
-  too_deep : {p : Place} {o : List ℕ} → Fits p (length o + 1) → (h : HeaderValue) → IsHeaderAt p true h
-      → octets_of h ≡ o ++ x ∷ [] → 128 ≤ p.depth → IsFault x (end_at p (OpenHeader o)) TooDeep
+  refused_octet : {x : ℕ} {p : Place} {o : List ℕ} {code : FaultCode} → Fits p (length o + 1) → IsRefusedOctet o x code
+      → IsRefusedAt (end_at p (OpenHeader o)) x code
+  -- a limit of our own: the header of an element that holds others, inside 128 of them
+  too_deep : {x : ℕ} {p : Place} {o : List ℕ} → Fits p (length o + 1) → (h : HeaderValue) → IsHeaderAt p true h
+      → octets_of h ≡ o ++ x ∷ [] → 128 ≤ p.depth → IsRefusedAt (end_at p (OpenHeader o)) x TooDeep
   -- 8.1.3.3: the header of contents that end beyond the bound
-  overrun : {p : Place} {o : List ℕ} → Fits p (length o + 1) → (h : HeaderValue) → IsHeaderAt p (holds h) h
+  overrun : {x : ℕ} {p : Place} {o : List ℕ} → Fits p (length o + 1) → (h : HeaderValue) → IsHeaderAt p (holds h) h
       → octets_of h ≡ o ++ x ∷ [] → (holds h ≡ true → p.depth < 128)
-      → (Fits p (length (octets_of h) + announced_length h.size) → ⊥) → IsFault x (end_at p (OpenHeader o)) Overrun
+      → (Fits p (length (octets_of h) + announced_length h.size) → ⊥) → IsRefusedAt (end_at p (OpenHeader o)) x Overrun
   -- 8.1.5: no end-of-contents octets before the bound
-  no_end : {p : Place} → p.indefinite ≡ true → (Fits p 1 → ⊥) → IsFault x (end_at p NoMore) MissingEnd
+  no_end : {x : ℕ} {p : Place} → p.indefinite ≡ true → (Fits p 1 → ⊥) → IsRefusedAt (end_at p NoMore) x MissingEnd
   -- 8.1.5: 00 where no end-of-contents octets can be, and no padding
-  stray_end : {p : Place} → p.indefinite ≡ false → p.padding ≡ false → x ≡ 0 → IsFault x (end_at p NoMore) StrayEnd
+  stray_end : {x : ℕ} {p : Place} → p.indefinite ≡ false → p.padding ≡ false → x ≡ 0
+      → IsRefusedAt (end_at p NoMore) x StrayEnd
 
+-- the fault with this code, at this offset
 abbrev pub fault_at : FaultCode → ℕ → FaultOf
 fault_at code offset = record { code = code; offset = offset }
 
+-- the ending with this fault
 abbrev pub fault_ending : FaultCode → ℕ → Ending
 fault_ending code offset = Fault (fault_at code offset)
 
@@ -76,7 +80,7 @@ pub data IsEnding (framing : Framing) (b : List ℕ) : Ending → Type 0 where
       → IsEnding framing b Done
   -- the octet after the reading is refused
   refused : (f : Forest) (x : ℕ) (rest : List ℕ) (code : FaultCode) → IsReading framing b f → spelling f ++ x ∷ rest ≡ b
-      → IsFault x (open_end (top_place framing) f) code
+      → IsRefusedAt (open_end (top_place framing) f) x code
       → IsEnding framing b (fault_ending code (length (spelling f)))
 
 -- a code other than F01 and F02, which alone say that the input ends too early

@@ -1,5 +1,6 @@
 -- What a walk over elements yields, in order.
-use Rattle.std.specs.Prelude.{◌≡◌, ◌≢◌, ℕ, ◌+◌, if◌then◌else◌, List, [], ◌∷◌, ◌++◌, length, map, Option, Some, None}
+use Rattle.std.specs.Prelude.{◌≡◌, ◌≢◌, ℕ, ◌+◌, if◌then◌else◌, List, [], ◌∷◌, ◌++◌, flat_map, length, map, Option, Some}
+use Rattle.std.specs.Prelude.{None}
 use Rattle.tlv_head.specs.declared.header.Size.{Size}
 use Rattle.tlv_head.specs.declared.header.Size.TheVariants.{Definite, Indefinite}
 use Rattle.tlv_head.specs.Header.{HeaderValue, octets_of}
@@ -22,7 +23,7 @@ pub data EventValue : Type 0 where
   Enter : (header : HeaderValue) → EventValue
   Unused : EventValue
   Leave : EventValue
-  -- octets 00 between encodings
+  -- padding
   Pad : (octets : List ℕ) → EventValue
 
 -- the octets that an event is of
@@ -35,6 +36,10 @@ event_octets (Pad octets) = octets
 event_octets Unused = 0 ∷ []
 event_octets (Close (Some offset)) = 0 ∷ 0 ∷ []
 event_octets e = []
+
+-- the octets that events are of
+abbrev pub octets_of_events : List EventValue → List ℕ
+octets_of_events es = flat_map event_octets es
 
 -- an event of the code, as such a value
 abbrev pub event_value_of : Event → EventValue
@@ -73,7 +78,7 @@ end_octets_offset h children = end_offset h.size (h.offset + length (opening h) 
 abbrev pub opening_event : HeaderValue → EventValue
 opening_event h = if h.constructed then Open h else Enter h
 
--- and gives the first contents octet, if it is a wrapping BIT STRING
+-- an element that holds others begins, and, if it is a wrapping BIT STRING, gives its first contents octet
 abbrev pub opening_events : HeaderValue → List EventValue
 opening_events h = opening_event h ∷ map (λ z. Unused) (lead h)
 
@@ -81,7 +86,7 @@ opening_events h = opening_event h ∷ map (λ z. Unused) (lead h)
 abbrev pub closing_event : HeaderValue → Forest → EventValue
 closing_event h children = if h.constructed then Close (end_octets_offset h children) else Leave
 
--- an open forest read off in order
+-- the events of a forest, in the order of its octets
 abbrev pub events : Forest → List EventValue
 events NoMore = []
 events (PaddingOctet rest) = Pad (0 ∷ []) ∷ events rest
@@ -93,7 +98,7 @@ events (OpenBitString h) = Enter h ∷ []
 events (OpenHeader octets) = []
 events OpenEndOctets = []
 
--- each octet by itself
+-- the same events, with contents and padding cut into single octets
 abbrev pub single_octets : List EventValue → List EventValue
 single_octets [] = []
 single_octets (Bytes c ∷ es) = map (λ x. Bytes (x ∷ [])) c ++ single_octets es

@@ -29,26 +29,26 @@ effect_with s octets = record { state = s; put = octets; goes = go.On }
 abbrev pub no_effect : {S : Type 0} → S → Effect S
 no_effect s = effect_with s []
 
--- what it makes of some events and then of others, if it follows both
+-- what a follower makes of some events and then of others, if it follows both
 abbrev pub and_then : {S : Type 0} → Effect S → (S → Effect S) → Effect S
 and_then t f = let u = f t.state in record { state = u.state; put = t.put ++ u.put; goes = u.goes }
 
--- what it makes of some events and, if it wants more after them, of others
+-- what a follower makes of some events and, if it wants more after them, of others
 abbrev pub effect_if_more : {S : Type 0} → Go → Effect S → (S → Effect S) → Effect S
 effect_if_more go.On t f = and_then t f
 effect_if_more go.Enough t f = t
 
--- what it makes of a list of events, up to the first at which it has enough
+-- what a follower makes of a list of events, up to the first at which it has enough
 abbrev pub effect_of : {S : Type 0} → (S → EventValue → Effect S) → S → List EventValue → Effect S
 effect_of next s [] = no_effect s
 effect_of next s (e ∷ es) = effect_if_more (next s e).goes (next s e) (λ u. effect_of next u es)
 
--- these events, if it wants more
+-- these events, if a follower wants more, and otherwise none
 abbrev pub events_if_more : Go → List EventValue → List EventValue
 events_if_more go.On es = es
 events_if_more go.Enough es = []
 
--- the events of a list that it follows: those up to the first at which it has enough
+-- the events of a list that a follower follows: those up to the first at which it has enough
 abbrev pub followed_events : {S : Type 0} → (S → EventValue → Effect S) → S → List EventValue → List EventValue
 followed_events next s [] = []
 followed_events next s (e ∷ es) = e ∷ events_if_more (next s e).goes (followed_events next (next s e).state es)
@@ -66,20 +66,20 @@ pub record IsWholeElement (h : HeaderValue) (octets : List ℕ) : Type 0 where
 abbrev pub whole_events : HeaderValue → List ℕ → List EventValue
 whole_events h octets = Begin h ∷ Bytes (contents_in h octets) ∷ End ∷ []
 
--- what a follower makes of it
+-- what a follower makes of a primitive of these octets
 abbrev pub whole_effect : {S : Type 0} → (S → EventValue → Effect S) → S → HeaderValue → List ℕ → Effect S
 whole_effect next s h octets = effect_of next s (whole_events h octets)
 
--- what octets make in two parts they make in one
+-- of octets in two parts a follower makes what it makes of them in one
 abbrev pub Joins : {S : Type 0} → (S → EventValue → Effect S) → (List ℕ → EventValue) → Type 0
 Joins {S} next part = (s : S) (x y : List ℕ)
     → next s (part (x ++ y)) ≡ and_then (next s (part x)) (λ u. next u (part y))
 
--- a part without octets makes nothing
+-- of a part without octets a follower makes nothing
 abbrev pub IgnoresEmpty : {S : Type 0} → (S → EventValue → Effect S) → (List ℕ → EventValue) → Type 0
 IgnoresEmpty {S} next part = (s : S) → next s (part []) ≡ no_effect s
 
--- octets are never enough: an end may be
+-- octets of contents and of padding are never enough
 abbrev pub GoesOn : {S : Type 0} → (S → EventValue → Effect S) → (List ℕ → EventValue) → Type 0
 GoesOn {S} next part = (s : S) (x : List ℕ) → (next s (part x)).goes ≡ go.On
 

@@ -5,7 +5,8 @@ use Rattle.tlv_walk.specs.Events.{EventValue}
 use Rattle.tlv_walk.specs.Follow.{Effect, effect_of, followed_events}
 
 module _ {S : Type 0} (next : S → EventValue → Effect S) where
-  -- what was made of events: the follower's state, and whether it wants more. It had enough with the last, if at all
+  -- a follower followed these events: the state that it has after them, and whether it wants more. If it had enough,
+  -- then with the last
   pub record FollowsEvents (old new : S) (more : List EventValue) (goes : Go) : Type 0 where
     pub state : new ≡ (effect_of next old more).state
     pub wants : (effect_of next old more).goes ≡ goes

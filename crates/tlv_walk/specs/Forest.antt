@@ -5,11 +5,12 @@ use Rattle.std.specs.Option.{is_some}
 use Rattle.tlv_head.specs.UniversalTypes as universal
 use Rattle.tlv_head.specs.Header.{HeaderValue, definite_length, octets_of}
 
--- 8.1.1.1, 8.1.4: whole elements, one after another, and then at most one open end
+-- 8.1.1.1, 8.1.4: whole elements and padding, one after another, and then at most one thing that is unfinished: an
+-- element, a header or end-of-contents octets
 pub data Forest : Type 0 where
   -- no more
   NoMore : Forest
-  -- an octet 00 between encodings
+  -- an octet 00 of padding: at the top, before, between or after encodings
   PaddingOctet : (rest : Forest) → Forest
   -- a primitive with all its contents octets
   Primitive : (header : HeaderValue) (contents : List ℕ) (rest : Forest) → Forest

@@ -9,18 +9,19 @@ use Rattle.tlv_walk.specs.declared.follow.Go.TheVariants as go
 use Rattle.tlv_walk.specs.Follow.{Effect}
 
 module _ {S D : Type 0} (state_of : D → DrainState) (made : Effect S) (old new : Out D) where
-  -- a call in which this was made: its octets are put and, if no write fails, its state is left
+  -- a call has this effect: it puts the octets of the effect, and if no write fails, the state after it is that of the
+  -- effect. `result` says whether a write failed
   pub record HasEffect {T : Type 0} (after : S) (result : Result T WriteFault) : Type 0 where
     pub puts : Puts state_of old new made.put result
     pub state : OnOk result (after ≡ made.state)
 
-  -- the same of a call that returns whether more is wanted
+  -- a call has this effect and, if no write fails, returns whether the follower wants more
   pub record ReturnsEffect (after : S) (result : Result Go WriteFault) : Type 0 where
     pub has : HasEffect after result
     pub goes : IfOk result (λ go. go ≡ made.goes)
 
-  -- a call in which this was made and more is wanted, or which leaves its events to others: it returns whether they
-  -- were followed. If not, nothing is put and nothing changes
+  -- a call returns whether it has this effect. If it has, the follower wants more; if not, nothing is put and the state
+  -- stays the same. If a write fails, the call had the effect up to that write
   abbrev pub HasEffectOrNone : S → S → Result Bool WriteFault → Type 0
   HasEffectOrNone before after (Ok true) = HasEffect {T = Bool} after (Ok true) × (made.goes ≡ go.On)
   HasEffectOrNone before after (Ok false) =

@@ -6,7 +6,7 @@ use Rattle.tlv_walk.specs.declared.framing.Framing.{Framing}
 use Rattle.tlv_walk.specs.Phase.{Refused}
 use Rattle.tlv_walk.specs.Ending.{IsEnding}
 use Rattle.tlv_walk.specs.Events.{AreEqualJoined, EventValue, events}
-use Rattle.tlv_walk.specs.WalkerState.{WalkerState, unused_of}
+use Rattle.tlv_walk.specs.WalkerState.{WalkerState, unused_offset}
 use Rattle.tlv_walk.specs.Depth.{depth_of}
 use Rattle.tlv_walk.specs.Stands.{IsIdle, Stands}
 use Rattle.tlv_walk.specs.Forest.{Forest, spelling}
@@ -33,7 +33,7 @@ pub record StandsRefused (w : WalkerState) (b : List ℕ) (octet : ℕ) (yielded
   pub phase : w.phase ≡ Refused f
   pub offset : w.offset ≡ length b
   pub depth : length w.stack ≡ depth_of refused.reading
-  pub unused : unused_of w ≡ first_without_wrapper w.framing.inside refused.reading
+  pub unused : unused_offset w ≡ first_without_wrapper w.framing.inside refused.reading
 
 -- what a walker has read: the octets that it took, and their reading. Once it refused an octet, these are the octets
 -- before that one
@@ -55,8 +55,8 @@ pub record RefusesAt (w : WalkerState) (octets : List ℕ) (yielded : List Event
   pub octets_are : taken ++ octet ∷ others ≡ octets
   pub stands : StandsRefused w taken octet yielded f
 
--- what a walker stands for that walked over these octets to the end, and yielded these events: all of them, or those
--- before the one that it refused
+-- a walker that walked over these octets to their end and yielded these events: it stands for all the octets, or for
+-- those before the octet that it refused
 pub data StandsAtEnd (w : WalkerState) (octets : List ℕ) (yielded : List EventValue) : Type 0 where
   took_all : Stands w octets yielded → IsIdle w → StandsAtEnd w octets yielded
   refused_one : (f : Fault) → RefusesAt w octets yielded f → StandsAtEnd w octets yielded

@@ -18,12 +18,13 @@ pub record DeviceStates : Type 0 where
   pub source : SourceState
   pub drain : DrainState
 
+-- the devices with these states
 abbrev pub device_states : SourceState → DrainState → DeviceStates
 device_states source drain = record { source = source; drain = drain }
 
 -- what is wanted of an input, said of its reading
 pub record Job (A : Type 0) : Type 0 where
-  -- how it is read, and of how many octets
+  -- how it is read, and how many of its octets are read at most
   pub framing : Framing
   pub limit : ℕ
   -- what is written of elements
@@ -39,7 +40,7 @@ module _ {A : Type 0} where
   source_result (Err ReadFailed) = Err ReadFailed
   source_result result = Ok tt
 
-  -- what it says of the drain alone: that a write failed, or nothing
+  -- what a result says of the drain alone: that a write failed, or nothing
   abbrev pub drain_result : Result A DeviceFault → Result ⊤ DeviceFault
   drain_result (Err WriteFailed) = Err WriteFailed
   drain_result result = Ok tt
@@ -50,6 +51,10 @@ EndsWith framing octets true e = e ≡ ending.Done
 EndsWith framing octets false e = IsEnding framing octets e
 
 module _ {A : Type 0} (job : Job A) where
+  -- of the octets that were given, those that are read as encodings: no more than the limit
+  abbrev pub octets_read : List ℕ → List ℕ
+  octets_read given = take job.limit given
+
   -- the octets hold no fault, and after them more is wanted
   abbrev pub WantMore : List ℕ → Type 0
   WantMore octets = (f : Forest) × IsReading job.framing octets f × (spelling f ≡ octets) × (job.is_enough f ≡ false)
@@ -60,23 +65,25 @@ module _ {A : Type 0} (job : Job A) where
     pub is_ending : IsEnding job.framing octets e
     pub soundness : ShowsSoundness job.framing octets e
 
-  -- for octets that were given and their reading: what is returned, a line for each reason to stop
+  -- for the octets that were given and the reading of those up to the limit: what is returned, a line for each reason
+  -- to stop
   pub data ComesTo (given : List ℕ) (f : Forest) (new : SourceState) : Result A DeviceFault → Type 0 where
     -- there was enough
     at_enough : job.is_enough f ≡ true → ComesTo given f new (Ok (job.result f ending.Done))
     -- an octet is refused, whatever follows
-    at_fault : (e : Ending) → HasEnding (take job.limit given) f e → IsFinalEnding e
+    at_fault : (e : Ending) → HasEnding (octets_read given) f e → IsFinalEnding e
         → ComesTo given f new (Ok (job.result f e))
     -- the source has ended
-    at_input_end : (e : Ending) → HasEnding (take job.limit given) f e → new.last ≡ gave 0 → IsAtEnd new.left
+    at_input_end : (e : Ending) → HasEnding (octets_read given) f e → new.last ≡ gave 0 → IsAtEnd new.left
         → ComesTo given f new (Ok (job.result f e))
     -- a device failed
     read_failed : new.last ≡ failed → ComesTo given f new (Err ReadFailed)
     write_failed : ComesTo given f new (Err WriteFailed)
     -- the source gave more octets than the limit, and those up to it were no reason to stop
-    too_long : job.limit < length given → WantMore (take job.limit given) → ComesTo given f new (Err InputTooLong)
+    too_long : job.limit < length given → WantMore (octets_read given) → ComesTo given f new (Err InputTooLong)
 
-  -- a source was read to its end, to a fault or to enough, and what that makes was sent to a drain
+  -- a source was read until there was a reason to stop (`ComesTo`), and what the job writes of the octets up to the
+  -- limit was sent to a drain: all of it, or a prefix if a write failed
   pub record Runs (old new : DeviceStates) (result : Result A DeviceFault) : Type 0 where
     pub pieces : Pieces old.source new.source
     pub failures : new.source.failures ≡ failures_after (source_result result) old.source.failures
@@ -85,6 +92,6 @@ module _ {A : Type 0} (job : Job A) where
     pub within : length (concat pieces.pieces) ≤ job.limit
     -- no more octets are read as encodings than the limit
     pub reading : Forest
-    pub is_reading : IsReading job.framing (take job.limit (octets_given pieces)) reading
+    pub is_reading : IsReading job.framing (octets_read (octets_given pieces)) reading
     pub sends : Sends old.drain new.drain (job.text reading) (drain_result result)
     pub comes : ComesTo (octets_given pieces) reading new.source result

@@ -1,23 +1,23 @@
--- Laws of open forests, of the readings and endings of inputs, and of their events.
+-- Laws of forests that keep the rules, of the readings and endings of inputs, and of their events.
 use Rattle.std.specs.Prelude.{◌≡◌, ℕ, List, ◌++◌}
 use Rattle.tlv_head.specs.declared.fault.FaultCode.{FaultCode}
 use Rattle.tlv_walk.specs.declared.ending.Ending.{Ending}
 use Rattle.tlv_walk.specs.declared.framing.Framing.{Framing}
 use Rattle.tlv_walk.specs.Forest.{Forest, spelling}
-use Rattle.tlv_walk.specs.Place.{IsOpen, Place}
+use Rattle.tlv_walk.specs.Place.{KeepsRules, Place}
 use Rattle.tlv_walk.specs.LongerInputs.{ForLongerInputs}
 use Rattle.tlv_walk.specs.Reading.{AreOctets, CannotBecomeSound, IsPrefixOf, IsReading}
 use Rattle.tlv_walk.specs.Events.{AreEqualJoined, EventValue, events}
 use Rattle.tlv_walk.specs.Ending.{IsEnding, IsFinalCode, fault_ending}
 
--- each prefix of an open forest's spelling is the spelling of an open forest
-abbrev pub PrefixesAreOpen : Type 0
-PrefixesAreOpen = (p : Place) (f : Forest) (s : List ℕ) → IsOpen p f → IsPrefixOf s (spelling f)
-    → (g : Forest) × IsOpen p g × (spelling g ≡ s)
+-- each prefix of the spelling of a forest that keeps the rules is the spelling of one that keeps them
+abbrev pub PrefixesKeepRules : Type 0
+PrefixesKeepRules = (p : Place) (f : Forest) (s : List ℕ) → KeepsRules p f → IsPrefixOf s (spelling f)
+    → (g : Forest) × KeepsRules p g × (spelling g ≡ s)
 
--- open forests at one place that have one spelling are one forest, offsets included
+-- forests at one place that keep the rules and have one spelling are one forest, offsets included
 abbrev pub SpellingsAreExact : Type 0
-SpellingsAreExact = (p : Place) (f g : Forest) → IsOpen p f → IsOpen p g → spelling f ≡ spelling g → f ≡ g
+SpellingsAreExact = (p : Place) (f g : Forest) → KeepsRules p f → KeepsRules p g → spelling f ≡ spelling g → f ≡ g
 
 -- octets have a reading, and no other
 abbrev pub OctetsHaveOneReading : Type 0
@@ -35,7 +35,7 @@ FaultsAreFinal = (framing : Framing) (b c : List ℕ) (code : FaultCode) (offset
     → IsEnding framing b (fault_ending code offset) → IsReading framing b f
     → IsEnding framing (b ++ c) (fault_ending code offset) × IsReading framing (b ++ c) f
 
--- whatever follows such an input, it is no sound list
+-- whatever follows an input with a fault other than F01 and F02, the whole is no sound list
 abbrev pub FaultsAreRight : Type 0
 FaultsAreRight = (framing : Framing) (b : List ℕ) (code : FaultCode) (offset : ℕ) → IsFinalCode code
     → IsEnding framing b (fault_ending code offset) → CannotBecomeSound framing b

@@ -1,5 +1,5 @@
 -- What one read of a source, followed, comes to.
-use Rattle.std.specs.Prelude.{◌≡◌, ◌≢◌, ℕ, ◌<◌, ◌≤◌, List, [], ◌++◌, flat_map, length, take, Result, Ok, Err, ⊤}
+use Rattle.std.specs.Prelude.{◌≡◌, ◌≢◌, ℕ, ◌<◌, ◌≤◌, List, [], ◌++◌, length, take, Result, Ok, Err, ⊤}
 use Rattle.std.specs.Io.KnownBytes.{Consumes, IsAtEnd}
 use Rattle.tlv_head.specs.InputLimit.{input_limit}
 use Rattle.tlv_walk.specs.declared.follow.Go.{Go}
@@ -10,9 +10,9 @@ use Rattle.tlv_walk.specs.declared.run.Run.{Run}
 use Rattle.tlv_walk.specs.declared.run.Turn.{Turn}
 use Rattle.tlv_walk.specs.declared.run.Turn.TheVariants.{Again, Ended}
 use Rattle.tlv_io.specs.Device.{DrainState, LastReadValue, SourceState, failed, failures_after, gave, never, next_count}
-use Rattle.tlv_walk.specs.DriveJob.{enough_run, whole_run}
+use Rattle.tlv_walk.specs.DriveJob.{enough_run, run_over}
 use Rattle.tlv_walk.specs.Ending.{IsEnding, IsFinalEnding}
-use Rattle.tlv_walk.specs.Events.{EventValue, event_octets}
+use Rattle.tlv_walk.specs.Events.{EventValue, octets_of_events}
 use Rattle.tlv_walk.specs.Follow.{Effect, effect_of}
 use Rattle.tlv_walk.specs.FollowsEvents.{FollowsEvents}
 use Rattle.tlv_walk.specs.Job.{DeviceStates, device_states, drain_result, source_result}
@@ -20,35 +20,35 @@ use Rattle.tlv_walk.specs.WalkerState.{WalkerState}
 use Rattle.tlv_io.specs.Out.{Sends}
 use Rattle.tlv_walk.specs.Reading.{AreOctets, IsPrefixOf}
 use Rattle.tlv_walk.specs.HasRead.{StandsAtEnd}
-use Rattle.tlv_walk.specs.Stands.{CanTake, HasEvents, IsIdle, Stands}
+use Rattle.tlv_walk.specs.Stands.{IsReady, HasEvents, IsIdle, Stands}
 
--- the octets that the last read gave, with which the piece begins
+-- the octets that the last read gave, by what the array into which it was made then holds
 abbrev pub last_octets : LastReadValue → List ℕ → List ℕ
-last_octets never piece = []
-last_octets (gave n) piece = take n piece
-last_octets failed piece = []
+last_octets never room = []
+last_octets (gave n) room = take n room
+last_octets failed room = []
 
--- it gave octets, or none at the end, and no more octets than there was room for
+-- the last read gave octets, or none at the end, and no more than so many
 abbrev pub LastReadGaveUpTo : ℕ → LastReadValue → Type 0
-LastReadGaveUpTo room never = ⊥
-LastReadGaveUpTo room (gave n) = n ≤ room
-LastReadGaveUpTo room failed = ⊥
+LastReadGaveUpTo most never = ⊥
+LastReadGaveUpTo most (gave n) = n ≤ most
+LastReadGaveUpTo most failed = ⊥
 
--- what the read gave, by the result of the turn
+-- what the read of a turn gave, by the result of the turn: no more than so many octets
 abbrev pub LastReadWas : ℕ → Result Turn DeviceFault → LastReadValue → Type 0
-LastReadWas room (Ok turn) last = LastReadGaveUpTo room last
-LastReadWas room (Err ReadFailed) last = last ≡ failed
-LastReadWas room (Err WriteFailed) last = LastReadGaveUpTo room last
-LastReadWas room (Err InputTooLong) last = LastReadGaveUpTo room last
+LastReadWas most (Ok turn) last = LastReadGaveUpTo most last
+LastReadWas most (Err ReadFailed) last = last ≡ failed
+LastReadWas most (Err WriteFailed) last = LastReadGaveUpTo most last
+LastReadWas most (Err InputTooLong) last = LastReadGaveUpTo most last
 
--- what a turn requires of the walker, the piece and the limit
-pub record CanTurn (walker : WalkerState) (piece : List ℕ) (limit : ℕ) : Type 0 where
-  -- the piece has at least one octet, and no more than 4096
-  pub some : 0 < length piece
-  pub few : length piece ≤ 4096
+-- what a turn requires of the walker, the array into which it reads and the limit
+pub record CanTurn (walker : WalkerState) (room : List ℕ) (limit : ℕ) : Type 0 where
+  -- the array has at least one octet, and no more than 4096
+  pub some : 0 < length room
+  pub short : length room ≤ 4096
   pub in_range : limit ≤ input_limit
   pub within : walker.offset ≤ limit
-  pub ready : CanTake walker
+  pub ready : IsReady walker
 
 -- what takes part in a turn, as it is before the turn or after it: the walker, the follower's state and the devices
 pub record TurnStates (S : Type 0) : Type 0 where
@@ -56,16 +56,22 @@ pub record TurnStates (S : Type 0) : Type 0 where
   pub follower : S
   pub devices : DeviceStates
 
+-- a turn with these states
 abbrev pub turn_states : {S : Type 0} → WalkerState → S → SourceState → DrainState → TurnStates S
 turn_states walker follower source drain =
     record { walker = walker; follower = follower; devices = device_states source drain }
 
+-- of the octets that were taken before the turn and those that were given in it, those that are followed: no more than
+-- the limit
+abbrev pub octets_followed : ℕ → List ℕ → List ℕ → List ℕ
+octets_followed limit taken given = take limit (taken ++ given)
+
 module _ {S : Type 0} (next : S → EventValue → Effect S) (old new : TurnStates S) where
-  -- one read, after which the piece is this, and writes
-  pub record CallsDevices (piece : List ℕ) (result : Result Turn DeviceFault) : Type 0 where
-    pub octets : Consumes old.devices.source.left new.devices.source.left (last_octets new.devices.source.last piece)
+  -- one read, after which the array into which it was made is this, and writes
+  pub record CallsDevices (room : List ℕ) (result : Result Turn DeviceFault) : Type 0 where
+    pub octets : Consumes old.devices.source.left new.devices.source.left (last_octets new.devices.source.last room)
     pub reads : new.devices.source.reads ≡ next_count old.devices.source.reads
-    pub last : LastReadWas (length piece) result new.devices.source.last
+    pub last : LastReadWas (length room) result new.devices.source.last
     pub at_end : new.devices.source.last ≡ gave 0 → IsAtEnd new.devices.source.left
     pub failed_reads : new.devices.source.failures ≡ failures_after (source_result result) old.devices.source.failures
     pub failed_writes : new.devices.drain.failures ≡ failures_after (drain_result result) old.devices.drain.failures
@@ -88,8 +94,7 @@ module _ {S : Type 0} (next : S → EventValue → Effect S) (old new : TurnStat
     pub put : SendsMade more (Ok tt)
     pub framing : new.walker.framing ≡ old.walker.framing
 
-  -- here `octets` are those taken before the turn and those given in it, up to the limit; `yielded` are the events
-  -- yielded before it
+  -- here `octets` are those that are followed (`octets_followed`); `yielded` are the events yielded before the turn
 
   -- all events of the octets were followed, the walker stands for them, and no event waits
   pub record StandsAfter (octets : List ℕ) (yielded : List EventValue) : Type 0 where
@@ -104,18 +109,18 @@ module _ {S : Type 0} (next : S → EventValue → Effect S) (old new : TurnStat
     pub follows : FollowsMore yielded all go.On
     pub has_events : HasEvents old.walker.framing octets all
     pub ending : IsEnding old.walker.framing octets run.ending
-    pub run_is : run ≡ whole_run old.walker.framing has_events.reading run.ending
+    pub run_is : run ≡ run_over old.walker.framing has_events.reading run.ending
     pub walker : StandsAtEnd new.walker octets all
 
-  -- the follower had enough with the last of the events that it followed, after which the octets have others; the
+  -- the follower had enough with the last of the events that it followed, after which the octets may have others; the
   -- walker stands for the octets of those that were followed, and the run is that over them
   pub record HasEnoughIn (octets : List ℕ) (yielded : List EventValue) (run : Run) : Type 0 where
     pub all : List EventValue
     pub follows : FollowsMore yielded all go.Enough
     pub others : List EventValue
     pub has_events : HasEvents old.walker.framing octets (all ++ others)
-    pub is_prefix : IsPrefixOf (flat_map event_octets all) octets
-    pub stands : Stands new.walker (flat_map event_octets all) all
+    pub is_prefix : IsPrefixOf (octets_of_events all) octets
+    pub stands : Stands new.walker (octets_of_events all) all
     pub run_is : run ≡ enough_run old.walker.framing all
 
   -- the drain failed at a prefix of what is made of all events of the octets
@@ -141,37 +146,39 @@ module _ {S : Type 0} (next : S → EventValue → Effect S) (old new : TurnStat
     -- why a walk ends: a line for each cause
     pub data WalkEnds (run : Run) : Type 0 where
       -- the follower had enough
-      at_enough : HasEnoughIn (take limit (taken ++ given)) yielded run → WalkEnds run
+      at_enough : HasEnoughIn (octets_followed limit taken given) yielded run → WalkEnds run
       -- an octet is refused, whatever follows
-      at_fault : EndsIn (take limit (taken ++ given)) yielded run → IsFinalEnding run.ending → WalkEnds run
+      at_fault : EndsIn (octets_followed limit taken given) yielded run → IsFinalEnding run.ending → WalkEnds run
       -- the input has ended
-      at_input_end : EndsIn (take limit (taken ++ given)) yielded run → given ≡ [] → WalkEnds run
+      at_input_end : EndsIn (octets_followed limit taken given) yielded run → given ≡ [] → WalkEnds run
 
     -- the octets are more than the limit
     pub record ExceedsLimit : Type 0 where
       pub beyond : limit < length (taken ++ given)
-      pub stands : StandsAfter (take limit (taken ++ given)) yielded
+      pub stands : StandsAfter (octets_followed limit taken given) yielded
 
+    -- what a turn comes to, by its result
     abbrev pub TurnsTo : Result Turn DeviceFault → Type 0
     TurnsTo (Ok Again) = WalksOn
     TurnsTo (Ok (Ended run)) = WalkEnds run
     TurnsTo (Err ReadFailed) = ReadsNothing
-    TurnsTo (Err WriteFailed) = WriteFailsIn (take limit (taken ++ given)) yielded
+    TurnsTo (Err WriteFailed) = WriteFailsIn (octets_followed limit taken given) yielded
     TurnsTo (Err InputTooLong) = ExceedsLimit
 
-  -- the walker took octets, in all no more than the limit, and can take the next one
+  -- the walker took octets, in all no more than the limit, and is ready for the next one
   pub record HasMovedWithin (limit : ℕ) : Type 0 where
     pub moved : old.walker.offset < new.walker.offset
     pub within : new.walker.offset ≤ limit
-    pub ready : CanTake new.walker
+    pub ready : IsReady new.walker
 
-  -- the walker took as many octets as the limit, and can take the next one
+  -- the walker took as many octets as the limit, and is ready for the next one
   pub record IsAtLimit (limit : ℕ) : Type 0 where
     pub at_limit : new.walker.offset ≡ limit
-    pub ready : CanTake new.walker
+    pub ready : IsReady new.walker
 
-  -- how a walk can go on after a turn. If more is to be read, or more was read than the limit allows, the next octet
-  -- can be taken; after a failed read nothing has changed
+  -- how a walk can go on after a turn. If more is to be read, the walker is ready for the next octet; after a failed
+  -- read nothing has changed. If there were more octets than the limit, the walker is at it, and ready for the next
+  -- octet; but the octets beyond it were read from the source, and are lost
   abbrev pub CanGoOn : ℕ → Result Turn DeviceFault → Type 0
   CanGoOn limit (Ok Again) = HasMovedWithin limit
   CanGoOn limit (Ok (Ended run)) = ⊤
@@ -179,12 +186,13 @@ module _ {S : Type 0} (next : S → EventValue → Effect S) (old new : TurnStat
   CanGoOn limit (Err WriteFailed) = ⊤
   CanGoOn limit (Err InputTooLong) = IsAtLimit limit
 
-  -- one read of a source into a piece, followed and flushed
-  pub record FollowsOneRead (limit : ℕ) (piece : List ℕ) (result : Result Turn DeviceFault) : Type 0 where
+  -- what a turn does: it makes one read, and what that gave is followed and flushed. `room` is what the array into which
+  -- it was made holds after the turn
+  pub record FollowsOneRead (limit : ℕ) (room : List ℕ) (result : Result Turn DeviceFault) : Type 0 where
     -- what the devices did
-    pub calls : CallsDevices piece result
-    pub octets : AreOctets piece
+    pub calls : CallsDevices room result
+    pub octets : AreOctets room
     -- what was made of the octets that the read gave, if the walker stands for those before them
     pub turned : (taken : List ℕ) (yielded : List EventValue) → Stands old.walker taken yielded
-        → TurnsTo limit taken yielded (last_octets new.devices.source.last piece) result
+        → TurnsTo limit taken yielded (last_octets new.devices.source.last room) result
     pub goes_on : CanGoOn limit result

@@ -3,6 +3,7 @@ use Rattle.std.specs.Prelude.{ℕ}
 use Rattle.tlv_head.specs.declared.fault.Fault.{Fault}
 use Rattle.tlv_head.specs.HeadReaderState.{HeadReaderState}
 
+-- what the next octet of an input belongs to
 pub data PhaseValue : Type 0 where
   -- a new element, or the end of the innermost one
   Between : PhaseValue

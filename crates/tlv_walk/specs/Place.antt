@@ -22,7 +22,7 @@ pub record Place : Type 0 where
   pub bound : Option ℕ
   -- the innermost element that holds it has an indefinite length
   pub indefinite : Bool
-  -- octets 00 may be there between encodings
+  -- there may be padding
   pub padding : Bool
   -- the offsets that the user named
   pub inside : List ℕ
@@ -76,7 +76,8 @@ pub record IsHeaderAt (p : Place) (holding : Bool) (h : HeaderValue) : Type 0 wh
   pub named : h.named ≡ is_among p.offset p.inside
   pub form : holds h ≡ holding
 
--- 8.1.4: an element is there, in at most 127 others if it holds others, and n octets of it end within the bound
+-- 8.1.4: an element is there; by a limit of our own in at most 127 others, if it holds others; and n octets of it end
+-- within the bound
 pub record IsElementAt (p : Place) (holding : Bool) (h : HeaderValue) (n : ℕ) : Type 0 where
   pub header : IsHeaderAt p holding h
   pub shallow : holding ≡ true → p.depth < 128
@@ -86,30 +87,32 @@ pub record IsElementAt (p : Place) (holding : Bool) (h : HeaderValue) (n : ℕ) 
 abbrev pub IsAnnouncedAt : Place → Bool → HeaderValue → Type 0
 IsAnnouncedAt p holding h = IsElementAt p holding h (length (octets_of h) + announced_length h.size)
 
--- an open forest: each element in it keeps the rules, and no octet and no announced end lies beyond the bound
-abbrev pub IsOpen : Place → Forest → Type 0
-IsOpen p NoMore = Unit {0}
--- an octet 00 between encodings
-IsOpen p (PaddingOctet rest) = ((p.padding ≡ true) × (p.indefinite ≡ false) × Fits p 1) × IsOpen (place_after p 1) rest
+-- a forest that keeps the rules, and may be open at its end: each element in it keeps them, and no octet and no
+-- announced end lies beyond the bound
+abbrev pub KeepsRules : Place → Forest → Type 0
+KeepsRules p NoMore = Unit {0}
+-- padding
+KeepsRules p (PaddingOctet rest) =
+    ((p.padding ≡ true) × (p.indefinite ≡ false) × Fits p 1) × KeepsRules (place_after p 1) rest
 -- 8.1.4: a primitive with all its contents octets
-IsOpen p (Primitive h c rest) =
+KeepsRules p (Primitive h c rest) =
     (IsElementAt p false h (primitive_extent h c) × (h.size ≡ Definite (length c)))
-    × IsOpen (place_after p (primitive_extent h c)) rest
+    × KeepsRules (place_after p (primitive_extent h c)) rest
 -- 8.1.4, 8.1.5: an element that holds others and has ended. 8.1.3.3: a definite length is that of the contents
-IsOpen p (Holder h children rest) =
+KeepsRules p (Holder h children rest) =
     (IsElementAt p true h (extent h children) × (is_whole children ≡ true)
     × IfSome (definite_length h.size) (λ n. contents_length h children ≡ n))
-    × IsOpen (place_of_children p h) children × IsOpen (place_after p (extent h children)) rest
+    × KeepsRules (place_of_children p h) children × KeepsRules (place_after p (extent h children)) rest
 -- 8.1.4: a primitive that lacks contents octets
-IsOpen p (OpenPrimitive h c) = IsAnnouncedAt p false h × (length c < announced_length h.size)
+KeepsRules p (OpenPrimitive h c) = IsAnnouncedAt p false h × (length c < announced_length h.size)
 -- 8.1.4: an element that holds others and has not ended: if what it holds is whole, and the length is
 -- definite, contents octets are lacking
-IsOpen p (OpenHolder h children) =
+KeepsRules p (OpenHolder h children) =
     (IsAnnouncedAt p true h
     × (is_whole children ≡ true → IfSome (definite_length h.size) (λ n. contents_length h children < n)))
-    × IsOpen (place_of_children p h) children
+    × KeepsRules (place_of_children p h) children
 -- 8.6.2.2: a wrapping BIT STRING of which the header alone is there
-IsOpen p (OpenBitString h) = IsAnnouncedAt p true h × (lead h ≡ 0 ∷ [])
+KeepsRules p (OpenBitString h) = IsAnnouncedAt p true h × (lead h ≡ 0 ∷ [])
 -- a prefix of a header, or the first of the end-of-contents octets, inside the bound
-IsOpen p (OpenHeader octets) = (octets ≢ []) × IsHeaderPrefix octets × Fits p (length octets)
-IsOpen p OpenEndOctets = (p.indefinite ≡ true) × Fits p 1
+KeepsRules p (OpenHeader octets) = (octets ≢ []) × IsHeaderPrefix octets × Fits p (length octets)
+KeepsRules p OpenEndOctets = (p.indefinite ≡ true) × Fits p 1

@@ -1,9 +1,9 @@
 pub mod ResultOfPause
 pub mod FollowsPiece
 pub mod FrameFields
-pub mod WalkerState
+pub mod WalkerCalls
 pub mod WrapperCount
-pub mod ReadsOn
+pub mod HandsOver
 pub mod Stack
 pub mod Zipper
 pub mod Yields

@@ -5,7 +5,7 @@ use Rattle.tlv_head.specs.Header.{definite_length}
 use Rattle.tlv_walk.specs.declared.framing.Framing.{Framing}
 use Rattle.tlv_walk.specs.Forest.{Forest, Holder, NoMore, PaddingOctet, Primitive, contents_length, extent}
 use Rattle.tlv_walk.specs.Forest.{has_element, primitive_extent, spelling}
-use Rattle.tlv_walk.specs.Place.{IsHeaderAt, IsOpen, Place, place_after, place_of_children, top_place}
+use Rattle.tlv_walk.specs.Place.{IsHeaderAt, KeepsRules, Place, place_after, place_of_children, top_place}
 
 -- octets, each below 256
 abbrev pub AreOctets : List ℕ → Type 0
@@ -15,15 +15,16 @@ AreOctets b = All (λ x. x < 256) b
 abbrev pub IsPrefixOf : List ℕ → List ℕ → Type 0
 IsPrefixOf p b = (rest : List ℕ) × (p ++ rest ≡ b)
 
--- the reading of an input: the open forest that spells the longest prefix of it that any open forest spells
+-- the reading of an input: a forest that keeps the rules and spells a prefix of it, the longest prefix that any such
+-- forest spells
 pub record IsReading (framing : Framing) (b : List ℕ) (f : Forest) : Type 0 where
-  pub is_open : IsOpen (top_place framing) f
+  pub keeps_rules : KeepsRules (top_place framing) f
   pub is_prefix : IsPrefixOf (spelling f) b
-  pub longest : (g : Forest) → IsOpen (top_place framing) g → IsPrefixOf (spelling g) b
+  pub longest : (g : Forest) → KeepsRules (top_place framing) g → IsPrefixOf (spelling g) b
       → length (spelling g) ≤ length (spelling f)
 
--- 8.1.1 to 8.1.5: nothing is open, each definite length is that of the contents, and no element is held by
--- more than 127 others; padding is between the outermost elements alone
+-- 8.1.1 to 8.1.5: nothing is open, each definite length is that of the contents, and no element that holds others is
+-- held by more than 127 others; padding is at the top alone
 abbrev pub IsSound : Place → Forest → Type 0
 IsSound p NoMore = Unit {0}
 IsSound p (PaddingOctet rest) = (p.padding ≡ true) × IsSound (place_after p 1) rest

@@ -34,6 +34,7 @@ HasBoundIn outer f = by_end f.end
     by_end None = f.bound ≡ outer
     by_end (Some e) = (f.bound ≡ Some e) × IsWithin outer e
 
+-- each element ends within the bound around it
 abbrev pub IsNested : List FrameValue → Type 0
 IsNested [] = Unit {0}
 IsNested (f ∷ fs) = HasBoundIn (bound_of fs) f × IsNested fs

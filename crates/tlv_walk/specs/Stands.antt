@@ -25,7 +25,7 @@ filled_end_events offset [] = []
 filled_end_events offset (f ∷ fs) =
     if is_end_at f.end offset then filled_end_event f ∷ filled_end_events offset fs else []
 
--- the events that need no further octet
+-- the events still to come that need no further octet
 abbrev pub waiting_events_in : PhaseValue → List FrameValue → ℕ → List EventValue
 waiting_events_in phase.Between stack offset = filled_end_events offset stack
 waiting_events_in (phase.InHeader r) stack offset = []
@@ -35,6 +35,7 @@ waiting_events_in phase.InBitString stack offset = []
 waiting_events_in phase.InEndOctets stack offset = []
 waiting_events_in (phase.Refused fault) stack offset = []
 
+-- the events of a walker still to come that need no further octet
 abbrev pub waiting_events : WalkerState → List EventValue
 waiting_events w = waiting_events_in w.phase w.stack w.offset
 
@@ -42,9 +43,9 @@ waiting_events w = waiting_events_in w.phase w.stack w.offset
 abbrev pub IsIdle : WalkerState → Type 0
 IsIdle w = waiting_events w ≡ []
 
--- an octet can be taken: no event waits, and no octet was refused
-abbrev pub CanTake : WalkerState → Type 0
-CanTake w = IsIdle w × HasNotRefused w
+-- the walker is ready for the next octet: no event waits, and no octet was refused
+abbrev pub IsReady : WalkerState → Type 0
+IsReady w = IsIdle w × HasNotRefused w
 
 -- octets have a reading, and these are its events, however contents and padding are cut
 pub record HasEvents (framing : Framing) (octets : List ℕ) (es : List EventValue) : Type 0 where

@@ -7,7 +7,7 @@ use Rattle.tlv_walk.specs.declared.event.Step.TheVariants as step
 use Rattle.tlv_walk.specs.Phase.{Refused}
 use Rattle.tlv_walk.specs.Events.{EventValue, IsNoEmptyPart, event_value_of}
 use Rattle.tlv_walk.specs.WalkerState.{HasNotRefused, HasYieldedEvent, WalkerState}
-use Rattle.tlv_walk.specs.Stands.{CanTake, Stands}
+use Rattle.tlv_walk.specs.Stands.{IsReady, Stands}
 use Rattle.tlv_walk.specs.HasRead.{StandsRefused}
 
 -- a walker that had refused no octet took octets with which a piece begins, or none, and yielded these events
@@ -28,12 +28,12 @@ pub record YieldsNext (old new : WalkerState) (piece rest : List ℕ) (e : Event
   pub has_octets : IsNoEmptyPart e
   pub has_yielded : HasYieldedEvent new
 
--- no event, and none is to come before the next octet, which can be taken: all octets of the piece were taken
+-- no event: all octets of the piece were taken, and the walker is ready for the next octet
 pub record UsesUpPiece (old new : WalkerState) (piece rest : List ℕ) : Type 0 where
   pub takes : TakesOctets old new piece rest []
   pub none_left : rest ≡ []
   pub stands : (b : List ℕ) (yielded : List EventValue) → Stands old b yielded → Stands new (b ++ piece) yielded
-  pub ready : CanTake new
+  pub ready : IsReady new
 
 -- no event, and the octet after those that were taken is refused; what is open stays open
 pub record RefusesNext (old new : WalkerState) (piece rest : List ℕ) (f : Fault) : Type 0 where

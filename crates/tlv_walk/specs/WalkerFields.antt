@@ -15,6 +15,7 @@ phase_of kept.InBitString reader = InBitString
 phase_of kept.InEndOctets reader = InEndOctets
 phase_of (kept.Refused fault) reader = Refused fault
 
+-- the state of a walker with these fields
 abbrev pub walker_state_of : Inside → WalkerState
 walker_state_of w = record {
   stack = w.stack;

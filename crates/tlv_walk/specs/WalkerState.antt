@@ -9,6 +9,7 @@ use Rattle.tlv_walk.specs.Stack.{FrameValue, IsInIndefinite, IsInWrapper, IsNest
 use Rattle.tlv_walk.specs.Place.{IsWithin}
 use Rattle.tlv_head.specs.InputLimit.{input_limit}
 
+-- the state of a walker
 pub record WalkerState : Type 0 where
   -- the open elements, innermost first
   pub stack : List FrameValue
@@ -23,6 +24,7 @@ pub record WalkerState : Type 0 where
   -- how many of the named offsets, from the first on, are those of wrappers
   pub wrapper_count : ℕ
 
+-- a walker that has taken nothing
 abbrev pub new_walker : Framing → WalkerState
 new_walker framing = record {
   stack = [];
@@ -40,19 +42,24 @@ pub record IsInHeader (r : HeadReaderState) (offset : ℕ) : Type 0 where
   pub some : r.octets ≢ []
   pub end : r.offset + length r.octets ≡ offset
 
+-- the least number of octets of which so many events can be yielded and these elements be open: one for each
+abbrev pub least_octets : ℕ → List FrameValue → ℕ
+least_octets events stack = events + length stack
+
 -- by phase, how many more octets were taken than events yielded, at least: one for each open element, those of a header
 -- that has begun, and a first 00. And what is open ends within the bound
 abbrev pub CountsFitPhase : PhaseValue → List FrameValue → ℕ → ℕ → Type 0
-CountsFitPhase Between stack offset events = events + length stack ≤ offset
+CountsFitPhase Between stack offset events = least_octets events stack ≤ offset
 CountsFitPhase (InHeader r) stack offset events =
-    IsInHeader r offset × (events + length stack + length r.octets ≤ offset)
+    IsInHeader r offset × (least_octets events stack + length r.octets ≤ offset)
 CountsFitPhase (InPrimitive left) stack offset events =
-    IsWithin (bound_of stack) (offset + left) × (events + length stack + 1 ≤ offset)
+    IsWithin (bound_of stack) (offset + left) × (least_octets events stack + 1 ≤ offset)
 CountsFitPhase InBitString stack offset events =
-    IsInWrapper stack × IsWithin (bound_of stack) (offset + 1) × (events + length stack ≤ offset)
-CountsFitPhase InEndOctets stack offset events = IsInIndefinite stack × (events + length stack + 1 ≤ offset)
-CountsFitPhase (Refused fault) stack offset events = events + length stack ≤ offset
+    IsInWrapper stack × IsWithin (bound_of stack) (offset + 1) × (least_octets events stack ≤ offset)
+CountsFitPhase InEndOctets stack offset events = IsInIndefinite stack × (least_octets events stack + 1 ≤ offset)
+CountsFitPhase (Refused fault) stack offset events = least_octets events stack ≤ offset
 
+-- what always holds of a walker's state
 pub record IsWalkerState (w : WalkerState) : Type 0 where
   pub nested : IsNested w.stack
   pub within : IsWithin (bound_of w.stack) w.offset
@@ -68,7 +75,7 @@ IsWithinInputLimit w piece = w.offset + length piece ≤ input_limit
 
 -- what holds after an event: no more events were yielded than octets taken, and each of these belongs to an event
 pub record HasYieldedEvent (w : WalkerState) : Type 0 where
-  pub fewer_events : w.events ≤ w.offset
+  pub within : w.events ≤ w.offset
   pub after_event : IsAfterEvent w.phase
 
 -- no octet was refused
@@ -80,5 +87,5 @@ abbrev pub IfRefused : WalkerState → (Fault → Type 0) → Type 0
 IfRefused w P = (f : Fault) → w.phase ≡ Refused f → P f
 
 -- the first of the named offsets that is not known to be a wrapper's
-abbrev pub unused_of : WalkerState → Option ℕ
-unused_of w = slice_get w.framing.inside w.wrapper_count
+abbrev pub unused_offset : WalkerState → Option ℕ
+unused_offset w = slice_get w.framing.inside w.wrapper_count

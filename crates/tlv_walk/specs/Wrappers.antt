@@ -6,30 +6,30 @@ use Rattle.tlv_walk.specs.Events.{Enter, EventValue}
 use Rattle.tlv_walk.specs.Forest.{Forest, PaddingOctet, Primitive, Holder, OpenHolder, OpenBitString}
 use Rattle.tlv_walk.specs.Inside.{is_among}
 
--- the offset of an element that holds others, if it is a wrapper: by whether it is constructed
-abbrev pub wrapper_by : Bool → ℕ → List ℕ
-wrapper_by constructed offset = if constructed then [] else offset ∷ []
+-- the offset of an element that holds others, or none if it is no wrapper: by whether it is constructed
+abbrev pub wrapper_offset_by : Bool → ℕ → List ℕ
+wrapper_offset_by constructed offset = if constructed then [] else offset ∷ []
 
--- the same, by its header
-abbrev pub wrapper_at : HeaderValue → List ℕ
-wrapper_at h = wrapper_by h.constructed h.offset
+-- the offset of an element that holds others, or none if it is no wrapper: by its header
+abbrev pub wrapper_offset : HeaderValue → List ℕ
+wrapper_offset h = wrapper_offset_by h.constructed h.offset
 
 -- the offsets of the wrappers
 abbrev pub wrapper_offsets : Forest → List ℕ
 wrapper_offsets (PaddingOctet rest) = wrapper_offsets rest
 wrapper_offsets (Primitive h c rest) = wrapper_offsets rest
-wrapper_offsets (Holder h children rest) = wrapper_at h ++ (wrapper_offsets children ++ wrapper_offsets rest)
-wrapper_offsets (OpenHolder h children) = wrapper_at h ++ wrapper_offsets children
-wrapper_offsets (OpenBitString h) = wrapper_at h
+wrapper_offsets (Holder h children rest) = wrapper_offset h ++ (wrapper_offsets children ++ wrapper_offsets rest)
+wrapper_offsets (OpenHolder h children) = wrapper_offset h ++ wrapper_offsets children
+wrapper_offsets (OpenBitString h) = wrapper_offset h
 wrapper_offsets end = []
 
 -- the first offset of the list that is not among the others
-abbrev pub first_other : List ℕ → List ℕ → Option ℕ
-first_other ns others = find (λ n. not (is_among n others)) ns
+abbrev pub first_not_among : List ℕ → List ℕ → Option ℕ
+first_not_among ns others = find (λ n. not (is_among n others)) ns
 
 -- the first named offset that is no wrapper's
 abbrev pub first_without_wrapper : List ℕ → Forest → Option ℕ
-first_without_wrapper inside f = first_other inside (wrapper_offsets f)
+first_without_wrapper inside f = first_not_among inside (wrapper_offsets f)
 
 -- the offsets of the wrappers that events enter
 abbrev pub entered_offsets : List EventValue → List ℕ

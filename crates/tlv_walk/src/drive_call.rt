@@ -6,8 +6,8 @@ ghost use Rattle.tlv_head.specs.InputLimit.{input_limit};
 use crate::one_turn::turn_with;
 use crate::{DeviceFault, Drain, Follow, Framing, INPUT_LIMIT, Out, Run, Source, Turn, Walker};
 
-/// How many octets are asked for with each read.
-const PIECE: usize = 4096;
+/// How many octets each read may give.
+const ROOM: usize = 4096;
 
 /// [`drive_up_to`], with the limit of 2^40 octets.
 ///
@@ -28,7 +28,11 @@ pub fn drive<S: Source, F: Follow, D: Drain>(
 }
 
 /// Reads the source until it ends, an octet is refused or the follower has enough, and lets the
-/// follower follow what is read. Makes no read after that, and at most `limit` + 1 in all.
+/// follower follow what is read. Makes no read after that, and at most `limit` + 1 reads in all.
+/// `limit` is a number of octets, at most 2^40.
+///
+/// Returns the ending, how many octets were walked over, whether the follower had enough, and the
+/// first offset named in vain ([`Run`]).
 ///
 /// If the follower never has enough, the ending is `Done` exactly if the octets read are a sound list of
 /// encodings, and if an octet is refused, no input that begins with them is one.
@@ -50,11 +54,11 @@ pub fn drive_up_to<S: Source, F: Follow, D: Drain>(
         (drive_states follower.old (S.state source.old) (D.state drain.old))
         (drive_states follower.new (S.state source.new) (D.state drain.new)) result }
 {
-    let mut piece = [0; PIECE];
+    let mut room = [0; ROOM];
     let mut walker = Walker::new(framing);
     let mut out = Out::new(drain);
     'turns: loop {
-        match turn_with(&mut walker, follower, source, &mut out, &mut piece, limit)? {
+        match turn_with(&mut walker, follower, source, &mut out, &mut room, limit)? {
             Turn::Again => {}
             Turn::Ended(run) => return Ok(run),
         }

@@ -12,8 +12,8 @@ pub enum Event<'a> {
     Bytes(&'a [u8]),
     /// The end of a primitive.
     End,
-    /// The end of a constructed element, with the offset of its end-of-contents octets if it has
-    /// any.
+    /// The end of a constructed element, with the offset of its end-of-contents octets, in octets
+    /// from the start of the input, if it has any.
     Close(Option<u64>),
     /// The header of a string that holds encodings.
     Enter(Header),
@@ -21,13 +21,14 @@ pub enum Event<'a> {
     Unused,
     /// The end of such a string.
     Leave,
-    /// A part of the octets `00` between two encodings, never empty.
+    /// A part of padding: octets `00` at the top, before, between or after encodings. Never empty.
     Pad(&'a [u8]),
 }
 
 /// What a step came to.
 #[derive(Clone, PartialEq, Eq, Debug, Drop)]
 pub enum Step<'a> {
+    /// The next event.
     Event(Event<'a>),
     /// The piece is used up, and no event is waiting.
     NeedMore,

@@ -11,6 +11,7 @@ use tlv_head::{Header, HeaderFields};
 /// Whether a follower wants more.
 #[derive(Clone, Copy, Debug, PartialEq, Eq)]
 pub enum Go {
+    /// More is to be read.
     On,
     /// Nothing more is to be read.
     Enough,
@@ -24,7 +25,7 @@ pub trait Follow {
     /// What the follower makes of an event.
     ghost next: { Self → EventValue → Effect Self };
 
-    /// Follows the next event.
+    /// Follows the next event. Returns whether it wants more.
     ///
     /// # Errors
     ///
@@ -34,9 +35,9 @@ pub trait Follow {
         ensures { ReturnsEffect D.state (next self.old (event_value_of event.now)) out.old out.new
             self.new result };
 
-    /// Follows a primitive of which all octets are at hand, header and contents: its header, its contents and its
-    /// end, one after another, and wants more after each. Returns whether it did. It may always leave them to
-    /// [`Follow::on`]: then nothing was put, and nothing changed.
+    /// Follows an element of which all octets are at hand, header and contents, as a primitive: its header, its
+    /// contents and its end, one after another. If it does, it wants more after each, and returns `true`. It need
+    /// not: if it returns `false`, it has put nothing and changed nothing, and the events come to [`Follow::on`].
     ///
     /// # Errors
     ///
@@ -76,8 +77,8 @@ pub trait Follow {
         self.on(&Event::Open(Header::new(fields, octets)), out)
     }
 
-    // Contents in two parts are followed as in one, no octets as no event, and octets are never
-    // enough. The same holds for padding.
+    // Contents in two parts are followed as in one, and no octets as no event; after contents more
+    // is wanted. The same holds for padding.
     ghost bytes_join: { Joins next Bytes };
 
     ghost bytes_empty: { IgnoresEmpty next Bytes };

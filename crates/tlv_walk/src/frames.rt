@@ -1,10 +1,10 @@
-//! The frames of open elements.
+//! A stack of frames.
 ghost use Rattle.std.specs.Prelude.{◌≡◌, ◌<◌, ◌≤◌, ◌↔◌, ◌∷◌, IsTrue, MatchOption, [], length};
 
 use arrayvec::ArrayVec;
 use std::marker::Model;
 
-/// A frame for each open element, the innermost first: at most 128, in an array.
+/// A stack of frames, at most 128, in an array. Its value lists the innermost first.
 #[derive(Drop)]
 pub struct Frames<T> {
     outermost_first: ArrayVec<T, 128>,

@@ -1,8 +1,10 @@
 //! How an input is to be read.
+use crate::INPUT_LIMIT;
 use arrayvec::ArrayVec;
 use std::marker::Model;
 
-/// The offsets of strings that hold encodings: at most 16, rising, each at most 2^40.
+/// The offsets that the user names, at most 16, rising, each at most 2^40: a string there holds
+/// encodings. They are in octets from the start of the input.
 #[derive(Clone, PartialEq, Eq, Debug, Drop)]
 pub struct Inside {
     offsets: ArrayVec<u64, 16>,
@@ -26,9 +28,9 @@ impl Model for Inside {
 /// How an input is to be read.
 #[derive(Clone, PartialEq, Eq, Debug, Drop)]
 pub struct Framing {
-    /// The strings that hold encodings.
+    /// The named offsets.
     pub inside: Inside,
-    /// Whether octets `00` may be between the encodings at the top.
+    /// Whether padding is allowed: octets `00` at the top, before, between and after encodings.
     pub padding: bool,
 }
 
@@ -45,7 +47,7 @@ impl Inside {
         let mut named = ArrayVec::new();
         let mut least = 0;
         for &offset in offsets {
-            if named.is_full() || offset < least || offset > 1 << 40 {
+            if named.is_full() || offset < least || offset > INPUT_LIMIT {
                 return None;
             }
             named.push(offset);
@@ -70,6 +72,8 @@ impl Inside {
         self.offsets.get(index).copied()
     }
 
+    /// A copy. `clone` is not called, since its result is that of a call that takes memory, and may be an error; this
+    /// takes none.
     pub(crate) fn copied(&self) -> Inside
         ensures { result ≡ self.now }
     {
@@ -93,6 +97,7 @@ impl Framing {
         }
     }
 
+    /// A copy, which takes no memory and cannot fail, as [`Inside::copied`].
     pub(crate) fn copied(&self) -> Framing
         ensures { result ≡ self.now }
     {
@@ -106,7 +111,7 @@ impl Framing {
 ghost use Rattle.std.specs.Prelude.{◌≡◌};
 ghost use Rattle.tlv_walk.specs.Inside.{is_among};
 
-/// Whether the offset is one of those. Each header asks this, and mostly there are none.
+/// Whether the offset is one of the named ones. Each header asks this, and mostly there are none.
 #[inline(always)]
 pub(crate) fn is_among(offset: u64, inside: &Inside) -> bool
     ensures { result ≡ is_among offset inside.now }
@@ -114,7 +119,8 @@ pub(crate) fn is_among(offset: u64, inside: &Inside) -> bool
     !inside.offsets.is_empty() && is_among_some(offset, inside)
 }
 
-/// The same if there are some. It is a function of its own, so that the search is not in the functions that ask for it.
+/// Whether the offset is one of the named ones, of which there are some. It is a function of its own, so that the
+/// search is not in the functions that ask for it.
 #[inline(never)]
 fn is_among_some(offset: u64, inside: &Inside) -> bool
     ensures { result ≡ is_among offset inside.now }

@@ -7,20 +7,20 @@ ghost use Rattle.tlv_walk.specs.Ending.{IsEnding};
 ghost use Rattle.tlv_walk.specs.Events.{AreEqualJoined, EventValue, single_octets};
 ghost use Rattle.tlv_walk.specs.Follow.{effect_of};
 ghost use Rattle.tlv_walk.specs.Forest.{Forest, is_whole};
-ghost use Rattle.tlv_walk.specs.Laws.{EventsGoOn, FaultsAreFinal, FaultsAreRight, PrefixesAreOpen};
+ghost use Rattle.tlv_walk.specs.Laws.{EventsGoOn, FaultsAreFinal, FaultsAreRight, PrefixesKeepRules};
 ghost use Rattle.tlv_walk.specs.Laws.{OctetsHaveOneEnding, OctetsHaveOneReading, SpellingsAreExact};
-ghost use Rattle.tlv_walk.specs.Place.{IsOpen, top_place};
+ghost use Rattle.tlv_walk.specs.Place.{KeepsRules, top_place};
 ghost use Rattle.tlv_walk.specs.Reading.{IsSound, IsSoundList};
 
 use crate::Follow;
 
-/// Wherever an open forest is cut off, what is left is an open forest.
-pub fn prefixes_are_open()
-    ensures { PrefixesAreOpen }
+/// Wherever elements that keep the rules are cut off, what is left keeps the rules.
+pub fn prefixes_keep_rules()
+    ensures { PrefixesKeepRules }
 {}
 
-/// Octets can be read in one way only: two open forests at one place that have one spelling are
-/// the same, with their headers' offsets.
+/// Octets can be read in one way only: elements at one place that keep the rules and have one
+/// spelling are the same, with their headers' offsets.
 pub fn spellings_are_exact()
     ensures { SpellingsAreExact }
 {}
@@ -64,10 +64,10 @@ pub fn joined_is_apart()
         → AreEqualJoined xs ys ↔ (single_octets xs ≡ single_octets ys) }
 {}
 
-/// A sound list is an open forest in which nothing is open.
+/// Elements are sound exactly if they keep the rules and nothing is left open.
 pub fn sound_is_whole()
     ensures { (framing : Framing) (f : Forest)
-        → IsSound (top_place framing) f ↔ (IsOpen (top_place framing) f × (is_whole f ≡ true)) }
+        → IsSound (top_place framing) f ↔ (KeepsRules (top_place framing) f × (is_whole f ≡ true)) }
 {}
 
 /// Nothing that a follower does shows how contents and padding were cut into pieces: of events that

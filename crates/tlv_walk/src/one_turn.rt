@@ -2,11 +2,11 @@
 ghost use Rattle.std.specs.Prelude.{◌≡◌, [], IfOk};
 ghost use Rattle.tlv_walk.specs.HasEffect.{ReturnsEffect};
 ghost use Rattle.tlv_walk.specs.Private.ResultOfPause.{IsResultOfPause, run_of};
-ghost use Rattle.tlv_walk.specs.Private.FollowsPiece.{FollowsAndFlushes, FollowsPart, FollowsPiece, follow_states};
-ghost use Rattle.tlv_walk.specs.Private.WalkerState.{CanPass};
-ghost use Rattle.tlv_walk.specs.Stands.{CanTake};
+ghost use Rattle.tlv_walk.specs.Private.FollowsPiece.{FollowsAndFlushes, FollowsPrefix, FollowsPiece, follow_states};
+ghost use Rattle.tlv_walk.specs.Private.WalkerCalls.{CanPass};
+ghost use Rattle.tlv_walk.specs.Stands.{IsReady};
 ghost use Rattle.tlv_walk.specs.WalkerState.{IsWithinInputLimit};
-ghost use Rattle.tlv_io.specs.Out.{Puts, held_octets, drain_of};
+ghost use Rattle.tlv_io.specs.Out.{held_octets, drain_of};
 ghost use Rattle.tlv_walk.specs.Events.{event_value_of};
 ghost use Rattle.tlv_walk.specs.OneTurn.{CanTurn, FollowsOneRead, turn_states};
 
@@ -21,27 +21,30 @@ use tlv_head::{Fault, Header};
 enum Pause {
     /// It is used up, and no event waits.
     UsedUp,
+    /// An octet is refused.
     Fault(Fault),
+    /// The follower had enough.
     Enough,
 }
 
 /// Makes one read into `piece`, lets the follower follow what it gave, and flushes what that put.
 ///
-/// `piece` has 1 to 4096 octets. The walker is within `limit` and has refused no octet, and no event
-/// waits.
+/// `piece` is the array into which the read is made: it has 1 to 4096 octets. `limit` is a number of
+/// octets, at most 2^40. The walker is within it and has refused no octet, and no event waits.
 ///
-/// Returns `Again` if the octets have neither a fault nor enough for the follower, and the source has
-/// not ended; otherwise `Ended`. The walker's octets count towards `limit`: of those that go beyond
-/// it none is walked over.
+/// Returns `Again` if the octets are within the limit, hold neither a fault nor enough for the
+/// follower, and the source has not ended; `Ended` if the walk has ended. The octets that the walker
+/// took before count towards `limit`: of those that go beyond it none is walked over.
 ///
 /// # Errors
 ///
 /// `ReadFailed` exactly if a read failed, and `WriteFailed` exactly if a write failed.
-/// `InputTooLong` if the source gave more octets than `limit`, and those up to the limit held
-/// neither a fault nor enough; they are followed and flushed.
+/// `InputTooLong` if the walker's octets and those of the read are together more than `limit`, and
+/// those up to the limit hold neither a fault nor enough; they are followed and flushed.
 ///
-/// After `ReadFailed` walker and follower are as they were; after `InputTooLong` the walker is at
-/// the limit. Another turn may follow then. After `WriteFailed` nothing is promised of them.
+/// After `ReadFailed` walker and follower are as they were, and another turn may follow. After
+/// `InputTooLong` the walker is at the limit; the octets of this read beyond it are lost, so another
+/// turn would leave them out. After `WriteFailed` nothing is promised of walker and follower.
 pub fn turn<F: Follow, S: Source, D: Drain>(
     walker: &mut Walker,
     follower: &mut F,
@@ -67,24 +70,24 @@ pub(crate) fn turn_with<F: Follow, S: Source, D: Drain>(
     follower: &mut F,
     source: &mut S,
     out: &mut Out<'_, D>,
-    piece: &mut [u8],
+    room: &mut [u8],
     limit: u64,
 ) -> Result<Turn, DeviceFault>
-    requires can { CanTurn walker.old piece.old limit }
+    requires can { CanTurn walker.old room.old limit }
     requires empty { held_octets out.old ≡ [] }
     ensures read { FollowsOneRead F.next
         (turn_states walker.old follower.old (S.state source.old) (D.state (drain_of out.old).now))
         (turn_states walker.new follower.new (S.state source.new) (D.state (drain_of out.new).now))
-        limit piece.new result }
+        limit room.new result }
     ensures same_reference { (drain_of out.new).ghost_name ≡ (drain_of out.old).ghost_name }
     ensures empty { IfOk result (λ t. t ≡ Turn.Again → held_octets out.new ≡ []) }
 {
-    let Ok(count) = source.read(piece) else {
+    let Ok(count) = source.read(room) else {
         return Err(DeviceFault::ReadFailed);
     };
     let allowed = limit - walker.offset();
     let walked = allowed.min(count as u64) as usize;
-    let Ok(pause) = follow_and_flush(walker, follower, &piece[..walked], out) else {
+    let Ok(pause) = follow_and_flush(walker, follower, &room[..walked], out) else {
         return Err(DeviceFault::WriteFailed);
     };
     result_of_pause(walker, pause, count, walked)
@@ -97,7 +100,7 @@ fn result_of_pause(
     read: usize,
     followed: usize,
 ) -> Result<Turn, DeviceFault>
-    requires { pause ≡ Pause.UsedUp → CanTake walker.now }
+    requires { pause ≡ Pause.UsedUp → IsReady walker.now }
     ensures { IsResultOfPause read followed walker.now pause result }
 {
     match pause {
@@ -194,7 +197,7 @@ fn follow_primitive<F: Follow, D: Drain>(
     out: &mut Out<'_, D>,
 ) -> Result<bool, WriteFault>
     requires { IsWithinInputLimit walker.old piece.old.now }
-    ensures { FollowsPart F.next D.state
+    ensures { FollowsPrefix F.next D.state
         (follow_states walker.old follower.old out.old)
         (follow_states walker.new follower.new out.new)
         piece.old.now piece.new.now result }
@@ -222,7 +225,7 @@ fn follow_found<F: Follow, D: Drain>(
 ) -> Result<bool, WriteFault>
     requires can { CanPass walker.old piece.old.now primitive.now }
     requires limit { IsWithinInputLimit walker.old piece.old.now }
-    ensures { FollowsPart F.next D.state
+    ensures { FollowsPrefix F.next D.state
         (follow_states walker.old follower.old out.old)
         (follow_states walker.new follower.new out.new)
         piece.old.now piece.new.now result }

@@ -14,7 +14,8 @@ pub struct Run {
     pub octets: u64,
     /// Whether the follower had enough.
     pub enough: bool,
-    /// The first of the named offsets at which no string that holds encodings was found.
+    /// The first of the named offsets at which no string that holds encodings was found, in octets
+    /// from the start of the input.
     pub unused: Option<u64>,
 }
 
@@ -23,16 +24,21 @@ pub struct Run {
 pub enum Turn {
     /// More is to be read.
     Again,
+    /// The walk has ended.
     Ended(Run),
 }
 
-/// Why a walk over a source was left.
+/// Why a walk over a source has no result: a device failed, or the input is too long.
 #[derive(Clone, Copy, Debug, PartialEq, Eq, Error)]
 pub enum DeviceFault {
+    /// A read of the source failed.
     #[error("read failed")]
     ReadFailed,
+    /// A write to the drain failed.
     #[error("write failed")]
     WriteFailed,
+    /// The octets are more than the limit, and those up to it hold neither a fault nor enough for
+    /// the follower.
     #[error("input too long")]
     InputTooLong,
 }

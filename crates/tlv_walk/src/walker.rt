@@ -1,5 +1,5 @@
-//! A machine that takes an encoding in pieces, and keeps a frame for each open element that holds
-//! others.
+//! A machine that takes the octets of an input in pieces, and keeps a frame for each open element
+//! that holds others.
 ghost use Rattle.std.specs.Prelude.{◌≡◌, ◌≤◌, ◌↔◌, IsTrue, length};
 
 mod contents;
@@ -64,10 +64,10 @@ impl Model for Walker {
 impl Walker {
     ghost use Rattle.std.specs.Prelude.{[], false};
     ghost use Rattle.tlv_walk.specs.Phase as phases;
-    ghost use Rattle.tlv_walk.specs.WalkerState.{IfRefused, IsWithinInputLimit, new_walker, unused_of};
+    ghost use Rattle.tlv_walk.specs.WalkerState.{IfRefused, IsWithinInputLimit, new_walker, unused_offset};
     ghost use Rattle.tlv_walk.specs.Ending.{IsEnding, ShowsSoundness, fault_at};
     ghost use Rattle.tlv_walk.specs.Depth.{depth_of};
-    ghost use Rattle.tlv_walk.specs.Stands.{CanTake, IsIdle, Stands};
+    ghost use Rattle.tlv_walk.specs.Stands.{IsReady, IsIdle, Stands};
     ghost use Rattle.tlv_walk.specs.Wrappers.{first_without_wrapper};
     ghost use Rattle.tlv_walk.specs.StepsTo.{RefusesAgain, StepsTo};
     ghost use Rattle.tlv_walk.specs.HasRead.{IfAtEnd, IfRead};
@@ -78,7 +78,7 @@ impl Walker {
     pub fn new(framing: &Framing) -> Walker
         ensures state { result ≡ new_walker framing.now }
         ensures stands { Stands result [] [] }
-        ensures ready { CanTake result }
+        ensures ready { IsReady result }
     {
         Walker {
             stack: Stack::new(),
@@ -93,7 +93,7 @@ impl Walker {
     }
 
     /// How many elements are open that hold others: constructed ones, and strings that hold encodings.
-    /// At most 128.
+    /// At most 128. An element that is filled counts until its end is yielded.
     pub fn depth(&self) -> u8
         ensures value { result ≡ length self.now.stack }
         ensures within { result ≤ 128 }
@@ -120,9 +120,10 @@ impl Walker {
         self.events
     }
 
-    /// The first of the named offsets at which no string that holds encodings was found.
+    /// The first of the named offsets at which no string that holds encodings was found, in octets
+    /// from the start of the input.
     pub fn unused(&self) -> Option<u64>
-        ensures value { result ≡ unused_of self.now }
+        ensures value { result ≡ unused_offset self.now }
         ensures first { IfRead self.now
             (λ b f. result ≡ first_without_wrapper self.now.framing.inside f) }
     {
@@ -141,7 +142,8 @@ impl Walker {
     }
 
     /// What the input comes to, if it ends here. After a fault it is that fault. It is `Done` exactly if
-    /// the input is a sound list of encodings. No event may wait ([`Walker::waiting`]).
+    /// the input is a sound list of encodings. If it is a fault other than F01 and F02, no input that
+    /// begins with these octets is a sound list. No event may wait ([`Walker::waiting`]).
     pub fn finish(&self) -> Ending
         requires { IsIdle self.now }
         ensures ending { IfAtEnd self.now (λ octets. IsEnding self.now.framing octets result) }
@@ -152,7 +154,7 @@ impl Walker {
         if let Phase::Refused(fault) = &self.phase {
             return Ending::Fault(*fault);
         }
-        if !self.is_outermost() {
+        if !self.has_nothing_open() {
             return self.ended_by(FaultCode::Short);
         }
         if self.has_element {
@@ -162,7 +164,7 @@ impl Walker {
     }
 
     /// Whether nothing is open.
-    fn is_outermost(&self) -> bool
+    fn has_nothing_open(&self) -> bool
         ensures { IsTrue result ↔ ((self.now.phase ≡ phases.Between) × (self.now.stack ≡ [])) }
     {
         match &self.phase {

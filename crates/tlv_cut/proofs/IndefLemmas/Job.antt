@@ -18,7 +18,8 @@ use Rattle.tlv_walk.proofs.FollowerLemmas.Jobs as jobs
 use Rattle.tlv_cut.specs.IndefText.{indef_text}
 use Rattle.tlv_cut.specs.IndefStep.{IndefState, indef_step}
 use Rattle.tlv_cut.specs.IndefJob.{indef_job, indef_framing}
-use Rattle.tlv_cut.specs.IndefRun.{IsReadBack, RunsIndef}
+use Rattle.tlv_cut.specs.IndefReading.{IsReadBack}
+use Rattle.tlv_cut.specs.IndefRun.{RunsIndef}
 use Rattle.tlv_cut.proofs.IndefLemmas.Elements.{followed-events, followed-indef_step}
 use Rattle.tlv_cut.proofs.IndefLemmas.SecondReading.{indef_text_is_done, indef_text_is_read_back}
 
@@ -33,24 +34,21 @@ module _ (padding : Bool) (s t : IndefState) (old new : SourceState) (from to : 
       → had_enough (effect_of indef_step s (events f)).goes ≡ false
   goes_on octets f few r = ap (λ (k : Effect IndefState). had_enough k.goes) (followed-indef_step s (events f))
 
-  -- if it is done, what it wrote is read back
+  -- if it is done, what it wrote is read back, and is done too
   read_back : (e : Ending) (x : Runs (indef_job padding) (device_states old from) (device_states new to) (Ok e))
-      → e ≡ Done → IsReadBack padding x.reading x.sends.sent
+      → e ≡ Done → IsReadBack padding x.reading x.sends.sent × IsEnding (indef_framing padding) x.sends.sent Done
   read_back e x done =
       let w = indef_framing padding in
       let given : List ℕ = octets_given x.pieces in
       let octets : List ℕ = take (2 ^ 40) given in
       let k = returns (indef_job padding) given x.reading new (Ok e) x.comes in
-      let again = indef_text_is_read_back padding octets x.reading x.is_reading in
       let all : x.sends.sent ≡ indef_text x.reading =
       sym (append-nil x.sends.sent) ∙ ap (λ (l : List ℕ). x.sends.sent ++ l) (sym x.sends.all_sent) ∙ x.sends.prefix in
-      subst (λ (l : List ℕ). IsReadBack padding x.reading l) (sym all) (record {
-        is_reading = again.0;
-        is_done =
-            indef_text_is_done padding octets x.reading x.is_reading
-            (subst (λ (d : Ending). IsEnding w octets d) (sym k.1 ∙ done) k.2);
-        same_again = again.1;
-      })
+      subst (λ (l : List ℕ). IsReadBack padding x.reading l × IsEnding w l Done) (sym all) (
+        indef_text_is_read_back padding octets x.reading x.is_reading,
+        indef_text_is_done padding octets x.reading x.is_reading
+            (subst (λ (d : Ending). IsEnding w octets d) (sym k.1 ∙ done) k.2),
+      )
 
   runs_ok : (run : Run)
       → Drives indef_step (indef_framing padding) (2 ^ 40) (drive_states s old from) (drive_states t new to) (Ok run)
@@ -67,7 +65,11 @@ module _ (padding : Bool) (s t : IndefState) (old new : SourceState) (from to : 
   indef_ok run x =
       let runs : Runs (indef_job padding) (device_states old from) (device_states new to) (Ok run.ending) =
       runs_ok run x in
-      record { runs = runs; read_back = λ is. read_back run.ending runs (cc (is)) }
+      record {
+        runs = runs;
+        read_back = λ is. (read_back run.ending runs (cc (is))).0;
+        done_again = λ is. (read_back run.ending runs (cc (is))).1;
+      }
 
   pub indef_err : (e : DeviceFault)
       → Drives indef_step (indef_framing padding) (2 ^ 40) (drive_states s old from) (drive_states t new to) (Err e)
@@ -75,4 +77,5 @@ module _ (padding : Bool) (s t : IndefState) (old new : SourceState) (from to : 
   indef_err e x = record {
     runs = jobs.runs_err indef_step (indef_job padding) s text goes_on t old new from to e x;
     read_back = λ is. absurd (cc (is));
+    done_again = λ is. absurd (cc (is));
   }

@@ -1,4 +1,4 @@
--- The same elements with indefinite lengths keep all rules.
+-- The same elements with indefinite lengths keep the rules.
 use Rattle.std.specs.Option.{option_map_or}
 use Rattle.std.proofs.Common.{refl, sym, ap, ◌∙◌, subst}
 use Rattle.std.specs.Prelude.{◌≡◌, ℕ, ◌+◌, ◌<◌, ◌≤◌, Bool, true, false, ◌||◌, eqb, if◌then◌else◌, List, []}
@@ -9,7 +9,7 @@ use Rattle.tlv_head.specs.Header.{AllowsSize, HeaderValue, announced_length, def
 use Rattle.tlv_walk.specs.Forest.{Forest, NoMore, PaddingOctet, Primitive, Holder, OpenPrimitive, OpenHolder}
 use Rattle.tlv_walk.specs.Forest.{OpenBitString, OpenHeader, OpenEndOctets}
 use Rattle.tlv_walk.specs.Forest.{extent, has_element, is_whole, lead, opening, spelling, lead_by}
-use Rattle.tlv_walk.specs.Place.{Fits, IsHeaderAt, IsOpen, Place, place_after, place_of_children}
+use Rattle.tlv_walk.specs.Place.{Fits, IsHeaderAt, KeepsRules, Place, place_after, place_of_children}
 use Rattle.tlv_cut.specs.IndefText.{with_indefinite_lengths, indefinite_header}
 use Rattle.tlv_cut.specs.IndefReading.{with_offsets_from}
 use Rattle.tlv_cut.proofs.IndefLemmas.Offsets.{constructed_at, is_named, spelling-with_offsets_from}
@@ -138,38 +138,38 @@ constructed_header p q h k v =
 
 -- the offsets of what an element holds do not move what follows the element
 follows : (q : Place) (h : HeaderValue) (offset : ℕ) (inside rest : Forest)
-    → IsOpen (place_after q (extent (heading_at q h) inside)) rest
-    → IsOpen (place_after q (extent (heading_at q h) (with_offsets_from offset inside))) rest
+    → KeepsRules (place_after q (extent (heading_at q h) inside)) rest
+    → KeepsRules (place_after q (extent (heading_at q h) (with_offsets_from offset inside))) rest
 follows q h offset inside rest v =
-    subst (λ (l : List ℕ). IsOpen (place_after q (length (opening (heading_at q h)) + (length l + 2))) rest)
+    subst (λ (l : List ℕ). KeepsRules (place_after q (length (opening (heading_at q h)) + (length l + 2))) rest)
     (sym (spelling-with_offsets_from offset inside)) v
 
 -- what `with_indefinite_lengths` makes of a constructed element keeps the rules that it keeps with an indefinite length
 made_holder : (q : Place) (h : HeaderValue) (inside rest : Forest) → h.constructed ≡ true
-    → IsOpen q (with_offsets_from q.offset
+    → KeepsRules q (with_offsets_from q.offset
     (Holder (indefinite_header h) (with_indefinite_lengths inside) (with_indefinite_lengths rest)))
-    → IsOpen q (with_offsets_from q.offset (with_indefinite_lengths (Holder h inside rest)))
+    → KeepsRules q (with_offsets_from q.offset (with_indefinite_lengths (Holder h inside rest)))
 made_holder q h inside rest e v =
     let one = Holder (indefinite_header h) (with_indefinite_lengths inside) (with_indefinite_lengths rest) in
     let other = Primitive h (lead h ++ spelling (with_indefinite_lengths inside)) (with_indefinite_lengths rest) in
-    subst (λ (k : Bool). IsOpen q (with_offsets_from q.offset (if k then one else other))) (sym e) v
+    subst (λ (k : Bool). KeepsRules q (with_offsets_from q.offset (if k then one else other))) (sym e) v
 
 made_open_holder : (q : Place) (h : HeaderValue) (inside : Forest) → h.constructed ≡ true
-    → IsOpen q (with_offsets_from q.offset (OpenHolder (indefinite_header h) (with_indefinite_lengths inside)))
-    → IsOpen q (with_offsets_from q.offset (with_indefinite_lengths (OpenHolder h inside)))
+    → KeepsRules q (with_offsets_from q.offset (OpenHolder (indefinite_header h) (with_indefinite_lengths inside)))
+    → KeepsRules q (with_offsets_from q.offset (with_indefinite_lengths (OpenHolder h inside)))
 made_open_holder q h inside e v =
     let one = OpenHolder (indefinite_header h) (with_indefinite_lengths inside) in
     let other = OpenPrimitive h (lead h ++ spelling (with_indefinite_lengths inside)) in
-    subst (λ (k : Bool). IsOpen q (with_offsets_from q.offset (if k then one else other))) (sym e) v
+    subst (λ (k : Bool). KeepsRules q (with_offsets_from q.offset (if k then one else other))) (sym e) v
 
-pub is_open : (p q : Place) (f : Forest) → IsFree p q → IsOpen p f
-    → IsOpen q (with_offsets_from q.offset (with_indefinite_lengths f))
-is_open p q NoMore k v = tt
-is_open p q (PaddingOctet rest) k v = (
+pub keeps_rules : (p q : Place) (f : Forest) → IsFree p q → KeepsRules p f
+    → KeepsRules q (with_offsets_from q.offset (with_indefinite_lengths f))
+keeps_rules p q NoMore k v = tt
+keeps_rules p q (PaddingOctet rest) k v = (
   (k.padding v.0.0, k.definite v.0.0, free_fits p q k 1),
-  is_open (place_after p 1) (place_after q 1) rest (free_after p q 1 1 k) v.1,
+  keeps_rules (place_after p 1) (place_after q 1) rest (free_after p q 1 1 k) v.1,
 )
-is_open p q (Primitive h c rest) k v =
+keeps_rules p q (Primitive h c rest) k v =
     let n = length (octets_of h) + length c in (
       (
         record {
@@ -180,9 +180,9 @@ is_open p q (Primitive h c rest) k v =
         },
         v.0.1,
       ),
-      is_open (place_after p n) (place_after q n) rest (free_after p q n n k) v.1,
+      keeps_rules (place_after p n) (place_after q n) rest (free_after p q n n k) v.1,
     )
-is_open p q (Holder h inside rest) k v =
+keeps_rules p q (Holder h inside rest) k v =
     let header = heading_at q h in
     let offset = q.offset + length (opening header) in
     let n = extent header (with_indefinite_lengths inside) in
@@ -196,12 +196,13 @@ is_open p q (Holder h inside rest) k v =
         whole offset inside v.0.1,
         tt,
       ),
-      is_open (place_of_children p h) (place_of_children q header) inside (free_inside p q h header refl k) v.1,
+      keeps_rules (place_of_children p h) (place_of_children q header) inside (free_inside p q h header refl k) v.1,
       follows q h offset (with_indefinite_lengths inside)
           (with_offsets_from (q.offset + n) (with_indefinite_lengths rest))
-          (is_open (place_after p (extent h inside)) (place_after q n) rest (free_after p q (extent h inside) n k) v.2),
+          (keeps_rules (place_after p (extent h inside)) (place_after q n) rest (free_after p q
+          (extent h inside) n k) v.2),
     )
-is_open p q (OpenPrimitive h c) k v = (
+keeps_rules p q (OpenPrimitive h c) k v = (
   record {
     header = primitive_at p q h k v.0.header;
     shallow = λ e. absurd (cc (e));
@@ -210,7 +211,7 @@ is_open p q (OpenPrimitive h c) k v = (
   },
   v.1,
 )
-is_open p q (OpenHolder h inside) k v =
+keeps_rules p q (OpenHolder h inside) k v =
     let header = heading_at q h in
     made_open_holder q h inside (constructed_at p h k.names v.0.0.header) (
       (
@@ -221,11 +222,11 @@ is_open p q (OpenHolder h inside) k v =
         },
         λ w. tt,
       ),
-      is_open (place_of_children p h) (place_of_children q header) inside (free_inside p q h header refl k) v.1,
+      keeps_rules (place_of_children p h) (place_of_children q header) inside (free_inside p q h header refl k) v.1,
     )
-is_open p q (OpenBitString h) k v = absurd (awaits h (constructed_at p h k.names v.0.header) v.1)
+keeps_rules p q (OpenBitString h) k v = absurd (awaits h (constructed_at p h k.names v.0.header) v.1)
   where
     awaits : (h : HeaderValue) → h.constructed ≡ true → lead h ≡ 0 ∷ [] → ⊥
     awaits h e l = cc (ap (λ (k : Bool). lead_by k (eqb h.number 3)) e, l)
-is_open p q (OpenHeader octets) k v = tt
-is_open p q OpenEndOctets k v = tt
+keeps_rules p q (OpenHeader octets) k v = tt
+keeps_rules p q OpenEndOctets k v = tt

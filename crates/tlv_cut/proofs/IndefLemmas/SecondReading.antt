@@ -3,43 +3,44 @@ use Rattle.std.proofs.Common.{◌≡◌, ℕ, Bool, true, List, refl, ap, ◌∙
 use Rattle.tlv_walk.specs.declared.ending.Ending.TheVariants.{Done}
 use Rattle.tlv_walk.specs.Ending.{IsEnding, done}
 use Rattle.tlv_walk.specs.Forest.{Forest, has_element, is_whole, spelling}
-use Rattle.tlv_walk.specs.Place.{IsOpen, top_place}
+use Rattle.tlv_walk.specs.Place.{KeepsRules, top_place}
 use Rattle.tlv_walk.specs.Reading.{IsReading, IsSoundList}
 use Rattle.tlv_walk.proofs.GrammarLemmas.Endings.{done-sound, sound-reading}
 use Rattle.tlv_walk.proofs.GrammarLemmas.Readings.{Going, reading-unique, run-reading}
 use Rattle.tlv_walk.proofs.GrammarLemmas.Sound.{sound-whole}
 use Rattle.tlv_cut.specs.IndefText.{indef_text, with_indefinite_lengths}
 use Rattle.tlv_cut.specs.IndefJob.{indef_framing}
-use Rattle.tlv_cut.specs.IndefReading.{indef_reading}
-use Rattle.tlv_cut.proofs.IndefLemmas.Rules.{IsFree, is_open, some, whole}
+use Rattle.tlv_cut.specs.IndefReading.{IsReadBack, indef_reading}
+use Rattle.tlv_cut.proofs.IndefLemmas.Rules.{IsFree, keeps_rules, some, whole}
 use Rattle.tlv_cut.proofs.IndefLemmas.Offsets.{indef_text-again, spelling-with_offsets_from}
 
 top_free : (padding : Bool) → IsFree (top_place (indef_framing padding)) (top_place (indef_framing padding))
 top_free padding =
     record { names = refl; same_names = refl; depth = refl; bound = refl; padding = λ e. e; definite = λ e. refl }
 
-pub indef_text_keeps_rules : (padding : Bool) (f : Forest) → IsOpen (top_place (indef_framing padding)) f
-    → (spelling (indef_reading f) ≡ indef_text f) × IsOpen (top_place (indef_framing padding)) (indef_reading f)
+pub indef_text_keeps_rules : (padding : Bool) (f : Forest) → KeepsRules (top_place (indef_framing padding)) f
+    → (spelling (indef_reading f) ≡ indef_text f) × KeepsRules (top_place (indef_framing padding)) (indef_reading f)
 indef_text_keeps_rules padding f v =
     let p = top_place (indef_framing padding) in
-    (spelling-with_offsets_from 0 (with_indefinite_lengths f), is_open p p f (top_free padding) v)
+    (spelling-with_offsets_from 0 (with_indefinite_lengths f), keeps_rules p p f (top_free padding) v)
 
 pub indef_text_is_read_back : (padding : Bool) (b : List ℕ) (f : Forest) → IsReading (indef_framing padding) b f
-    → IsReading (indef_framing padding) (indef_text f) (indef_reading f) × (indef_text (indef_reading f) ≡ indef_text f)
+    → IsReadBack padding f (indef_text f)
 indef_text_is_read_back padding b f r =
-    let o = indef_text_keeps_rules padding f r.is_open in (
-      run-reading (indef_framing padding) (Going (indef_reading f)) (indef_text f)
-          (record { is_open = o.1; spelled = o.0 }),
-      indef_text-again 0 f,
-    )
+    let o = indef_text_keeps_rules padding f r.keeps_rules in record {
+      is_reading =
+          run-reading (indef_framing padding) (Going (indef_reading f)) (indef_text f)
+          (record { keeps_rules = o.1; spelled = o.0 });
+      same_again = indef_text-again 0 f;
+    }
 
 -- what is written for a sound list of encodings has no fault
 sound_again : (padding : Bool) (b : List ℕ) (f : Forest) → IsReading (indef_framing padding) b f → is_whole f ≡ true
     → has_element f ≡ true
     → IsEnding (indef_framing padding) (indef_text f) Done
 sound_again padding b f r w e =
-    let o = indef_text_keeps_rules padding f r.is_open in
-    done (indef_reading f) (indef_text_is_read_back padding b f r).0 o.0 (some 0 f w e) (whole 0 f w)
+    let o = indef_text_keeps_rules padding f r.keeps_rules in
+    done (indef_reading f) (indef_text_is_read_back padding b f r).is_reading o.0 (some 0 f w e) (whole 0 f w)
 
 pub indef_text_is_done : (padding : Bool) (b : List ℕ) (f : Forest) → IsReading (indef_framing padding) b f
     → IsEnding (indef_framing padding) b Done

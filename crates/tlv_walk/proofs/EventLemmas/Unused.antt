@@ -11,11 +11,11 @@ use Rattle.tlv_walk.specs.Phase as phase
 use Rattle.tlv_walk.specs.Events.{AreEqualJoined, EventValue, events}
 use Rattle.tlv_walk.specs.Forest.{Forest}
 use Rattle.tlv_walk.specs.Inside.{can_name, is_among}
-use Rattle.tlv_walk.specs.WalkerState.{WalkerState, unused_of}
+use Rattle.tlv_walk.specs.WalkerState.{WalkerState, unused_offset}
 use Rattle.tlv_walk.specs.Private.WrapperCount.{next_wrapper_count, wrapper_count_after}
-use Rattle.tlv_walk.specs.Place.{IsOpen, top_place}
+use Rattle.tlv_walk.specs.Place.{KeepsRules, top_place}
 use Rattle.tlv_walk.specs.Stands.{Stands, filled_end_events, is_end_at, waiting_events, waiting_events_in}
-use Rattle.tlv_walk.specs.Wrappers.{first_other, first_without_wrapper, entered_offsets, wrapper_offsets}
+use Rattle.tlv_walk.specs.Wrappers.{first_not_among, first_without_wrapper, entered_offsets, wrapper_offsets}
 use Rattle.tlv_walk.proofs.EventLemmas.Joined.{apart-from_joined}
 use Rattle.tlv_walk.proofs.EventLemmas.Named.{AreRising, can-to}
 use Rattle.tlv_walk.proofs.EventLemmas.Wrappers.{Rise, enters-apart, enters-append, wrapper_offsets-entered}
@@ -29,13 +29,13 @@ is_first : (n : ℕ) (offsets : List ℕ) → is_among n (n ∷ offsets) ≡ tru
 is_first n offsets = rw (eq-eqb n n refl) refl
 
 -- a smaller offset changes nothing for larger ones
-first_other-larger : (least offset : ℕ) (ns offsets : List ℕ) → offset < least → AreRising least ns
-    → first_other ns (offset ∷ offsets) ≡ first_other ns offsets
-first_other-larger least offset [] offsets h r = refl
-first_other-larger least offset (n ∷ ns) offsets h r =
+first_not_among-larger : (least offset : ℕ) (ns offsets : List ℕ) → offset < least → AreRising least ns
+    → first_not_among ns (offset ∷ offsets) ≡ first_not_among ns offsets
+first_not_among-larger least offset [] offsets h r = refl
+first_not_among-larger least offset (n ∷ ns) offsets h r =
     ap₂ (λ (k : Bool) (o : Option ℕ). if not k then Some n else o)
     (not_among n offset offsets (λ e. omega (arith, e, h, r.0)))
-    (first_other-larger (n + 1) offset ns offsets (omega (arith, h, r.0)) r.2)
+    (first_not_among-larger (n + 1) offset ns offsets (omega (arith, h, r.0)) r.2)
 
 -- an offset among those that rise is not below the least
 among_rise : (least end n : ℕ) (offsets : List ℕ) → Rise least end offsets → is_among n offsets ≡ true → least ≤ n
@@ -72,7 +72,7 @@ none_there k = refl
 
 -- the count is the index of the first offset that is not among the others
 first-found : (inside offsets : List ℕ) (least low end : ℕ) → AreRising least inside → Rise low end offsets
-    → slice_get inside (wrapper_count_after inside 0 offsets) ≡ first_other inside offsets
+    → slice_get inside (wrapper_count_after inside 0 offsets) ≡ first_not_among inside offsets
 first-found [] offsets least low end r q = none_there (wrapper_count_after [] 0 offsets)
 first-found (n ∷ ns) [] least low end r q = refl
 first-found (n ∷ ns) (offset ∷ offsets) least low end r q = elim (cases_eq n offset) [
@@ -81,8 +81,8 @@ first-found (n ∷ ns) (offset ∷ offsets) least low end r q = elim (cases_eq n
       (eq-eqb n offset same)
       ∙ ap (slice_get (n ∷ ns)) (found-after n ns 0 offsets)
       ∙ first-found ns offsets (n + 1) (offset + 1) end r.2 q.1
-      ∙ sym (first_other-larger (n + 1) offset ns offsets (omega (arith, same)) r.2)
-      ∙ ap (λ (k : Bool). if not k then Some n else first_other ns (offset ∷ offsets))
+      ∙ sym (first_not_among-larger (n + 1) offset ns offsets (omega (arith, same)) r.2)
+      ∙ ap (λ (k : Bool). if not k then Some n else first_not_among ns (offset ∷ offsets))
       (sym (ap (λ (m : ℕ). is_among n (m ∷ offsets)) (sym same) ∙ is_first n offsets))
   | inr other ↦
       ap (λ (k : Bool). slice_get (n ∷ ns) (wrapper_count_after (n ∷ ns) (if k then 1 else 0) offsets))
@@ -92,7 +92,7 @@ first-found (n ∷ ns) (offset ∷ offsets) least low end r q = elim (cases_eq n
         | inl among ↦
             let larger : offset < n + 1 = omega (arith, among_rise (offset + 1) end n offsets q.1 among) in
             ap₂ (λ (k : Bool) (o : Option ℕ). if not k then Some n else o) (sym (not_among n offset offsets other))
-            (sym (first_other-larger (n + 1) offset ns offsets larger r.2))
+            (sym (first_not_among-larger (n + 1) offset ns offsets larger r.2))
         | inr none ↦ rw (not_among n offset offsets other, none) refl
       ]
 ]
@@ -127,7 +127,7 @@ enters-joined : (xs ys : List EventValue) → AreEqualJoined xs ys → entered_o
 enters-joined xs ys e = sym (enters-apart xs) ∙ ap entered_offsets (apart-from_joined xs ys e) ∙ enters-apart ys
 
 -- the wrappers of a forest whose events were yielded
-yielded_wrappers : (framing : Framing) (yielded waits : List EventValue) (f : Forest) → IsOpen (top_place framing) f
+yielded_wrappers : (framing : Framing) (yielded waits : List EventValue) (f : Forest) → KeepsRules (top_place framing) f
     → entered_offsets waits ≡ [] → AreEqualJoined (yielded ++ waits) (events f)
     → entered_offsets yielded ≡ wrapper_offsets f
 yielded_wrappers framing yielded waits f v none e =
@@ -137,7 +137,7 @@ yielded_wrappers framing yielded waits f v none e =
 
 -- the count over the events yielded gives the first named offset that is no wrapper's
 pub yielded_unused : (framing : Framing) (yielded waits : List EventValue) (f : Forest)
-    → can_name framing.inside ≡ true → IsOpen (top_place framing) f → entered_offsets waits ≡ []
+    → can_name framing.inside ≡ true → KeepsRules (top_place framing) f → entered_offsets waits ≡ []
     → AreEqualJoined (yielded ++ waits) (events f)
     → slice_get framing.inside (wrapper_count_after framing.inside 0 (entered_offsets yielded))
     ≡ first_without_wrapper framing.inside f
@@ -148,19 +148,19 @@ yielded_unused framing yielded waits f named v none e =
     (wrapper_offsets-rise (top_place framing) f v)
 
 pub stands_unused : (w : WalkerState) (b : List ℕ) (yielded : List EventValue) → (st : Stands w b yielded)
-    → unused_of w ≡ first_without_wrapper w.framing.inside st.has_events.reading
+    → unused_offset w ≡ first_without_wrapper w.framing.inside st.has_events.reading
 stands_unused w b yielded st =
     ap (slice_get w.framing.inside) st.private_state.found
     ∙ yielded_unused w.framing yielded (waiting_events w) st.has_events.reading st.private_state.named
-    st.has_events.is_reading.is_open (waits_enter_none w.phase w.stack w.offset) st.has_events.all_events
+    st.has_events.is_reading.keeps_rules (waits_enter_none w.phase w.stack w.offset) st.has_events.all_events
 
 -- it is the first that no event yielded entered
 pub stands-entered : (w : WalkerState) (b : List ℕ) (yielded : List EventValue) → Stands w b yielded
-    → unused_of w ≡ first_other w.framing.inside (entered_offsets yielded)
+    → unused_offset w ≡ first_not_among w.framing.inside (entered_offsets yielded)
 stands-entered w b yielded st =
     stands_unused w b yielded st
-    ∙ ap (first_other w.framing.inside)
+    ∙ ap (first_not_among w.framing.inside)
     (sym
     (yielded_wrappers w.framing yielded (waiting_events w) st.has_events.reading
-    st.has_events.is_reading.is_open (waits_enter_none w.phase w.stack w.offset)
+    st.has_events.is_reading.keeps_rules (waits_enter_none w.phase w.stack w.offset)
     st.has_events.all_events))

@@ -6,10 +6,10 @@ use Rattle.tlv_head.specs.Header.{HeaderValue, is_wrapper, octets_of}
 use Rattle.tlv_walk.specs.Forest.{Forest, NoMore, PaddingOctet, Primitive, Holder, OpenPrimitive, OpenHolder}
 use Rattle.tlv_walk.specs.Forest.{OpenBitString, OpenHeader, OpenEndOctets, extent, lead, opening, spelling}
 use Rattle.tlv_walk.specs.Inside.{is_among}
-use Rattle.tlv_walk.specs.Place.{IsHeaderAt, IsOpen, Place, place_after, place_of_children}
+use Rattle.tlv_walk.specs.Place.{IsHeaderAt, KeepsRules, Place, place_after, place_of_children}
 use Rattle.tlv_walk.specs.Events.{Begin, Bytes, Close, End, Enter, EventValue, Leave, Open, Pad, Unused, closing_event}
 use Rattle.tlv_walk.specs.Events.{events, opening_events, single_octets}
-use Rattle.tlv_walk.specs.Wrappers.{entered_offsets, wrapper_at, wrapper_by, wrapper_offsets}
+use Rattle.tlv_walk.specs.Wrappers.{entered_offsets, wrapper_offset, wrapper_offset_by, wrapper_offsets}
 use Rattle.tlv_walk.proofs.GrammarLemmas.Spellings.{length-holder, length-opening, length-primitive}
 use Rattle.tlv_walk.proofs.GrammarLemmas.PopHeaders.{header-length}
 
@@ -59,16 +59,16 @@ enters-unused (x ∷ l) es = enters-unused l es
 -- the first event of an element that holds others, by its form
 enters-first : (h : HeaderValue) (constructed : Bool) (es : List EventValue)
     → entered_offsets ((if constructed then Open h else Enter h) ∷ es)
-    ≡ wrapper_by constructed h.offset ++ entered_offsets es
+    ≡ wrapper_offset_by constructed h.offset ++ entered_offsets es
 enters-first h true es = refl
 enters-first h false es = refl
 
 -- the beginning of an element that holds others enters it, if it is a wrapper
 enters-opens : (h : HeaderValue) (es : List EventValue)
-    → entered_offsets (opening_events h ++ es) ≡ wrapper_at h ++ entered_offsets es
+    → entered_offsets (opening_events h ++ es) ≡ wrapper_offset h ++ entered_offsets es
 enters-opens h es =
     enters-first h h.constructed (map (λ z. Unused) (lead h) ++ es)
-    ∙ ap (λ (t : List ℕ). wrapper_at h ++ t) (enters-unused (lead h) es)
+    ∙ ap (λ (t : List ℕ). wrapper_offset h ++ t) (enters-unused (lead h) es)
 
 -- the end of an element that holds others enters none
 enters-closes : (h : HeaderValue) (inside : Forest) (es : List EventValue)
@@ -79,21 +79,21 @@ enters-closes h inside es = elim (cases_Bool h.constructed) [
 ]
 
 -- what waits for its first contents octet is a wrapper
-waiting-wraps : (h : HeaderValue) → lead h ≡ 0 ∷ [] → wrapper_at h ≡ h.offset ∷ []
+waiting-wraps : (h : HeaderValue) → lead h ≡ 0 ∷ [] → wrapper_offset h ≡ h.offset ∷ []
 waiting-wraps h e = elim (cases_Bool h.constructed) [
   | inl c ↦ let none : List ℕ = [] in let e' : none ≡ 0 ∷ [] = rw c at e in absurd (cc)
   | inr c ↦ rw c
 ]
 
--- the wrappers of an open forest are those that its events enter
-pub wrapper_offsets-entered : (p : Place) (f : Forest) → IsOpen p f → wrapper_offsets f ≡ entered_offsets (events f)
+-- the wrappers of a forest that keeps the rules are those that its events enter
+pub wrapper_offsets-entered : (p : Place) (f : Forest) → KeepsRules p f → wrapper_offsets f ≡ entered_offsets (events f)
 wrapper_offsets-entered p NoMore w = refl
 wrapper_offsets-entered p (PaddingOctet rest) w = wrapper_offsets-entered (place_after p 1) rest w.1
 wrapper_offsets-entered p (Primitive h c rest) w =
     wrapper_offsets-entered (place_after p (length (octets_of h) + length c)) rest w.1
 wrapper_offsets-entered p (Holder h inside rest) w = sym
     (enters-opens h (events inside ++ closing_event h inside ∷ events rest)
-    ∙ ap (λ (t : List ℕ). wrapper_at h ++ t)
+    ∙ ap (λ (t : List ℕ). wrapper_offset h ++ t)
     (enters-append (events inside) (closing_event h inside ∷ events rest)
     ∙ (ap (λ (t : List ℕ). t ++ entered_offsets (closing_event h inside ∷ events rest))
     (sym (wrapper_offsets-entered (place_of_children p h) inside w.1))
@@ -103,7 +103,7 @@ wrapper_offsets-entered p (Holder h inside rest) w = sym
 wrapper_offsets-entered p (OpenPrimitive h c) w = refl
 wrapper_offsets-entered p (OpenHolder h inside) w =
     sym (enters-opens h (events inside)
-    ∙ ap (λ (t : List ℕ). wrapper_at h ++ t) (sym (wrapper_offsets-entered (place_of_children p h) inside w.1)))
+    ∙ ap (λ (t : List ℕ). wrapper_offset h ++ t) (sym (wrapper_offsets-entered (place_of_children p h) inside w.1)))
 wrapper_offsets-entered p (OpenBitString h) w = waiting-wraps h w.1
 wrapper_offsets-entered p (OpenHeader octets) w = refl
 wrapper_offsets-entered p OpenEndOctets w = refl
@@ -133,14 +133,14 @@ rise-append a b c [] ys r s = rise-least b a c ys r s
 rise-append a b c (n ∷ xs) ys r s = (r.0, rise-append (n + 1) b c xs ys r.1 s)
 
 -- the offset of a wrapper is that of its first octet
-wrapper-rises : (a b : ℕ) (h : HeaderValue) → h.offset ≡ a → a < b → Rise a b (wrapper_at h)
+wrapper-rises : (a b : ℕ) (h : HeaderValue) → h.offset ≡ a → a < b → Rise a b (wrapper_offset h)
 wrapper-rises a b h e l = elim (cases_Bool h.constructed) [
   | inl c ↦ rw c (omega arith)
   | inr c ↦ rw c (omega arith, omega arith)
 ]
 
 -- the offsets of the wrappers rise, and are those of octets of the forest
-pub wrapper_offsets-rise : (p : Place) (f : Forest) → IsOpen p f
+pub wrapper_offsets-rise : (p : Place) (f : Forest) → KeepsRules p f
     → Rise p.offset (p.offset + length (spelling f)) (wrapper_offsets f)
 wrapper_offsets-rise p NoMore w = omega arith
 wrapper_offsets-rise p (PaddingOctet rest) w =
@@ -153,7 +153,7 @@ wrapper_offsets-rise p (Holder h inside rest) w =
     let two : 2 ≤ length (octets_of h) = header-length h w.0.0.header.valid in
     let size : length (spelling (Holder h inside rest)) ≡ extent h inside + length (spelling rest) =
     length-holder h inside rest in
-    rise-append p.offset (p.offset + length (opening h)) _ (wrapper_at h)
+    rise-append p.offset (p.offset + length (opening h)) _ (wrapper_offset h)
     (wrapper_offsets inside ++ wrapper_offsets rest)
     (wrapper-rises p.offset (p.offset + length (opening h)) h w.0.0.header.offset (omega (arith, length-opening h)))
     (rise-append (p.offset + length (opening h)) (p.offset + extent h inside) _ (wrapper_offsets inside)
@@ -165,7 +165,7 @@ wrapper_offsets-rise p (Holder h inside rest) w =
 wrapper_offsets-rise p (OpenPrimitive h c) w = omega arith
 wrapper_offsets-rise p (OpenHolder h inside) w =
     let two : 2 ≤ length (octets_of h) = header-length h w.0.0.header.valid in
-    rise-append p.offset (p.offset + length (opening h)) _ (wrapper_at h) (wrapper_offsets inside)
+    rise-append p.offset (p.offset + length (opening h)) _ (wrapper_offset h) (wrapper_offsets inside)
     (wrapper-rises p.offset (p.offset + length (opening h)) h w.0.0.header.offset (omega (arith, length-opening h)))
     (rise-within _ _ _ _ (wrapper_offsets inside) (omega arith)
     (omega (arith, length-append (opening h) (spelling inside)))
@@ -193,7 +193,7 @@ wraps-named false true h c e = refl
 wraps-named false false h c e = absurd (cc)
 
 -- an element that is there, if it is a wrapper, is named
-wrapper-named : (p : Place) (h : HeaderValue) → IsHeaderAt p true h → AreNamed p.inside (wrapper_at h)
+wrapper-named : (p : Place) (h : HeaderValue) → IsHeaderAt p true h → AreNamed p.inside (wrapper_offset h)
 wrapper-named p h header = elim (cases_Bool h.constructed) [
   | inl c ↦ rw c tt
   | inr c ↦
@@ -203,21 +203,21 @@ wrapper-named p h header = elim (cases_Bool h.constructed) [
       rw c (named, tt)
 ]
 
--- the wrappers of an open forest are among the offsets named
-pub wrapper_offsets-named : (p : Place) (f : Forest) → IsOpen p f → AreNamed p.inside (wrapper_offsets f)
+-- the wrappers of a forest that keeps the rules are among the offsets named
+pub wrapper_offsets-named : (p : Place) (f : Forest) → KeepsRules p f → AreNamed p.inside (wrapper_offsets f)
 wrapper_offsets-named p NoMore w = tt
 wrapper_offsets-named p (PaddingOctet rest) w = wrapper_offsets-named (place_after p 1) rest w.1
 wrapper_offsets-named p (Primitive h c rest) w =
     wrapper_offsets-named (place_after p (length (octets_of h) + length c)) rest w.1
 wrapper_offsets-named p (Holder h inside rest) w =
-    named-append p.inside (wrapper_at h) (wrapper_offsets inside ++ wrapper_offsets rest)
+    named-append p.inside (wrapper_offset h) (wrapper_offsets inside ++ wrapper_offsets rest)
     (wrapper-named p h w.0.0.header)
     (named-append p.inside (wrapper_offsets inside) (wrapper_offsets rest)
     (wrapper_offsets-named (place_of_children p h) inside w.1)
     (wrapper_offsets-named (place_after p (extent h inside)) rest w.2))
 wrapper_offsets-named p (OpenPrimitive h c) w = tt
 wrapper_offsets-named p (OpenHolder h inside) w =
-    named-append p.inside (wrapper_at h) (wrapper_offsets inside) (wrapper-named p h w.0.0.header)
+    named-append p.inside (wrapper_offset h) (wrapper_offsets inside) (wrapper-named p h w.0.0.header)
     (wrapper_offsets-named (place_of_children p h) inside w.1)
 wrapper_offsets-named p (OpenBitString h) w = wrapper-named p h w.0.header
 wrapper_offsets-named p (OpenHeader octets) w = tt

@@ -14,7 +14,7 @@ use Rattle.tlv_io.specs.Device.{LastReadValue, never, gave, failed, failures_aft
 use Rattle.tlv_walk.specs.Events.{EventValue}
 use Rattle.tlv_walk.specs.Follow.{Effect}
 use Rattle.tlv_walk.specs.Job.{drain_result, source_result}
-use Rattle.tlv_walk.specs.Stands.{CanTake}
+use Rattle.tlv_walk.specs.Stands.{IsReady}
 use Rattle.tlv_walk.specs.WalkerState.{WalkerState}
 use Rattle.tlv_walk.specs.Private.FollowsPiece.{Pauses, FollowStates, follow_states}
 use Rattle.tlv_walk.specs.Private.ResultOfPause.{IsResultOfPause}
@@ -87,7 +87,7 @@ module _ {S : Type 0} (next : S → EventValue → Effect S) (old new : TurnStat
 pub used_up_ready : {S D : Type 0} (next : S → EventValue → Effect S) (x y : FollowStates S D) (piece : List ℕ)
     (more : List EventValue) (why : Pause)
     → Pauses next x y piece more (Ok why)
-    → why ≡ pause.UsedUp → CanTake y.walker
+    → why ≡ pause.UsedUp → IsReady y.walker
 used_up_ready next x y piece more pause.UsedUp k e = k.ready
 used_up_ready next x y piece more (pause.Fault f) k e = absurd (cc (e))
 used_up_ready next x y piece more pause.Enough k e = absurd (cc (e))

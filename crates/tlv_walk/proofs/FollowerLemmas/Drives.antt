@@ -17,7 +17,7 @@ use Rattle.tlv_walk.specs.declared.run.Turn.{Turn}
 use Rattle.tlv_walk.specs.declared.run.Turn.TheVariants.{Again, Ended}
 use Rattle.std.specs.List.{concat}
 use Rattle.tlv_io.specs.Device.{DrainState, LastReadValue, SourceState, failed, failures_after, gave, GaveLast}
-use Rattle.tlv_walk.specs.DriveJob.{Drives, drive_job, drive_states, enough_run, whole_run}
+use Rattle.tlv_walk.specs.DriveJob.{Drives, drive_job, drive_states, enough_run, run_over}
 use Rattle.tlv_walk.specs.Events.{AreEqualJoined, EventValue, events}
 use Rattle.tlv_walk.specs.Follow.{Effect, effect_of, followed_events, had_enough}
 use Rattle.tlv_walk.specs.FollowsEvents.{FollowsEvents}
@@ -30,7 +30,7 @@ use Rattle.tlv_walk.specs.Reading.{AreOctets, IsReading}
 use Rattle.tlv_walk.specs.Stands.{Stands}
 use Rattle.tlv_walk.specs.OneTurn.{EndsIn, FollowsMore, FollowsOneRead, LastReadWas, LastReadGaveUpTo, HasEnoughIn}
 use Rattle.tlv_walk.specs.OneTurn.{TurnStates, TurnsTo, WalkEnds, at_enough, at_fault, at_input_end, last_octets}
-use Rattle.tlv_walk.specs.Wrappers.{first_other}
+use Rattle.tlv_walk.specs.Wrappers.{first_not_among}
 use Rattle.tlv_walk.proofs.FollowerLemmas.Following.{made_both, made_put}
 use Rattle.tlv_walk.proofs.FollowerLemmas.Enough.{comes_to}
 use Rattle.tlv_io.proofs.Pieces.{pieces_so_far_more, pieces_all, together_more}
@@ -187,7 +187,7 @@ module _ {S : Type 0} (next : S → EventValue → Effect S) (framing : Framing)
       -- the run, by whether there was enough
       abbrev result_if : Forest → Ending → Bool → Run
       result_if f e enough =
-          if enough then enough_run framing (followed_events next s (events f)) else whole_run framing f e
+          if enough then enough_run framing (followed_events next s (events f)) else run_over framing f e
 
       -- with a fault or the end of the input
       ends_without : (run : Run) → result ≡ Ok (Ended run) → EndsIn next now new walked_octets x.yielded run
@@ -204,7 +204,7 @@ module _ {S : Type 0} (next : S → EventValue → Effect S) (framing : Framing)
           let k : MadeAll next s new.follower f go.On (effect_of next s es).put =
           made_all next laws s new.follower es f go.On made y.has_events.all_events in
           let answer : run ≡ (drive_job next framing limit s).result f run.ending =
-          y.run_is ∙ ap (λ (k : Framing). whole_run k f run.ending) x.same
+          y.run_is ∙ ap (λ (k : Framing). run_over k f run.ending) x.same
           ∙ ap (result_if f run.ending) (sym (is_enough_so f go.On (effect_of next s es).put k)) in
           let ends : EndsWith framing walked_octets (had_enough (effect_of next s (events f)).goes) run.ending =
           subst (λ (b : Bool). EndsWith framing walked_octets b run.ending)
@@ -244,7 +244,7 @@ module _ {S : Type 0} (next : S → EventValue → Effect S) (framing : Framing)
           y.run_is ∙ ap (λ (k : Framing). enough_run k es) x.same
           ∙ ap₂ (λ (n : ℕ) (u : Option ℕ). record (enough_run framing es) { octets = n; unused = u })
           (ap length (enough_octets next laws s new.follower es others.0 f made others.1))
-          (ap (first_other framing.inside) (enough_enters next laws s new.follower es others.0 f made others.1))
+          (ap (first_not_among framing.inside) (enough_enters next laws s new.follower es others.0 f made others.1))
           ∙ ap (result_if f run.ending) (sym enough) in record {
             runs =
                 runs_by (Ok run) f (gave_last new.devices.source.last piece g) is_reading es go.Enough k

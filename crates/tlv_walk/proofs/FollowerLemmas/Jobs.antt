@@ -10,7 +10,7 @@ use Rattle.tlv_walk.specs.declared.run.DeviceFault.TheVariants.{ReadFailed, Writ
 use Rattle.tlv_walk.specs.declared.run.Run.{Run}
 use Rattle.std.specs.List.{concat}
 use Rattle.tlv_io.specs.Device.{DrainState, SourceState, octets_given}
-use Rattle.tlv_walk.specs.DriveJob.{Drives, drive_job, drive_states, enough_run, whole_run}
+use Rattle.tlv_walk.specs.DriveJob.{Drives, drive_job, drive_states, enough_run, run_over}
 use Rattle.tlv_walk.specs.Events.{EventValue, events}
 use Rattle.tlv_walk.specs.Follow.{Effect, effect_of, go_of, had_enough}
 use Rattle.tlv_walk.specs.Forest.{Forest}
@@ -21,7 +21,7 @@ use Rattle.tlv_walk.specs.Reading.{IsReading}
 
 -- a run has the ending that it came to
 pub run-ending : (framing : Framing) (f : Forest) (es : List EventValue) (k : Bool) (e : Ending)
-    → (k ≡ true → e ≡ Done) → (if k then enough_run framing es else whole_run framing f e).ending ≡ e
+    → (k ≡ true → e ≡ Done) → (if k then enough_run framing es else run_over framing f e).ending ≡ e
 run-ending framing f es true e done = sym (done refl)
 run-ending framing f es false e done = refl
 

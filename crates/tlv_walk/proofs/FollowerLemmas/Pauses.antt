@@ -15,7 +15,7 @@ use Rattle.tlv_walk.specs.Private.FollowsPiece.{Pauses, FollowStates, WalksToFau
 use Rattle.tlv_walk.specs.Forest.{Forest, spelling}
 use Rattle.tlv_walk.specs.declared.framing.Framing.{Framing}
 use Rattle.tlv_walk.specs.HasRead.{IsRefusedAfter}
-use Rattle.tlv_walk.specs.WalkerState.{WalkerState, unused_of}
+use Rattle.tlv_walk.specs.WalkerState.{WalkerState, unused_offset}
 use Rattle.tlv_walk.specs.Wrappers.{first_without_wrapper}
 use Rattle.tlv_io.specs.Out.{Puts, held_octets, drain_of}
 use Rattle.tlv_walk.specs.Place.{top_place}
@@ -63,11 +63,11 @@ fault_octets w v b piece yielded more e k =
 pub walked_refused : (w v : WalkerState) (b piece : List ℕ) (yielded more : List EventValue) (e : Fault)
     → (k : WalksToFault w v piece more e b yielded)
     → (r : IsRefusedAfter w.framing (b ++ k.taken) k.octet (yielded ++ more) e)
-    × (unused_of v ≡ first_without_wrapper w.framing.inside r.reading)
+    × (unused_offset v ≡ first_without_wrapper w.framing.inside r.reading)
 walked_refused w v b piece yielded more e k =
     subst
     (λ (g : Framing). (r : IsRefusedAfter g (b ++ k.taken) k.octet (yielded ++ more) e)
-    × (unused_of v ≡ first_without_wrapper g.inside r.reading))
+    × (unused_offset v ≡ first_without_wrapper g.inside r.reading))
     k.framing (k.stands.refused, k.stands.unused)
 
 pub fault_is_reading : (w v : WalkerState) (b piece : List ℕ) (yielded more : List EventValue) (e : Fault)

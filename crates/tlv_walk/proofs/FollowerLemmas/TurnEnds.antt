@@ -17,13 +17,13 @@ use Rattle.tlv_walk.specs.Private.ResultOfPause.{run_of}
 use Rattle.tlv_walk.specs.Private.FollowsPiece.{FollowsToFault, FollowsToEnough, FollowsAll, FollowStates, WalksOver}
 use Rattle.tlv_walk.specs.Private.FollowsPiece.{WalksToFault, follow_states}
 use Rattle.tlv_walk.specs.Forest.{Forest, spelling}
-use Rattle.tlv_walk.specs.WalkerState.{WalkerState, unused_of}
+use Rattle.tlv_walk.specs.WalkerState.{WalkerState, unused_offset}
 use Rattle.tlv_io.specs.Out.{Sends}
 use Rattle.tlv_walk.specs.Reading.{IsReading}
 use Rattle.tlv_walk.specs.Stands.{Stands}
 use Rattle.tlv_walk.specs.HasRead.{refused_one, took_all}
 use Rattle.tlv_walk.specs.OneTurn.{EndsIn, HasEnoughIn, StandsAfter, TurnStates}
-use Rattle.tlv_walk.specs.Wrappers.{first_other, first_without_wrapper, entered_offsets}
+use Rattle.tlv_walk.specs.Wrappers.{first_not_among, first_without_wrapper, entered_offsets}
 use Rattle.tlv_walk.proofs.FollowerLemmas.Following.{walked_goes_on}
 use Rattle.tlv_walk.proofs.WalkerLemmas.EventOctets.{stands-yielded_octets}
 use Rattle.tlv_walk.proofs.EventLemmas.Unused.{stands-entered, stands_unused}
@@ -32,7 +32,7 @@ use Rattle.tlv_walk.proofs.FollowerLemmas.Pauses.{walked_refused}
 
 -- the run of a walker with these counts
 run_with : (run : Run) (v : WalkerState) (e : Ending) (k : Bool) (n : ℕ) (u : Option ℕ) → run ≡ run_of v e k
-    → v.offset ≡ n → unused_of v ≡ u
+    → v.offset ≡ n → unused_offset v ≡ u
     → run ≡ record { ending = run.ending; octets = n; enough = k; unused = u }
 run_with run v e k n u is p q =
     is ∙ ap₂ (λ (x : ℕ) (y : Option ℕ). record { ending = e; octets = x; enough = k; unused = y }) p q
@@ -96,10 +96,10 @@ module _ {S D : Type 0} (next : S → EventValue → Effect S) (old new : TurnSt
         stands = subst (λ (o : List ℕ). Stands v o (yielded ++ more)) (sym front) there;
         run_is =
             run_with run v ending.Done true (length (flat_map event_octets (yielded ++ more)))
-            (first_other w.framing.inside (entered_offsets (yielded ++ more))) is
+            (first_not_among w.framing.inside (entered_offsets (yielded ++ more))) is
             (there.private_state.has_zipper.offset ∙ ap length (sym front))
             (stands-entered v (b ++ walked.taken) (yielded ++ more) there
-            ∙ ap (λ (g : Framing). first_other g.inside (entered_offsets (yielded ++ more))) walked.framing)
+            ∙ ap (λ (g : Framing). first_not_among g.inside (entered_offsets (yielded ++ more))) walked.framing)
             ∙ ap (λ (x : Run). record (enough_run w.framing (yielded ++ more)) { ending = x.ending }) is;
       }
 

@@ -27,6 +27,7 @@ use Rattle.tlv_walk.specs.Forest.{Forest}
 use Rattle.tlv_io.specs.Out.{Sends, drain_of}
 use Rattle.tlv_walk.specs.Reading.{AreOctets, IsReading}
 use Rattle.tlv_walk.specs.Stands.{Stands}
+use Rattle.tlv_walk.specs.HasRead.{IfAtEnd, took_all}
 use Rattle.tlv_walk.specs.OneTurn.{EndsIn, HasEnoughIn, StandsAfter, TurnStates, TurnsTo, at_enough, at_fault}
 use Rattle.tlv_walk.specs.OneTurn.{at_input_end}
 use Rattle.tlv_walk.proofs.GrammarLemmas.Finals.{refused-final}
@@ -119,13 +120,14 @@ module _ {S D : Type 0} (next : S → EventValue → Effect S) (old new : TurnSt
 
   turns_end : (run : Run) (e : Ending) (why : Pause) → Followed why pause.UsedUp → (n ≡ 0)
       → run ≡ run_of new.walker e false
-      → ((o : List ℕ) (es : List EventValue) → Stands new.walker o es → IsEnding new.walker.framing o e)
+      → IfAtEnd new.walker (λ octets. IsEnding new.walker.framing octets e)
       → TurnsTo next old new limit b yielded r (Ok (Ended run))
   turns_end run e why x none is ends =
       let on = used why x in
       at_input_end
       (ends_in run
-      (used_up_ends next old new (b ++ piece) yielded run e on is (ends (b ++ piece) on.all on.stands)))
+      (used_up_ends next old new (b ++ piece) yielded run e on is (ends (b ++ piece) on.all
+      (took_all on.stands on.idle))))
       (is_r ∙ ap (λ (k : ℕ). take k p) none)
 
   turns_fault : (run : Run) (e : Fault) (why : Pause) → Followed why (pause.Fault e)

@@ -13,7 +13,7 @@ use Rattle.tlv_walk.proofs.GrammarLemmas.Spellings.{length-opening}
 use Rattle.tlv_walk.specs.Place.{Fits, Place, bound_in, is_indefinite, place_of_children}
 use Rattle.tlv_walk.proofs.GrammarLemmas.Lengths.{HasLength, LacksOctets}
 
--- the offset n is not past the bound
+-- the offset n is not beyond the bound
 abbrev pub is_within_bound : Option ℕ → ℕ → Bool
 is_within_bound None n = true
 is_within_bound (Some b) n = leb n b

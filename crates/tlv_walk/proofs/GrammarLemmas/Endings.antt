@@ -12,7 +12,7 @@ use Rattle.tlv_walk.specs.declared.framing.Framing.{Framing}
 use Rattle.tlv_walk.specs.Forest.{Forest, has_element, is_whole, spelling}
 use Rattle.tlv_walk.specs.Place.{top_place}
 use Rattle.tlv_walk.specs.Reading.{IsReading, IsSoundList}
-use Rattle.tlv_walk.specs.Ending.{IsEnding, IsFault, done, empty, fault_ending, refused, short, open_end}
+use Rattle.tlv_walk.specs.Ending.{IsEnding, IsRefusedAt, done, empty, fault_ending, refused, short, open_end}
 use Rattle.tlv_walk.proofs.GrammarLemmas.PushSteps.{Spells}
 use Rattle.tlv_walk.proofs.GrammarLemmas.Readings.{PushRun, Going, Halted, IsHalt, IsRightRun, halt-longer}
 use Rattle.tlv_walk.proofs.GrammarLemmas.Readings.{halt-longest, is-run}
@@ -51,7 +51,7 @@ going-ending w f b r =
 
 -- an octet that is refused gives an ending, whatever follows
 pub halt-ending : (w : Framing) (f : Forest) (code : FaultCode) (b : List ℕ) → (r : IsHalt w f code b)
-    → IsFault r.octet (open_end (top_place w) f) code
+    → IsRefusedAt (open_end (top_place w) f) r.octet code
     → IsEnding w b (fault_ending code (length (spelling f)))
 halt-ending w f code b r k = refused f r.octet r.rest code (run-reading w (Halted f code) b r) r.front k
 
@@ -61,13 +61,13 @@ run-ending : (w : Framing) (r : PushRun) (b : List ℕ) → All (λ x. x < 256) 
 run-ending w (Going f) b each r = going-ending w f b r
 run-ending w (Halted f code) b each r =
     halt-ending w f code b r
-    (refused-fault w f r.octet code (octet-small (spelling f) r.octet r.rest b r.front each) r.is_open r.refused)
+    (refused-fault w f r.octet code (octet-small (spelling f) r.octet r.rest b r.front each) r.keeps_rules r.refused)
 
 -- an input of octets has an ending
 pub is-ending : (w : Framing) (b : List ℕ) → All (λ x. x < 256) b → IsEnding w b (ending w b)
 is-ending w b each = run-ending w (push_all w b) b each (is-run w b each)
 
--- the input is the spelling of an open forest with one or more elements in which nothing is open
+-- the input is the spelling of a forest that keeps the rules, with one or more elements, in which nothing is open
 pub record IsDone (w : Framing) (b : List ℕ) : Type 0 where
   pub forest : Forest
   pub spells : Spells (top_place w) b forest
@@ -82,7 +82,7 @@ IsEarly code = (code ≡ Empty) ⊎ (code ≡ Short)
 pub record IsRefused (w : Framing) (b : List ℕ) (code : FaultCode) (offset : ℕ) : Type 0 where
   pub forest : Forest
   pub halt : IsHalt w forest code b
-  pub fault : IsFault halt.octet (open_end (top_place w) forest) code
+  pub fault : IsRefusedAt (open_end (top_place w) forest) halt.octet code
   pub there : offset ≡ length (spelling forest)
 
 -- what an ending says
@@ -96,18 +96,18 @@ ending-says w b e (empty f r s n) = inl (inl refl)
 ending-says w b e (short f r s p) = inl (inr refl)
 ending-says w b e (done f r s n t) = record {
   forest = f;
-  spells = record { is_open = r.is_open; spelled = s };
+  spells = record { keeps_rules = r.keeps_rules; spelled = s };
   some = n;
   whole = t;
 }
 ending-says w b e (refused f x rest code r s k) = inr (record {
   forest = f;
   halt = record {
-    is_open = r.is_open;
+    keeps_rules = r.keeps_rules;
     octet = x;
     rest = rest;
     front = s;
-    refused = fault-refused w f x code r.is_open k;
+    refused = fault-refused w f x code r.keeps_rules k;
   };
   fault = k;
   there = refl;
@@ -145,7 +145,7 @@ done-sound w b e =
     let d : IsDone w b = ending-says w b Done e in
     record {
       forest = d.forest;
-      sound = open-sound (top_place w) d.forest d.spells.is_open d.whole;
+      sound = open-sound (top_place w) d.forest d.spells.keeps_rules d.whole;
       some = d.some;
       octets = d.spells.spelled;
     }
@@ -153,7 +153,7 @@ done-sound w b e =
 -- the reading of a sound input is its elements
 pub sound-reading : (w : Framing) (b : List ℕ) → (s : IsSoundList w b) → IsReading w b s.forest
 sound-reading w b s = run-reading w (Going s.forest) b (record {
-  is_open = sound-open_top w s.forest s.sound;
+  keeps_rules = sound-open_top w s.forest s.sound;
   spelled = s.octets;
 })
 
@@ -173,7 +173,7 @@ fault-place w b e f (short g r s n) i = inl (sym (ap offset_in i))
 fault-place w b e f (done g r s n t) i = absurd (cc (i))
 fault-place w b e f (refused g x rest code r s k) i = inr (g, r, sym (ap offset_in i))
 
--- if the octet after p is refused and p is the spelling of an open forest, that is the reading
+-- if the octet after p is refused and p is the spelling of a forest that keeps the rules, that is the reading
 pub refused-reading : (w : Framing) (p : List ℕ) (x : ℕ) (c : List ℕ) (f : FaultOf) (g : Forest)
     → Spells (top_place w) p g → f.offset ≡ length p → IsEnding w (p ++ x ∷ c) (Fault f) → IsReading w (p ++ x ∷ c) g
 refused-reading w p x c f g v there e = elim (fault-place w (p ++ x ∷ c) (Fault f) f e refl) [
@@ -183,5 +183,6 @@ refused-reading w p x c f g v there e = elim (fault-place w (p ++ x ∷ c) (Faul
       front-same (spelling r.0) (spelling g) (r.1.is_prefix.0) (x ∷ c)
       (r.1.is_prefix.1 ∙ ap (λ (o : List ℕ). o ++ x ∷ c) (sym v.spelled))
       (sym r.2 ∙ there ∙ ap length (sym v.spelled)) in
-      subst (λ (h : Forest). IsReading w (p ++ x ∷ c) h) (unique (top_place w) r.0 g r.1.is_open v.is_open same) r.1
+      subst (λ (h : Forest). IsReading w (p ++ x ∷ c) h) (unique
+      (top_place w) r.0 g r.1.keeps_rules v.keeps_rules same) r.1
 ]

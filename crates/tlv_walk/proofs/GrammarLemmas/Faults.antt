@@ -15,8 +15,9 @@ use Rattle.tlv_head.proofs.GrammarLemmas.Headers.{IsHeadRefusal, Explains, expla
 use Rattle.tlv_head.proofs.GrammarLemmas.Refused.{refused-stuck}
 use Rattle.tlv_walk.specs.declared.framing.Framing.{Framing}
 use Rattle.tlv_walk.specs.Forest.{Forest, NoMore, OpenPrimitive, OpenBitString, OpenHeader, OpenEndOctets}
-use Rattle.tlv_walk.specs.Place.{Fits, IsHeaderAt, IsOpen, Place, top_place}
-use Rattle.tlv_walk.specs.Ending.{IsFault, bad_inside, missing_end, bad_end, no_room, refused_octet, too_deep, overrun}
+use Rattle.tlv_walk.specs.Place.{Fits, IsHeaderAt, KeepsRules, Place, top_place}
+use Rattle.tlv_walk.specs.Ending.{IsRefusedAt, bad_inside, missing_end, bad_end, no_room, refused_octet, too_deep}
+use Rattle.tlv_walk.specs.Ending.{overrun}
 use Rattle.tlv_walk.specs.Ending.{no_end, stray_end, OpenEnd, open_end}
 use Rattle.tlv_walk.proofs.GrammarLemmas.Bounds.{fits, fits-within, within-fits}
 use Rattle.tlv_walk.proofs.GrammarLemmas.PushSteps.{PushStep, Grown, Ended, Refused, begin, complete, origin, push}
@@ -30,24 +31,24 @@ too-long p n e f = true≢false (sym (fits-within p.bound (p.offset + n) f) ∙ 
 
 -- what passes the bound does not fit
 no-fit : (p : Place) (n : ℕ) → (Fits p n → ⊥) → fits p n ≡ false
-no-fit p n past = elim (cases_Bool (fits p n)) [
-  | inl e ↦ absurd (past (within-fits p.bound (p.offset + n) e))
+no-fit p n beyond = elim (cases_Bool (fits p n)) [
+  | inl e ↦ absurd (beyond (within-fits p.bound (p.offset + n) e))
   | inr e ↦ e
 ]
 
 -- why an octet is refused, if it is
 abbrev pub Blames : Place → Forest → ℕ → Option FaultCode → Type 0
 Blames p e x None = Unit {0}
-Blames p e x (Some code) = IsFault x (record { place = p; forest = e }) code
+Blames p e x (Some code) = IsRefusedAt (record { place = p; forest = e }) x code
 
--- an octet 00 between encodings is refused as a stray end
+-- an octet 00 between elements is refused as a stray end
 zero-blames : (p : Place) (x : ℕ) (i a : Bool) → p.indefinite ≡ i → p.padding ≡ a → x ≡ 0
     → Blames p NoMore x (refusal (zero_between i a))
 zero-blames p x true a e d z = tt
 zero-blames p x false true e d z = tt
 zero-blames p x false false e d z = stray_end e d z
 
--- between encodings
+-- between elements
 between-blames : (p : Place) (x : ℕ) → (p.indefinite ≡ false → Fits p 1) → Blames p NoMore x (refusal (push p NoMore x))
 between-blames p x room = elim (cases_Bool (fits p 1)) [
   | inl f ↦ elim (cases_eq x 0) [
@@ -80,7 +81,7 @@ end-blames p x = elim (cases_Bool (fits p 2)) [
 
 -- what is refused for the octets of a header alone has that fault
 octet-blames : (p : Place) (o : List ℕ) (x : ℕ) (code : FaultCode) → (o ≡ [] → ⊥) → Fits p (length o + 1)
-    → IsHeadRefusal code o x → IsFault x (open_end p (OpenHeader o)) code
+    → IsHeadRefusal code o x → IsRefusedAt (open_end p (OpenHeader o)) x code
 octet-blames p o x StrayEnd some room r = absurd (some r.0)
 octet-blames p o x code some room r = refused_octet room r
 
@@ -133,7 +134,7 @@ begin-blames p o x (Stuck code) some below w r = octet-blames p o x code some be
 begin-blames p o x Over some below w r = absurd w
 
 -- inside a header
-header-blames : (p : Place) (o : List ℕ) (x : ℕ) → x < 256 → IsOpen p (OpenHeader o)
+header-blames : (p : Place) (o : List ℕ) (x : ℕ) → x < 256 → KeepsRules p (OpenHeader o)
     → Blames p (OpenHeader o) x (refusal (push p (OpenHeader o) x))
 header-blames p o x h w =
     let at : Origin = origin p in
@@ -155,7 +156,8 @@ blames p OpenEndOctets x h t = end-blames p x
 blames p f x h t = absurd t
 
 -- an octet that is refused for the octets of a header alone is refused there
-stuck-refusal : (p : Place) (o : List ℕ) (x : ℕ) (code : FaultCode) → IsOpen p (OpenHeader o) → Fits p (length o + 1)
+stuck-refusal : (p : Place) (o : List ℕ) (x : ℕ) (code : FaultCode) → KeepsRules p (OpenHeader o)
+    → Fits p (length o + 1)
     → IsRefusedOctet o x code → refusal (push p (OpenHeader o) x) ≡ Some code
 stuck-refusal p o x code t room r =
     ap refusal (push-scan p o x (Stuck code) room (refused-stuck (origin p) code o x t.1 r))
@@ -178,7 +180,7 @@ not-deep true d f = lt-leb 128 d (f refl)
 not-deep false d f = refl
 
 -- a fault of the list is refused at the open end, with that code
-pub fault-refusal : (e : OpenEnd) (x : ℕ) (code : FaultCode) → IsOpenEndAt e.place e.forest → IsFault x e code
+pub fault-refusal : (e : OpenEnd) (x : ℕ) (code : FaultCode) → IsOpenEndAt e.place e.forest → IsRefusedAt e x code
     → refusal (push e.place e.forest x) ≡ Some code
 fault-refusal e x code t (bad_inside nz) = rw (ne_eqb x 0 nz)
 fault-refusal e x code t (missing_end {p = p} a) = rw (no-fit p 2 a)
@@ -189,10 +191,10 @@ fault-refusal e x code t (too_deep {p = p} {o = o} room h s octets deep) =
     let test : (holds (moved_header (origin p) h) && leb 128 p.depth) ≡ true =
     and_from _ _ (holds-there p h true s ∙ s.form) (le-leb 128 p.depth deep) in
     ap refusal (read-there p o x h true room s octets) ∙ rw test
-fault-refusal e x code t (overrun {p = p} {o = o} room h s octets k past) =
+fault-refusal e x code t (overrun {p = p} {o = o} room h s octets k beyond) =
     let test : (holds (moved_header (origin p) h) && leb 128 p.depth) ≡ false =
     not-deep _ p.depth (λ q. k (sym (holds-there p h (holds h) s) ∙ q)) in
-    let none : fits p (length (octets_of h) + announced_length h.size) ≡ false = no-fit p _ past in
+    let none : fits p (length (octets_of h) + announced_length h.size) ≡ false = no-fit p _ beyond in
     ap refusal (read-there p o x h (holds h) room s octets) ∙ rw (test, none)
 fault-refusal e x code t (no_end {p = p} i a) = rw (no-fit p 1 a)
 fault-refusal e x code t (stray_end {p = p} i d z) = rw (fits-within p.bound (p.offset + 1) (t.1 i), eq-eqb x 0 z, i, d)
@@ -203,31 +205,31 @@ refusal-code (Grown g) code e = absurd (cc)
 refusal-code (Ended g) code e = absurd (cc)
 refusal-code (Refused c) code e = let same : c ≡ code = cc in ap Refused same
 
--- the innermost open end of an open forest that is the whole input so far
-open_end-top : (w : Framing) (f : Forest) → IsOpen (top_place w) f
+-- the innermost open end of a forest that keeps the rules and is the whole input so far
+open_end-top : (w : Framing) (f : Forest) → KeepsRules (top_place w) f
     → IsOpenEndAt (open_end (top_place w) f).place (open_end (top_place w) f).forest
 open_end-top w f v = open_end-fact (top_place w) f tt (λ _ _. tt) v
 
 -- an octet that is refused has a fault of the list, with that code
-pub refused-fault : (w : Framing) (f : Forest) (x : ℕ) (code : FaultCode) → x < 256 → IsOpen (top_place w) f
-    → push (top_place w) f x ≡ Refused code → IsFault x (open_end (top_place w) f) code
+pub refused-fault : (w : Framing) (f : Forest) (x : ℕ) (code : FaultCode) → x < 256 → KeepsRules (top_place w) f
+    → push (top_place w) f x ≡ Refused code → IsRefusedAt (open_end (top_place w) f) x code
 refused-fault w f x code h v e =
     let same : refusal (push (open_end (top_place w) f).place (open_end (top_place w) f).forest x) ≡ Some code =
     sym (push-open_end (top_place w) f x) ∙ ap refusal e in
     rw same at (blames (open_end (top_place w) f).place (open_end (top_place w) f).forest x h (open_end-top w f v))
 
 -- an octet with a fault of the list is refused, with that code
-pub fault-refused : (w : Framing) (f : Forest) (x : ℕ) (code : FaultCode) → IsOpen (top_place w) f
-    → IsFault x (open_end (top_place w) f) code → push (top_place w) f x ≡ Refused code
+pub fault-refused : (w : Framing) (f : Forest) (x : ℕ) (code : FaultCode) → KeepsRules (top_place w) f
+    → IsRefusedAt (open_end (top_place w) f) x code → push (top_place w) f x ≡ Refused code
 fault-refused w f x code v k =
     refusal-code (push (top_place w) f x) code
     (push-open_end (top_place w) f x
     ∙ fault-refusal (open_end (top_place w) f) x code (open_end-top w f v) k)
 
 -- an octet has one fault
-pub fault-unique : (w : Framing) (f : Forest) (x : ℕ) (c d : FaultCode) → IsOpen (top_place w) f
-    → IsFault x (open_end (top_place w) f) c
-    → IsFault x (open_end (top_place w) f) d → c ≡ d
+pub fault-unique : (w : Framing) (f : Forest) (x : ℕ) (c d : FaultCode) → KeepsRules (top_place w) f
+    → IsRefusedAt (open_end (top_place w) f) x c
+    → IsRefusedAt (open_end (top_place w) f) x d → c ≡ d
 fault-unique w f x c d v a b =
     let left : push (top_place w) f x ≡ Refused c = fault-refused w f x c v a in
     let right : push (top_place w) f x ≡ Refused d = fault-refused w f x d v b in

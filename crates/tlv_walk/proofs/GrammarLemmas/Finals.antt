@@ -8,7 +8,8 @@ use Rattle.tlv_head.specs.Refusal.{length_too_large}
 use Rattle.tlv_walk.specs.declared.ending.Ending.{Ending}
 use Rattle.tlv_walk.specs.declared.ending.Ending.TheVariants.{Done, Fault}
 use Rattle.tlv_walk.specs.declared.framing.Framing.{Framing}
-use Rattle.tlv_walk.specs.Ending.{IsEnding, IsFault, IsFinalCode, OpenEnd, bad_inside, missing_end, bad_end, no_room}
+use Rattle.tlv_walk.specs.Ending.{IsEnding, IsRefusedAt, IsFinalCode, OpenEnd, bad_inside, missing_end, bad_end}
+use Rattle.tlv_walk.specs.Ending.{no_room}
 use Rattle.tlv_walk.specs.Ending.{refused_octet, too_deep, overrun, no_end, stray_end, done, empty, refused, short}
 use Rattle.tlv_walk.proofs.GrammarLemmas.Endings.{offset_in}
 
@@ -20,7 +21,7 @@ octet-final o x code (indefinite_primitive c n i e) = (λ z. cc, λ z. cc)
 octet-final o x code (length_too_large c k n l a b d) = (λ z. cc, λ z. cc)
 
 -- none of the causes is that the input ends too early
-cause-final : (e : OpenEnd) (x : ℕ) (code : FaultCode) → IsFault x e code → IsFinalCode code
+cause-final : (e : OpenEnd) (x : ℕ) (code : FaultCode) → IsRefusedAt e x code → IsFinalCode code
 cause-final e x code (bad_inside n) = (λ z. cc, λ z. cc)
 cause-final e x code (missing_end a) = (λ z. cc, λ z. cc)
 cause-final e x code (bad_end a n) = (λ z. cc, λ z. cc)

@@ -167,8 +167,8 @@ an-overrun = refl
 header-cut-off : ending plain_framing (48 ∷ 1 ∷ 2 ∷ []) ≡ fault_ending Short 3
 header-cut-off = refl
 
-header-past-its-element : ending plain_framing (48 ∷ 1 ∷ 2 ∷ 0 ∷ []) ≡ fault_ending Overrun 3
-header-past-its-element = refl
+header-beyond-its-element : ending plain_framing (48 ∷ 1 ∷ 2 ∷ 0 ∷ []) ≡ fault_ending Overrun 3
+header-beyond-its-element = refl
 
 indefinite-cut-off : ending plain_framing (48 ∷ 128 ∷ 2 ∷ 1 ∷ 5 ∷ []) ≡ fault_ending Short 5
 indefinite-cut-off = refl

@@ -1,4 +1,5 @@
--- An open forest ends within its bound, and an element is an open forest from its header on, as its contents come.
+-- A forest that keeps the rules ends within its bound, and an element keeps the rules from its header on, as its
+-- contents come.
 use Rattle.std.proofs.Common.{◌≡◌, inl, inr, ℕ, ◌+◌, ◌≤◌, Bool, true, false, ◌&&◌, ◌||◌, leb, List, [], ◌∷◌, ◌++◌}
 use Rattle.std.proofs.Common.{length, refl, sym, ap, ◌∙◌, arith, append-nil, length-append, eq-eqb, ne_eqb, leb-false}
 use Rattle.std.proofs.lemmas.Bool.{cases_eq, cases_Bool, and_parts, true≢false}
@@ -8,7 +9,7 @@ use Rattle.tlv_head.specs.Header.{AllowsSize, HeaderValue, IsHeader, announced_l
 use Rattle.tlv_walk.specs.Forest.{Forest, Holder, NoMore, OpenBitString, OpenEndOctets, OpenHeader, OpenHolder}
 use Rattle.tlv_walk.specs.Forest.{OpenPrimitive, PaddingOctet, Primitive, contents_length, end_octets, extent, is_whole}
 use Rattle.tlv_walk.specs.Forest.{lead, opening, spelling}
-use Rattle.tlv_walk.specs.Place.{Fits, IsAnnouncedAt, IsHeaderAt, IsOpen, Place, place_after, place_of_children}
+use Rattle.tlv_walk.specs.Place.{Fits, IsAnnouncedAt, IsHeaderAt, KeepsRules, Place, place_after, place_of_children}
 use Rattle.tlv_walk.proofs.GrammarLemmas.Lengths.{LacksOctets}
 use Rattle.tlv_walk.proofs.GrammarLemmas.Bounds.{HasAllContents, fits-inside, has_length, lead-zero, length-full}
 use Rattle.tlv_walk.proofs.GrammarLemmas.Bounds.{length-lacks, within-le, within-outside}
@@ -30,8 +31,8 @@ reaches-open_holder p h inside f g =
     (within-le p.bound _ _ (omega arith) f)
     (within-le (place_of_children p h).bound _ _ (omega (arith, length-opening h)) g))
 
--- an open forest ends within the bound
-pub reaches : (p : Place) (f : Forest) → Fits p 0 → IsOpen p f → Fits p (length (spelling f))
+-- a forest that keeps the rules ends within the bound
+pub reaches : (p : Place) (f : Forest) → Fits p 0 → KeepsRules p f → Fits p (length (spelling f))
 reaches p NoMore z w = z
 reaches p (PaddingOctet rest) z w =
     within-le p.bound _ _ (omega arith) (reaches (place_after p 1) rest (within-le p.bound _ _ (omega arith) w.0.2) w.1)
@@ -67,21 +68,21 @@ pub size-definite : (h : HeaderValue) → IsHeader h → holds h ≡ false → (
 size-definite h valid e = definite-primitive h.constructed h.size (not-holding h.constructed (wraps h) e) valid.allowed
 
 -- contents octets of a primitive, no more than announced
-pub primitive_so_far-sound : (p : Place) (h : HeaderValue) (c : List ℕ) (n : ℕ) → IsHeaderAt p false h
+pub primitive_so_far-spells : (p : Place) (h : HeaderValue) (c : List ℕ) (n : ℕ) → IsHeaderAt p false h
     → h.size ≡ Definite n → length c ≤ n → Fits p (length (octets_of h) + n)
     → Spells p (octets_of h ++ c) (primitive_so_far h c)
-primitive_so_far-sound p h c n header e most f =
+primitive_so_far-spells p h c n header e most f =
     let all : announced_length h.size ≡ n = ap announced_length e in
     elim (cases_eq (length c) n) [
       | inl full ↦ rw (eq-eqb (length c) (announced_length h.size) (full ∙ sym all)) (record {
-        is_open = (
+        keeps_rules = (
           (record { header = header; shallow = λ e. absurd (cc (e)); fits = rw full f }, e ∙ ap Definite (sym full)),
           tt,
         );
         spelled = ap (λ (t : List ℕ). octets_of h ++ t) (append-nil c);
       })
       | inr less ↦ rw (ne_eqb (length c) (announced_length h.size) (λ z. less (z ∙ all))) (record {
-        is_open = (
+        keeps_rules = (
           record { header = header; shallow = λ e. absurd (cc (e)); fits = within-le p.bound _ _ (omega arith) f },
           omega arith,
         );
@@ -90,14 +91,14 @@ primitive_so_far-sound p h c n header e most f =
     ]
 
 -- an element that holds others, with all its contents octets by its definite length
-pub holder-sound : (p : Place) (h : HeaderValue) (g : Forest) → IsAnnouncedAt p true h
-    → IsOpen (place_of_children p h) g
+pub holder-spells : (p : Place) (h : HeaderValue) (g : Forest) → IsAnnouncedAt p true h
+    → KeepsRules (place_of_children p h) g
     → is_whole g ≡ true → HasAllContents h.size (contents_length h g)
     → Spells p (opening h ++ spelling g) (Holder h g NoMore)
-holder-sound p h g entry w whole full =
+holder-spells p h g entry w whole full =
     let none : length (end_octets h.size) ≡ 0 = ap length full.ends in
     record {
-      is_open = (
+      keeps_rules = (
         (
           record {
             header = entry.header;
@@ -124,38 +125,38 @@ unfilled-lacks p h g e whole there =
     _ (within-le (place_of_children p h).bound _ _ (omega (arith, length-opening h)) there) short
 
 -- what an element holds is open: so is the element
-pub holder_so_far-sound : (p : Place) (h : HeaderValue) (g : Forest) → IsAnnouncedAt p true h
-    → IsOpen (place_of_children p h) g → Spells p (opening h ++ spelling g) (holder_so_far h g)
-holder_so_far-sound p h g entry w = elim (cases_Bool (is_filled_by h g)) [
+pub holder_so_far-spells : (p : Place) (h : HeaderValue) (g : Forest) → IsAnnouncedAt p true h
+    → KeepsRules (place_of_children p h) g → Spells p (opening h ++ spelling g) (holder_so_far h g)
+holder_so_far-spells p h g entry w = elim (cases_Bool (is_filled_by h g)) [
   | inl e ↦
       let parts : (is_whole g ≡ true) × (has_length h.size (contents_length h g) ≡ true) = and_parts _ _ e in
-      rw e (holder-sound p h g entry w parts.0 (length-full h.size _ parts.1))
+      rw e (holder-spells p h g entry w parts.0 (length-full h.size _ parts.1))
   | inr e ↦
       let there : Fits (place_of_children p h) (length (spelling g)) =
       reaches (place_of_children p h) g (fits-inside p h entry.header.form entry.fits) w in
-      rw e (record { is_open = ((entry, λ whole. unfilled-lacks p h g e whole there), w); spelled = refl })
+      rw e (record { keeps_rules = ((entry, λ whole. unfilled-lacks p h g e whole there), w); spelled = refl })
 ]
 
 -- an element that holds none yet
-holder_begun-sound : (p : Place) (h : HeaderValue) (l : List ℕ) → lead h ≡ l → IsAnnouncedAt p true h
+holder_begun-spells : (p : Place) (h : HeaderValue) (l : List ℕ) → lead h ≡ l → IsAnnouncedAt p true h
     → Spells p (octets_of h) (holder_begun h l)
-holder_begun-sound p h [] e entry =
-    let r : Spells p (opening h ++ []) (holder_so_far h NoMore) = holder_so_far-sound p h NoMore entry tt in
+holder_begun-spells p h [] e entry =
+    let r : Spells p (opening h ++ []) (holder_so_far h NoMore) = holder_so_far-spells p h NoMore entry tt in
     let none : opening h ++ [] ≡ octets_of h =
     append-nil (opening h) ∙ ap (λ (t : List ℕ). octets_of h ++ t) e ∙ append-nil (octets_of h) in
-    record { is_open = r.is_open; spelled = r.spelled ∙ none }
-holder_begun-sound p h (x ∷ xs) e entry = record { is_open = (entry, lead-zero h x xs e); spelled = refl }
+    record { keeps_rules = r.keeps_rules; spelled = r.spelled ∙ none }
+holder_begun-spells p h (x ∷ xs) e entry = record { keeps_rules = (entry, lead-zero h x xs e); spelled = refl }
 
--- a header where one may be is an open forest
-pub element_begun-sound : (p : Place) (h : HeaderValue) (k : Bool) → IsHeaderAt p k h → (k && leb 128 p.depth) ≡ false
+-- a header where one may be keeps the rules
+pub element_begun-spells : (p : Place) (h : HeaderValue) (k : Bool) → IsHeaderAt p k h → (k && leb 128 p.depth) ≡ false
     → Fits p (length (octets_of h) + announced_length h.size)
     → Spells p (octets_of h) (element_begun k h)
-element_begun-sound p h true header d f = holder_begun-sound p h (lead h) refl (record {
+element_begun-spells p h true header d f = holder_begun-spells p h (lead h) refl (record {
   header = header;
   shallow = λ _. leb-false 128 p.depth d;
   fits = f;
 })
-element_begun-sound p h false header d f =
+element_begun-spells p h false header d f =
     let n : (n : ℕ) × (h.size ≡ Definite n) = size-definite h header.valid header.form in
     let f' : Fits p (length (octets_of h) + n.0) = rw (ap announced_length n.1) at f in
-    rw (append-nil (octets_of h)) at (primitive_so_far-sound p h [] n.0 header n.1 (omega arith) f')
+    rw (append-nil (octets_of h)) at (primitive_so_far-spells p h [] n.0 header n.1 (omega arith) f')

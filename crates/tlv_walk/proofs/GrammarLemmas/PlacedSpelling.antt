@@ -6,7 +6,7 @@ use Rattle.tlv_walk.specs.Forest.{Forest, spelling}
 use Rattle.tlv_walk.specs.Inside.{is_among}
 use Rattle.tlv_walk.specs.Place.{Place}
 use Rattle.tlv_walk.specs.Reading.{IsSound}
-use Rattle.tlv_walk.specs.Wrappers.{wrapper_by, wrapper_offsets}
+use Rattle.tlv_walk.specs.Wrappers.{wrapper_offset_by, wrapper_offsets}
 use Rattle.tlv_walk.proofs.GrammarLemmas.Alike.{AreRegular}
 use Rattle.tlv_walk.proofs.GrammarLemmas.ShortHeaders.{own-there, own-apart, in-first, in-second, in-third}
 
@@ -19,7 +19,7 @@ pub record IsLike (p q : Place) : Type 0 where
 abbrev pub ComeAfter : (ℕ → List ℕ) → Type 0
 ComeAfter names = (offset i : ℕ) → i < offset → is_among i (names offset) ≡ false
 
--- nor past so many octets from there
+-- nor beyond so many octets from there
 abbrev pub AreWithin : (ℕ → List ℕ) → ℕ → Type 0
 AreWithin names n = (offset i : ℕ) → offset + n ≤ i → is_among i (names offset) ≡ false
 
@@ -50,7 +50,7 @@ pub record Spelling (form : Bool → Bool) (p : Place) (f : Forest) : Type 0 whe
 -- on, and what is after it `far` octets on
 abbrev pub joint_names : (constructed : Bool) (inner others : ℕ → List ℕ) (begins far : ℕ) → ℕ → List ℕ
 joint_names constructed inner others begins far offset =
-    wrapper_by constructed offset ++ (inner (offset + begins) ++ others (offset + far))
+    wrapper_offset_by constructed offset ++ (inner (offset + begins) ++ others (offset + far))
 
 -- if it holds `count` octets, and `rest` octets are after it
 pub record JoinsOffsets (constructed : Bool) (inner others : ℕ → List ℕ) (begins count far rest : ℕ) : Type 0 where
@@ -68,26 +68,26 @@ pub joins : (constructed : Bool) (inner others : ℕ → List ℕ) (begins count
 joins constructed inner others begins count far rest some on inner_after inner_within others_after others_within =
     record {
       after = λ offset i less.
-          in-third i (wrapper_by constructed offset) (inner (offset + begins)) (others (offset + far))
+          in-third i (wrapper_offset_by constructed offset) (inner (offset + begins)) (others (offset + far))
           (own-apart constructed offset i (λ e. omega (arith, less, e)))
           (inner_after (offset + begins) i (omega (arith, less)))
           ∙ others_after (offset + far) i (omega (arith, less));
       within = λ offset i more.
-          in-third i (wrapper_by constructed offset) (inner (offset + begins)) (others (offset + far))
+          in-third i (wrapper_offset_by constructed offset) (inner (offset + begins)) (others (offset + far))
           (own-apart constructed offset i (λ e. omega (arith, more, e, some, on)))
           (inner_within (offset + begins) i (omega (arith, more, on)))
           ∙ others_within (offset + far) i (omega (arith, more));
       of_own = λ offset.
-          in-first offset (wrapper_by constructed offset) (inner (offset + begins)) (others (offset + far))
+          in-first offset (wrapper_offset_by constructed offset) (inner (offset + begins)) (others (offset + far))
           (inner_after (offset + begins) offset (omega (arith, some)))
           (others_after (offset + far) offset (omega (arith, some, on)))
           ∙ own-there constructed offset;
       of_inner = λ offset i least most.
-          in-second i (wrapper_by constructed offset) (inner (offset + begins)) (others (offset + far))
+          in-second i (wrapper_offset_by constructed offset) (inner (offset + begins)) (others (offset + far))
           (own-apart constructed offset i (λ e. omega (arith, least, some, e)))
           (others_after (offset + far) i (omega (arith, most, on)));
       of_others = λ offset i least.
-          in-third i (wrapper_by constructed offset) (inner (offset + begins)) (others (offset + far))
+          in-third i (wrapper_offset_by constructed offset) (inner (offset + begins)) (others (offset + far))
           (own-apart constructed offset i (λ e. omega (arith, least, some, on, e)))
           (inner_within (offset + begins) i (omega (arith, least, on)));
     }

@@ -1,4 +1,4 @@
--- Every open forest with an octet is a shorter one, and the octet pushed.
+-- Every forest that keeps the rules and has an octet is a shorter one, and the octet pushed.
 use Rattle.std.proofs.Common.{◌≡◌, ◌⊎◌, inl, inr, ℕ, ◌+◌, ◌<◌, ◌≤◌, true, false, List, [], ◌∷◌, ◌++◌, length, refl, sym}
 use Rattle.std.proofs.Common.{ap, ◌∙◌, arith, append_assoc, append-nil, length-append, eq-eqb, ne_eqb}
 use Rattle.std.proofs.lemmas.Bool.{cases_Bool, and_from, true≢false}
@@ -7,7 +7,7 @@ use Rattle.tlv_head.specs.Header.{HeaderValue, announced_length, octets_of}
 use Rattle.tlv_walk.specs.Forest.{Forest, Holder, NoMore, OpenBitString, OpenEndOctets, OpenHeader, OpenHolder}
 use Rattle.tlv_walk.specs.Forest.{OpenPrimitive, PaddingOctet, Primitive, contents_length, end_octets, extent, is_whole}
 use Rattle.tlv_walk.specs.Forest.{lead, opening, spelling}
-use Rattle.tlv_walk.specs.Place.{Fits, IsAnnouncedAt, IsHeaderAt, IsOpen, Place, is_indefinite, place_after}
+use Rattle.tlv_walk.specs.Place.{Fits, IsAnnouncedAt, IsHeaderAt, KeepsRules, Place, is_indefinite, place_after}
 use Rattle.tlv_walk.specs.Place.{place_of_children}
 use Rattle.tlv_walk.proofs.GrammarLemmas.Lengths.{LacksOctets}
 use Rattle.tlv_walk.proofs.GrammarLemmas.Bounds.{IsEndless, HasAllContents, definite-length, fits-inside, fits-within}
@@ -40,7 +40,7 @@ contents-popped : (p : Place) (h : HeaderValue) (c : List ℕ) (x n : ℕ) (g : 
 contents-popped p h c x n g header e less f same spelled = record {
   from = OpenPrimitive h c;
   last = x;
-  is_open = (
+  keeps_rules = (
     record { header = header; shallow = λ e. absurd (cc (e)); fits = rw (ap announced_length e) f },
     omega (arith, less, ap announced_length e),
   );
@@ -72,7 +72,7 @@ whole_primitive-popped p h c w =
     (primitive_so_far-whole h c w.1) (ap (λ (t : List ℕ). octets_of h ++ t) (append-nil c))
 
 -- a primitive that lacks contents octets is popped
-open_primitive-popped : (p : Place) (h : HeaderValue) (c : List ℕ) → IsOpen p (OpenPrimitive h c)
+open_primitive-popped : (p : Place) (h : HeaderValue) (c : List ℕ) → KeepsRules p (OpenPrimitive h c)
     → Popped p (OpenPrimitive h c)
 open_primitive-popped p h c w =
     let n : (n : ℕ) × (h.size ≡ Definite n) = size-definite h w.0.header.valid w.0.header.form in
@@ -90,7 +90,8 @@ holder_so_far-open h f lacks = elim (cases_Bool (is_whole f)) [
 
 -- contents before the last octet lack octets
 lacks-before : (p : Place) (h : HeaderValue) (f g : Forest) (x : ℕ) → IsAnnouncedAt p true h
-    → IsOpen (place_of_children p h) g → spelling g ≡ spelling f ++ x ∷ [] → LacksOctets h.size (contents_length h f)
+    → KeepsRules (place_of_children p h) g → spelling g ≡ spelling f ++ x ∷ []
+    → LacksOctets h.size (contents_length h f)
 lacks-before p h f g x entry w spelled =
     within-lacks h.size (p.offset + length (octets_of h)) p.bound (contents_length h f)
     (within-le (place_of_children p h).bound
@@ -99,7 +100,7 @@ lacks-before p h f g x entry w spelled =
 
 -- an element that holds octets is popped by the last of them, or by that of what comes before
 holder_so_far-popped : (p : Place) (h : HeaderValue) (inside g : Forest) → IsAnnouncedAt p true h
-    → IsOpen (place_of_children p h) inside
+    → KeepsRules (place_of_children p h) inside
     → (inside ≡ NoMore) ⊎ Popped (place_of_children p h) inside
     → holder_so_far h inside ≡ g → spelling g ≡ opening h ++ spelling inside → Popped p g
 holder_so_far-popped p h inside g entry w (inl stop) same spelled =
@@ -108,7 +109,7 @@ holder_so_far-popped p h inside g entry w (inl stop) same spelled =
 holder_so_far-popped p h inside g entry w (inr q) same spelled = record {
   from = OpenHolder h q.from;
   last = q.last;
-  is_open = ((entry, λ _. lacks-before p h q.from inside q.last entry w q.spelled), q.is_open);
+  keeps_rules = ((entry, λ _. lacks-before p h q.from inside q.last entry w q.spelled), q.keeps_rules);
   spelled =
       spelled ∙ ap (λ (t : List ℕ). opening h ++ t) q.spelled
       ∙ sym (append_assoc (opening h) (spelling q.from) (q.last ∷ []));
@@ -129,16 +130,16 @@ with_first_end_octet OpenEndOctets = OpenEndOctets
 
 -- g is f with the first of the end-of-contents octets, and the second ends f
 record HasFirstEndOctet (p : Place) (f g : Forest) : Type 0 where
-  is_open : IsOpen p g
+  keeps_rules : KeepsRules p g
   spelled : spelling g ≡ spelling f ++ 0 ∷ []
   pushed : push p g 0 ≡ Ended f
 
 -- whole elements in an element of indefinite length are so
-has-first_end_octet : (p : Place) (f : Forest) → IsOpen p f → is_whole f ≡ true → p.indefinite ≡ true
+has-first_end_octet : (p : Place) (f : Forest) → KeepsRules p f → is_whole f ≡ true → p.indefinite ≡ true
     → Fits p (length (spelling f) + 2) → HasFirstEndOctet p f (with_first_end_octet f)
 has-first_end_octet p NoMore w whole i f =
     record {
-      is_open = (i, within-le p.bound _ _ (omega arith) f);
+      keeps_rules = (i, within-le p.bound _ _ (omega arith) f);
       spelled = refl;
       pushed = rw (fits-within p.bound (p.offset + 2) f);
     }
@@ -148,7 +149,7 @@ has-first_end_octet p (Primitive h c rest) w whole i f =
     has-first_end_octet (place_after p (length (octets_of h) + length c)) rest w.1 whole i
     (within-le p.bound _ _ (omega (arith, length-primitive h c rest)) f) in
     record {
-      is_open = (w.0, r.is_open);
+      keeps_rules = (w.0, r.keeps_rules);
       spelled = rw (r.spelled, append_assoc-3 (octets_of h) c (spelling rest) (0 ∷ []));
       pushed = ap (push_after (Primitive h c)) r.pushed;
     }
@@ -157,7 +158,7 @@ has-first_end_octet p (Holder h inside rest) w whole i f =
     has-first_end_octet (place_after p (extent h inside)) rest w.2 whole i
     (within-le p.bound _ _ (omega (arith, length-holder h inside rest)) f) in
     record {
-      is_open = (w.0, w.1, r.is_open);
+      keeps_rules = (w.0, w.1, r.keeps_rules);
       spelled =
           rw (r.spelled, append_assoc-4 (opening h) (spelling inside) (end_octets h.size) (spelling rest) (0 ∷ []));
       pushed = ap (push_after (Holder h inside)) r.pushed;
@@ -170,7 +171,7 @@ has-first_end_octet p OpenEndOctets w whole i f = absurd (cc)
 
 -- an element of indefinite length is popped by the second of its end-of-contents octets
 endless-popped : (p : Place) (h : HeaderValue) (inside : Forest) → is_indefinite h.size ≡ true
-    → IsWholeHolder p h inside → IsOpen (place_of_children p h) inside → Popped p (Holder h inside NoMore)
+    → IsWholeHolder p h inside → KeepsRules (place_of_children p h) inside → Popped p (Holder h inside NoMore)
 endless-popped p h inside i w v =
     let e : IsEndless h.size (p.offset + length (octets_of h)) p.bound (contents_length h inside) =
     indefinite-endless h.size _ p.bound _ i in
@@ -182,7 +183,7 @@ endless-popped p h inside i w v =
     record {
       from = OpenHolder h (with_first_end_octet inside);
       last = 0;
-      is_open = (
+      keeps_rules = (
         (
           record {
             header =
@@ -193,7 +194,7 @@ endless-popped p h inside i w v =
           },
           λ _. e.lacks _,
         ),
-        r.is_open,
+        r.keeps_rules,
       );
       spelled = ap (λ (t : List ℕ). opening h ++ (spelling inside ++ (t ++ []))) e.ends
           ∙ rw (r.spelled, append_assoc-3 (opening h) (spelling inside) (0 ∷ []) (0 ∷ []));
@@ -202,7 +203,7 @@ endless-popped p h inside i w v =
 
 -- an element of definite length is popped as its last octet is
 definite-popped : (p : Place) (h : HeaderValue) (inside : Forest) → is_indefinite h.size ≡ false
-    → IsWholeHolder p h inside → IsOpen (place_of_children p h) inside
+    → IsWholeHolder p h inside → KeepsRules (place_of_children p h) inside
     → (inside ≡ NoMore) ⊎ Popped (place_of_children p h) inside → Popped p (Holder h inside NoMore)
 definite-popped p h inside i w v below =
     let test : has_length h.size (contents_length h inside) ≡ true = definite-length h.size _ i w.2 in
@@ -220,7 +221,7 @@ definite-popped p h inside i w v below =
 
 -- an element that holds others and has ended is popped
 holder-popped : (p : Place) (h : HeaderValue) (inside : Forest) → IsWholeHolder p h inside
-    → IsOpen (place_of_children p h) inside → (inside ≡ NoMore) ⊎ Popped (place_of_children p h) inside
+    → KeepsRules (place_of_children p h) inside → (inside ≡ NoMore) ⊎ Popped (place_of_children p h) inside
     → Popped p (Holder h inside NoMore)
 holder-popped p h inside w v below = elim (cases_Bool (is_indefinite h.size)) [
   | inl i ↦ endless-popped p h inside i w v
@@ -228,46 +229,47 @@ holder-popped p h inside w v below = elim (cases_Bool (is_indefinite h.size)) [
 ]
 
 -- padding is popped
-padding-popped : (p : Place) → IsOpen p (PaddingOctet NoMore) → Popped p (PaddingOctet NoMore)
+padding-popped : (p : Place) → KeepsRules p (PaddingOctet NoMore) → Popped p (PaddingOctet NoMore)
 padding-popped p w = record {
   from = NoMore;
   last = 0;
-  is_open = tt;
+  keeps_rules = tt;
   spelled = refl;
   pushed = rw (fits-within p.bound (p.offset + 1) w.0.2, w.0.1, w.0.0);
 }
 
 -- what follows an element is popped: so are both
 followed : (p q : Place) (f : Forest → Forest) (o : List ℕ) (rest : Forest) → (r : Popped q rest)
-    → IsOpen p (f r.from) → ((g : Forest) → spelling (f g) ≡ o ++ spelling g)
+    → KeepsRules p (f r.from) → ((g : Forest) → spelling (f g) ≡ o ++ spelling g)
     → ((x : ℕ) → push p (f r.from) x ≡ push_after f (push q r.from x)) → Popped p (f rest)
 followed p q f o rest r w spelled pushed = record {
   from = f r.from;
   last = r.last;
-  is_open = w;
+  keeps_rules = w;
   spelled =
       spelled rest ∙ ap (λ (t : List ℕ). o ++ t) r.spelled ∙ sym (append_assoc o (spelling r.from) (r.last ∷ []))
       ∙ ap (λ (t : List ℕ). t ++ r.last ∷ []) (sym (spelled r.from));
   pushed = pushed r.last ∙ ap (push_after f) r.pushed;
 }
 
--- an open forest has no octet, or is a shorter one and the octet pushed
-pub pop : (p : Place) (g : Forest) → IsOpen p g → (g ≡ NoMore) ⊎ Popped p g
+-- a forest that keeps the rules has no octet, or is a shorter one and the octet pushed
+pub pop : (p : Place) (g : Forest) → KeepsRules p g → (g ≡ NoMore) ⊎ Popped p g
 pop p NoMore w = inl refl
 pop p (PaddingOctet rest) w = inr (elim (pop (place_after p 1) rest w.1) [
   | inl e ↦ rw e (padding-popped p (w.0, tt))
-  | inr r ↦ followed p (place_after p 1) PaddingOctet (0 ∷ []) rest r (w.0, r.is_open) (λ g. refl) (λ x. refl)
+  | inr r ↦ followed p (place_after p 1) PaddingOctet (0 ∷ []) rest r (w.0, r.keeps_rules) (λ g. refl) (λ x. refl)
 ])
 pop p (Primitive h c rest) w = inr (elim (pop (place_after p (length (octets_of h) + length c)) rest w.1) [
   | inl e ↦ rw e (whole_primitive-popped p h c w.0)
   | inr r ↦
-      followed p _ (Primitive h c) (octets_of h ++ c) rest r (w.0, r.is_open)
+      followed p _ (Primitive h c) (octets_of h ++ c) rest r (w.0, r.keeps_rules)
       (λ g. sym (append_assoc (octets_of h) c (spelling g))) (λ x. refl)
 ])
 pop p (Holder h inside rest) w = inr (elim (pop (place_after p (extent h inside)) rest w.2) [
   | inl e ↦ rw e (holder-popped p h inside w.0 w.1 (pop (place_of_children p h) inside w.1))
   | inr r ↦
-      followed p _ (Holder h inside) (opening h ++ (spelling inside ++ end_octets h.size)) rest r (w.0, w.1, r.is_open)
+      followed p _ (Holder h inside) (opening h ++ (spelling inside ++ end_octets h.size)) rest r
+      (w.0, w.1, r.keeps_rules)
       (λ g. sym (append_assoc-3 (opening h) (spelling inside) (end_octets h.size) (spelling g))) (λ x. refl)
 ])
 pop p (OpenPrimitive h c) w = inr (open_primitive-popped p h c w)
@@ -283,7 +285,7 @@ pop p (OpenHeader o) w = inr (elim (back o) [
 pop p OpenEndOctets w = inr (record {
   from = NoMore;
   last = 0;
-  is_open = tt;
+  keeps_rules = tt;
   spelled = refl;
   pushed = rw (fits-within p.bound (p.offset + 1) w.1, w.0);
 })

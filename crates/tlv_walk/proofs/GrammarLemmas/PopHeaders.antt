@@ -1,4 +1,4 @@
--- An open forest that ends in a header, or in the front of one, is a shorter one and the octet pushed.
+-- A forest that keeps the rules and ends in a header, or in a prefix of one, is a shorter one and the octet pushed.
 use Rattle.std.proofs.Common.{◌≡◌, ◌≢◌, inl, inr, ℕ, ◌+◌, ◌≤◌, Bool, true, false, ◌&&◌, leb, List, [], ◌∷◌, ◌++◌}
 use Rattle.std.proofs.Common.{length, refl, sym, ap, ◌∙◌, arith, append_assoc, append-nil, length-append, ne_eqb}
 use Rattle.std.proofs.lemmas.Bool.{lt-leb}
@@ -10,11 +10,11 @@ use Rattle.tlv_head.specs.Refusal.{IsHeaderPrefix}
 use Rattle.tlv_head.proofs.GrammarLemmas.Scan.{Origin, Scan, Fresh, High, Named, Long, Ready, Stuck, Over, origin_of}
 use Rattle.tlv_head.proofs.GrammarLemmas.Scan.{scan, scan_from-append, scan-header, is_more, more-from_prefix}
 use Rattle.tlv_walk.specs.Forest.{Forest, NoMore, OpenBitString, OpenHeader, lead, opening, spelling}
-use Rattle.tlv_walk.specs.Place.{Fits, IsAnnouncedAt, IsHeaderAt, IsOpen, Place}
+use Rattle.tlv_walk.specs.Place.{Fits, IsAnnouncedAt, IsHeaderAt, KeepsRules, Place}
 use Rattle.tlv_walk.proofs.GrammarLemmas.Bounds.{fits-within, lead-zero, within-le}
 use Rattle.tlv_walk.proofs.GrammarLemmas.PushSteps.{Grown, begin, complete, element_begun, holder_begun, holder_so_far}
 use Rattle.tlv_walk.proofs.GrammarLemmas.PushSteps.{origin, push}
-use Rattle.tlv_walk.proofs.GrammarLemmas.OpenElements.{element_begun-sound, holder_so_far-sound}
+use Rattle.tlv_walk.proofs.GrammarLemmas.OpenElements.{element_begun-spells, holder_so_far-spells}
 
 -- a list is empty, or has a last element
 pub data Back (o : List ℕ) : Type 0 where
@@ -31,11 +31,11 @@ pub back : (xs : List ℕ) → Back xs
 back [] = is_nil refl
 back (x ∷ xs) = back-cons x xs (back xs)
 
--- an open forest, and the octet that makes g of it
+-- a forest that keeps the rules, and the octet that makes g of it
 pub record Popped (p : Place) (g : Forest) : Type 0 where
   pub from : Forest
   pub last : ℕ
-  pub is_open : IsOpen p from
+  pub keeps_rules : KeepsRules p from
   pub spelled : spelling g ≡ spelling from ++ last ∷ []
   pub pushed : push p from last ≡ Grown g
 
@@ -110,7 +110,7 @@ header-popped p h k header d f = elim (back (octets_of h)) [
       record {
         from = OpenHeader o;
         last = x;
-        is_open = (
+        keeps_rules = (
           λ z. omega (arith, ap length z),
           record {
             header = h;
@@ -121,7 +121,7 @@ header-popped p h k header d f = elim (back (octets_of h)) [
           },
           within-le p.bound _ _ (omega arith) f,
         );
-        spelled = (element_begun-sound p h k header d f).spelled ∙ e;
+        spelled = (element_begun-spells p h k header d f).spelled ∙ e;
         pushed = push-header p h o x header.valid (header-origin p k h header) e (within-le p.bound _ _ (omega arith) f)
             ∙ complete-element_begun p h k header.form d f;
       }
@@ -144,9 +144,9 @@ lead-popped p h (x ∷ xs) e entry =
     record {
       from = OpenBitString h;
       last = 0;
-      is_open = (entry, one);
+      keeps_rules = (entry, one);
       spelled =
-          (holder_so_far-sound p h NoMore entry tt).spelled ∙ append-nil (opening h)
+          (holder_so_far-spells p h NoMore entry tt).spelled ∙ append-nil (opening h)
           ∙ ap (λ (t : List ℕ). octets_of h ++ t) one;
       pushed = refl;
     }
@@ -163,14 +163,14 @@ front-popped p [] x front f =
     record {
       from = NoMore;
       last = x;
-      is_open = tt;
+      keeps_rules = tt;
       spelled = refl;
       pushed = rw (fits-within p.bound (p.offset + 1) f, ne_eqb x 0 nz);
     }
 front-popped p (y ∷ o) x front f = record {
   from = OpenHeader (y ∷ o);
   last = x;
-  is_open = (
+  keeps_rules = (
     λ z. omega (arith, ap length z),
     record {
       header = front.header;

@@ -1,4 +1,4 @@
--- One more octet after an open forest gives what is right.
+-- One more octet after a forest that keeps the rules gives what is right.
 use Rattle.std.proofs.Common.{◌≡◌, ◌≢◌, inl, inr, ℕ, ◌+◌, ◌<◌, Bool, true, false, ◌&&◌, leb, List, [], ◌∷◌, ◌++◌}
 use Rattle.std.proofs.Common.{length, refl, sym, ap, ◌∙◌, arith, append_assoc, append-nil, length-append, eq-eqb}
 use Rattle.std.proofs.Common.{ne_eqb}
@@ -12,13 +12,14 @@ use Rattle.tlv_head.proofs.GrammarLemmas.Meaning.{IsStateAfter, reads-step, read
 use Rattle.tlv_walk.specs.Forest.{Forest, Holder, NoMore, OpenBitString, OpenEndOctets, OpenHeader, OpenHolder}
 use Rattle.tlv_walk.specs.Forest.{OpenPrimitive, PaddingOctet, Primitive, contents_length, end_octets, extent, opening}
 use Rattle.tlv_walk.specs.Forest.{spelling}
-use Rattle.tlv_walk.specs.Place.{Fits, IsAnnouncedAt, IsHeaderAt, IsOpen, Place, place_after, place_of_children}
+use Rattle.tlv_walk.specs.Place.{Fits, IsAnnouncedAt, IsHeaderAt, KeepsRules, Place, place_after, place_of_children}
 use Rattle.tlv_walk.proofs.GrammarLemmas.Bounds.{IsEndless, fits, indefinite-endless, within-fits, within-le}
 use Rattle.tlv_walk.proofs.GrammarLemmas.Spellings.{append_assoc-3, append_assoc-4, length-holder, length-primitive}
 use Rattle.tlv_walk.proofs.GrammarLemmas.PushSteps.{IsWholePrimitive, IsWholeHolder, PushStep, origin, holder_so_far}
 use Rattle.tlv_walk.proofs.GrammarLemmas.PushSteps.{complete, begin, zero_between, push_after, settle, push, Spells}
 use Rattle.tlv_walk.proofs.GrammarLemmas.PushSteps.{IsStep, Grown, Ended, Refused}
-use Rattle.tlv_walk.proofs.GrammarLemmas.OpenElements.{element_begun-sound, holder_so_far-sound, primitive_so_far-sound}
+use Rattle.tlv_walk.proofs.GrammarLemmas.OpenElements.{element_begun-spells, holder_so_far-spells}
+use Rattle.tlv_walk.proofs.GrammarLemmas.OpenElements.{primitive_so_far-spells}
 use Rattle.tlv_walk.proofs.GrammarLemmas.OpenElements.{size-definite}
 
 -- a header that is complete
@@ -34,14 +35,14 @@ complete-sound p h valid at =
     elim (cases_Bool (holds h && leb 128 p.depth)) [
       | inl deep ↦ rw deep tt
       | inr room ↦ elim (cases_Bool (fits p (length (octets_of h) + announced_length h.size))) [
-        | inl f ↦ rw (room, f) (element_begun-sound p h (holds h) header room (within-fits p.bound _ f))
+        | inl f ↦ rw (room, f) (element_begun-spells p h (holds h) header room (within-fits p.bound _ f))
         | inr f ↦ rw (room, f) tt
       ]
     ]
 
 -- the front of a header
 front-sound : (p : Place) (o : List ℕ) → o ≢ [] → IsHeaderPrefix o → Fits p (length o) → Spells p o (OpenHeader o)
-front-sound p o some front f = record { is_open = (some, front, f); spelled = refl }
+front-sound p o some front f = record { keeps_rules = (some, front, f); spelled = refl }
 
 -- octets of a header, by what they say
 begin-sound : (p : Place) (o : List ℕ) (s : Scan) → IsStateAfter (origin p) s o → o ≢ [] → Fits p (length o)
@@ -73,14 +74,14 @@ front-step p o x h front = elim (cases_Bool (fits p (length o + 1))) [
   | inr f ↦ rw f tt
 ]
 
--- an octet 00 between encodings
+-- an octet 00 between elements
 zero-sound : (p : Place) (i a : Bool) → p.indefinite ≡ i → p.padding ≡ a → Fits p 1
     → IsStep p (0 ∷ []) (zero_between i a)
-zero-sound p true a e d f = record { is_open = (e, f); spelled = refl }
-zero-sound p false true e d f = record { is_open = ((d, e, f), tt); spelled = refl }
+zero-sound p true a e d f = record { keeps_rules = (e, f); spelled = refl }
+zero-sound p false true e d f = record { keeps_rules = ((d, e, f), tt); spelled = refl }
 zero-sound p false false e d f = tt
 
--- between encodings
+-- between elements
 no_more-step : (p : Place) (x : ℕ) → x < 256 → IsStep p (x ∷ []) (push p NoMore x)
 no_more-step p x h = elim (cases_Bool (fits p 1)) [
   | inl f ↦ elim (cases_eq x 0) [
@@ -99,7 +100,7 @@ end_octets-step : (p : Place) (x : ℕ) → p.indefinite ≡ true → IsStep p (
 end_octets-step p x i = elim (cases_Bool (fits p 2)) [
   | inl f ↦ elim (cases_eq x 0) [
     | inl z ↦ rw (f, eq-eqb x 0 z, z) (record {
-      is_open = tt;
+      keeps_rules = tt;
       whole = refl;
       indefinite = i;
       spelled = refl;
@@ -111,23 +112,23 @@ end_octets-step p x i = elim (cases_Bool (fits p 2)) [
 ]
 
 -- inside the contents of a primitive
-open_primitive-step : (p : Place) (h : HeaderValue) (c : List ℕ) (x : ℕ) → IsOpen p (OpenPrimitive h c)
+open_primitive-step : (p : Place) (h : HeaderValue) (c : List ℕ) (x : ℕ) → KeepsRules p (OpenPrimitive h c)
     → IsStep p ((octets_of h ++ c) ++ x ∷ []) (push p (OpenPrimitive h c) x)
 open_primitive-step p h c x w =
     let n : (n : ℕ) × (h.size ≡ Definite n) = size-definite h w.0.header.valid w.0.header.form in
     let all : announced_length h.size ≡ n.0 = ap announced_length n.1 in
     rw (append_assoc (octets_of h) c (x ∷ []))
-    (primitive_so_far-sound p h (c ++ x ∷ []) n.0 w.0.header n.1 (omega (arith, length-append c (x ∷ []), w.1))
+    (primitive_so_far-spells p h (c ++ x ∷ []) n.0 w.0.header n.1 (omega (arith, length-append c (x ∷ []), w.1))
     (within-le p.bound _ _ (omega arith) w.0.fits))
 
 -- before the first contents octet of a wrapping BIT STRING
-open_bit_string-step : (p : Place) (h : HeaderValue) (x : ℕ) → IsOpen p (OpenBitString h)
+open_bit_string-step : (p : Place) (h : HeaderValue) (x : ℕ) → KeepsRules p (OpenBitString h)
     → IsStep p (octets_of h ++ x ∷ []) (push p (OpenBitString h) x)
 open_bit_string-step p h x w = elim (cases_eq x 0) [
   | inl z ↦
-      let r : Spells p (opening h ++ []) (holder_so_far h NoMore) = holder_so_far-sound p h NoMore w.0 tt in
+      let r : Spells p (opening h ++ []) (holder_so_far h NoMore) = holder_so_far-spells p h NoMore w.0 tt in
       rw (eq-eqb x 0 z, z) (record {
-        is_open = r.is_open;
+        keeps_rules = r.keeps_rules;
         spelled = r.spelled ∙ append-nil (opening h) ∙ ap (λ (t : List ℕ). octets_of h ++ t) w.1;
       })
   | inr nz ↦ rw (ne_eqb x 0 nz) tt
@@ -136,7 +137,8 @@ open_bit_string-step p h x w = elim (cases_eq x 0) [
 -- a step of what follows padding
 padding-step : (p : Place) (o : List ℕ) (s : PushStep) → (p.padding ≡ true) × (p.indefinite ≡ false) × Fits p 1
     → IsStep (place_after p 1) o s → IsStep p (0 ∷ o) (push_after PaddingOctet s)
-padding-step p o (Grown g) w r = record { is_open = (w, r.is_open); spelled = ap (λ (t : List ℕ). 0 ∷ t) r.spelled }
+padding-step p o (Grown g) w r =
+    record { keeps_rules = (w, r.keeps_rules); spelled = ap (λ (t : List ℕ). 0 ∷ t) r.spelled }
 padding-step p o (Ended g) w r = absurd (true≢false (sym r.indefinite ∙ w.1))
 padding-step p o (Refused code) w r = tt
 
@@ -145,11 +147,11 @@ primitive-step : (p : Place) (h : HeaderValue) (c o : List ℕ) (s : PushStep) �
     → IsStep (place_after p (length (octets_of h) + length c)) o s
     → IsStep p (octets_of h ++ (c ++ o)) (push_after (Primitive h c) s)
 primitive-step p h c o (Grown g) w r = record {
-  is_open = (w, r.is_open);
+  keeps_rules = (w, r.keeps_rules);
   spelled = ap (λ (t : List ℕ). octets_of h ++ (c ++ t)) r.spelled;
 }
 primitive-step p h c o (Ended g) w r = record {
-  is_open = (w, r.is_open);
+  keeps_rules = (w, r.keeps_rules);
   whole = r.whole;
   indefinite = r.indefinite;
   spelled =
@@ -160,14 +162,14 @@ primitive-step p h c o (Refused code) w r = tt
 
 -- a step of what follows an element that holds others
 holder-step : (p : Place) (h : HeaderValue) (inside : Forest) (o : List ℕ) (s : PushStep) → IsWholeHolder p h inside
-    → IsOpen (place_of_children p h) inside → IsStep (place_after p (extent h inside)) o s
+    → KeepsRules (place_of_children p h) inside → IsStep (place_after p (extent h inside)) o s
     → IsStep p (opening h ++ (spelling inside ++ (end_octets h.size ++ o))) (push_after (Holder h inside) s)
 holder-step p h inside o (Grown g) w v r = record {
-  is_open = (w, v, r.is_open);
+  keeps_rules = (w, v, r.keeps_rules);
   spelled = ap (λ (t : List ℕ). opening h ++ (spelling inside ++ (end_octets h.size ++ t))) r.spelled;
 }
 holder-step p h inside o (Ended g) w v r = record {
-  is_open = (w, v, r.is_open);
+  keeps_rules = (w, v, r.keeps_rules);
   whole = r.whole;
   indefinite = r.indefinite;
   spelled =
@@ -181,14 +183,14 @@ holder-step p h inside o (Refused code) w v r = tt
 open_holder-step : (p : Place) (h : HeaderValue) (o : List ℕ) (s : PushStep) → IsAnnouncedAt p true h
     → IsStep (place_of_children p h) o s → IsStep p (opening h ++ o) (settle h s)
 open_holder-step p h o (Grown g) entry r =
-    let e : Spells p (opening h ++ spelling g) (holder_so_far h g) = holder_so_far-sound p h g entry r.is_open in
-    record { is_open = e.is_open; spelled = e.spelled ∙ ap (λ (t : List ℕ). opening h ++ t) r.spelled }
+    let e : Spells p (opening h ++ spelling g) (holder_so_far h g) = holder_so_far-spells p h g entry r.keeps_rules in
+    record { keeps_rules = e.keeps_rules; spelled = e.spelled ∙ ap (λ (t : List ℕ). opening h ++ t) r.spelled }
 open_holder-step p h o (Ended g) entry r =
     let e : IsEndless h.size (p.offset + length (octets_of h)) p.bound (contents_length h g) =
     indefinite-endless h.size _ p.bound _ r.indefinite in
     let two : length (end_octets h.size) ≡ 2 = ap length e.ends in
     record {
-      is_open = (
+      keeps_rules = (
         (
           record {
             header = entry.header;
@@ -198,7 +200,7 @@ open_holder-step p h o (Ended g) entry r =
           r.whole,
           e.filled,
         ),
-        r.is_open,
+        r.keeps_rules,
         tt,
       );
       spelled =
@@ -207,20 +209,21 @@ open_holder-step p h o (Ended g) entry r =
     }
 open_holder-step p h o (Refused code) entry r = tt
 
--- a step of an open forest is right: the forest that it gives is open, and spells the octet too
-pub push-sound : (p : Place) (f : Forest) (x : ℕ) → x < 256 → IsOpen p f → IsStep p (spelling f ++ x ∷ []) (push p f x)
-push-sound p NoMore x h w = no_more-step p x h
-push-sound p (PaddingOctet rest) x h w = padding-step p _ _ w.0 (push-sound (place_after p 1) rest x h w.1)
-push-sound p (Primitive header c rest) x h w =
+-- a step of a forest that keeps the rules is right: the forest that it gives keeps them, and spells the octet too
+pub push-steps : (p : Place) (f : Forest) (x : ℕ) → x < 256 → KeepsRules p f
+    → IsStep p (spelling f ++ x ∷ []) (push p f x)
+push-steps p NoMore x h w = no_more-step p x h
+push-steps p (PaddingOctet rest) x h w = padding-step p _ _ w.0 (push-steps (place_after p 1) rest x h w.1)
+push-steps p (Primitive header c rest) x h w =
     rw (append_assoc-3 (octets_of header) c (spelling rest) (x ∷ []))
-    (primitive-step p header c _ _ w.0 (push-sound (place_after p (length (octets_of header) + length c)) rest x h w.1))
-push-sound p (Holder header inside rest) x h w =
+    (primitive-step p header c _ _ w.0 (push-steps (place_after p (length (octets_of header) + length c)) rest x h w.1))
+push-steps p (Holder header inside rest) x h w =
     rw (append_assoc-4 (opening header) (spelling inside) (end_octets header.size) (spelling rest) (x ∷ []))
-    (holder-step p header inside _ _ w.0 w.1 (push-sound (place_after p (extent header inside)) rest x h w.2))
-push-sound p (OpenPrimitive header c) x h w = open_primitive-step p header c x w
-push-sound p (OpenHolder header inside) x h w =
+    (holder-step p header inside _ _ w.0 w.1 (push-steps (place_after p (extent header inside)) rest x h w.2))
+push-steps p (OpenPrimitive header c) x h w = open_primitive-step p header c x w
+push-steps p (OpenHolder header inside) x h w =
     rw (append_assoc (opening header) (spelling inside) (x ∷ []))
-    (open_holder-step p header _ _ w.0.0 (push-sound (place_of_children p header) inside x h w.1))
-push-sound p (OpenBitString header) x h w = open_bit_string-step p header x w
-push-sound p (OpenHeader o) x h w = front-step p o x h w.1
-push-sound p OpenEndOctets x h w = end_octets-step p x w.0
+    (open_holder-step p header _ _ w.0.0 (push-steps (place_of_children p header) inside x h w.1))
+push-steps p (OpenBitString header) x h w = open_bit_string-step p header x w
+push-steps p (OpenHeader o) x h w = front-step p o x h w.1
+push-steps p OpenEndOctets x h w = end_octets-step p x w.0

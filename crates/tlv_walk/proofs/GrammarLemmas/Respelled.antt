@@ -13,7 +13,7 @@ use Rattle.tlv_walk.specs.Forest.{spelling}
 use Rattle.tlv_walk.specs.Inside.{is_among}
 use Rattle.tlv_walk.specs.Place.{Place, place_after, place_of_children}
 use Rattle.tlv_walk.specs.Reading.{IsSound}
-use Rattle.tlv_walk.specs.Wrappers.{wrapper_by, wrapper_offsets}
+use Rattle.tlv_walk.specs.Wrappers.{wrapper_offset_by, wrapper_offsets}
 use Rattle.tlv_walk.proofs.GrammarLemmas.PopHeaders.{header-length}
 use Rattle.tlv_walk.proofs.GrammarLemmas.Spellings.{length-holder, length-opening, length-primitive}
 use Rattle.tlv_walk.proofs.GrammarLemmas.ShortHeaders.{Octets, header_of, octets-in, header-valid, header-shortest}
@@ -214,7 +214,8 @@ module _ (form : Bool → Bool) (definite : form false ≡ false) where
                 t.regular,
               );
               spelled = ap₂ (λ (x y : List ℕ). begins ++ (x ++ (ends ++ y))) i.spelled t.spelled;
-              names_are = ap₂ (λ (x y : List ℕ). wrapper_by constructed q.offset ++ (x ++ y)) i.names_are others_are;
+              names_are =
+                  ap₂ (λ (x y : List ℕ). wrapper_offset_by constructed q.offset ++ (x ++ y)) i.names_are others_are;
             };
       }
 

@@ -8,13 +8,13 @@ use Rattle.tlv_head.specs.declared.header.Size.TheVariants.{Definite, Indefinite
 use Rattle.tlv_head.specs.Header.{HeaderValue, octets_of}
 use Rattle.tlv_walk.specs.declared.framing.Framing.{Framing}
 use Rattle.tlv_walk.specs.Forest.{Forest, Holder, NoMore, contents_length, is_whole, opening, spelling}
-use Rattle.tlv_walk.specs.Place.{Fits, IsOpen, Place, bound_in, place_after, place_of_children, top_place}
+use Rattle.tlv_walk.specs.Place.{Fits, KeepsRules, Place, bound_in, place_after, place_of_children, top_place}
 use Rattle.tlv_walk.specs.Private.Stack.{IsFilled}
 use Rattle.tlv_walk.specs.Private.Zipper.{AreLayers, AreWhole, Layer, frames_of, place_in, spelling_of_layers}
 use Rattle.tlv_walk.specs.Stands.{is_end_at}
 use Rattle.tlv_walk.proofs.GrammarLemmas.Bounds.{HasAllContents, fits-inside, has_length, length-full}
 use Rattle.tlv_walk.proofs.GrammarLemmas.PushSteps.{Spells, is_filled_by}
-use Rattle.tlv_walk.proofs.GrammarLemmas.OpenElements.{holder-sound, reaches, unfilled-lacks}
+use Rattle.tlv_walk.proofs.GrammarLemmas.OpenElements.{holder-spells, reaches, unfilled-lacks}
 use Rattle.tlv_walk.proofs.GrammarLemmas.Spellings.{length-opening}
 use Rattle.tlv_walk.proofs.WalkerLemmas.Zipper.{followed_by, open-followed_by, open-within, settled_forest}
 use Rattle.tlv_walk.proofs.WalkerLemmas.Zipper.{spelling-followed_by, spelling-within, whole-followed_by}
@@ -43,14 +43,14 @@ pub filled-ended : (w : Framing) (l : Layer) (ls : List Layer) (f : Forest) → 
 filled-ended w l ls f a i e =
     let p : Place = place_after (place_in w ls) (length (spelling l.before)) in
     let c : Spells p (opening l.header ++ spelling f) (Holder l.header f NoMore) =
-    holder-sound p l.header f a.2 i.is_open i.whole (filled-full l.header f e) in
+    holder-spells p l.header f a.2 i.keeps_rules i.whole (filled-full l.header f e) in
     let s : spelling (followed_by l.before (Holder l.header f NoMore))
     ≡ spelling l.before ++ (opening l.header ++ spelling f) =
     spelling-followed_by l.before (Holder l.header f NoMore) a.1.whole
     ∙ ap (λ (t : List ℕ). spelling l.before ++ t) c.spelled in
     record {
       are_whole = record {
-        is_open = open-followed_by (place_in w ls) l.before (Holder l.header f NoMore) a.1 c.is_open;
+        keeps_rules = open-followed_by (place_in w ls) l.before (Holder l.header f NoMore) a.1 c.keeps_rules;
         whole = whole-followed_by l.before (Holder l.header f NoMore) a.1.whole;
       };
       spelled = s;
@@ -66,17 +66,17 @@ filled-ended w l ls f a i e =
 -- an element that is not filled lacks octets
 pub unfilled-room : (w : Framing) (l : Layer) (ls : List Layer) (f : Forest) → AreLayers w (l ∷ ls)
     → AreWhole (place_in w (l ∷ ls)) f → is_filled_by l.header f ≡ false
-    → IsOpen (top_place w) (forest_in_layers (l ∷ ls) f)
+    → KeepsRules (top_place w) (forest_in_layers (l ∷ ls) f)
 unfilled-room w l ls f a i e =
     let p : Place = place_after (place_in w ls) (length (spelling l.before)) in
     let there : Fits (place_of_children p l.header) (length (spelling f)) =
-    reaches (place_of_children p l.header) f (fits-inside p l.header a.2.header.form a.2.fits) i.is_open in
-    open-within w (l ∷ ls) f a i.is_open (λ whole. unfilled-lacks p l.header f e whole there)
+    reaches (place_of_children p l.header) f (fits-inside p l.header a.2.header.form a.2.fits) i.keeps_rules in
+    open-within w (l ∷ ls) f a i.keeps_rules (λ whole. unfilled-lacks p l.header f e whole there)
 
 -- they are open, and spell the octets of the layers and then their own
 pub settled-spells : (w : Framing) (ls : List Layer) (f : Forest) → AreLayers w ls → AreWhole (place_in w ls) f
     → Spells (top_place w) (spelling_of_layers ls ++ spelling f) (settled_forest ls f)
-settled-spells w [] f a i = record { is_open = i.is_open; spelled = refl }
+settled-spells w [] f a i = record { keeps_rules = i.keeps_rules; spelled = refl }
 settled-spells w (l ∷ ls) f a i = elim (cases_Bool (is_filled_by l.header f)) [
   | inl e ↦
       let d : IsEnded w l ls f = filled-ended w l ls f a i e in
@@ -90,10 +90,10 @@ settled-spells w (l ∷ ls) f a i = elim (cases_Bool (is_filled_by l.header f)) 
       (sym (append_assoc (spelling l.before) (opening l.header) (spelling f)))
       ∙ sym (append_assoc (spelling_of_layers ls) (spelling l.before ++ opening l.header) (spelling f)) in
       rw e (record {
-        is_open = r.is_open;
+        keeps_rules = r.keeps_rules;
         spelled = r.spelled ∙ ap (λ (t : List ℕ). spelling_of_layers ls ++ t) d.spelled ∙ s;
       })
-  | inr e ↦ rw e (record { is_open = unfilled-room w l ls f a i e; spelled = spelling-within w (l ∷ ls) f a })
+  | inr e ↦ rw e (record { keeps_rules = unfilled-room w l ls f a i e; spelled = spelling-within w (l ∷ ls) f a })
 ]
 
 -- an element ends at an offset by its frame if it has all its contents octets by its length

@@ -17,7 +17,7 @@ use Rattle.tlv_head.proofs.ShortestLemmas.ShortestSpelling.{ShortIdentifier, Sho
 use Rattle.tlv_walk.specs.Forest.{end_octets, lead_by}
 use Rattle.tlv_walk.specs.Inside.{is_among}
 use Rattle.tlv_walk.specs.Place.{is_indefinite}
-use Rattle.tlv_walk.specs.Wrappers.{wrapper_by}
+use Rattle.tlv_walk.specs.Wrappers.{wrapper_offset_by}
 use Rattle.tlv_walk.proofs.GrammarLemmas.Lengths.{HasLength}
 
 -- ---- headers
@@ -130,11 +130,13 @@ lead-short false number = one (eqb number 3) where
 -- ---- what is named
 
 -- of an element that holds others, its offset is named, if it is a wrapper
-pub own-there : (constructed : Bool) (offset : ℕ) → is_among offset (wrapper_by constructed offset) ≡ not constructed
+pub own-there : (constructed : Bool) (offset : ℕ)
+    → is_among offset (wrapper_offset_by constructed offset) ≡ not constructed
 own-there true offset = refl
 own-there false offset = ap (λ k. k || false) (eq-eqb offset offset refl)
 
-pub own-apart : (constructed : Bool) (offset i : ℕ) → i ≢ offset → is_among i (wrapper_by constructed offset) ≡ false
+pub own-apart : (constructed : Bool) (offset i : ℕ) → i ≢ offset
+    → is_among i (wrapper_offset_by constructed offset) ≡ false
 own-apart true offset i apart = refl
 own-apart false offset i apart = ap (λ k. k || false) (ne_eqb offset i (λ e. apart (sym e)))
 

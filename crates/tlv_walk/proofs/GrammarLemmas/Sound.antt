@@ -1,10 +1,10 @@
--- Sound elements are open forests in which nothing is open, and the other way.
+-- Sound elements are forests that keep the rules and in which nothing is open, and the other way.
 use Rattle.std.proofs.Common.{◌≡◌, ◌+◌, true, false, length, refl, arith}
 use Rattle.tlv_head.specs.Header.{HeaderValue, octets_of}
 use Rattle.tlv_walk.specs.declared.framing.Framing.{Framing}
 use Rattle.tlv_walk.specs.Forest.{Forest, Holder, NoMore, OpenBitString, OpenEndOctets, OpenHeader, OpenHolder}
 use Rattle.tlv_walk.specs.Forest.{OpenPrimitive, PaddingOctet, Primitive, contents_length, extent, is_whole, spelling}
-use Rattle.tlv_walk.specs.Place.{Fits, IsOpen, Place, place_after, place_of_children, top_place}
+use Rattle.tlv_walk.specs.Place.{Fits, KeepsRules, Place, place_after, place_of_children, top_place}
 use Rattle.tlv_walk.proofs.GrammarLemmas.Lengths.{HasLength}
 use Rattle.tlv_walk.specs.Reading.{IsSound}
 use Rattle.tlv_walk.proofs.GrammarLemmas.Bounds.{filled-within, within-le}
@@ -30,9 +30,9 @@ fits-contents p h inside same f =
     (filled-within h.size (p.offset + length (octets_of h)) p.bound (contents_length h inside) same
     (within-le p.bound _ _ (omega (arith, length-opening h)) f))
 
--- sound elements that end within the bound are an open forest
+-- sound elements that end within the bound keep the rules
 pub sound-open : (p : Place) (f : Forest) → (p.padding ≡ true → p.indefinite ≡ false) → Fits p (length (spelling f))
-    → IsSound p f → IsOpen p f
+    → IsSound p f → KeepsRules p f
 sound-open p NoMore d z s = tt
 sound-open p (PaddingOctet rest) d z s = (
   (s.0, d s.0, within-le p.bound _ _ (omega arith) z),
@@ -64,8 +64,8 @@ sound-open p (OpenBitString h) d z s = absurd s
 sound-open p (OpenHeader octets) d z s = absurd s
 sound-open p OpenEndOctets d z s = absurd s
 
--- an open forest in which nothing is open is sound
-pub open-sound : (p : Place) (f : Forest) → IsOpen p f → is_whole f ≡ true → IsSound p f
+-- a forest that keeps the rules and in which nothing is open is sound
+pub open-sound : (p : Place) (f : Forest) → KeepsRules p f → is_whole f ≡ true → IsSound p f
 open-sound p NoMore w t = tt
 open-sound p (PaddingOctet rest) w t = (w.0.0, open-sound (place_after p 1) rest w.1 t)
 open-sound p (Primitive h c rest) w t =
@@ -84,5 +84,5 @@ open-sound p (OpenHeader octets) w t = absurd (cc)
 open-sound p OpenEndOctets w t = absurd (cc)
 
 -- at the start of the input
-pub sound-open_top : (w : Framing) (f : Forest) → IsSound (top_place w) f → IsOpen (top_place w) f
+pub sound-open_top : (w : Framing) (f : Forest) → IsSound (top_place w) f → KeepsRules (top_place w) f
 sound-open_top w f s = sound-open (top_place w) f (λ _. refl) tt s

@@ -12,7 +12,8 @@ use Rattle.tlv_walk.specs.Forest.{Forest, NoMore, PaddingOctet, Primitive, Holde
 use Rattle.tlv_walk.specs.Forest.{OpenBitString, OpenHeader, OpenEndOctets, has_element, is_whole, spelling}
 use Rattle.tlv_walk.specs.Place.{top_place}
 use Rattle.tlv_walk.specs.Reading.{CannotBecomeSound, IsReading, IsSoundList}
-use Rattle.tlv_walk.specs.Ending.{IsEnding, IsFault, IsFinalEnding, ShowsSoundness, done, empty, fault_ending, refused}
+use Rattle.tlv_walk.specs.Ending.{IsEnding, IsRefusedAt, IsFinalEnding, ShowsSoundness, done, empty, fault_ending}
+use Rattle.tlv_walk.specs.Ending.{refused}
 use Rattle.tlv_walk.specs.Ending.{short, open_end}
 use Rattle.tlv_walk.proofs.GrammarLemmas.Readings.{Halted, IsHalt, halt-longer, reading-unique, run-reading}
 use Rattle.tlv_walk.proofs.GrammarLemmas.Faults.{fault-unique}
@@ -47,15 +48,15 @@ read-apart w b f g x rest r s e d =
 -- an octet that is refused is one octet, with one code
 refused-same : (w : Framing) (b : List ℕ) (f g : Forest) (x y : ℕ) (r s : List ℕ) (c d : FaultCode) → IsReading w b f
     → IsReading w b g → spelling f ++ x ∷ r ≡ b → spelling g ++ y ∷ s ≡ b
-    → IsFault x (open_end (top_place w) f) c
-    → IsFault y (open_end (top_place w) g) d
+    → IsRefusedAt (open_end (top_place w) f) x c
+    → IsRefusedAt (open_end (top_place w) g) y d
     → fault_ending c (length (spelling f)) ≡ fault_ending d (length (spelling g))
 refused-same w b f g x y r s c d u v e e' k l =
     let same : f ≡ g = reading-unique w b f g u v in
     let tails : x ∷ r ≡ y ∷ s = append_cancel_left (spelling g) (x ∷ r) (y ∷ s) (rw same at (e ∙ sym e')) in
     let octet : x ≡ y = cc in
-    let k' : IsFault y (open_end (top_place w) g) c = rw (same, octet) at k in
-    let code : c ≡ d = fault-unique w g y c d v.is_open k' l in
+    let k' : IsRefusedAt (open_end (top_place w) g) y c = rw (same, octet) at k in
+    let code : c ≡ d = fault-unique w g y c d v.keeps_rules k' l in
     ap (λ (c : FaultCode). fault_ending c (length (spelling f))) code
     ∙ ap (λ (f : Forest). fault_ending d (length (spelling f))) same
 

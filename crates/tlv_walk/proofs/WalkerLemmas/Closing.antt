@@ -15,7 +15,7 @@ use Rattle.tlv_walk.specs.Wrappers.{entered_offsets}
 use Rattle.std.proofs.lemmas.Bool.{cases_Bool}
 use Rattle.tlv_walk.specs.WalkerState.{WalkerState}
 use Rattle.tlv_walk.specs.Private.WrapperCount.{wrapper_count_after}
-use Rattle.tlv_walk.specs.Place.{Fits, IsAnnouncedAt, IsOpen, IsWithin, Place, bound_in, is_indefinite, place_after}
+use Rattle.tlv_walk.specs.Place.{Fits, IsAnnouncedAt, KeepsRules, IsWithin, Place, bound_in, is_indefinite, place_after}
 use Rattle.tlv_walk.proofs.GrammarLemmas.Lengths.{HasLength}
 use Rattle.tlv_walk.specs.Stack.{FrameValue, IsInIndefinite, IsInWrapper, bound_of}
 use Rattle.tlv_walk.specs.Private.Stack.{IsFilled, innermost_wraps}
@@ -73,9 +73,9 @@ closed_whole : (w : WalkerState) (l : Layer) (ls : List Layer) (here : Forest)
     → Fits (place_after (place_in w.framing ls) (length (spelling l.before))) (extent l.header here)
     → AreWhole (place_in w.framing ls) (closed_here l here)
 closed_whole w l ls here earlier entry inside filled fits = record {
-  is_open = open-followed_by (place_in w.framing ls) l.before (Holder l.header here NoMore) earlier (
+  keeps_rules = open-followed_by (place_in w.framing ls) l.before (Holder l.header here NoMore) earlier (
     (record { header = entry.header; shallow = entry.shallow; fits = fits }, inside.whole, filled),
-    inside.is_open,
+    inside.keeps_rules,
     tt,
   );
   whole = whole-followed_by l.before (Holder l.header here NoMore) earlier.whole;
@@ -138,7 +138,7 @@ closes_indefinite h here n k s e =
 
 second_from : (w : WalkerState) (b : List ℕ) (yielded : List EventValue) (s : Zipper) (ls : List Layer)
     → HasZipper w b yielded (with_layers s ls EndOctetsTail)
-    → IsOpen (place_of w.framing (with_layers s ls EndOctetsTail)) OpenEndOctets
+    → KeepsRules (place_of w.framing (with_layers s ls EndOctetsTail)) OpenEndOctets
     → IsWithin (bound_of w.stack) (w.offset + 1)
     → (t : Zipper)
     × HasZipper

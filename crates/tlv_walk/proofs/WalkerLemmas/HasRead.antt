@@ -6,7 +6,7 @@ use Rattle.tlv_walk.specs.declared.ending.Ending.TheVariants as ending
 use Rattle.tlv_walk.specs.Ending.{IsEnding, ShowsSoundness}
 use Rattle.tlv_walk.specs.Events.{EventValue}
 use Rattle.tlv_walk.specs.Forest.{Forest}
-use Rattle.tlv_walk.specs.WalkerState.{WalkerState, unused_of}
+use Rattle.tlv_walk.specs.WalkerState.{WalkerState, unused_offset}
 use Rattle.tlv_walk.specs.Depth.{depth_of}
 use Rattle.tlv_walk.specs.Phase.{PhaseValue, Refused}
 use Rattle.tlv_walk.specs.Place.{Place}
@@ -35,7 +35,7 @@ read_offset w b f (took yielded st e) = st.private_state.has_zipper.offset
 read_offset w b f (refused x yielded g st e) = st.offset
 
 pub read_unused : (w : WalkerState) (b : List ℕ) (f : Forest) → HasRead w b f
-    → unused_of w ≡ first_without_wrapper w.framing.inside f
+    → unused_offset w ≡ first_without_wrapper w.framing.inside f
 read_unused w b f (took yielded st e) = stands_unused w b yielded st ∙ ap (first_without_wrapper w.framing.inside) e
 read_unused w b f (refused x yielded g st e) = st.unused ∙ ap (first_without_wrapper w.framing.inside) e
 

@@ -16,7 +16,7 @@ use Rattle.tlv_walk.specs.Events.{Begin, Enter, EventValue, Open}
 use Rattle.tlv_walk.specs.Forest.{NoMore, lead, lead_by}
 use Rattle.tlv_walk.specs.WalkerState.{WalkerState}
 use Rattle.tlv_walk.specs.Private.Stack.{frame_with}
-use Rattle.tlv_walk.specs.Private.WalkerState.{CanTakeHeader, TakesHeader, after_header}
+use Rattle.tlv_walk.specs.Private.WalkerCalls.{CanTakeHeader, TakesHeader, after_header}
 use Rattle.tlv_walk.specs.Private.WrapperCount.{next_wrapper_count, wrapper_count_after}
 use Rattle.tlv_walk.specs.Wrappers.{entered_offsets}
 use Rattle.tlv_walk.specs.Inside.{is_among}
@@ -224,7 +224,7 @@ pub can_take_quick_header : (w : WalkerState) (piece : List ℕ) (named : Bool) 
     → w.events + length w.stack ≤ w.offset → w.offset + length piece ≤ 2 ^ 40
     → (holds (new_header f o) ≡ true → length w.stack < 128)
     → IsWithin (bound_of w.stack) (f.offset + length o + announced_length f.size) → CanTakeHeader w (new_header f o)
-can_take_quick_header w piece named f count o begins front fewer limit shallow fits =
+can_take_quick_header w piece named f count o begins front counted limit shallow fits =
     let h : HeaderValue = new_header f o in
     let whole : octets_of h ≡ o = take-append-drop f.id_len o in
     let begins' : BeginsWith piece w.offset named h =
@@ -232,7 +232,7 @@ can_take_quick_header w piece named f count o begins front fewer limit shallow f
     let there : h.offset ≡ w.offset = begins'.offset in
     record {
       valid = begins'.valid;
-      fewer = omega (arith, there);
+      counted = omega (arith, there);
       limit = omega (arith, there, ap length whole, ap length front, length-take count piece);
       shallow = shallow;
       fits =

@@ -14,13 +14,14 @@ use Rattle.tlv_head.specs.Push as push
 use Rattle.tlv_head.specs.Push.{Completes, IsRefusedPush}
 use Rattle.tlv_head.proofs.ReaderLemmas.Prefix.{header-two}
 use Rattle.tlv_walk.specs.Phase as phase
-use Rattle.tlv_walk.specs.Ending.{IsEnding, IsFault, fault_ending, no_room, open_end, overrun, refused_octet, too_deep}
+use Rattle.tlv_walk.specs.Ending.{IsEnding, IsRefusedAt, fault_ending, no_room, open_end, overrun, refused_octet}
+use Rattle.tlv_walk.specs.Ending.{too_deep}
 use Rattle.tlv_walk.specs.Forest.{OpenHeader}
 use Rattle.tlv_walk.specs.Events.{EventValue}
 use Rattle.tlv_walk.specs.Inside.{is_among}
 use Rattle.tlv_walk.specs.WalkerState.{WalkerState}
 use Rattle.tlv_walk.specs.Place.{Fits, IsHeaderAt, IsWithin, Place}
-use Rattle.tlv_walk.specs.Private.ReadsOn.{HandsOver}
+use Rattle.tlv_walk.specs.Private.HandsOver.{HandsOver}
 use Rattle.tlv_walk.specs.Stack.{FrameValue, bound_of}
 use Rattle.tlv_walk.specs.Private.Stack.{room_to}
 use Rattle.tlv_walk.specs.Private.Zipper.{HasZipper, HeaderTail, Zipper, place_of}
@@ -64,17 +65,17 @@ pub refused-some : (code : FaultCode) (r : HeadReaderState) (x : ℕ) (room : Op
 refused-some code r x room depth (push.no_room none) some e = some none
 refused-some code r x room depth (push.refused_octet left octet) some e = refused-after r.octets x code octet e
 refused-some code r x room depth (push.too_deep left h completes holding deep) some e = completes-two r x h completes e
-refused-some code r x room depth (push.overrun left h completes shallow past) some e = completes-two r x h completes e
+refused-some code r x room depth (push.overrun left h completes shallow beyond) some e = completes-two r x h completes e
 
 -- ---- what a reader refuses is a fault there
 
--- the contents end past the bound
-past_bound : (size : Size) (b : Option ℕ) (n m : ℕ) → (ContentsFit size (room_to b n) → ⊥)
+-- the contents end beyond the bound
+beyond_bound : (size : Size) (b : Option ℕ) (n m : ℕ) → (ContentsFit size (room_to b n) → ⊥)
     → n + 1 + announced_length size ≤ m → IsWithin b m → ⊥
-past_bound (Definite k) None n m past h f = past tt
-past_bound Indefinite None n m past h f = past tt
-past_bound (Definite k) (Some b) n m past h f = past (omega arith)
-past_bound Indefinite (Some b) n m past h f = past (omega arith)
+beyond_bound (Definite k) None n m beyond h f = beyond tt
+beyond_bound Indefinite None n m beyond h f = beyond tt
+beyond_bound (Definite k) (Some b) n m beyond h f = beyond (omega arith)
+beyond_bound Indefinite (Some b) n m beyond h f = beyond (omega arith)
 
 -- where a reader is
 pub record IsReader (p : Place) (q : HeadReaderState) (room : Option ℕ) (depth : ℕ) : Type 0 where
@@ -103,7 +104,8 @@ room_there p q room depth k some =
 
 -- each cause of a reader is a line of the faults
 pub refused_fault : (p : Place) (q : HeadReaderState) (room : Option ℕ) (depth x : ℕ) (code : FaultCode)
-    → IsReader p q room depth → IsRefusedPush q x room depth code → IsFault x (open_end p (OpenHeader q.octets)) code
+    → IsReader p q room depth → IsRefusedPush q x room depth code
+    → IsRefusedAt (open_end p (OpenHeader q.octets)) x code
 refused_fault p q room depth x code k (push.no_room none) =
     no_room
     (left_none p.bound (p.offset + length q.octets) (p.offset + (length q.octets + 1)) (sym k.left ∙ none)
@@ -114,11 +116,12 @@ refused_fault p q room depth x code k (push.too_deep left h completes holding de
     too_deep (room_there p q room depth k left) h (header_there p q room depth x h true holding k completes)
     completes.octets
     (subst (λ (n : ℕ). 128 ≤ n) k.depths deep)
-refused_fault p q room depth x code k (push.overrun left h completes shallow past) =
+refused_fault p q room depth x code k (push.overrun left h completes shallow beyond) =
     overrun (room_there p q room depth k left) h (header_there p q room depth x h (holds h) refl k completes)
     completes.octets
     (λ e. subst (λ (n : ℕ). n < 128) k.depths (shallow e))
-    (past_bound h.size p.bound (p.offset + length q.octets) _ (λ f. past (subst (ContentsFit h.size) (sym k.left) f))
+    (beyond_bound h.size p.bound (p.offset + length q.octets) _ (λ f. beyond (subst (ContentsFit h.size)
+    (sym k.left) f))
     (omega (arith, ap length completes.octets, length-append q.octets (x ∷ []))))
 
 -- ---- a walker refuses it
@@ -154,7 +157,7 @@ refuses_header w u r q piece rest others x depth offset f over k e within place 
       taken = k.taken;
       octet = x;
       others = others;
-      piece_is = k.piece_is ∙ ap (λ (l : List ℕ). k.taken ++ l) e;
+      piece_is = k.piece_is;
       rest_is = e;
       refuses = λ b yielded s has.
           let t : TakenState w u q k.taken b yielded =
@@ -169,7 +172,7 @@ refuses_header w u r q piece rest others x depth offset f over k e within place 
           let left : room_to (bound_of u.stack) offset ≡ room_to (bound_of w.stack) (q.offset + length q.octets) =
           ap (λ (fs : List FrameValue). room_to (bound_of fs) offset) same
           ∙ ap (room_to (bound_of w.stack)) (sym place) in
-          let faulty : IsFault x (open_end (place_of w.framing t.state) (OpenHeader q.octets)) f.code =
+          let faulty : IsRefusedAt (open_end (place_of w.framing t.state) (OpenHeader q.octets)) x f.code =
           refused_fault _ q _ depth x f.code
           (reader_there (in_header w q) (b ++ k.taken) yielded t.state q depth refl has' (deep ∙ ap length same))
           (subst (λ (o : Option ℕ). IsRefusedPush q x o depth f.code) left refused) in record {

@@ -19,10 +19,10 @@ use Rattle.tlv_walk.specs.Phase as phase
 use Rattle.tlv_walk.specs.Events.{EventValue}
 use Rattle.tlv_walk.specs.declared.framing.Framing.{Framing}
 use Rattle.tlv_walk.specs.WalkerState.{WalkerState}
-use Rattle.tlv_walk.specs.Private.WalkerState.{CanTakeHeader, TakesHeader}
+use Rattle.tlv_walk.specs.Private.WalkerCalls.{CanTakeHeader, TakesHeader}
 use Rattle.tlv_walk.specs.Private.WrapperCount.{wrapper_count_after}
 use Rattle.tlv_walk.specs.Wrappers.{entered_offsets}
-use Rattle.tlv_walk.specs.Private.ReadsOn.{HandsOver, YieldsHeader}
+use Rattle.tlv_walk.specs.Private.HandsOver.{HandsOver, YieldsHeader}
 use Rattle.tlv_walk.specs.Stack.{bound_of}
 use Rattle.tlv_walk.specs.Place.{IsWithin}
 use Rattle.tlv_walk.specs.Private.Stack.{room_to}
@@ -240,12 +240,12 @@ pub can_take_whole_header : (u : WalkerState) (q : HeadReaderState) (x depth off
     → u.events + length u.stack ≤ q.offset → q.offset + length q.octets ≡ offset → offset + 1 ≤ 2 ^ 40
     → depth ≡ length u.stack
     → Completes q (x ∷ []) h → FitsThere h (room_to (bound_of u.stack) offset) depth → CanTakeHeader u h
-can_take_whole_header u q x depth offset h fewer place limit deep c f =
+can_take_whole_header u q x depth offset h counted place limit deep c f =
     let end : h.offset + length (octets_of h) ≡ offset + 1 =
     omega (arith, c.offset, ap length c.octets, length-append q.octets (x ∷ [])) in
     record {
       valid = c.valid;
-      fewer = omega (arith, c.offset);
+      counted = omega (arith, c.offset);
       limit = omega arith;
       shallow = λ e. subst (λ (n : ℕ). n < 128) deep (f.shallow e);
       fits =

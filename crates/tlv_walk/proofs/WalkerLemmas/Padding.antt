@@ -7,14 +7,14 @@ use Rattle.tlv_walk.specs.Phase as phase
 use Rattle.tlv_walk.specs.Events.{EventValue, Pad, events, single_octets}
 use Rattle.tlv_walk.specs.Forest.{Forest, NoMore, PaddingOctet, has_element, is_whole, spelling}
 use Rattle.tlv_walk.specs.WalkerState.{WalkerState}
-use Rattle.tlv_walk.specs.Place.{IsOpen, Place, place_after}
+use Rattle.tlv_walk.specs.Place.{KeepsRules, Place, place_after}
 use Rattle.tlv_walk.specs.Private.Zipper.{NoTail, HasZipper, IsPhaseOf, Layer, Zipper, place_in, place_of}
 use Rattle.tlv_walk.specs.Private.Yields.{Continues}
 use Rattle.tlv_walk.proofs.WalkerLemmas.ZipperGrowth.{are_whole, element-either, between_tail, phase_at, spelled_whole}
 use Rattle.tlv_walk.proofs.WalkerLemmas.ZipperGrowth.{tail_state, yielded_whole, with_layers}
 use Rattle.tlv_walk.proofs.WalkerLemmas.Zipper.{followed_by}
 
--- octets 00 between encodings
+-- padding
 abbrev pub padding_octets : List ℕ → Forest
 padding_octets [] = NoMore
 padding_octets (x ∷ xs) = PaddingOctet (padding_octets xs)
@@ -41,7 +41,7 @@ element-padding_octets [] = refl
 element-padding_octets (x ∷ t) = element-padding_octets t
 
 open-padding_octets : (p : Place) (t : List ℕ) → p.padding ≡ true → p.indefinite ≡ false → p.bound ≡ None
-    → IsOpen p (padding_octets t)
+    → KeepsRules p (padding_octets t)
 open-padding_octets p [] a d n = tt
 open-padding_octets p (x ∷ t) a d n = ((a, d, rw n tt), open-padding_octets (place_after p 1) t a d n)
 

@@ -14,7 +14,7 @@ use Rattle.tlv_walk.specs.Follow.{IsWholeElement, contents_in, whole_events}
 use Rattle.tlv_walk.specs.WalkerState.{WalkerState}
 use Rattle.tlv_walk.specs.Phase.{PhaseValue}
 use Rattle.tlv_walk.specs.Phase as phase
-use Rattle.tlv_walk.specs.Private.WalkerState.{CanPass, after_header, header_at}
+use Rattle.tlv_walk.specs.Private.WalkerCalls.{CanPass, after_header, header_at}
 use Rattle.tlv_walk.specs.Private.Yields.{Continues}
 use Rattle.tlv_walk.specs.Stack.{bound_of}
 use Rattle.tlv_walk.specs.Place.{IsWithin}

@@ -8,7 +8,8 @@ use Rattle.tlv_walk.specs.declared.ending.Ending.TheVariants as ending
 use Rattle.tlv_head.specs.declared.fault.Fault.{Fault}
 use Rattle.tlv_walk.specs.Phase.{PhaseValue}
 use Rattle.tlv_walk.specs.Phase as phase
-use Rattle.tlv_walk.specs.Ending.{IsEnding, IsFault, bad_end, bad_inside, fault_at, fault_ending, missing_end, no_end}
+use Rattle.tlv_walk.specs.Ending.{IsEnding, IsRefusedAt, bad_end, bad_inside, fault_at, fault_ending, missing_end}
+use Rattle.tlv_walk.specs.Ending.{no_end}
 use Rattle.tlv_walk.specs.Ending.{stray_end}
 use Rattle.tlv_walk.specs.Events.{EventValue}
 use Rattle.tlv_walk.specs.WalkerState.{WalkerState}
@@ -53,7 +54,7 @@ refuses_front w piece f h r = subst (λ (o : List ℕ). RefusesOctet w o o f) (s
 -- an octet that has a fault in each state of a walker is refused
 pub refuses_here : (w : WalkerState) (x : ℕ) (rest : List ℕ) (code : FaultCode) → (EventWaits w → ⊥)
     → ((b : List ℕ) (yielded : List EventValue) (s : Zipper) → HasZipper w b yielded s
-    → (t : Zipper) × HasZipper w b yielded t × IsFault x (zipper_end w.framing t) code)
+    → (t : Zipper) × HasZipper w b yielded t × IsRefusedAt (zipper_end w.framing t) x code)
     → RefusesOctet w (x ∷ rest) (x ∷ rest) (fault_at code w.offset)
 refuses_here w x rest code idle faulty = record {
   taken = [];

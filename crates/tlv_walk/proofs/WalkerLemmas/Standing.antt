@@ -10,7 +10,7 @@ use Rattle.tlv_walk.specs.declared.framing.Framing.{Framing}
 use Rattle.tlv_walk.specs.Events.{AreEqualJoined, EventValue, IsNoEmptyPart, event_value_of, events}
 use Rattle.tlv_walk.specs.Inside.{can_name}
 use Rattle.tlv_walk.specs.WalkerState.{HasNotRefused, WalkerState}
-use Rattle.tlv_walk.specs.Private.WalkerState.{Refuses, TakesAll, YieldsOne}
+use Rattle.tlv_walk.specs.Private.WalkerCalls.{Refuses, TakesAll, CountsOne}
 use Rattle.tlv_walk.specs.Private.WrapperCount.{wrapper_count_after}
 use Rattle.tlv_walk.specs.Phase.{PhaseValue, Between, InHeader, InPrimitive, InBitString, InEndOctets, Refused}
 use Rattle.tlv_walk.specs.Wrappers.{entered_offsets}
@@ -19,7 +19,7 @@ use Rattle.tlv_walk.proofs.EventLemmas.Wrappers.{enters-append}
 use Rattle.tlv_walk.specs.declared.ending.Ending.TheVariants as ending
 use Rattle.tlv_walk.specs.Ending.{IsEnding}
 use Rattle.tlv_walk.specs.Reading.{CannotBecomeSound, IsReading}
-use Rattle.tlv_walk.specs.Place.{IsOpen, top_place}
+use Rattle.tlv_walk.specs.Place.{KeepsRules, top_place}
 use Rattle.tlv_walk.specs.Stands.{Stands, waiting_events}
 use Rattle.tlv_walk.specs.StepsTo.{RefusesAgain, RefusesNext, StepsTo, UsesUpPiece, YieldsNext}
 use Rattle.tlv_walk.specs.HasRead.{IsRefusedAfter, StandsRefused}
@@ -71,8 +71,8 @@ refused_reading old g piece rest f same r b yielded st =
     let spells : Spells (top_place u.walker.framing) (b ++ r.taken) (reading_of u.zipper) =
     state-spells u.walker (b ++ r.taken) yielded u.zipper u.has_zipper in
     let there : f.offset ≡ length (b ++ r.taken) = u.offset ∙ u.has_zipper.offset in
-    let is_open : IsOpen (top_place old.framing) (reading_of u.zipper) =
-    subst (λ (w : Framing). IsOpen (top_place w) (reading_of u.zipper)) u.framing spells.is_open in
+    let keeps_rules : KeepsRules (top_place old.framing) (reading_of u.zipper) =
+    subst (λ (w : Framing). KeepsRules (top_place w) (reading_of u.zipper)) u.framing spells.keeps_rules in
     record {
       reading = reading_of u.zipper;
       spelled = spells.spelled;
@@ -82,7 +82,7 @@ refused_reading old g piece rest f same r b yielded st =
           (ap (λ (es : List EventValue). yielded ++ es) u.idle ∙ append-nil yielded) all;
       stays = λ c. subst (λ (w : Framing). IsReading w ((b ++ r.taken) ++ r.octet ∷ c) (reading_of u.zipper)) (sym same)
           (refused-reading old.framing (b ++ r.taken) r.octet c f (reading_of u.zipper)
-          (record { is_open = is_open; spelled = spells.spelled }) there (u.ends c));
+          (record { keeps_rules = keeps_rules; spelled = spells.spelled }) there (u.ends c));
       ends =
           λ c. subst (λ (w : Framing). IsEnding w ((b ++ r.taken) ++ r.octet ∷ c) (ending.Fault f)) (sym same)
           (u.ends c);
@@ -114,8 +114,7 @@ refused_walker old new piece rest f k r b yielded st =
             k.counts,
             st.private_state.has_zipper.offset,
             ap length r.piece_is,
-            ap length r.rest_is,
-            length-append r.taken (r.octet ∷ r.others),
+            length-append r.taken rest,
             length-append b r.taken,
           );
       depth =
@@ -123,7 +122,7 @@ refused_walker old new piece rest f k r b yielded st =
           ∙ state-depth u.walker (b ++ r.taken) yielded u.zipper u.has_zipper (idle u.walker u.idle);
       unused =
           ap (slice_get new.framing.inside) found
-          ∙ yielded_unused new.framing yielded [] there.reading named (there.stays []).is_open refl
+          ∙ yielded_unused new.framing yielded [] there.reading named (there.stays []).keeps_rules refl
           (subst (λ (es : List EventValue). AreEqualJoined es (events there.reading)) (sym (append-nil yielded))
           there.all_events);
     }
@@ -131,7 +130,7 @@ refused_walker old new piece rest f k r b yielded st =
 -- ---- what a step comes to
 
 -- an event
-reports : (old new : WalkerState) (piece rest : List ℕ) (e : Event) → HasNotRefused old → YieldsOne old new piece rest
+reports : (old new : WalkerState) (piece rest : List ℕ) (e : Event) → HasNotRefused old → CountsOne old new piece rest
     → IsNoEmptyPart e → YieldsEvent old new piece rest (event_value_of e) → YieldsNext old new piece rest e
 reports old new piece rest e n k has t =
     let walked = stands_all old new piece rest (event_value_of e ∷ []) t in record {
@@ -178,10 +177,9 @@ refuses_now old new piece rest f n k r = record {
   takes = record {
     not_refused = n;
     taken = r.taken;
-    piece_is = r.piece_is ∙ ap (λ (o : List ℕ). r.taken ++ o) (sym r.rest_is);
+    piece_is = r.piece_is;
     framing = k.framing;
-    offset =
-        omega (arith, k.counts, ap length r.piece_is, ap length r.rest_is, length-append r.taken (r.octet ∷ r.others));
+    offset = omega (arith, k.counts, ap length r.piece_is, length-append r.taken rest);
     events = omega (arith, k.events);
   };
   octet = r.octet;

@@ -1,4 +1,4 @@
--- A walker's state is an open forest, seen from its open end.
+-- A walker's state is a forest that keeps the rules, seen from its open end.
 use Rattle.std.proofs.Common.{◌≡◌, ◌↔◌, ℕ, ◌+◌, Bool, true, false, cond, eqb, List, [], ◌∷◌, ◌++◌, length, None, refl}
 use Rattle.std.proofs.Common.{sym, ap, ◌∙◌, subst, arith, append_assoc}
 use Rattle.std.proofs.lemmas.Bool.{true≢false}
@@ -10,7 +10,7 @@ use Rattle.tlv_walk.specs.Ending.{open_end}
 use Rattle.tlv_walk.specs.Forest.{Forest, Holder, NoMore, OpenBitString, OpenEndOctets, OpenHeader, OpenHolder}
 use Rattle.tlv_walk.specs.Forest.{OpenPrimitive, PaddingOctet, Primitive, contents_length, end_octets, extent, is_whole}
 use Rattle.tlv_walk.specs.Forest.{opening, spelling}
-use Rattle.tlv_walk.specs.Place.{IsOpen, Place, bound_in, is_indefinite, place_after, top_place}
+use Rattle.tlv_walk.specs.Place.{KeepsRules, Place, bound_in, is_indefinite, place_after, top_place}
 use Rattle.tlv_walk.proofs.GrammarLemmas.Lengths.{LacksOctets}
 use Rattle.tlv_walk.specs.Stack.{IsInIndefinite}
 use Rattle.tlv_walk.specs.Private.Zipper.{AreLayers, AreWhole, BitStringTail, NoTail, PrimitiveTail, EndOctetsTail}
@@ -69,9 +69,9 @@ pub after-none : (p : Place) → place_after p 0 ≡ p
 after-none p = let same : p.offset + 0 ≡ p.offset = omega arith in ap (λ (i : ℕ). record p { offset = i }) same
 
 -- what is open there is so by either way to the place
-open-after : (p : Place) (m n k : ℕ) (g : Forest) → m + n ≡ k → IsOpen (place_after p k) g
-    → IsOpen (place_after (place_after p m) n) g
-open-after p m n k g e w = subst (λ (q : Place). IsOpen q g) (sym (after-after p m n k e)) w
+open-after : (p : Place) (m n k : ℕ) (g : Forest) → m + n ≡ k → KeepsRules (place_after p k) g
+    → KeepsRules (place_after (place_after p m) n) g
+open-after p m n k g e w = subst (λ (q : Place). KeepsRules q g) (sym (after-after p m n k e)) w
 
 -- ---- whole elements, and then others
 
@@ -104,26 +104,26 @@ whole-followed_by (OpenHeader octets) g e = absurd (true≢false (sym e))
 whole-followed_by OpenEndOctets g e = absurd (true≢false (sym e))
 
 -- they are open if the others are, after them
-pub open-followed_by : (p : Place) (f g : Forest) → AreWhole p f → IsOpen (place_after p (length (spelling f))) g
-    → IsOpen p (followed_by f g)
-open-followed_by p NoMore g a w = subst (λ (q : Place). IsOpen q g) (after-none p) w
+pub open-followed_by : (p : Place) (f g : Forest) → AreWhole p f → KeepsRules (place_after p (length (spelling f))) g
+    → KeepsRules p (followed_by f g)
+open-followed_by p NoMore g a w = subst (λ (q : Place). KeepsRules q g) (after-none p) w
 open-followed_by p (PaddingOctet rest) g a w = (
-  a.is_open.0,
-  open-followed_by (place_after p 1) rest g (record { is_open = a.is_open.1; whole = a.whole })
+  a.keeps_rules.0,
+  open-followed_by (place_after p 1) rest g (record { keeps_rules = a.keeps_rules.1; whole = a.whole })
       (open-after p 1 (length (spelling rest)) _ g (omega arith) w),
 )
 open-followed_by p (Primitive h c rest) g a w = (
-  a.is_open.0,
+  a.keeps_rules.0,
   open-followed_by (place_after p (length (octets_of h) + length c)) rest g (record {
-    is_open = a.is_open.1;
+    keeps_rules = a.keeps_rules.1;
     whole = a.whole;
   })
       (open-after p (length (octets_of h) + length c) (length (spelling rest)) _ g (sym (length-primitive h c rest)) w),
 )
 open-followed_by p (Holder h inside rest) g a w = (
-  a.is_open.0,
-  a.is_open.1,
-  open-followed_by (place_after p (extent h inside)) rest g (record { is_open = a.is_open.2; whole = a.whole })
+  a.keeps_rules.0,
+  a.keeps_rules.1,
+  open-followed_by (place_after p (extent h inside)) rest g (record { keeps_rules = a.keeps_rules.2; whole = a.whole })
       (open-after p (extent h inside) (length (spelling rest)) _ g (sym (length-holder h inside rest)) w),
 )
 open-followed_by p (OpenPrimitive h c) g a w = absurd (true≢false (sym a.whole))
@@ -204,8 +204,8 @@ room-if_open [] f e = tt
 room-if_open (l ∷ ls) f e = λ whole. absurd (true≢false (sym whole ∙ e))
 
 -- they are open where they are, and so is the whole
-pub open-within : (w : Framing) (ls : List Layer) (f : Forest) → AreLayers w ls → IsOpen (place_in w ls) f
-    → HasRoomIn ls f → IsOpen (top_place w) (forest_in_layers ls f)
+pub open-within : (w : Framing) (ls : List Layer) (f : Forest) → AreLayers w ls → KeepsRules (place_in w ls) f
+    → HasRoomIn ls f → KeepsRules (top_place w) (forest_in_layers ls f)
 open-within w [] f a v r = v
 open-within w (l ∷ ls) f a v r =
     open-within w ls (followed_by l.before (OpenHolder l.header f)) a.0

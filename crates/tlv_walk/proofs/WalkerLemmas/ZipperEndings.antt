@@ -7,7 +7,7 @@ use Rattle.tlv_walk.specs.declared.ending.Ending.TheVariants.{Done}
 use Rattle.tlv_walk.specs.declared.framing.Framing.{Framing}
 use Rattle.tlv_walk.specs.Phase.{PhaseValue}
 use Rattle.tlv_walk.specs.Phase as phase
-use Rattle.tlv_walk.specs.Ending.{IsEnding, IsFault, done, empty, fault_ending, short, OpenEnd, open_end}
+use Rattle.tlv_walk.specs.Ending.{IsEnding, IsRefusedAt, done, empty, fault_ending, short, OpenEnd, open_end}
 use Rattle.tlv_walk.specs.Events.{EventValue}
 use Rattle.tlv_walk.specs.Forest.{Forest, NoMore, OpenPrimitive, OpenBitString, OpenHeader, OpenEndOctets, has_element}
 use Rattle.tlv_walk.specs.Forest.{is_whole, spelling}
@@ -95,19 +95,19 @@ state-open_end w b yielded s h n =
 pub state-fault : (w : WalkerState) (b : List ℕ) (yielded : List EventValue) (s : Zipper) (x : ℕ) (rest : List ℕ)
     (code : FaultCode)
     → HasZipper w b yielded s → (EventWaits w → ⊥)
-    → IsFault x (zipper_end w.framing s) code
+    → IsRefusedAt (zipper_end w.framing s) x code
     → IsEnding w.framing (b ++ x ∷ rest) (fault_ending code (length b))
 state-fault w b yielded s x rest code h n k =
     let r : Spells (top_place w.framing) b (reading_of s) = state-spells w b yielded s h in
-    let there : IsFault x (open_end (top_place w.framing) (reading_of s)) code =
-    subst (λ (t : OpenEnd). IsFault x t code) (sym (state-open_end w b yielded s h n)) k in
+    let there : IsRefusedAt (open_end (top_place w.framing) (reading_of s)) x code =
+    subst (λ (t : OpenEnd). IsRefusedAt t x code) (sym (state-open_end w b yielded s h n)) k in
     let halt : IsHalt w.framing (reading_of s) code (b ++ x ∷ rest) =
     record {
-      is_open = r.is_open;
+      keeps_rules = r.keeps_rules;
       octet = x;
       rest = rest;
       front = ap (λ (o : List ℕ). o ++ x ∷ rest) r.spelled;
-      refused = fault-refused w.framing (reading_of s) x code r.is_open there;
+      refused = fault-refused w.framing (reading_of s) x code r.keeps_rules there;
     } in
     subst (λ (o : List ℕ). IsEnding w.framing (b ++ x ∷ rest) (fault_ending code (length o))) r.spelled
     (halt-ending w.framing (reading_of s) code (b ++ x ∷ rest) halt there)

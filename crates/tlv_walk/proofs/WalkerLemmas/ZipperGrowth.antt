@@ -13,7 +13,7 @@ use Rattle.tlv_walk.specs.WalkerState.{WalkerState}
 use Rattle.tlv_walk.specs.Private.WrapperCount.{next_wrapper_count, wrapper_count_after}
 use Rattle.tlv_walk.specs.Wrappers.{entered_offsets}
 use Rattle.tlv_walk.proofs.EventLemmas.Wrappers.{enters-append}
-use Rattle.tlv_walk.specs.Place.{IsOpen, Place, place_after}
+use Rattle.tlv_walk.specs.Place.{KeepsRules, Place, place_after}
 use Rattle.tlv_walk.specs.Private.Zipper.{AreWhole, BitStringTail, NoTail, HasZipper, PrimitiveTail, EndOctetsTail}
 use Rattle.tlv_walk.specs.Private.Zipper.{HeaderTail, IsPhaseOf, Layer, Tail, Zipper, has_element_before_tail}
 use Rattle.tlv_walk.specs.Private.Zipper.{events_of_layers, place_of, spelling_of_layers}
@@ -98,9 +98,10 @@ spelled_whole ls here more old t b whole e f =
 
 -- whole elements, and then one more
 pub are_whole : (p : Place) (here more : Forest) → AreWhole p here
-    → IsOpen (place_after p (length (spelling here))) more → is_whole more ≡ true → AreWhole p (followed_by here more)
+    → KeepsRules (place_after p (length (spelling here))) more → is_whole more ≡ true
+    → AreWhole p (followed_by here more)
 are_whole p here more h o w = record {
-  is_open = open-followed_by p here more h o;
+  keeps_rules = open-followed_by p here more h o;
   whole = whole-followed_by here more h.whole ∙ w;
 }
 

@@ -13,7 +13,7 @@ use Rattle.tlv_walk.specs.Forest.{Forest, NoMore, Primitive, OpenPrimitive, Open
 use Rattle.tlv_walk.specs.Forest.{is_whole, spelling}
 use Rattle.tlv_walk.specs.WalkerState.{WalkerState, new_walker}
 use Rattle.tlv_walk.specs.Private.WrapperCount.{wrapper_count_after}
-use Rattle.tlv_walk.specs.Place.{IsOpen, Place, place_after, top_place}
+use Rattle.tlv_walk.specs.Place.{KeepsRules, Place, place_after, top_place}
 use Rattle.tlv_walk.specs.Reading.{IsReading}
 use Rattle.tlv_walk.specs.Stands.{Stands, filled_end_events, waiting_events, waiting_events_in}
 use Rattle.tlv_walk.specs.Private.Zipper.{AreLayers, AreWhole, BitStringTail, NoTail, HasZipper, PrimitiveTail}
@@ -47,11 +47,11 @@ followed_by-end w ls here g e =
 
 -- they are open, with these octets
 open-spells : (w : Framing) (ls : List Layer) (here g : Forest) → AreLayers w ls → AreWhole (place_in w ls) here
-    → IsOpen (later_place w ls here) g → is_whole g ≡ false
+    → KeepsRules (later_place w ls here) g → is_whole g ≡ false
     → Spells (top_place w) (spelling_of_layers ls ++ (spelling here ++ spelling g))
     (forest_in_layers ls (followed_by here g))
 open-spells w ls here g a i v e = record {
-  is_open =
+  keeps_rules =
       open-within w ls (followed_by here g) a (open-followed_by (place_in w ls) here g i v)
       (room-if_open ls (followed_by here g) (whole-followed_by here g i.whole ∙ e));
   spelled =
@@ -73,7 +73,7 @@ open-events w ls here g a i =
 more-whole : (w : Framing) (ls : List Layer) (here g : Forest) → AreWhole (place_in w ls) here
     → AreWhole (later_place w ls here) g → AreWhole (place_in w ls) (followed_by here g)
 more-whole w ls here g i j = record {
-  is_open = open-followed_by (place_in w ls) here g i j.is_open;
+  keeps_rules = open-followed_by (place_in w ls) here g i j.keeps_rules;
   whole = whole-followed_by here g i.whole ∙ j.whole;
 }
 
@@ -87,7 +87,7 @@ whole-spells w ls here g a i j =
     (settled_forest ls (followed_by here g)) =
     settled-spells w ls (followed_by here g) a (more-whole w ls here g i j) in
     record {
-      is_open = r.is_open;
+      keeps_rules = r.keeps_rules;
       spelled = r.spelled ∙ ap (λ (t : List ℕ). spelling_of_layers ls ++ t) (spelling-followed_by here g i.whole);
     }
 
@@ -113,7 +113,7 @@ contents-whole : (p : Place) (h : HeaderValue) (c : List ℕ) (left : ℕ) → I
 contents-whole p h c left i e =
     let size : length c + left ≡ length c = omega arith in
     record {
-      is_open = (
+      keeps_rules = (
         (
           record { header = i.header; shallow = λ e. absurd (cc (e)); fits = rw size at i.fits },
           i.size ∙ ap Definite size,
@@ -125,7 +125,7 @@ contents-whole p h c left i e =
 
 -- else it lacks contents octets
 contents-open_primitive : (p : Place) (h : HeaderValue) (c : List ℕ) (left : ℕ) → IsContents p h c left
-    → (left ≡ 0 → ⊥) → IsOpen p (OpenPrimitive h c)
+    → (left ≡ 0 → ⊥) → KeepsRules p (OpenPrimitive h c)
 contents-open_primitive p h c left i n = (
   record {
     header = i.header;
@@ -154,9 +154,9 @@ contents-less p h c left i n =
 abbrev pub IsTailAt : Place → Tail → Type 0
 IsTailAt p NoTail = Unit {0}
 IsTailAt p (PrimitiveTail h c) = (left : ℕ) × IsContents p h c left
-IsTailAt p (BitStringTail h) = IsOpen p (OpenBitString h)
-IsTailAt p (HeaderTail octets) = IsOpen p (OpenHeader octets)
-IsTailAt p EndOctetsTail = IsOpen p OpenEndOctets
+IsTailAt p (BitStringTail h) = KeepsRules p (OpenBitString h)
+IsTailAt p (HeaderTail octets) = KeepsRules p (OpenHeader octets)
+IsTailAt p EndOctetsTail = KeepsRules p OpenEndOctets
 
 -- the phase says so
 pub phase-tail : (f : PhaseValue) (t : Tail) (p : Place) → IsPhaseOf f t p → IsTailAt p t
@@ -175,7 +175,7 @@ reading-spells w ls here NoTail a i j =
     let r : Spells (top_place w) (spelling_of_layers ls ++ spelling here) (settled_forest ls here) =
     settled-spells w ls here a i in
     record {
-      is_open = r.is_open;
+      keeps_rules = r.keeps_rules;
       spelled = r.spelled ∙ ap (λ (t : List ℕ). spelling_of_layers ls ++ t) (sym (append-nil (spelling here)));
     }
 reading-spells w ls here (PrimitiveTail h c) a i j = elim (cases_eq j.0 0) [
@@ -185,7 +185,7 @@ reading-spells w ls here (PrimitiveTail h c) a i j = elim (cases_eq j.0 0) [
       whole-spells w ls here (Primitive h c NoMore) a i (contents-whole _ h c j.0 j.1 z) in
       rw (contents-all _ h c j.0 j.1 z)
       (record {
-        is_open = r.is_open;
+        keeps_rules = r.keeps_rules;
         spelled =
             r.spelled
             ∙ ap (λ (t : List ℕ). spelling_of_layers ls ++ (spelling here ++ (octets_of h ++ t))) (append-nil c);
@@ -239,7 +239,7 @@ state-spells w b yielded s h =
     let r : Spells (top_place w.framing) (spelling_of_zipper s) (reading_of s) =
     reading-spells w.framing s.layers s.here s.tail h.layers h.here
     (phase-tail w.phase s.tail (place_of w.framing s) h.phase) in
-    record { is_open = r.is_open; spelled = r.spelled ∙ h.spelled }
+    record { keeps_rules = r.keeps_rules; spelled = r.spelled ∙ h.spelled }
 
 -- it is their reading
 pub state-reading : (w : WalkerState) (b : List ℕ) (yielded : List EventValue) (s : Zipper) → HasZipper w b yielded s
@@ -285,7 +285,7 @@ state-new framing = record {
   offset = refl;
   stack = refl;
   layers = tt;
-  here = record { is_open = tt; whole = refl };
+  here = record { keeps_rules = tt; whole = refl };
   phase = tt;
   same_events = refl;
   element = refl;

@@ -15,9 +15,9 @@ use Rattle.tlv_walk.specs.Follow.{Effect, effect_of}
 use Rattle.tlv_walk.specs.Forest.{Forest}
 use Rattle.tlv_walk.specs.Phase.{IsAfterEvent}
 use Rattle.tlv_walk.specs.WalkerState.{WalkerState}
-use Rattle.tlv_walk.specs.Private.WalkerState.{Passes}
+use Rattle.tlv_walk.specs.Private.WalkerCalls.{Passes}
 use Rattle.tlv_walk.specs.Reading.{AreOctets, IsReading}
-use Rattle.tlv_walk.specs.Stands.{CanTake, Stands}
+use Rattle.tlv_walk.specs.Stands.{IsReady, Stands}
 use Rattle.tlv_walk.specs.HasRead.{StandsRefused}
 use Rattle.tlv_walk.specs.FollowsEvents.{FollowsEvents}
 
@@ -51,6 +51,7 @@ pub record FollowStates (S D : Type 0) : Type 0 where
   pub follower : S
   pub out : Out D
 
+-- the following of a piece with these states
 abbrev pub follow_states : {S D : Type 0} → WalkerState → S → Out D → FollowStates S D
 follow_states walker follower out = record { walker = walker; follower = follower; out = out }
 
@@ -62,11 +63,11 @@ module _ {S D : Type 0} (next : S → EventValue → Effect S) (old new : Follow
     pub made : FollowsEvents next old.follower new.follower more goes
     pub walked : WalksOver old.walker new.walker piece rest more
 
-  -- all of a piece was followed, and the next octet can be taken
+  -- all of a piece was followed, and the walker is ready for the next octet
   pub record FollowsAll (piece : List ℕ) (more : List EventValue) : Type 0 where
     pub follows : Follows piece [] more go.On
     pub offset : new.walker.offset ≡ old.walker.offset + length piece
-    pub ready : CanTake new.walker
+    pub ready : IsReady new.walker
 
   -- a piece was followed up to an octet that is refused
   pub record FollowsToFault (piece : List ℕ) (more : List EventValue) (f : Fault) : Type 0 where
@@ -93,7 +94,7 @@ module _ {S D : Type 0} (next : S → EventValue → Effect S) (old new : Follow
   Pauses piece more (Err e) = WriteFailsAt piece more
 
   -- a prefix of a piece was followed, which has one event or more, and more is wanted
-  pub record TakesPart (piece rest : List ℕ) (more : List EventValue) : Type 0 where
+  pub record TakesPrefix (piece rest : List ℕ) (more : List EventValue) : Type 0 where
     pub follows : Follows piece rest more go.On
     pub passes : Passes old.walker new.walker piece rest
 
@@ -105,10 +106,10 @@ module _ {S D : Type 0} (next : S → EventValue → Effect S) (old new : Follow
     pub no_event : more ≡ []
 
   -- by whether a prefix of a piece was followed
-  abbrev pub TakesPartOrNone : List ℕ → List ℕ → List EventValue → Result Bool WriteFault → Type 0
-  TakesPartOrNone piece rest more (Ok true) = TakesPart piece rest more
-  TakesPartOrNone piece rest more (Ok false) = TakesNone piece rest more
-  TakesPartOrNone piece rest more (Err e) = WriteFailsAt piece more
+  abbrev pub TakesPrefixOrNone : List ℕ → List ℕ → List EventValue → Result Bool WriteFault → Type 0
+  TakesPrefixOrNone piece rest more (Ok true) = TakesPrefix piece rest more
+  TakesPrefixOrNone piece rest more (Ok false) = TakesNone piece rest more
+  TakesPrefixOrNone piece rest more (Err e) = WriteFailsAt piece more
 
 module _ {S D : Type 0} (next : S → EventValue → Effect S) (state_of : D → DrainState)
     (old new : FollowStates S D) where
@@ -131,7 +132,7 @@ module _ {S D : Type 0} (next : S → EventValue → Effect S) (state_of : D →
     pub empty : OnOk result (held_octets new.out ≡ [])
 
   -- a prefix of a piece was followed, and what is made of its events was put; or nothing of it was taken
-  pub record FollowsPart (piece rest : List ℕ) (result : Result Bool WriteFault) : Type 0 where
+  pub record FollowsPrefix (piece rest : List ℕ) (result : Result Bool WriteFault) : Type 0 where
     pub more : List EventValue
-    pub takes : TakesPartOrNone next old new piece rest more result
+    pub takes : TakesPrefixOrNone next old new piece rest more result
     pub puts : Puts state_of old.out new.out (effect_of next old.follower more).put result

@@ -6,9 +6,13 @@ use Rattle.tlv_walk.specs.declared.stack.Frame.{Frame}
 use Rattle.tlv_walk.specs.declared.stack.FrameKind.{FrameKind}
 use Rattle.tlv_walk.specs.declared.stack.FrameKind.TheVariants.{Input, Definite, Indefinite, Wrapper}
 
--- the largest u64 says that there is no bound
+-- the largest u64, which says that there is no bound
+abbrev pub unbounded : ℕ
+unbounded = 2 ^ 64 - 1
+
+-- the bound, if there is one
 abbrev pub bound_from : ℕ → Option ℕ
-bound_from n = if eqb n (2 ^ 64 - 1) then None else Some n
+bound_from n = if eqb n unbounded then None else Some n
 
 -- where the contents end, if the length is definite: such an element is itself the innermost that is definite
 abbrev pub end_from : FrameKind → ℕ → Option ℕ
@@ -17,13 +21,14 @@ end_from Definite n = bound_from n
 end_from Indefinite n = None
 end_from Wrapper n = bound_from n
 
--- it is a wrapper
+-- whether it is a wrapper
 abbrev pub wraps_from : FrameKind → Bool
 wraps_from Input = false
 wraps_from Definite = false
 wraps_from Indefinite = false
 wraps_from Wrapper = true
 
+-- what the fields of a frame say of its element
 abbrev pub frame_from : Frame → FrameValue
 frame_from f = record { end = end_from f.kind f.bound; bound = bound_from f.bound; wrapper = wraps_from f.kind }
 
@@ -33,16 +38,16 @@ abbrev pub frames_from : Frame → List Frame → List FrameValue
 frames_from innermost [] = []
 frames_from innermost (f ∷ fs) = frame_from innermost ∷ frames_from f fs
 
--- the input has no bound
+-- the frame of the input, which has no bound
 abbrev pub IsInput : Frame → Type 0
-IsInput f = (f.kind ≡ Input) × (f.bound ≡ 2 ^ 64 - 1)
+IsInput f = (f.kind ≡ Input) × (f.bound ≡ unbounded)
 
 -- an element, whose end is known if its length is definite
 abbrev pub HasEnd : FrameKind → ℕ → Type 0
 HasEnd Input n = ⊥
-HasEnd Definite n = n ≢ 2 ^ 64 - 1
+HasEnd Definite n = n ≢ unbounded
 HasEnd Indefinite n = Unit {0}
-HasEnd Wrapper n = n ≢ 2 ^ 64 - 1
+HasEnd Wrapper n = n ≢ unbounded
 
 -- the input holds all the others, which are elements
 abbrev pub AreHolders : Frame → List Frame → Type 0

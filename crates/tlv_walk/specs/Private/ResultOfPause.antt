@@ -1,5 +1,5 @@
 -- What a turn returns after a piece that was followed.
-use Rattle.std.specs.Prelude.{◌≡◌, ℕ, ◌<◌, Bool, true, false, List, Result, Ok, Err}
+use Rattle.std.specs.Prelude.{◌≡◌, ℕ, ◌<◌, Bool, true, false, Result, Ok, Err}
 use Rattle.tlv_walk.specs.declared.ending.Ending.{Ending}
 use Rattle.tlv_walk.specs.declared.ending.Ending.TheVariants as ending
 use Rattle.tlv_walk.specs.declared.run.DeviceFault.{DeviceFault}
@@ -10,25 +10,24 @@ use Rattle.tlv_walk.specs.declared.run.Turn.TheVariants.{Again, Ended}
 use Rattle.tlv_walk.specs.declared.one_turn.Pause.{Pause}
 use Rattle.tlv_walk.specs.declared.one_turn.Pause.TheVariants as pause
 use Rattle.tlv_walk.specs.Ending.{IsEnding}
-use Rattle.tlv_walk.specs.Events.{EventValue}
-use Rattle.tlv_walk.specs.WalkerState.{WalkerState, unused_of}
-use Rattle.tlv_walk.specs.Stands.{Stands}
+use Rattle.tlv_walk.specs.WalkerState.{WalkerState, unused_offset}
+use Rattle.tlv_walk.specs.HasRead.{IfAtEnd}
 
 -- the run of a walker, with this ending
 abbrev pub run_of : WalkerState → Ending → Bool → Run
 run_of w e enough =
-    record { ending = e; octets = w.offset; enough = enough; unused = unused_of w }
+    record { ending = e; octets = w.offset; enough = enough; unused = unused_offset w }
 
--- the run of a walker that is after the last octet of the input
-abbrev pub IsLastRun : Run → WalkerState → Type 0
-IsLastRun run w = (e : Ending) × (run ≡ run_of w e false)
-    × ((o : List ℕ) (yielded : List EventValue) → Stands w o yielded → IsEnding w.framing o e)
+-- the run of a walker that is after the last octet of the input, with the ending of that input
+abbrev pub IsRunAtEnd : Run → WalkerState → Type 0
+IsRunAtEnd run w =
+    (e : Ending) × (run ≡ run_of w e false) × IfAtEnd w (λ octets. IsEnding w.framing octets e)
 
 -- what a turn returns after this pause of a walker, if it read so many octets, and followed so many of them
 abbrev pub IsResultOfPause : ℕ → ℕ → WalkerState → Pause → Result Turn DeviceFault → Type 0
 IsResultOfPause read followed w pause.Enough (Ok (Ended run)) = run ≡ run_of w ending.Done true
 IsResultOfPause read followed w (pause.Fault f) (Ok (Ended run)) = run ≡ run_of w (ending.Fault f) false
 IsResultOfPause read followed w pause.UsedUp (Err InputTooLong) = followed < read
-IsResultOfPause read followed w pause.UsedUp (Ok (Ended run)) = (followed < read → ⊥) × (read ≡ 0) × IsLastRun run w
+IsResultOfPause read followed w pause.UsedUp (Ok (Ended run)) = (followed < read → ⊥) × (read ≡ 0) × IsRunAtEnd run w
 IsResultOfPause read followed w pause.UsedUp (Ok Again) = (followed < read → ⊥) × (read ≡ 0 → ⊥)
 IsResultOfPause read followed w why result = ⊥

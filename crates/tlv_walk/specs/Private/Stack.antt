@@ -1,4 +1,4 @@
--- What the functions of a stack return.
+-- What the functions of a stack return, and the frame of an element by its header.
 use Rattle.std.specs.Prelude.{◌≡◌, ℕ, ◌-◌, Bool, not, List, [], ◌∷◌, Option, Some, None}
 use Rattle.std.specs.Option.{option_or}
 use Rattle.tlv_head.specs.declared.header.Size.{Size}
@@ -24,6 +24,7 @@ abbrev pub room_to : Option ℕ → ℕ → Option ℕ
 room_to None offset = None
 room_to (Some b) offset = Some (b - offset)
 
+-- how many octets there are from an offset to the end of the innermost definite element
 abbrev pub room_in : List FrameValue → ℕ → Option ℕ
 room_in stack offset = room_to (bound_of stack) offset
 

@@ -8,7 +8,7 @@ use Rattle.tlv_walk.specs.declared.event.Step.TheVariants as step
 use Rattle.tlv_walk.specs.Ending.{IsEnding}
 use Rattle.tlv_walk.specs.Events.{EventValue, event_value_of}
 use Rattle.tlv_walk.specs.WalkerState.{WalkerState}
-use Rattle.tlv_walk.specs.Private.WalkerState.{CountsAtOnce, CountsStep}
+use Rattle.tlv_walk.specs.Private.WalkerCalls.{CountsAtOnce, CountsStep}
 use Rattle.tlv_walk.specs.Private.WrapperCount.{wrapper_count_after}
 use Rattle.tlv_walk.specs.Private.Zipper.{HasZipper, Zipper}
 use Rattle.tlv_walk.specs.Wrappers.{entered_offsets}
@@ -28,13 +28,13 @@ pub record YieldsEvents (old new : WalkerState) (piece rest : List ℕ) (es : Li
   pub piece_is : piece ≡ taken ++ rest
   pub continues : Continues old new taken es
 
--- the same of one event
+-- a prefix of a piece was taken, and this event was yielded
 abbrev pub YieldsEvent : WalkerState → WalkerState → List ℕ → List ℕ → EventValue → Type 0
 YieldsEvent old new piece rest e = YieldsEvents old new piece rest (e ∷ [])
 
 -- after the octets b, of which these events were yielded, an octet is refused, whatever follows it: a walker has a
 -- zipper of these octets and events, and no event waits
-pub record RefusesAfter (old : WalkerState) (b : List ℕ) (octet : ℕ) (yielded : List EventValue) (f : Fault)
+pub record RefusesWithZipper (old : WalkerState) (b : List ℕ) (octet : ℕ) (yielded : List EventValue) (f : Fault)
     : Type 0 where
   pub walker : WalkerState
   pub zipper : Zipper
@@ -50,10 +50,10 @@ pub record RefusesOctet (old : WalkerState) (piece rest : List ℕ) (f : Fault) 
   pub taken : List ℕ
   pub octet : ℕ
   pub others : List ℕ
-  pub piece_is : piece ≡ taken ++ octet ∷ others
+  pub piece_is : piece ≡ taken ++ rest
   pub rest_is : rest ≡ octet ∷ others
   pub refuses : (b : List ℕ) (yielded : List EventValue) (s : Zipper) → HasZipper old b yielded s
-      → RefusesAfter old (b ++ taken) octet yielded f
+      → RefusesWithZipper old (b ++ taken) octet yielded f
 
 -- an octet is refused, or was refused before
 abbrev pub YieldsFault : WalkerState → WalkerState → List ℕ → List ℕ → Fault → Type 0

@@ -1,4 +1,4 @@
--- The state of proofs: the open forest that a walker stands for, cut open at its open end.
+-- The state of proofs: the forest that a walker stands for, taken apart along its open elements.
 use Rattle.std.specs.Prelude.{◌≡◌, ℕ, ◌+◌, Bool, true, false, List, [], ◌∷◌, ◌++◌, length}
 use Rattle.tlv_head.specs.declared.header.Size.TheVariants.{Definite}
 use Rattle.tlv_head.specs.Header.{HeaderValue, octets_of}
@@ -13,7 +13,7 @@ use Rattle.tlv_walk.specs.Inside.{can_name, is_among}
 use Rattle.tlv_walk.specs.WalkerState.{WalkerState}
 use Rattle.tlv_walk.specs.Private.WrapperCount.{wrapper_count_after}
 use Rattle.tlv_walk.specs.Private.Stack.{frame_with}
-use Rattle.tlv_walk.specs.Place.{Fits, IsAnnouncedAt, IsHeaderAt, IsOpen, Place, place_after, place_of_children}
+use Rattle.tlv_walk.specs.Place.{Fits, IsAnnouncedAt, IsHeaderAt, KeepsRules, Place, place_after, place_of_children}
 use Rattle.tlv_walk.specs.Place.{top_place}
 use Rattle.tlv_walk.specs.Wrappers.{entered_offsets}
 
@@ -46,13 +46,13 @@ abbrev pub place_in : Framing → List Layer → Place
 place_in framing [] = top_place framing
 place_in framing (l ∷ ls) = place_of_children (place_after (place_in framing ls) (length (spelling l.before))) l.header
 
--- after the whole elements there
+-- the place after the whole elements in the innermost open element
 abbrev pub place_of : Framing → Zipper → Place
 place_of framing s = place_after (place_in framing s.layers) (length (spelling s.here))
 
 -- whole elements are there, and nothing is open
 pub record AreWhole (p : Place) (f : Forest) : Type 0 where
-  pub is_open : IsOpen p f
+  pub keeps_rules : KeepsRules p f
   pub whole : is_whole f ≡ true
 
 -- each layer's elements are whole, and its header may be after them
@@ -72,6 +72,7 @@ pub record IsContents (p : Place) (h : HeaderValue) (c : List ℕ) (left : ℕ) 
 abbrev pub frame_at : Place → HeaderValue → FrameValue
 frame_at p h = frame_with (p.offset + length (octets_of h)) p.bound h.size h.constructed
 
+-- the frames of open elements, innermost first
 abbrev pub frames_of : Framing → List Layer → List FrameValue
 frames_of framing [] = []
 frames_of framing (l ∷ ls) =
@@ -89,17 +90,19 @@ stack_of framing ls p EndOctetsTail = frames_of framing ls
 abbrev pub IsPhaseOf : PhaseValue → Tail → Place → Type 0
 IsPhaseOf phase.Between NoTail p = Unit {0}
 IsPhaseOf (phase.InHeader r) (HeaderTail octets) p =
-    (r.octets ≡ octets) × (r.offset ≡ p.offset) × (r.named ≡ is_among p.offset p.inside) × IsOpen p (OpenHeader octets)
+    (r.octets ≡ octets) × (r.offset ≡ p.offset) × (r.named ≡ is_among p.offset p.inside)
+    × KeepsRules p (OpenHeader octets)
 IsPhaseOf (phase.InPrimitive left) (PrimitiveTail h c) p = IsContents p h c left
-IsPhaseOf phase.InBitString (BitStringTail h) p = IsOpen p (OpenBitString h)
-IsPhaseOf phase.InEndOctets EndOctetsTail p = IsOpen p OpenEndOctets
+IsPhaseOf phase.InBitString (BitStringTail h) p = KeepsRules p (OpenBitString h)
+IsPhaseOf phase.InEndOctets EndOctetsTail p = KeepsRules p OpenEndOctets
 IsPhaseOf f t p = ⊥
 
--- the octets
+-- the octets before the elements in the innermost open element
 abbrev pub spelling_of_layers : List Layer → List ℕ
 spelling_of_layers [] = []
 spelling_of_layers (l ∷ ls) = spelling_of_layers ls ++ (spelling l.before ++ opening l.header)
 
+-- the octets of what is open after the whole elements
 abbrev pub spelling_of_tail : Tail → List ℕ
 spelling_of_tail NoTail = []
 spelling_of_tail (PrimitiveTail h c) = octets_of h ++ c
@@ -107,14 +110,16 @@ spelling_of_tail (BitStringTail h) = octets_of h
 spelling_of_tail (HeaderTail octets) = octets
 spelling_of_tail EndOctetsTail = 0 ∷ []
 
+-- all octets
 abbrev pub spelling_of_zipper : Zipper → List ℕ
 spelling_of_zipper s = spelling_of_layers s.layers ++ (spelling s.here ++ spelling_of_tail s.tail)
 
--- the events yielded: of a primitive and of an element that is filled, not yet the end
+-- the events before those of the elements in the innermost open element
 abbrev pub events_of_layers : List Layer → List EventValue
 events_of_layers [] = []
 events_of_layers (l ∷ ls) = events_of_layers ls ++ (events l.before ++ opening_events l.header)
 
+-- the events of what is open after the whole elements: of a primitive not yet the end
 abbrev pub events_of_tail : Tail → List EventValue
 events_of_tail NoTail = []
 events_of_tail (PrimitiveTail h c) = Begin h ∷ Bytes c ∷ []
@@ -122,6 +127,7 @@ events_of_tail (BitStringTail h) = Enter h ∷ []
 events_of_tail (HeaderTail octets) = []
 events_of_tail EndOctetsTail = []
 
+-- all events yielded: of a primitive and of an element that is filled, not yet the end
 abbrev pub events_of_zipper : Zipper → List EventValue
 events_of_zipper s = events_of_layers s.layers ++ (events s.here ++ events_of_tail s.tail)
 
@@ -138,7 +144,7 @@ zipper_has_element layers here (BitStringTail h) = true
 zipper_has_element layers here (HeaderTail octets) = true
 zipper_has_element layers here EndOctetsTail = true
 
--- the walker has this zipper: octets so far, frames, phase and counts are the zipper's
+-- the walker has this zipper: octets, frames, phase and events are the zipper's
 pub record HasZipper (w : WalkerState) (b : List ℕ) (yielded : List EventValue) (s : Zipper) : Type 0 where
   pub spelled : spelling_of_zipper s ≡ b
   pub offset : w.offset ≡ length b

@@ -1,9 +1,9 @@
-//! How a walker takes the contents of primitives, and octets between encodings.
+//! How a walker takes the contents of primitives, and padding.
 ghost use Rattle.std.specs.Prelude.{◌≡◌, ◌≢◌, ◌<◌, ◌≤◌, ◌∷◌, [], All, Some, length, slice_get, take, true};
 ghost use Rattle.tlv_walk.specs.Phase as phases;
 ghost use Rattle.tlv_walk.specs.Events.{IsNoEmptyPart, event_value_of};
 ghost use Rattle.tlv_walk.specs.WalkerState.{IsWithinInputLimit};
-ghost use Rattle.tlv_walk.specs.Private.WalkerState.{YieldsAt, YieldsOne};
+ghost use Rattle.tlv_walk.specs.Private.WalkerCalls.{CountsAt, CountsOne};
 ghost use Rattle.tlv_walk.specs.Private.Yields.{Continues, Steps, YieldsEvent};
 
 use super::{Phase, Walker};
@@ -17,8 +17,8 @@ impl Walker {
         requires phase { self.old.phase ≡ phases.InPrimitive left }
         requires some { (0 < left) × (piece.old.now ≢ []) }
         requires limit { IsWithinInputLimit self.old piece.old.now }
-        ensures one { YieldsOne self.old self.new piece.old.now piece.new.now }
-        ensures event { YieldsEvent self.old self.new piece.old.now piece.new.now
+        ensures counts { CountsOne self.old self.new piece.old.now piece.new.now }
+        ensures yields { YieldsEvent self.old self.new piece.old.now piece.new.now
             (event_value_of result) }
         ensures octets { IsNoEmptyPart result }
     {
@@ -36,8 +36,8 @@ impl Walker {
     #[inline(always)]
     pub(super) fn end_primitive<'a>(&mut self) -> Event<'a>
         requires { self.old.phase ≡ phases.InPrimitive 0 }
-        ensures yields { YieldsAt self.old self.new self.old.offset }
-        ensures event { Continues self.old self.new [] (event_value_of result ∷ []) }
+        ensures counts { CountsAt self.old self.new self.old.offset }
+        ensures yields { Continues self.old self.new [] (event_value_of result ∷ []) }
         ensures octets { IsNoEmptyPart result }
     {
         self.events += 1;
@@ -45,15 +45,15 @@ impl Walker {
         Event::End
     }
 
-    /// Takes the octets `00` at the front of the piece.
+    /// Takes the padding at the front of the piece.
     pub(super) fn padding<'a>(&mut self, piece: &mut &'a [u8]) -> Event<'a>
         requires phase { self.old.phase ≡ phases.Between }
         requires zero { slice_get piece.old.now 0 ≡ Some 0 }
         requires limit { IsWithinInputLimit self.old piece.old.now }
         requires top { self.old.stack ≡ [] }
         requires padding { self.old.framing.padding ≡ true }
-        ensures one { YieldsOne self.old self.new piece.old.now piece.new.now }
-        ensures event { YieldsEvent self.old self.new piece.old.now piece.new.now
+        ensures counts { CountsOne self.old self.new piece.old.now piece.new.now }
+        ensures yields { YieldsEvent self.old self.new piece.old.now piece.new.now
             (event_value_of result) }
         ensures octets { IsNoEmptyPart result }
     {

@@ -4,7 +4,7 @@ ghost use Rattle.tlv_walk.specs.Phase as phases;
 ghost use Rattle.tlv_walk.specs.Events.{IsNoEmptyPart, event_value_of};
 ghost use Rattle.tlv_walk.specs.Private.Stack.{IsFilled};
 ghost use Rattle.tlv_walk.specs.WalkerState.{IsWithinInputLimit};
-ghost use Rattle.tlv_walk.specs.Private.WalkerState.{YieldsAt, close_event_if_taken};
+ghost use Rattle.tlv_walk.specs.Private.WalkerCalls.{CountsAt, close_event_if_taken};
 ghost use Rattle.tlv_walk.specs.Private.Yields.{Continues, Steps, StepsAtOnce};
 
 use super::{Phase, Walker};
@@ -47,8 +47,8 @@ impl Walker {
     pub(super) fn end_filled<'a>(&mut self) -> Event<'a>
         requires phase { self.old.phase ≡ phases.Between }
         requires filled { IsFilled self.old.stack self.old.offset }
-        ensures yields { YieldsAt self.old self.new self.old.offset }
-        ensures event { Continues self.old self.new [] (event_value_of result ∷ []) }
+        ensures counts { CountsAt self.old self.new self.old.offset }
+        ensures yields { Continues self.old self.new [] (event_value_of result ∷ []) }
         ensures octets { IsNoEmptyPart result }
     {
         self.events += 1;

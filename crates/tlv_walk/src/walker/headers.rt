@@ -6,11 +6,11 @@ ghost use Rattle.tlv_head.specs.ReadHeader.{BeginsWithFields};
 ghost use Rattle.tlv_walk.specs.Phase as phases;
 ghost use Rattle.tlv_walk.specs.Inside.{is_among};
 ghost use Rattle.tlv_walk.specs.Events.{IsNoEmptyPart, event_value_of};
-ghost use Rattle.tlv_walk.specs.WalkerState.{IsWithinInputLimit};
-ghost use Rattle.tlv_walk.specs.Private.WalkerState.{CanBegin, CanTakeHeader, CanRead, CanReadOn, CountsStep};
-ghost use Rattle.tlv_walk.specs.Private.WalkerState.{TakesHeader, YieldsAt};
+ghost use Rattle.tlv_walk.specs.WalkerState.{IsWithinInputLimit, least_octets};
+ghost use Rattle.tlv_walk.specs.Private.WalkerCalls.{CanBegin, CanTakeHeader, CanRead, CanReadOn, CountsStep};
+ghost use Rattle.tlv_walk.specs.Private.WalkerCalls.{TakesHeader, CountsAt};
 ghost use Rattle.tlv_walk.specs.Private.WrapperCount.{next_wrapper_count};
-ghost use Rattle.tlv_walk.specs.Private.ReadsOn.{YieldsFrom, YieldsHeader};
+ghost use Rattle.tlv_walk.specs.Private.HandsOver.{YieldsFrom, YieldsHeader};
 ghost use Rattle.tlv_walk.specs.Stack.{bound_of};
 ghost use Rattle.tlv_walk.specs.Place.{IsWithin};
 ghost use Rattle.tlv_walk.specs.Private.Yields.{Steps, StepsAtOnce};
@@ -59,7 +59,7 @@ impl Walker {
         piece: &mut &'a [u8],
     ) -> Option<Event<'a>>
         requires phase { self.old.phase ≡ phases.Between }
-        requires fewer { self.old.events + length self.old.stack ≤ self.old.offset }
+        requires counted { least_octets self.old.events self.old.stack ≤ self.old.offset }
         requires begins { BeginsWithFields piece.old.now self.old.offset
             (is_among self.old.offset self.old.framing.inside) fields.now count }
         requires limit { IsWithinInputLimit self.old piece.old.now }
@@ -100,7 +100,7 @@ impl Walker {
         requires read { CanReadOn self.old reader piece.old.now }
         requires some { piece.old.now ≢ [] }
         requires limit { IsWithinInputLimit self.old piece.old.now }
-        ensures steps { CountsStep self.old self.new piece.old.now piece.new.now result }
+        ensures counts { CountsStep self.old self.new piece.old.now piece.new.now result }
         ensures yields { YieldsFrom self.old reader self.new piece.old.now piece.new.now result }
     {
         let mut reader = reader;
@@ -134,8 +134,8 @@ impl Walker {
     fn take_whole_header<'a>(&mut self, header: Header) -> Event<'a>
         requires phase { self.old.phase ≡ phases.Between }
         requires can { CanTakeHeader self.old header }
-        ensures yields { YieldsAt self.old self.new (header.offset + length (octets_of header)) }
-        ensures takes { YieldsHeader self.old self.new header (event_value_of result) }
+        ensures counts { CountsAt self.old self.new (header.offset + length (octets_of header)) }
+        ensures yields { YieldsHeader self.old self.new header (event_value_of result) }
         ensures octets { IsNoEmptyPart result }
     {
         let fields = header.fields();
@@ -152,7 +152,7 @@ impl Walker {
         requires phase { self.old.phase ≡ phases.Between }
         requires sized { IsHeaderSized fields.now octets.now }
         requires can { CanTakeHeader self.old (new_header fields.now octets.now) }
-        ensures yields { YieldsAt self.old self.new (fields.now.offset + length octets.now) }
+        ensures counts { CountsAt self.old self.new (fields.now.offset + length octets.now) }
         ensures takes { TakesHeader self.old self.new fields.now
             (fields.now.offset + length octets.now) result }
     {
@@ -185,7 +185,8 @@ impl Walker {
     fn found_wrapper(&mut self, offset: u64)
         ensures { self.new
             ≡ record self.old {
-              wrapper_count = next_wrapper_count self.old.framing.inside self.old.wrapper_count offset;
+              wrapper_count = next_wrapper_count
+                  self.old.framing.inside self.old.wrapper_count offset;
             } }
     {
         if let Some(named) = self.framing.inside.get(self.wrapper_count)

@@ -3,8 +3,8 @@ ghost use Rattle.std.specs.Prelude.{◌≡◌, IfSome, take, true};
 ghost use Rattle.tlv_head.specs.HeaderFields.{IsHeaderSized};
 ghost use Rattle.tlv_walk.specs.Follow.{whole_events};
 ghost use Rattle.tlv_walk.specs.WalkerState.{IsWithinInputLimit};
-ghost use Rattle.tlv_walk.specs.Private.WalkerState.{CanPass, Passes, close_event_if_taken, header_at};
-ghost use Rattle.tlv_walk.specs.Private.WalkerState.{open_event_if_taken};
+ghost use Rattle.tlv_walk.specs.Private.WalkerCalls.{CanPass, Passes, close_event_if_taken, header_at};
+ghost use Rattle.tlv_walk.specs.Private.WalkerCalls.{open_event_if_taken};
 ghost use Rattle.tlv_walk.specs.Private.Yields.{StepsAtOnce, YieldsEvents};
 
 use super::{Phase, Walker};
@@ -15,6 +15,7 @@ use tlv_head::{HeaderFields, Size, read_short};
 /// A primitive that lies whole at the front of a piece.
 #[derive(Clone, Copy)]
 pub(crate) struct WholePrimitive {
+    /// The fields of its header.
     pub fields: HeaderFields,
     /// How many octets its header has.
     pub header_length: usize,

@@ -29,7 +29,7 @@ turns-init g c = record {
       rw c.new-walker.ensures.state
       (walking_none g.F.Follow.next _ _ _ _ (rw c.new-walker.ensures.state at c.new-walker.ensures.stands));
   ready = search rules;
-  piece = search rules;
+  room = search rules;
   empty = search rules;
   same_reference = search rules;
 }
@@ -41,7 +41,7 @@ turns-preserved g c = record {
       walking_on g.F.Follow.next _ _ _ _ _ _ c.turns.invariant.walking _ _ _ c.turn_with.ensures.read (search rules)
       c.turns.invariant.taken (search rules);
   ready = search rules;
-  piece = search rules;
+  room = search rules;
   empty = search rules;
   same_reference = search rules;
 }

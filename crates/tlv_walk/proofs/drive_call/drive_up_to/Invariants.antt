@@ -1,5 +1,5 @@
 use Rattle.std.proofs.Common.{◌≡◌, ◌-◌, ◌≤◌, [], length}
-use Rattle.tlv_walk.specs.Stands.{CanTake}
+use Rattle.tlv_walk.specs.Stands.{IsReady}
 use Rattle.tlv_io.specs.Out.{held_octets, drain_of}
 use Rattle.tlv_walk.specs.OneTurn.{turn_states}
 use Rattle.tlv_walk.proofs.FollowerLemmas.SoFar.{Walking}
@@ -12,8 +12,8 @@ invariant-turns g l = record {
       Walking g.F.Follow.next l.framing l.initial.follower (g.S.Source.state l.initial.source)
       (g.D.Drain.state (drain_of l.initial.out).now)
       (turn_states l.walker l.follower (g.S.Source.state l.source) (g.D.Drain.state (drain_of l.out).now));
-  ready : CanTake l.walker;
-  piece : length l.piece ≡ 4096;
+  ready : IsReady l.walker;
+  room : length l.room ≡ 4096;
   empty : held_octets l.out ≡ [];
   same_reference : (drain_of l.out).ghost_name ≡ (drain_of l.initial.out).ghost_name;
 }

@@ -10,12 +10,16 @@ use Rattle.tlv_walk.specs.StepsTo.{StepsTo}
 use Rattle.tlv_walk.specs.Private.FollowsPiece.{WalksOver}
 use Rattle.tlv_walk.proofs.FollowerLemmas.Following.{fails_event, follows_event, follows_none, pauses_enough}
 use Rattle.tlv_walk.proofs.FollowerLemmas.Following.{pauses_fault, pauses_used_up}
-use Rattle.tlv_walk.proofs.FollowerLemmas.Parts.{fails_part, follows_left, follows_part, left_walked, part_passes}
+use Rattle.tlv_walk.proofs.FollowerLemmas.Prefixes.{fails_prefix, follows_left, follows_prefix, left_walked, prefix_passes}
 use Rattle.tlv_walk.proofs.WalkerLemmas.Standing.{event_offset, stands_all, walked_event}
 use Rattle.tlv_walk.proofs.one_turn.follow.Goals.{in-Some+in_ok-go-in-Some}
 use Rattle.tlv_walk.proofs.one_turn.follow.Goals.{in-None+in-Some-constructed+in_ok-go-in-Some-constructed}
-use Rattle.tlv_walk.proofs.one_turn.follow.Goals.{in-None+in-None-constructed+in-Some-contents_event+in_ok-go-in-Some-contents_event}
-use Rattle.tlv_walk.proofs.one_turn.follow.Goals.{in-None+in-None-constructed+in-None-contents_event+in-Event+in_ok-go-in-Event}
+use Rattle.tlv_walk.proofs.one_turn.follow.Goals.{
+  in-None+in-None-constructed+in-Some-contents_event+in_ok-go-in-Some-contents_event,
+}
+use Rattle.tlv_walk.proofs.one_turn.follow.Goals.{
+  in-None+in-None-constructed+in-None-contents_event+in-Event+in_ok-go-in-Event,
+}
 use Rattle.tlv_walk.proofs.one_turn.follow.Goals as goal
 
 -- nothing was taken
@@ -48,10 +52,10 @@ events-init g c = record { follows = follows_none g.F.Follow.next g.D.Drain.stat
 pub events-preserved-then-branch : goal.events-preserved-then-branch
 events-preserved-then-branch g c = record {
   follows =
-      follows_part g.F.Follow.next g.D.Drain.state _ _ _ _ _ _ _ c.events.invariant.follows c.if-branch.true
+      follows_prefix g.F.Follow.next g.D.Drain.state _ _ _ _ _ _ _ c.events.invariant.follows c.if-branch.true
       c.in_ok-follow_primitive.ensures;
   walked =
-      (part_passes g.F.Follow.next g.D.Drain.state _ _ _ _ _ c.if-branch.true c.in_ok-follow_primitive.ensures).counts
+      (prefix_passes g.F.Follow.next g.D.Drain.state _ _ _ _ _ c.if-branch.true c.in_ok-follow_primitive.ensures).counts
       ∙ c.events.invariant.walked;
 }
 
@@ -134,7 +138,7 @@ events-preserved g c =
 pub returns-in_err-follow_primitive : goal.returns-in_err-follow_primitive
 returns-in_err-follow_primitive g c =
     let p = err_from_is_err_and c.from_residual.result c.from_residual.ensures.1 in rw p.1
-    (fails_part g.F.Follow.next g.D.Drain.state _ _ _ _ _ _ _ _ c.events.invariant.follows
+    (fails_prefix g.F.Follow.next g.D.Drain.state _ _ _ _ _ _ _ _ c.events.invariant.follows
     c.in_err-follow_primitive.ensures)
 
 pub returns-in_err-go-in-Some : goal.returns-in_err-go-in-Some

@@ -1,6 +1,6 @@
 use Rattle.std.proofs.Common.{rules}
 use Rattle.std.proofs.lemmas.Result.{err_from_is_err_and}
-use Rattle.tlv_walk.proofs.FollowerLemmas.Parts.{part_fails, part_whole}
+use Rattle.tlv_walk.proofs.FollowerLemmas.Prefixes.{prefix_fails, prefix_whole}
 use Rattle.tlv_walk.proofs.WalkerLemmas.Passing.{is_whole_element}
 use Rattle.tlv_walk.proofs.one_turn.follow_found.Goals as goal
 
@@ -12,10 +12,10 @@ whole-requires g c = rw c.new-header.ensures (record {
 pub returns-in_err-whole : goal.returns-in_err-whole
 returns-in_err-whole g c =
     let p = err_from_is_err_and c.from_residual.result c.from_residual.ensures.1 in rw p.1
-    (part_fails g.F.Follow.next g.D.Drain.state _ _ _ _ c.args.primitive.now c.new-header.result _ _ c.requires.can
+    (prefix_fails g.F.Follow.next g.D.Drain.state _ _ _ _ c.args.primitive.now c.new-header.result _ _ c.requires.can
     c.new-header.ensures c.in_err-whole.ensures)
 
 pub returns : goal.returns
 returns g c =
-    part_whole g.F.Follow.next g.D.Drain.state _ _ c.args.piece.now.now _ c.args.primitive.now c.new-header.result
+    prefix_whole g.F.Follow.next g.D.Drain.state _ _ c.args.piece.now.now _ c.args.primitive.now c.new-header.result
     _ c.new-header.ensures (search rules) c.in_ok-whole.ensures c.pass.ensures.yields c.pass.ensures.passes

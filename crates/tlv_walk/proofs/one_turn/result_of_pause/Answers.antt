@@ -1,5 +1,4 @@
 use Rattle.std.proofs.Common.{rules}
-use Rattle.tlv_walk.specs.HasRead.{took_all}
 use Rattle.tlv_walk.proofs.one_turn.result_of_pause.Goals as goal
 
 pub returns-in-Enough : goal.returns-in-Enough
@@ -12,11 +11,7 @@ pub returns-in-UsedUp-2 : goal.returns-in-UsedUp-2
 returns-in-UsedUp-2 c = rw c.in-UsedUp-2.is (
   (search rules),
   (search rules),
-  (
-    _,
-    c.run_of-in-UsedUp-2.ensures,
-    λ o yielded st. c.finish.ensures.ending o yielded (took_all st (c.requires (search rules)).0),
-  ),
+  (_, c.run_of-in-UsedUp-2.ensures, c.finish.ensures.ending),
 )
 
 pub returns-in-UsedUp : goal.returns-in-UsedUp

@@ -46,5 +46,6 @@ returns g c =
           (has_put_none g.D.Drain.state c.args.out.now s m false (λ x. absurd (cc (x))))
       | in-After w ↦
           let is : s.position ≡ After = ap (λ (s : ExtractState). s.position) (sym c.self.view_is) ∙ w.in-After.is in
-          rw (w.out-is, w.result-is) (has_put_none g.D.Drain.state c.args.out.now s m true (λ x. whole_after s h octets is))
+          rw (w.out-is, w.result-is) (has_put_none g.D.Drain.state c.args.out.now s m true
+          (λ x. whole_after s h octets is))
     ]

@@ -2,8 +2,8 @@ use Rattle.std.proofs.Common.{rules}
 use Rattle.tlv_walk.proofs.WalkerLemmas.Moves.{yields_contents}
 use Rattle.tlv_walk.proofs.walker.Walker.contents.Goals as goal
 
-pub returns-clause-event : goal.returns-clause-event
-returns-clause-event c = record {
+pub returns-clause-yields : goal.returns-clause-yields
+returns-clause-yields c = record {
   taken = c.split_at.result.0.now;
   piece_is = search rules;
   continues =

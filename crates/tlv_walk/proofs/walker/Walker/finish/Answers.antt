@@ -4,8 +4,8 @@ use Rattle.tlv_walk.proofs.WalkerLemmas.HasRead.{ends_by, never_refused, shows_b
 use Rattle.tlv_walk.proofs.WalkerLemmas.Waiting.{idle}
 use Rattle.tlv_walk.proofs.walker.Walker.finish.Goals as goal
 
-pub returns-then-not-is_outermost-clause-ending : goal.returns-then-not-is_outermost-clause-ending
-returns-then-not-is_outermost-clause-ending c = λ o yielded. ends_by c.args.self.now o yielded _
+pub returns-then-not-has_nothing_open-clause-ending : goal.returns-then-not-has_nothing_open-clause-ending
+returns-then-not-has_nothing_open-clause-ending c = λ o yielded. ends_by c.args.self.now o yielded _
     (λ b yielded st. rw c.ended_by.ensures
     (finish_short c.args.self.now b yielded st (idle c.args.self.now c.requires) (search rules)))
     (search rules)
@@ -31,8 +31,8 @@ returns-in-Refused-clause-soundness c = λ o yielded. shows_by c.args.self.now o
     (λ b yielded st. absurd (never_refused c.args.self.now b yielded c.in-Refused.fault st (search rules)))
     (search rules)
 
-pub returns-then-not-is_outermost-clause-soundness : goal.returns-then-not-is_outermost-clause-soundness
-returns-then-not-is_outermost-clause-soundness c = λ o yielded. shows_by c.args.self.now o yielded _
+pub returns-then-not-has_nothing_open-clause-soundness : goal.returns-then-not-has_nothing_open-clause-soundness
+returns-then-not-has_nothing_open-clause-soundness c = λ o yielded. shows_by c.args.self.now o yielded _
     (λ b yielded st. rw c.ended_by.ensures
     (finish_short c.args.self.now b yielded st (idle c.args.self.now c.requires) (search rules)))
     (search rules)

@@ -9,7 +9,7 @@ pub take_header-requires-clause-can : goal.take_header-requires-clause-can
 take_header-requires-clause-can c =
     can_take_quick_header c.args.self.now c.args.piece.now.now _ c.args.fields.now c.args.count c.split_at.result.0.now
     c.requires.begins c.split_at.ensures.front
-    c.requires.fewer c.requires.limit (search rules) (search rules)
+    c.requires.counted c.requires.limit (search rules) (search rules)
 
 pub returns-in-Constructed : goal.returns-in-Constructed
 returns-in-Constructed c = record {

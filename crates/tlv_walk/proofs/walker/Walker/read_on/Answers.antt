@@ -3,7 +3,7 @@ use Rattle.std.proofs.Common.{subst, arith, rules}
 use Rattle.tlv_head.specs.HeadReaderState.{HeadReaderState}
 use Rattle.tlv_head.specs.Push.{FitsThere, IsRefusedPush, more, refused, whole}
 use Rattle.tlv_walk.specs.WalkerState.{WalkerState}
-use Rattle.tlv_walk.specs.Private.ReadsOn.{HandsOver}
+use Rattle.tlv_walk.specs.Private.HandsOver.{HandsOver}
 use Rattle.tlv_walk.specs.Stack.{bound_of}
 use Rattle.tlv_walk.specs.Place.{IsWithin}
 use Rattle.tlv_walk.specs.Private.Stack.{room_to}
@@ -47,7 +47,7 @@ take_whole_header-requires-clause-can c =
           can_take_whole_header c.loop-piece.self c.loop-piece.reader _ c.len-depth.result c.loop-piece.offset
           c.in-Whole.header
           (subst (λ (m : WalkerState). m.events + length m.stack ≤ c.loop-piece.reader.offset) (sym i.same)
-          (omega (arith, c.requires.read.fewer, i.start)))
+          (omega (arith, c.requires.read.counted, i.start)))
           i.end
           (omega (arith, c.requires.limit, i.taken, c.in-len1-up.len_at_least))
           (c.len-depth.ensures.value ∙ ap (λ (m : WalkerState). length m.stack) same) completes
@@ -63,7 +63,7 @@ returns-in-Whole-clause-yields c = λ w over.
           whole_yields w c.loop-piece.self c.take_whole_header.new.self c.args.reader c.loop-piece.reader
           _ c.loop-piece.piece.now _ _ c.in-Whole.header (event_value_of c.take_whole_header.result) over'
           c.loop-piece.invariant.read (first_and_others c.loop-piece.piece.now c.in-len1-up.len_at_least) completes
-          c.take_whole_header.ensures.takes
+          c.take_whole_header.ensures.yields
     ]
 
 pub returns-in-Refused-clause-yields : goal.returns-in-Refused-clause-yields
@@ -103,11 +103,11 @@ returns-clause-yields c = λ w over.
     (give_some c.loop-piece.reader.octets c.loop-piece.piece.now _ i.first used) i.end
     (subst (λ (b : Option ℕ). IsWithin b c.loop-piece.offset) bound i.within)
 
-pub returns-in-Refused-clause-steps : goal.returns-in-Refused-clause-steps
-returns-in-Refused-clause-steps c = search rules
+pub returns-in-Refused-clause-counts : goal.returns-in-Refused-clause-counts
+returns-in-Refused-clause-counts c = search rules
 
-pub returns-in-Whole-clause-steps : goal.returns-in-Whole-clause-steps
-returns-in-Whole-clause-steps c =
+pub returns-in-Whole-clause-counts : goal.returns-in-Whole-clause-counts
+returns-in-Whole-clause-counts c =
     let i = c.loop-piece.invariant in
     let e = c.take_whole_header.ensures in
     let x : ℕ = get_or c.loop-piece.piece.now 0 0 in
@@ -118,7 +118,7 @@ returns-in-Whole-clause-steps c =
           counts =
               omega (
                 arith,
-                e.yields.offset,
+                e.counts.offset,
                 completes.offset,
                 ap length completes.octets,
                 length-append c.loop-piece.reader.octets (x ∷ []),
@@ -126,8 +126,8 @@ returns-in-Whole-clause-steps c =
                 i.taken,
                 ap length first,
               );
-          events = e.yields.events ∙ ap (λ (m : WalkerState). m.events + 1) i.same;
-          has_yielded = e.yields.has_yielded;
+          events = e.counts.events ∙ ap (λ (m : WalkerState). m.events + 1) i.same;
+          has_yielded = e.counts.has_yielded;
         },
         e.octets,
       )

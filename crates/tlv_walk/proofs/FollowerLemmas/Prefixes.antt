@@ -1,4 +1,4 @@
--- Parts of a piece, followed: one after another.
+-- Prefixes of a piece, followed one after another.
 use Rattle.std.proofs.Common.{◌≡◌, ℕ, ◌+◌, Bool, true, false, List, [], ◌∷◌, ◌++◌, length, take, drop, refl, sym, ap}
 use Rattle.std.proofs.Common.{ap₂, ◌∙◌, subst, append_assoc, append-nil}
 use Rattle.std.proofs.lemmas.Bool.{true≢false}
@@ -19,9 +19,9 @@ use Rattle.tlv_walk.specs.FollowsEvents.{FollowsEvents}
 use Rattle.tlv_walk.specs.HasEffect.{HasEffect, HasEffectOrNone}
 use Rattle.tlv_walk.specs.WalkerState.{WalkerState}
 use Rattle.tlv_io.specs.Out.{Puts}
-use Rattle.tlv_walk.specs.Private.FollowsPiece.{FollowsPart, FollowsPiece, BeginEventsOf, TakesNone, TakesPart}
-use Rattle.tlv_walk.specs.Private.FollowsPiece.{TakesPartOrNone, FollowStates, WalksOver}
-use Rattle.tlv_walk.specs.Private.WalkerState.{CanPass, Passes, header_at}
+use Rattle.tlv_walk.specs.Private.FollowsPiece.{FollowsPrefix, FollowsPiece, BeginEventsOf, TakesNone, TakesPrefix}
+use Rattle.tlv_walk.specs.Private.FollowsPiece.{TakesPrefixOrNone, FollowStates, WalksOver}
+use Rattle.tlv_walk.specs.Private.WalkerCalls.{CanPass, Passes, header_at}
 use Rattle.tlv_walk.specs.Private.Yields.{YieldsEvents}
 use Rattle.tlv_walk.proofs.FollowerLemmas.Following.{HasFollowed, made_both, made_put, walked_both, walked_goes_on}
 use Rattle.tlv_walk.proofs.WalkerLemmas.Passing.{walker_after_primitive, yields_primitive}
@@ -58,10 +58,10 @@ module _ {S : Type 0} (next : S → EventValue → Effect S) where
 
   module _ {D : Type 0} (state_of : D → DrainState) where
     -- the drain failed after what was followed
-    pub fails_part : (x y z : FollowStates S D) (piece rest left : List ℕ) (e f : WriteFault)
+    pub fails_prefix : (x y z : FollowStates S D) (piece rest left : List ℕ) (e f : WriteFault)
         → HasFollowed next state_of x y piece rest go.On
-        → FollowsPart next state_of y z rest left (Err e) → FollowsPiece next state_of x z piece (Err f)
-    fails_part x y z piece rest left e f h p = record {
+        → FollowsPrefix next state_of y z rest left (Err e) → FollowsPiece next state_of x z piece (Err f)
+    fails_prefix x y z piece rest left e f h p = record {
       more = h.more ++ p.more;
       pauses = record {
         yields = λ o es st.
@@ -95,14 +95,14 @@ module _ {S : Type 0} (next : S → EventValue → Effect S) where
     effect_none made a b before after true e x = absurd (true≢false e)
 
     -- a primitive that lies whole at the front of a piece was followed
-    pub part_whole : (x y : FollowStates S D) (piece rest : List ℕ) (p : WholePrimitive) (h : HeaderValue) (r : Bool)
+    pub prefix_whole : (x y : FollowStates S D) (piece rest : List ℕ) (p : WholePrimitive) (h : HeaderValue) (r : Bool)
         → h ≡ header_at p piece → r ≡ true
         → HasEffectOrNone state_of (whole_effect next x.follower h (take p.octet_count piece))
         x.out y.out x.follower y.follower (Ok r)
         → YieldsEvents x.walker y.walker piece rest (whole_events (header_at p piece) (take p.octet_count piece))
         → Passes x.walker y.walker piece rest
-        → FollowsPart next state_of x y piece rest (Ok true)
-    part_whole x y piece rest p h r same followed effect yields passes =
+        → FollowsPrefix next state_of x y piece rest (Ok true)
+    prefix_whole x y piece rest p h r same followed effect yields passes =
         let all : List EventValue = whole_events h (take p.octet_count piece) in
         let some = effect_some (effect_of next x.follower all) x.out y.out x.follower y.follower r followed effect in
         record {
@@ -123,11 +123,11 @@ module _ {S : Type 0} (next : S → EventValue → Effect S) where
         }
 
     -- the follower left it to others
-    pub part_left : (x y : FollowStates S D) (piece : List ℕ) (made : Effect S) (r : Bool)
+    pub prefix_left : (x y : FollowStates S D) (piece : List ℕ) (made : Effect S) (r : Bool)
         → r ≡ false → y.walker ≡ x.walker
         → HasEffectOrNone state_of made x.out y.out x.follower y.follower (Ok r)
-        → FollowsPart next state_of x y piece piece (Ok false)
-    part_left x y piece made r left same effect =
+        → FollowsPrefix next state_of x y piece piece (Ok false)
+    prefix_left x y piece made r left same effect =
         let none = effect_none made x.out y.out x.follower y.follower r left effect in
         record {
           more = [];
@@ -136,13 +136,13 @@ module _ {S : Type 0} (next : S → EventValue → Effect S) where
         }
 
     -- the drain failed at it
-    pub part_fails : (x y : FollowStates S D) (piece rest : List ℕ) (p : WholePrimitive)
+    pub prefix_fails : (x y : FollowStates S D) (piece rest : List ℕ) (p : WholePrimitive)
         (h : HeaderValue) (e f : WriteFault)
         → CanPass x.walker piece p → h ≡ header_at p piece
         → HasEffectOrNone state_of (whole_effect next x.follower h (take p.octet_count piece))
         x.out y.out x.follower y.follower (Err e)
-        → FollowsPart next state_of x y piece rest (Err f)
-    part_fails x y piece rest p h e f can same effect = record {
+        → FollowsPrefix next state_of x y piece rest (Err f)
+    prefix_fails x y piece rest p h e f can same effect = record {
       more = whole_events h (take p.octet_count piece);
       takes = record {
         yields =
@@ -157,24 +157,24 @@ module _ {S : Type 0} (next : S → EventValue → Effect S) where
       puts = puts_failed_last state_of x.out y.out _ e (Err f) effect.puts refl;
     }
 
-    -- ---- a part after what was followed
+    -- ---- a prefix after what was followed
 
-    part_some : (y z : FollowStates S D) (rest left : List ℕ) (more : List EventValue) (k : Bool) → k ≡ true
-        → TakesPartOrNone next y z rest left more (Ok k) → TakesPart next y z rest left more
-    part_some y z rest left more true e p = p
-    part_some y z rest left more false e p = absurd (true≢false (sym e))
+    prefix_some : (y z : FollowStates S D) (rest left : List ℕ) (more : List EventValue) (k : Bool) → k ≡ true
+        → TakesPrefixOrNone next y z rest left more (Ok k) → TakesPrefix next y z rest left more
+    prefix_some y z rest left more true e p = p
+    prefix_some y z rest left more false e p = absurd (true≢false (sym e))
 
-    part_none : (y z : FollowStates S D) (rest left : List ℕ) (more : List EventValue) (k : Bool) → k ≡ false
-        → TakesPartOrNone next y z rest left more (Ok k) → TakesNone next y z rest left more
-    part_none y z rest left more false e p = p
-    part_none y z rest left more true e p = absurd (true≢false e)
+    prefix_none : (y z : FollowStates S D) (rest left : List ℕ) (more : List EventValue) (k : Bool) → k ≡ false
+        → TakesPrefixOrNone next y z rest left more (Ok k) → TakesNone next y z rest left more
+    prefix_none y z rest left more false e p = p
+    prefix_none y z rest left more true e p = absurd (true≢false e)
 
     -- it was followed
-    pub follows_part : (x y z : FollowStates S D) (piece rest left : List ℕ) (k : Bool)
+    pub follows_prefix : (x y z : FollowStates S D) (piece rest left : List ℕ) (k : Bool)
         → HasFollowed next state_of x y piece rest go.On → k ≡ true
-        → FollowsPart next state_of y z rest left (Ok k) → HasFollowed next state_of x z piece left go.On
-    follows_part x y z piece rest left k h e p =
-        let t : TakesPart next y z rest left p.more = part_some y z rest left p.more k e p.takes in record {
+        → FollowsPrefix next state_of y z rest left (Ok k) → HasFollowed next state_of x z piece left go.On
+    follows_prefix x y z piece rest left k h e p =
+        let t : TakesPrefix next y z rest left p.more = prefix_some y z rest left p.more k e p.takes in record {
           more = h.more ++ p.more;
           follows = record {
             made = made_both next x.follower y.follower z.follower h.more p.more go.On h.follows.made t.follows.made;
@@ -190,16 +190,16 @@ module _ {S : Type 0} (next : S → EventValue → Effect S) where
               (made_put next x.follower y.follower h.more p.more h.follows.made);
         }
 
-    pub part_passes : (y z : FollowStates S D) (rest left : List ℕ) (k : Bool) → k ≡ true
-        → FollowsPart next state_of y z rest left (Ok k) → Passes y.walker z.walker rest left
-    part_passes y z rest left k e p = (part_some y z rest left p.more k e p.takes).passes
+    pub prefix_passes : (y z : FollowStates S D) (rest left : List ℕ) (k : Bool) → k ≡ true
+        → FollowsPrefix next state_of y z rest left (Ok k) → Passes y.walker z.walker rest left
+    prefix_passes y z rest left k e p = (prefix_some y z rest left p.more k e p.takes).passes
 
     -- nothing of it was taken
     pub follows_left : (x y z : FollowStates S D) (piece rest left : List ℕ) (k : Bool)
         → HasFollowed next state_of x y piece rest go.On → k ≡ false
-        → FollowsPart next state_of y z rest left (Ok k) → HasFollowed next state_of x z piece left go.On
+        → FollowsPrefix next state_of y z rest left (Ok k) → HasFollowed next state_of x z piece left go.On
     follows_left x y z piece rest left k h e p =
-        let n : TakesNone next y z rest left p.more = part_none y z rest left p.more k e p.takes in record {
+        let n : TakesNone next y z rest left p.more = prefix_none y z rest left p.more k e p.takes in record {
           more = h.more;
           follows = record {
             made = subst (λ (q : S). FollowsEvents next x.follower q h.more go.On) (sym n.follower) h.follows.made;
@@ -216,9 +216,9 @@ module _ {S : Type 0} (next : S → EventValue → Effect S) where
         }
 
     pub left_walked : (y z : FollowStates S D) (rest left : List ℕ) (k : Bool) → k ≡ false
-        → FollowsPart next state_of y z rest left (Ok k)
+        → FollowsPrefix next state_of y z rest left (Ok k)
         → z.walker.offset + length left ≡ y.walker.offset + length rest
     left_walked y z rest left k e p =
         let n : TakesNone next y z rest left p.more =
-        part_none y z rest left p.more k e p.takes in ap₂ (λ (m : WalkerState) (o : List ℕ). m.offset + length o)
+        prefix_none y z rest left p.more k e p.takes in ap₂ (λ (m : WalkerState) (o : List ℕ). m.offset + length o)
         n.walker n.all_left

@@ -20,17 +20,17 @@ use Rattle.tlv_head.specs.declared.header.HeaderFields.{HeaderFields}
 use Rattle.tlv_walk.specs.declared.walker.quick.WholePrimitive.{WholePrimitive}
 use Rattle.tlv_walk.specs.Inside.{is_among}
 use Rattle.tlv_walk.specs.Phase.{Between, InBitString, InEndOctets, InHeader, InPrimitive, PhaseValue, Refused}
-use Rattle.tlv_walk.specs.Stack.{bound_of}
+use Rattle.tlv_walk.specs.Stack.{FrameValue, bound_of}
 use Rattle.tlv_walk.specs.Place.{IsWithin}
 use Rattle.tlv_walk.specs.Private.Stack.{frame_with, room_in}
 use Rattle.tlv_walk.specs.Private.WrapperCount.{next_wrapper_count}
-use Rattle.tlv_walk.specs.Stands.{CanTake}
+use Rattle.tlv_walk.specs.Stands.{IsReady}
 use Rattle.tlv_walk.specs.Events.{IsNoEmptyPart}
-use Rattle.tlv_walk.specs.WalkerState.{HasYieldedEvent, WalkerState}
+use Rattle.tlv_walk.specs.WalkerState.{HasYieldedEvent, WalkerState, least_octets}
 use Rattle.tlv_head.specs.InputLimit.{input_limit}
 
 -- an event was yielded, and the walker is at this offset
-pub record YieldsAt (old new : WalkerState) (end : ℕ) : Type 0 where
+pub record CountsAt (old new : WalkerState) (end : ℕ) : Type 0 where
   pub offset : new.offset ≡ end
   pub events : new.events ≡ old.events + 1
   pub has_yielded : HasYieldedEvent new
@@ -53,7 +53,7 @@ HasBegunHeader InBitString = ⊥
 HasBegunHeader InEndOctets = ⊥
 HasBegunHeader (Refused fault) = ⊥
 
--- the piece begins with octets of a header
+-- the piece begins where a header begins or goes on
 abbrev pub CanRead : WalkerState → List ℕ → Type 0
 CanRead w piece = CanBegin w piece ⊎ (HasBegunHeader w.phase × (piece ≢ []))
 
@@ -61,12 +61,16 @@ CanRead w piece = CanBegin w piece ⊎ (HasBegunHeader w.phase × (piece ≢ [])
 pub record CanReadOn (w : WalkerState) (r : HeadReaderState) (piece : List ℕ) : Type 0 where
   pub unfinished : r.done ≡ false
   pub end : r.offset + length r.octets ≡ w.offset
-  pub fewer : w.events + length w.stack ≤ r.offset
+  pub counted : least_octets w.events w.stack ≤ r.offset
   pub first : (r.octets ≢ []) ⊎ CanBegin w piece
 
+-- as many octets were taken as left the piece
+abbrev pub CountsOctets : WalkerState → WalkerState → List ℕ → List ℕ → Type 0
+CountsOctets old new piece rest = new.offset + length rest ≡ old.offset + length piece
+
 -- as many octets were taken as left the piece, and one event was yielded
-pub record YieldsOne (old new : WalkerState) (piece rest : List ℕ) : Type 0 where
-  pub counts : new.offset + length rest ≡ old.offset + length piece
+pub record CountsOne (old new : WalkerState) (piece rest : List ℕ) : Type 0 where
+  pub counts : CountsOctets old new piece rest
   pub events : new.events ≡ old.events + 1
   pub has_yielded : HasYieldedEvent new
 
@@ -75,11 +79,11 @@ pub record TakesAll (old new : WalkerState) (piece rest : List ℕ) : Type 0 whe
   pub counts : new.offset ≡ old.offset + length piece
   pub none_left : rest ≡ []
   pub events : new.events ≡ old.events
-  pub ready : CanTake new
+  pub ready : IsReady new
 
 -- an octet was refused, and what is open stays open
 pub record Refuses (old new : WalkerState) (piece rest : List ℕ) (fault : FaultOf) : Type 0 where
-  pub counts : new.offset + length rest ≡ old.offset + length piece
+  pub counts : CountsOctets old new piece rest
   pub events : new.events ≡ old.events
   pub phase : new.phase ≡ Refused fault
   pub framing : new.framing ≡ old.framing
@@ -88,26 +92,32 @@ pub record Refuses (old new : WalkerState) (piece rest : List ℕ) (fault : Faul
 
 -- what a step makes of the offset, the count of events and the phase
 abbrev pub CountsStep : WalkerState → WalkerState → List ℕ → List ℕ → Step → Type 0
-CountsStep old new piece rest (step.Event e) = YieldsOne old new piece rest × IsNoEmptyPart e
+CountsStep old new piece rest (step.Event e) = CountsOne old new piece rest × IsNoEmptyPart e
 CountsStep old new piece rest step.NeedMore = TakesAll old new piece rest
 CountsStep old new piece rest (step.Fault f) = Refuses old new piece rest f
 
--- the same of an event that came at once; nothing, if none came
+-- what a call that may yield an event at once makes of the offset, the count of events and the phase: nothing, if it
+-- yields none
 abbrev pub CountsAtOnce : WalkerState → WalkerState → List ℕ → List ℕ → Option Event → Type 0
-CountsAtOnce old new piece rest (Some e) = YieldsOne old new piece rest × IsNoEmptyPart e
+CountsAtOnce old new piece rest (Some e) = CountsOne old new piece rest × IsNoEmptyPart e
 CountsAtOnce old new piece rest None = (new ≡ old) × (rest ≡ piece)
 
--- a header that may be there, and of which the walker has taken a part at most
+-- a header that may be there: not too deep, within the bound and the limit, and before it as many octets as events and
+-- open elements, at least
 pub record CanTakeHeader (w : WalkerState) (h : HeaderValue) : Type 0 where
   pub valid : IsHeader h
-  pub fewer : w.events + length w.stack ≤ h.offset
+  pub counted : least_octets w.events w.stack ≤ h.offset
   pub limit : h.offset + length (octets_of h) ≤ input_limit
   pub shallow : holds h ≡ true → length w.stack < 128
   pub fits : IsWithin (bound_of w.stack) (h.offset + length (octets_of h) + announced_length h.size)
 
--- after a whole header
+-- a walker after a whole header
 abbrev pub after_header : WalkerState → PhaseValue → ℕ → WalkerState
 after_header w phase offset = record w { phase = phase; offset = offset; events = w.events + 1; has_element = true }
+
+-- the open elements with the one more that has this header, whose contents begin at the offset
+abbrev pub stack_with : List FrameValue → HeaderFields → ℕ → List FrameValue
+stack_with stack f offset = frame_with offset (bound_of stack) f.size f.constructed ∷ stack
 
 -- what a walker becomes that takes a header
 abbrev pub TakesHeader : WalkerState → WalkerState → HeaderFields → ℕ → HeaderKind → Type 0
@@ -117,13 +127,13 @@ TakesHeader old new f offset kind.Primitive =
 TakesHeader old new f offset kind.Constructed =
     (f.constructed ≡ true)
     × (new ≡ record (after_header old Between offset) {
-      stack = frame_with offset (bound_of old.stack) f.size f.constructed ∷ old.stack;
+      stack = stack_with old.stack f offset;
     })
 TakesHeader old new f offset kind.Wrapper =
     (f.constructed ≡ false)
     × (fields_wrap f ≡ true)
     × (new ≡ record (after_header old (if eqb f.number universal.bit_string then InBitString else Between) offset) {
-      stack = frame_with offset (bound_of old.stack) f.size f.constructed ∷ old.stack;
+      stack = stack_with old.stack f offset;
       wrapper_count = next_wrapper_count old.framing.inside old.wrapper_count f.offset;
     })
 
@@ -137,7 +147,7 @@ pub record CanPass (w : WalkerState) (piece : List ℕ) (p : WholePrimitive) : T
   pub within : p.octet_count ≤ length piece
   pub fits : IsWithin (bound_of w.stack) (w.offset + p.octet_count)
 
--- its header
+-- the header of such a primitive
 abbrev pub header_at : WholePrimitive → List ℕ → HeaderValue
 header_at p piece = new_header p.fields (take p.header_length piece)
 
@@ -152,6 +162,6 @@ close_event_if_taken found = option_map event.Close found
 
 -- a prefix of a piece was taken, and some events were yielded
 pub record Passes (old new : WalkerState) (piece rest : List ℕ) : Type 0 where
-  pub counts : new.offset + length rest ≡ old.offset + length piece
+  pub counts : CountsOctets old new piece rest
   pub more : old.events < new.events
   pub has_yielded : HasYieldedEvent new

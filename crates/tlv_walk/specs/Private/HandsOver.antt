@@ -23,11 +23,11 @@ HandsOver old new r =
     ((old.phase ≡ InHeader r) × (new ≡ record old { phase = Between }))
     ⊎ (BeginsAt old r × (new ≡ record old { has_element = true }))
 
--- what the walker yields that became this one with a reader, if a step comes to this
+-- what a step comes to, said of the walker that handed its reader r over and became `old`
 abbrev pub YieldsFrom : WalkerState → HeadReaderState → WalkerState → List ℕ → List ℕ → Step → Type 0
 YieldsFrom old r new piece rest result = (w : WalkerState) → HandsOver w old r → YieldsStep w new piece rest result
 
--- what it yields for a whole header
+-- what taking a whole header comes to, said of the walker that handed its reader over and became `old`
 abbrev pub YieldsHeader : WalkerState → WalkerState → HeaderValue → EventValue → Type 0
 YieldsHeader old new h e = (w : WalkerState) (r : HeadReaderState) (t : List ℕ) → HandsOver w old r
     → Completes r t h → Continues w new t (e ∷ [])
