@@ -37,9 +37,9 @@ is_length_padded h =
     has_long_form h && (nat_lt (announced_length h.size) 128 || second_length_octet h == 0)
 
 -- 8.6.2.2: a primitive BIT STRING with unused bits
-abbrev pub follows_unused_bits : Previous → Bool
-follows_unused_bits (Sibling h (Some x)) = is_primitive h && is_a universal.bit_string h && not (x == 0)
-follows_unused_bits _ = false
+abbrev pub leaves_unused_bits : Previous → Bool
+leaves_unused_bits (Sibling h (Some x)) = is_primitive h && is_a universal.bit_string h && not (x == 0)
+leaves_unused_bits _ = false
 
 -- 9.2: an element, but no primitive of 1000 contents octets
 abbrev pub is_not_full : Previous → Bool
@@ -60,7 +60,7 @@ abbrev pub surroundings_of : Site → Surroundings
 surroundings_of s = record {
   in_string = in_string s;
   in_bit_string = in_bit_string s;
-  after_unused_bits = in_bit_string s && follows_unused_bits s.previous;
+  after_unused_bits = in_bit_string s && leaves_unused_bits s.previous;
   after_not_full = in_string s && is_not_full s.previous;
 }
 

@@ -12,7 +12,7 @@ use crate::Options;
 use crate::contents::contents_in;
 use crate::finder::Finder;
 use crate::finding_lines::put_findings;
-use crate::line_follower::Lines;
+use crate::lines::Lines;
 use std::marker::Model;
 use tlv_head::Header;
 use tlv_value::{Layout, Names};

@@ -4,7 +4,7 @@ ghost use Rattle.std.specs.Option.{option_map_or};
 ghost use Rattle.tlv_io.specs.LineTexts.{GrowsBy, HasRoomFor};
 ghost use Rattle.tlv_io.specs.Out.{Puts};
 ghost use Rattle.tlv_value.specs.Layout.{columns, line_margin, no_columns};
-ghost use Rattle.tlv_show.specs.Lines.{closing_line, opening_line, padding_line, size_text};
+ghost use Rattle.tlv_show.specs.HolderLines.{closing_line, opening_line, padding_line, size_text};
 
 use tlv_head::{Header, Size};
 use tlv_value::{Layout, begin_blank, begin_sized, begin_word, write_tag};

@@ -28,7 +28,7 @@ pub(crate) struct Nesting {
 impl Model for Nesting {
     ghost use Rattle.std.specs.Prelude.{◌≤◌, ◌-◌};
     ghost use Rattle.tlv_show.specs.NestingState.{NestingState};
-    ghost use Rattle.tlv_show.specs.Private.Nesting.{AreKept, IsKept, all_frames, innermost_frame, outer_frames};
+    ghost use Rattle.tlv_show.specs.Private.Nesting.{HaveRisingFloors, HasFramesInStrings, all_frames, innermost_frame, outer_frames};
 
     ghost Value = { NestingState };
 
@@ -40,8 +40,8 @@ impl Model for Nesting {
     ghost invariant = { λ n. record {
       few : n.depth ≤ 128;
       inside : n.floor ≤ n.depth;
-      innermost : IsKept n.frame (n.depth - n.floor);
-      others : AreKept n.floor n.outer;
+      innermost : HasFramesInStrings n.frame (n.depth - n.floor);
+      others : HaveRisingFloors n.floor n.outer;
     } };
 }
 

@@ -9,9 +9,9 @@ use Rattle.tlv_value.specs.declared.layout.Layout.{Layout}
 use Rattle.tlv_value.specs.ValueTextState.{ValueTextState, contents_lines, new_value_text, value_text_after}
 use Rattle.tlv_value.proofs.TextLemmas.Pieces.{after-nothing, new-nothing, pieces-join}
 use Rattle.tlv_walk.specs.Follow.{Effect, each_octet, effect_with}
-use Rattle.tlv_show.specs.LinesStep.{LinesState, lines_octet_step, lines_padding_step, value_after}
-use Rattle.tlv_show.specs.LinesStep.{value_contents_lines}
-use Rattle.tlv_show.specs.Lines.{padding_line}
+use Rattle.tlv_show.specs.LinesStep.{LinesState, lines_octet_step, lines_padding_step, open_text_after}
+use Rattle.tlv_show.specs.LinesStep.{open_text_lines}
+use Rattle.tlv_show.specs.HolderLines.{padding_line}
 use Rattle.tlv_show.specs.SaturatingSum.{saturating_sum}
 
 -- ---- offsets
@@ -35,8 +35,8 @@ take-both (suc n) (z ∷ x) y =
     ap (λ (l : List ℕ). z ∷ l) (take-both n x y ∙ ap (λ (k : ℕ). take n x ++ take k y) (omega arith))
 
 value-join : (v : Option ValueTextState) (x y : List ℕ)
-    → (value_after (value_after v x) y ≡ value_after v (x ++ y))
-    × (value_contents_lines v (x ++ y) ≡ value_contents_lines v x ++ value_contents_lines (value_after v x) y)
+    → (open_text_after (open_text_after v x) y ≡ open_text_after v (x ++ y))
+    × (open_text_lines v (x ++ y) ≡ open_text_lines v x ++ open_text_lines (open_text_after v x) y)
 value-join None x y = (refl, refl)
 value-join (Some t) x y =
     let e = take-both t.left x y in
@@ -45,14 +45,14 @@ value-join (Some t) x y =
 
 -- no octets make no lines of it, and change nothing that is kept
 abbrev pub IsRested : Option ValueTextState → Type 0
-IsRested v = (value_after v [] ≡ v) × (value_contents_lines v [] ≡ [])
+IsRested v = (open_text_after v [] ≡ v) × (open_text_lines v [] ≡ [])
 
 -- this stays so after an octet
-rested-after : (v : Option ValueTextState) (x : ℕ) → IsRested (value_after v (x ∷ []))
+rested-after : (v : Option ValueTextState) (x : ℕ) → IsRested (open_text_after v (x ∷ []))
 rested-after v x =
     let j = value-join v (x ∷ []) [] in
-    let put : List ℕ = value_contents_lines v (x ∷ []) in
-    let more : List ℕ = value_contents_lines (value_after v (x ∷ [])) [] in
+    let put : List ℕ = open_text_lines v (x ∷ []) in
+    let more : List ℕ = open_text_lines (open_text_after v (x ∷ [])) [] in
     (j.0, nil_from_length more (omega (arith, ap length j.1, length-append put more)))
 
 -- it is so of a primitive that begins
@@ -76,8 +76,8 @@ of_bytes s offset text put = effect_with (record s { offset = offset; open_text 
 
 pub dumped_bytes : (s : LinesState) (xs : List ℕ) → (xs ≡ [] → IsRested s.open_text)
     → each_octet lines_octet_step s xs
-    ≡ of_bytes s (saturating_sum s.offset (length xs)) (value_after s.open_text xs)
-    (value_contents_lines s.open_text xs)
+    ≡ of_bytes s (saturating_sum s.offset (length xs)) (open_text_after s.open_text xs)
+    (open_text_lines s.open_text xs)
 dumped_bytes s [] rested =
     let r = rested refl in
     ap (λ (n : ℕ). of_bytes s n s.open_text []) (sym (further-none s.offset))
@@ -85,10 +85,10 @@ dumped_bytes s [] rested =
     (sym r.1)
 dumped_bytes s (x ∷ xs) rested =
     let j = value-join s.open_text (x ∷ []) xs in
-    ap (after_put (value_contents_lines s.open_text (x ∷ [])))
+    ap (after_put (open_text_lines s.open_text (x ∷ [])))
     (dumped_bytes (lines_octet_step s x).state xs (λ e. rested-after s.open_text x))
-    ∙ ap (λ (n : ℕ). of_bytes s n (value_after (value_after s.open_text (x ∷ [])) xs)
-    (value_contents_lines s.open_text (x ∷ []) ++ value_contents_lines (value_after s.open_text (x ∷ [])) xs))
+    ∙ ap (λ (n : ℕ). of_bytes s n (open_text_after (open_text_after s.open_text (x ∷ [])) xs)
+    (open_text_lines s.open_text (x ∷ []) ++ open_text_lines (open_text_after s.open_text (x ∷ [])) xs))
     (further-more s.offset 1 (length xs) ∙ ap (saturating_sum s.offset) (omega arith))
     ∙ ap₂ (λ (v : Option ValueTextState) (put : List ℕ). of_bytes s (saturating_sum s.offset (length (x ∷ xs))) v put)
     j.0 (sym j.1)

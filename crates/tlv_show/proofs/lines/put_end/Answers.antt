@@ -1,9 +1,9 @@
 use Rattle.std.proofs.Common.{rules, ◌≡◌, arith, false, eqb}
 use Rattle.std.proofs.lemmas.Bool.Decides.{nat_tests}
 use Rattle.tlv_io.proofs.Puts.{puts_nothing}
-use Rattle.tlv_show.proofs.line_follower.put_end.Goals as goal
-use Rattle.tlv_show.proofs.line_follower.put_end.Goals.{then-not-is_open-via-then-not-is_open}
-use Rattle.tlv_show.proofs.line_follower.put_end.Goals.{then-not-is_open-via-else-not-is_open+then-left-ne0}
+use Rattle.tlv_show.proofs.lines.put_end.Goals as goal
+use Rattle.tlv_show.proofs.lines.put_end.Goals.{then-not-is_open-via-then-not-is_open}
+use Rattle.tlv_show.proofs.lines.put_end.Goals.{then-not-is_open-via-else-not-is_open+then-left-ne0}
 
 pub returns-then-not-is_open : goal.returns-then-not-is_open
 returns-then-not-is_open g c =
