@@ -1,5 +1,5 @@
 -- What the lines of a dump make of events, without those of findings.
-use Rattle.std.specs.Prelude.{ℕ, ◌+◌, ◌-◌, eqb, if◌then◌else◌, Bool, true, false, List, [], ◌∷◌, length, min}
+use Rattle.std.specs.Prelude.{ℕ, ◌+◌, ◌-◌, ◌==◌, if◌then◌else◌, Bool, true, false, List, [], ◌∷◌, length, min}
 use Rattle.std.specs.Prelude.{take, Option, Some, None}
 use Rattle.std.specs.FinMap as finite
 use Rattle.tlv_head.specs.Header.{HeaderValue, octets_of}
@@ -69,7 +69,7 @@ lines_begin_step s h =
     effect_with (record (lines_after_header s h) { open_text = Some (new_value_text h s.layout) })
     (begin_lines (new_value_text h s.layout))
 
--- contents octets: only as many as were announced are counted
+-- contents octets: those after the announced ones are not shown
 abbrev pub open_text_after : Option ValueTextState → List ℕ → Option ValueTextState
 open_text_after None octets = None
 open_text_after (Some t) octets = Some (value_text_after t (take t.left octets))
@@ -90,7 +90,7 @@ lines_octet_step s x =
 -- a primitive ends, of which all contents octets have come
 abbrev pub open_text_end_lines : NamesValue → Option ValueTextState → List ℕ
 open_text_end_lines names None = []
-open_text_end_lines names (Some t) = if eqb t.left 0 then end_lines (finite.get names) t else []
+open_text_end_lines names (Some t) = if t.left == 0 then end_lines (finite.get names) t else []
 
 abbrev pub lines_end_step : LinesState → Effect LinesState
 lines_end_step s = effect_with (record s { open_text = None }) (open_text_end_lines s.names s.open_text)

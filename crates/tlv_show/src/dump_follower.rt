@@ -193,7 +193,7 @@ impl Dump<'_> {
         put_findings(may_have_findings, style, &self.finder, out)
     }
 
-    /// An element that holds others ends: `offset` is where its end-of-contents octets are.
+    /// An element that holds others ends: `offset` is where its end-of-contents octets are, if it has them.
     #[inline]
     fn close<D: Drain>(
         &mut self,

@@ -112,7 +112,7 @@ impl<'n> Lines<'n> {
         Ok(())
     }
 
-    /// An element that holds others ends: `offset` is where its end-of-contents octets are.
+    /// An element that holds others ends: `offset` is where its end-of-contents octets are, if it has them.
     pub fn close<D: Drain>(
         &mut self,
         offset: Option<u64>,

@@ -120,7 +120,7 @@ impl Nesting {
     /// An element that holds others ends. Returns its frame, if what it held were segments.
     #[inline(always)]
     pub fn close(&mut self) -> Option<HolderFrame>
-        ensures nest { self.new ≡ nesting_close_step self.old }
+        ensures state { self.new ≡ nesting_close_step self.old }
         ensures closed { result ≡ closed_string_frame self.old }
     {
         if self.depth > self.floor {

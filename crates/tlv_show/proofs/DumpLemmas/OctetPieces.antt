@@ -13,14 +13,7 @@ use Rattle.tlv_show.specs.LinesStep.{LinesState, lines_octet_step, lines_padding
 use Rattle.tlv_show.specs.LinesStep.{open_text_lines}
 use Rattle.tlv_show.specs.HolderLines.{padding_line}
 use Rattle.tlv_show.specs.SaturatingSum.{saturating_sum}
-
--- ---- offsets
-
-pub further-more : (o n m : ℕ) → saturating_sum (saturating_sum o n) m ≡ saturating_sum o (n + m)
-further-more o n m = omega arith
-
-pub further-none : (o : ℕ) → saturating_sum o 0 ≡ o
-further-none o = omega arith
+use Rattle.tlv_show.proofs.SaturatingSums.{sum-more, sum-none}
 
 -- ---- contents
 
@@ -80,7 +73,7 @@ pub dumped_bytes : (s : LinesState) (xs : List ℕ) → (xs ≡ [] → IsRested 
     (open_text_lines s.open_text xs)
 dumped_bytes s [] rested =
     let r = rested refl in
-    ap (λ (n : ℕ). of_bytes s n s.open_text []) (sym (further-none s.offset))
+    ap (λ (n : ℕ). of_bytes s n s.open_text []) (sym (sum-none s.offset))
     ∙ ap₂ (λ (v : Option ValueTextState) (put : List ℕ). of_bytes s (saturating_sum s.offset 0) v put) (sym r.0)
     (sym r.1)
 dumped_bytes s (x ∷ xs) rested =
@@ -89,7 +82,7 @@ dumped_bytes s (x ∷ xs) rested =
     (dumped_bytes (lines_octet_step s x).state xs (λ e. rested-after s.open_text x))
     ∙ ap (λ (n : ℕ). of_bytes s n (open_text_after (open_text_after s.open_text (x ∷ [])) xs)
     (open_text_lines s.open_text (x ∷ []) ++ open_text_lines (open_text_after s.open_text (x ∷ [])) xs))
-    (further-more s.offset 1 (length xs) ∙ ap (saturating_sum s.offset) (omega arith))
+    (sum-more s.offset 1 (length xs) ∙ ap (saturating_sum s.offset) (omega arith))
     ∙ ap₂ (λ (v : Option ValueTextState) (put : List ℕ). of_bytes s (saturating_sum s.offset (length (x ∷ xs))) v put)
     j.0 (sym j.1)
 
@@ -103,11 +96,11 @@ lines_at s offset in_padding = record s { offset = offset; in_padding = in_paddi
 pub more_pad : (s : LinesState) (offset : ℕ) (xs : List ℕ)
     → each_octet lines_padding_step (lines_at s offset true) xs
     ≡ effect_with (lines_at s (saturating_sum offset (length xs)) true) []
-more_pad s offset [] = ap (λ (o : ℕ). effect_with (lines_at s o true) []) (sym (further-none offset))
+more_pad s offset [] = ap (λ (o : ℕ). effect_with (lines_at s o true) []) (sym (sum-none offset))
 more_pad s offset (x ∷ xs) =
     more_pad s (saturating_sum offset 1) xs
     ∙ ap (λ (o : ℕ). effect_with (lines_at s o true) [])
-    (further-more offset 1 (length xs) ∙ ap (saturating_sum offset) (omega arith))
+    (sum-more offset 1 (length xs) ∙ ap (saturating_sum offset) (omega arith))
 
 more_by : (s : LinesState) (offset : ℕ) (in_padding : Bool) (xs : List ℕ) → in_padding ≡ true
     → each_octet lines_padding_step (lines_at s offset in_padding) xs
@@ -129,7 +122,7 @@ first_by s offset false [] some e = absurd (omega (arith, some))
 first_by s offset false (x ∷ xs) some e =
     ap (after_put (padding_line s.layout offset)) (more_pad s (saturating_sum offset 1) xs)
     ∙ ap (λ (o : ℕ). effect_with (lines_at s o true) (padding_line s.layout offset ++ []))
-    (further-more offset 1 (length xs) ∙ ap (saturating_sum offset) (omega arith))
+    (sum-more offset 1 (length xs) ∙ ap (saturating_sum offset) (omega arith))
     ∙ ap (effect_with (lines_at s (saturating_sum offset (length (x ∷ xs))) true))
     (append-nil (padding_line s.layout offset))
 

@@ -27,6 +27,8 @@ use Rattle.tlv_show.specs.Found.{is_shown, header_findings}
 use Rattle.tlv_show.proofs.FindingLemmas.CheckLaws.{each-found}
 use Rattle.tlv_show.proofs.FindingLemmas.FinderSteps.{after_primitive, primitive-find, check_between}
 use Rattle.tlv_show.specs.SaturatingSum.{saturating_sum}
+use Rattle.tlv_show.proofs.SaturatingSums.{sum-none}
+use Rattle.tlv_show.proofs.FindingLemmas.FramesAfter.{outside}
 
 -- ---- a finder
 
@@ -38,13 +40,6 @@ usual_primitive h primitive form = record {
   constructed = ap (λ (b : Bool). not b && is_one_of constructed_types h) primitive ∙ search rules;
   segments = ap (λ (b : Bool). b && is_string h) primitive;
 }
-
-none-counted : (n : ℕ) → saturating_sum n 0 ≡ n
-none-counted n = omega arith
-
-outside : (w : HolderFrame) (size : ℕ) (unused_bits : Bool) → w.has_segments ≡ false
-    → frame_after w true size unused_bits ≡ w
-outside w size unused_bits e = ap (λ (b : Bool). if b then frame_after_segment w true size unused_bits else w) e
 
 -- after a primitive with which nothing is found, outside of strings
 abbrev without_primitive : CheckState → CheckState
@@ -75,7 +70,7 @@ passed s h c size w header contents =
     ∙ ap (λ (fs : List Finding). made (after_primitive s.rules s.holders.frame h c)
     (saturating_sum s.finding_count (length fs)) [])
     header
-    ∙ ap (λ (f : HolderFrame). made f (saturating_sum s.finding_count 0) []) (outside s.holders.frame _ _ w)
+    ∙ ap (λ (f : HolderFrame). made f (saturating_sum s.finding_count 0) []) (outside s.holders.frame true _ _ w)
     ∙ ap (λ (n : ℕ).
     record {
       kept =
@@ -85,7 +80,7 @@ passed s h c size w header contents =
       offset = h.offset;
       findings = [];
     })
-    (none-counted (saturating_sum s.finding_count 0) ∙ none-counted s.finding_count)
+    (sum-none (saturating_sum s.finding_count 0) ∙ sum-none s.finding_count)
 
 pub passes : (old new : FinderState) (h : HeaderValue) (c : List ℕ) → announced_length h.size ≡ length c
     → old.kept.holders.frame.has_segments ≡ false

@@ -32,6 +32,7 @@ use Rattle.tlv_show.proofs.FindingLemmas.FinderFolds.{offset-under, after-under,
 use Rattle.tlv_show.proofs.FindingLemmas.FinderFolds.{summed-under}
 use Rattle.tlv_show.specs.Conditions.{segments_of}
 use Rattle.tlv_show.specs.SaturatingSum.{saturating_sum}
+use Rattle.std.proofs.lemmas.List.{take_all}
 
 -- what becomes of a finder, and the items that it reported
 pub record FinderRun : Type 0 where
@@ -60,9 +61,6 @@ run-more s (x ∷ xs) ys =
 
 -- ---- contents
 
-take-all : (n : ℕ) (c : List ℕ) → length c ≤ n → take n c ≡ c
-take-all n c h = grind (arith, common_steps)
-
 -- all contents octets of a primitive
 abbrev with_check : CheckState → ℕ → ValueCheckState → CheckState
 with_check s offset t = record s { open_primitive = Some (record { offset = offset; check = t }) }
@@ -74,7 +72,7 @@ took s offset h [] e = ap (with_check s offset) (sym (checked-none h))
 took s offset h (x ∷ c) e =
     rw (one-or-more x c)
     (ap (λ (l : List ℕ). with_check s offset (value_check_after (new_value_check h) l))
-    (take-all (announced_length h.size) (x ∷ c) e))
+    (take_all (announced_length h.size) (x ∷ c) e))
 
 -- what is found at their end
 ended : (rules : Rules) (h : HeaderValue) (c : List ℕ) → length c ≡ announced_length h.size

@@ -11,6 +11,7 @@ use Rattle.tlv_show.specs.NestingState.{nesting_around, nesting_close_step, nest
 use Rattle.tlv_show.specs.NestingState.{top_frame}
 use Rattle.tlv_show.specs.Private.Nesting.{HaveRisingFloors, HasFramesInStrings, TakesBack, all_frames, frames_with, innermost_frame}
 use Rattle.tlv_show.specs.Private.Nesting.{outer_frames, closed_string_frame_inside, closed_string_frame}
+use Rattle.tlv_show.proofs.FindingLemmas.FramesAfter.{outside}
 
 -- ---- how many there are
 
@@ -127,11 +128,6 @@ module _
 
 -- ---- an element ends
 
-outer_frames-strings : (w : HolderFrame) (primitive : Bool) (size : ℕ) (unused_bits : Bool) → w.has_segments ≡ false
-    → frame_after w primitive size unused_bits ≡ w
-outer_frames-strings w primitive size unused_bits e =
-    ap (λ (k : Bool). if k then frame_after_segment w primitive size unused_bits else w) e
-
 one-less : (w : HolderFrame) (n : ℕ) → HasFramesInStrings w (suc n) → (innermost_frame w n).has_segments ≡ false
 one-less w zero kept = sym kept
 one-less w (suc n) kept = refl
@@ -140,7 +136,7 @@ closed-without_frame : (w : HolderFrame) (n : ℕ) (outer : List HolderFrame) �
     → nest w n outer ≡ nesting_close_step (nest w (suc n) outer)
 closed-without_frame w n outer kept =
     ap (λ (v : HolderFrame). record { frame = v; outer = outer_frames w n outer })
-    (sym (outer_frames-strings (innermost_frame w n) false 0 false (one-less w n kept)))
+    (sym (outside (innermost_frame w n) false 0 false (one-less w n kept)))
     ∙ ap (nesting_around top_frame) (sym (split w n outer))
 
 closed-frame : (closed w : HolderFrame) (n : ℕ) (outer : List HolderFrame) → HasFramesInStrings w n
@@ -149,7 +145,7 @@ closed-frame : (closed w : HolderFrame) (n : ℕ) (outer : List HolderFrame) →
 closed-frame closed w zero outer kept = refl
 closed-frame closed w (suc n) outer kept =
     ap (λ (v : HolderFrame). record { frame = top_frame; outer = frames_with v n outer })
-    (outer_frames-strings w closed.is_primitive closed.announced_length false (sym kept))
+    (outside w closed.is_primitive closed.announced_length false (sym kept))
 
 closed-top : (w : HolderFrame) (outer : List HolderFrame) → length outer ≡ 0
     → (record { frame = w; outer = outer } ≡ nesting_around w outer) × (None ≡ closed_string_frame_inside w outer)

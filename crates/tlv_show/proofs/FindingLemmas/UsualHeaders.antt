@@ -7,6 +7,7 @@ use Rattle.tlv_value.specs.Checks.{findings_by}
 use Rattle.tlv_value.specs.Types.{is_a}
 use Rattle.tlv_show.specs.declared.holder_frame.HolderFrame.{HolderFrame}
 use Rattle.tlv_show.specs.declared.rules.Rules.TheVariants.{Ber}
+use Rattle.tlv_show.specs.Conditions.{begins_with_zero_bits, is_high_form_needless}
 use Rattle.tlv_show.specs.Conditions.{has_high_form, number_bits, segment_type}
 use Rattle.tlv_show.specs.NestingState.{surroundings_in}
 use Rattle.tlv_show.specs.Found.{header_findings}
@@ -19,7 +20,7 @@ none-of_seven : (a b c d e f g : Bool) → a ≡ false → b ≡ false → c ≡
 none-of_seven a b c d e f g p q r s t u v = rw (p, q, r, s, t, u, v) refl
 
 pub none-by_ber : (w : HolderFrame) (h : HeaderValue) → w.has_segments ≡ false
-    → (has_high_form h && nat_lt h.number 31) ≡ false → (has_high_form h && number_bits h == 0) ≡ false → IsUsual h
+    → is_high_form_needless h ≡ false → begins_with_zero_bits h ≡ false → IsUsual h
     → header_findings Ber (surroundings_in w) h ≡ []
 none-by_ber w h outside number bits usual =
     basic-found (surroundings_in w) h
