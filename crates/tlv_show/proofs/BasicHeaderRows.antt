@@ -197,7 +197,8 @@ unfolding digits
 b16-absent-5 = refl
 
 -- 23 0a 23 04 03 02 01 00 03 02 00 ff
-b16-absent-after-a-constructed-segment : check plain Ber (35 ∷ 10 ∷ 35 ∷ 4 ∷ 3 ∷ 2 ∷ 1 ∷ 0 ∷ 3 ∷ 2 ∷ 0 ∷ 255 ∷ []) ≡ lines 0 []
+b16-absent-after-a-constructed-segment : check plain Ber
+    (35 ∷ 10 ∷ 35 ∷ 4 ∷ 3 ∷ 2 ∷ 1 ∷ 0 ∷ 3 ∷ 2 ∷ 0 ∷ 255 ∷ []) ≡ lines 0 []
 b16-absent-after-a-constructed-segment = refl
 
 -- 24 03 0c 01 61

@@ -153,7 +153,8 @@ unfolding digits
 c04-there-3 = refl
 
 -- 24 80 04 82 03 e8 1000 times 00 04 01 00 00 00
-c04-absent-c05-absent-full-segment-and-rest : check plain Cer ((36 ∷ 128 ∷ 4 ∷ 130 ∷ 3 ∷ 232 ∷ []) ++ replicate 1000 0 ++ (4 ∷ 1 ∷ 0 ∷ 0 ∷ 0 ∷ []))
+c04-absent-c05-absent-full-segment-and-rest : check plain Cer
+    ((36 ∷ 128 ∷ 4 ∷ 130 ∷ 3 ∷ 232 ∷ []) ++ replicate 1000 0 ++ (4 ∷ 1 ∷ 0 ∷ 0 ∷ 0 ∷ []))
     ≡ lines 0 []
 c04-absent-c05-absent-full-segment-and-rest = refl
 
@@ -168,7 +169,8 @@ unfolding digits
 c05-there-c06-absent = refl
 
 -- 23 80 03 82 03 e8 1000 times 00 03 01 00 00 00
-c05-there-bit-string-that-fits : check plain Cer ((35 ∷ 128 ∷ 3 ∷ 130 ∷ 3 ∷ 232 ∷ []) ++ replicate 1000 0 ++ (3 ∷ 1 ∷ 0 ∷ 0 ∷ 0 ∷ []))
+c05-there-bit-string-that-fits : check plain Cer
+    ((35 ∷ 128 ∷ 3 ∷ 130 ∷ 3 ∷ 232 ∷ []) ++ replicate 1000 0 ++ (3 ∷ 1 ∷ 0 ∷ 0 ∷ 0 ∷ []))
     ≡ lines 1 (codes "0 C05 constructed string fits in 1000 octets" ∷ [])
 unfolding digits
 c05-there-bit-string-that-fits = refl

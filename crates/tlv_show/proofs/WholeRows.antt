@@ -46,7 +46,8 @@ unfolding digits encode_with
 indefinite-string = refl
 
 -- 24 80 04 82 03 e8 1000 times 00 04 00 00 00
-full-segment-and-none : check plain Cer ((36 ∷ 128 ∷ 4 ∷ 130 ∷ 3 ∷ 232 ∷ []) ++ replicate 1000 0 ++ (4 ∷ 0 ∷ 0 ∷ 0 ∷ []))
+full-segment-and-none : check plain Cer
+    ((36 ∷ 128 ∷ 4 ∷ 130 ∷ 3 ∷ 232 ∷ []) ++ replicate 1000 0 ++ (4 ∷ 0 ∷ 0 ∷ 0 ∷ []))
     ≡ lines 2 (codes "0 C05 constructed string fits in 1000 octets" ∷ codes "0 C06 last segment is empty" ∷ [])
 unfolding digits
 full-segment-and-none = refl

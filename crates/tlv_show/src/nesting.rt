@@ -28,7 +28,8 @@ pub(crate) struct Nesting {
 impl Model for Nesting {
     ghost use Rattle.std.specs.Prelude.{◌≤◌, ◌-◌};
     ghost use Rattle.tlv_show.specs.NestingState.{NestingState};
-    ghost use Rattle.tlv_show.specs.Private.Nesting.{HaveRisingFloors, HasFramesInStrings, all_frames, innermost_frame, outer_frames};
+    ghost use Rattle.tlv_show.specs.Private.Nesting.{HasFramesInStrings, HaveRisingFloors, all_frames};
+    ghost use Rattle.tlv_show.specs.Private.Nesting.{innermost_frame, outer_frames};
 
     ghost Value = { NestingState };
 

@@ -1,8 +1,7 @@
 -- What the lines of a dump come to, element by element.
-use Rattle.std.proofs.Common.{◌≡◌, ℕ, ◌+◌, ◌-◌, ◌^◌, ◌≤◌, min, Bool, true, false, eqb, ◌==◌, if◌then◌else◌, List, [], ◌∷◌}
-use Rattle.std.proofs.Common.{◌++◌, length, take, map, refl, sym, ap, ap₂, ◌∙◌, subst, arith, append_assoc, append-nil}
+use Rattle.std.proofs.Common.{◌≡◌, ℕ, ◌+◌, ◌-◌, ◌^◌, ◌≤◌, min, Bool, true, false, ◌==◌, if◌then◌else◌, List, [], ◌∷◌}
+use Rattle.std.proofs.Common.{◌++◌, length, map, refl, sym, ap, ap₂, ◌∙◌, subst, arith, append_assoc, append-nil}
 use Rattle.std.proofs.lemmas.Bool.{true≢false}
-use Rattle.std.proofs.lemmas.Grind.{common_steps}
 use Rattle.std.specs.FinMap as finite
 use Rattle.std.specs.Prelude.{Some, None}
 use Rattle.tlv_head.specs.declared.header.Size.{Size}
@@ -180,7 +179,7 @@ module _ (style : Layout) (names : NamesValue) where
       ≡ effect_with (lines_between (level + 1) (offset + length (opening h)) false)
       (dump_opening_line (at_level level) h)
   holder_shown level offset padded h there low far_enough =
-      holder_by level offset padded h.constructed (eqb h.number 3) h there low
+      holder_by level offset padded h.constructed (h.number == 3) h there low
       (omega (arith, far_enough, length-opening h))
       ∙ settled (level + 1) (level + 1) (offset + (length (octets_of h) + length (lead h)))
       (offset + length (opening h)) false false (dump_opening_line (at_level level) h)

@@ -6,10 +6,11 @@ use Rattle.tlv_head.specs.Header.{HeaderValue}
 use Rattle.tlv_value.specs.Types.{has_segments}
 use Rattle.tlv_show.specs.declared.holder_frame.HolderFrame.{HolderFrame}
 use Rattle.tlv_show.specs.declared.holder_frame.KeptFrame.{KeptFrame}
-use Rattle.tlv_show.specs.NestingState.{NestingState, frame_after, frame_after_segment, frame_of, frame_under}
+use Rattle.tlv_show.specs.NestingState.{NestingState, frame_after, frame_of, frame_under}
 use Rattle.tlv_show.specs.NestingState.{nesting_around, nesting_close_step, nesting_open_step, surroundings_in}
 use Rattle.tlv_show.specs.NestingState.{top_frame}
-use Rattle.tlv_show.specs.Private.Nesting.{HaveRisingFloors, HasFramesInStrings, TakesBack, all_frames, frames_with, innermost_frame}
+use Rattle.tlv_show.specs.Private.Nesting.{HasFramesInStrings, HaveRisingFloors, TakesBack, all_frames, frames_with}
+use Rattle.tlv_show.specs.Private.Nesting.{innermost_frame}
 use Rattle.tlv_show.specs.Private.Nesting.{outer_frames, closed_string_frame_inside, closed_string_frame}
 use Rattle.tlv_show.proofs.FindingLemmas.FramesAfter.{outside}
 
@@ -25,7 +26,8 @@ pub length-outside : (w : HolderFrame) (n : ℕ) (outer : List HolderFrame)
 length-outside w zero outer = omega arith
 length-outside w (suc n) outer = let e = length-all w n outer in omega (arith, e)
 
-length-others : (floor : ℕ) (outer : List KeptFrame) → HaveRisingFloors floor outer → length (all_frames floor outer) ≡ floor
+length-others : (floor : ℕ) (outer : List KeptFrame) → HaveRisingFloors floor outer
+    → length (all_frames floor outer) ≡ floor
 length-others floor [] none = sym none
 length-others floor (k ∷ outer) (above, kept, others) =
     let e = length-all k.frame (floor - 1 - k.floor) (all_frames k.floor outer) in
@@ -33,7 +35,8 @@ length-others floor (k ∷ outer) (above, kept, others) =
     omega (arith, e, r, above)
 
 -- the depth is their number
-pub one_each : (w : HolderFrame) (floor depth : ℕ) (outer : List KeptFrame) → floor ≤ depth → HaveRisingFloors floor outer
+pub one_each : (w : HolderFrame) (floor depth : ℕ) (outer : List KeptFrame) → floor ≤ depth
+    → HaveRisingFloors floor outer
     → length (outer_frames w (depth - floor) (all_frames floor outer)) ≡ depth
 one_each w floor depth outer inside others =
     let e = length-outside w (depth - floor) (all_frames floor outer) in
@@ -58,7 +61,8 @@ split w zero outer = refl
 split w (suc n) outer = refl
 
 -- all frames outside of strings say the same of what is around an element
-pub around-same : (w : HolderFrame) (n : ℕ) → HasFramesInStrings w n → surroundings_in w ≡ surroundings_in (innermost_frame w n)
+pub around-same : (w : HolderFrame) (n : ℕ) → HasFramesInStrings w n
+    → surroundings_in w ≡ surroundings_in (innermost_frame w n)
 around-same w zero kept = refl
 around-same w (suc n) kept =
     ap (λ (k : Bool). record {
@@ -167,8 +171,8 @@ module _ (w : HolderFrame) (floor depth : ℕ) (outer : List KeptFrame) where
       closed-top (innermost_frame w (depth - floor)) (outer_frames w (depth - floor) (all_frames floor outer))
       (one_each w floor depth outer inside others ∙ top)
 
-pub closes-frame : (w : HolderFrame) (floor depth : ℕ) (outer : List KeptFrame) → HaveRisingFloors floor outer → floor ≡ depth
-    → 0 < depth
+pub closes-frame : (w : HolderFrame) (floor depth : ℕ) (outer : List KeptFrame) → HaveRisingFloors floor outer
+    → floor ≡ depth → 0 < depth
     → (v : HolderFrame) (lower : ℕ) (rest : List KeptFrame) → TakesBack w outer v lower rest
     → nesting_of v lower (depth - 1) rest ≡ nesting_close_step (nesting_of w floor depth outer)
 closes-frame w floor depth [] none at_floor any v lower rest back = absurd (omega arith)

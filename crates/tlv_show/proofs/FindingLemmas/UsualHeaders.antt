@@ -1,6 +1,6 @@
 -- Under BER nothing is found with the header of a usual element, outside of strings, whose tag has a form as it has
 -- to be.
-use Rattle.std.proofs.Common.{◌≡◌, ◌&&◌, ◌==◌, not, nat_lt, Bool, false, [], ◌∷◌, refl, ap, ◌∙◌}
+use Rattle.std.proofs.Common.{◌≡◌, ◌&&◌, not, Bool, false, [], ◌∷◌, refl, ap, ◌∙◌}
 use Rattle.tlv_head.specs.Header.{HeaderValue}
 use Rattle.tlv_value.specs.declared.finding.Finding.TheVariants.{B01, B02, B03, B04, B05, B16, B17}
 use Rattle.tlv_value.specs.Checks.{findings_by}
@@ -8,7 +8,7 @@ use Rattle.tlv_value.specs.Types.{is_a}
 use Rattle.tlv_show.specs.declared.holder_frame.HolderFrame.{HolderFrame}
 use Rattle.tlv_show.specs.declared.rules.Rules.TheVariants.{Ber}
 use Rattle.tlv_show.specs.Conditions.{begins_with_zero_bits, is_high_form_needless}
-use Rattle.tlv_show.specs.Conditions.{has_high_form, number_bits, segment_type}
+use Rattle.tlv_show.specs.Conditions.{segment_type}
 use Rattle.tlv_show.specs.NestingState.{surroundings_in}
 use Rattle.tlv_show.specs.Found.{header_findings}
 use Rattle.tlv_show.specs.Private.UsualTypes.{IsUsual}

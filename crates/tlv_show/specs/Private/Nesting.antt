@@ -46,7 +46,8 @@ HasFramesInStrings w without_frame = (innermost_frame w without_frame).has_segme
 -- each floor is above the one outside of it, and that of the top is 0
 abbrev pub HaveRisingFloors : ℕ → List KeptFrame → Type 0
 HaveRisingFloors floor [] = floor ≡ 0
-HaveRisingFloors floor (k ∷ outer) = (k.floor < floor) × HasFramesInStrings k.frame (floor - 1 - k.floor) × HaveRisingFloors k.floor outer
+HaveRisingFloors floor (k ∷ outer) =
+    (k.floor < floor) × HasFramesInStrings k.frame (floor - 1 - k.floor) × HaveRisingFloors k.floor outer
 
 -- what is kept after the end of the element inside the innermost of these
 pub record IsTakenBack (closed : HolderFrame) (k : KeptFrame) (outer : List KeptFrame)
