@@ -30,10 +30,7 @@ use Rattle.tlv_show.proofs.DumpLemmas.OctetPieces.{after_put, dumped_bytes, rest
 use Rattle.tlv_show.proofs.DumpLemmas.Always.{all_on}
 use Rattle.tlv_show.specs.SaturatingSum.{saturating_sum}
 use Rattle.std.proofs.lemmas.List.{take_all}
-
--- offsets do not stop below 2^64
-far : (offset n : ℕ) → offset + n ≤ 2 ^ 64 - 1 → saturating_sum offset n ≡ offset + n
-far offset n h = omega (arith, h)
+use Rattle.tlv_show.proofs.SaturatingSums.{sum-small}
 
 -- one list of events and then another
 both : (s : LinesState) (xs ys : List EventValue)
@@ -256,4 +253,4 @@ module _ (style : Layout) (names : NamesValue) where
   fill_shown level offset padded far_enough =
       let line = if padded then [] else padding_line (at_level level) offset in
       settled level level (saturating_sum offset 1) (offset + 1) true true ((line ++ []) ++ []) line refl
-      (far offset 1 far_enough) refl (append-nil (line ++ []) ∙ append-nil line)
+      (sum-small offset 1 far_enough) refl (append-nil (line ++ []) ∙ append-nil line)
