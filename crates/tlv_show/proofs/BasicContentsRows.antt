@@ -1,5 +1,5 @@
--- Findings of all encodings, on contents: short inputs, each shown by computing. The texts are those of an
--- independent reading of the rules.
+-- Findings of all encodings, on contents: short inputs, each shown by computing. The texts are written by hand, from
+-- the rules.
 use Rattle.std.proofs.Common.{◌≡◌, [], ◌∷◌, codes, refl}
 use Rattle.std.specs.Fmt.{digits}
 use Rattle.tlv_show.specs.declared.rules.Rules.TheVariants.{Ber}
@@ -78,9 +78,9 @@ b09-absent : check plain Ber (5 ∷ 0 ∷ []) ≡ lines 0 []
 b09-absent = refl
 
 -- 06 00
-b10-there : check plain Ber (6 ∷ 0 ∷ []) ≡ lines 1 (codes "0 B10 no contents of an object identifier" ∷ [])
+b10-there-b12-absent : check plain Ber (6 ∷ 0 ∷ []) ≡ lines 1 (codes "0 B10 no contents of an object identifier" ∷ [])
 unfolding digits
-b10-there = refl
+b10-there-b12-absent = refl
 
 -- 0d 00
 b10-absent : check plain Ber (13 ∷ 0 ∷ []) ≡ lines 0 []
@@ -129,14 +129,9 @@ b12-there-3 = refl
 b12-absent : check plain Ber (6 ∷ 2 ∷ 42 ∷ 6 ∷ []) ≡ lines 0 []
 b12-absent = refl
 
--- 06 00
-b12-absent-2 : check plain Ber (6 ∷ 0 ∷ []) ≡ lines 1 (codes "0 B10 no contents of an object identifier" ∷ [])
-unfolding digits
-b12-absent-2 = refl
-
 -- 06 01 7f
-b12-absent-3 : check plain Ber (6 ∷ 1 ∷ 127 ∷ []) ≡ lines 0 []
-b12-absent-3 = refl
+b12-absent-2 : check plain Ber (6 ∷ 1 ∷ 127 ∷ []) ≡ lines 0 []
+b12-absent-2 = refl
 
 -- 03 00
 b13-there : check plain Ber (3 ∷ 0 ∷ []) ≡ lines 1 (codes "0 B13 no first octet of a bit string" ∷ [])

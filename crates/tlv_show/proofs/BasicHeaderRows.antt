@@ -1,5 +1,5 @@
--- Findings of all encodings, with the header: short inputs, each shown by computing. The texts are those of an
--- independent reading of the rules.
+-- Findings of all encodings, with the header: short inputs, each shown by computing. The texts are written by hand,
+-- from the rules.
 use Rattle.std.proofs.Common.{◌≡◌, [], ◌∷◌, codes, refl}
 use Rattle.std.specs.Fmt.{digits}
 use Rattle.std.specs.Str.{chars, is_utf8}
@@ -165,10 +165,10 @@ unfolding digits
 b16-there = refl
 
 -- 23 80 03 02 01 00 04 01 00 00 00
-b16-there-2 : check plain Ber (35 ∷ 128 ∷ 3 ∷ 2 ∷ 1 ∷ 0 ∷ 4 ∷ 1 ∷ 0 ∷ 0 ∷ 0 ∷ [])
+b16-there-segment-after-unused-bits : check plain Ber (35 ∷ 128 ∷ 3 ∷ 2 ∷ 1 ∷ 0 ∷ 4 ∷ 1 ∷ 0 ∷ 0 ∷ 0 ∷ [])
     ≡ lines 2 (codes "6 B16 segment follows unused bits" ∷ codes "6 B17 segment has another tag" ∷ [])
 unfolding digits
-b16-there-2 = refl
+b16-there-segment-after-unused-bits = refl
 
 -- 23 08 03 02 00 00 03 02 01 fe
 b16-absent : check plain Ber (35 ∷ 8 ∷ 3 ∷ 2 ∷ 0 ∷ 0 ∷ 3 ∷ 2 ∷ 1 ∷ 254 ∷ []) ≡ lines 0 []
@@ -197,8 +197,9 @@ unfolding digits
 b16-absent-5 = refl
 
 -- 23 0a 23 04 03 02 01 00 03 02 00 ff
-b16-absent-6 : check plain Ber (35 ∷ 10 ∷ 35 ∷ 4 ∷ 3 ∷ 2 ∷ 1 ∷ 0 ∷ 3 ∷ 2 ∷ 0 ∷ 255 ∷ []) ≡ lines 0 []
-b16-absent-6 = refl
+b16-absent-after-a-constructed-segment : check plain Ber
+    (35 ∷ 10 ∷ 35 ∷ 4 ∷ 3 ∷ 2 ∷ 1 ∷ 0 ∷ 3 ∷ 2 ∷ 0 ∷ 255 ∷ []) ≡ lines 0 []
+b16-absent-after-a-constructed-segment = refl
 
 -- 24 03 0c 01 61
 b17-there : check plain Ber (36 ∷ 3 ∷ 12 ∷ 1 ∷ 97 ∷ []) ≡ lines 1 (codes "2 B17 segment has another tag" ∷ [])

@@ -1,5 +1,5 @@
--- Findings of all encodings, on characters and times: short inputs, each shown by computing. The texts are those of
--- an independent reading of the rules.
+-- Findings of all encodings, on characters and times: short inputs, each shown by computing. The texts are written by
+-- hand, from the rules.
 use Rattle.std.proofs.Common.{◌≡◌, [], ◌∷◌, ◌++◌, codes, refl}
 use Rattle.std.specs.Prelude.{replicate}
 use Rattle.std.specs.Fmt.{digits}

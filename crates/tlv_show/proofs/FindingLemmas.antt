@@ -5,6 +5,7 @@ pub mod FinderFolds
 pub mod FinderItems
 pub mod FinderSteps
 pub mod FindingsOfHeaders
+pub mod FramesAfter
 pub mod FramesAround
 pub mod HeaderFindings
 pub mod KeptFrames

@@ -1,5 +1,5 @@
 -- Findings among the lines of whole inputs with named strings or with padding: short inputs, each shown by computing.
--- The texts are those of an independent reading of the rules.
+-- The texts are written by hand, from the rules.
 use Rattle.std.proofs.Common.{◌≡◌, [], ◌∷◌, ◌++◌, codes, refl}
 use Rattle.std.specs.Prelude.{replicate}
 use Rattle.std.specs.Fmt.{digits}

@@ -8,5 +8,6 @@ pub mod CanonicalRows
 pub mod WholeRows
 pub mod FramingRows
 pub mod SpellingRows
+pub mod SaturatingSums
 pub mod FindingLemmas
 pub mod DumpLemmas

@@ -27,22 +27,22 @@ abbrev pub at_most : ℕ → Layout
 at_most n = record { level = 0; limit = Some n; pure = false }
 
 -- what is written, and how many findings there are
-pub record Answer : Type 0 where
+pub record TextAndCount : Type 0 where
   pub text : List ℕ
   pub count : ℕ
 
-abbrev pub dump : Framing → Layout → Rules → List ℕ → Answer
+abbrev pub dump : Framing → Layout → Rules → List ℕ → TextAndCount
 dump framing layout rules b = let f = reading framing b in record {
   text = (show_job rules framing (item_text no_names layout)).text f;
   count = finding_count rules f;
 }
 
-abbrev pub check : Framing → Rules → List ℕ → Answer
+abbrev pub check : Framing → Rules → List ℕ → TextAndCount
 check framing rules b = let f = reading framing b in record {
   text = (check_job rules framing).text f;
   count = finding_count rules f;
 }
 
 -- so many findings, and these lines
-abbrev pub lines : ℕ → List (List ℕ) → Answer
+abbrev pub lines : ℕ → List (List ℕ) → TextAndCount
 lines count texts = record { text = flat_map (λ line. line ++ 10 ∷ []) texts; count = count }

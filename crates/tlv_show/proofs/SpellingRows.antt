@@ -67,7 +67,7 @@ lengths_of_both-alike =
     holders _ _ _ _ _ _ (one_tag _ _ refl refl refl)
     (primitives _ _ (5 ∷ []) _ _ (one_tag _ _ refl refl refl) nothing) nothing
 
--- 04 02 05 00 and 04 81 02 05 00, read as encodings: a string that is named holds elements
+-- 04 02 05 00 and 04 81 02 05 00, read as encodings: a string that is named holds encodings
 wrapper : is_misspelled Der (reading (inside_framing 0) (4 ∷ 2 ∷ 5 ∷ 0 ∷ [])) ≡ false
 wrapper = refl
 

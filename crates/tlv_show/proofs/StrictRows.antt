@@ -1,5 +1,4 @@
--- Findings of DER and of CER: short inputs, each shown by computing. The texts are those of an independent reading
--- of the rules.
+-- Findings of DER and of CER: short inputs, each shown by computing. The texts are written by hand, from the rules.
 use Rattle.std.proofs.Common.{◌≡◌, [], ◌∷◌, ◌++◌, codes, refl}
 use Rattle.std.specs.Prelude.{replicate}
 use Rattle.std.specs.Fmt.{digits}
@@ -24,16 +23,16 @@ unfolding digits
 s01-there-3 = refl
 
 -- 04 82 00 80 128 times 00
-s01-there-4 : check plain Der ((4 ∷ 130 ∷ 0 ∷ 128 ∷ []) ++ replicate 128 0)
+s01-there-padded-length : check plain Der ((4 ∷ 130 ∷ 0 ∷ 128 ∷ []) ++ replicate 128 0)
+    ≡ lines 1 (codes "0 S01 length is not the shortest" ∷ [])
+unfolding digits
+s01-there-padded-length = refl
+
+-- 04 82 00 03 aa bb cc
+s01-there-4 : check plain Der (4 ∷ 130 ∷ 0 ∷ 3 ∷ 170 ∷ 187 ∷ 204 ∷ [])
     ≡ lines 1 (codes "0 S01 length is not the shortest" ∷ [])
 unfolding digits
 s01-there-4 = refl
-
--- 04 82 00 03 aa bb cc
-s01-there-5 : check plain Der (4 ∷ 130 ∷ 0 ∷ 3 ∷ 170 ∷ 187 ∷ 204 ∷ [])
-    ≡ lines 1 (codes "0 S01 length is not the shortest" ∷ [])
-unfolding digits
-s01-there-5 = refl
 
 -- 04 03 aa bb cc
 s01-absent : check plain Der (4 ∷ 3 ∷ 170 ∷ 187 ∷ 204 ∷ []) ≡ lines 0 []
@@ -43,15 +42,10 @@ s01-absent = refl
 s01-absent-2 : check plain Der ((4 ∷ 129 ∷ 128 ∷ []) ++ replicate 128 0) ≡ lines 0 []
 s01-absent-2 = refl
 
--- 30 80 00 00
-s01-absent-3 : check plain Der (48 ∷ 128 ∷ 0 ∷ 0 ∷ []) ≡ lines 1 (codes "0 D01 indefinite length" ∷ [])
-unfolding digits
-s01-absent-3 = refl
-
 -- 01 01 01
-s02-there : check plain Der (1 ∷ 1 ∷ 1 ∷ []) ≡ lines 1 (codes "0 S02 TRUE is not ff" ∷ [])
+s02-there-true-not-ff : check plain Der (1 ∷ 1 ∷ 1 ∷ []) ≡ lines 1 (codes "0 S02 TRUE is not ff" ∷ [])
 unfolding digits
-s02-there = refl
+s02-there-true-not-ff = refl
 
 -- 01 01 ff
 s02-absent : check plain Der (1 ∷ 1 ∷ 255 ∷ []) ≡ lines 0 []

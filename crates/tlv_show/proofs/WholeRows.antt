@@ -1,5 +1,5 @@
--- Findings among the lines of whole inputs: short inputs, each shown by computing. The texts are those of an
--- independent reading of the rules.
+-- Findings among the lines of whole inputs: short inputs, each shown by computing. The texts are written by hand, from
+-- the rules.
 use Rattle.std.proofs.Common.{◌≡◌, [], ◌∷◌, ◌++◌, codes, refl}
 use Rattle.std.specs.Prelude.{replicate}
 use Rattle.std.specs.Fmt.{digits}
@@ -11,132 +11,99 @@ use Rattle.tlv_show.proofs.RowWords.{plain, full, pure_layout, at_most}
 use Rattle.tlv_show.proofs.RowWords.{dump, check, lines}
 
 -- 3a 09 04 03 4a 6f 6e 04 02 65 73
-input-3 : dump plain full Ber (58 ∷ 9 ∷ 4 ∷ 3 ∷ 74 ∷ 111 ∷ 110 ∷ 4 ∷ 2 ∷ 101 ∷ 115 ∷ [])
+constructed-string : dump plain full Ber (58 ∷ 9 ∷ 4 ∷ 3 ∷ 74 ∷ 111 ∷ 110 ∷ 4 ∷ 2 ∷ 101 ∷ 115 ∷ [])
     ≡ lines 0
     (codes "       0      9: VisibleString {" ∷ codes "       2      3:   OCTET STRING 4a 6f 6e"
     ∷ codes "       7      2:   OCTET STRING 65 73" ∷ codes "                 }" ∷ [])
 unfolding digits encode_with
-input-3 = refl
+constructed-string = refl
 
 -- 3a 09 04 03 4a 6f 6e 04 02 65 73
-input-3-ber : check plain Ber (58 ∷ 9 ∷ 4 ∷ 3 ∷ 74 ∷ 111 ∷ 110 ∷ 4 ∷ 2 ∷ 101 ∷ 115 ∷ []) ≡ lines 0 []
-input-3-ber = refl
+constructed-string-ber : check plain Ber (58 ∷ 9 ∷ 4 ∷ 3 ∷ 74 ∷ 111 ∷ 110 ∷ 4 ∷ 2 ∷ 101 ∷ 115 ∷ []) ≡ lines 0 []
+constructed-string-ber = refl
 
 -- 3a 09 04 03 4a 6f 6e 04 02 65 73
-input-3-der : check plain Der (58 ∷ 9 ∷ 4 ∷ 3 ∷ 74 ∷ 111 ∷ 110 ∷ 4 ∷ 2 ∷ 101 ∷ 115 ∷ [])
+constructed-string-der : check plain Der (58 ∷ 9 ∷ 4 ∷ 3 ∷ 74 ∷ 111 ∷ 110 ∷ 4 ∷ 2 ∷ 101 ∷ 115 ∷ [])
     ≡ lines 1 (codes "0 D02 constructed string" ∷ [])
 unfolding digits
-input-3-der = refl
+constructed-string-der = refl
 
 -- 3a 09 04 03 4a 6f 6e 04 02 65 73
-input-3-cer : check plain Cer (58 ∷ 9 ∷ 4 ∷ 3 ∷ 74 ∷ 111 ∷ 110 ∷ 4 ∷ 2 ∷ 101 ∷ 115 ∷ [])
+constructed-string-cer : check plain Cer (58 ∷ 9 ∷ 4 ∷ 3 ∷ 74 ∷ 111 ∷ 110 ∷ 4 ∷ 2 ∷ 101 ∷ 115 ∷ [])
     ≡ lines 3
     (codes "0 C01 definite length of a constructed element" ∷ codes "7 C04 segment follows one not of 1000 octets"
     ∷ codes "0 C05 constructed string fits in 1000 octets" ∷ [])
 unfolding digits
-input-3-cer = refl
+constructed-string-cer = refl
 
 -- 3a 80 04 03 4a 6f 6e 04 02 65 73 00 00
-input-4 : dump plain full Der (58 ∷ 128 ∷ 4 ∷ 3 ∷ 74 ∷ 111 ∷ 110 ∷ 4 ∷ 2 ∷ 101 ∷ 115 ∷ 0 ∷ 0 ∷ [])
+indefinite-string : dump plain full Der (58 ∷ 128 ∷ 4 ∷ 3 ∷ 74 ∷ 111 ∷ 110 ∷ 4 ∷ 2 ∷ 101 ∷ 115 ∷ 0 ∷ 0 ∷ [])
     ≡ lines 2
     (codes "       0    D01: indefinite length" ∷ codes "       0    D02: constructed string"
     ∷ codes "       0  indef: VisibleString {" ∷ codes "       2      3:   OCTET STRING 4a 6f 6e"
     ∷ codes "       7      2:   OCTET STRING 65 73" ∷ codes "      11    end: }" ∷ [])
 unfolding digits encode_with
-input-4 = refl
-
--- 24 80 04 82 03 e8 1000 times 00 04 01 00 00 00
-input-15 : check plain Cer ((36 ∷ 128 ∷ 4 ∷ 130 ∷ 3 ∷ 232 ∷ []) ++ replicate 1000 0 ++ (4 ∷ 1 ∷ 0 ∷ 0 ∷ 0 ∷ []))
-    ≡ lines 0 []
-input-15 = refl
+indefinite-string = refl
 
 -- 24 80 04 82 03 e8 1000 times 00 04 00 00 00
-input-15-empty : check plain Cer ((36 ∷ 128 ∷ 4 ∷ 130 ∷ 3 ∷ 232 ∷ []) ++ replicate 1000 0 ++ (4 ∷ 0 ∷ 0 ∷ 0 ∷ []))
+full-segment-and-none : check plain Cer
+    ((36 ∷ 128 ∷ 4 ∷ 130 ∷ 3 ∷ 232 ∷ []) ++ replicate 1000 0 ++ (4 ∷ 0 ∷ 0 ∷ 0 ∷ []))
     ≡ lines 2 (codes "0 C05 constructed string fits in 1000 octets" ∷ codes "0 C06 last segment is empty" ∷ [])
 unfolding digits
-input-15-empty = refl
-
--- 04 82 03 e9 1001 times 00
-input-15-large : check plain Cer ((4 ∷ 130 ∷ 3 ∷ 233 ∷ []) ++ replicate 1001 0)
-    ≡ lines 1 (codes "0 C02 primitive string above 1000 octets" ∷ [])
-unfolding digits
-input-15-large = refl
-
--- 23 80 03 82 03 e8 1000 times 00 03 01 00 00 00
-input-15-bits : check plain Cer ((35 ∷ 128 ∷ 3 ∷ 130 ∷ 3 ∷ 232 ∷ []) ++ replicate 1000 0 ++ (3 ∷ 1 ∷ 0 ∷ 0 ∷ 0 ∷ []))
-    ≡ lines 1 (codes "0 C05 constructed string fits in 1000 octets" ∷ [])
-unfolding digits
-input-15-bits = refl
+full-segment-and-none = refl
 
 -- 20 00
-input-21 : dump plain full Ber (32 ∷ 0 ∷ [])
+universal-0 : dump plain full Ber (32 ∷ 0 ∷ [])
     ≡ lines 1
     (codes "       0    B03: unassigned universal number" ∷ codes "       0      0: [UNIVERSAL 0] {"
     ∷ codes "                 }" ∷ [])
 unfolding digits encode_with
-input-21 = refl
+universal-0 = refl
 
 -- 1f 00 00
-input-21-high : dump plain full Ber (31 ∷ 0 ∷ 0 ∷ [])
+universal-0-high-form : dump plain full Ber (31 ∷ 0 ∷ 0 ∷ [])
     ≡ lines 3
     (codes "       0    B01: high form for a number below 31"
     ∷ codes "       0    B02: tag number begins with zero bits"
     ∷ codes "       0    B03: unassigned universal number" ∷ codes "       0      0: [UNIVERSAL 0]" ∷ [])
 unfolding digits encode_with
-input-21-high = refl
+universal-0-high-form = refl
 
 -- 0c 06 22 5c 0a c3 a9 ff
-input-22 : dump plain full Ber (12 ∷ 6 ∷ 34 ∷ 92 ∷ 10 ∷ 195 ∷ 169 ∷ 255 ∷ [])
+escaped-characters : dump plain full Ber (12 ∷ 6 ∷ 34 ∷ 92 ∷ 10 ∷ 195 ∷ 169 ∷ 255 ∷ [])
     ≡ lines 1
     (codes "       0      6: UTF8String \"\\\"\\\\\\x0a\\u{e9}\\xff\""
     ∷ codes "       0    B18: characters not of the type" ∷ [])
 unfolding digits encode_with is_utf8 chars encode
-input-22 = refl
+escaped-characters = refl
 
 -- 1e 04 00 41 20 ac
-input-22-units : dump plain full Ber (30 ∷ 4 ∷ 0 ∷ 65 ∷ 32 ∷ 172 ∷ [])
+characters-of-two-octets : dump plain full Ber (30 ∷ 4 ∷ 0 ∷ 65 ∷ 32 ∷ 172 ∷ [])
     ≡ lines 0 (codes "       0      4: BMPString \"A\\u{20ac}\"" ∷ [])
 unfolding digits encode_with
-input-22-units = refl
+characters-of-two-octets = refl
 
 -- 1e 03 00 41 20
-input-22-left : dump plain full Ber (30 ∷ 3 ∷ 0 ∷ 65 ∷ 32 ∷ [])
+octet-left-over : dump plain full Ber (30 ∷ 3 ∷ 0 ∷ 65 ∷ 32 ∷ [])
     ≡ lines 1 (codes "       0      3: BMPString \"A\\x20\"" ∷ codes "       0    B18: characters not of the type" ∷ [])
 unfolding digits encode_with
-input-22-left = refl
+octet-left-over = refl
 
 -- 02 02 00 7f
-input-23 : dump plain full Ber (2 ∷ 2 ∷ 0 ∷ 127 ∷ [])
+padded-integer : dump plain full Ber (2 ∷ 2 ∷ 0 ∷ 127 ∷ [])
     ≡ lines 1 (codes "       0      2: INTEGER 127" ∷ codes "       0    B08: integer is padded" ∷ [])
 unfolding digits encode_with
-input-23 = refl
+padded-integer = refl
 
 -- 02 01 80
-input-23-negative : dump plain full Ber (2 ∷ 1 ∷ 128 ∷ []) ≡ lines 0 (codes "       0      1: INTEGER -128" ∷ [])
+negative-integer : dump plain full Ber (2 ∷ 1 ∷ 128 ∷ []) ≡ lines 0 (codes "       0      1: INTEGER -128" ∷ [])
 unfolding digits encode_with
-input-23-negative = refl
+negative-integer = refl
 
 -- 01 01 01
-input-23-true : dump plain full Ber (1 ∷ 1 ∷ 1 ∷ []) ≡ lines 0 (codes "       0      1: BOOLEAN TRUE" ∷ [])
+true-not-ff : dump plain full Ber (1 ∷ 1 ∷ 1 ∷ []) ≡ lines 0 (codes "       0      1: BOOLEAN TRUE" ∷ [])
 unfolding digits encode_with
-input-23-true = refl
-
--- 01 01 01
-input-23-true-der : check plain Der (1 ∷ 1 ∷ 1 ∷ []) ≡ lines 1 (codes "0 S02 TRUE is not ff" ∷ [])
-unfolding digits
-input-23-true-der = refl
-
--- 04 82 00 80 128 times 00
-input-23-length : check plain Der ((4 ∷ 130 ∷ 0 ∷ 128 ∷ []) ++ replicate 128 0)
-    ≡ lines 1 (codes "0 S01 length is not the shortest" ∷ [])
-unfolding digits
-input-23-length = refl
-
--- 23 80 03 02 01 00 04 01 00 00 00
-input-26 : check plain Ber (35 ∷ 128 ∷ 3 ∷ 2 ∷ 1 ∷ 0 ∷ 4 ∷ 1 ∷ 0 ∷ 0 ∷ 0 ∷ [])
-    ≡ lines 2 (codes "6 B16 segment follows unused bits" ∷ codes "6 B17 segment has another tag" ∷ [])
-unfolding digits
-input-26 = refl
+true-not-ff = refl
 
 -- 30 80 3a 80 04 01 61 24 00 04 00 00 00 02 02 00 05 00 00
 deep : dump plain full Cer (48 ∷ 128 ∷ 58 ∷ 128 ∷ 4 ∷ 1 ∷ 97 ∷ 36 ∷ 0 ∷ 4 ∷ 0 ∷ 0 ∷ 0 ∷ 2 ∷ 2 ∷ 0 ∷ 5 ∷ 0 ∷ 0 ∷ [])
@@ -228,10 +195,6 @@ constructed-long-length = refl
 -- 04 00 04 00
 two-top-strings : check plain Cer (4 ∷ 0 ∷ 4 ∷ 0 ∷ []) ≡ lines 0 []
 two-top-strings = refl
-
--- 23 0a 23 04 03 02 01 00 03 02 00 ff
-after-a-constructed-segment : check plain Ber (35 ∷ 10 ∷ 35 ∷ 4 ∷ 3 ∷ 2 ∷ 1 ∷ 0 ∷ 3 ∷ 2 ∷ 0 ∷ 255 ∷ []) ≡ lines 0 []
-after-a-constructed-segment = refl
 
 -- 24 80 24 80 03 00 00 00 00 00
 deep-levels : dump plain full Cer (36 ∷ 128 ∷ 36 ∷ 128 ∷ 3 ∷ 0 ∷ 0 ∷ 0 ∷ 0 ∷ 0 ∷ [])

@@ -1,4 +1,4 @@
--- What a check over all that a source gives comes to.
+-- What a call of `check` is to do.
 use Rattle.tlv_walk.specs.declared.framing.Framing.{Framing}
 use Rattle.tlv_walk.specs.Job.{Job}
 use Rattle.tlv_show.specs.declared.outcome.Outcome.{Outcome}

@@ -23,6 +23,22 @@ has_high_form h = nat_lt 1 (length h.identifier)
 abbrev pub number_bits : HeaderValue → ℕ
 number_bits h = slice_index h.identifier 1 % 128
 
+-- 8.1.2.2: the number is in subsequent octets, though it is below 31
+abbrev pub is_high_form_needless : HeaderValue → Bool
+is_high_form_needless h = has_high_form h && nat_lt h.number 31
+
+-- 8.1.2.4.2 c): there are subsequent octets, and bits 7 to 1 of the first are all 0
+abbrev pub begins_with_zero_bits : HeaderValue → Bool
+begins_with_zero_bits h = has_high_form h && number_bits h == 0
+
+-- the element is constructed, and the encodings of its type are primitive
+abbrev pub is_wrongly_constructed : HeaderValue → Bool
+is_wrongly_constructed h = h.constructed && is_always_primitive h
+
+-- the element is primitive, and the encodings of its type are constructed
+abbrev pub is_wrongly_primitive : HeaderValue → Bool
+is_wrongly_primitive h = is_primitive h && is_always_constructed h
+
 -- 8.1.3.5: there are subsequent length octets
 abbrev pub has_long_form : HeaderValue → Bool
 has_long_form h = nat_lt 1 (length h.lengths)
@@ -36,12 +52,12 @@ abbrev pub is_length_padded : HeaderValue → Bool
 is_length_padded h =
     has_long_form h && (nat_lt (announced_length h.size) 128 || second_length_octet h == 0)
 
--- 8.6.2.2: a primitive BIT STRING with unused bits
-abbrev pub follows_unused_bits : Previous → Bool
-follows_unused_bits (Sibling h (Some x)) = is_primitive h && is_a universal.bit_string h && not (x == 0)
-follows_unused_bits _ = false
+-- 8.6.2.2: what is right before is a primitive BIT STRING with unused bits
+abbrev pub leaves_unused_bits : Previous → Bool
+leaves_unused_bits (Sibling h (Some x)) = is_primitive h && is_a universal.bit_string h && not (x == 0)
+leaves_unused_bits _ = false
 
--- 9.2: an element, but no primitive of 1000 contents octets
+-- 9.2: what is right before is an element, but no primitive of 1000 contents octets
 abbrev pub is_not_full : Previous → Bool
 is_not_full (Sibling h first) = h.constructed || not (announced_length h.size == 1000)
 is_not_full _ = false
@@ -60,7 +76,7 @@ abbrev pub surroundings_of : Site → Surroundings
 surroundings_of s = record {
   in_string = in_string s;
   in_bit_string = in_bit_string s;
-  after_unused_bits = in_bit_string s && follows_unused_bits s.previous;
+  after_unused_bits = in_bit_string s && leaves_unused_bits s.previous;
   after_not_full = in_string s && is_not_full s.previous;
 }
 
@@ -72,15 +88,15 @@ segment_type in_bit_string = if in_bit_string then universal.bit_string else uni
 abbrev pub basic_conditions : Surroundings → HeaderValue → List (Bool × Finding)
 basic_conditions s h =
     -- 8.1.2.2: a number below 31 is in the single identifier octet
-    (has_high_form h && nat_lt h.number 31, B01)
+    (is_high_form_needless h, B01)
     -- 8.1.2.4.2 c): bits 7 to 1 of the first subsequent octet are not all 0
-    ∷ (has_high_form h && number_bits h == 0, B02)
+    ∷ (begins_with_zero_bits h, B02)
     -- X.680, table 1: the universal number is that of a type
     ∷ (is_unassigned h, B03)
     -- 8.2.1, 8.3.1, 8.4, 8.5.1, 8.8.1, 8.19.1, 8.20.1: the encodings of these types are primitive
-    ∷ (h.constructed && is_always_primitive h, B04)
+    ∷ (is_wrongly_constructed h, B04)
     -- 8.9.1, 8.11.1, 8.17, 8.18, 8.24: the encodings of these types are constructed
-    ∷ (is_primitive h && is_always_constructed h, B05)
+    ∷ (is_wrongly_primitive h, B05)
     -- 8.6.4: each segment of a BIT STRING but the last has a multiple of eight bits
     ∷ (s.after_unused_bits, B16)
     -- 8.6.4, 8.7.3: a segment has the tag of that type

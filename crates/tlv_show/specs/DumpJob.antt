@@ -1,4 +1,4 @@
--- What a dump over all that a source gives comes to.
+-- What a call of `dump` is to do.
 use Rattle.std.specs.FinMap as finite
 use Rattle.tlv_value.specs.declared.layout.Layout.{Layout}
 use Rattle.tlv_value.specs.Names.{NamesValue}
@@ -8,7 +8,7 @@ use Rattle.tlv_show.specs.declared.outcome.Outcome.{Outcome}
 use Rattle.tlv_show.specs.ShowJob.{show_job}
 use Rattle.tlv_show.specs.Texts.{item_text}
 
--- how the lines of the first elements are laid out
+-- how the lines of the outermost elements are laid out
 abbrev pub top_layout : Options → Layout
 top_layout options = record { level = 0; limit = options.limit; pure = options.pure }
 

@@ -34,15 +34,15 @@ pub record CheckState : Type 0 where
 abbrev pub new_check : Rules → CheckState
 new_check rules = record { rules = rules; holders = new_nesting; open_primitive = None; finding_count = 0 }
 
--- what contracts see of a `Finder`: what it keeps, what it found with the last event, and in which element this is: one
--- that begins at `offset` and that `level` others hold
+-- what contracts see of a `Finder`: what it keeps, the findings of the last event with which there may have been some,
+-- and in which element these are: one that begins at `offset` and that `level` others hold
 pub record FinderState : Type 0 where
   pub kept : CheckState
   pub level : ℕ
   pub offset : ℕ
   pub findings : List Finding
 
--- findings are counted
+-- a finder that found these in the element at this level and offset, and counted them
 abbrev pub with_findings : CheckState → ℕ → ℕ → List Finding → FinderState
 with_findings s level offset findings = record {
   kept = record s { finding_count = saturating_sum s.finding_count (length findings) };
@@ -60,7 +60,7 @@ without_findings s = record { kept = s; level = 0; offset = 0; findings = [] }
 abbrev pub header_findings_in : CheckState → HeaderValue → List Finding
 header_findings_in s h = header_findings s.rules (surroundings_in s.holders.frame) h
 
--- a finder with them, which keeps this after the header
+-- a finder that found these with a header, and keeps `after`
 abbrev pub with_header_findings : CheckState → HeaderValue → CheckState → FinderState
 with_header_findings s h after = with_findings after (depth_in s.holders) h.offset (header_findings_in s h)
 
@@ -76,7 +76,7 @@ finder_in_primitive s h =
 abbrev pub finder_begin_step : CheckState → HeaderValue → FinderState
 finder_begin_step s h = with_header_findings s h (finder_in_primitive s h)
 
--- contents octets: only as many as were announced are counted
+-- contents octets: those after the announced ones are not looked at
 abbrev pub open_primitive_after : Option OpenPrimitiveState → List ℕ → Option OpenPrimitiveState
 open_primitive_after None octets = None
 open_primitive_after (Some v) octets =

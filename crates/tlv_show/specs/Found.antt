@@ -1,5 +1,5 @@
 -- What is found in an element, by rules.
-use Rattle.std.specs.Prelude.{ℕ, Bool, List, eqb, slice_index, codes}
+use Rattle.std.specs.Prelude.{ℕ, Bool, List, ◌==◌, slice_index, codes}
 use Rattle.std.specs.List.{filter, list_any}
 use Rattle.tlv_head.specs.Header.{HeaderValue}
 use Rattle.tlv_value.specs.declared.finding.Finding.{Finding}
@@ -16,7 +16,7 @@ letters Der = codes "BSD"
 letters Cer = codes "BSC"
 
 abbrev pub is_shown : Rules → Finding → Bool
-is_shown rules finding = list_any (eqb (slice_index (finding_code finding) 0)) (letters rules)
+is_shown rules finding = list_any (λ letter. slice_index (finding_code finding) 0 == letter) (letters rules)
 
 -- of what is found by these conditions, what the rules show
 abbrev pub shown_findings : Rules → List (Bool × Finding) → List Finding

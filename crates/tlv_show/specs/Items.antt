@@ -49,8 +49,8 @@ module _ (rules : Rules) where
   end_items s h children =
       finding_items s.level h.offset (end_findings rules (segments_of h (headers children)))
 
-  -- of elements from there on. What is found with the header comes before the element's first line, all else after
-  -- its last
+  -- the items of elements of which the first is at this site. What is found with the header comes before the element's
+  -- first line, all else after its last
   abbrev pub items : Site → Forest → List Item
   -- a run of padding has one line
   items s (PaddingOctet rest) =

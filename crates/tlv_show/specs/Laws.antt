@@ -31,7 +31,7 @@ use Rattle.tlv_show.specs.NestingState.{depth_in}
 use Rattle.tlv_show.specs.Found.{contents_findings, is_shown}
 use Rattle.tlv_head.specs.InputLimit.{input_limit}
 
--- the text of a longer input, of no more octets than are dumped, begins with that of the shorter
+-- the text of a longer input, of at most 2^40 octets, begins with that of the shorter
 abbrev pub DumpsGoOn : Type 0
 DumpsGoOn =
     (options : Options) (names : NamesValue) (b c : List ℕ) (f g : Forest) → length (b ++ c) ≤ input_limit
@@ -65,7 +65,7 @@ PrimitivesAreShown =
     ++ (whole_lines (finite.get s.lines.names) h s.lines.layout c
     ++ contents_finding_lines s h c)))
 
--- a `Dump` puts the text of a reading of no more octets than are dumped, counts its findings, and never has enough
+-- a `Dump` puts the text of the reading of an input of at most 2^40 octets, counts its findings, and never has enough
 abbrev pub DumpsMakeTexts : Type 0
 DumpsMakeTexts =
     (options : Options) (names : NamesValue) (b : List ℕ) (f : Forest)

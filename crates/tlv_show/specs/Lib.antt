@@ -1,4 +1,4 @@
-pub mod Lines
+pub mod HolderLines
 pub mod LinesStep
 pub mod DumpJob
 pub mod Site

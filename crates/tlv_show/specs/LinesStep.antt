@@ -1,5 +1,5 @@
 -- What the lines of a dump make of events, without those of findings.
-use Rattle.std.specs.Prelude.{ℕ, ◌+◌, ◌-◌, eqb, if◌then◌else◌, Bool, true, false, List, [], ◌∷◌, length, min}
+use Rattle.std.specs.Prelude.{ℕ, ◌+◌, ◌-◌, ◌==◌, if◌then◌else◌, Bool, true, false, List, [], ◌∷◌, length, min}
 use Rattle.std.specs.Prelude.{take, Option, Some, None}
 use Rattle.std.specs.FinMap as finite
 use Rattle.tlv_head.specs.Header.{HeaderValue, octets_of}
@@ -9,7 +9,7 @@ use Rattle.tlv_value.specs.ValueTextState.{ValueTextState, begin_lines, contents
 use Rattle.tlv_value.specs.ValueTextState.{new_value_text, value_text_after}
 use Rattle.tlv_walk.specs.Events.{Begin, Bytes, Close, End, Enter, EventValue, Leave, Open, Pad, Unused}
 use Rattle.tlv_walk.specs.Follow.{Effect, each_octet, effect_with}
-use Rattle.tlv_show.specs.Lines.{closing_line, opening_line, padding_line, opening_word}
+use Rattle.tlv_show.specs.HolderLines.{closing_line, opening_line, padding_line, opening_word}
 use Rattle.tlv_show.specs.SaturatingSum.{saturating_sum}
 
 -- what contracts see of the `Lines` of a dump
@@ -69,31 +69,31 @@ lines_begin_step s h =
     effect_with (record (lines_after_header s h) { open_text = Some (new_value_text h s.layout) })
     (begin_lines (new_value_text h s.layout))
 
--- contents octets: only as many as were announced are counted
-abbrev pub value_after : Option ValueTextState → List ℕ → Option ValueTextState
-value_after None octets = None
-value_after (Some t) octets = Some (value_text_after t (take t.left octets))
+-- contents octets: those after the announced ones are not shown
+abbrev pub open_text_after : Option ValueTextState → List ℕ → Option ValueTextState
+open_text_after None octets = None
+open_text_after (Some t) octets = Some (value_text_after t (take t.left octets))
 
-abbrev pub value_contents_lines : Option ValueTextState → List ℕ → List ℕ
-value_contents_lines None octets = []
-value_contents_lines (Some t) octets = contents_lines t (take t.left octets)
+abbrev pub open_text_lines : Option ValueTextState → List ℕ → List ℕ
+open_text_lines None octets = []
+open_text_lines (Some t) octets = contents_lines t (take t.left octets)
 
 -- a contents octet
 abbrev pub lines_octet_step : LinesState → ℕ → Effect LinesState
 lines_octet_step s x =
     effect_with (record s {
       offset = saturating_sum s.offset 1;
-      open_text = value_after s.open_text (x ∷ []);
+      open_text = open_text_after s.open_text (x ∷ []);
     })
-    (value_contents_lines s.open_text (x ∷ []))
+    (open_text_lines s.open_text (x ∷ []))
 
 -- a primitive ends, of which all contents octets have come
-abbrev pub value_end_lines : NamesValue → Option ValueTextState → List ℕ
-value_end_lines names None = []
-value_end_lines names (Some t) = if eqb t.left 0 then end_lines (finite.get names) t else []
+abbrev pub open_text_end_lines : NamesValue → Option ValueTextState → List ℕ
+open_text_end_lines names None = []
+open_text_end_lines names (Some t) = if t.left == 0 then end_lines (finite.get names) t else []
 
 abbrev pub lines_end_step : LinesState → Effect LinesState
-lines_end_step s = effect_with (record s { open_text = None }) (value_end_lines s.names s.open_text)
+lines_end_step s = effect_with (record s { open_text = None }) (open_text_end_lines s.names s.open_text)
 
 -- an octet of padding: the first of a run has a line
 abbrev pub lines_padding_step : LinesState → ℕ → Effect LinesState

@@ -9,7 +9,7 @@ use Rattle.tlv_show.specs.Conditions.{Segments, Surroundings, bits_octet_count}
 
 -- ---- One frame
 
--- at the top, where no element holds others
+-- at the top, where no element is open
 abbrev pub top_frame : HolderFrame
 top_frame = record {
   offset = 0;
@@ -39,12 +39,12 @@ frame_of h = record {
   ends_empty = false;
 }
 
--- whether an element inside another has a frame of its own. Of one that is no string and is in none nothing is to be
--- known
+-- whether an element inside another, or at the top, has a frame of its own. Of one that is no string and is in none
+-- nothing is to be known
 abbrev pub has_frame : HolderFrame → HeaderValue → Bool
 has_frame w h = w.has_segments || has_segments h
 
--- inside an element that others hold
+-- the frame inside an element, by the frame around it
 abbrev pub frame_under : HolderFrame → HeaderValue → HolderFrame
 frame_under w h = if has_frame w h then frame_of h else top_frame
 

@@ -1,4 +1,4 @@
--- What a command does that shows what a source gives, in one pass.
+-- What a call of `dump` or of `check` is to do.
 use Rattle.std.specs.Prelude.{ℕ, false, List, flat_map}
 use Rattle.tlv_walk.specs.declared.framing.Framing.{Framing}
 use Rattle.tlv_walk.specs.Job.{Job}

@@ -50,7 +50,7 @@ OneSpelling =
     → IsWellSpelled rules framing b f → IsWellSpelled rules other c g → AreAlike f g → b ≡ c
 
 -- by DER and by CER, the elements of a sound input have such a spelling, if none is the universal primitive 0, and
--- the input has at most 2^38 octets, so that lengths stay below 2^40. In it the strings that hold elements are named,
+-- the input has at most 2^38 octets, so that lengths stay below 2^40. In it the strings that hold encodings are named,
 -- and no others; a user may name those offsets if those of the input may be named
 abbrev pub SomeSpelling : Type 0
 SomeSpelling =

@@ -1,8 +1,7 @@
 //! What is found on contents.
-ghost use Rattle.std.specs.List.{filter};
 ghost use Rattle.std.specs.Prelude.{◌≡◌, []};
+ghost use Rattle.tlv_show.specs.FinderState.{contents_findings_in};
 ghost use Rattle.tlv_show.specs.Found.{is_shown};
-ghost use Rattle.tlv_value.specs.ValueCheckState.{findings_in};
 
 use crate::Rules;
 use arrayvec::ArrayVec;
@@ -17,7 +16,7 @@ pub(crate) fn add_contents_findings(
 )
     requires left { check.now.left ≡ 0 }
     requires none { found.old.items ≡ [] }
-    ensures { found.new.items ≡ filter (is_shown rules) (findings_in check.now) }
+    ensures { found.new.items ≡ contents_findings_in rules check.now }
 {
     for finding in check.end().as_slice() {
         if is_shown(rules, *finding) {

@@ -8,13 +8,13 @@ use tlv_walk::{DeviceFault, Drain, Source, drive};
 
 /// Writes the lines of the encodings that the source gives, up to its end or the first octet that is
 /// refused. Object identifiers that the table has are shown with their names, and findings with lines
-/// of their own.
+/// of their own. The lines go to the drain. Returns the ending of the input, the number of findings,
+/// and the first named offset at which no string was found that holds encodings.
 ///
 /// # Errors
 ///
-/// `ReadFailed` exactly if the source's failures rose in the call, and `WriteFailed` exactly if
-/// the drain's did. `InputTooLong` if the source gave more than 2^40 octets, and none of the first
-/// 2^40 is refused.
+/// `ReadFailed` exactly if a read failed, and `WriteFailed` exactly if a write failed. `InputTooLong`
+/// if the source gave more than 2^40 octets, and none of the first 2^40 is refused.
 pub fn dump<S: Source, D: Drain>(
     source: &mut S,
     drain: &mut D,

@@ -12,7 +12,7 @@ use crate::Options;
 use crate::contents::contents_in;
 use crate::finder::Finder;
 use crate::finding_lines::put_findings;
-use crate::line_follower::Lines;
+use crate::lines::Lines;
 use std::marker::Model;
 use tlv_head::Header;
 use tlv_value::{Layout, Names};
@@ -193,7 +193,7 @@ impl Dump<'_> {
         put_findings(may_have_findings, style, &self.finder, out)
     }
 
-    /// An element that holds others ends: `offset` is where its end-of-contents octets are.
+    /// An element that holds others ends: `offset` is where its end-of-contents octets are, if it has them.
     #[inline]
     fn close<D: Drain>(
         &mut self,

@@ -39,7 +39,8 @@ pub(crate) struct Finder {
     check: ValueCheck,
     /// How many findings there are so far.
     finding_count: u64,
-    /// The findings of the last event. They are kept here so that nothing is moved if nothing is found.
+    /// The findings of the last event with which there may have been some. They are kept here so that nothing is moved
+    /// if nothing is found.
     last: LastFindings,
 }
 
@@ -89,7 +90,7 @@ impl Finder {
         self.finding_count
     }
 
-    /// The findings of the last event.
+    /// The findings of the last event with which there may have been some.
     #[inline(always)]
     pub fn last(&self) -> &LastFindings
         ensures level { result.now.level ≡ self.now.level }
@@ -207,7 +208,7 @@ impl Finder {
         may_have_findings
     }
 
-    /// Contents of a primitive go on. Only as many octets as were announced are counted.
+    /// Contents of a primitive go on. Octets after the announced ones are not looked at.
     #[inline(always)]
     pub fn bytes(&mut self, octets: &[u8])
         ensures { self.new

@@ -4,6 +4,7 @@ ghost use Rattle.tlv_io.specs.LineTexts.{HasRoomFor};
 ghost use Rattle.tlv_io.specs.Out.{Puts};
 ghost use Rattle.tlv_show.specs.FindingLines.{last_finding_lines, styled_line, styled_lines};
 ghost use Rattle.tlv_show.specs.Private.FinderState.{with_findings_if};
+ghost use Rattle.tlv_show.specs.Private.LineRoom.{line_room};
 ghost use Rattle.tlv_show.specs.Texts.{check_finding_line, dump_finding_line};
 
 use crate::finder::Finder;
@@ -15,7 +16,7 @@ use tlv_walk::{Drain, HeldOctets, Out, WriteFault};
 pub(crate) enum Style {
     /// As lines of a check.
     Check,
-    /// As lines of a dump: with first columns, or without any if it is pure.
+    /// As lines of a dump, which has none if it is pure.
     Dump { pure: bool },
 }
 
@@ -78,7 +79,7 @@ fn put_finding<D: Drain>(
 
 /// Adds the line of a finding in an element at this level and offset.
 fn write_finding(held: &mut HeldOctets, style: Style, level: u8, offset: u64, finding: Finding)
-    requires { HasRoomFor held.old 1024 }
+    requires { HasRoomFor held.old line_room }
     ensures { held.new ≡ held.old ++ styled_line style level offset finding }
 {
     match style {
@@ -96,7 +97,7 @@ fn write_finding(held: &mut HeldOctets, style: Style, level: u8, offset: u64, fi
 
 /// Adds the line of a finding in a check.
 fn write_check_finding(held: &mut HeldOctets, offset: u64, finding: Finding)
-    requires { HasRoomFor held.old 1024 }
+    requires { HasRoomFor held.old line_room }
     ensures { held.new ≡ held.old ++ check_finding_line offset finding }
 {
     let (wording, count) = finding.wording_block();
@@ -108,7 +109,7 @@ fn write_check_finding(held: &mut HeldOctets, offset: u64, finding: Finding)
 
 /// Adds the line of a finding in a dump; none if first columns are left out.
 fn write_dump_finding(held: &mut HeldOctets, layout: Layout, offset: u64, finding: Finding)
-    requires { HasRoomFor held.old 1024 }
+    requires { HasRoomFor held.old line_room }
     ensures { held.new ≡ held.old ++ dump_finding_line layout offset finding }
 {
     if layout.pure {

@@ -2,8 +2,8 @@
 ghost use Rattle.std.specs.Prelude.{IsTrue, false, ◌≡◌, ◌<◌, ◌≤◌, ◌+◌, ◌++◌, ◌&&◌, ◌||◌, ◌==◌, nat_le};
 ghost use Rattle.std.specs.Prelude.{nat_lt, length, []};
 ghost use Rattle.tlv_value.specs.Checks.{finding_if, findings_by};
-ghost use Rattle.tlv_show.specs.Conditions.{basic_conditions, cer_conditions, der_conditions, has_high_form};
-ghost use Rattle.tlv_show.specs.Conditions.{length_conditions, number_bits};
+ghost use Rattle.tlv_show.specs.Conditions.{basic_conditions, begins_with_zero_bits, cer_conditions};
+ghost use Rattle.tlv_show.specs.Conditions.{der_conditions, is_high_form_needless, length_conditions};
 ghost use Rattle.tlv_show.specs.NestingState.{has_frame, segments_in, surroundings_in};
 ghost use Rattle.tlv_show.specs.Found.{end_findings, header_findings};
 ghost use Rattle.tlv_show.specs.Private.UsualTypes.{IsUsual};
@@ -82,15 +82,14 @@ pub(crate) fn has_no_header_findings_if_usual(
 /// Whether nothing is found with the form of the tag: it is the low form, or the high form as it has to be.
 #[inline(always)]
 fn is_tag_usual(header: &Header) -> bool
-    ensures needed { IsTrue result
-        → (has_high_form header.now && nat_lt header.now.number 31) ≡ false }
-    ensures shortest { IsTrue result
-        → (has_high_form header.now && number_bits header.now == 0) ≡ false }
+    ensures needed { IsTrue result → is_high_form_needless header.now ≡ false }
+    ensures shortest { IsTrue result → begins_with_zero_bits header.now ≡ false }
 {
     !has_high_form(header) || (header.number >= 31 && header.second_identifier_octet() % 128 != 0)
 }
 
-/// Whether the element is of a type that can have its form, and no constructed string; or of another class.
+/// Whether the element has a universal type that can have its form, and is no constructed string; or its class is
+/// not universal.
 #[inline(always)]
 fn is_usual(header: &Header) -> bool
     ensures { IsTrue result → IsUsual header.now }

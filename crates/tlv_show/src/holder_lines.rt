@@ -1,10 +1,10 @@
 //! The lines of a dump for elements that hold others, and for padding.
-ghost use Rattle.std.specs.Prelude.{◌≡◌, ◌≤◌, ◌++◌, codes, length};
-ghost use Rattle.std.specs.Option.{option_map_or};
+ghost use Rattle.std.specs.Prelude.{◌≡◌, ◌≤◌, ◌++◌, length};
 ghost use Rattle.tlv_io.specs.LineTexts.{GrowsBy, HasRoomFor};
 ghost use Rattle.tlv_io.specs.Out.{Puts};
-ghost use Rattle.tlv_value.specs.Layout.{columns, line_margin, no_columns};
-ghost use Rattle.tlv_show.specs.Lines.{closing_line, opening_line, padding_line, size_text};
+ghost use Rattle.tlv_value.specs.Layout.{columns, line_margin};
+ghost use Rattle.tlv_show.specs.HolderLines.{closing_columns, closing_line, opening_line, padding_line, size_text};
+ghost use Rattle.tlv_show.specs.Private.LineRoom.{line_room};
 
 use tlv_head::{Header, Size};
 use tlv_value::{Layout, begin_blank, begin_sized, begin_word, write_tag};
@@ -56,7 +56,7 @@ pub(crate) fn put_padding<D: Drain>(
 /// Adds the line of an element that holds others, with a word after its tag.
 #[inline(always)]
 fn write_opening(held: &mut HeldOctets, layout: Layout, header: &Header, word: &[u8])
-    requires room { HasRoomFor held.old 1024 }
+    requires room { HasRoomFor held.old line_room }
     requires short { length word.now ≤ 16 }
     ensures { held.new ≡ held.old ++ opening_line layout header.now word.now }
 {
@@ -83,7 +83,7 @@ fn begin_opening(held: &mut HeldOctets, layout: Layout, offset: u64, size: Size)
 /// Adds the line of the end of an element that holds others.
 #[inline(always)]
 fn write_closing(held: &mut HeldOctets, layout: Layout, offset: Option<u64>)
-    requires { HasRoomFor held.old 1024 }
+    requires { HasRoomFor held.old line_room }
     ensures { held.new ≡ held.old ++ closing_line layout offset }
 {
     begin_closing(held, layout, offset);
@@ -94,9 +94,7 @@ fn write_closing(held: &mut HeldOctets, layout: Layout, offset: Option<u64>)
 #[inline(always)]
 fn begin_closing(held: &mut HeldOctets, layout: Layout, offset: Option<u64>)
     requires { HasRoomFor held.old 592 }
-    ensures text { held.new
-        ≡ held.old ++ line_margin layout
-        (option_map_or (λ offset. columns offset (codes "end")) offset no_columns) }
+    ensures text { held.new ≡ held.old ++ line_margin layout (closing_columns offset) }
     ensures bound { GrowsBy 553 held.old held.new }
 {
     match offset {
@@ -107,7 +105,7 @@ fn begin_closing(held: &mut HeldOctets, layout: Layout, offset: Option<u64>)
 
 /// Adds the line of a run of padding.
 fn write_padding(held: &mut HeldOctets, layout: Layout, offset: u64)
-    requires { HasRoomFor held.old 1024 }
+    requires { HasRoomFor held.old line_room }
     ensures { held.new ≡ held.old ++ padding_line layout offset }
 {
     begin_word(held, layout, offset, b"   pad");

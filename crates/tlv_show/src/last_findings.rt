@@ -18,7 +18,7 @@ impl LastFindings {
     pub fn restart(&mut self, level: u8, offset: u64)
         ensures level { self.new.level ≡ level }
         ensures offset { self.new.offset ≡ offset }
-        ensures items { self.new.findings.items ≡ [] }
+        ensures findings { self.new.findings.items ≡ [] }
     {
         self.level = level;
         self.offset = offset;

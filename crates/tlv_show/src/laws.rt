@@ -4,14 +4,14 @@ ghost use Rattle.tlv_show.specs.Laws.{BasicFindingsStay, ChecksGoOn, ChecksMakeT
 ghost use Rattle.tlv_show.specs.Laws.{DumpsMakeTexts, PrimitivesAreShown};
 ghost use Rattle.tlv_show.specs.Spellings.{LongerIdentifiersAreFound, LongerLengthsAreFound, OneSpelling, SomeSpelling};
 
-/// What a `Dump` makes of the events of a reading of at most 2^40 octets is the text of that reading
-/// and the number of its findings. It always wants more.
+/// What a `Dump` makes of the events of the reading of an input of at most 2^40 octets is the text of
+/// that reading and the number of its findings. It always wants more.
 pub fn dumps_make_texts()
     ensures { DumpsMakeTexts }
 {}
 
-/// What a `Check` makes of the events of a reading of at most 2^40 octets is the list of its findings
-/// and their number. It always wants more.
+/// What a `Check` makes of the events of the reading of an input of at most 2^40 octets is the list of
+/// its findings and their number. It always wants more.
 pub fn checks_make_texts()
     ensures { ChecksMakeTexts }
 {}
@@ -47,11 +47,12 @@ pub fn one_spelling()
     ensures { OneSpelling }
 {}
 
-/// Elements can be spelled by DER, and by CER: with those of each sound input agree, in the same way,
-/// those of one in which none of the five is found. In it the strings that hold elements are named,
-/// by the offsets that they then have, and no others; a user may name those offsets if those of the
-/// input may be named. This is said of inputs of at most 2^38 octets in which no primitive is the
-/// universal 0.
+/// Each sound input has a spelling by DER, and one by CER: a sound input whose elements agree with its
+/// own, one by one, in class, form, number and contents, with as much padding between them, and in
+/// which a check under DER, or under CER, finds none of B01, B02, S01, D01 and C01. In it the strings
+/// that hold encodings are named at the offsets that they then have, and no others; a user may name
+/// those offsets if those of the input may be named. This is said of inputs of at most 2^38 octets in
+/// which no primitive is the universal 0.
 pub fn some_spelling()
     ensures { SomeSpelling }
 {}

@@ -16,7 +16,7 @@ mod holder_frame;
 mod holder_lines;
 mod last_findings;
 pub mod laws;
-mod line_follower;
+mod lines;
 mod nesting;
 mod options;
 mod outcome;

@@ -28,7 +28,8 @@ pub(crate) struct Nesting {
 impl Model for Nesting {
     ghost use Rattle.std.specs.Prelude.{◌≤◌, ◌-◌};
     ghost use Rattle.tlv_show.specs.NestingState.{NestingState};
-    ghost use Rattle.tlv_show.specs.Private.Nesting.{AreKept, IsKept, all_frames, innermost_frame, outer_frames};
+    ghost use Rattle.tlv_show.specs.Private.Nesting.{HasFramesInStrings, HaveRisingFloors, all_frames};
+    ghost use Rattle.tlv_show.specs.Private.Nesting.{innermost_frame, outer_frames};
 
     ghost Value = { NestingState };
 
@@ -40,8 +41,8 @@ impl Model for Nesting {
     ghost invariant = { λ n. record {
       few : n.depth ≤ 128;
       inside : n.floor ≤ n.depth;
-      innermost : IsKept n.frame (n.depth - n.floor);
-      others : AreKept n.floor n.outer;
+      innermost : HasFramesInStrings n.frame (n.depth - n.floor);
+      others : HaveRisingFloors n.floor n.outer;
     } };
 }
 
@@ -120,7 +121,7 @@ impl Nesting {
     /// An element that holds others ends. Returns its frame, if what it held were segments.
     #[inline(always)]
     pub fn close(&mut self) -> Option<HolderFrame>
-        ensures nest { self.new ≡ nesting_close_step self.old }
+        ensures state { self.new ≡ nesting_close_step self.old }
         ensures closed { result ≡ closed_string_frame self.old }
     {
         if self.depth > self.floor {

@@ -8,9 +8,10 @@ pub struct Options {
     /// The rules by which findings are reported.
     pub rules: Rules,
     /// How many rows of one value are written; one more is written as `...`, and the others are left out. Without a
-    /// limit all are.
+    /// limit all are written.
     pub limit: Option<u32>,
-    /// Whether the first columns of each line are left out: offsets, lengths, and the spaces in their place.
+    /// Whether the first columns of each line are left out: offsets, lengths, and the spaces in their place. The lines
+    /// of findings are left out too; they are counted.
     pub pure: bool,
     /// How the input is to be read.
     pub framing: Framing,

@@ -14,7 +14,7 @@ use Rattle.tlv_show.specs.DumpStep.{DumpState, dump_step}
 use Rattle.tlv_show.specs.FinderState.{CheckState, FinderState, finder_begin_step, finder_bytes_step}
 use Rattle.tlv_show.specs.FinderState.{finder_close_step, finder_end_step, finder_open_step}
 use Rattle.tlv_show.specs.Laws.{PrimitivesAreShown}
-use Rattle.tlv_show.specs.LinesStep.{value_after, value_contents_lines}
+use Rattle.tlv_show.specs.LinesStep.{open_text_after, open_text_lines}
 use Rattle.tlv_show.proofs.DumpLemmas.OctetPieces.{dumped_bytes, of_bytes, rested-new}
 use Rattle.tlv_show.proofs.DumpLemmas.DumpSteps.{all_on, each-shown}
 use Rattle.tlv_show.proofs.DumpLemmas.DumpTexts.{primitives_shown}
@@ -98,8 +98,8 @@ primitive-by l s h c =
     and_then b (λ z. effect_if_more k.goes k (λ w. effect_of lines_step w (End ∷ []))) in effect_with
     (dump_state d.state f.kept) (first ++ (d.put ++ texts l.layout f)) in
     let o : Effect LinesState =
-    of_bytes b.state (saturating_sum b.state.offset (length c)) (value_after b.state.open_text c)
-    (value_contents_lines b.state.open_text c) in
+    of_bytes b.state (saturating_sum b.state.offset (length c)) (open_text_after b.state.open_text c)
+    (open_text_lines b.state.open_text c) in
     let is : m ≡ o = dumped_bytes b.state c (λ e. rested-new h l.layout) in
     ap (λ (k : Effect DumpState). record {
       state = (effect_if_more k.goes k (λ w. effect_of dump_step w (End ∷ []))).state;
@@ -138,8 +138,8 @@ part-by l s h c =
     let m = each_octet lines_octet_step b.state c in
     let first = texts l.layout (finder_begin_step s h) in
     let o : Effect LinesState =
-    of_bytes b.state (saturating_sum b.state.offset (length c)) (value_after b.state.open_text c)
-    (value_contents_lines b.state.open_text c) in
+    of_bytes b.state (saturating_sum b.state.offset (length c)) (open_text_after b.state.open_text c)
+    (open_text_lines b.state.open_text c) in
     let is : m ≡ o = dumped_bytes b.state c (λ e. rested-new h l.layout) in
     ap (λ (k : Effect DumpState). (first ++ b.put) ++ (effect_if_more k.goes k (λ w. effect_of dump_step w [])).put)
     (each-shown (dump_state b.state (finder_begin_step s h).kept) c)

@@ -24,7 +24,7 @@ use Rattle.tlv_show.specs.FinderState.{CheckState, FinderState}
 use Rattle.tlv_show.specs.NestingState.{frame_under, surroundings_in, frame_after}
 use Rattle.tlv_show.specs.Found.{contents_findings, header_findings, end_findings}
 use Rattle.tlv_show.specs.Items.{Item, FindingAt, items, finding_items, headers}
-use Rattle.tlv_show.specs.Lines.{dump_opening_line, closing_line}
+use Rattle.tlv_show.specs.HolderLines.{dump_opening_line, closing_line}
 use Rattle.tlv_show.specs.Site.{Previous, Site, is_padding}
 use Rattle.tlv_show.specs.Texts.{item_text}
 use Rattle.tlv_show.proofs.DumpLemmas.DumpTexts.{at_level, holder_shown, ends_in_padding, primitive_shown}

@@ -30,8 +30,8 @@ use Rattle.tlv_show.specs.Found.{contents_findings, header_findings, end_finding
 use Rattle.tlv_show.specs.Items.{Item, OpeningLine, ClosingLine, PrimitiveLines, OpenPrimitiveLines}
 use Rattle.tlv_show.specs.Items.{PaddingLine, headers, items}
 use Rattle.tlv_show.specs.Items.{finding_items}
-use Rattle.tlv_show.specs.Lines.{closing_line, opening_line, padding_line, opening_word}
-use Rattle.tlv_show.specs.Lines.{dump_opening_line}
+use Rattle.tlv_show.specs.HolderLines.{closing_line, opening_line, padding_line, opening_word}
+use Rattle.tlv_show.specs.HolderLines.{dump_opening_line}
 use Rattle.tlv_show.specs.Site.{Previous, Padding, Sibling, Site, Start, is_padding, site_of_children}
 use Rattle.tlv_show.specs.Site.{site_after_primitive, site_after_holder, site_after_padding}
 use Rattle.tlv_show.proofs.FindingLemmas.SiteWords.{first_contents_octet}

@@ -1,8 +1,7 @@
 -- What the lines of a dump come to, element by element.
-use Rattle.std.proofs.Common.{◌≡◌, ℕ, ◌+◌, ◌-◌, ◌^◌, ◌≤◌, min, Bool, true, false, eqb, if◌then◌else◌, List, [], ◌∷◌}
-use Rattle.std.proofs.Common.{◌++◌, length, take, map, refl, sym, ap, ap₂, ◌∙◌, subst, arith, append_assoc, append-nil}
+use Rattle.std.proofs.Common.{◌≡◌, ℕ, ◌+◌, ◌-◌, ◌^◌, ◌≤◌, min, Bool, true, false, ◌==◌, if◌then◌else◌, List, [], ◌∷◌}
+use Rattle.std.proofs.Common.{◌++◌, length, map, refl, sym, ap, ap₂, ◌∙◌, subst, arith, append_assoc, append-nil}
 use Rattle.std.proofs.lemmas.Bool.{true≢false}
-use Rattle.std.proofs.lemmas.Grind.{common_steps}
 use Rattle.std.specs.FinMap as finite
 use Rattle.std.specs.Prelude.{Some, None}
 use Rattle.tlv_head.specs.declared.header.Size.{Size}
@@ -25,15 +24,13 @@ use Rattle.tlv_walk.specs.Place.{IsOpen, Place, place_after}
 use Rattle.tlv_walk.proofs.FollowerLemmas.Followed.{followed-more}
 use Rattle.tlv_walk.proofs.GrammarLemmas.Spellings.{length-opening}
 use Rattle.tlv_show.specs.LinesStep.{LinesState, lines_step, lines_after_header}
-use Rattle.tlv_show.specs.Lines.{closing_line, opening_line, padding_line, opening_word}
-use Rattle.tlv_show.specs.Lines.{dump_opening_line}
+use Rattle.tlv_show.specs.HolderLines.{closing_line, opening_line, padding_line, opening_word}
+use Rattle.tlv_show.specs.HolderLines.{dump_opening_line}
 use Rattle.tlv_show.proofs.DumpLemmas.OctetPieces.{after_put, dumped_bytes, rested-new}
 use Rattle.tlv_show.proofs.DumpLemmas.Always.{all_on}
 use Rattle.tlv_show.specs.SaturatingSum.{saturating_sum}
-
--- offsets do not stop below 2^64
-far : (offset n : ℕ) → offset + n ≤ 2 ^ 64 - 1 → saturating_sum offset n ≡ offset + n
-far offset n h = omega (arith, h)
+use Rattle.std.proofs.lemmas.List.{take_all}
+use Rattle.tlv_show.proofs.SaturatingSums.{sum-small}
 
 -- one list of events and then another
 both : (s : LinesState) (xs ys : List EventValue)
@@ -47,9 +44,6 @@ then_more : (s t : LinesState) (put : List ℕ) (xs ys : List EventValue) → ef
 then_more s t put xs ys e = both s xs ys ∙ ap (λ (k : Effect LinesState). and_then k (λ u. effect_of lines_step u ys)) e
 
 -- ---- what is reported of a primitive
-
-take-all : (n : ℕ) (c : List ℕ) → length c ≤ n → take n c ≡ c
-take-all n c h = grind (arith, common_steps)
 
 -- with the header, with the contents octets, and with the end
 whole_shown : (name_of : NameOf) (h : HeaderValue) (layout : Layout) (c : List ℕ) → length c ≡ announced_length h.size
@@ -78,7 +72,7 @@ primitives_shown s h c size =
     let lines_after : LinesState =
     record (lines_after_header s h)
     { offset = saturating_sum (lines_after_header s h).offset (length c); open_text = None } in
-    let took = take-all (announced_length h.size) c (omega (arith, size)) in
+    let took = take_all (announced_length h.size) c (omega (arith, size)) in
     let none : announced_length h.size - length c ≡ 0 = omega (arith, size) in
     ap (λ (k : Effect LinesState). after_put (begin_lines t)
     (effect_if_more k.goes k (λ w. effect_of lines_step w (End ∷ []))))
@@ -86,14 +80,14 @@ primitives_shown s h c size =
     ∙ ap (λ (l : List ℕ). effect_with lines_after
     (begin_lines t
     ++ (contents_lines t l
-    ++ ((if eqb (announced_length h.size - length l) 0
+    ++ ((if announced_length h.size - length l == 0
     then end_lines (finite.get s.names) (value_text_after t l) else [])
     ++ []))))
     took
     ∙ ap (λ (n : ℕ). effect_with lines_after
     (begin_lines t
     ++ (contents_lines t c
-    ++ ((if eqb n 0 then end_lines (finite.get s.names) (value_text_after t c) else []) ++ []))))
+    ++ ((if n == 0 then end_lines (finite.get s.names) (value_text_after t c) else []) ++ []))))
     none
     ∙ ap (effect_with lines_after) (whole_shown (finite.get s.names) h s.layout c (sym size))
 
@@ -148,7 +142,7 @@ module _ (style : Layout) (names : NamesValue) where
       (λ (k : Effect LinesState).
       (after_put (begin_lines t) (effect_if_more k.goes k (λ w. effect_of lines_step w []))).put)
       (dumped_bytes (lines_in_primitive level offset padded h) c (λ e. rested-new h (at_level level)))
-      ∙ ap (λ (l : List ℕ). begin_lines t ++ (contents_lines t l ++ [])) (take-all (announced_length h.size) c size)
+      ∙ ap (λ (l : List ℕ). begin_lines t ++ (contents_lines t l ++ [])) (take_all (announced_length h.size) c size)
       ∙ ap (λ (l : List ℕ). begin_lines t ++ l) (append-nil (contents_lines t c))
       ∙ sym (open-lines h (at_level level) c)
 
@@ -182,7 +176,7 @@ module _ (style : Layout) (names : NamesValue) where
       ≡ effect_with (lines_between (level + 1) (offset + length (opening h)) false)
       (dump_opening_line (at_level level) h)
   holder_shown level offset padded h there low far_enough =
-      holder_by level offset padded h.constructed (eqb h.number 3) h there low
+      holder_by level offset padded h.constructed (h.number == 3) h there low
       (omega (arith, far_enough, length-opening h))
       ∙ settled (level + 1) (level + 1) (offset + (length (octets_of h) + length (lead h)))
       (offset + length (opening h)) false false (dump_opening_line (at_level level) h)
@@ -259,4 +253,4 @@ module _ (style : Layout) (names : NamesValue) where
   fill_shown level offset padded far_enough =
       let line = if padded then [] else padding_line (at_level level) offset in
       settled level level (saturating_sum offset 1) (offset + 1) true true ((line ++ []) ++ []) line refl
-      (far offset 1 far_enough) refl (append-nil (line ++ []) ∙ append-nil line)
+      (sum-small offset 1 far_enough) refl (append-nil (line ++ []) ∙ append-nil line)

@@ -1,5 +1,5 @@
 -- What a dump makes of octets that come in pieces.
-use Rattle.std.proofs.Common.{◌≡◌, ◌+◌, ◌-◌, ◌<◌, ℕ, zero, suc, Bool, true, false, List, [], ◌∷◌, ◌++◌, length, take}
+use Rattle.std.proofs.Common.{◌≡◌, ◌-◌, ◌<◌, ℕ, zero, suc, Bool, true, false, List, [], ◌∷◌, ◌++◌, length, take}
 use Rattle.std.proofs.Common.{refl, ap, ap₂, sym, ◌∙◌, arith, append-nil, length-append}
 use Rattle.std.proofs.lemmas.Grind.{common_steps}
 use Rattle.std.proofs.lemmas.List.{nil_from_length}
@@ -9,18 +9,11 @@ use Rattle.tlv_value.specs.declared.layout.Layout.{Layout}
 use Rattle.tlv_value.specs.ValueTextState.{ValueTextState, contents_lines, new_value_text, value_text_after}
 use Rattle.tlv_value.proofs.TextLemmas.Pieces.{after-nothing, new-nothing, pieces-join}
 use Rattle.tlv_walk.specs.Follow.{Effect, each_octet, effect_with}
-use Rattle.tlv_show.specs.LinesStep.{LinesState, lines_octet_step, lines_padding_step, value_after}
-use Rattle.tlv_show.specs.LinesStep.{value_contents_lines}
-use Rattle.tlv_show.specs.Lines.{padding_line}
+use Rattle.tlv_show.specs.LinesStep.{LinesState, lines_octet_step, lines_padding_step, open_text_after}
+use Rattle.tlv_show.specs.LinesStep.{open_text_lines}
+use Rattle.tlv_show.specs.HolderLines.{padding_line}
 use Rattle.tlv_show.specs.SaturatingSum.{saturating_sum}
-
--- ---- offsets
-
-pub further-more : (o n m : ℕ) → saturating_sum (saturating_sum o n) m ≡ saturating_sum o (n + m)
-further-more o n m = omega arith
-
-pub further-none : (o : ℕ) → saturating_sum o 0 ≡ o
-further-none o = omega arith
+use Rattle.tlv_show.proofs.SaturatingSums.{sum-more, sum-none}
 
 -- ---- contents
 
@@ -35,8 +28,8 @@ take-both (suc n) (z ∷ x) y =
     ap (λ (l : List ℕ). z ∷ l) (take-both n x y ∙ ap (λ (k : ℕ). take n x ++ take k y) (omega arith))
 
 value-join : (v : Option ValueTextState) (x y : List ℕ)
-    → (value_after (value_after v x) y ≡ value_after v (x ++ y))
-    × (value_contents_lines v (x ++ y) ≡ value_contents_lines v x ++ value_contents_lines (value_after v x) y)
+    → (open_text_after (open_text_after v x) y ≡ open_text_after v (x ++ y))
+    × (open_text_lines v (x ++ y) ≡ open_text_lines v x ++ open_text_lines (open_text_after v x) y)
 value-join None x y = (refl, refl)
 value-join (Some t) x y =
     let e = take-both t.left x y in
@@ -45,14 +38,14 @@ value-join (Some t) x y =
 
 -- no octets make no lines of it, and change nothing that is kept
 abbrev pub IsRested : Option ValueTextState → Type 0
-IsRested v = (value_after v [] ≡ v) × (value_contents_lines v [] ≡ [])
+IsRested v = (open_text_after v [] ≡ v) × (open_text_lines v [] ≡ [])
 
 -- this stays so after an octet
-rested-after : (v : Option ValueTextState) (x : ℕ) → IsRested (value_after v (x ∷ []))
+rested-after : (v : Option ValueTextState) (x : ℕ) → IsRested (open_text_after v (x ∷ []))
 rested-after v x =
     let j = value-join v (x ∷ []) [] in
-    let put : List ℕ = value_contents_lines v (x ∷ []) in
-    let more : List ℕ = value_contents_lines (value_after v (x ∷ [])) [] in
+    let put : List ℕ = open_text_lines v (x ∷ []) in
+    let more : List ℕ = open_text_lines (open_text_after v (x ∷ [])) [] in
     (j.0, nil_from_length more (omega (arith, ap length j.1, length-append put more)))
 
 -- it is so of a primitive that begins
@@ -76,20 +69,20 @@ of_bytes s offset text put = effect_with (record s { offset = offset; open_text 
 
 pub dumped_bytes : (s : LinesState) (xs : List ℕ) → (xs ≡ [] → IsRested s.open_text)
     → each_octet lines_octet_step s xs
-    ≡ of_bytes s (saturating_sum s.offset (length xs)) (value_after s.open_text xs)
-    (value_contents_lines s.open_text xs)
+    ≡ of_bytes s (saturating_sum s.offset (length xs)) (open_text_after s.open_text xs)
+    (open_text_lines s.open_text xs)
 dumped_bytes s [] rested =
     let r = rested refl in
-    ap (λ (n : ℕ). of_bytes s n s.open_text []) (sym (further-none s.offset))
+    ap (λ (n : ℕ). of_bytes s n s.open_text []) (sym (sum-none s.offset))
     ∙ ap₂ (λ (v : Option ValueTextState) (put : List ℕ). of_bytes s (saturating_sum s.offset 0) v put) (sym r.0)
     (sym r.1)
 dumped_bytes s (x ∷ xs) rested =
     let j = value-join s.open_text (x ∷ []) xs in
-    ap (after_put (value_contents_lines s.open_text (x ∷ [])))
+    ap (after_put (open_text_lines s.open_text (x ∷ [])))
     (dumped_bytes (lines_octet_step s x).state xs (λ e. rested-after s.open_text x))
-    ∙ ap (λ (n : ℕ). of_bytes s n (value_after (value_after s.open_text (x ∷ [])) xs)
-    (value_contents_lines s.open_text (x ∷ []) ++ value_contents_lines (value_after s.open_text (x ∷ [])) xs))
-    (further-more s.offset 1 (length xs) ∙ ap (saturating_sum s.offset) (omega arith))
+    ∙ ap (λ (n : ℕ). of_bytes s n (open_text_after (open_text_after s.open_text (x ∷ [])) xs)
+    (open_text_lines s.open_text (x ∷ []) ++ open_text_lines (open_text_after s.open_text (x ∷ [])) xs))
+    (sum-more s.offset 1 (length xs) ∙ ap (saturating_sum s.offset) (omega arith))
     ∙ ap₂ (λ (v : Option ValueTextState) (put : List ℕ). of_bytes s (saturating_sum s.offset (length (x ∷ xs))) v put)
     j.0 (sym j.1)
 
@@ -103,11 +96,11 @@ lines_at s offset in_padding = record s { offset = offset; in_padding = in_paddi
 pub more_pad : (s : LinesState) (offset : ℕ) (xs : List ℕ)
     → each_octet lines_padding_step (lines_at s offset true) xs
     ≡ effect_with (lines_at s (saturating_sum offset (length xs)) true) []
-more_pad s offset [] = ap (λ (o : ℕ). effect_with (lines_at s o true) []) (sym (further-none offset))
+more_pad s offset [] = ap (λ (o : ℕ). effect_with (lines_at s o true) []) (sym (sum-none offset))
 more_pad s offset (x ∷ xs) =
     more_pad s (saturating_sum offset 1) xs
     ∙ ap (λ (o : ℕ). effect_with (lines_at s o true) [])
-    (further-more offset 1 (length xs) ∙ ap (saturating_sum offset) (omega arith))
+    (sum-more offset 1 (length xs) ∙ ap (saturating_sum offset) (omega arith))
 
 more_by : (s : LinesState) (offset : ℕ) (in_padding : Bool) (xs : List ℕ) → in_padding ≡ true
     → each_octet lines_padding_step (lines_at s offset in_padding) xs
@@ -129,7 +122,7 @@ first_by s offset false [] some e = absurd (omega (arith, some))
 first_by s offset false (x ∷ xs) some e =
     ap (after_put (padding_line s.layout offset)) (more_pad s (saturating_sum offset 1) xs)
     ∙ ap (λ (o : ℕ). effect_with (lines_at s o true) (padding_line s.layout offset ++ []))
-    (further-more offset 1 (length xs) ∙ ap (saturating_sum offset) (omega arith))
+    (sum-more offset 1 (length xs) ∙ ap (saturating_sum offset) (omega arith))
     ∙ ap (effect_with (lines_at s (saturating_sum offset (length (x ∷ xs))) true))
     (append-nil (padding_line s.layout offset))
 

@@ -1,6 +1,6 @@
 -- A primitive with which nothing is found: what a finder and a check make of it at once.
-use Rattle.std.proofs.Common.{subst, rules, ◌≡◌, Bool, false, true, ℕ, List, [], ◌∷◌, length, sym, ap, ◌∙◌, arith}
-use Rattle.std.specs.Prelude.{None, Ok, if◌then◌else◌, ◌&&◌, ◌||◌, not}
+use Rattle.std.proofs.Common.{subst, rules, ◌≡◌, Bool, false, true, ℕ, List, [], ◌∷◌, length, sym, ap, ◌∙◌}
+use Rattle.std.specs.Prelude.{None, Ok, ◌&&◌, ◌||◌, not}
 use Rattle.std.specs.List.{filter}
 use Rattle.tlv_head.specs.Header.{HeaderValue, announced_length}
 use Rattle.tlv_value.specs.declared.finding.Finding.{Finding}
@@ -20,13 +20,15 @@ use Rattle.tlv_show.specs.declared.finding_lines.Style.TheVariants.{Check}
 use Rattle.tlv_show.specs.CheckStep.{check_step, findings_effect}
 use Rattle.tlv_show.specs.FindingLines.{styled_lines}
 use Rattle.tlv_show.specs.FinderState.{CheckState, FinderState, finder_begin_step, finder_bytes_step}
-use Rattle.tlv_show.specs.NestingState.{depth_in, frame_after, frame_after_segment, surroundings_in}
+use Rattle.tlv_show.specs.NestingState.{depth_in, surroundings_in}
 use Rattle.tlv_show.specs.Private.FinderState.{PassesOrStays, PassesPrimitive, finder_whole_step, with_check_state}
 use Rattle.tlv_show.specs.Private.UsualTypes.{IsUsual}
 use Rattle.tlv_show.specs.Found.{is_shown, header_findings}
 use Rattle.tlv_show.proofs.FindingLemmas.CheckLaws.{each-found}
 use Rattle.tlv_show.proofs.FindingLemmas.FinderSteps.{after_primitive, primitive-find, check_between}
 use Rattle.tlv_show.specs.SaturatingSum.{saturating_sum}
+use Rattle.tlv_show.proofs.SaturatingSums.{sum-none}
+use Rattle.tlv_show.proofs.FindingLemmas.FramesAfter.{outside}
 
 -- ---- a finder
 
@@ -38,13 +40,6 @@ usual_primitive h primitive form = record {
   constructed = ap (λ (b : Bool). not b && is_one_of constructed_types h) primitive ∙ search rules;
   segments = ap (λ (b : Bool). b && is_string h) primitive;
 }
-
-none-counted : (n : ℕ) → saturating_sum n 0 ≡ n
-none-counted n = omega arith
-
-outside : (w : HolderFrame) (size : ℕ) (unused_bits : Bool) → w.has_segments ≡ false
-    → frame_after w true size unused_bits ≡ w
-outside w size unused_bits e = ap (λ (b : Bool). if b then frame_after_segment w true size unused_bits else w) e
 
 -- after a primitive with which nothing is found, outside of strings
 abbrev without_primitive : CheckState → CheckState
@@ -75,7 +70,7 @@ passed s h c size w header contents =
     ∙ ap (λ (fs : List Finding). made (after_primitive s.rules s.holders.frame h c)
     (saturating_sum s.finding_count (length fs)) [])
     header
-    ∙ ap (λ (f : HolderFrame). made f (saturating_sum s.finding_count 0) []) (outside s.holders.frame _ _ w)
+    ∙ ap (λ (f : HolderFrame). made f (saturating_sum s.finding_count 0) []) (outside s.holders.frame true _ _ w)
     ∙ ap (λ (n : ℕ).
     record {
       kept =
@@ -85,7 +80,7 @@ passed s h c size w header contents =
       offset = h.offset;
       findings = [];
     })
-    (none-counted (saturating_sum s.finding_count 0) ∙ none-counted s.finding_count)
+    (sum-none (saturating_sum s.finding_count 0) ∙ sum-none s.finding_count)
 
 pub passes : (old new : FinderState) (h : HeaderValue) (c : List ℕ) → announced_length h.size ≡ length c
     → old.kept.holders.frame.has_segments ≡ false

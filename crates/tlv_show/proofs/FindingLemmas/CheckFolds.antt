@@ -45,6 +45,7 @@ use Rattle.tlv_show.proofs.FindingLemmas.FinderItems.{finds_forest, only}
 use Rattle.tlv_show.proofs.FindingLemmas.FinderSteps.{FinderRun, found_items, run_finder}
 use Rattle.tlv_show.proofs.DumpLemmas.Shows.{Shower}
 use Rattle.tlv_show.specs.SaturatingSum.{saturating_sum}
+use Rattle.tlv_show.proofs.SaturatingSums.{sum-more, sum-none}
 
 -- ---- lines
 
@@ -82,12 +83,6 @@ only-written (PaddingLine level offset ∷ l) = only-written l
 
 -- ---- the count
 
-count-none : (n : ℕ) → n ≡ saturating_sum n 0
-count-none n = omega arith
-
-count-more : (n m k : ℕ) → saturating_sum (saturating_sum n m) k ≡ saturating_sum n (m + k)
-count-more n m k = omega arith
-
 either-count : (a b : CheckState) (k : Bool) → a.finding_count ≡ b.finding_count
     → (if k then b else a).finding_count ≡ a.finding_count
 either-count a b true e = sym e
@@ -96,13 +91,13 @@ either-count a b false e = refl
 by-primitive : (s : CheckState) (v : Option OpenPrimitiveState)
     → (finder_primitive_end_step s v).kept.finding_count
     ≡ saturating_sum s.finding_count (length (finder_primitive_end_step s v).findings)
-by-primitive s None = count-none s.finding_count
+by-primitive s None = sym (sum-none s.finding_count)
 by-primitive s (Some v) = refl
 
 by-frames : (s : CheckState) (outer : List HolderFrame)
     → (finder_frame_end_step s outer).kept.finding_count
     ≡ saturating_sum s.finding_count (length (finder_frame_end_step s outer).findings)
-by-frames s [] = count-none s.finding_count
+by-frames s [] = sym (sum-none s.finding_count)
 by-frames s (w ∷ outer) = refl
 
 -- an event's findings are counted
@@ -113,22 +108,22 @@ counted-one s (Begin h) = refl
 counted-one s (Bytes octets) =
     either-count (record s { open_primitive = open_primitive_after s.open_primitive octets }) s (length octets == 0)
     refl
-    ∙ count-none s.finding_count
+    ∙ sym (sum-none s.finding_count)
 counted-one s End = by-primitive s s.open_primitive
 counted-one s (Close offset) = by-frames s s.holders.outer
 counted-one s (Enter h) = refl
-counted-one s Unused = count-none s.finding_count
+counted-one s Unused = sym (sum-none s.finding_count)
 counted-one s Leave = by-frames s s.holders.outer
-counted-one s (Pad octets) = count-none s.finding_count
+counted-one s (Pad octets) = sym (sum-none s.finding_count)
 
 pub counted-all : (s : CheckState) (es : List EventValue)
     → (run_finder s es).state.finding_count ≡ saturating_sum s.finding_count (length (run_finder s es).put)
-counted-all s [] = count-none s.finding_count
+counted-all s [] = sym (sum-none s.finding_count)
 counted-all s (e ∷ es) =
     let f : FinderState = finder_step s e in
     counted-all f.kept es
     ∙ ap (λ (n : ℕ). saturating_sum n (length (run_finder f.kept es).put)) (counted-one s e)
-    ∙ count-more s.finding_count (length f.findings) (length (run_finder f.kept es).put)
+    ∙ sum-more s.finding_count (length f.findings) (length (run_finder f.kept es).put)
     ∙ ap (saturating_sum s.finding_count)
     (omega (
       arith,

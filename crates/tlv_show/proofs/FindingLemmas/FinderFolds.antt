@@ -19,6 +19,7 @@ use Rattle.tlv_show.specs.NestingState.{frame_after, frame_after_segment, frame_
 use Rattle.tlv_show.specs.Items.{headers}
 use Rattle.tlv_show.proofs.FindingLemmas.HeaderFindings.{end-by, ends_by}
 use Rattle.tlv_show.specs.Found.{end_findings}
+use Rattle.tlv_show.proofs.FindingLemmas.FramesAfter.{in-string, outside}
 
 -- a frame after elements of which none is open
 abbrev pub frame_after_elements : HolderFrame → Forest → HolderFrame
@@ -52,16 +53,6 @@ frame_after_segments w (OpenHolder h inside) = w
 frame_after_segments w (OpenBitString h) = w
 frame_after_segments w (OpenHeader octets) = w
 frame_after_segments w OpenEndOctets = w
-
-in-string : (w : HolderFrame) (primitive : Bool) (size : ℕ) (unused_bits : Bool) → w.has_segments ≡ true
-    → frame_after w primitive size unused_bits ≡ frame_after_segment w primitive size unused_bits
-in-string w primitive size unused_bits e =
-    ap (λ (k : Bool). if k then frame_after_segment w primitive size unused_bits else w) e
-
-outside : (w : HolderFrame) (primitive : Bool) (size : ℕ) (unused_bits : Bool) → w.has_segments ≡ false
-    → frame_after w primitive size unused_bits ≡ w
-outside w primitive size unused_bits e =
-    ap (λ (k : Bool). if k then frame_after_segment w primitive size unused_bits else w) e
 
 all-in-string : (w : HolderFrame) (f : Forest) → w.has_segments ≡ true
     → frame_after_elements w f ≡ frame_after_segments w f

@@ -1,8 +1,7 @@
 -- What a finder reports of each event, and of those of one element.
 use Rattle.std.proofs.Common.{◌≡◌, ℕ, ◌+◌, ◌-◌, ◌<◌, ◌≤◌, ◌==◌, Bool, true, false, nat_lt, if◌then◌else◌, List, [], ◌∷◌}
-use Rattle.std.proofs.Common.{◌++◌, length, take, map, refl, sym, ap, ap₂, ◌∙◌, arith, append_assoc}
+use Rattle.std.proofs.Common.{◌++◌, length, map, refl, sym, ap, ap₂, ◌∙◌, arith, append_assoc}
 use Rattle.std.proofs.lemmas.Bool.Decides.{nat_tests}
-use Rattle.std.proofs.lemmas.Grind.{common_steps}
 use Rattle.std.specs.List.{filter}
 use Rattle.std.specs.Prelude.{Option, Some, None}
 use Rattle.tlv_head.specs.Header.{HeaderValue, announced_length}
@@ -32,6 +31,7 @@ use Rattle.tlv_show.proofs.FindingLemmas.FinderFolds.{offset-under, after-under,
 use Rattle.tlv_show.proofs.FindingLemmas.FinderFolds.{summed-under}
 use Rattle.tlv_show.specs.Conditions.{segments_of}
 use Rattle.tlv_show.specs.SaturatingSum.{saturating_sum}
+use Rattle.std.proofs.lemmas.List.{take_all}
 
 -- what becomes of a finder, and the items that it reported
 pub record FinderRun : Type 0 where
@@ -60,9 +60,6 @@ run-more s (x ∷ xs) ys =
 
 -- ---- contents
 
-take-all : (n : ℕ) (c : List ℕ) → length c ≤ n → take n c ≡ c
-take-all n c h = grind (arith, common_steps)
-
 -- all contents octets of a primitive
 abbrev with_check : CheckState → ℕ → ValueCheckState → CheckState
 with_check s offset t = record s { open_primitive = Some (record { offset = offset; check = t }) }
@@ -74,7 +71,7 @@ took s offset h [] e = ap (with_check s offset) (sym (checked-none h))
 took s offset h (x ∷ c) e =
     rw (one-or-more x c)
     (ap (λ (l : List ℕ). with_check s offset (value_check_after (new_value_check h) l))
-    (take-all (announced_length h.size) (x ∷ c) e))
+    (take_all (announced_length h.size) (x ∷ c) e))
 
 -- what is found at their end
 ended : (rules : Rules) (h : HeaderValue) (c : List ℕ) → length c ≡ announced_length h.size

@@ -10,7 +10,7 @@ use Rattle.tlv_head.specs.UniversalTypes.{bit_string, octet_string}
 use Rattle.tlv_value.specs.Types.{has_segments, is_a, is_primitive, type_number}
 use Rattle.tlv_value.proofs.CheckLemmas.CheckPieces.{checked-none}
 use Rattle.tlv_show.specs.declared.holder_frame.HolderFrame.{HolderFrame}
-use Rattle.tlv_show.specs.Conditions.{follows_unused_bits, is_not_full, Surroundings}
+use Rattle.tlv_show.specs.Conditions.{leaves_unused_bits, is_not_full, Surroundings}
 use Rattle.tlv_show.specs.NestingState.{frame_after, frame_after_segment, frame_of, frame_under, top_frame}
 use Rattle.tlv_show.specs.NestingState.{surroundings_in}
 use Rattle.tlv_show.specs.Site.{Sibling, Site, in_bit_string, in_string, site_of_children, Previous, Padding, Start}
@@ -26,14 +26,14 @@ abbrev around : Option HeaderValue → Previous → Surroundings
 around holder previous =
     surroundings_with (is_held_by has_segments holder)
     (is_held_by (λ h. has_segments h && is_a bit_string h) holder)
-    (is_held_by (λ h. has_segments h && is_a bit_string h) holder && follows_unused_bits previous)
+    (is_held_by (λ h. has_segments h && is_a bit_string h) holder && leaves_unused_bits previous)
     (is_held_by has_segments holder && is_not_full previous)
 
 no-string : (h : HeaderValue) (previous : Previous) → has_segments h ≡ false
     → around (Some h) previous ≡ surroundings_in top_frame
 no-string h previous e =
     ap (λ (k : Bool). surroundings_with k (k && is_a bit_string h)
-    ((k && is_a bit_string h) && follows_unused_bits previous)
+    ((k && is_a bit_string h) && leaves_unused_bits previous)
     (k && is_not_full previous))
     e
 
@@ -81,7 +81,7 @@ type-is false n = refl
 
 pub unused-of : (h : HeaderValue) (c : List ℕ) → h.constructed ≡ false
     → has_unused_bits (value_check_after (new_value_check h) c)
-    ≡ follows_unused_bits (Sibling h (first_contents_octet c))
+    ≡ leaves_unused_bits (Sibling h (first_contents_octet c))
 unused-of h [] e = ap has_unused_bits (checked-none h) ∙ by-none (eqb (type_number h) bit_string)
   where
     by-none : (a : Bool) → (a && false) ≡ false
@@ -98,7 +98,7 @@ surroundings_with-eq a a' b b' c c' d d' e f g h = rw (e, f, g, h) refl
 
 pub knows-after : (w : HolderFrame) (s t : Site) (h : HeaderValue) (first : Option ℕ) (unused_bits : Bool) → Knows w s
     → t.holder ≡ s.holder → t.previous ≡ Sibling h first
-    → unused_bits ≡ follows_unused_bits (Sibling h first)
+    → unused_bits ≡ leaves_unused_bits (Sibling h first)
     → Knows (frame_after w (is_primitive h) (announced_length h.size) unused_bits) t
 knows-after w s t h first unused_bits k e b u = by-segments w.has_segments refl
   where
@@ -115,7 +115,7 @@ knows-after w s t h first unused_bits k e b u = by-segments w.has_segments refl
         → Knows (if b then frame_after_segment w (is_primitive h) (announced_length h.size) unused_bits else w) t
     by-segments true c =
         surroundings_with-eq _ _ _ _ _ _ _ _ segments bits
-        (ap₂ (λ (x y : Bool). x && y) bits (u ∙ ap follows_unused_bits (sym b)))
+        (ap₂ (λ (x y : Bool). x && y) bits (u ∙ ap leaves_unused_bits (sym b)))
         (ap₂ (λ (x y : Bool). x && y) segments
         (full-or-not h.constructed (announced_length h.size == 1000) ∙ ap is_not_full (sym b)))
     by-segments false c =

@@ -6,11 +6,13 @@ use Rattle.tlv_head.specs.Header.{HeaderValue}
 use Rattle.tlv_value.specs.Types.{has_segments}
 use Rattle.tlv_show.specs.declared.holder_frame.HolderFrame.{HolderFrame}
 use Rattle.tlv_show.specs.declared.holder_frame.KeptFrame.{KeptFrame}
-use Rattle.tlv_show.specs.NestingState.{NestingState, frame_after, frame_after_segment, frame_of, frame_under}
+use Rattle.tlv_show.specs.NestingState.{NestingState, frame_after, frame_of, frame_under}
 use Rattle.tlv_show.specs.NestingState.{nesting_around, nesting_close_step, nesting_open_step, surroundings_in}
 use Rattle.tlv_show.specs.NestingState.{top_frame}
-use Rattle.tlv_show.specs.Private.Nesting.{AreKept, IsKept, TakesBack, all_frames, frames_with, innermost_frame}
+use Rattle.tlv_show.specs.Private.Nesting.{HasFramesInStrings, HaveRisingFloors, TakesBack, all_frames, frames_with}
+use Rattle.tlv_show.specs.Private.Nesting.{innermost_frame}
 use Rattle.tlv_show.specs.Private.Nesting.{outer_frames, closed_string_frame_inside, closed_string_frame}
+use Rattle.tlv_show.proofs.FindingLemmas.FramesAfter.{outside}
 
 -- ---- how many there are
 
@@ -24,7 +26,8 @@ pub length-outside : (w : HolderFrame) (n : ℕ) (outer : List HolderFrame)
 length-outside w zero outer = omega arith
 length-outside w (suc n) outer = let e = length-all w n outer in omega (arith, e)
 
-length-others : (floor : ℕ) (outer : List KeptFrame) → AreKept floor outer → length (all_frames floor outer) ≡ floor
+length-others : (floor : ℕ) (outer : List KeptFrame) → HaveRisingFloors floor outer
+    → length (all_frames floor outer) ≡ floor
 length-others floor [] none = sym none
 length-others floor (k ∷ outer) (above, kept, others) =
     let e = length-all k.frame (floor - 1 - k.floor) (all_frames k.floor outer) in
@@ -32,14 +35,15 @@ length-others floor (k ∷ outer) (above, kept, others) =
     omega (arith, e, r, above)
 
 -- the depth is their number
-pub one_each : (w : HolderFrame) (floor depth : ℕ) (outer : List KeptFrame) → floor ≤ depth → AreKept floor outer
+pub one_each : (w : HolderFrame) (floor depth : ℕ) (outer : List KeptFrame) → floor ≤ depth
+    → HaveRisingFloors floor outer
     → length (outer_frames w (depth - floor) (all_frames floor outer)) ≡ depth
 one_each w floor depth outer inside others =
     let e = length-outside w (depth - floor) (all_frames floor outer) in
     let r = length-others floor outer others in
     omega (arith, e, r, inside)
 
-pub fewer-kept : (floor : ℕ) (outer : List KeptFrame) → AreKept floor outer → length outer ≤ floor
+pub fewer-kept : (floor : ℕ) (outer : List KeptFrame) → HaveRisingFloors floor outer → length outer ≤ floor
 fewer-kept floor [] none = omega arith
 fewer-kept floor (k ∷ outer) (above, kept, others) = let r = fewer-kept k.floor outer others in omega (arith, r, above)
 
@@ -57,7 +61,8 @@ split w zero outer = refl
 split w (suc n) outer = refl
 
 -- all frames outside of strings say the same of what is around an element
-pub around-same : (w : HolderFrame) (n : ℕ) → IsKept w n → surroundings_in w ≡ surroundings_in (innermost_frame w n)
+pub around-same : (w : HolderFrame) (n : ℕ) → HasFramesInStrings w n
+    → surroundings_in w ≡ surroundings_in (innermost_frame w n)
 around-same w zero kept = refl
 around-same w (suc n) kept =
     ap (λ (k : Bool). record {
@@ -83,7 +88,7 @@ neither false b e = (refl, e)
 
 opened-without_frame : (w : HolderFrame) (n : ℕ) (outer : List HolderFrame) (h : HeaderValue)
     → length (outer_frames w n outer) < 128
-    → IsKept w n → (w.has_segments || has_segments h) ≡ false
+    → HasFramesInStrings w n → (w.has_segments || has_segments h) ≡ false
     → nest w (suc n) outer ≡ nesting_open_step (nest w n outer) h
 opened-without_frame w n outer h few kept none =
     let e : w.has_segments ≡ false = (neither w.has_segments (has_segments h) none).0 in
@@ -96,7 +101,7 @@ opened-without_frame w n outer h few kept none =
 
 opened-frame : (w : HolderFrame) (n : ℕ) (outer : List HolderFrame) (h : HeaderValue)
     → length (outer_frames w n outer) < 128
-    → IsKept w n → (w.has_segments || has_segments h) ≡ true
+    → HasFramesInStrings w n → (w.has_segments || has_segments h) ≡ true
     → nest (frame_of h) 0 (frames_with w n outer) ≡ nesting_open_step (nest w n outer) h
 opened-frame w n outer h few kept one =
     ap₂ (λ (b : Bool) (l : List HolderFrame). record { frame = if b then frame_of h else top_frame; outer = l })
@@ -105,7 +110,7 @@ opened-frame w n outer h few kept one =
 
 module _
     (w : HolderFrame) (floor depth : ℕ) (outer : List KeptFrame)
-    (inside : floor ≤ depth) (kept : IsKept w (depth - floor)) (others : AreKept floor outer)
+    (inside : floor ≤ depth) (kept : HasFramesInStrings w (depth - floor)) (others : HaveRisingFloors floor outer)
     (h : HeaderValue) (few : depth < 128)
   where
     few-outside : length (outer_frames w (depth - floor) (all_frames floor outer)) < 128
@@ -127,29 +132,24 @@ module _
 
 -- ---- an element ends
 
-outer_frames-strings : (w : HolderFrame) (primitive : Bool) (size : ℕ) (unused_bits : Bool) → w.has_segments ≡ false
-    → frame_after w primitive size unused_bits ≡ w
-outer_frames-strings w primitive size unused_bits e =
-    ap (λ (k : Bool). if k then frame_after_segment w primitive size unused_bits else w) e
-
-one-less : (w : HolderFrame) (n : ℕ) → IsKept w (suc n) → (innermost_frame w n).has_segments ≡ false
+one-less : (w : HolderFrame) (n : ℕ) → HasFramesInStrings w (suc n) → (innermost_frame w n).has_segments ≡ false
 one-less w zero kept = sym kept
 one-less w (suc n) kept = refl
 
-closed-without_frame : (w : HolderFrame) (n : ℕ) (outer : List HolderFrame) → IsKept w (suc n)
+closed-without_frame : (w : HolderFrame) (n : ℕ) (outer : List HolderFrame) → HasFramesInStrings w (suc n)
     → nest w n outer ≡ nesting_close_step (nest w (suc n) outer)
 closed-without_frame w n outer kept =
     ap (λ (v : HolderFrame). record { frame = v; outer = outer_frames w n outer })
-    (sym (outer_frames-strings (innermost_frame w n) false 0 false (one-less w n kept)))
+    (sym (outside (innermost_frame w n) false 0 false (one-less w n kept)))
     ∙ ap (nesting_around top_frame) (sym (split w n outer))
 
-closed-frame : (closed w : HolderFrame) (n : ℕ) (outer : List HolderFrame) → IsKept w n
+closed-frame : (closed w : HolderFrame) (n : ℕ) (outer : List HolderFrame) → HasFramesInStrings w n
     → nest (frame_after w closed.is_primitive closed.announced_length false) n outer
     ≡ nesting_around closed (frames_with w n outer)
 closed-frame closed w zero outer kept = refl
 closed-frame closed w (suc n) outer kept =
     ap (λ (v : HolderFrame). record { frame = top_frame; outer = frames_with v n outer })
-    (outer_frames-strings w closed.is_primitive closed.announced_length false (sym kept))
+    (outside w closed.is_primitive closed.announced_length false (sym kept))
 
 closed-top : (w : HolderFrame) (outer : List HolderFrame) → length outer ≡ 0
     → (record { frame = w; outer = outer } ≡ nesting_around w outer) × (None ≡ closed_string_frame_inside w outer)
@@ -157,28 +157,28 @@ closed-top w [] none = (refl, refl)
 closed-top w (v ∷ outer) none = absurd (omega arith)
 
 module _ (w : HolderFrame) (floor depth : ℕ) (outer : List KeptFrame) where
-  pub closes-without_frame : IsKept w (depth - floor) → floor < depth
+  pub closes-without_frame : HasFramesInStrings w (depth - floor) → floor < depth
       → nesting_of w floor (depth - 1) outer ≡ nesting_close_step (nesting_of w floor depth outer)
   closes-without_frame kept above =
       let one_more : depth - floor ≡ suc (depth - 1 - floor) = omega arith in
-      let same : IsKept w (suc (depth - 1 - floor)) = subst (IsKept w) one_more kept in
+      let same : HasFramesInStrings w (suc (depth - 1 - floor)) = subst (HasFramesInStrings w) one_more kept in
       rw one_more (closed-without_frame w (depth - 1 - floor) (all_frames floor outer) same)
 
-  pub closes-top : floor ≤ depth → AreKept floor outer → depth ≡ 0
+  pub closes-top : floor ≤ depth → HaveRisingFloors floor outer → depth ≡ 0
       → (nesting_of w floor depth outer ≡ nesting_close_step (nesting_of w floor depth outer))
       × (None ≡ closed_string_frame (nesting_of w floor depth outer))
   closes-top inside others top =
       closed-top (innermost_frame w (depth - floor)) (outer_frames w (depth - floor) (all_frames floor outer))
       (one_each w floor depth outer inside others ∙ top)
 
-pub closes-frame : (w : HolderFrame) (floor depth : ℕ) (outer : List KeptFrame) → AreKept floor outer → floor ≡ depth
-    → 0 < depth
+pub closes-frame : (w : HolderFrame) (floor depth : ℕ) (outer : List KeptFrame) → HaveRisingFloors floor outer
+    → floor ≡ depth → 0 < depth
     → (v : HolderFrame) (lower : ℕ) (rest : List KeptFrame) → TakesBack w outer v lower rest
     → nesting_of v lower (depth - 1) rest ≡ nesting_close_step (nesting_of w floor depth outer)
 closes-frame w floor depth [] none at_floor any v lower rest back = absurd (omega arith)
 closes-frame w floor depth (k ∷ outer) (above, kept, others) at_floor any v lower rest back =
     let none_inside : depth - depth ≡ 0 = omega arith in
-    let same : IsKept k.frame (depth - 1 - k.floor) =
-    subst (λ (n : ℕ). IsKept k.frame (n - 1 - k.floor)) at_floor kept in
+    let same : HasFramesInStrings k.frame (depth - 1 - k.floor) =
+    subst (λ (n : ℕ). HasFramesInStrings k.frame (n - 1 - k.floor)) at_floor kept in
     rw (back.frame, back.same_floor, back.others, at_floor, none_inside)
     (closed-frame w k.frame (depth - 1 - k.floor) (all_frames k.floor outer) same)

@@ -12,6 +12,7 @@ use Rattle.tlv_head.proofs.ShortestLemmas.ShortestSpelling.{no-shorter_identifie
 use Rattle.tlv_head.proofs.ShortestLemmas.ShortestSpelling.{shorter-identifier, shorter-length}
 use Rattle.tlv_show.specs.declared.rules.Rules.{Rules}
 use Rattle.tlv_show.specs.declared.rules.Rules.TheVariants.{Ber, Der, Cer}
+use Rattle.tlv_show.specs.Conditions.{begins_with_zero_bits, is_high_form_needless, is_length_padded}
 use Rattle.tlv_show.specs.Conditions.{second_length_octet, has_high_form, has_long_form, header_conditions, number_bits}
 use Rattle.tlv_show.specs.Conditions.{Surroundings}
 use Rattle.tlv_show.specs.Found.{header_findings}
@@ -32,16 +33,16 @@ from-absurd false none = absurd (none refl)
 -- ---- identifier octets
 
 abbrev pub longer_identifier : HeaderValue → Bool
-longer_identifier h = (has_high_form h && nat_lt h.number 31) || (has_high_form h && number_bits h == 0)
+longer_identifier h = is_high_form_needless h || begins_with_zero_bits h
 
 on-identifier : (rules : Rules) (s : Surroundings) (h : HeaderValue)
     → any_of is_on_identifier rules (header_conditions s h) ≡ longer_identifier h
 on-identifier Ber s h =
-    ap (λ (b : Bool). (has_high_form h && nat_lt h.number 31) || b) (or-false (has_high_form h && number_bits h == 0))
+    ap (λ (b : Bool). is_high_form_needless h || b) (or-false (begins_with_zero_bits h))
 on-identifier Der s h =
-    ap (λ (b : Bool). (has_high_form h && nat_lt h.number 31) || b) (or-false (has_high_form h && number_bits h == 0))
+    ap (λ (b : Bool). is_high_form_needless h || b) (or-false (begins_with_zero_bits h))
 on-identifier Cer s h =
-    ap (λ (b : Bool). (has_high_form h && nat_lt h.number 31) || b) (or-false (has_high_form h && number_bits h == 0))
+    ap (λ (b : Bool). is_high_form_needless h || b) (or-false (begins_with_zero_bits h))
 
 -- an identifier as short as it can be has none of them
 pub longer_identifier-absent : (h : HeaderValue) → IsShortestIdentifier h.number h.identifier
@@ -63,7 +64,7 @@ longer_identifier-absent h s = elim (cases_lt 1 (length h.identifier)) [
 identifier-shortest : (h : HeaderValue) → IsHeader h → longer_identifier h ≡ false
     → IsShortestIdentifier h.number h.identifier
 identifier-shortest h valid e =
-    let both : ((has_high_form h && nat_lt h.number 31) ≡ false) × ((has_high_form h && number_bits h == 0) ≡ false) =
+    let both : (is_high_form_needless h ≡ false) × (begins_with_zero_bits h ≡ false) =
     or_parts _ _ e in
     identifier-from h valid (high-form h both.0 both.1)
 
@@ -78,18 +79,15 @@ identifiers-found rules s h valid nonzero =
 
 -- ---- length octets
 
-abbrev pub longer_lengths : HeaderValue → Bool
-longer_lengths h = has_long_form h && (nat_lt (announced_length h.size) 128 || second_length_octet h == 0)
-
 on-lengths : (rules : Rules) (s : Surroundings) (h : HeaderValue) → rules ≢ Ber
-    → any_of is_on_lengths rules (header_conditions s h) ≡ longer_lengths h
+    → any_of is_on_lengths rules (header_conditions s h) ≡ is_length_padded h
 on-lengths Ber s h strict = absurd (strict refl)
-on-lengths Der s h strict = or-false (longer_lengths h)
-on-lengths Cer s h strict = or-false (longer_lengths h)
+on-lengths Der s h strict = or-false (is_length_padded h)
+on-lengths Cer s h strict = or-false (is_length_padded h)
 
-pub longer_lengths-absent : (h : HeaderValue) → IsShortestLength (announced_length h.size) h.lengths
-    → longer_lengths h ≡ false
-longer_lengths-absent h s = elim (cases_lt 1 (length h.lengths)) [
+pub length-not_padded : (h : HeaderValue) → IsShortestLength (announced_length h.size) h.lengths
+    → is_length_padded h ≡ false
+length-not_padded h s = elim (cases_lt 1 (length h.lengths)) [
   | inl more ↦
       let large : 128 ≤ announced_length h.size =
       at-least (announced_length h.size) 128 (λ small. omega (arith, more, s.single small)) in
@@ -104,9 +102,9 @@ longer_lengths-absent h s = elim (cases_lt 1 (length h.lengths)) [
 
 pub lengths-found : LongerLengthsAreFound
 lengths-found rules s h strict valid =
-    let same : list_any is_on_lengths (header_findings rules s h) ≡ longer_lengths h =
+    let same : list_any is_on_lengths (header_findings rules s h) ≡ is_length_padded h =
     found-with_header is_on_lengths rules s h ∙ on-lengths rules s h strict in (
-      (λ e. shorter-length h valid (λ t. true≢false (sym e ∙ same ∙ longer_lengths-absent h t))),
+      (λ e. shorter-length h valid (λ t. true≢false (sym e ∙ same ∙ length-not_padded h t))),
       (λ r. same
-          ∙ from-absurd (longer_lengths h) (λ e. no-shorter_length h valid (lengths-from h valid (long-form h e)) r)),
+          ∙ from-absurd (is_length_padded h) (λ e. no-shorter_length h valid (lengths-from h valid (long-form h e)) r)),
     )

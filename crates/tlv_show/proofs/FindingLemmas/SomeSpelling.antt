@@ -1,6 +1,6 @@
 -- Sound elements with headers as short as they can be, and lengths of one form, have no findings on their spelling;
 -- so each sound input has a spelling without them.
-use Rattle.std.proofs.Common.{◌≡◌, ◌≢◌, inl, inr, ◌&&◌, ◌||◌, not, nat_lt, ◌==◌, eqb, ℕ, ◌+◌, ◌^◌, ◌<◌, ◌≤◌, Bool, true}
+use Rattle.std.proofs.Common.{◌≡◌, ◌≢◌, inl, inr, ◌&&◌, ◌||◌, not, eqb, ℕ, ◌+◌, ◌^◌, ◌<◌, ◌≤◌, Bool, true}
 use Rattle.std.proofs.Common.{false, List, [], ◌∷◌, ◌++◌, length, refl, sym, ap, ◌∙◌, arith, subst, length-append}
 use Rattle.std.proofs.Common.{ne_eqb}
 use Rattle.std.proofs.lemmas.Bool.{or_from, true≢false}
@@ -28,7 +28,8 @@ use Rattle.tlv_walk.proofs.GrammarLemmas.Respelled.{respelled}
 use Rattle.tlv_walk.proofs.EventLemmas.Wrappers.{AreNamed, Rise, wrapper_offsets-named, wrapper_offsets-rise}
 use Rattle.tlv_show.specs.declared.rules.Rules.{Rules}
 use Rattle.tlv_show.specs.declared.rules.Rules.TheVariants.{Ber, Der, Cer}
-use Rattle.tlv_show.specs.Conditions.{Segments, end_conditions, has_high_form, header_conditions, number_bits}
+use Rattle.tlv_show.specs.Conditions.{begins_with_zero_bits, is_high_form_needless, is_length_padded}
+use Rattle.tlv_show.specs.Conditions.{Segments, end_conditions, header_conditions}
 use Rattle.tlv_show.specs.Conditions.{segments_of, surroundings_of}
 use Rattle.tlv_show.specs.Found.{contents_findings, header_findings, end_findings}
 use Rattle.tlv_show.specs.Items.{Item, OpeningLine, ClosingLine, PrimitiveLines, PaddingLine, headers, items}
@@ -36,7 +37,7 @@ use Rattle.tlv_show.specs.Items.{contents_items, end_items, header_items}
 use Rattle.tlv_show.specs.Site.{Site, is_padding, site_of_children, top_site}
 use Rattle.tlv_show.specs.Site.{site_after_primitive, site_after_holder, site_after_padding}
 use Rattle.tlv_show.specs.Spellings.{SomeSpelling, is_item_on_spelling, is_on_spelling}
-use Rattle.tlv_show.proofs.FindingLemmas.LongerHeaders.{longer_identifier-absent, longer_lengths, longer_lengths-absent}
+use Rattle.tlv_show.proofs.FindingLemmas.LongerHeaders.{longer_identifier-absent, length-not_padded}
 use Rattle.tlv_show.proofs.FindingLemmas.Spellings.{IsSoundReading, form_by, items-found, sound-reading_of}
 use Rattle.tlv_show.proofs.FindingLemmas.FindingsOfHeaders.{all-found, any_of, found-with_header}
 
@@ -59,13 +60,13 @@ header-absent : (rules : Rules) (s : Site) (h : HeaderValue) → rules ≢ Ber �
     → any_of is_on_spelling rules (header_conditions (surroundings_of s) h) ≡ false
 header-absent Ber s h strict r = absurd (strict refl)
 header-absent Der s h strict r =
-    four-absent (has_high_form h && nat_lt h.number 31) (has_high_form h && number_bits h == 0) (longer_lengths h)
+    four-absent (is_high_form_needless h) (begins_with_zero_bits h) (is_length_padded h)
     (is_indefinite h.size)
-    (longer_identifier-absent h r.shortest.identifier) (longer_lengths-absent h r.shortest.lengths) r.by_form
+    (longer_identifier-absent h r.shortest.identifier) (length-not_padded h r.shortest.lengths) r.by_form
 header-absent Cer s h strict r =
-    four-absent (has_high_form h && nat_lt h.number 31) (has_high_form h && number_bits h == 0) (longer_lengths h)
+    four-absent (is_high_form_needless h) (begins_with_zero_bits h) (is_length_padded h)
     (h.constructed && not (is_indefinite h.size)) (longer_identifier-absent h r.shortest.identifier)
-    (longer_lengths-absent h r.shortest.lengths)
+    (length-not_padded h r.shortest.lengths)
     (constructed-absent h.constructed (is_indefinite h.size) r.by_form)
 
 contents-absent : (rules : Rules) (h : HeaderValue) (c : List ℕ)

@@ -25,7 +25,8 @@ use Rattle.tlv_walk.proofs.GrammarLemmas.Endings.{done-sound, sound-reading}
 use Rattle.tlv_walk.proofs.GrammarLemmas.Readings.{reading-unique}
 use Rattle.tlv_show.specs.declared.rules.Rules.{Rules}
 use Rattle.tlv_show.specs.declared.rules.Rules.TheVariants.{Ber, Der, Cer}
-use Rattle.tlv_show.specs.Conditions.{second_length_octet, has_high_form, has_long_form, header_conditions, number_bits}
+use Rattle.tlv_show.specs.Conditions.{begins_with_zero_bits, is_high_form_needless, is_length_padded}
+use Rattle.tlv_show.specs.Conditions.{second_length_octet, header_conditions, number_bits}
 use Rattle.tlv_show.specs.Conditions.{surroundings_of}
 use Rattle.tlv_show.specs.Found.{header_findings}
 use Rattle.tlv_show.specs.Items.{Item, OpeningLine, ClosingLine, PrimitiveLines, PaddingLine, items}
@@ -59,8 +60,8 @@ none-of_four false false false true e = absurd (cc (e))
 
 -- ---- what they say of a header
 
-pub high-form : (h : HeaderValue) → (has_high_form h && nat_lt h.number 31) ≡ false
-    → (has_high_form h && number_bits h == 0) ≡ false
+pub high-form : (h : HeaderValue) → is_high_form_needless h ≡ false
+    → begins_with_zero_bits h ≡ false
     → 1 < length h.identifier → (31 ≤ h.number) × (slice_index h.identifier 1 % 128 ≢ 0)
 high-form h a b more =
     let high : nat_lt 1 (length h.identifier) ≡ true = grind (arith, nat_tests) in
@@ -69,7 +70,7 @@ high-form h a b more =
     (grind (arith, nat_tests), grind (arith, nat_tests))
 
 pub long-form : (h : HeaderValue)
-    → (has_long_form h && (nat_lt (announced_length h.size) 128 || second_length_octet h == 0)) ≡ false
+    → is_length_padded h ≡ false
     → 1 < length h.lengths → (128 ≤ announced_length h.size) × (slice_index h.lengths 1 ≢ 0)
 long-form h a more =
     let long : nat_lt 1 (length h.lengths) ≡ true = grind (arith, nat_tests) in
@@ -80,9 +81,9 @@ long-form h a more =
     let nonzero : (second_length_octet h == 0) ≡ false = both.1 in
     (grind (arith, nat_tests), grind (arith, nat_tests))
 
-shortest : (h : HeaderValue) → IsHeader h → (has_high_form h && nat_lt h.number 31) ≡ false
-    → (has_high_form h && number_bits h == 0) ≡ false
-    → (has_long_form h && (nat_lt (announced_length h.size) 128 || second_length_octet h == 0)) ≡ false → IsShortest h
+shortest : (h : HeaderValue) → IsHeader h → is_high_form_needless h ≡ false
+    → begins_with_zero_bits h ≡ false
+    → is_length_padded h ≡ false → IsShortest h
 shortest h valid a b c = record {
   identifier = identifier-from h valid (high-form h a b);
   lengths = lengths-from h valid (long-form h c);
@@ -108,13 +109,13 @@ regular : (rules : Rules) (s : Site) (h : HeaderValue) → rules ≢ Ber → IsH
     → IsRegular (form_by rules) h
 regular Ber s h strict valid e = absurd (strict refl)
 regular Der s h strict valid e =
-    let none = none-of_four (has_high_form h && nat_lt h.number 31) (has_high_form h && number_bits h == 0)
-    (has_long_form h && (nat_lt (announced_length h.size) 128 || second_length_octet h == 0)) (is_indefinite h.size)
+    let none = none-of_four (is_high_form_needless h) (begins_with_zero_bits h)
+    (is_length_padded h) (is_indefinite h.size)
     (absent Der s h e) in
     record { shortest = shortest h valid none.0 none.1 none.2; by_form = none.3 }
 regular Cer s h strict valid e =
-    let none = none-of_four (has_high_form h && nat_lt h.number 31) (has_high_form h && number_bits h == 0)
-    (has_long_form h && (nat_lt (announced_length h.size) 128 || second_length_octet h == 0))
+    let none = none-of_four (is_high_form_needless h) (begins_with_zero_bits h)
+    (is_length_padded h)
     (h.constructed && not (is_indefinite h.size)) (absent Cer s h e) in
     record {
       shortest = shortest h valid none.0 none.1 none.2;

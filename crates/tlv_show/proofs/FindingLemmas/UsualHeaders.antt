@@ -1,13 +1,14 @@
 -- Under BER nothing is found with the header of a usual element, outside of strings, whose tag has a form as it has
 -- to be.
-use Rattle.std.proofs.Common.{◌≡◌, ◌&&◌, ◌==◌, not, nat_lt, Bool, false, [], ◌∷◌, refl, ap, ◌∙◌}
+use Rattle.std.proofs.Common.{◌≡◌, ◌&&◌, not, Bool, false, [], ◌∷◌, refl, ap, ◌∙◌}
 use Rattle.tlv_head.specs.Header.{HeaderValue}
 use Rattle.tlv_value.specs.declared.finding.Finding.TheVariants.{B01, B02, B03, B04, B05, B16, B17}
 use Rattle.tlv_value.specs.Checks.{findings_by}
 use Rattle.tlv_value.specs.Types.{is_a}
 use Rattle.tlv_show.specs.declared.holder_frame.HolderFrame.{HolderFrame}
 use Rattle.tlv_show.specs.declared.rules.Rules.TheVariants.{Ber}
-use Rattle.tlv_show.specs.Conditions.{has_high_form, number_bits, segment_type}
+use Rattle.tlv_show.specs.Conditions.{begins_with_zero_bits, is_high_form_needless}
+use Rattle.tlv_show.specs.Conditions.{segment_type}
 use Rattle.tlv_show.specs.NestingState.{surroundings_in}
 use Rattle.tlv_show.specs.Found.{header_findings}
 use Rattle.tlv_show.specs.Private.UsualTypes.{IsUsual}
@@ -19,7 +20,7 @@ none-of_seven : (a b c d e f g : Bool) → a ≡ false → b ≡ false → c ≡
 none-of_seven a b c d e f g p q r s t u v = rw (p, q, r, s, t, u, v) refl
 
 pub none-by_ber : (w : HolderFrame) (h : HeaderValue) → w.has_segments ≡ false
-    → (has_high_form h && nat_lt h.number 31) ≡ false → (has_high_form h && number_bits h == 0) ≡ false → IsUsual h
+    → is_high_form_needless h ≡ false → begins_with_zero_bits h ≡ false → IsUsual h
     → header_findings Ber (surroundings_in w) h ≡ []
 none-by_ber w h outside number bits usual =
     basic-found (surroundings_in w) h

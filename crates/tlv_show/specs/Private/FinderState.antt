@@ -11,7 +11,7 @@ use Rattle.tlv_show.specs.FinderState.{finder_end_step, finder_close_step}
 abbrev pub new_finder : Rules → FinderState
 new_finder rules = without_findings (new_check rules)
 
--- what is kept alone changes
+-- only what is kept changes
 abbrev pub with_check_state : CheckState → FinderState → FinderState
 with_check_state s f = record f { kept = s }
 

@@ -40,13 +40,14 @@ all_frames floor [] = []
 all_frames floor (k ∷ outer) = frames_with k.frame (floor - 1 - k.floor) (all_frames k.floor outer)
 
 -- in a string each open element has a frame of its own
-abbrev pub IsKept : HolderFrame → ℕ → Type 0
-IsKept w without_frame = (innermost_frame w without_frame).has_segments ≡ w.has_segments
+abbrev pub HasFramesInStrings : HolderFrame → ℕ → Type 0
+HasFramesInStrings w without_frame = (innermost_frame w without_frame).has_segments ≡ w.has_segments
 
 -- each floor is above the one outside of it, and that of the top is 0
-abbrev pub AreKept : ℕ → List KeptFrame → Type 0
-AreKept floor [] = floor ≡ 0
-AreKept floor (k ∷ outer) = (k.floor < floor) × IsKept k.frame (floor - 1 - k.floor) × AreKept k.floor outer
+abbrev pub HaveRisingFloors : ℕ → List KeptFrame → Type 0
+HaveRisingFloors floor [] = floor ≡ 0
+HaveRisingFloors floor (k ∷ outer) =
+    (k.floor < floor) × HasFramesInStrings k.frame (floor - 1 - k.floor) × HaveRisingFloors k.floor outer
 
 -- what is kept after the end of the element inside the innermost of these
 pub record IsTakenBack (closed : HolderFrame) (k : KeptFrame) (outer : List KeptFrame)

@@ -2,14 +2,14 @@ use Rattle.std.proofs.Common.{arith}
 use Rattle.tlv_show.proofs.FindingLemmas.KeptFrames.{closes-frame, closes-without_frame, closes-top}
 use Rattle.tlv_show.proofs.nesting.Nesting.close.Goals as goal
 
-pub returns-then-self-clause-nest : goal.returns-then-self-clause-nest
-returns-then-self-clause-nest c =
+pub returns-then-self-clause-state : goal.returns-then-self-clause-state
+returns-then-self-clause-state c =
     let n = c.self.inside in
     rw (← c.self.view_is)
     (closes-without_frame n.frame n.floor n.depth n.outer c.self.invariant.innermost c.if-self.true)
 
-pub returns-then-self-eq0-clause-nest : goal.returns-then-self-eq0-clause-nest
-returns-then-self-eq0-clause-nest c =
+pub returns-then-self-eq0-clause-state : goal.returns-then-self-eq0-clause-state
+returns-then-self-eq0-clause-state c =
     let n = c.self.inside in
     let known = c.self.invariant in
     rw (← c.self.view_is)
@@ -22,8 +22,8 @@ returns-then-self-eq0-clause-closed c =
     rw (← c.self.view_is)
     (closes-top n.frame n.floor n.depth n.outer known.inside known.others c.if-self-eq0.true).1
 
-pub returns-clause-nest : goal.returns-clause-nest
-returns-clause-nest c =
+pub returns-clause-state : goal.returns-clause-state
+returns-clause-state c =
     let n = c.self.inside in
     rw (← c.self.view_is)
     (closes-frame n.frame n.floor n.depth n.outer c.self.invariant.others (omega arith) (omega arith)

@@ -112,7 +112,7 @@ impl<'n> Lines<'n> {
         Ok(())
     }
 
-    /// An element that holds others ends: `offset` is where its end-of-contents octets are.
+    /// An element that holds others ends: `offset` is where its end-of-contents octets are, if it has them.
     pub fn close<D: Drain>(
         &mut self,
         offset: Option<u64>,
@@ -185,7 +185,7 @@ impl<'n> Lines<'n> {
     }
 }
 
-ghost use Rattle.tlv_show.specs.LinesStep.{value_after, value_contents_lines, value_end_lines};
+ghost use Rattle.tlv_show.specs.LinesStep.{open_text_after, open_text_lines, open_text_end_lines};
 ghost use Rattle.tlv_show.specs.Private.IfOpen.{if_open};
 
 /// Puts the lines that more contents octets of the open primitive make known. Of octets after those that were
@@ -197,9 +197,9 @@ fn put_bytes<D: Drain>(
     out: &mut Out<'_, D>,
 ) -> Result<(), WriteFault>
     ensures state { OnOk result
-        (if_open is_open text.new ≡ value_after (if_open is_open text.old) octets.now) }
+        (if_open is_open text.new ≡ open_text_after (if_open is_open text.old) octets.now) }
     ensures puts { Puts D.state out.old out.new
-        (value_contents_lines (if_open is_open text.old) octets.now) result }
+        (open_text_lines (if_open is_open text.old) octets.now) result }
 {
     if !is_open {
         return Ok(());
@@ -216,7 +216,7 @@ fn put_end<D: Drain>(
     out: &mut Out<'_, D>,
 ) -> Result<(), WriteFault>
     ensures { Puts D.state out.old out.new
-        (value_end_lines names.now (if_open is_open text.old)) result }
+        (open_text_end_lines names.now (if_open is_open text.old)) result }
 {
     if !is_open || text.left() != 0 {
         return Ok(());

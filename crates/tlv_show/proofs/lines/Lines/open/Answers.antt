@@ -1,8 +1,8 @@
 use Rattle.std.proofs.Common.{refl, ap, rules}
 use Rattle.tlv_io.proofs.Puts.{puts_as, puts_text}
 use Rattle.tlv_show.specs.LinesStep.{LinesState}
-use Rattle.tlv_show.specs.Lines.{opening_line}
-use Rattle.tlv_show.proofs.line_follower.Lines.open.Goals as goal
+use Rattle.tlv_show.specs.HolderLines.{opening_line}
+use Rattle.tlv_show.proofs.lines.Lines.open.Goals as goal
 
 pub returns : goal.returns
 returns g c =

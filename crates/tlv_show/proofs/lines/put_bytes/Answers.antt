@@ -1,6 +1,6 @@
 use Rattle.std.proofs.Common.{arith, rules}
 use Rattle.std.proofs.lemmas.Grind.{elements}
-use Rattle.tlv_show.proofs.line_follower.put_bytes.Goals as goal
+use Rattle.tlv_show.proofs.lines.put_bytes.Goals as goal
 
 pub bytes-requires : goal.bytes-requires
 bytes-requires g c = search rules

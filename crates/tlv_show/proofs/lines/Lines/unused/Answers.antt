@@ -1,5 +1,5 @@
 use Rattle.std.proofs.Common.{rules}
-use Rattle.tlv_show.proofs.line_follower.Lines.unused.Goals as goal
+use Rattle.tlv_show.proofs.lines.Lines.unused.Goals as goal
 
 pub returns : goal.returns
 returns c = search rules

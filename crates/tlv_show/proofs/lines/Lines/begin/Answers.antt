@@ -1,5 +1,5 @@
 use Rattle.std.proofs.Common.{rules}
-use Rattle.tlv_show.proofs.line_follower.Lines.begin.Goals as goal
+use Rattle.tlv_show.proofs.lines.Lines.begin.Goals as goal
 
 pub returns : goal.returns
 returns g c = record { puts = search rules; state = search rules }

@@ -6,7 +6,7 @@ use Rattle.tlv_walk.specs.Follow.{Effect, each_octet}
 use Rattle.tlv_show.specs.LinesStep.{LinesState, lines_octet_step}
 use Rattle.tlv_show.proofs.DumpLemmas.OctetPieces.{dumped_bytes}
 use Rattle.tlv_io.proofs.Puts.{puts_text}
-use Rattle.tlv_show.proofs.line_follower.Lines.bytes.Goals as goal
+use Rattle.tlv_show.proofs.lines.Lines.bytes.Goals as goal
 use Rattle.tlv_show.specs.SaturatingSum.{saturating_sum}
 
 pub returns : goal.returns

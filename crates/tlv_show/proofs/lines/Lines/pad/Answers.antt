@@ -5,7 +5,7 @@ use Rattle.tlv_show.specs.LinesStep.{LinesState, lines_padding_step}
 use Rattle.tlv_show.specs.Private.IfOpen.{if_open}
 use Rattle.tlv_show.proofs.DumpLemmas.OctetPieces.{padded_first, padded_more}
 use Rattle.tlv_io.proofs.Puts.{puts_nothing, puts_text}
-use Rattle.tlv_show.proofs.line_follower.Lines.pad.Goals as goal
+use Rattle.tlv_show.proofs.lines.Lines.pad.Goals as goal
 use Rattle.tlv_show.specs.SaturatingSum.{saturating_sum}
 
 pub returns-then-self : goal.returns-then-self

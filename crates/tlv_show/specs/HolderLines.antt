@@ -28,10 +28,13 @@ opening_line layout h word =
 abbrev pub dump_opening_line : Layout → HeaderValue → List ℕ
 dump_opening_line layout h = opening_line layout h (opening_word h.constructed)
 
--- its end, with the offset of its end-of-contents octets, if it has them
+-- the first columns of the line of its end: the offset of its end-of-contents octets, if it has them
+abbrev pub closing_columns : Option ℕ → List ℕ
+closing_columns offset = option_map_or (λ offset. columns offset (codes "end")) offset no_columns
+
+-- the line of its end
 abbrev pub closing_line : Layout → Option ℕ → List ℕ
-closing_line layout offset =
-    text_line layout (option_map_or (λ offset. columns offset (codes "end")) offset no_columns) (codes "}")
+closing_line layout offset = text_line layout (closing_columns offset) (codes "}")
 
 abbrev pub padding_line : Layout → ℕ → List ℕ
 padding_line layout offset = text_line layout (columns offset (codes "pad")) (codes "padding")
