@@ -13,7 +13,9 @@ use tlv_value::Names;
 /// What a run over octets in memory wrote, and its report.
 #[derive(Debug, Drop)]
 pub struct OctetsRun<const N: usize> {
+    /// The octets that were written, in order.
     pub written: ArrayVec<u8, N>,
+    /// The report.
     pub report: Report,
 }
 

@@ -1,9 +1,9 @@
 -- Sources over octets in memory, and a drain with room for so many octets, as contracts see them.
-use Rattle.std.specs.Prelude.{ℕ, zero, suc, ltb, List, [], Some, if◌then◌else◌, length}
+use Rattle.std.specs.Prelude.{ℕ, zero, suc, List, [], Some, if◌then◌else◌, length, nat_lt}
 use Rattle.tlv_io.specs.Device.{DrainState, LastReadValue, SourceState, failed, gave, never}
 use Rattle.tlv_io.specs.MemSource.{MemSourceState, source_state_of}
 
--- a source that fails with no read shows no failure
+-- a source of which no read fails shows no failures
 abbrev pub unfailing_source_state : MemSourceState → SourceState
 unfailing_source_state source = record (source_state_of source) { failures = 0 }
 
@@ -31,5 +31,5 @@ failing_source_state source failures = record (source_state_of source) {
 abbrev pub bounded_drain_state : ℕ → List ℕ → ℕ → DrainState
 bounded_drain_state room octets failures = record {
   octets = Some octets;
-  failures = if ltb (length octets) room then 0 else failures;
+  failures = if nat_lt (length octets) room then 0 else failures;
 }
