@@ -1,5 +1,5 @@
 -- Which status an input comes to.
-use Rattle.std.proofs.Common.{◌≡◌, ◌==◌, ℕ, Bool, true, false, if◌then◌else◌, [], ◌++◌, refl, sym, ap, ◌∙◌, subst}
+use Rattle.std.proofs.Common.{◌≡◌, ◌==◌, ℕ, Bool, true, false, if◌then◌else◌, ◌++◌, refl, sym, ap, ◌∙◌, subst}
 use Rattle.std.specs.Prelude.{Option, Some, None, codes, decimal}
 use Rattle.tlv_cut.specs.ExtractText.{has_element_at}
 use Rattle.tlv_show.specs.declared.outcome.Outcome.{Outcome}
