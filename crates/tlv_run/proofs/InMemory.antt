@@ -31,7 +31,7 @@ use Rattle.tlv_run.specs.RunsOctets.{IsReport, RunsOctets, at_source_end, read_f
 use Rattle.tlv_run.specs.Report.{ReportValue, device_report, result_report}
 use Rattle.tlv_run.specs.Results.{CommandResult, IsJobResult, IsSettled, command_result}
 use Rattle.tlv_run.specs.RunsAndReports.{RunsAndReports}
-use Rattle.tlv_run.proofs.KnownDevices.{at_end, failed_none, front_and_rest, gave_none, left_of, take_front, taken_of}
+use Rattle.tlv_run.proofs.KnownDevices.{at_end, failed_none, gave_none, left_of, prefix_and_rest, take_prefix, taken_of}
 
 -- if the octets are spelled whole, no octet of them is refused
 spelled_on : (framing : Framing) (b : List ℕ) (f : Forest) (e : Ending)
@@ -91,7 +91,7 @@ module _ (job : Job ReportValue) (stays : Stays job)
       without_room = λ less. absurd (omega (arith, fits, ap length e, less));
     }
 
-    -- a front was written, which fills the room, and there is more
+    -- a prefix was written, which fills the room, and there is more
     short : (made : CommandResult) (rest : List ℕ) → (x : IsJobResult job limited_octets made)
         → made.output ≡ written ++ rest → rest ≢ [] → length written ≡ room → Comes (device_report WriteFailed)
     short made rest x e more n = record {
@@ -129,11 +129,11 @@ module _ (job : Job ReportValue) (stays : Stays job)
           is_made = refl;
         } in
         let sent : written ≡ m.output = all_sent (job.text x.reading) x.sends in
-        let front = take_front job.limit given left.0 in
-        let is : limited_octets ≡ b ++ front.0 = ap (take job.limit) left.2 ∙ front.1 in
+        let prefix = take_prefix job.limit given left.0 in
+        let is : limited_octets ≡ b ++ prefix.0 = ap (take job.limit) left.2 ∙ prefix.1 in
         let final : IsSettled y → Comes report = λ (z : IsSettled y).
         let z =
-        settled_stays job stays b front.0 m (subst AreOctets is (All-take (λ x. x < 256) job.limit octets all)) y
+        settled_stays job stays b prefix.0 m (subst AreOctets is (All-take (λ x. x < 256) job.limit octets all)) y
         z in
         let z' : (z : IsJobResult job limited_octets m) × IsSettled z =
         subst (λ (o : List ℕ). (z : IsJobResult job o m) × IsSettled z) (sym is) z in
@@ -218,19 +218,19 @@ module _ (job : Job ReportValue) (stays : Stays job)
         let given : List ℕ = octets_given x.pieces in
         let left = left_of old.left new.left octets given known x.pieces.consumed in
         let b : List ℕ = take job.limit given in
-        let front = take_front job.limit given left.0 in
-        let is : limited_octets ≡ b ++ front.0 = ap (take job.limit) left.2 ∙ front.1 in
+        let prefix = take_prefix job.limit given left.0 in
+        let is : limited_octets ≡ b ++ prefix.0 = ap (take job.limit) left.2 ∙ prefix.1 in
         let one = one_made job limited_octets (All-take (λ x. x < 256) job.limit octets all) in
-        let few : length (b ++ front.0) ≤ job.limit = omega (arith, length-take job.limit octets, ap length is) in
-        let reads : IsReading job.framing (b ++ front.0) one.1.reading =
+        let few : length (b ++ prefix.0) ≤ job.limit = omega (arith, length-take job.limit octets, ap length is) in
+        let reads : IsReading job.framing (b ++ prefix.0) one.1.reading =
         subst (λ (o : List ℕ). IsReading job.framing o one.1.reading) is one.1.is_reading in
-        let on = goes_on b front.0 x.reading one.1.reading few x.is_reading reads in
+        let on = goes_on b prefix.0 x.reading one.1.reading few x.is_reading reads in
         let sent : written ≡ x.sends.sent =
         taken_of from.octets to.octets written x.sends.sent empty took x.sends.took in
         let text : job.text x.reading ++ on.0 ≡ one.0.output =
         on.1 ∙ sym (ap (λ (m : CommandResult). m.output) one.1.is_made) in
         let output : one.0.output ≡ written ++ (x.sends.left ++ on.0) =
-        front_and_rest written x.sends.sent x.sends.left (job.text x.reading) on.0 one.0.output sent x.sends.prefix
+        prefix_and_rest written x.sends.sent x.sends.left (job.text x.reading) on.0 one.0.output sent x.sends.prefix
         text in
         short one.0 (x.sends.left ++ on.0) one.1 output (more_left x.sends.left on.0 x.sends.lost)
         (full (x.sends.failures ∙ ap next_count unfailed ∙ one_failure))

@@ -10,7 +10,7 @@ use Rattle.tlv_run.specs.Report.{ReportValue, device_report}
 use Rattle.tlv_run.specs.Results.{job_with_report}
 use Rattle.tlv_run.specs.RunsAndReports.{RunsAndReports}
 
--- what is reported of a result, or of the device that failed
+-- what is reported of a result, or that a device failed or the input is too long
 abbrev pub report_of : {A : Type 0} → (A → ReportValue) → Result A DeviceFault → ReportValue
 report_of report (Ok a) = report a
 report_of report (Err fault) = device_report fault

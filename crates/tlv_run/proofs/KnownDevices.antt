@@ -25,9 +25,9 @@ at_end (Some x) r e i = let same : x ≡ r = cc in sym same ∙ i
 pub taken_of : (a b : Option (List ℕ)) (w sent : List ℕ) → a ≡ Some [] → b ≡ Some w → Appends a b sent → w ≡ sent
 taken_of a b w sent e d x = let y : Appends (Some []) (Some w) sent = rw (e, d) at x in y
 
--- the front of more octets goes on
-pub take_front : (n : ℕ) (xs ys : List ℕ) → (more : List ℕ) × (take n (xs ++ ys) ≡ take n xs ++ more)
-take_front n xs ys = elim (cases_lt (length xs) n) [
+-- the first octets of a longer list begin with those of the shorter
+pub take_prefix : (n : ℕ) (xs ys : List ℕ) → (more : List ℕ) × (take n (xs ++ ys) ≡ take n xs ++ more)
+take_prefix n xs ys = elim (cases_lt (length xs) n) [
   | inl less ↦ (
     take (n - length xs) ys,
     ap (λ (k : ℕ). take k (xs ++ ys)) (omega (arith, less)) ∙ take-append-add xs ys (n - length xs)
@@ -37,9 +37,9 @@ take_front n xs ys = elim (cases_lt (length xs) n) [
 ]
 
 -- what was sent of a text, and what is after it in a longer one
-pub front_and_rest : (written sent left text rest longer : List ℕ)
+pub prefix_and_rest : (written sent left text rest longer : List ℕ)
     → written ≡ sent → sent ++ left ≡ text → text ++ rest ≡ longer → longer ≡ written ++ (left ++ rest)
-front_and_rest written sent left text rest longer w t l =
+prefix_and_rest written sent left text rest longer w t l =
     sym l ∙ ap (λ (xs : List ℕ). xs ++ rest) (sym t) ∙ append_assoc sent left rest
     ∙ ap (λ (xs : List ℕ). xs ++ (left ++ rest)) (sym w)
 

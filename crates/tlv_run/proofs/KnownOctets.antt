@@ -91,5 +91,6 @@ run_results command names octets before after report input nowhere x =
     let few : length octets ≤ job.limit =
     subst (λ (n : ℕ). length octets ≤ n) (sym (limit_is command names)) input.within in
     let y = gives job (stays_for command names) octets input.are_octets few before after input.left
-    nowhere.counts_reads nowhere.no_failed_read nowhere.counts_writes nowhere.no_failed_write x.result x.runs in
+    nowhere.can_count_failed_read nowhere.no_failed_read nowhere.can_count_failed_write nowhere.no_failed_write x.result
+    x.runs in
     (y.0, y.1, y.2, x.report_is ∙ y.3)

@@ -21,4 +21,3 @@ pub mod JobReports
 pub mod Statuses
 pub mod TimesRows
 pub mod ValuesRows
-pub mod CleanReport

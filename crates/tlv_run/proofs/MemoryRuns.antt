@@ -1,11 +1,10 @@
 -- The runs of `run_octets`, by what its devices show: one to the end of the octets, one until a read fails.
-use Rattle.std.proofs.Common.{◌≡◌, inl, inr, ℕ, zero, suc, ◌<◌, ◌≤◌, slice_index_or, Fits, w8, Bool, true}
-use Rattle.std.proofs.Common.{false, List, [], length}
-use Rattle.std.proofs.Common.{refl, sym, ap, ◌∙◌, arith}
+use Rattle.std.proofs.Common.{◌≡◌, inl, inr, ℕ, zero, suc, ◌<◌, ◌≤◌, slice_index_or, Fits, w8, List, [], length}
+use Rattle.std.proofs.Common.{false, true, refl, ap, arith}
 use Rattle.arrayvec.specs.ArrayVec.{ArrayVec}
-use Rattle.std.proofs.lemmas.Bool.{cases_lt, lt-ltb}
+use Rattle.std.proofs.lemmas.Bool.{cases_lt}
 use Rattle.std.proofs.lemmas.List.{get_or_default}
-use Rattle.std.specs.Prelude.{if◌then◌else◌, Some}
+use Rattle.std.specs.Prelude.{Some}
 use Rattle.std.specs.Io.KnownBytes.{IsAtEnd}
 use Rattle.tlv_value.specs.Names.{NamesValue}
 use Rattle.tlv_io.specs.Device.{DrainState, LastReadValue, SourceState, failed, gave, never, new_source}
@@ -14,8 +13,8 @@ use Rattle.tlv_io.specs.MemSource.{MemSourceState}
 use Rattle.tlv_walk.specs.Reading.{AreOctets}
 use Rattle.tlv_run.proofs.Results.{stays_for, text_on}
 use Rattle.tlv_run.specs.declared.command.Command.{Command}
-use Rattle.tlv_run.specs.Private.MemoryDevices.{unfailing_source_state, failing_source_state, failing_last_read}
-use Rattle.tlv_run.specs.Private.MemoryDevices.{bounded_drain_state}
+use Rattle.tlv_run.specs.Private.MemoryDevices.{FailingSourceState, failing_last_read, failing_source_state}
+use Rattle.tlv_run.specs.Private.MemoryDevices.{octets_left, unfailing_source_state}
 use Rattle.tlv_run.specs.RunsOctets.{RunsOctets}
 use Rattle.tlv_run.specs.Report.{ReportValue}
 use Rattle.tlv_run.specs.Results.{command_job}
@@ -28,22 +27,12 @@ octets_fit xs fits k d less = below (slice_index_or xs k d) (rw (get_or_default 
   below : (x : ℕ) → Fits w8 x → x < 256
   below x f = omega (arith, f)
 
--- what a drain shows that has failed: it is full
-full_drain : (room : ℕ) (xs : List ℕ) (failures : ℕ) → (bounded_drain_state room xs failures).failures ≡ 1
-    → length xs ≤ room → length xs ≡ room
-full_drain room xs failures e few = elim (cases_lt (length xs) room) [
-  | inl less ↦
-      absurd (apart ((bounded_drain_state room xs failures).failures)
-      (ap (λ (k : Bool). if k then 0 else failures) (lt-ltb (length xs) room less)) e)
-  | inr more ↦ omega (arith, few, more)
-] where
-  apart : (n : ℕ) → n ≡ 0 → n ≡ 1 → ⊥
-  apart n e d = cc (e, d)
-
 -- what a source shows that has failed after its octets: it has nothing left
-spent : (s : MemSourceState) (failures : ℕ) → failures ≡ 1 → IsAtEnd (failing_source_state s failures).left
-spent s zero e = absurd (cc (e))
-spent s (suc n) e = refl
+spent : (s : FailingSourceState) → s.failures ≡ 1 → IsAtEnd (failing_source_state s).left
+spent s e = by_count s.failures e where
+  by_count : (failures : ℕ) → failures ≡ 1 → octets_left failures s.source.left ≡ []
+  by_count zero e = absurd (cc (e))
+  by_count (suc n) e = refl
 
 -- and it never gave nothing
 gave_some : (l : LastReadValue) → failing_last_read l ≡ gave 0 → ⊥
@@ -54,35 +43,34 @@ gave_some failed e = cc (e)
 
 module _ (command : Command) (names : NamesValue) (octets : List ℕ)
     (fit : (i : ℕ) → Fits w8 (slice_index_or octets i 0)) (room : ℕ)
-    (written kept : ArrayVec ℕ) (same : written ≡ kept) (fits : length written.items ≤ room) (failures : ℕ)
-    (from : DrainState) (from_is : from ≡ record { octets = Some []; failures = 0 }) (report : ReportValue) where
-  kept_is : written.items ≡ kept.items
-  kept_is = ap (λ (v : ArrayVec ℕ). v.items) same
-
-  filled : (bounded_drain_state room kept.items failures).failures ≡ 1 → length written.items ≡ room
-  filled k = ap length kept_is ∙ full_drain room kept.items failures k (omega (arith, ap length kept_is, fits))
+    (from to : DrainState) (from_is : from ≡ record { octets = Some []; failures = 0 }) (written : ArrayVec ℕ)
+    (took : to.octets ≡ Some written.items) (fits : length written.items ≤ room)
+    (fails_if_full : length written.items < room → to.failures ≡ 0) (report : ReportValue) where
+  filled : to.failures ≡ 1 → length written.items ≡ room
+  filled one = elim (cases_lt (length written.items) room) [
+    | inl less ↦ let none = fails_if_full less in absurd (cc (one, none))
+    | inr more ↦ omega (arith, fits, more)
+  ]
 
   pub to_end : (old : SourceState) (new : MemSourceState) → old ≡ new_source (Some octets)
       → RunsAndReports (command_job command names) (device_states old from)
-      (device_states (unfailing_source_state new) (bounded_drain_state room kept.items failures)) report
+      (device_states (unfailing_source_state new) to) report
       → RunsOctets (command_job command names) octets false room (record { written = written.items; report = report })
   to_end old new e x =
       runs_octets (command_job command names) (stays_for command names) (text_on command names) octets
-      (octets_fit octets fit) false
-      old (unfailing_source_state new) from (bounded_drain_state room kept.items failures) room written.items
+      (octets_fit octets fit) false old (unfailing_source_state new) from to room written.items
       (ap (λ (s : SourceState). s.left) e) (ap (λ (s : SourceState). s.failures) e) (λ k. absurd (cc (k))) (λ _ _. refl)
       (ap (λ (t : DrainState). t.octets) from_is) (ap (λ (t : DrainState). t.failures) from_is)
-      (ap Some (sym kept_is)) fits filled report x
+      took fits filled report x
 
-  pub until_failure : (old : SourceState) (new : MemSourceState) (failed_reads : ℕ) → old ≡ new_source (Some octets)
+  pub until_failure : (old : SourceState) (new : FailingSourceState) → old ≡ new_source (Some octets)
       → RunsAndReports (command_job command names) (device_states old from)
-      (device_states (failing_source_state new failed_reads) (bounded_drain_state room kept.items failures)) report
+      (device_states (failing_source_state new) to) report
       → RunsOctets (command_job command names) octets true room (record { written = written.items; report = report })
-  until_failure old new failed_reads e x =
+  until_failure old new e x =
       runs_octets (command_job command names) (stays_for command names) (text_on command names) octets
-      (octets_fit octets fit) true
-      old (failing_source_state new failed_reads) from (bounded_drain_state room kept.items failures) room written.items
+      (octets_fit octets fit) true old (failing_source_state new) from to room written.items
       (ap (λ (s : SourceState). s.left) e) (ap (λ (s : SourceState). s.failures) e)
-      (λ k. (refl, spent new failed_reads k)) (λ _ k. absurd (gave_some new.log.last k))
+      (λ k. (refl, spent new k)) (λ _ k. absurd (gave_some new.source.log.last k))
       (ap (λ (t : DrainState). t.octets) from_is) (ap (λ (t : DrainState). t.failures) from_is)
-      (ap Some (sym kept_is)) fits filled report x
+      took fits filled report x

@@ -166,10 +166,10 @@ outputs_on command names b c made more few x y =
     sym (ap (λ (m : CommandResult). m.output) x.is_made) in
     let longer : (command_job command names).text y.reading ≡ more.output =
     sym (ap (λ (m : CommandResult). m.output) y.is_made) in
-    let front =
+    let prefix =
     text_on command names b c x.reading y.reading
     (subst (λ (n : ℕ). length (b ++ c) ≤ n) (sym (limit_is command names)) few) x.is_reading y.is_reading in
-    (front.0, ap (λ (l : List ℕ). l ++ front.0) (sym shorter) ∙ front.1 ∙ longer)
+    (prefix.0, ap (λ (l : List ℕ). l ++ prefix.0) (sym shorter) ∙ prefix.1 ∙ longer)
 
 pub second_indef : SecondIndefIsTheFirst
 second_indef padding file names b m n x y =

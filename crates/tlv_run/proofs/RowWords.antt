@@ -20,7 +20,7 @@ use Rattle.tlv_walk.specs.Ending.{fault_ending}
 use Rattle.tlv_walk.specs.declared.ending.Ending.TheVariants.{Done}
 use Rattle.tlv_walk.specs.declared.framing.Framing.{Framing}
 use Rattle.tlv_run.proofs.Results.{result_of}
-use Rattle.tlv_run.proofs.CleanReport.{clean}
+use Rattle.tlv_run.specs.Report.{clean_report}
 use Rattle.tlv_run.specs.Results.{CommandResult, command_job}
 use Rattle.tlv_run.specs.declared.command.Command.{Command}
 use Rattle.tlv_run.specs.declared.command.Command.TheVariants.{Check, Dump, Extract, Indef}
@@ -44,7 +44,7 @@ octets text = octets_in (codes text)
 abbrev pub plain : Framing
 plain = plain_framing
 
--- what the strings at these offsets hold is read as encodings; whether octets 00 may stand between encodings
+-- what the strings at these offsets hold is read as encodings; whether octets 00 may be between encodings
 abbrev pub framing_of : List ℕ → Bool → Framing
 framing_of inside padding = record { inside = inside; padding = padding }
 
@@ -78,7 +78,7 @@ lines texts = flat_map (λ text. codes text ++ 10 ∷ []) texts
 
 -- status 0, and no message
 abbrev pub clean_result : List ℕ → CommandResult
-clean_result output = record { output = output; ending = Done; report = clean }
+clean_result output = record { output = output; ending = Done; report = clean_report }
 
 -- status 1 with so many findings and this message
 abbrev pub notice_result : ℕ → String → List ℕ → CommandResult

@@ -1,5 +1,5 @@
 -- Which status an input comes to.
-use Rattle.std.proofs.Common.{◌≡◌, ◌==◌, ℕ, Bool, true, false, if◌then◌else◌, [], ◌++◌, refl, sym, ap, ◌∙◌, subst}
+use Rattle.std.proofs.Common.{◌≡◌, ◌==◌, ℕ, Bool, true, false, if◌then◌else◌, ◌++◌, refl, sym, ap, ◌∙◌, subst}
 use Rattle.std.specs.Prelude.{Option, Some, None, codes, decimal}
 use Rattle.tlv_cut.specs.ExtractText.{has_element_at}
 use Rattle.tlv_show.specs.declared.outcome.Outcome.{Outcome}
@@ -14,7 +14,7 @@ use Rattle.tlv_walk.specs.Ending.{IsEnding}
 use Rattle.tlv_walk.specs.Forest.{Forest}
 use Rattle.tlv_walk.specs.Job.{EndsWith}
 use Rattle.tlv_run.specs.Laws.{StatusesShowSoundness}
-use Rattle.tlv_run.specs.Report.{findings_report, found_report, unused_report, report_with}
+use Rattle.tlv_run.specs.Report.{clean_report, findings_report, found_report, unused_report, report_with}
 use Rattle.tlv_run.specs.Results.{CommandResult, command_job}
 use Rattle.tlv_run.specs.declared.command.Command.{Command}
 use Rattle.tlv_run.specs.declared.command.Command.TheVariants.{Check, Dump, Extract, Indef}
@@ -24,7 +24,7 @@ quiet : (unused : Option ℕ) (findings : ℕ) → (unused_report unused (findin
 quiet None findings e = by-test (findings == 0) e
   where
     by-test : (none : Bool)
-        → (if none then report_with 0 [] else report_with 1 (codes "findings: " ++ decimal findings)).status ≡ 2 → ⊥
+        → (if none then clean_report else report_with 1 (codes "findings: " ++ decimal findings)).status ≡ 2 → ⊥
     by-test true e = absurd (cc (e))
     by-test false e = absurd (cc (e))
 quiet (Some offset) findings e = absurd (cc (e))

@@ -49,9 +49,9 @@ pub record HasInput (source : SourceState) (octets : List ℕ) : Type 0 where
 
 -- neither device counted a failure, and each could have counted one: the count was below its end
 pub record FailsNowhere (old new : DeviceStates) : Type 0 where
-  pub counts_reads : old.source.failures < 2 ^ 64 - 1
+  pub can_count_failed_read : old.source.failures < 2 ^ 64 - 1
   pub no_failed_read : new.source.failures ≡ old.source.failures
-  pub counts_writes : old.drain.failures < 2 ^ 64 - 1
+  pub can_count_failed_write : old.drain.failures < 2 ^ 64 - 1
   pub no_failed_write : new.drain.failures ≡ old.drain.failures
 
 -- what a run makes of a source that knows its octets, if neither device fails: the result of these octets

@@ -1,4 +1,4 @@
--- What the program says of a run: the exit status, the number of findings, and the message.
+-- What the program reports at its end: the exit status, the number of findings and the message.
 use Rattle.std.specs.Prelude.{◌∷◌, ⊤, ℕ, Bool, ◌==◌, if◌then◌else◌, List, [], ◌++◌, Option, Some, None, Result, Ok, Err}
 use Rattle.std.specs.Prelude.{codes, decimal}
 use Rattle.tlv_cut.specs.declared.extract_call.Cut.{Cut}
@@ -28,7 +28,11 @@ report_value_of report = record { status = report.status; findings = report.find
 abbrev pub report_with : ℕ → List ℕ → ReportValue
 report_with status message = record { status = status; findings = 0; message = message }
 
--- ---- what an input comes to. If there is nothing to say, the status is 0 and there is no message
+-- ---- what an input comes to
+
+-- the report if there is nothing to say
+abbrev pub clean_report : ReportValue
+clean_report = report_with 0 []
 
 -- a fault of the encoding, by its offset, its code and its text
 abbrev pub fault_line : Fault → List ℕ
@@ -47,7 +51,7 @@ unused_report None other = other
 unused_report (Some offset) other = report_with 1 (codes "E7 no string to read at offset " ++ decimal offset)
 
 abbrev pub findings_report : ℕ → ReportValue
-findings_report n = if n == 0 then report_with 0 [] else report_with 1 (codes "findings: " ++ decimal n)
+findings_report n = if n == 0 then clean_report else report_with 1 (codes "findings: " ++ decimal n)
 
 -- a dump or a check: the count stays, whatever is reported
 abbrev pub outcome_report : Outcome → ReportValue
@@ -58,7 +62,7 @@ outcome_report outcome =
 -- whether an element was found at this offset
 abbrev pub found_report : ℕ → Bool → ReportValue
 found_report offset found =
-    if found then report_with 0 []
+    if found then clean_report
     else report_with 1 (codes "E4 no element at offset " ++ decimal offset)
 
 -- an extract of the element at this offset
@@ -67,7 +71,7 @@ cut_report offset cut = ending_report cut.ending (found_report offset cut.found)
 
 -- an input written with indefinite lengths
 abbrev pub indef_report : Ending → ReportValue
-indef_report e = ending_report e (report_with 0 [])
+indef_report e = ending_report e clean_report
 
 -- ---- devices
 
@@ -76,7 +80,7 @@ device_report ReadFailed = report_with 3 (codes "E1 read failed")
 device_report WriteFailed = report_with 3 (codes "E2 write failed")
 device_report InputTooLong = report_with 3 (codes "E3 input too long")
 
--- what is reported in the end: of the input, or of the device that failed
+-- what is reported in the end: of the input, or that a device failed or the input is too long
 abbrev pub result_report : Result ReportValue DeviceFault → ReportValue
 result_report (Ok report) = report
 result_report (Err fault) = device_report fault

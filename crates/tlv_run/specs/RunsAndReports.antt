@@ -4,7 +4,8 @@ use Rattle.tlv_walk.specs.Job.{DeviceStates, Job, Runs}
 use Rattle.tlv_walk.specs.declared.run.DeviceFault.{DeviceFault}
 use Rattle.tlv_run.specs.Report.{ReportValue, result_report}
 
--- a job was done over a source and a drain, and this is reported in the end: of the input, or of the device that failed
+-- a job was done over a source and a drain, and this is reported in the end: of the input, or that a device failed or
+-- the input is too long
 pub record RunsAndReports (job : Job ReportValue) (old new : DeviceStates) (report : ReportValue) : Type 0 where
   pub result : Result ReportValue DeviceFault
   pub runs : Runs job old new result

@@ -12,16 +12,20 @@ use tlv_walk::Framing;
 pub enum Command {
     /// Writes each element on a line of its own.
     Dump {
+        /// How the input is to be read, and its dump to be written.
         options: Options,
         /// The names file, for object identifiers.
         names: Option<Text>,
-        /// The file to read; without one it is standard input, as for each command.
+        /// The file to read; without one it is standard input.
         file: Option<Text>,
     },
     /// Lists what violates the rules.
     Check {
+        /// The rules by which findings are reported.
         rules: Rules,
+        /// How the input is to be read.
         framing: Framing,
+        /// The file to read; without one it is standard input.
         file: Option<Text>,
     },
     /// Writes the octets of one element, or its contents alone.
@@ -30,12 +34,16 @@ pub enum Command {
         offset: u64,
         /// Whether the contents alone are written.
         contents: bool,
+        /// How the input is to be read.
         framing: Framing,
+        /// The file to read; without one it is standard input.
         file: Option<Text>,
     },
     /// Writes the input with the indefinite form of each constructed length.
     Indef {
+        /// Whether octets `00` may be between the encodings.
         padding: bool,
+        /// The file to read; without one it is standard input.
         file: Option<Text>,
     },
 }

@@ -1,24 +1,34 @@
 //! The devices of `run_octets`: a source that ends, one that fails after its octets, and a drain with room for so many
 //! octets.
-ghost use Rattle.std.specs.Prelude.{◌≡◌, ◌<◌, ◌≤◌, [], None, Some, length};
+ghost use Rattle.std.specs.Prelude.{◌≡◌, ◌<◌, ◌≤◌, [], Some, length};
 ghost use Rattle.tlv_io.specs.Device.{new_source};
-ghost use Rattle.tlv_run.specs.Private.MemoryDevices.{bounded_drain_state, failing_source_state};
-ghost use Rattle.tlv_run.specs.Private.MemoryDevices.{unfailing_source_state};
+ghost use Rattle.tlv_run.specs.Private.MemoryDevices.{failing_source_state, unfailing_source_state};
 
 use arrayvec::ArrayVec;
+use std::marker::Model;
 use tlv_walk::{Drain, MemSource, ReadFault, Source, WriteFault};
 
 /// Octets in memory as a source of which no read fails.
 #[derive(Drop)]
 pub(crate) struct UnfailingSource<'a> {
     source: MemSource<'a>,
-    ghost never_fails: { source.fail_at ≡ None },
+}
+
+impl<'a> Model for UnfailingSource<'a> {
+    ghost use Rattle.std.specs.Prelude.{◌≡◌, None};
+    ghost use Rattle.tlv_io.specs.MemSource.{MemSourceState};
+
+    ghost Value = { MemSourceState };
+
+    ghost view = { λ s. s.source };
+
+    ghost invariant = { λ s. s.source.fail_at ≡ None };
 }
 
 impl<'a> UnfailingSource<'a> {
     /// A source that gives the octets, in pieces of at most `cuts`, and then ends.
     pub(crate) fn new(octets: &'a [u8], cuts: &'a [u64]) -> UnfailingSource<'a>
-        ensures { unfailing_source_state result.source ≡ new_source (Some octets.now) }
+        ensures { unfailing_source_state result ≡ new_source (Some octets.now) }
     {
         UnfailingSource {
             source: MemSource::new(octets, cuts, None),
@@ -27,7 +37,7 @@ impl<'a> UnfailingSource<'a> {
 }
 
 impl Source for UnfailingSource<'_> {
-    ghost state = { λ s. unfailing_source_state s.source };
+    ghost state = { unfailing_source_state };
 
     fn read(&mut self, to: &mut [u8]) -> Result<usize, ReadFault> {
         self.source.read(to)
@@ -39,15 +49,23 @@ impl Source for UnfailingSource<'_> {
 pub(crate) struct FailingSource<'a> {
     source: MemSource<'a>,
     failures: u64,
-    ghost never_fails: { source.fail_at ≡ None },
-    ghost spent: { 0 < failures → source.left ≡ [] },
+}
+
+impl<'a> Model for FailingSource<'a> {
+    ghost use Rattle.std.specs.Prelude.{◌≡◌, ◌<◌, [], None};
+    ghost use Rattle.tlv_run.specs.Private.MemoryDevices.{FailingSourceState};
+
+    ghost Value = { FailingSourceState };
+
+    ghost view = { λ s. record { source = s.source; failures = s.failures } };
+
+    ghost invariant = { λ s. (s.source.fail_at ≡ None) × (0 < s.failures → s.source.left ≡ []) };
 }
 
 impl<'a> FailingSource<'a> {
     /// A source that gives the octets, in pieces of at most `cuts`, and then fails.
     pub(crate) fn new(octets: &'a [u8], cuts: &'a [u64]) -> FailingSource<'a>
-        ensures { failing_source_state result.source result.failures
-            ≡ new_source (Some octets.now) }
+        ensures { failing_source_state result ≡ new_source (Some octets.now) }
     {
         FailingSource {
             source: MemSource::new(octets, cuts, None),
@@ -57,7 +75,7 @@ impl<'a> FailingSource<'a> {
 }
 
 impl Source for FailingSource<'_> {
-    ghost state = { λ s. failing_source_state s.source s.failures };
+    ghost state = { failing_source_state };
 
     fn read(&mut self, to: &mut [u8]) -> Result<usize, ReadFault> {
         match self.source.read(to) {
@@ -75,13 +93,22 @@ impl Source for FailingSource<'_> {
 pub(crate) struct BoundedDrain<const N: usize> {
     octets: ArrayVec<u8, N>,
     failures: u64,
-    ghost fails_if_full: { length octets.items < N → failures ≡ 0 },
+}
+
+impl<const N: usize> Model for BoundedDrain<N> {
+    ghost use Rattle.std.specs.Prelude.{◌≡◌, ◌<◌, Some, length};
+    ghost use Rattle.tlv_io.specs.Device.{DrainState};
+
+    ghost Value = { DrainState };
+
+    ghost view = { λ d. record { octets = Some d.octets.items; failures = d.failures } };
+
+    ghost invariant = { λ d. length d.octets.items < N → d.failures ≡ 0 };
 }
 
 impl<const N: usize> BoundedDrain<N> {
     pub(crate) fn new() -> BoundedDrain<N>
-        ensures { bounded_drain_state N result.octets.items result.failures
-            ≡ record { octets = Some []; failures = 0 } }
+        ensures { result ≡ record { octets = Some []; failures = 0 } }
     {
         BoundedDrain {
             octets: ArrayVec::new(),
@@ -89,10 +116,11 @@ impl<const N: usize> BoundedDrain<N> {
         }
     }
 
-    /// The octets taken, in order.
+    /// The octets taken, in order. If there is room for more, no write has failed.
     pub(crate) fn into_octets(self) -> ArrayVec<u8, N>
-        ensures octets { result ≡ self.entry.octets }
+        ensures octets { self.entry.octets ≡ Some result.items }
         ensures fits { length result.items ≤ N }
+        ensures fails_if_full { length result.items < N → self.entry.failures ≡ 0 }
     {
         let octets = self.octets;
         let _fits = octets.len();
@@ -101,7 +129,7 @@ impl<const N: usize> BoundedDrain<N> {
 }
 
 impl<const N: usize> Drain for BoundedDrain<N> {
-    ghost state = { λ d. bounded_drain_state N d.octets.items d.failures };
+    ghost state = { λ d. d };
 
     fn write(&mut self, from: &[u8]) -> Result<usize, WriteFault> {
         let count = from.len().min(self.octets.remaining_capacity());

@@ -1,4 +1,4 @@
-//! What is reported of a run: the exit status and the message.
+//! What the program reports at its end: the exit status, the number of findings and the message.
 ghost use Rattle.std.specs.Prelude.{◌≡◌, ◌+◌, ◌++◌, ◌≤◌, [], decimal, length};
 ghost use Rattle.tlv_run.specs.Report.{cut_report, device_report, ending_report, fault_line, findings_report};
 ghost use Rattle.tlv_run.specs.Report.{found_report, indef_report, names_fault_line, names_report, outcome_report};
@@ -12,12 +12,12 @@ use tlv_show::Outcome;
 use tlv_value::NamesFault;
 use tlv_walk::{DeviceFault, Ending};
 
-/// What a run came to.
+/// What the program reports at its end.
 #[derive(Debug, Drop)]
 pub struct Report {
     /// The exit status: 0 clean, 1 findings or nothing at an offset that was asked for, 2 a fault of
-    /// the encoding, 3 a device failed or the input is too long, 4 the words or the names file are
-    /// refused, 5 memory was refused.
+    /// the encoding, 3 a device failed, the input is too long, or the file does not open, 4 the words
+    /// or the names file are refused, 5 memory was refused.
     pub status: u8,
     /// The number of findings.
     pub findings: u64,

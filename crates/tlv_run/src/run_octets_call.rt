@@ -13,15 +13,17 @@ use tlv_value::Names;
 /// What a run over octets in memory wrote, and its report.
 #[derive(Debug, Drop)]
 pub struct OctetsRun<const N: usize> {
+    /// The octets that were written, in order.
     pub written: ArrayVec<u8, N>,
+    /// The report.
     pub report: Report,
 }
 
 /// Runs the command over `octets`, with room for `N` octets of output.
 ///
 /// `cuts` say into which pieces the octets are cut, as for `MemSource::new`; what is written and reported does not
-/// depend on them. After the octets the input ends, or a read fails. If there is room for all of the output, it is
-/// written; else the first `N` octets of it, and the report is that of a failed write.
+/// depend on them. After the octets the input ends, or, with `read_fails`, a read fails. If there is room for all of
+/// the output, it is written; else the first `N` octets of it, and the report is that of a failed write.
 pub fn run_octets<const N: usize>(
     command: &Command,
     names: &Names,

@@ -24,7 +24,7 @@ abbrev pub has_flag : Text → List Row → Bool
 has_flag name matches =
     option_map_or (λ text. bytes_eq text (codes "true")) (first_of name matches) false
 
--- the values of `--inside` and `--padding`
+-- the framing that `--inside` and `--padding` ask for, if the text of `--inside` is a value
 abbrev pub framing_value : List Row → Option Framing
 framing_value matches = option_map
     (λ offsets. record { inside = offsets; padding = has_flag (codes "padding") matches })
@@ -89,8 +89,8 @@ pub record AreReadAs (words : List Text) (result : Result Command Text) : Type 0
       option_map (λ (name, matches). matched_command name matches) (subcommand_of tlvdump_app words)
       ≡ Some result
 
--- `clap` does not take the words: the error's kind is a kind that `clap` allows for these words, other than lack of
--- memory
+-- `clap` does not take the words; if they ask for help or for the version it does not take them either, and the kind
+-- of the error says so. The kind is one that `clap` allows for these words, other than lack of memory
 pub record AreRefusedBy (words : List Text) (error : Error) : Type 0 where
   pub not_taken : takes tlvdump_app words ≡ false
   pub cause : IsAmong (kind_of error) (fault_of tlvdump_app words)
@@ -98,7 +98,8 @@ pub record AreRefusedBy (words : List Text) (error : Error) : Type 0 where
 
 -- why there is no command to run: a line for each cause
 abbrev pub IsUsageFaultOf : List Text → UsageFault → Type 0
--- `clap` does not take the words, or they ask for help or for the version
+-- `clap` does not take the words; if they ask for help or for the version it does not take them either, and the kind
+-- of the error says so
 IsUsageFaultOf words (Parser error) = AreRefusedBy words error
 -- U2: the text of this option, the first such, is no value
 IsUsageFaultOf words (Value option) = AreReadAs words (Err option.now)

@@ -1,4 +1,5 @@
--- What the texts of options mean. `None` is a text that is no value of the option.
+-- What the texts of options mean. A result `None` says that the text is no value of the option; an argument `None` is
+-- an option that was not given.
 use Rattle.std.specs.Prelude.{ℕ, ◌-◌, ◌^◌, ◌==◌, ◌&&◌, List, [], ◌∷◌, Option, Some, None}
 use Rattle.std.specs.Prelude.{codes, if◌then◌else◌, length, nat_le, nat_lt, option_and_then}
 use Rattle.std.specs.Prelude.{option_map}

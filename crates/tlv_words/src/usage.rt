@@ -10,10 +10,10 @@ use tlv_walk::DeviceFault;
 /// Why there is no command to run.
 #[derive(Debug, Drop)]
 pub enum UsageFault {
-    /// `clap` does not take the words, or they ask for help or for the version. There is no code: the text is
-    /// `clap`'s own.
+    /// `clap` does not take the words; if they ask for help or for the version it does not take them either, and the
+    /// kind of the error says so. There is no code: the text is `clap`'s own.
     Parser(clap::Error),
-    /// U2: the value of this option is not in its range. The name is as on the command line, with `--`.
+    /// U2: the text of this option, the first such, is no value of it. The name is as on the command line, with `--`.
     Value(&'static str),
     /// U3: memory was refused.
     Memory,

@@ -1,11 +1,16 @@
--- Sources over octets in memory, and a drain with room for so many octets, as contracts see them.
-use Rattle.std.specs.Prelude.{ℕ, zero, suc, ltb, List, [], Some, if◌then◌else◌, length}
-use Rattle.tlv_io.specs.Device.{DrainState, LastReadValue, SourceState, failed, gave, never}
+-- Sources over octets in memory, as contracts see them.
+use Rattle.std.specs.Prelude.{ℕ, zero, suc, List, [], Some}
+use Rattle.tlv_io.specs.Device.{LastReadValue, SourceState, failed, gave, never}
 use Rattle.tlv_io.specs.MemSource.{MemSourceState, source_state_of}
 
--- a source that fails with no read shows no failure
+-- a source of which no read fails shows no failures
 abbrev pub unfailing_source_state : MemSourceState → SourceState
 unfailing_source_state source = record (source_state_of source) { failures = 0 }
+
+-- a source that fails after its octets: the source of its octets, and how many reads have failed
+pub record FailingSourceState : Type 0 where
+  pub source : MemSourceState
+  pub failures : ℕ
 
 -- at its end, where `MemSource` gives nothing, a failing source fails
 abbrev pub failing_last_read : LastReadValue → LastReadValue
@@ -19,17 +24,10 @@ abbrev pub octets_left : ℕ → List ℕ → List ℕ
 octets_left zero octets = octets
 octets_left (suc failures) octets = []
 
--- a source that fails after its octets, after so many failures
-abbrev pub failing_source_state : MemSourceState → ℕ → SourceState
-failing_source_state source failures = record (source_state_of source) {
-  left = Some (octets_left failures source.left);
-  last = failing_last_read source.log.last;
-  failures = failures;
-}
-
--- what a drain with room for so many octets shows of itself: its writes fail only if it is full
-abbrev pub bounded_drain_state : ℕ → List ℕ → ℕ → DrainState
-bounded_drain_state room octets failures = record {
-  octets = Some octets;
-  failures = if ltb (length octets) room then 0 else failures;
+-- what a failing source shows of itself
+abbrev pub failing_source_state : FailingSourceState → SourceState
+failing_source_state s = record (source_state_of s.source) {
+  left = Some (octets_left s.failures s.source.left);
+  last = failing_last_read s.source.log.last;
+  failures = s.failures;
 }

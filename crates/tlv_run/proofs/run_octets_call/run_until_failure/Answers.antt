@@ -4,7 +4,7 @@ use Rattle.tlv_run.proofs.run_octets_call.run_until_failure.Goals as goal
 pub returns : goal.returns
 returns g c =
     until_failure c.args.command.now c.args.names.now c.args.octets.now c.type_inv.octets g.row.N
-    c.into_octets-written.result c.run-report.new.drain.octets c.into_octets-written.ensures.octets
-    c.into_octets-written.ensures.fits c.run-report.new.drain.failures
-    _ c.new-drain.ensures _ _ c.run-report.new.source.source c.run-report.new.source.failures c.new.ensures
-    c.run-report.ensures
+    _ c.run-report.new.drain c.new-drain.ensures c.into_octets-written.result
+    c.into_octets-written.ensures.octets c.into_octets-written.ensures.fits
+    c.into_octets-written.ensures.fails_if_full _
+    _ c.run-report.new.source c.new.ensures c.run-report.ensures
