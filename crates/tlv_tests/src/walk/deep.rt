@@ -6,7 +6,7 @@ use std::process::Abort;
 use std::test::Fail;
 use tlv_head::FaultCode;
 
-/// The most octets that a walk over one of these inputs writes.
+/// More octets than a walk over one of these inputs writes.
 const ROOM: usize = 5000;
 
 /// The header of a SEQUENCE of indefinite length so many times, and these octets after it.

@@ -13,7 +13,8 @@ use tlv_walk::{Drain, Event, Follow, Go, Out, WriteFault};
 
 const DIGITS: [u8; 16] = *b"0123456789abcdef";
 
-/// Writes each event as a line of text, but contents octets in front of their primitive's end.
+/// Writes each event as a line of text, but contents octets on the line of their primitive's end, and
+/// each octet of padding as a line of its own.
 #[derive(Drop)]
 pub(crate) struct EventLines {
     ends: u64,
