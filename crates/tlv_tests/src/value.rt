@@ -16,7 +16,8 @@ mod type_rows;
 mod types;
 mod unused;
 
-ghost use Rattle.std.specs.Prelude.{◌≡◌, ◌+◌, ◌≤◌, None, Some, bytes_eq, codes, if◌then◌else◌, length};
+ghost use Rattle.std.specs.Prelude.{◌≡◌, ◌+◌, ◌≤◌, None, Some, bytes_eq, codes, if◌then◌else◌};
+ghost use Rattle.std.specs.Prelude.{length};
 
 use crate::expect::expect_of;
 use crate::inputs::element_at;

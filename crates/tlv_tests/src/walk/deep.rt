@@ -1,13 +1,9 @@
 //! Deep inputs.
-use super::expect_in_pieces;
-use super::rows::{CLEAN, Row, fault};
+use super::events::expect_in_pieces;
+use super::rows::{CLEAN, Row, RowEvent, fault};
 use std::alloc::Global;
-use std::process::Abort;
 use std::test::Fail;
 use tlv_head::FaultCode;
-
-/// More octets than a walk over one of these inputs writes.
-const ROOM: usize = 5000;
 
 /// The header of a SEQUENCE of indefinite length so many times, and these octets after it.
 fn nested(alloc: Global, count: u64, after: &[u8]) -> Result<Vec<u8>, Fail> {
@@ -19,58 +15,53 @@ fn nested(alloc: Global, count: u64, after: &[u8]) -> Result<Vec<u8>, Fail> {
     Ok(octets)
 }
 
-/// The opening lines of 128 nested elements, and this text after them.
-fn openings(alloc: Global, after: &[u8]) -> Result<Vec<u8>, Fail> {
-    let mut text = Vec::new(alloc);
+/// The headers of 128 nested elements.
+fn openings(alloc: Global) -> Result<Vec<(u64, RowEvent)>, Fail> {
+    let mut events = Vec::new(alloc);
     for i in 0..128_u64 {
         let offset = i.saturating_mul(2);
-        let line = format!(in alloc; "open {offset:0>4} 30 80\n")?;
-        text.extend_from_slice(line.as_bytes())?;
+        let header = RowEvent::Open(offset, b"\x30\x80");
+        events.push((offset.saturating_add(2), header))?;
     }
-    text.extend_from_slice(after)?;
-    Ok(text)
+    Ok(events)
 }
 
-/// The closing lines of 128 nested elements, of which the innermost ends at the offset 256.
-fn closings(alloc: Global) -> Result<Vec<u8>, Fail> {
-    let mut text = Vec::new(alloc);
+/// Adds the ends of 128 nested elements, of which the innermost ends at the offset 256.
+fn push_closings(events: &mut Vec<(u64, RowEvent)>) -> Result<(), Fail> {
     for i in 128..256_u64 {
         let offset = i.saturating_mul(2);
-        let line = format!(in alloc; "close {offset:0>4}\n")?;
-        text.extend_from_slice(line.as_bytes())?;
+        events.push((offset.saturating_add(2), RowEvent::Close(Some(offset))))?;
     }
-    Ok(text)
-}
-
-/// Expects this text of the row, in whatever pieces its input comes.
-fn expect_deep(rt: &impl Abort, row: &Row<'_>, text: &[u8]) {
-    expect_in_pieces(rt, row, text, &mut [0; ROOM]);
+    Ok(())
 }
 
 #[test]
 fn elements_are_open_128_deep(rt: HostRuntime) -> Result<(), Fail> {
     let input = nested(rt.alloc(), 128, &[0; 256])?;
-    let text = openings(rt.alloc(), closings(rt.alloc())?.as_slice())?;
+    let mut events = openings(rt.alloc())?;
+    push_closings(&mut events)?;
     let row = Row {
         name: "128 elements",
         input: input.as_slice(),
+        events: events.as_slice(),
         ..CLEAN
     };
-    expect_deep(&rt, &row, text.as_slice());
+    expect_in_pieces(&rt, &row);
     Ok(())
 }
 
 #[test]
 fn a_129th_element_is_refused(rt: HostRuntime) -> Result<(), Fail> {
     let input = nested(rt.alloc(), 129, b"")?;
-    let text = openings(rt.alloc(), b"")?;
+    let events = openings(rt.alloc())?;
     let row = Row {
         name: "129 elements",
         input: input.as_slice(),
+        events: events.as_slice(),
         ending: fault(FaultCode::TooDeep, 257),
         ..CLEAN
     };
-    expect_deep(&rt, &row, text.as_slice());
+    expect_in_pieces(&rt, &row);
     Ok(())
 }
 
@@ -78,29 +69,33 @@ fn a_129th_element_is_refused(rt: HostRuntime) -> Result<(), Fail> {
 #[test]
 fn a_named_string_inside_128_elements(rt: HostRuntime) -> Result<(), Fail> {
     let input = nested(rt.alloc(), 128, b"\x04\x00")?;
-    let text = openings(rt.alloc(), b"")?;
+    let events = openings(rt.alloc())?;
     let row = Row {
         name: "a named string",
         inside: &[256],
         input: input.as_slice(),
+        events: events.as_slice(),
         ending: fault(FaultCode::TooDeep, 257),
         unused: Some(256),
         ..CLEAN
     };
-    expect_deep(&rt, &row, text.as_slice());
+    expect_in_pieces(&rt, &row);
     Ok(())
 }
 
 #[test]
 fn a_string_that_is_not_named_inside_128_elements(rt: HostRuntime) -> Result<(), Fail> {
     let input = nested(rt.alloc(), 128, b"\x04\x00")?;
-    let text = openings(rt.alloc(), b"begin 0256 04 00\n end\n")?;
+    let mut events = openings(rt.alloc())?;
+    events.push((258, RowEvent::Begin(256, b"\x04\x00")))?;
+    events.push((258, RowEvent::End))?;
     let row = Row {
         name: "a string that is not named",
         input: input.as_slice(),
+        events: events.as_slice(),
         ending: fault(FaultCode::Short, 258),
         ..CLEAN
     };
-    expect_deep(&rt, &row, text.as_slice());
+    expect_in_pieces(&rt, &row);
     Ok(())
 }

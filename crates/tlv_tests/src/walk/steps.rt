@@ -7,7 +7,7 @@ use tlv_head::{Fault, FaultCode};
 use tlv_walk::{Ending, Event, Framing, Step, Walker};
 
 /// The next step, with a short piece.
-fn step<'a>(rt: &impl Abort, walker: &mut Walker, piece: &mut &'a [u8]) -> Step<'a> {
+pub(crate) fn step<'a>(rt: &impl Abort, walker: &mut Walker, piece: &mut &'a [u8]) -> Step<'a> {
     assert!(rt; walker.offset() <= 1000 && piece.len() <= 1000);
     walker.step(piece)
 }
@@ -32,7 +32,7 @@ fn begin<'a>(rt: &impl Abort, offset: u64, octets: &[u8]) -> Event<'a> {
 }
 
 /// What an input comes to whose octets are taken.
-fn finish(rt: &impl Abort, walker: &Walker) -> Ending {
+pub(crate) fn finish(rt: &impl Abort, walker: &Walker) -> Ending {
     assert!(rt; !walker.waiting());
     walker.finish()
 }
