@@ -2,8 +2,10 @@
 use super::events::expect_in_pieces;
 use super::rows::{CLEAN, Row, RowEvent, fault};
 use std::alloc::Global;
+use std::process::Abort;
 use std::test::Fail;
 use tlv_head::FaultCode;
+use tlv_walk::Ending;
 
 /// The header of a SEQUENCE of indefinite length so many times, and these octets after it.
 fn nested(alloc: Global, count: u64, after: &[u8]) -> Result<Vec<u8>, Fail> {
@@ -35,18 +37,44 @@ fn push_closings(events: &mut Vec<(u64, RowEvent)>) -> Result<(), Fail> {
     Ok(())
 }
 
+/// Adds the header and the end of an empty OCTET STRING at the offset 256.
+fn push_string(events: &mut Vec<(u64, RowEvent)>) -> Result<(), Fail> {
+    let header = RowEvent::Begin(256, b"\x04\x00");
+    events.push((258, header))?;
+    events.push((258, RowEvent::End))?;
+    Ok(())
+}
+
+/// Expects these events of the input, and what it comes to.
+fn expect_deep<'a>(
+    rt: &impl Abort,
+    name: &'a str,
+    input: &'a [u8],
+    events: &'a [(u64, RowEvent)],
+    ending: Ending,
+) {
+    let row = Row {
+        name,
+        input,
+        events,
+        ending,
+        ..CLEAN
+    };
+    expect_in_pieces(rt, &row);
+}
+
 #[test]
 fn elements_are_open_128_deep(rt: HostRuntime) -> Result<(), Fail> {
     let input = nested(rt.alloc(), 128, &[0; 256])?;
     let mut events = openings(rt.alloc())?;
     push_closings(&mut events)?;
-    let row = Row {
-        name: "128 elements",
-        input: input.as_slice(),
-        events: events.as_slice(),
-        ..CLEAN
-    };
-    expect_in_pieces(&rt, &row);
+    expect_deep(
+        &rt,
+        "128 elements",
+        input.as_slice(),
+        events.as_slice(),
+        Ending::Done,
+    );
     Ok(())
 }
 
@@ -54,14 +82,13 @@ fn elements_are_open_128_deep(rt: HostRuntime) -> Result<(), Fail> {
 fn a_129th_element_is_refused(rt: HostRuntime) -> Result<(), Fail> {
     let input = nested(rt.alloc(), 129, b"")?;
     let events = openings(rt.alloc())?;
-    let row = Row {
-        name: "129 elements",
-        input: input.as_slice(),
-        events: events.as_slice(),
-        ending: fault(FaultCode::TooDeep, 257),
-        ..CLEAN
-    };
-    expect_in_pieces(&rt, &row);
+    expect_deep(
+        &rt,
+        "129 elements",
+        input.as_slice(),
+        events.as_slice(),
+        fault(FaultCode::TooDeep, 257),
+    );
     Ok(())
 }
 
@@ -87,15 +114,13 @@ fn a_named_string_inside_128_elements(rt: HostRuntime) -> Result<(), Fail> {
 fn a_string_that_is_not_named_inside_128_elements(rt: HostRuntime) -> Result<(), Fail> {
     let input = nested(rt.alloc(), 128, b"\x04\x00")?;
     let mut events = openings(rt.alloc())?;
-    events.push((258, RowEvent::Begin(256, b"\x04\x00")))?;
-    events.push((258, RowEvent::End))?;
-    let row = Row {
-        name: "a string that is not named",
-        input: input.as_slice(),
-        events: events.as_slice(),
-        ending: fault(FaultCode::Short, 258),
-        ..CLEAN
-    };
-    expect_in_pieces(&rt, &row);
+    push_string(&mut events)?;
+    expect_deep(
+        &rt,
+        "a string that is not named",
+        input.as_slice(),
+        events.as_slice(),
+        fault(FaultCode::Short, 258),
+    );
     Ok(())
 }
