@@ -1,5 +1,6 @@
 -- What the follower of the tests writes of events: a line for each, but that a primitive's contents are on the line
--- of its end.
+-- of its end, and each octet of padding has a line. Its words for octets are its own, and not those of `LineTexts`:
+-- a test uses no text of the crates that it tests.
 use Rattle.std.specs.Prelude.{ℕ, ◌-◌, ◌/◌, ◌%◌, ◌==◌, if◌then◌else◌, List, [], ◌∷◌, ◌++◌, Option, Some, None}
 use Rattle.std.specs.Prelude.{codes, flat_map, slice_index}
 use Rattle.tlv_head.specs.Header.{HeaderValue, octets_of}

@@ -9,17 +9,17 @@ ghost use Rattle.std.specs.Prelude.{◌≤◌};
 
 use self::octets::{OFFSET, Place, REFUSALS, SHAPES, Shape, TOP};
 use crate::expect::{expect, expect_eq_of, expect_of};
+use crate::inputs::header_at;
 use std::process::Abort;
-use tlv_head::{Class, Head, HeadReader, Header, Size, read_header};
+use tlv_head::{Class, Head, HeadReader, Header, Size};
 
 /// The header with which the octets begin, and its octets.
 fn header_of(named: bool, octets: &[u8]) -> Option<Header> {
-    let (fields, count) = read_header(OFFSET, named, octets)?;
-    Some(Header::new(&fields, &octets[..count]))
+    header_at(OFFSET, named, octets)
 }
 
 /// The same of an offset that is not named.
-fn front_header(octets: &[u8]) -> Option<Header> {
+fn unnamed_header(octets: &[u8]) -> Option<Header> {
     header_of(false, octets)
 }
 
@@ -98,35 +98,35 @@ fn headers_are_read(rt: HostRuntime) {
         ] {
             expect_shape(&rt, &whole(shape.octets, place), shape);
         }
-        expect_shape(&rt, &front_header(shape.octets), shape);
+        expect_shape(&rt, &unnamed_header(shape.octets), shape);
     }
 }
 
-/// Expects an octet before the last to be taken, and to make no header.
-fn expect_unfinished_fronts(rt: &impl Abort, octets: &[u8]) {
+/// Expects each octet before the last to be taken, and to make no header.
+fn expect_unfinished_prefixes(rt: &impl Abort, octets: &[u8]) {
     for count in 0..octets.len() {
-        let front = &octets[..count];
-        let unfinished = matches!(read(front, TOP), Head::More);
-        expect_of(rt, front, unfinished, "each octet is taken");
+        let prefix = &octets[..count];
+        let unfinished = matches!(read(prefix, TOP), Head::More);
+        expect_of(rt, prefix, unfinished, "each octet is taken");
         expect_of(
             rt,
-            front,
-            front_header(front).is_none(),
+            prefix,
+            unnamed_header(prefix).is_none(),
             "they are no header",
         );
     }
 }
 
 #[test]
-fn fronts_are_unfinished(rt: HostRuntime) {
+fn prefixes_are_unfinished(rt: HostRuntime) {
     for shape in &SHAPES {
-        expect_unfinished_fronts(&rt, shape.octets);
+        expect_unfinished_prefixes(&rt, shape.octets);
     }
 }
 
 /// Whether the octets begin with a header that has these octets.
 fn has_octets(octets: &[u8], raw: &[u8]) -> bool {
-    match front_header(octets) {
+    match unnamed_header(octets) {
         Some(header) => header.raw() == raw,
         None => false,
     }
@@ -136,15 +136,15 @@ fn has_octets(octets: &[u8], raw: &[u8]) -> bool {
 #[test]
 fn headers_begin_octets(rt: HostRuntime) {
     for refusal in &REFUSALS {
-        let found = front_header(refusal.octets).is_some();
+        let found = unnamed_header(refusal.octets).is_some();
         expect_eq_of(&rt, refusal.octets, found, refusal.is_header);
     }
-    let is_none = front_header(b"\x00\x00").is_none();
+    let is_none = unnamed_header(b"\x00\x00").is_none();
     expect(&rt, is_none, "end-of-contents octets are no header");
-    let is_front = has_octets(b"\x04\x81\x03\xaa\xbb\xcc\x05", b"\x04\x81\x03");
+    let is_right = has_octets(b"\x04\x81\x03\xaa\xbb\xcc\x05", b"\x04\x81\x03");
     expect(
         &rt,
-        is_front,
+        is_right,
         "the header has the octets up to its contents",
     );
 }
@@ -166,5 +166,5 @@ fn the_longest_header_is_read(rt: HostRuntime) {
         id_len: 10,
     };
     expect_shape(&rt, &whole(&octets, TOP), &shape);
-    expect_shape(&rt, &front_header(&octets), &shape);
+    expect_shape(&rt, &unnamed_header(&octets), &shape);
 }

@@ -1,5 +1,5 @@
-//! The tests of `tlv_head`, `tlv_walk`, `tlv_value`, `tlv_show`, `tlv_cut` and `tlv_run`, by what
-//! these crates make public.
+//! The tests of `tlv_head`, `tlv_io`, `tlv_walk`, `tlv_value`, `tlv_show`, `tlv_cut` and `tlv_run`, by
+//! what these crates make public.
 #![tactic(auto)]
 
 #[cfg(test)]
@@ -8,6 +8,8 @@ mod cut;
 mod expect;
 #[cfg(test)]
 mod head;
+#[cfg(test)]
+mod inputs;
 #[cfg(test)]
 mod reads;
 #[cfg(test)]

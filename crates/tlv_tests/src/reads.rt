@@ -22,7 +22,7 @@ pub(crate) fn expect_again<F: Follow>(
     written: &[u8],
 )
     requires { CanTurn walker.old piece.old limit }
-    ensures taken { walker.new.offset ≤ limit }
+    ensures within { walker.new.offset ≤ limit }
     ensures ready { CanTake walker.new }
 {
     let Ok(Turn::Again) = turn(walker, follower, source, drain, piece, limit) else {
@@ -43,7 +43,7 @@ pub(crate) fn expect_failure<F: Follow>(
     written: &[u8],
 )
     requires { CanTurn walker.old piece.old limit }
-    ensures taken { walker.new.offset ≤ limit }
+    ensures within { walker.new.offset ≤ limit }
     ensures ready { CanTake walker.new }
 {
     let Err(DeviceFault::ReadFailed) = turn(walker, follower, source, drain, piece, limit) else {

@@ -3,21 +3,12 @@ mod calls;
 mod turns;
 
 use crate::expect::expect_eq;
+use crate::inputs::header;
 use crate::reads::{LENGTH, expect_again};
 use std::process::Abort;
-use std::test::Fail;
-use tlv_head::{Header, read_header};
 use tlv_show::{Dump, Options, Rules};
 use tlv_value::Names;
 use tlv_walk::{Drain, Event, Follow, Framing, MemDrain, MemSource, Out, Walker, WriteFault};
-
-/// The header with these octets, at this offset.
-fn header(offset: u64, octets: &[u8]) -> Result<Header, Fail> {
-    match read_header(offset, false, octets) {
-        Some((fields, len)) if len == octets.len() => Ok(Header::new(&fields, octets)),
-        _ => Err(Fail::from("no header")),
-    }
-}
 
 /// Options of a dump of everything.
 fn plain() -> Options {
@@ -49,14 +40,14 @@ fn expect_text(rt: &impl Abort, events: &[Event<'_>], text: &[u8]) {
 }
 
 #[test]
-fn a_constructed_string(rt: HostRuntime) -> Result<(), Fail> {
+fn a_constructed_string(rt: HostRuntime) {
     let events = [
-        Event::Open(header(0, &[0x3a, 9])?),
-        Event::Begin(header(2, &[4, 3])?),
+        Event::Open(header(&rt, 0, false, &[0x3a, 9])),
+        Event::Begin(header(&rt, 2, false, &[4, 3])),
         Event::Bytes(b"J"),
         Event::Bytes(b"on"),
         Event::End,
-        Event::Begin(header(7, &[4, 2])?),
+        Event::Begin(header(&rt, 7, false, &[4, 2])),
         Event::Bytes(b"es"),
         Event::End,
         Event::Close(None),
@@ -67,14 +58,13 @@ fn a_constructed_string(rt: HostRuntime) -> Result<(), Fail> {
                  }
 ";
     expect_text(&rt, &events, text);
-    Ok(())
 }
 
 #[test]
-fn the_indefinite_form(rt: HostRuntime) -> Result<(), Fail> {
+fn the_indefinite_form(rt: HostRuntime) {
     let events = [
-        Event::Open(header(0, &[0x3a, 0x80])?),
-        Event::Begin(header(2, &[4, 3])?),
+        Event::Open(header(&rt, 0, false, &[0x3a, 0x80])),
+        Event::Begin(header(&rt, 2, false, &[4, 3])),
         Event::Bytes(b"Jon"),
         Event::End,
         Event::Close(Some(7)),
@@ -84,7 +74,6 @@ fn the_indefinite_form(rt: HostRuntime) -> Result<(), Fail> {
        7    end: }
 ";
     expect_text(&rt, &events, text);
-    Ok(())
 }
 
 const CONTENTS: [u8; 17] = [0, 0x80, 0, 0, 0, 0, 0, 0, 0, 0, 0, 0, 0, 0, 0, 0, 0];
@@ -95,39 +84,37 @@ const ROWS: &[u8] = b"       0     17: INTEGER
 ";
 
 #[test]
-fn rows_from_one_piece(rt: HostRuntime) -> Result<(), Fail> {
+fn rows_from_one_piece(rt: HostRuntime) {
     let events = [
-        Event::Begin(header(0, &[2, 17])?),
+        Event::Begin(header(&rt, 0, false, &[2, 17])),
         Event::Bytes(&CONTENTS),
         Event::End,
     ];
     expect_text(&rt, &events, ROWS);
-    Ok(())
 }
 
 #[test]
-fn rows_from_pieces(rt: HostRuntime) -> Result<(), Fail> {
+fn rows_from_pieces(rt: HostRuntime) {
     for cut in 0..=17 {
         let (front, after) = CONTENTS.split_at(cut);
         let events = [
-            Event::Begin(header(0, &[2, 17])?),
+            Event::Begin(header(&rt, 0, false, &[2, 17])),
             Event::Bytes(front),
             Event::Bytes(after),
             Event::End,
         ];
         expect_text(&rt, &events, ROWS);
     }
-    Ok(())
 }
 
 #[test]
-fn a_wrapper_and_padding(rt: HostRuntime) -> Result<(), Fail> {
+fn a_wrapper_and_padding(rt: HostRuntime) {
     let events = [
         Event::Pad(&[0]),
         Event::Pad(&[0, 0]),
-        Event::Enter(header(3, &[3, 3])?),
+        Event::Enter(header(&rt, 3, false, &[3, 3])),
         Event::Unused,
-        Event::Begin(header(6, &[5, 0])?),
+        Event::Begin(header(&rt, 6, false, &[5, 0])),
         Event::End,
         Event::Leave,
         Event::Pad(&[0]),
@@ -139,17 +126,15 @@ fn a_wrapper_and_padding(rt: HostRuntime) -> Result<(), Fail> {
        8    pad: padding
 ";
     expect_text(&rt, &events, text);
-    Ok(())
 }
 
 #[test]
-fn a_drain_without_room(rt: HostRuntime) -> Result<(), Fail> {
-    let events = [Event::Begin(header(0, &[5, 0])?), Event::End];
+fn a_drain_without_room(rt: HostRuntime) {
+    let events = [Event::Begin(header(&rt, 0, false, &[5, 0])), Event::End];
     let mut room = [0; 10];
     let mut drain = MemDrain::new(&mut room, 400);
     expect_eq(&rt, follow_all(&events, &mut drain), Err(WriteFault));
     expect_eq(&rt, drain.written(), b"       0  ".as_slice());
-    Ok(())
 }
 
 /// The lines that so many octets of the constructed string allow.

@@ -16,11 +16,12 @@ mod type_rows;
 mod types;
 mod unused;
 
-ghost use Rattle.std.specs.Prelude.{◌≡◌, ◌+◌, ◌≤◌, None, Some, bytes_eq, codes, if◌then◌else◌, length};
+ghost use Rattle.std.specs.Prelude.{◌≡◌, ◌+◌, ◌≤◌, None, Some, bytes_eq, codes, if◌then◌else◌};
+ghost use Rattle.std.specs.Prelude.{length};
 
 use crate::expect::expect_of;
+use crate::inputs::element_at;
 use std::process::Abort;
-use tlv_head::{Header, Size, read_header};
 use tlv_value::{Layout, NameTable, ValueText};
 use tlv_walk::{Drain, MemDrain, Out};
 
@@ -34,7 +35,8 @@ struct Row<'a> {
 struct OneName;
 
 impl NameTable for OneName {
-    ghost name_of = { λ table dotted. if bytes_eq dotted (codes "1.2.840") then Some (codes "us") else None };
+    ghost name_of = { λ table dotted.
+        if bytes_eq dotted (codes "1.2.840") then Some (codes "us") else None };
 
     fn get(&self, dotted: &[u8]) -> Option<&[u8]> {
         if dotted == b"1.2.840".as_slice() {
@@ -85,12 +87,7 @@ fn show<N: NameTable>(
 ) -> Option<usize>
     requires { 1 ≤ pieces.size }
 {
-    let (fields, count) = read_header(offset, false, element)?;
-    let header = Header::new(&fields, &element[..count]);
-    let contents = &element[count..];
-    if header.size != Size::Definite(contents.len() as u64) {
-        return None;
-    }
+    let (header, contents) = element_at(offset, element)?;
     let (front, back) = contents.split_at(pieces.first.min(contents.len()));
     let mut drain = MemDrain::new(room, pieces.most);
     {

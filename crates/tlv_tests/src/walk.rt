@@ -1,8 +1,9 @@
-//! Walks over memory: what a follower writes of them and what they come to, in whatever pieces the octets come.
+//! Walks over memory: their events, what a follower writes of them, and what they come to.
 mod deep;
 mod devices;
 mod enough;
 mod event_lines;
+mod events;
 mod failures;
 mod fault_rows;
 mod frames;
@@ -16,14 +17,17 @@ mod stream;
 mod turns;
 
 use self::event_lines::EventLines;
+use self::events::event_of;
 use self::fault_rows::{ENDED, REFUSED};
 use self::rows::{ENCODINGS, Row, WRAPPED};
 use crate::expect::expect_eq_of;
+use crate::inputs::framing_of;
 use std::alloc::Global;
 use std::process::Abort;
 use std::test::Fail;
 use tlv_walk::{
-    DeviceFault, Ending, Framing, INPUT_LIMIT, Inside, MemDrain, MemSource, Run, drive_up_to,
+    DeviceFault, Drain, Ending, Follow, INPUT_LIMIT, MemDrain, MemSource, Out, Run, WriteFault,
+    drive_up_to,
 };
 
 /// Cuts into single octets: as many as the rows' inputs have, and more.
@@ -56,14 +60,30 @@ fn tables() -> [&'static [Row<'static>]; 4] {
     [&ENCODINGS, &WRAPPED, &ENDED, &REFUSED]
 }
 
-/// What is written of the row with so many octets.
-fn text_of(alloc: Global, row: &Row<'_>, octets: usize) -> Result<Vec<u8>, Fail> {
-    let mut text = Vec::new(alloc);
-    for (after, part) in row.parts {
+/// Puts the lines of the row's events that come with so many octets.
+fn put_lines<D: Drain>(
+    rt: &impl Abort,
+    row: &Row<'_>,
+    octets: u64,
+    out: &mut Out<'_, D>,
+) -> Result<(), WriteFault> {
+    let mut lines = EventLines::up_to(0);
+    for (after, event) in row.events {
         if *after <= octets {
-            text.extend_from_slice(part.as_bytes())?;
+            lines.on(&event_of(rt, row, *event), out)?;
         }
     }
+    out.flush()
+}
+
+/// The lines of the row's events that come with so many octets.
+fn text_of(rt: &impl Abort, alloc: Global, row: &Row<'_>, octets: usize) -> Result<Vec<u8>, Fail> {
+    let mut room = [0; 1024];
+    let mut drain = MemDrain::new(&mut room, 4096);
+    let result = put_lines(rt, row, octets as u64, &mut Out::new(&mut drain));
+    expect_eq_of(rt, row.name, result, Ok(()));
+    let mut text = Vec::new(alloc);
+    text.extend_from_slice(drain.written())?;
     Ok(text)
 }
 
@@ -85,16 +105,6 @@ fn run_of(row: &Row<'_>) -> Run {
     }
 }
 
-fn framing_of(rt: &impl Abort, row: &Row<'_>) -> Framing {
-    let Some(inside) = Inside::new(row.inside) else {
-        panic!(rt; "{}: offsets", row.name);
-    };
-    Framing {
-        inside,
-        padding: row.padding,
-    }
-}
-
 /// Walks over the row's input, and expects this result.
 fn expect_walk(
     rt: &impl Abort,
@@ -109,7 +119,7 @@ fn expect_walk(
         &mut EventLines::up_to(0),
         drain,
         reads.limit.min(INPUT_LIMIT),
-        &framing_of(rt, row),
+        &framing_of(rt, row.inside, row.padding),
     );
     expect_eq_of(rt, row.name, result, wanted.result);
     expect_eq_of(rt, row.name, drain.written(), wanted.written);
@@ -122,38 +132,4 @@ fn expect_row(rt: &impl Abort, row: &Row<'_>, text: &[u8], reads: ReadPlan<'_>, 
         result: Ok(run_of(row)),
     };
     expect_walk(rt, row, reads, &mut MemDrain::new(room, 4096), wanted);
-}
-
-/// Expects it whole, in single octets, and in every cut into two pieces.
-fn expect_in_pieces(rt: &impl Abort, row: &Row<'_>, text: &[u8], room: &mut [u8]) {
-    expect_row(rt, row, text, WHOLE, room);
-    let singly = ReadPlan {
-        cuts: &ONES,
-        ..WHOLE
-    };
-    expect_row(rt, row, text, singly, room);
-    for cut in 1..row.input.len() {
-        let reads = ReadPlan {
-            cuts: &[cut as u64],
-            ..WHOLE
-        };
-        expect_row(rt, row, text, reads, room);
-    }
-}
-
-fn expect_each_in_pieces(rt: &impl Abort, alloc: Global, rows: &[Row<'_>]) -> Result<(), Fail> {
-    let mut room = [0; 1024];
-    for row in rows {
-        let text = text_of(alloc, row, row.input.len())?;
-        expect_in_pieces(rt, row, text.as_slice(), &mut room);
-    }
-    Ok(())
-}
-
-#[test]
-fn pieces_do_not_show(rt: HostRuntime) -> Result<(), Fail> {
-    for rows in tables() {
-        expect_each_in_pieces(&rt, rt.alloc(), rows)?;
-    }
-    Ok(())
 }

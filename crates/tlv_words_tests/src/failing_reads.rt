@@ -1,5 +1,5 @@
-//! Reads that fail after the first piece: what it held is written, and no read is made after an octet
-//! that is refused or a whole element.
+//! Reads that fail after the first piece: the output of its octets is written, and no read is made after
+//! an octet that is refused or a whole element.
 use crate::READ_FAILED;
 use crate::row::{Case, command_for};
 use crate::runs::{Devices, RunResult, expect_run};

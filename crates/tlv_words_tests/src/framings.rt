@@ -1,5 +1,5 @@
 //! How words have an input read: the strings that they name, and whether it may have padding.
-use crate::expect::expect_eq;
+use crate::expect::expect_eq_of;
 use crate::row::command_for;
 use std::alloc::Global;
 use std::process::Abort;
@@ -47,7 +47,7 @@ fn expect_framing(rt: &impl Abort, alloc: Global, row: &FramingRow<'_>) -> Resul
     let (Some(inside), Some(framing)) = (Inside::new(offsets), framing_of(&command)) else {
         panic!(rt; "{list:?}: no offsets, or a command that names no strings");
     };
-    expect_eq(rt, list, framing, &Framing { inside, padding });
+    expect_eq_of(rt, list, framing, &Framing { inside, padding });
     Ok(())
 }
 
@@ -71,8 +71,8 @@ fn is_padded(alloc: Global, list: &str) -> Result<Option<bool>, Fail> {
 
 #[test]
 fn padding_is_asked_of_indef(rt: HostRuntime) -> Result<(), Fail> {
-    expect_eq(&rt, "plain", is_padded(rt.alloc(), "indef")?, Some(false));
-    expect_eq(
+    expect_eq_of(&rt, "plain", is_padded(rt.alloc(), "indef")?, Some(false));
+    expect_eq_of(
         &rt,
         "padded",
         is_padded(rt.alloc(), "indef --padding")?,

@@ -1,5 +1,5 @@
-//! What is reported if no input is read, and how it is written.
-use crate::expect::expect_eq;
+//! What is reported apart from what encodings come to, and how it is written.
+use crate::expect::expect_eq_of;
 use std::process::Abort;
 use tlv_run::{Report, device_report, names_report, unopened_report, write_message};
 use tlv_value::NamesFault;
@@ -10,8 +10,8 @@ use tlv_words::{UsageFault, not_utf8_report, unprinted_report, usage_report};
 fn expect_written(rt: &impl Abort, report: &Report, status: u8, line: &[u8]) {
     let mut room = [0; 129];
     let mut drain = MemDrain::new(&mut room, 5);
-    expect_eq(rt, line, write_message(report, &mut drain), status);
-    expect_eq(rt, line, drain.written(), line);
+    expect_eq_of(rt, line, write_message(report, &mut drain), status);
+    expect_eq_of(rt, line, drain.written(), line);
 }
 
 #[test]
@@ -97,11 +97,11 @@ fn reports_are_written(rt: HostRuntime) {
 fn failed_writes_keep_the_status(rt: HostRuntime) {
     let mut room = [0; 7];
     let mut drain = MemDrain::new(&mut room, 5);
-    expect_eq(
+    expect_eq_of(
         &rt,
         "status",
         write_message(&unopened_report(), &mut drain),
         3,
     );
-    expect_eq(&rt, "written", drain.written(), b"E5 cann".as_slice());
+    expect_eq_of(&rt, "written", drain.written(), b"E5 cann".as_slice());
 }

@@ -1,6 +1,6 @@
 //! Runs over octets in memory, which `run_octets` makes with devices of its own.
 use super::{ONES, READ_FAILED, WRITE_FAILED};
-use crate::expect::expect_eq;
+use crate::expect::expect_eq_of;
 use crate::row::{Case, case_of, command_for};
 use crate::table::tables;
 use std::process::Abort;
@@ -16,14 +16,14 @@ fn expect<const N: usize>(
     status: u8,
     message: &str,
 ) {
-    expect_eq(rt, "written", run.written.as_slice(), written);
-    expect_eq(
+    expect_eq_of(rt, "written", run.written.as_slice(), written);
+    expect_eq_of(
         rt,
         "message",
         run.report.message.as_slice(),
         message.as_bytes(),
     );
-    expect_eq(rt, "status", run.report.status, status);
+    expect_eq_of(rt, "status", run.report.status, status);
 }
 
 /// Expects what the case says of its input in these pieces, or a failed write if its output is longer than the room.
@@ -37,7 +37,7 @@ fn expect_case(rt: &impl Abort, case: &Case<'_>, cuts: &[u64]) {
     );
     let output = case.output.as_slice();
     match output.get(..256) {
-        Some(front) if output.len() > 256 => expect(rt, &run, front, 3, WRITE_FAILED),
+        Some(prefix) if output.len() > 256 => expect(rt, &run, prefix, 3, WRITE_FAILED),
         _ => expect(rt, &run, output, case.status, case.message),
     }
 }
@@ -124,7 +124,7 @@ fn octets_before_a_failed_read_are_written(rt: HostRuntime) -> Result<(), Fail> 
         for cuts in [&[], ONES.as_slice()] {
             let run = run_octets::<256>(&command, &Names::empty(), row.input, cuts, true);
             expect(&rt, &run, row.written, row.status, row.message);
-            expect_eq(&rt, row.words, run.report.findings, 0);
+            expect_eq_of(&rt, row.words, run.report.findings, 0);
         }
     }
     Ok(())
@@ -140,8 +140,8 @@ fn octets_past_the_room_are_not_written(rt: HostRuntime) -> Result<(), Fail> {
     for cuts in [&[], ONES.as_slice()] {
         let none = run_octets::<0>(&command, &names, input, cuts, false);
         expect(&rt, &none, b"", 3, WRITE_FAILED);
-        let front = run_octets::<8>(&command, &names, input, cuts, false);
-        expect(&rt, &front, &output[..8], 3, WRITE_FAILED);
+        let part = run_octets::<8>(&command, &names, input, cuts, false);
+        expect(&rt, &part, &output[..8], 3, WRITE_FAILED);
         let all = run_octets::<9>(&command, &names, input, cuts, false);
         expect(&rt, &all, output, 0, "");
         let more = run_octets::<10>(&command, &names, input, cuts, false);
@@ -159,8 +159,8 @@ fn room_for_the_output_is_enough(rt: HostRuntime) -> Result<(), Fail> {
     let names = Names::empty();
     for cuts in [&[], ONES.as_slice()] {
         for (read_fails, status, message) in [(false, 0, ""), (true, 3, READ_FAILED)] {
-            let front = run_octets::<21>(&command, &names, input, cuts, read_fails);
-            expect(&rt, &front, &output[..21], 3, WRITE_FAILED);
+            let part = run_octets::<21>(&command, &names, input, cuts, read_fails);
+            expect(&rt, &part, &output[..21], 3, WRITE_FAILED);
             let all = run_octets::<22>(&command, &names, input, cuts, read_fails);
             expect(&rt, &all, output, status, message);
         }

@@ -2,7 +2,7 @@
 use crate::long::LONG;
 use crate::row::{Case, case_of};
 use crate::runs::{
-    expect_failed_reads, expect_failed_writes, expect_final_fault, expect_fronts,
+    expect_failed_reads, expect_failed_writes, expect_final_fault, expect_prefixes,
     expect_same_again, expect_whole,
 };
 use crate::table::tables;
@@ -10,7 +10,7 @@ use std::alloc::Global;
 use std::process::Abort;
 use std::test::Fail;
 
-/// The most octets that an input has, or makes a run write.
+/// More octets than an input has, or makes a run write.
 const ROOM: usize = 50_000;
 
 /// A way to run a case.
@@ -19,7 +19,7 @@ pub(crate) enum Way {
     /// Its whole input, in whatever pieces.
     Whole,
     /// Each prefix of its input.
-    Fronts,
+    Prefixes,
     /// Each read fails in turn.
     FailedReads,
     /// Too little room.
@@ -42,7 +42,7 @@ fn expect_case(rt: &impl Abort, way: Way, case: &Case<'_>, rooms: &mut Rooms) ->
     let (room, other) = (rooms.room.as_mut_slice(), rooms.other.as_mut_slice());
     match way {
         Way::Whole => expect_whole(rt, case, room),
-        Way::Fronts => expect_fronts(rt, case, room, other)?,
+        Way::Prefixes => expect_prefixes(rt, case, room, other)?,
         Way::FailedReads => expect_failed_reads(rt, case, room, other),
         Way::FailedWrites => expect_failed_writes(rt, case, room),
         Way::FinalFault => expect_final_fault(rt, case, room, other),
@@ -94,8 +94,8 @@ fn rows_are_written_in_whatever_pieces(rt: HostRuntime) -> Result<(), Fail> {
 }
 
 #[test]
-fn fronts_of_rows_are_written(rt: HostRuntime) -> Result<(), Fail> {
-    expect_all(&rt, rt.alloc(), Way::Fronts)
+fn prefixes_of_rows_are_written(rt: HostRuntime) -> Result<(), Fail> {
+    expect_all(&rt, rt.alloc(), Way::Prefixes)
 }
 
 #[test]
@@ -120,7 +120,7 @@ fn a_second_indef_changes_nothing(rt: HostRuntime) -> Result<(), Fail> {
 
 #[test]
 fn long_inputs_are_written(rt: HostRuntime) -> Result<(), Fail> {
-    for way in [Way::Whole, Way::Fronts, Way::FinalFault, Way::SameAgain] {
+    for way in [Way::Whole, Way::Prefixes, Way::FinalFault, Way::SameAgain] {
         expect_long(&rt, rt.alloc(), way)?;
     }
     Ok(())

@@ -1,5 +1,5 @@
 //! Runs of a case over memory: in whatever pieces its octets come, over each prefix of them, and if a device fails.
-use crate::expect::expect_eq;
+use crate::expect::expect_eq_of;
 use crate::row::{Case, number};
 use crate::{ONES, READ_FAILED, WRITE_FAILED};
 use std::process::Abort;
@@ -8,7 +8,7 @@ use tlv_run::{Command, Report, run};
 use tlv_value::Names;
 use tlv_walk::{MemDrain, MemSource};
 
-/// The octets of a short input, of which each prefix is run in whatever pieces.
+/// The most octets of a short input, of which each prefix is run in whatever pieces.
 const SHORT: usize = 64;
 
 /// How a source gives its octets, and a drain takes its own.
@@ -32,7 +32,7 @@ pub(crate) struct RunResult<'a> {
 }
 
 /// Devices that do not fail, of which the source gives the octets in these pieces.
-pub(crate) fn sound(cuts: &[u64]) -> Devices<'_> {
+pub(crate) fn unfailing(cuts: &[u64]) -> Devices<'_> {
     Devices {
         cuts,
         fail_at: None,
@@ -93,10 +93,10 @@ pub(crate) fn expect_run(
     let mut source = MemSource::new(octets, devices.cuts, devices.fail_at);
     let mut drain = MemDrain::new(room, devices.most);
     let report = run(&case.command, &case.names, &mut source, &mut drain);
-    expect_eq(rt, case.place, drain.written(), wanted.written);
-    expect_eq(rt, case.place, report.message.as_slice(), wanted.message);
-    expect_eq(rt, case.place, report.status, wanted.status);
-    expect_eq(rt, case.place, report.findings, wanted.findings);
+    expect_eq_of(rt, case.place, drain.written(), wanted.written);
+    expect_eq_of(rt, case.place, report.message.as_slice(), wanted.message);
+    expect_eq_of(rt, case.place, report.status, wanted.status);
+    expect_eq_of(rt, case.place, report.findings, wanted.findings);
 }
 
 /// Expects the same result in single octets and in every cut into two pieces.
@@ -107,9 +107,9 @@ fn expect_in_pieces(
     room: &mut [u8],
     wanted: RunResult<'_>,
 ) {
-    expect_run(rt, case, octets, sound(&ONES), room, wanted);
+    expect_run(rt, case, octets, unfailing(&ONES), room, wanted);
     for cut in 1..octets.len() {
-        expect_run(rt, case, octets, sound(&[cut as u64]), room, wanted);
+        expect_run(rt, case, octets, unfailing(&[cut as u64]), room, wanted);
     }
 }
 
@@ -117,7 +117,7 @@ fn expect_in_pieces(
 pub(crate) fn expect_whole(rt: &impl Abort, case: &Case<'_>, room: &mut [u8]) {
     let input = case.input.as_slice();
     let wanted = result_of(case);
-    expect_run(rt, case, input, sound(&[]), room, wanted);
+    expect_run(rt, case, input, unfailing(&[]), room, wanted);
     expect_in_pieces(rt, case, input, room, wanted);
 }
 
@@ -136,36 +136,36 @@ fn count_with(case: &Case<'_>, octets: u64) -> Result<Option<u64>, Fail> {
 }
 
 /// Expects what was written of so many octets to be what the case says has come with them, and a prefix of its output.
-fn expect_front(
+fn expect_prefix(
     rt: &impl Abort,
     case: &Case<'_>,
     octets: usize,
     written: &[u8],
 ) -> Result<(), Fail> {
     let output = case.output.as_slice();
-    expect_eq(rt, case.place, output.starts_with(written), true);
+    expect_eq_of(rt, case.place, output.starts_with(written), true);
     if let Some(count) = count_with(case, octets as u64)? {
-        expect_eq(rt, case.place, written.len() as u64, count);
+        expect_eq_of(rt, case.place, written.len() as u64, count);
     }
     Ok(())
 }
 
 /// Expects of each prefix of the input a prefix of the output; of a short input the same result in whatever pieces.
-pub(crate) fn expect_fronts(
+pub(crate) fn expect_prefixes(
     rt: &impl Abort,
     case: &Case<'_>,
     room: &mut [u8],
     other: &mut [u8],
 ) -> Result<(), Fail> {
     for count in 0..case.input.len() {
-        let front = &case.input[..count];
-        let mut source = MemSource::new(front, &[], None);
+        let prefix = &case.input[..count];
+        let mut source = MemSource::new(prefix, &[], None);
         let mut drain = MemDrain::new(room, 4096);
         let report = run(&case.command, &case.names, &mut source, &mut drain);
         let run_result = result_in(&report, drain.written());
-        expect_front(rt, case, count, run_result.written)?;
+        expect_prefix(rt, case, count, run_result.written)?;
         if case.input.len() <= SHORT {
-            expect_in_pieces(rt, case, front, other, run_result);
+            expect_in_pieces(rt, case, prefix, other, run_result);
         }
     }
     Ok(())
@@ -192,8 +192,8 @@ pub(crate) fn expect_failed_reads(
     other: &mut [u8],
 ) {
     for count in 0..=case.input.len() {
-        let front = case.input.get(..count).unwrap_or_default();
-        let mut source = MemSource::new(front, &[], None);
+        let prefix = case.input.get(..count).unwrap_or_default();
+        let mut source = MemSource::new(prefix, &[], None);
         let mut drain = MemDrain::new(room, 4096);
         let report = run(&case.command, &case.names, &mut source, &mut drain);
         let run_result = result_in(&report, drain.written());
@@ -260,7 +260,7 @@ pub(crate) fn expect_final_fault(
     longer[..count].copy_from_slice(case.input.as_slice());
     for octet in 0..=255 {
         longer[count] = octet;
-        expect_run(rt, case, longer, sound(&[]), room, wanted);
+        expect_run(rt, case, longer, unfailing(&[]), room, wanted);
     }
 }
 
@@ -295,6 +295,6 @@ pub(crate) fn expect_same_again(
     let mut again = MemSource::new(drain.written(), &[], None);
     let mut second = MemDrain::new(other, 4096);
     let report = run(&indef, &names, &mut again, &mut second);
-    expect_eq(rt, case.place, second.written(), drain.written());
-    expect_eq(rt, case.place, report.status, 0);
+    expect_eq_of(rt, case.place, second.written(), drain.written());
+    expect_eq_of(rt, case.place, report.status, 0);
 }

@@ -3,7 +3,7 @@ use super::words_rows::{
     CUTS, CommandRow, HELP_AND_VERSION, INSIDE, LIMITS, Meaning, REFUSED_VALUES, RULES,
     WRONG_OPTIONS, WRONG_WORDS,
 };
-use crate::expect::expect_eq;
+use crate::expect::expect_eq_of;
 use std::alloc::Global;
 use std::process::Abort;
 use std::test::Fail;
@@ -48,7 +48,7 @@ fn expect_meanings(rt: &impl Abort, alloc: Global, rows: &[CommandRow<'_>]) {
             Ok(asked) => meaning_of(&asked),
             Err(fault) => meaning_of_fault(&fault),
         };
-        expect_eq(rt, list, meaning, want);
+        expect_eq_of(rt, list, meaning, want);
     }
 }
 
@@ -83,8 +83,8 @@ fn expect_files(
     file: Option<&str>,
 ) -> Result<(), Fail> {
     let asked = command(alloc, list)?;
-    expect_eq(rt, list, asked.names_file(), names);
-    expect_eq(rt, list, asked.file(), file);
+    expect_eq_of(rt, list, asked.names_file(), names);
+    expect_eq_of(rt, list, asked.file(), file);
     Ok(())
 }
 

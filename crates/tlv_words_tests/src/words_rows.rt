@@ -12,7 +12,7 @@ pub(crate) enum Meaning<'a> {
     Refused,
     /// They ask for help or for the version.
     HelpOrVersion,
-    /// The value of this option is not in its range.
+    /// The text of this option, the first such, is no value of it.
     Value(&'a str),
     Memory,
 }
@@ -150,7 +150,7 @@ pub(crate) static RULES: [CommandRow<'static>; 7] = [
     (&["check", "--rules", "xer"], Meaning::Value("--rules")),
 ];
 
-/// Values out of range, of which one is reported.
+/// Texts that are no values, of which the first is reported.
 pub(crate) static REFUSED_VALUES: [CommandRow<'static>; 7] = [
     (
         &["dump", "--limit", "x", "--inside", "4,"],

@@ -1,12 +1,12 @@
 //! What a whole header says, and what is made of it.
 use super::octets::{OFFSET, SHAPES, Shape};
-use super::{front_header, header_of, is_of_shape};
+use super::{header_of, is_of_shape, unnamed_header};
 use crate::expect::{expect_eq, expect_eq_of, expect_of};
 use tlv_head::{Header, HeaderFields, Size, spell_indefinite};
 
 /// The octets after the first of the identifier and of the length, if the octets begin with a header.
 fn second_octets(octets: &[u8]) -> Option<(u8, u8)> {
-    let header = front_header(octets)?;
+    let header = unnamed_header(octets)?;
     Some((
         header.second_identifier_octet(),
         header.second_length_octet(),
@@ -61,7 +61,7 @@ fn fields_make_headers(rt: HostRuntime) {
 
 /// Whether the octets begin with a header of a constructed element, which becomes this one of indefinite length.
 fn becomes(octets: &[u8], want: &[u8]) -> bool {
-    match front_header(octets) {
+    match unnamed_header(octets) {
         Some(header) if header.constructed => spell_indefinite(&header).as_slice() == want,
         _ => false,
     }

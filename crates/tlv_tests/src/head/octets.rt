@@ -161,7 +161,7 @@ pub(crate) struct Refusal {
     pub is_header: bool,
 }
 
-/// Fronts of headers, with an octet that is refused.
+/// Prefixes of headers, with an octet that is refused.
 pub(crate) static REFUSALS: [Refusal; 13] = [
     Refusal {
         octets: b"\x9f\x81\x80\x80\x80\x80\x80\x80\x80\x80",

@@ -1,6 +1,6 @@
 //! Short headers, which are read at once.
 use super::octets::{OFFSET, REFUSALS, SHAPES, Shape};
-use super::{front_header, is_of_shape};
+use super::{is_of_shape, unnamed_header};
 use crate::expect::{expect, expect_of};
 use std::process::Abort;
 use tlv_head::{Header, read_short};
@@ -25,7 +25,7 @@ fn expect_no_short(rt: &impl Abort, octets: &[u8]) {
 }
 
 /// The same of each prefix of these octets.
-fn expect_no_short_fronts(rt: &impl Abort, octets: &[u8]) {
+fn expect_no_short_prefixes(rt: &impl Abort, octets: &[u8]) {
     for i in 0..octets.len() {
         expect_no_short(rt, &octets[..i]);
     }
@@ -43,11 +43,11 @@ fn short_headers_are_read_at_once(rt: HostRuntime) {
             is_right,
             "they are read at once if they are short",
         );
-        expect_no_short_fronts(&rt, shape.octets);
+        expect_no_short_prefixes(&rt, shape.octets);
     }
     // Four identifier octets, and four length octets.
     for octets in [b"\x1f\x81\x80\x01\x00".as_slice(), b"\x04\x83\x00\x00\x01"] {
-        expect(&rt, front_header(octets).is_some(), "a header is read");
+        expect(&rt, unnamed_header(octets).is_some(), "a header is read");
         expect_no_short(&rt, octets);
     }
     for refusal in &REFUSALS {

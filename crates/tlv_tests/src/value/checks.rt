@@ -1,23 +1,15 @@
 //! What is found on contents, whatever pieces they come in.
 use super::found_rows::{BITS, Found, NUMBERS, OBJECTS, STRINGS, TIMES};
 use crate::expect::{expect_eq, expect_of};
+use crate::inputs::element_at;
 use arrayvec::ArrayVec;
 use std::process::Abort;
-use tlv_head::{Header, Size, read_header};
 use tlv_value::{Finding, ValueCheck, is_clear};
 
 /// What is found on the contents of an element, which come in two pieces, cut at `cut`, or after the last octet, if
 /// `is_clear` says whether that is nothing.
 fn check(element: &[u8], cut: usize) -> Option<ArrayVec<Finding, 16>> {
-    let (fields, count) = read_header(0, false, element)?;
-    let header = Header::new(&fields, &element[..count]);
-    let contents = &element[count..];
-    let Size::Definite(size) = header.size else {
-        return None;
-    };
-    if size != contents.len() as u64 {
-        return None;
-    }
+    let (header, contents) = element_at(0, element)?;
     let (front, back) = contents.split_at(cut.min(contents.len()));
     let mut check = ValueCheck::new(&header);
     check.bytes(front);
@@ -31,12 +23,7 @@ fn check(element: &[u8], cut: usize) -> Option<ArrayVec<Finding, 16>> {
 
 /// The same with contents that come octet by octet.
 fn check_octets(element: &[u8]) -> Option<ArrayVec<Finding, 16>> {
-    let (fields, count) = read_header(0, false, element)?;
-    let header = Header::new(&fields, &element[..count]);
-    let contents = &element[count..];
-    if header.size != Size::Definite(contents.len() as u64) {
-        return None;
-    }
+    let (header, contents) = element_at(0, element)?;
     let mut check = ValueCheck::new(&header);
     for i in 0..contents.len() {
         check.bytes(&contents[i..=i]);

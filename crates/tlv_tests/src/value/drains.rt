@@ -1,9 +1,9 @@
 //! Drains without room.
 use super::{OneName, PLAIN};
 use crate::expect::{expect, expect_eq, expect_of};
-use tlv_head::{Header, Size, read_header};
+use crate::inputs::element_at;
 use tlv_value::ValueText;
-use tlv_walk::{MemDrain, Out};
+use tlv_walk::{Drain, MemDrain, Out, WriteFault};
 
 /// The call at which a write failed.
 #[derive(Clone, Copy)]
@@ -15,21 +15,22 @@ enum Call {
     Flush,
 }
 
-/// Writes so many letters, and after them the lines of an element. `None` if no write failed.
-fn failing_call(element: &[u8], letters: usize, drain: &mut MemDrain<'_>) -> Option<Call> {
-    let (fields, count) = read_header(0, false, element)?;
-    let header = Header::new(&fields, &element[..count]);
-    let contents = &element[count..];
-    if header.size != Size::Definite(contents.len() as u64) {
-        return None;
-    }
-    let mut out = Out::new(drain);
-    let mut text = ValueText::new(&header, PLAIN);
+/// Puts so many letters.
+fn put_letters<D: Drain>(letters: usize, out: &mut Out<'_, D>) -> Result<(), WriteFault> {
     for _ in 0..letters {
-        if out.put(b"x").is_err() {
-            return Some(Call::Before);
-        }
+        out.put(b"x")?;
     }
+    Ok(())
+}
+
+/// The call at which a write fails, if one does, of so many letters and the lines of an element after them.
+fn failing_call(element: &[u8], letters: usize, drain: &mut MemDrain<'_>) -> Option<Call> {
+    let (header, contents) = element_at(0, element)?;
+    let mut out = Out::new(drain);
+    if put_letters(letters, &mut out).is_err() {
+        return Some(Call::Before);
+    }
+    let mut text = ValueText::new(&header, PLAIN);
     if text.begin(&mut out).is_err() {
         return Some(Call::Begin);
     }
@@ -46,7 +47,7 @@ fn failing_call(element: &[u8], letters: usize, drain: &mut MemDrain<'_>) -> Opt
 }
 
 /// Whether the octets are so many letters and the text, or a prefix of that.
-fn is_front(octets: &[u8], letters: usize, text: &[u8]) -> bool {
+fn is_prefix(octets: &[u8], letters: usize, text: &[u8]) -> bool {
     let (before, after) = octets.split_at(letters.min(octets.len()));
     for octet in before {
         if *octet != b'x' {
@@ -75,7 +76,7 @@ fn failing_call_in(room: &mut [u8], letters: usize) -> (Option<Call>, bool) {
         None => written.len() == all,
         Some(_) => written.len() == size && size < all,
     };
-    (at, is_right && is_front(written, letters, LINES))
+    (at, is_right && is_prefix(written, letters, LINES))
 }
 
 /// An `Out` holds 4096 octets, and hands them to the drain before a line if room for fewer than 1024

@@ -1,15 +1,10 @@
 //! A primitive in pieces and at once, and the parts of a line.
 use super::{OneName, PLAIN};
 use crate::expect::{expect, expect_eq};
-use tlv_head::{Class, Header, read_header};
+use crate::inputs::header;
+use tlv_head::{Class, Header, Size};
 use tlv_value::{Layout, ValueText, begin_blank, begin_word, put_whole, write_tag};
 use tlv_walk::{HeldOctets, MemDrain, Out};
-
-/// The header with which these octets begin, at this offset.
-fn header_at(offset: u64, octets: &[u8]) -> Option<Header> {
-    let (fields, count) = read_header(offset, false, octets)?;
-    Some(Header::new(&fields, &octets[..count]))
-}
 
 /// Puts the line of an INTEGER whose contents are the octet `05`.
 fn put_five(text: &mut ValueText, drain: &mut MemDrain<'_>) -> Option<()> {
@@ -29,7 +24,7 @@ fn put_five(text: &mut ValueText, drain: &mut MemDrain<'_>) -> Option<()> {
 /// The same, written at once.
 fn put_five_whole(header: &Header, drain: &mut MemDrain<'_>) -> Option<()> {
     let octets = b"\x05";
-    if !matches!(header.size, tlv_head::Size::Definite(1)) {
+    if !matches!(header.size, Size::Definite(1)) {
         return None;
     }
     let mut out = Out::new(drain);
@@ -56,9 +51,7 @@ fn is_five_whole(header: &Header) -> bool {
 
 #[test]
 fn a_primitive_is_written_in_pieces_and_at_once(rt: HostRuntime) {
-    let Some(header) = header_at(5, b"\x02\x01") else {
-        panic!(rt; "header");
-    };
+    let header = header(&rt, 5, false, b"\x02\x01");
     expect(&rt, is_five(&header), "its line is written in pieces");
     expect(&rt, is_five_whole(&header), "its line is written at once");
 }

@@ -6,7 +6,7 @@ use std::test::Fail;
 use tlv_value::{Names, NamesFault};
 use tlv_walk::MemSource;
 
-/// Two lines of 23 octets, of which the second has a name.
+/// Two lines, 23 octets in all, of which the second has a name.
 const FILE: &[u8] = b"# x\n2.5.4.3 commonName\n";
 
 /// Why a names file of these octets is refused, if it is. They come with these cuts, and this read fails.
@@ -170,7 +170,7 @@ fn fits(alloc: Global, size: usize) -> Option<bool> {
 }
 
 #[test]
-fn growths_are_refused(rt: HostRuntime) {
+fn memory_is_refused_or_enough(rt: HostRuntime) {
     let mut refused = false;
     let mut found = false;
     for size in 0..4096 {

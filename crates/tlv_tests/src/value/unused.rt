@@ -1,6 +1,6 @@
 //! Unused bits of a BIT STRING.
 use crate::expect::expect_eq_of;
-use tlv_head::{Header, read_header};
+use crate::inputs::element_at;
 use tlv_value::ValueCheck;
 
 /// An element, and whether bits of its last contents octet are unused.
@@ -34,13 +34,12 @@ static ROWS: [Row; 5] = [
 
 /// Whether bits are unused, by an element's whole contents.
 fn has_unused_bits(element: &[u8]) -> Option<bool> {
-    let (fields, count) = read_header(0, false, element)?;
-    let header = Header::new(&fields, &element[..count]);
+    let (header, contents) = element_at(0, element)?;
     let mut check = ValueCheck::new(&header);
-    if check.left() != element[count..].len() as u64 {
+    if check.left() != contents.len() as u64 {
         return None;
     }
-    check.bytes(&element[count..]);
+    check.bytes(contents);
     Some(check.has_unused_bits())
 }
 

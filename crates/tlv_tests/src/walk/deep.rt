@@ -1,13 +1,11 @@
 //! Deep inputs.
-use super::expect_in_pieces;
-use super::rows::{CLEAN, Row, fault};
+use super::events::expect_in_pieces;
+use super::rows::{CLEAN, Row, RowEvent, fault};
 use std::alloc::Global;
 use std::process::Abort;
 use std::test::Fail;
 use tlv_head::FaultCode;
-
-/// The most octets that a walk over one of these inputs writes.
-const ROOM: usize = 5000;
+use tlv_walk::Ending;
 
 /// The header of a SEQUENCE of indefinite length so many times, and these octets after it.
 fn nested(alloc: Global, count: u64, after: &[u8]) -> Result<Vec<u8>, Fail> {
@@ -19,58 +17,78 @@ fn nested(alloc: Global, count: u64, after: &[u8]) -> Result<Vec<u8>, Fail> {
     Ok(octets)
 }
 
-/// The opening lines of 128 nested elements, and this text after them.
-fn openings(alloc: Global, after: &[u8]) -> Result<Vec<u8>, Fail> {
-    let mut text = Vec::new(alloc);
+/// The headers of 128 nested elements.
+fn openings(alloc: Global) -> Result<Vec<(u64, RowEvent)>, Fail> {
+    let mut events = Vec::new(alloc);
     for i in 0..128_u64 {
         let offset = i.saturating_mul(2);
-        let line = format!(in alloc; "open {offset:0>4} 30 80\n")?;
-        text.extend_from_slice(line.as_bytes())?;
+        let header = RowEvent::Open(offset, b"\x30\x80");
+        events.push((offset.saturating_add(2), header))?;
     }
-    text.extend_from_slice(after)?;
-    Ok(text)
+    Ok(events)
 }
 
-/// The closing lines of 128 nested elements, of which the innermost ends at the offset 256.
-fn closings(alloc: Global) -> Result<Vec<u8>, Fail> {
-    let mut text = Vec::new(alloc);
+/// Adds the ends of 128 nested elements, of which the innermost ends at the offset 256.
+fn push_closings(events: &mut Vec<(u64, RowEvent)>) -> Result<(), Fail> {
     for i in 128..256_u64 {
         let offset = i.saturating_mul(2);
-        let line = format!(in alloc; "close {offset:0>4}\n")?;
-        text.extend_from_slice(line.as_bytes())?;
+        events.push((offset.saturating_add(2), RowEvent::Close(Some(offset))))?;
     }
-    Ok(text)
+    Ok(())
 }
 
-/// Expects this text of the row, in whatever pieces its input comes.
-fn expect_deep(rt: &impl Abort, row: &Row<'_>, text: &[u8]) {
-    expect_in_pieces(rt, row, text, &mut [0; ROOM]);
+/// Adds the header and the end of an empty OCTET STRING at the offset 256.
+fn push_string(events: &mut Vec<(u64, RowEvent)>) -> Result<(), Fail> {
+    let header = RowEvent::Begin(256, b"\x04\x00");
+    events.push((258, header))?;
+    events.push((258, RowEvent::End))?;
+    Ok(())
+}
+
+/// Expects these events of the input, and what it comes to.
+fn expect_deep<'a>(
+    rt: &impl Abort,
+    name: &'a str,
+    input: &'a [u8],
+    events: &'a [(u64, RowEvent)],
+    ending: Ending,
+) {
+    let row = Row {
+        name,
+        input,
+        events,
+        ending,
+        ..CLEAN
+    };
+    expect_in_pieces(rt, &row);
 }
 
 #[test]
 fn elements_are_open_128_deep(rt: HostRuntime) -> Result<(), Fail> {
     let input = nested(rt.alloc(), 128, &[0; 256])?;
-    let text = openings(rt.alloc(), closings(rt.alloc())?.as_slice())?;
-    let row = Row {
-        name: "128 elements",
-        input: input.as_slice(),
-        ..CLEAN
-    };
-    expect_deep(&rt, &row, text.as_slice());
+    let mut events = openings(rt.alloc())?;
+    push_closings(&mut events)?;
+    expect_deep(
+        &rt,
+        "128 elements",
+        input.as_slice(),
+        events.as_slice(),
+        Ending::Done,
+    );
     Ok(())
 }
 
 #[test]
 fn a_129th_element_is_refused(rt: HostRuntime) -> Result<(), Fail> {
     let input = nested(rt.alloc(), 129, b"")?;
-    let text = openings(rt.alloc(), b"")?;
-    let row = Row {
-        name: "129 elements",
-        input: input.as_slice(),
-        ending: fault(FaultCode::TooDeep, 257),
-        ..CLEAN
-    };
-    expect_deep(&rt, &row, text.as_slice());
+    let events = openings(rt.alloc())?;
+    expect_deep(
+        &rt,
+        "129 elements",
+        input.as_slice(),
+        events.as_slice(),
+        fault(FaultCode::TooDeep, 257),
+    );
     Ok(())
 }
 
@@ -78,29 +96,31 @@ fn a_129th_element_is_refused(rt: HostRuntime) -> Result<(), Fail> {
 #[test]
 fn a_named_string_inside_128_elements(rt: HostRuntime) -> Result<(), Fail> {
     let input = nested(rt.alloc(), 128, b"\x04\x00")?;
-    let text = openings(rt.alloc(), b"")?;
+    let events = openings(rt.alloc())?;
     let row = Row {
         name: "a named string",
         inside: &[256],
         input: input.as_slice(),
+        events: events.as_slice(),
         ending: fault(FaultCode::TooDeep, 257),
         unused: Some(256),
         ..CLEAN
     };
-    expect_deep(&rt, &row, text.as_slice());
+    expect_in_pieces(&rt, &row);
     Ok(())
 }
 
 #[test]
 fn a_string_that_is_not_named_inside_128_elements(rt: HostRuntime) -> Result<(), Fail> {
     let input = nested(rt.alloc(), 128, b"\x04\x00")?;
-    let text = openings(rt.alloc(), b"begin 0256 04 00\n end\n")?;
-    let row = Row {
-        name: "a string that is not named",
-        input: input.as_slice(),
-        ending: fault(FaultCode::Short, 258),
-        ..CLEAN
-    };
-    expect_deep(&rt, &row, text.as_slice());
+    let mut events = openings(rt.alloc())?;
+    push_string(&mut events)?;
+    expect_deep(
+        &rt,
+        "a string that is not named",
+        input.as_slice(),
+        events.as_slice(),
+        fault(FaultCode::Short, 258),
+    );
     Ok(())
 }

@@ -2,8 +2,8 @@
 ghost use Rattle.std.specs.Prelude.{◌≡◌, ◌+◌, ◌*◌, ◌≤◌, ◌++◌, length};
 ghost use Rattle.arrayvec.specs.ArrayVec.{array_vec_len};
 ghost use Rattle.tlv_walk.specs.HasEffect.{ReturnsEffect};
-ghost use Rattle.tlv_tests.specs.EventLinesStep.{close_event_line, end_step, header_line, offset_text};
-ghost use Rattle.tlv_tests.specs.EventLinesStep.{pads, pair, pairs};
+ghost use Rattle.tlv_tests.specs.EventLinesStep.{close_event_line, end_step, header_line};
+ghost use Rattle.tlv_tests.specs.EventLinesStep.{offset_text, pads, pair, pairs};
 ghost use Rattle.tlv_io.specs.Out.{Puts};
 
 use arrayvec::ArrayVec;
@@ -13,7 +13,8 @@ use tlv_walk::{Drain, Event, Follow, Go, Out, WriteFault};
 
 const DIGITS: [u8; 16] = *b"0123456789abcdef";
 
-/// Writes each event as a line of text, but contents octets in front of their primitive's end.
+/// Writes each event as a line of text, but contents octets on the line of their primitive's end, and
+/// each octet of padding as a line of its own.
 #[derive(Drop)]
 pub(crate) struct EventLines {
     ends: u64,

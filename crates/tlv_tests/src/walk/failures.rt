@@ -13,7 +13,7 @@ fn expect_failed_reads(rt: &impl Abort, alloc: Global, rows: &[Row<'_>]) -> Resu
     let mut room = [0; 1024];
     for row in rows {
         for read in 0..=row.input.len() {
-            let text = text_of(alloc, row, read)?;
+            let text = text_of(rt, alloc, row, read)?;
             let reads = ReadPlan {
                 cuts: &ONES,
                 fail_at: Some(read as u64),
@@ -51,7 +51,7 @@ fn expect_limits(
     let mut room = [0; 1024];
     for row in rows {
         for limit in 0..=row.input.len() {
-            let text = text_of(alloc, row, limit)?;
+            let text = text_of(rt, alloc, row, limit)?;
             let reads = ReadPlan {
                 cuts,
                 fail_at: None,
@@ -105,7 +105,7 @@ fn expect_too_little_room(
 fn expect_failed_writes(rt: &impl Abort, alloc: Global, rows: &[Row<'_>]) -> Result<(), Fail> {
     let mut room = [0; 1024];
     for row in rows {
-        let text = text_of(alloc, row, row.input.len())?;
+        let text = text_of(rt, alloc, row, row.input.len())?;
         for most in [1, 7, 4096] {
             for cuts in [&[], ONES.as_slice()] {
                 expect_too_little_room(rt, row, text.as_slice(), cuts, most, &mut room);

@@ -1,5 +1,5 @@
-//! Inputs that come to a fault, and what the follower of the tests writes of them.
-use super::rows::{CLEAN, Row};
+//! Inputs that come to a fault, and their events.
+use super::rows::{CLEAN, Row, RowEvent};
 use tlv_head::{Fault, FaultCode};
 use tlv_walk::Ending;
 
@@ -17,7 +17,11 @@ pub(crate) static ENDED: [Row<'static>; 9] = [
         name: "padding alone",
         padding: true,
         input: b"\x00\x00\x00",
-        parts: &[(1, "pad\n"), (2, "pad\n"), (3, "pad\n")],
+        events: &[
+            (1, RowEvent::Pad(b"\x00")),
+            (2, RowEvent::Pad(b"\x00")),
+            (3, RowEvent::Pad(b"\x00")),
+        ],
         ending: Ending::Fault(Fault {
             code: FaultCode::Empty,
             offset: 3,
@@ -27,7 +31,7 @@ pub(crate) static ENDED: [Row<'static>; 9] = [
     Row {
         name: "an unfinished header at the bound",
         input: b"\x30\x01\x02",
-        parts: &[(2, "open 0000 30 01\n")],
+        events: &[(2, RowEvent::Open(0, b"\x30\x01"))],
         ending: Ending::Fault(Fault {
             code: FaultCode::Short,
             offset: 3,
@@ -37,10 +41,11 @@ pub(crate) static ENDED: [Row<'static>; 9] = [
     Row {
         name: "no end-of-contents octets",
         input: b"\x30\x80\x02\x01\x05",
-        parts: &[
-            (2, "open 0000 30 80\n"),
-            (4, "begin 0002 02 01\n"),
-            (5, " 05 end\n"),
+        events: &[
+            (2, RowEvent::Open(0, b"\x30\x80")),
+            (4, RowEvent::Begin(2, b"\x02\x01")),
+            (5, RowEvent::Bytes(b"\x05")),
+            (5, RowEvent::End),
         ],
         ending: Ending::Fault(Fault {
             code: FaultCode::Short,
@@ -51,7 +56,7 @@ pub(crate) static ENDED: [Row<'static>; 9] = [
     Row {
         name: "one end-of-contents octet",
         input: b"\x30\x80\x00",
-        parts: &[(2, "open 0000 30 80\n")],
+        events: &[(2, RowEvent::Open(0, b"\x30\x80"))],
         ending: Ending::Fault(Fault {
             code: FaultCode::Short,
             offset: 3,
@@ -61,11 +66,12 @@ pub(crate) static ENDED: [Row<'static>; 9] = [
     Row {
         name: "no end-of-contents octets, and the bound reached",
         input: b"\x30\x05\x30\x80\x02\x01\x05",
-        parts: &[
-            (2, "open 0000 30 05\n"),
-            (4, "open 0002 30 80\n"),
-            (6, "begin 0004 02 01\n"),
-            (7, " 05 end\n"),
+        events: &[
+            (2, RowEvent::Open(0, b"\x30\x05")),
+            (4, RowEvent::Open(2, b"\x30\x80")),
+            (6, RowEvent::Begin(4, b"\x02\x01")),
+            (7, RowEvent::Bytes(b"\x05")),
+            (7, RowEvent::End),
         ],
         ending: Ending::Fault(Fault {
             code: FaultCode::Short,
@@ -76,7 +82,7 @@ pub(crate) static ENDED: [Row<'static>; 9] = [
     Row {
         name: "contents that have not come",
         input: b"\x04\x85\xff\xff\xff\xff\xff",
-        parts: &[(7, "begin 0000 04 85 ff ff ff ff ff\n")],
+        events: &[(7, RowEvent::Begin(0, b"\x04\x85\xff\xff\xff\xff\xff"))],
         ending: Ending::Fault(Fault {
             code: FaultCode::Short,
             offset: 7,
@@ -87,7 +93,7 @@ pub(crate) static ENDED: [Row<'static>; 9] = [
         name: "a BIT STRING that wraps, without its first contents octet",
         inside: &[0],
         input: b"\x03\x01",
-        parts: &[(2, "enter 0000 03 01\n")],
+        events: &[(2, RowEvent::Enter(0, b"\x03\x01"))],
         ending: Ending::Fault(Fault {
             code: FaultCode::Short,
             offset: 2,
@@ -98,7 +104,11 @@ pub(crate) static ENDED: [Row<'static>; 9] = [
         name: "an unfinished string that wraps, and an offset of no string",
         inside: &[0, 2],
         input: b"\x04\x03\x05\x00",
-        parts: &[(2, "enter 0000 04 03\n"), (4, "begin 0002 05 00\n end\n")],
+        events: &[
+            (2, RowEvent::Enter(0, b"\x04\x03")),
+            (4, RowEvent::Begin(2, b"\x05\x00")),
+            (4, RowEvent::End),
+        ],
         ending: Ending::Fault(Fault {
             code: FaultCode::Short,
             offset: 4,
@@ -113,7 +123,7 @@ pub(crate) static REFUSED: [Row<'static>; 12] = [
     Row {
         name: "contents that end past the bound",
         input: b"\x30\x03\x02\x02\x01",
-        parts: &[(2, "open 0000 30 03\n")],
+        events: &[(2, RowEvent::Open(0, b"\x30\x03"))],
         ending: Ending::Fault(Fault {
             code: FaultCode::Overrun,
             offset: 3,
@@ -123,7 +133,7 @@ pub(crate) static REFUSED: [Row<'static>; 12] = [
     Row {
         name: "a header that ends past the bound",
         input: b"\x30\x01\x02\x00",
-        parts: &[(2, "open 0000 30 01\n")],
+        events: &[(2, RowEvent::Open(0, b"\x30\x01"))],
         ending: Ending::Fault(Fault {
             code: FaultCode::Overrun,
             offset: 3,
@@ -133,7 +143,7 @@ pub(crate) static REFUSED: [Row<'static>; 12] = [
     Row {
         name: "end-of-contents octets in a definite element",
         input: b"\x30\x02\x00\x00",
-        parts: &[(2, "open 0000 30 02\n")],
+        events: &[(2, RowEvent::Open(0, b"\x30\x02"))],
         ending: Ending::Fault(Fault {
             code: FaultCode::StrayEnd,
             offset: 2,
@@ -144,7 +154,7 @@ pub(crate) static REFUSED: [Row<'static>; 12] = [
         name: "padding in a definite element",
         padding: true,
         input: b"\x30\x02\x00\x00",
-        parts: &[(2, "open 0000 30 02\n")],
+        events: &[(2, RowEvent::Open(0, b"\x30\x02"))],
         ending: Ending::Fault(Fault {
             code: FaultCode::StrayEnd,
             offset: 2,
@@ -156,7 +166,7 @@ pub(crate) static REFUSED: [Row<'static>; 12] = [
         inside: &[0],
         padding: true,
         input: b"\x04\x02\x00\x00",
-        parts: &[(2, "enter 0000 04 02\n")],
+        events: &[(2, RowEvent::Enter(0, b"\x04\x02"))],
         ending: Ending::Fault(Fault {
             code: FaultCode::StrayEnd,
             offset: 2,
@@ -166,7 +176,7 @@ pub(crate) static REFUSED: [Row<'static>; 12] = [
     Row {
         name: "one end-of-contents octet, and another octet",
         input: b"\x30\x80\x00\x01",
-        parts: &[(2, "open 0000 30 80\n")],
+        events: &[(2, RowEvent::Open(0, b"\x30\x80"))],
         ending: Ending::Fault(Fault {
             code: FaultCode::BadEnd,
             offset: 3,
@@ -176,11 +186,12 @@ pub(crate) static REFUSED: [Row<'static>; 12] = [
     Row {
         name: "an octet 00 after the bound of an indefinite element",
         input: b"\x30\x05\x30\x80\x02\x01\x05\x00",
-        parts: &[
-            (2, "open 0000 30 05\n"),
-            (4, "open 0002 30 80\n"),
-            (6, "begin 0004 02 01\n"),
-            (7, " 05 end\n"),
+        events: &[
+            (2, RowEvent::Open(0, b"\x30\x05")),
+            (4, RowEvent::Open(2, b"\x30\x80")),
+            (6, RowEvent::Begin(4, b"\x02\x01")),
+            (7, RowEvent::Bytes(b"\x05")),
+            (7, RowEvent::End),
         ],
         ending: Ending::Fault(Fault {
             code: FaultCode::MissingEnd,
@@ -191,7 +202,10 @@ pub(crate) static REFUSED: [Row<'static>; 12] = [
     Row {
         name: "end-of-contents octets across the bound",
         input: b"\x30\x03\x30\x80\x00\x00",
-        parts: &[(2, "open 0000 30 03\n"), (4, "open 0002 30 80\n")],
+        events: &[
+            (2, RowEvent::Open(0, b"\x30\x03")),
+            (4, RowEvent::Open(2, b"\x30\x80")),
+        ],
         ending: Ending::Fault(Fault {
             code: FaultCode::MissingEnd,
             offset: 5,
@@ -201,7 +215,7 @@ pub(crate) static REFUSED: [Row<'static>; 12] = [
     Row {
         name: "end-of-contents octets between encodings",
         input: b"\x05\x00\x00\x00",
-        parts: &[(2, "begin 0000 05 00\n end\n")],
+        events: &[(2, RowEvent::Begin(0, b"\x05\x00")), (2, RowEvent::End)],
         ending: Ending::Fault(Fault {
             code: FaultCode::StrayEnd,
             offset: 2,
@@ -221,7 +235,7 @@ pub(crate) static REFUSED: [Row<'static>; 12] = [
         name: "unused bits in a BIT STRING that wraps",
         inside: &[0],
         input: b"\x03\x04\x01\x02\x01\x05",
-        parts: &[(2, "enter 0000 03 04\n")],
+        events: &[(2, RowEvent::Enter(0, b"\x03\x04"))],
         ending: Ending::Fault(Fault {
             code: FaultCode::BadInside,
             offset: 2,
@@ -232,7 +246,7 @@ pub(crate) static REFUSED: [Row<'static>; 12] = [
         name: "contents that end past a string that wraps",
         inside: &[0, 2],
         input: b"\x04\x03\x02\x02\x05",
-        parts: &[(2, "enter 0000 04 03\n")],
+        events: &[(2, RowEvent::Enter(0, b"\x04\x03"))],
         ending: Ending::Fault(Fault {
             code: FaultCode::Overrun,
             offset: 3,

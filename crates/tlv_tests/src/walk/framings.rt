@@ -1,6 +1,7 @@
 //! Offsets that may be named, and framings.
 use super::event_lines::EventLines;
 use crate::expect::{expect, expect_eq, expect_eq_of};
+use crate::inputs::framing_of;
 use std::process::Abort;
 use tlv_walk::{Ending, Framing, Inside, MemDrain, MemSource, Run, Walker, drive};
 
@@ -48,25 +49,13 @@ fn a_plain_framing_names_nothing(rt: HostRuntime) {
 
 #[test]
 fn the_first_named_offset_is_unused_at_first(rt: HostRuntime) {
-    let Some(inside) = Inside::new(&[3, 7]) else {
-        panic!(rt; "the offsets rise");
-    };
-    let framing = Framing {
-        inside,
-        padding: false,
-    };
+    let framing = framing_of(&rt, &[3, 7], false);
     expect_eq(&rt, Walker::new(&framing).unused(), Some(3));
 }
 
 /// Walks over two strings that wrap, up to the end of so many elements.
 fn expect_unused(rt: &impl Abort, ends: u64, octets: u64, unused: Option<u64>) {
-    let Some(inside) = Inside::new(&[0, 4]) else {
-        panic!(rt; "the offsets rise");
-    };
-    let framing = Framing {
-        inside,
-        padding: false,
-    };
+    let framing = framing_of(rt, &[0, 4], false);
     let mut room = [0; 128];
     let mut source = MemSource::new(b"\x04\x02\x05\x00\x04\x00", &[], None);
     let mut drain = MemDrain::new(&mut room, 4096);

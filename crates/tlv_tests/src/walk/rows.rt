@@ -1,6 +1,26 @@
-//! Inputs, what the follower of the tests writes of them, and what they come to.
+//! Inputs, their events, and what they come to.
 use tlv_head::{Fault, FaultCode};
 use tlv_walk::Ending;
+
+/// An event of a row.
+#[derive(Clone, Copy)]
+pub(crate) enum RowEvent {
+    /// The header with these octets, at this offset, of a constructed element.
+    Open(u64, &'static [u8]),
+    /// The same of a primitive.
+    Begin(u64, &'static [u8]),
+    /// One contents octet.
+    Bytes(&'static [u8]),
+    End,
+    /// The end of a constructed element, with the offset of its end-of-contents octets if it has any.
+    Close(Option<u64>),
+    /// The header with these octets, at this offset, of a string that holds encodings.
+    Enter(u64, &'static [u8]),
+    Unused,
+    Leave,
+    /// One octet of padding.
+    Pad(&'static [u8]),
+}
 
 /// An input, how it is read, and what a walk over it comes to.
 #[derive(Clone, Copy)]
@@ -12,8 +32,8 @@ pub(crate) struct Row<'a> {
     /// Whether octets `00` may be between the encodings.
     pub padding: bool,
     pub input: &'a [u8],
-    /// What is written, each part with the number of octets with which it has come.
-    pub parts: &'a [(usize, &'a str)],
+    /// Its events, each with the number of octets with which it comes.
+    pub events: &'a [(u64, RowEvent)],
     pub ending: Ending,
     /// The first named offset that is no wrapper's.
     pub unused: Option<u64>,
@@ -25,7 +45,7 @@ pub(crate) const CLEAN: Row<'static> = Row {
     inside: &[],
     padding: false,
     input: b"",
-    parts: &[],
+    events: &[],
     ending: Ending::Done,
     unused: None,
 };
@@ -40,67 +60,84 @@ pub(crate) static ENCODINGS: [Row<'static>; 6] = [
     Row {
         name: "a primitive",
         input: b"\x02\x01\x05",
-        parts: &[(2, "begin 0000 02 01\n"), (3, " 05 end\n")],
+        events: &[
+            (2, RowEvent::Begin(0, b"\x02\x01")),
+            (3, RowEvent::Bytes(b"\x05")),
+            (3, RowEvent::End),
+        ],
         ..CLEAN
     },
     Row {
         name: "a constructed string of definite length",
         input: b"\x3a\x09\x04\x03\x4a\x6f\x6e\x04\x02\x65\x73",
-        parts: &[
-            (2, "open 0000 3a 09\n"),
-            (4, "begin 0002 04 03\n"),
-            (5, " 4a"),
-            (6, " 6f"),
-            (7, " 6e end\n"),
-            (9, "begin 0007 04 02\n"),
-            (10, " 65"),
-            (11, " 73 end\nclose\n"),
+        events: &[
+            (2, RowEvent::Open(0, b"\x3a\x09")),
+            (4, RowEvent::Begin(2, b"\x04\x03")),
+            (5, RowEvent::Bytes(b"\x4a")),
+            (6, RowEvent::Bytes(b"\x6f")),
+            (7, RowEvent::Bytes(b"\x6e")),
+            (7, RowEvent::End),
+            (9, RowEvent::Begin(7, b"\x04\x02")),
+            (10, RowEvent::Bytes(b"\x65")),
+            (11, RowEvent::Bytes(b"\x73")),
+            (11, RowEvent::End),
+            (11, RowEvent::Close(None)),
         ],
         ..CLEAN
     },
     Row {
         name: "the same string of indefinite length",
         input: b"\x3a\x80\x04\x03\x4a\x6f\x6e\x04\x02\x65\x73\x00\x00",
-        parts: &[
-            (2, "open 0000 3a 80\n"),
-            (4, "begin 0002 04 03\n"),
-            (5, " 4a"),
-            (6, " 6f"),
-            (7, " 6e end\n"),
-            (9, "begin 0007 04 02\n"),
-            (10, " 65"),
-            (11, " 73 end\n"),
-            (13, "close 0011\n"),
+        events: &[
+            (2, RowEvent::Open(0, b"\x3a\x80")),
+            (4, RowEvent::Begin(2, b"\x04\x03")),
+            (5, RowEvent::Bytes(b"\x4a")),
+            (6, RowEvent::Bytes(b"\x6f")),
+            (7, RowEvent::Bytes(b"\x6e")),
+            (7, RowEvent::End),
+            (9, RowEvent::Begin(7, b"\x04\x02")),
+            (10, RowEvent::Bytes(b"\x65")),
+            (11, RowEvent::Bytes(b"\x73")),
+            (11, RowEvent::End),
+            (13, RowEvent::Close(Some(11))),
         ],
         ..CLEAN
     },
     Row {
         name: "two encodings",
         input: b"\x05\x00\x05\x00",
-        parts: &[
-            (2, "begin 0000 05 00\n end\n"),
-            (4, "begin 0002 05 00\n end\n"),
+        events: &[
+            (2, RowEvent::Begin(0, b"\x05\x00")),
+            (2, RowEvent::End),
+            (4, RowEvent::Begin(2, b"\x05\x00")),
+            (4, RowEvent::End),
         ],
         ..CLEAN
     },
     Row {
         name: "an application tag in the high form",
         input: b"\x5f\x1f\x01\x00",
-        parts: &[(3, "begin 0000 5f 1f 01\n"), (4, " 00 end\n")],
+        events: &[
+            (3, RowEvent::Begin(0, b"\x5f\x1f\x01")),
+            (4, RowEvent::Bytes(b"\x00")),
+            (4, RowEvent::End),
+        ],
         ..CLEAN
     },
     Row {
         name: "padding before, between and after encodings",
         padding: true,
         input: b"\x00\x00\x05\x00\x00\x00\x05\x00\x00",
-        parts: &[
-            (1, "pad\n"),
-            (2, "pad\n"),
-            (4, "begin 0002 05 00\n end\n"),
-            (5, "pad\n"),
-            (6, "pad\n"),
-            (8, "begin 0006 05 00\n end\n"),
-            (9, "pad\n"),
+        events: &[
+            (1, RowEvent::Pad(b"\x00")),
+            (2, RowEvent::Pad(b"\x00")),
+            (4, RowEvent::Begin(2, b"\x05\x00")),
+            (4, RowEvent::End),
+            (5, RowEvent::Pad(b"\x00")),
+            (6, RowEvent::Pad(b"\x00")),
+            (8, RowEvent::Begin(6, b"\x05\x00")),
+            (8, RowEvent::End),
+            (9, RowEvent::Pad(b"\x00")),
         ],
         ..CLEAN
     },
@@ -112,24 +149,28 @@ pub(crate) static WRAPPED: [Row<'static>; 7] = [
         name: "an OCTET STRING that wraps",
         inside: &[0],
         input: b"\x04\x05\x30\x03\x02\x01\x07",
-        parts: &[
-            (2, "enter 0000 04 05\n"),
-            (4, "open 0002 30 03\n"),
-            (6, "begin 0004 02 01\n"),
-            (7, " 07 end\nclose\nleave\n"),
+        events: &[
+            (2, RowEvent::Enter(0, b"\x04\x05")),
+            (4, RowEvent::Open(2, b"\x30\x03")),
+            (6, RowEvent::Begin(4, b"\x02\x01")),
+            (7, RowEvent::Bytes(b"\x07")),
+            (7, RowEvent::End),
+            (7, RowEvent::Close(None)),
+            (7, RowEvent::Leave),
         ],
         ..CLEAN
     },
     Row {
         name: "the same OCTET STRING, not named",
         input: b"\x04\x05\x30\x03\x02\x01\x07",
-        parts: &[
-            (2, "begin 0000 04 05\n"),
-            (3, " 30"),
-            (4, " 03"),
-            (5, " 02"),
-            (6, " 01"),
-            (7, " 07 end\n"),
+        events: &[
+            (2, RowEvent::Begin(0, b"\x04\x05")),
+            (3, RowEvent::Bytes(b"\x30")),
+            (4, RowEvent::Bytes(b"\x03")),
+            (5, RowEvent::Bytes(b"\x02")),
+            (6, RowEvent::Bytes(b"\x01")),
+            (7, RowEvent::Bytes(b"\x07")),
+            (7, RowEvent::End),
         ],
         ..CLEAN
     },
@@ -137,11 +178,13 @@ pub(crate) static WRAPPED: [Row<'static>; 7] = [
         name: "a BIT STRING that wraps",
         inside: &[0],
         input: b"\x03\x04\x00\x02\x01\x05",
-        parts: &[
-            (2, "enter 0000 03 04\n"),
-            (3, "unused\n"),
-            (5, "begin 0003 02 01\n"),
-            (6, " 05 end\nleave\n"),
+        events: &[
+            (2, RowEvent::Enter(0, b"\x03\x04")),
+            (3, RowEvent::Unused),
+            (5, RowEvent::Begin(3, b"\x02\x01")),
+            (6, RowEvent::Bytes(b"\x05")),
+            (6, RowEvent::End),
+            (6, RowEvent::Leave),
         ],
         ..CLEAN
     },
@@ -149,14 +192,14 @@ pub(crate) static WRAPPED: [Row<'static>; 7] = [
         name: "an empty OCTET STRING that wraps",
         inside: &[0],
         input: b"\x04\x00",
-        parts: &[(2, "enter 0000 04 00\nleave\n")],
+        events: &[(2, RowEvent::Enter(0, b"\x04\x00")), (2, RowEvent::Leave)],
         ..CLEAN
     },
     Row {
         name: "an empty BIT STRING, which wraps nothing",
         inside: &[0],
         input: b"\x03\x00",
-        parts: &[(2, "begin 0000 03 00\n end\n")],
+        events: &[(2, RowEvent::Begin(0, b"\x03\x00")), (2, RowEvent::End)],
         unused: Some(0),
         ..CLEAN
     },
@@ -164,9 +207,11 @@ pub(crate) static WRAPPED: [Row<'static>; 7] = [
         name: "an offset inside a header",
         inside: &[0, 1],
         input: b"\x04\x02\x05\x00",
-        parts: &[
-            (2, "enter 0000 04 02\n"),
-            (4, "begin 0002 05 00\n end\nleave\n"),
+        events: &[
+            (2, RowEvent::Enter(0, b"\x04\x02")),
+            (4, RowEvent::Begin(2, b"\x05\x00")),
+            (4, RowEvent::End),
+            (4, RowEvent::Leave),
         ],
         unused: Some(1),
         ..CLEAN
@@ -176,7 +221,11 @@ pub(crate) static WRAPPED: [Row<'static>; 7] = [
         inside: &[0, 1],
         padding: true,
         input: b"\x00\x04\x00",
-        parts: &[(1, "pad\n"), (3, "enter 0001 04 00\nleave\n")],
+        events: &[
+            (1, RowEvent::Pad(b"\x00")),
+            (3, RowEvent::Enter(1, b"\x04\x00")),
+            (3, RowEvent::Leave),
+        ],
         unused: Some(0),
         ..CLEAN
     },

@@ -1,12 +1,13 @@
 //! Steps of a walker.
 use super::rows::fault;
 use crate::expect::{expect, expect_eq};
+use crate::inputs::{framing_of, header};
 use std::process::Abort;
-use tlv_head::{Fault, FaultCode, Header, read_header};
-use tlv_walk::{Ending, Event, Framing, Inside, Step, Walker};
+use tlv_head::{Fault, FaultCode};
+use tlv_walk::{Ending, Event, Framing, Step, Walker};
 
 /// The next step, with a short piece.
-fn step<'a>(rt: &impl Abort, walker: &mut Walker, piece: &mut &'a [u8]) -> Step<'a> {
+pub(crate) fn step<'a>(rt: &impl Abort, walker: &mut Walker, piece: &mut &'a [u8]) -> Step<'a> {
     assert!(rt; walker.offset() <= 1000 && piece.len() <= 1000);
     walker.step(piece)
 }
@@ -22,14 +23,6 @@ fn expect_event(rt: &impl Abort, walker: &mut Walker, piece: &mut &[u8], want: E
     expect_step(rt, walker, piece, &Step::Event(want));
 }
 
-/// The header with these octets, at this offset.
-fn header(rt: &impl Abort, offset: u64, named: bool, octets: &[u8]) -> Header {
-    let Some((fields, count)) = read_header(offset, named, octets) else {
-        panic!(rt; "no header");
-    };
-    Header::new(&fields, &octets[..count])
-}
-
 fn open<'a>(rt: &impl Abort, offset: u64, octets: &[u8]) -> Event<'a> {
     Event::Open(header(rt, offset, false, octets))
 }
@@ -39,7 +32,7 @@ fn begin<'a>(rt: &impl Abort, offset: u64, octets: &[u8]) -> Event<'a> {
 }
 
 /// What an input comes to whose octets are taken.
-fn finish(rt: &impl Abort, walker: &Walker) -> Ending {
+pub(crate) fn finish(rt: &impl Abort, walker: &Walker) -> Ending {
     assert!(rt; !walker.waiting());
     walker.finish()
 }
@@ -167,13 +160,6 @@ fn octets_before_a_fault_are_taken(rt: HostRuntime) {
     expect_eq(&rt, piece, b"\x01".as_slice());
     expect_state(&rt, &walker, 2, 0, 0, false);
     expect_eq(&rt, finish(&rt, &walker), Ending::Fault(too_large));
-}
-
-fn framing_of(rt: &impl Abort, offsets: &[u64], padding: bool) -> Framing {
-    let Some(inside) = Inside::new(offsets) else {
-        panic!(rt; "the offsets rise");
-    };
-    Framing { inside, padding }
 }
 
 #[test]

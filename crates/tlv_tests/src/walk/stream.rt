@@ -5,12 +5,12 @@ use tlv_walk::{Drain, ReadFault, ReadSource, Source, WriteDrain, WriteFault};
 
 /// Is interrupted at its first read, and then gives `rest`.
 #[derive(Drop)]
-struct Interrupted {
+struct InterruptedFirst {
     was: bool,
     rest: &'static [u8],
 }
 
-impl Read for Interrupted {
+impl Read for InterruptedFirst {
     fn read(&mut self, buf: &mut [u8]) -> io::Result<usize> {
         if self.was {
             return self.rest.read(buf);
@@ -22,11 +22,11 @@ impl Read for Interrupted {
 
 /// Takes nothing at its first write, fails at its second, and then takes one octet each time.
 #[derive(Drop)]
-struct Reluctant {
+struct OneOctetWriter {
     writes: u8,
 }
 
-impl Write for Reluctant {
+impl Write for OneOctetWriter {
     fn write(&mut self, buf: &[u8]) -> io::Result<usize> {
         self.writes = self.writes.saturating_add(1);
         match self.writes {
@@ -42,8 +42,8 @@ impl Write for Reluctant {
 }
 
 #[test]
-fn interrupted_read_fails(rt: HostRuntime) {
-    let mut source = ReadSource::new(Interrupted {
+fn a_read_source_fails_if_interrupted(rt: HostRuntime) {
+    let mut source = ReadSource::new(InterruptedFirst {
         was: false,
         rest: b"abc",
     });
@@ -55,8 +55,8 @@ fn interrupted_read_fails(rt: HostRuntime) {
 }
 
 #[test]
-fn write_of_nothing_fails(rt: HostRuntime) {
-    let mut drain = WriteDrain::new(Reluctant { writes: 0 });
+fn a_write_drain_fails_if_nothing_is_taken(rt: HostRuntime) {
+    let mut drain = WriteDrain::new(OneOctetWriter { writes: 0 });
     expect_eq(&rt, drain.write(b"ab"), Err(WriteFault));
     expect_eq(&rt, drain.write(b"ab"), Err(WriteFault));
     expect_eq(&rt, drain.write(b"ab"), Ok(1));
