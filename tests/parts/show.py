@@ -214,6 +214,9 @@ def check_refusals(script):
     got = script.run(["--limit", "x"], NULL)
     fine = got.status == 4 and not got.out and b"U2 value out of range: --limit" in got.err
     part.expect("refused by the program", fine, *got.lines())
+    for offsets, status, code in (("5,4", 4, "U2"), ("0", 1, "E7")):
+        got = script.run(["--as", "ber", "--why", "--inside", offsets], NULL)
+        part.expect(f"why, with {code}", got.status == status and code.encode() in got.out, *got.lines())
     got = script.run(["--help"])
     part.expect("--help", got.status == 0 and not got.err and got.out.startswith(b"usage: "), *got.lines())
     got = script.run([], NULL, TLVDUMP="/nowhere/tlvdump")
@@ -310,7 +313,7 @@ def reasons(script):
         part.expect(f"why {digits} {words}", fine, *lines)
     status, out = script.why(b"\x02\x02\x00\x05" + NULL)
     said = "It parses: 6 octets, which are whole encodings. By the rules of BER: findings: 1.\n"
-    part.expect("why, where it parses", (status, out) == (0, said), out)
+    part.expect("why, if it parses", (status, out) == (0, said), out)
 
 
 def hints(script):

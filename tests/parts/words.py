@@ -33,8 +33,8 @@ def definitions(text):
 
 
 def definitions_of_proofs(text):
-    """Yields the names that a file of proofs defines, on its top level and in its modules: no field, and nothing that stands by
-    itself in a lemma."""
+    """Yields the names that a file of proofs defines, on its top level and in its modules: no field, and nothing that is
+    defined inside a lemma."""
     in_module = False
     for line in text.split("\n"):
         depth = len(line) - len(line.lstrip())
