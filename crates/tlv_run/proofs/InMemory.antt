@@ -40,7 +40,7 @@ spelled_on framing b f ending.Done r s x final = absurd final
 spelled_on framing b f (ending.Fault k) r s x final =
     let y : IsRefused framing b k.code k.offset = fault-halt framing b k.code k.offset final.0 final.1 x in
     let most : length (spelling f) ≤ length (spelling y.forest) =
-    halt-longest framing y.forest k.code b y.halt f r.is_open ([], append-nil (spelling f) ∙ s) in
+    halt-longest framing y.forest k.code b y.halt f r.keeps_rules ([], append-nil (spelling f) ∙ s) in
     omega (
       arith,
       most,

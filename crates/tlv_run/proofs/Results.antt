@@ -179,9 +179,9 @@ second_indef padding file names b m n x y =
     let z : IsReading (indef_framing padding) (indef_text x.reading) y.reading =
     subst (λ (o : List ℕ). IsReading (indef_framing padding) o y.reading) first y.is_reading in
     let same : y.reading ≡ indef_reading x.reading =
-    reading-unique (indef_framing padding) (indef_text x.reading) y.reading (indef_reading x.reading) z again.0 in
+    reading-unique (indef_framing padding) (indef_text x.reading) y.reading (indef_reading x.reading) z again.is_reading in
     let output : n.output ≡ m.output =
-    ap (λ (m : CommandResult). m.output) y.is_made ∙ ap indef_text same ∙ again.1 ∙ sym first in (
+    ap (λ (m : CommandResult). m.output) y.is_made ∙ ap indef_text same ∙ again.same_again ∙ sym first in (
       output,
       λ (done : m.ending ≡ ending.Done).
           let e : IsEnding (indef_framing padding) b ending.Done =
@@ -193,6 +193,6 @@ second_indef padding file names b m n x y =
           let end : n.ending ≡ m.ending =
           ending-unique (indef_framing padding) (indef_text x.reading) n.ending ending.Done d' d ∙ sym done in
           y.is_made ∙ ap (λ (e : Ending). command_result job y.reading e) end
-          ∙ ap (λ (o : List ℕ). result_of_parts o m.ending (indef_report m.ending)) (ap indef_text same ∙ again.1)
+          ∙ ap (λ (o : List ℕ). result_of_parts o m.ending (indef_report m.ending)) (ap indef_text same ∙ again.same_again)
           ∙ sym x.is_made,
     )

@@ -3,7 +3,7 @@ use Rattle.std.specs.Prelude.{◌∷◌, ⊤, ℕ, Bool, ◌==◌, if◌then◌e
 use Rattle.std.specs.Prelude.{codes, decimal}
 use Rattle.tlv_cut.specs.declared.extract_call.Cut.{Cut}
 use Rattle.tlv_head.specs.declared.fault.Fault.{Fault}
-use Rattle.tlv_head.specs.Fault.{fault_name, fault_text}
+use Rattle.tlv_head.specs.Fault.{fault_code, fault_text}
 use Rattle.tlv_show.specs.declared.outcome.Outcome.{Outcome}
 use Rattle.tlv_value.specs.declared.names.fault.NamesFault.{NamesFault}
 use Rattle.tlv_value.specs.declared.names.fault.NamesFault.TheVariants as names
@@ -38,7 +38,7 @@ clean_report = report_with 0 []
 abbrev pub fault_line : Fault → List ℕ
 fault_line fault =
     codes "fault at " ++ decimal fault.offset ++ codes ": "
-    ++ fault_name fault.code ++ codes " " ++ fault_text fault.code
+    ++ fault_code fault.code ++ codes " " ++ fault_text fault.code
 
 -- a fault takes precedence over what else there is to say
 abbrev pub ending_report : Ending → ReportValue → ReportValue

@@ -194,7 +194,7 @@ fn fault_line(fault: Fault) -> ArrayVec<u8, 128>
 {
     let mut message = number_line(b"fault at ", fault.offset);
     let _ = message.try_extend_from_slice(b": ");
-    let _ = message.try_extend_from_slice(fault.code.name());
+    let _ = message.try_extend_from_slice(fault.code.code());
     let _ = message.try_extend_from_slice(b" ");
     let _ = message.try_extend_from_slice(fault.text());
     message

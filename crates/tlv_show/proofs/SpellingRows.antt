@@ -1,14 +1,14 @@
 -- Elements that differ in their spelling alone: short inputs, each shown by computing.
 use Rattle.std.proofs.Common.{◌≡◌, true, false, [], ◌∷◌, refl}
 use Rattle.tlv_head.specs.Header.{HeaderValue}
-use Rattle.tlv_head.specs.Shortest.{HaveOneTag}
+use Rattle.tlv_head.specs.Shortest.{HaveOneTagAndForm}
 use Rattle.tlv_walk.specs.Alike.{AreAlike, holders, nothing, padding, primitives}
 use Rattle.tlv_walk.proofs.GrammarLemmas.Readings.{padding_framing, reading}
 use Rattle.tlv_show.specs.declared.rules.Rules.TheVariants.{Ber, Der, Cer}
 use Rattle.tlv_show.specs.Spellings.{is_misspelled}
 use Rattle.tlv_show.proofs.RowWords.{inside_framing, plain}
 
-one_tag : (h k : HeaderValue) → h.class ≡ k.class → h.constructed ≡ k.constructed → h.number ≡ k.number → HaveOneTag h k
+one_tag : (h k : HeaderValue) → h.class ≡ k.class → h.constructed ≡ k.constructed → h.number ≡ k.number → HaveOneTagAndForm h k
 one_tag h k c f n = record { class = c; constructed = f; number = n }
 
 -- 02 01 05 and 02 81 01 05

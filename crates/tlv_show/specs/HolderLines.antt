@@ -5,7 +5,7 @@ use Rattle.tlv_head.specs.declared.header.Size.{Size}
 use Rattle.tlv_head.specs.Header.{HeaderValue, definite_length}
 use Rattle.tlv_head.specs.Tag.{tag_text}
 use Rattle.tlv_value.specs.declared.layout.Layout.{Layout}
-use Rattle.tlv_value.specs.Layout.{columns, line, no_columns}
+use Rattle.tlv_value.specs.Layout.{blank_columns, columns, line}
 
 -- 8.1.3: a length, or the word for the indefinite form
 abbrev pub size_text : Size → List ℕ
@@ -30,7 +30,7 @@ dump_opening_line layout h = opening_line layout h (opening_word h.constructed)
 
 -- the first columns of the line of its end: the offset of its end-of-contents octets, if it has them
 abbrev pub closing_columns : Option ℕ → List ℕ
-closing_columns offset = option_map_or (λ offset. columns offset (codes "end")) offset no_columns
+closing_columns offset = option_map_or (λ offset. columns offset (codes "end")) offset blank_columns
 
 -- the line of its end
 abbrev pub closing_line : Layout → Option ℕ → List ℕ

@@ -1,6 +1,6 @@
 //! The lines of a dump for elements that hold others, and for padding.
 ghost use Rattle.std.specs.Prelude.{◌≡◌, ◌≤◌, ◌++◌, length};
-ghost use Rattle.tlv_io.specs.LineTexts.{GrowsBy, HasRoomFor};
+ghost use Rattle.tlv_io.specs.LineTexts.{AddsAtMost, HasRoomFor};
 ghost use Rattle.tlv_io.specs.Out.{Puts};
 ghost use Rattle.tlv_value.specs.Layout.{columns, line_margin};
 ghost use Rattle.tlv_show.specs.HolderLines.{closing_columns, closing_line, opening_line, padding_line, size_text};
@@ -70,9 +70,9 @@ fn write_opening(held: &mut HeldOctets, layout: Layout, header: &Header, word: &
 #[inline(always)]
 fn begin_opening(held: &mut HeldOctets, layout: Layout, offset: u64, size: Size)
     requires { HasRoomFor held.old 592 }
-    ensures text { held.new
-        ≡ held.old ++ line_margin layout (columns offset (size_text size)) }
-    ensures bound { GrowsBy 553 held.old held.new }
+        ensures { AddsAtMost 553 held.old held.new
+        (line_margin layout (columns offset (size_text size))) }
+
 {
     match size {
         Size::Definite(length) => begin_sized(held, layout, offset, length),
@@ -94,8 +94,7 @@ fn write_closing(held: &mut HeldOctets, layout: Layout, offset: Option<u64>)
 #[inline(always)]
 fn begin_closing(held: &mut HeldOctets, layout: Layout, offset: Option<u64>)
     requires { HasRoomFor held.old 592 }
-    ensures text { held.new ≡ held.old ++ line_margin layout (closing_columns offset) }
-    ensures bound { GrowsBy 553 held.old held.new }
+    ensures { AddsAtMost 553 held.old held.new (line_margin layout (closing_columns offset)) }
 {
     match offset {
         Some(offset) => begin_word(held, layout, offset, b"   end"),

@@ -1,6 +1,6 @@
 //! Reads that are followed one by one.
 ghost use Rattle.std.specs.Prelude.{◌≤◌};
-ghost use Rattle.tlv_walk.specs.Stands.{CanTake};
+ghost use Rattle.tlv_walk.specs.Stands.{IsReady};
 ghost use Rattle.tlv_walk.specs.OneTurn.{CanTurn};
 
 use crate::expect::expect_eq;
@@ -23,7 +23,7 @@ pub(crate) fn expect_again<F: Follow>(
 )
     requires { CanTurn walker.old piece.old limit }
     ensures within { walker.new.offset ≤ limit }
-    ensures ready { CanTake walker.new }
+    ensures ready { IsReady walker.new }
 {
     let Ok(Turn::Again) = turn(walker, follower, source, drain, piece, limit) else {
         panic!(rt; "more is to be read");
@@ -44,7 +44,7 @@ pub(crate) fn expect_failure<F: Follow>(
 )
     requires { CanTurn walker.old piece.old limit }
     ensures within { walker.new.offset ≤ limit }
-    ensures ready { CanTake walker.new }
+    ensures ready { IsReady walker.new }
 {
     let Err(DeviceFault::ReadFailed) = turn(walker, follower, source, drain, piece, limit) else {
         panic!(rt; "the read fails");

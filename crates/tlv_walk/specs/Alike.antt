@@ -1,7 +1,7 @@
 -- Elements that differ in their spelling alone: X.690 8.1.
 use Rattle.std.specs.Prelude.{◌≢◌, List, ℕ}
 use Rattle.tlv_head.specs.Header.{HeaderValue, identifier_octet}
-use Rattle.tlv_head.specs.Shortest.{HaveOneTag}
+use Rattle.tlv_head.specs.Shortest.{HaveOneTagAndForm}
 use Rattle.tlv_walk.specs.Forest.{Forest, NoMore, PaddingOctet, Primitive, Holder, OpenPrimitive, OpenHolder}
 use Rattle.tlv_walk.specs.Forest.{OpenBitString, OpenHeader, OpenEndOctets}
 
@@ -11,9 +11,9 @@ use Rattle.tlv_walk.specs.Forest.{OpenBitString, OpenHeader, OpenEndOctets}
 pub data AreAlike : Forest → Forest → Type 0 where
   nothing : AreAlike NoMore NoMore
   padding : (f g : Forest) → AreAlike f g → AreAlike (PaddingOctet f) (PaddingOctet g)
-  primitives : (h k : HeaderValue) (contents : List ℕ) (f g : Forest) → HaveOneTag h k → AreAlike f g
+  primitives : (h k : HeaderValue) (contents : List ℕ) (f g : Forest) → HaveOneTagAndForm h k → AreAlike f g
       → AreAlike (Primitive h contents f) (Primitive k contents g)
-  holders : (h k : HeaderValue) (children within f g : Forest) → HaveOneTag h k → AreAlike children within
+  holders : (h k : HeaderValue) (children within f g : Forest) → HaveOneTagAndForm h k → AreAlike children within
       → AreAlike f g → AreAlike (Holder h children f) (Holder k within g)
 
 -- no primitive of the elements is the universal 0, whose low form would be the octet 00 of end-of-contents octets

@@ -13,7 +13,7 @@ use Rattle.tlv_walk.specs.Events.{Begin, Bytes, End, EventValue, events, opening
 use Rattle.tlv_walk.specs.Events.{end_octets_offset}
 use Rattle.tlv_walk.specs.Follow.{Effect, effect_of, effect_with}
 use Rattle.tlv_walk.specs.Forest.{Forest, is_whole, opening, spelling, end_octets, extent}
-use Rattle.tlv_walk.specs.Place.{Place, place_after, place_of_children, IsOpen}
+use Rattle.tlv_walk.specs.Place.{Place, place_after, place_of_children, KeepsRules}
 use Rattle.tlv_show.specs.declared.holder_frame.HolderFrame.{HolderFrame}
 use Rattle.tlv_show.specs.declared.rules.Rules.{Rules}
 use Rattle.tlv_show.specs.declared.finding_lines.Style.TheVariants.{Dump}
@@ -143,7 +143,7 @@ module _ (style : Layout) (names : NamesValue) (rules : Rules) where
   -- an element that holds others ends
   pub closed-shown : (p : Place) (w : HolderFrame) (outer : List HolderFrame) (n : ℕ) (h : HeaderValue)
       (inside : Forest)
-      → IsOpen (place_of_children p h) inside → is_whole inside ≡ true → h.offset ≡ p.offset
+      → KeepsRules (place_of_children p h) inside → is_whole inside ≡ true → h.offset ≡ p.offset
       → AllowsSize h.constructed h.size → p.offset + extent h inside ≤ 2 ^ 64 - 1
       → effect_of dump_step
       (dump_state

@@ -17,7 +17,7 @@ use Rattle.tlv_walk.specs.Follow.{Effect, effect_of, effect_with}
 use Rattle.tlv_walk.specs.Forest.{Forest, NoMore, PaddingOctet, Primitive, Holder, OpenPrimitive, OpenHolder}
 use Rattle.tlv_walk.specs.Forest.{OpenBitString, OpenHeader, OpenEndOctets, extent, lead, opening}
 use Rattle.tlv_walk.specs.Forest.{spelling}
-use Rattle.tlv_walk.specs.Place.{IsOpen, Place, place_after, place_of_children}
+use Rattle.tlv_walk.specs.Place.{KeepsRules, Place, place_after, place_of_children}
 use Rattle.tlv_walk.proofs.GrammarLemmas.Spellings.{length-holder, length-primitive}
 use Rattle.tlv_show.specs.declared.holder_frame.HolderFrame.{HolderFrame}
 use Rattle.tlv_show.specs.declared.rules.Rules.{Rules}
@@ -53,7 +53,7 @@ use Rattle.tlv_show.proofs.DumpLemmas.DumpItems.{shown-after, site, split, start
 module _ (style : Layout) (names : NamesValue) (rules : Rules) where
   pub shows_forest : (p : Place) (holder : Option HeaderValue) (previous : Previous) (w : HolderFrame)
       (outer : List HolderFrame) (f : Forest)
-      → IsOpen p f → p.offset + length (spelling f) ≤ 2 ^ 64 - 1 → Known style names rules p holder previous w outer
+      → KeepsRules p f → p.offset + length (spelling f) ≤ 2 ^ 64 - 1 → Known style names rules p holder previous w outer
       → IsShown style names rules p holder previous w outer f
   shows_forest p holder previous w outer NoMore v b k = record {
     text = λ n. refl;

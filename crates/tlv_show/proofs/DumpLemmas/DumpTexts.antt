@@ -20,7 +20,7 @@ use Rattle.tlv_walk.specs.Follow.{Effect, and_then, effect_if_more, effect_of, e
 use Rattle.tlv_walk.specs.Forest.{Forest, NoMore, PaddingOctet, Primitive, Holder, OpenPrimitive, OpenHolder}
 use Rattle.tlv_walk.specs.Forest.{OpenBitString, OpenHeader, OpenEndOctets, end_octets, extent, lead, opening, spelling}
 use Rattle.tlv_walk.specs.Forest.{lead_by}
-use Rattle.tlv_walk.specs.Place.{IsOpen, Place, place_after}
+use Rattle.tlv_walk.specs.Place.{KeepsRules, Place, place_after}
 use Rattle.tlv_walk.proofs.FollowerLemmas.Followed.{followed-more}
 use Rattle.tlv_walk.proofs.GrammarLemmas.Spellings.{length-opening}
 use Rattle.tlv_show.specs.LinesStep.{LinesState, lines_step, lines_after_header}
@@ -235,7 +235,7 @@ module _ (style : Layout) (names : NamesValue) where
   ends_in_padding padded OpenEndOctets = padded
 
   -- inside an element there is none
-  pub no_padding : (p : Place) (f : Forest) → p.padding ≡ false → IsOpen p f → ends_in_padding false f ≡ false
+  pub no_padding : (p : Place) (f : Forest) → p.padding ≡ false → KeepsRules p f → ends_in_padding false f ≡ false
   no_padding p NoMore e v = refl
   no_padding p (PaddingOctet rest) e v = absurd (true≢false (sym v.0.0 ∙ e))
   no_padding p (Primitive h c rest) e v = no_padding (place_after p (length (octets_of h) + length c)) rest e v.1

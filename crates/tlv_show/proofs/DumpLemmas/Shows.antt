@@ -8,7 +8,7 @@ use Rattle.tlv_walk.specs.declared.framing.Framing.{Framing}
 use Rattle.tlv_walk.specs.declared.run.DeviceFault.{DeviceFault}
 use Rattle.tlv_walk.specs.declared.run.Run.{Run}
 use Rattle.tlv_io.specs.Device.{DrainState, SourceState}
-use Rattle.tlv_walk.specs.DriveJob.{Drives, drive_job, drive_states, enough_run, whole_run}
+use Rattle.tlv_walk.specs.DriveJob.{Drives, drive_job, drive_states, enough_run, run_over}
 use Rattle.tlv_walk.specs.Events.{EventValue, events}
 use Rattle.tlv_walk.specs.Follow.{Effect, effect_of, followed_events, had_enough}
 use Rattle.tlv_walk.specs.Forest.{Forest}
@@ -50,10 +50,10 @@ module _ {S : Type 0} (next : S → EventValue → Effect S) (first : S) (rules 
 
   -- the run over all events
   run_on : (f : Forest) (e : Ending)
-      → (drive_job next framing (2 ^ 40) first).result f e ≡ whole_run framing f e
+      → (drive_job next framing (2 ^ 40) first).result f e ≡ run_over framing f e
   run_on f e =
       ap (λ (g : Go). if had_enough g then enough_run framing (followed_events next first (events f))
-      else whole_run framing f e)
+      else run_over framing f e)
       (w.goes_on first (events f))
 
   pub shows_ok : (run : Run) (outcome : Outcome) → outcome.ending ≡ run.ending → outcome.findings ≡ count_in t

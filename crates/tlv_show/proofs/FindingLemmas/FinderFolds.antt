@@ -11,7 +11,7 @@ use Rattle.tlv_head.specs.UniversalTypes.{bit_string}
 use Rattle.tlv_value.specs.Types.{has_segments, is_a, is_primitive}
 use Rattle.tlv_walk.specs.Forest.{Forest, NoMore, PaddingOctet, Primitive, Holder, OpenPrimitive, OpenHolder}
 use Rattle.tlv_walk.specs.Forest.{OpenBitString, OpenHeader, OpenEndOctets, extent, is_whole}
-use Rattle.tlv_walk.specs.Place.{IsOpen, Place, place_after}
+use Rattle.tlv_walk.specs.Place.{KeepsRules, Place, place_after}
 use Rattle.tlv_show.specs.declared.holder_frame.HolderFrame.{HolderFrame}
 use Rattle.tlv_show.specs.declared.rules.Rules.{Rules}
 use Rattle.tlv_show.specs.Conditions.{bits_octet_count, ends_empty, segments_of}
@@ -150,7 +150,7 @@ and-true false = refl
 more-length : (w n d : ℕ) → w ≡ min n 1001 → min (w + d) 1001 ≡ min (n + d) 1001
 more-length w n d e = omega (arith, e)
 
-sums-up : (p : Place) (w : HolderFrame) (n : ℕ) (f : Forest) → IsOpen p f → is_whole f ≡ true
+sums-up : (p : Place) (w : HolderFrame) (n : ℕ) (f : Forest) → KeepsRules p f → is_whole f ≡ true
     → w.value_length ≡ min n 1001
     → SumsUp w n f
 sums-up p w n NoMore v e o =
@@ -194,7 +194,7 @@ sums-up p w n (OpenBitString h) v e o = absurd (cc (e))
 sums-up p w n (OpenHeader octets) v e o = absurd (cc (e))
 sums-up p w n OpenEndOctets v e o = absurd (cc (e))
 
-segments-summed : (rules : Rules) (p : Place) (h : HeaderValue) (inside : Forest) → IsOpen p inside
+segments-summed : (rules : Rules) (p : Place) (h : HeaderValue) (inside : Forest) → KeepsRules p inside
     → is_whole inside ≡ true
     → end_findings rules (segments_in (frame_after_segments (frame_of h) inside))
     ≡ end_findings rules (segments_of h (headers inside))
@@ -218,7 +218,7 @@ no-ends rules w e =
     e
 
 -- what is found with an end, by the frame of what was held
-summed : (rules : Rules) (p : Place) (h : HeaderValue) (inside : Forest) → IsOpen p inside → is_whole inside ≡ true
+summed : (rules : Rules) (p : Place) (h : HeaderValue) (inside : Forest) → KeepsRules p inside → is_whole inside ≡ true
     → end_findings rules (segments_in (frame_after_elements (frame_of h) inside))
     ≡ end_findings rules (segments_of h (headers inside))
 summed rules p h inside v e = by-segments (has_segments h) refl
@@ -238,7 +238,7 @@ summed rules p h inside v e = by-segments (has_segments h) refl
 
 -- ---- the same if nothing is to be known of what was held
 
-module _ (rules : Rules) (p : Place) (w : HolderFrame) (h : HeaderValue) (inside : Forest) (v : IsOpen p inside)
+module _ (rules : Rules) (p : Place) (w : HolderFrame) (h : HeaderValue) (inside : Forest) (v : KeepsRules p inside)
     (whole : is_whole inside ≡ true) where
   -- an element that is no string: nothing is found with its end
   nothing-ends : has_segments h ≡ false → end_findings rules (segments_of h (headers inside)) ≡ []

@@ -13,7 +13,7 @@ use Rattle.tlv_walk.specs.Events.{EventValue, closing_event}
 use Rattle.tlv_walk.specs.Events.{end_octets_offset, events}
 use Rattle.tlv_walk.specs.Forest.{Forest, NoMore, PaddingOctet, Primitive, Holder, OpenPrimitive, OpenHolder}
 use Rattle.tlv_walk.specs.Forest.{OpenBitString, OpenHeader, OpenEndOctets, extent, is_whole}
-use Rattle.tlv_walk.specs.Place.{IsOpen, Place, place_after, place_of_children}
+use Rattle.tlv_walk.specs.Place.{KeepsRules, Place, place_after, place_of_children}
 use Rattle.tlv_show.specs.declared.holder_frame.HolderFrame.{HolderFrame}
 use Rattle.tlv_show.specs.declared.rules.Rules.{Rules}
 use Rattle.tlv_show.specs.FinderState.{CheckState}
@@ -76,7 +76,7 @@ module _ (rules : Rules) where
       ap₂ (λ (n : ℕ) (t : List Item). finding_items n offset fs ++ t) l e
       ∙ sym (only-finding_items s.level offset fs rest)
 
-  pub finds_forest : (p : Place) (s : Site) (w : HolderFrame) (outer : List HolderFrame) (f : Forest) → IsOpen p f
+  pub finds_forest : (p : Place) (s : Site) (w : HolderFrame) (outer : List HolderFrame) (f : Forest) → KeepsRules p f
       → Knows w s → length outer ≡ s.level → s.level ≡ p.depth → (p.padding ≡ true → s.holder ≡ None)
       → IsFoundAs s w outer f
   finds_forest p s w outer NoMore v k l d free = record { put = λ n. refl; after = λ n e. (n, refl) }

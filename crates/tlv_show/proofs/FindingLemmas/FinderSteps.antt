@@ -14,7 +14,7 @@ use Rattle.tlv_walk.specs.Events.{Begin, Bytes, Close, End, Enter, EventValue, L
 use Rattle.tlv_walk.specs.Events.{end_offset, opening_events}
 use Rattle.tlv_walk.specs.Forest.{Forest}
 use Rattle.tlv_walk.specs.Forest.{is_whole, opening, spelling}
-use Rattle.tlv_walk.specs.Place.{IsOpen, Place}
+use Rattle.tlv_walk.specs.Place.{KeepsRules, Place}
 use Rattle.tlv_walk.specs.Forest.{lead_by}
 use Rattle.tlv_show.specs.declared.holder_frame.HolderFrame.{HolderFrame}
 use Rattle.tlv_show.specs.declared.rules.Rules.{Rules}
@@ -169,7 +169,7 @@ module _ (rules : Rules) where
 
   pub closed : (p : Place) (w : HolderFrame) (outer : List HolderFrame) (n : ℕ) (h : HeaderValue) (inside : Forest)
       (es : List EventValue)
-      → IsOpen p inside → is_whole inside ≡ true
+      → KeepsRules p inside → is_whole inside ≡ true
       → run_finder (check_between (frame_after_elements (frame_under w h) inside) (w ∷ outer) n)
       (closing_event h inside ∷ es)
       ≡ then_found (finding_items (length outer) h.offset (end_findings rules (segments_of h (headers inside))))
@@ -222,7 +222,7 @@ module _ (rules : Rules) where
 
   pub closed-find : (p : Place) (w : HolderFrame) (outer : List HolderFrame) (n : ℕ) (h : HeaderValue)
       (inside : Forest)
-      → IsOpen p inside → is_whole inside ≡ true
+      → KeepsRules p inside → is_whole inside ≡ true
       → finder_close_step (check_between (frame_after_elements (frame_under w h) inside) (w ∷ outer) n)
       ≡ record {
         kept =

@@ -17,9 +17,9 @@ use Rattle.tlv_walk.specs.Forest.{Forest, NoMore, PaddingOctet, Primitive, Holde
 use Rattle.tlv_walk.specs.Forest.{OpenBitString, OpenHeader, OpenEndOctets, extent, has_element, spelling}
 use Rattle.tlv_walk.specs.Inside.{can_name, is_among}
 use Rattle.tlv_walk.proofs.EventLemmas.Named.{AreRising, can-from, can-to}
-use Rattle.tlv_walk.specs.Place.{IsOpen, Place, is_indefinite, place_after, place_of_children, top_place}
+use Rattle.tlv_walk.specs.Place.{KeepsRules, Place, is_indefinite, place_after, place_of_children, top_place}
 use Rattle.tlv_walk.specs.Reading.{IsReading, IsSound, IsSoundList}
-use Rattle.tlv_walk.specs.Wrappers.{wrapper_at, wrapper_offsets}
+use Rattle.tlv_walk.specs.Wrappers.{wrapper_offset, wrapper_offsets}
 use Rattle.tlv_walk.proofs.GrammarLemmas.Alike.{AreRegular, IsRegular}
 use Rattle.tlv_walk.proofs.GrammarLemmas.Endings.{done-sound, sound-done, sound-reading}
 use Rattle.tlv_walk.proofs.GrammarLemmas.Readings.{reading-unique}
@@ -213,13 +213,13 @@ as-many f g (holders h k inside within a b tag held rest) =
       one-name h.constructed k.constructed h.offset k.offset tag.constructed,
       as-many inside within held,
       as-many a b rest,
-      length-append (wrapper_at h) (wrapper_offsets inside ++ wrapper_offsets a),
+      length-append (wrapper_offset h) (wrapper_offsets inside ++ wrapper_offsets a),
       length-append (wrapper_offsets inside) (wrapper_offsets a),
-      length-append (wrapper_at k) (wrapper_offsets within ++ wrapper_offsets b),
+      length-append (wrapper_offset k) (wrapper_offsets within ++ wrapper_offsets b),
       length-append (wrapper_offsets within) (wrapper_offsets b),
     )
 
-can-name : (framing other : Framing) (f g : Forest) → IsOpen (top_place framing) f → IsOpen (top_place other) g
+can-name : (framing other : Framing) (f g : Forest) → KeepsRules (top_place framing) f → KeepsRules (top_place other) g
     → AreAlike f g
     → length (spelling g) ≤ 2 ^ 40 → can_name framing.inside ≡ true → can_name (wrapper_offsets g) ≡ true
 can-name framing other f g u v alike few named = let can = can-to framing.inside named in can-from (wrapper_offsets g) (
@@ -281,5 +281,5 @@ some-spelling rules framing b f strict few ending reading low =
         none = none-found rules strict (top_place other) top_site at_top.forest sound at_top.regular;
       },
       at_top.alike,
-      can-name framing other f at_top.forest reading.is_open there.is_open at_top.alike small,
+      can-name framing other f at_top.forest reading.keeps_rules there.keeps_rules at_top.alike small,
     )

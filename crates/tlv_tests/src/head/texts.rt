@@ -144,7 +144,7 @@ fn expect_fault(rt: &impl Abort, code: FaultCode, name: &str, text: &str) {
         code,
         offset: OFFSET,
     };
-    expect_eq(rt, code.name(), name.as_bytes());
+    expect_eq(rt, code.code(), name.as_bytes());
     expect_eq(rt, fault.text(), text.as_bytes());
 }
 

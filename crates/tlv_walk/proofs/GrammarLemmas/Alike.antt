@@ -3,7 +3,7 @@ use Rattle.std.proofs.Common.{◌≡◌, ℕ, ◌+◌, Bool, List, ◌∷◌, �
 use Rattle.tlv_head.specs.declared.header.Size.{Size}
 use Rattle.tlv_head.specs.declared.header.Size.TheVariants.{Definite, Indefinite}
 use Rattle.tlv_head.specs.Header.{HeaderValue, IsHeader, octets_of}
-use Rattle.tlv_head.specs.Shortest.{HaveOneTag, IsShortest}
+use Rattle.tlv_head.specs.Shortest.{HaveOneTagAndForm, IsShortest}
 use Rattle.tlv_head.proofs.ShortestLemmas.Shortest.{shortest_are_one}
 use Rattle.tlv_walk.specs.Alike.{AreAlike, holders, nothing, padding, primitives}
 use Rattle.tlv_walk.specs.Forest.{Forest, Holder, NoMore, OpenBitString, OpenEndOctets, OpenHeader, OpenHolder}
@@ -37,16 +37,16 @@ same-size (Definite a) Indefinite m e u v = absurd (cc (e))
 same-size Indefinite (Definite b) m e u v = absurd (cc (e))
 same-size Indefinite Indefinite m e u v = refl
 
-same-octets : (h k : HeaderValue) → IsHeader h → IsHeader k → HaveOneTag h k → h.size ≡ k.size → IsShortest h
+same-octets : (h k : HeaderValue) → IsHeader h → IsHeader k → HaveOneTagAndForm h k → h.size ≡ k.size → IsShortest h
     → IsShortest k → octets_of h ≡ octets_of k
 same-octets h k u v tag size s t =
     let both : (h.identifier ≡ k.identifier) × (h.lengths ≡ k.lengths) = shortest_are_one h k u v tag size s t in
     ap₂ (λ (a b : List ℕ). a ++ b) both.0 both.1
 
-same-lead : (h k : HeaderValue) → HaveOneTag h k → lead h ≡ lead k
+same-lead : (h k : HeaderValue) → HaveOneTagAndForm h k → lead h ≡ lead k
 same-lead h k tag = rw (tag.constructed, tag.number) refl
 
-same-form : (form : Bool → Bool) (h k : HeaderValue) → HaveOneTag h k → IsRegular form h → IsRegular form k
+same-form : (form : Bool → Bool) (h k : HeaderValue) → HaveOneTagAndForm h k → IsRegular form h → IsRegular form k
     → is_indefinite h.size ≡ is_indefinite k.size
 same-form form h k tag r s = r.by_form ∙ ap form tag.constructed ∙ sym s.by_form
 
