@@ -143,9 +143,9 @@ right-short places n few fits =
     )
 
 -- a colon was written to spaces
-blank_columns : (prefix tail : List ℕ) (at : ℕ) → length prefix ≡ at
+blanks-written : (prefix tail : List ℕ) (at : ℕ) → length prefix ≡ at
     → set (prefix ++ (spaces 17 ++ tail)) (at + 15) 58 ≡ prefix ++ (spaces 15 ++ 58 ∷ 32 ∷ tail)
-blank_columns prefix tail at size =
+blanks-written prefix tail at size =
     set-append_right prefix (spaces 17 ++ tail) at (at + 15) 58 size (omega arith)
     ∙ let place : at + 15 - at ≡ 15 = omega arith in ap (λ (n : ℕ). prefix ++ set (spaces 17 ++ tail) n 58) place
 
@@ -179,7 +179,7 @@ module _ (old first tail : List ℕ) (at : ℕ) (within : at ≤ length old) (sh
       let more : List ℕ = 32 ∷ (spaces 6 ++ 58 ∷ 32 ∷ tail) in
       let is =
       ap (λ (l : List ℕ). set (take at old ++ (l ++ tail)) (at + 15) 58) blank
-      ∙ blank_columns (take at old) tail at size in
+      ∙ blanks-written (take at old) tail at size in
       right_end there middle (take at old) first more start 8 is short (omega (arith, e, size)) kept
       (written ∙ ap (λ (n : ℕ). first ++ drop (n + 8) there) (sym size))
       ∙ ap (λ (l : List ℕ). take at old ++ l)
