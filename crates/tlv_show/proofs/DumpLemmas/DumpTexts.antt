@@ -14,21 +14,19 @@ use Rattle.tlv_value.specs.ValueTextState.{ValueTextState, begin_lines, contents
 use Rattle.tlv_value.specs.ValueTextState.{value_text_after}
 use Rattle.tlv_value.specs.Value.{NameOf}
 use Rattle.tlv_value.proofs.TextLemmas.Pieces.{lines-end, open-lines}
-use Rattle.tlv_walk.specs.Events.{Begin, Bytes, Close, End, Enter, EventValue, Leave, Open, Pad, Unused, closing_event}
+use Rattle.tlv_walk.specs.Events.{Begin, Bytes, Close, End, Enter, Leave, Open, Pad, Unused, closing_event}
 use Rattle.tlv_walk.specs.Events.{end_offset, end_octets_offset, opening_events}
-use Rattle.tlv_walk.specs.Follow.{Effect, and_then, effect_if_more, effect_of, effect_with}
+use Rattle.tlv_walk.specs.Follow.{Effect, effect_if_more, effect_of, effect_with}
 use Rattle.tlv_walk.specs.Forest.{Forest, NoMore, PaddingOctet, Primitive, Holder, OpenPrimitive, OpenHolder}
 use Rattle.tlv_walk.specs.Forest.{OpenBitString, OpenHeader, OpenEndOctets, end_octets, extent, lead, opening, spelling}
 use Rattle.tlv_walk.specs.Forest.{lead_by}
 use Rattle.tlv_walk.specs.Place.{IsOpen, Place, place_after}
-use Rattle.tlv_walk.proofs.FollowerLemmas.Followed.{followed-more}
 use Rattle.tlv_walk.proofs.GrammarLemmas.Spellings.{length-opening}
 use Rattle.tlv_show.specs.LinesStep.{LinesState, lines_step, lines_after_header}
 use Rattle.tlv_show.specs.HolderLines.{closing_line, opening_line, padding_line, opening_word}
 use Rattle.tlv_show.specs.HolderLines.{dump_opening_line}
 use Rattle.tlv_show.specs.Texts.{layout_at}
 use Rattle.tlv_show.proofs.DumpLemmas.OctetPieces.{after_put, dumped_bytes, rested-new}
-use Rattle.tlv_show.proofs.DumpLemmas.WantsMore.{all_on}
 use Rattle.tlv_show.specs.SaturatingSum.{saturating_sum}
 use Rattle.std.proofs.lemmas.List.{take_all}
 use Rattle.tlv_show.proofs.SaturatingSums.{sum-small}

@@ -4,8 +4,6 @@ use Rattle.std.specs.FinMap as finite
 use Rattle.tlv_walk.specs.declared.framing.Framing.{Framing}
 use Rattle.tlv_walk.specs.Events.{AreEqualJoined, EventValue, events}
 use Rattle.tlv_walk.specs.Follow.{Effect, effect_of}
-use Rattle.tlv_walk.specs.Forest.{Forest}
-use Rattle.tlv_walk.specs.Reading.{IsPrefixOf, IsReading}
 use Rattle.tlv_walk.proofs.FollowerLemmas.Followed.{each_octet-goes_on, each_octet-joins, followed-alike, followed-more}
 use Rattle.tlv_walk.proofs.EventLemmas.Prefixes.{events-prefix}
 use Rattle.tlv_show.specs.CheckStep.{check_octet_step, check_step}
