@@ -1,4 +1,3 @@
-pub mod WantsMore
 pub mod DumpEvents
 pub mod DumpFolds
 pub mod DumpItems
