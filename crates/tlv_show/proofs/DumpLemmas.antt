@@ -1,12 +1,11 @@
-pub mod Always
 pub mod DumpEvents
 pub mod DumpFolds
 pub mod DumpItems
 pub mod DumpShown
 pub mod DumpSteps
 pub mod DumpTexts
-pub mod Longer
+pub mod LongerInputs
 pub mod OctetPieces
-pub mod Passing
-pub mod Shows
-pub mod WholeShown
+pub mod ClearPrimitives
+pub mod ShowJob
+pub mod ClearPrimitivesShown

@@ -9,7 +9,7 @@ pub mod FramesAfter
 pub mod FramesAround
 pub mod HeaderFindings
 pub mod KeptFrames
-pub mod Lists
+pub mod FindingLines
 pub mod LongerHeaders
 pub mod UsualHeaders
 pub mod SiteWords

@@ -1,18 +1,14 @@
--- What rows of findings are said with: an input, and what is written of it.
+-- The words of the rows of findings: an input, and what is written of it.
 use Rattle.std.proofs.Common.{ℕ, true, false, List, [], ◌∷◌, ◌++◌, None, Some}
 use Rattle.std.specs.Prelude.{flat_map}
 use Rattle.tlv_value.specs.declared.layout.Layout.{Layout}
 use Rattle.tlv_value.specs.Value.{no_names}
 use Rattle.tlv_walk.specs.declared.framing.Framing.{Framing}
-use Rattle.tlv_walk.specs.Framing.{plain_framing}
 use Rattle.tlv_walk.proofs.GrammarLemmas.Readings.{reading}
 use Rattle.tlv_show.specs.CheckJob.{check_job}
 use Rattle.tlv_show.specs.ShowJob.{show_job}
 use Rattle.tlv_show.specs.declared.rules.Rules.{Rules}
 use Rattle.tlv_show.specs.Texts.{finding_count, item_text}
-
-abbrev pub plain : Framing
-plain = plain_framing
 
 abbrev pub inside_framing : ℕ → Framing
 inside_framing n = record { inside = n ∷ []; padding = false }

@@ -6,63 +6,64 @@ use Rattle.tlv_walk.specs.Alike.{AreAlike, holders, nothing, padding, primitives
 use Rattle.tlv_walk.proofs.GrammarLemmas.Readings.{padding_framing, reading}
 use Rattle.tlv_show.specs.declared.rules.Rules.TheVariants.{Ber, Der, Cer}
 use Rattle.tlv_show.specs.Spellings.{is_misspelled}
-use Rattle.tlv_show.proofs.RowWords.{inside_framing, plain}
+use Rattle.tlv_walk.specs.Framing.{plain_framing}
+use Rattle.tlv_show.proofs.RowWords.{inside_framing}
 
 one_tag : (h k : HeaderValue) → h.class ≡ k.class → h.constructed ≡ k.constructed → h.number ≡ k.number → HaveOneTagAndForm h k
 one_tag h k c f n = record { class = c; constructed = f; number = n }
 
 -- 02 01 05 and 02 81 01 05
-shortest-length : is_misspelled Der (reading plain (2 ∷ 1 ∷ 5 ∷ [])) ≡ false
+shortest-length : is_misspelled Der (reading plain_framing (2 ∷ 1 ∷ 5 ∷ [])) ≡ false
 shortest-length = refl
 
-longer-length : is_misspelled Der (reading plain (2 ∷ 129 ∷ 1 ∷ 5 ∷ [])) ≡ true
+longer-length : is_misspelled Der (reading plain_framing (2 ∷ 129 ∷ 1 ∷ 5 ∷ [])) ≡ true
 longer-length = refl
 
-longer-length-cer : is_misspelled Cer (reading plain (2 ∷ 129 ∷ 1 ∷ 5 ∷ [])) ≡ true
+longer-length-cer : is_misspelled Cer (reading plain_framing (2 ∷ 129 ∷ 1 ∷ 5 ∷ [])) ≡ true
 longer-length-cer = refl
 
 -- both are allowed by BER, so there the law does not hold
-longer-length-ber : is_misspelled Ber (reading plain (2 ∷ 129 ∷ 1 ∷ 5 ∷ [])) ≡ false
+longer-length-ber : is_misspelled Ber (reading plain_framing (2 ∷ 129 ∷ 1 ∷ 5 ∷ [])) ≡ false
 longer-length-ber = refl
 
-lengths-alike : AreAlike (reading plain (2 ∷ 1 ∷ 5 ∷ [])) (reading plain (2 ∷ 129 ∷ 1 ∷ 5 ∷ []))
+lengths-alike : AreAlike (reading plain_framing (2 ∷ 1 ∷ 5 ∷ [])) (reading plain_framing (2 ∷ 129 ∷ 1 ∷ 5 ∷ []))
 lengths-alike = primitives _ _ (5 ∷ []) _ _ (one_tag _ _ refl refl refl) nothing
 
 -- 82 01 05 and 9f 02 01 05
-low-form : is_misspelled Der (reading plain (130 ∷ 1 ∷ 5 ∷ [])) ≡ false
+low-form : is_misspelled Der (reading plain_framing (130 ∷ 1 ∷ 5 ∷ [])) ≡ false
 low-form = refl
 
-high-form : is_misspelled Der (reading plain (159 ∷ 2 ∷ 1 ∷ 5 ∷ [])) ≡ true
+high-form : is_misspelled Der (reading plain_framing (159 ∷ 2 ∷ 1 ∷ 5 ∷ [])) ≡ true
 high-form = refl
 
-forms-alike : AreAlike (reading plain (130 ∷ 1 ∷ 5 ∷ [])) (reading plain (159 ∷ 2 ∷ 1 ∷ 5 ∷ []))
+forms-alike : AreAlike (reading plain_framing (130 ∷ 1 ∷ 5 ∷ [])) (reading plain_framing (159 ∷ 2 ∷ 1 ∷ 5 ∷ []))
 forms-alike = primitives _ _ (5 ∷ []) _ _ (one_tag _ _ refl refl refl) nothing
 
 -- 9f 1f 00 and 9f 80 1f 00
-fewest-digits : is_misspelled Der (reading plain (159 ∷ 31 ∷ 0 ∷ [])) ≡ false
+fewest-digits : is_misspelled Der (reading plain_framing (159 ∷ 31 ∷ 0 ∷ [])) ≡ false
 fewest-digits = refl
 
-more-digits : is_misspelled Der (reading plain (159 ∷ 128 ∷ 31 ∷ 0 ∷ [])) ≡ true
+more-digits : is_misspelled Der (reading plain_framing (159 ∷ 128 ∷ 31 ∷ 0 ∷ [])) ≡ true
 more-digits = refl
 
-digits-alike : AreAlike (reading plain (159 ∷ 31 ∷ 0 ∷ [])) (reading plain (159 ∷ 128 ∷ 31 ∷ 0 ∷ []))
+digits-alike : AreAlike (reading plain_framing (159 ∷ 31 ∷ 0 ∷ [])) (reading plain_framing (159 ∷ 128 ∷ 31 ∷ 0 ∷ []))
 digits-alike = primitives _ _ [] _ _ (one_tag _ _ refl refl refl) nothing
 
 -- 30 03 02 01 05 and 30 80 02 01 05 00 00: the first is by DER, the second by CER
-definite-der : is_misspelled Der (reading plain (48 ∷ 3 ∷ 2 ∷ 1 ∷ 5 ∷ [])) ≡ false
+definite-der : is_misspelled Der (reading plain_framing (48 ∷ 3 ∷ 2 ∷ 1 ∷ 5 ∷ [])) ≡ false
 definite-der = refl
 
-definite-cer : is_misspelled Cer (reading plain (48 ∷ 3 ∷ 2 ∷ 1 ∷ 5 ∷ [])) ≡ true
+definite-cer : is_misspelled Cer (reading plain_framing (48 ∷ 3 ∷ 2 ∷ 1 ∷ 5 ∷ [])) ≡ true
 definite-cer = refl
 
-indefinite-der : is_misspelled Der (reading plain (48 ∷ 128 ∷ 2 ∷ 1 ∷ 5 ∷ 0 ∷ 0 ∷ [])) ≡ true
+indefinite-der : is_misspelled Der (reading plain_framing (48 ∷ 128 ∷ 2 ∷ 1 ∷ 5 ∷ 0 ∷ 0 ∷ [])) ≡ true
 indefinite-der = refl
 
-indefinite-cer : is_misspelled Cer (reading plain (48 ∷ 128 ∷ 2 ∷ 1 ∷ 5 ∷ 0 ∷ 0 ∷ [])) ≡ false
+indefinite-cer : is_misspelled Cer (reading plain_framing (48 ∷ 128 ∷ 2 ∷ 1 ∷ 5 ∷ 0 ∷ 0 ∷ [])) ≡ false
 indefinite-cer = refl
 
-lengths_of_both-alike : AreAlike (reading plain (48 ∷ 3 ∷ 2 ∷ 1 ∷ 5 ∷ []))
-    (reading plain (48 ∷ 128 ∷ 2 ∷ 1 ∷ 5 ∷ 0 ∷ 0 ∷ []))
+lengths_of_both-alike : AreAlike (reading plain_framing (48 ∷ 3 ∷ 2 ∷ 1 ∷ 5 ∷ []))
+    (reading plain_framing (48 ∷ 128 ∷ 2 ∷ 1 ∷ 5 ∷ 0 ∷ 0 ∷ []))
 lengths_of_both-alike =
     holders _ _ _ _ _ _ (one_tag _ _ refl refl refl)
     (primitives _ _ (5 ∷ []) _ _ (one_tag _ _ refl refl refl) nothing) nothing
@@ -86,12 +87,12 @@ padded-alike : AreAlike (reading padding_framing (5 ∷ 0 ∷ 0 ∷ 0 ∷ []))
 padded-alike = primitives _ _ [] _ _ (one_tag _ _ refl refl refl) (padding _ _ (padding _ _ nothing))
 
 -- 1f 00 00: the universal primitive 0 has no low form, and B01 all the same
-universal-0 : is_misspelled Ber (reading plain (31 ∷ 0 ∷ 0 ∷ [])) ≡ true
+universal-0 : is_misspelled Ber (reading plain_framing (31 ∷ 0 ∷ 0 ∷ [])) ≡ true
 universal-0 = refl
 
 -- 5f 00 00: the number 0 of another class, in the high form, and 40 00 in the low form
-high-0 : is_misspelled Ber (reading plain (95 ∷ 0 ∷ 0 ∷ [])) ≡ true
+high-0 : is_misspelled Ber (reading plain_framing (95 ∷ 0 ∷ 0 ∷ [])) ≡ true
 high-0 = refl
 
-low-0 : is_misspelled Ber (reading plain (64 ∷ 0 ∷ [])) ≡ false
+low-0 : is_misspelled Ber (reading plain_framing (64 ∷ 0 ∷ [])) ≡ false
 low-0 = refl

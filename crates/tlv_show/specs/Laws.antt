@@ -18,6 +18,7 @@ use Rattle.tlv_value.specs.ValueLines.{whole_lines}
 use Rattle.tlv_walk.specs.Events.{Begin, Bytes, End, events}
 use Rattle.tlv_walk.specs.Follow.{effect_of, effect_with}
 use Rattle.tlv_walk.specs.Forest.{Forest}
+use Rattle.tlv_walk.specs.Job.{Job}
 use Rattle.tlv_walk.specs.Reading.{IsPrefixOf, IsReading}
 use Rattle.tlv_walk.specs.declared.framing.Framing.{Framing}
 use Rattle.tlv_show.specs.declared.options.Options.{Options}
@@ -32,18 +33,18 @@ use Rattle.tlv_show.specs.Found.{contents_findings, is_shown}
 use Rattle.tlv_head.specs.InputLimit.{input_limit}
 
 -- the text of a longer input, of at most 2^40 octets, begins with that of the shorter
-abbrev pub DumpsGoOn : Type 0
-DumpsGoOn =
-    (options : Options) (names : NamesValue) (b c : List ℕ) (f g : Forest) → length (b ++ c) ≤ input_limit
-    → IsReading options.framing b f → IsReading options.framing (b ++ c) g
-    → IsPrefixOf ((dump_job options names).text f) ((dump_job options names).text g)
+abbrev pub TextGoesOn : {A : Type 0} → Job A → Type 0
+TextGoesOn job =
+    (b c : List ℕ) (f g : Forest) → length (b ++ c) ≤ input_limit
+    → IsReading job.framing b f → IsReading job.framing (b ++ c) g
+    → IsPrefixOf (job.text f) (job.text g)
 
--- likewise what a check lists
+-- that of a dump, and of a check
+abbrev pub DumpsGoOn : Type 0
+DumpsGoOn = (options : Options) (names : NamesValue) → TextGoesOn (dump_job options names)
+
 abbrev pub ChecksGoOn : Type 0
-ChecksGoOn =
-    (rules : Rules) (framing : Framing) (b c : List ℕ) (f g : Forest) → length (b ++ c) ≤ input_limit
-    → IsReading framing b f → IsReading framing (b ++ c) g
-    → IsPrefixOf ((check_job rules framing).text f) ((check_job rules framing).text g)
+ChecksGoOn = (rules : Rules) (framing : Framing) → TextGoesOn (check_job rules framing)
 
 -- the lines of what is found on the contents of a primitive
 abbrev pub contents_finding_lines : DumpState → HeaderValue → List ℕ → List ℕ

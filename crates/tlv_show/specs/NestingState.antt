@@ -24,19 +24,14 @@ top_frame = record {
   ends_empty = false;
 }
 
--- inside an element that holds others
+-- inside an element that holds others: what its header says, and all else as at the top
 abbrev pub frame_of : HeaderValue → HolderFrame
-frame_of h = record {
+frame_of h = record top_frame {
   offset = h.offset;
   announced_length = announced_length h.size;
   is_primitive = is_primitive h;
   has_segments = has_segments h;
   is_bit_string = has_segments h && is_a universal.bit_string h;
-  last_has_unused_bits = false;
-  last_is_not_full = false;
-  all_primitive = true;
-  value_length = 0;
-  ends_empty = false;
 }
 
 -- whether an element inside another, or at the top, has a frame of its own. Of one that is no string and is in none

@@ -39,8 +39,8 @@ is_misspelled rules f = list_any is_item_on_spelling (items rules top_site f)
 
 -- an input that is sound, with its reading, in which there is no such finding
 pub record IsWellSpelled (rules : Rules) (framing : Framing) (b : List ℕ) (f : Forest) : Type 0 where
-  pub ending : IsEnding framing b Done
-  pub reading : IsReading framing b f
+  pub is_done : IsEnding framing b Done
+  pub is_reading : IsReading framing b f
   pub none : is_misspelled rules f ≡ false
 
 -- by DER and by CER, two such inputs of elements alike are one, each read with the strings that are named in it

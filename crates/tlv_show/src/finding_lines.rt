@@ -1,5 +1,5 @@
 //! How findings are written.
-ghost use Rattle.std.specs.Prelude.{◌≡◌, ◌+◌, ◌++◌, ◌∷◌, length};
+ghost use Rattle.std.specs.Prelude.{◌≡◌, ◌++◌, ◌∷◌, length};
 ghost use Rattle.tlv_io.specs.LineTexts.{HasRoomFor};
 ghost use Rattle.tlv_io.specs.Out.{Puts};
 ghost use Rattle.tlv_show.specs.FindingLines.{last_finding_lines, styled_line, styled_lines};

@@ -1,6 +1,6 @@
 //! What is found with a header, and with the end of an element that holds others.
-ghost use Rattle.std.specs.Prelude.{IsTrue, false, ◌≡◌, ◌<◌, ◌≤◌, ◌+◌, ◌++◌, ◌&&◌, ◌||◌, ◌==◌, nat_le};
-ghost use Rattle.std.specs.Prelude.{nat_lt, length, []};
+ghost use Rattle.std.specs.Prelude.{IsTrue, false, ◌≡◌, ◌<◌, ◌≤◌, ◌+◌, ◌++◌, nat_le};
+ghost use Rattle.std.specs.Prelude.{length, []};
 ghost use Rattle.tlv_value.specs.Checks.{finding_if, findings_by};
 ghost use Rattle.tlv_show.specs.Conditions.{basic_conditions, begins_with_zero_bits, cer_conditions};
 ghost use Rattle.tlv_show.specs.Conditions.{der_conditions, is_high_form_needless, length_conditions};
@@ -46,7 +46,7 @@ pub(crate) fn add_header_findings(
 /// Whether nothing is found with a header, as far as a short look shows.
 #[inline(always)]
 pub(crate) fn has_no_header_findings(rules: Rules, frame: &HolderFrame, header: &Header) -> bool
-    ensures findings { IsTrue result
+    ensures no_findings { IsTrue result
         → header_findings rules (surroundings_in frame.now) header.now ≡ [] }
     ensures no_frame { IsTrue result → has_frame frame.now header.now ≡ false }
 {
@@ -61,9 +61,9 @@ pub(crate) fn has_no_header_findings_if_usual(
     frame: &HolderFrame,
     header: &Header,
 ) -> bool
-    ensures findings { IsTrue result → IsUsual header.now
+    ensures no_findings { IsTrue result → IsUsual header.now
         → header_findings rules (surroundings_in frame.now) header.now ≡ [] }
-    ensures segments { IsTrue result → frame.now.has_segments ≡ false }
+    ensures no_segments { IsTrue result → frame.now.has_segments ≡ false }
 {
     if frame.has_segments || !is_tag_usual(header) {
         return false;
@@ -148,7 +148,7 @@ fn fits_in_primitive(frame: &HolderFrame) -> bool
 fn add_if(there: bool, finding: Finding, found: &mut ArrayVec<Finding, 16>)
     requires { length found.old.items < 16 }
     ensures items { found.new.items ≡ found.old.items ++ finding_if there finding }
-    ensures few { length found.new.items ≤ length found.old.items + 1 }
+    ensures short { length found.new.items ≤ length found.old.items + 1 }
 {
     if there {
         found.push(finding);
@@ -161,7 +161,7 @@ fn add_basic_findings(frame: &HolderFrame, header: &Header, found: &mut ArrayVec
     requires { found.old.items ≡ [] }
     ensures items { found.new.items
         ≡ findings_by (basic_conditions (surroundings_in frame.now) header.now) }
-    ensures few { length found.new.items ≤ 7 }
+    ensures short { length found.new.items ≤ 7 }
 {
     let is_high = has_high_form(header);
     add_if(is_high && header.number < 31, Finding::B01, found);
@@ -199,7 +199,7 @@ fn add_length_findings(header: &Header, found: &mut ArrayVec<Finding, 16>)
     requires { length found.old.items ≤ 7 }
     ensures items { found.new.items
         ≡ found.old.items ++ findings_by (length_conditions header.now) }
-    ensures few { length found.new.items ≤ 8 }
+    ensures short { length found.new.items ≤ 8 }
 {
     add_if(is_length_padded(header), Finding::S01, found);
 }

@@ -39,10 +39,10 @@ impl Model for Nesting {
     } };
 
     ghost invariant = { λ n. record {
-      few : n.depth ≤ 128;
-      inside : n.floor ≤ n.depth;
+      shallow : n.depth ≤ 128;
+      within : n.floor ≤ n.depth;
       innermost : HasFramesInStrings n.frame (n.depth - n.floor);
-      others : HaveRisingFloors n.floor n.outer;
+      rising : HaveRisingFloors n.floor n.outer;
     } };
 }
 

@@ -21,7 +21,7 @@ use Rattle.tlv_show.proofs.FindingLemmas.CheckFolds.{count-run}
 use Rattle.tlv_show.proofs.DumpLemmas.DumpShown.{shows_forest}
 use Rattle.tlv_show.proofs.DumpLemmas.DumpSteps.{all_on, each-filled, each-shown, one_on}
 use Rattle.tlv_show.proofs.FindingLemmas.FinderSteps.{run_finder}
-use Rattle.tlv_show.proofs.DumpLemmas.Shows.{Shower}
+use Rattle.tlv_show.proofs.DumpLemmas.ShowJob.{Shower}
 
 -- the finder of a dump goes by the events alone
 finder-by : (s : DumpState) (e : EventValue) → (dump_step s e).state.finder ≡ (finder_step s.finder e).kept

@@ -26,8 +26,8 @@ use Rattle.tlv_show.specs.Found.{contents_findings, header_findings, end_finding
 use Rattle.tlv_show.specs.Items.{Item, FindingAt, items, finding_items, headers}
 use Rattle.tlv_show.specs.HolderLines.{dump_opening_line, closing_line}
 use Rattle.tlv_show.specs.Site.{Previous, Site, is_padding}
-use Rattle.tlv_show.specs.Texts.{item_text}
-use Rattle.tlv_show.proofs.DumpLemmas.DumpTexts.{at_level, holder_shown, ends_in_padding, primitive_shown}
+use Rattle.tlv_show.specs.Texts.{item_text, layout_at}
+use Rattle.tlv_show.proofs.DumpLemmas.DumpTexts.{holder_shown, ends_in_padding, primitive_shown}
 use Rattle.tlv_show.proofs.DumpLemmas.DumpTexts.{lines_between, closer_shown}
 use Rattle.tlv_show.proofs.FindingLemmas.FinderFolds.{frame_after_elements, offset-under}
 use Rattle.tlv_show.proofs.FindingLemmas.FinderSteps.{after_contents, later_header, after_primitive, opened-find}
@@ -109,7 +109,7 @@ module _ (style : Layout) (names : NamesValue) (rules : Rules) where
       → effect_of dump_step (start p (is_padding previous) w outer n) (opening_events h)
       ≡ effect_with (start (place_of_children p h) false (frame_under w h) (w ∷ outer) (later_header rules w h n))
       (styled_lines (Dump style.pure) (length outer) h.offset (header_findings rules (surroundings_in w) h)
-      ++ dump_opening_line (at_level style names p.depth) h)
+      ++ dump_opening_line (layout_at style p.depth) h)
   opened-shown p holder previous w outer n h k there low far =
       opens-by (lines_between style names p.depth p.offset (is_padding previous)) (check_between rules w outer n) h
       h.constructed (h.number == 3)
@@ -129,7 +129,7 @@ module _ (style : Layout) (names : NamesValue) (rules : Rules) where
       (start (place_after p (length (octets_of h) + length c)) false (after_primitive rules w h c) outer
       (after_contents rules w h c n))
       (styled_lines (Dump style.pure) (length outer) h.offset (header_findings rules (surroundings_in w) h)
-      ++ (whole_lines (finite.get names) h (at_level style names p.depth) c
+      ++ (whole_lines (finite.get names) h (layout_at style p.depth) c
       ++ styled_lines (Dump style.pure) (length outer) h.offset (contents_findings rules h c)))
   primitive-shown p padded w outer n h c there size far =
       primitive-by (lines_between style names p.depth p.offset padded) (check_between rules w outer n) h c
@@ -153,12 +153,12 @@ module _ (style : Layout) (names : NamesValue) (rules : Rules) where
       ≡ effect_with
       (start (place_after p (extent h inside)) false
       (frame_after w (is_primitive h) (announced_length h.size) false) outer (after_end rules h inside n))
-      (closing_line (at_level style names p.depth) (if h.constructed then end_octets_offset h inside else None)
+      (closing_line (layout_at style p.depth) (if h.constructed then end_octets_offset h inside else None)
       ++ styled_lines (Dump style.pure) (length outer) h.offset (end_findings rules (segments_of h (headers inside))))
   closed-shown p w outer n h inside v whole there allowed far =
       let end : ℕ = p.offset + length (opening h) + length (spelling inside) in
       let close : List ℕ =
-      closing_line (at_level style names p.depth) (if h.constructed then end_octets_offset h inside else None) in
+      closing_line (layout_at style p.depth) (if h.constructed then end_octets_offset h inside else None) in
       let last : List ℕ =
       styled_lines (Dump style.pure) (length outer) h.offset (end_findings rules (segments_of h (headers inside))) in
       let after : CheckState =

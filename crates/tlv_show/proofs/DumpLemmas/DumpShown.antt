@@ -34,9 +34,10 @@ use Rattle.tlv_show.specs.HolderLines.{closing_line, opening_line, padding_line,
 use Rattle.tlv_show.specs.HolderLines.{dump_opening_line}
 use Rattle.tlv_show.specs.Site.{Previous, Padding, Sibling, Site, Start, is_padding, site_of_children}
 use Rattle.tlv_show.specs.Site.{site_after_primitive, site_after_holder, site_after_padding}
+use Rattle.tlv_show.specs.Texts.{layout_at}
 use Rattle.tlv_show.proofs.FindingLemmas.SiteWords.{first_contents_octet}
 use Rattle.tlv_show.proofs.DumpLemmas.DumpSteps.{all_on}
-use Rattle.tlv_show.proofs.DumpLemmas.DumpTexts.{at_level, fill_shown, no_padding}
+use Rattle.tlv_show.proofs.DumpLemmas.DumpTexts.{fill_shown, no_padding}
 use Rattle.tlv_show.proofs.DumpLemmas.DumpTexts.{ends_in_padding, part_shown, lines_between}
 use Rattle.tlv_show.proofs.FindingLemmas.FinderFolds.{not-constructed, frame_after_elements}
 use Rattle.tlv_show.proofs.FindingLemmas.FramesAround.{knows-after, knows-inside, knows-padding, unused-of}
@@ -74,13 +75,13 @@ module _ (style : Layout) (names : NamesValue) (rules : Rules) where
       let one : (n : ℕ)
       → effect_of dump_step (start style names rules p (is_padding previous) w outer n) (Pad (0 ∷ []) ∷ [])
       ≡ effect_with (start style names rules (place_after p 1) true w outer n)
-      (if is_padding previous then [] else padding_line (at_level style names p.depth) p.offset) =
+      (if is_padding previous then [] else padding_line (layout_at style p.depth) p.offset) =
       λ n. ap (λ (d : Effect LinesState). effect_with (dump_state d.state (check_between rules w outer n)) d.put)
       (fill_shown style names p.depth p.offset (is_padding previous) (omega (arith, b))) in
       let all =
       λ (n : ℕ). shown-after style names rules p (place_after p 1) (is_padding previous) w outer n n w holder Padding
       (Pad (0 ∷ []) ∷ [])
-      (if is_padding previous then [] else padding_line (at_level style names p.depth) p.offset) rest refl
+      (if is_padding previous then [] else padding_line (layout_at style p.depth) p.offset) rest refl
       (one n) t in
       record {
         text =
@@ -98,7 +99,7 @@ module _ (style : Layout) (names : NamesValue) (rules : Rules) where
       }
     where
       pads : (k : Bool) (level offset : ℕ) (l : List Item)
-          → (if k then [] else padding_line (at_level style names level) offset) ++ item_texts style names rules l
+          → (if k then [] else padding_line (layout_at style level) offset) ++ item_texts style names rules l
           ≡ item_texts style names rules ((if k then [] else PaddingLine level offset ∷ []) ++ l)
       pads true level offset l = refl
       pads false level offset l = refl
@@ -128,7 +129,7 @@ module _ (style : Layout) (names : NamesValue) (rules : Rules) where
             ap (λ (x : Effect DumpState). x.put) (all n)
             ∙ three
             (styled_lines (Dump style.pure) (length outer) h.offset (header_findings rules (surroundings_in w) h))
-            (whole_lines (finite.get names) h (at_level style names p.depth) c)
+            (whole_lines (finite.get names) h (layout_at style p.depth) c)
             (styled_lines (Dump style.pure) (length outer) h.offset (contents_findings rules h c))
             (item_texts style names rules others)
             ∙ found-first style names rules (length outer) p.depth h.offset
@@ -136,7 +137,7 @@ module _ (style : Layout) (names : NamesValue) (rules : Rules) where
             (header_findings rules (surroundings_of s) h)
             _ (PrimitiveLines p.depth h c ∷ (finding_items p.depth h.offset (contents_findings rules h c) ++ others))
             k.1 (header-same rules w s h k.0)
-            (ap (λ (l : List ℕ). whole_lines (finite.get names) h (at_level style names p.depth) c ++ l)
+            (ap (λ (l : List ℕ). whole_lines (finite.get names) h (layout_at style p.depth) c ++ l)
             (found-first style names rules (length outer) p.depth h.offset (contents_findings rules h c)
             (contents_findings rules h c) (item_texts style names rules others) others k.1 refl refl));
         after = λ n e.
@@ -165,9 +166,9 @@ module _ (style : Layout) (names : NamesValue) (rules : Rules) where
       outer rest v.2 (omega (arith, b, size))
       (knows-after w s (site_after_holder s h inside) h None false k.0 refl refl refl, k.1, k.2) in
       let end : ℕ = p.offset + length (opening h) + length (spelling inside) in
-      let line : List ℕ = dump_opening_line (at_level style names p.depth) h in
+      let line : List ℕ = dump_opening_line (layout_at style p.depth) h in
       let close : List ℕ =
-      closing_line (at_level style names p.depth) (if h.constructed then end_octets_offset h inside else None) in
+      closing_line (layout_at style p.depth) (if h.constructed then end_octets_offset h inside else None) in
       let first : List ℕ =
       styled_lines (Dump style.pure) (length outer) h.offset (header_findings rules (surroundings_in w) h) in
       let last : List ℕ =
@@ -277,7 +278,7 @@ module _ (style : Layout) (names : NamesValue) (rules : Rules) where
         _ (OpenPrimitiveLines p.depth h c ∷ []) k.1
         (header-same rules w (site style names rules p holder previous) h k.0)
         (part_shown style names p.depth p.offset (is_padding previous) h c (omega (arith, v.1))
-        ∙ sym (append-nil (open_lines h (at_level style names p.depth) c)));
+        ∙ sym (append-nil (open_lines h (layout_at style p.depth) c)));
     after = λ n e. absurd (cc (e));
   }
   shows_forest p holder previous w outer (OpenHolder h inside) v b k =
@@ -288,7 +289,7 @@ module _ (style : Layout) (names : NamesValue) (rules : Rules) where
       (omega (arith, b, size)) (knows-inside w s h, omega (arith, k.1), λ e. absurd (cc (e))) in
       let first : List ℕ =
       styled_lines (Dump style.pure) (length outer) h.offset (header_findings rules (surroundings_in w) h) in
-      let line : List ℕ = dump_opening_line (at_level style names p.depth) h in
+      let line : List ℕ = dump_opening_line (layout_at style p.depth) h in
       record {
         text = λ n.
             ap (λ (x : Effect DumpState). x.put)
@@ -311,7 +312,7 @@ module _ (style : Layout) (names : NamesValue) (rules : Rules) where
     text = λ n.
         append_assoc
         (styled_lines (Dump style.pure) (length outer) h.offset (header_findings rules (surroundings_in w) h))
-        (opening_line (at_level style names p.depth) h (opening_word false)) []
+        (opening_line (layout_at style p.depth) h (opening_word false)) []
         ∙ found-first style names rules (length outer) p.depth h.offset (header_findings rules (surroundings_in w) h)
         (header_findings rules (surroundings_of (site style names rules p holder previous)) h)
         _ (OpeningLine p.depth h ∷ []) k.1
@@ -322,8 +323,8 @@ module _ (style : Layout) (names : NamesValue) (rules : Rules) where
     where
       awaiting : (level : ℕ) (h : HeaderValue) (k : Bool)
           → (if k then [] else lead (record h { constructed = false })) ≡ 0 ∷ []
-          → opening_line (at_level style names level) h (opening_word k)
-          ≡ opening_line (at_level style names level) h (opening_word false)
+          → opening_line (layout_at style level) h (opening_word k)
+          ≡ opening_line (layout_at style level) h (opening_word false)
       awaiting level h true e = absurd (cc (e))
       awaiting level h false e = refl
   shows_forest p holder previous w outer (OpenHeader octets) v b k = record {

@@ -14,34 +14,22 @@ use Rattle.tlv_value.specs.ValueTextState.{ValueTextState, begin_lines, contents
 use Rattle.tlv_value.specs.ValueTextState.{value_text_after}
 use Rattle.tlv_value.specs.Value.{NameOf}
 use Rattle.tlv_value.proofs.TextLemmas.Pieces.{lines-end, open-lines}
-use Rattle.tlv_walk.specs.Events.{Begin, Bytes, Close, End, Enter, EventValue, Leave, Open, Pad, Unused, closing_event}
+use Rattle.tlv_walk.specs.Events.{Begin, Bytes, Close, End, Enter, Leave, Open, Pad, Unused, closing_event}
 use Rattle.tlv_walk.specs.Events.{end_offset, end_octets_offset, opening_events}
-use Rattle.tlv_walk.specs.Follow.{Effect, and_then, effect_if_more, effect_of, effect_with}
+use Rattle.tlv_walk.specs.Follow.{Effect, effect_if_more, effect_of, effect_with}
 use Rattle.tlv_walk.specs.Forest.{Forest, NoMore, PaddingOctet, Primitive, Holder, OpenPrimitive, OpenHolder}
 use Rattle.tlv_walk.specs.Forest.{OpenBitString, OpenHeader, OpenEndOctets, end_octets, extent, lead, opening, spelling}
 use Rattle.tlv_walk.specs.Forest.{lead_by}
-use Rattle.tlv_walk.specs.Place.{KeepsRules, Place, place_after}
-use Rattle.tlv_walk.proofs.FollowerLemmas.Followed.{followed-more}
+use Rattle.tlv_walk.specs.Place.{IsOpen, Place, place_after}
 use Rattle.tlv_walk.proofs.GrammarLemmas.Spellings.{length-opening}
 use Rattle.tlv_show.specs.LinesStep.{LinesState, lines_step, lines_after_header}
 use Rattle.tlv_show.specs.HolderLines.{closing_line, opening_line, padding_line, opening_word}
 use Rattle.tlv_show.specs.HolderLines.{dump_opening_line}
+use Rattle.tlv_show.specs.Texts.{layout_at}
 use Rattle.tlv_show.proofs.DumpLemmas.OctetPieces.{after_put, dumped_bytes, rested-new}
-use Rattle.tlv_show.proofs.DumpLemmas.Always.{all_on}
 use Rattle.tlv_show.specs.SaturatingSum.{saturating_sum}
 use Rattle.std.proofs.lemmas.List.{take_all}
 use Rattle.tlv_show.proofs.SaturatingSums.{sum-small}
-
--- one list of events and then another
-both : (s : LinesState) (xs ys : List EventValue)
-    → effect_of lines_step s (xs ++ ys) ≡ and_then (effect_of lines_step s xs) (λ u. effect_of lines_step u ys)
-both s xs ys = followed-more lines_step s xs ys (all_on s xs)
-
--- what was made, and then more
-then_more : (s t : LinesState) (put : List ℕ) (xs ys : List EventValue) → effect_of lines_step s xs ≡ effect_with t put
-    → effect_of lines_step s (xs ++ ys)
-    ≡ record (effect_of lines_step t ys) { put = put ++ (effect_of lines_step t ys).put }
-then_more s t put xs ys e = both s xs ys ∙ ap (λ (k : Effect LinesState). and_then k (λ u. effect_of lines_step u ys)) e
 
 -- ---- what is reported of a primitive
 
@@ -93,13 +81,10 @@ primitives_shown s h c size =
 
 -- of elements in this style, with these names
 module _ (style : Layout) (names : NamesValue) where
-  abbrev pub at_level : ℕ → Layout
-  at_level level = record style { level = level }
-
   -- a dump between two elements
   abbrev pub lines_between : ℕ → ℕ → Bool → LinesState
   lines_between level offset padded = record {
-    layout = at_level level;
+    layout = layout_at style level;
     names = names;
     offset = offset;
     in_padding = padded;
@@ -118,33 +103,33 @@ module _ (style : Layout) (names : NamesValue) where
   abbrev lines_in_primitive : ℕ → ℕ → Bool → HeaderValue → LinesState
   lines_in_primitive level offset padded h =
       record (lines_after_header (lines_between level offset padded) h)
-      { open_text = Some (new_value_text h (at_level level)) }
+      { open_text = Some (new_value_text h (layout_at style level)) }
 
   pub primitive_shown : (level offset : ℕ) (padded : Bool) (h : HeaderValue) (c : List ℕ) → h.offset ≡ offset
       → announced_length h.size ≡ length c → offset + (length (octets_of h) + length c) ≤ 2 ^ 64 - 1
       → effect_of lines_step (lines_between level offset padded) (Begin h ∷ Bytes c ∷ End ∷ [])
       ≡ effect_with (lines_between level (offset + (length (octets_of h) + length c)) false)
-      (whole_lines (finite.get names) h (at_level level) c)
+      (whole_lines (finite.get names) h (layout_at style level) c)
   primitive_shown level offset padded h c there size far_enough =
       primitives_shown (lines_between level offset padded) h c size
       ∙ settled level level (saturating_sum (saturating_sum h.offset (length (octets_of h))) (length c))
       (offset + (length (octets_of h) + length c)) false false
-      _ (whole_lines (finite.get names) h (at_level level) c)
+      _ (whole_lines (finite.get names) h (layout_at style level) c)
       refl (omega (arith, there, far_enough)) refl refl
 
   pub part_shown : (level offset : ℕ) (padded : Bool) (h : HeaderValue) (c : List ℕ)
       → length c ≤ announced_length h.size
       → (effect_of lines_step (lines_between level offset padded) (Begin h ∷ Bytes c ∷ [])).put
-      ≡ open_lines h (at_level level) c
+      ≡ open_lines h (layout_at style level) c
   part_shown level offset padded h c size =
-      let t : ValueTextState = new_value_text h (at_level level) in
+      let t : ValueTextState = new_value_text h (layout_at style level) in
       ap
       (λ (k : Effect LinesState).
       (after_put (begin_lines t) (effect_if_more k.goes k (λ w. effect_of lines_step w []))).put)
-      (dumped_bytes (lines_in_primitive level offset padded h) c (λ e. rested-new h (at_level level)))
+      (dumped_bytes (lines_in_primitive level offset padded h) c (λ e. rested-new h (layout_at style level)))
       ∙ ap (λ (l : List ℕ). begin_lines t ++ (contents_lines t l ++ [])) (take_all (announced_length h.size) c size)
       ∙ ap (λ (l : List ℕ). begin_lines t ++ l) (append-nil (contents_lines t c))
-      ∙ sym (open-lines h (at_level level) c)
+      ∙ sym (open-lines h (layout_at style level) c)
 
   -- ---- an element that holds others begins
 
@@ -153,34 +138,34 @@ module _ (style : Layout) (names : NamesValue) where
       → effect_of lines_step (lines_between level offset padded)
       ((if k then Open h else Enter h) ∷ map (λ z. Unused) (lead_by k three))
       ≡ effect_with (lines_between (level + 1) (offset + (length (octets_of h) + length (lead_by k three))) false)
-      (opening_line (at_level level) h (opening_word k))
+      (opening_line (layout_at style level) h (opening_word k))
   holder_by level offset padded true three h there low far_enough =
       settled (min (level + 1) 255) (level + 1) (saturating_sum h.offset (length (octets_of h)))
-      (offset + (length (octets_of h) + 0)) false false _ (opening_line (at_level level) h (opening_word true))
+      (offset + (length (octets_of h) + 0)) false false _ (opening_line (layout_at style level) h (opening_word true))
       (omega (arith, low)) (omega (arith, there, far_enough)) refl
-      (append-nil (opening_line (at_level level) h (opening_word true)))
+      (append-nil (opening_line (layout_at style level) h (opening_word true)))
   holder_by level offset padded false true h there low far_enough =
       settled (min (level + 1) 255) (level + 1) (saturating_sum (saturating_sum h.offset (length (octets_of h))) 1)
-      (offset + (length (octets_of h) + 1)) false false _ (opening_line (at_level level) h (opening_word false))
+      (offset + (length (octets_of h) + 1)) false false _ (opening_line (layout_at style level) h (opening_word false))
       (omega (arith, low)) (omega (arith, there, far_enough)) refl
-      (append-nil (opening_line (at_level level) h (opening_word false)))
+      (append-nil (opening_line (layout_at style level) h (opening_word false)))
   holder_by level offset padded false false h there low far_enough =
       settled (min (level + 1) 255) (level + 1) (saturating_sum h.offset (length (octets_of h)))
-      (offset + (length (octets_of h) + 0)) false false _ (opening_line (at_level level) h (opening_word false))
+      (offset + (length (octets_of h) + 0)) false false _ (opening_line (layout_at style level) h (opening_word false))
       (omega (arith, low)) (omega (arith, there, far_enough)) refl
-      (append-nil (opening_line (at_level level) h (opening_word false)))
+      (append-nil (opening_line (layout_at style level) h (opening_word false)))
 
   pub holder_shown : (level offset : ℕ) (padded : Bool) (h : HeaderValue) → h.offset ≡ offset → level + 1 ≤ 255
       → offset + length (opening h) ≤ 2 ^ 64 - 1
       → effect_of lines_step (lines_between level offset padded) (opening_events h)
       ≡ effect_with (lines_between (level + 1) (offset + length (opening h)) false)
-      (dump_opening_line (at_level level) h)
+      (dump_opening_line (layout_at style level) h)
   holder_shown level offset padded h there low far_enough =
       holder_by level offset padded h.constructed (h.number == 3) h there low
       (omega (arith, far_enough, length-opening h))
       ∙ settled (level + 1) (level + 1) (offset + (length (octets_of h) + length (lead h)))
-      (offset + length (opening h)) false false (dump_opening_line (at_level level) h)
-      (dump_opening_line (at_level level) h)
+      (offset + length (opening h)) false false (dump_opening_line (layout_at style level) h)
+      (dump_opening_line (layout_at style level) h)
       refl (omega (arith, length-opening h)) refl refl
 
   -- ---- and ends
@@ -188,22 +173,22 @@ module _ (style : Layout) (names : NamesValue) where
   closer_by : (level o : ℕ) (k : Bool) (size : Size) → AllowsSize k size → o + length (end_octets size) ≤ 2 ^ 64 - 1
       → effect_of lines_step (lines_between (level + 1) o false) ((if k then Close (end_offset size o) else Leave) ∷ [])
       ≡ effect_with (lines_between level (o + length (end_octets size)) false)
-      (closing_line (at_level level) (if k then end_offset size o else None))
+      (closing_line (layout_at style level) (if k then end_offset size o else None))
   closer_by level o true (Definite n) allowed far_enough =
-      settled (level + 1 - 1) level o (o + 0) false false _ (closing_line (at_level level) None) (omega arith)
+      settled (level + 1 - 1) level o (o + 0) false false _ (closing_line (layout_at style level) None) (omega arith)
       (omega arith) refl
-      (append-nil (closing_line (at_level (level + 1 - 1)) None)
-      ∙ ap (λ (l : ℕ). closing_line (at_level l) None) (omega arith))
+      (append-nil (closing_line (layout_at style (level + 1 - 1)) None)
+      ∙ ap (λ (l : ℕ). closing_line (layout_at style l) None) (omega arith))
   closer_by level o true Indefinite allowed far_enough =
       settled (level + 1 - 1) level (saturating_sum o 2) (o + 2) false false
-      _ (closing_line (at_level level) (Some o)) (omega arith) (omega (arith, far_enough)) refl
-      (append-nil (closing_line (at_level (level + 1 - 1)) (Some o))
-      ∙ ap (λ (l : ℕ). closing_line (at_level l) (Some o)) (omega arith))
+      _ (closing_line (layout_at style level) (Some o)) (omega arith) (omega (arith, far_enough)) refl
+      (append-nil (closing_line (layout_at style (level + 1 - 1)) (Some o))
+      ∙ ap (λ (l : ℕ). closing_line (layout_at style l) (Some o)) (omega arith))
   closer_by level o false (Definite n) allowed far_enough =
-      settled (level + 1 - 1) level o (o + 0) false false _ (closing_line (at_level level) None) (omega arith)
+      settled (level + 1 - 1) level o (o + 0) false false _ (closing_line (layout_at style level) None) (omega arith)
       (omega arith) refl
-      (append-nil (closing_line (at_level (level + 1 - 1)) None)
-      ∙ ap (λ (l : ℕ). closing_line (at_level l) None) (omega arith))
+      (append-nil (closing_line (layout_at style (level + 1 - 1)) None)
+      ∙ ap (λ (l : ℕ). closing_line (layout_at style l) None) (omega arith))
   closer_by level o false Indefinite allowed far_enough = absurd (cc (allowed))
 
   pub closer_shown : (level o : ℕ) (h : HeaderValue) (inside : Forest)
@@ -211,13 +196,13 @@ module _ (style : Layout) (names : NamesValue) where
       → o + length (end_octets h.size) ≤ 2 ^ 64 - 1
       → effect_of lines_step (lines_between (level + 1) o false) (closing_event h inside ∷ [])
       ≡ effect_with (lines_between level (o + length (end_octets h.size)) false)
-      (closing_line (at_level level) (if h.constructed then end_octets_offset h inside else None))
+      (closing_line (layout_at style level) (if h.constructed then end_octets_offset h inside else None))
   closer_shown level o h inside there allowed far_enough =
       subst
       (λ (n : ℕ). effect_of lines_step (lines_between (level + 1) o false)
       ((if h.constructed then Close (end_offset h.size n) else Leave) ∷ [])
       ≡ effect_with (lines_between level (o + length (end_octets h.size)) false)
-      (closing_line (at_level level) (if h.constructed then end_offset h.size n else None)))
+      (closing_line (layout_at style level) (if h.constructed then end_offset h.size n else None)))
       (sym there) (closer_by level o h.constructed h.size allowed far_enough)
 
   -- ---- elements
@@ -249,8 +234,8 @@ module _ (style : Layout) (names : NamesValue) where
   pub fill_shown : (level offset : ℕ) (padded : Bool) → offset + 1 ≤ 2 ^ 64 - 1
       → effect_of lines_step (lines_between level offset padded) (Pad (0 ∷ []) ∷ [])
       ≡ effect_with (lines_between level (offset + 1) true)
-      (if padded then [] else padding_line (at_level level) offset)
+      (if padded then [] else padding_line (layout_at style level) offset)
   fill_shown level offset padded far_enough =
-      let line = if padded then [] else padding_line (at_level level) offset in
+      let line = if padded then [] else padding_line (layout_at style level) offset in
       settled level level (saturating_sum offset 1) (offset + 1) true true ((line ++ []) ++ []) line refl
       (sum-small offset 1 far_enough) refl (append-nil (line ++ []) ∙ append-nil line)

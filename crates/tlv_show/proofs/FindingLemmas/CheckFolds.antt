@@ -43,7 +43,7 @@ use Rattle.tlv_show.specs.Texts.{check_line, finding_count, is_finding}
 use Rattle.tlv_show.proofs.FindingLemmas.CheckLaws.{step-is}
 use Rattle.tlv_show.proofs.FindingLemmas.FinderItems.{finds_forest, only}
 use Rattle.tlv_show.proofs.FindingLemmas.FinderSteps.{FinderRun, found_items, run_finder}
-use Rattle.tlv_show.proofs.DumpLemmas.Shows.{Shower}
+use Rattle.tlv_show.proofs.DumpLemmas.ShowJob.{Shower}
 use Rattle.tlv_show.specs.SaturatingSum.{saturating_sum}
 use Rattle.tlv_show.proofs.SaturatingSums.{sum-more, sum-none}
 

@@ -180,5 +180,5 @@ closes-frame w floor depth (k ∷ outer) (above, kept, others) at_floor any v lo
     let none_inside : depth - depth ≡ 0 = omega arith in
     let same : HasFramesInStrings k.frame (depth - 1 - k.floor) =
     subst (λ (n : ℕ). HasFramesInStrings k.frame (n - 1 - k.floor)) at_floor kept in
-    rw (back.frame, back.same_floor, back.others, at_floor, none_inside)
+    rw (back.frame, back.same_floor, back.rest_is, at_floor, none_inside)
     (closed-frame w k.frame (depth - 1 - k.floor) (all_frames k.floor outer) same)

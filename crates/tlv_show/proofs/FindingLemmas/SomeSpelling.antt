@@ -254,7 +254,7 @@ some-spelling rules framing b f strict few ending reading low =
     let same : elements.forest ≡ f =
     reading-unique framing b elements.forest f (sound-reading framing b elements) reading in
     let chosen : Spelling (form_by rules) (top_place framing) f =
-    respelled (form_by rules) (by-definite rules) (top_place framing) f (omega (arith, few, ap length it.octets))
+    respelled (form_by rules) (by-definite rules) (top_place framing) f (omega (arith, few, ap length it.spelled))
     it.sound low in
     let by_names : Framing = record { inside = chosen.names 0; padding = framing.padding } in
     let at_top : SpelledAt (form_by rules) (top_place by_names) f chosen.octets (chosen.names 0) =
@@ -272,12 +272,12 @@ some-spelling rules framing b f strict few ending reading low =
     } in
     let there : IsReading other chosen.octets at_top.forest = sound-reading other chosen.octets list in
     let small : length (spelling at_top.forest) ≤ 2 ^ 40 =
-    omega (arith, ap length at_top.spelled, chosen.short, few, ap length it.octets) in (
+    omega (arith, ap length at_top.spelled, chosen.short, few, ap length it.spelled) in (
       chosen.octets,
       at_top.forest,
       record {
-        ending = sound-done other chosen.octets list;
-        reading = there;
+        is_done = sound-done other chosen.octets list;
+        is_reading = there;
         none = none-found rules strict (top_place other) top_site at_top.forest sound at_top.regular;
       },
       at_top.alike,

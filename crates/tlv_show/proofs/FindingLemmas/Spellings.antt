@@ -169,7 +169,7 @@ module _ (rules : Rules) (strict : rules ≢ Ber) where
 -- the reading of a sound input, whole
 pub record IsSoundReading (framing : Framing) (b : List ℕ) (f : Forest) : Type 0 where
   pub sound : IsSound (top_place framing) f
-  pub octets : spelling f ≡ b
+  pub spelled : spelling f ≡ b
 
 pub sound-reading_of : (framing : Framing) (b : List ℕ) (f : Forest) → IsEnding framing b Done → IsReading framing b f
     → IsSoundReading framing b f
@@ -179,15 +179,15 @@ sound-reading_of framing b f ending reading =
     reading-unique framing b elements.forest f (sound-reading framing b elements) reading in
     record {
       sound = subst (IsSound (top_place framing)) same elements.sound;
-      octets = ap spelling (sym same) ∙ elements.octets;
+      spelled = ap spelling (sym same) ∙ elements.octets;
     }
 
 pub spelled-alike : OneSpelling
 spelled-alike rules framing other b c f g strict r t alike =
-    let left : IsSoundReading framing b f = sound-reading_of framing b f r.ending r.reading in
-    let right : IsSoundReading other c g = sound-reading_of other c g t.ending t.reading in
-    sym left.octets
+    let left : IsSoundReading framing b f = sound-reading_of framing b f r.is_done r.is_reading in
+    let right : IsSoundReading other c g = sound-reading_of other c g t.is_done t.is_reading in
+    sym left.spelled
     ∙ one_spelling (form_by rules) (top_place framing) (top_place other) f g alike left.sound right.sound
     (all-regular rules strict (top_place framing) top_site f left.sound r.none)
     (all-regular rules strict (top_place other) top_site g right.sound t.none)
-    ∙ right.octets
+    ∙ right.spelled

@@ -24,6 +24,7 @@ pub none-by_ber : (w : HolderFrame) (h : HeaderValue) → w.has_segments ≡ fal
     → header_findings Ber (surroundings_in w) h ≡ []
 none-by_ber w h outside number bits usual =
     basic-found (surroundings_in w) h
-    ∙ none-of_seven _ _ _ _ _ _ _ number bits usual.assigned usual.primitive usual.constructed
+    ∙ none-of_seven _ _ _ _ _ _ _ number bits usual.assigned usual.primitive_if_always
+    usual.constructed_if_always
     (ap (λ (k : Bool). (k && w.is_bit_string) && w.last_has_unused_bits) outside)
     (ap (λ (k : Bool). k && not (is_a (segment_type (surroundings_in w).in_bit_string) h)) outside)

@@ -54,7 +54,7 @@ pub record IsTakenBack (closed : HolderFrame) (k : KeptFrame) (outer : List Kept
     (w : HolderFrame) (floor : ℕ) (rest : List KeptFrame) : Type 0 where
   pub frame : w ≡ frame_after k.frame closed.is_primitive closed.announced_length false
   pub same_floor : floor ≡ k.floor
-  pub others : rest ≡ outer
+  pub rest_is : rest ≡ outer
 
 abbrev pub TakesBack : HolderFrame → List KeptFrame → HolderFrame → ℕ → List KeptFrame → Type 0
 TakesBack closed [] w floor rest = ⊤

@@ -4,7 +4,7 @@ use Rattle.tlv_show.specs.CheckStep.{check_step}
 use Rattle.tlv_show.specs.FinderState.{CheckState, new_check}
 use Rattle.tlv_show.specs.Texts.{check_line}
 use Rattle.tlv_show.proofs.FindingLemmas.CheckFolds.{checks}
-use Rattle.tlv_show.proofs.DumpLemmas.Shows.{shows_err, shows_ok}
+use Rattle.tlv_show.proofs.DumpLemmas.ShowJob.{shows_err, shows_ok}
 use Rattle.tlv_show.proofs.check_call.check.Goals as goal
 
 pub returns-in_err-run : goal.returns-in_err-run

@@ -43,9 +43,9 @@ loop-finding-preserved c =
             kept =
                 kept (is_shown c.args.rules) l _ c.loop-finding.finding-index _ c.loop-finding-test.true old.kept
                 _ (sym c.is_shown.ensures ∙ w.if-is_shown.true) w.push.ensures.items;
-            few = more _ _ _ old.few w.push.ensures.len;
+            short = more _ _ _ old.short w.push.ensures.len;
             all = old.all;
-            fits = old.fits;
+            all_short = old.all_short;
           })
       | else-is_shown w ↦
           rw w.found-is
@@ -53,8 +53,8 @@ loop-finding-preserved c =
             kept =
                 passed (is_shown c.args.rules) l _ c.loop-finding.finding-index _ c.loop-finding-test.true old.kept
                 (sym c.is_shown.ensures ∙ w.if-is_shown.false);
-            few = same _ _ old.few;
+            short = same _ _ old.short;
             all = old.all;
-            fits = old.fits;
+            all_short = old.all_short;
           })
     ]

@@ -5,7 +5,7 @@ use Rattle.tlv_show.specs.DumpJob.{top_layout}
 use Rattle.tlv_show.specs.DumpStep.{DumpState, dump_step, new_dump}
 use Rattle.tlv_show.specs.Texts.{item_text}
 use Rattle.tlv_show.proofs.DumpLemmas.DumpFolds.{dumps}
-use Rattle.tlv_show.proofs.DumpLemmas.Shows.{shows_err, shows_ok}
+use Rattle.tlv_show.proofs.DumpLemmas.ShowJob.{shows_err, shows_ok}
 use Rattle.tlv_show.proofs.dump_call.dump.Goals as goal
 
 pub returns-in_err-run : goal.returns-in_err-run

@@ -1,6 +1,6 @@
 use Rattle.std.proofs.Common.{◌∙◌, arith, append_assoc, rules, refl}
 use Rattle.tlv_io.proofs.Puts.{puts_as, puts_failed_in, puts_then}
-use Rattle.tlv_show.proofs.FindingLemmas.Lists.{next_line}
+use Rattle.tlv_show.proofs.FindingLemmas.FindingLines.{next_line}
 use Rattle.tlv_show.proofs.finding_lines.put_each.Goals as goal
 
 pub returns-in_err-put_finding : goal.returns-in_err-put_finding

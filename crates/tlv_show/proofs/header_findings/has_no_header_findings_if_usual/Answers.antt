@@ -2,8 +2,8 @@ use Rattle.std.proofs.Common.{rules}
 use Rattle.tlv_show.proofs.FindingLemmas.UsualHeaders.{none-by_ber}
 use Rattle.tlv_show.proofs.header_findings.has_no_header_findings_if_usual.Goals as goal
 
-pub returns-in-Ber-clause-findings : goal.returns-in-Ber-clause-findings
-returns-in-Ber-clause-findings c shown usual =
+pub returns-in-Ber-clause-no_findings : goal.returns-in-Ber-clause-no_findings
+returns-in-Ber-clause-no_findings c shown usual =
     let usual_tag = c.is_tag_usual.ensures in
     rw c.in-Ber.is
     (none-by_ber c.args.frame.now c.args.header.now c.if-frame.false (usual_tag.needed (search rules))

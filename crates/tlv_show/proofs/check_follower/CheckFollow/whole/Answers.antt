@@ -1,5 +1,5 @@
 use Rattle.std.proofs.Common.{refl, sym}
-use Rattle.tlv_show.proofs.DumpLemmas.Passing.{has_checked_whole}
+use Rattle.tlv_show.proofs.DumpLemmas.ClearPrimitives.{has_checked_whole}
 use Rattle.tlv_show.proofs.check_follower.CheckFollow.whole.Goals as goal
 
 pub returns : goal.returns

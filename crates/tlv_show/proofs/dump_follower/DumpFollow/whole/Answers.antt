@@ -1,7 +1,7 @@
 use Rattle.std.proofs.Common.{rules, refl}
 use Rattle.tlv_show.specs.DumpStep.{DumpState}
 use Rattle.tlv_show.proofs.DumpLemmas.DumpEvents.{dump_state}
-use Rattle.tlv_show.proofs.DumpLemmas.WholeShown.{made_is, shown, shown-failed, stands_after}
+use Rattle.tlv_show.proofs.DumpLemmas.ClearPrimitivesShown.{made_is, shown, shown-failed, stands_after}
 use Rattle.tlv_show.proofs.dump_follower.DumpFollow.whole.Goals as goal
 
 pub returns-in_err-whole : goal.returns-in_err-whole

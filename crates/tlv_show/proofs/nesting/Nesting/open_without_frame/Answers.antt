@@ -13,5 +13,5 @@ returns-then-self-lt128 c =
     (sym known.innermost ∙ ap (λ (s : NestingState). s.frame.has_segments) c.self.view_is)
     ∙ c.requires in
     rw (← c.self.view_is)
-    (opens-without_frame n.frame n.floor n.depth n.outer known.inside known.innermost known.others c.args.header.now
+    (opens-without_frame n.frame n.floor n.depth n.outer known.within known.innermost known.rising c.args.header.now
     c.if-self-lt128.true none)

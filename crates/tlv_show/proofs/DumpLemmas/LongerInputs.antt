@@ -4,8 +4,6 @@ use Rattle.std.specs.FinMap as finite
 use Rattle.tlv_walk.specs.declared.framing.Framing.{Framing}
 use Rattle.tlv_walk.specs.Events.{AreEqualJoined, EventValue, events}
 use Rattle.tlv_walk.specs.Follow.{Effect, effect_of}
-use Rattle.tlv_walk.specs.Forest.{Forest}
-use Rattle.tlv_walk.specs.Reading.{IsPrefixOf, IsReading}
 use Rattle.tlv_walk.proofs.FollowerLemmas.Followed.{each_octet-goes_on, each_octet-joins, followed-alike, followed-more}
 use Rattle.tlv_walk.proofs.EventLemmas.Prefixes.{events-prefix}
 use Rattle.tlv_show.specs.CheckStep.{check_octet_step, check_step}
@@ -16,10 +14,10 @@ use Rattle.tlv_show.specs.Items.{Item}
 use Rattle.tlv_show.specs.ShowJob.{show_job}
 use Rattle.tlv_show.specs.Texts.{check_line, item_text}
 use Rattle.tlv_show.specs.declared.rules.Rules.{Rules}
-use Rattle.tlv_show.specs.Laws.{ChecksGoOn, DumpsGoOn}
+use Rattle.tlv_show.specs.Laws.{ChecksGoOn, DumpsGoOn, TextGoesOn}
 use Rattle.tlv_show.proofs.FindingLemmas.CheckFolds.{checks}
 use Rattle.tlv_show.proofs.DumpLemmas.DumpFolds.{dumps}
-use Rattle.tlv_show.proofs.DumpLemmas.Shows.{Shower}
+use Rattle.tlv_show.proofs.DumpLemmas.ShowJob.{Shower}
 
 module _ {S : Type 0} (next : S → EventValue → Effect S) (first : S) (rules : Rules) (framing : Framing)
     (text_of : Item → List ℕ) (count_in : S → ℕ) (w : Shower next first rules framing text_of count_in)
@@ -29,19 +27,18 @@ module _ {S : Type 0} (next : S → EventValue → Effect S) (first : S) (rules 
       ≡ (effect_of next s xs).put ++ (effect_of next (effect_of next s xs).state ys).put
   put_both s xs ys = ap (λ (t : Effect S). t.put) (followed-more next s xs ys (w.goes_on s xs))
 
-  goes_on : (b c : List ℕ) (f g : Forest) → length (b ++ c) ≤ 2 ^ 40 → IsReading framing b f
-      → IsReading framing (b ++ c) g
-      → IsPrefixOf ((show_job rules framing text_of).text f) ((show_job rules framing text_of).text g)
+  goes_on : TextGoesOn (show_job rules framing text_of)
   goes_on b c f g few r s =
+      let short : length (b ++ c) ≤ 2 ^ 40 = few in
       let more : (others : List EventValue) × AreEqualJoined (events g) (events f ++ others) =
       events-prefix framing b c f g r s in
       let rest : List ℕ = (effect_of next (effect_of next first (events f)).state more.0).put in
       let shorter : (effect_of next first (events f)).put ≡ (show_job rules framing text_of).text f =
-      w.put b f (omega (arith, few, length-append b c)) r in (
+      w.put b f (omega (arith, short, length-append b c)) r in (
         rest,
         ap (λ (l : List ℕ). l ++ rest) (sym shorter) ∙ sym (put_both first (events f) more.0)
             ∙ ap (λ (t : Effect S). t.put) (sym (alike first (events g) (events f ++ more.0) more.1))
-            ∙ w.put (b ++ c) g few s,
+            ∙ w.put (b ++ c) g short s,
       )
 
 pub dumps_on : DumpsGoOn

@@ -36,9 +36,9 @@ pub usual_primitive : (h : HeaderValue) → h.constructed ≡ false
     → (is_unassigned h || is_one_of constructed_types h) ≡ false → IsUsual h
 usual_primitive h primitive form = record {
   assigned = search rules;
-  primitive = ap (λ (b : Bool). b && is_one_of primitive_types h) primitive;
-  constructed = ap (λ (b : Bool). not b && is_one_of constructed_types h) primitive ∙ search rules;
-  segments = ap (λ (b : Bool). b && is_string h) primitive;
+  primitive_if_always = ap (λ (b : Bool). b && is_one_of primitive_types h) primitive;
+  constructed_if_always = ap (λ (b : Bool). not b && is_one_of constructed_types h) primitive ∙ search rules;
+  no_segments = ap (λ (b : Bool). b && is_string h) primitive;
 }
 
 -- after a primitive with which nothing is found, outside of strings
