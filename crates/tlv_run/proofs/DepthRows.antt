@@ -5,7 +5,8 @@ use Rattle.std.specs.Fmt.{digits}
 use Rattle.tlv_head.specs.declared.fault.FaultCode.TheVariants.{Short, TooDeep}
 use Rattle.std.proofs.Common.{false, None}
 use Rattle.tlv_show.specs.declared.rules.Rules.TheVariants.{Ber}
-use Rattle.tlv_run.proofs.RowWords.{clean_result, dump, fault_result, framing_of, plain, result}
+use Rattle.tlv_walk.specs.Framing.{plain_framing}
+use Rattle.tlv_run.proofs.RowWords.{clean_result, dump, fault_result, framing_of, result}
 
 -- 30 80, so many times
 abbrev sequence_headers : ℕ → List ℕ
@@ -30,13 +31,13 @@ closings (suc level) offset =
     right offset ++ codes "    end: " ++ replicate (2 * level) 32 ++ 125 ∷ 10 ∷ closings level (offset + 2)
 
 -- 128 times 30 80, and 128 times 00 00
-deep : result (dump Ber None false plain) (sequence_headers 128 ++ replicate 256 0x00)
+deep : result (dump Ber None false plain_framing) (sequence_headers 128 ++ replicate 256 0x00)
     ≡ clean_result (openings 128 0 ++ closings 128 256)
 unfolding digits
 deep = refl
 
 -- 129 times 30 80: the header of the last is refused
-too_deep : result (dump Ber None false plain) (sequence_headers 129)
+too_deep : result (dump Ber None false plain_framing) (sequence_headers 129)
     ≡ fault_result 0 TooDeep 257 "fault at 257: F10 more than 128 open elements" (openings 128 0)
 unfolding digits
 too_deep = refl
@@ -48,7 +49,7 @@ unfolding digits
 string-too_deep = refl
 
 -- 128 times 30 80, and 04 00: if it is not named it is a primitive
-string-not-named : result (dump Ber None false plain) (sequence_headers 128 ++ 0x04 ∷ 0x00 ∷ [])
+string-not-named : result (dump Ber None false plain_framing) (sequence_headers 128 ++ 0x04 ∷ 0x00 ∷ [])
     ≡ fault_result 0 Short 258 "fault at 258: F02 input ends inside an encoding"
     (openings 128 0 ++ right 256 ++ codes "      0: " ++ replicate 256 32 ++ codes "OCTET STRING" ++ 10 ∷ [])
 unfolding digits

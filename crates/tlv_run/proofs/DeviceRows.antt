@@ -15,10 +15,11 @@ use Rattle.tlv_walk.proofs.GrammarLemmas.Readings.{is-reading, reading, reading-
 use Rattle.tlv_walk.specs.declared.run.DeviceFault.TheVariants.{ReadFailed, WriteFailed}
 use Rattle.tlv_walk.specs.Ending.{IsFinalEnding}
 use Rattle.tlv_walk.specs.Forest.{Forest}
+use Rattle.tlv_walk.specs.Framing.{plain_framing}
 use Rattle.tlv_walk.specs.Job.{Job}
 use Rattle.tlv_walk.specs.Reading.{AreOctets, IsReading}
 use Rattle.tlv_run.proofs.Results.{is_result, makes_unique}
-use Rattle.tlv_run.proofs.RowWords.{check, clean_result, dump, extract, fault_result, lines, octets, plain, result}
+use Rattle.tlv_run.proofs.RowWords.{check, clean_result, dump, extract, fault_result, lines, octets, result}
 use Rattle.tlv_run.specs.declared.command.Command.{Command}
 use Rattle.tlv_run.specs.RunsOctets.{IsReport, RunsOctets, at_source_end, read_failed, at_settled_result, too_long}
 use Rattle.tlv_run.specs.Report.{ReportValue, clean_report, device_report, report_with}
@@ -91,7 +92,8 @@ module _ (command : Command) (b : List ℕ) where
     output-is : (fails : Bool) (room : ℕ) (w : List ℕ) (r : ReportValue)
         (x : RunsOctets job b fails room (record { written = w; report = r }))
         → w ≡ take room m.output
-    output-is fails room w r x = x.output ∙ ap (λ (n : CommandResult). take room n.output) (is-made x.made x.is_made)
+    output-is fails room w r x =
+        x.written_is ∙ ap (λ (n : CommandResult). take room n.output) (is-made x.made x.is_made)
 
     -- there is less room than the output needs
     little-room : (fails : Bool) (room : ℕ) → ltb room (length m.output) ≡ true
@@ -165,7 +167,7 @@ open-yet command b m never unfinished made y e s =
 -- ---- rows
 
 abbrev plain_dump : Command
-plain_dump = dump Ber None false plain
+plain_dump = dump Ber None false plain_framing
 
 never-enough : (f : Forest) → (job_of plain_dump).is_enough f ≡ true → ⊥
 never-enough f e = absurd (cc (e))
@@ -261,7 +263,7 @@ overrun-2 fails =
 
 -- findings are listed as soon as their octets come; a read fails after them, and none is counted
 abbrev der_check : Command
-der_check = check Der plain
+der_check = check Der plain_framing
 
 abbrev indefinite : List ℕ
 indefinite = octets "30 80"
@@ -283,7 +285,7 @@ indefinite-1 =
 
 -- an element that was extracted, whatever follows it
 abbrev first_element : Command
-first_element = extract 0 false plain
+first_element = extract 0 false plain_framing
 
 abbrev null_and_more : List ℕ
 null_and_more = octets "05 00 ff"

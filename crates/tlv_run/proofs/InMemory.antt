@@ -56,7 +56,7 @@ module _ (job : Job ReportValue) (stays : Stays job)
   abbrev limited_octets : List ℕ
   limited_octets = take job.limit octets
 
-  -- octets that hold neither a fault nor enough settle nothing
+  -- octets that have neither a fault nor enough settle nothing
   unsettled : (b : List ℕ) (made : CommandResult) → (x : IsJobResult job b made) → WantMore job b → IsSettled x → ⊥
   unsettled b made x s k =
       let same : x.reading ≡ s.0 = reading-unique job.framing b x.reading s.0 x.is_reading s.1 in
@@ -86,7 +86,7 @@ module _ (job : Job ReportValue) (stays : Stays job)
     whole made report x e s = record {
       made = made;
       is_made = x;
-      output = e ∙ sym (take_all room made.output (omega (arith, fits, ap length e)));
+      written_is = e ∙ sym (take_all room made.output (omega (arith, fits, ap length e)));
       with_room = λ _. s;
       without_room = λ less. absurd (omega (arith, fits, ap length e, less));
     }
@@ -97,7 +97,7 @@ module _ (job : Job ReportValue) (stays : Stays job)
     short made rest x e more n = record {
       made = made;
       is_made = x;
-      output =
+      written_is =
           sym (take-append_seam written rest) ∙ ap (λ (k : ℕ). take k (written ++ rest)) n ∙ ap (take room) (sym e);
       with_room =
           λ fits. absurd (more
@@ -126,7 +126,7 @@ module _ (job : Job ReportValue) (stays : Stays job)
           reading = x.reading;
           is_reading = x.is_reading;
           ends = k.2;
-          is_made = refl;
+          made_is = refl;
         } in
         let sent : written ≡ m.output = all_sent (job.text x.reading) x.sends in
         let prefix = take_prefix job.limit given left.0 in
@@ -172,7 +172,7 @@ module _ (job : Job ReportValue) (stays : Stays job)
     unsettled_all f report r s sent says =
         let one = one_made job limited_octets (All-take (λ x. x < 256) job.limit octets all) in
         let same : f ≡ one.1.reading = reading-unique job.framing limited_octets f one.1.reading r one.1.is_reading in
-        whole one.0 report one.1 (sent ∙ ap job.text same ∙ sym (ap (λ (m : CommandResult). m.output) one.1.is_made))
+        whole one.0 report one.1 (sent ∙ ap job.text same ∙ sym (ap (λ (m : CommandResult). m.output) one.1.made_is))
         (says one.0 one.1 (unsettled limited_octets one.0 one.1 s))
 
     run_read_failed : Runs job (device_states old from) (device_states new to) (Err ReadFailed)
@@ -228,7 +228,7 @@ module _ (job : Job ReportValue) (stays : Stays job)
         let sent : written ≡ x.sends.sent =
         taken_of from.octets to.octets written x.sends.sent empty took x.sends.took in
         let text : job.text x.reading ++ on.0 ≡ one.0.output =
-        on.1 ∙ sym (ap (λ (m : CommandResult). m.output) one.1.is_made) in
+        on.1 ∙ sym (ap (λ (m : CommandResult). m.output) one.1.made_is) in
         let output : one.0.output ≡ written ++ (x.sends.left ++ on.0) =
         prefix_and_rest written x.sends.sent x.sends.left (job.text x.reading) on.0 one.0.output sent x.sends.prefix
         text in

@@ -7,8 +7,9 @@ use Rattle.hex.specs.Hex.{encode_with}
 use lib.Utf8.{encode}
 use Rattle.tlv_head.specs.declared.fault.FaultCode.TheVariants.{Short, StrayEnd, Overrun, BadInside}
 use Rattle.tlv_show.specs.declared.rules.Rules.TheVariants.{Ber, Der, Cer}
+use Rattle.tlv_walk.specs.Framing.{plain_framing}
 use Rattle.tlv_run.proofs.RowWords.{check, clean_result, dump, extract, fault_result}
-use Rattle.tlv_run.proofs.RowWords.{framing_of, lines, notice_result, octets, plain, result}
+use Rattle.tlv_run.proofs.RowWords.{framing_of, lines, notice_result, octets, result}
 
 -- an OCTET STRING that wraps
 row-1 : result (dump Ber None false (framing_of (0 ∷ []) false)) (octets "04 05 30 03 02 01 07")
@@ -197,7 +198,7 @@ unfolding digits encode_with is_utf8 chars encode
 row-24 = refl
 
 -- the same OCTET STRING, not named
-row-25 : result (dump Ber None false plain) (octets "04 05 30 03 02 01 07")
+row-25 : result (dump Ber None false plain_framing) (octets "04 05 30 03 02 01 07")
     ≡ clean_result (lines (
     "       0      5: OCTET STRING 30 03 02 01 07" ∷ []))
 unfolding digits encode_with is_utf8 chars encode

@@ -46,7 +46,7 @@ module _ (job : Job ReportValue) (stays : Stays job) (octets : List ℕ) (all : 
         reading = x.reading;
         is_reading = x.is_reading;
         ends = k.2;
-        is_made = refl;
+        made_is = refl;
       } in
       let sent : Appends old.drain.octets new.drain.octets m.output =
       sends_appends old.drain new.drain (job.text x.reading) tt x.sends in
@@ -89,8 +89,8 @@ unfolding GivesReport
 run_results command names octets before after report input nowhere x =
     let job = command_job command names in
     let few : length octets ≤ job.limit =
-    subst (λ (n : ℕ). length octets ≤ n) (sym (limit_is command names)) input.within in
-    let y = gives job (stays_for command names) octets input.are_octets few before after input.left
+    subst (λ (n : ℕ). length octets ≤ n) (sym (limit_is command names)) input.limit in
+    let y = gives job (stays_for command names) octets input.are_octets few before after input.left_is
     nowhere.can_count_failed_read nowhere.no_failed_read nowhere.can_count_failed_write nowhere.no_failed_write x.result
     x.runs in
     (y.0, y.1, y.2, x.report_is ∙ y.3)

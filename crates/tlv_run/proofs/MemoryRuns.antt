@@ -21,7 +21,7 @@ use Rattle.tlv_run.specs.Results.{command_job}
 use Rattle.tlv_run.specs.RunsAndReports.{RunsAndReports}
 use Rattle.tlv_run.proofs.InMemory.{runs_octets}
 
--- what a slice holds of numbers that fit an octet
+-- if each number of a slice fits an octet, they are octets
 octets_fit : (xs : List ℕ) → ((i : ℕ) → Fits w8 (slice_index_or xs i 0)) → AreOctets xs
 octets_fit xs fits k d less = below (slice_index_or xs k d) (rw (get_or_default xs k d 0 less) (fits k)) where
   below : (x : ℕ) → Fits w8 x → x < 256
@@ -45,10 +45,10 @@ module _ (command : Command) (names : NamesValue) (octets : List ℕ)
     (fit : (i : ℕ) → Fits w8 (slice_index_or octets i 0)) (room : ℕ)
     (from to : DrainState) (from_is : from ≡ record { octets = Some []; failures = 0 }) (written : ArrayVec ℕ)
     (took : to.octets ≡ Some written.items) (fits : length written.items ≤ room)
-    (fails_if_full : length written.items < room → to.failures ≡ 0) (report : ReportValue) where
+    (full_if_failed : length written.items < room → to.failures ≡ 0) (report : ReportValue) where
   filled : to.failures ≡ 1 → length written.items ≡ room
   filled one = elim (cases_lt (length written.items) room) [
-    | inl less ↦ let none = fails_if_full less in absurd (cc (one, none))
+    | inl less ↦ let none = full_if_failed less in absurd (cc (one, none))
     | inr more ↦ omega (arith, fits, more)
   ]
 

@@ -62,8 +62,8 @@ module _ (job : Job ReportValue) where
       subst (λ (f : Forest). EndsWith job.framing b (job.is_enough f) m.ending) same x.ends in
       let end : m.ending ≡ n.ending =
       end_unique job.framing b (job.is_enough y.reading) m.ending n.ending here y.ends in
-      x.is_made ∙ ap (λ (f : Forest). command_result job f m.ending) same ∙ ap (command_result job y.reading) end
-      ∙ sym y.is_made
+      x.made_is ∙ ap (λ (f : Forest). command_result job f m.ending) same ∙ ap (command_result job y.reading) end
+      ∙ sym y.made_is
 
   -- the result, computed
   abbrev pub result_of : List ℕ → CommandResult
@@ -76,7 +76,7 @@ module _ (job : Job ReportValue) where
         reading = f;
         is_reading = is-reading job.framing b octets;
         ends = is_end job.framing b octets (job.is_enough f);
-        is_made = refl;
+        made_is = refl;
       }
 
   pub one_made : (b : List ℕ) → AreOctets b
@@ -105,14 +105,14 @@ module _ (job : Job ReportValue) where
             reading = g;
             is_reading = r;
             ends = subst (λ (k : Bool). EndsWith job.framing (b ++ c) k made.ending) (sym both.0) done;
-            is_made = x.is_made ∙ sym (both.1 made.ending);
+            made_is = x.made_is ∙ sym (both.1 made.ending);
           },
           inl both.0,
         )
     | inr final ↦
         let both =
         final_stays job.framing b c x.reading (job.is_enough x.reading) made.ending final x.is_reading x.ends in
-        (record { reading = x.reading; is_reading = both.0; ends = both.1; is_made = x.is_made }, inr final)
+        (record { reading = x.reading; is_reading = both.0; ends = both.1; made_is = x.made_is }, inr final)
   ]
 
 -- ---- commands
@@ -163,9 +163,9 @@ text_on (Indef padding file) names b c f g few r s = indef_text_goes_on _ b c f 
 pub outputs_on : OutputsGoOn
 outputs_on command names b c made more few x y =
     let shorter : (command_job command names).text x.reading ≡ made.output =
-    sym (ap (λ (m : CommandResult). m.output) x.is_made) in
+    sym (ap (λ (m : CommandResult). m.output) x.made_is) in
     let longer : (command_job command names).text y.reading ≡ more.output =
-    sym (ap (λ (m : CommandResult). m.output) y.is_made) in
+    sym (ap (λ (m : CommandResult). m.output) y.made_is) in
     let prefix =
     text_on command names b c x.reading y.reading
     (subst (λ (n : ℕ). length (b ++ c) ≤ n) (sym (limit_is command names)) few) x.is_reading y.is_reading in
@@ -174,14 +174,14 @@ outputs_on command names b c made more few x y =
 pub second_indef : SecondIndefIsTheFirst
 second_indef padding file names b m n x y =
     let job : Job ReportValue = command_job (Indef padding file) names in
-    let first : m.output ≡ indef_text x.reading = ap (λ (m : CommandResult). m.output) x.is_made in
+    let first : m.output ≡ indef_text x.reading = ap (λ (m : CommandResult). m.output) x.made_is in
     let again = indef_text_is_read_back padding b x.reading x.is_reading in
     let z : IsReading (indef_framing padding) (indef_text x.reading) y.reading =
     subst (λ (o : List ℕ). IsReading (indef_framing padding) o y.reading) first y.is_reading in
     let same : y.reading ≡ indef_reading x.reading =
     reading-unique (indef_framing padding) (indef_text x.reading) y.reading (indef_reading x.reading) z again.is_reading in
     let output : n.output ≡ m.output =
-    ap (λ (m : CommandResult). m.output) y.is_made ∙ ap indef_text same ∙ again.same_again ∙ sym first in (
+    ap (λ (m : CommandResult). m.output) y.made_is ∙ ap indef_text same ∙ again.1 ∙ sym first in (
       output,
       λ (done : m.ending ≡ ending.Done).
           let e : IsEnding (indef_framing padding) b ending.Done =
@@ -192,7 +192,7 @@ second_indef padding file names b m n x y =
           subst (λ (o : List ℕ). IsEnding (indef_framing padding) o n.ending) first y.ends in
           let end : n.ending ≡ m.ending =
           ending-unique (indef_framing padding) (indef_text x.reading) n.ending ending.Done d' d ∙ sym done in
-          y.is_made ∙ ap (λ (e : Ending). command_result job y.reading e) end
-          ∙ ap (λ (o : List ℕ). result_of_parts o m.ending (indef_report m.ending)) (ap indef_text same ∙ again.same_again)
-          ∙ sym x.is_made,
+          y.made_is ∙ ap (λ (e : Ending). command_result job y.reading e) end
+          ∙ ap (λ (o : List ℕ). result_of_parts o m.ending (indef_report m.ending)) (ap indef_text same ∙ again.1)
+          ∙ sym x.made_is,
     )

@@ -14,7 +14,6 @@ use Rattle.tlv_show.specs.declared.options.Options.{Options}
 use Rattle.tlv_show.specs.declared.rules.Rules.{Rules}
 use Rattle.tlv_value.specs.Names.{NamesValue}
 use Rattle.tlv_value.specs.Value.{NameOf, no_names}
-use Rattle.tlv_walk.specs.Framing.{plain_framing}
 use Rattle.tlv_walk.proofs.GrammarLemmas.Readings.{reading}
 use Rattle.tlv_walk.specs.Ending.{fault_ending}
 use Rattle.tlv_walk.specs.declared.ending.Ending.TheVariants.{Done}
@@ -40,9 +39,6 @@ abbrev pub octets : String → List ℕ
 octets text = octets_in (codes text)
 
 -- ---- commands
-
-abbrev pub plain : Framing
-plain = plain_framing
 
 -- what the strings at these offsets hold is read as encodings; whether octets 00 may be between encodings
 abbrev pub framing_of : List ℕ → Bool → Framing

@@ -56,7 +56,7 @@ statuses command names b made x open_ =
     let ends : IsEnding job.framing b made.ending =
     subst (λ (k : Bool). EndsWith job.framing b k made.ending) open_ x.ends in
     let status : made.report.status ≡ (job.result x.reading made.ending).status =
-    ap (λ (m : CommandResult). m.report.status) x.is_made in (
+    ap (λ (m : CommandResult). m.report.status) x.made_is in (
       λ two sound. done_quiet command names x.reading
           (ap (λ (e : Ending). (job.result x.reading e).status)
           (sym (ending-unique job.framing b made.ending ending.Done ends (sound-done job.framing b sound)))

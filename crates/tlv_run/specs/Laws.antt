@@ -44,8 +44,8 @@ SecondIndefIsTheFirst =
 -- the source has these octets left, at most 2^40
 pub record HasInput (source : SourceState) (octets : List ℕ) : Type 0 where
   pub are_octets : AreOctets octets
-  pub within : length octets ≤ input_limit
-  pub left : source.left ≡ Some octets
+  pub limit : length octets ≤ input_limit
+  pub left_is : source.left ≡ Some octets
 
 -- neither device counted a failure, and each could have counted one: the count was below its end
 pub record FailsNowhere (old new : DeviceStates) : Type 0 where

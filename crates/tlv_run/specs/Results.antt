@@ -49,7 +49,7 @@ pub record IsJobResult (job : Job ReportValue) (b : List ℕ) (made : CommandRes
   pub is_reading : IsReading job.framing b reading
   -- Done if nothing more is wanted
   pub ends : EndsWith job.framing b (job.is_enough reading) made.ending
-  pub is_made : made ≡ command_result job reading made.ending
+  pub made_is : made ≡ command_result job reading made.ending
 
 -- what a command makes of an input
 abbrev pub IsCommandResult : Command → NamesValue → List ℕ → CommandResult → Type 0

@@ -34,6 +34,6 @@ module _ (job : Job ReportValue) (octets : List ℕ) (read_fails : Bool) where
   pub record RunsOctets (room : ℕ) (run : OctetsRunValue) : Type 0 where
     pub made : CommandResult
     pub is_made : IsJobResult job (take job.limit octets) made
-    pub output : run.written ≡ take room made.output
+    pub written_is : run.written ≡ take room made.output
     pub with_room : length made.output ≤ room → IsReport is_made run.report
     pub without_room : room < length made.output → run.report ≡ device_report WriteFailed

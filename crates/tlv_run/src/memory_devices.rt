@@ -118,9 +118,9 @@ impl<const N: usize> BoundedDrain<N> {
 
     /// The octets taken, in order. If there is room for more, no write has failed.
     pub(crate) fn into_octets(self) -> ArrayVec<u8, N>
-        ensures octets { self.entry.octets ≡ Some result.items }
-        ensures fits { length result.items ≤ N }
-        ensures fails_if_full { length result.items < N → self.entry.failures ≡ 0 }
+        ensures octets_are { self.entry.octets ≡ Some result.items }
+        ensures short { length result.items ≤ N }
+        ensures full_if_failed { length result.items < N → self.entry.failures ≡ 0 }
     {
         let octets = self.octets;
         let _fits = octets.len();

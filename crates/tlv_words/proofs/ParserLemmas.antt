@@ -1,7 +1,7 @@
 -- What a chain of builders makes, by one step.
 use Rattle.std.proofs.Common.{◌≡◌, ◌∙◌, ◌||◌, Bool, false, ap, ap₂}
-use Rattle.clap.specs.Words.{App, Rule, rule_of, with_rule, with_subcommand, AddsArg, AddsSubcommand}
-use Rattle.tlv_words.specs.Private.Parsers.{IsParserOf}
+use Rattle.clap.specs.Words.{App, Rule, with_rule, with_subcommand, AddsArg, AddsSubcommand}
+use Rattle.tlv_words.specs.Private.Parsers.{IsArgumentOf, IsParserOf}
 use Rattle.clap.specs.declared.builder.arg.Arg.{Arg}
 use Rattle.clap.specs.declared.builder.command.Command.{Command}
 
@@ -10,10 +10,10 @@ neither a b p q = ap₂ ◌||◌ p q
 
 -- one more argument
 pub one_more : {old new : Command} {a : Arg} {x : App} {r : Rule} → IsParserOf x old → AddsArg old a new
-    → a.global ≡ false → rule_of a ≡ r → IsParserOf (with_rule x r) new
-one_more s h g e = record {
-  same_app = h.shape g ∙ ap₂ with_rule s.same_app e;
-  local = h.globals ∙ neither _ _ s.local g;
+    → IsArgumentOf r a → IsParserOf (with_rule x r) new
+one_more s h t = record {
+  same_app = h.shape t.local ∙ ap₂ with_rule s.same_app t.same_rule;
+  local = h.globals ∙ neither _ _ s.local t.local;
 }
 
 -- one more subcommand

@@ -160,7 +160,7 @@ fn owned_text(
     name: &str,
 ) -> Result<Option<Text>, UsageFault>
     ensures ok { IfOk result (λ text. text ≡ first_of name.now (matched_rows matches.now)) }
-    ensures err { IfErr result (λ fault. fault ≡ UsageFault.Memory) }
+    ensures memory { IfErr result (λ fault. fault ≡ UsageFault.Memory) }
 {
     let Some(text) = first_of(matches, name) else {
         return Ok(None);

@@ -1,10 +1,10 @@
 //! The parser of the command line, with the texts of its help.
-ghost use Rattle.std.specs.Prelude.{◌≡◌, [], IfOk, false};
-ghost use Rattle.clap.specs.Words.{App, rule_of, with_subcommand};
+ghost use Rattle.std.specs.Prelude.{[], IfOk};
+ghost use Rattle.clap.specs.Words.{App, with_subcommand};
 ghost use Rattle.tlv_words.specs.CommandLine.{check_app, command_app, dump_app, extract_app, indef_app};
 ghost use Rattle.tlv_words.specs.CommandLine.{file, flag, help_flag, option, program_app};
 ghost use Rattle.tlv_words.specs.CommandLine.{required_option, tlvdump_app, version_flag};
-ghost use Rattle.tlv_words.specs.Private.Parsers.{IsParserOf};
+ghost use Rattle.tlv_words.specs.Private.Parsers.{IsArgumentOf, IsParserOf};
 
 use clap::{Arg, ArgAction, Command};
 use std::alloc::{AllocError, Global};
@@ -15,16 +15,14 @@ use help::Help;
 
 /// The file to read, which has no name before it.
 fn file<'a>(alloc: Global) -> Arg<'a>
-    ensures rule { rule_of result ≡ file }
-    ensures local { result.global ≡ false }
+    ensures { IsArgumentOf file result }
 {
     Arg::new(alloc, "file").value_name("FILE").help(help::FILE)
 }
 
 /// An option with a value.
 fn option<'a>(alloc: Global, name: &'a str, value: &'a str, text: &'a str) -> Arg<'a>
-    ensures rule { rule_of result ≡ option name.now }
-    ensures local { result.global ≡ false }
+    ensures { IsArgumentOf (option name.now) result }
 {
     Arg::new(alloc, name)
         .long(name)
@@ -35,16 +33,14 @@ fn option<'a>(alloc: Global, name: &'a str, value: &'a str, text: &'a str) -> Ar
 
 /// An option with a value, without which the command is refused.
 fn required_option<'a>(alloc: Global, name: &'a str, value: &'a str, text: &'a str) -> Arg<'a>
-    ensures rule { rule_of result ≡ required_option name.now }
-    ensures local { result.global ≡ false }
+    ensures { IsArgumentOf (required_option name.now) result }
 {
     option(alloc, name, value, text).required(true)
 }
 
 /// An option without a value.
 fn flag<'a>(alloc: Global, name: &'a str, text: &'a str) -> Arg<'a>
-    ensures rule { rule_of result ≡ flag name.now }
-    ensures local { result.global ≡ false }
+    ensures { IsArgumentOf (flag name.now) result }
 {
     Arg::new(alloc, name)
         .long(name)
@@ -54,8 +50,7 @@ fn flag<'a>(alloc: Global, name: &'a str, text: &'a str) -> Arg<'a>
 
 /// Help is asked for by this long name alone.
 fn help_flag<'a>(alloc: Global) -> Arg<'a>
-    ensures rule { rule_of result ≡ help_flag }
-    ensures local { result.global ≡ false }
+    ensures { IsArgumentOf help_flag result }
 {
     Arg::new(alloc, "help")
         .long("help")
@@ -64,8 +59,7 @@ fn help_flag<'a>(alloc: Global) -> Arg<'a>
 }
 
 fn version_flag<'a>(alloc: Global) -> Arg<'a>
-    ensures rule { rule_of result ≡ version_flag }
-    ensures local { result.global ≡ false }
+    ensures { IsArgumentOf version_flag result }
 {
     Arg::new(alloc, "version")
         .long("version")

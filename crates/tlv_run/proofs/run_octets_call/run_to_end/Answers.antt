@@ -5,6 +5,6 @@ pub returns : goal.returns
 returns g c =
     to_end c.args.command.now c.args.names.now c.args.octets.now c.type_inv.octets g.row.N
     _ c.run-report.new.drain c.new-drain.ensures c.into_octets-written.result
-    c.into_octets-written.ensures.octets c.into_octets-written.ensures.fits
-    c.into_octets-written.ensures.fails_if_full _
+    c.into_octets-written.ensures.octets_are c.into_octets-written.ensures.short
+    c.into_octets-written.ensures.full_if_failed _
     _ c.run-report.new.source c.new.ensures c.run-report.ensures

@@ -9,6 +9,5 @@ pub returns : goal.returns
 returns c =
     let start : IsParserOf (new_app c.args.name.now) c.after_help.result =
     record { same_app = search rules; local = search rules } in
-    let has_1 = one_more start c.in_ok-arg.ensures c.file.ensures.local c.file.ensures.rule in
-    IfOk-weaker c.arg-2.result _ _
-    (λ m h. one_more has_1 h c.help_flag.ensures.local c.help_flag.ensures.rule) c.arg-2.ensures
+    let has_1 = one_more start c.in_ok-arg.ensures c.file.ensures in
+    IfOk-weaker c.arg-2.result _ _ (λ m h. one_more has_1 h c.help_flag.ensures) c.arg-2.ensures

@@ -4,5 +4,4 @@ use Rattle.tlv_words.proofs.parser.indef_parser.Goals as goal
 
 pub returns : goal.returns
 returns c =
-    IfOk-weaker c.arg.result _ _
-    (λ m h. one_more c.in_ok-command_parser.ensures h c.flag.ensures.local c.flag.ensures.rule) c.arg.ensures
+    IfOk-weaker c.arg.result _ _ (λ m h. one_more c.in_ok-command_parser.ensures h c.flag.ensures) c.arg.ensures

@@ -10,6 +10,5 @@ pub returns : goal.returns
 returns c =
     let start : IsParserOf (on_top (λ s. record s { rules = [] }) program_app) c.after_help.result =
     record { same_app = search rules; local = search rules } in
-    let has_1 = one_more start c.in_ok-arg.ensures c.help_flag.ensures.local c.help_flag.ensures.rule in
-    IfOk-weaker c.arg-2.result _ _
-    (λ m h. one_more has_1 h c.version_flag.ensures.local c.version_flag.ensures.rule) c.arg-2.ensures
+    let has_1 = one_more start c.in_ok-arg.ensures c.help_flag.ensures in
+    IfOk-weaker c.arg-2.result _ _ (λ m h. one_more has_1 h c.version_flag.ensures) c.arg-2.ensures
