@@ -1,1 +1,1 @@
-pub mod EventLinesStep
+pub mod EventLinesRows

@@ -10,6 +10,7 @@ mod frames;
 mod framings;
 mod memory;
 mod out;
+mod pieces;
 mod room;
 mod rows;
 mod steps;
@@ -32,6 +33,9 @@ use tlv_walk::{
 
 /// Cuts into single octets: as many as the rows' inputs have, and more.
 const ONES: [u64; 600] = [1; 600];
+
+/// More octets than a row's lines have.
+const ROOM: usize = 4096;
 
 /// How a source gives its octets, and how many are followed.
 #[derive(Clone, Copy)]
@@ -78,7 +82,7 @@ fn put_lines<D: Drain>(
 
 /// The lines of the row's events that come with so many octets.
 fn text_of(rt: &impl Abort, alloc: Global, row: &Row<'_>, octets: usize) -> Result<Vec<u8>, Fail> {
-    let mut room = [0; 1024];
+    let mut room = [0; ROOM];
     let mut drain = MemDrain::new(&mut room, 4096);
     let result = put_lines(rt, row, octets as u64, &mut Out::new(&mut drain));
     expect_eq_of(rt, row.name, result, Ok(()));

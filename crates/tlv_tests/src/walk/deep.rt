@@ -1,5 +1,6 @@
 //! Deep inputs.
-use super::events::expect_in_pieces;
+use super::events::expect_events_in_pieces;
+use super::pieces::expect_lines_in_pieces;
 use super::rows::{CLEAN, Row, RowEvent, fault};
 use std::alloc::Global;
 use std::process::Abort;
@@ -45,14 +46,15 @@ fn push_string(events: &mut Vec<(u64, RowEvent)>) -> Result<(), Fail> {
     Ok(())
 }
 
-/// Expects these events of the input, and what it comes to.
+/// Expects these events of the input, their lines, and what it comes to.
 fn expect_deep<'a>(
     rt: &impl Abort,
+    alloc: Global,
     name: &'a str,
     input: &'a [u8],
     events: &'a [(u64, RowEvent)],
     ending: Ending,
-) {
+) -> Result<(), Fail> {
     let row = Row {
         name,
         input,
@@ -60,7 +62,8 @@ fn expect_deep<'a>(
         ending,
         ..CLEAN
     };
-    expect_in_pieces(rt, &row);
+    expect_events_in_pieces(rt, &row);
+    expect_lines_in_pieces(rt, alloc, &row)
 }
 
 #[test]
@@ -70,12 +73,12 @@ fn elements_are_open_128_deep(rt: HostRuntime) -> Result<(), Fail> {
     push_closings(&mut events)?;
     expect_deep(
         &rt,
+        rt.alloc(),
         "128 elements",
         input.as_slice(),
         events.as_slice(),
         Ending::Done,
-    );
-    Ok(())
+    )
 }
 
 #[test]
@@ -84,12 +87,12 @@ fn a_129th_element_is_refused(rt: HostRuntime) -> Result<(), Fail> {
     let events = openings(rt.alloc())?;
     expect_deep(
         &rt,
+        rt.alloc(),
         "129 elements",
         input.as_slice(),
         events.as_slice(),
         fault(FaultCode::TooDeep, 257),
-    );
-    Ok(())
+    )
 }
 
 /// A string that holds encodings counts among the open elements, and one that does not is none.
@@ -106,8 +109,8 @@ fn a_named_string_inside_128_elements(rt: HostRuntime) -> Result<(), Fail> {
         unused: Some(256),
         ..CLEAN
     };
-    expect_in_pieces(&rt, &row);
-    Ok(())
+    expect_events_in_pieces(&rt, &row);
+    expect_lines_in_pieces(&rt, rt.alloc(), &row)
 }
 
 #[test]
@@ -117,10 +120,10 @@ fn a_string_that_is_not_named_inside_128_elements(rt: HostRuntime) -> Result<(),
     push_string(&mut events)?;
     expect_deep(
         &rt,
+        rt.alloc(),
         "a string that is not named",
         input.as_slice(),
         events.as_slice(),
         fault(FaultCode::Short, 258),
-    );
-    Ok(())
+    )
 }

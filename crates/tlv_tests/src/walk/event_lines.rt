@@ -76,7 +76,7 @@ fn offset_text(offset: u64) -> [u8; 5]
 fn push_pairs(line: &mut ArrayVec<u8, 512>, octets: &[u8])
     requires room { array_vec_len line.old + 3 * length octets.now ≤ 512 }
     ensures text { line.new.items ≡ line.old.items ++ pairs octets.now }
-    ensures grows { array_vec_len line.new ≡ array_vec_len line.old + 3 * length octets.now }
+    ensures size { array_vec_len line.new ≡ array_vec_len line.old + 3 * length octets.now }
 {
     let mut rest = octets;
     while let [octet, after @ ..] = rest {

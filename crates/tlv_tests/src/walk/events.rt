@@ -126,7 +126,7 @@ fn expect_singly(rt: &impl Abort, row: &Row<'_>) {
 }
 
 /// Expects them whole, octet by octet, and in every cut into two pieces.
-pub(crate) fn expect_in_pieces(rt: &impl Abort, row: &Row<'_>) {
+pub(crate) fn expect_events_in_pieces(rt: &impl Abort, row: &Row<'_>) {
     expect_singly(rt, row);
     for cut in 0..=row.input.len() {
         expect_cut(rt, row, cut);
@@ -136,7 +136,7 @@ pub(crate) fn expect_in_pieces(rt: &impl Abort, row: &Row<'_>) {
 /// Expects those of each row.
 fn expect_each_in_pieces(rt: &impl Abort, rows: &[Row<'_>]) {
     for row in rows {
-        expect_in_pieces(rt, row);
+        expect_events_in_pieces(rt, row);
     }
 }
 
