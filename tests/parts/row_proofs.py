@@ -21,8 +21,9 @@ NAMES = {
     "TagTooLong ReservedLength IndefinitePrimitive LengthTooLarge TooDeep Overrun BadInside",
     "Rattle.tlv_show.specs.declared.rules.Rules.TheVariants": "Ber Der Cer",
     "Rattle.tlv_value.specs.Names": "names_of",
+    "Rattle.tlv_walk.specs.Framing": "plain_framing",
     "Rattle.tlv_run.proofs.RowWords": "check clean_result dump extract fault_result framing_of indef lines named nameless "
-    "entries_table notice_result octets plain result result_with",
+    "entries_table notice_result octets result result_with",
 }
 CODES = {
     "F01": "Empty",
@@ -110,7 +111,7 @@ def truth(value):
 def framing(given):
     """How the input is read."""
     if not {"--inside", "--padding"} & set(given):
-        return "plain"
+        return "plain_framing"
     offsets = [str(int(offset)) for offset in given.get("--inside", "").split(",") if offset]
     return f"(framing_of {in_brackets(list_of(offsets))} {truth(given.get('--padding'))})"
 

@@ -9,7 +9,7 @@ use Rattle.tlv_cut.specs.ExtractText.{extract_text, has_element_at}
 use Rattle.tlv_cut.specs.IndefJob.{indef_framing}
 use Rattle.tlv_cut.specs.IndefReading.{indef_reading}
 use Rattle.tlv_cut.specs.IndefText.{indef_text}
-use Rattle.tlv_show.proofs.DumpLemmas.Longer.{checks_on, dumps_on}
+use Rattle.tlv_show.proofs.DumpLemmas.LongerInputs.{checks_on, dumps_on}
 use Rattle.tlv_value.specs.Names.{NamesValue}
 use Rattle.tlv_walk.proofs.GrammarLemmas.Endings.{ending, is-ending}
 use Rattle.tlv_walk.proofs.GrammarLemmas.Readings.{is-reading, reading, reading-unique}
@@ -181,7 +181,7 @@ second_indef padding file names b m n x y =
     let same : y.reading ≡ indef_reading x.reading =
     reading-unique (indef_framing padding) (indef_text x.reading) y.reading (indef_reading x.reading) z again.is_reading in
     let output : n.output ≡ m.output =
-    ap (λ (m : CommandResult). m.output) y.made_is ∙ ap indef_text same ∙ again.1 ∙ sym first in (
+    ap (λ (m : CommandResult). m.output) y.made_is ∙ ap indef_text same ∙ again.same_again ∙ sym first in (
       output,
       λ (done : m.ending ≡ ending.Done).
           let e : IsEnding (indef_framing padding) b ending.Done =
@@ -193,6 +193,6 @@ second_indef padding file names b m n x y =
           let end : n.ending ≡ m.ending =
           ending-unique (indef_framing padding) (indef_text x.reading) n.ending ending.Done d' d ∙ sym done in
           y.made_is ∙ ap (λ (e : Ending). command_result job y.reading e) end
-          ∙ ap (λ (o : List ℕ). result_of_parts o m.ending (indef_report m.ending)) (ap indef_text same ∙ again.1)
+          ∙ ap (λ (o : List ℕ). result_of_parts o m.ending (indef_report m.ending)) (ap indef_text same ∙ again.same_again)
           ∙ sym x.made_is,
     )

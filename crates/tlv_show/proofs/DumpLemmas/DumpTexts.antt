@@ -20,7 +20,7 @@ use Rattle.tlv_walk.specs.Follow.{Effect, effect_if_more, effect_of, effect_with
 use Rattle.tlv_walk.specs.Forest.{Forest, NoMore, PaddingOctet, Primitive, Holder, OpenPrimitive, OpenHolder}
 use Rattle.tlv_walk.specs.Forest.{OpenBitString, OpenHeader, OpenEndOctets, end_octets, extent, lead, opening, spelling}
 use Rattle.tlv_walk.specs.Forest.{lead_by}
-use Rattle.tlv_walk.specs.Place.{IsOpen, Place, place_after}
+use Rattle.tlv_walk.specs.Place.{KeepsRules, Place, place_after}
 use Rattle.tlv_walk.proofs.GrammarLemmas.Spellings.{length-opening}
 use Rattle.tlv_show.specs.LinesStep.{LinesState, lines_step, lines_after_header}
 use Rattle.tlv_show.specs.HolderLines.{closing_line, opening_line, padding_line, opening_word}
