@@ -2,6 +2,6 @@ pub mod Steps
 pub mod Unfinished
 pub mod Prefix
 pub mod Exact
-pub mod OneReading
+pub mod OneHeader
 pub mod ShortPrefixes
 pub mod FieldsOf

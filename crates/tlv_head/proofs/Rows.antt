@@ -283,7 +283,7 @@ respelled : spell_indefinite (first Context true 31 (Definite 256) (0xbf ∷ 0x1
     ≡ 0xbf ∷ 0x1f ∷ 0x80 ∷ []
 respelled = refl
 
--- 04 00, named: an OCTET STRING holds encodings, if none
+-- 04 00, named: an OCTET STRING without contents is a wrapper too
 octet-string_wraps : is_wrapper true Universal false 4 (Definite 0) ≡ true
 octet-string_wraps = refl
 

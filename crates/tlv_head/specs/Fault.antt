@@ -20,8 +20,9 @@ fault_wording TooDeep = (codes "F10", codes "more than 128 open elements")
 fault_wording Overrun = (codes "F11", codes "element runs past the enclosing length")
 fault_wording BadInside = (codes "F12", codes "first octet of a wrapped BIT STRING is not 00")
 
-abbrev pub fault_name : FaultCode → List ℕ
-fault_name fault = (fault_wording fault).0
+-- the three characters of the code
+abbrev pub fault_code : FaultCode → List ℕ
+fault_code fault = (fault_wording fault).0
 
 abbrev pub fault_text : FaultCode → List ℕ
 fault_text fault = (fault_wording fault).1

@@ -2,9 +2,11 @@
 use Rattle.std.specs.Prelude.{◌≡◌, ◌≢◌, ℕ, ◌<◌, ◌≤◌, Bool, false, List, [], ◌∷◌, ◌++◌, Option, Some, IfSome}
 use Rattle.tlv_head.specs.declared.header.Size.{Size}
 use Rattle.tlv_head.specs.declared.header.Size.TheVariants.{Definite, Indefinite}
+use Rattle.tlv_head.specs.DepthLimit.{depth_limit}
 use Rattle.tlv_head.specs.InputLimit.{input_limit}
 
--- where the header begins, whether that offset is named, its octets so far, and whether it is whole
+-- where the header begins, whether that offset is named, its octets so far (none once it is whole), and whether it is
+-- whole
 pub record HeadReaderState : Type 0 where
   pub offset : ℕ
   pub named : Bool
@@ -15,7 +17,7 @@ pub record HeadReaderState : Type 0 where
 pub record CanPush (r : HeadReaderState) (x : ℕ) (room : Option ℕ) (depth : ℕ) : Type 0 where
   pub unfinished : r.done ≡ false
   pub first : r.octets ≡ [] → (x ≢ 0) × (room ≢ Some 0)
-  pub within : depth ≤ 128
+  pub within : depth ≤ depth_limit
   pub limit : r.offset ≤ input_limit
 
 -- the reader with another octet

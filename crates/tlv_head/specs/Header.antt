@@ -20,7 +20,7 @@ class_bits Private = 3
 abbrev pub identifier_octet : Class → Bool → ℕ → ℕ
 identifier_octet class constructed low = 64 * class_bits class + (if constructed then 32 else 0) + low
 
--- 8.1.2.4.2 b), 8.1.3.5 b): the number that digits make, the most significant first
+-- 8.1.2.4.2 b), 8.1.3.5: the number that digits make, the most significant first
 abbrev pub value_of : ℕ → List ℕ → ℕ
 value_of base [] = 0
 value_of base (d ∷ ds) = d * base ^ length ds + value_of base ds
@@ -127,7 +127,7 @@ fields_of h = record {
 abbrev pub fields_wrap : HeaderFields → Bool
 fields_wrap f = is_wrapper f.named f.class f.constructed f.number f.size
 
--- 8.1.2.5: its contents are encodings: it is constructed, or wraps them
+-- 8.1.2.5: the contents of an element with these fields are encodings: it is constructed, or wraps them
 abbrev pub fields_hold : HeaderFields → Bool
 fields_hold f = f.constructed || fields_wrap f
 

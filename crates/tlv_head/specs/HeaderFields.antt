@@ -16,8 +16,8 @@ new_header f octets = record {
   lengths = drop f.id_len octets;
 }
 
--- by their number the octets may be those of a header with these fields: there are at most 137, and the identifier has
--- at most ten of them, and not all. They need not say the fields
+-- the octets have room in a `Header`: there are at most 137, and the identifier has at most ten of them, and not all.
+-- They need not say the fields
 pub record IsHeaderSized (f : HeaderFields) (octets : List ℕ) : Type 0 where
   pub identifier : f.id_len < length octets
   pub few : f.id_len ≤ 10

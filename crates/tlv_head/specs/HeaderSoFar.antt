@@ -5,7 +5,7 @@ use Rattle.tlv_head.specs.Refusal.{IsLengthPrefix, IsNumberPrefix}
 use Rattle.tlv_head.specs.HeadReaderState.{HeadReaderState}
 use Rattle.tlv_head.specs.declared.next_octet.IdentifierFields.{IdentifierFields}
 use Rattle.tlv_head.specs.declared.next_octet.Part.{Part}
-use Rattle.tlv_head.specs.declared.next_octet.Part.TheVariants.{Start, Number, Identifier, Length, Done}
+use Rattle.tlv_head.specs.declared.next_octet.Part.TheVariants.{Start, Number, Identifier, Length, Whole}
 use Rattle.tlv_head.specs.declared.head_reader.HeadReader.TheInside.{Inside}
 
 -- the identifier octets so far are in the high form
@@ -27,20 +27,27 @@ pub record CarriesLength (id : IdentifierFields) (n left : ℕ) (octets : List �
   pub count : id.id_len ≡ length prefix.identifier
   pub few : length prefix.identifier ≤ 10
   pub value : n ≡ value_of 256 prefix.digits
-  -- so that zeros make a length below 2^40 of it
+  -- so that the length is below 2^40 if the octets left are 00
   pub small : n < 256 ^ (5 - left)
 
+-- the octets so far are this part of a header, and its fields are what they say; of a whole header none are kept
 abbrev pub Carries : Part → List ℕ → Type 0
 Carries Start octets = octets ≡ []
 Carries (Number id) octets = CarriesNumber id octets
 Carries (Identifier id) octets = CarriesIdentifier id octets
 Carries (Length id n left) octets = CarriesLength id n left octets
-Carries Done octets = octets ≡ []
+Carries Whole octets = octets ≡ []
 
-abbrev pub is_done : Part → Bool
-is_done Done = true
-is_done _ = false
+-- the header is whole
+abbrev pub is_whole_header : Part → Bool
+is_whole_header Whole = true
+is_whole_header _ = false
 
 -- what the fields of a reader say
 abbrev pub head_reader_state_of : Inside → HeadReaderState
-head_reader_state_of r = record { offset = r.offset; named = r.named; octets = r.raw.items; done = is_done r.part }
+head_reader_state_of r = record {
+  offset = r.offset;
+  named = r.named;
+  octets = r.raw.items;
+  done = is_whole_header r.part;
+}

@@ -1,4 +1,5 @@
 pub mod InputLimit
+pub mod DepthLimit
 pub mod UniversalTypes
 pub mod Header
 pub mod StoredHeader

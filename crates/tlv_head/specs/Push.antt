@@ -5,6 +5,7 @@ use Rattle.tlv_head.specs.declared.fault.FaultCode.{FaultCode}
 use Rattle.tlv_head.specs.declared.fault.FaultCode.TheVariants.{TooDeep, Overrun}
 use Rattle.tlv_head.specs.declared.head_reader.Head.{Head}
 use Rattle.tlv_head.specs.declared.head_reader.Head.TheVariants.{More, Whole, Refused}
+use Rattle.tlv_head.specs.DepthLimit.{depth_limit}
 use Rattle.tlv_head.specs.Header.{HeaderValue, IsHeader, holds, octets_of}
 use Rattle.tlv_head.specs.HeadReaderState.{ContentsFit, HeadReaderState, with_octet}
 use Rattle.tlv_head.specs.Refusal.{IsHeaderPrefix, IsRefusedOctet}
@@ -16,10 +17,10 @@ pub record Completes (r : HeadReaderState) (added : List ℕ) (h : HeaderValue) 
   pub named : h.named ≡ r.named
   pub octets : octets_of h ≡ r.octets ++ added
 
--- a header may be there: an element that holds others is not inside 128, and the contents announced end within the
--- bound
+-- a header may be there: an element that holds others is not inside `depth_limit` such elements, and the contents
+-- announced end within the bound
 pub record FitsThere (h : HeaderValue) (room : Option ℕ) (depth : ℕ) : Type 0 where
-  pub shallow : holds h ≡ true → depth < 128
+  pub shallow : holds h ≡ true → depth < depth_limit
   pub within : ContentsFit h.size room
 
 -- why the octet x is refused: a line for each cause. The bound is looked at before the octet
@@ -29,11 +30,11 @@ pub data IsRefusedPush (r : HeadReaderState) (x : ℕ) (room : Option ℕ) (dept
   -- F06 to F09: no header goes on with that octet
   refused_octet : {code : FaultCode} → room ≢ Some 0 → IsRefusedOctet r.octets x code
       → IsRefusedPush r x room depth code
-  -- F10, 8.1.4: it completes the header of an element that holds others, inside 128 of them
-  too_deep : room ≢ Some 0 → (h : HeaderValue) → Completes r (x ∷ []) h → holds h ≡ true → 128 ≤ depth
+  -- F10, 8.1.4: it completes the header of an element that holds others, inside `depth_limit` of them
+  too_deep : room ≢ Some 0 → (h : HeaderValue) → Completes r (x ∷ []) h → holds h ≡ true → depth_limit ≤ depth
       → IsRefusedPush r x room depth TooDeep
   -- F11, 8.1.3.3: it completes the header of contents that end beyond the bound
-  overrun : room ≢ Some 0 → (h : HeaderValue) → Completes r (x ∷ []) h → (holds h ≡ true → depth < 128)
+  overrun : room ≢ Some 0 → (h : HeaderValue) → Completes r (x ∷ []) h → (holds h ≡ true → depth < depth_limit)
       → (ContentsFit h.size room → ⊥) → IsRefusedPush r x room depth Overrun
 
 -- what `push` returns, and the reader that it leaves: a line for each result

@@ -20,7 +20,7 @@ stored_header h = record {
   second_length_octet = slice_index h.lengths 1;
 }
 
--- what is said beside the octets
+-- the fields that are stored beside the octets of a header
 abbrev pub fields_in : Inside → HeaderFields
 fields_in h = record {
   offset = h.offset;
@@ -32,12 +32,11 @@ fields_in h = record {
   id_len = h.id_len;
 }
 
--- what contracts see
+-- the header that contracts see, of one that is stored
 abbrev pub header_value_of : Inside → HeaderValue
 header_value_of h = new_header (fields_in h) h.raw.items
 
--- by their number the octets may be those of a header with these fields, and the two that are kept beside them are the
--- second ones of the identifier and of the length
+-- the octets have room, and the two that are kept beside them are the second ones of the identifier and of the length
 abbrev pub HeaderFieldsAgree : Inside → Type 0
 HeaderFieldsAgree h =
     IsHeaderSized (fields_in h) h.raw.items

@@ -33,17 +33,19 @@ pub enum FaultCode {
 /// [`FaultCode::Short`] that is the number of octets of the input.
 #[derive(Clone, Copy, PartialEq, Eq, Debug)]
 pub struct Fault {
+    /// Why the input is refused.
     pub code: FaultCode,
+    /// The offset of the refused octet, in octets from the start of the input.
     pub offset: u64,
 }
 
 impl FaultCode {
     ghost use Rattle.std.specs.Prelude.{◌≡◌, length};
-    ghost use Rattle.tlv_head.specs.Fault.{fault_name};
+    ghost use Rattle.tlv_head.specs.Fault.{fault_code};
 
-    /// The three characters that name the code, as `F01`.
-    pub fn name(self) -> &'static [u8]
-        ensures name { result.now ≡ fault_name self }
+    /// The three characters of the code, as `F01`.
+    pub fn code(self) -> &'static [u8]
+        ensures code { result.now ≡ fault_code self }
         ensures short { length result.now ≡ 3 }
     {
         match self {

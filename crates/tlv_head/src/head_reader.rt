@@ -63,7 +63,7 @@ impl HeadReader {
     pub fn done(&self) -> bool
         ensures { result ≡ self.now.done }
     {
-        matches!(self.part, Part::Done)
+        matches!(self.part, Part::Whole)
     }
 
     /// Takes the next octet. `room` is the number of octets up to the end of the innermost definite
@@ -99,7 +99,7 @@ impl HeadReader {
                 self.part = part;
                 Head::More
             }
-            Next::Finished(identifier, size) => {
+            Next::Whole(identifier, size) => {
                 let fields = header_fields(self.offset, self.named, identifier, size);
                 if depth >= 128 && fields_hold(&fields) {
                     return refusal(FaultCode::TooDeep, offset);
@@ -108,7 +108,7 @@ impl HeadReader {
                     return refusal(FaultCode::Overrun, offset);
                 }
                 self.raw.push(octet);
-                self.part = Part::Done;
+                self.part = Part::Whole;
                 Head::Whole(Header::with_raw(&fields, self.raw.take()))
             }
         }

@@ -6,9 +6,13 @@ use std::marker::Model;
 /// The class of a tag (8.1.2.2).
 #[derive(Clone, Copy, PartialEq, Eq, Debug)]
 pub enum Class {
+    /// Bits 8 and 7 of the first identifier octet are 00 (8.1.2.2 a).
     Universal,
+    /// Bits 8 and 7 are 01.
     Application,
+    /// Bits 8 and 7 are 10: context-specific.
     Context,
+    /// Bits 8 and 7 are 11.
     Private,
 }
 
@@ -42,11 +46,13 @@ impl Size {
 pub struct Header {
     /// Where the first identifier octet is, in octets from the start of the input.
     pub offset: u64,
+    /// The class of the tag (8.1.2.2).
     pub class: Class,
     /// Whether the element is constructed; otherwise it is primitive (8.1.2.5).
     pub constructed: bool,
-    /// The tag number.
+    /// The number of the tag (8.1.2.2, 8.1.2.4.2).
     pub number: u64,
+    /// What the length octets say (8.1.3).
     pub size: Size,
     pub(crate) raw: ArrayVec<u8, 137>,
     /// How many octets are the identifier.
@@ -57,16 +63,20 @@ pub struct Header {
     pub(crate) second_length_octet: u8,
 }
 
-/// What the octets of a header say, without the octets: small, while a [`Header`] has room for 137.
+/// What a header says, without its octets: small, while a [`Header`] has room for 137 octets.
 #[derive(Clone, Copy, PartialEq, Eq, Debug)]
 pub struct HeaderFields {
     /// Where the first identifier octet is, in octets from the start of the input.
     pub offset: u64,
     /// Whether the user named this offset as that of a string which holds encodings.
     pub named: bool,
+    /// The class of the tag (8.1.2.2).
     pub class: Class,
+    /// Whether the element is constructed; otherwise it is primitive (8.1.2.5).
     pub constructed: bool,
+    /// The number of the tag (8.1.2.2, 8.1.2.4.2).
     pub number: u64,
+    /// What the length octets say (8.1.3).
     pub size: Size,
     /// How many octets are the identifier.
     pub id_len: u8,
@@ -174,7 +184,7 @@ impl Header {
         }
     }
 
-    /// What the octets say.
+    /// What the header says, without its octets.
     pub fn fields(&self) -> HeaderFields
         ensures { result ≡ fields_of self.now }
     {

@@ -11,8 +11,8 @@ use crate::next_octet::{
 use crate::{HeaderFields, Size};
 
 /// The header with which the octets begin, whatever follows it, and how many octets it has. `None`
-/// if they begin with none: a header is unfinished or refused, or there is no octet. A header that
-/// is cut into pieces goes through a [`HeadReader`].
+/// if they begin with none: a header is unfinished or refused, the first octet is `00`, or there is
+/// no octet. A header that is cut into pieces goes through a [`HeadReader`].
 #[inline]
 pub fn read_header(offset: u64, named: bool, octets: &[u8]) -> Option<(HeaderFields, usize)>
     ensures { MatchOption result (BeginsWithNoHeader octets.now)
@@ -26,7 +26,7 @@ pub fn read_header(offset: u64, named: bool, octets: &[u8]) -> Option<(HeaderFie
         }
         match read_octet(part, octets[i]) {
             Next::Unfinished(next) => part = next,
-            Next::Finished(identifier, size) => {
+            Next::Whole(identifier, size) => {
                 return Some((header_fields(offset, named, identifier, size), i + 1));
             }
             Next::Refused(_) => return None,

@@ -1,8 +1,8 @@
 //! Laws of the definitions: each is the contract of a function that does nothing.
-ghost use Rattle.tlv_head.specs.Laws.{HeadersAreNoPrefixes, HeadersHaveOneReading, OctetsBeginOneHeader};
-ghost use Rattle.tlv_head.specs.Laws.{OctetsGoOnOrAreRefused, PushesReturnOneHead, RefusalsAreFinal};
-ghost use Rattle.tlv_head.specs.Laws.{RefusedInputsBeginWithNone};
-ghost use Rattle.tlv_head.specs.Shortest.{HeadersHaveAShortest, ShortestHeadersAreOne, NoHeaderIsShorter};
+ghost use Rattle.tlv_head.specs.Laws.{HeadersAreNoPrefixes, HeadersHaveAShortest, NoHeaderIsShorter};
+ghost use Rattle.tlv_head.specs.Laws.{OctetsBeginOneHeader, OctetsGoOnOrAreRefused, PushesReturnOneHead};
+ghost use Rattle.tlv_head.specs.Laws.{ReadHeaderReturnsOneHeader, RefusalsAreFinal, RefusedInputsBeginWithNone};
+ghost use Rattle.tlv_head.specs.Laws.{ShortestHeadersAreOne};
 
 /// Octets begin with one header at most: two headers that are at one offset and are both prefixes
 /// of one input are the same, and the same octets follow them.
@@ -20,7 +20,7 @@ pub fn refusals_are_final()
     ensures { RefusalsAreFinal }
 {}
 
-/// An input that goes on after such an octet begins with no header.
+/// If an octet is refused with F06 to F09, an input that goes on after it begins with no header.
 pub fn refused_inputs_begin_with_none()
     ensures { RefusedInputsBeginWithNone }
 {}
@@ -37,8 +37,8 @@ pub fn pushes_return_one_head()
 {}
 
 /// What [`read_header`](crate::read_header) promises determines what it returns.
-pub fn headers_have_one_reading()
-    ensures { HeadersHaveOneReading }
+pub fn read_header_returns_one_header()
+    ensures { ReadHeaderReturnsOneHeader }
 {}
 
 /// Two headers of one class, form, number and size have the same octets if both are as short as X.690 8.1.2 and 10.1
@@ -47,13 +47,13 @@ pub fn shortest_headers_are_one()
     ensures { ShortestHeadersAreOne }
 {}
 
-/// No other header of that class, form, number and size has fewer identifier octets than such a one,
-/// or fewer length octets.
+/// If a header is as short as X.690 8.1.2 and 10.1 say, no other of its class, form, number and size has fewer
+/// identifier octets, or fewer length octets.
 pub fn no_header_is_shorter()
     ensures { NoHeaderIsShorter }
 {}
 
-/// Each header can be spelled as short as that, but the one of the universal primitive 0, whose
+/// Each header can be spelled as short as X.690 8.1.2 and 10.1 say, but the one of the universal primitive 0, whose
 /// identifier octet would be the `00` of end-of-contents octets (8.1.5).
 pub fn headers_have_a_shortest()
     ensures { HeadersHaveAShortest }

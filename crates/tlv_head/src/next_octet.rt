@@ -1,7 +1,7 @@
 //! What the octets of a header so far are, and what a further octet makes of them.
 ghost use Rattle.std.specs.Prelude.{◌≡◌, ◌≢◌, ℕ, ◌/◌, List, [], ◌∷◌, false};
 ghost use Rattle.tlv_head.specs.Header.{class_bits};
-ghost use Rattle.tlv_head.specs.HeaderSoFar.{Carries, CarriesNumber, CarriesIdentifier, CarriesLength, is_done};
+ghost use Rattle.tlv_head.specs.HeaderSoFar.{Carries, CarriesNumber, CarriesIdentifier, CarriesLength, is_whole_header};
 ghost use Rattle.tlv_head.specs.Private.NextOctet.{MakesNext};
 
 use crate::{Class, FaultCode, HeaderFields, Size};
@@ -19,6 +19,7 @@ pub(crate) struct IdentifierFields {
 /// What the octets so far are.
 #[derive(Clone, Copy)]
 pub(crate) enum Part {
+    /// No octet.
     Start,
     /// Identifier octets in the high form (8.1.2.4), of which an octet is to follow.
     Number(IdentifierFields),
@@ -30,14 +31,18 @@ pub(crate) enum Part {
         length: u64,
         left: u8,
     },
-    Done,
+    /// A header, and nothing is to follow.
+    Whole,
 }
 
 /// What an octet makes of the octets before.
 #[derive(Clone, Copy)]
 pub(crate) enum Next {
+    /// The octets are not yet a header, but this part of one.
     Unfinished(Part),
-    Finished(IdentifierFields, Size),
+    /// The octets are a header with this identifier and this size.
+    Whole(IdentifierFields, Size),
+    /// No header begins with the octets.
     Refused(FaultCode),
 }
 
@@ -72,7 +77,7 @@ pub(crate) fn header_fields(
 
 pub(crate) fn read_octet(part: Part, octet: u8) -> Next
     requires carried { (octets : List ℕ) × Carries part octets }
-    requires unfinished { is_done part ≡ false }
+    requires unfinished { is_whole_header part ≡ false }
     requires first { part ≡ Part.Start → octet ≢ 0 }
     ensures { (octets : List ℕ) → Carries part octets → MakesNext octets octet result }
 {
@@ -85,7 +90,7 @@ pub(crate) fn read_octet(part: Part, octet: u8) -> Next
             length,
             left,
         } => next_length(identifier, length, left, octet),
-        Part::Done => unreachable!(),
+        Part::Whole => unreachable!(),
     }
 }
 
@@ -148,7 +153,7 @@ fn first_length(identifier: IdentifierFields, octet: u8) -> Next
         → MakesNext octets octet result }
 {
     if octet < 0x80 {
-        Next::Finished(identifier, Size::Definite(u64::from(octet)))
+        Next::Whole(identifier, Size::Definite(u64::from(octet)))
     } else if octet == 0xff {
         Next::Refused(FaultCode::ReservedLength)
     } else if octet > 0x80 {
@@ -158,13 +163,13 @@ fn first_length(identifier: IdentifierFields, octet: u8) -> Next
             left: octet - 0x80,
         })
     } else if identifier.constructed {
-        Next::Finished(identifier, Size::Indefinite)
+        Next::Whole(identifier, Size::Indefinite)
     } else {
         Next::Refused(FaultCode::IndefinitePrimitive)
     }
 }
 
-/// A further length octet (8.1.3.5 b). A length of 2^40 or more is refused at the octet that makes
+/// A further length octet (8.1.3.5). A length of 2^40 or more is refused at the octet that makes
 /// it so, whatever follows.
 fn next_length(identifier: IdentifierFields, length: u64, left: u8, octet: u8) -> Next
     requires { (octets : List ℕ) × CarriesLength identifier length left octets }
@@ -177,7 +182,7 @@ fn next_length(identifier: IdentifierFields, length: u64, left: u8, octet: u8) -
     }
     let length = length * 256 + u64::from(octet);
     if left == 0 {
-        Next::Finished(identifier, Size::Definite(length))
+        Next::Whole(identifier, Size::Definite(length))
     } else {
         Next::Unfinished(Part::Length {
             identifier,

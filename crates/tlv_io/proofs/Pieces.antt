@@ -6,7 +6,7 @@ use Rattle.std.proofs.KnownBytes.{Consumes-nil, Consumes-trans}
 use Rattle.std.specs.Prelude.{All}
 use Rattle.std.specs.Io.KnownBytes.{Consumes}
 use Rattle.std.specs.List.{concat}
-use Rattle.tlv_io.specs.Device.{GaveLast, IsPiece, Pieces, SourceState, next_count}
+use Rattle.tlv_io.specs.Device.{GaveLast, IsPiece, Pieces, SourceState, next_count, read_limit}
 
 -- a count to which so many are added, one at a time
 abbrev pub next_count_times : ℕ → ℕ → ℕ
@@ -52,7 +52,7 @@ module _ (old middle new : SourceState) (x : PiecesSoFar old middle) (r : List �
   }
 
   -- and no other
-  abbrev pub pieces_all : GaveLast new.last r → length r ≤ 4096 → Pieces old new
+  abbrev pub pieces_all : GaveLast new.last r → length r ≤ read_limit → Pieces old new
   pieces_all g s = record {
     pieces = x.pieces;
     last = r;

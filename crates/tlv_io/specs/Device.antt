@@ -71,9 +71,13 @@ module _ {E : Type 0} where
     pub some : IfOk result (λ n. (0 < n) × (n ≤ length from))
     pub failures : new.failures ≡ failures_after result old.failures
 
--- what a read gave that is not the last: 1 to 4096 octets
+-- the most octets that one of the reads of a call gives
+abbrev pub read_limit : ℕ
+read_limit = 4096
+
+-- what a read gave that is not the last: one octet or more, and at most `read_limit`
 abbrev pub IsPiece : List ℕ → Type 0
-IsPiece octets = (0 < length octets) × (length octets ≤ 4096)
+IsPiece octets = (0 < length octets) × (length octets ≤ read_limit)
 
 -- the last read gave these octets, or failed and gave none
 abbrev pub GaveLast : LastReadValue → List ℕ → Type 0
@@ -84,7 +88,7 @@ pub record Pieces (old new : SourceState) : Type 0 where
   pub pieces : List (List ℕ)
   pub last : List ℕ
   pub each : All IsPiece pieces
-  pub short : length last ≤ 4096
+  pub short : length last ≤ read_limit
   pub gave_last : GaveLast new.last last
   pub reads : new.reads ≡ count_after old.reads (length pieces + 1)
   pub consumed : Consumes old.left new.left (concat pieces ++ last)

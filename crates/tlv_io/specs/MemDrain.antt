@@ -12,7 +12,7 @@ pub record MemDrainState : Type 0 where
   pub most : ℕ
   pub failures : ℕ
 
--- the room that it was lent
+-- the room that a drain over memory was lent
 abbrev pub drain_room : MemDrain → MutBor (List ℕ)
 drain_room drain = drain.room
 
@@ -24,7 +24,7 @@ mem_drain_state_of drain = record {
   failures = drain.failures;
 }
 
--- what it shows of itself
+-- what a drain over memory shows of itself
 abbrev pub drain_state_of : MemDrainState → DrainState
 drain_state_of drain = record { octets = Some drain.taken; failures = drain.failures }
 

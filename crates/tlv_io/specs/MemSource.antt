@@ -10,7 +10,7 @@ pub record MemSourceState : Type 0 where
   pub fail_at : Option ℕ
   pub log : ReadLogState
 
--- what it shows of itself
+-- what a source over memory shows of itself
 abbrev pub source_state_of : MemSourceState → SourceState
 source_state_of s = record { left = Some s.left; reads = s.log.reads; last = s.log.last; failures = s.log.failures }
 

@@ -1,4 +1,4 @@
--- What an `Out` shows, and what is made of it by a call to which octets are put.
+-- What an `Out` shows, and what a call makes of it that puts octets to it.
 use Rattle.std.specs.Prelude.{◌≡◌, ◌≢◌, ◌++◌, ℕ, List, [], Result, OnErr, OnOk}
 use Rattle.std.specs.Io.KnownBytes.{Appends}
 use Rattle.std.specs.Borrow.{MutBor}

@@ -7,7 +7,7 @@ ghost use Rattle.tlv_io.specs.Device.{DrainState, WritesOnce};
 #[derive(Clone, Copy, Debug, PartialEq, Eq)]
 pub struct WriteFault;
 
-/// What octets are written to, in order. Its count stops at 2^64 - 1.
+/// What octets are written to, in order. The count of failed writes stops at 2^64 - 1.
 pub trait Drain {
     /// What it shows of itself: its octets and its failures.
     ghost state: { Self → DrainState };

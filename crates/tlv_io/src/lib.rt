@@ -1,5 +1,5 @@
 //! Devices that octets come from and go to, and the octets on their way: what is read in pieces,
-//! gathered in lines, and written.
+//! gathered by an [`Out`], and written.
 #![tactic(auto)]
 
 mod drain;

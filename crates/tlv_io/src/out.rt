@@ -1,13 +1,15 @@
 //! An [`Out`]: it holds octets, and hands them to a drain.
 
 ghost use Rattle.std.specs.Prelude.{◌≡◌, ◌≤◌, [], length, OnOk};
+ghost use Rattle.tlv_io.specs.HeldLimit.{held_limit};
 ghost use Rattle.tlv_io.specs.LineTexts.{HasRoomFor};
 ghost use Rattle.tlv_io.specs.Out.{Puts, Sends, held_octets, drain_of};
 
 use crate::drain::{Drain, WriteFault};
 use crate::held_octets::{CAPACITY, HeldOctets};
 
-/// Room for the longest line: an element's, at level 255, with 64 octets of contents.
+/// Room for the longest line without the name of an object identifier: an element's, at level 255, with 64 octets of
+/// contents.
 const LINE: usize = 1024;
 
 /// Gathers octets, so that a drain takes many with each write.
@@ -47,14 +49,14 @@ impl<'d, D: Drain> Out<'d, D> {
         self.make_room_for(LINE)
     }
 
-    /// Makes room for so many octets after those that are held.
+    /// Makes room for `count` octets, at most 4096, after those that are held.
     ///
     /// # Errors
     ///
     /// As for [`Out::flush`].
     #[inline(always)]
     pub fn make_room_for(&mut self, count: usize) -> Result<(), WriteFault>
-        requires { count ≤ 4096 }
+        requires { count ≤ held_limit }
         ensures puts { Puts D.state self.old self.new [] result }
         ensures room { OnOk result (HasRoomFor (held_octets self.new) count) }
     {
@@ -72,7 +74,7 @@ impl<'d, D: Drain> Out<'d, D> {
     #[inline]
     pub fn put(&mut self, octets: &[u8]) -> Result<(), WriteFault>
         ensures puts { Puts D.state self.old self.new octets.now result }
-        ensures short { length (held_octets self.new) ≤ 4096 }
+        ensures short { length (held_octets self.new) ≤ held_limit }
     {
         if octets.len() < self.held.room() {
             self.held.add(octets);
@@ -86,7 +88,7 @@ impl<'d, D: Drain> Out<'d, D> {
     #[inline(never)]
     fn put_past_room(&mut self, octets: &[u8]) -> Result<(), WriteFault>
         ensures puts { Puts D.state self.old self.new octets.now result }
-        ensures short { length (held_octets self.new) ≤ 4096 }
+        ensures short { length (held_octets self.new) ≤ held_limit }
     {
         if octets.len() > self.held.room() {
             self.flush()?;
@@ -108,7 +110,7 @@ impl<'d, D: Drain> Out<'d, D> {
     pub fn flush(&mut self) -> Result<(), WriteFault>
         ensures puts { Puts D.state self.old self.new [] result }
         ensures empty { OnOk result (held_octets self.new ≡ []) }
-        ensures short { length (held_octets self.new) ≤ 4096 }
+        ensures short { length (held_octets self.new) ≤ held_limit }
     {
         send(self.drain, self.held.as_slice())?;
         self.held.clear();

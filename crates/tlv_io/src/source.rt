@@ -10,7 +10,7 @@ use std::marker::Model;
 #[derive(Clone, Copy, Debug, PartialEq, Eq)]
 pub struct ReadFault;
 
-/// What octets are read from, in order and each one once. Its counts stop at 2^64 - 1.
+/// What octets are read from, in order and each one once. The counts of reads and of failed reads stop at 2^64 - 1.
 pub trait Source {
     /// What it shows of itself: its octets, its reads and its failures.
     ghost state: { Self → SourceState };
@@ -32,7 +32,7 @@ enum LastRead {
     Failed,
 }
 
-/// What a source keeps of its reads. Its counts stop at 2^64 - 1.
+/// What a source keeps of its reads. The counts of reads and of failed reads stop at 2^64 - 1.
 #[derive(Drop)]
 pub(crate) struct ReadLog {
     reads: u64,

@@ -5,7 +5,7 @@ use Rattle.std.proofs.Common.{length-append, lt-ltb, le-ltb, eq-eqb, ne_eqb, ltb
 use Rattle.std.proofs.lemmas.Bool.{cases_lt, cases_eq, cases_Bool, and_parts, not-true, eqb-false}
 use Rattle.tlv_head.specs.declared.header.Class.{Class}
 use Rattle.tlv_head.specs.Header.{HeaderValue, IsHeader, IsIdentifier, octets_of}
-use Rattle.tlv_head.specs.Laws.{AreHeaderOctets, IsRefusable}
+use Rattle.tlv_head.specs.Laws.{AreHeaderOctets, IsRefusedWithSomeCode}
 use Rattle.tlv_head.specs.Refusal.{CannotBecomeHeader, IsHeaderPrefix, IsLengthPrefix, IsRefusedOctet}
 use Rattle.tlv_head.specs.Refusal.{indefinite_primitive}
 use Rattle.tlv_head.specs.Refusal.{length_too_large, reserved_length, tag_too_long}
@@ -188,7 +188,7 @@ refused-octet code o x first r = r
 
 -- a first octet other than 00 is refused for the octets alone
 pub classified : (o : List ℕ) (x : ℕ) → (o ≡ [] → x ≢ 0) → AfterOctet o x
-    → IsHeaderPrefix (o ++ x ∷ []) ⊎ (AreHeaderOctets (o ++ x ∷ []) ⊎ IsRefusable o x)
+    → IsHeaderPrefix (o ++ x ∷ []) ⊎ (AreHeaderOctets (o ++ x ∷ []) ⊎ IsRefusedWithSomeCode o x)
 classified o x first (continues f) = inl f
 classified o x first (completes h v e) = inr (inl (h, v, e))
 classified o x first (refuses code r none) = inr (inr (code, refused-octet code o x first r))

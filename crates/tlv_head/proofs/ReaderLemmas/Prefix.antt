@@ -11,9 +11,9 @@ use Rattle.tlv_head.specs.declared.header.HeaderFields.{HeaderFields}
 use Rattle.tlv_head.specs.declared.next_octet.IdentifierFields.{IdentifierFields}
 use Rattle.tlv_head.specs.HeaderFields.{IsHeaderSized, new_header}
 use Rattle.tlv_head.specs.declared.next_octet.Part.{Part}
-use Rattle.tlv_head.specs.declared.next_octet.Part.TheVariants.{Start, Number, Identifier, Length, Done}
+use Rattle.tlv_head.specs.declared.next_octet.Part.TheVariants.{Start, Number, Identifier, Length, Whole}
 use Rattle.tlv_head.specs.Header.{HeaderValue, IsHeader, IsIdentifier, IsLength, octets_of}
-use Rattle.tlv_head.specs.HeaderSoFar.{Carries, is_done}
+use Rattle.tlv_head.specs.HeaderSoFar.{Carries, is_whole_header}
 use Rattle.tlv_head.specs.Private.NextOctet.{BeginsWithIdentifier, BeginsWithLength, MakesHeader}
 use Rattle.tlv_head.specs.ReadHeader.{BeginsWithFields}
 use Rattle.tlv_head.specs.Refusal.{BeginsWith, IsHeaderPrefix}
@@ -24,12 +24,12 @@ use Rattle.tlv_head.proofs.ReaderLemmas.Unfinished.{unfinished_number, unfinishe
 abbrev pub IsBegun : List ℕ → Type 0
 IsBegun os = (os ≡ []) ⊎ IsHeaderPrefix os
 
-pub begun_part : (p : Part) (os : List ℕ) → Carries p os → is_done p ≡ false → IsBegun os
+pub begun_part : (p : Part) (os : List ℕ) → Carries p os → is_whole_header p ≡ false → IsBegun os
 begun_part Start os h e = inl h
 begun_part (Number id) os h e = inr (unfinished_number id os h)
 begun_part (Identifier id) os h e = inr (unfinished_identifier id os h)
 begun_part (Length id n left) os h e = inr (unfinished_length left id n left os (omega arith) h)
-begun_part Done os h e = absurd (cc)
+begun_part Whole os h e = absurd (cc)
 
 prefix_nil : (a b : List ℕ) → a ++ b ≡ [] → a ≡ []
 prefix_nil [] b e = refl

@@ -10,9 +10,10 @@ use Rattle.tlv_head.specs.declared.header.Size.TheVariants.{Definite, Indefinite
 use Rattle.tlv_head.specs.declared.fault.FaultCode.{FaultCode}
 use Rattle.tlv_head.specs.declared.next_octet.IdentifierFields.{IdentifierFields}
 use Rattle.tlv_head.specs.declared.next_octet.Part.{Part}
-use Rattle.tlv_head.specs.declared.next_octet.Part.TheVariants.{Start, Number, Identifier, Length, Done}
+use Rattle.tlv_head.specs.declared.next_octet.Part.TheVariants.{Start, Number, Identifier, Length}
+use Rattle.tlv_head.specs.declared.next_octet.Part.TheVariants as part
 use Rattle.tlv_head.specs.declared.next_octet.Next.{Next}
-use Rattle.tlv_head.specs.declared.next_octet.Next.TheVariants.{Unfinished, Finished, Refused}
+use Rattle.tlv_head.specs.declared.next_octet.Next.TheVariants.{Unfinished, Whole, Refused}
 use Rattle.tlv_head.specs.Header.{AllowsSize, IsIdentifier, IsLength, identifier_octet, with_bit_8}
 use Rattle.tlv_head.specs.HeaderSoFar.{Carries, CarriesIdentifier, CarriesNumber}
 use Rattle.tlv_head.specs.Private.NextOctet.{BeginsWithIdentifier, BeginsWithNoIdentifier, BeginsWithNoLength}
@@ -147,7 +148,7 @@ pub always-unfinished : (r : Next) (id : IdentifierFields) (o : List ℕ) (x : �
     → MakesNext o x r
     → ((p : Part) → r ≡ Unfinished p → ⊥) → ⊥
 always-unfinished (Unfinished p) id o x h few f not = not p refl
-always-unfinished (Finished d size) id o x h few f not =
+always-unfinished (Whole d size) id o x h few f not =
     unended-length id o x d.class d.constructed d.number f.identifier f.lengths h f.identified.identified f.some
     f.octets_are
 always-unfinished (Refused code) id o x h few f not = unrefused code id o x h few f
@@ -175,7 +176,7 @@ carried-on (Identifier d) id o x h f not = absurd (not d refl)
 carried-on (Length d n left) id o x h f not =
     absurd (unended-length id o x d.class d.constructed d.number f.prefix.identifier _ h f.prefix.identified
     (omega arith) f.prefix.octets_are)
-carried-on Done id o x h f not = absurd (snoc≢nil o x f)
+carried-on part.Whole id o x h f not = absurd (snoc≢nil o x f)
 
 pub goes-on : (r : Next) (p : Part) (id : IdentifierFields) (o : List ℕ) (x : ℕ) → CarriesNumber id o → MakesNext o x r
     → r ≡ Unfinished p
@@ -200,7 +201,7 @@ leads-on (Length d n left) x h not nor =
     short_prefix : (i : List ℕ) (y : ℕ) (l : List ℕ) (x : ℕ) → x ∷ [] ≡ i ++ y ∷ l → i ≡ []
     short_prefix [] y l x e = refl
     short_prefix (a ∷ i) y l x e = absurd (omega (arith, ap length e, length-append i (y ∷ l)))
-leads-on Done x h not nor = let none : x ∷ [] ≡ [] = h in cc
+leads-on part.Whole x h not nor = let none : x ∷ [] ≡ [] = h in cc
 
 -- octets that begin with the high form so far begin with no identifier that ends within it
 none-after : (id : IdentifierFields) (o more : List ℕ) (c : Class) (k : Bool) (n : ℕ) (i rest : List ℕ)

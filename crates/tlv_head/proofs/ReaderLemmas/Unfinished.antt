@@ -7,14 +7,14 @@ use Rattle.tlv_head.specs.Header.{HeaderValue, IsHeader, is_wrapper}
 use Rattle.tlv_head.specs.HeadReaderState.{ContentsFit, HeadReaderState}
 use Rattle.tlv_head.specs.Refusal.{IsHeaderPrefix}
 use Rattle.tlv_head.specs.Push.{Completes, IsRefusedPush, overrun, too_deep}
-use Rattle.tlv_head.specs.HeaderSoFar.{Carries, CarriesNumber, CarriesIdentifier, CarriesLength, is_done}
+use Rattle.tlv_head.specs.HeaderSoFar.{Carries, CarriesNumber, CarriesIdentifier, CarriesLength, is_whole_header}
 use Rattle.tlv_head.specs.Private.NextOctet.{MakesHeader}
 use Rattle.tlv_head.specs.declared.fault.FaultCode.TheVariants.{TooDeep, Overrun}
 use Rattle.tlv_head.specs.declared.header.Size.{Size}
 use Rattle.tlv_head.specs.declared.header.Size.TheVariants.{Definite}
 use Rattle.tlv_head.specs.declared.next_octet.IdentifierFields.{IdentifierFields}
 use Rattle.tlv_head.specs.declared.next_octet.Part.{Part}
-use Rattle.tlv_head.specs.declared.next_octet.Part.TheVariants.{Start, Number, Identifier, Length, Done}
+use Rattle.tlv_head.specs.declared.next_octet.Part.TheVariants.{Start, Number, Identifier, Length, Whole}
 use Rattle.std.proofs.lemmas.List.{length-map}
 use Rattle.std.proofs.Math.Seq.{drop-append_seam, take-append_seam}
 use Rattle.tlv_head.proofs.ReaderLemmas.Steps.{ends_number, ends_length, more_length}
@@ -32,7 +32,7 @@ length-carried (Length id n left) os h =
     let most : length h.prefix.digits + left ≤ 126 = h.prefix.few in
     rw h.prefix.octets_are
     (omega (arith, length-append h.prefix.identifier ((128 + (length h.prefix.digits + left)) ∷ h.prefix.digits)))
-length-carried Done os h = rw h (omega arith)
+length-carried Whole os h = rw h (omega arith)
 
 -- the header that the octets are
 abbrev pub made_header : (at : ℕ) (named : Bool) (id : IdentifierFields) (size : Size) (os : List ℕ)
@@ -158,9 +158,9 @@ snoc≢nil [] x e = cc
 snoc≢nil (y ∷ os) x e = cc
 
 pub unfinished_part : (p : Part) (os : List ℕ) (x : ℕ) → Carries p (os ++ x ∷ [])
-    → IsHeaderPrefix (os ++ x ∷ []) × (is_done p ≡ false)
+    → IsHeaderPrefix (os ++ x ∷ []) × (is_whole_header p ≡ false)
 unfinished_part Start os x h = absurd (snoc≢nil os x h)
 unfinished_part (Number id) os x h = (unfinished_number id _ h, refl)
 unfinished_part (Identifier id) os x h = (unfinished_identifier id _ h, refl)
 unfinished_part (Length id n left) os x h = (unfinished_length left id n left _ (omega arith) h, refl)
-unfinished_part Done os x h = absurd (snoc≢nil os x h)
+unfinished_part Whole os x h = absurd (snoc≢nil os x h)

@@ -1,4 +1,4 @@
--- Headers with one tag and one size: at most one is as short as it can be, and no other is shorter than that one.
+-- Headers of one tag, form and size: at most one is as short as it can be, and no other has fewer octets than that one.
 use Rattle.std.proofs.Common.{◌≡◌, ◌≢◌, ℕ, ◌+◌, ◌%◌, ◌<◌, ◌≤◌, inl, inr, Bool, List, [], ◌∷◌, ◌++◌, length, All, sym}
 use Rattle.std.proofs.Common.{ap, ap₂, ◌∙◌, arith, lit<, length-append}
 use Rattle.std.proofs.lemmas.Bool.{cases_lt}
@@ -10,8 +10,8 @@ use Rattle.tlv_head.specs.declared.header.Size.{Size}
 use Rattle.tlv_head.specs.declared.header.Size.TheVariants.{Definite, Indefinite}
 use Rattle.tlv_head.specs.Header.{HeaderValue, IsHeader, IsHighForm, IsIdentifier, IsLength, announced_length}
 use Rattle.tlv_head.specs.Header.{identifier_octet, value_of, with_bit_8}
-use Rattle.tlv_head.specs.Shortest.{HaveOneTag, IsShortestIdentifier, IsShortestLength, ShortestHeadersAreOne}
-use Rattle.tlv_head.specs.Shortest.{NoHeaderIsShorter}
+use Rattle.tlv_head.specs.Laws.{NoHeaderIsShorter, ShortestHeadersAreOne}
+use Rattle.tlv_head.specs.Shortest.{HaveOneTagAndForm, IsShortestIdentifier, IsShortestLength}
 use Rattle.tlv_head.proofs.NumberLemmas.OneValue.{fewest-digits, same-digits}
 
 -- ---- identifier octets
@@ -130,7 +130,7 @@ length-same (Definite n) xs ys (inr f) (inr g) e =
 -- ---- both
 
 -- the octets of the other header, with the fields of the first
-moved-identifier : (h g : HeaderValue) → IsHeader g → HaveOneTag h g
+moved-identifier : (h g : HeaderValue) → IsHeader g → HaveOneTagAndForm h g
     → IsIdentifier h.class h.constructed h.number g.identifier
 moved-identifier h g valid tag = rw (tag.class, tag.constructed, tag.number) valid.identifier
 
@@ -138,7 +138,7 @@ moved-lengths : (h g : HeaderValue) → IsHeader g → h.size ≡ g.size → IsL
 moved-lengths h g valid size = rw size valid.lengths
 
 -- no other is shorter
-pub shortest-identifier : (h g : HeaderValue) → IsHeader h → IsHeader g → HaveOneTag h g
+pub shortest-identifier : (h g : HeaderValue) → IsHeader h → IsHeader g → HaveOneTagAndForm h g
     → IsShortestIdentifier h.number h.identifier
     → length h.identifier ≤ length g.identifier
 shortest-identifier h g u v tag s =
@@ -154,7 +154,7 @@ shortest_are_shortest h g u v tag size s =
     (shortest-identifier h g u v tag s.identifier, shortest-length h g u v size s.lengths)
 
 -- the other way round
-turned : (h g : HeaderValue) → HaveOneTag h g → HaveOneTag g h
+turned : (h g : HeaderValue) → HaveOneTagAndForm h g → HaveOneTagAndForm g h
 turned h g tag = record { class = sym tag.class; constructed = sym tag.constructed; number = sym tag.number }
 
 pub shortest_are_one : ShortestHeadersAreOne

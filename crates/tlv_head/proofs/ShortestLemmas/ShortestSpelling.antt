@@ -9,7 +9,8 @@ use Rattle.tlv_head.specs.declared.header.Size.{Size}
 use Rattle.tlv_head.specs.declared.header.Size.TheVariants.{Definite, Indefinite}
 use Rattle.tlv_head.specs.Header.{HeaderValue, IsHeader, IsIdentifier, IsLength, announced_length, identifier_octet}
 use Rattle.tlv_head.specs.Header.{value_of, with_bit_8}
-use Rattle.tlv_head.specs.Shortest.{HasShorter, HeadersHaveAShortest, IsShortestIdentifier, IsShortestLength}
+use Rattle.tlv_head.specs.Laws.{HeadersHaveAShortest}
+use Rattle.tlv_head.specs.Shortest.{HasShorter, IsShortestIdentifier, IsShortestLength}
 use Rattle.tlv_head.proofs.ShortestLemmas.Shortest.{high-first, identifier-le, identifier-same, length-le, length-same}
 use Rattle.tlv_head.proofs.ShortestLemmas.Shortest.{shortest-identifier, shortest-length}
 
@@ -176,7 +177,7 @@ shorter-identifier h valid nonzero none =
       | inl fewer ↦ record {
         other = record h { identifier = i.octets };
         valid = with_identifier h valid i;
-        tag = record { class = refl; constructed = refl; number = refl };
+        tag_and_form = record { class = refl; constructed = refl; number = refl };
         size = refl;
         fewer = fewer;
       }
@@ -197,7 +198,7 @@ shorter-length h valid none =
       | inl fewer ↦ record {
         other = record h { lengths = l.octets };
         valid = with_lengths h valid l;
-        tag = record { class = refl; constructed = refl; number = refl };
+        tag_and_form = record { class = refl; constructed = refl; number = refl };
         size = refl;
         fewer = fewer;
       }
@@ -212,7 +213,7 @@ shorter-length h valid none =
 -- and one that is as short as it can be has none
 pub no-shorter_identifier : (h : HeaderValue) → IsHeader h → IsShortestIdentifier h.number h.identifier
     → HasShorter (λ k. k.identifier) h → ⊥
-no-shorter_identifier h valid s r = omega (arith, r.fewer, shortest-identifier h r.other valid r.valid r.tag s)
+no-shorter_identifier h valid s r = omega (arith, r.fewer, shortest-identifier h r.other valid r.valid r.tag_and_form s)
 
 pub no-shorter_length : (h : HeaderValue) → IsHeader h → IsShortestLength (announced_length h.size) h.lengths
     → HasShorter (λ k. k.lengths) h → ⊥

@@ -1,4 +1,4 @@
--- What an octet makes of the octets of a header so far.
+-- What the private functions return that read a header: octet by octet, or at once.
 use Rattle.std.specs.Prelude.{◌≡◌, ◌≢◌, ℕ, ◌≤◌, Bool, List, [], ◌∷◌, ◌++◌, length, take}
 use Rattle.tlv_head.specs.declared.header.Class.{Class}
 use Rattle.tlv_head.specs.declared.header.Size.{Size}
@@ -6,7 +6,7 @@ use Rattle.tlv_head.specs.Header.{AllowsSize, IsIdentifier, IsLength}
 use Rattle.tlv_head.specs.Refusal.{IsRefusedOctet}
 use Rattle.tlv_head.specs.declared.next_octet.IdentifierFields.{IdentifierFields}
 use Rattle.tlv_head.specs.declared.next_octet.Next.{Next}
-use Rattle.tlv_head.specs.declared.next_octet.Next.TheVariants.{Unfinished, Finished, Refused}
+use Rattle.tlv_head.specs.declared.next_octet.Next.TheVariants.{Unfinished, Whole, Refused}
 use Rattle.tlv_head.specs.HeaderSoFar.{CarriesIdentifier, Carries}
 
 -- the octets are a header with these fields
@@ -25,7 +25,7 @@ pub record BeginsWithIdentifier (octets : List ℕ) (id : IdentifierFields) : Ty
   pub within : id.id_len ≤ length octets
   pub carried : CarriesIdentifier id (take id.id_len octets)
 
--- octets begin with length octets, so many, that an element of that form may have
+-- octets begin with so many length octets, which say this size, and which an element of that form may have
 pub record BeginsWithLength (octets : List ℕ) (constructed : Bool) (size : Size) (count : ℕ) : Type 0 where
   pub within : count ≤ length octets
   pub some : 1 ≤ count
@@ -50,5 +50,5 @@ BeginsWithNoLength octets constructed =
 -- what an octet makes of the octets before
 abbrev pub MakesNext : List ℕ → ℕ → Next → Type 0
 MakesNext octets x (Unfinished part) = Carries part (octets ++ x ∷ [])
-MakesNext octets x (Finished id size) = MakesHeader id size (octets ++ x ∷ [])
+MakesNext octets x (Whole id size) = MakesHeader id size (octets ++ x ∷ [])
 MakesNext octets x (Refused code) = IsRefusedOctet octets x code

@@ -7,17 +7,17 @@ use Rattle.tlv_head.proofs.ReaderLemmas.Prefix.{around, begun_none, begun_part, 
 use Rattle.tlv_head.proofs.GrammarLemmas.Refused.{refused-with_none}
 use Rattle.tlv_head.proofs.header_at_once.read_header.Goals as goal
 
-pub returns-in-Finished : goal.returns-in-Finished
-returns-in-Finished c =
+pub returns-in-Whole : goal.returns-in-Whole
+returns-in-Whole c =
     let xs = c.args.octets.now in
     let i = c.loop-i.i in
     let octets = take (i + 1) xs in
-    let made : MakesHeader c.in-Finished.identifier c.in-Finished.size octets =
-    subst (MakesHeader c.in-Finished.identifier c.in-Finished.size) (sym (take_more xs i 0 (omega arith)))
-    (c.in-Finished.ensures (take i xs) c.loop-i.invariant.carries) in
+    let made : MakesHeader c.in-Whole.identifier c.in-Whole.size octets =
+    subst (MakesHeader c.in-Whole.identifier c.in-Whole.size) (sym (take_more xs i 0 (omega arith)))
+    (c.in-Whole.ensures (take i xs) c.loop-i.invariant.carries) in
     rw c.header_fields.ensures (record {
       within = omega arith;
-      sized = made_sized octets _ c.in-Finished.identifier c.in-Finished.size made refl;
+      sized = made_sized octets _ c.in-Whole.identifier c.in-Whole.size made refl;
       begins =
           subst
           (λ s. BeginsWith s c.args.offset c.args.named
@@ -28,19 +28,19 @@ returns-in-Finished c =
             named =
                 c.args.named;
             class =
-                c.in-Finished.identifier.class;
+                c.in-Whole.identifier.class;
             constructed =
-                c.in-Finished.identifier.constructed;
+                c.in-Whole.identifier.constructed;
             number =
-                c.in-Finished.identifier.number;
+                c.in-Whole.identifier.number;
             size =
-                c.in-Finished.size;
-            id_len = c.in-Finished.identifier.id_len;
+                c.in-Whole.size;
+            id_len = c.in-Whole.identifier.id_len;
           })
           octets))
           (take-append-drop (i + 1) xs)
-          (made_begins octets (drop (i + 1) xs) c.args.offset c.args.named c.in-Finished.identifier
-          c.in-Finished.size made);
+          (made_begins octets (drop (i + 1) xs) c.args.offset c.args.named c.in-Whole.identifier
+          c.in-Whole.size made);
     })
 
 pub returns-in-Refused : goal.returns-in-Refused

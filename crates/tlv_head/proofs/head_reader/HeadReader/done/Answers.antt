@@ -1,5 +1,5 @@
 use Rattle.std.proofs.Common.{rules}
 use Rattle.tlv_head.proofs.head_reader.HeadReader.done.Goals as goal
 
-pub returns-in-Done : goal.returns-in-Done
-returns-in-Done c = search rules
+pub returns-in-Whole : goal.returns-in-Whole
+returns-in-Whole c = search rules

@@ -35,7 +35,7 @@ pub returns-then-fields_hold : goal.returns-then-fields_hold
 returns-then-fields_hold c =
     let deep : IsRefusedPush c.args.self.now c.args.octet c.args.room c.args.depth TooDeep =
     subst (λ (p : HeadReaderState). IsRefusedPush p c.args.octet c.args.room c.args.depth TooDeep) c.self.view_is
-    (made_too_deep _ _ _ _ _ _ _ (search rules) (c.in-Finished.ensures c.self.inside.raw.items c.self.invariant) refl
+    (made_too_deep _ _ _ _ _ _ _ (search rules) (c.in-Whole.ensures c.self.inside.raw.items c.self.invariant) refl
     (sym (holds_made c.fields_hold.ensures c.header_fields-fields.ensures) ∙ c.if-fields_hold.true)
     c.if-depth-ge128.true) in
     let a : Pushes c.args.self.now c.args.octet c.args.room c.args.depth c.args.self.now
@@ -48,7 +48,7 @@ pub returns-then-not-contents_fit : goal.returns-then-not-contents_fit
 returns-then-not-contents_fit c =
     let past : IsRefusedPush c.args.self.now c.args.octet c.args.room c.args.depth Overrun =
     subst (λ (p : HeadReaderState). IsRefusedPush p c.args.octet c.args.room c.args.depth Overrun) c.self.view_is
-    (made_overrun _ _ _ _ _ _ _ (search rules) (c.in-Finished.ensures c.self.inside.raw.items c.self.invariant) refl
+    (made_overrun _ _ _ _ _ _ _ (search rules) (c.in-Whole.ensures c.self.inside.raw.items c.self.invariant) refl
     (elim c.else-depth-ge128.branch [
       | else-depth-ge128-via-then-depth-ge128+else-fields_hold w ↦
           λ h. absurd (false≢true
@@ -93,9 +93,9 @@ completes c =
       c.with_raw.ensures,
       c.header_fields-fields.ensures,
       c.take.ensures.value,
-      c.push-in-Finished.ensures.items,
+      c.push-in-Whole.ensures.items,
     )
-    (made_whole _ _ _ _ _ (c.in-Finished.ensures c.self.inside.raw.items c.self.invariant) refl)
+    (made_whole _ _ _ _ _ (c.in-Whole.ensures c.self.inside.raw.items c.self.invariant) refl)
 
 pub returns-else-not-contents_fit-clause-pushes : goal.returns-else-not-contents_fit-clause-pushes
 returns-else-not-contents_fit-clause-pushes c =

@@ -1,4 +1,4 @@
--- The octets and their offset determine what `read_header` finds.
+-- The octets, their offset and whether it is named determine what `read_header` returns.
 use Rattle.std.proofs.Common.{◌≡◌, ℕ, ◌<◌, Bool, List, length, take, ap, sym, ◌∙◌, arith}
 use Rattle.std.proofs.lemmas.List.{length-take-le, take-append-drop}
 use Rattle.tlv_head.specs.declared.header.HeaderFields.{HeaderFields}
@@ -22,9 +22,9 @@ octets-count : (octets : List ℕ) (offset : ℕ) (named : Bool) (f : HeaderFiel
 octets-count octets offset named f n b =
     ap length (take-append-drop f.id_len (take n octets)) ∙ length-take-le n octets b.within
 
-pub one-reading : (octets : List ℕ) (offset : ℕ) (named : Bool) (f g : HeaderFields) (m n : ℕ)
+pub one_header_returned : (octets : List ℕ) (offset : ℕ) (named : Bool) (f g : HeaderFields) (m n : ℕ)
     → BeginsWithFields octets offset named f m → BeginsWithFields octets offset named g n → (f ≡ g) × (m ≡ n)
-one-reading octets offset named f g m n p q =
+one_header_returned octets offset named f g m n p q =
     let h : HeaderValue = new_header f (take m octets) in
     let k : HeaderValue = new_header g (take n octets) in
     let origin : origin_of h ≡ origin_of k =
