@@ -1,7 +1,7 @@
 pub mod NotedFacts
 pub mod CheckPieces
 pub mod EachNoted
-pub mod Utf8Rows
+pub mod Utf8ByRow
 pub mod Forms
 pub mod Noting
 pub mod NestedForms

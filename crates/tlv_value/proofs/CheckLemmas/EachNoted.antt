@@ -1,7 +1,7 @@
 -- What is noted of each contents octet, type by type. Of most types it is nothing.
 use Rattle.std.specs.Str.{is_utf8}
 use Rattle.std.proofs.Math.Bool.{and-true}
-use Rattle.std.proofs.Common.{◌≡◌, ℕ, Bool, true, false, List, refl, arith}
+use Rattle.std.proofs.Common.{◌≡◌, ℕ, true, false, List, refl, arith}
 use Rattle.std.specs.List.{list_all}
 use Rattle.std.specs.Prelude.{◌&&◌, ◌||◌, eqb}
 use Rattle.std.proofs.lemmas.Bool.Decides.{nat_tests}
