@@ -116,7 +116,7 @@ module _ (size : ℕ) (wanted : ℕ → ℕ) (some : 1 ≤ size) (fits : (x : �
     head : 1 ≤ length row → HeadIs (get_or row 0 0) rows
 
   is-row : (row : List ℕ) → AllFit size wanted row → length row ≤ size → 1 ≤ length row → IsRow size wanted row
-  is-row row f h s = record { some = some-not row s; short = h; whole = f }
+  is-row row f h s = record { some = some-not row s; short = h; splits_none = f }
 
   full-before : (row : List ℕ) (rows : List (List ℕ)) → AreFull size wanted rows
       → ((next : List ℕ) (more : List (List ℕ)) → rows ≡ next ∷ more → IsFull size wanted row next)

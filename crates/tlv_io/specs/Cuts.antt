@@ -19,7 +19,7 @@ module _ (size : ℕ) (wanted : ℕ → ℕ) where
   pub record IsRow (row : List ℕ) : Type 0 where
     pub some : row ≢ []
     pub short : length row ≤ size
-    pub whole : SplitsNone row
+    pub splits_none : SplitsNone row
 
   -- a row before another has no room, or none for the octets that are to be kept in one row from the first octet of
   -- the other on

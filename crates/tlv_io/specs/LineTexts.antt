@@ -1,10 +1,11 @@
 -- What is added to the octets that an `Out` holds, and texts that lines are made of.
 use Rattle.std.specs.Prelude.{◌≡◌, ℕ, ◌+◌, ◌-◌, ◌≤◌, List, [], ◌∷◌, ◌++◌, codes, decimal, flat_map, length, replicate}
 use Rattle.hex.specs.Hex.{encode_lower}
+use Rattle.tlv_io.specs.HeldLimit.{held_limit}
 
 -- an `Out` that holds these octets has room for so many more
 abbrev pub HasRoomFor : List ℕ → ℕ → Type 0
-HasRoomFor held count = length held + count ≤ 4096
+HasRoomFor held count = length held + count ≤ held_limit
 
 -- the text was added to the octets held, which are at most n more than before
 pub record AddsAtMost (n : ℕ) (old new added : List ℕ) : Type 0 where

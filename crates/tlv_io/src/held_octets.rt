@@ -1,5 +1,6 @@
 //! The octets that an `Out` holds, to which texts are added in place.
 ghost use Rattle.std.specs.Prelude.{◌≡◌, ◌+◌, ◌*◌, ◌≤◌, ◌++◌, [], length, take};
+ghost use Rattle.tlv_io.specs.HeldLimit.{held_limit};
 ghost use Rattle.tlv_io.specs.LineTexts.{AddsIfRoom, HasRoomFor, spaced_pairs, spaces};
 
 mod numbers;
@@ -22,12 +23,13 @@ pub struct HeldOctets {
 
 impl Model for HeldOctets {
     ghost use Rattle.std.specs.Prelude.{◌≤◌, ℕ, List, take};
+    ghost use Rattle.tlv_io.specs.HeldLimit.{held_limit};
 
     ghost Value = { List ℕ };
 
     ghost view = { λ held. take held.len held.octets };
 
-    ghost invariant = { λ held. held.len ≤ 4096 };
+    ghost invariant = { λ held. held.len ≤ held_limit };
 }
 
 impl HeldOctets {
@@ -45,7 +47,7 @@ impl HeldOctets {
     #[inline]
     pub fn as_slice(&self) -> &[u8]
         ensures octets { result.now ≡ self.now }
-        ensures short { length self.now ≤ 4096 }
+        ensures short { length self.now ≤ held_limit }
     {
         &self.octets[..self.len()]
     }
@@ -57,7 +59,7 @@ impl HeldOctets {
     #[inline(always)]
     pub fn len(&self) -> usize
         ensures count { result ≡ length self.now }
-        ensures short { result ≤ 4096 }
+        ensures within { result ≤ held_limit }
     {
         if self.len > CAPACITY {
             unreachable!();
@@ -145,7 +147,7 @@ impl HeldOctets {
     /// How many octets more can be held.
     #[inline(always)]
     pub(crate) fn room(&self) -> usize
-        ensures { result + length self.now ≡ 4096 }
+        ensures { result + length self.now ≡ held_limit }
     {
         CAPACITY - self.len()
     }

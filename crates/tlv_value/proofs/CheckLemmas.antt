@@ -1,8 +1,8 @@
 pub mod NotedFacts
 pub mod CheckPieces
 pub mod EachNoted
-pub mod Formed
+pub mod Utf8ByRow
 pub mod Forms
 pub mod Noting
-pub mod Within
+pub mod NestedForms
 pub mod Clear

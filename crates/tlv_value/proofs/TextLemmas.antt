@@ -1,14 +1,14 @@
 pub mod ArcTexts
 pub mod Arcs
-pub mod Ends
+pub mod PrimitiveLines
 pub mod LineLengths
 pub mod Numbers
 pub mod ObjectLines
 pub mod Pieces
 pub mod UnescapedUnits
-pub mod Puts
+pub mod RowLines
 pub mod Rests
-pub mod Short
+pub mod RowTextLengths
 pub mod Texts
 pub mod TypeKinds
 pub mod UnitSteps

@@ -1,5 +1,5 @@
 -- Which universal types are strings, times, always primitive or always constructed: X.690 8.
-use Rattle.std.specs.Prelude.{ℕ, Bool, ◌&&◌, ◌||◌, not, ◌==◌, eqb, nat_le, if◌then◌else◌, List, [], ◌∷◌}
+use Rattle.std.specs.Prelude.{ℕ, Bool, ◌&&◌, ◌||◌, not, ◌==◌, eqb, nat_le, if◌then◌else◌, List, [], ◌∷◌, ◌++◌}
 use Rattle.std.specs.List.{list_any}
 use Rattle.tlv_head.specs.UniversalTypes as universal
 use Rattle.tlv_head.specs.Header.{HeaderValue, is_universal}
@@ -28,17 +28,19 @@ integer_types = universal.integer ∷ universal.enumerated ∷ []
 abbrev pub object_types : List ℕ
 object_types = universal.object_identifier ∷ universal.relative_oid ∷ []
 
--- X.680 41: strings whose characters are looked at
-abbrev pub character_types : List ℕ
-character_types =
-    universal.utf8_string
-    ∷ universal.numeric_string
+-- X.680 41: strings whose octets are looked at one by one
+abbrev pub tested_string_types : List ℕ
+tested_string_types =
+    universal.numeric_string
     ∷ universal.printable_string
     ∷ universal.ia5_string
     ∷ universal.visible_string
-    ∷ universal.universal_string
-    ∷ universal.bmp_string
     ∷ []
+
+-- X.680 41: strings whose characters are looked at
+abbrev pub character_types : List ℕ
+character_types =
+    universal.utf8_string ∷ tested_string_types ++ universal.universal_string ∷ universal.bmp_string ∷ []
 
 -- 8.25
 abbrev pub time_types : List ℕ

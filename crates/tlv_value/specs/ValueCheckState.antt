@@ -10,7 +10,7 @@ use Rattle.tlv_value.specs.declared.finding.Finding.{Finding}
 use Rattle.tlv_value.specs.Checks.{ContentsFacts, allows_octet, are_whole_characters, findings_by, is_padded_after}
 use Rattle.tlv_value.specs.Checks.{last_octet, type_conditions}
 use Rattle.tlv_value.specs.Rows.{full_rows, open_row}
-use Rattle.tlv_value.specs.Types.{is_number_of, object_types, time_types, type_number}
+use Rattle.tlv_value.specs.Types.{is_number_of, object_types, tested_string_types, time_types, type_number}
 
 -- what contracts see of a `ValueCheck`
 pub record ValueCheckState : Type 0 where
@@ -61,14 +61,7 @@ notes_first number =
 abbrev pub notes_each : ℕ → Bool
 notes_each number =
     is_number_of
-    (universal.object_identifier
-    ∷ universal.utf8_string
-    ∷ universal.relative_oid
-    ∷ universal.numeric_string
-    ∷ universal.printable_string
-    ∷ universal.ia5_string
-    ∷ universal.visible_string
-    ∷ [])
+    (universal.object_identifier ∷ universal.utf8_string ∷ universal.relative_oid ∷ tested_string_types)
     number
 
 -- the two times

@@ -45,6 +45,10 @@ is_long_primitive p = is_long p.kind p.size
 abbrev pub primitive_line : Primitive → List ℕ → List ℕ
 primitive_line p text = element_line p.layout p.offset p.class p.number p.size text
 
+-- the line of a long value of which these octets have come
+abbrev pub long_value_line : Primitive → List ℕ → List ℕ
+long_value_line p octets = primitive_line p (long_text p.kind p.size octets)
+
 -- the state before any octet of this primitive
 abbrev pub new_value_text_of : Primitive → ValueTextState
 new_value_text_of p = record {
@@ -92,7 +96,7 @@ kept_before_line kind k (x ∷ octets) = kept_after_line kind (kept_with_line ki
 abbrev pub first_row_lines : ValueTextState → List ℕ → List ℕ
 first_row_lines s [] = []
 first_row_lines s (x ∷ octets) =
-    primitive_line s.primitive (long_text s.primitive.kind s.primitive.size (x ∷ []))
+    long_value_line s.primitive (x ∷ [])
     ++ full_row_lines s.primitive.kind s.primitive.layout (kept_with_line s.primitive.kind x) octets
 
 -- what is kept after more octets of a long value

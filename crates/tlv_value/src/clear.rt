@@ -4,7 +4,7 @@ ghost use Rattle.tlv_head.specs.UniversalTypes.{bit_string, boolean};
 ghost use Rattle.tlv_value.specs.Checks.{all_contents_findings, is_padded_after, is_padded_integer, last_octet};
 ghost use Rattle.tlv_value.specs.Checks.{type_findings};
 ghost use Rattle.tlv_value.specs.Private.TimeFindings.{generalized_time_findings, utc_time_findings};
-ghost use Rattle.tlv_value.specs.Types.{constructed_types, is_number_of, is_one_of, is_unassigned};
+ghost use Rattle.tlv_value.specs.Types.{constructed_types, is_always_constructed, is_number_of, is_unassigned};
 ghost use Rattle.tlv_value.specs.Types.{is_unassigned_number};
 
 use crate::time::{general_canonical, utc_canonical};
@@ -17,7 +17,7 @@ use tlv_head::{Class, Header, universal};
 pub fn is_clear(header: &Header, contents: &[u8]) -> bool
     ensures contents { IsTrue result → all_contents_findings header.now contents.now ≡ [] }
     ensures form { IsTrue result
-        → (is_unassigned header.now || is_one_of constructed_types header.now) ≡ false }
+        → (is_unassigned header.now || is_always_constructed header.now) ≡ false }
 {
     !matches!(header.class, Class::Universal) || is_type_clear(header.number, contents)
 }
@@ -102,15 +102,15 @@ fn has_clear_bits(contents: &[u8]) -> bool
 /// Whether each subidentifier begins and ends as it has to (8.19.2, 8.20.2).
 #[inline(always)]
 fn are_subidentifiers(contents: &[u8]) -> bool
-    ensures begins { IsTrue result → is_padded_after 0 contents.now ≡ false }
-    ensures ends { IsTrue result → nat_le 128 (last_octet 0 contents.now) ≡ false }
+    ensures unpadded { IsTrue result → is_padded_after 0 contents.now ≡ false }
+    ensures finished { IsTrue result → nat_le 128 (last_octet 0 contents.now) ≡ false }
 {
     last_octet(0, contents) < 128 && !is_padded_after(0, contents)
 }
 
 /// Whether nothing is found on a UTCTime.
 #[inline(never)]
-#[tactic(auto, using(crate::proofs::CheckLemmas::Within::utc_clear))]
+#[tactic(auto, using(crate::proofs::CheckLemmas::NestedForms::utc_clear))]
 fn is_utc_clear(time: &[u8]) -> bool
     ensures { result ≡ eqb (length (utc_time_findings time.now)) 0 }
 {
@@ -120,7 +120,7 @@ fn is_utc_clear(time: &[u8]) -> bool
 
 /// Whether nothing is found on a GeneralizedTime.
 #[inline(never)]
-#[tactic(auto, using(crate::proofs::CheckLemmas::Within::generalized_clear))]
+#[tactic(auto, using(crate::proofs::CheckLemmas::NestedForms::generalized_clear))]
 fn is_generalized_clear(time: &[u8]) -> bool
     ensures { result ≡ eqb (length (generalized_time_findings time.now)) 0 }
 {

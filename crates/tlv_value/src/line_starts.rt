@@ -70,7 +70,7 @@ pub fn begin_blank(held: &mut HeldOctets, layout: Layout)
 pub(crate) fn row_indent(layout: Layout) -> usize
     ensures value { result ≡ row_indent layout }
     ensures text { spaces result ≡ margin layout.pure blank_columns (layout.level + 1) }
-    ensures some { 2 ≤ result }
+    ensures two_or_more { 2 ≤ result }
     ensures within { result ≤ 529 }
 {
     blank_column_count(layout.pure) + 2 * (usize::from(layout.level) + 1)

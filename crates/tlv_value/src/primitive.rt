@@ -1,11 +1,12 @@
 //! A primitive by what its header says.
-ghost use Rattle.std.specs.Prelude.{◌≡◌, ◌<◌, ◌≤◌, ◌++◌, ◌∷◌, [], IsTrue, None, OnOk, length, true, ◌↔◌};
+ghost use Rattle.std.specs.Prelude.{◌≡◌, ◌<◌, ◌≤◌, ◌++◌, [], IsTrue, None, OnOk, length, true, ◌↔◌};
 ghost use Rattle.tlv_io.specs.LineTexts.{AddsAtMost, HasRoomFor};
 ghost use Rattle.tlv_io.specs.Out.{Puts, held_octets};
 ghost use Rattle.tlv_value.specs.RowSizes.{row_size};
-ghost use Rattle.tlv_value.specs.Private.PrimitiveLines.{line_prefix};
-ghost use Rattle.tlv_value.specs.Value.{long_text, most_on_line};
-ghost use Rattle.tlv_value.specs.ValueTextState.{is_long_primitive, new_primitive, primitive_line, primitive_lines};
+ghost use Rattle.tlv_value.specs.Private.PrimitiveLines.{bits_line, line_prefix};
+ghost use Rattle.tlv_value.specs.Value.{most_on_line};
+ghost use Rattle.tlv_value.specs.ValueTextState.{is_long_primitive, long_value_line, new_primitive, primitive_line};
+ghost use Rattle.tlv_value.specs.ValueTextState.{primitive_lines};
 
 use crate::kind::{Kind, kind_of};
 use crate::line_starts::begin_element;
@@ -96,9 +97,7 @@ impl Primitive {
     fn write_bits_line(&self, held: &mut HeldOctets, unused_bits: u8)
         requires room { HasRoomFor held.old 1024 }
         requires long { 9 < self.now.size }
-        ensures { held.new
-            ≡ held.old
-            ++ primitive_line self.now (long_text Kind.Bits self.now.size (unused_bits ∷ [])) }
+        ensures { held.new ≡ held.old ++ bits_line self.now unused_bits }
     {
         self.write_prefix(held);
         write_long_bits(held, self.size, unused_bits);
@@ -110,9 +109,7 @@ impl Primitive {
     fn write_long_line(&self, held: &mut HeldOctets, contents: &[u8])
         requires room { HasRoomFor held.old 1024 }
         requires long { is_long_primitive self.now ≡ true }
-        ensures { held.new
-            ≡ held.old
-            ++ primitive_line self.now (long_text self.now.kind self.now.size contents.now) }
+        ensures { held.new ≡ held.old ++ long_value_line self.now contents.now }
     {
         self.write_prefix(held);
         write_long_value(held, self.kind, self.size, contents);
@@ -136,9 +133,7 @@ impl Primitive {
         out: &mut Out<'_, D>,
     ) -> Result<(), WriteFault>
         requires { 9 < self.now.size }
-        ensures { Puts D.state out.old out.new
-            (primitive_line self.now (long_text Kind.Bits self.now.size (unused_bits ∷ [])))
-            result }
+        ensures { Puts D.state out.old out.new (bits_line self.now unused_bits) result }
     {
         out.make_room()?;
         self.write_bits_line(&mut out.held, unused_bits);
@@ -153,8 +148,7 @@ impl Primitive {
         out: &mut Out<'_, D>,
     ) -> Result<(), WriteFault>
         requires { is_long_primitive self.now ≡ true }
-        ensures { Puts D.state out.old out.new
-            (primitive_line self.now (long_text self.now.kind self.now.size contents.now)) result }
+        ensures { Puts D.state out.old out.new (long_value_line self.now contents.now) result }
     {
         out.make_room()?;
         self.write_long_line(&mut out.held, contents);

@@ -7,7 +7,7 @@ ghost use Rattle.tlv_value.specs.Times.{canonical_generalized_time_form, canonic
 ghost use Rattle.tlv_value.specs.Times.{digits, fraction, generalized_hour, generalized_tail, generalized_time_form};
 ghost use Rattle.tlv_value.specs.Times.{generalized_zone, has_form, hour, mark, maybe, minute, month_and_day};
 ghost use Rattle.tlv_value.specs.Times.{octet_between, second, sign, two_digits, utc_minute, utc_time_form, utc_zone};
-ghost use Rattle.tlv_value.specs.Times.{◌or◌, ◌then◌};
+ghost use Rattle.tlv_value.specs.Times.{◌then◌};
 
 /// Whether the octets are of the grammar of UTCTime: `YYMMDDhhmm`, `ss` or nothing, and `Z`, `+hhmm` or `-hhmm`.
 #[inline(never)]

@@ -1,8 +1,8 @@
 //! The texts of characters.
 ghost use Rattle.std.specs.List.{list_all};
-ghost use Rattle.std.specs.Prelude.{◌≡◌, ◌+◌, ◌*◌, ◌<◌, ◌≤◌, ◌++◌, false, flat_map, length, slice_index, take, true};
+ghost use Rattle.std.specs.Prelude.{◌≡◌, ◌<◌, ◌≤◌, ◌++◌, false, flat_map, length, slice_index, take, true};
 ghost use Rattle.tlv_io.specs.LineTexts.{AddsIfRoom, HasRoomFor};
-ghost use Rattle.tlv_value.specs.Private.Unescaped.{AreUnescaped, IsPart, has_ascii_octets, is_unescaped};
+ghost use Rattle.tlv_value.specs.Private.Unescaped.{AreUnescaped, IsPart, IsSomeOf, has_ascii_octets, is_unescaped};
 ghost use Rattle.tlv_value.specs.Units.{escaped_number, escaped_octet, is_printable, octet_text};
 ghost use Rattle.tlv_value.specs.Units.{printable_text, unit_size, unit_text, units, utf8_number};
 ghost use Rattle.tlv_value.specs.Units.{without_zeros};
@@ -57,8 +57,7 @@ fn write_units(held: &mut HeldOctets, kind: Kind, row: &[u8])
 /// Adds the first octets, if they are written as they are, or else a unit. Returns how many octets these are.
 fn write_part(held: &mut HeldOctets, kind: Kind, octets: &[u8]) -> usize
     requires { 1 ≤ length octets.now }
-    ensures some { 1 ≤ result }
-    ensures within { result ≤ length octets.now }
+    ensures count { IsSomeOf result octets.now }
     ensures text { IsPart kind octets.now held.old held.new result }
 {
     let unescaped = unescaped_size(kind, octets);
@@ -246,8 +245,7 @@ fn unescaped_size(kind: Kind, octets: &[u8]) -> usize
 fn unit_size(kind: Kind, octets: &[u8]) -> usize
     requires { 1 ≤ length octets.now }
     ensures value { result ≡ unit_size kind octets.now }
-    ensures some { 1 ≤ result }
-    ensures within { result ≤ length octets.now }
+    ensures count { IsSomeOf result octets.now }
 {
     match kind {
         Kind::Ucs2 if octets.len() >= 2 => 2,
@@ -261,8 +259,7 @@ fn unit_size(kind: Kind, octets: &[u8]) -> usize
 fn utf8_unit_size(octets: &[u8]) -> usize
     requires { 1 ≤ length octets.now }
     ensures value { result ≡ unit_size Kind.Utf8 octets.now }
-    ensures some { 1 ≤ result }
-    ensures within { result ≤ length octets.now }
+    ensures count { IsSomeOf result octets.now }
 {
     let unit = &octets[..utf8_length(octets[0]).min(octets.len())];
     if simdutf8::is_utf8(unit) {

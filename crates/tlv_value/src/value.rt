@@ -1,5 +1,5 @@
 //! The texts of values.
-ghost use Rattle.std.specs.Prelude.{◌≡◌, ◌-◌, ◌*◌, ◌<◌, ◌≤◌, ◌++◌, ◌∷◌, [], length, true};
+ghost use Rattle.std.specs.Prelude.{◌≡◌, ◌*◌, ◌<◌, ◌≤◌, ◌++◌, ◌∷◌, [], length, true};
 ghost use Rattle.std.specs.Fmt.{signed_decimal};
 ghost use Rattle.tlv_io.specs.LineTexts.{AddsAtMost, HasRoomFor};
 ghost use Rattle.tlv_value.specs.Bits.{last_bits};
@@ -167,7 +167,7 @@ pub(crate) fn write_long_bits(held: &mut HeldOctets, size: u64, unused_bits: u8)
 
 /// Adds the number of bits of so many octets.
 fn write_bit_count(held: &mut HeldOctets, unused_bits: u8, octet_count: u64)
-    requires some { unused_bits ≤ 8 * octet_count }
+    requires within { unused_bits ≤ 8 * octet_count }
     requires room { HasRoomFor held.old 64 }
     ensures { AddsAtMost 45 held.old held.new (32 ∷ bit_count_text unused_bits octet_count) }
 {

@@ -1,5 +1,5 @@
 //! The rest of lines on their way to an [`Out`], after the tag texts.
-ghost use Rattle.std.specs.Prelude.{◌+◌, ◌≤◌, ◌++◌, [], codes, false, length, true};
+ghost use Rattle.std.specs.Prelude.{◌≤◌, ◌++◌, [], codes, false, length, true};
 ghost use Rattle.tlv_io.specs.LineTexts.{HasRoomFor};
 ghost use Rattle.tlv_io.specs.Out.{Puts, held_octets};
 ghost use Rattle.tlv_value.specs.Private.ObjectLines.{object_lines, octets_lines};

@@ -6,9 +6,9 @@ ghost use Rattle.tlv_io.specs.Out.{Puts};
 ghost use Rattle.tlv_value.specs.RowSizes.{row_size};
 ghost use Rattle.tlv_value.specs.Private.PrimitiveLines.{lines_in_steps};
 ghost use Rattle.tlv_value.specs.Rows.{rows_of};
-ghost use Rattle.tlv_value.specs.Value.{long_text, row_octets};
+ghost use Rattle.tlv_value.specs.Value.{row_octets};
 ghost use Rattle.tlv_value.specs.ValueLines.{row_lines, whole_lines};
-ghost use Rattle.tlv_value.specs.ValueTextState.{is_long_primitive, new_value_text_of, primitive_line};
+ghost use Rattle.tlv_value.specs.ValueTextState.{is_long_primitive, long_value_line, new_value_text_of};
 
 use crate::kind::Kind;
 use crate::primitive::Primitive;
@@ -78,7 +78,7 @@ fn put_pairs<D: Drain>(
     requires unlimited { primitive.now.layout.limit ≡ None }
     requires long { is_long_primitive primitive.now ≡ true }
     ensures { Puts D.state out.old out.new
-        (primitive_line primitive.now (long_text primitive.now.kind primitive.now.size contents.now)
+        (long_value_line primitive.now contents.now
         ++ row_lines primitive.now.kind primitive.now.layout 0
         (rows_of primitive.now.kind (row_octets primitive.now.kind contents.now))) result }
 {

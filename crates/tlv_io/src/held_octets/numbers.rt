@@ -1,5 +1,5 @@
 //! Numbers that are added to the octets held.
-ghost use Rattle.std.specs.Prelude.{◌≡◌, ◌+◌, ◌<◌, ◌++◌, decimal, length};
+ghost use Rattle.std.specs.Prelude.{◌≡◌, ◌++◌, decimal, length};
 ghost use Rattle.tlv_io.specs.LineTexts.{HasRoomFor, columns, at_right};
 
 use super::HeldOctets;

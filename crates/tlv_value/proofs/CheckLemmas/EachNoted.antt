@@ -1,6 +1,7 @@
 -- What is noted of each contents octet, type by type. Of most types it is nothing.
 use Rattle.std.specs.Str.{is_utf8}
-use Rattle.std.proofs.Common.{◌≡◌, ℕ, Bool, true, false, List, refl, arith}
+use Rattle.std.proofs.Math.Bool.{and-true}
+use Rattle.std.proofs.Common.{◌≡◌, ℕ, true, false, List, refl, arith}
 use Rattle.std.specs.List.{list_all}
 use Rattle.std.specs.Prelude.{◌&&◌, ◌||◌, eqb}
 use Rattle.std.proofs.lemmas.Bool.Decides.{nat_tests}
@@ -10,10 +11,6 @@ use Rattle.tlv_value.specs.Checks.{allows_octet, is_padded_after, last_octet}
 use Rattle.tlv_value.specs.declared.kind.Kind.TheVariants.{Utf8}
 use Rattle.tlv_value.specs.Rows.{full_rows, open_row}
 use Rattle.tlv_value.proofs.CheckLemmas.Noting.{all-other}
-
-and-true : (k : Bool) → (k && true) ≡ k
-and-true true = refl
-and-true false = refl
 
 pub nothing-noted : (s : ValueCheckState) (octets : List ℕ) → notes_each s.number ≡ false
     → record (with_each_noted s octets) { last = s.last } ≡ s

@@ -1,8 +1,8 @@
 -- What is found by what was noted of contents is what is found by the whole contents.
-use Rattle.std.proofs.Common.{◌≡◌, ℕ, Bool, true, false, ◌&&◌, ◌||◌, ◌==◌, ◌%◌, ◌^◌, not, eqb, ◌≤◌, nat_le, nat_lt}
-use Rattle.std.proofs.Common.{if◌then◌else◌, List, [], ◌∷◌, ◌++◌, length, take, refl, sym, ap, ◌∙◌, subst, arith}
+use Rattle.std.proofs.Common.{◌≡◌, ℕ, Bool, true, false, ◌&&◌, ◌||◌, ◌==◌, ◌%◌, ◌^◌, not, eqb, nat_le, nat_lt}
+use Rattle.std.proofs.Common.{if◌then◌else◌, List, [], ◌∷◌, ◌++◌, length, take, refl, sym, ap, ◌∙◌, subst}
 use Rattle.std.proofs.lemmas.Bool.{eqb-true, leb-true}
-use Rattle.std.proofs.lemmas.Grind.{common_steps}
+use Rattle.std.proofs.lemmas.List.{take_all}
 use Rattle.std.specs.List.{list_all}
 use Rattle.std.specs.Prelude.{slice_index}
 use Rattle.tlv_value.specs.declared.finding.Finding.{Finding}
@@ -16,7 +16,7 @@ use Rattle.tlv_value.specs.Rows.{full_rows, open_row}
 use Rattle.tlv_value.specs.declared.kind.Kind.TheVariants.{Utf8}
 use Rattle.std.specs.Str.{is_utf8}
 use Rattle.tlv_value.proofs.CheckLemmas.EachNoted.{nothing-noted}
-use Rattle.tlv_value.proofs.CheckLemmas.Formed.{rows-formed_at}
+use Rattle.tlv_value.proofs.CheckLemmas.Utf8ByRow.{rows-formed_at}
 use Rattle.tlv_value.specs.Times.{Form, canonical_generalized_time_form, canonical_utc_time_form, generalized_time_form}
 use Rattle.tlv_value.specs.Times.{has_form, utc_time_form}
 
@@ -36,9 +36,6 @@ padded-noted : (c : List ℕ) → is_padded_integer c ≡ is_padded_integer (tak
 padded-noted [] = refl
 padded-noted (x ∷ []) = refl
 padded-noted (x ∷ y ∷ c) = refl
-
-take-all : (n : ℕ) (c : List ℕ) → length c ≤ n → take n c ≡ c
-take-all n c h = grind (arith, common_steps)
 
 -- ---- type by type: those of which more is asked than the number of octets, and what was noted of each octet
 
@@ -76,12 +73,12 @@ time-by true form canonical c time e =
 utc-same : (c : List ℕ) → Same 23 c
 utc-same c =
     time-by (nat_le (length c) 64) utc_time_form canonical_utc_time_form c (take 64 c)
-    (λ e. take-all 64 c (leb-true (length c) 64 e))
+    (λ e. take_all 64 c (leb-true (length c) 64 e))
 
 general-same : (c : List ℕ) → Same 24 c
 general-same c =
     time-by (nat_le (length c) 64) generalized_time_form canonical_generalized_time_form c (take 64 c)
-    (λ e. take-all 64 c (leb-true (length c) 64 e))
+    (λ e. take_all 64 c (leb-true (length c) 64 e))
 
 -- any other type
 allowed-each : (n : ℕ) (c : List ℕ) (text : Bool)

@@ -21,7 +21,7 @@ use Rattle.tlv_value.specs.Rows.{rows_of}
 use Rattle.tlv_value.proofs.RowLemmas.FilledRows.{row_begun, rows-filled, rows_filled}
 use Rattle.tlv_value.specs.ValueLines.{row_lines}
 use Rattle.tlv_value.specs.Value.{row_text, spaced_pairs}
-use Rattle.tlv_value.proofs.TextLemmas.Puts.{row_lines-append}
+use Rattle.tlv_value.proofs.TextLemmas.RowLines.{row_lines-append}
 use Rattle.tlv_value.proofs.RowLemmas.RowSteps.{keep, next_row}
 
 -- ---- kinds whose rows have 16 octets

@@ -37,7 +37,7 @@ module _ (kind : Kind) where
       → HaveRoom kind 0 (row ++ rest) (length row)
   row-room row rest r i h =
       let same : get_or (row ++ rest) i 0 ≡ get_or row i 0 = get_or_append_left row rest 0 i h in
-      let room = r.whole i h in
+      let room = r.splits_none i h in
       rw same (grind (arith, nat_tests))
 
   -- a row that is full by the condition on rows

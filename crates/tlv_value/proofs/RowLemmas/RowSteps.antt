@@ -195,18 +195,18 @@ module _ (kind : Kind) where
 
   -- no octets
   pub none-open : IsOpenRow kind []
-  none-open = record { short = let h = one_fits kind in omega arith; whole = λ i h. absurd (omega arith) }
+  none-open = record { short = let h = one_fits kind in omega arith; splits_none = λ i h. absurd (omega arith) }
 
   -- each of its octets has room after those before it
   pub open-room : (row : List ℕ) → IsOpenRow kind row → HaveRoom kind 0 row (length row)
-  open-room row o i h = let room = o.whole i h in grind (arith, nat_tests)
+  open-room row o i h = let room = o.splits_none i h in grind (arith, nat_tests)
 
   -- one octet more
   open-one : (row : List ℕ) (x : ℕ) → IsOpenRow kind row → has_room kind (length row) x ≡ true
       → length row + 1 < row_size kind → IsOpenRow kind (row ++ x ∷ [])
   open-one row x o room h = record {
     short = omega (arith, length-append row (x ∷ []));
-    whole = fit-more (row_size kind) (character_length kind) row x o.whole room;
+    splits_none = fit-more (row_size kind) (character_length kind) row x o.splits_none room;
   }
 
   -- the first octet

@@ -1,15 +1,11 @@
 -- How long what is added to a line is at most.
-use Rattle.std.proofs.Common.{◌≡◌, ℕ, ◌+◌, ◌-◌, ◌^◌, ◌<◌, ◌≤◌, List, [], ◌∷◌, ◌++◌, length, take, arith, ap, ◌∙◌}
+use Rattle.std.proofs.Common.{◌≡◌, ℕ, ◌+◌, ◌-◌, ◌^◌, ◌<◌, ◌≤◌, List, [], ◌∷◌, ◌++◌, length, take, arith}
 use Rattle.std.proofs.Common.{length-append}
 use Rattle.std.specs.Prelude.{decimal}
 use Rattle.std.proofs.lemmas.Fmt.{length-decimal-le}
 use Rattle.std.proofs.lemmas.List.{length-replicate, length-take}
 use Rattle.tlv_value.specs.Layout.{columns, at_right, spaces}
-use Rattle.tlv_io.proofs.HeldTexts.{right-short}
-
--- a text was added
-pub added : (old new text : List ℕ) → new ≡ old ++ text → length new ≡ length old + length text
-added old new text e = ap length e ∙ length-append old text
+use Rattle.tlv_io.proofs.HeldTexts.{added, right-short}
 
 -- the first octets of a text were added
 pub prefix_short : (old new text : List ℕ) (n : ℕ) → new ≡ old ++ take n text → length new ≤ length old + n

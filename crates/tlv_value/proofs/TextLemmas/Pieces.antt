@@ -21,7 +21,7 @@ use Rattle.tlv_value.specs.ValueTextState.{kept_after_line}
 use Rattle.tlv_value.specs.ValueTextState.{kept_after, value_text_for, value_text_after}
 use Rattle.tlv_value.specs.Value.{NameOf, is_long, long_text, long_value, row_octets, short_value}
 use Rattle.std.proofs.lemmas.Bool.Decides.{nat_tests}
-use Rattle.tlv_value.proofs.TextLemmas.Puts.{row_lines-append}
+use Rattle.tlv_value.proofs.TextLemmas.RowLines.{row_lines-append}
 use Rattle.tlv_value.proofs.RowLemmas.FilledRows.{rows-filled}
 use Rattle.tlv_value.proofs.RowLemmas.OneCut.{rows-join, rows-parts}
 

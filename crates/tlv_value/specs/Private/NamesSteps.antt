@@ -15,7 +15,7 @@ use Rattle.tlv_value.specs.NamesReading.{EndsWithin, FailsWithin, IsTooLong, nam
 use Rattle.tlv_value.specs.declared.names.fault.NamesFault.{NamesFault}
 use Rattle.tlv_value.specs.declared.names.fault.NamesFault.TheVariants.{BadOid, BadName, Repeated, TooLarge}
 use Rattle.tlv_value.specs.declared.names.fault.NamesFault.TheVariants.{ReadFailed, Memory}
-use Rattle.tlv_value.specs.NamesFields.{texts_in, table_in}
+use Rattle.tlv_value.specs.NamesFields.{table_in}
 
 abbrev pub texts_of :
     Result (Option (Bor (List ℕ) × Bor (List ℕ))) NamesFault → Result (Option Entry) NamesFault
@@ -54,7 +54,7 @@ AddsLine number long_line old new result = IsErrOf result TooLarge
 -- the octets come to this table or refusal; memory may be refused at any time
 abbrev pub IsTableOf : {Z : Type 0}
     → List ℕ → Result (BTreeMap (Vec ℕ Z) (Vec ℕ Z)) NamesFault → Type 0
-IsTableOf octets (Ok table) = names_of octets ≡ Ok (finite.from_entries (texts_in table))
+IsTableOf octets (Ok table) = names_of octets ≡ Ok (table_in table)
 IsTableOf octets (Err ReadFailed) = ⊥
 IsTableOf octets (Err Memory) = Unit {0}
 IsTableOf octets (Err fault) = names_of octets ≡ Err fault

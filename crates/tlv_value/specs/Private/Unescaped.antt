@@ -1,5 +1,5 @@
 -- Characters in a row: those written as they are, and what is written of the first ones.
-use Rattle.std.specs.Prelude.{◌≡◌, ℕ, ◌<◌, Bool, true, false, ◌&&◌, ◌||◌, not, eqb, List, ◌++◌, drop}
+use Rattle.std.specs.Prelude.{◌≡◌, ℕ, ◌<◌, ◌≤◌, Bool, true, false, ◌&&◌, ◌||◌, not, eqb, List, ◌++◌, drop, length}
 use Rattle.std.specs.Prelude.{flat_map, slice_index}
 use Rattle.tlv_io.specs.LineTexts.{AddsIfRoom}
 use Rattle.tlv_value.specs.declared.kind.Kind.{Kind}
@@ -15,6 +15,11 @@ abbrev pub has_ascii_octets : Kind → Bool
 has_ascii_octets Text = true
 has_ascii_octets Utf8 = true
 has_ascii_octets _ = false
+
+-- it is a number of octets that there are, and not 0
+pub record IsSomeOf (count : ℕ) (octets : List ℕ) : Type 0 where
+  pub some : 1 ≤ count
+  pub within : count ≤ length octets
 
 -- the first n of the octets are such characters
 abbrev pub AreUnescaped : Kind → List ℕ → ℕ → Type 0

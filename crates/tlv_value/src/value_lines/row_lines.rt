@@ -58,7 +58,7 @@ pub(crate) fn put_rows<D: Drain>(
     ensures counted { row_count.new + length row.new.items
         ≤ row_count.old + length row.old.items + length octets.now }
     ensures row { OnOk result (row.new.items ≡ open_row kind row.old.items octets.now) }
-    ensures rows { OnOk result
+    ensures row_count { OnOk result
         (row_count.new ≡ row_count.old + length (full_rows kind row.old.items octets.now)) }
     ensures puts { Puts D.state out.old out.new
         (row_lines kind layout row_count.old (full_rows kind row.old.items octets.now)) result }

@@ -1,5 +1,5 @@
 use Rattle.std.proofs.Common.{arith}
-use Rattle.tlv_value.proofs.CheckLemmas.Within.{utc_clear}
+use Rattle.tlv_value.proofs.CheckLemmas.NestedForms.{utc_clear}
 use Rattle.tlv_value.proofs.clear.is_utc_clear.Goals as goal
 
 pub returns : goal.returns

@@ -4,7 +4,7 @@ use Rattle.std.proofs.lemmas.Grind.{common_steps}
 use Rattle.tlv_value.specs.Arcs.{is_finished}
 use Rattle.tlv_value.specs.Private.Arcs.{arcs_text}
 use Rattle.tlv_value.proofs.TextLemmas.Arcs.{room-last, room-within, run-end, run-last, run-none, run-within}
-use Rattle.tlv_value.proofs.TextLemmas.Short.{adds_short}
+use Rattle.tlv_value.proofs.TextLemmas.RowTextLengths.{adds_short}
 use Rattle.tlv_value.proofs.dotted.write_dotted.Goals.{then-octet-lt128, else-octet-lt128}
 use Rattle.tlv_value.proofs.dotted.write_dotted.Goals as goal
 

@@ -2,7 +2,7 @@ use Rattle.std.proofs.Common.{◌≡◌, ℕ, ◌+◌, ◌*◌, ◌%◌, ◌++�
 use Rattle.tlv_value.specs.Private.Arcs.{arcs_text}
 use Rattle.tlv_value.proofs.TextLemmas.Arcs.{few-bits, none-yet, one-more, room-last, room-within, run-end, run-last}
 use Rattle.tlv_value.proofs.TextLemmas.Arcs.{run-within}
-use Rattle.tlv_value.proofs.TextLemmas.Short.{adds_short}
+use Rattle.tlv_value.proofs.TextLemmas.RowTextLengths.{adds_short}
 use Rattle.tlv_value.proofs.dotted.write_short.Goals.{then-octet-lt128, else-octet-lt128}
 use Rattle.tlv_value.proofs.dotted.write_short.Goals as goal
 

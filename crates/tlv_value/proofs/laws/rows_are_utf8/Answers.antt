@@ -1,4 +1,4 @@
-use Rattle.tlv_value.proofs.CheckLemmas.Formed.{rows-formed}
+use Rattle.tlv_value.proofs.CheckLemmas.Utf8ByRow.{rows-formed}
 use Rattle.tlv_value.proofs.laws.rows_are_utf8.Goals as goal
 
 pub returns : goal.returns

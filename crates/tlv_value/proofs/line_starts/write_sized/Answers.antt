@@ -2,7 +2,7 @@ use Rattle.std.proofs.Common.{decimal, arith, rules}
 use Rattle.std.proofs.lemmas.Fmt.{length-decimal-le}
 use Rattle.tlv_value.specs.Layout.{columns}
 use Rattle.tlv_value.proofs.TextLemmas.LineLengths.{columns_short}
-use Rattle.tlv_value.proofs.TextLemmas.Short.{grown}
+use Rattle.tlv_value.proofs.TextLemmas.RowTextLengths.{grown}
 use Rattle.tlv_value.proofs.line_starts.write_sized.Goals as goal
 
 pub returns-then-not-pure : goal.returns-then-not-pure

@@ -2,7 +2,7 @@ use Rattle.std.proofs.Common.{◌≡◌, true, ◌++◌, List, ℕ, length, sym,
 use Rattle.tlv_value.specs.Private.Unescaped.{is_unescaped}
 use Rattle.std.specs.List.{list_all}
 use Rattle.tlv_value.proofs.TextLemmas.UnescapedUnits.{unescaped-prefix, unescaped-row}
-use Rattle.tlv_value.proofs.TextLemmas.Short.{units-short}
+use Rattle.tlv_value.proofs.TextLemmas.RowTextLengths.{units-short}
 use Rattle.tlv_value.proofs.units.write_characters.Goals as goal
 
 pub returns-then-are_unescaped : goal.returns-then-are_unescaped

@@ -1,6 +1,6 @@
 use Rattle.std.proofs.Common.{ℕ, ◌-◌, ◌*◌, ◌≤◌, ◌∷◌, [], append_assoc, length, ap, arith, length-append, refl}
 use Rattle.std.specs.Prelude.{codes, decimal}
-use Rattle.tlv_value.proofs.TextLemmas.Short.{digits-short}
+use Rattle.tlv_value.proofs.TextLemmas.RowTextLengths.{digits-short}
 use Rattle.tlv_value.proofs.value.write_bit_count.Goals as goal
 
 pub add-requires-2 : goal.add-requires-2

@@ -1,7 +1,7 @@
 use Rattle.std.proofs.Common.{◌++◌, ◌∷◌, [], List, ℕ, length, ap, ◌∙◌, arith, append_assoc, length-append}
 use Rattle.std.specs.Prelude.{flat_map}
 use Rattle.tlv_value.specs.Units.{unit_text, units}
-use Rattle.tlv_value.proofs.TextLemmas.Short.{units-short}
+use Rattle.tlv_value.proofs.TextLemmas.RowTextLengths.{units-short}
 use Rattle.tlv_value.proofs.value.write_quoted.Goals as goal
 
 pub write_characters-requires : goal.write_characters-requires

@@ -1,7 +1,7 @@
 use Rattle.std.proofs.Common.{◌∷◌, arith, rules}
 use Rattle.tlv_value.specs.Value.{joined_pairs}
 use Rattle.tlv_value.specs.Units.{quoted_text}
-use Rattle.tlv_value.proofs.TextLemmas.Short.{grown, joined-short, quoted-short}
+use Rattle.tlv_value.proofs.TextLemmas.RowTextLengths.{grown, joined-short, quoted-short}
 use Rattle.tlv_value.proofs.value.write_row.Goals as goal
 
 pub returns-in-Text : goal.returns-in-Text

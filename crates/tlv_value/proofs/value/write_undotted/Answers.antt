@@ -1,7 +1,8 @@
 use Rattle.std.proofs.Common.{rules, ◌≤◌, ◌∷◌, length, List, ℕ}
 use Rattle.tlv_value.specs.Value.{bits_value, boolean_value, integer_value, spaced_pairs}
 use Rattle.tlv_value.specs.Units.{quoted_text}
-use Rattle.tlv_value.proofs.TextLemmas.Short.{bits-short, boolean-short, grown, integer-short, pairs-short, text-short}
+use Rattle.tlv_value.proofs.TextLemmas.RowTextLengths.{bits-short, boolean-short, grown, integer-short, pairs-short}
+use Rattle.tlv_value.proofs.TextLemmas.RowTextLengths.{text-short}
 use Rattle.tlv_value.proofs.value.write_undotted.Goals as goal
 
 pub returns-in-Boolean : goal.returns-in-Boolean

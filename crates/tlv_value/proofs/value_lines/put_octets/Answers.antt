@@ -1,9 +1,8 @@
 use Rattle.std.proofs.Common.{◌++◌, ◌∷◌, [], ◌∙◌, ℕ, List, refl, ap, append_assoc, arith}
 use Rattle.tlv_io.proofs.Puts.{puts_held, puts_then_as}
 use Rattle.tlv_value.specs.Value.{spaced_pairs}
-use Rattle.tlv_value.proofs.TextLemmas.LineLengths.{added}
+use Rattle.tlv_io.proofs.HeldTexts.{added, pairs-size}
 use Rattle.tlv_value.proofs.TextLemmas.ObjectLines.{octets_long, octets_short}
-use Rattle.tlv_value.proofs.TextLemmas.Short.{spaced-short}
 use Rattle.tlv_value.proofs.value_lines.put_octets.Goals as goal
 
 pub add-requires : goal.add-requires
@@ -11,7 +10,7 @@ add-requires g c =
     omega (
       arith,
       added _ _ (spaced_pairs c.args.contents.now) c.spaced_pairs.ensures,
-      spaced-short c.args.contents.now,
+      pairs-size c.args.contents.now,
       c.requires.room,
       c.if-contents-le16.true,
     )

@@ -1,7 +1,6 @@
 use Rattle.std.proofs.Common.{◌++◌, ◌∙◌, ap, rules, ℕ, List}
 use Rattle.tlv_io.proofs.Puts.{puts_failed, puts_then_as}
-use Rattle.tlv_value.specs.Value.{long_text}
-use Rattle.tlv_value.specs.ValueTextState.{primitive_line}
+use Rattle.tlv_value.specs.ValueTextState.{long_value_line}
 use Rattle.tlv_value.specs.Rows.{rows_of}
 use Rattle.tlv_value.specs.ValueLines.{row_lines}
 use Rattle.tlv_value.proofs.RowLemmas.FullRows.{pair_lines}
@@ -13,7 +12,7 @@ returns-in_err-put_long_line g c = puts_failed g.D.Drain.state _ _ _ _ _ _ c.in_
 pub returns : goal.returns
 returns g c =
     let p = c.args.primitive.now in
-    let line : List ℕ = primitive_line p (long_text p.kind p.size c.args.contents.now) in
+    let line : List ℕ = long_value_line p c.args.contents.now in
     let rows =
     pair_lines p.kind c.requires.pairs p.layout c.requires.unlimited c.row_octets.result.now
     ∙ ap (λ (octets : List ℕ). row_lines p.kind p.layout 0 (rows_of p.kind octets)) c.row_octets.ensures in

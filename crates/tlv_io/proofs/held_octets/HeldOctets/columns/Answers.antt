@@ -21,7 +21,7 @@ returns c =
     let first : List ℕ = decimal c.args.offset in
     let o = c.write_digits-self-inside in
     let s = c.write_digits-self-inside-2 in
-    let within : at ≤ length octets = omega (arith, c.len-start.ensures.short, c.self.told) in
+    let within : at ≤ length octets = omega (arith, c.len-start.ensures.within, c.self.told) in
     let short : length first ≤ 8 = length-decimal-le 8 c.args.offset (omega arith) (omega arith) c.ranges.offset.fits in
     let few : length (decimal c.args.size) ≤ 6 =
     length-decimal-le 6 c.args.size (omega arith) (omega arith) c.ranges.size.fits in

@@ -15,7 +15,7 @@ returns c =
     let at : ℕ = c.len-start.result in
     let first : List ℕ = decimal c.args.offset in
     let o = c.write_digits in
-    let within : at ≤ length octets = omega (arith, c.len-start.ensures.short, c.self.told) in
+    let within : at ≤ length octets = omega (arith, c.len-start.ensures.within, c.self.told) in
     let short : length first ≤ 8 = length-decimal-le 8 c.args.offset (omega arith) (omega arith) c.ranges.offset.fits in
     let there =
     offset_written octets first _ at within short c.copy_from_slice.new.self o.new.buf o.result

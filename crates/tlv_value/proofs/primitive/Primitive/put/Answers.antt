@@ -4,7 +4,7 @@ use Rattle.tlv_value.specs.Value.{Value, short_value}
 use Rattle.tlv_value.specs.Private.UndottedText.{undotted_text}
 use Rattle.tlv_value.specs.Private.PrimitiveLines.{line_prefix}
 use Rattle.tlv_value.specs.ValueLines.{row_lines}
-use Rattle.tlv_value.proofs.TextLemmas.Ends.{shown-prefix, shown-object, shown-undotted, shown-relative}
+use Rattle.tlv_value.proofs.TextLemmas.PrimitiveLines.{shown-prefix, shown-object, shown-undotted, shown-relative}
 use Rattle.tlv_value.proofs.primitive.Primitive.put.Goals as goal
 
 pub returns-in_err-put_prefix : goal.returns-in_err-put_prefix

@@ -4,7 +4,7 @@ use Rattle.tlv_io.proofs.Puts.{puts_failed_in, puts_then_as}
 use Rattle.tlv_value.specs.declared.kind.Kind.TheVariants.{Octets}
 use Rattle.tlv_value.specs.Rows.{full_rows, open_row}
 use Rattle.tlv_value.specs.ValueLines.{row_lines}
-use Rattle.tlv_value.proofs.TextLemmas.Puts.{rows-split}
+use Rattle.tlv_value.proofs.TextLemmas.RowLines.{rows-split}
 use Rattle.tlv_value.proofs.value_lines.row_lines.put_all_rows.Goals as goal
 
 pub returns-in_err-put_rows : goal.returns-in_err-put_rows
@@ -27,6 +27,6 @@ returns g c =
     c.as_slice.ensures.value ∙ rw none at c.in_ok-put_rows.ensures.row in
     let zero : 0 + length (full_rows Octets [] octets) ≡ length (full_rows Octets [] octets) = omega arith in
     let rows : c.put_rows.new.row_count ≡ length (full_rows Octets [] octets) =
-    rw none at c.in_ok-put_rows.ensures.rows ∙ zero in
+    rw none at c.in_ok-put_rows.ensures.row_count ∙ zero in
     puts_then_as g.D.Drain.state _ _ _ _ _ _ _ _ put (rw (row, rows) at c.put_last.ensures)
     (rows-split Octets c.args.layout octets)

@@ -42,8 +42,8 @@ returns-then-is_empty-clause-row g c =
     grind (arith, common_steps) in
     t ∙ sym k.1 ∙ c.loop-rest.invariant.row
 
-pub returns-then-is_empty-clause-rows : goal.returns-then-is_empty-clause-rows
-returns-then-is_empty-clause-rows g c =
+pub returns-then-is_empty-clause-row_count : goal.returns-then-is_empty-clause-row_count
+returns-then-is_empty-clause-row_count g c =
     let z : length c.split_at.result.1.now ≡ 0 =
     eqb-true (length c.split_at.result.1.now) 0 (sym c.if-is_empty.ensures) in
     let k =
@@ -147,8 +147,8 @@ loop-rest-init g c =
 pub returns-clause-row : goal.returns-clause-row
 returns-clause-row g c = grind (arith, common_steps)
 
-pub returns-clause-rows : goal.returns-clause-rows
-returns-clause-rows g c = grind (arith, common_steps)
+pub returns-clause-row_count : goal.returns-clause-row_count
+returns-clause-row_count g c = grind (arith, common_steps)
 
 pub returns-clause-puts : goal.returns-clause-puts
 returns-clause-puts g c = grind (arith, common_steps)

@@ -1,10 +1,9 @@
 use Rattle.std.proofs.Common.{◌-◌, ◌++◌, ◌∷◌, [], ◌∙◌, List, ℕ, ap, arith}
 use Rattle.std.proofs.lemmas.List.{length-replicate}
-use Rattle.tlv_io.proofs.HeldTexts.{pairs-size}
+use Rattle.tlv_io.proofs.HeldTexts.{added, pairs-size}
 use Rattle.tlv_value.specs.Layout.{spaces}
 use Rattle.tlv_value.specs.Value.{spaced_pairs}
 use Rattle.tlv_value.proofs.RowLemmas.FullRows.{full_line_added}
-use Rattle.tlv_value.proofs.TextLemmas.LineLengths.{added}
 use Rattle.tlv_value.proofs.value_lines.row_lines.write_pair_row_line.Goals as goal
 
 pub add-requires : goal.add-requires
@@ -29,4 +28,4 @@ returns c =
     ∙ ap (λ (l : List ℕ). l ++ 10 ∷ [])
     (c.spaced_row.ensures ∙ ap (λ (l : List ℕ). l ++ spaced_pairs c.args.row.now) c.spaces.ensures)
     ∙ full_line_added c.args.layout c.args.held.now c.args.row.now c.row_indent.result c.row_indent.ensures.text
-    c.row_indent.ensures.some c.told-row
+    c.row_indent.ensures.two_or_more c.told-row

@@ -8,7 +8,7 @@ use Rattle.tlv_value.specs.ValueLines.{row_lines}
 use Rattle.tlv_value.specs.ValueTextState.{ValueTextState, contents_lines, primitive_line}
 use Rattle.tlv_value.specs.ValueTextFields.{value_text_state_of}
 use Rattle.tlv_value.specs.Value.{is_long, long_text, row_octets}
-use Rattle.tlv_value.proofs.TextLemmas.Ends.{new-first, rows-first}
+use Rattle.tlv_value.proofs.TextLemmas.PrimitiveLines.{new-first, rows-first}
 use Rattle.tlv_value.proofs.TextLemmas.Rests.{bytes-puts}
 use Rattle.tlv_value.proofs.value_text.ValueText.bytes.Goals as goal
 

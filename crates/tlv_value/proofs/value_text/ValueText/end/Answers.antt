@@ -4,7 +4,7 @@ use Rattle.tlv_io.proofs.Puts.{puts_text}
 use Rattle.tlv_value.specs.ValueTextState.{ValueTextState, end_lines, primitive_lines}
 use Rattle.tlv_value.specs.Value.{is_long}
 use Rattle.tlv_value.specs.ValueTextFields.{value_text_state_of}
-use Rattle.tlv_value.proofs.TextLemmas.Ends.{ended-shown, held-most}
+use Rattle.tlv_value.proofs.TextLemmas.PrimitiveLines.{ended-shown, held-most}
 use Rattle.tlv_value.proofs.TextLemmas.Rests.{end-puts}
 use Rattle.tlv_value.proofs.value_text.ValueText.end.Goals as goal
 

@@ -5,6 +5,7 @@ use Rattle.std.proofs.Common.{length, get_or, refl, sym, ap, ap₂, ◌∙◌, a
 use Rattle.std.proofs.Common.{length-append}
 use Rattle.std.specs.Prelude.{◌&&◌, IsUtf8, eqb, ltb, nat_le, cond, if◌then◌else◌}
 use Rattle.std.specs.Str.{is_utf8}
+use Rattle.std.proofs.Math.Bool.{and-true}
 use lib.Utf8.{scalar, scalar_cases, scalars, encode, encodes}
 use Rattle.std.proofs.lemmas.Bool.{ltb-true, leb-true}
 use Rattle.std.proofs.lemmas.Bool.Decides.{nat_tests}
@@ -26,14 +27,7 @@ and-assoc : (a b c : Bool) → (a && (b && c)) ≡ ((a && b) && c)
 and-assoc true b c = refl
 and-assoc false b c = refl
 
-and-true : (a : Bool) → (a && true) ≡ a
-and-true true = refl
-and-true false = refl
-
 -- ---- rows that are well-formed make contents that are
-
-gathered : List ℕ → List ℕ → Type 0
-gathered row xs = IsUtf8 (row ++ xs)
 
 joined_at : (row : List ℕ) (x : ℕ) (xs : List ℕ) (room last : Bool)
     → ((r : List ℕ) → list_all is_utf8 (rows_filled Utf8 r xs) ≡ true → IsUtf8 (row_begun Utf8 r xs) → IsUtf8 (r ++ xs))

@@ -26,6 +26,7 @@ use Rattle.tlv_value.specs.Units.{three_octets, unit_size, unit_text, units, utf
 use Rattle.tlv_value.specs.Value.{Value, bit_count_text, bits_value, boolean_value, integer_value, is_readable}
 use Rattle.tlv_value.specs.Value.{joined_pairs}
 use Rattle.tlv_io.specs.LineTexts.{AddsAtMost}
+use Rattle.tlv_io.proofs.HeldTexts.{pairs-size}
 use Rattle.tlv_value.specs.Value.{octets_value, spaced_pairs, used_digits, value_on_line}
 
 -- what was added is at most so long
@@ -165,15 +166,10 @@ pub quoted-short : (kind : Kind) (row : List ℕ) → length (quoted_text kind r
 quoted-short kind row =
     omega (arith, length-append (flat_map (unit_text kind) (units kind 0 row)) (34 ∷ []), units-short kind 0 row)
 
-pub spaced-short : (octets : List ℕ) → length (spaced_pairs octets) ≡ 3 * length octets
-spaced-short [] = refl
-spaced-short (x ∷ xs) =
-    omega (arith, length-append (32 ∷ encode_lower (x ∷ [])) (spaced_pairs xs), pair-length x, spaced-short xs)
-
 pub joined-short : (octets : List ℕ) → length (joined_pairs octets) ≤ 5 * length octets + 2
 joined-short [] = omega arith
 joined-short (x ∷ xs) =
-    omega (arith, length-append (encode_lower (x ∷ [])) (spaced_pairs xs), pair-length x, spaced-short xs)
+    omega (arith, length-append (encode_lower (x ∷ [])) (spaced_pairs xs), pair-length x, pairs-size xs)
 
 -- values on their lines
 
@@ -181,7 +177,7 @@ octets-text-short : (octets : List ℕ) → length (octets_value octets).text �
 octets-text-short octets =
     elim (nat_le (length octets) 16) as (λ b. nat_le (length octets) 16 ≡ b
     → length (if b then value_with (spaced_pairs octets) [] else value_with [] (rows_of Octets octets)).text ≤ 330) [
-      | true ↦ λ e. let h : length octets ≤ 16 = leb-true (length octets) 16 e in omega (arith, spaced-short octets)
+      | true ↦ λ e. let h : length octets ≤ 16 = leb-true (length octets) 16 e in omega (arith, pairs-size octets)
       | false ↦ λ e. omega arith
     ] refl
 
@@ -245,4 +241,4 @@ pub text-short : (kind : Kind) (octets : List ℕ) → length octets ≤ 64 → 
 text-short kind octets h = omega (arith, quoted-short kind octets)
 
 pub pairs-short : (octets : List ℕ) → length octets ≤ 64 → length (spaced_pairs octets) ≤ 330
-pairs-short octets h = omega (arith, spaced-short octets)
+pairs-short octets h = omega (arith, pairs-size octets)
