@@ -50,7 +50,7 @@ high-integer = inr (record {
   last = 2;
   each = below 128 [] refl;
   last_digit = lit< tt;
-  few = omega arith;
+  short = omega arith;
   value = refl;
   octets_are = refl;
 })
@@ -62,7 +62,7 @@ padded-integer = inr (record {
   last = 2;
   each = below 128 (0 ∷ []) refl;
   last_digit = lit< tt;
-  few = lit≤ tt;
+  short = lit≤ tt;
   value = refl;
   octets_are = refl;
 })
@@ -74,7 +74,7 @@ application-31 = inr (record {
   last = 31;
   each = below 128 [] refl;
   last_digit = lit< tt;
-  few = omega arith;
+  short = omega arith;
   value = refl;
   octets_are = refl;
 })
@@ -87,7 +87,7 @@ nine-octets = inr (record {
   last = 0;
   each = below 128 (1 ∷ 0 ∷ 0 ∷ 0 ∷ 0 ∷ 0 ∷ 0 ∷ 0 ∷ []) refl;
   last_digit = lit< tt;
-  few = lit≤ tt;
+  short = lit≤ tt;
   value = refl;
   octets_are = refl;
 })
@@ -102,7 +102,7 @@ long-3 = inr (record {
   digits = 3 ∷ [];
   each = below 256 (3 ∷ []) refl;
   some = lit≤ tt;
-  few = lit≤ tt;
+  short = lit≤ tt;
   value = refl;
   limit = lit< tt;
   octets_are = refl;
@@ -114,7 +114,7 @@ padded-128 = inr (record {
   digits = 0 ∷ 128 ∷ [];
   each = below 256 (0 ∷ 128 ∷ []) refl;
   some = lit≤ tt;
-  few = lit≤ tt;
+  short = lit≤ tt;
   value = refl;
   limit = lit< tt;
   octets_are = refl;
@@ -126,7 +126,7 @@ largest = inr (record {
   digits = 255 ∷ 255 ∷ 255 ∷ 255 ∷ 255 ∷ [];
   each = below 256 (255 ∷ 255 ∷ 255 ∷ 255 ∷ 255 ∷ []) refl;
   some = lit≤ tt;
-  few = lit≤ tt;
+  short = lit≤ tt;
   value = refl;
   limit = lit< tt;
   octets_are = refl;
@@ -141,7 +141,7 @@ reserved-no_length : (size : Size) (digits : List ℕ) → IsLength size (0xff �
 reserved-no_length (Definite n) digits (inl short) = let same : 255 ≡ n = cc (short.1) in omega (arith, short.0)
 reserved-no_length (Definite n) digits (inr long) =
     let same : 255 ≡ 128 + length long.digits = cc (long.octets_are) in
-    omega (arith, long.few)
+    omega (arith, long.short)
 reserved-no_length Indefinite digits e = omega (arith, ap (λ o. get_or o 0 0) e)
 
 -- a header at the start of an input, which is not named
@@ -183,7 +183,7 @@ longest-header = record {
     digits = replicate 125 0 ++ 1 ∷ [];
     each = below 256 (replicate 125 0 ++ 1 ∷ []) refl;
     some = lit≤ tt;
-    few = lit≤ tt;
+    short = lit≤ tt;
     value = refl;
     limit = lit< tt;
     octets_are = refl;
@@ -214,24 +214,24 @@ refused-indefinite = indefinite_primitive Universal 4 octet-string refl
 -- 04 86, then 01, which five octets are to follow
 refused-length : IsRefusedOctet (0x04 ∷ 0x86 ∷ []) 0x01 LengthTooLarge
 refused-length = length_too_large Universal false 4 6 (record {
-  identifier = 0x04 ∷ [];
+  identifier_octets = 0x04 ∷ [];
   digits = [];
-  identified = octet-string;
+  identifier = octet-string;
   each = below 256 [] refl;
   some = lit≤ tt;
-  few = lit≤ tt;
+  within = lit≤ tt;
   octets_are = refl;
 }) (lit≤ tt) (omega arith)
 
 -- 04 fe and 120 octets 00, then 01, which five octets are to follow
 refused-padded_length : IsRefusedOctet (0x04 ∷ 0xfe ∷ replicate 120 0x00) 0x01 LengthTooLarge
 refused-padded_length = length_too_large Universal false 4 6 (record {
-  identifier = 0x04 ∷ [];
+  identifier_octets = 0x04 ∷ [];
   digits = replicate 120 0;
-  identified = octet-string;
+  identifier = octet-string;
   each = below 256 (replicate 120 0) refl;
   some = lit≤ tt;
-  few = lit≤ tt;
+  within = lit≤ tt;
   octets_are = refl;
 }) (lit≤ tt) (omega arith)
 
@@ -246,7 +246,7 @@ prefix-length = record {
       digits = 1 ∷ 0 ∷ 0 ∷ 0 ∷ 0 ∷ [];
       each = below 256 (1 ∷ 0 ∷ 0 ∷ 0 ∷ 0 ∷ []) refl;
       some = lit≤ tt;
-      few = lit≤ tt;
+      short = lit≤ tt;
       value = refl;
       limit = lit< tt;
       octets_are = refl;
@@ -275,7 +275,7 @@ begins-sequence = record {
   offset = refl;
   named = refl;
   rest = 0x00 ∷ 0x00 ∷ [];
-  octets = refl;
+  octets_are = refl;
 }
 
 -- bf 1f 82 01 00, with the indefinite form

@@ -17,7 +17,7 @@ pub record HeadReaderState : Type 0 where
 pub record CanPush (r : HeadReaderState) (x : ℕ) (room : Option ℕ) (depth : ℕ) : Type 0 where
   pub unfinished : r.done ≡ false
   pub first : r.octets ≡ [] → (x ≢ 0) × (room ≢ Some 0)
-  pub within : depth ≤ depth_limit
+  pub shallow : depth ≤ depth_limit
   pub limit : r.offset ≤ input_limit
 
 -- the reader with another octet

@@ -1,6 +1,6 @@
 -- Identifier and length octets of an element: X.690 8.1.2 and 8.1.3.
 use Rattle.std.specs.Prelude.{◌≡◌, ◌≢◌, ◌⊎◌, ℕ, ◌+◌, ◌*◌, ◌^◌, ◌<◌, ◌≤◌, Bool, true, not, ◌&&◌, ◌||◌, eqb}
-use Rattle.std.specs.Prelude.{if◌then◌else◌, List, [], ◌∷◌, ◌++◌, length, map, All, Option, Some, None}
+use Rattle.std.specs.Prelude.{if◌then◌else◌, List, [], ◌∷◌, ◌++◌, length, slice_index, map, All, Option, Some, None}
 use Rattle.std.specs.Option.{is_some, unwrap_or}
 use Rattle.tlv_head.specs.UniversalTypes as universal
 use Rattle.tlv_head.specs.declared.header.Class.{Class}
@@ -41,7 +41,7 @@ pub record IsHighForm (class : Class) (constructed : Bool) (number : ℕ) (octet
   pub last : ℕ
   pub each : All (λ d. d < 128) digits
   pub last_digit : last < 128
-  pub few : length digits ≤ 8
+  pub short : length digits ≤ 8
   pub value : number ≡ value_of 128 (digits ++ last ∷ [])
   pub octets_are : octets ≡ identifier_octet class constructed 31 ∷ (with_bit_8 digits ++ last ∷ [])
 
@@ -55,7 +55,7 @@ pub record IsLongForm (n : ℕ) (octets : List ℕ) : Type 0 where
   pub digits : List ℕ
   pub each : All (λ d. d < 256) digits
   pub some : 1 ≤ length digits
-  pub few : length digits ≤ 126
+  pub short : length digits ≤ 126
   pub value : n ≡ value_of 256 digits
   pub limit : n < 2 ^ 40
   pub octets_are : octets ≡ (128 + length digits) ∷ digits
@@ -80,6 +80,14 @@ pub record HeaderValue : Type 0 where
 -- 8.1.1.1: identifier octets, then length octets
 abbrev pub octets_of : HeaderValue → List ℕ
 octets_of h = h.identifier ++ h.lengths
+
+-- 8.1.2.4.2: the first subsequent identifier octet, which is the second of all, or 0 if there is none
+abbrev pub second_identifier_octet : HeaderValue → ℕ
+second_identifier_octet h = slice_index h.identifier 1
+
+-- 8.1.3.5: the first subsequent length octet, which is the second of all, or 0 if there is none
+abbrev pub second_length_octet : HeaderValue → ℕ
+second_length_octet h = slice_index h.lengths 1
 
 -- 8.1.3.3: the length, if it is definite
 abbrev pub definite_length : Size → Option ℕ

@@ -20,5 +20,5 @@ new_header f octets = record {
 -- They need not say the fields
 pub record IsHeaderSized (f : HeaderFields) (octets : List ℕ) : Type 0 where
   pub identifier : f.id_len < length octets
-  pub few : f.id_len ≤ 10
+  pub within : f.id_len ≤ 10
   pub short : length octets ≤ 137

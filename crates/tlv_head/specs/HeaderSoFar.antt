@@ -12,20 +12,20 @@ use Rattle.tlv_head.specs.declared.head_reader.HeadReader.TheInside.{Inside}
 pub record CarriesNumber (id : IdentifierFields) (octets : List ℕ) : Type 0 where
   pub prefix : IsNumberPrefix id.class id.constructed octets
   pub count : id.id_len ≡ length prefix.digits + 1
-  pub few : length prefix.digits ≤ 8
+  pub short : length prefix.digits ≤ 8
   pub value : id.number ≡ value_of 128 prefix.digits
 
 -- the octets are the identifier
 pub record CarriesIdentifier (id : IdentifierFields) (octets : List ℕ) : Type 0 where
-  pub identified : IsIdentifier id.class id.constructed id.number octets
+  pub identifier : IsIdentifier id.class id.constructed id.number octets
   pub count : id.id_len ≡ length octets
-  pub few : length octets ≤ 10
+  pub short : length octets ≤ 10
 
 -- the octets are the identifier, the first length octet and digits
 pub record CarriesLength (id : IdentifierFields) (n left : ℕ) (octets : List ℕ) : Type 0 where
   pub prefix : IsLengthPrefix id.class id.constructed id.number left octets
-  pub count : id.id_len ≡ length prefix.identifier
-  pub few : length prefix.identifier ≤ 10
+  pub count : id.id_len ≡ length prefix.identifier_octets
+  pub short : length prefix.identifier_octets ≤ 10
   pub value : n ≡ value_of 256 prefix.digits
   -- so that the length is below 2^40 if the octets left are 00
   pub small : n < 256 ^ (5 - left)

@@ -15,13 +15,13 @@ pub record Completes (r : HeadReaderState) (added : List ℕ) (h : HeaderValue) 
   pub valid : IsHeader h
   pub offset : h.offset ≡ r.offset
   pub named : h.named ≡ r.named
-  pub octets : octets_of h ≡ r.octets ++ added
+  pub octets_are : octets_of h ≡ r.octets ++ added
 
 -- a header may be there: an element that holds others is not inside `depth_limit` such elements, and the contents
 -- announced end within the bound
 pub record FitsThere (h : HeaderValue) (room : Option ℕ) (depth : ℕ) : Type 0 where
   pub shallow : holds h ≡ true → depth < depth_limit
-  pub within : ContentsFit h.size room
+  pub contents_fit : ContentsFit h.size room
 
 -- why the octet x is refused: a line for each cause. The bound is looked at before the octet
 pub data IsRefusedPush (r : HeadReaderState) (x : ℕ) (room : Option ℕ) (depth : ℕ) : FaultCode → Type 0 where

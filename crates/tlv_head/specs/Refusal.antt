@@ -24,7 +24,7 @@ pub record BeginsWith (input : List ℕ) (start : ℕ) (is_named : Bool) (h : He
   pub offset : h.offset ≡ start
   pub named : h.named ≡ is_named
   pub rest : List ℕ
-  pub octets : input ≡ octets_of h ++ rest
+  pub octets_are : input ≡ octets_of h ++ rest
 
 -- no header is a prefix of the octets
 abbrev pub BeginsWithNoHeader : List ℕ → Type 0
@@ -38,13 +38,13 @@ pub record IsNumberPrefix (class : Class) (constructed : Bool) (octets : List �
 
 -- 8.1.3.5: identifier octets, the first length octet, and digits, after which so many are still to come
 pub record IsLengthPrefix (class : Class) (constructed : Bool) (number left : ℕ) (octets : List ℕ) : Type 0 where
-  pub identifier : List ℕ
+  pub identifier_octets : List ℕ
   pub digits : List ℕ
-  pub identified : IsIdentifier class constructed number identifier
+  pub identifier : IsIdentifier class constructed number identifier_octets
   pub each : All (λ d. d < 256) digits
   pub some : 1 ≤ left
-  pub few : length digits + left ≤ 126
-  pub octets_are : octets ≡ identifier ++ (128 + (length digits + left)) ∷ digits
+  pub within : length digits + left ≤ 126
+  pub octets_are : octets ≡ identifier_octets ++ (128 + (length digits + left)) ∷ digits
 
 -- why the octet x is refused after a prefix of a header, whatever its place: a line for each cause
 pub data IsRefusedOctet (octets : List ℕ) (x : ℕ) : FaultCode → Type 0 where

@@ -46,7 +46,7 @@ impl FaultCode {
     /// The three characters of the code, as `F01`.
     pub fn code(self) -> &'static [u8]
         ensures code { result.now ≡ fault_code self }
-        ensures short { length result.now ≡ 3 }
+        ensures size { length result.now ≡ 3 }
     {
         match self {
             FaultCode::Empty => b"F01",

@@ -23,7 +23,7 @@ pub fn type_name(number: u64) -> Option<&'static [u8]>
 #[inline(always)]
 pub fn type_name_block(number: u64) -> Option<(&'static [u8; 32], usize)>
     ensures name { option_map (λ block. take block.1 block.0.now) result ≡ type_name number }
-    ensures short { IfSome result (λ block. block.1 ≤ 17) }
+    ensures within { IfSome result (λ block. block.1 ≤ 17) }
 {
     Some(match number {
         universal::BOOLEAN => (b"BOOLEAN                         ", 7),

@@ -27,7 +27,7 @@ impl<'d, D: Drain> Out<'d, D> {
     /// An `Out` to this drain, which holds no octet yet.
     pub fn new(drain: &'d mut D) -> Out<'d, D>
         ensures same_reference { (drain_of result).ghost_name ≡ drain.entry.ghost_name }
-        ensures taken { (drain_of result).now ≡ drain.old }
+        ensures drain { (drain_of result).now ≡ drain.old }
         ensures empty { held_octets result ≡ [] }
     {
         Out {

@@ -80,7 +80,8 @@ explains-high at x c k ds o s = ⊎_elim
     (λ (large : 128 ≤ x). ⊎_elim
     (λ (room : length ds < 8). rw (le-ltb x 128 large, lt-ltb (length ds) 8 room) tt)
     (λ (full : 8 ≤ length ds). rw (le-ltb x 128 large, le-ltb (length ds) 8 full)
-    (tag_too_long c k (record { digits = ds; each = s.each; octets_are = s.octets }) (omega (arith, s.few)) large))
+    (tag_too_long c k (record { digits = ds; each = s.each; octets_are = s.octets_are }) (omega (arith, s.short))
+    large))
     (cases_lt (length ds) 8))
     (cases_lt x 128)
 
@@ -112,13 +113,13 @@ explains-long at x c k n i m ds o s = ⊎_elim
     let many : length ds + 5 < m = ltb-true _ _ parts.1 in
     let total : length ds + (m - length ds) ≡ m = omega arith in
     let prefix : IsLengthPrefix c k n (m - length ds) o = record {
-      identifier = i;
+      identifier_octets = i;
       digits = ds;
-      identified = s.identifier;
+      identifier = s.identifier;
       each = s.each;
       some = omega arith;
-      few = omega (arith, s.few);
-      octets_are = rw total s.octets;
+      within = omega (arith, s.within);
+      octets_are = rw total s.octets_are;
     } in
     rw bad (length_too_large c k n (m - length ds) prefix (omega arith) (eqb-false x 0 (not-true _ parts.0))))
     (λ (good : (not (eqb x 0) && ltb (length ds + 5) m) ≡ false). ⊎_elim

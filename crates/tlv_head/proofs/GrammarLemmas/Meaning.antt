@@ -23,18 +23,18 @@ use Rattle.tlv_head.proofs.GrammarLemmas.Scan.{Over, class_of, leads, step, scan
 -- the high form so far
 pub record IsHighState (c : Class) (k : Bool) (ds o : List ℕ) : Type 0 where
   pub each : All (λ d. d < 128) ds
-  pub few : length ds ≤ 8
-  pub octets : o ≡ identifier_octet c k 31 ∷ map (λ d. 128 + d) ds
+  pub short : length ds ≤ 8
+  pub octets_are : o ≡ identifier_octet c k 31 ∷ map (λ d. 128 + d) ds
 
 -- identifier octets, the first length octet, and digits of which more are to follow
 pub record IsLongState (c : Class) (k : Bool) (n : ℕ) (i : List ℕ) (m : ℕ) (ds o : List ℕ) : Type 0 where
   pub identifier : IsIdentifier c k n i
   pub each : All (λ d. d < 256) ds
   pub short : length ds < m
-  pub few : m ≤ 126
+  pub within : m ≤ 126
   -- followed by zeros alone, it is a length below the limit
   pub limit : value_of 256 ds * 256 ^ (m - length ds) < 2 ^ 40
-  pub octets : o ≡ i ++ (128 + m) ∷ ds
+  pub octets_are : o ≡ i ++ (128 + m) ∷ ds
 
 -- what the octets are, if they lead to this state
 abbrev pub IsStateAfter : Origin → Scan → List ℕ → Type 0
@@ -65,8 +65,8 @@ reads-leads : (at : Origin) (x : ℕ) (c : Class) (k : Bool) (low : ℕ) → low
 reads-leads at x c k low h e nz = ⊎_elim
     (λ (last : low ≡ 31). rw (eq-eqb low 31 last) (record {
       each = All-nil (λ d. d < 128);
-      few = omega arith;
-      octets = rw (← e, last);
+      short = omega arith;
+      octets_are = rw (← e, last);
     }))
     (λ (other : low ≡ 31 → ⊥). rw (ne_eqb low 31 other)
     (inl (record { small = omega arith; octets_are = rw e; nonzero = rw e nz }), refl))
@@ -89,19 +89,19 @@ reads-high at x c k ds o h s = ⊎_elim
             last = x;
             each = s.each;
             last_digit = small;
-            few = s.few;
+            short = s.short;
             value = refl;
             octets_are = refl;
           }),
-      rw s.octets,
+      rw s.octets_are,
     ))
     (λ (large : 128 ≤ x). ⊎_elim
     (λ (room : length ds < 8). rw (le-ltb x 128 large, lt-ltb (length ds) 8 room)
     (record {
       each = All-push (λ d. d < 128) ds (x - 128) s.each (omega arith);
-      few = omega (arith, length-append ds ((x - 128) ∷ []));
-      octets =
-          let back : 128 + (x - 128) ≡ x = omega arith in rw (s.octets, map_push (λ d. 128 + d) ds (x - 128), back);
+      short = omega (arith, length-append ds ((x - 128) ∷ []));
+      octets_are =
+          let back : 128 + (x - 128) ≡ x = omega arith in rw (s.octets_are, map_push (λ d. 128 + d) ds (x - 128), back);
     }))
     (λ (full : 8 ≤ length ds). rw (le-ltb x 128 large, le-ltb (length ds) 8 full) tt)
     (cases_lt (length ds) 8))
@@ -132,9 +132,9 @@ reads-named at x c k n i h id = ⊎_elim
       identifier = id;
       each = All-nil (λ d. d < 256);
       short = omega arith;
-      few = omega arith;
+      within = omega arith;
       limit = omega (arith, zero-mul (256 ^ (x - 128 - 0)));
-      octets = let back : 128 + (x - 128) ≡ x = omega arith in rw back;
+      octets_are = let back : 128 + (x - 128) ≡ x = omega arith in rw back;
     }))
     (cases_eq x 128))
     (cases_eq x 255))
@@ -183,9 +183,9 @@ reads-long at x c k n i m ds o h s = ⊎_elim
       identifier = s.identifier;
       each = All-push (λ d. d < 256) ds x s.each h;
       short = omega arith;
-      few = s.few;
+      within = s.within;
       limit = rw longer limit;
-      octets = rw (s.octets, append_assoc i ((128 + m) ∷ ds) (x ∷ []));
+      octets_are = rw (s.octets_are, append_assoc i ((128 + m) ∷ ds) (x ∷ []));
     }))
     (λ (last : m ≤ length ds + 1).
     let is : m ≡ length (ds ++ x ∷ []) = omega (arith, s.short) in
@@ -199,13 +199,13 @@ reads-long at x c k n i m ds o h s = ⊎_elim
           digits = ds ++ x ∷ [];
           each = All-push (λ d. d < 256) ds x s.each h;
           some = omega arith;
-          few = omega (arith, s.few);
+          short = omega (arith, s.within);
           value = refl;
           limit = omega arith;
           octets_are = rw is;
         });
       },
-      rw (s.octets, append_assoc i ((128 + m) ∷ ds) (x ∷ [])),
+      rw (s.octets_are, append_assoc i ((128 + m) ∷ ds) (x ∷ [])),
       refl,
     ))
     (cases_lt (length ds + 1) m))
@@ -269,13 +269,13 @@ long-prefix c k n i m ds o some s =
           digits = ds ++ replicate (m - length ds) 0;
           each = All-append (λ d. d < 256) ds _ s.each (All-replicate (λ d. d < 256) (m - length ds) 0 (omega arith));
           some = omega (arith, s.short);
-          few = omega (arith, s.few);
+          short = omega (arith, s.within);
           value = refl;
           limit = rw (value_of-zeros 256 ds (m - length ds)) s.limit;
           octets_are = rw total;
         });
       };
-      prefix = rw (s.octets, append_assoc i ((128 + m) ∷ ds) (replicate (m - length ds) 0));
+      prefix = rw (s.octets_are, append_assoc i ((128 + m) ∷ ds) (replicate (m - length ds) 0));
     }
 
 -- octets after which more are needed are a prefix of a header
@@ -291,11 +291,11 @@ prefix-from_more at (High c k ds) o r some e =
       last = 0;
       each = r.each;
       last_digit = omega arith;
-      few = r.few;
+      short = r.short;
       value = refl;
       octets_are = refl;
     }))
-    some (rw r.octets)
+    some (rw r.octets_are)
 prefix-from_more at (Named c k n i) o r some e = named-prefix c k n i o [] r.0 some (append-nil o ∙ r.1)
 prefix-from_more at (Long c k n i m ds) o r some e = long-prefix c k n i m ds o some r
 prefix-from_more at (Ready h) o r some e = absurd (cc)
@@ -329,7 +329,7 @@ length-bytes : (s : Size) (l : List ℕ) → IsLength s l → All (λ x. x < 256
 length-bytes (Definite n) l (inl short) =
     rw (short.1) (All-cons (λ x. x < 256) n [] (omega (arith, short.0)) (All-nil (λ x. x < 256)))
 length-bytes (Definite n) l (inr long) =
-    rw long.octets_are (All-cons (λ x. x < 256) _ _ (omega (arith, long.few)) long.each)
+    rw long.octets_are (All-cons (λ x. x < 256) _ _ (omega (arith, long.short)) long.each)
 length-bytes Indefinite l e = rw e (All-cons (λ x. x < 256) 128 [] (omega arith) (All-nil (λ x. x < 256)))
 
 header-bytes : (h : HeaderValue) → IsHeader h → All (λ x. x < 256) (octets_of h)

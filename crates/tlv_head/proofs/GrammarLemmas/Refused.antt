@@ -22,7 +22,7 @@ record IsStuckFrom (at : Origin) (s : Scan) (o : List ℕ) : Type 0 where
   rest : List ℕ
   code : FaultCode
   stuck : scan_from at s prefix ≡ Stuck code
-  octets : o ≡ prefix ++ rest
+  octets_are : o ≡ prefix ++ rest
 
 -- so it is, whatever follows
 stuck-longer : (at : Origin) (s : Scan) (o more : List ℕ) → IsStuckFrom at s o → IsStuckFrom at s (o ++ more)
@@ -31,11 +31,11 @@ stuck-longer at s o more r = record {
   rest = r.rest ++ more;
   code = r.code;
   stuck = r.stuck;
-  octets = ap (λ z. z ++ more) r.octets ∙ append_assoc r.prefix r.rest more;
+  octets_are = ap (λ z. z ++ more) r.octets_are ∙ append_assoc r.prefix r.rest more;
 }
 
 stuck-last : (at : Origin) (o : List ℕ) (code : FaultCode) → scan at o ≡ Stuck code → IsStuckFrom at Fresh o
-stuck-last at o code e = record { prefix = o; rest = []; code = code; stuck = e; octets = sym (append-nil o) }
+stuck-last at o code e = record { prefix = o; rest = []; code = code; stuck = e; octets_are = sym (append-nil o) }
 
 prefix-none : (o : List ℕ) (code : FaultCode) → scan start o ≡ Stuck code → CannotBecomeHeader o
 prefix-none o code e = stuck-none start (Stuck code) o e refl (λ h z. cc)
@@ -44,7 +44,7 @@ prefix-none o code e = stuck-none start (Stuck code) o e refl (λ h z. cc)
 stuck-begins-none : (o : List ℕ) → IsStuckFrom start Fresh o → CannotBecomeHeader o
 stuck-begins-none o r = λ h more v e.
     prefix-none r.prefix r.code r.stuck h (r.rest ++ more) v
-    (sym (append_assoc r.prefix r.rest more) ∙ (ap (λ z. z ++ more) (sym r.octets) ∙ e))
+    (sym (append_assoc r.prefix r.rest more) ∙ (ap (λ z. z ++ more) (sym r.octets_are) ∙ e))
 
 past-header : (at : Origin) (h : HeaderValue) (z : List ℕ) (code : FaultCode) → scan_from at (Ready h) z ≡ Stuck code
     → ⊥
@@ -62,7 +62,7 @@ header-not_stuck h z o code v e s =
     (ap (λ (t : Scan). scan_from start t z) (sym (scan-moved_header start h v)) ∙ split)
 
 stuck-begins_with-none : (o : List ℕ) → IsStuckFrom start Fresh o → BeginsWithNoHeader o
-stuck-begins_with-none o r = λ h rest v e. elim (prefixes r.prefix (octets_of h) r.rest rest (sym r.octets ∙ e)) [
+stuck-begins_with-none o r = λ h rest v e. elim (prefixes r.prefix (octets_of h) r.rest rest (sym r.octets_are ∙ e)) [
   | inl z ↦ prefix-none r.prefix r.code r.stuck h z.0 v z.1
   | inr z ↦ header-not_stuck h z.0 r.prefix r.code v z.1 r.stuck
 ]
@@ -119,7 +119,7 @@ long-or-stuck : (at : Origin) (c : Class) (k : Bool) (n : ℕ) (i : List ℕ) (m
 long-or-stuck at c k n i m ds [] h = inl (ap (Long c k n i m) (sym (append-nil ds)))
 long-or-stuck at c k n i m ds (e ∷ es) h = ⊎_elim
     (λ (bad : (not (eqb e 0) && ltb (length ds + 5) m) ≡ true).
-    inr (record { prefix = e ∷ []; rest = es; code = LengthTooLarge; stuck = rw bad refl; octets = refl }))
+    inr (record { prefix = e ∷ []; rest = es; code = LengthTooLarge; stuck = rw bad refl; octets_are = refl }))
     (λ (good : (not (eqb e 0) && ltb (length ds + 5) m) ≡ false).
     let room : length ds + 1 < m = omega arith in
     let one : step at (Long c k n i m ds) e ≡ Long c k n i m (ds ++ e ∷ []) =
@@ -134,7 +134,7 @@ long-or-stuck at c k n i m ds (e ∷ es) h = ⊎_elim
       rest = r.rest;
       code = r.code;
       stuck = ap (λ (s : Scan). scan_from at s r.prefix) one ∙ r.stuck;
-      octets = ap (λ z. e ∷ z) r.octets;
+      octets_are = ap (λ z. e ∷ z) r.octets_are;
     }))
     (long-or-stuck at c k n i m (ds ++ e ∷ []) es fewer))
     (cases_Bool (not (eqb e 0) && ltb (length ds + 5) m))
@@ -167,7 +167,9 @@ too_large-stuck at c k n x left i ds o id many few octets nonzero =
       rest = s.rest;
       code = s.code;
       stuck = lead s.prefix ∙ s.stuck;
-      octets = octets ∙ (ap (λ z. i ++ (128 + m) ∷ z) s.octets ∙ sym (append_assoc i ((128 + m) ∷ s.prefix) s.rest));
+      octets_are =
+          octets
+          ∙ (ap (λ z. i ++ (128 + m) ∷ z) s.octets_are ∙ sym (append_assoc i ((128 + m) ∷ s.prefix) s.rest));
     }))
     (long-or-stuck at c k n i m [] ds (omega (arith, many)))
 
@@ -181,7 +183,7 @@ refused-last at code o x (indefinite_primitive c n i e) = inl (primitive-stuck a
 refused-last at code o x (length_too_large c k n left prefix many nonzero) = ⊎_elim
     (λ (e : scan at (o ++ x ∷ []) ≡ Stuck LengthTooLarge). inl e)
     (λ (s : IsStuckFrom at Fresh o). inr (refl, s))
-    (too_large-stuck at c k n x left prefix.identifier prefix.digits o prefix.identified many prefix.few
+    (too_large-stuck at c k n x left prefix.identifier_octets prefix.digits o prefix.identifier many prefix.within
     prefix.octets_are nonzero)
 
 refused-stuck_from : (code : FaultCode) (o : List ℕ) (x : ℕ) → IsRefusedOctet o x code
@@ -209,7 +211,7 @@ past-stuck at code (y ∷ z) = ap is_more (scan_from-over at z)
 stuck-no_more : (at : Origin) (o : List ℕ) → IsStuckFrom at Fresh o → is_more (scan at o) ≡ false
 stuck-no_more at o r =
     let split : scan at o ≡ scan_from at (Stuck r.code) r.rest =
-    ap (scan at) r.octets
+    ap (scan at) r.octets_are
     ∙ (scan_from-append at Fresh r.prefix r.rest ∙ ap (λ (s : Scan). scan_from at s r.rest) r.stuck) in
     ap is_more split ∙ past-stuck at r.code r.rest
 
@@ -225,7 +227,7 @@ refused-stuck at code o x prefix r = ⊎_elim
 stuck-or_over : (at : Origin) (s : Scan) (o : List ℕ) (x : ℕ) → IsStuckFrom at s o → scan_from at s (o ++ x ∷ []) ≡ Over
 stuck-or_over at s o x r =
     let whole : o ++ x ∷ [] ≡ r.prefix ++ (r.rest ++ x ∷ []) =
-    ap (λ z. z ++ x ∷ []) r.octets ∙ append_assoc r.prefix r.rest (x ∷ []) in
+    ap (λ z. z ++ x ∷ []) r.octets_are ∙ append_assoc r.prefix r.rest (x ∷ []) in
     ap (scan_from at s) whole
     ∙ (scan_from-append at s r.prefix (r.rest ++ x ∷ [])
     ∙ (ap (λ (t : Scan). scan_from at t (r.rest ++ x ∷ [])) r.stuck ∙ over r.rest))

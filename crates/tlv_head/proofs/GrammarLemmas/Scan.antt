@@ -179,7 +179,7 @@ scan-identifier at c k n i (inr high) =
     rw (high.octets_are, high.value)
     (ap (λ (s : Scan). scan_from at s (map (λ d. 128 + d) high.digits ++ high.last ∷ []))
     (step-leading at c k 31 below nonzero)
-    ∙ scan-high at c k [] high.digits high.last high.each high.last_digit (omega (arith, high.few)))
+    ∙ scan-high at c k [] high.digits high.last high.each high.last_digit (omega (arith, high.short)))
 
 pow-le : (i j : ℕ) → i ≤ j → 256 ^ i ≤ 256 ^ j
 pow-le i j h = let some : 0 < 256 = omega arith in pow-le-pow_right some h
@@ -257,7 +257,7 @@ scan-length : (at : Origin) (c : Class) (k : Bool) (n : ℕ) (i : List ℕ) (siz
 scan-length at c k n i (Definite a) l (inl short) allowed = rw (short.1, lt-ltb a 128 short.0)
 scan-length at c k n i (Definite a) l (inr long) allowed =
     let limit : value_of 256 long.digits < 2 ^ 40 = omega (arith, long.limit, long.value) in
-    rw (long.octets_are, long.value) (scan-digits at c k n i long.digits long.some long.few limit)
+    rw (long.octets_are, long.value) (scan-digits at c k n i long.digits long.some long.short limit)
 scan-length at c true n i Indefinite l e allowed = rw e
 scan-length at c false n i Indefinite l e allowed = absurd (cc (allowed))
 

@@ -21,18 +21,18 @@ pub completes_unique : (r : HeadReaderState) (x : ℕ) (g h : HeaderValue) → C
 completes_unique r x g h p q =
     same-header g h p.valid q.valid
     (λ i. record { offset = (p.offset ∙ sym q.offset) i; named = (p.named ∙ sym q.named) i })
-    (p.octets ∙ sym q.octets)
+    (p.octets_are ∙ sym q.octets_are)
 
 -- a prefix of a header is no whole header
 pub prefix_not_whole : (r : HeadReaderState) (x : ℕ) (h : HeaderValue) → IsHeaderPrefix (r.octets ++ x ∷ [])
     → Completes r (x ∷ []) h → ⊥
-prefix_not_whole r x h f c = prefix-no_header _ h f c.valid c.octets
+prefix_not_whole r x h f c = prefix-no_header _ h f c.valid c.octets_are
 
 -- an octet that is refused for the octets alone completes no header
 refused_completes_none : (code : FaultCode) (r : HeadReaderState) (x : ℕ) (h : HeaderValue)
     → IsRefusedOctet r.octets x code → Completes r (x ∷ []) h → ⊥
 refused_completes_none code r x h p c =
-    refused-none code r.octets x p h [] c.valid (append-nil (r.octets ++ x ∷ []) ∙ sym c.octets)
+    refused-none code r.octets x p h [] c.valid (append-nil (r.octets ++ x ∷ []) ∙ sym c.octets_are)
 
 -- what is returned if an octet is refused
 pub refuses : (old : HeadReaderState) (x : ℕ) (room : Option ℕ) (depth : ℕ) (code : FaultCode) (offset : ℕ) (r : Head)
@@ -55,7 +55,7 @@ refused_not_whole code r x room depth h (too_deep m g d k deep) c n f =
     let l : depth < 128 = f.shallow s in
     omega (arith, deep)
 refused_not_whole code r x room depth h (overrun m g d k past) c n f =
-    past (subst (λ (g : HeaderValue). ContentsFit g.size room) (completes_unique r x h g c d) f.within)
+    past (subst (λ (g : HeaderValue). ContentsFit g.size room) (completes_unique r x h g c d) f.contents_fit)
 
 pub exact : (old new : HeadReaderState) (x : ℕ) (room : Option ℕ) (depth : ℕ) (r : Head)
     → Pushes old x room depth new r → (h : HeaderValue) → Completes old (x ∷ []) h
@@ -112,9 +112,9 @@ room_left Indefinite room f e =
 pub one-result : (old new other : HeadReaderState) (x : ℕ) (room : Option ℕ) (depth : ℕ) (r s : Head)
     → Pushes old x room depth new r → Pushes old x room depth other s → r ≡ s
 one-result old new other x room depth r s a (whole h c there e) =
-    exact old new x room depth r a h c (room_left h.size room there.within) there
+    exact old new x room depth r a h c (room_left h.size room there.contents_fit) there
 one-result old new other x room depth r s (whole h c there e) b =
-    sym (exact old other x room depth s b h c (room_left h.size room there.within) there)
+    sym (exact old other x room depth s b h c (room_left h.size room there.contents_fit) there)
 one-result old new other x room depth r s (more n prefix e) (more m prefix' e') = refl
 one-result old new other x room depth r s (more n prefix e) (refused g cause at e') =
     absurd (refused_no_prefix g.code old x room depth cause n prefix)

@@ -34,7 +34,7 @@ one_header_returned octets offset named f g m n p q =
     }) in
     let same : h ≡ k =
     (one-header h k p.begins.rest q.begins.rest p.begins.valid q.begins.valid origin
-    (sym p.begins.octets ∙ q.begins.octets)).0 in
+    (sym p.begins.octets_are ∙ q.begins.octets_are)).0 in
     let count : f.id_len ≡ g.id_len =
     sym (identifier-count octets offset named f m p)
     ∙ (ap (λ (x : HeaderValue). length x.identifier) same ∙ identifier-count octets offset named g n q) in (

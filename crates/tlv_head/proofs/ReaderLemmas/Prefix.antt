@@ -4,20 +4,19 @@ use Rattle.std.proofs.Common.{length, take, drop, refl, sym, ap, ◌∙◌, subs
 use Rattle.std.proofs.Common.{length-drop, length-take}
 use Rattle.std.proofs.lemmas.List.{take-append-drop, take_all, take_more}
 use Rattle.std.proofs.Math.Seq.{drop-append_seam, take-add, take-append_seam}
-use Rattle.tlv_head.specs.declared.header.Class.{Class}
 use Rattle.tlv_head.specs.declared.header.Size.{Size}
-use Rattle.tlv_head.specs.declared.header.Size.TheVariants.{Definite, Indefinite}
 use Rattle.tlv_head.specs.declared.header.HeaderFields.{HeaderFields}
 use Rattle.tlv_head.specs.declared.next_octet.IdentifierFields.{IdentifierFields}
 use Rattle.tlv_head.specs.HeaderFields.{IsHeaderSized, new_header}
 use Rattle.tlv_head.specs.declared.next_octet.Part.{Part}
 use Rattle.tlv_head.specs.declared.next_octet.Part.TheVariants.{Start, Number, Identifier, Length, Whole}
-use Rattle.tlv_head.specs.Header.{HeaderValue, IsHeader, IsIdentifier, IsLength, octets_of}
+use Rattle.tlv_head.specs.Header.{HeaderValue, IsHeader, octets_of}
 use Rattle.tlv_head.specs.HeaderSoFar.{Carries, is_whole_header}
 use Rattle.tlv_head.specs.Private.NextOctet.{BeginsWithIdentifier, BeginsWithLength, MakesHeader}
 use Rattle.tlv_head.specs.ReadHeader.{BeginsWithFields}
 use Rattle.tlv_head.specs.Refusal.{BeginsWith, IsHeaderPrefix}
 use Rattle.tlv_head.proofs.GrammarLemmas.Scan.{origin_of, scan, Fresh, Ready, no-prefix, scan-header}
+use Rattle.tlv_head.proofs.ShortestLemmas.Shortest.{identifier-some, lengths-some}
 use Rattle.tlv_head.proofs.ReaderLemmas.Unfinished.{unfinished_number, unfinished_identifier, unfinished_length}
 
 -- nothing yet, or a prefix of a header
@@ -57,15 +56,6 @@ begun_none os (inr f) h rest v e =
 pub around : (xs : List ℕ) (i : ℕ) → i < length xs → xs ≡ (take i xs ++ get_or xs i 0 ∷ []) ++ drop (i + 1) xs
 around xs i h = sym (take-append-drop (i + 1) xs) ∙ ap (λ z. z ++ drop (i + 1) xs) (take_more xs i 0 h)
 
-identifier-some : (c : Class) (k : Bool) (n : ℕ) (i : List ℕ) → IsIdentifier c k n i → 1 ≤ length i
-identifier-some c k n i (inl low) = rw low.octets_are (omega arith)
-identifier-some c k n i (inr high) = rw high.octets_are (omega arith)
-
-length-some : (s : Size) (l : List ℕ) → IsLength s l → 1 ≤ length l
-length-some (Definite n) l (inl short) = rw short.1 (omega arith)
-length-some (Definite n) l (inr long) = rw long.octets_are (omega arith)
-length-some Indefinite l e = rw e (omega arith)
-
 -- a header has an identifier octet and a length octet at least
 pub header-two : (h : HeaderValue) → IsHeader h → 2 ≤ length (octets_of h)
 header-two h v =
@@ -73,20 +63,20 @@ header-two h v =
       arith,
       length-append h.identifier h.lengths,
       identifier-some h.class h.constructed h.number h.identifier v.identifier,
-      length-some h.size h.lengths v.lengths,
+      lengths-some h.size h.lengths v.lengths,
     )
 
 -- by their number the octets may be those of the header that was made
 pub made_sized : (os : List ℕ) (f : HeaderFields) (id : IdentifierFields) (size : Size) → MakesHeader id size os
     → f.id_len ≡ id.id_len → IsHeaderSized f os
 made_sized os f id size m e =
-    let count : id.id_len ≡ length m.identifier = m.identified.count in
-    let few : length m.identifier ≤ 10 = m.identified.few in
-    let most : length m.lengths ≤ 127 = m.few in
-    let some : 1 ≤ length m.lengths = m.some in
-    let all : length os ≡ length m.identifier + length m.lengths =
-    rw m.octets_are (length-append m.identifier m.lengths) in
-    record { identifier = omega (arith, e); few = omega (arith, e); short = omega arith }
+    let count : id.id_len ≡ length m.identifier_octets = m.carried.count in
+    let within : length m.identifier_octets ≤ 10 = m.carried.short in
+    let short : length m.length_octets ≤ 127 = m.short in
+    let some : 1 ≤ length m.length_octets = m.some in
+    let all : length os ≡ length m.identifier_octets + length m.length_octets =
+    rw m.octets_are (length-append m.identifier_octets m.length_octets) in
+    record { identifier = omega (arith, e); within = omega (arith, e); short = omega arith }
 
 pub made_begins : (os rest : List ℕ) (offset : ℕ) (named : Bool) (id : IdentifierFields) (size : Size)
     → MakesHeader id size os
@@ -106,20 +96,20 @@ pub made_begins : (os rest : List ℕ) (offset : ℕ) (named : Bool) (id : Ident
     })
     os)
 made_begins os rest offset named id size m =
-    let prefix : take id.id_len os ≡ m.identifier =
-    rw (m.octets_are, m.identified.count) (take-append_seam m.identifier m.lengths) in
-    let back : drop id.id_len os ≡ m.lengths =
-    rw (m.octets_are, m.identified.count) (drop-append_seam m.identifier m.lengths) in
+    let prefix : take id.id_len os ≡ m.identifier_octets =
+    rw (m.octets_are, m.carried.count) (take-append_seam m.identifier_octets m.length_octets) in
+    let back : drop id.id_len os ≡ m.length_octets =
+    rw (m.octets_are, m.carried.count) (drop-append_seam m.identifier_octets m.length_octets) in
     record {
       valid = rw (prefix, back) (record {
-        identifier = m.identified.identified;
-        lengths = m.sized;
+        identifier = m.carried.identifier;
+        lengths = m.lengths;
         allowed = m.allowed;
       });
       offset = refl;
       named = refl;
       rest = rest;
-      octets = rw (prefix, back, m.octets_are) refl;
+      octets_are = rw (prefix, back, m.octets_are) refl;
     }
 
 -- an identifier, and a length after it
@@ -148,11 +138,11 @@ begins_short os offset named id size id_len count i e l =
     let i' : BeginsWithIdentifier os id = i in
     let within : id_len + count ≤ length os = omega (arith, i'.within, l'.within, length-drop id_len os) in
     let made : MakesHeader id size (take (id_len + count) os) = record {
-      identifier = take id_len os;
-      lengths = take count (drop id_len os);
-      identified = rw e i'.carried;
-      sized = l'.sized;
-      few = omega (arith, l'.few, length-take count (drop id_len os));
+      identifier_octets = take id_len os;
+      length_octets = take count (drop id_len os);
+      carried = rw e i'.carried;
+      lengths = l'.lengths;
+      short = omega (arith, l'.at_most_127, length-take count (drop id_len os));
       some = omega (arith, l'.some, l'.within, length-take count (drop id_len os));
       allowed = l'.allowed;
       octets_are = take-add id_len count os;

@@ -120,7 +120,7 @@ unended id o c k n i z h p e =
     ends_number id 0 0 o h refl (lit< tt) in
     let whole : (o ++ 0 ∷ []) ++ [] ≡ i ++ (z ++ 0 ∷ []) =
     append-nil (o ++ 0 ∷ []) ∙ (ap (λ (s : List ℕ). s ++ 0 ∷ []) e ∙ append_assoc i z (0 ∷ [])) in
-    let same : o ++ 0 ∷ [] ≡ i = one-identifier _ c _ k _ n (o ++ 0 ∷ []) i [] (z ++ 0 ∷ []) ended.identified p whole in
+    let same : o ++ 0 ∷ [] ≡ i = one-identifier _ c _ k _ n (o ++ 0 ∷ []) i [] (z ++ 0 ∷ []) ended.identifier p whole in
     omega (arith, ap length same, length-append o (0 ∷ []), ap length e, length-append i z)
 
 -- nor is one a prefix of it and another octet, if octets are left for a length
@@ -141,7 +141,7 @@ unrefused code id o x h few (tag_too_long c k prefix eight flag) =
 unrefused code id o x h few (reserved_length c k n i all) = unended id o c k n o [] h i (sym (append-nil o))
 unrefused code id o x h few (indefinite_primitive c n i mark) = unended id o c false n o [] h i (sym (append-nil o))
 unrefused code id o x h few (length_too_large c k n left prefix many nonzero) =
-    unended id o c k n prefix.identifier _ h prefix.identified prefix.octets_are
+    unended id o c k n prefix.identifier_octets _ h prefix.identifier prefix.octets_are
 
 -- so an octet is read, and makes no header
 pub always-unfinished : (r : Next) (id : IdentifierFields) (o : List ℕ) (x : ℕ) → CarriesNumber id o → length o ≤ 8
@@ -149,8 +149,8 @@ pub always-unfinished : (r : Next) (id : IdentifierFields) (o : List ℕ) (x : �
     → ((p : Part) → r ≡ Unfinished p → ⊥) → ⊥
 always-unfinished (Unfinished p) id o x h few f not = not p refl
 always-unfinished (Whole d size) id o x h few f not =
-    unended-length id o x d.class d.constructed d.number f.identifier f.lengths h f.identified.identified f.some
-    f.octets_are
+    unended-length id o x d.class d.constructed d.number f.identifier_octets f.length_octets h
+    f.carried.identifier f.some f.octets_are
 always-unfinished (Refused code) id o x h few f not = unrefused code id o x h few f
 
 -- what is returned is what the octets are
@@ -174,7 +174,7 @@ carried-on Start id o x h f not = absurd (snoc≢nil o x f)
 carried-on (Number d) id o x h f not = (d, refl, f)
 carried-on (Identifier d) id o x h f not = absurd (not d refl)
 carried-on (Length d n left) id o x h f not =
-    absurd (unended-length id o x d.class d.constructed d.number f.prefix.identifier _ h f.prefix.identified
+    absurd (unended-length id o x d.class d.constructed d.number f.prefix.identifier_octets _ h f.prefix.identifier
     (omega arith) f.prefix.octets_are)
 carried-on part.Whole id o x h f not = absurd (snoc≢nil o x f)
 
@@ -195,8 +195,8 @@ leads-on Start x h not nor = let none : x ∷ [] ≡ [] = h in cc
 leads-on (Number d) x h not nor = nor d refl
 leads-on (Identifier d) x h not nor = not d refl
 leads-on (Length d n left) x h not nor =
-    some-identifier d.class d.constructed d.number h.prefix.identifier h.prefix.identified
-    (short_prefix h.prefix.identifier _ _ x h.prefix.octets_are)
+    some-identifier d.class d.constructed d.number h.prefix.identifier_octets h.prefix.identifier
+    (short_prefix h.prefix.identifier_octets _ _ x h.prefix.octets_are)
   where
     short_prefix : (i : List ℕ) (y : ℕ) (l : List ℕ) (x : ℕ) → x ∷ [] ≡ i ++ y ∷ l → i ≡ []
     short_prefix [] y l x e = refl
@@ -240,10 +240,10 @@ no-short_length os id id_len b at none = λ h rest v e few less.
     let cut : os ≡ h.identifier ++ (h.lengths ++ rest) = e ∙ append_assoc h.identifier h.lengths rest in
     let prefix : take id.id_len os ≡ h.identifier =
     one-identifier _ h.class _ h.constructed _ h.number (take id.id_len os) h.identifier (drop id.id_len os)
-    (h.lengths ++ rest) b.carried.identified v.identifier
+    (h.lengths ++ rest) b.carried.identifier v.identifier
     (take-append-drop id.id_len os ∙ cut) in
     let form : id.constructed ≡ h.constructed =
-    one-form _ h.class _ h.constructed _ h.number (take id.id_len os) h.identifier b.carried.identified
+    one-form _ h.class _ h.constructed _ h.number (take id.id_len os) h.identifier b.carried.identifier
     v.identifier prefix in
     let count : id_len ≡ length h.identifier = at ∙ (b.carried.count ∙ ap length prefix) in
     let back : drop id_len os ≡ h.lengths ++ rest =

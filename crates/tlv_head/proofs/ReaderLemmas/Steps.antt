@@ -43,7 +43,7 @@ pub number-lt : (id : IdentifierFields) (octets : List ℕ) → CarriesNumber id
 number-lt id octets h =
     let v : value_of 128 h.prefix.digits < 128 ^ length h.prefix.digits =
     value_of-lt 128 h.prefix.digits (lit< tt) h.prefix.each in
-    let p : 128 ^ length h.prefix.digits ≤ 128 ^ 8 = pow-le-pow_right {n = 128} (lit< tt) h.few in
+    let p : 128 ^ length h.prefix.digits ≤ 128 ^ 8 = pow-le-pow_right {n = 128} (lit< tt) h.short in
     omega (arith, h.value)
 
 -- one more octet after a prefix
@@ -54,16 +54,16 @@ pub begins_length : (id : IdentifierFields) (octets : List ℕ) (x : ℕ) → Ca
     → CarriesLength id 0 (x - 128) (octets ++ x ∷ [])
 begins_length id octets x h low high = record {
   prefix = record {
-    identifier = octets;
+    identifier_octets = octets;
     digits = [];
-    identified = h.identified;
+    identifier = h.identifier;
     each = All-nil (λ d. d < 256);
     some = omega arith;
-    few = omega arith;
+    within = omega arith;
     octets_are = (let e : 128 + (0 + (x - 128)) ≡ x = omega arith in rw e refl);
   };
   count = h.count;
-  few = h.few;
+  short = h.short;
   value = refl;
   small = one-le-pow (5 - (x - 128)) 256 (lit< tt);
 }
@@ -75,19 +75,19 @@ more_length id n left x r octets h e below zero_or_few rest =
     let some : 1 ≤ left = h.prefix.some in
     let len : length (h.prefix.digits ++ x ∷ []) ≡ length h.prefix.digits + 1 =
     omega (arith, length-append h.prefix.digits (x ∷ [])) in
-    let few : length h.prefix.digits + left ≤ 126 = h.prefix.few in
+    let within : length h.prefix.digits + left ≤ 126 = h.prefix.within in
     record {
       prefix = record {
-        identifier = h.prefix.identifier;
+        identifier_octets = h.prefix.identifier_octets;
         digits = h.prefix.digits ++ x ∷ [];
-        identified = h.prefix.identified;
+        identifier = h.prefix.identifier;
         each = All-push (λ d. d < 256) h.prefix.digits x h.prefix.each below;
         some = omega arith;
-        few = omega arith;
+        within = omega arith;
         octets_are = prefix-snoc _ _ _ _ _ _ h.prefix.octets_are (omega arith);
       };
       count = h.count;
-      few = h.few;
+      short = h.short;
       value = rw (e, h.value) (sym (value_of-snoc 256 h.prefix.digits x));
       small = rw e (small-step n x left some h.small below zero_or_few);
     }
@@ -99,23 +99,23 @@ ends_length id n left x r octets h e below zero_or_few rest =
     let some : 1 ≤ left = h.prefix.some in
     let len : length (h.prefix.digits ++ x ∷ []) ≡ length h.prefix.digits + 1 =
     omega (arith, length-append h.prefix.digits (x ∷ [])) in
-    let few : length h.prefix.digits + left ≤ 126 = h.prefix.few in
+    let within : length h.prefix.digits + left ≤ 126 = h.prefix.within in
     let one : left ≡ 1 = omega arith in
     let small : n < 256 ^ (5 - 1) = subst (λ m. n < 256 ^ (5 - m)) one h.small in
     record {
-      identifier = h.prefix.identifier;
-      lengths = (128 + length (h.prefix.digits ++ x ∷ [])) ∷ (h.prefix.digits ++ x ∷ []);
-      identified = record { identified = h.prefix.identified; count = h.count; few = h.few };
-      sized = inr (record {
+      identifier_octets = h.prefix.identifier_octets;
+      length_octets = (128 + length (h.prefix.digits ++ x ∷ [])) ∷ (h.prefix.digits ++ x ∷ []);
+      carried = record { identifier = h.prefix.identifier; count = h.count; short = h.short };
+      lengths = inr (record {
         digits = h.prefix.digits ++ x ∷ [];
         each = All-push (λ d. d < 256) h.prefix.digits x h.prefix.each below;
         some = omega arith;
-        few = omega arith;
+        short = omega arith;
         value = rw (e, h.value) (sym (value_of-snoc 256 h.prefix.digits x));
         limit = omega arith;
         octets_are = refl;
       });
-      few = omega arith;
+      short = omega arith;
       some = omega arith;
       allowed = allows_definite id.constructed (n * 256 + r);
       octets_are = prefix-snoc _ _ _ _ _ _ h.prefix.octets_are (omega arith);
@@ -127,7 +127,7 @@ pub begins_number : (id : IdentifierFields) (x : ℕ) → id.number ≡ 0 → id
 begins_number id x none first e = record {
   prefix = record { digits = []; each = All-nil (λ d. d < 128); octets_are = ap (λ (y : ℕ). y ∷ []) e };
   count = first;
-  few = omega arith;
+  short = omega arith;
   value = none;
 }
 
@@ -152,7 +152,7 @@ more_number id x r octets h e below few =
         octets_are = rw (h.prefix.octets_are, e, map_push (λ d. 128 + d) h.prefix.digits r) refl;
       };
       count = omega arith;
-      few = omega arith;
+      short = omega arith;
       value = rw h.value (sym (value_of-snoc 128 h.prefix.digits r));
     }
 
@@ -169,38 +169,38 @@ ends_number id x r octets h e below =
     let count : id.id_len ≡ length h.prefix.digits + 1 = h.count in
     let size : length octets ≡ length h.prefix.digits + 1 =
     rw h.prefix.octets_are (omega (arith, length-map h.prefix.digits (λ d. 128 + d))) in
-    let few : length h.prefix.digits ≤ 8 = h.few in
+    let short : length h.prefix.digits ≤ 8 = h.short in
     record {
-      identified = inr (record {
+      identifier = inr (record {
         digits = h.prefix.digits;
         last = x;
         each = h.prefix.each;
         last_digit = below;
-        few = h.few;
+        short = h.short;
         value = rw (e, h.value) (sym (value_of-snoc 128 h.prefix.digits x));
         octets_are = rw h.prefix.octets_are refl;
       });
       count = omega (arith, length-append octets (x ∷ []));
-      few = omega (arith, length-append octets (x ∷ []));
+      short = omega (arith, length-append octets (x ∷ []));
     }
 
 -- a ninth subsequent identifier octet that is not the last
 pub ninth_number : (id : IdentifierFields) (octets : List ℕ) (x : ℕ) → CarriesNumber id octets → 9 ≤ id.id_len → 128 ≤ x
     → IsRefusedOctet octets x TagTooLong
 ninth_number id octets x h many flag =
-    tag_too_long id.class id.constructed h.prefix (omega (arith, h.few, h.count)) flag
+    tag_too_long id.class id.constructed h.prefix (omega (arith, h.short, h.count)) flag
 
 -- a first length octet ff
 pub all_ones : (id : IdentifierFields) (octets : List ℕ) (x : ℕ) → CarriesIdentifier id octets → x ≡ 255
     → IsRefusedOctet octets x ReservedLength
-all_ones id octets x h e = reserved_length id.class id.constructed id.number h.identified e
+all_ones id octets x h e = reserved_length id.class id.constructed id.number h.identifier e
 
 -- a first length octet 80 of a primitive
 pub unallowed : (id : IdentifierFields) (octets : List ℕ) (x : ℕ) → CarriesIdentifier id octets → id.constructed ≡ false
     → x ≡ 128 → IsRefusedOctet octets x IndefinitePrimitive
 unallowed id octets x h form e =
     indefinite_primitive id.class id.number
-    (subst (λ (k : Bool). IsIdentifier id.class k id.number octets) form h.identified) e
+    (subst (λ (k : Bool). IsIdentifier id.class k id.number octets) form h.identifier) e
 
 -- a length octet that makes the length too large
 pub too_large : (id : IdentifierFields) (n left : ℕ) (octets : List ℕ) (x : ℕ) → CarriesLength id n left octets

@@ -23,15 +23,18 @@ use Rattle.tlv_head.proofs.GrammarLemmas.Meaning.{allows_definite}
 pub length-carried : (p : Part) (os : List ℕ) → Carries p os → length os ≤ 136
 length-carried Start os h = rw h (omega arith)
 length-carried (Number id) os h =
-    let few : length h.prefix.digits ≤ 8 = h.few in
+    let short : length h.prefix.digits ≤ 8 = h.short in
     rw h.prefix.octets_are (omega (arith, length-map h.prefix.digits (λ d. 128 + d)))
-length-carried (Identifier id) os h = let few : length os ≤ 10 = h.few in omega arith
+length-carried (Identifier id) os h = let short : length os ≤ 10 = h.short in omega arith
 length-carried (Length id n left) os h =
-    let few : length h.prefix.identifier ≤ 10 = h.few in
+    let short : length h.prefix.identifier_octets ≤ 10 = h.short in
     let some : 1 ≤ left = h.prefix.some in
-    let most : length h.prefix.digits + left ≤ 126 = h.prefix.few in
+    let within : length h.prefix.digits + left ≤ 126 = h.prefix.within in
     rw h.prefix.octets_are
-    (omega (arith, length-append h.prefix.identifier ((128 + (length h.prefix.digits + left)) ∷ h.prefix.digits)))
+    (omega (
+      arith,
+      length-append h.prefix.identifier_octets ((128 + (length h.prefix.digits + left)) ∷ h.prefix.digits),
+    ))
 length-carried Whole os h = rw h (omega arith)
 
 -- the header that the octets are
@@ -45,16 +48,16 @@ made_header at named id size os m = record {
   constructed = id.constructed;
   number = id.number;
   size = size;
-  identifier = m.identifier;
-  lengths = m.lengths;
+  identifier = m.identifier_octets;
+  lengths = m.length_octets;
 }
 
 made_header-valid : (at : ℕ) (named : Bool) (id : IdentifierFields) (size : Size) (os : List ℕ)
     (m : MakesHeader id size os)
     → IsHeader (made_header at named id size os m)
 made_header-valid at named id size os m = record {
-  identifier = m.identified.identified;
-  lengths = m.sized;
+  identifier = m.carried.identifier;
+  lengths = m.lengths;
   allowed = m.allowed;
 }
 
@@ -66,7 +69,7 @@ made_completes r id size os x m e = record {
   valid = made_header-valid r.offset r.named id size _ m;
   offset = refl;
   named = refl;
-  octets = sym m.octets_are ∙ ap (λ s. s ++ x ∷ []) e;
+  octets_are = sym m.octets_are ∙ ap (λ s. s ++ x ∷ []) e;
 }
 
 pub made_too_deep : (r : HeadReaderState) (id : IdentifierFields) (size : Size) (os : List ℕ) (x depth : ℕ)
@@ -100,8 +103,13 @@ pub made_whole : (r : HeadReaderState) (id : IdentifierFields) (size : Size) (os
       lengths = drop id.id_len (os ++ x ∷ []);
     })
 made_whole r id size os x m e =
-    let count : id.id_len ≡ length m.identifier = m.identified.count in
-    rw (m.octets_are, count, take-append_seam m.identifier m.lengths, drop-append_seam m.identifier m.lengths)
+    let count : id.id_len ≡ length m.identifier_octets = m.carried.count in
+    rw (
+      m.octets_are,
+      count,
+      take-append_seam m.identifier_octets m.length_octets,
+      drop-append_seam m.identifier_octets m.length_octets,
+    )
     (made_completes r id size os x m e)
 
 cons≢nil : (x : ℕ) (xs : List ℕ) → x ∷ xs ≢ []
@@ -128,11 +136,11 @@ zero_ends id size os m = record {
 
 pub unfinished_identifier : (id : IdentifierFields) (os : List ℕ) → CarriesIdentifier id os → IsHeaderPrefix os
 unfinished_identifier id os h = zero_ends id (Definite 0) os (record {
-  identifier = os;
-  lengths = 0 ∷ [];
-  identified = h;
-  sized = inl (lit< tt, refl);
-  few = omega arith;
+  identifier_octets = os;
+  length_octets = 0 ∷ [];
+  carried = h;
+  lengths = inl (lit< tt, refl);
+  short = omega arith;
   some = omega arith;
   allowed = allows_definite id.constructed 0;
   octets_are = refl;

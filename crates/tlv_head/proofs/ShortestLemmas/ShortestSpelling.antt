@@ -18,25 +18,25 @@ use Rattle.tlv_head.proofs.ShortestLemmas.Shortest.{shortest-identifier, shortes
 record StrippedDigits (b : ℕ) (digits tail : List ℕ) : Type 0 where
   pub kept : List ℕ
   pub each : All (λ d. d < b) kept
-  pub fewer : length kept ≤ length digits
+  pub no_more : length kept ≤ length digits
   pub value : value_of b (kept ++ tail) ≡ value_of b (digits ++ tail)
   pub first : (kept ≡ []) ⊎ (slice_index (kept ++ tail) 0 ≢ 0)
 
 strip : (b : ℕ) (digits tail : List ℕ) → All (λ d. d < b) digits → StrippedDigits b digits tail
-strip b [] tail each = record { kept = []; each = each; fewer = le_refl _; value = refl; first = inl refl }
+strip b [] tail each = record { kept = []; each = each; no_more = le_refl _; value = refl; first = inl refl }
 strip b (zero ∷ digits) tail each =
     let r : StrippedDigits b digits tail = strip b digits tail (All-tail (λ d. d < b) zero digits each) in
     record {
       kept = r.kept;
       each = r.each;
-      fewer = omega (arith, r.fewer);
+      no_more = omega (arith, r.no_more);
       value = omega (arith, r.value, zero-mul (b ^ length (digits ++ tail)));
       first = r.first;
     }
 strip b (suc d ∷ digits) tail each = record {
   kept = suc d ∷ digits;
   each = each;
-  fewer = le_refl _;
+  no_more = le_refl _;
   value = refl;
   first = inr (λ z. omega (arith, z));
 }
@@ -68,7 +68,7 @@ first-kept kept last n large e (inr first) = first
 high-form : (class : Class) (constructed : Bool) (n : ℕ) (digits : List ℕ) (last : ℕ) → 31 ≤ n
     → All (λ d. d < 128) digits → last < 128 → length digits ≤ 8
     → n ≡ value_of 128 (digits ++ last ∷ []) → ShortIdentifier class constructed n
-high-form class constructed n digits last large each below few e =
+high-form class constructed n digits last large each below short e =
     let r : StrippedDigits 128 digits (last ∷ []) = strip 128 digits (last ∷ []) each in
     let value : n ≡ value_of 128 (r.kept ++ last ∷ []) = e ∙ sym r.value in
     let nonzero : slice_index (r.kept ++ last ∷ []) 0 ≢ 0 = first-kept r.kept last n large value r.first in
@@ -79,7 +79,7 @@ high-form class constructed n digits last large each below few e =
         last = last;
         each = r.each;
         last_digit = below;
-        few = omega (arith, r.fewer);
+        short = omega (arith, r.no_more);
         value = value;
         octets_are = refl;
       });
@@ -96,7 +96,7 @@ pub short-identifier : (class : Class) (constructed : Bool) (n : ℕ) (octets : 
 short-identifier class constructed n octets (inl f) nonzero = low-form class constructed n f.small nonzero
 short-identifier class constructed n octets (inr f) nonzero = elim (cases_lt n 31) [
   | inl small ↦ low-form class constructed n small nonzero
-  | inr large ↦ high-form class constructed n f.digits f.last large f.each f.last_digit f.few f.value
+  | inr large ↦ high-form class constructed n f.digits f.last large f.each f.last_digit f.short f.value
 ]
 
 -- ---- length octets
@@ -118,7 +118,7 @@ first-of_length (x ∷ kept) n large e (inr first) = (omega arith, first)
 
 long-form : (n : ℕ) (digits : List ℕ) → 128 ≤ n → All (λ d. d < 256) digits → length digits ≤ 126 → n < 2 ^ 40
     → n ≡ value_of 256 digits → ShortLength (Definite n)
-long-form n digits large each few limit e =
+long-form n digits large each short limit e =
     let r : StrippedDigits 256 digits [] = strip 256 digits [] each in
     let value : n ≡ value_of 256 (r.kept ++ []) = e ∙ ap (value_of 256) (sym (append-nil digits)) ∙ sym r.value in
     let first : (1 ≤ length r.kept) × (slice_index r.kept 0 ≢ 0) = first-of_length r.kept n large value r.first in
@@ -128,7 +128,7 @@ long-form n digits large each few limit e =
         digits = r.kept;
         each = r.each;
         some = first.0;
-        few = omega (arith, r.fewer);
+        short = omega (arith, r.no_more);
         value = value ∙ ap (value_of 256) (append-nil r.kept);
         limit = limit;
         octets_are = refl;
@@ -141,7 +141,7 @@ short-length Indefinite octets v = record { octets = 128 ∷ []; valid = refl; s
 short-length (Definite n) octets (inl f) = record { octets = n ∷ []; valid = inl (f.0, refl); shortest = one-octet n n }
 short-length (Definite n) octets (inr f) = elim (cases_lt n 128) [
   | inl small ↦ record { octets = n ∷ []; valid = inl (small, refl); shortest = one-octet n n }
-  | inr large ↦ long-form n f.digits large f.each f.few f.limit f.value
+  | inr large ↦ long-form n f.digits large f.each f.short f.limit f.value
 ]
 
 -- ---- headers

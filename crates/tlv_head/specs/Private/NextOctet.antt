@@ -11,14 +11,14 @@ use Rattle.tlv_head.specs.HeaderSoFar.{CarriesIdentifier, Carries}
 
 -- the octets are a header with these fields
 pub record MakesHeader (id : IdentifierFields) (size : Size) (octets : List ℕ) : Type 0 where
-  pub identifier : List ℕ
-  pub lengths : List ℕ
-  pub identified : CarriesIdentifier id identifier
-  pub sized : IsLength size lengths
-  pub few : length lengths ≤ 127
-  pub some : 1 ≤ length lengths
+  pub identifier_octets : List ℕ
+  pub length_octets : List ℕ
+  pub carried : CarriesIdentifier id identifier_octets
+  pub lengths : IsLength size length_octets
+  pub short : length length_octets ≤ 127
+  pub some : 1 ≤ length length_octets
   pub allowed : AllowsSize id.constructed size
-  pub octets_are : octets ≡ identifier ++ lengths
+  pub octets_are : octets ≡ identifier_octets ++ length_octets
 
 -- octets begin with the identifier
 pub record BeginsWithIdentifier (octets : List ℕ) (id : IdentifierFields) : Type 0 where
@@ -29,8 +29,8 @@ pub record BeginsWithIdentifier (octets : List ℕ) (id : IdentifierFields) : Ty
 pub record BeginsWithLength (octets : List ℕ) (constructed : Bool) (size : Size) (count : ℕ) : Type 0 where
   pub within : count ≤ length octets
   pub some : 1 ≤ count
-  pub few : count ≤ 127
-  pub sized : IsLength size (take count octets)
+  pub at_most_127 : count ≤ 127
+  pub lengths : IsLength size (take count octets)
   pub allowed : AllowsSize constructed size
 
 -- octets begin with no identifier of at most three octets that has another octet after it

@@ -7,4 +7,4 @@ pub returns : goal.returns
 returns c = λ input offset named h g p q.
     let origin : origin_of h ≡ origin_of g =
     (λ i. record { offset = (p.offset ∙ sym q.offset) i; named = (p.named ∙ sym q.named) i }) in
-    one-header h g p.rest q.rest p.valid q.valid origin (sym p.octets ∙ q.octets)
+    one-header h g p.rest q.rest p.valid q.valid origin (sym p.octets_are ∙ q.octets_are)

@@ -111,7 +111,7 @@ returns-else-not-contents_fit-clause-pushes c =
                 w ↦
                 λ _. w.if-depth-ge128.false
           ];
-      within = c.contents_fit.ensures.0 c.if-not-contents_fit.false;
+      contents_fit = c.contents_fit.ensures.0 c.if-not-contents_fit.false;
     }))
     refl
 
