@@ -5,7 +5,7 @@ use Rattle.tlv_head.specs.Header.{definite_length}
 use Rattle.tlv_walk.specs.declared.framing.Framing.{Framing}
 use Rattle.tlv_walk.specs.Forest.{Forest, Holder, NoMore, PaddingOctet, Primitive, contents_length, extent}
 use Rattle.tlv_walk.specs.Forest.{has_element, primitive_extent, spelling}
-use Rattle.tlv_walk.specs.Place.{IsHeaderAt, KeepsRules, Place, place_after, place_of_children, top_place}
+use Rattle.tlv_walk.specs.Place.{HasItsLength, IsHeaderAt, KeepsRules, Place, place_after, place_of_children, top_place}
 
 -- octets, each below 256
 abbrev pub AreOctets : List ℕ → Type 0
@@ -32,7 +32,7 @@ IsSound p (Primitive h c rest) =
     IsHeaderAt p false h × (h.size ≡ Definite (length c))
     × IsSound (place_after p (primitive_extent h c)) rest
 IsSound p (Holder h children rest) =
-    IsHeaderAt p true h × IfSome (definite_length h.size) (λ n. contents_length h children ≡ n) × (p.depth < 128)
+    IsHeaderAt p true h × HasItsLength h children × (p.depth < 128)
     × IsSound (place_of_children p h) children × IsSound (place_after p (extent h children)) rest
 IsSound p end = ⊥
 
@@ -41,7 +41,7 @@ pub record IsSoundList (framing : Framing) (b : List ℕ) : Type 0 where
   pub forest : Forest
   pub sound : IsSound (top_place framing) forest
   pub some : has_element forest ≡ true
-  pub octets : spelling forest ≡ b
+  pub spelled : spelling forest ≡ b
 
 -- no input that begins with p is a sound list
 abbrev pub CannotBecomeSound : Framing → List ℕ → Type 0

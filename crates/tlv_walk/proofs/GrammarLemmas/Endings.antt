@@ -129,8 +129,8 @@ pub halt-unsound : (w : Framing) (b : List ℕ) (f : Forest) (code : FaultCode) 
 halt-unsound w b f code r s =
     let most : length (spelling s.forest) ≤ length (spelling f) =
     halt-longest w f code b r s.forest (sound-open_top w s.forest s.sound)
-    ([], append-nil (spelling s.forest) ∙ s.octets) in
-    omega (arith, ap length s.octets, ap length r.front, length-append (spelling f) (r.octet ∷ r.rest))
+    ([], append-nil (spelling s.forest) ∙ s.spelled) in
+    omega (arith, ap length s.spelled, ap length r.front, length-append (spelling f) (r.octet ∷ r.rest))
 
 -- no false alarm: after a fault other than F01 and F02 no input that goes on is sound
 pub no-false-alarm : (w : Framing) (b c : List ℕ) (code : FaultCode) (offset : ℕ) → code ≢ Empty → code ≢ Short
@@ -147,19 +147,19 @@ done-sound w b e =
       forest = d.forest;
       sound = open-sound (top_place w) d.forest d.spells.keeps_rules d.whole;
       some = d.some;
-      octets = d.spells.spelled;
+      spelled = d.spells.spelled;
     }
 
 -- the reading of a sound input is its elements
 pub sound-reading : (w : Framing) (b : List ℕ) → (s : IsSoundList w b) → IsReading w b s.forest
 sound-reading w b s = run-reading w (Going s.forest) b (record {
   keeps_rules = sound-open_top w s.forest s.sound;
-  spelled = s.octets;
+  spelled = s.spelled;
 })
 
 -- the ending of a sound input is `Done`
 pub sound-done : (w : Framing) (b : List ℕ) → IsSoundList w b → IsEnding w b Done
-sound-done w b s = done s.forest (sound-reading w b s) s.octets s.some (sound-whole (top_place w) s.forest s.sound)
+sound-done w b s = done s.forest (sound-reading w b s) s.spelled s.some (sound-whole (top_place w) s.forest s.sound)
 
 abbrev pub offset_in : Ending → ℕ
 offset_in Done = 0
