@@ -186,8 +186,8 @@ module _ {S : Type 0} (next : S → EventValue → Effect S) (old new : TurnStat
   CanGoOn limit (Err WriteFailed) = ⊤
   CanGoOn limit (Err InputTooLong) = IsAtLimit limit
 
-  -- what a turn does: it makes one read, and what that gave is followed and flushed. `room` is what the array into which
-  -- it was made holds after the turn
+  -- what a turn does: it makes one read, and what that gave is followed and flushed. `room` is what the array into
+  -- which it was made holds after the turn
   pub record FollowsOneRead (limit : ℕ) (room : List ℕ) (result : Result Turn DeviceFault) : Type 0 where
     -- what the devices did
     pub calls : CallsDevices room result

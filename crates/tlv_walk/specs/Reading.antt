@@ -1,9 +1,8 @@
 -- What an input is read as, and which inputs are sound.
-use Rattle.std.specs.Prelude.{◌≡◌, ℕ, ◌<◌, ◌≤◌, true, false, List, ◌++◌, All, length, IfSome}
+use Rattle.std.specs.Prelude.{◌≡◌, ℕ, ◌<◌, ◌≤◌, true, false, List, ◌++◌, All, length}
 use Rattle.tlv_head.specs.declared.header.Size.TheVariants.{Definite}
-use Rattle.tlv_head.specs.Header.{definite_length}
 use Rattle.tlv_walk.specs.declared.framing.Framing.{Framing}
-use Rattle.tlv_walk.specs.Forest.{Forest, Holder, NoMore, PaddingOctet, Primitive, contents_length, extent}
+use Rattle.tlv_walk.specs.Forest.{Forest, Holder, NoMore, PaddingOctet, Primitive, extent}
 use Rattle.tlv_walk.specs.Forest.{has_element, primitive_extent, spelling}
 use Rattle.tlv_walk.specs.Place.{HasItsLength, IsHeaderAt, KeepsRules, Place, place_after, place_of_children, top_place}
 

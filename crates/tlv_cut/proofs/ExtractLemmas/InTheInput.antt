@@ -58,7 +58,8 @@ octets_so_far-prefix p (OpenHolder h inside) plain v =
     }
 octets_so_far-prefix p (OpenBitString h) plain v =
     record { rest = []; octets_are = sym (append-nil (octets_of h)); all = λ w. refl }
-octets_so_far-prefix p (OpenHeader octets) plain v = record { rest = octets; octets_are = refl; all = λ w. absurd (cc (w)) }
+octets_so_far-prefix p (OpenHeader octets) plain v =
+    record { rest = octets; octets_are = refl; all = λ w. absurd (cc (w)) }
 octets_so_far-prefix p OpenEndOctets plain v = record { rest = 0 ∷ []; octets_are = refl; all = λ w. absurd (cc (w)) }
 
 module _ (n : ℕ) where

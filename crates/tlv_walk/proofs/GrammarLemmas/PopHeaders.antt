@@ -1,11 +1,8 @@
 -- A forest that keeps the rules and ends in a header, or in a prefix of one, is a shorter one and the octet pushed.
-use Rattle.std.proofs.Common.{◌≡◌, ◌≢◌, inl, inr, ℕ, ◌+◌, ◌≤◌, Bool, true, false, ◌&&◌, leb, List, [], ◌∷◌, ◌++◌}
+use Rattle.std.proofs.Common.{◌≡◌, ◌≢◌, ℕ, ◌+◌, ◌≤◌, Bool, true, false, ◌&&◌, leb, List, [], ◌∷◌, ◌++◌}
 use Rattle.std.proofs.Common.{length, refl, sym, ap, ◌∙◌, arith, append_assoc, append-nil, length-append, ne_eqb}
 use Rattle.std.proofs.lemmas.Bool.{lt-leb}
-use Rattle.tlv_head.specs.declared.header.Class.{Class}
-use Rattle.tlv_head.specs.declared.header.Size.{Size}
-use Rattle.tlv_head.specs.declared.header.Size.TheVariants.{Definite, Indefinite}
-use Rattle.tlv_head.specs.Header.{HeaderValue, IsHeader, IsIdentifier, IsLength, announced_length, holds, octets_of}
+use Rattle.tlv_head.specs.Header.{HeaderValue, IsHeader, announced_length, holds, octets_of}
 use Rattle.tlv_head.specs.Refusal.{IsHeaderPrefix}
 use Rattle.tlv_head.proofs.GrammarLemmas.Scan.{Origin, Scan, Fresh, High, Named, Long, Ready, Stuck, Over, origin_of}
 use Rattle.tlv_head.proofs.GrammarLemmas.Scan.{scan, scan_from-append, scan-header, is_more, more-from_prefix}

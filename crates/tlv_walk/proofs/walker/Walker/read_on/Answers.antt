@@ -129,6 +129,6 @@ returns-in-Whole-clause-counts c =
           events = e.counts.events ∙ ap (λ (m : WalkerState). m.events + 1) i.same;
           has_yielded = e.counts.has_yielded;
         },
-        e.octets,
+        e.has_octets,
       )
     ]
