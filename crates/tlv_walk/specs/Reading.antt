@@ -22,6 +22,10 @@ pub record IsReading (framing : Framing) (b : List ℕ) (f : Forest) : Type 0 wh
   pub longest : (g : Forest) → KeepsRules (top_place framing) g → IsPrefixOf (spelling g) b
       → length (spelling g) ≤ length (spelling f)
 
+-- f is the reading of an input, and spells all of it
+abbrev pub ReadsAll : Framing → List ℕ → Forest → Type 0
+ReadsAll framing b f = IsReading framing b f × (spelling f ≡ b)
+
 -- 8.1.1 to 8.1.5: nothing is open, each definite length is that of the contents, and no element that holds others is
 -- held by more than 127 others; padding is at the top alone
 abbrev pub IsSound : Place → Forest → Type 0

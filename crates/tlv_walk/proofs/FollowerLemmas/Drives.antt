@@ -150,7 +150,7 @@ module _ {S : Type 0} (next : S → EventValue → Effect S) (framing : Framing)
 
       -- the octets so far hold neither a fault nor enough
       first_wants : WantMore (drive_job next framing limit s) b
-      first_wants = (x.stands.has_events.reading, first_reading, first_spelled, ap had_enough first_made.wants)
+      first_wants = (x.stands.has_events.reading, (first_reading, first_spelled), ap had_enough first_made.wants)
 
       abbrev Driven : Result Run DeviceFault → Type 0
       Driven answer =
@@ -340,8 +340,7 @@ module _ {S : Type 0} (next : S → EventValue → Effect S) (framing : Framing)
           (stands_yielded new.walker walked_octets es f z.stands z.idle z.stands.has_events.is_reading) in
           let wants : WantMore (drive_job next framing limit s) walked_octets = (
             f,
-            is_reading,
-            stands_spelled new.walker walked_octets es f z.stands z.stands.has_events.is_reading,
+            (is_reading, stands_spelled new.walker walked_octets es f z.stands z.stands.has_events.is_reading),
             is_enough_so f go.On (effect_of next s es).put k,
           ) in
           record {

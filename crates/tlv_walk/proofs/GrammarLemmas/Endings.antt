@@ -43,10 +43,10 @@ going-ending w f b r =
     let reading : IsReading w b f = run-reading w (Going f) b r in
     elim (cases_Bool (has_element f)) [
       | inl some ↦ elim (cases_Bool (is_whole f)) [
-        | inl whole ↦ rw (some, whole) (done f reading r.spelled some whole)
-        | inr part ↦ rw (some, part) (short f reading r.spelled part)
+        | inl whole ↦ rw (some, whole) (done f (reading, r.spelled) some whole)
+        | inr part ↦ rw (some, part) (short f (reading, r.spelled) part)
       ]
-      | inr none ↦ rw none (empty f reading r.spelled none)
+      | inr none ↦ rw none (empty f (reading, r.spelled) none)
     ]
 
 -- an octet that is refused gives an ending, whatever follows
@@ -92,11 +92,11 @@ Says w b (Fault f) = IsEarly f.code ⊎ IsRefused w b f.code f.offset
 
 -- each ending says so
 pub ending-says : (w : Framing) (b : List ℕ) (e : Ending) → IsEnding w b e → Says w b e
-ending-says w b e (empty f r s n) = inl (inl refl)
-ending-says w b e (short f r s p) = inl (inr refl)
-ending-says w b e (done f r s n t) = record {
+ending-says w b e (empty f r n) = inl (inl refl)
+ending-says w b e (short f r p) = inl (inr refl)
+ending-says w b e (done f r n t) = record {
   forest = f;
-  spells = record { keeps_rules = r.keeps_rules; spelled = s };
+  spells = record { keeps_rules = r.0.keeps_rules; spelled = r.1 };
   some = n;
   whole = t;
 }
@@ -159,7 +159,8 @@ sound-reading w b s = run-reading w (Going s.forest) b (record {
 
 -- the ending of a sound input is `Done`
 pub sound-done : (w : Framing) (b : List ℕ) → IsSoundList w b → IsEnding w b Done
-sound-done w b s = done s.forest (sound-reading w b s) s.spelled s.some (sound-whole (top_place w) s.forest s.sound)
+sound-done w b s =
+    done s.forest (sound-reading w b s, s.spelled) s.some (sound-whole (top_place w) s.forest s.sound)
 
 abbrev pub offset_in : Ending → ℕ
 offset_in Done = 0
@@ -168,9 +169,9 @@ offset_in (Fault f) = f.offset
 -- an ending that is a fault: the input ends there, or an octet of it is refused
 fault-place : (w : Framing) (b : List ℕ) (e : Ending) (f : FaultOf) → IsEnding w b e → e ≡ Fault f
     → (f.offset ≡ length b) ⊎ ((g : Forest) × IsReading w b g × (f.offset ≡ length (spelling g)))
-fault-place w b e f (empty g r s n) i = inl (sym (ap offset_in i))
-fault-place w b e f (short g r s n) i = inl (sym (ap offset_in i))
-fault-place w b e f (done g r s n t) i = absurd (cc (i))
+fault-place w b e f (empty g r n) i = inl (sym (ap offset_in i))
+fault-place w b e f (short g r n) i = inl (sym (ap offset_in i))
+fault-place w b e f (done g r n t) i = absurd (cc (i))
 fault-place w b e f (refused g x rest code r s k) i = inr (g, r, sym (ap offset_in i))
 
 -- if the octet after p is refused and p is the spelling of a forest that keeps the rules, that is the reading

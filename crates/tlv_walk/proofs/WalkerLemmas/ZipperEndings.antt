@@ -155,7 +155,7 @@ pub state-done : (w : WalkerState) (b : List ℕ) (yielded : List EventValue) (s
     → IsEnding w.framing b Done
 state-done w b yielded s h e none some =
     let o : IsOutermost w b s = state-outermost w b yielded s h e none in
-    done (reading_of s) (state-reading w b yielded s h) o.spelled (ap has_element o.reading ∙ o.element ∙ some)
+    done (reading_of s) (state-reading w b yielded s h, o.spelled) (ap has_element o.reading ∙ o.element ∙ some)
     (ap is_whole o.reading ∙ h.here.whole)
 
 -- and if no octet of an element came, there is none
@@ -164,7 +164,7 @@ pub state-empty : (w : WalkerState) (b : List ℕ) (yielded : List EventValue) (
     → IsEnding w.framing b (fault_ending Empty (length b))
 state-empty w b yielded s h e none no_element =
     let o : IsOutermost w b s = state-outermost w b yielded s h e none in
-    empty (reading_of s) (state-reading w b yielded s h) o.spelled (ap has_element o.reading ∙ o.element ∙ no_element)
+    empty (reading_of s) (state-reading w b yielded s h, o.spelled) (ap has_element o.reading ∙ o.element ∙ no_element)
 
 -- elsewhere something is open: an element that holds others, or what is after the whole elements
 open-elsewhere : (w : Framing) (ls : List Layer) (here : Forest) (f : PhaseValue) (t : Tail)
@@ -188,4 +188,4 @@ state-short w b yielded s h n outside =
     whole-within w.framing s.layers (followed_by s.here (tail_forest s.tail)) h.layers
     (λ e. whole-followed_by s.here (tail_forest s.tail) h.here.whole
     ∙ open-elsewhere w.framing s.layers s.here w.phase s.tail h.phase (λ p q. outside p (h.stack ∙ q)) e) in
-    short (reading_of s) (state-reading w b yielded s h) r.spelled (ap is_whole (state-within w b yielded s h n) ∙ part)
+    short (reading_of s) (state-reading w b yielded s h, r.spelled) (ap is_whole (state-within w b yielded s h n) ∙ part)
