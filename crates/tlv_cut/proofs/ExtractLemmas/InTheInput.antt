@@ -100,7 +100,7 @@ module _ (n : ℕ) where
   further p q f g e o t all at r = record {
     before = o ++ r.before;
     after = r.after ++ t;
-    octets =
+    octets_are =
         all ∙ ap (λ (l : List ℕ). o ++ (l ++ t)) r.octets_are
         ∙ ap (λ (l : List ℕ). o ++ l) (append_assoc-3 r.before (octets_so_far e) r.after t)
         ∙ sym (append_assoc o r.before (octets_so_far e ++ (r.after ++ t)));
