@@ -188,4 +188,5 @@ state-short w b yielded s h n outside =
     whole-within w.framing s.layers (followed_by s.here (tail_forest s.tail)) h.layers
     (λ e. whole-followed_by s.here (tail_forest s.tail) h.here.whole
     ∙ open-elsewhere w.framing s.layers s.here w.phase s.tail h.phase (λ p q. outside p (h.stack ∙ q)) e) in
-    short (reading_of s) (state-reading w b yielded s h, r.spelled) (ap is_whole (state-within w b yielded s h n) ∙ part)
+    short (reading_of s) (state-reading w b yielded s h, r.spelled)
+    (ap is_whole (state-within w b yielded s h n) ∙ part)
