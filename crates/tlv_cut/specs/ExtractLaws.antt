@@ -17,7 +17,7 @@ pub record IsInInput (b : List ℕ) (n : ℕ) (f : Forest) : Type 0 where
   -- the octets before the element, and those after what is written of it
   pub before : List ℕ
   pub after : List ℕ
-  pub octets : before ++ (extract_text n false f ++ after) ≡ b
+  pub octets_are : before ++ (extract_text n false f ++ after) ≡ b
   pub begins : length before ≡ n
   -- its header
   pub header : HeaderValue

@@ -134,7 +134,7 @@ impl Extract {
 
 impl Follow for Extract {
     ghost use Rattle.std.specs.Prelude.{refl};
-    ghost use Rattle.tlv_walk.proofs.FollowerLemmas.Followed.{each_octet-goes_on, each_octet-joins};
+    ghost use Rattle.tlv_walk.proofs.FollowerLemmas.FollowedEvents.{each_octet-goes_on, each_octet-joins};
     ghost use Rattle.tlv_cut.specs.ExtractStep.{extract_step};
 
     ghost next = { extract_step };

@@ -1,6 +1,6 @@
-pub mod Gains
+pub mod NextEvents
 pub mod Joined
-pub mod Prefixes
+pub mod LongerInputs
 pub mod Unused
-pub mod Named
+pub mod NamedOffsets
 pub mod Wrappers

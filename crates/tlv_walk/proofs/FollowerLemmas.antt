@@ -1,12 +1,12 @@
 pub mod Calls
 pub mod Drives
 pub mod Enough
-pub mod Followed
-pub mod Following
+pub mod FollowedEvents
+pub mod FollowSteps
 pub mod Jobs
 pub mod MadeAll
 pub mod Prefixes
 pub mod Pauses
-pub mod SoFar
+pub mod WalkSoFar
 pub mod TurnEnds
 pub mod Turns

@@ -3,8 +3,8 @@ pub mod Bounds
 pub mod Endings
 pub mod Faults
 pub mod Finals
-pub mod FramedInputs
-pub mod Inputs
+pub mod FramedInputRows
+pub mod InputRows
 pub mod Lengths
 pub mod Pop
 pub mod PopHeaders

@@ -7,13 +7,13 @@ pub mod HasRead
 pub mod HeaderKinds
 pub mod HeaderRefusals
 pub mod HeaderSteps
-pub mod Moves
+pub mod YieldedEvents
 pub mod Depths
 pub mod Padding
 pub mod Passing
 pub mod Places
 pub mod Refusals
-pub mod Standing
+pub mod StepStands
 pub mod ZipperEndings
 pub mod ZipperReading
 pub mod Waiting

@@ -13,7 +13,7 @@ use Rattle.tlv_walk.specs.Forest.{Forest, NoMore, PaddingOctet, Primitive, Holde
 use Rattle.tlv_walk.specs.Forest.{OpenHeader, OpenEndOctets, extent, has_element, is_whole}
 use Rattle.tlv_walk.specs.Forest.{primitive_extent, spelling}
 use Rattle.tlv_walk.specs.Place.{Fits, IsHeaderAt, Place, place_after, place_of_children, top_place}
-use Rattle.tlv_walk.specs.Reading.{CannotBecomeSound, IsReading, IsSoundList}
+use Rattle.tlv_walk.specs.Reading.{CannotBecomeSound, IsReading, IsSoundList, ReadsAll}
 
 -- an open end of a forest: where it begins, and what is there: nothing between encodings (`NoMore`), or a primitive, a
 -- wrapping BIT STRING, a header or end-of-contents octets that lack octets
@@ -70,13 +70,13 @@ fault_ending code offset = Fault (fault_at code offset)
 -- the ending of an input
 pub data IsEnding (framing : Framing) (b : List ℕ) : Ending → Type 0 where
   -- F01: no octet of an element came
-  empty : (f : Forest) → IsReading framing b f → spelling f ≡ b → has_element f ≡ false
+  empty : (f : Forest) → ReadsAll framing b f → has_element f ≡ false
       → IsEnding framing b (fault_ending Empty (length b))
   -- F02: something is open
-  short : (f : Forest) → IsReading framing b f → spelling f ≡ b → is_whole f ≡ false
+  short : (f : Forest) → ReadsAll framing b f → is_whole f ≡ false
       → IsEnding framing b (fault_ending Short (length b))
   -- one or more elements, and nothing is open
-  done : (f : Forest) → IsReading framing b f → spelling f ≡ b → has_element f ≡ true → is_whole f ≡ true
+  done : (f : Forest) → ReadsAll framing b f → has_element f ≡ true → is_whole f ≡ true
       → IsEnding framing b Done
   -- the octet after the reading is refused
   refused : (f : Forest) (x : ℕ) (rest : List ℕ) (code : FaultCode) → IsReading framing b f → spelling f ++ x ∷ rest ≡ b

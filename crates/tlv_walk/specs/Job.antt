@@ -9,9 +9,9 @@ use Rattle.tlv_walk.specs.declared.run.DeviceFault.{DeviceFault}
 use Rattle.tlv_walk.specs.declared.run.DeviceFault.TheVariants.{ReadFailed, WriteFailed, InputTooLong}
 use Rattle.tlv_io.specs.Device.{DrainState, Pieces, SourceState, failed, failures_after, gave, octets_given}
 use Rattle.tlv_walk.specs.Ending.{IsEnding, IsFinalEnding, ShowsSoundness}
-use Rattle.tlv_walk.specs.Forest.{Forest, spelling}
+use Rattle.tlv_walk.specs.Forest.{Forest}
 use Rattle.tlv_io.specs.Out.{Sends}
-use Rattle.tlv_walk.specs.Reading.{IsReading}
+use Rattle.tlv_walk.specs.Reading.{IsReading, ReadsAll}
 
 -- the devices of a run, as they are before it or after it: what the source and the drain show of themselves
 pub record DeviceStates : Type 0 where
@@ -57,7 +57,7 @@ module _ {A : Type 0} (job : Job A) where
 
   -- the octets hold no fault, and after them more is wanted
   abbrev pub WantMore : List ℕ → Type 0
-  WantMore octets = (f : Forest) × IsReading job.framing octets f × (spelling f ≡ octets) × (job.is_enough f ≡ false)
+  WantMore octets = (f : Forest) × ReadsAll job.framing octets f × (job.is_enough f ≡ false)
 
   -- there was not enough, and the octets have this ending, which shows whether they are sound
   pub record HasEnding (octets : List ℕ) (f : Forest) (e : Ending) : Type 0 where

@@ -1,13 +1,15 @@
 -- Laws of forests that keep the rules, of the readings and endings of inputs, and of their events.
-use Rattle.std.specs.Prelude.{◌≡◌, ℕ, List, ◌++◌}
+use Rattle.std.specs.Prelude.{◌≡◌, ◌↔◌, ℕ, true, List, ◌++◌}
 use Rattle.tlv_head.specs.declared.fault.FaultCode.{FaultCode}
 use Rattle.tlv_walk.specs.declared.ending.Ending.{Ending}
+use Rattle.tlv_walk.specs.declared.ending.Ending.TheVariants.{Done}
 use Rattle.tlv_walk.specs.declared.framing.Framing.{Framing}
-use Rattle.tlv_walk.specs.Forest.{Forest, spelling}
-use Rattle.tlv_walk.specs.Place.{KeepsRules, Place}
+use Rattle.tlv_walk.specs.Follow.{Effect, effect_of}
+use Rattle.tlv_walk.specs.Forest.{Forest, is_whole, spelling}
+use Rattle.tlv_walk.specs.Place.{KeepsRules, Place, top_place}
 use Rattle.tlv_walk.specs.LongerInputs.{ForLongerInputs}
-use Rattle.tlv_walk.specs.Reading.{AreOctets, CannotBecomeSound, IsPrefixOf, IsReading}
-use Rattle.tlv_walk.specs.Events.{AreEqualJoined, EventValue, events}
+use Rattle.tlv_walk.specs.Reading.{AreOctets, CannotBecomeSound, IsPrefixOf, IsReading, IsSound, IsSoundList}
+use Rattle.tlv_walk.specs.Events.{AreEqualJoined, EventValue, events, single_octets}
 use Rattle.tlv_walk.specs.Ending.{IsEnding, IsFinalCode, fault_ending}
 
 -- each prefix of the spelling of a forest that keeps the rules is the spelling of one that keeps them
@@ -40,6 +42,24 @@ abbrev pub FaultsAreRight : Type 0
 FaultsAreRight = (framing : Framing) (b : List ℕ) (code : FaultCode) (offset : ℕ) → IsFinalCode code
     → IsEnding framing b (fault_ending code offset) → CannotBecomeSound framing b
 
+-- the inputs whose ending is Done are the sound lists
+abbrev pub DoneIsSound : Type 0
+DoneIsSound = (framing : Framing) (b : List ℕ) → IsEnding framing b Done ↔ IsSoundList framing b
+
 -- the events of a longer input are, joined, those of the shorter and then others
 abbrev pub EventsGoOn : Type 0
 EventsGoOn = ForLongerInputs (λ f g. (others : List EventValue) × AreEqualJoined (events g) (events f ++ others))
+
+-- events are equal joined exactly if they are equal with contents and padding in single octets
+abbrev pub JoinedIsApart : Type 0
+JoinedIsApart = (xs ys : List EventValue) → AreEqualJoined xs ys ↔ (single_octets xs ≡ single_octets ys)
+
+-- elements are sound exactly if they keep the rules and nothing is open
+abbrev pub SoundIsWhole : Type 0
+SoundIsWhole = (framing : Framing) (f : Forest)
+    → IsSound (top_place framing) f ↔ (KeepsRules (top_place framing) f × (is_whole f ≡ true))
+
+-- of events that are equal joined a follower makes the same
+abbrev pub PiecesDoNotShow : {S : Type 0} → (S → EventValue → Effect S) → Type 0
+PiecesDoNotShow {S} next = (s : S) (xs ys : List EventValue) → AreEqualJoined xs ys
+    → effect_of next s xs ≡ effect_of next s ys

@@ -20,7 +20,7 @@ use Rattle.tlv_walk.specs.WalkerState.{WalkerState}
 use Rattle.tlv_io.specs.Out.{Sends}
 use Rattle.tlv_walk.specs.Reading.{AreOctets, IsPrefixOf}
 use Rattle.tlv_walk.specs.HasRead.{StandsAtEnd}
-use Rattle.tlv_walk.specs.Stands.{IsReady, HasEvents, IsIdle, Stands}
+use Rattle.tlv_walk.specs.Stands.{IsReady, HasEvents, IfStands, IsIdle, Stands}
 
 -- the octets that the last read gave, by what the array into which it was made then holds
 abbrev pub last_octets : LastReadValue → List ℕ → List ℕ
@@ -41,13 +41,13 @@ LastReadWas most (Err ReadFailed) last = last ≡ failed
 LastReadWas most (Err WriteFailed) last = LastReadGaveUpTo most last
 LastReadWas most (Err InputTooLong) last = LastReadGaveUpTo most last
 
--- what a turn requires of the walker, the array into which it reads and the limit
-pub record CanTurn (walker : WalkerState) (room : List ℕ) (limit : ℕ) : Type 0 where
+-- what a turn requires of the walker, the array into which it reads and the number of octets that are read at most
+pub record CanTurn (walker : WalkerState) (room : List ℕ) (most : ℕ) : Type 0 where
   -- the array has at least one octet, and no more than 4096
   pub some : 0 < length room
   pub short : length room ≤ 4096
-  pub in_range : limit ≤ input_limit
-  pub within : walker.offset ≤ limit
+  pub limit : most ≤ input_limit
+  pub within : walker.offset ≤ most
   pub ready : IsReady walker
 
 -- what takes part in a turn, as it is before the turn or after it: the walker, the follower's state and the devices
@@ -108,9 +108,9 @@ module _ {S : Type 0} (next : S → EventValue → Effect S) (old new : TurnStat
     pub all : List EventValue
     pub follows : FollowsMore yielded all go.On
     pub has_events : HasEvents old.walker.framing octets all
-    pub ending : IsEnding old.walker.framing octets run.ending
+    pub is_ending : IsEnding old.walker.framing octets run.ending
     pub run_is : run ≡ run_over old.walker.framing has_events.reading run.ending
-    pub walker : StandsAtEnd new.walker octets all
+    pub stands : StandsAtEnd new.walker octets all
 
   -- the follower had enough with the last of the events that it followed, after which the octets may have others; the
   -- walker stands for the octets of those that were followed, and the run is that over them
@@ -186,13 +186,13 @@ module _ {S : Type 0} (next : S → EventValue → Effect S) (old new : TurnStat
   CanGoOn limit (Err WriteFailed) = ⊤
   CanGoOn limit (Err InputTooLong) = IsAtLimit limit
 
-  -- what a turn does: it makes one read, and what that gave is followed and flushed. `room` is what the array into which
-  -- it was made holds after the turn
+  -- what a turn does: it makes one read, and what that gave is followed and flushed. `room` is what the array into
+  -- which it was made holds after the turn
   pub record FollowsOneRead (limit : ℕ) (room : List ℕ) (result : Result Turn DeviceFault) : Type 0 where
     -- what the devices did
     pub calls : CallsDevices room result
-    pub octets : AreOctets room
+    pub are_octets : AreOctets room
     -- what was made of the octets that the read gave, if the walker stands for those before them
-    pub turned : (taken : List ℕ) (yielded : List EventValue) → Stands old.walker taken yielded
-        → TurnsTo limit taken yielded (last_octets new.devices.source.last room) result
+    pub turned : IfStands old.walker
+        (λ taken yielded. TurnsTo limit taken yielded (last_octets new.devices.source.last room) result)
     pub goes_on : CanGoOn limit result

@@ -87,6 +87,10 @@ pub record IsElementAt (p : Place) (holding : Bool) (h : HeaderValue) (n : ℕ) 
 abbrev pub IsAnnouncedAt : Place → Bool → HeaderValue → Type 0
 IsAnnouncedAt p holding h = IsElementAt p holding h (length (octets_of h) + announced_length h.size)
 
+-- 8.1.3.3: a definite length is that of the contents, of an element with this header that holds these others
+abbrev pub HasItsLength : HeaderValue → Forest → Type 0
+HasItsLength h children = IfSome (definite_length h.size) (λ n. contents_length h children ≡ n)
+
 -- a forest that keeps the rules, and may be open at its end: each element in it keeps them, and no octet and no
 -- announced end lies beyond the bound
 abbrev pub KeepsRules : Place → Forest → Type 0
@@ -101,7 +105,7 @@ KeepsRules p (Primitive h c rest) =
 -- 8.1.4, 8.1.5: an element that holds others and has ended. 8.1.3.3: a definite length is that of the contents
 KeepsRules p (Holder h children rest) =
     (IsElementAt p true h (extent h children) × (is_whole children ≡ true)
-    × IfSome (definite_length h.size) (λ n. contents_length h children ≡ n))
+    × HasItsLength h children)
     × KeepsRules (place_of_children p h) children × KeepsRules (place_after p (extent h children)) rest
 -- 8.1.4: a primitive that lacks contents octets
 KeepsRules p (OpenPrimitive h c) = IsAnnouncedAt p false h × (length c < announced_length h.size)

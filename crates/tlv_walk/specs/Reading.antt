@@ -1,11 +1,10 @@
 -- What an input is read as, and which inputs are sound.
-use Rattle.std.specs.Prelude.{◌≡◌, ℕ, ◌<◌, ◌≤◌, true, false, List, ◌++◌, All, length, IfSome}
+use Rattle.std.specs.Prelude.{◌≡◌, ℕ, ◌<◌, ◌≤◌, true, false, List, ◌++◌, All, length}
 use Rattle.tlv_head.specs.declared.header.Size.TheVariants.{Definite}
-use Rattle.tlv_head.specs.Header.{definite_length}
 use Rattle.tlv_walk.specs.declared.framing.Framing.{Framing}
-use Rattle.tlv_walk.specs.Forest.{Forest, Holder, NoMore, PaddingOctet, Primitive, contents_length, extent}
+use Rattle.tlv_walk.specs.Forest.{Forest, Holder, NoMore, PaddingOctet, Primitive, extent}
 use Rattle.tlv_walk.specs.Forest.{has_element, primitive_extent, spelling}
-use Rattle.tlv_walk.specs.Place.{IsHeaderAt, KeepsRules, Place, place_after, place_of_children, top_place}
+use Rattle.tlv_walk.specs.Place.{HasItsLength, IsHeaderAt, KeepsRules, Place, place_after, place_of_children, top_place}
 
 -- octets, each below 256
 abbrev pub AreOctets : List ℕ → Type 0
@@ -23,6 +22,10 @@ pub record IsReading (framing : Framing) (b : List ℕ) (f : Forest) : Type 0 wh
   pub longest : (g : Forest) → KeepsRules (top_place framing) g → IsPrefixOf (spelling g) b
       → length (spelling g) ≤ length (spelling f)
 
+-- f is the reading of an input, and spells all of it
+abbrev pub ReadsAll : Framing → List ℕ → Forest → Type 0
+ReadsAll framing b f = IsReading framing b f × (spelling f ≡ b)
+
 -- 8.1.1 to 8.1.5: nothing is open, each definite length is that of the contents, and no element that holds others is
 -- held by more than 127 others; padding is at the top alone
 abbrev pub IsSound : Place → Forest → Type 0
@@ -32,7 +35,7 @@ IsSound p (Primitive h c rest) =
     IsHeaderAt p false h × (h.size ≡ Definite (length c))
     × IsSound (place_after p (primitive_extent h c)) rest
 IsSound p (Holder h children rest) =
-    IsHeaderAt p true h × IfSome (definite_length h.size) (λ n. contents_length h children ≡ n) × (p.depth < 128)
+    IsHeaderAt p true h × HasItsLength h children × (p.depth < 128)
     × IsSound (place_of_children p h) children × IsSound (place_after p (extent h children)) rest
 IsSound p end = ⊥
 
@@ -41,7 +44,7 @@ pub record IsSoundList (framing : Framing) (b : List ℕ) : Type 0 where
   pub forest : Forest
   pub sound : IsSound (top_place framing) forest
   pub some : has_element forest ≡ true
-  pub octets : spelling forest ≡ b
+  pub spelled : spelling forest ≡ b
 
 -- no input that begins with p is a sound list
 abbrev pub CannotBecomeSound : Framing → List ℕ → Type 0

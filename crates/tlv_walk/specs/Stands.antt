@@ -2,8 +2,7 @@
 use Rattle.std.specs.Prelude.{◌≡◌, ℕ, Bool, false, eqb, if◌then◌else◌, List, [], ◌∷◌, ◌++◌, Option, Some, None}
 use Rattle.tlv_walk.specs.declared.framing.Framing.{Framing}
 use Rattle.tlv_walk.specs.Stack.{FrameValue}
-use Rattle.tlv_walk.specs.Phase.{PhaseValue}
-use Rattle.tlv_walk.specs.Phase as phase
+use Rattle.tlv_walk.specs.Phase.{Between, InBitString, InEndOctets, InHeader, InPrimitive, PhaseValue, Refused}
 use Rattle.tlv_walk.specs.Events.{AreEqualJoined, Close, End, EventValue, Leave, events}
 use Rattle.tlv_walk.specs.Forest.{Forest}
 use Rattle.tlv_walk.specs.WalkerState.{HasNotRefused, WalkerState}
@@ -27,13 +26,13 @@ filled_end_events offset (f ∷ fs) =
 
 -- the events still to come that need no further octet
 abbrev pub waiting_events_in : PhaseValue → List FrameValue → ℕ → List EventValue
-waiting_events_in phase.Between stack offset = filled_end_events offset stack
-waiting_events_in (phase.InHeader r) stack offset = []
-waiting_events_in (phase.InPrimitive left) stack offset =
+waiting_events_in Between stack offset = filled_end_events offset stack
+waiting_events_in (InHeader r) stack offset = []
+waiting_events_in (InPrimitive left) stack offset =
     if eqb left 0 then End ∷ filled_end_events offset stack else []
-waiting_events_in phase.InBitString stack offset = []
-waiting_events_in phase.InEndOctets stack offset = []
-waiting_events_in (phase.Refused fault) stack offset = []
+waiting_events_in InBitString stack offset = []
+waiting_events_in InEndOctets stack offset = []
+waiting_events_in (Refused fault) stack offset = []
 
 -- the events of a walker still to come that need no further octet
 abbrev pub waiting_events : WalkerState → List EventValue
@@ -59,3 +58,11 @@ pub record Stands (w : WalkerState) (b : List ℕ) (yielded : List EventValue) :
   pub has_events : HasEvents w.framing b (yielded ++ waiting_events w)
   -- of use to proofs alone
   pub private_state : HasPrivateState w b yielded
+
+-- P holds of the octets and the events that the walker stands for
+abbrev pub IfStands : WalkerState → (List ℕ → List EventValue → Type 0) → Type 0
+IfStands w P = (b : List ℕ) (yielded : List EventValue) → Stands w b yielded → P b yielded
+
+-- whatever the walker stood for, it now stands for these octets and these events in addition
+abbrev pub StandsForMore : WalkerState → WalkerState → List ℕ → List EventValue → Type 0
+StandsForMore old new octets more = IfStands old (λ b yielded. Stands new (b ++ octets) (yielded ++ more))

@@ -7,7 +7,7 @@ use Rattle.tlv_walk.specs.declared.event.Step.TheVariants as step
 use Rattle.tlv_walk.specs.Phase.{Refused}
 use Rattle.tlv_walk.specs.Events.{EventValue, IsNoEmptyPart, event_value_of}
 use Rattle.tlv_walk.specs.WalkerState.{HasNotRefused, HasYieldedEvent, WalkerState}
-use Rattle.tlv_walk.specs.Stands.{IsReady, Stands}
+use Rattle.tlv_walk.specs.Stands.{IfStands, IsReady, Stands, StandsForMore}
 use Rattle.tlv_walk.specs.HasRead.{StandsRefused}
 
 -- a walker that had refused no octet took octets with which a piece begins, or none, and yielded these events
@@ -22,8 +22,7 @@ pub record TakesOctets (old new : WalkerState) (piece rest : List ℕ) (more : L
 -- one event: the walker stands for the octets taken and for one event more
 pub record YieldsNext (old new : WalkerState) (piece rest : List ℕ) (e : Event) : Type 0 where
   pub takes : TakesOctets old new piece rest (event_value_of e ∷ [])
-  pub stands : (b : List ℕ) (yielded : List EventValue) → Stands old b yielded
-      → Stands new (b ++ takes.taken) (yielded ++ event_value_of e ∷ [])
+  pub stands : StandsForMore old new takes.taken (event_value_of e ∷ [])
   -- parts of contents and of padding are not empty
   pub has_octets : IsNoEmptyPart e
   pub has_yielded : HasYieldedEvent new
@@ -32,7 +31,7 @@ pub record YieldsNext (old new : WalkerState) (piece rest : List ℕ) (e : Event
 pub record UsesUpPiece (old new : WalkerState) (piece rest : List ℕ) : Type 0 where
   pub takes : TakesOctets old new piece rest []
   pub none_left : rest ≡ []
-  pub stands : (b : List ℕ) (yielded : List EventValue) → Stands old b yielded → Stands new (b ++ piece) yielded
+  pub stands : IfStands old (λ b yielded. Stands new (b ++ piece) yielded)
   pub ready : IsReady new
 
 -- no event, and the octet after those that were taken is refused; what is open stays open
@@ -41,8 +40,7 @@ pub record RefusesNext (old new : WalkerState) (piece rest : List ℕ) (f : Faul
   pub octet : ℕ
   pub others : List ℕ
   pub rest_is : rest ≡ octet ∷ others
-  pub stands : (b : List ℕ) (yielded : List EventValue) → Stands old b yielded
-      → StandsRefused new (b ++ takes.taken) octet yielded f
+  pub stands : IfStands old (λ b yielded. StandsRefused new (b ++ takes.taken) octet yielded f)
   pub phase : new.phase ≡ Refused f
   pub stack : new.stack ≡ old.stack
   pub wrapper_count : new.wrapper_count ≡ old.wrapper_count

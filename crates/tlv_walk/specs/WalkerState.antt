@@ -65,9 +65,9 @@ pub record IsWalkerState (w : WalkerState) : Type 0 where
   pub within : IsWithin (bound_of w.stack) w.offset
   pub limit : w.offset ≤ input_limit
   pub shallow : length w.stack ≤ 128
-  pub phased : CountsFitPhase w.phase w.stack w.offset w.events
-  pub named : length w.framing.inside ≤ 16
-  pub found : w.wrapper_count ≤ length w.framing.inside
+  pub counts : CountsFitPhase w.phase w.stack w.offset w.events
+  pub few_named : length w.framing.inside ≤ 16
+  pub wrapper_count : w.wrapper_count ≤ length w.framing.inside
 
 -- the octets of a piece are not too many: with those that were taken, at most 2^40
 abbrev pub IsWithinInputLimit : WalkerState → List ℕ → Type 0

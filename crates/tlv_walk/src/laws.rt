@@ -1,16 +1,9 @@
 //! Laws of the definitions: each is the contract of a function that does nothing.
 
-ghost use Rattle.std.specs.Prelude.{◌≡◌, ◌↔◌, ℕ, List, true};
-ghost use Rattle.tlv_walk.specs.declared.ending.Ending.TheVariants.{Done};
-ghost use Rattle.tlv_walk.specs.declared.framing.Framing.{Framing};
-ghost use Rattle.tlv_walk.specs.Ending.{IsEnding};
-ghost use Rattle.tlv_walk.specs.Events.{AreEqualJoined, EventValue, single_octets};
-ghost use Rattle.tlv_walk.specs.Follow.{effect_of};
-ghost use Rattle.tlv_walk.specs.Forest.{Forest, is_whole};
-ghost use Rattle.tlv_walk.specs.Laws.{EventsGoOn, FaultsAreFinal, FaultsAreRight, PrefixesKeepRules};
-ghost use Rattle.tlv_walk.specs.Laws.{OctetsHaveOneEnding, OctetsHaveOneReading, SpellingsAreExact};
-ghost use Rattle.tlv_walk.specs.Place.{KeepsRules, top_place};
-ghost use Rattle.tlv_walk.specs.Reading.{IsSound, IsSoundList};
+ghost use Rattle.tlv_walk.specs.Laws.{DoneIsSound, EventsGoOn, FaultsAreFinal, FaultsAreRight};
+ghost use Rattle.tlv_walk.specs.Laws.{JoinedIsApart, OctetsHaveOneEnding, OctetsHaveOneReading};
+ghost use Rattle.tlv_walk.specs.Laws.{PiecesDoNotShow, PrefixesKeepRules, SoundIsWhole};
+ghost use Rattle.tlv_walk.specs.Laws.{SpellingsAreExact};
 
 use crate::Follow;
 
@@ -49,7 +42,7 @@ pub fn faults_are_right()
 
 /// The inputs that end without a fault are the sound lists of encodings.
 pub fn done_is_sound()
-    ensures { (framing : Framing) (b : List ℕ) → IsEnding framing b Done ↔ IsSoundList framing b }
+    ensures { DoneIsSound }
 {}
 
 /// What has been yielded stays true: the events of a longer input are those of the shorter, and then others,
@@ -60,19 +53,16 @@ pub fn events_go_on()
 
 /// Events are equal joined exactly if they are equal with contents and padding cut into single octets.
 pub fn joined_is_apart()
-    ensures { (xs ys : List EventValue)
-        → AreEqualJoined xs ys ↔ (single_octets xs ≡ single_octets ys) }
+    ensures { JoinedIsApart }
 {}
 
 /// Elements are sound exactly if they keep the rules and nothing is left open.
 pub fn sound_is_whole()
-    ensures { (framing : Framing) (f : Forest)
-        → IsSound (top_place framing) f ↔ (KeepsRules (top_place framing) f × (is_whole f ≡ true)) }
+    ensures { SoundIsWhole }
 {}
 
 /// Nothing that a follower does shows how contents and padding were cut into pieces: of events that
 /// are equal joined it makes the same state and the same octets.
 pub fn pieces_do_not_show<F: Follow>(_follower: &F)
-    ensures { (s : F) (xs ys : List EventValue) → AreEqualJoined xs ys
-        → effect_of F.next s xs ≡ effect_of F.next s ys }
+    ensures { PiecesDoNotShow F.next }
 {}

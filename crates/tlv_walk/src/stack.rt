@@ -73,7 +73,7 @@ impl Stack {
     /// How many elements are open.
     #[inline(always)]
     pub fn len(&self) -> u8
-        ensures value { result ≡ length self.now }
+        ensures count { result ≡ length self.now }
         ensures within { result ≤ 128 }
     {
         self.outer.len() as u8
@@ -91,7 +91,7 @@ impl Stack {
     /// says that there is no bound.
     #[inline(always)]
     pub fn push(&mut self, end: Option<u64>, wrapper: bool)
-        requires few { length self.old < 128 }
+        requires shallow { length self.old < 128 }
         requires end { IfSome end (λ e. e < unbounded) }
         requires definite { wrapper ≡ true → end ≢ None }
         ensures { self.new ≡ frame_inside self.old end wrapper ∷ self.old }

@@ -63,7 +63,7 @@ impl Model for Walker {
 
 impl Walker {
     ghost use Rattle.std.specs.Prelude.{[], false};
-    ghost use Rattle.tlv_walk.specs.Phase as phases;
+    ghost use Rattle.tlv_walk.specs.Phase.{Between, Refused};
     ghost use Rattle.tlv_walk.specs.WalkerState.{IfRefused, IsWithinInputLimit, new_walker, unused_offset};
     ghost use Rattle.tlv_walk.specs.Ending.{IsEnding, ShowsSoundness, fault_at};
     ghost use Rattle.tlv_walk.specs.Depth.{depth_of};
@@ -165,7 +165,7 @@ impl Walker {
 
     /// Whether nothing is open.
     fn has_nothing_open(&self) -> bool
-        ensures { IsTrue result ↔ ((self.now.phase ≡ phases.Between) × (self.now.stack ≡ [])) }
+        ensures { IsTrue result ↔ ((self.now.phase ≡ Between) × (self.now.stack ≡ [])) }
     {
         match &self.phase {
             Phase::Between => self.stack.is_empty(),
@@ -238,7 +238,7 @@ impl Walker {
     fn refuse<'a>(&mut self, code: FaultCode) -> Step<'a>
         ensures { (result ≡ Step.Fault (fault_at code self.old.offset))
             × (self.new
-            ≡ record self.old { phase = phases.Refused (fault_at code self.old.offset) }) }
+            ≡ record self.old { phase = Refused (fault_at code self.old.offset) }) }
     {
         let fault = Fault {
             code,

@@ -17,7 +17,7 @@ use Rattle.tlv_cut.specs.ExtractText.{contents_so_far, element_at, octets_so_far
 -- they are a prefix of all octets, and all of them if all elements have ended
 record BeginsWithOctetsSoFar (f : Forest) : Type 0 where
   rest : List ℕ
-  octets : spelling f ≡ octets_so_far f ++ rest
+  octets_are : spelling f ≡ octets_so_far f ++ rest
   all : is_whole f ≡ true → spelling f ≡ octets_so_far f
 
 -- those of elements after others
@@ -26,13 +26,13 @@ prefix_of_rest : (f rest : Forest) (o : List ℕ) → spelling f ≡ o ++ spelli
     → is_whole f ≡ is_whole rest → BeginsWithOctetsSoFar rest → BeginsWithOctetsSoFar f
 prefix_of_rest f rest o all keeps whole r = record {
   rest = r.rest;
-  octets = all ∙ ap (λ (l : List ℕ). o ++ l) r.octets ∙ sym (append_assoc o (octets_so_far rest) r.rest)
+  octets_are = all ∙ ap (λ (l : List ℕ). o ++ l) r.octets_are ∙ sym (append_assoc o (octets_so_far rest) r.rest)
       ∙ ap (λ (l : List ℕ). l ++ r.rest) (sym keeps);
   all = λ w. all ∙ ap (λ (l : List ℕ). o ++ l) (r.all (sym whole ∙ w)) ∙ sym keeps;
 }
 
 octets_so_far-prefix : (p : Place) (f : Forest) → p.padding ≡ false → KeepsRules p f → BeginsWithOctetsSoFar f
-octets_so_far-prefix p NoMore plain v = record { rest = []; octets = refl; all = λ w. refl }
+octets_so_far-prefix p NoMore plain v = record { rest = []; octets_are = refl; all = λ w. refl }
 octets_so_far-prefix p (PaddingOctet rest) plain v = absurd (true≢false (sym v.0.0 ∙ plain))
 octets_so_far-prefix p (Primitive h c rest) plain v =
     prefix_of_rest (Primitive h c rest) rest (octets_of h ++ c) (sym (append_assoc (octets_of h) c (spelling rest)))
@@ -47,19 +47,20 @@ octets_so_far-prefix p (Holder h inside rest) plain v =
     ∙ sym (append_assoc-3 (opening h) (spelling inside) e (octets_so_far rest))) refl
     (octets_so_far-prefix (place_after p (extent h inside)) rest plain v.2)
 octets_so_far-prefix p (OpenPrimitive h c) plain v =
-    record { rest = []; octets = sym (append-nil (octets_of h ++ c)); all = λ w. refl }
+    record { rest = []; octets_are = sym (append-nil (octets_of h ++ c)); all = λ w. refl }
 octets_so_far-prefix p (OpenHolder h inside) plain v =
     let i = octets_so_far-prefix (place_of_children p h) inside refl v.1 in
     record {
       rest = i.rest;
-      octets = ap (λ (l : List ℕ). opening h ++ l) i.octets
+      octets_are = ap (λ (l : List ℕ). opening h ++ l) i.octets_are
           ∙ sym (append_assoc (opening h) (octets_so_far inside) i.rest);
       all = λ w. absurd (cc (w));
     }
 octets_so_far-prefix p (OpenBitString h) plain v =
-    record { rest = []; octets = sym (append-nil (octets_of h)); all = λ w. refl }
-octets_so_far-prefix p (OpenHeader octets) plain v = record { rest = octets; octets = refl; all = λ w. absurd (cc (w)) }
-octets_so_far-prefix p OpenEndOctets plain v = record { rest = 0 ∷ []; octets = refl; all = λ w. absurd (cc (w)) }
+    record { rest = []; octets_are = sym (append-nil (octets_of h)); all = λ w. refl }
+octets_so_far-prefix p (OpenHeader octets) plain v =
+    record { rest = octets; octets_are = refl; all = λ w. absurd (cc (w)) }
+octets_so_far-prefix p OpenEndOctets plain v = record { rest = 0 ∷ []; octets_are = refl; all = λ w. absurd (cc (w)) }
 
 module _ (n : ℕ) where
   -- ---- the element
@@ -68,7 +69,7 @@ module _ (n : ℕ) where
   pub record IsFoundIn (p : Place) (f e : Forest) : Type 0 where
     pub before : List ℕ
     pub after : List ℕ
-    pub octets : spelling f ≡ before ++ (octets_so_far e ++ after)
+    pub octets_are : spelling f ≡ before ++ (octets_so_far e ++ after)
     pub begins : p.offset + length before ≡ n
     pub header : HeaderValue
     pub valid : IsHeader header
@@ -84,7 +85,7 @@ module _ (n : ℕ) where
   first p k h f e rest at is octets parts = record {
     before = [];
     after = rest;
-    octets = octets;
+    octets_are = octets;
     begins = omega (arith, at.offset, eqb-true h.offset n is);
     header = h;
     valid = at.valid;
@@ -99,8 +100,8 @@ module _ (n : ℕ) where
   further p q f g e o t all at r = record {
     before = o ++ r.before;
     after = r.after ++ t;
-    octets =
-        all ∙ ap (λ (l : List ℕ). o ++ (l ++ t)) r.octets
+    octets_are =
+        all ∙ ap (λ (l : List ℕ). o ++ (l ++ t)) r.octets_are
         ∙ ap (λ (l : List ℕ). o ++ l) (append_assoc-3 r.before (octets_so_far e) r.after t)
         ∙ sym (append_assoc o r.before (octets_so_far e ++ (r.after ++ t)));
     begins = omega (arith, at, r.begins, length-append o r.before);
@@ -193,7 +194,7 @@ module _ (n : ℕ) where
       choose p f (h.offset == n) f (element_at n inside) d
       (λ is.
       first p true h f f i.rest v.0.0.header is
-      (ap (λ (l : List ℕ). opening h ++ l) i.octets ∙ sym (append_assoc (opening h) (octets_so_far inside) i.rest))
+      (ap (λ (l : List ℕ). opening h ++ l) i.octets_are ∙ sym (append_assoc (opening h) (octets_so_far inside) i.rest))
       (append_assoc (octets_of h) (lead h) (octets_so_far inside)
       ∙ ap (λ (l : List ℕ). octets_of h ++ l) (sym (append-nil (lead h ++ octets_so_far inside)))))
       (λ _ some. in_rest p (place_of_children p h) f inside d (opening h) refl refl

@@ -13,7 +13,7 @@ use Rattle.tlv_walk.specs.Forest.{Forest, NoMore, PaddingOctet, Primitive, Holde
 use Rattle.tlv_walk.specs.Forest.{OpenBitString, OpenHeader, OpenEndOctets}
 use Rattle.tlv_walk.specs.Forest.{end_octets, extent, is_whole, lead, opening, lead_by}
 use Rattle.tlv_walk.specs.Place.{KeepsRules, Place, place_after, place_of_children}
-use Rattle.tlv_walk.proofs.FollowerLemmas.Followed.{followed-more, followed-one}
+use Rattle.tlv_walk.proofs.FollowerLemmas.FollowedEvents.{followed-more, followed-one}
 use Rattle.tlv_cut.specs.declared.extract_follower.Position.TheVariants as position
 use Rattle.tlv_cut.specs.ExtractText.{octets_so_far}
 use Rattle.tlv_cut.specs.ExtractStep.{ExtractState, extract_begin_step, extract_end_step, extract_step, has_found}

@@ -8,7 +8,7 @@ use Rattle.tlv_walk.specs.Events.{Open, Begin, Bytes, End, Close, Enter, Unused,
 use Rattle.tlv_walk.specs.Follow.{no_effect}
 use Rattle.tlv_walk.specs.Forest.{Forest, end_octets, is_whole}
 use Rattle.tlv_walk.specs.Place.{top_place}
-use Rattle.tlv_walk.proofs.FollowerLemmas.Followed.{each_octet-goes_on}
+use Rattle.tlv_walk.proofs.FollowerLemmas.FollowedEvents.{each_octet-goes_on}
 use Rattle.tlv_walk.proofs.GrammarLemmas.Spellings.{append_assoc-3}
 use Rattle.tlv_cut.specs.declared.extract_follower.Position.{Position}
 use Rattle.tlv_cut.specs.declared.extract_follower.Position.TheVariants as position
@@ -33,10 +33,10 @@ extract_text_is_in_the_input framing b f r n some =
     record {
       before = e.before;
       after = e.after ++ r.is_prefix.0;
-      octets =
+      octets_are =
           ap (λ (l : List ℕ). e.before ++ (l ++ (e.after ++ r.is_prefix.0))) written
           ∙ sym (append_assoc-3 e.before (octets_so_far there.0) e.after r.is_prefix.0)
-          ∙ ap (λ (l : List ℕ). l ++ r.is_prefix.0) (sym e.octets) ∙ r.is_prefix.1;
+          ∙ ap (λ (l : List ℕ). l ++ r.is_prefix.0) (sym e.octets_are) ∙ r.is_prefix.1;
       begins = omega (arith, e.begins);
       header = e.header;
       valid = e.valid;

@@ -11,10 +11,10 @@ use Rattle.tlv_walk.specs.Follow.{Effect, go_of, effect_if_more}
 use Rattle.tlv_walk.specs.Forest.{Forest}
 use Rattle.tlv_walk.specs.Place.{top_place}
 use Rattle.tlv_walk.specs.Reading.{IsPrefixOf, IsReading}
-use Rattle.tlv_walk.proofs.FollowerLemmas.Followed.{each_octet-goes_on, each_octet-joins, followed-alike}
-use Rattle.tlv_walk.proofs.FollowerLemmas.Followed.{followed-append}
-use Rattle.tlv_walk.proofs.FollowerLemmas.Followed.{followed-enough, followed-front}
-use Rattle.tlv_walk.proofs.EventLemmas.Prefixes.{events-prefix}
+use Rattle.tlv_walk.proofs.FollowerLemmas.FollowedEvents.{each_octet-goes_on, each_octet-joins, followed-alike}
+use Rattle.tlv_walk.proofs.FollowerLemmas.FollowedEvents.{followed-append}
+use Rattle.tlv_walk.proofs.FollowerLemmas.FollowedEvents.{followed-enough, followed-front}
+use Rattle.tlv_walk.proofs.EventLemmas.LongerInputs.{events-prefix}
 use Rattle.tlv_cut.specs.declared.extract_follower.Position.{Position}
 use Rattle.tlv_cut.specs.declared.extract_follower.Position.TheVariants as position
 use Rattle.tlv_cut.specs.ExtractText.{extract_text, element_at, has_element_at, has_whole_element_at}

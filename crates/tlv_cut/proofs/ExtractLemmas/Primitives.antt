@@ -11,7 +11,7 @@ use Rattle.tlv_walk.specs.Events.{Begin, Bytes, End}
 use Rattle.tlv_walk.specs.Follow.{Effect, contents_in, effect_with, no_effect, whole_events}
 use Rattle.tlv_walk.specs.HasEffect.{HasEffectOrNone}
 use Rattle.tlv_io.specs.Out.{Puts}
-use Rattle.tlv_walk.proofs.FollowerLemmas.Followed.{followed-one}
+use Rattle.tlv_walk.proofs.FollowerLemmas.FollowedEvents.{followed-one}
 use Rattle.tlv_io.proofs.Puts.{HasPut, puts_as, puts_failed_last, puts_nothing, puts_text}
 use Rattle.tlv_cut.specs.declared.extract_follower.Position.{Position}
 use Rattle.tlv_cut.specs.declared.extract_follower.Position.TheVariants.{Before, Within, After}

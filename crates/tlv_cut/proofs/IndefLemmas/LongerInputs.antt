@@ -2,8 +2,8 @@
 use Rattle.std.proofs.Common.{◌≡◌, List, ◌++◌, ℕ, refl, sym, ap, ◌∙◌}
 use Rattle.tlv_walk.specs.Events.{AreEqualJoined, EventValue, events}
 use Rattle.tlv_walk.specs.Follow.{Effect}
-use Rattle.tlv_walk.proofs.FollowerLemmas.Followed.{followed-alike}
-use Rattle.tlv_walk.proofs.EventLemmas.Prefixes.{events-prefix}
+use Rattle.tlv_walk.proofs.FollowerLemmas.FollowedEvents.{followed-alike}
+use Rattle.tlv_walk.proofs.EventLemmas.LongerInputs.{events-prefix}
 use Rattle.tlv_cut.specs.IndefLaws.{IndefTextGoesOn}
 use Rattle.tlv_cut.specs.IndefStep.{IndefState, indef_step, new_indef}
 use Rattle.tlv_cut.proofs.IndefLemmas.Elements.{events_text-append, followed-indef_step, events_text}

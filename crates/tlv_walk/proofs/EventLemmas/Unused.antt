@@ -6,8 +6,7 @@ use Rattle.std.specs.Prelude.{Option, Some, None, slice_get}
 use Rattle.std.specs.Option.{option_map_or}
 use Rattle.tlv_walk.specs.Stack.{FrameValue}
 use Rattle.tlv_walk.specs.declared.framing.Framing.{Framing}
-use Rattle.tlv_walk.specs.Phase.{PhaseValue}
-use Rattle.tlv_walk.specs.Phase as phase
+use Rattle.tlv_walk.specs.Phase.{Between, InBitString, InEndOctets, InHeader, InPrimitive, PhaseValue, Refused}
 use Rattle.tlv_walk.specs.Events.{AreEqualJoined, EventValue, events}
 use Rattle.tlv_walk.specs.Forest.{Forest}
 use Rattle.tlv_walk.specs.Inside.{can_name, is_among}
@@ -17,7 +16,7 @@ use Rattle.tlv_walk.specs.Place.{KeepsRules, top_place}
 use Rattle.tlv_walk.specs.Stands.{Stands, filled_end_events, is_end_at, waiting_events, waiting_events_in}
 use Rattle.tlv_walk.specs.Wrappers.{first_not_among, first_without_wrapper, entered_offsets, wrapper_offsets}
 use Rattle.tlv_walk.proofs.EventLemmas.Joined.{apart-from_joined}
-use Rattle.tlv_walk.proofs.EventLemmas.Named.{AreRising, can-to}
+use Rattle.tlv_walk.proofs.EventLemmas.NamedOffsets.{AreRising, can-to}
 use Rattle.tlv_walk.proofs.EventLemmas.Wrappers.{Rise, enters-apart, enters-append, wrapper_offsets-entered}
 use Rattle.tlv_walk.proofs.EventLemmas.Wrappers.{wrapper_offsets-rise}
 
@@ -112,15 +111,15 @@ ends_enter_none offset (f ∷ fs) = elim (cases_Bool (is_end_at f.end offset)) [
 
 waits_enter_none : (f : PhaseValue) (fs : List FrameValue) (offset : ℕ)
     → entered_offsets (waiting_events_in f fs offset) ≡ []
-waits_enter_none phase.Between fs offset = ends_enter_none offset fs
-waits_enter_none (phase.InHeader r) fs offset = refl
-waits_enter_none (phase.InPrimitive left) fs offset = elim (cases_Bool (eqb left 0)) [
+waits_enter_none Between fs offset = ends_enter_none offset fs
+waits_enter_none (InHeader r) fs offset = refl
+waits_enter_none (InPrimitive left) fs offset = elim (cases_Bool (eqb left 0)) [
   | inl e ↦ rw e (ends_enter_none offset fs)
   | inr e ↦ rw e refl
 ]
-waits_enter_none phase.InBitString fs offset = refl
-waits_enter_none phase.InEndOctets fs offset = refl
-waits_enter_none (phase.Refused fault) fs offset = refl
+waits_enter_none InBitString fs offset = refl
+waits_enter_none InEndOctets fs offset = refl
+waits_enter_none (Refused fault) fs offset = refl
 
 -- events that are equal joined enter the same wrappers
 enters-joined : (xs ys : List EventValue) → AreEqualJoined xs ys → entered_offsets xs ≡ entered_offsets ys
@@ -150,8 +149,8 @@ yielded_unused framing yielded waits f named v none e =
 pub stands_unused : (w : WalkerState) (b : List ℕ) (yielded : List EventValue) → (st : Stands w b yielded)
     → unused_offset w ≡ first_without_wrapper w.framing.inside st.has_events.reading
 stands_unused w b yielded st =
-    ap (slice_get w.framing.inside) st.private_state.found
-    ∙ yielded_unused w.framing yielded (waiting_events w) st.has_events.reading st.private_state.named
+    ap (slice_get w.framing.inside) st.private_state.wrapper_count
+    ∙ yielded_unused w.framing yielded (waiting_events w) st.has_events.reading st.private_state.can_name
     st.has_events.is_reading.keeps_rules (waits_enter_none w.phase w.stack w.offset) st.has_events.all_events
 
 -- it is the first that no event yielded entered

@@ -11,7 +11,7 @@ use Rattle.tlv_walk.specs.Events.{Begin, Bytes, Close, End, Enter, EventValue, L
 use Rattle.tlv_walk.specs.Events.{events, opening_events, single_octets}
 use Rattle.tlv_walk.specs.Wrappers.{entered_offsets, wrapper_offset, wrapper_offset_by, wrapper_offsets}
 use Rattle.tlv_walk.proofs.GrammarLemmas.Spellings.{length-holder, length-opening, length-primitive}
-use Rattle.tlv_walk.proofs.GrammarLemmas.PopHeaders.{header-length}
+use Rattle.tlv_head.proofs.ReaderLemmas.Prefix.{header-two}
 
 -- of two pieces
 pub enters-append : (xs ys : List EventValue) → entered_offsets (xs ++ ys) ≡ entered_offsets xs ++ entered_offsets ys
@@ -150,7 +150,7 @@ wrapper_offsets-rise p (Primitive h c rest) w =
     rise-within _ _ _ _ (wrapper_offsets rest) (omega arith) (omega (arith, length-primitive h c rest))
     (wrapper_offsets-rise (place_after p (length (octets_of h) + length c)) rest w.1)
 wrapper_offsets-rise p (Holder h inside rest) w =
-    let two : 2 ≤ length (octets_of h) = header-length h w.0.0.header.valid in
+    let two : 2 ≤ length (octets_of h) = header-two h w.0.0.header.valid in
     let size : length (spelling (Holder h inside rest)) ≡ extent h inside + length (spelling rest) =
     length-holder h inside rest in
     rise-append p.offset (p.offset + length (opening h)) _ (wrapper_offset h)
@@ -164,14 +164,14 @@ wrapper_offsets-rise p (Holder h inside rest) w =
     (wrapper_offsets-rise (place_after p (extent h inside)) rest w.2)))
 wrapper_offsets-rise p (OpenPrimitive h c) w = omega arith
 wrapper_offsets-rise p (OpenHolder h inside) w =
-    let two : 2 ≤ length (octets_of h) = header-length h w.0.0.header.valid in
+    let two : 2 ≤ length (octets_of h) = header-two h w.0.0.header.valid in
     rise-append p.offset (p.offset + length (opening h)) _ (wrapper_offset h) (wrapper_offsets inside)
     (wrapper-rises p.offset (p.offset + length (opening h)) h w.0.0.header.offset (omega (arith, length-opening h)))
     (rise-within _ _ _ _ (wrapper_offsets inside) (omega arith)
     (omega (arith, length-append (opening h) (spelling inside)))
     (wrapper_offsets-rise (place_of_children p h) inside w.1))
 wrapper_offsets-rise p (OpenBitString h) w =
-    wrapper-rises p.offset _ h w.0.header.offset (omega (arith, header-length h w.0.header.valid))
+    wrapper-rises p.offset _ h w.0.header.offset (omega (arith, header-two h w.0.header.valid))
 wrapper_offsets-rise p (OpenHeader octets) w = omega arith
 wrapper_offsets-rise p OpenEndOctets w = omega arith
 

@@ -31,12 +31,12 @@ use Rattle.tlv_walk.specs.Stands.{Stands}
 use Rattle.tlv_walk.specs.OneTurn.{EndsIn, FollowsMore, FollowsOneRead, LastReadWas, LastReadGaveUpTo, HasEnoughIn}
 use Rattle.tlv_walk.specs.OneTurn.{TurnStates, TurnsTo, WalkEnds, at_enough, at_fault, at_input_end, last_octets}
 use Rattle.tlv_walk.specs.Wrappers.{first_not_among}
-use Rattle.tlv_walk.proofs.FollowerLemmas.Following.{made_both, made_put}
+use Rattle.tlv_walk.proofs.FollowerLemmas.FollowSteps.{made_both, made_put}
 use Rattle.tlv_walk.proofs.FollowerLemmas.Enough.{comes_to}
 use Rattle.tlv_io.proofs.Pieces.{pieces_so_far_more, pieces_all, together_more}
 use Rattle.tlv_io.proofs.Sends.{sends_ok, sends_then}
 use Rattle.tlv_walk.proofs.FollowerLemmas.Pauses.{stands_spelled, stands_yielded}
-use Rattle.tlv_walk.proofs.FollowerLemmas.SoFar.{gave_last, gave_none, given_short, given_octets, Walking}
+use Rattle.tlv_walk.proofs.FollowerLemmas.WalkSoFar.{gave_last, gave_none, given_short, given_octets, Walking}
 use Rattle.tlv_walk.proofs.FollowerLemmas.MadeAll.{MadeAll, PieceLaws, alike, enough_enters, enough_octets, made_all}
 use Rattle.tlv_walk.proofs.FollowerLemmas.MadeAll.{made_enough}
 
@@ -59,14 +59,14 @@ module _ {S : Type 0} (next : S → EventValue → Effect S) (framing : Framing)
     abbrev r : List ℕ
     r = last_octets new.devices.source.last piece
 
-    few : length r ≤ 4096
-    few = given_short new.devices.source.last piece 4096 (omega (arith, room))
+    short : length r ≤ 4096
+    short = given_short new.devices.source.last piece 4096 (omega (arith, room))
 
     within : length b ≤ limit
     within = omega (arith, x.stands.private_state.has_zipper.offset, below)
 
     all_octets : AreOctets (b ++ r)
-    all_octets = All-append (λ x. x < 256) b r x.octets (given_octets new.devices.source.last piece read.octets)
+    all_octets = All-append (λ x. x < 256) b r x.are_octets (given_octets new.devices.source.last piece read.are_octets)
 
     -- the octets that were walked over
     abbrev walked_octets : List ℕ
@@ -126,8 +126,8 @@ module _ {S : Type 0} (next : S → EventValue → Effect S) (framing : Framing)
         let all : List EventValue = y.stands.all in record {
           gathered =
               pieces_so_far_more old now.devices.source new.devices.source x.gathered r read.calls.octets
-              read.calls.reads (some_octets r y.some, few);
-          octets = subst AreOctets (sym (together_more x.gathered.pieces r)) all_octets;
+              read.calls.reads (some_octets r y.some, short);
+          are_octets = subst AreOctets (sym (together_more x.gathered.pieces r)) all_octets;
           failures = failed_so (Ok Again) is;
           yielded = all;
           made = followed all go.On y.stands.follows;
@@ -150,7 +150,7 @@ module _ {S : Type 0} (next : S → EventValue → Effect S) (framing : Framing)
 
       -- the octets so far hold neither a fault nor enough
       first_wants : WantMore (drive_job next framing limit s) b
-      first_wants = (x.stands.has_events.reading, first_reading, first_spelled, ap had_enough first_made.wants)
+      first_wants = (x.stands.has_events.reading, (first_reading, first_spelled), ap had_enough first_made.wants)
 
       abbrev Driven : Result Run DeviceFault → Type 0
       Driven answer =
@@ -167,7 +167,7 @@ module _ {S : Type 0} (next : S → EventValue → Effect S) (framing : Framing)
       runs_by answer f last is_reading es goes k same sends comes = record {
         pieces =
             pieces_all old now.devices.source new.devices.source x.gathered r read.calls.octets read.calls.reads last
-            few;
+            short;
         failures =
             read.calls.failed_reads
             ∙ ap (λ (k : Result ⊤ DeviceFault). failures_after k now.devices.source.failures) (sym same)
@@ -209,7 +209,7 @@ module _ {S : Type 0} (next : S → EventValue → Effect S) (framing : Framing)
           let ends : EndsWith framing walked_octets (had_enough (effect_of next s (events f)).goes) run.ending =
           subst (λ (b : Bool). EndsWith framing walked_octets b run.ending)
           (sym (is_enough_so f go.On (effect_of next s es).put k))
-          (subst (λ (k : Framing). EndsWith k walked_octets false run.ending) x.same y.ending) in record {
+          (subst (λ (k : Framing). EndsWith k walked_octets false run.ending) x.same y.is_ending) in record {
             runs =
                 runs_by (Ok run) f (gave_last new.devices.source.last piece g) is_reading es go.On k
                 (ap source_result (sym is)) (sent_all es go.On y.follows)
@@ -310,7 +310,7 @@ module _ {S : Type 0} (next : S → EventValue → Effect S) (framing : Framing)
             runs = record {
               pieces =
                   pieces_all old now.devices.source new.devices.source x.gathered r read.calls.octets read.calls.reads
-                  (gave_last new.devices.source.last piece g) few;
+                  (gave_last new.devices.source.last piece g) short;
               failures = failed_so (Err WriteFailed) is;
               wants_more = first_wants;
               within = within;
@@ -340,8 +340,7 @@ module _ {S : Type 0} (next : S → EventValue → Effect S) (framing : Framing)
           (stands_yielded new.walker walked_octets es f z.stands z.idle z.stands.has_events.is_reading) in
           let wants : WantMore (drive_job next framing limit s) walked_octets = (
             f,
-            is_reading,
-            stands_spelled new.walker walked_octets es f z.stands z.stands.has_events.is_reading,
+            (is_reading, stands_spelled new.walker walked_octets es f z.stands z.stands.has_events.is_reading),
             is_enough_so f go.On (effect_of next s es).put k,
           ) in
           record {

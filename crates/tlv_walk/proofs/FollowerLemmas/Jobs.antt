@@ -46,7 +46,7 @@ module _ {S A : Type 0} (next : S → EventValue → Effect S) (job : Job A) (s 
 
   wants_as : (octets : List ℕ) → length octets ≤ job.limit → WantMore (drive_job next job.framing job.limit s) octets
       → WantMore job octets
-  wants_as octets few x = (x.0, x.1, x.2, sym (enough octets x.0 few x.1) ∙ x.3)
+  wants_as octets few x = (x.0, x.1, sym (enough octets x.0 few x.1.0) ∙ x.2)
 
   -- what the walk sent is the job's text
   sent_as : {E : Type 0} (given : List ℕ) (f : Forest) (result : Result ⊤ E)

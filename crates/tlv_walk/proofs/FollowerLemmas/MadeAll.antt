@@ -7,8 +7,8 @@ use Rattle.tlv_walk.specs.Follow.{Effect, GoesOn, Joins, IgnoresEmpty, effect_of
 use Rattle.tlv_walk.specs.FollowsEvents.{FollowsEvents}
 use Rattle.tlv_walk.specs.Forest.{Forest}
 use Rattle.tlv_walk.specs.Wrappers.{entered_offsets}
-use Rattle.tlv_walk.proofs.FollowerLemmas.Followed.{events_enough, followed-alike, followed-enough, kept-alike}
-use Rattle.tlv_walk.proofs.FollowerLemmas.SoFar.{enters_each}
+use Rattle.tlv_walk.proofs.FollowerLemmas.FollowedEvents.{events_enough, followed-alike, followed-enough, kept-alike}
+use Rattle.tlv_walk.proofs.FollowerLemmas.WalkSoFar.{enters_each}
 
 module _ {S : Type 0} (next : S → EventValue → Effect S) where
   -- the laws that a follower keeps: contents in two parts are followed as in one, no octets as no event, and octets are

@@ -21,7 +21,7 @@ use Rattle.tlv_io.specs.Out.{Puts, held_octets, drain_of}
 use Rattle.tlv_walk.specs.Place.{top_place}
 use Rattle.tlv_walk.specs.Reading.{AreOctets, IsReading}
 use Rattle.tlv_walk.specs.Stands.{Stands, waiting_events}
-use Rattle.tlv_walk.proofs.FollowerLemmas.Following.{walked_goes_on}
+use Rattle.tlv_walk.proofs.FollowerLemmas.FollowSteps.{walked_goes_on}
 use Rattle.tlv_io.proofs.Puts.{puts_failed_last, puts_then_as}
 use Rattle.tlv_io.proofs.Sends.{sends_flushed, sends_puts}
 use Rattle.tlv_walk.proofs.GrammarLemmas.PushSteps.{Spells}
@@ -135,7 +135,7 @@ module _ {S : Type 0} (next : S → EventValue → Effect S) where
           → Puts {T = ⊤} {E = WriteFault} state_of y.out c [] (Ok tt) → held_octets c ≡ []
           → FollowsAndFlushes next state_of x (follow_states y.walker y.follower c) piece (Ok why)
       pauses_flushed why k flushed empty = record {
-        octets = octets;
+        are_octets = octets;
         more = k.more;
         pauses = pauses_same x y c piece k.more why k.pauses;
         sends =
@@ -151,7 +151,7 @@ module _ {S : Type 0} (next : S → EventValue → Effect S) where
           → FollowsAndFlushes next state_of x (follow_states y.walker y.follower c) piece (Err f)
       pauses_unflushed why e f k unflushed =
           let text : List ℕ = (effect_of next x.follower k.more).put in record {
-            octets = octets;
+            are_octets = octets;
             more = k.more;
             pauses = record { yields = (pauses_failing x y piece k.more why k.pauses).yields };
             sends = sends_puts state_of x.out c (drain_of x.out).now (drain_of c).now text (Err f) refl none refl
@@ -169,7 +169,7 @@ module _ {S : Type 0} (next : S → EventValue → Effect S) where
         → FollowsAndFlushes next state_of x y piece (Err f)
     fails_sent state_of x y piece octets none e f k =
         let text : List ℕ = (effect_of next x.follower k.more).put in record {
-          octets = octets;
+          are_octets = octets;
           more = k.more;
           pauses = k.pauses;
           sends =

@@ -23,10 +23,10 @@ use Rattle.tlv_walk.specs.Private.FollowsPiece.{FollowsPrefix, FollowsPiece, Beg
 use Rattle.tlv_walk.specs.Private.FollowsPiece.{TakesPrefixOrNone, FollowStates, WalksOver}
 use Rattle.tlv_walk.specs.Private.WalkerCalls.{CanPass, Passes, header_at}
 use Rattle.tlv_walk.specs.Private.Yields.{YieldsEvents}
-use Rattle.tlv_walk.proofs.FollowerLemmas.Following.{HasFollowed, made_both, made_put, walked_both, walked_goes_on}
+use Rattle.tlv_walk.proofs.FollowerLemmas.FollowSteps.{HasFollowed, made_both, made_put, walked_both, walked_goes_on}
 use Rattle.tlv_walk.proofs.WalkerLemmas.Passing.{walker_after_primitive, yields_primitive}
 use Rattle.tlv_io.proofs.Puts.{puts_as, puts_failed_last, puts_then_as}
-use Rattle.tlv_walk.proofs.WalkerLemmas.Standing.{stands_all}
+use Rattle.tlv_walk.proofs.WalkerLemmas.StepStands.{stands_all}
 
 -- a primitive that lies whole at the front of a piece
 pub walked_primitive : (w : WalkerState) (piece : List ℕ) (p : WholePrimitive) → CanPass w piece p
@@ -52,9 +52,9 @@ module _ {S : Type 0} (next : S → EventValue → Effect S) where
   all_followed s (e ∷ es) g =
       ap (λ (l : List EventValue). e ∷ l) (all_rest (next s e).goes (next s e) es (λ u. all_followed u es) g refl)
 
-  pub made_all : (s t : S) (es : List EventValue) → t ≡ (effect_of next s es).state
+  pub follows_all_events : (s t : S) (es : List EventValue) → t ≡ (effect_of next s es).state
       → (effect_of next s es).goes ≡ go.On → FollowsEvents next s t es go.On
-  made_all s t es e g = record { state = e; wants = g; all = all_followed s es g }
+  follows_all_events s t es e g = record { state = e; wants = g; all = all_followed s es g }
 
   module _ {D : Type 0} (state_of : D → DrainState) where
     -- the drain failed after what was followed
@@ -109,7 +109,7 @@ module _ {S : Type 0} (next : S → EventValue → Effect S) where
           more = all;
           takes = record {
             follows = record {
-              made = made_all x.follower y.follower all some.0.state some.1;
+              made = follows_all_events x.follower y.follower all some.0.state some.1;
               walked =
                   stands_all x.walker y.walker piece rest all
                   (subst

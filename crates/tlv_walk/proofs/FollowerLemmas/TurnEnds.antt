@@ -24,7 +24,7 @@ use Rattle.tlv_walk.specs.Stands.{Stands}
 use Rattle.tlv_walk.specs.HasRead.{refused_one, took_all}
 use Rattle.tlv_walk.specs.OneTurn.{EndsIn, HasEnoughIn, StandsAfter, TurnStates}
 use Rattle.tlv_walk.specs.Wrappers.{first_not_among, first_without_wrapper, entered_offsets}
-use Rattle.tlv_walk.proofs.FollowerLemmas.Following.{walked_goes_on}
+use Rattle.tlv_walk.proofs.FollowerLemmas.FollowSteps.{walked_goes_on}
 use Rattle.tlv_walk.proofs.WalkerLemmas.EventOctets.{stands-yielded_octets}
 use Rattle.tlv_walk.proofs.EventLemmas.Unused.{stands-entered, stands_unused}
 use Rattle.tlv_walk.proofs.FollowerLemmas.Pauses.{fault_octets, fault_is_reading, stands_spelled, stands_yielded}
@@ -116,7 +116,7 @@ module _ {S D : Type 0} (next : S → EventValue → Effect S) (old new : TurnSt
           is_reading = fault_is_reading w v b piece yielded more e k;
           all_events = r.0.all_events;
         };
-        ending =
+        is_ending =
             subst (λ (g : Ending). IsEnding w.framing (b ++ piece) g) (sym (ap (λ (x : Run). x.ending) is))
             (subst (λ (o : List ℕ). IsEnding w.framing o (ending.Fault e))
             (fault_octets w v b piece yielded more e k) (r.0.ends k.others));
@@ -124,7 +124,7 @@ module _ {S D : Type 0} (next : S → EventValue → Effect S) (old new : TurnSt
             run_with run v (ending.Fault e) false (length (spelling r.0.reading))
             (first_without_wrapper w.framing.inside r.0.reading) is
             (k.stands.offset ∙ ap length (sym r.0.spelled)) r.1;
-        walker = refused_one e (record {
+        stands = refused_one e (record {
           taken = b ++ k.taken;
           octet = k.octet;
           others = k.others;
@@ -152,12 +152,12 @@ used_up_ends next old new o yielded run e x is ends =
         is_reading = subst (λ (g : Framing). IsReading g o f) same r;
         all_events = stands_yielded v o all f x.stands x.idle r;
       };
-      ending =
+      is_ending =
           subst (λ (k : Ending). IsEnding w.framing o k) (sym (ap (λ (x : Run). x.ending) is))
           (subst (λ (g : Framing). IsEnding g o e) same ends);
       run_is =
           run_with run v e false (length (spelling f)) (first_without_wrapper w.framing.inside f) is
           (x.stands.private_state.has_zipper.offset ∙ ap length (sym (stands_spelled v o all f x.stands r)))
           (stands_unused v o all x.stands ∙ ap (λ (g : Framing). first_without_wrapper g.inside f) same);
-      walker = took_all x.stands x.idle;
+      stands = took_all x.stands x.idle;
     }

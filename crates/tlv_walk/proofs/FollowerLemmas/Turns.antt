@@ -31,10 +31,10 @@ use Rattle.tlv_walk.specs.HasRead.{IfAtEnd, took_all}
 use Rattle.tlv_walk.specs.OneTurn.{EndsIn, HasEnoughIn, StandsAfter, TurnStates, TurnsTo, at_enough, at_fault}
 use Rattle.tlv_walk.specs.OneTurn.{at_input_end}
 use Rattle.tlv_walk.proofs.GrammarLemmas.Finals.{refused-final}
-use Rattle.tlv_walk.proofs.FollowerLemmas.Followed.{followed-front}
+use Rattle.tlv_walk.proofs.FollowerLemmas.FollowedEvents.{followed-front}
 use Rattle.tlv_io.proofs.Sends.{sends_err, sends_ok}
 use Rattle.tlv_walk.proofs.GrammarLemmas.Readings.{reading-longer}
-use Rattle.tlv_walk.proofs.FollowerLemmas.SoFar.{limit_after}
+use Rattle.tlv_walk.proofs.FollowerLemmas.WalkSoFar.{limit_after}
 use Rattle.tlv_walk.proofs.FollowerLemmas.Pauses.{stands_spelled, walked_refused}
 use Rattle.tlv_walk.proofs.FollowerLemmas.TurnEnds.{enough_ends, fault_ends, used_up_ends, used_up_on}
 

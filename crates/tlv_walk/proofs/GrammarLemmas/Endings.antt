@@ -43,10 +43,10 @@ going-ending w f b r =
     let reading : IsReading w b f = run-reading w (Going f) b r in
     elim (cases_Bool (has_element f)) [
       | inl some ↦ elim (cases_Bool (is_whole f)) [
-        | inl whole ↦ rw (some, whole) (done f reading r.spelled some whole)
-        | inr part ↦ rw (some, part) (short f reading r.spelled part)
+        | inl whole ↦ rw (some, whole) (done f (reading, r.spelled) some whole)
+        | inr part ↦ rw (some, part) (short f (reading, r.spelled) part)
       ]
-      | inr none ↦ rw none (empty f reading r.spelled none)
+      | inr none ↦ rw none (empty f (reading, r.spelled) none)
     ]
 
 -- an octet that is refused gives an ending, whatever follows
@@ -92,11 +92,11 @@ Says w b (Fault f) = IsEarly f.code ⊎ IsRefused w b f.code f.offset
 
 -- each ending says so
 pub ending-says : (w : Framing) (b : List ℕ) (e : Ending) → IsEnding w b e → Says w b e
-ending-says w b e (empty f r s n) = inl (inl refl)
-ending-says w b e (short f r s p) = inl (inr refl)
-ending-says w b e (done f r s n t) = record {
+ending-says w b e (empty f r n) = inl (inl refl)
+ending-says w b e (short f r p) = inl (inr refl)
+ending-says w b e (done f r n t) = record {
   forest = f;
-  spells = record { keeps_rules = r.keeps_rules; spelled = s };
+  spells = record { keeps_rules = r.0.keeps_rules; spelled = r.1 };
   some = n;
   whole = t;
 }
@@ -129,8 +129,8 @@ pub halt-unsound : (w : Framing) (b : List ℕ) (f : Forest) (code : FaultCode) 
 halt-unsound w b f code r s =
     let most : length (spelling s.forest) ≤ length (spelling f) =
     halt-longest w f code b r s.forest (sound-open_top w s.forest s.sound)
-    ([], append-nil (spelling s.forest) ∙ s.octets) in
-    omega (arith, ap length s.octets, ap length r.front, length-append (spelling f) (r.octet ∷ r.rest))
+    ([], append-nil (spelling s.forest) ∙ s.spelled) in
+    omega (arith, ap length s.spelled, ap length r.front, length-append (spelling f) (r.octet ∷ r.rest))
 
 -- no false alarm: after a fault other than F01 and F02 no input that goes on is sound
 pub no-false-alarm : (w : Framing) (b c : List ℕ) (code : FaultCode) (offset : ℕ) → code ≢ Empty → code ≢ Short
@@ -147,19 +147,20 @@ done-sound w b e =
       forest = d.forest;
       sound = open-sound (top_place w) d.forest d.spells.keeps_rules d.whole;
       some = d.some;
-      octets = d.spells.spelled;
+      spelled = d.spells.spelled;
     }
 
 -- the reading of a sound input is its elements
 pub sound-reading : (w : Framing) (b : List ℕ) → (s : IsSoundList w b) → IsReading w b s.forest
 sound-reading w b s = run-reading w (Going s.forest) b (record {
   keeps_rules = sound-open_top w s.forest s.sound;
-  spelled = s.octets;
+  spelled = s.spelled;
 })
 
 -- the ending of a sound input is `Done`
 pub sound-done : (w : Framing) (b : List ℕ) → IsSoundList w b → IsEnding w b Done
-sound-done w b s = done s.forest (sound-reading w b s) s.octets s.some (sound-whole (top_place w) s.forest s.sound)
+sound-done w b s =
+    done s.forest (sound-reading w b s, s.spelled) s.some (sound-whole (top_place w) s.forest s.sound)
 
 abbrev pub offset_in : Ending → ℕ
 offset_in Done = 0
@@ -168,9 +169,9 @@ offset_in (Fault f) = f.offset
 -- an ending that is a fault: the input ends there, or an octet of it is refused
 fault-place : (w : Framing) (b : List ℕ) (e : Ending) (f : FaultOf) → IsEnding w b e → e ≡ Fault f
     → (f.offset ≡ length b) ⊎ ((g : Forest) × IsReading w b g × (f.offset ≡ length (spelling g)))
-fault-place w b e f (empty g r s n) i = inl (sym (ap offset_in i))
-fault-place w b e f (short g r s n) i = inl (sym (ap offset_in i))
-fault-place w b e f (done g r s n t) i = absurd (cc (i))
+fault-place w b e f (empty g r n) i = inl (sym (ap offset_in i))
+fault-place w b e f (short g r n) i = inl (sym (ap offset_in i))
+fault-place w b e f (done g r n t) i = absurd (cc (i))
 fault-place w b e f (refused g x rest code r s k) i = inr (g, r, sym (ap offset_in i))
 
 -- if the octet after p is refused and p is the spelling of a forest that keeps the rules, that is the reading

@@ -40,9 +40,9 @@ code_in (Fault f) = f.code
 -- a fault that comes before the end of the input is final
 pub early-final : (w : Framing) (b : List ℕ) (e : Ending) (f : FaultOf) → IsEnding w b e → e ≡ Fault f
     → f.offset ≢ length b → IsFinalCode f.code
-early-final w b e f (empty g r s n) i k = absurd (k (sym (ap offset_in i)))
-early-final w b e f (short g r s n) i k = absurd (k (sym (ap offset_in i)))
-early-final w b e f (done g r s n t) i k = absurd (cc (i))
+early-final w b e f (empty g r n) i k = absurd (k (sym (ap offset_in i)))
+early-final w b e f (short g r n) i k = absurd (k (sym (ap offset_in i)))
+early-final w b e f (done g r n t) i k = absurd (cc (i))
 early-final w b e f (refused g x rest code r s c) i k = rw (← ap code_in i) (cause-final _ x code c)
 
 -- the octet after p is refused

@@ -1,6 +1,6 @@
 -- A forest that keeps the rules ends within its bound, and an element keeps the rules from its header on, as its
 -- contents come.
-use Rattle.std.proofs.Common.{◌≡◌, inl, inr, ℕ, ◌+◌, ◌≤◌, Bool, true, false, ◌&&◌, ◌||◌, leb, List, [], ◌∷◌, ◌++◌}
+use Rattle.std.proofs.Common.{◌≡◌, inl, inr, ℕ, ◌+◌, ◌≤◌, Bool, true, false, ◌&&◌, leb, List, [], ◌∷◌, ◌++◌}
 use Rattle.std.proofs.Common.{length, refl, sym, ap, ◌∙◌, arith, append-nil, length-append, eq-eqb, ne_eqb, leb-false}
 use Rattle.std.proofs.lemmas.Bool.{cases_eq, cases_Bool, and_parts, true≢false}
 use Rattle.tlv_head.specs.declared.header.Size.{Size}
@@ -14,6 +14,7 @@ use Rattle.tlv_walk.proofs.GrammarLemmas.Lengths.{LacksOctets}
 use Rattle.tlv_walk.proofs.GrammarLemmas.Bounds.{HasAllContents, fits-inside, has_length, lead-zero, length-full}
 use Rattle.tlv_walk.proofs.GrammarLemmas.Bounds.{length-lacks, within-le, within-outside}
 use Rattle.tlv_walk.proofs.GrammarLemmas.Spellings.{length-holder, length-opening, length-primitive}
+use Rattle.tlv_walk.proofs.GrammarLemmas.ShortHeaders.{not-holding}
 use Rattle.tlv_walk.proofs.GrammarLemmas.PushSteps.{is_filled_by, holder_so_far, primitive_so_far, holder_begun}
 use Rattle.tlv_walk.proofs.GrammarLemmas.PushSteps.{element_begun, Spells}
 
@@ -57,11 +58,6 @@ definite-primitive : (constructed : Bool) (s : Size) → constructed ≡ false �
 definite-primitive true s e a = absurd (true≢false e)
 definite-primitive false (Definite n) e a = (n, refl)
 definite-primitive false Indefinite e a = absurd (cc (a))
-
--- what holds no others is no constructed element
-not-holding : (constructed wraps : Bool) → (constructed || wraps) ≡ false → constructed ≡ false
-not-holding true wraps e = absurd (true≢false e)
-not-holding false wraps e = refl
 
 -- an element that holds no others has a definite length
 pub size-definite : (h : HeaderValue) → IsHeader h → holds h ≡ false → (n : ℕ) × (h.size ≡ Definite n)

@@ -1,16 +1,14 @@
 -- A forest that keeps the rules and ends in a header, or in a prefix of one, is a shorter one and the octet pushed.
-use Rattle.std.proofs.Common.{◌≡◌, ◌≢◌, inl, inr, ℕ, ◌+◌, ◌≤◌, Bool, true, false, ◌&&◌, leb, List, [], ◌∷◌, ◌++◌}
+use Rattle.std.proofs.Common.{◌≡◌, ◌≢◌, ℕ, ◌+◌, ◌≤◌, Bool, true, false, ◌&&◌, leb, List, [], ◌∷◌, ◌++◌}
 use Rattle.std.proofs.Common.{length, refl, sym, ap, ◌∙◌, arith, append_assoc, append-nil, length-append, ne_eqb}
 use Rattle.std.proofs.lemmas.Bool.{lt-leb}
-use Rattle.tlv_head.specs.declared.header.Class.{Class}
-use Rattle.tlv_head.specs.declared.header.Size.{Size}
-use Rattle.tlv_head.specs.declared.header.Size.TheVariants.{Definite, Indefinite}
-use Rattle.tlv_head.specs.Header.{HeaderValue, IsHeader, IsIdentifier, IsLength, announced_length, holds, octets_of}
+use Rattle.tlv_head.specs.Header.{HeaderValue, IsHeader, announced_length, holds, octets_of}
 use Rattle.tlv_head.specs.Refusal.{IsHeaderPrefix}
 use Rattle.tlv_head.proofs.GrammarLemmas.Scan.{Origin, Scan, Fresh, High, Named, Long, Ready, Stuck, Over, origin_of}
 use Rattle.tlv_head.proofs.GrammarLemmas.Scan.{scan, scan_from-append, scan-header, is_more, more-from_prefix}
 use Rattle.tlv_walk.specs.Forest.{Forest, NoMore, OpenBitString, OpenHeader, lead, opening, spelling}
 use Rattle.tlv_walk.specs.Place.{Fits, IsAnnouncedAt, IsHeaderAt, KeepsRules, Place}
+use Rattle.tlv_head.proofs.ReaderLemmas.Prefix.{header-two}
 use Rattle.tlv_walk.proofs.GrammarLemmas.Bounds.{fits-within, lead-zero, within-le}
 use Rattle.tlv_walk.proofs.GrammarLemmas.PushSteps.{Grown, begin, complete, element_begun, holder_begun, holder_so_far}
 use Rattle.tlv_walk.proofs.GrammarLemmas.PushSteps.{origin, push}
@@ -38,27 +36,6 @@ pub record Popped (p : Place) (g : Forest) : Type 0 where
   pub keeps_rules : KeepsRules p from
   pub spelled : spelling g ≡ spelling from ++ last ∷ []
   pub pushed : push p from last ≡ Grown g
-
--- identifier octets are one or more
-identifier-some : (c : Class) (k : Bool) (n : ℕ) (i : List ℕ) → IsIdentifier c k n i → 1 ≤ length i
-identifier-some c k n i (inl low) = rw low.octets_are (omega arith)
-identifier-some c k n i (inr high) = rw high.octets_are (omega arith)
-
--- length octets are one or more
-lengths-some : (s : Size) (l : List ℕ) → IsLength s l → 1 ≤ length l
-lengths-some (Definite n) l (inl short) = rw (short.1) (omega arith)
-lengths-some (Definite n) l (inr long) = rw long.octets_are (omega arith)
-lengths-some Indefinite l e = rw e (omega arith)
-
--- a header has at least two octets
-pub header-length : (h : HeaderValue) → IsHeader h → 2 ≤ length (octets_of h)
-header-length h valid =
-    omega (
-      arith,
-      length-append h.identifier h.lengths,
-      identifier-some h.class h.constructed h.number h.identifier valid.identifier,
-      lengths-some h.size h.lengths valid.lengths,
-    )
 
 -- an octet after the front of a header, by what all of them say
 pub push-scan : (p : Place) (o : List ℕ) (x : ℕ) (s : Scan) → Fits p (length o + 1)
@@ -103,10 +80,10 @@ header-origin p k h header = λ i. record { offset = header.offset i; named = he
 pub header-popped : (p : Place) (h : HeaderValue) (k : Bool) → IsHeaderAt p k h → (k && leb 128 p.depth) ≡ false
     → Fits p (length (octets_of h) + announced_length h.size) → Popped p (element_begun k h)
 header-popped p h k header d f = elim (back (octets_of h)) [
-  | is_nil e ↦ absurd (omega (arith, ap length e, header-length h header.valid))
+  | is_nil e ↦ absurd (omega (arith, ap length e, header-two h header.valid))
   | is_push o x e ↦
       let size : length (octets_of h) ≡ length o + 1 = ap length e ∙ length-append o (x ∷ []) in
-      let two : 2 ≤ length (octets_of h) = header-length h header.valid in
+      let two : 2 ≤ length (octets_of h) = header-two h header.valid in
       record {
         from = OpenHeader o;
         last = x;

@@ -14,7 +14,7 @@ use Rattle.tlv_walk.specs.Inside.{is_among}
 use Rattle.tlv_walk.specs.Place.{Place, place_after, place_of_children}
 use Rattle.tlv_walk.specs.Reading.{IsSound}
 use Rattle.tlv_walk.specs.Wrappers.{wrapper_offset_by, wrapper_offsets}
-use Rattle.tlv_walk.proofs.GrammarLemmas.PopHeaders.{header-length}
+use Rattle.tlv_head.proofs.ReaderLemmas.Prefix.{header-two}
 use Rattle.tlv_walk.proofs.GrammarLemmas.Spellings.{length-holder, length-opening, length-primitive}
 use Rattle.tlv_walk.proofs.GrammarLemmas.ShortHeaders.{Octets, header_of, octets-in, header-valid, header-shortest}
 use Rattle.tlv_walk.proofs.GrammarLemmas.ShortHeaders.{octets-for, header-some, size-for, size-below, size-form}
@@ -64,8 +64,8 @@ module _ (form : Bool → Bool) (definite : form false ≡ false) where
               arith,
               id,
               len,
-              o.few,
-              o.few_lengths,
+              o.short,
+              o.short_lengths,
               r.short,
               total,
               length-primitive h c rest,
@@ -152,8 +152,8 @@ module _ (form : Bool → Bool) (definite : form false ≡ false) where
               arith,
               id,
               len,
-              o.few,
-              o.few_lengths,
+              o.short,
+              o.short_lengths,
               held.short,
               r.short,
               total,
@@ -254,7 +254,7 @@ module _ (form : Bool → Bool) (definite : form false ≡ false) where
       let count : length (spelling (Holder h inside rest)) ≡ extent h inside + length (spelling rest) =
       length-holder h inside rest in
       let begins : length (opening h) ≡ length (octets_of h) + length (lead h) = length-opening h in
-      let some : 2 ≤ length (octets_of h) = header-length h u.0.valid in
+      let some : 2 ≤ length (octets_of h) = header-two h u.0.valid in
       let held : Spelling form (place_of_children p h) inside =
       respelled (place_of_children p h) inside (omega (arith, count, few)) u.3 low.0 in
       let m : ℕ = length (lead h) + length held.octets in

@@ -4,6 +4,7 @@ use Rattle.std.proofs.Common.{List, [], ◌∷◌, ◌++◌, length, refl, sym, 
 use Rattle.std.proofs.Common.{eqb-true, ne_eqb}
 use Rattle.std.proofs.lemmas.Bool.{and_parts, or_from, true≢false}
 use Rattle.std.proofs.lemmas.List.Folds.{list_any-append}
+use Rattle.std.proofs.Math.Bool.{or-false}
 use Rattle.std.specs.Prelude.{if◌then◌else◌}
 use Rattle.tlv_head.specs.declared.header.Class.{Class}
 use Rattle.tlv_head.specs.declared.header.Size.{Size}
@@ -27,8 +28,8 @@ pub record Octets (h : HeaderValue) (constructed : Bool) (size : Size) : Type 0 
   pub identifier : ShortIdentifier h.class constructed h.number
   pub lengths : ShortLength size
   pub allowed : AllowsSize constructed size
-  pub few : length identifier.octets ≤ length h.identifier
-  pub few_lengths : length lengths.octets + length (end_octets size) ≤ 6
+  pub short : length identifier.octets ≤ length h.identifier
+  pub short_lengths : length lengths.octets + length (end_octets size) ≤ 6
 
 -- the header, named if it is to be that of a wrapper
 abbrev pub header_of : (h : HeaderValue) (named constructed : Bool) (size : Size) → Octets h constructed size → ℕ
@@ -80,8 +81,8 @@ octets-for h constructed size valid nonzero allowed below =
       identifier = i;
       lengths = l.short;
       allowed = allowed;
-      few = identifier-le h.class constructed h.number i.octets h.identifier i.valid valid i.shortest;
-      few_lengths = few-octets size l.short l.few;
+      short = identifier-le h.class constructed h.number i.octets h.identifier i.valid valid i.shortest;
+      short_lengths = few-octets size l.short l.few;
     }
 
 pub header-some : (h : HeaderValue) (constructed : Bool) (size : Size) (o : Octets h constructed size)
@@ -142,10 +143,6 @@ own-apart false offset i apart = ap (λ k. k || false) (ne_eqb offset i (λ e. a
 
 is_among-append : (i : ℕ) (xs ys : List ℕ) → is_among i (xs ++ ys) ≡ (is_among i xs || is_among i ys)
 is_among-append i xs ys = list_any-append (λ offset. eqb offset i) xs ys
-
-or-false : (k : Bool) → (k || false) ≡ k
-or-false true = refl
-or-false false = refl
 
 -- an offset that is in none but one of three lists
 pub in-first : (i : ℕ) (a b c : List ℕ) → is_among i b ≡ false → is_among i c ≡ false

@@ -62,21 +62,21 @@ refused-same w b f g x y r s c d u v e e' k l =
 
 -- an input has one ending
 pub ending-unique : (w : Framing) (b : List ℕ) (e d : Ending) → IsEnding w b e → IsEnding w b d → e ≡ d
-ending-unique w b e d (empty f r s n) (empty g u t m) = refl
-ending-unique w b e d (empty f r s n) (short g u t p) = absurd (test-apart w b f g is_whole r u (none-whole f n) p)
-ending-unique w b e d (empty f r s n) (done g u t m q) = absurd (test-apart w b g f has_element u r m n)
-ending-unique w b e d (empty f r s n) (refused g y rest c u t k) = absurd (read-apart w b f g y rest r u s t)
-ending-unique w b e d (short f r s p) (empty g u t m) = absurd (test-apart w b g f is_whole u r (none-whole g m) p)
-ending-unique w b e d (short f r s p) (short g u t q) = refl
-ending-unique w b e d (short f r s p) (done g u t m q) = absurd (test-apart w b g f is_whole u r q p)
-ending-unique w b e d (short f r s p) (refused g y rest c u t k) = absurd (read-apart w b f g y rest r u s t)
-ending-unique w b e d (done f r s n q) (empty g u t m) = absurd (test-apart w b f g has_element r u n m)
-ending-unique w b e d (done f r s n q) (short g u t p) = absurd (test-apart w b f g is_whole r u q p)
-ending-unique w b e d (done f r s n q) (done g u t m p) = refl
-ending-unique w b e d (done f r s n q) (refused g y rest c u t k) = absurd (read-apart w b f g y rest r u s t)
-ending-unique w b e d (refused f x rest c r s k) (empty g u t m) = absurd (read-apart w b g f x rest u r t s)
-ending-unique w b e d (refused f x rest c r s k) (short g u t p) = absurd (read-apart w b g f x rest u r t s)
-ending-unique w b e d (refused f x rest c r s k) (done g u t m q) = absurd (read-apart w b g f x rest u r t s)
+ending-unique w b e d (empty f r n) (empty g u m) = refl
+ending-unique w b e d (empty f r n) (short g u p) = absurd (test-apart w b f g is_whole r.0 u.0 (none-whole f n) p)
+ending-unique w b e d (empty f r n) (done g u m q) = absurd (test-apart w b g f has_element u.0 r.0 m n)
+ending-unique w b e d (empty f r n) (refused g y rest c u t k) = absurd (read-apart w b f g y rest r.0 u r.1 t)
+ending-unique w b e d (short f r p) (empty g u m) = absurd (test-apart w b g f is_whole u.0 r.0 (none-whole g m) p)
+ending-unique w b e d (short f r p) (short g u q) = refl
+ending-unique w b e d (short f r p) (done g u m q) = absurd (test-apart w b g f is_whole u.0 r.0 q p)
+ending-unique w b e d (short f r p) (refused g y rest c u t k) = absurd (read-apart w b f g y rest r.0 u r.1 t)
+ending-unique w b e d (done f r n q) (empty g u m) = absurd (test-apart w b f g has_element r.0 u.0 n m)
+ending-unique w b e d (done f r n q) (short g u p) = absurd (test-apart w b f g is_whole r.0 u.0 q p)
+ending-unique w b e d (done f r n q) (done g u m p) = refl
+ending-unique w b e d (done f r n q) (refused g y rest c u t k) = absurd (read-apart w b f g y rest r.0 u r.1 t)
+ending-unique w b e d (refused f x rest c r s k) (empty g u m) = absurd (read-apart w b g f x rest u.0 r u.1 s)
+ending-unique w b e d (refused f x rest c r s k) (short g u p) = absurd (read-apart w b g f x rest u.0 r u.1 s)
+ending-unique w b e d (refused f x rest c r s k) (done g u m q) = absurd (read-apart w b g f x rest u.0 r u.1 s)
 ending-unique w b e d (refused f x rest c r s k) (refused g y more m u t l) =
     refused-same w b f g x y rest more c m r u s t k l
 

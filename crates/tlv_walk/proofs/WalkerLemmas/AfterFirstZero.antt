@@ -6,7 +6,7 @@ use Rattle.tlv_walk.specs.declared.ending.Ending.TheVariants as ending
 use Rattle.tlv_walk.specs.declared.event.Step.{Step}
 use Rattle.tlv_walk.specs.declared.event.Step.TheVariants as step
 use Rattle.tlv_walk.specs.declared.framing.Framing.{Framing}
-use Rattle.tlv_walk.specs.Phase as phase
+use Rattle.tlv_walk.specs.Phase.{InEndOctets}
 use Rattle.tlv_walk.specs.Ending.{IsEnding}
 use Rattle.tlv_walk.specs.Events.{EventValue, event_value_of}
 use Rattle.tlv_walk.specs.WalkerState.{WalkerState}
@@ -54,12 +54,12 @@ module _ (old middle new : WalkerState) (x : ℕ) (first : Continues old middle 
         };
   }
 
-  fault_after : (piece rest : List ℕ) (f : Fault) → middle.phase ≡ phase.InEndOctets
+  fault_after : (piece rest : List ℕ) (f : Fault) → middle.phase ≡ InEndOctets
       → YieldsFault middle new piece rest f → YieldsFault old new (x ∷ piece) rest f
   fault_after piece rest f z (inl r) = inl (refused_after piece rest f r)
   fault_after piece rest f z (inr r) = absurd (cc (z, r.refused))
 
-  pub step_after : (piece rest : List ℕ) (m : Step) → middle.phase ≡ phase.InEndOctets
+  pub step_after : (piece rest : List ℕ) (m : Step) → middle.phase ≡ InEndOctets
       → YieldsStep middle new piece rest m → YieldsStep old new (x ∷ piece) rest m
   step_after piece rest (step.Event e) z t = event_after piece rest (event_value_of e) t
   step_after piece rest step.NeedMore z t = continues_both old middle new (x ∷ []) piece [] [] first t

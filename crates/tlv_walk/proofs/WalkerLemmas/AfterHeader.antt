@@ -5,7 +5,7 @@ use Rattle.tlv_head.specs.declared.header.Size.TheVariants.{Definite}
 use Rattle.tlv_head.specs.Header.{HeaderValue, IsHeader, announced_length, holds, octets_of}
 use Rattle.tlv_head.specs.HeadReaderState.{HeadReaderState}
 use Rattle.tlv_head.specs.Refusal.{IsHeaderPrefix}
-use Rattle.tlv_walk.specs.Phase as phase
+use Rattle.tlv_walk.specs.Phase.{Between, InBitString, InHeader, InPrimitive}
 use Rattle.tlv_walk.specs.Events.{AreEqualJoined, Begin, Bytes, Enter, EventValue, Open, Unused, events, opening_events}
 use Rattle.tlv_walk.specs.Events.{opening_event, single_octets}
 use Rattle.tlv_walk.specs.Forest.{Forest, NoMore, OpenBitString, lead, lead_by, opening, spelling}
@@ -33,7 +33,7 @@ pub record AtHeader (w : WalkerState) (b : List ℕ) (yielded : List EventValue)
   pub stack : w.stack ≡ frames_of w.framing s.layers
 
 pub at_new : (w : WalkerState) (b : List ℕ) (yielded : List EventValue) (s : Zipper) (r : HeadReaderState)
-    → HasZipper w b yielded s → w.phase ≡ phase.Between → r.octets ≡ [] → r.offset ≡ w.offset
+    → HasZipper w b yielded s → w.phase ≡ Between → r.octets ≡ [] → r.offset ≡ w.offset
     → r.named ≡ is_among w.offset w.framing.inside → AtHeader w b yielded (with_tail s NoTail) r
 at_new w b yielded s r has e none at named =
     let t : s.tail ≡ NoTail = between_tail s.tail _ (phase_at w b yielded s _ e has) in
@@ -48,7 +48,7 @@ at_new w b yielded s r has e none at named =
       stack = has'.stack;
     }
 
-front_tail : (r : HeadReaderState) (t : Tail) (p : Place) → IsPhaseOf (phase.InHeader r) t p
+front_tail : (r : HeadReaderState) (t : Tail) (p : Place) → IsPhaseOf (InHeader r) t p
     → (o : List ℕ) × (t ≡ HeaderTail o)
 front_tail r NoTail p x = absurd x
 front_tail r (PrimitiveTail h c) p x = absurd x
@@ -57,12 +57,12 @@ front_tail r (HeaderTail o) p x = (o, refl)
 front_tail r EndOctetsTail p x = absurd x
 
 pub at_front : (w : WalkerState) (b : List ℕ) (yielded : List EventValue) (s : Zipper) (r : HeadReaderState)
-    → HasZipper w b yielded s → w.phase ≡ phase.InHeader r
+    → HasZipper w b yielded s → w.phase ≡ InHeader r
     → (o : List ℕ) × AtHeader w b yielded (with_tail s (HeaderTail o)) r
 at_front w b yielded s r has e =
     let t = front_tail r s.tail _ (phase_at w b yielded s _ e has) in
     let has' : HasZipper w b yielded (with_tail s (HeaderTail t.0)) = tail_state w b yielded s _ t.1 has in
-    let at : IsPhaseOf (phase.InHeader r) (HeaderTail t.0) (place_of w.framing s) = phase_at w b yielded _ _ e has' in (
+    let at : IsPhaseOf (InHeader r) (HeaderTail t.0) (place_of w.framing s) = phase_at w b yielded _ _ e has' in (
       t.0,
       record {
         has = has';
@@ -150,7 +150,7 @@ pub primitive_state : (w : WalkerState) (b : List ℕ) (yielded : List EventValu
     (t : List ℕ) (h : HeaderValue) (n : ℕ)
     → AtHeader w b yielded s r → Completed w r t h
     → holds h ≡ false → h.size ≡ Definite n
-    → HasZipper (after_header w (phase.InPrimitive n) (h.offset + length (octets_of h))) (b ++ t)
+    → HasZipper (after_header w (InPrimitive n) (h.offset + length (octets_of h))) (b ++ t)
     (yielded ++ Begin h ∷ []) (with_tail s (PrimitiveTail h []))
 primitive_state w b yielded s r t h n at c e size =
     let zero : n ≡ 0 + n = omega arith in
@@ -198,7 +198,7 @@ pub holding_state : (w : WalkerState) (b : List ℕ) (yielded : List EventValue)
     → AtHeader w b yielded s r → Completed w r t h
     → holds h ≡ true → lead h ≡ []
     → HasZipper
-    (record (after_header w phase.Between (h.offset + length (octets_of h)))
+    (record (after_header w Between (h.offset + length (octets_of h)))
     { stack = frame_at (place_of w.framing s) h ∷ w.stack; wrapper_count = k })
     (b ++ t) (yielded ++ opening_event h ∷ [])
     (record { layers = record { before = s.here; header = h } ∷ s.layers; here = NoMore; tail = NoTail })
@@ -224,7 +224,7 @@ pub lead_state : (w : WalkerState) (b : List ℕ) (yielded : List EventValue) (s
     → AtHeader w b yielded s r → Completed w r t h
     → holds h ≡ true → lead h ≡ 0 ∷ []
     → HasZipper
-    (record (after_header w phase.InBitString (h.offset + length (octets_of h)))
+    (record (after_header w InBitString (h.offset + length (octets_of h)))
     { stack = frame_at (place_of w.framing s) h ∷ w.stack; wrapper_count = k })
     (b ++ t) (yielded ++ Enter h ∷ [])
     (with_tail s (BitStringTail h))
@@ -243,7 +243,7 @@ lead_state w b yielded s r t h k at c e one = record {
 }
 
 -- its first contents octet
-pub lead_tail : (t : Tail) (p : Place) → IsPhaseOf phase.InBitString t p → (h : HeaderValue) × (t ≡ BitStringTail h)
+pub lead_tail : (t : Tail) (p : Place) → IsPhaseOf InBitString t p → (h : HeaderValue) × (t ≡ BitStringTail h)
 lead_tail NoTail p x = absurd x
 lead_tail (PrimitiveTail h c) p x = absurd x
 lead_tail (BitStringTail h) p x = (h, refl)
@@ -256,7 +256,7 @@ lead_primitive false n e = refl
 
 unused_state : (w : WalkerState) (b : List ℕ) (yielded : List EventValue) (s : Zipper) (h : HeaderValue)
     → HasZipper w b yielded (with_tail s (BitStringTail h)) → KeepsRules (place_of w.framing s) (OpenBitString h)
-    → HasZipper (record w { phase = phase.Between; offset = w.offset + 1; events = w.events + 1 }) (b ++ 0 ∷ [])
+    → HasZipper (record w { phase = Between; offset = w.offset + 1; events = w.events + 1 }) (b ++ 0 ∷ [])
     (yielded ++ Unused ∷ [])
     (record { layers = record { before = s.here; header = h } ∷ s.layers; here = NoMore; tail = NoTail })
 unused_state w b yielded s h has a =
@@ -277,12 +277,12 @@ unused_state w b yielded s h has a =
       element = has.element;
     }
 
-pub yields_unused : (w : WalkerState) → w.phase ≡ phase.InBitString
-    → Continues w (record w { phase = phase.Between; offset = w.offset + 1; events = w.events + 1 }) (0 ∷ [])
+pub yields_unused : (w : WalkerState) → w.phase ≡ InBitString
+    → Continues w (record w { phase = Between; offset = w.offset + 1; events = w.events + 1 }) (0 ∷ [])
     (Unused ∷ [])
 yields_unused w e = record {
   framing = refl;
-  found = refl;
+  wrapper_count = refl;
   next_zipper = λ b yielded s has.
       let t = lead_tail s.tail _ (phase_at w b yielded s _ e has) in
       let has' : HasZipper w b yielded (with_tail s (BitStringTail t.0)) = tail_state w b yielded s _ t.1 has in
@@ -295,7 +295,7 @@ pub front_state : (w : WalkerState) (b : List ℕ) (yielded : List EventValue) (
     → AtHeader w b yielded s r → q.octets ≡ r.octets ++ t → q.offset ≡ r.offset
     → q.named ≡ r.named → (q.octets ≡ [] → ⊥) → IsHeaderPrefix q.octets
     → IsWithin (bound_of w.stack) (q.offset + length q.octets)
-    → HasZipper (record w { phase = phase.InHeader q; offset = q.offset + length q.octets; has_element = true })
+    → HasZipper (record w { phase = InHeader q; offset = q.offset + length q.octets; has_element = true })
     (b ++ t) (yielded ++ []) (with_tail s (HeaderTail q.octets))
 front_state w b yielded s r q t at o f n some front fits =
     let bound : bound_of w.stack ≡ (place_in w.framing s.layers).bound =

@@ -6,7 +6,7 @@ use Rattle.std.proofs.lemmas.Bool.{false_from_ne_true, true≢false}
 use Rattle.tlv_head.specs.declared.header.Size.{Size}
 use Rattle.tlv_head.specs.declared.header.Size.TheVariants.{Definite, Indefinite}
 use Rattle.tlv_head.specs.Header.{AllowsSize, HeaderValue, announced_length, octets_of}
-use Rattle.tlv_walk.specs.Phase as phase
+use Rattle.tlv_walk.specs.Phase.{Between, InEndOctets}
 use Rattle.tlv_walk.specs.Events.{AreEqualJoined, Close, EventValue, Leave, closing_event, end_offset, events}
 use Rattle.tlv_walk.specs.Events.{opening_events, single_octets}
 use Rattle.tlv_walk.specs.Forest.{Forest, Holder, NoMore, OpenEndOctets, contents_length, end_octets, extent, is_whole}
@@ -26,7 +26,7 @@ use Rattle.tlv_walk.specs.Private.Zipper.{spelling_of_layers, spelling_of_tail}
 use Rattle.tlv_walk.specs.Stands.{filled_end_event}
 use Rattle.tlv_walk.proofs.WalkerLemmas.ZipperGrowth.{began, between_tail, closed_here, continues_both, lone_tail}
 use Rattle.tlv_walk.proofs.WalkerLemmas.ZipperGrowth.{phase_at, tail_state, yielded_more, with_layers, with_tail}
-use Rattle.tlv_walk.proofs.WalkerLemmas.Moves.{yields_zero}
+use Rattle.tlv_walk.proofs.WalkerLemmas.YieldedEvents.{yields_zero}
 use Rattle.tlv_walk.proofs.WalkerLemmas.Places.{definite-size, walker-offset}
 use Rattle.tlv_walk.proofs.GrammarLemmas.Spellings.{length-opening}
 use Rattle.tlv_walk.proofs.WalkerLemmas.Zipper.{open-followed_by, spelling-followed_by, whole-followed_by}
@@ -90,7 +90,7 @@ pub close_state : (w v : WalkerState) (b : List ℕ) (yielded : List EventValue)
     → Fits (place_after (place_in w.framing ls) (length (spelling l.before))) (extent l.header here)
     → v
     ≡ record w
-    { stack = drop 1 w.stack; phase = phase.Between; offset = w.offset + length t; events = w.events + 1 }
+    { stack = drop 1 w.stack; phase = Between; offset = w.offset + length t; events = w.events + 1 }
     → w.has_element ≡ true
     → HasZipper v (b ++ t) (yielded ++ closing_event l.header here ∷ []) (record {
       layers = ls;
@@ -142,7 +142,7 @@ second_from : (w : WalkerState) (b : List ℕ) (yielded : List EventValue) (s : 
     → IsWithin (bound_of w.stack) (w.offset + 1)
     → (t : Zipper)
     × HasZipper
-    (record w { stack = drop 1 w.stack; phase = phase.Between; offset = w.offset + 1; events = w.events + 1 })
+    (record w { stack = drop 1 w.stack; phase = Between; offset = w.offset + 1; events = w.events + 1 })
     (b ++ 0 ∷ []) (yielded ++ Close (Some (w.offset - 1)) ∷ []) t
 second_from w b yielded s [] has zero room = absurd (true≢false (sym zero.0))
 second_from w b yielded s (l ∷ ls) has zero room =
@@ -166,7 +166,7 @@ second_from w b yielded s (l ∷ ls) has zero room =
       _,
       subst
           (λ (e : EventValue). HasZipper
-          (record w { stack = drop 1 w.stack; phase = phase.Between; offset = w.offset + 1; events = w.events + 1 })
+          (record w { stack = drop 1 w.stack; phase = Between; offset = w.offset + 1; events = w.events + 1 })
           (b ++ 0 ∷ []) (yielded ++ e ∷ []) (record { layers = ls; here = closed_here l s.here; tail = NoTail }))
           event
           (close_state w _ b yielded l ls s.here EndOctetsTail (0 ∷ []) has has.stack refl (sym ends)
@@ -174,13 +174,13 @@ second_from w b yielded s (l ∷ ls) has zero room =
     )
 
 -- the second of the end-of-contents octets
-pub yields_second : (w : WalkerState) → w.phase ≡ phase.InEndOctets → IsWithin (bound_of w.stack) (w.offset + 1)
+pub yields_second : (w : WalkerState) → w.phase ≡ InEndOctets → IsWithin (bound_of w.stack) (w.offset + 1)
     → Continues w
-    (record w { stack = drop 1 w.stack; phase = phase.Between; offset = w.offset + 1; events = w.events + 1 })
+    (record w { stack = drop 1 w.stack; phase = Between; offset = w.offset + 1; events = w.events + 1 })
     (0 ∷ []) (Close (Some (w.offset - 1)) ∷ [])
 yields_second w e room = record {
   framing = refl;
-  found = refl;
+  wrapper_count = refl;
   next_zipper = λ b yielded s has.
       let t = lone_tail s.tail _ (phase_at w b yielded s _ e has) in
       let has' : HasZipper w b yielded (with_tail s EndOctetsTail) = tail_state w b yielded s _ t has in
@@ -198,7 +198,7 @@ head_frame : (f g : FrameValue) (fs gs : List FrameValue) → f ∷ fs ≡ g ∷
 head_frame f g fs gs e = cc
 
 filled_from : (w : WalkerState) (b : List ℕ) (yielded : List EventValue) (s : Zipper) (ls : List Layer)
-    → HasZipper w b yielded (with_layers s ls NoTail) → w.phase ≡ phase.Between
+    → HasZipper w b yielded (with_layers s ls NoTail) → w.phase ≡ Between
     → (f : FrameValue) (fs : List FrameValue) → w.stack ≡ f ∷ fs → f.end ≡ Some w.offset
     → (t : Zipper)
     × HasZipper (record w { stack = drop 1 w.stack; events = w.events + 1 }) (b ++ [])
@@ -240,12 +240,12 @@ ending_enters f = elim (cases_Bool f.wrapper) [
 ]
 
 -- the innermost element, which is filled, ends
-pub yields_filled : (w : WalkerState) → w.phase ≡ phase.Between → (f : FrameValue) (fs : List FrameValue)
+pub yields_filled : (w : WalkerState) → w.phase ≡ Between → (f : FrameValue) (fs : List FrameValue)
     → w.stack ≡ f ∷ fs → f.end ≡ Some w.offset
     → Continues w (record w { stack = drop 1 w.stack; events = w.events + 1 }) [] (filled_end_event f ∷ [])
 yields_filled w e f fs is full = record {
   framing = refl;
-  found = ap (wrapper_count_after w.framing.inside w.wrapper_count) (sym (ending_enters f));
+  wrapper_count = ap (wrapper_count_after w.framing.inside w.wrapper_count) (sym (ending_enters f));
   next_zipper = λ b yielded s has.
       let t = between_tail s.tail _ (phase_at w b yielded s _ e has) in
       filled_from w b yielded s s.layers (tail_state w b yielded s _ t has) e f fs is full;
@@ -266,7 +266,7 @@ frame_filled : (stack : List FrameValue) (f : FrameValue) (fs : List FrameValue)
 frame_filled stack f fs offset e full = subst (λ (s : List FrameValue). IsFilled s offset) e full
 
 -- the same, by what the frame says that was popped
-pub yields_popped : (w : WalkerState) (k : Bool) → w.phase ≡ phase.Between → IsFilled w.stack w.offset
+pub yields_popped : (w : WalkerState) (k : Bool) → w.phase ≡ Between → IsFilled w.stack w.offset
     → innermost_wraps w.stack ≡ Some k
     → Continues w (record w { stack = drop 1 w.stack; events = w.events + 1 }) []
     ((if k then Leave else Close None) ∷ [])
@@ -284,7 +284,7 @@ wraps_none [] offset full n = absurd full
 wraps_none (f ∷ fs) offset full n = ap Some (false_from_ne_true f.wrapper n)
 
 -- the same, of an element that wraps nothing
-pub yields_closed : (w : WalkerState) → w.phase ≡ phase.Between → IsFilled w.stack w.offset → (IsInWrapper w.stack → ⊥)
+pub yields_closed : (w : WalkerState) → w.phase ≡ Between → IsFilled w.stack w.offset → (IsInWrapper w.stack → ⊥)
     → Continues w (record w { stack = drop 1 w.stack; events = w.events + 1 }) [] (Close None ∷ [])
 yields_closed w e full n = yields_popped w false e full (wraps_none w.stack w.offset full n)
 
@@ -294,19 +294,19 @@ within_less None m n h w = tt
 within_less (Some k) m n h w = omega (arith, h, w)
 
 -- both of the end-of-contents octets
-pub yields_both : (w : WalkerState) → w.phase ≡ phase.Between → IsInIndefinite w.stack
+pub yields_both : (w : WalkerState) → w.phase ≡ Between → IsInIndefinite w.stack
     → IsWithin (bound_of w.stack) (w.offset + 2)
     → Continues w (record w { stack = drop 1 w.stack; offset = w.offset + 2; events = w.events + 1 }) (0 ∷ 0 ∷ [])
     (Close (Some w.offset) ∷ [])
 yields_both w e inside fits =
-    let middle : WalkerState = record w { phase = phase.InEndOctets; offset = w.offset + 1 } in
+    let middle : WalkerState = record w { phase = InEndOctets; offset = w.offset + 1 } in
     let room : IsWithin (bound_of w.stack) (w.offset + 1) =
     within_less (bound_of w.stack) (w.offset + 1) (w.offset + 2) (omega arith) fits in
     let two : w.offset + 1 + 1 ≡ w.offset + 2 = omega arith in
     let one : w.offset + 1 - 1 ≡ w.offset = omega arith in
     let new : WalkerState = record w {
       stack = drop 1 w.stack;
-      phase = phase.Between;
+      phase = Between;
       offset = w.offset + 1 + 1;
       events = w.events + 1;
     } in

@@ -8,7 +8,7 @@ use Rattle.tlv_head.specs.declared.header.Size.TheVariants.{Definite, Indefinite
 use Rattle.tlv_head.specs.Header.{AllowsSize, HeaderValue, octets_of}
 use Rattle.tlv_walk.specs.declared.framing.Framing.{Framing}
 use Rattle.tlv_walk.specs.Phase.{IsAfterEvent, PhaseValue}
-use Rattle.tlv_walk.specs.Phase as phase
+use Rattle.tlv_walk.specs.Phase.{Between, InBitString, InEndOctets, InHeader, InPrimitive}
 use Rattle.tlv_walk.specs.Events.{AreEqualJoined, Begin, Bytes, Close, End, Enter, EventValue, Leave, Open, Pad, Unused}
 use Rattle.tlv_walk.specs.Events.{closing_event, end_offset, event_octets, events, opening_events, single_octets}
 use Rattle.tlv_walk.specs.Forest.{Forest, NoMore, PaddingOctet, Primitive, Holder, OpenPrimitive, OpenHolder}
@@ -158,11 +158,11 @@ octets_layers w (l ∷ ls) a =
 
 octets_tail : (f : PhaseValue) (t : Tail) (p : Place) → IsPhaseOf f t p → IsAfterEvent f
     → flat_map event_octets (events_of_tail t) ≡ spelling_of_tail t
-octets_tail phase.Between NoTail p i k = refl
-octets_tail (phase.InHeader r) (HeaderTail octets) p i k = absurd k
-octets_tail (phase.InPrimitive left) (PrimitiveTail h c) p i k = ap (λ (l : List ℕ). octets_of h ++ l) (append-nil c)
-octets_tail phase.InBitString (BitStringTail h) p i k = append-nil (octets_of h)
-octets_tail phase.InEndOctets EndOctetsTail p i k = absurd k
+octets_tail Between NoTail p i k = refl
+octets_tail (InHeader r) (HeaderTail octets) p i k = absurd k
+octets_tail (InPrimitive left) (PrimitiveTail h c) p i k = ap (λ (l : List ℕ). octets_of h ++ l) (append-nil c)
+octets_tail InBitString (BitStringTail h) p i k = append-nil (octets_of h)
+octets_tail InEndOctets EndOctetsTail p i k = absurd k
 octets_tail f t p i k = absurd i
 
 -- a walker that has yielded an event of each octet

@@ -10,8 +10,7 @@ use Rattle.tlv_head.specs.Header.{HeaderValue, announced_length, holds, is_wrapp
 use Rattle.tlv_head.specs.HeadReaderState.{HeadReaderState}
 use Rattle.tlv_walk.specs.declared.walker.headers.HeaderKind.{HeaderKind}
 use Rattle.tlv_walk.specs.declared.walker.headers.HeaderKind.TheVariants as kind
-use Rattle.tlv_walk.specs.Phase.{PhaseValue}
-use Rattle.tlv_walk.specs.Phase as phase
+use Rattle.tlv_walk.specs.Phase.{Between, InBitString, InPrimitive, PhaseValue}
 use Rattle.tlv_walk.specs.Events.{Begin, Enter, EventValue, Open}
 use Rattle.tlv_walk.specs.Forest.{NoMore, lead, lead_by}
 use Rattle.tlv_walk.specs.WalkerState.{WalkerState}
@@ -93,15 +92,15 @@ takes_constructed : (w : WalkerState) (b : List ℕ) (yielded : List EventValue)
     (t : List ℕ) (h : HeaderValue)
     → AtHeader w b yielded s r → Completed w r t h → h.constructed ≡ true
     → (u : Zipper)
-    × HasZipper (walker_in_element w h phase.Between w.wrapper_count) (b ++ t) (yielded ++ Open h ∷ []) u
+    × HasZipper (walker_in_element w h Between w.wrapper_count) (b ++ t) (yielded ++ Open h ∷ []) u
 takes_constructed w b yielded s r t h at c k =
     let none : lead h ≡ [] = lead_at h true (eqb h.number 3) k refl in
     let has = holding_state w b yielded s r t h w.wrapper_count at c (or-left h.constructed _ k) none in (
       _,
-      pushed w b yielded s r t h phase.Between w.wrapper_count (Open h) _ at c
+      pushed w b yielded s r t h Between w.wrapper_count (Open h) _ at c
           (subst
           (λ (e : EventValue). HasZipper
-          (record (after_header w phase.Between (h.offset + length (octets_of h)))
+          (record (after_header w Between (h.offset + length (octets_of h)))
           { stack = frame_at (place_of w.framing s) h ∷ w.stack; wrapper_count = w.wrapper_count })
           (b ++ t) (yielded ++ e ∷ []) (inside_state s h))
           (ap (λ (x : Bool). if x then Open h else Enter h) k) has),
@@ -112,22 +111,22 @@ takes_wrapper : (w : WalkerState) (b : List ℕ) (yielded : List EventValue) (s 
     → AtHeader w b yielded s r → Completed w r t h → h.constructed ≡ false → holds h ≡ true
     → (bits : Bool) → eqb h.number 3 ≡ bits
     → (u : Zipper)
-    × HasZipper (walker_in_element w h (if bits then phase.InBitString else phase.Between) n) (b ++ t)
+    × HasZipper (walker_in_element w h (if bits then InBitString else Between) n) (b ++ t)
     (yielded ++ Enter h ∷ []) u
 takes_wrapper w b yielded s r t h n at c k hold true bits =
     let one : lead h ≡ 0 ∷ [] = lead_at h false true k bits in (
       _,
-      pushed w b yielded s r t h phase.InBitString n (Enter h) _ at c
+      pushed w b yielded s r t h InBitString n (Enter h) _ at c
           (lead_state w b yielded s r t h n at c hold one),
     )
 takes_wrapper w b yielded s r t h n at c k hold false bits =
     let none : lead h ≡ [] = lead_at h false false k bits in
     let has = holding_state w b yielded s r t h n at c hold none in (
       _,
-      pushed w b yielded s r t h phase.Between n (Enter h) _ at c
+      pushed w b yielded s r t h Between n (Enter h) _ at c
           (subst
           (λ (e : EventValue). HasZipper
-          (record (after_header w phase.Between (h.offset + length (octets_of h)))
+          (record (after_header w Between (h.offset + length (octets_of h)))
           { stack = frame_at (place_of w.framing s) h ∷ w.stack; wrapper_count = n })
           (b ++ t) (yielded ++ e ∷ []) (inside_state s h))
           (ap (λ (x : Bool). if x then Open h else Enter h) k) has),
@@ -137,13 +136,13 @@ takes_primitive : (w : WalkerState) (b : List ℕ) (yielded : List EventValue) (
     (t : List ℕ) (h : HeaderValue)
     → AtHeader w b yielded s r → Completed w r t h → holds h ≡ false
     → (u : Zipper)
-    × HasZipper (after_header w (phase.InPrimitive (announced_length h.size)) (h.offset + length (octets_of h)))
+    × HasZipper (after_header w (InPrimitive (announced_length h.size)) (h.offset + length (octets_of h)))
     (b ++ t) (yielded ++ Begin h ∷ []) u
 takes_primitive w b yielded s r t h at c no_hold =
     let size : (n : ℕ) × (h.size ≡ Definite n) = size-definite h c.valid no_hold in (
       _,
       subst
-          (λ (n : ℕ). HasZipper (after_header w (phase.InPrimitive n) (h.offset + length (octets_of h))) (b ++ t)
+          (λ (n : ℕ). HasZipper (after_header w (InPrimitive n) (h.offset + length (octets_of h))) (b ++ t)
           (yielded ++ Begin h ∷ []) (with_tail s (PrimitiveTail h [])))
           (sym (ap announced_length size.1))
           (primitive_state w b yielded s r t h size.0 at c no_hold size.1),
@@ -187,7 +186,7 @@ count_after_header w v f o offset kind.Wrapper e = ap (λ (m : WalkerState). m.w
 -- octets that begin with a header, at a walker between elements
 pub takes_quick_header : (w v : WalkerState) (piece : List ℕ) (named : Bool) (f : HeaderFields) (count : ℕ) (o : List ℕ)
     (k : HeaderKind)
-    → w.phase ≡ phase.Between
+    → w.phase ≡ Between
     → BeginsWithFields piece w.offset named f count → o ≡ take count piece → named ≡ is_among w.offset w.framing.inside
     → (holds (new_header f o) ≡ true → length w.stack < 128)
     → IsWithin (bound_of w.stack) (f.offset + length o + announced_length f.size)
@@ -210,7 +209,7 @@ takes_quick_header w v piece named f count o k e begins front name shallow fits 
     } in
     record {
       framing = framing_after_header w v f (f.offset + length o) k takes;
-      found = count_after_header w v f o (f.offset + length o) k takes;
+      wrapper_count = count_after_header w v f o (f.offset + length o) k takes;
       next_zipper = λ b yielded s has.
           state_after_header w v b yielded (with_tail s NoTail) r o f o k (at_new w b yielded s r has e refl refl name)
           completed

@@ -13,7 +13,7 @@ use Rattle.tlv_head.specs.HeadReaderState.{ContentsFit, HeadReaderState}
 use Rattle.tlv_head.specs.Push as push
 use Rattle.tlv_head.specs.Push.{Completes, IsRefusedPush}
 use Rattle.tlv_head.proofs.ReaderLemmas.Prefix.{header-two}
-use Rattle.tlv_walk.specs.Phase as phase
+use Rattle.tlv_walk.specs.Phase.{InHeader}
 use Rattle.tlv_walk.specs.Ending.{IsEnding, IsRefusedAt, fault_ending, no_room, open_end, overrun, refused_octet}
 use Rattle.tlv_walk.specs.Ending.{too_deep}
 use Rattle.tlv_walk.specs.Forest.{OpenHeader}
@@ -128,11 +128,11 @@ refused_fault p q room depth x code k (push.overrun left h completes shallow bey
 
 -- the reader of a walker inside a header is where its state says
 reader_there : (w : WalkerState) (b : List ℕ) (yielded : List EventValue) (s : Zipper) (q : HeadReaderState) (depth : ℕ)
-    → w.phase ≡ phase.InHeader q → HasZipper w b yielded (with_tail s (HeaderTail q.octets)) → depth ≡ length w.stack
+    → w.phase ≡ InHeader q → HasZipper w b yielded (with_tail s (HeaderTail q.octets)) → depth ≡ length w.stack
     → IsReader (place_of w.framing s) q (room_to (bound_of w.stack) (q.offset + length q.octets)) depth
 reader_there w b yielded s q depth e has d =
     let p : Place = place_of w.framing s in
-    let at = phase_at w b yielded (with_tail s (HeaderTail q.octets)) (phase.InHeader q) e has in
+    let at = phase_at w b yielded (with_tail s (HeaderTail q.octets)) (InHeader q) e has in
     let bound : bound_of w.stack ≡ p.bound = ap bound_of has.stack ∙ sym (place-bound w.framing s.layers) in
     record {
       offset = at.1;

@@ -14,8 +14,7 @@ use Rattle.tlv_head.specs.Push.{Completes, FitsThere}
 use Rattle.tlv_head.specs.Refusal.{IsHeaderPrefix}
 use Rattle.tlv_walk.specs.declared.walker.headers.HeaderKind.{HeaderKind}
 use Rattle.tlv_walk.specs.declared.walker.headers.HeaderKind.TheVariants as kind
-use Rattle.tlv_walk.specs.Phase.{PhaseValue}
-use Rattle.tlv_walk.specs.Phase as phase
+use Rattle.tlv_walk.specs.Phase.{Between, InHeader, PhaseValue}
 use Rattle.tlv_walk.specs.Events.{EventValue}
 use Rattle.tlv_walk.specs.declared.framing.Framing.{Framing}
 use Rattle.tlv_walk.specs.WalkerState.{WalkerState}
@@ -38,12 +37,12 @@ use Rattle.tlv_walk.proofs.WalkerLemmas.ZipperGrowth.{phase_at, with_tail}
 -- it is at the header of that reader
 pub handed : (w u : WalkerState) (r : HeadReaderState) → HandsOver w u r
     → (b : List ℕ) (yielded : List EventValue) (s : Zipper) → HasZipper w b yielded s
-    → (t : Zipper) × AtHeader w b yielded t r × (u ≡ record w { phase = phase.Between; has_element = true })
+    → (t : Zipper) × AtHeader w b yielded t r × (u ≡ record w { phase = Between; has_element = true })
 handed w u r (inl h) b yielded s has =
     let a = at_front w b yielded s r has h.0 in (
       with_tail s (HeaderTail a.0),
       a.1,
-      h.1 ∙ ap (λ (k : Bool). record w { phase = phase.Between; has_element = k }) a.1.has.element,
+      h.1 ∙ ap (λ (k : Bool). record w { phase = Between; has_element = k }) a.1.has.element,
     )
 handed w u r (inr h) b yielded s has = (
   with_tail s NoTail,
@@ -57,7 +56,7 @@ handed_front : (w u : WalkerState) (r : HeadReaderState) → HandsOver w u r
     → IsHeaderPrefix r.octets
 handed_front w u r (inl h) b yielded s has some =
     let a = at_front w b yielded s r has h.0 in
-    let at : IsPhaseOf (phase.InHeader r) (HeaderTail a.0) (place_of w.framing s) =
+    let at : IsPhaseOf (InHeader r) (HeaderTail a.0) (place_of w.framing s) =
     phase_at w b yielded _ _ h.0 a.1.has in
     subst IsHeaderPrefix (sym at.0) at.3.1
 handed_front w u r (inr h) b yielded s has some = absurd (some h.0.none)
@@ -88,14 +87,14 @@ taken_more r q p piece rest others x k e front same =
 
 -- the walker after the octets of a reader that it has
 abbrev pub in_header : WalkerState → HeadReaderState → WalkerState
-in_header w q = record w { phase = phase.InHeader q; offset = q.offset + length q.octets; has_element = true }
+in_header w q = record w { phase = InHeader q; offset = q.offset + length q.octets; has_element = true }
 
 -- the state after them, of the walker that the reader was taken from
 pub record TakenState (w u : WalkerState) (q : HeadReaderState) (t b : List ℕ) (yielded : List EventValue) : Type
     0 where
   pub state : Zipper
   pub has : HasZipper (in_header w q) (b ++ t) (yielded ++ []) (with_tail state (HeaderTail q.octets))
-  pub same : u ≡ record w { phase = phase.Between; has_element = true }
+  pub same : u ≡ record w { phase = Between; has_element = true }
 
 pub taken_state : (w u : WalkerState) (r q : HeadReaderState) (piece rest : List ℕ) → HandsOver w u r
     → (k : HasTaken r q piece rest) → (q.octets ≡ [] → ⊥)
@@ -128,16 +127,16 @@ handed_wrappers w u r (inr h) = ap (λ (m : WalkerState). m.wrapper_count) h.1
 -- the piece is used up inside a header
 pub yields_unfinished : (w u : WalkerState) (r q : HeadReaderState) (piece : List ℕ) (offset : ℕ) → HandsOver w u r
     → HasTaken r q piece [] → (q.octets ≡ [] → ⊥) → q.offset + length q.octets ≡ offset
-    → IsWithin (bound_of u.stack) offset → Continues w (record u { phase = phase.InHeader q; offset = offset }) piece []
+    → IsWithin (bound_of u.stack) offset → Continues w (record u { phase = InHeader q; offset = offset }) piece []
 yields_unfinished w u r q piece offset over k some e fits = record {
   framing = handed_framing w u r over;
-  found = handed_wrappers w u r over;
+  wrapper_count = handed_wrappers w u r over;
   next_zipper = λ b yielded s has.
       let t : TakenState w u q k.taken b yielded =
       taken_state w u r q piece [] over k some (subst (IsWithin (bound_of u.stack)) (sym e) fits) b yielded s has in
-      let new : in_header w q ≡ record u { phase = phase.InHeader q; offset = offset } =
-      ap (λ (n : ℕ). record w { phase = phase.InHeader q; offset = n; has_element = true }) e
-      ∙ ap (λ (m : WalkerState). record m { phase = phase.InHeader q; offset = offset }) (sym t.same) in
+      let new : in_header w q ≡ record u { phase = InHeader q; offset = offset } =
+      ap (λ (n : ℕ). record w { phase = InHeader q; offset = n; has_element = true }) e
+      ∙ ap (λ (m : WalkerState). record m { phase = InHeader q; offset = offset }) (sym t.same) in
       let all : k.taken ≡ piece = sym (k.piece_is ∙ append-nil k.taken) in (
         with_tail t.state (HeaderTail q.octets),
         subst
@@ -154,7 +153,7 @@ yields_unfinished w u r q piece offset over k some e fits = record {
 
 -- the walker that the reader was taken from takes it too
 takes_without : (w u new : WalkerState) (f : HeaderFields) (offset : ℕ) (k : HeaderKind)
-    → u ≡ record w { phase = phase.Between; has_element = true } → TakesHeader u new f offset k
+    → u ≡ record w { phase = Between; has_element = true } → TakesHeader u new f offset k
     → TakesHeader w new f offset k
 takes_without w u new f offset kind.Primitive e takes =
     subst (λ (m : WalkerState). TakesHeader m new f offset kind.Primitive) e takes
@@ -165,10 +164,10 @@ takes_without w u new f offset kind.Wrapper e takes =
 
 -- and the header that it completes may be there
 completed_without : (w u : WalkerState) (r : HeadReaderState) (t : List ℕ) (h : HeaderValue)
-    → u ≡ record w { phase = phase.Between; has_element = true } → CanTakeHeader u h → Completes r t h
+    → u ≡ record w { phase = Between; has_element = true } → CanTakeHeader u h → Completes r t h
     → Completed w r t h
 completed_without w u r t h e can makes =
-    let can' : CanTakeHeader (record w { phase = phase.Between; has_element = true }) h =
+    let can' : CanTakeHeader (record w { phase = Between; has_element = true }) h =
     subst (λ (m : WalkerState). CanTakeHeader m h) e can in
     record {
       valid = can'.valid;
@@ -186,7 +185,7 @@ yields_after : (u new : WalkerState) (f : HeaderFields) (o : List ℕ) (offset :
     → YieldsHeader u new (new_header f o) (event_of k (new_header f o))
 yields_after u new f o offset k can e does w r t over makes = record {
   framing = framing_after_header u new f offset k does ∙ handed_framing w u r over;
-  found =
+  wrapper_count =
       count_after_header u new f o offset k does
       ∙ ap₂
       (λ (g : Framing) (n : ℕ). wrapper_count_after g.inside n (entered_offsets (event_of k (new_header f o) ∷ [])))

@@ -2,8 +2,8 @@
 use Rattle.std.proofs.Common.{◌≡◌, ℕ, ◌+◌, Bool, true, false, ◌||◌, List, [], ◌∷◌, ◌++◌, length, map, All, None, refl}
 use Rattle.std.proofs.Common.{sym, ap, ◌∙◌, subst, arith, append-nil, length-append}
 use Rattle.std.proofs.lemmas.List.Elements.{All-head, All-tail}
-use Rattle.tlv_walk.specs.Phase.{PhaseValue}
-use Rattle.tlv_walk.specs.Phase as phase
+use Rattle.std.proofs.Math.Bool.{or-false}
+use Rattle.tlv_walk.specs.Phase.{Between, PhaseValue}
 use Rattle.tlv_walk.specs.Events.{EventValue, Pad, events, single_octets}
 use Rattle.tlv_walk.specs.Forest.{Forest, NoMore, PaddingOctet, has_element, is_whole, spelling}
 use Rattle.tlv_walk.specs.WalkerState.{WalkerState}
@@ -45,12 +45,8 @@ open-padding_octets : (p : Place) (t : List ℕ) → p.padding ≡ true → p.in
 open-padding_octets p [] a d n = tt
 open-padding_octets p (x ∷ t) a d n = ((a, d, rw n tt), open-padding_octets (place_after p 1) t a d n)
 
-or-false : (k : Bool) → (k || false) ≡ k
-or-false true = refl
-or-false false = refl
-
 pad_state : (w : WalkerState) (b : List ℕ) (yielded : List EventValue) (s : Zipper) (t : List ℕ)
-    → HasZipper w b yielded (with_layers s [] NoTail) → w.phase ≡ phase.Between → w.framing.padding ≡ true
+    → HasZipper w b yielded (with_layers s [] NoTail) → w.phase ≡ Between → w.framing.padding ≡ true
     → All (λ x. x ≡ 0) t
     → HasZipper (record w { offset = w.offset + length t; events = w.events + 1 }) (b ++ t) (yielded ++ Pad t ∷ [])
     (record {
@@ -84,7 +80,7 @@ pad_state w b yielded s t has e padding zeros = record {
 }
 
 pad_from : (w : WalkerState) (b : List ℕ) (yielded : List EventValue) (s : Zipper) (t : List ℕ) (ls : List Layer)
-    → HasZipper w b yielded (with_layers s ls NoTail) → w.phase ≡ phase.Between → w.stack ≡ []
+    → HasZipper w b yielded (with_layers s ls NoTail) → w.phase ≡ Between → w.stack ≡ []
     → w.framing.padding ≡ true → All (λ x. x ≡ 0) t
     → (u : Zipper)
     × HasZipper (record w { offset = w.offset + length t; events = w.events + 1 }) (b ++ t)
@@ -92,14 +88,14 @@ pad_from : (w : WalkerState) (b : List ℕ) (yielded : List EventValue) (s : Zip
 pad_from w b yielded s t [] has e none padding zeros = (_, pad_state w b yielded s t has e padding zeros)
 pad_from w b yielded s t (l ∷ ls) has e none padding zeros = absurd (cc (has.stack))
 
-pub yields_pad : (w : WalkerState) (t : List ℕ) (n : ℕ) → w.phase ≡ phase.Between → w.stack ≡ []
+pub yields_pad : (w : WalkerState) (t : List ℕ) (n : ℕ) → w.phase ≡ Between → w.stack ≡ []
     → w.framing.padding ≡ true → All (λ x. x ≡ 0) t → n ≡ length t
     → Continues w (record w { offset = w.offset + n; events = w.events + 1 }) t (Pad t ∷ [])
 yields_pad w t n e none padding zeros len =
     subst (λ (m : ℕ). Continues w (record w { offset = w.offset + m; events = w.events + 1 }) t (Pad t ∷ []))
     (sym len) (record {
       framing = refl;
-      found = refl;
+      wrapper_count = refl;
       next_zipper = λ b yielded s has.
           let tail = between_tail s.tail _ (phase_at w b yielded s _ e has) in
           pad_from w b yielded s t s.layers (tail_state w b yielded s _ tail has) e none padding zeros;

@@ -12,15 +12,14 @@ use Rattle.tlv_walk.specs.declared.walker.quick.WholePrimitive.{WholePrimitive}
 use Rattle.tlv_walk.specs.Events.{Begin, Bytes, End}
 use Rattle.tlv_walk.specs.Follow.{IsWholeElement, contents_in, whole_events}
 use Rattle.tlv_walk.specs.WalkerState.{WalkerState}
-use Rattle.tlv_walk.specs.Phase.{PhaseValue}
-use Rattle.tlv_walk.specs.Phase as phase
+use Rattle.tlv_walk.specs.Phase.{Between, InPrimitive, PhaseValue}
 use Rattle.tlv_walk.specs.Private.WalkerCalls.{CanPass, after_header, header_at}
 use Rattle.tlv_walk.specs.Private.Yields.{Continues}
 use Rattle.tlv_walk.specs.Stack.{bound_of}
 use Rattle.tlv_walk.specs.Place.{IsWithin}
 use Rattle.tlv_walk.proofs.WalkerLemmas.HeaderKinds.{takes_quick_header}
 use Rattle.tlv_walk.proofs.WalkerLemmas.ZipperGrowth.{continues_both}
-use Rattle.tlv_walk.proofs.WalkerLemmas.Moves.{yields_passed}
+use Rattle.tlv_walk.proofs.WalkerLemmas.YieldedEvents.{yields_passed}
 
 -- the contents of a primitive with which the octets begin
 abbrev contents_at : WholePrimitive → List ℕ → List ℕ
@@ -66,7 +65,7 @@ walker_after_primitive w p n = record w { offset = w.offset + p.octet_count; eve
 -- its header begins a primitive
 yields_header : (w : WalkerState) (piece : List ℕ) (p : WholePrimitive) → CanPass w piece p
     → Continues w
-    (after_header w (phase.InPrimitive (announced_length p.fields.size))
+    (after_header w (InPrimitive (announced_length p.fields.size))
     (p.fields.offset + length (take p.header_length piece)))
     (take p.header_length piece) (Begin (header_at p piece) ∷ [])
 yields_header w piece p can =
@@ -89,7 +88,7 @@ yields_primitive w piece p n can =
     let c : List ℕ = contents_at p piece in
     let size : length c ≡ announced_length f.size = passed_length w piece p can in
     let offset : ℕ = f.offset + length o in
-    let u : WalkerState = after_header w (phase.InPrimitive (announced_length f.size)) offset in
+    let u : WalkerState = after_header w (InPrimitive (announced_length f.size)) offset in
     let v : PhaseValue → ℕ → WalkerState = λ q k. record w { phase = q; offset = k; events = n; has_element = true } in
     let end : offset + length c ≡ w.offset + p.octet_count =
     omega (
@@ -99,23 +98,23 @@ yields_primitive w piece p n can =
       length-take-le p.header_length piece can.begins.within,
       size,
     ) in
-    let both : Continues w (v phase.Between (offset + length c)) (o ++ c)
+    let both : Continues w (v Between (offset + length c)) (o ++ c)
     (Begin (header_at p piece) ∷ Bytes c ∷ End ∷ []) =
     continues_both w u _ o c (Begin (header_at p piece) ∷ []) (Bytes c ∷ End ∷ []) (yields_header w piece p can)
-    (yields_passed u c n (ap phase.InPrimitive (sym size))) in
+    (yields_passed u c n (ap InPrimitive (sym size))) in
     subst
     (λ (q : PhaseValue). Continues w (v q (w.offset + p.octet_count)) (take p.octet_count piece)
     (whole_events (header_at p piece) (take p.octet_count piece)))
     (sym can.phase)
     (subst
-    (λ (k : ℕ). Continues w (v phase.Between k) (take p.octet_count piece)
+    (λ (k : ℕ). Continues w (v Between k) (take p.octet_count piece)
     (whole_events (header_at p piece) (take p.octet_count piece)))
     end
     (subst
-    (λ (l : List ℕ). Continues w (v phase.Between (offset + length c)) (take p.octet_count piece)
+    (λ (l : List ℕ). Continues w (v Between (offset + length c)) (take p.octet_count piece)
     (Begin (header_at p piece) ∷ Bytes l ∷ End ∷ []))
     (sym (contents_whole w piece p can))
     (subst
-    (λ (l : List ℕ). Continues w (v phase.Between (offset + length c)) l
+    (λ (l : List ℕ). Continues w (v Between (offset + length c)) l
     (Begin (header_at p piece) ∷ Bytes c ∷ End ∷ []))
     (sym (whole_octets w piece p can)) both)))

@@ -6,8 +6,7 @@ use Rattle.tlv_head.specs.declared.fault.FaultCode.{FaultCode}
 use Rattle.tlv_head.specs.declared.fault.FaultCode.TheVariants.{StrayEnd, BadEnd, MissingEnd, BadInside}
 use Rattle.tlv_walk.specs.declared.ending.Ending.TheVariants as ending
 use Rattle.tlv_head.specs.declared.fault.Fault.{Fault}
-use Rattle.tlv_walk.specs.Phase.{PhaseValue}
-use Rattle.tlv_walk.specs.Phase as phase
+use Rattle.tlv_walk.specs.Phase.{Between, InBitString, InEndOctets, PhaseValue}
 use Rattle.tlv_walk.specs.Ending.{IsEnding, IsRefusedAt, bad_end, bad_inside, fault_at, fault_ending, missing_end}
 use Rattle.tlv_walk.specs.Ending.{no_end}
 use Rattle.tlv_walk.specs.Ending.{stray_end}
@@ -84,12 +83,12 @@ bound_there : (w : WalkerState) (b : List ℕ) (yielded : List EventValue) (s : 
 bound_there w b yielded s has stack = ap bound_of stack ∙ sym (place-bound w.framing s.layers)
 
 -- the bound is reached before the end-of-contents octets
-pub refuses_missing : (w : WalkerState) (x : ℕ) (rest : List ℕ) → w.phase ≡ phase.Between
+pub refuses_missing : (w : WalkerState) (x : ℕ) (rest : List ℕ) → w.phase ≡ Between
     → (IsFilled w.stack w.offset → ⊥) → IsInIndefinite w.stack → IsWithin (bound_of w.stack) w.offset
     → room_in w.stack w.offset ≡ Some 0
     → RefusesOctet w (x ∷ rest) (x ∷ rest) (fault_at MissingEnd w.offset)
 refuses_missing w x rest e unfilled inside within room =
-    refuses_here w x rest MissingEnd (idle_at w phase.Between e unfilled) (λ b yielded s has.
+    refuses_here w x rest MissingEnd (idle_at w Between e unfilled) (λ b yielded s has.
     let t = between_tail s.tail _ (phase_at w b yielded s _ e has) in
     let has' : HasZipper w b yielded (with_tail s NoTail) = tail_state w b yielded s _ t has in
     let place : w.offset ≡ (place_of w.framing (with_tail s NoTail)).offset + 0 = walker-offset w b yielded _ has' in
@@ -114,11 +113,11 @@ not_indefinite : (k : Bool) → (k ≡ true → ⊥) → k ≡ false
 not_indefinite true f = absurd (f refl)
 not_indefinite false f = refl
 
-pub refuses_stray : (w : WalkerState) (rest : List ℕ) → w.phase ≡ phase.Between → (IsFilled w.stack w.offset → ⊥)
+pub refuses_stray : (w : WalkerState) (rest : List ℕ) → w.phase ≡ Between → (IsFilled w.stack w.offset → ⊥)
     → (IsInIndefinite w.stack → ⊥) → (w.framing.padding ≡ true → w.stack ≡ [] → ⊥)
     → RefusesOctet w (0 ∷ rest) (0 ∷ rest) (fault_at StrayEnd w.offset)
 refuses_stray w rest e unfilled outside padding =
-    refuses_here w 0 rest StrayEnd (idle_at w phase.Between e unfilled) (λ b yielded s has.
+    refuses_here w 0 rest StrayEnd (idle_at w Between e unfilled) (λ b yielded s has.
     let t = between_tail s.tail _ (phase_at w b yielded s _ e has) in
     let has' : HasZipper w b yielded (with_tail s NoTail) = tail_state w b yielded s _ t has in (
       with_tail s NoTail,
@@ -130,7 +129,7 @@ refuses_stray w rest e unfilled outside padding =
     ))
 
 pub refuses_stray_front : (w : WalkerState) (piece : List ℕ) → 1 ≤ length piece → get_or piece 0 0 ≡ 0
-    → w.phase ≡ phase.Between → (IsFilled w.stack w.offset → ⊥) → (IsInIndefinite w.stack → ⊥)
+    → w.phase ≡ Between → (IsFilled w.stack w.offset → ⊥) → (IsInIndefinite w.stack → ⊥)
     → (w.framing.padding ≡ true → w.stack ≡ [] → ⊥) → RefusesOctet w piece piece (fault_at StrayEnd w.offset)
 refuses_stray_front w piece some zero e unfilled outside padding =
     refuses_front w piece _ some
@@ -138,11 +137,11 @@ refuses_stray_front w piece some zero e unfilled outside padding =
     (refuses_stray w (drop 1 piece) e unfilled outside padding))
 
 -- the second of the end-of-contents octets
-pub refuses_second_missing : (w : WalkerState) (x : ℕ) (rest : List ℕ) → w.phase ≡ phase.InEndOctets
+pub refuses_second_missing : (w : WalkerState) (x : ℕ) (rest : List ℕ) → w.phase ≡ InEndOctets
     → IsWithin (bound_of w.stack) w.offset → room_in w.stack w.offset ≡ Some 0
     → RefusesOctet w (x ∷ rest) (x ∷ rest) (fault_at MissingEnd w.offset)
 refuses_second_missing w x rest e within room =
-    refuses_here w x rest MissingEnd (idle_at w phase.InEndOctets e (λ k. k)) (λ b yielded s has.
+    refuses_here w x rest MissingEnd (idle_at w InEndOctets e (λ k. k)) (λ b yielded s has.
     let t = lone_tail s.tail _ (phase_at w b yielded s _ e has) in
     let has' : HasZipper w b yielded (with_tail s EndOctetsTail) = tail_state w b yielded s _ t has in
     let place : w.offset ≡ (place_of w.framing (with_tail s EndOctetsTail)).offset + 1 =
@@ -151,11 +150,11 @@ refuses_second_missing w x rest e within room =
     subst (λ (o : Option ℕ). room_to o w.offset ≡ Some 0) (bound_there w b yielded _ has' has'.stack) room in
     (with_tail s EndOctetsTail, has', missing_end (left_none _ w.offset _ none (omega (arith, place)))))
 
-pub refuses_second : (w : WalkerState) (x : ℕ) (rest : List ℕ) → w.phase ≡ phase.InEndOctets
+pub refuses_second : (w : WalkerState) (x : ℕ) (rest : List ℕ) → w.phase ≡ InEndOctets
     → (room_in w.stack w.offset ≡ Some 0 → ⊥) → x ≢ 0
     → RefusesOctet w (x ∷ rest) (x ∷ rest) (fault_at BadEnd w.offset)
 refuses_second w x rest e room nonzero =
-    refuses_here w x rest BadEnd (idle_at w phase.InEndOctets e (λ k. k)) (λ b yielded s has.
+    refuses_here w x rest BadEnd (idle_at w InEndOctets e (λ k. k)) (λ b yielded s has.
     let t = lone_tail s.tail _ (phase_at w b yielded s _ e has) in
     let has' : HasZipper w b yielded (with_tail s EndOctetsTail) = tail_state w b yielded s _ t has in
     let place : w.offset ≡ (place_of w.framing (with_tail s EndOctetsTail)).offset + 1 =
@@ -172,9 +171,9 @@ refuses_second w x rest e room nonzero =
     ))
 
 -- the first contents octet of a wrapping BIT STRING
-pub refuses_unused : (w : WalkerState) (x : ℕ) (rest : List ℕ) → w.phase ≡ phase.InBitString → x ≢ 0
+pub refuses_unused : (w : WalkerState) (x : ℕ) (rest : List ℕ) → w.phase ≡ InBitString → x ≢ 0
     → RefusesOctet w (x ∷ rest) (x ∷ rest) (fault_at BadInside w.offset)
 refuses_unused w x rest e nonzero =
-    refuses_here w x rest BadInside (idle_at w phase.InBitString e (λ k. k)) (λ b yielded s has.
+    refuses_here w x rest BadInside (idle_at w InBitString e (λ k. k)) (λ b yielded s has.
     let t = lead_tail s.tail _ (phase_at w b yielded s _ e has) in
     (with_tail s (BitStringTail t.0), tail_state w b yielded s _ t.1 has, bad_inside nonzero))

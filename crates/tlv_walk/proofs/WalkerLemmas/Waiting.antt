@@ -1,8 +1,7 @@
 -- Whether an event waits, by the code's tests and by the list of those that do.
 use Rattle.std.proofs.Common.{◌≡◌, ℕ, Bool, true, false, eqb, if◌then◌else◌, List, [], ◌∷◌, Option, Some, None, refl}
 use Rattle.std.proofs.Common.{ap, ◌∙◌, ne_eqb, eq-eqb, IsTrue, ◌↔◌}
-use Rattle.tlv_walk.specs.Phase.{PhaseValue}
-use Rattle.tlv_walk.specs.Phase as phase
+use Rattle.tlv_walk.specs.Phase.{Between, InBitString, InEndOctets, InHeader, InPrimitive, PhaseValue, Refused}
 use Rattle.tlv_walk.specs.Events.{End, EventValue}
 use Rattle.tlv_walk.specs.WalkerState.{WalkerState}
 use Rattle.tlv_walk.specs.Private.Stack.{IsFilled}
@@ -12,12 +11,12 @@ use Rattle.tlv_walk.specs.Stands.{waiting_events_in}
 
 -- an event is to come that needs no further octet: not `IsIdle`, by phase
 abbrev pub EventWaitsIn : PhaseValue → List FrameValue → ℕ → Type 0
-EventWaitsIn phase.Between stack offset = IsFilled stack offset
-EventWaitsIn (phase.InHeader r) stack offset = ⊥
-EventWaitsIn (phase.InPrimitive left) stack offset = left ≡ 0
-EventWaitsIn phase.InBitString stack offset = ⊥
-EventWaitsIn phase.InEndOctets stack offset = ⊥
-EventWaitsIn (phase.Refused fault) stack offset = ⊥
+EventWaitsIn Between stack offset = IsFilled stack offset
+EventWaitsIn (InHeader r) stack offset = ⊥
+EventWaitsIn (InPrimitive left) stack offset = left ≡ 0
+EventWaitsIn InBitString stack offset = ⊥
+EventWaitsIn InEndOctets stack offset = ⊥
+EventWaitsIn (Refused fault) stack offset = ⊥
 
 abbrev pub EventWaits : WalkerState → Type 0
 EventWaits w = EventWaitsIn w.phase w.stack w.offset
@@ -34,13 +33,13 @@ no_endings offset (f ∷ fs) n =
 
 quiet_in : (f : PhaseValue) (stack : List FrameValue) (offset : ℕ) → (EventWaitsIn f stack offset → ⊥)
     → waiting_events_in f stack offset ≡ []
-quiet_in phase.Between stack offset n = no_endings offset stack n
-quiet_in (phase.InHeader r) stack offset n = refl
-quiet_in (phase.InPrimitive left) stack offset n =
+quiet_in Between stack offset n = no_endings offset stack n
+quiet_in (InHeader r) stack offset n = refl
+quiet_in (InPrimitive left) stack offset n =
     ap (λ (k : Bool). if k then End ∷ filled_end_events offset stack else []) (ne_eqb left 0 n)
-quiet_in phase.InBitString stack offset n = refl
-quiet_in phase.InEndOctets stack offset n = refl
-quiet_in (phase.Refused fault) stack offset n = refl
+quiet_in InBitString stack offset n = refl
+quiet_in InEndOctets stack offset n = refl
+quiet_in (Refused fault) stack offset n = refl
 
 pub quiet : (w : WalkerState) → (EventWaits w → ⊥) → waiting_events w ≡ []
 quiet w n = quiet_in w.phase w.stack w.offset n
@@ -52,16 +51,16 @@ no_more e es false t n = absurd (cc)
 
 loud_in : (f : PhaseValue) (stack : List FrameValue) (offset : ℕ) → EventWaitsIn f stack offset
     → waiting_events_in f stack offset ≡ [] → ⊥
-loud_in phase.Between [] offset i n = i
-loud_in phase.Between (f ∷ fs) offset i n =
+loud_in Between [] offset i n = i
+loud_in Between (f ∷ fs) offset i n =
     no_more (filled_end_event f) (filled_end_events offset fs) (is_end_at f.end offset)
     (ap (λ (e : Option ℕ). is_end_at e offset) i ∙ eq-eqb offset offset refl) n
-loud_in (phase.InHeader r) stack offset i n = i
-loud_in (phase.InPrimitive left) stack offset i n =
+loud_in (InHeader r) stack offset i n = i
+loud_in (InPrimitive left) stack offset i n =
     no_more End (filled_end_events offset stack) (eqb left 0) (eq-eqb left 0 i) n
-loud_in phase.InBitString stack offset i n = i
-loud_in phase.InEndOctets stack offset i n = i
-loud_in (phase.Refused fault) stack offset i n = i
+loud_in InBitString stack offset i n = i
+loud_in InEndOctets stack offset i n = i
+loud_in (Refused fault) stack offset i n = i
 
 pub idle : (w : WalkerState) → IsIdle w → EventWaits w → ⊥
 idle w n i = loud_in w.phase w.stack w.offset i n

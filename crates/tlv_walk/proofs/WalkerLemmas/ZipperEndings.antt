@@ -5,8 +5,7 @@ use Rattle.tlv_head.specs.declared.fault.FaultCode.TheVariants.{Empty, Short}
 use Rattle.tlv_walk.specs.Stack.{FrameValue}
 use Rattle.tlv_walk.specs.declared.ending.Ending.TheVariants.{Done}
 use Rattle.tlv_walk.specs.declared.framing.Framing.{Framing}
-use Rattle.tlv_walk.specs.Phase.{PhaseValue}
-use Rattle.tlv_walk.specs.Phase as phase
+use Rattle.tlv_walk.specs.Phase.{Between, InBitString, InEndOctets, InHeader, InPrimitive, PhaseValue}
 use Rattle.tlv_walk.specs.Ending.{IsEnding, IsRefusedAt, done, empty, fault_ending, short, OpenEnd, open_end}
 use Rattle.tlv_walk.specs.Events.{EventValue}
 use Rattle.tlv_walk.specs.Forest.{Forest, NoMore, OpenPrimitive, OpenBitString, OpenHeader, OpenEndOctets, has_element}
@@ -39,11 +38,11 @@ tail_forest EndOctetsTail = OpenEndOctets
 
 -- the whole elements end at the offset: no element is filled there
 filled-at : (w : Framing) (ls : List Layer) (here : Forest) (offset : ℕ) → offset ≡ end_in w ls here + 0
-    → (EventWaitsIn phase.Between (frames_of w ls) offset → ⊥)
-    → EventWaitsIn phase.Between (frames_of w ls) (end_in w ls here) → ⊥
+    → (EventWaitsIn Between (frames_of w ls) offset → ⊥)
+    → EventWaitsIn Between (frames_of w ls) (end_in w ls here) → ⊥
 filled-at w ls here offset e n f =
     let there : end_in w ls here ≡ offset =
-    omega arith in n (subst (λ (k : ℕ). EventWaitsIn phase.Between (frames_of w ls) k) there f)
+    omega arith in n (subst (λ (k : ℕ). EventWaitsIn Between (frames_of w ls) k) there f)
 
 -- if nothing is waiting, no element has ended
 reading-within : (w : Framing) (ls : List Layer) (here : Forest) (f : PhaseValue) (t : Tail) (offset : ℕ)
@@ -51,13 +50,13 @@ reading-within : (w : Framing) (ls : List Layer) (here : Forest) (f : PhaseValue
     → offset ≡ (later_place w ls here).offset + length (spelling_of_tail t)
     → (EventWaitsIn f (stack_of w ls (later_place w ls here) t) offset → ⊥)
     → reading_in ls here t ≡ forest_in_layers ls (followed_by here (tail_forest t))
-reading-within w ls here phase.Between NoTail offset j e n =
+reading-within w ls here Between NoTail offset j e n =
     settled-within w ls here (filled-at w ls here offset e n) ∙ ap (forest_in_layers ls) (sym (followed_by-none here))
-reading-within w ls here (phase.InPrimitive left) (PrimitiveTail h c) offset j e n =
+reading-within w ls here (InPrimitive left) (PrimitiveTail h c) offset j e n =
     rw (contents-less _ h c left j n) refl
-reading-within w ls here (phase.InHeader r) (HeaderTail octets) offset j e n = refl
-reading-within w ls here phase.InBitString (BitStringTail h) offset j e n = refl
-reading-within w ls here phase.InEndOctets EndOctetsTail offset j e n = refl
+reading-within w ls here (InHeader r) (HeaderTail octets) offset j e n = refl
+reading-within w ls here InBitString (BitStringTail h) offset j e n = refl
+reading-within w ls here InEndOctets EndOctetsTail offset j e n = refl
 reading-within w ls here f t offset j e n = absurd j
 
 -- so what a walker with nothing waiting has read is its layers, its whole elements and what is open
@@ -116,7 +115,7 @@ state-fault w b yielded s x rest code h n k =
 
 -- outside all elements that hold others, between encodings, the whole elements are the reading
 outermost-reading : (w : Framing) (ls : List Layer) (here : Forest) (t : Tail)
-    → IsPhaseOf phase.Between t (later_place w ls here) → stack_of w ls (later_place w ls here) t ≡ []
+    → IsPhaseOf Between t (later_place w ls here) → stack_of w ls (later_place w ls here) t ≡ []
     → reading_in ls here t ≡ here
 outermost-reading w [] here NoTail j e = refl
 outermost-reading w (l ∷ ls) here NoTail j e = absurd (cc)
@@ -124,7 +123,7 @@ outermost-reading w ls here t j e = absurd j
 
 -- there an octet of an element came if one is in the reading
 outermost-element : (w : Framing) (ls : List Layer) (here : Forest) (t : Tail)
-    → IsPhaseOf phase.Between t (later_place w ls here) → stack_of w ls (later_place w ls here) t ≡ []
+    → IsPhaseOf Between t (later_place w ls here) → stack_of w ls (later_place w ls here) t ≡ []
     → zipper_has_element ls here t ≡ has_element here
 outermost-element w [] here NoTail j e = refl
 outermost-element w (l ∷ ls) here NoTail j e = absurd (cc)
@@ -138,9 +137,9 @@ record IsOutermost (w : WalkerState) (b : List ℕ) (s : Zipper) : Type 0 where
 
 -- it is the whole elements there
 state-outermost : (w : WalkerState) (b : List ℕ) (yielded : List EventValue) (s : Zipper) → HasZipper w b yielded s
-    → w.phase ≡ phase.Between → w.stack ≡ [] → IsOutermost w b s
+    → w.phase ≡ Between → w.stack ≡ [] → IsOutermost w b s
 state-outermost w b yielded s h e none =
-    let j : IsPhaseOf phase.Between s.tail (place_of w.framing s) =
+    let j : IsPhaseOf Between s.tail (place_of w.framing s) =
     subst (λ (f : PhaseValue). IsPhaseOf f s.tail (place_of w.framing s)) e h.phase in
     let empty : stack_of w.framing s.layers (place_of w.framing s) s.tail ≡ [] = sym h.stack ∙ none in
     let r : Spells (top_place w.framing) b (reading_of s) = state-spells w b yielded s h in
@@ -152,36 +151,36 @@ state-outermost w b yielded s h e none =
 
 -- there, after an octet of an element, the input is done
 pub state-done : (w : WalkerState) (b : List ℕ) (yielded : List EventValue) (s : Zipper) → HasZipper w b yielded s
-    → w.phase ≡ phase.Between → w.stack ≡ [] → w.has_element ≡ true
+    → w.phase ≡ Between → w.stack ≡ [] → w.has_element ≡ true
     → IsEnding w.framing b Done
 state-done w b yielded s h e none some =
     let o : IsOutermost w b s = state-outermost w b yielded s h e none in
-    done (reading_of s) (state-reading w b yielded s h) o.spelled (ap has_element o.reading ∙ o.element ∙ some)
+    done (reading_of s) (state-reading w b yielded s h, o.spelled) (ap has_element o.reading ∙ o.element ∙ some)
     (ap is_whole o.reading ∙ h.here.whole)
 
 -- and if no octet of an element came, there is none
 pub state-empty : (w : WalkerState) (b : List ℕ) (yielded : List EventValue) (s : Zipper) → HasZipper w b yielded s
-    → w.phase ≡ phase.Between → w.stack ≡ [] → w.has_element ≡ false
+    → w.phase ≡ Between → w.stack ≡ [] → w.has_element ≡ false
     → IsEnding w.framing b (fault_ending Empty (length b))
 state-empty w b yielded s h e none no_element =
     let o : IsOutermost w b s = state-outermost w b yielded s h e none in
-    empty (reading_of s) (state-reading w b yielded s h) o.spelled (ap has_element o.reading ∙ o.element ∙ no_element)
+    empty (reading_of s) (state-reading w b yielded s h, o.spelled) (ap has_element o.reading ∙ o.element ∙ no_element)
 
 -- elsewhere something is open: an element that holds others, or what is after the whole elements
 open-elsewhere : (w : Framing) (ls : List Layer) (here : Forest) (f : PhaseValue) (t : Tail)
     → IsPhaseOf f t (later_place w ls here)
-    → (f ≡ phase.Between → stack_of w ls (later_place w ls here) t ≡ [] → ⊥) → ls ≡ []
+    → (f ≡ Between → stack_of w ls (later_place w ls here) t ≡ [] → ⊥) → ls ≡ []
     → is_whole (tail_forest t) ≡ false
-open-elsewhere w ls here phase.Between NoTail j n e = absurd (n refl (ap (frames_of w) e))
-open-elsewhere w ls here (phase.InHeader r) (HeaderTail octets) j n e = refl
-open-elsewhere w ls here (phase.InPrimitive left) (PrimitiveTail h c) j n e = refl
-open-elsewhere w ls here phase.InBitString (BitStringTail h) j n e = refl
-open-elsewhere w ls here phase.InEndOctets EndOctetsTail j n e = refl
+open-elsewhere w ls here Between NoTail j n e = absurd (n refl (ap (frames_of w) e))
+open-elsewhere w ls here (InHeader r) (HeaderTail octets) j n e = refl
+open-elsewhere w ls here (InPrimitive left) (PrimitiveTail h c) j n e = refl
+open-elsewhere w ls here InBitString (BitStringTail h) j n e = refl
+open-elsewhere w ls here InEndOctets EndOctetsTail j n e = refl
 open-elsewhere w ls here f t j n e = absurd j
 
 -- there the input is too short
 pub state-short : (w : WalkerState) (b : List ℕ) (yielded : List EventValue) (s : Zipper) → HasZipper w b yielded s
-    → (EventWaits w → ⊥) → (w.phase ≡ phase.Between → w.stack ≡ [] → ⊥)
+    → (EventWaits w → ⊥) → (w.phase ≡ Between → w.stack ≡ [] → ⊥)
     → IsEnding w.framing b (fault_ending Short (length b))
 state-short w b yielded s h n outside =
     let r : Spells (top_place w.framing) b (reading_of s) = state-spells w b yielded s h in
@@ -189,4 +188,5 @@ state-short w b yielded s h n outside =
     whole-within w.framing s.layers (followed_by s.here (tail_forest s.tail)) h.layers
     (λ e. whole-followed_by s.here (tail_forest s.tail) h.here.whole
     ∙ open-elsewhere w.framing s.layers s.here w.phase s.tail h.phase (λ p q. outside p (h.stack ∙ q)) e) in
-    short (reading_of s) (state-reading w b yielded s h) r.spelled (ap is_whole (state-within w b yielded s h n) ∙ part)
+    short (reading_of s) (state-reading w b yielded s h, r.spelled)
+    (ap is_whole (state-within w b yielded s h n) ∙ part)

@@ -3,8 +3,7 @@ use Rattle.std.proofs.Common.{◌≡◌, ℕ, Bool, true, ◌||◌, List, [], �
 use Rattle.std.proofs.Common.{append_assoc, append-nil}
 use Rattle.std.proofs.Math.Bool.{or-true}
 use Rattle.tlv_head.specs.Header.{HeaderValue}
-use Rattle.tlv_walk.specs.Phase.{PhaseValue}
-use Rattle.tlv_walk.specs.Phase as phase
+use Rattle.tlv_walk.specs.Phase.{Between, InEndOctets, InPrimitive, PhaseValue}
 use Rattle.tlv_walk.specs.Events.{AreEqualJoined, EventValue, events, single_octets}
 use Rattle.tlv_walk.specs.Forest.{Forest, NoMore, PaddingOctet, Primitive, Holder, OpenPrimitive, OpenHolder}
 use Rattle.tlv_walk.specs.Forest.{OpenBitString, OpenHeader, OpenEndOctets, has_element, is_whole, spelling}
@@ -49,7 +48,7 @@ pub continues_both : (u v w : WalkerState) (s t : List ℕ) (d e : List EventVal
     → Continues v w t e → Continues u w (s ++ t) (d ++ e)
 continues_both u v w s t d e f g = record {
   framing = g.framing ∙ f.framing;
-  found = found_both u v w d e f.framing f.found g.found;
+  wrapper_count = found_both u v w d e f.framing f.wrapper_count g.wrapper_count;
   next_zipper = λ b yielded st has.
       let one = f.next_zipper b yielded st has in
       let two = g.next_zipper (b ++ s) (yielded ++ d) one.0 one.1 in (
@@ -137,7 +136,7 @@ pub phase_at : (w : WalkerState) (b : List ℕ) (yielded : List EventValue) (s :
 phase_at w b yielded s f e has = subst (λ (g : PhaseValue). IsPhaseOf g s.tail (place_of w.framing s)) e has.phase
 
 -- the tail in the contents of a primitive
-pub contents_tail : (left : ℕ) (t : Tail) (p : Place) → IsPhaseOf (phase.InPrimitive left) t p
+pub contents_tail : (left : ℕ) (t : Tail) (p : Place) → IsPhaseOf (InPrimitive left) t p
     → (h : HeaderValue) × (c : List ℕ) × (t ≡ PrimitiveTail h c)
 contents_tail left NoTail p x = absurd x
 contents_tail left (PrimitiveTail h c) p x = (h, c, refl)
@@ -146,14 +145,14 @@ contents_tail left (HeaderTail o) p x = absurd x
 contents_tail left EndOctetsTail p x = absurd x
 
 -- the tail between elements, and after the first of the end-of-contents octets
-pub between_tail : (t : Tail) (p : Place) → IsPhaseOf phase.Between t p → t ≡ NoTail
+pub between_tail : (t : Tail) (p : Place) → IsPhaseOf Between t p → t ≡ NoTail
 between_tail NoTail p x = refl
 between_tail (PrimitiveTail h c) p x = absurd x
 between_tail (BitStringTail h) p x = absurd x
 between_tail (HeaderTail o) p x = absurd x
 between_tail EndOctetsTail p x = absurd x
 
-pub lone_tail : (t : Tail) (p : Place) → IsPhaseOf phase.InEndOctets t p → t ≡ EndOctetsTail
+pub lone_tail : (t : Tail) (p : Place) → IsPhaseOf InEndOctets t p → t ≡ EndOctetsTail
 lone_tail NoTail p x = absurd x
 lone_tail (PrimitiveTail h c) p x = absurd x
 lone_tail (BitStringTail h) p x = absurd x

@@ -6,8 +6,7 @@ use Rattle.tlv_head.specs.declared.header.Size.TheVariants.{Definite}
 use Rattle.tlv_head.specs.Header.{HeaderValue, announced_length, octets_of}
 use Rattle.tlv_walk.specs.Stack.{FrameValue}
 use Rattle.tlv_walk.specs.declared.framing.Framing.{Framing}
-use Rattle.tlv_walk.specs.Phase.{PhaseValue}
-use Rattle.tlv_walk.specs.Phase as phase
+use Rattle.tlv_walk.specs.Phase.{Between, InBitString, InEndOctets, InHeader, InPrimitive, PhaseValue}
 use Rattle.tlv_walk.specs.Events.{AreEqualJoined, Begin, Bytes, End, EventValue, events, single_octets}
 use Rattle.tlv_walk.specs.Forest.{Forest, NoMore, Primitive, OpenPrimitive, OpenBitString, OpenHeader, OpenEndOctets}
 use Rattle.tlv_walk.specs.Forest.{is_whole, spelling}
@@ -160,11 +159,11 @@ IsTailAt p EndOctetsTail = KeepsRules p OpenEndOctets
 
 -- the phase says so
 pub phase-tail : (f : PhaseValue) (t : Tail) (p : Place) → IsPhaseOf f t p → IsTailAt p t
-phase-tail phase.Between NoTail p i = tt
-phase-tail (phase.InHeader r) (HeaderTail octets) p i = i.3
-phase-tail (phase.InPrimitive left) (PrimitiveTail h c) p i = (left, i)
-phase-tail phase.InBitString (BitStringTail h) p i = i
-phase-tail phase.InEndOctets EndOctetsTail p i = i
+phase-tail Between NoTail p i = tt
+phase-tail (InHeader r) (HeaderTail octets) p i = i.3
+phase-tail (InPrimitive left) (PrimitiveTail h c) p i = (left, i)
+phase-tail InBitString (BitStringTail h) p i = i
+phase-tail InEndOctets EndOctetsTail p i = i
 phase-tail f t p i = absurd i
 
 -- what a state has been read as is open, with the state's octets
@@ -211,10 +210,10 @@ reading-events : (w : Framing) (ls : List Layer) (here : Forest) (f : PhaseValue
     → (events_of_layers ls ++ (events here ++ events_of_tail t))
     ++ waiting_events_in f (stack_of w ls (later_place w ls here) t) offset
     ≡ events (reading_in ls here t)
-reading-events w ls here phase.Between NoTail offset a i j e =
+reading-events w ls here Between NoTail offset a i j e =
     let there : offset ≡ end_in w ls here = omega arith in
     rw (append-nil (events here), there) (sym (events-settled w ls here a i))
-reading-events w ls here (phase.InPrimitive left) (PrimitiveTail h c) offset a i j e = elim (cases_eq left 0) [
+reading-events w ls here (InPrimitive left) (PrimitiveTail h c) offset a i j e = elim (cases_eq left 0) [
   | inl z ↦
       let there : offset ≡ (later_place w ls here).offset + length (octets_of h ++ (c ++ [])) =
       e ∙ ap (λ (t : List ℕ). (later_place w ls here).offset + length (octets_of h ++ t)) (sym (append-nil c)) in
@@ -223,11 +222,11 @@ reading-events w ls here (phase.InPrimitive left) (PrimitiveTail h c) offset a i
       ∙ sym (whole-events w ls here (Primitive h c NoMore) offset a i (contents-whole _ h c left j z) there))
   | inr n ↦ rw (contents-less _ h c left j n, ne_eqb left 0 n) (open-events w ls here (OpenPrimitive h c) a i)
 ]
-reading-events w ls here (phase.InHeader r) (HeaderTail octets) offset a i j e =
+reading-events w ls here (InHeader r) (HeaderTail octets) offset a i j e =
     open-events w ls here (OpenHeader octets) a i
-reading-events w ls here phase.InBitString (BitStringTail h) offset a i j e =
+reading-events w ls here InBitString (BitStringTail h) offset a i j e =
     open-events w ls here (OpenBitString h) a i
-reading-events w ls here phase.InEndOctets EndOctetsTail offset a i j e = open-events w ls here OpenEndOctets a i
+reading-events w ls here InEndOctets EndOctetsTail offset a i j e = open-events w ls here OpenEndOctets a i
 reading-events w ls here f t offset a i j e = absurd j
 
 -- ---- of a walker
@@ -271,7 +270,7 @@ stands w b yielded s h n k =
         is_reading = state-reading w b yielded s h;
         all_events = state-events w b yielded s h;
       };
-      private_state = record { zipper = s; has_zipper = h; named = n; found = k };
+      private_state = record { zipper = s; has_zipper = h; can_name = n; wrapper_count = k };
     }
 
 -- the state of a new walker: nothing is open, and nothing came

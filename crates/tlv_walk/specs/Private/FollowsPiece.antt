@@ -17,7 +17,7 @@ use Rattle.tlv_walk.specs.Phase.{IsAfterEvent}
 use Rattle.tlv_walk.specs.WalkerState.{WalkerState}
 use Rattle.tlv_walk.specs.Private.WalkerCalls.{Passes}
 use Rattle.tlv_walk.specs.Reading.{AreOctets, IsReading}
-use Rattle.tlv_walk.specs.Stands.{IsReady, Stands}
+use Rattle.tlv_walk.specs.Stands.{IfStands, IsReady, StandsForMore}
 use Rattle.tlv_walk.specs.HasRead.{StandsRefused}
 use Rattle.tlv_walk.specs.FollowsEvents.{FollowsEvents}
 
@@ -26,8 +26,7 @@ pub record WalksOver (old new : WalkerState) (piece rest : List ℕ) (more : Lis
   pub taken : List ℕ
   pub piece_is : piece ≡ taken ++ rest
   pub framing : new.framing ≡ old.framing
-  pub stands : (b : List ℕ) (yielded : List EventValue) → Stands old b yielded
-      → Stands new (b ++ taken) (yielded ++ more)
+  pub stands : StandsForMore old new taken more
 
 -- an octet was refused after those that were walked over
 pub record WalksToFault (old new : WalkerState) (piece : List ℕ) (more : List EventValue) (f : Fault)
@@ -72,8 +71,7 @@ module _ {S D : Type 0} (next : S → EventValue → Effect S) (old new : Follow
   -- a piece was followed up to an octet that is refused
   pub record FollowsToFault (piece : List ℕ) (more : List EventValue) (f : Fault) : Type 0 where
     pub made : FollowsEvents next old.follower new.follower more go.On
-    pub walked : (b : List ℕ) (yielded : List EventValue) → Stands old.walker b yielded
-        → WalksToFault old.walker new.walker piece more f b yielded
+    pub walked : IfStands old.walker (WalksToFault old.walker new.walker piece more f)
 
   -- a piece was followed up to an event with which the follower had enough
   pub record FollowsToEnough (piece : List ℕ) (more : List EventValue) : Type 0 where
@@ -83,8 +81,8 @@ module _ {S D : Type 0} (next : S → EventValue → Effect S) (old new : Follow
 
   -- the drain failed at what is put at one of these events; the piece yields them, and then others
   pub record WriteFailsAt (piece : List ℕ) (more : List EventValue) : Type 0 where
-    pub yields : (b : List ℕ) (yielded : List EventValue) → Stands old.walker b yielded
-        → BeginEventsOf old.walker.framing (b ++ piece) (yielded ++ more)
+    pub yields : IfStands old.walker
+        (λ b yielded. BeginEventsOf old.walker.framing (b ++ piece) (yielded ++ more))
 
   -- how far a piece was followed: a line for each reason to stop
   abbrev pub Pauses : List ℕ → List EventValue → Result Pause WriteFault → Type 0
@@ -123,7 +121,7 @@ module _ {S D : Type 0} (next : S → EventValue → Effect S) (state_of : D →
   -- a piece was followed, and what is made of its events was handed to the drain: if all of it was, the `Out` holds
   -- nothing
   pub record FollowsAndFlushes (piece : List ℕ) (result : Result Pause WriteFault) : Type 0 where
-    pub octets : AreOctets piece
+    pub are_octets : AreOctets piece
     pub more : List EventValue
     pub pauses : Pauses next old new piece more result
     pub sends : Sends (state_of (drain_of old.out).now) (state_of (drain_of new.out).now)

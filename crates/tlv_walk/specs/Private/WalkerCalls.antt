@@ -40,7 +40,7 @@ pub record CanBegin (w : WalkerState) (piece : List ℕ) : Type 0 where
   pub phase : w.phase ≡ Between
   pub first : ℕ
   pub rest : List ℕ
-  pub octets : piece ≡ first ∷ rest
+  pub piece_is : piece ≡ first ∷ rest
   pub nonzero : first ≢ 0
   pub room : room_in w.stack w.offset ≢ Some 0
 

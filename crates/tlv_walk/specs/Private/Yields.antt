@@ -18,7 +18,8 @@ use Rattle.tlv_walk.specs.StepsTo.{RefusesAgain}
 -- from whatever zipper the walker had, it came to one that has these octets and these events in addition
 pub record Continues (old new : WalkerState) (taken : List ℕ) (more : List EventValue) : Type 0 where
   pub framing : new.framing ≡ old.framing
-  pub found : new.wrapper_count ≡ wrapper_count_after old.framing.inside old.wrapper_count (entered_offsets more)
+  pub wrapper_count : new.wrapper_count
+      ≡ wrapper_count_after old.framing.inside old.wrapper_count (entered_offsets more)
   pub next_zipper : (b : List ℕ) (yielded : List EventValue) (s : Zipper) → HasZipper old b yielded s
       → (t : Zipper) × HasZipper new (b ++ taken) (yielded ++ more) t
 

@@ -4,8 +4,7 @@ use Rattle.tlv_head.specs.declared.header.Size.TheVariants.{Definite}
 use Rattle.tlv_head.specs.Header.{HeaderValue, octets_of}
 use Rattle.tlv_walk.specs.Stack.{FrameValue}
 use Rattle.tlv_walk.specs.declared.framing.Framing.{Framing}
-use Rattle.tlv_walk.specs.Phase.{PhaseValue}
-use Rattle.tlv_walk.specs.Phase as phase
+use Rattle.tlv_walk.specs.Phase.{Between, InBitString, InEndOctets, InHeader, InPrimitive, PhaseValue}
 use Rattle.tlv_walk.specs.Events.{AreEqualJoined, Begin, Bytes, Enter, EventValue, events, opening_events}
 use Rattle.tlv_walk.specs.Forest.{Forest, OpenBitString, OpenHeader, OpenEndOctets, has_element, is_whole}
 use Rattle.tlv_walk.specs.Forest.{opening, spelling}
@@ -41,14 +40,18 @@ pub record Zipper : Type 0 where
   pub here : Forest
   pub tail : Tail
 
+-- the place after a forest that begins at a place
+abbrev pub place_past : Place → Forest → Place
+place_past p f = place_after p (length (spelling f))
+
 -- where the elements in the innermost open element begin
 abbrev pub place_in : Framing → List Layer → Place
 place_in framing [] = top_place framing
-place_in framing (l ∷ ls) = place_of_children (place_after (place_in framing ls) (length (spelling l.before))) l.header
+place_in framing (l ∷ ls) = place_of_children (place_past (place_in framing ls) l.before) l.header
 
 -- the place after the whole elements in the innermost open element
 abbrev pub place_of : Framing → Zipper → Place
-place_of framing s = place_after (place_in framing s.layers) (length (spelling s.here))
+place_of framing s = place_past (place_in framing s.layers) s.here
 
 -- whole elements are there, and nothing is open
 pub record AreWhole (p : Place) (f : Forest) : Type 0 where
@@ -60,7 +63,7 @@ abbrev pub AreLayers : Framing → List Layer → Type 0
 AreLayers framing [] = Unit {0}
 AreLayers framing (l ∷ ls) =
     AreLayers framing ls × AreWhole (place_in framing ls) l.before
-    × IsAnnouncedAt (place_after (place_in framing ls) (length (spelling l.before))) true l.header
+    × IsAnnouncedAt (place_past (place_in framing ls) l.before) true l.header
 
 -- 8.1.3.3: a primitive of which so many contents octets are still to come
 pub record IsContents (p : Place) (h : HeaderValue) (c : List ℕ) (left : ℕ) : Type 0 where
@@ -76,7 +79,7 @@ frame_at p h = frame_with (p.offset + length (octets_of h)) p.bound h.size h.con
 abbrev pub frames_of : Framing → List Layer → List FrameValue
 frames_of framing [] = []
 frames_of framing (l ∷ ls) =
-    frame_at (place_after (place_in framing ls) (length (spelling l.before))) l.header ∷ frames_of framing ls
+    frame_at (place_past (place_in framing ls) l.before) l.header ∷ frames_of framing ls
 
 -- the frames of a zipper: a wrapping BIT STRING has one before its first contents octet
 abbrev pub stack_of : Framing → List Layer → Place → Tail → List FrameValue
@@ -88,13 +91,13 @@ stack_of framing ls p EndOctetsTail = frames_of framing ls
 
 -- the phase of a walker is what is open there
 abbrev pub IsPhaseOf : PhaseValue → Tail → Place → Type 0
-IsPhaseOf phase.Between NoTail p = Unit {0}
-IsPhaseOf (phase.InHeader r) (HeaderTail octets) p =
+IsPhaseOf Between NoTail p = Unit {0}
+IsPhaseOf (InHeader r) (HeaderTail octets) p =
     (r.octets ≡ octets) × (r.offset ≡ p.offset) × (r.named ≡ is_among p.offset p.inside)
     × KeepsRules p (OpenHeader octets)
-IsPhaseOf (phase.InPrimitive left) (PrimitiveTail h c) p = IsContents p h c left
-IsPhaseOf phase.InBitString (BitStringTail h) p = KeepsRules p (OpenBitString h)
-IsPhaseOf phase.InEndOctets EndOctetsTail p = KeepsRules p OpenEndOctets
+IsPhaseOf (InPrimitive left) (PrimitiveTail h c) p = IsContents p h c left
+IsPhaseOf InBitString (BitStringTail h) p = KeepsRules p (OpenBitString h)
+IsPhaseOf InEndOctets EndOctetsTail p = KeepsRules p OpenEndOctets
 IsPhaseOf f t p = ⊥
 
 -- the octets before the elements in the innermost open element
@@ -160,5 +163,5 @@ pub record HasZipper (w : WalkerState) (b : List ℕ) (yielded : List EventValue
 pub record HasPrivateState (w : WalkerState) (b : List ℕ) (yielded : List EventValue) : Type 0 where
   pub zipper : Zipper
   pub has_zipper : HasZipper w b yielded zipper
-  pub named : can_name w.framing.inside ≡ true
-  pub found : w.wrapper_count ≡ wrapper_count_after w.framing.inside 0 (entered_offsets yielded)
+  pub can_name : can_name w.framing.inside ≡ true
+  pub wrapper_count : w.wrapper_count ≡ wrapper_count_after w.framing.inside 0 (entered_offsets yielded)

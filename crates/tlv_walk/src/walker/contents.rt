@@ -1,6 +1,6 @@
 //! How a walker takes the contents of primitives, and padding.
 ghost use Rattle.std.specs.Prelude.{◌≡◌, ◌≢◌, ◌<◌, ◌≤◌, ◌∷◌, [], All, Some, length, slice_get, take, true};
-ghost use Rattle.tlv_walk.specs.Phase as phases;
+ghost use Rattle.tlv_walk.specs.Phase.{Between, InBitString, InPrimitive};
 ghost use Rattle.tlv_walk.specs.Events.{IsNoEmptyPart, event_value_of};
 ghost use Rattle.tlv_walk.specs.WalkerState.{IsWithinInputLimit};
 ghost use Rattle.tlv_walk.specs.Private.WalkerCalls.{CountsAt, CountsOne};
@@ -14,13 +14,13 @@ impl Walker {
     /// Takes contents of a primitive.
     #[inline(always)]
     pub(super) fn contents<'a>(&mut self, left: u64, piece: &mut &'a [u8]) -> Event<'a>
-        requires phase { self.old.phase ≡ phases.InPrimitive left }
+        requires phase { self.old.phase ≡ InPrimitive left }
         requires some { (0 < left) × (piece.old.now ≢ []) }
         requires limit { IsWithinInputLimit self.old piece.old.now }
         ensures counts { CountsOne self.old self.new piece.old.now piece.new.now }
         ensures yields { YieldsEvent self.old self.new piece.old.now piece.new.now
             (event_value_of result) }
-        ensures octets { IsNoEmptyPart result }
+        ensures has_octets { IsNoEmptyPart result }
     {
         let octets: &'a [u8] = *piece;
         let count = left.min(octets.len() as u64);
@@ -35,10 +35,10 @@ impl Walker {
     /// The end of a primitive whose contents have all come.
     #[inline(always)]
     pub(super) fn end_primitive<'a>(&mut self) -> Event<'a>
-        requires { self.old.phase ≡ phases.InPrimitive 0 }
+        requires { self.old.phase ≡ InPrimitive 0 }
         ensures counts { CountsAt self.old self.new self.old.offset }
         ensures yields { Continues self.old self.new [] (event_value_of result ∷ []) }
-        ensures octets { IsNoEmptyPart result }
+        ensures has_octets { IsNoEmptyPart result }
     {
         self.events += 1;
         self.phase = Phase::Between;
@@ -47,7 +47,7 @@ impl Walker {
 
     /// Takes the padding at the front of the piece.
     pub(super) fn padding<'a>(&mut self, piece: &mut &'a [u8]) -> Event<'a>
-        requires phase { self.old.phase ≡ phases.Between }
+        requires phase { self.old.phase ≡ Between }
         requires zero { slice_get piece.old.now 0 ≡ Some 0 }
         requires limit { IsWithinInputLimit self.old piece.old.now }
         requires top { self.old.stack ≡ [] }
@@ -55,7 +55,7 @@ impl Walker {
         ensures counts { CountsOne self.old self.new piece.old.now piece.new.now }
         ensures yields { YieldsEvent self.old self.new piece.old.now piece.new.now
             (event_value_of result) }
-        ensures octets { IsNoEmptyPart result }
+        ensures has_octets { IsNoEmptyPart result }
     {
         let octets: &'a [u8] = *piece;
         let count = zeros(octets);
@@ -68,7 +68,7 @@ impl Walker {
 
     /// Takes the first contents octet of a BIT STRING that holds encodings.
     pub(super) fn unused_octet<'a>(&mut self, piece: &mut &'a [u8]) -> Step<'a>
-        requires phase { self.old.phase ≡ phases.InBitString }
+        requires phase { self.old.phase ≡ InBitString }
         requires limit { IsWithinInputLimit self.old piece.old.now }
         ensures { Steps self.old self.new piece.old.now piece.new.now result }
     {

@@ -1,6 +1,6 @@
 //! How a walker takes what is between elements, and the ends of those that hold others.
 ghost use Rattle.std.specs.Prelude.{◌≡◌, ◌∷◌, []};
-ghost use Rattle.tlv_walk.specs.Phase as phases;
+ghost use Rattle.tlv_walk.specs.Phase.{Between, InEndOctets};
 ghost use Rattle.tlv_walk.specs.Events.{IsNoEmptyPart, event_value_of};
 ghost use Rattle.tlv_walk.specs.Private.Stack.{IsFilled};
 ghost use Rattle.tlv_walk.specs.WalkerState.{IsWithinInputLimit};
@@ -14,8 +14,8 @@ use tlv_head::FaultCode;
 impl Walker {
     /// Takes what is between two elements, or begins one.
     pub(super) fn between<'a>(&mut self, piece: &mut &'a [u8]) -> Step<'a>
-        requires phase { self.old.phase ≡ phases.Between }
-        requires room { IsFilled self.old.stack self.old.offset → ⊥ }
+        requires phase { self.old.phase ≡ Between }
+        requires not_filled { IsFilled self.old.stack self.old.offset → ⊥ }
         requires limit { IsWithinInputLimit self.old piece.old.now }
         ensures { Steps self.old self.new piece.old.now piece.new.now result }
     {
@@ -45,11 +45,11 @@ impl Walker {
     /// The end of the innermost element, which is definite and whose contents have all come.
     #[inline(always)]
     pub(super) fn end_filled<'a>(&mut self) -> Event<'a>
-        requires phase { self.old.phase ≡ phases.Between }
+        requires phase { self.old.phase ≡ Between }
         requires filled { IsFilled self.old.stack self.old.offset }
         ensures counts { CountsAt self.old self.new self.old.offset }
         ensures yields { Continues self.old self.new [] (event_value_of result ∷ []) }
-        ensures octets { IsNoEmptyPart result }
+        ensures has_octets { IsNoEmptyPart result }
     {
         self.events += 1;
         let Some(wrapper) = self.stack.pop() else {
@@ -64,7 +64,7 @@ impl Walker {
     /// Takes end-of-contents octets that lie whole in the piece, if they may be here.
     #[inline(always)]
     pub(super) fn take_end_octets<'a>(&mut self, piece: &mut &'a [u8]) -> Option<Option<u64>>
-        requires phase { self.old.phase ≡ phases.Between }
+        requires phase { self.old.phase ≡ Between }
         requires limit { IsWithinInputLimit self.old piece.old.now }
         ensures { StepsAtOnce self.old self.new piece.old.now piece.new.now
             (close_event_if_taken result) }
@@ -89,7 +89,7 @@ impl Walker {
 
     /// Takes the second of the end-of-contents octets.
     pub(super) fn second_zero<'a>(&mut self, piece: &mut &'a [u8]) -> Step<'a>
-        requires phase { self.old.phase ≡ phases.InEndOctets }
+        requires phase { self.old.phase ≡ InEndOctets }
         requires limit { IsWithinInputLimit self.old piece.old.now }
         ensures { Steps self.old self.new piece.old.now piece.new.now result }
     {

@@ -3,7 +3,7 @@ ghost use Rattle.std.specs.Prelude.{◌≡◌, ◌≢◌, ◌+◌, ◌^◌, ◌<
 ghost use Rattle.tlv_head.specs.HeaderFields.{IsHeaderSized, new_header};
 ghost use Rattle.tlv_head.specs.Header.{announced_length, holds, octets_of};
 ghost use Rattle.tlv_head.specs.ReadHeader.{BeginsWithFields};
-ghost use Rattle.tlv_walk.specs.Phase as phases;
+ghost use Rattle.tlv_walk.specs.Phase.{Between};
 ghost use Rattle.tlv_walk.specs.Inside.{is_among};
 ghost use Rattle.tlv_walk.specs.Events.{IsNoEmptyPart, event_value_of};
 ghost use Rattle.tlv_walk.specs.WalkerState.{IsWithinInputLimit, least_octets};
@@ -37,7 +37,7 @@ pub(super) enum HeaderKind {
 impl Walker {
     /// Begins a header: takes it at once, if it lies whole in the piece and may be here, and else octet by octet.
     pub(super) fn header<'a>(&mut self, piece: &mut &'a [u8]) -> Step<'a>
-        requires begins { CanBegin self.old piece.old.now }
+        requires can { CanBegin self.old piece.old.now }
         requires limit { IsWithinInputLimit self.old piece.old.now }
         ensures { Steps self.old self.new piece.old.now piece.new.now result }
     {
@@ -58,7 +58,7 @@ impl Walker {
         count: usize,
         piece: &mut &'a [u8],
     ) -> Option<Event<'a>>
-        requires phase { self.old.phase ≡ phases.Between }
+        requires phase { self.old.phase ≡ Between }
         requires counted { least_octets self.old.events self.old.stack ≤ self.old.offset }
         requires begins { BeginsWithFields piece.old.now self.old.offset
             (is_among self.old.offset self.old.framing.inside) fields.now count }
@@ -80,7 +80,7 @@ impl Walker {
 
     /// Begins a header or goes on with one, octet by octet.
     pub(super) fn slow_header<'a>(&mut self, piece: &mut &'a [u8]) -> Step<'a>
-        requires begins { CanRead self.old piece.old.now }
+        requires can { CanRead self.old piece.old.now }
         requires limit { IsWithinInputLimit self.old piece.old.now }
         ensures { Steps self.old self.new piece.old.now piece.new.now result }
     {
@@ -96,8 +96,8 @@ impl Walker {
 
     /// Goes on with a header, octet by octet.
     fn read_on<'a>(&mut self, reader: HeadReader, piece: &mut &'a [u8]) -> Step<'a>
-        requires phase { self.old.phase ≡ phases.Between }
-        requires read { CanReadOn self.old reader piece.old.now }
+        requires phase { self.old.phase ≡ Between }
+        requires can { CanReadOn self.old reader piece.old.now }
         requires some { piece.old.now ≢ [] }
         requires limit { IsWithinInputLimit self.old piece.old.now }
         ensures counts { CountsStep self.old self.new piece.old.now piece.new.now result }
@@ -132,11 +132,11 @@ impl Walker {
 
     /// Takes a header that the reader has read to its end, and returns its event.
     fn take_whole_header<'a>(&mut self, header: Header) -> Event<'a>
-        requires phase { self.old.phase ≡ phases.Between }
+        requires phase { self.old.phase ≡ Between }
         requires can { CanTakeHeader self.old header }
         ensures counts { CountsAt self.old self.new (header.offset + length (octets_of header)) }
         ensures yields { YieldsHeader self.old self.new header (event_value_of result) }
-        ensures octets { IsNoEmptyPart result }
+        ensures has_octets { IsNoEmptyPart result }
     {
         let fields = header.fields();
         match self.take_header(&fields, header.raw()) {
@@ -149,7 +149,7 @@ impl Walker {
     /// Takes a header that may be here: counts its octets and the event, and opens a frame if its element holds others.
     #[inline(always)]
     pub(super) fn take_header(&mut self, fields: &HeaderFields, octets: &[u8]) -> HeaderKind
-        requires phase { self.old.phase ≡ phases.Between }
+        requires phase { self.old.phase ≡ Between }
         requires sized { IsHeaderSized fields.now octets.now }
         requires can { CanTakeHeader self.old (new_header fields.now octets.now) }
         ensures counts { CountsAt self.old self.new (fields.now.offset + length octets.now) }

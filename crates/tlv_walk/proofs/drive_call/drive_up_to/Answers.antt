@@ -9,7 +9,7 @@ use Rattle.tlv_walk.specs.DriveJob.{Drives, drive_states}
 use Rattle.tlv_walk.specs.Events.{EventValue}
 use Rattle.tlv_walk.specs.Follow.{Effect}
 use Rattle.tlv_io.specs.Out.{drain_of}
-use Rattle.tlv_walk.proofs.FollowerLemmas.SoFar.{walking_none}
+use Rattle.tlv_walk.proofs.FollowerLemmas.WalkSoFar.{walking_none}
 use Rattle.tlv_walk.proofs.FollowerLemmas.Drives.{drives_ended, drives_err, walking_on}
 use Rattle.tlv_walk.proofs.FollowerLemmas.MadeAll.{laws_by}
 use Rattle.tlv_walk.proofs.drive_call.drive_up_to.Goals as goal

@@ -2,7 +2,7 @@ use Rattle.std.proofs.Common.{◌≡◌, ◌-◌, ◌≤◌, [], length}
 use Rattle.tlv_walk.specs.Stands.{IsReady}
 use Rattle.tlv_io.specs.Out.{held_octets, drain_of}
 use Rattle.tlv_walk.specs.OneTurn.{turn_states}
-use Rattle.tlv_walk.proofs.FollowerLemmas.SoFar.{Walking}
+use Rattle.tlv_walk.proofs.FollowerLemmas.WalkSoFar.{Walking}
 use Rattle.tlv_walk.proofs.drive_call.drive_up_to.Given as goal
 
 abbrev pub invariant-turns : goal.invariant-turns

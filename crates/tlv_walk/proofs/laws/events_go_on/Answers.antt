@@ -1,4 +1,4 @@
-use Rattle.tlv_walk.proofs.EventLemmas.Prefixes.{events-prefix}
+use Rattle.tlv_walk.proofs.EventLemmas.LongerInputs.{events-prefix}
 use Rattle.tlv_walk.proofs.laws.events_go_on.Goals as goal
 
 pub returns : goal.returns

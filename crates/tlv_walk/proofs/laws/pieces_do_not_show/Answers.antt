@@ -1,4 +1,4 @@
-use Rattle.tlv_walk.proofs.FollowerLemmas.Followed.{followed-alike}
+use Rattle.tlv_walk.proofs.FollowerLemmas.FollowedEvents.{followed-alike}
 use Rattle.tlv_walk.proofs.laws.pieces_do_not_show.Goals as goal
 
 pub returns : goal.returns

@@ -8,10 +8,11 @@ use Rattle.tlv_walk.specs.Events.{EventValue}
 use Rattle.tlv_walk.specs.WalkerState.{WalkerState}
 use Rattle.tlv_walk.specs.StepsTo.{StepsTo}
 use Rattle.tlv_walk.specs.Private.FollowsPiece.{WalksOver}
-use Rattle.tlv_walk.proofs.FollowerLemmas.Following.{fails_event, follows_event, follows_none, pauses_enough}
-use Rattle.tlv_walk.proofs.FollowerLemmas.Following.{pauses_fault, pauses_used_up}
-use Rattle.tlv_walk.proofs.FollowerLemmas.Prefixes.{fails_prefix, follows_left, follows_prefix, left_walked, prefix_passes}
-use Rattle.tlv_walk.proofs.WalkerLemmas.Standing.{event_offset, stands_all, walked_event}
+use Rattle.tlv_walk.proofs.FollowerLemmas.FollowSteps.{fails_event, follows_event, follows_none, pauses_enough}
+use Rattle.tlv_walk.proofs.FollowerLemmas.FollowSteps.{pauses_fault, pauses_used_up}
+use Rattle.tlv_walk.proofs.FollowerLemmas.Prefixes.{fails_prefix, follows_left, follows_prefix, left_walked}
+use Rattle.tlv_walk.proofs.FollowerLemmas.Prefixes.{prefix_passes}
+use Rattle.tlv_walk.proofs.WalkerLemmas.StepStands.{event_offset, stands_all, walked_event}
 use Rattle.tlv_walk.proofs.one_turn.follow.Goals.{in-Some+in_ok-go-in-Some}
 use Rattle.tlv_walk.proofs.one_turn.follow.Goals.{in-None+in-Some-constructed+in_ok-go-in-Some-constructed}
 use Rattle.tlv_walk.proofs.one_turn.follow.Goals.{

@@ -12,12 +12,12 @@ returns-in_default-follow_and_flush-clause-read g c = record {
   calls =
       calls_given g.F.Follow.next _ _ _ c.in-Ok.count _ (rw c.in-Ok.is at c.read.ensures) (search rules)
       (search rules) refl (search rules);
-  octets = grind (arith, elements);
+  are_octets = grind (arith, elements);
   turned = λ b yielded st.
       turns_failed g.F.Follow.next _ _ c.args.out.now c.follow_and_flush.new.out b yielded c.read.new.to
       _ _ c.in-Ok.count c.min-walked.result c.args.limit st
       (search rules) c.requires.can.within (search rules) refl (search rules)
-      c.in_default-follow_and_flush.ensures.octets
+      c.in_default-follow_and_flush.ensures.are_octets
       g.D.Drain.state refl refl _ c.in_default-follow_and_flush.ensures;
   goes_on = tt;
 }
@@ -42,12 +42,12 @@ returns-clause-read g c =
           calls_answered g.F.Follow.next old new c.read.new.to c.in-Ok.count _ new.walker
           _ _ (rw c.in-Ok.is at c.read.ensures)
           (search rules) (search rules) (search rules) c.result_of_pause.ensures;
-      octets = grind (arith, elements);
+      are_octets = grind (arith, elements);
       turned = λ b yielded st.
           turns_answered g.F.Follow.next old new c.args.out.now c.follow_and_flush.new.out b yielded c.read.new.to
           _ _ c.in-Ok.count c.min-walked.result c.args.limit st
           (search rules) c.requires.can.within (search rules) refl (search rules)
-          c.in-Ok-follow_and_flush.ensures.octets
+          c.in-Ok-follow_and_flush.ensures.are_octets
           g.D.Drain.state refl refl _ _ c.in-Ok-follow_and_flush.ensures c.result_of_pause.ensures;
       goes_on =
           can_go_on_answered g.F.Follow.next old new c.read.new.to c.args.out.now c.follow_and_flush.new.out

@@ -1,6 +1,6 @@
 use Rattle.std.proofs.Common.{rules, sym, ap}
 use Rattle.tlv_walk.specs.Follow.{Effect}
-use Rattle.tlv_walk.proofs.FollowerLemmas.Followed.{each_octet-goes_on}
+use Rattle.tlv_walk.proofs.FollowerLemmas.FollowedEvents.{each_octet-goes_on}
 use Rattle.tlv_cut.specs.ExtractStep.{ExtractState, extract_octet_step}
 use Rattle.tlv_cut.proofs.ExtractLemmas.Contents.{all_contents}
 use Rattle.tlv_cut.proofs.extract_follower.Extract.contents.Goals as goal

@@ -1,7 +1,7 @@
 use Rattle.std.proofs.Common.{◌≡◌, ◌∙◌, ap, arith, true}
 use Rattle.std.proofs.lemmas.Grind.{common_steps}
 use Rattle.tlv_walk.specs.Inside.{can_name}
-use Rattle.tlv_walk.proofs.EventLemmas.Named.{can-from, cannot-from}
+use Rattle.tlv_walk.proofs.EventLemmas.NamedOffsets.{can-from, cannot-from}
 use Rattle.tlv_walk.proofs.framing.Inside.new.Goals as goal
 
 pub returns-then-is_full : goal.returns-then-is_full

@@ -7,7 +7,7 @@ use Rattle.tlv_walk.proofs.stack.Stack.push.Goals as goal
 
 pub push-requires : goal.push-requires
 push-requires c =
-    let few = c.requires.few in
+    let shallow = c.requires.shallow in
     let e = length-frames c.self.inside.innermost c.self.inside.outer _ c.self.view_is in
     search (rules, e)
 

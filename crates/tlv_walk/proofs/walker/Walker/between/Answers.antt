@@ -4,7 +4,7 @@ use Rattle.tlv_walk.specs.Stack.{bound_of}
 use Rattle.tlv_walk.specs.Place.{IsWithin}
 use Rattle.tlv_walk.specs.Private.Yields.{YieldsStep}
 use Rattle.tlv_walk.proofs.WalkerLemmas.AfterFirstZero.{room_more, step_after}
-use Rattle.tlv_walk.proofs.WalkerLemmas.Moves.{yields_zero}
+use Rattle.tlv_walk.proofs.WalkerLemmas.YieldedEvents.{yields_zero}
 use Rattle.tlv_walk.proofs.walker.Walker.between.Goals.{else-indefinite-via-then-indefinite+else-eq}
 use Rattle.tlv_walk.proofs.walker.Walker.between.Goals.{else-indefinite-via-else-indefinite}
 use Rattle.tlv_walk.proofs.WalkerLemmas.Refusals.{refuses_front, refuses_missing, refuses_stray_front}
@@ -54,8 +54,8 @@ returns c = record {
 pub padding-requires-clause-top : goal.padding-requires-clause-top
 padding-requires-clause-top c = search rules
 
-pub header-requires-clause-begins : goal.header-requires-clause-begins
-header-requires-clause-begins c = search rules
+pub header-requires-clause-can : goal.header-requires-clause-can
+header-requires-clause-can c = search rules
 
 pub padding-requires-clause-zero : goal.padding-requires-clause-zero
 padding-requires-clause-zero c = search rules

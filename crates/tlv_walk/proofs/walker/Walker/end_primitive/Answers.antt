@@ -1,5 +1,5 @@
 use Rattle.std.proofs.Common.{rules}
-use Rattle.tlv_walk.proofs.WalkerLemmas.Moves.{yields_end}
+use Rattle.tlv_walk.proofs.WalkerLemmas.YieldedEvents.{yields_end}
 use Rattle.tlv_walk.proofs.walker.Walker.end_primitive.Goals as goal
 
 pub returns-clause-yields : goal.returns-clause-yields

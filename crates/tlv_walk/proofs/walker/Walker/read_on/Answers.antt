@@ -47,10 +47,10 @@ take_whole_header-requires-clause-can c =
           can_take_whole_header c.loop-piece.self c.loop-piece.reader _ c.len-depth.result c.loop-piece.offset
           c.in-Whole.header
           (subst (λ (m : WalkerState). m.events + length m.stack ≤ c.loop-piece.reader.offset) (sym i.same)
-          (omega (arith, c.requires.read.counted, i.start)))
+          (omega (arith, c.requires.can.counted, i.start)))
           i.end
           (omega (arith, c.requires.limit, i.taken, c.in-len1-up.len_at_least))
-          (c.len-depth.ensures.value ∙ ap (λ (m : WalkerState). length m.stack) same) completes
+          (c.len-depth.ensures.count ∙ ap (λ (m : WalkerState). length m.stack) same) completes
           (subst (λ (o : Option ℕ). FitsThere c.in-Whole.header o c.len-depth.result) room there)
     ]
 
@@ -82,7 +82,7 @@ returns-in-Refused-clause-yields c = λ w over.
           c.loop-piece.piece.now _ x c.len-depth.result c.loop-piece.offset c.in-Refused.fault over i.read
           (first_and_others c.loop-piece.piece.now c.in-len1-up.len_at_least)
           (subst (λ (b : Option ℕ). IsWithin b c.loop-piece.offset) bound i.within) i.end
-          (c.len-depth.ensures.value ∙ ap (λ (m : WalkerState). length m.stack) c.self.view_is)
+          (c.len-depth.ensures.count ∙ ap (λ (m : WalkerState). length m.stack) c.self.view_is)
           (λ none e. give_room c.loop-piece.reader.octets c.loop-piece.piece.now
           (room_to c.bound-bound.result c.loop-piece.offset) i.first none (left ∙ e))
           (subst (λ (o : Option ℕ). IsRefusedPush c.loop-piece.reader x o c.len-depth.result c.in-Refused.fault.code)
@@ -129,6 +129,6 @@ returns-in-Whole-clause-counts c =
           events = e.counts.events ∙ ap (λ (m : WalkerState). m.events + 1) i.same;
           has_yielded = e.counts.has_yielded;
         },
-        e.octets,
+        e.has_octets,
       )
     ]

@@ -1,4 +1,4 @@
-use Rattle.tlv_walk.proofs.WalkerLemmas.Standing.{steps_to}
+use Rattle.tlv_walk.proofs.WalkerLemmas.StepStands.{steps_to}
 use Rattle.tlv_walk.proofs.walker.Walker.step.Goals as goal
 
 pub returns : goal.returns

@@ -19,7 +19,7 @@ use Rattle.tlv_io.specs.Out.{Sends}
 use Rattle.tlv_walk.specs.Stands.{IsIdle, Stands}
 use Rattle.tlv_walk.specs.OneTurn.{LastReadGaveUpTo, TurnStates, last_octets, turn_states}
 use Rattle.tlv_walk.specs.Wrappers.{entered_offsets}
-use Rattle.tlv_walk.proofs.FollowerLemmas.Following.{made_none}
+use Rattle.tlv_walk.proofs.FollowerLemmas.FollowSteps.{made_none}
 use Rattle.tlv_io.proofs.Pieces.{PiecesSoFar, no_pieces_so_far}
 use Rattle.tlv_io.proofs.Sends.{sends_nothing}
 
@@ -73,7 +73,7 @@ module _ {S : Type 0} (next : S → EventValue → Effect S) where
   pub record Walking (framing : Framing) (s : S) (old : SourceState) (from : DrainState) (now : TurnStates S) : Type
       0 where
     pub gathered : PiecesSoFar old now.devices.source
-    pub octets : AreOctets (concat gathered.pieces)
+    pub are_octets : AreOctets (concat gathered.pieces)
     pub failures : now.devices.source.failures ≡ old.failures
     pub yielded : List EventValue
     pub made : FollowsEvents next s now.follower yielded go.On
@@ -87,7 +87,7 @@ module _ {S : Type 0} (next : S → EventValue → Effect S) where
       → Walking framing s old from (turn_states (new_walker framing) s old from)
   walking_none framing s old from st = record {
     gathered = no_pieces_so_far old;
-    octets = All-nil (λ x. x < 256);
+    are_octets = All-nil (λ x. x < 256);
     failures = refl;
     yielded = [];
     made = made_none next s;

@@ -195,8 +195,5 @@ padding-not-allowed = refl
 padding-alone : ending padding_framing (0 ∷ 0 ∷ 0 ∷ []) ≡ fault_ending Empty 3
 padding-alone = refl
 
-zeros-inside-are-no-padding : ending padding_framing (48 ∷ 2 ∷ 0 ∷ 0 ∷ []) ≡ fault_ending StrayEnd 2
-zeros-inside-are-no-padding = refl
-
 zeros-wrapped-are-no-padding : ending padded_naming (4 ∷ 2 ∷ 0 ∷ 0 ∷ []) ≡ fault_ending StrayEnd 2
 zeros-wrapped-are-no-padding = refl

@@ -1,7 +1,7 @@
 -- What short inputs are read as, and what they come to, with nothing named and no padding.
 use Rattle.std.proofs.Common.{◌≡◌, true, false, [], ◌∷◌, refl}
-use Rattle.tlv_head.specs.declared.fault.FaultCode.TheVariants.{Short, StrayEnd, BadEnd, MissingEnd, TagTooLong}
-use Rattle.tlv_head.specs.declared.fault.FaultCode.TheVariants.{ReservedLength, Overrun}
+use Rattle.tlv_head.specs.declared.fault.FaultCode.TheVariants.{Short, StrayEnd, MissingEnd, TagTooLong}
+use Rattle.tlv_head.specs.declared.fault.FaultCode.TheVariants.{Overrun}
 use Rattle.tlv_head.specs.declared.header.Class.TheVariants.{Universal, Application, Context}
 use Rattle.tlv_head.specs.declared.header.Size.TheVariants.{Definite, Indefinite}
 use Rattle.tlv_walk.specs.declared.ending.Ending.TheVariants.{Done}
@@ -176,18 +176,12 @@ indefinite-cut-off = refl
 zeros-in-a-definite-element : ending plain_framing (48 ∷ 2 ∷ 0 ∷ 0 ∷ []) ≡ fault_ending StrayEnd 2
 zeros-in-a-definite-element = refl
 
-second-zero-wrong : ending plain_framing (48 ∷ 128 ∷ 0 ∷ 1 ∷ []) ≡ fault_ending BadEnd 3
-second-zero-wrong = refl
-
 -- 30 05 30 80 02 01 05: what no octet can repair is F02 at the end of the input, and F05 at one more
 no-room-for-an-end-yet : ending plain_framing (48 ∷ 5 ∷ 48 ∷ 128 ∷ 2 ∷ 1 ∷ 5 ∷ []) ≡ fault_ending Short 7
 no-room-for-an-end-yet = refl
 
 no-room-for-an-end : ending plain_framing (48 ∷ 5 ∷ 48 ∷ 128 ∷ 2 ∷ 1 ∷ 5 ∷ 0 ∷ []) ≡ fault_ending MissingEnd 7
 no-room-for-an-end = refl
-
-no-room-for-the-second-zero : ending plain_framing (48 ∷ 3 ∷ 48 ∷ 128 ∷ 0 ∷ 0 ∷ []) ≡ fault_ending MissingEnd 5
-no-room-for-the-second-zero = refl
 
 -- 5f 1f 01 00
 application-31 : reading plain_framing (95 ∷ 31 ∷ 1 ∷ 0 ∷ [])
@@ -258,9 +252,6 @@ ten-octets-of-number = refl
 
 long-form-done : ending plain_framing (4 ∷ 129 ∷ 3 ∷ 170 ∷ 187 ∷ 204 ∷ []) ≡ Done
 long-form-done = refl
-
-lengths-reserved : ending plain_framing (4 ∷ 255 ∷ []) ≡ fault_ending ReservedLength 1
-lengths-reserved = refl
 
 -- 04 85 and five ff: 2^40 - 1 octets are announced, and none comes
 length-of-2^40 : ending plain_framing (4 ∷ 133 ∷ 255 ∷ 255 ∷ 255 ∷ 255 ∷ 255 ∷ []) ≡ fault_ending Short 7

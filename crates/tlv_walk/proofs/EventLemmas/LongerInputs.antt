@@ -11,7 +11,7 @@ use Rattle.tlv_walk.proofs.GrammarLemmas.PushSteps.{Grown}
 use Rattle.tlv_walk.proofs.GrammarLemmas.PopHeaders.{back, is_nil, is_push}
 use Rattle.tlv_walk.proofs.GrammarLemmas.Readings.{PoppedBy, popped-by, unique}
 use Rattle.tlv_walk.proofs.EventLemmas.Joined.{apart-before, joined-from_apart}
-use Rattle.tlv_walk.proofs.EventLemmas.Gains.{Brings, gain_events, push-brings}
+use Rattle.tlv_walk.proofs.EventLemmas.NextEvents.{Brings, gain_events, push-brings}
 
 -- the events are those, each octet by itself, and then others
 pub record GoesFurther (xs ys : List EventValue) : Type 0 where

@@ -4,7 +4,7 @@ use Rattle.std.proofs.Common.{append_assoc, append-nil, length-append}
 use Rattle.std.proofs.lemmas.List.{map-append}
 use Rattle.tlv_head.specs.declared.header.Size.TheVariants.{Definite, Indefinite}
 use Rattle.tlv_head.specs.Header.{HeaderValue, octets_of}
-use Rattle.tlv_walk.specs.Phase as phase
+use Rattle.tlv_walk.specs.Phase.{Between, InEndOctets, InPrimitive}
 use Rattle.tlv_walk.specs.Events.{Begin, Bytes, End, EventValue, single_octets}
 use Rattle.tlv_walk.specs.Forest.{NoMore, Primitive, spelling}
 use Rattle.tlv_walk.specs.WalkerState.{WalkerState}
@@ -22,9 +22,9 @@ use Rattle.tlv_walk.proofs.WalkerLemmas.ZipperGrowth.{contents_tail, between_tai
 -- contents of a primitive
 contents_state : (w : WalkerState) (b : List ℕ) (yielded : List EventValue) (s : Zipper) (h : HeaderValue)
     (c t : List ℕ) (left : ℕ)
-    → HasZipper w b yielded (with_tail s (PrimitiveTail h c)) → w.phase ≡ phase.InPrimitive left → length t ≤ left
+    → HasZipper w b yielded (with_tail s (PrimitiveTail h c)) → w.phase ≡ InPrimitive left → length t ≤ left
     → HasZipper
-    (record w { phase = phase.InPrimitive (left - length t); offset = w.offset + length t; events = w.events + 1 })
+    (record w { phase = InPrimitive (left - length t); offset = w.offset + length t; events = w.events + 1 })
     (b ++ t) (yielded ++ Bytes t ∷ [])
     (with_tail s (PrimitiveTail h (c ++ t)))
 contents_state w b yielded s h c t left has e most =
@@ -55,18 +55,18 @@ contents_state w b yielded s h c t left has e most =
         (ap (λ (es : List EventValue). es ++ []) (map-append (λ x. Bytes (x ∷ [])) c t)
         ∙ append_assoc (map (λ x. Bytes (x ∷ [])) c) _ [])
 
-pub yields_contents : (w : WalkerState) (left : ℕ) (t : List ℕ) (n : ℕ) → w.phase ≡ phase.InPrimitive left
+pub yields_contents : (w : WalkerState) (left : ℕ) (t : List ℕ) (n : ℕ) → w.phase ≡ InPrimitive left
     → length t ≤ left → n ≡ length t
-    → Continues w (record w { phase = phase.InPrimitive (left - n); offset = w.offset + n; events = w.events + 1 }) t
+    → Continues w (record w { phase = InPrimitive (left - n); offset = w.offset + n; events = w.events + 1 }) t
     (Bytes t ∷ [])
 yields_contents w left t n e most len =
     subst
     (λ (m : ℕ). Continues w
-    (record w { phase = phase.InPrimitive (left - m); offset = w.offset + m; events = w.events + 1 }) t
+    (record w { phase = InPrimitive (left - m); offset = w.offset + m; events = w.events + 1 }) t
     (Bytes t ∷ []))
     (sym len) (record {
       framing = refl;
-      found = refl;
+      wrapper_count = refl;
       next_zipper = λ b yielded s has.
           let k = contents_tail left s.tail _ (phase_at w b yielded s _ e has) in
           (_, contents_state w b yielded s k.0 k.1 t left (tail_state w b yielded s _ k.2 has) e most);
@@ -74,8 +74,8 @@ yields_contents w left t n e most len =
 
 -- the end of a primitive
 end_state : (w : WalkerState) (b : List ℕ) (yielded : List EventValue) (s : Zipper) (h : HeaderValue) (c : List ℕ)
-    → HasZipper w b yielded (with_tail s (PrimitiveTail h c)) → w.phase ≡ phase.InPrimitive 0
-    → HasZipper (record w { phase = phase.Between; events = w.events + 1 }) (b ++ []) (yielded ++ End ∷ [])
+    → HasZipper w b yielded (with_tail s (PrimitiveTail h c)) → w.phase ≡ InPrimitive 0
+    → HasZipper (record w { phase = Between; events = w.events + 1 }) (b ++ []) (yielded ++ End ∷ [])
     (record { layers = s.layers; here = followed_by s.here (Primitive h c NoMore); tail = NoTail })
 end_state w b yielded s h c has e =
     let p : Place = place_of w.framing s in
@@ -111,11 +111,11 @@ end_state w b yielded s h c has e =
       element = has.element ∙ sym (began s.layers s.here (Primitive h c NoMore) has.here.whole refl);
     }
 
-pub yields_end : (w : WalkerState) → w.phase ≡ phase.InPrimitive 0
-    → Continues w (record w { phase = phase.Between; events = w.events + 1 }) [] (End ∷ [])
+pub yields_end : (w : WalkerState) → w.phase ≡ InPrimitive 0
+    → Continues w (record w { phase = Between; events = w.events + 1 }) [] (End ∷ [])
 yields_end w e = record {
   framing = refl;
-  found = refl;
+  wrapper_count = refl;
   next_zipper = λ b yielded s has.
       let k = contents_tail 0 s.tail _ (phase_at w b yielded s _ e has) in
       (_, end_state w b yielded s k.0 k.1 (tail_state w b yielded s _ k.2 has) e);
@@ -125,7 +125,7 @@ yields_end w e = record {
 zero_state : (w : WalkerState) (b : List ℕ) (yielded : List EventValue) (s : Zipper) (l : Layer) (ls : List Layer)
     → HasZipper w b yielded (record { layers = l ∷ ls; here = s.here; tail = NoTail }) → l.header.size ≡ Indefinite
     → Fits (place_after (place_in w.framing (l ∷ ls)) (length (spelling s.here))) 1
-    → HasZipper (record w { phase = phase.InEndOctets; offset = w.offset + 1 }) (b ++ 0 ∷ []) (yielded ++ []) (record {
+    → HasZipper (record w { phase = InEndOctets; offset = w.offset + 1 }) (b ++ 0 ∷ []) (yielded ++ []) (record {
       layers = l ∷ ls;
       here = s.here;
       tail = EndOctetsTail;
@@ -141,12 +141,12 @@ zero_state w b yielded s l ls has e f = record {
   element = has.element;
 }
 
-pub yields_zero : (w : WalkerState) → w.phase ≡ phase.Between → IsInIndefinite w.stack
+pub yields_zero : (w : WalkerState) → w.phase ≡ Between → IsInIndefinite w.stack
     → IsWithin (bound_of w.stack) (w.offset + 1)
-    → Continues w (record w { phase = phase.InEndOctets; offset = w.offset + 1 }) (0 ∷ []) []
+    → Continues w (record w { phase = InEndOctets; offset = w.offset + 1 }) (0 ∷ []) []
 yields_zero w e i f = record {
   framing = refl;
-  found = refl;
+  wrapper_count = refl;
   next_zipper = λ b yielded s has.
       let t = between_tail s.tail _ (phase_at w b yielded s _ e has) in
       let has' : HasZipper w b yielded (with_tail s NoTail) = tail_state w b yielded s _ t has in
@@ -157,7 +157,7 @@ yields_zero w e i f = record {
         → s.layers ≡ ls → HasZipper w b yielded (with_layers s ls NoTail) → IsInIndefinite w.stack
         → IsWithin (bound_of w.stack) (w.offset + 1)
         → (t : Zipper)
-        × HasZipper (record w { phase = phase.InEndOctets; offset = w.offset + 1 }) (b ++ 0 ∷ [])
+        × HasZipper (record w { phase = InEndOctets; offset = w.offset + 1 }) (b ++ 0 ∷ [])
         (yielded ++ []) t
     zero_from w b yielded s [] q has i f = absurd (subst IsInIndefinite has.stack i)
     zero_from w b yielded s (l ∷ ls) q has i f =
@@ -185,27 +185,27 @@ counted_state w n b yielded s has = record {
   element = has.element;
 }
 
-pub yields_passed : (w : WalkerState) (t : List ℕ) (n : ℕ) → w.phase ≡ phase.InPrimitive (length t)
-    → Continues w (record w { phase = phase.Between; offset = w.offset + length t; events = n }) t (Bytes t ∷ End ∷ [])
+pub yields_passed : (w : WalkerState) (t : List ℕ) (n : ℕ) → w.phase ≡ InPrimitive (length t)
+    → Continues w (record w { phase = Between; offset = w.offset + length t; events = n }) t (Bytes t ∷ End ∷ [])
 yields_passed w t n e =
     let left : ℕ = length t in
     let u : WalkerState = record w {
-      phase = phase.InPrimitive (left - left);
+      phase = InPrimitive (left - left);
       offset = w.offset + left;
       events = w.events + 1;
     } in
     let none : left - left ≡ 0 = omega arith in
     let one : Continues w u t (Bytes t ∷ []) = yields_contents w left t left e (omega arith) refl in
-    let two : Continues u (record u { phase = phase.Between; events = u.events + 1 }) [] (End ∷ []) =
-    yields_end u (ap phase.InPrimitive none) in
+    let two : Continues u (record u { phase = Between; events = u.events + 1 }) [] (End ∷ []) =
+    yields_end u (ap InPrimitive none) in
     let both =
     subst
-    (λ (o : List ℕ). Continues w (record u { phase = phase.Between; events = u.events + 1 }) o
+    (λ (o : List ℕ). Continues w (record u { phase = Between; events = u.events + 1 }) o
     (Bytes t ∷ End ∷ []))
     (append-nil t) (continues_both w u _ t [] (Bytes t ∷ []) (End ∷ []) one two) in
     record {
       framing = both.framing;
-      found = both.found;
+      wrapper_count = both.wrapper_count;
       next_zipper = λ b yielded s has.
           let g = both.next_zipper b yielded s has in
           (g.0, counted_state _ n _ _ g.0 g.1);

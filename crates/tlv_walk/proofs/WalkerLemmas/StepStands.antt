@@ -56,8 +56,8 @@ stands_all old new piece rest es t = let k = t.continues in record {
   framing = k.framing;
   stands = λ b yielded st. let u = k.next_zipper b yielded st.private_state.zipper st.private_state.has_zipper in
       stands new (b ++ t.taken) (yielded ++ es) u.0 u.1
-      (subst (λ (f : Framing). can_name f.inside ≡ true) (sym k.framing) st.private_state.named)
-      (found_on old new yielded es k.framing st.private_state.found k.found);
+      (subst (λ (f : Framing). can_name f.inside ≡ true) (sym k.framing) st.private_state.can_name)
+      (found_on old new yielded es k.framing st.private_state.wrapper_count k.wrapper_count);
 }
 
 -- the reading after which the octet is refused
@@ -99,11 +99,11 @@ refused_walker old new piece rest f k r b yielded st =
     let u = r.refuses b yielded st.private_state.zipper st.private_state.has_zipper in
     let framing : new.framing ≡ old.framing = k.framing in
     let named : can_name new.framing.inside ≡ true =
-    subst (λ (g : Framing). can_name g.inside ≡ true) (sym framing) st.private_state.named in
+    subst (λ (g : Framing). can_name g.inside ≡ true) (sym framing) st.private_state.can_name in
     let there : IsRefusedAfter new.framing (b ++ r.taken) r.octet yielded f =
     refused_reading old new.framing piece rest f framing r b yielded st in
     let found : new.wrapper_count ≡ wrapper_count_after new.framing.inside 0 (entered_offsets yielded) =
-    k.wrapper_count ∙ st.private_state.found
+    k.wrapper_count ∙ st.private_state.wrapper_count
     ∙ ap (λ (g : Framing). wrapper_count_after g.inside 0 (entered_offsets yielded)) (sym framing) in
     record {
       refused = there;
@@ -165,8 +165,8 @@ uses_up old new piece rest n k t =
           let u = t.next_zipper b yielded st.private_state.zipper st.private_state.has_zipper in
           subst (λ (es : List EventValue). Stands new (b ++ piece) es) (append-nil yielded)
           (stands new (b ++ piece) (yielded ++ []) u.0 u.1
-          (subst (λ (f : Framing). can_name f.inside ≡ true) (sym t.framing) st.private_state.named)
-          (found_on old new yielded [] t.framing st.private_state.found t.found));
+          (subst (λ (f : Framing). can_name f.inside ≡ true) (sym t.framing) st.private_state.can_name)
+          (found_on old new yielded [] t.framing st.private_state.wrapper_count t.wrapper_count));
       ready = k.ready;
     }
 
