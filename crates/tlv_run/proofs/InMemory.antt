@@ -59,14 +59,14 @@ module _ (job : Job ReportValue) (stays : Stays job)
   -- octets that have neither a fault nor enough settle nothing
   unsettled : (b : List ℕ) (made : CommandResult) → (x : IsJobResult job b made) → WantMore job b → IsSettled x → ⊥
   unsettled b made x s k =
-      let same : x.reading ≡ s.0 = reading-unique job.framing b x.reading s.0 x.is_reading s.1 in
-      let not_enough : job.is_enough x.reading ≡ false = ap job.is_enough same ∙ s.3 in
+      let same : x.reading ≡ s.0 = reading-unique job.framing b x.reading s.0 x.is_reading s.1.0 in
+      let not_enough : job.is_enough x.reading ≡ false = ap job.is_enough same ∙ s.2 in
       elim k [
         | inl enough ↦ true≢false (sym enough ∙ not_enough)
         | inr final ↦
             let ends : IsEnding job.framing b made.ending =
             subst (λ (k : Bool). EndsWith job.framing b k made.ending) not_enough x.ends in
-            spelled_on job.framing b s.0 made.ending s.1 s.2 ends final
+            spelled_on job.framing b s.0 made.ending s.1.0 s.1.1 ends final
       ]
 
   module _ (old new : SourceState) (from to : DrainState) (room : ℕ) (written : List ℕ)

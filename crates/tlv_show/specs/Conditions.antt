@@ -1,9 +1,9 @@
 -- What is found with a header, and with an end, by the rules of X.690: each finding beside its condition, in the order
 -- of the codes.
 use Rattle.std.specs.Prelude.{ℕ, ◌+◌, ◌-◌, ◌%◌, Bool, false, ◌&&◌, ◌||◌, not, ◌==◌, nat_le, nat_lt}
-use Rattle.std.specs.Prelude.{if◌then◌else◌, List, [], ◌∷◌, ◌++◌, length, slice_index, Some, sum_by}
+use Rattle.std.specs.Prelude.{if◌then◌else◌, List, [], ◌∷◌, ◌++◌, length, Some, sum_by}
 use Rattle.std.specs.List.{list_all}
-use Rattle.tlv_head.specs.Header.{HeaderValue, announced_length}
+use Rattle.tlv_head.specs.Header.{HeaderValue, announced_length, second_identifier_octet, second_length_octet}
 use Rattle.tlv_value.specs.declared.finding.Finding.{Finding}
 use Rattle.tlv_value.specs.declared.finding.Finding.TheVariants.{B01, B02, B03, B04, B05, B16, B17, S01, D01}
 use Rattle.tlv_value.specs.declared.finding.Finding.TheVariants.{D02, C01, C02, C03, C04, C05, C06}
@@ -21,7 +21,7 @@ has_high_form h = nat_lt 1 (length h.identifier)
 
 -- 8.1.2.4.2: bits 7 to 1 of the first of them
 abbrev pub number_bits : HeaderValue → ℕ
-number_bits h = slice_index h.identifier 1 % 128
+number_bits h = second_identifier_octet h % 128
 
 -- 8.1.2.2: the number is in subsequent octets, though it is below 31
 abbrev pub is_high_form_needless : HeaderValue → Bool
@@ -42,10 +42,6 @@ is_wrongly_primitive h = is_primitive h && is_always_constructed h
 -- 8.1.3.5: there are subsequent length octets
 abbrev pub has_long_form : HeaderValue → Bool
 has_long_form h = nat_lt 1 (length h.lengths)
-
--- 8.1.3.5: the first subsequent length octet, which is the second of all
-abbrev pub second_length_octet : HeaderValue → ℕ
-second_length_octet h = slice_index h.lengths 1
 
 -- 9.1, 10.1: it does not have the fewest octets: those of the long form are for 128 and more, and do not begin with 00
 abbrev pub is_length_padded : HeaderValue → Bool

@@ -1,6 +1,6 @@
 //! The follower that lists what violates the rules.
 ghost use Rattle.std.specs.Prelude.{◌≡◌, refl};
-ghost use Rattle.tlv_walk.proofs.FollowerLemmas.Followed.{each_octet-goes_on, each_octet-joins};
+ghost use Rattle.tlv_walk.proofs.FollowerLemmas.FollowedEvents.{each_octet-goes_on, each_octet-joins};
 ghost use Rattle.tlv_show.specs.CheckStep.{check_octet_step, check_step};
 ghost use Rattle.tlv_show.specs.FinderState.{new_check};
 

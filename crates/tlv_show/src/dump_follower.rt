@@ -1,6 +1,6 @@
 //! The follower that writes a dump.
 ghost use Rattle.std.specs.Prelude.{◌≡◌, ◌≤◌, length, refl};
-ghost use Rattle.tlv_walk.proofs.FollowerLemmas.Followed.{each_octet-goes_on, each_octet-joins};
+ghost use Rattle.tlv_walk.proofs.FollowerLemmas.FollowedEvents.{each_octet-goes_on, each_octet-joins};
 ghost use Rattle.tlv_walk.specs.Events.{Begin, Bytes, Close, End, Enter, event_value_of};
 ghost use Rattle.tlv_walk.specs.HasEffect.{HasEffect};
 ghost use Rattle.tlv_show.specs.DumpStep.{dump_octet_step, dump_padding_step, dump_step, findings_before, new_dump};

@@ -13,7 +13,7 @@ use Rattle.tlv_walk.specs.Events.{Bytes, End}
 use Rattle.tlv_walk.specs.Follow.{Effect, contents_in, effect_if_more, effect_of, no_effect}
 use Rattle.tlv_walk.specs.HasEffect.{HasEffectOrNone}
 use Rattle.tlv_walk.specs.Follow.{whole_events}
-use Rattle.tlv_walk.proofs.FollowerLemmas.Followed.{followed-one}
+use Rattle.tlv_walk.proofs.FollowerLemmas.FollowedEvents.{followed-one}
 use Rattle.tlv_io.proofs.Puts.{puts_nothing, puts_text}
 use Rattle.tlv_show.specs.declared.holder_frame.HolderFrame.{HolderFrame}
 use Rattle.tlv_show.specs.declared.finding_lines.Style.TheVariants.{Check}

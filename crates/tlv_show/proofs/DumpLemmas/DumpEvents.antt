@@ -6,7 +6,7 @@ use Rattle.tlv_head.specs.Header.{HeaderValue}
 use Rattle.tlv_value.specs.declared.layout.Layout.{Layout}
 use Rattle.tlv_walk.specs.Events.{Begin, Bytes, Close, End, Enter, EventValue, Leave, Open, Unused}
 use Rattle.tlv_walk.specs.Follow.{Effect, and_then, each_octet, effect_if_more, effect_of, effect_with}
-use Rattle.tlv_walk.proofs.FollowerLemmas.Followed.{followed-more}
+use Rattle.tlv_walk.proofs.FollowerLemmas.FollowedEvents.{followed-more}
 use Rattle.tlv_show.specs.declared.finding_lines.Style.TheVariants.{Dump}
 use Rattle.tlv_show.specs.FindingLines.{last_finding_lines}
 use Rattle.tlv_show.specs.LinesStep.{LinesState, lines_octet_step, lines_step, lines_after_header}

@@ -20,7 +20,7 @@ use Rattle.tlv_walk.specs.Forest.{Forest, NoMore, PaddingOctet, Primitive, Holde
 use Rattle.tlv_walk.specs.Forest.{OpenBitString, OpenHeader, OpenEndOctets, extent, opening, spelling}
 use Rattle.tlv_walk.specs.Place.{KeepsRules, Place, place_after, place_of_children, top_place}
 use Rattle.tlv_walk.specs.Reading.{IsReading}
-use Rattle.tlv_walk.proofs.GrammarLemmas.PopHeaders.{header-length}
+use Rattle.tlv_head.proofs.ReaderLemmas.Prefix.{header-two}
 use Rattle.tlv_walk.proofs.GrammarLemmas.Spellings.{length-holder, length-opening, length-primitive}
 use Rattle.tlv_show.specs.declared.holder_frame.HolderFrame.{HolderFrame}
 use Rattle.tlv_show.specs.declared.rules.Rules.{Rules}
@@ -194,7 +194,7 @@ module _ (rules : Rules) where
       let a =
       few-at s.level h.offset (header_findings rules (surroundings_of s) h) (PrimitiveLines s.level h c ∷ inner)
       14 _ (few-header s h) b in
-      omega (arith, a, header-length h v.0.0.header.valid, length-primitive h c rest)
+      omega (arith, a, header-two h v.0.0.header.valid, length-primitive h c rest)
   few p s (Holder h inside rest) v =
       let i = few (place_of_children p h) (site_of_children s h) inside v.1 in
       let r = few (place_after p (extent h inside)) (site_after_holder s h inside) rest v.2 in
@@ -212,7 +212,7 @@ module _ (rules : Rules) where
       ∷ (items rules (site_of_children s h) inside
       ++ ClosingLine s.level (if h.constructed then end_octets_offset h inside else None) ∷ last))
       14 _ (few-header s h) m in
-      omega (arith, a, header-length h v.0.0.header.valid, length-holder h inside rest, length-opening h)
+      omega (arith, a, header-two h v.0.0.header.valid, length-holder h inside rest, length-opening h)
     where
       few-both : (xs ys : List Item) (n m : ℕ) → length (only xs) ≤ n → length (only ys) ≤ m
           → length (only (xs ++ ys)) ≤ n + m
@@ -222,19 +222,19 @@ module _ (rules : Rules) where
       let a =
       few-at s.level h.offset (header_findings rules (surroundings_of s) h) (OpenPrimitiveLines s.level h c ∷ [])
       14 0 (few-header s h) (omega arith) in
-      omega (arith, a, header-length h v.0.header.valid, length-append (octets_of h) c)
+      omega (arith, a, header-two h v.0.header.valid, length-append (octets_of h) c)
   few p s (OpenHolder h inside) v =
       let i = few (place_of_children p h) (site_of_children s h) inside v.1 in
       let a =
       few-at s.level h.offset (header_findings rules (surroundings_of s) h)
       (OpeningLine s.level h ∷ items rules (site_of_children s h) inside) 14 _ (few-header s h) i in
       omega
-      (arith, a, header-length h v.0.0.header.valid, length-append (opening h) (spelling inside), length-opening h)
+      (arith, a, header-two h v.0.0.header.valid, length-append (opening h) (spelling inside), length-opening h)
   few p s (OpenBitString h) v =
       let a =
       few-at s.level h.offset (header_findings rules (surroundings_of s) h) (OpeningLine s.level h ∷ []) 14 0
       (few-header s h) (omega arith) in
-      omega (arith, a, header-length h v.0.header.valid)
+      omega (arith, a, header-two h v.0.header.valid)
   few p s (OpenHeader octets) v = omega arith
   few p s OpenEndOctets v = omega arith
 

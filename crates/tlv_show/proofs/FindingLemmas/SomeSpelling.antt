@@ -16,7 +16,7 @@ use Rattle.tlv_walk.specs.Events.{end_octets_offset}
 use Rattle.tlv_walk.specs.Forest.{Forest, NoMore, PaddingOctet, Primitive, Holder, OpenPrimitive, OpenHolder}
 use Rattle.tlv_walk.specs.Forest.{OpenBitString, OpenHeader, OpenEndOctets, extent, has_element, spelling}
 use Rattle.tlv_walk.specs.Inside.{can_name, is_among}
-use Rattle.tlv_walk.proofs.EventLemmas.Named.{AreRising, can-from, can-to}
+use Rattle.tlv_walk.proofs.EventLemmas.NamedOffsets.{AreRising, can-from, can-to}
 use Rattle.tlv_walk.specs.Place.{KeepsRules, Place, is_indefinite, place_after, place_of_children, top_place}
 use Rattle.tlv_walk.specs.Reading.{IsReading, IsSound, IsSoundList}
 use Rattle.tlv_walk.specs.Wrappers.{wrapper_offset, wrapper_offsets}
@@ -268,7 +268,7 @@ some-spelling rules framing b f strict few ending reading low =
       forest = at_top.forest;
       sound = sound;
       some = sym (alike-element f at_top.forest at_top.alike) ∙ ap has_element (sym same) ∙ elements.some;
-      octets = at_top.spelled;
+            spelled = at_top.spelled;
     } in
     let there : IsReading other chosen.octets at_top.forest = sound-reading other chosen.octets list in
     let small : length (spelling at_top.forest) ≤ 2 ^ 40 =

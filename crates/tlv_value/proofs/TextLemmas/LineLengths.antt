@@ -9,12 +9,12 @@ use Rattle.tlv_io.proofs.HeldTexts.{added, right-short}
 
 -- the first octets of a text were added
 pub prefix_short : (old new text : List ℕ) (n : ℕ) → new ≡ old ++ take n text → length new ≤ length old + n
-prefix_short old new text n e = omega (arith, added old new (take n text) e, length-take n text)
+prefix_short old new text n e = omega (arith, length-added old new (take n text) e, length-take n text)
 
 -- a number was added
 pub number_short : (old new : List ℕ) (n : ℕ) → n < 2 ^ 64 → new ≡ old ++ decimal n → length new ≤ length old + 20
 number_short old new n fits e =
-    omega (arith, added old new (decimal n) e, length-decimal-le 20 n (omega arith) (omega arith) fits)
+    omega (arith, length-added old new (decimal n) e, length-decimal-le 20 n (omega arith) (omega arith) fits)
 
 -- the first columns
 pub columns_short : (offset : ℕ) (word : List ℕ) → offset < 2 ^ 64 → length word ≤ 20

@@ -6,9 +6,9 @@ use Rattle.tlv_head.specs.Header.{HeaderValue, IsHeader, announced_length, holds
 use Rattle.tlv_head.specs.Refusal.{IsHeaderPrefix}
 use Rattle.tlv_head.proofs.GrammarLemmas.Scan.{Origin, Scan, Fresh, High, Named, Long, Ready, Stuck, Over, origin_of}
 use Rattle.tlv_head.proofs.GrammarLemmas.Scan.{scan, scan_from-append, scan-header, is_more, more-from_prefix}
+use Rattle.tlv_head.proofs.ReaderLemmas.Prefix.{header-two}
 use Rattle.tlv_walk.specs.Forest.{Forest, NoMore, OpenBitString, OpenHeader, lead, opening, spelling}
 use Rattle.tlv_walk.specs.Place.{Fits, IsAnnouncedAt, IsHeaderAt, KeepsRules, Place}
-use Rattle.tlv_head.proofs.ReaderLemmas.Prefix.{header-two}
 use Rattle.tlv_walk.proofs.GrammarLemmas.Bounds.{fits-within, lead-zero, within-le}
 use Rattle.tlv_walk.proofs.GrammarLemmas.PushSteps.{Grown, begin, complete, element_begun, holder_begun, holder_so_far}
 use Rattle.tlv_walk.proofs.GrammarLemmas.PushSteps.{origin, push}

@@ -43,7 +43,7 @@ identifier-nil class k n o (inr high) e = let z : [] ≡ _ ∷ _ = sym e ∙ hig
 completes-two : (r : HeadReaderState) (x : ℕ) (h : HeaderValue) → Completes r (x ∷ []) h → r.octets ≡ [] → ⊥
 completes-two r x h c e =
     let two : 2 ≤ length (octets_of h) = header-two h c.valid in
-    let one : octets_of h ≡ x ∷ [] = c.octets ∙ ap (λ (o : List ℕ). o ++ x ∷ []) e in
+    let one : octets_of h ≡ x ∷ [] = c.octets_are ∙ ap (λ (o : List ℕ). o ++ x ∷ []) e in
     omega (arith, ap length one)
 
 -- what is refused for the octets of a header has octets before it
@@ -56,7 +56,7 @@ refused-after o x code (length_too_large c k n left front many nonzero) e =
     omega (
       arith,
       ap length (sym e ∙ front.octets_are),
-      length-append front.identifier ((128 + (length front.digits + left)) ∷ front.digits),
+      length-append front.identifier_octets ((128 + (length front.digits + left)) ∷ front.digits),
     )
 
 -- so a refusal has octets before it, or no room
@@ -114,15 +114,15 @@ refused_fault p q room depth x code k (push.refused_octet left octet) =
     refused_octet (room_there p q room depth k left) octet
 refused_fault p q room depth x code k (push.too_deep left h completes holding deep) =
     too_deep (room_there p q room depth k left) h (header_there p q room depth x h true holding k completes)
-    completes.octets
+    completes.octets_are
     (subst (λ (n : ℕ). 128 ≤ n) k.depths deep)
 refused_fault p q room depth x code k (push.overrun left h completes shallow beyond) =
     overrun (room_there p q room depth k left) h (header_there p q room depth x h (holds h) refl k completes)
-    completes.octets
+    completes.octets_are
     (λ e. subst (λ (n : ℕ). n < 128) k.depths (shallow e))
     (beyond_bound h.size p.bound (p.offset + length q.octets) _ (λ f. beyond (subst (ContentsFit h.size)
     (sym k.left) f))
-    (omega (arith, ap length completes.octets, length-append q.octets (x ∷ []))))
+    (omega (arith, ap length completes.octets_are, length-append q.octets (x ∷ []))))
 
 -- ---- a walker refuses it
 

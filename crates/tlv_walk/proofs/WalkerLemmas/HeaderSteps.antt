@@ -171,7 +171,7 @@ completed_without w u r t h e can makes =
     subst (λ (m : WalkerState). CanTakeHeader m h) e can in
     record {
       valid = can'.valid;
-      octets = makes.octets;
+      octets = makes.octets_are;
       offset = makes.offset;
       named = makes.named;
       shallow = can'.shallow;
@@ -241,7 +241,7 @@ pub can_take_whole_header : (u : WalkerState) (q : HeadReaderState) (x depth off
     → Completes q (x ∷ []) h → FitsThere h (room_to (bound_of u.stack) offset) depth → CanTakeHeader u h
 can_take_whole_header u q x depth offset h counted place limit deep c f =
     let end : h.offset + length (octets_of h) ≡ offset + 1 =
-    omega (arith, c.offset, ap length c.octets, length-append q.octets (x ∷ [])) in
+    omega (arith, c.offset, ap length c.octets_are, length-append q.octets (x ∷ [])) in
     record {
       valid = c.valid;
       counted = omega (arith, c.offset);
@@ -249,7 +249,7 @@ can_take_whole_header u q x depth offset h counted place limit deep c f =
       shallow = λ e. subst (λ (n : ℕ). n < 128) deep (f.shallow e);
       fits =
           subst (λ (n : ℕ). IsWithin (bound_of u.stack) (n + announced_length h.size)) (sym end)
-          (within_announced h.size (bound_of u.stack) offset f.within);
+          (within_announced h.size (bound_of u.stack) offset f.contents_fit);
     }
 
 -- and the walker yields it
@@ -264,7 +264,7 @@ whole_yields w u new r q piece rest others x h e over k f c yields = record {
     valid = c.valid;
     offset = c.offset ∙ k.offset;
     named = c.named ∙ k.named;
-    octets = c.octets ∙ (ap (λ (l : List ℕ). l ++ x ∷ []) k.octets ∙ append_assoc r.octets k.taken (x ∷ []));
+    octets_are = c.octets_are ∙ (ap (λ (l : List ℕ). l ++ x ∷ []) k.octets ∙ append_assoc r.octets k.taken (x ∷ []));
   });
 }
 

@@ -21,7 +21,7 @@ returns c = record {
         arith,
         prefix_short _ _ c.args.prefix.now c.args.count c.add_prefix.ensures,
         number_short _ _ _ c.ranges.number.fits c.number.ensures,
-        added _ _ (93 ∷ []) c.add.ensures,
+        length-added _ _ (93 ∷ []) c.add.ensures,
         c.requires.within,
       );
 }

@@ -9,7 +9,7 @@ pub add-requires : goal.add-requires
 add-requires g c =
     omega (
       arith,
-      added _ _ (spaced_pairs c.args.contents.now) c.spaced_pairs.ensures,
+      length-added _ _ (spaced_pairs c.args.contents.now) c.spaced_pairs.ensures,
       pairs-size c.args.contents.now,
       c.requires.room,
       c.if-contents-le16.true,

@@ -51,7 +51,7 @@ returns-in_err-turn_with g c =
     let law = g.met.F.Follow in
     let p = err_from_is_err_and c.from_residual.result c.from_residual.ensures.1 in rw (p.1, p.2)
     (drives_lent g.F.Follow.next g.D.Drain.state _ _ _ _ _ _ _ _ (drain_of c.new-out.result).now
-    (drain_of c.turn_with.new.out).now _ (sym c.new-out.ensures.taken) (search rules)
+    (drain_of c.turn_with.new.out).now _ (sym c.new-out.ensures.drain) (search rules)
     (drives_err g.F.Follow.next _ _ _ _ _ _ c.turns.invariant.walking _ _ _ c.turn_with.ensures.read (search rules)
     c.turns.invariant.taken
     (laws_by g.F.Follow.next law.bytes_join law.bytes_empty law.bytes_go_on law.pad_join law.pad_empty law.pad_go_on)
@@ -61,7 +61,7 @@ pub returns-in-Ended : goal.returns-in-Ended
 returns-in-Ended g c =
     let law = g.met.F.Follow in
     drives_lent g.F.Follow.next g.D.Drain.state _ _ _ _ _ _ _ _ (drain_of c.new-out.result).now
-    (drain_of c.turn_with.new.out).now _ (sym c.new-out.ensures.taken) (search rules)
+    (drain_of c.turn_with.new.out).now _ (sym c.new-out.ensures.drain) (search rules)
     (drives_ended g.F.Follow.next _ _ _ _ _ _ c.turns.invariant.walking _ _ _ c.turn_with.ensures.read (search rules)
     c.turns.invariant.taken
     (laws_by g.F.Follow.next law.bytes_join law.bytes_empty law.bytes_go_on law.pad_join law.pad_empty law.pad_go_on)

@@ -13,7 +13,7 @@ goes_on old new x y p few = elim p [
   | more some front same ↦ subst (λ (r : HeadReaderState). CanPush r y None 0) (sym same) (record {
     unfinished = refl;
     first = λ e. absurd (omega (arith, ap length e, length-append old.octets (x ∷ [])));
-    within = omega arith;
+    shallow = omega arith;
     limit = few;
   })
 ]

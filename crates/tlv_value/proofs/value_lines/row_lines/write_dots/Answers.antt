@@ -14,7 +14,7 @@ add-requires c =
       arith,
       c.requires,
       c.row_indent.ensures.within,
-      added _ _ (spaces c.row_indent.result) c.spaces.ensures,
+      length-added _ _ (spaces c.row_indent.result) c.spaces.ensures,
       length-replicate {A = ℕ} c.row_indent.result 32,
     )
 

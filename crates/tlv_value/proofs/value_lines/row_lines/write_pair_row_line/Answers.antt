@@ -9,8 +9,8 @@ use Rattle.tlv_value.proofs.value_lines.row_lines.write_pair_row_line.Goals as g
 pub add-requires : goal.add-requires
 add-requires c =
     let indent : ℕ = c.row_indent.result - 1 in
-    let blank = added _ _ (spaces indent) c.spaces.ensures in
-    let pairs = added _ _ (spaced_pairs c.args.row.now) c.spaced_row.ensures in
+    let blank = length-added _ _ (spaces indent) c.spaces.ensures in
+    let pairs = length-added _ _ (spaced_pairs c.args.row.now) c.spaced_row.ensures in
     omega (
       arith,
       blank,

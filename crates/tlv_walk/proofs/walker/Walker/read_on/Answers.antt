@@ -120,7 +120,7 @@ returns-in-Whole-clause-counts c =
                 arith,
                 e.counts.offset,
                 completes.offset,
-                ap length completes.octets,
+                ap length completes.octets_are,
                 length-append c.loop-piece.reader.octets (x ∷ []),
                 i.end,
                 i.taken,
