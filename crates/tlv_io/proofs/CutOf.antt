@@ -85,8 +85,8 @@ module _ (size : ℕ) (wanted : ℕ → ℕ) where
   split-at i n true e h = inr (eqb-true i n e)
   split-at i n false e h = inl (grind (arith, nat_tests))
 
-  split : (i n : ℕ) → i < n + 1 → (i < n) ⊎ (i ≡ n)
-  split i n h = split-at i n (eqb i n) refl h
+  below-or_last : (i n : ℕ) → i < n + 1 → (i < n) ⊎ (i ≡ n)
+  below-or_last i n h = split-at i n (eqb i n) refl h
 
   pub fit-more : (row : List ℕ) (x : ℕ) → AllFit row → has_room_by size wanted (length row) x ≡ true
       → AllFit (row ++ x ∷ [])
@@ -97,7 +97,7 @@ module _ (size : ℕ) (wanted : ℕ → ℕ) where
       ⊎_elim
       (λ (g : i < length row). rw (get-left row x i g) (f i g))
       (λ (g : i ≡ length row). rw (g, get-last row x) room)
-      (split i (length row) before)
+      (below-or_last i (length row) before)
 
 -- ---- the cut
 

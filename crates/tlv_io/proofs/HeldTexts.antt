@@ -12,7 +12,7 @@ use Rattle.hex.proofs.HexLemmas.{length-encode_with}
 use Rattle.itoa.proofs.Decimal.{length_one, length_step_wide}
 use Rattle.tlv_io.specs.LineTexts.{at_right, spaced_pairs, spaces}
 
--- ---- texts that were added
+-- ---- texts that were length-added
 
 -- the first columns of a line, one after the other
 pub columns_added : (old one two three new first second : List ℕ) → one ≡ old ++ first → two ≡ one ++ 32 ∷ []
@@ -21,8 +21,8 @@ pub columns_added : (old one two three new first second : List ℕ) → one ≡ 
 columns_added old one two three new first second p q r s = rw (s, r, q, p) (simp append_assoc refl)
 
 -- how long they make what is held
-pub added : (old new text : List ℕ) → new ≡ old ++ text → length new ≡ length old + length text
-added old new text e = ap length e ∙ length-append old text
+pub length-added : (old new text : List ℕ) → new ≡ old ++ text → length new ≡ length old + length text
+length-added old new text e = ap length e ∙ length-append old text
 
 -- as many octets as are held are those that are held
 pub held_up_to : (octets held : List ℕ) (len count : ℕ) → take len octets ≡ held → count ≡ length held

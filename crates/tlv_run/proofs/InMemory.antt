@@ -8,7 +8,7 @@ use Rattle.std.proofs.lemmas.List.{length-take, nil_from_length, take-append-le,
 use Rattle.std.proofs.Math.Seq.{take-append_seam}
 use Rattle.std.specs.Prelude.{Some, Result, Ok, Err, ⊤}
 use Rattle.std.specs.Io.KnownBytes.{IsAtEnd}
-use Rattle.tlv_walk.proofs.FollowerLemmas.Enough.{returns}
+use Rattle.tlv_walk.proofs.FollowerLemmas.Enough.{comes_to-result}
 use Rattle.tlv_walk.proofs.GrammarLemmas.Endings.{IsRefused, fault-halt}
 use Rattle.tlv_io.proofs.Puts.{more_left}
 use Rattle.tlv_io.proofs.Sends.{sends_appends}
@@ -57,8 +57,8 @@ module _ (job : Job ReportValue) (stays : Stays job)
   limited_octets = take job.limit octets
 
   -- octets that have neither a fault nor enough settle nothing
-  unsettled : (b : List ℕ) (made : CommandResult) → (x : IsJobResult job b made) → WantMore job b → IsSettled x → ⊥
-  unsettled b made x s k =
+  want_more-not_settled : (b : List ℕ) (made : CommandResult) → (x : IsJobResult job b made) → WantMore job b → IsSettled x → ⊥
+  want_more-not_settled b made x s k =
       let same : x.reading ≡ s.0 = reading-unique job.framing b x.reading s.0 x.is_reading s.1.0 in
       let not_enough : job.is_enough x.reading ≡ false = ap job.is_enough same ∙ s.2 in
       elim k [
@@ -117,7 +117,7 @@ module _ (job : Job ReportValue) (stays : Stays job)
     run_ok report x =
         let given : List ℕ = octets_given x.pieces in
         let left = left_of old.left new.left octets given known x.pieces.consumed in
-        let k = returns job given x.reading new (Ok report) x.comes in
+        let k = comes_to-result job given x.reading new (Ok report) x.comes in
         let e : Ending = k.0 in
         let m : CommandResult = command_result job x.reading e in
         let b : List ℕ = take job.limit given in
@@ -173,7 +173,7 @@ module _ (job : Job ReportValue) (stays : Stays job)
         let one = one_made job limited_octets (All-take (λ x. x < 256) job.limit octets all) in
         let same : f ≡ one.1.reading = reading-unique job.framing limited_octets f one.1.reading r one.1.is_reading in
         whole one.0 report one.1 (sent ∙ ap job.text same ∙ sym (ap (λ (m : CommandResult). m.output) one.1.made_is))
-        (says one.0 one.1 (unsettled limited_octets one.0 one.1 s))
+        (says one.0 one.1 (want_more-not_settled limited_octets one.0 one.1 s))
 
     run_read_failed : Runs job (device_states old from) (device_states new to) (Err ReadFailed)
         → Comes (device_report ReadFailed)
@@ -184,7 +184,7 @@ module _ (job : Job ReportValue) (stays : Stays job)
         let after = fails (x.failures ∙ ap next_count quiet ∙ one_failure) in
         let none : left.0 ≡ [] = at_end new.left left.0 left.1 after.1 in
         let last : x.pieces.last ≡ [] =
-        failed_none new.last x.pieces.last (returns job given x.reading new (Err ReadFailed) x.comes)
+        failed_none new.last x.pieces.last (comes_to-result job given x.reading new (Err ReadFailed) x.comes)
         x.pieces.gave_last in
         let given_before : given ≡ before = ap (λ (l : List ℕ). before ++ l) last ∙ append-nil before in
         let is_given : octets ≡ given = left.2 ∙ ap (λ (l : List ℕ). given ++ l) none ∙ append-nil given in
@@ -201,7 +201,7 @@ module _ (job : Job ReportValue) (stays : Stays job)
     run_long x =
         let given : List ℕ = octets_given x.pieces in
         let left = left_of old.left new.left octets given known x.pieces.consumed in
-        let k = returns job given x.reading new (Err InputTooLong) x.comes in
+        let k = comes_to-result job given x.reading new (Err InputTooLong) x.comes in
         let many : job.limit < length given = k.0 in
         let is : limited_octets ≡ take job.limit given =
         ap (take job.limit) left.2 ∙ take-append-le job.limit given left.0 (omega (arith, many)) in

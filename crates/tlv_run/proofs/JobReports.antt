@@ -5,7 +5,7 @@ use Rattle.tlv_walk.specs.declared.run.DeviceFault.{DeviceFault}
 use Rattle.tlv_walk.specs.declared.run.DeviceFault.TheVariants.{ReadFailed, WriteFailed, InputTooLong}
 use Rattle.tlv_io.specs.Device.{octets_given}
 use Rattle.tlv_walk.specs.Job.{DeviceStates, Job, Runs, WantMore, read_failed, too_long, write_failed}
-use Rattle.tlv_walk.proofs.FollowerLemmas.Enough.{comes_to, returns}
+use Rattle.tlv_walk.proofs.FollowerLemmas.Enough.{comes_to, comes_to-result}
 use Rattle.tlv_run.specs.Report.{ReportValue, device_report}
 use Rattle.tlv_run.specs.Results.{job_with_report}
 use Rattle.tlv_run.specs.RunsAndReports.{RunsAndReports}
@@ -34,7 +34,7 @@ module _ {A : Type 0} (report : A → ReportValue) (job : Job A) where
         is_reading = x.is_reading;
         sends = x.sends;
         comes =
-            let k = returns job (octets_given x.pieces) x.reading new.source (Ok a) x.comes in
+            let k = comes_to-result job (octets_given x.pieces) x.reading new.source (Ok a) x.comes in
             comes_to (job_with_report report job) (octets_given x.pieces) x.reading new.source (Ok (report a))
             (k.0, ap report k.1, k.2, k.3);
       };
@@ -50,7 +50,7 @@ module _ {A : Type 0} (report : A → ReportValue) (job : Job A) where
         reading = x.reading;
         is_reading = x.is_reading;
         sends = x.sends;
-        comes = read_failed (returns job (octets_given x.pieces) x.reading new.source (Err ReadFailed) x.comes);
+        comes = read_failed (comes_to-result job (octets_given x.pieces) x.reading new.source (Err ReadFailed) x.comes);
       };
       report_is = e;
     }
@@ -79,7 +79,7 @@ module _ {A : Type 0} (report : A → ReportValue) (job : Job A) where
         is_reading = x.is_reading;
         sends = x.sends;
         comes =
-            let k = returns job (octets_given x.pieces) x.reading new.source (Err InputTooLong) x.comes in
+            let k = comes_to-result job (octets_given x.pieces) x.reading new.source (Err InputTooLong) x.comes in
             too_long k.0 (wants_too _ k.1);
       };
       report_is = e;

@@ -4,7 +4,7 @@ use Rattle.std.proofs.Common.{subst, arith, append-nil, length-append}
 use Rattle.std.proofs.lemmas.List.{take_all}
 use Rattle.std.specs.Prelude.{Some, Result, Ok, Err}
 use Rattle.std.specs.Io.KnownBytes.{Appends}
-use Rattle.tlv_walk.proofs.FollowerLemmas.Enough.{returns}
+use Rattle.tlv_walk.proofs.FollowerLemmas.Enough.{comes_to-result}
 use Rattle.tlv_io.proofs.Sends.{sends_appends}
 use Rattle.tlv_walk.specs.declared.ending.Ending.{Ending}
 use Rattle.tlv_walk.specs.declared.run.DeviceFault.{DeviceFault}
@@ -36,7 +36,7 @@ module _ (job : Job ReportValue) (stays : Stays job) (octets : List ℕ) (all : 
   gives_ok report x =
       let given : List ℕ = octets_given x.pieces in
       let left = left_of old.source.left new.source.left octets given known x.pieces.consumed in
-      let k = returns job given x.reading new.source (Ok report) x.comes in
+      let k = comes_to-result job given x.reading new.source (Ok report) x.comes in
       let e : Ending = k.0 in
       let m : CommandResult = command_result job x.reading e in
       let short : length given ≤ job.limit = omega (arith, few, ap length left.2, length-append given left.0) in
@@ -65,21 +65,21 @@ module _ (job : Job ReportValue) (stays : Stays job) (octets : List ℕ) (all : 
         ]
       ]
 
-  gives : old.source.failures < 2 ^ 64 - 1 → new.source.failures ≡ old.source.failures
+  run-gives_report : old.source.failures < 2 ^ 64 - 1 → new.source.failures ≡ old.source.failures
       → old.drain.failures < 2 ^ 64 - 1 → new.drain.failures ≡ old.drain.failures
       → (result : Result ReportValue DeviceFault) → Runs job old new result
       → GivesReport (result_report result)
-  gives old_few quiet from_few took (Ok report) x = gives_ok report x
-  gives old_few quiet from_few took (Err ReadFailed) x =
+  run-gives_report old_few quiet from_few took (Ok report) x = gives_ok report x
+  run-gives_report old_few quiet from_few took (Err ReadFailed) x =
       absurd (goes_up old.source.failures old_few (sym x.failures ∙ quiet))
-  gives old_few quiet from_few took (Err WriteFailed) x =
+  run-gives_report old_few quiet from_few took (Err WriteFailed) x =
       absurd (goes_up old.drain.failures from_few (sym x.sends.failures ∙ took))
-  gives old_few quiet from_few took (Err InputTooLong) x =
+  run-gives_report old_few quiet from_few took (Err InputTooLong) x =
       let left = left_of old.source.left new.source.left octets (octets_given x.pieces) known x.pieces.consumed in
       absurd (omega (
         arith,
         few,
-        (returns job (octets_given x.pieces) x.reading new.source (Err InputTooLong) x.comes).0,
+        (comes_to-result job (octets_given x.pieces) x.reading new.source (Err InputTooLong) x.comes).0,
         ap length left.2,
         length-append (octets_given x.pieces) left.0,
       ))
@@ -90,7 +90,7 @@ run_results command names octets before after report input nowhere x =
     let job = command_job command names in
     let few : length octets ≤ job.limit =
     subst (λ (n : ℕ). length octets ≤ n) (sym (limit_is command names)) input.limit in
-    let y = gives job (stays_for command names) octets input.are_octets few before after input.left_is
+    let y = run-gives_report job (stays_for command names) octets input.are_octets few before after input.left_is
     nowhere.can_count_failed_read nowhere.no_failed_read nowhere.can_count_failed_write nowhere.no_failed_write x.result
     x.runs in
     (y.0, y.1, y.2, x.report_is ∙ y.3)

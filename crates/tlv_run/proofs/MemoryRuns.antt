@@ -28,8 +28,8 @@ octets_fit xs fits k d less = below (slice_index_or xs k d) (rw (get_or_default 
   below x f = omega (arith, f)
 
 -- what a source shows that has failed after its octets: it has nothing left
-spent : (s : FailingSourceState) → s.failures ≡ 1 → IsAtEnd (failing_source_state s).left
-spent s e = by_count s.failures e where
+failed-at_end : (s : FailingSourceState) → s.failures ≡ 1 → IsAtEnd (failing_source_state s).left
+failed-at_end s e = by_count s.failures e where
   by_count : (failures : ℕ) → failures ≡ 1 → octets_left failures s.source.left ≡ []
   by_count zero e = absurd (cc (e))
   by_count (suc n) e = refl
@@ -46,8 +46,8 @@ module _ (command : Command) (names : NamesValue) (octets : List ℕ)
     (from to : DrainState) (from_is : from ≡ record { octets = Some []; failures = 0 }) (written : ArrayVec ℕ)
     (took : to.octets ≡ Some written.items) (fits : length written.items ≤ room)
     (full_if_failed : length written.items < room → to.failures ≡ 0) (report : ReportValue) where
-  filled : to.failures ≡ 1 → length written.items ≡ room
-  filled one = elim (cases_lt (length written.items) room) [
+  failed-drain_full : to.failures ≡ 1 → length written.items ≡ room
+  failed-drain_full one = elim (cases_lt (length written.items) room) [
     | inl less ↦ let none = full_if_failed less in absurd (cc (one, none))
     | inr more ↦ omega (arith, fits, more)
   ]
@@ -61,7 +61,7 @@ module _ (command : Command) (names : NamesValue) (octets : List ℕ)
       (octets_fit octets fit) false old (unfailing_source_state new) from to room written.items
       (ap (λ (s : SourceState). s.left) e) (ap (λ (s : SourceState). s.failures) e) (λ k. absurd (cc (k))) (λ _ _. refl)
       (ap (λ (t : DrainState). t.octets) from_is) (ap (λ (t : DrainState). t.failures) from_is)
-      took fits filled report x
+      took fits failed-drain_full report x
 
   pub until_failure : (old : SourceState) (new : FailingSourceState) → old ≡ new_source (Some octets)
       → RunsAndReports (command_job command names) (device_states old from)
@@ -71,6 +71,6 @@ module _ (command : Command) (names : NamesValue) (octets : List ℕ)
       runs_octets (command_job command names) (stays_for command names) (text_on command names) octets
       (octets_fit octets fit) true old (failing_source_state new) from to room written.items
       (ap (λ (s : SourceState). s.left) e) (ap (λ (s : SourceState). s.failures) e)
-      (λ k. (refl, spent new k)) (λ _ k. absurd (gave_some new.source.log.last k))
+      (λ k. (refl, failed-at_end new k)) (λ _ k. absurd (gave_some new.source.log.last k))
       (ap (λ (t : DrainState). t.octets) from_is) (ap (λ (t : DrainState). t.failures) from_is)
-      took fits filled report x
+      took fits failed-drain_full report x

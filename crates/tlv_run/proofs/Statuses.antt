@@ -20,14 +20,14 @@ use Rattle.tlv_run.specs.declared.command.Command.{Command}
 use Rattle.tlv_run.specs.declared.command.Command.TheVariants.{Check, Dump, Extract, Indef}
 
 -- what is reported if there is no fault
-quiet : (unused : Option ℕ) (findings : ℕ) → (unused_report unused (findings_report findings)).status ≡ 2 → ⊥
-quiet None findings e = by-test (findings == 0) e
+no_fault-not_2 : (unused : Option ℕ) (findings : ℕ) → (unused_report unused (findings_report findings)).status ≡ 2 → ⊥
+no_fault-not_2 None findings e = by-test (findings == 0) e
   where
     by-test : (none : Bool)
         → (if none then clean_report else report_with 1 (codes "findings: " ++ decimal findings)).status ≡ 2 → ⊥
     by-test true e = absurd (cc (e))
     by-test false e = absurd (cc (e))
-quiet (Some offset) findings e = absurd (cc (e))
+no_fault-not_2 (Some offset) findings e = absurd (cc (e))
 
 found_quiet : (offset : ℕ) (found : Bool) → (found_report offset found).status ≡ 2 → ⊥
 found_quiet offset true e = absurd (cc (e))
@@ -36,9 +36,9 @@ found_quiet offset false e = absurd (cc (e))
 done_quiet : (command : Command) (names : NamesValue) (f : Forest)
     → ((command_job command names).result f ending.Done).status ≡ 2 → ⊥
 done_quiet (Dump options names_file file) names f e =
-    let outcome : Outcome = (dump_job options names).result f ending.Done in quiet outcome.unused outcome.findings e
+    let outcome : Outcome = (dump_job options names).result f ending.Done in no_fault-not_2 outcome.unused outcome.findings e
 done_quiet (Check rules framing file) names f e =
-    let outcome : Outcome = (check_job rules framing).result f ending.Done in quiet outcome.unused outcome.findings e
+    let outcome : Outcome = (check_job rules framing).result f ending.Done in no_fault-not_2 outcome.unused outcome.findings e
 done_quiet (Extract offset contents framing file) names f e = found_quiet offset (has_element_at offset f) e
 done_quiet (Indef padding file) names f e = absurd (cc (e))
 
@@ -50,8 +50,8 @@ fault_loud (Check rules framing file) names f (ending.Fault k) apart = refl
 fault_loud (Extract offset contents framing file) names f (ending.Fault k) apart = refl
 fault_loud (Indef padding file) names f (ending.Fault k) apart = refl
 
-pub statuses : StatusesShowSoundness
-statuses command names b made x open_ =
+pub statuses_show_soundness : StatusesShowSoundness
+statuses_show_soundness command names b made x open_ =
     let job = command_job command names in
     let ends : IsEnding job.framing b made.ending =
     subst (λ (k : Bool). EndsWith job.framing b k made.ending) open_ x.ends in

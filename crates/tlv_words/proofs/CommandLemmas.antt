@@ -15,9 +15,9 @@ use Rattle.tlv_words.specs.CommandLine.{tlvdump_app}
 use Rattle.tlv_words.specs.CommandOf.{AreReadAs, AreRefusedBy, IsUsageFaultOf, matched_command}
 use Rattle.tlv_words.specs.Private.CommandOf.{Returns, IsFaultFor}
 
-pub simple : is_simple tlvdump_app ≡ true
+pub tlvdump_app-simple : is_simple tlvdump_app ≡ true
 unfolding clap_on_literals tlvdump_app
-simple = refl
+tlvdump_app-simple = refl
 
 pub simple_and_free : is_simple_and_free tlvdump_app ≡ true
 unfolding clap_on_literals tlvdump_app

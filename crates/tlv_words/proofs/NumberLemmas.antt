@@ -10,11 +10,11 @@ use Rattle.std.specs.Str.Parse.{digits_value}
 use Rattle.std.specs.Char.{IsAsciiDigit, is_ascii_digit}
 
 -- a number of less than 13 digits
-pub short : (n i : ℕ) → n < 10 ^ i → i ≤ 12 → n < 1000000000000
-short n i h k = let p : 10 ^ i ≤ 10 ^ 12 = pow-le-pow_right (omega arith) k in omega arith
+pub digits-below_limit : (n i : ℕ) → n < 10 ^ i → i ≤ 12 → n < 1000000000000
+digits-below_limit n i h k = let p : 10 ^ i ≤ 10 ^ 12 = pow-le-pow_right (omega arith) k in omega arith
 
-power : (i : ℕ) → 10 ^ (i + 1) ≡ 10 ^ i * 10
-power i = rw (add-one, pow-suc)
+power-next : (i : ℕ) → 10 ^ (i + 1) ≡ 10 ^ i * 10
+power-next i = rw (add-one, pow-suc)
 
 -- one more digit
 pub one_digit : (bs : List ℕ) (i n d : ℕ) → i < length bs → IsAsciiDigit (get_or bs i 0)
@@ -25,7 +25,7 @@ pub one_digit : (bs : List ℕ) (i n d : ℕ) → i < length bs → IsAsciiDigit
 one_digit bs i n d h digit test e passed value small =
     let more = digits_value_more 10 bs i h in
     let worth = digit_value_digit (get_or bs i 0) digit in
-    let grows = power i in (
+    let grows = power-next i in (
       list_all_more is_ascii_digit bs i 0 h ∙ ap₂ ◌&&◌ passed (sym test),
       omega arith,
       omega arith,

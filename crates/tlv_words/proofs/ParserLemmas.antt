@@ -5,15 +5,15 @@ use Rattle.tlv_words.specs.Private.Parsers.{IsArgumentOf, IsParserOf}
 use Rattle.clap.specs.declared.builder.arg.Arg.{Arg}
 use Rattle.clap.specs.declared.builder.command.Command.{Command}
 
-neither : (a b : Bool) → a ≡ false → b ≡ false → (a || b) ≡ false
-neither a b p q = ap₂ ◌||◌ p q
+or-false : (a b : Bool) → a ≡ false → b ≡ false → (a || b) ≡ false
+or-false a b p q = ap₂ ◌||◌ p q
 
 -- one more argument
 pub one_more : {old new : Command} {a : Arg} {x : App} {r : Rule} → IsParserOf x old → AddsArg old a new
     → IsArgumentOf r a → IsParserOf (with_rule x r) new
 one_more s h t = record {
   same_app = h.shape t.local ∙ ap₂ with_rule s.same_app t.same_rule;
-  local = h.globals ∙ neither _ _ s.local t.local;
+  local = h.globals ∙ or-false _ _ s.local t.local;
 }
 
 -- one more subcommand
@@ -21,5 +21,5 @@ pub one_below : {old sub new : Command} {x y : App} → IsParserOf x old → Add
     → IsParserOf (with_subcommand x y.top) new
 one_below s h t = record {
   same_app = h.shape t.local ∙ ap₂ with_subcommand s.same_app (ap (λ (a : App). a.top) t.same_app);
-  local = h.globals ∙ neither _ _ s.local t.local;
+  local = h.globals ∙ or-false _ _ s.local t.local;
 }

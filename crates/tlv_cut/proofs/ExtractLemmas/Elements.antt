@@ -41,8 +41,8 @@ module _ (n : ℕ) (only : Bool) where
     pub misses : e ≡ None → t ≡ no_effect before
 
   -- there is none
-  missed : (t : Effect ExtractState) → t ≡ no_effect before → IsTextOf None t
-  missed t e = record {
+  no_effect-is_text : (t : Effect ExtractState) → t ≡ no_effect before → IsTextOf None t
+  no_effect-is_text t e = record {
     put = ap (λ (t : Effect ExtractState). t.put) e;
     goes = ap (λ (t : Effect ExtractState). t.goes) e;
     found = ap (λ (t : Effect ExtractState). has_found t.state) e;
@@ -68,11 +68,11 @@ module _ (n : ℕ) (only : Bool) where
   }
 
   -- one of two, by a test
-  choose : (k : Bool) (a b : Option Forest) (t : Effect ExtractState) → (k ≡ true → IsTextOf a t)
+  text-by_test : (k : Bool) (a b : Option Forest) (t : Effect ExtractState) → (k ≡ true → IsTextOf a t)
       → (k ≡ false → IsTextOf b t)
       → IsTextOf (if k then a else b) t
-  choose true a b t f g = f refl
-  choose false a b t f g = g refl
+  text-by_test true a b t f g = f refl
+  text-by_test false a b t f g = g refl
 
   -- the first that is there
   first_there : (a b : Option Forest) (t : Effect ExtractState) → ((e : Forest) → a ≡ Some e → IsTextOf a t)
@@ -180,9 +180,9 @@ module _ (n : ℕ) (only : Bool) where
   abbrev AllWhole : Option Forest → Type 0
   AllWhole e = option_map_or is_whole e true ≡ true
 
-  either : (k : Bool) (a b : Option Forest) → AllWhole a → AllWhole b → AllWhole (if k then a else b)
-  either true a b v w = v
-  either false a b v w = w
+  whole-by_test : (k : Bool) (a b : Option Forest) → AllWhole a → AllWhole b → AllWhole (if k then a else b)
+  whole-by_test true a b v w = v
+  whole-by_test false a b v w = w
 
   either_there : (a b : Option Forest) → AllWhole a → AllWhole b → AllWhole (option_or a b)
   either_there (Some e) b v w = v
@@ -193,12 +193,12 @@ module _ (n : ℕ) (only : Bool) where
   whole_at p NoMore v w = refl
   whole_at p (PaddingOctet rest) v w = whole_at (place_after p 1) rest v.1 w
   whole_at p (Primitive h c rest) v w =
-      either (h.offset == n) (Some (Primitive h c NoMore)) (element_at n rest) refl
+      whole-by_test (h.offset == n) (Some (Primitive h c NoMore)) (element_at n rest) refl
       (whole_at (place_after p _) rest v.1 w)
   whole_at p (Holder h inside rest) v w =
       let a = element_at n inside in
       let b = element_at n rest in
-      either (h.offset == n) (Some (Holder h inside NoMore)) (option_or a b) refl
+      whole-by_test (h.offset == n) (Some (Holder h inside NoMore)) (option_or a b) refl
       (either_there a b (whole_at (place_of_children p h) inside v.1 v.0.1)
       (whole_at (place_after p (extent h inside)) rest v.2 w))
   whole_at p (OpenPrimitive h c) v w = absurd (cc (w))
@@ -212,10 +212,10 @@ module _ (n : ℕ) (only : Bool) where
   there_whole (Some d) e is w = w
   there_whole None e is w = absurd (cc (is))
 
-  -- once there was enough, nothing is made of more events
-  enough : (es fs : List EventValue) (octets : List ℕ) → made_from before es ≡ finish_step octets
+  -- once there was enough-ends_all, nothing is made of more events
+  enough-ends_all : (es fs : List EventValue) (octets : List ℕ) → made_from before es ≡ finish_step octets
       → made_from before (es ++ fs) ≡ finish_step octets
-  enough es fs octets e = followed-enough extract_step before es fs (ap (λ (t : Effect ExtractState). t.goes) e) ∙ e
+  enough-ends_all es fs octets e = followed-enough extract_step before es fs (ap (λ (t : Effect ExtractState). t.goes) e) ∙ e
 
   -- an element that holds others and is not the one wanted
   passed_by : (p : Place) (h : HeaderValue) (inside rest : Forest) → KeepsRules p (Holder h inside rest)
@@ -244,25 +244,25 @@ module _ (n : ℕ) (only : Bool) where
   -- what is made of the events of elements is the text of the element at the offset
   pub makes_text : (p : Place) (f : Forest) → KeepsRules p f → p.depth ≤ 128
       → IsTextOf (element_at n f) (made_from before (events f))
-  makes_text p NoMore v deep = missed (made_from before []) refl
+  makes_text p NoMore v deep = no_effect-is_text (made_from before []) refl
   makes_text p (PaddingOctet rest) v deep = makes_text (place_after p 1) rest v.1 deep
   makes_text p (Primitive h c rest) v deep =
       let es = Begin h ∷ Bytes c ∷ End ∷ [] in
-      choose (h.offset == n) (Some (Primitive h c NoMore)) (element_at n rest) (made_from before (es ++ events rest))
+      text-by_test (h.offset == n) (Some (Primitive h c NoMore)) (element_at n rest) (made_from before (es ++ events rest))
       (λ e. whole_text (Primitive h c NoMore) _ _ refl (whole_octets h c)
-      (enough es (events rest) _ (made_from-primitive h c e)))
+      (enough-ends_all es (events rest) _ (made_from-primitive h c e)))
       (λ e. subst (IsTextOf (element_at n rest))
       (sym (then_more before before [] (Begin h ∷ Bytes c ∷ []) (End ∷ events rest)
       (made_from-begins before before [] h c (other_begins h e))))
       (makes_text (place_after p _) rest v.1 deep))
   makes_text p (Holder h inside rest) v deep =
       let es = opening_events h ++ (events inside ++ closing_event h inside ∷ []) in
-      choose (h.offset == n) (Some (Holder h inside NoMore)) (option_or (element_at n inside) (element_at n rest))
+      text-by_test (h.offset == n) (Some (Holder h inside NoMore)) (option_or (element_at n inside) (element_at n rest))
       (made_from before (events (Holder h inside rest)))
       (λ e.
       let k =
       passed_on n only (place_of_children p h) 0 inside v.1 (omega arith) (omega (arith, (v.0.0.shallow refl))) in
-      let all = enough es (events rest) _ (made_from-holder h inside e v.0.0.header.valid.allowed v.0.1 k) in
+      let all = enough-ends_all es (events rest) _ (made_from-holder h inside e v.0.0.header.valid.allowed v.0.1 k) in
       whole_text (Holder h inside NoMore) _ _ refl (holder_octets h inside)
       (ap (made_from before) (events-holder h inside rest) ∙ all))
       (λ e. passed_by p h inside rest v e
@@ -270,16 +270,16 @@ module _ (n : ℕ) (only : Bool) where
       (makes_text (place_after p (extent h inside)) rest v.2 deep))
   makes_text p (OpenPrimitive h c) v deep =
       let es = Begin h ∷ Bytes c ∷ [] in
-      choose (h.offset == n) (Some (OpenPrimitive h c)) None (made_from before es)
+      text-by_test (h.offset == n) (Some (OpenPrimitive h c)) None (made_from before es)
       (λ e.
       let all =
       made_from-begins before (state_inside n only 0) (outer_octets only (octets_of h)) h c (wanted_begins h e) in
       open_text (OpenPrimitive h c) _ refl (ap (λ (t : Effect ExtractState). t.put) all ∙ open_primitive_octets h c)
       (ap (λ (t : Effect ExtractState). t.goes) all)
       (ap (λ (t : Effect ExtractState). has_found t.state) all))
-      (λ e. missed _ (made_from-begins before before [] h c (other_begins h e)))
+      (λ e. no_effect-is_text _ (made_from-begins before before [] h c (other_begins h e)))
   makes_text p (OpenHolder h inside) v deep =
-      choose (h.offset == n) (Some (OpenHolder h inside)) (element_at n inside)
+      text-by_test (h.offset == n) (Some (OpenHolder h inside)) (element_at n inside)
       (made_from before (opening_events h ++ events inside))
       (λ e.
       let k =
@@ -295,12 +295,12 @@ module _ (n : ℕ) (only : Bool) where
       (λ e. subst (IsTextOf (element_at n inside)) (sym (opens_other h (events inside) e))
       (makes_text (place_of_children p h) inside v.1 (omega (arith, (v.0.0.shallow refl)))))
   makes_text p (OpenBitString h) v deep =
-      choose (h.offset == n) (Some (OpenBitString h)) None (made_from before (Enter h ∷ []))
+      text-by_test (h.offset == n) (Some (OpenBitString h)) None (made_from before (Enter h ∷ []))
       (λ e.
       let all = followed-one extract_step before (Enter h) ∙ wanted_begins h e in
       open_text (OpenBitString h) _ refl (ap (λ (t : Effect ExtractState). t.put) all ∙ open_bit_string_octets h)
       (ap (λ (t : Effect ExtractState). t.goes) all)
       (ap (λ (t : Effect ExtractState). has_found t.state) all))
-      (λ e. missed _ (followed-one extract_step before (Enter h) ∙ other_begins h e))
-  makes_text p (OpenHeader octets) v deep = missed (made_from before []) refl
-  makes_text p OpenEndOctets v deep = missed (made_from before []) refl
+      (λ e. no_effect-is_text _ (followed-one extract_step before (Enter h) ∙ other_begins h e))
+  makes_text p (OpenHeader octets) v deep = no_effect-is_text (made_from before []) refl
+  makes_text p OpenEndOctets v deep = no_effect-is_text (made_from before []) refl

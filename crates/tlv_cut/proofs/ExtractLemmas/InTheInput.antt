@@ -77,12 +77,12 @@ module _ (n : ℕ) where
     pub parts : octets_so_far e
         ≡ octets_of header ++ (contents_so_far e ++ (if is_whole e then end_octets header.size else []))
 
-  -- it is the first of the forest
-  first : (p : Place) (k : Bool) (h : HeaderValue) (f e : Forest) (rest : List ℕ) → IsHeaderAt p k h
+  -- it is the found-here of the forest
+  found-here : (p : Place) (k : Bool) (h : HeaderValue) (f e : Forest) (rest : List ℕ) → IsHeaderAt p k h
       → (h.offset == n) ≡ true → spelling f ≡ octets_so_far e ++ rest
       → octets_so_far e ≡ octets_of h ++ (contents_so_far e ++ (if is_whole e then end_octets h.size else []))
       → IsFoundIn p f e
-  first p k h f e rest at is octets parts = record {
+  found-here p k h f e rest at is octets parts = record {
     before = [];
     after = rest;
     octets_are = octets;
@@ -94,10 +94,10 @@ module _ (n : ℕ) where
   }
 
   -- it is among elements that come later, or deeper
-  further : (p q : Place) (f g e : Forest) (o t : List ℕ) → spelling f ≡ o ++ (spelling g ++ t)
+  found-further : (p q : Place) (f g e : Forest) (o t : List ℕ) → spelling f ≡ o ++ (spelling g ++ t)
       → q.offset ≡ p.offset + length o
       → IsFoundIn q g e → IsFoundIn p f e
-  further p q f g e o t all at r = record {
+  found-further p q f g e o t all at r = record {
     before = o ++ r.before;
     after = r.after ++ t;
     octets_are =
@@ -112,28 +112,28 @@ module _ (n : ℕ) where
   }
 
   -- an element with that offset, or one of others
-  choose : (p : Place) (f : Forest) (k : Bool) (d : Forest) (b : Option Forest) (e : Forest)
+  found-by_test : (p : Place) (f : Forest) (k : Bool) (d : Forest) (b : Option Forest) (e : Forest)
       → (k ≡ true → IsFoundIn p f d)
       → (k ≡ false → b ≡ Some e → IsFoundIn p f e) → (if k then Some d else b) ≡ Some e → IsFoundIn p f e
-  choose p f true d b e x y is = let same : d ≡ e = cc in subst (IsFoundIn p f) same (x refl)
-  choose p f false d b e x y is = y refl is
+  found-by_test p f true d b e x y is = let same : d ≡ e = cc in subst (IsFoundIn p f) same (x refl)
+  found-by_test p f false d b e x y is = y refl is
 
-  -- the first that is there
+  -- the found-here that is there
   first_there : (p : Place) (f : Forest) (a b : Option Forest) (e : Forest) → (a ≡ Some e → IsFoundIn p f e)
       → (b ≡ Some e → IsFoundIn p f e)
       → option_or a b ≡ Some e → IsFoundIn p f e
   first_there p f (Some d) b e x y is = x is
   first_there p f None b e x y is = y is
 
-  none : (p : Place) (f e : Forest) → None ≡ Some e → IsFoundIn p f e
-  none p f e is = absurd (cc (is))
+  found-none : (p : Place) (f e : Forest) → None ≡ Some e → IsFoundIn p f e
+  found-none p f e is = absurd (cc (is))
 
   -- it is after an element
   in_rest : (p q : Place) (f rest e : Forest) (o : List ℕ) → spelling f ≡ o ++ spelling rest
       → q.offset ≡ p.offset + length o
       → IsFoundIn q rest e → IsFoundIn p f e
   in_rest p q f rest e o all at r =
-      further p q f rest e o [] (all ∙ ap (λ (l : List ℕ). o ++ l) (sym (append-nil (spelling rest)))) at r
+      found-further p q f rest e o [] (all ∙ ap (λ (l : List ℕ). o ++ l) (sym (append-nil (spelling rest)))) at r
 
   holder_parts : (h : HeaderValue) (inside : Forest)
       → octets_so_far (Holder h inside NoMore)
@@ -144,67 +144,67 @@ module _ (n : ℕ) where
       ∙ ap (λ (l : List ℕ). octets_of h ++ (lead h ++ (octets_so_far inside ++ l))) (append-nil e)
       ∙ ap (λ (l : List ℕ). octets_of h ++ l) (sym (append_assoc (lead h) (octets_so_far inside) e))
 
-  pub find : (p : Place) (f : Forest) → KeepsRules p f → (e : Forest) → element_at n f ≡ Some e → IsFoundIn p f e
-  find p NoMore v d some = none p NoMore d some
-  find p (PaddingOctet rest) v d some =
-      in_rest p (place_after p 1) (PaddingOctet rest) rest d (0 ∷ []) refl refl (find (place_after p 1) rest v.1 d some)
-  find p (Primitive h c rest) v d some =
+  pub found_in_input : (p : Place) (f : Forest) → KeepsRules p f → (e : Forest) → element_at n f ≡ Some e → IsFoundIn p f e
+  found_in_input p NoMore v d some = found-none p NoMore d some
+  found_in_input p (PaddingOctet rest) v d some =
+      in_rest p (place_after p 1) (PaddingOctet rest) rest d (0 ∷ []) refl refl (found_in_input (place_after p 1) rest v.1 d some)
+  found_in_input p (Primitive h c rest) v d some =
       let f = Primitive h c rest in
-      choose p f (h.offset == n) (Primitive h c NoMore) (element_at n rest) d
+      found-by_test p f (h.offset == n) (Primitive h c NoMore) (element_at n rest) d
       (λ is.
-      first p false h f (Primitive h c NoMore) (spelling rest) v.0.0.header is
+      found-here p false h f (Primitive h c NoMore) (spelling rest) v.0.0.header is
       (sym (append_assoc-3 (octets_of h) c [] (spelling rest)))
       (ap (λ (l : List ℕ). octets_of h ++ (c ++ l)) (sym (ap end_octets v.0.1))))
       (λ _ some.
       in_rest p (place_after p _) f rest d (octets_of h ++ c) (sym (append_assoc (octets_of h) c (spelling rest)))
       (omega (arith, length-append (octets_of h) c))
-      (find (place_after p _) rest v.1 d some))
+      (found_in_input (place_after p _) rest v.1 d some))
       some
-  find p (Holder h inside rest) v d some =
+  found_in_input p (Holder h inside rest) v d some =
       let f = Holder h inside rest in
       let e = end_octets h.size in
       let i = octets_so_far-prefix (place_of_children p h) inside refl v.1 in
-      choose p f (h.offset == n) (Holder h inside NoMore) (option_or (element_at n inside) (element_at n rest)) d
+      found-by_test p f (h.offset == n) (Holder h inside NoMore) (option_or (element_at n inside) (element_at n rest)) d
       (λ is.
-      first p true h f (Holder h inside NoMore) (spelling rest) v.0.0.header is
+      found-here p true h f (Holder h inside NoMore) (spelling rest) v.0.0.header is
       (ap (λ (k : List ℕ). opening h ++ (k ++ (e ++ spelling rest))) (i.all v.0.1)
       ∙ sym (append_assoc-4 (opening h) (octets_so_far inside) e [] (spelling rest)))
       (holder_parts h inside))
       (λ _ some.
       first_there p f (element_at n inside) (element_at n rest) d
-      (λ some. further p (place_of_children p h) f inside d (opening h) (e ++ spelling rest) refl refl
-      (find (place_of_children p h) inside v.1 d some))
+      (λ some. found-further p (place_of_children p h) f inside d (opening h) (e ++ spelling rest) refl refl
+      (found_in_input (place_of_children p h) inside v.1 d some))
       (λ some.
       in_rest p (place_after p (extent h inside)) f rest d (opening h ++ (spelling inside ++ e))
       (sym (append_assoc-3 (opening h) (spelling inside) e (spelling rest)))
       (omega (arith, length-append (opening h) (spelling inside ++ e), length-append (spelling inside) e))
-      (find (place_after p (extent h inside)) rest v.2 d some))
+      (found_in_input (place_after p (extent h inside)) rest v.2 d some))
       some)
       some
-  find p (OpenPrimitive h c) v d some =
-      choose p (OpenPrimitive h c) (h.offset == n) (OpenPrimitive h c) None d
+  found_in_input p (OpenPrimitive h c) v d some =
+      found-by_test p (OpenPrimitive h c) (h.offset == n) (OpenPrimitive h c) None d
       (λ is.
-      first p false h (OpenPrimitive h c) (OpenPrimitive h c) [] v.0.header is (sym (append-nil (octets_of h ++ c)))
+      found-here p false h (OpenPrimitive h c) (OpenPrimitive h c) [] v.0.header is (sym (append-nil (octets_of h ++ c)))
       (ap (λ (l : List ℕ). octets_of h ++ l) (sym (append-nil c))))
-      (λ _ some. none p (OpenPrimitive h c) d some)
+      (λ _ some. found-none p (OpenPrimitive h c) d some)
       some
-  find p (OpenHolder h inside) v d some =
+  found_in_input p (OpenHolder h inside) v d some =
       let f = OpenHolder h inside in
       let i = octets_so_far-prefix (place_of_children p h) inside refl v.1 in
-      choose p f (h.offset == n) f (element_at n inside) d
+      found-by_test p f (h.offset == n) f (element_at n inside) d
       (λ is.
-      first p true h f f i.rest v.0.0.header is
+      found-here p true h f f i.rest v.0.0.header is
       (ap (λ (l : List ℕ). opening h ++ l) i.octets_are ∙ sym (append_assoc (opening h) (octets_so_far inside) i.rest))
       (append_assoc (octets_of h) (lead h) (octets_so_far inside)
       ∙ ap (λ (l : List ℕ). octets_of h ++ l) (sym (append-nil (lead h ++ octets_so_far inside)))))
       (λ _ some. in_rest p (place_of_children p h) f inside d (opening h) refl refl
-      (find (place_of_children p h) inside v.1 d some))
+      (found_in_input (place_of_children p h) inside v.1 d some))
       some
-  find p (OpenBitString h) v d some =
-      choose p (OpenBitString h) (h.offset == n) (OpenBitString h) None d
-      (λ is. first p true h (OpenBitString h) (OpenBitString h) [] v.0.header is (sym (append-nil (octets_of h)))
+  found_in_input p (OpenBitString h) v d some =
+      found-by_test p (OpenBitString h) (h.offset == n) (OpenBitString h) None d
+      (λ is. found-here p true h (OpenBitString h) (OpenBitString h) [] v.0.header is (sym (append-nil (octets_of h)))
       (sym (append-nil (octets_of h))))
-      (λ _ some. none p (OpenBitString h) d some)
+      (λ _ some. found-none p (OpenBitString h) d some)
       some
-  find p (OpenHeader octets) v d some = none p (OpenHeader octets) d some
-  find p OpenEndOctets v d some = none p OpenEndOctets d some
+  found_in_input p (OpenHeader octets) v d some = found-none p (OpenHeader octets) d some
+  found_in_input p OpenEndOctets v d some = found-none p OpenEndOctets d some

@@ -38,10 +38,10 @@ module _ (framing : Framing) (n : ℕ) (only : Bool) (t : ExtractState) (old new
       → (made_from (new_extract n only) (events f)).put ≡ extract_text n only f
   text octets f few r = (made_text octets f r).put
 
-  -- there was enough exactly if the element is whole
-  enough : (octets : List ℕ) (f : Forest) → length octets ≤ 2 ^ 40 → IsReading framing octets f
+  -- there was enough-if_whole exactly if the element is whole
+  enough-if_whole : (octets : List ℕ) (f : Forest) → length octets ≤ 2 ^ 40 → IsReading framing octets f
       → had_enough (made_from (new_extract n only) (events f)).goes ≡ has_whole_element_at n f
-  enough octets f few r = ap had_enough (made_text octets f r).goes ∙ jobs.had-goes (has_whole_element_at n f)
+  enough-if_whole octets f few r = ap had_enough (made_text octets f r).goes ∙ jobs.had-goes (has_whole_element_at n f)
 
   -- a result with these values
   answer_is : (answer : Cut) (e : Ending) (found : Bool) → answer.ending ≡ e → answer.found ≡ found
@@ -56,7 +56,7 @@ module _ (framing : Framing) (n : ℕ) (only : Bool) (t : ExtractState) (old new
       → Runs (extract_job n only framing) (device_states old from) (device_states new to) (Ok answer)
   extract_ok run answer ending found x =
       jobs.runs_ok extract_step (extract_job n only framing)
-      (new_extract n only) text enough t old new from to run answer x
+      (new_extract n only) text enough-if_whole t old new from to run answer x
       (λ octets f e few r done state is. answer_is answer e (has_element_at n f)
       (ending ∙ ap (λ (k : Run). k.ending) is
       ∙ jobs.run-ending framing f (followed_events extract_step (new_extract n only) (events f))
@@ -68,4 +68,4 @@ module _ (framing : Framing) (n : ℕ) (only : Bool) (t : ExtractState) (old new
       (Err e)
       → Runs (extract_job n only framing) (device_states old from) (device_states new to) (Err e)
   extract_err e x =
-      jobs.runs_err extract_step (extract_job n only framing) (new_extract n only) text enough t old new from to e x
+      jobs.runs_err extract_step (extract_job n only framing) (new_extract n only) text enough-if_whole t old new from to e x

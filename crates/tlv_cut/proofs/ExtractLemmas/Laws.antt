@@ -17,7 +17,7 @@ use Rattle.tlv_cut.specs.ExtractLaws.{ExtractTextIsInTheInput, EnoughComesAtEnds
 use Rattle.tlv_cut.specs.ExtractStep.{ExtractState, extract_begin_step, extract_octet_step, outer_octets}
 use Rattle.tlv_cut.specs.ExtractStep.{extract_step_to}
 use Rattle.tlv_cut.proofs.ExtractLemmas.Elements.{makes_text}
-use Rattle.tlv_cut.proofs.ExtractLemmas.InTheInput.{find}
+use Rattle.tlv_cut.proofs.ExtractLemmas.InTheInput.{found_in_input}
 
 -- an element that is there
 the_some : (o : Option Forest) → is_some o ≡ true → (e : Forest) × (o ≡ Some e)
@@ -27,7 +27,7 @@ the_some None some = absurd (cc (some))
 pub extract_text_is_in_the_input : ExtractTextIsInTheInput
 extract_text_is_in_the_input framing b f r n some =
     let there = the_some (element_at n f) some in
-    let e = find n (top_place framing) f r.keeps_rules there.0 there.1 in
+    let e = found_in_input n (top_place framing) f r.keeps_rules there.0 there.1 in
     let written : extract_text n false f ≡ octets_so_far there.0 =
     ap (λ (o : Option Forest). option_map_or octets_so_far o []) there.1 in
     record {

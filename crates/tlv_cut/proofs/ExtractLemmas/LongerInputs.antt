@@ -93,16 +93,16 @@ made_from-found_more s es fs b =
 module _ (framing : Framing) (b c : List ℕ) (f g : Forest) (r : IsReading framing b f)
     (s : IsReading framing (b ++ c) g) (n : ℕ) (only : Bool) where
   -- the events after those of the shorter input
-  others : (es : List EventValue) × AreEqualJoined (events g) (events f ++ es)
-  others = events-prefix framing b c f g r s
+  later_events : (es : List EventValue) × AreEqualJoined (events g) (events f ++ es)
+  later_events = events-prefix framing b c f g r s
 
-  -- after them the same is made as of the events of the longer input
-  longer : made_from (new_extract n only) (events g) ≡ made_from (new_extract n only) (events f ++ others.0)
+  -- after them the whole-same is made as of the events of the longer input
+  longer : made_from (new_extract n only) (events g) ≡ made_from (new_extract n only) (events f ++ later_events.0)
   longer =
       followed-alike extract_step (each_octet-joins extract_octet_step) (λ s. refl)
       (each_octet-goes_on extract_octet_step)
       (λ s x y. refl) (λ s. refl) (λ s x. refl)
-      (new_extract n only) (events g) (events f ++ others.0) others.1
+      (new_extract n only) (events g) (events f ++ later_events.0) later_events.1
 
   shorter_text : IsTextOf n only (element_at n f) (made_from (new_extract n only) (events f))
   shorter_text = makes_text n only (top_place framing) f r.keeps_rules (omega arith)
@@ -112,7 +112,7 @@ module _ (framing : Framing) (b c : List ℕ) (f g : Forest) (r : IsReading fram
 
   pub extract_text_goes_on : IsPrefixOf (extract_text n only f) (extract_text n only g)
   extract_text_goes_on =
-      let front = followed-front extract_step (new_extract n only) (events f) others.0 in (
+      let front = followed-front extract_step (new_extract n only) (events f) later_events.0 in (
         front.0,
         sym (sym longer_text.put ∙ ap (λ (t : Effect ExtractState). t.put) longer ∙ front.1
             ∙ ap (λ (l : List ℕ). l ++ front.0) shorter_text.put),
@@ -121,21 +121,21 @@ module _ (framing : Framing) (b c : List ℕ) (f g : Forest) (r : IsReading fram
   pub found_elements_stay : has_element_at n f ≡ true → has_element_at n g ≡ true
   found_elements_stay e =
       sym longer_text.found ∙ ap (λ (t : Effect ExtractState). has_found t.state) longer
-      ∙ made_from-found_more (new_extract n only) (events f) others.0 (shorter_text.found ∙ e)
+      ∙ made_from-found_more (new_extract n only) (events f) later_events.0 (shorter_text.found ∙ e)
 
-  same : has_whole_element_at n f ≡ true
+  whole-same : has_whole_element_at n f ≡ true
       → made_from (new_extract n only) (events g) ≡ made_from (new_extract n only) (events f)
-  same e = longer
-      ∙ followed-enough extract_step (new_extract n only) (events f) others.0 (shorter_text.goes ∙ ap go_of e)
+  whole-same e = longer
+      ∙ followed-enough extract_step (new_extract n only) (events f) later_events.0 (shorter_text.goes ∙ ap go_of e)
 
   pub same_extract_text : has_whole_element_at n f ≡ true → extract_text n only g ≡ extract_text n only f
-  same_extract_text e = sym longer_text.put ∙ ap (λ (t : Effect ExtractState). t.put) (same e) ∙ shorter_text.put
+  same_extract_text e = sym longer_text.put ∙ ap (λ (t : Effect ExtractState). t.put) (whole-same e) ∙ shorter_text.put
 
   pub same_found : has_whole_element_at n f ≡ true → has_element_at n g ≡ has_element_at n f
   same_found e =
-      sym longer_text.found ∙ ap (λ (t : Effect ExtractState). has_found t.state) (same e) ∙ shorter_text.found
+      sym longer_text.found ∙ ap (λ (t : Effect ExtractState). has_found t.state) (whole-same e) ∙ shorter_text.found
 
   pub same_whole : has_whole_element_at n f ≡ true → has_whole_element_at n g ≡ has_whole_element_at n f
   same_whole e =
       goes_alike (has_whole_element_at n g) (has_whole_element_at n f)
-      (sym longer_text.goes ∙ ap (λ (t : Effect ExtractState). t.goes) (same e) ∙ shorter_text.goes)
+      (sym longer_text.goes ∙ ap (λ (t : Effect ExtractState). t.goes) (whole-same e) ∙ shorter_text.goes)

@@ -21,8 +21,8 @@ use Rattle.tlv_cut.specs.ExtractStep.{wanted_octets}
 use Rattle.tlv_cut.proofs.ExtractLemmas.Inside.{made_from, made_from-begins, then_more, primitive_passed_on}
 
 module _ (s : ExtractState) (h : HeaderValue) (o : List ℕ) where
-  abbrev c : List ℕ
-  c = contents_in h o
+  abbrev contents : List ℕ
+  contents = contents_in h o
 
   -- this `Extract`, at another position
   abbrev at : Position → ExtractState
@@ -37,23 +37,23 @@ module _ (s : ExtractState) (h : HeaderValue) (o : List ℕ) where
   whole_inside count e low all =
       subst
       (λ (w : Position). made_from (record s { position = w }) (whole_events h o)
-      ≡ effect_with (record s { position = w }) (octets_of h ++ c))
+      ≡ effect_with (record s { position = w }) (octets_of h ++ contents))
       (sym e)
-      (primitive_passed_on s.offset s.contents_only count h c low)
+      (primitive_passed_on s.offset s.contents_only count h contents low)
       ∙ ap (effect_with s) all
 
   -- an element of which nothing is put
-  passed_by : extract_begin_step s h ≡ no_effect s → wanted_octets s.position c ≡ []
+  passed_by : extract_begin_step s h ≡ no_effect s → wanted_octets s.position contents ≡ []
       → extract_end_step s [] ≡ no_effect s → effect ≡ no_effect s
   passed_by b none n =
-      then_more s s [] (Begin h ∷ Bytes c ∷ []) (End ∷ []) (made_from-begins s s [] h c b ∙ ap (effect_with s) none)
+      then_more s s [] (Begin h ∷ Bytes contents ∷ []) (End ∷ []) (made_from-begins s s [] h contents b ∙ ap (effect_with s) none)
       ∙ followed-one extract_step s End
       ∙ n
 
   pub whole_after : s.position ≡ After → effect ≡ no_effect s
   whole_after e =
       passed_by (subst (λ (w : Position). extract_begin_step (at w) h ≡ no_effect (at w)) (sym e) refl)
-      (subst (λ (w : Position). wanted_octets w c ≡ []) (sym e) refl)
+      (subst (λ (w : Position). wanted_octets w contents ≡ []) (sym e) refl)
       (subst (λ (w : Position). extract_end_step (at w) [] ≡ no_effect (at w)) (sym e) refl)
 
   pub whole_before : s.position ≡ Before → (h.offset == s.offset) ≡ false → effect ≡ no_effect s
@@ -62,15 +62,15 @@ module _ (s : ExtractState) (h : HeaderValue) (o : List ℕ) where
       (subst (λ (w : Position). extract_begin_step (at w) h ≡ no_effect (at w)) (sym e)
       (ap (λ (k : Bool). if k then extract_step_to (at Before) (Within 0)
       (outer_octets s.contents_only (octets_of h)) On else no_effect (at Before)) other))
-      (subst (λ (w : Position). wanted_octets w c ≡ []) (sym e) refl)
+      (subst (λ (w : Position). wanted_octets w contents ≡ []) (sym e) refl)
       (subst (λ (w : Position). extract_end_step (at w) [] ≡ no_effect (at w)) (sym e) refl)
 
 not_true : (b : Bool) → not b ≡ true → b ≡ false
 not_true false e = refl
 not_true true e = absurd (true≢false (sym e))
 
-pub differ : (m n i j : ℕ) → m ≡ i → n ≡ j → not (i == j) ≡ true → (m == n) ≡ false
-differ m n i j e f t = rw (e, f) (not_true (i == j) t)
+pub differ-differ : (m n i j : ℕ) → m ≡ i → n ≡ j → not (i == j) ≡ true → (m == n) ≡ false
+differ-differ m n i j e f t = rw (e, f) (not_true (i == j) t)
 
 -- ---- what a call does that may leave the events to other calls
 

@@ -13,7 +13,7 @@ use Rattle.tlv_walk.specs.Follow.{Effect, effect_of, followed_events, had_enough
 use Rattle.tlv_walk.specs.Forest.{Forest}
 use Rattle.tlv_walk.specs.Job.{Runs, device_states}
 use Rattle.tlv_walk.specs.Reading.{IsReading}
-use Rattle.tlv_walk.proofs.FollowerLemmas.Enough.{returns}
+use Rattle.tlv_walk.proofs.FollowerLemmas.Enough.{comes_to-result}
 use Rattle.tlv_walk.proofs.FollowerLemmas.Jobs as jobs
 use Rattle.tlv_cut.specs.IndefText.{indef_text}
 use Rattle.tlv_cut.specs.IndefStep.{IndefState, indef_step}
@@ -25,9 +25,9 @@ use Rattle.tlv_cut.proofs.IndefLemmas.SecondReading.{indef_text_is_done, indef_t
 
 module _ (padding : Bool) (s t : IndefState) (old new : SourceState) (from to : DrainState) where
   -- what is put for a reading is what `indef` writes
-  text : (octets : List ℕ) (f : Forest) → length octets ≤ 2 ^ 40 → IsReading (indef_framing padding) octets f
+  put-text : (octets : List ℕ) (f : Forest) → length octets ≤ 2 ^ 40 → IsReading (indef_framing padding) octets f
       → (effect_of indef_step s (events f)).put ≡ indef_text f
-  text octets f few r = ap (λ (k : Effect IndefState). k.put) (followed-events s f)
+  put-text octets f few r = ap (λ (k : Effect IndefState). k.put) (followed-events s f)
 
   -- it never has enough
   goes_on : (octets : List ℕ) (f : Forest) → length octets ≤ 2 ^ 40 → IsReading (indef_framing padding) octets f
@@ -41,7 +41,7 @@ module _ (padding : Bool) (s t : IndefState) (old new : SourceState) (from to : 
       let w = indef_framing padding in
       let given : List ℕ = octets_given x.pieces in
       let octets : List ℕ = take (2 ^ 40) given in
-      let k = returns (indef_job padding) given x.reading new (Ok e) x.comes in
+      let k = comes_to-result (indef_job padding) given x.reading new (Ok e) x.comes in
       let all : x.sends.sent ≡ indef_text x.reading =
       sym (append-nil x.sends.sent) ∙ ap (λ (l : List ℕ). x.sends.sent ++ l) (sym x.sends.all_sent) ∙ x.sends.prefix in
       subst (λ (l : List ℕ). IsReadBack padding x.reading l × IsEnding w l Done) (sym all) (
@@ -54,7 +54,7 @@ module _ (padding : Bool) (s t : IndefState) (old new : SourceState) (from to : 
       → Drives indef_step (indef_framing padding) (2 ^ 40) (drive_states s old from) (drive_states t new to) (Ok run)
       → Runs (indef_job padding) (device_states old from) (device_states new to) (Ok run.ending)
   runs_ok run x =
-      jobs.runs_ok indef_step (indef_job padding) s text goes_on t old new from to run run.ending x
+      jobs.runs_ok indef_step (indef_job padding) s put-text goes_on t old new from to run run.ending x
       (λ octets f e few r done state is. ap (λ (k : Run). k.ending) is
       ∙ jobs.run-ending (indef_framing padding) f (followed_events indef_step s (events f))
       (had_enough (effect_of indef_step s (events f)).goes) e done)
@@ -75,7 +75,7 @@ module _ (padding : Bool) (s t : IndefState) (old new : SourceState) (from to : 
       → Drives indef_step (indef_framing padding) (2 ^ 40) (drive_states s old from) (drive_states t new to) (Err e)
       → RunsIndef padding (device_states old from) (device_states new to) (Err e)
   indef_err e x = record {
-    runs = jobs.runs_err indef_step (indef_job padding) s text goes_on t old new from to e x;
+    runs = jobs.runs_err indef_step (indef_job padding) s put-text goes_on t old new from to e x;
     read_back = λ is. absurd (cc (is));
     done_again = λ is. absurd (cc (is));
   }

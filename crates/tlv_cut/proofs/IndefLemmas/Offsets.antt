@@ -81,23 +81,23 @@ open_holder_stays true h inside e i offset =
     ∙ ap (λ (f : Forest). OpenHolder g f) (i (offset + length (opening g)))
 open_holder_stays false h inside e i offset = refl
 
-stays : (f : Forest) → StaysAnywhere (with_indefinite_lengths f)
-stays NoMore offset = refl
-stays (PaddingOctet rest) offset = ap (λ (f : Forest). PaddingOctet f) (stays rest (offset + 1))
-stays (Primitive h c rest) offset =
+stays_anywhere : (f : Forest) → StaysAnywhere (with_indefinite_lengths f)
+stays_anywhere NoMore offset = refl
+stays_anywhere (PaddingOctet rest) offset = ap (λ (f : Forest). PaddingOctet f) (stays_anywhere rest (offset + 1))
+stays_anywhere (Primitive h c rest) offset =
     ap (λ (f : Forest). Primitive (record h { offset = offset }) c f)
-    (stays rest (offset + (length (octets_of h) + length c)))
-stays (Holder h inside rest) offset =
-    holder_stays h.constructed h (with_indefinite_lengths inside) (with_indefinite_lengths rest) refl (stays inside)
-    (stays rest) offset
-stays (OpenPrimitive h c) offset = refl
-stays (OpenHolder h inside) offset =
-    open_holder_stays h.constructed h (with_indefinite_lengths inside) refl (stays inside) offset
-stays (OpenBitString h) offset = refl
-stays (OpenHeader octets) offset = refl
-stays OpenEndOctets offset = refl
+    (stays_anywhere rest (offset + (length (octets_of h) + length c)))
+stays_anywhere (Holder h inside rest) offset =
+    holder_stays h.constructed h (with_indefinite_lengths inside) (with_indefinite_lengths rest) refl (stays_anywhere inside)
+    (stays_anywhere rest) offset
+stays_anywhere (OpenPrimitive h c) offset = refl
+stays_anywhere (OpenHolder h inside) offset =
+    open_holder_stays h.constructed h (with_indefinite_lengths inside) refl (stays_anywhere inside) offset
+stays_anywhere (OpenBitString h) offset = refl
+stays_anywhere (OpenHeader octets) offset = refl
+stays_anywhere OpenEndOctets offset = refl
 
 -- the same octets are written again
 pub indef_text-again : (offset : ℕ) (f : Forest)
     → indef_text (with_offsets_from offset (with_indefinite_lengths f)) ≡ indef_text f
-indef_text-again offset f = ap spelling (stays f offset) ∙ spelling-with_offsets_from offset (with_indefinite_lengths f)
+indef_text-again offset f = ap spelling (stays_anywhere f offset) ∙ spelling-with_offsets_from offset (with_indefinite_lengths f)

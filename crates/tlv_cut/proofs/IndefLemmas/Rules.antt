@@ -46,9 +46,9 @@ is_whole-with_indefinite_lengths (OpenBitString h) e = absurd (cc)
 is_whole-with_indefinite_lengths (OpenHeader octets) e = refl
 is_whole-with_indefinite_lengths OpenEndOctets e = refl
 
-pub whole : (offset : ℕ) (f : Forest) → is_whole f ≡ true
+pub offsets-whole : (offset : ℕ) (f : Forest) → is_whole f ≡ true
     → is_whole (with_offsets_from offset (with_indefinite_lengths f)) ≡ true
-whole offset f e = is_whole-with_offsets_from offset (with_indefinite_lengths f) ∙ is_whole-with_indefinite_lengths f e
+offsets-whole offset f e = is_whole-with_offsets_from offset (with_indefinite_lengths f) ∙ is_whole-with_indefinite_lengths f e
 
 -- if there is an element, there is one with indefinite lengths too
 holder_some : (constructed : Bool) (offset : ℕ) (h : HeaderValue) (c : List ℕ) (inside rest : Forest)
@@ -57,18 +57,18 @@ holder_some : (constructed : Bool) (offset : ℕ) (h : HeaderValue) (c : List �
 holder_some true offset h c inside rest = refl
 holder_some false offset h c inside rest = refl
 
-pub some : (offset : ℕ) (f : Forest) → is_whole f ≡ true → has_element f ≡ true
+pub offsets-has_element : (offset : ℕ) (f : Forest) → is_whole f ≡ true → has_element f ≡ true
     → has_element (with_offsets_from offset (with_indefinite_lengths f)) ≡ true
-some offset NoMore w e = e
-some offset (PaddingOctet rest) w e = some (offset + 1) rest w e
-some offset (Primitive h c rest) w e = refl
-some offset (Holder h inside rest) w e =
+offsets-has_element offset NoMore w e = e
+offsets-has_element offset (PaddingOctet rest) w e = offsets-has_element (offset + 1) rest w e
+offsets-has_element offset (Primitive h c rest) w e = refl
+offsets-has_element offset (Holder h inside rest) w e =
     holder_some h.constructed offset h _ (with_indefinite_lengths inside) (with_indefinite_lengths rest)
-some offset (OpenPrimitive h c) w e = absurd (cc)
-some offset (OpenHolder h inside) w e = absurd (cc)
-some offset (OpenBitString h) w e = absurd (cc)
-some offset (OpenHeader octets) w e = absurd (cc)
-some offset OpenEndOctets w e = absurd (cc)
+offsets-has_element offset (OpenPrimitive h c) w e = absurd (cc)
+offsets-has_element offset (OpenHolder h inside) w e = absurd (cc)
+offsets-has_element offset (OpenBitString h) w e = absurd (cc)
+offsets-has_element offset (OpenHeader octets) w e = absurd (cc)
+offsets-has_element offset OpenEndOctets w e = absurd (cc)
 
 -- the place `q` is as `p`, if no string is read as encodings, but for a bound: at `q` there is none
 pub record IsFree (p q : Place) : Type 0 where
@@ -136,11 +136,11 @@ constructed_header p q h k v =
       form = ap (λ (c : Bool). c || is_wrapper h.named h.class c h.number Indefinite) constructed;
     }
 
--- the offsets of what an element holds do not move what follows the element
-follows : (q : Place) (h : HeaderValue) (offset : ℕ) (inside rest : Forest)
+-- the offsets of what an element holds do not move what offsets-rest_open the element
+offsets-rest_open : (q : Place) (h : HeaderValue) (offset : ℕ) (inside rest : Forest)
     → KeepsRules (place_after q (extent (heading_at q h) inside)) rest
     → KeepsRules (place_after q (extent (heading_at q h) (with_offsets_from offset inside))) rest
-follows q h offset inside rest v =
+offsets-rest_open q h offset inside rest v =
     subst (λ (l : List ℕ). KeepsRules (place_after q (length (opening (heading_at q h)) + (length l + 2))) rest)
     (sym (spelling-with_offsets_from offset inside)) v
 
@@ -193,11 +193,11 @@ keeps_rules p q (Holder h inside rest) k v =
           shallow = λ _. subst (λ (d : ℕ). d < 128) (sym k.depth) (v.0.0.shallow refl);
           fits = free_fits p q k (extent header (with_offsets_from offset (with_indefinite_lengths inside)));
         },
-        whole offset inside v.0.1,
+        offsets-whole offset inside v.0.1,
         tt,
       ),
       keeps_rules (place_of_children p h) (place_of_children q header) inside (free_inside p q h header refl k) v.1,
-      follows q h offset (with_indefinite_lengths inside)
+      offsets-rest_open q h offset (with_indefinite_lengths inside)
           (with_offsets_from (q.offset + n) (with_indefinite_lengths rest))
           (keeps_rules (place_after p (extent h inside)) (place_after q n) rest (free_after p q
           (extent h inside) n k) v.2),

@@ -11,7 +11,7 @@ use Rattle.tlv_walk.proofs.GrammarLemmas.Sound.{sound-whole}
 use Rattle.tlv_cut.specs.IndefText.{indef_text, with_indefinite_lengths}
 use Rattle.tlv_cut.specs.IndefJob.{indef_framing}
 use Rattle.tlv_cut.specs.IndefReading.{IsReadBack, indef_reading}
-use Rattle.tlv_cut.proofs.IndefLemmas.Rules.{IsFree, keeps_rules, some, whole}
+use Rattle.tlv_cut.proofs.IndefLemmas.Rules.{IsFree, keeps_rules, offsets-has_element, offsets-whole}
 use Rattle.tlv_cut.proofs.IndefLemmas.Offsets.{indef_text-again, spelling-with_offsets_from}
 
 top_free : (padding : Bool) → IsFree (top_place (indef_framing padding)) (top_place (indef_framing padding))
@@ -40,7 +40,7 @@ sound_again : (padding : Bool) (b : List ℕ) (f : Forest) → IsReading (indef_
     → IsEnding (indef_framing padding) (indef_text f) Done
 sound_again padding b f r w e =
     let o = indef_text_keeps_rules padding f r.keeps_rules in
-    done (indef_reading f) ((indef_text_is_read_back padding b f r).is_reading, o.0) (some 0 f w e) (whole 0 f w)
+    done (indef_reading f) ((indef_text_is_read_back padding b f r).is_reading, o.0) (offsets-has_element 0 f w e) (offsets-whole 0 f w)
 
 pub indef_text_is_done : (padding : Bool) (b : List ℕ) (f : Forest) → IsReading (indef_framing padding) b f
     → IsEnding (indef_framing padding) b Done

@@ -18,19 +18,19 @@ use Rattle.tlv_head.proofs.GrammarLemmas.Scan.{same-header}
 use Rattle.tlv_head.proofs.GrammarLemmas.Meaning.{IsHighState, IsLongState, IsStateAfter, reads-step, reads-scan}
 use Rattle.tlv_head.proofs.GrammarLemmas.Meaning.{prefix-from_more, prefix-bytes}
 
--- if two lists are prefixes of one list, one of the two is a prefix of the other
-pub prefixes : (a b x y : List ℕ) → a ++ x ≡ b ++ y
+-- if two lists are prefixes-nest of one list, one of the two is a prefix of the other
+pub prefixes-nest : (a b x y : List ℕ) → a ++ x ≡ b ++ y
     → ((z : List ℕ) × (a ++ z ≡ b) × (x ≡ z ++ y)) ⊎ ((z : List ℕ) × (b ++ z ≡ a) × (y ≡ z ++ x))
-prefixes [] b x y e = inl (b, refl, e)
-prefixes (c ∷ a) [] x y e = inr (c ∷ a, refl, sym e)
-prefixes (c ∷ a) (d ∷ b) x y e =
+prefixes-nest [] b x y e = inl (b, refl, e)
+prefixes-nest (c ∷ a) [] x y e = inr (c ∷ a, refl, sym e)
+prefixes-nest (c ∷ a) (d ∷ b) x y e =
     let same : c ≡ d = cc in
     ⊎_elim
     (λ (r : (z : List ℕ) × (a ++ z ≡ b) × (x ≡ z ++ y)). inl
     (r.0, ap (λ (t : List ℕ). c ∷ t) r.1 ∙ ap (λ (u : ℕ). u ∷ b) same, r.2))
     (λ (r : (z : List ℕ) × (b ++ z ≡ a) × (y ≡ z ++ x)). inr
     (r.0, ap (λ (t : List ℕ). d ∷ t) r.1 ∙ ap (λ (u : ℕ). u ∷ a) (sym same), r.2))
-    (prefixes a b x y (cc))
+    (prefixes-nest a b x y (cc))
 
 -- octets that begin with a header begin with no other
 pub one-header : (h g : HeaderValue) (x y : List ℕ) → IsHeader h → IsHeader g → origin_of h ≡ origin_of g
@@ -39,7 +39,7 @@ one-header h g x y vh vg o e = ⊎_elim
     (λ (r : (z : List ℕ) × (octets_of h ++ z ≡ octets_of g) × (x ≡ z ++ y)). forward h g x y r.0 vh vg o r.1 r.2)
     (λ (r : (z : List ℕ) × (octets_of g ++ z ≡ octets_of h) × (y ≡ z ++ x)).
     let back : (g ≡ h) × (y ≡ x) = forward g h y x r.0 vg vh (sym o) r.1 r.2 in (sym back.0, sym back.1))
-    (prefixes (octets_of h) (octets_of g) x y e)
+    (prefixes-nest (octets_of h) (octets_of g) x y e)
   where
     forward : (h g : HeaderValue) (x y z : List ℕ) → IsHeader h → IsHeader g → origin_of h ≡ origin_of g
         → octets_of h ++ z ≡ octets_of g → x ≡ z ++ y → (h ≡ g) × (x ≡ y)
@@ -128,15 +128,15 @@ explains-long at x c k n i m ds o s = ⊎_elim
     (cases_Bool (ltb (length ds + 1) m)))
     (cases_Bool (not (eqb x 0) && ltb (length ds + 5) m))
 
-pub explains : (at : Origin) (x : ℕ) (s : Scan) (o : List ℕ) → is_more s ≡ true → IsStateAfter at s o
+pub step-explains : (at : Origin) (x : ℕ) (s : Scan) (o : List ℕ) → is_more s ≡ true → IsStateAfter at s o
     → Explains (step at s x) o x
-explains at x Fresh o m r = explains-first at x o r
-explains at x (High c k ds) o m r = explains-high at x c k ds o r
-explains at x (Named c k n i) o m r = explains-named at x c k n i o r.0 r.1
-explains at x (Long c k n i j ds) o m r = explains-long at x c k n i j ds o r
-explains at x (Ready h) o m r = absurd (cc)
-explains at x (Stuck code) o m r = absurd (cc)
-explains at x Over o m r = absurd (cc)
+step-explains at x Fresh o m r = explains-first at x o r
+step-explains at x (High c k ds) o m r = explains-high at x c k ds o r
+step-explains at x (Named c k n i) o m r = explains-named at x c k n i o r.0 r.1
+step-explains at x (Long c k n i j ds) o m r = explains-long at x c k n i j ds o r
+step-explains at x (Ready h) o m r = absurd (cc)
+step-explains at x (Stuck code) o m r = absurd (cc)
+step-explains at x Over o m r = absurd (cc)
 
 pub stuck-none : (at : Origin) (s : Scan) (o : List ℕ) → scan at o ≡ s → is_more s ≡ false
     → ((h : HeaderValue) → s ≡ Ready h → ⊥) → CannotBecomeHeader o
@@ -176,11 +176,11 @@ next-more : (o : List ℕ) (x : ℕ) → x < 256 → is_more (scan start o) ≡ 
     → AfterOctet o x
 next-more o x h m r =
     next-from o x (step start (scan start o) x) (scan_from-append start Fresh o (x ∷ []))
-    (reads-step start x (scan start o) o h r) (explains start x (scan start o) o m r)
+    (reads-step start x (scan start o) o h r) (step-explains start x (scan start o) o m r)
 
-pub next : (o : List ℕ) (x : ℕ) → x < 256 → (o ≡ []) ⊎ IsHeaderPrefix o → AfterOctet o x
-next o x h (inl e) = rw e (next-more [] x h refl refl)
-next o x h (inr f) = next-more o x h (more-from_prefix start o f) (reads-scan start o (prefix-bytes o f))
+pub after-octet : (o : List ℕ) (x : ℕ) → x < 256 → (o ≡ []) ⊎ IsHeaderPrefix o → AfterOctet o x
+after-octet o x h (inl e) = rw e (next-more [] x h refl refl)
+after-octet o x h (inr f) = next-more o x h (more-from_prefix start o f) (reads-scan start o (prefix-bytes o f))
 
 refused-octet : (code : FaultCode) (o : List ℕ) (x : ℕ) → (o ≡ [] → x ≢ 0) → IsHeadRefusal code o x
     → IsRefusedOctet o x code
@@ -188,11 +188,11 @@ refused-octet StrayEnd o x first r = absurd (first r.0 r.1)
 refused-octet code o x first r = r
 
 -- a first octet other than 00 is refused for the octets alone
-pub classified : (o : List ℕ) (x : ℕ) → (o ≡ [] → x ≢ 0) → AfterOctet o x
+pub octet-cases : (o : List ℕ) (x : ℕ) → (o ≡ [] → x ≢ 0) → AfterOctet o x
     → IsHeaderPrefix (o ++ x ∷ []) ⊎ (AreHeaderOctets (o ++ x ∷ []) ⊎ IsRefusedWithSomeCode o x)
-classified o x first (continues f) = inl f
-classified o x first (completes h v e) = inr (inl (h, v, e))
-classified o x first (refuses code r none) = inr (inr (code, refused-octet code o x first r))
+octet-cases o x first (continues f) = inl f
+octet-cases o x first (completes h v e) = inr (inl (h, v, e))
+octet-cases o x first (refuses code r none) = inr (inr (code, refused-octet code o x first r))
 
 -- what can go on is no header
 pub prefix-no_header : (o : List ℕ) (h : HeaderValue) → IsHeaderPrefix o → IsHeader h → octets_of h ≡ o → ⊥

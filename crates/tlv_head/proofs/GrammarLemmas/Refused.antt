@@ -14,7 +14,7 @@ use Rattle.tlv_head.specs.Refusal.{indefinite_primitive, length_too_large, reser
 use Rattle.tlv_head.proofs.GrammarLemmas.Scan.{Scan, Origin, start, Fresh, High, Named, Long, Ready, Stuck, Over, step}
 use Rattle.tlv_head.proofs.GrammarLemmas.Scan.{scan_from, scan, scan_from-append, scan_from-over, scan-identifier}
 use Rattle.tlv_head.proofs.GrammarLemmas.Scan.{scan-moved_header, moved_header, step-leading, is_more, more-from_prefix}
-use Rattle.tlv_head.proofs.GrammarLemmas.Headers.{prefixes, stuck-none}
+use Rattle.tlv_head.proofs.GrammarLemmas.Headers.{prefixes-nest, stuck-none}
 
 -- read from this state, a prefix of the octets is refused at its last octet
 record IsStuckFrom (at : Origin) (s : Scan) (o : List ℕ) : Type 0 where
@@ -62,7 +62,7 @@ header-not_stuck h z o code v e s =
     (ap (λ (t : Scan). scan_from start t z) (sym (scan-moved_header start h v)) ∙ split)
 
 stuck-begins_with-none : (o : List ℕ) → IsStuckFrom start Fresh o → BeginsWithNoHeader o
-stuck-begins_with-none o r = λ h rest v e. elim (prefixes r.prefix (octets_of h) r.rest rest (sym r.octets_are ∙ e)) [
+stuck-begins_with-none o r = λ h rest v e. elim (prefixes-nest r.prefix (octets_of h) r.rest rest (sym r.octets_are ∙ e)) [
   | inl z ↦ prefix-none r.prefix r.code r.stuck h z.0 v z.1
   | inr z ↦ header-not_stuck h z.0 r.prefix r.code v z.1 r.stuck
 ]

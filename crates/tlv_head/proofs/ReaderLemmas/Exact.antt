@@ -35,13 +35,13 @@ refused_completes_none code r x h p c =
     refused-none code r.octets x p h [] c.valid (append-nil (r.octets ++ x ∷ []) ∙ sym c.octets_are)
 
 -- what is returned if an octet is refused
-pub refuses : (old : HeadReaderState) (x : ℕ) (room : Option ℕ) (depth : ℕ) (code : FaultCode) (offset : ℕ) (r : Head)
+pub refusal-is : (old : HeadReaderState) (x : ℕ) (room : Option ℕ) (depth : ℕ) (code : FaultCode) (offset : ℕ) (r : Head)
     → r ≡ Refused (record {
       code = code;
       offset = offset;
     })
     → IsRefusedPush old x room depth code → offset ≡ old.offset + length old.octets → Pushes old x room depth old r
-refuses old x room depth code offset r e cause at =
+refusal-is old x room depth code offset r e cause at =
     subst (Pushes old x room depth old) (sym e) (refused _ cause at refl)
 
 -- if an octet is refused for the depth or the bound, the header that it completes may not be there
@@ -57,12 +57,12 @@ refused_not_whole code r x room depth h (too_deep m g d k deep) c n f =
 refused_not_whole code r x room depth h (overrun m g d k past) c n f =
     past (subst (λ (g : HeaderValue). ContentsFit g.size room) (completes_unique r x h g c d) f.contents_fit)
 
-pub exact : (old new : HeadReaderState) (x : ℕ) (room : Option ℕ) (depth : ℕ) (r : Head)
+pub push-exact : (old new : HeadReaderState) (x : ℕ) (room : Option ℕ) (depth : ℕ) (r : Head)
     → Pushes old x room depth new r → (h : HeaderValue) → Completes old (x ∷ []) h
     → room ≢ Some 0 → FitsThere h room depth → r ≡ Whole h
-exact old new x room depth r (more m prefix e) h c n f = absurd (prefix_not_whole old x h prefix c)
-exact old new x room depth r (whole g d there e) h c n f = ap (λ k. Whole k) (completes_unique old x g h d c)
-exact old new x room depth r (refused fault cause at e) h c n f =
+push-exact old new x room depth r (more m prefix e) h c n f = absurd (prefix_not_whole old x h prefix c)
+push-exact old new x room depth r (whole g d there e) h c n f = ap (λ k. Whole k) (completes_unique old x g h d c)
+push-exact old new x room depth r (refused fault cause at e) h c n f =
     absurd (refused_not_whole fault.code old x room depth h cause c n f)
 
 not_deep_and_past : (r : HeadReaderState) (x depth : ℕ) (g h : HeaderValue) → Completes r (x ∷ []) g → holds g ≡ true
@@ -112,9 +112,9 @@ room_left Indefinite room f e =
 pub one-result : (old new other : HeadReaderState) (x : ℕ) (room : Option ℕ) (depth : ℕ) (r s : Head)
     → Pushes old x room depth new r → Pushes old x room depth other s → r ≡ s
 one-result old new other x room depth r s a (whole h c there e) =
-    exact old new x room depth r a h c (room_left h.size room there.contents_fit) there
+    push-exact old new x room depth r a h c (room_left h.size room there.contents_fit) there
 one-result old new other x room depth r s (whole h c there e) b =
-    sym (exact old other x room depth s b h c (room_left h.size room there.contents_fit) there)
+    sym (push-exact old other x room depth s b h c (room_left h.size room there.contents_fit) there)
 one-result old new other x room depth r s (more n prefix e) (more m prefix' e') = refl
 one-result old new other x room depth r s (more n prefix e) (refused g cause at e') =
     absurd (refused_no_prefix g.code old x room depth cause n prefix)

@@ -53,8 +53,8 @@ begun_none os (inr f) h rest v e =
     (sym (append_assoc (octets_of h) rest f.more) ∙ (ap (λ s. s ++ f.more) e ∙ f.prefix))
 
 -- the octet at a place, with what is before and after it
-pub around : (xs : List ℕ) (i : ℕ) → i < length xs → xs ≡ (take i xs ++ get_or xs i 0 ∷ []) ++ drop (i + 1) xs
-around xs i h = sym (take-append-drop (i + 1) xs) ∙ ap (λ z. z ++ drop (i + 1) xs) (take_more xs i 0 h)
+pub split-at : (xs : List ℕ) (i : ℕ) → i < length xs → xs ≡ (take i xs ++ get_or xs i 0 ∷ []) ++ drop (i + 1) xs
+split-at xs i h = sym (take-append-drop (i + 1) xs) ∙ ap (λ z. z ++ drop (i + 1) xs) (take_more xs i 0 h)
 
 -- a header has an identifier octet and a length octet at least
 pub header-two : (h : HeaderValue) → IsHeader h → 2 ≤ length (octets_of h)

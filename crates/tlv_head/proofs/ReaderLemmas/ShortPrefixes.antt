@@ -106,9 +106,9 @@ snoc≢nil [] x e = cc
 snoc≢nil (y ∷ os) x e = cc
 
 -- a high form that has not ended has no identifier as a prefix
-unended : (id : IdentifierFields) (o : List ℕ) (c : Class) (k : Bool) (n : ℕ) (i z : List ℕ) → CarriesNumber id o
+high_form-no_identifier : (id : IdentifierFields) (o : List ℕ) (c : Class) (k : Bool) (n : ℕ) (i z : List ℕ) → CarriesNumber id o
     → IsIdentifier c k n i → o ≡ i ++ z → ⊥
-unended id o c k n i z h p e =
+high_form-no_identifier id o c k n i z h p e =
     let ended : CarriesIdentifier
     (record {
       class = id.class;
@@ -129,19 +129,19 @@ unended-length : (id : IdentifierFields) (o : List ℕ) (x : ℕ) (c : Class) (k
     → o ++ x ∷ [] ≡ i ++ l → ⊥
 unended-length id o x c k n i l h p some e =
     let r = within-prefix o i (x ∷ []) l (omega (arith, ap length e, length-append o (x ∷ []), length-append i l)) e in
-    unended id o c k n i r.0 h p r.1
+    high_form-no_identifier id o c k n i r.0 h p r.1
 
 -- after the high form so far no octet is refused, if there are at most seven digits
-unrefused : (code : FaultCode) (id : IdentifierFields) (o : List ℕ) (x : ℕ) → CarriesNumber id o → length o ≤ 8
+high_form-no_refusal : (code : FaultCode) (id : IdentifierFields) (o : List ℕ) (x : ℕ) → CarriesNumber id o → length o ≤ 8
     → IsRefusedOctet o x code → ⊥
-unrefused code id o x h few (tag_too_long c k prefix eight flag) =
+high_form-no_refusal code id o x h few (tag_too_long c k prefix eight flag) =
     let size : length o ≡ length prefix.digits + 1 =
     rw prefix.octets_are (omega (arith, length-map prefix.digits (λ d. 128 + d))) in
     omega (arith, eight)
-unrefused code id o x h few (reserved_length c k n i all) = unended id o c k n o [] h i (sym (append-nil o))
-unrefused code id o x h few (indefinite_primitive c n i mark) = unended id o c false n o [] h i (sym (append-nil o))
-unrefused code id o x h few (length_too_large c k n left prefix many nonzero) =
-    unended id o c k n prefix.identifier_octets _ h prefix.identifier prefix.octets_are
+high_form-no_refusal code id o x h few (reserved_length c k n i all) = high_form-no_identifier id o c k n o [] h i (sym (append-nil o))
+high_form-no_refusal code id o x h few (indefinite_primitive c n i mark) = high_form-no_identifier id o c false n o [] h i (sym (append-nil o))
+high_form-no_refusal code id o x h few (length_too_large c k n left prefix many nonzero) =
+    high_form-no_identifier id o c k n prefix.identifier_octets _ h prefix.identifier prefix.octets_are
 
 -- so an octet is read, and makes no header
 pub always-unfinished : (r : Next) (id : IdentifierFields) (o : List ℕ) (x : ℕ) → CarriesNumber id o → length o ≤ 8
@@ -151,16 +151,16 @@ always-unfinished (Unfinished p) id o x h few f not = not p refl
 always-unfinished (Whole d size) id o x h few f not =
     unended-length id o x d.class d.constructed d.number f.identifier_octets f.length_octets h
     f.carried.identifier f.some f.octets_are
-always-unfinished (Refused code) id o x h few f not = unrefused code id o x h few f
+always-unfinished (Refused code) id o x h few f not = high_form-no_refusal code id o x h few f
 
 -- what is returned is what the octets are
-followed : (r : Next) (p : Part) (o : List ℕ) (x : ℕ) → MakesNext o x r → r ≡ Unfinished p → Carries p (o ++ x ∷ [])
-followed r p o x f e = subst (MakesNext o x) e f
+unfinished-carries : (r : Next) (p : Part) (o : List ℕ) (x : ℕ) → MakesNext o x r → r ≡ Unfinished p → Carries p (o ++ x ∷ [])
+unfinished-carries r p o x f e = subst (MakesNext o x) e f
 
 -- the high form goes on
 pub still-high : (r : Next) (p : Part) (d : IdentifierFields) (o : List ℕ) (x : ℕ) → MakesNext o x r → r ≡ Unfinished p
     → p ≡ Number d → CarriesNumber d (o ++ x ∷ [])
-still-high r p d o x f e g = followed r (Number d) o x f (e ∙ ap (λ (q : Part). Unfinished q) g)
+still-high r p d o x f e g = unfinished-carries r (Number d) o x f (e ∙ ap (λ (q : Part). Unfinished q) g)
 
 -- octets of the high form, which has not ended
 abbrev pub IsUnended : List ℕ → Type 0
@@ -181,12 +181,12 @@ carried-on part.Whole id o x h f not = absurd (snoc≢nil o x f)
 pub goes-on : (r : Next) (p : Part) (id : IdentifierFields) (o : List ℕ) (x : ℕ) → CarriesNumber id o → MakesNext o x r
     → r ≡ Unfinished p
     → ((d : IdentifierFields) → p ≡ Identifier d → ⊥) → IsUnended (o ++ x ∷ [])
-goes-on r p id o x h f e not = let on = carried-on p id o x h (followed r p o x f e) not in (on.0, on.2)
+goes-on r p id o x h f e not = let on = carried-on p id o x h (unfinished-carries r p o x f e) not in (on.0, on.2)
 
 pub no-other : (r : Next) (p : Part) (id : IdentifierFields) (o : List ℕ) (x : ℕ) → CarriesNumber id o → MakesNext o x r
     → r ≡ Unfinished p
     → ((d : IdentifierFields) → p ≡ Identifier d → ⊥) → ((d : IdentifierFields) → p ≡ Number d → ⊥) → ⊥
-no-other r p id o x h f e not nor = let on = carried-on p id o x h (followed r p o x f e) not in nor on.0 on.1
+no-other r p id o x h f e not nor = let on = carried-on p id o x h (unfinished-carries r p o x f e) not in nor on.0 on.1
 
 -- the first octet is an identifier, or begins the high form
 pub leads-on : (p : Part) (x : ℕ) → Carries p (x ∷ []) → ((d : IdentifierFields) → p ≡ Identifier d → ⊥)
@@ -209,7 +209,7 @@ none-after : (id : IdentifierFields) (o more : List ℕ) (c : Class) (k : Bool) 
     → IsIdentifier c k n i
     → length i ≤ length o → o ++ more ≡ i ++ rest → ⊥
 none-after id o more c k n i rest h p few e =
-    let r = within-prefix o i more rest few e in unended id o c k n i r.0 h p r.1
+    let r = within-prefix o i more rest few e in high_form-no_identifier id o c k n i r.0 h p r.1
 
 -- the high form has not ended with the third octet
 pub no-third : (xs : List ℕ) (id : IdentifierFields)

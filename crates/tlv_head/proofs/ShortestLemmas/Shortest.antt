@@ -42,10 +42,10 @@ pub high-first : (lead : ℕ) (ds : List ℕ) (last : ℕ) → All (λ d. d < 12
 high-first lead [] last each below = omega arith
 high-first lead (d ∷ ds) last each below = let small : d < 128 = All-head (λ d. d < 128) d ds each in omega arith
 
-fewest : (b : ℕ) (xs ys : List ℕ) → 0 < b → slice_index xs 0 ≢ 0 → All (λ d. d < b) ys → value_of b xs ≡ value_of b ys
+value-fewest_digits : (b : ℕ) (xs ys : List ℕ) → 0 < b → slice_index xs 0 ≢ 0 → All (λ d. d < b) ys → value_of b xs ≡ value_of b ys
     → length xs ≤ length ys
-fewest b [] ys some nonzero v e = omega arith
-fewest b (x ∷ xs) ys some nonzero v e = fewest-digits b x xs ys some nonzero v e
+value-fewest_digits b [] ys some nonzero v e = omega arith
+value-fewest_digits b (x ∷ xs) ys some nonzero v e = fewest-digits b x xs ys some nonzero v e
 
 pub identifier-le : (class : Class) (constructed : Bool) (n : ℕ) (xs ys : List ℕ)
     → IsIdentifier class constructed n xs → IsIdentifier class constructed n ys
@@ -63,7 +63,7 @@ identifier-le class constructed n xs ys (inr f) (inr g) s =
     (ap (λ (l : List ℕ). slice_index l 1 % 128) f.octets_are
     ∙ high-first (identifier_octet class constructed 31) f.digits f.last f.each f.last_digit ∙ z) in
     let fewer : length (all_digits f) ≤ length (all_digits g) =
-    fewest 128 (all_digits f) (all_digits g) (lit< tt) nonzero (each-high class constructed n ys g)
+    value-fewest_digits 128 (all_digits f) (all_digits g) (lit< tt) nonzero (each-high class constructed n ys g)
     (sym f.value ∙ g.value) in
     omega (arith, fewer, count-high class constructed n xs f, count-high class constructed n ys g)
 
@@ -110,7 +110,7 @@ length-le (Definite n) xs ys (inr f) (inr g) s =
     let nonzero : slice_index f.digits 0 ≢ 0 =
     λ z. s.leading some (ap (λ (l : List ℕ). slice_index l 1) f.octets_are ∙ z) in
     let fewer : length f.digits ≤ length g.digits =
-    fewest 256 f.digits g.digits (lit< tt) nonzero g.each (sym f.value ∙ g.value) in
+    value-fewest_digits 256 f.digits g.digits (lit< tt) nonzero g.each (sym f.value ∙ g.value) in
     omega (arith, fewer, ap length f.octets_are, ap length g.octets_are)
 
 -- the same number of length octets
@@ -154,15 +154,15 @@ shortest_are_shortest h g u v tag size s =
     (shortest-identifier h g u v tag s.identifier, shortest-length h g u v size s.lengths)
 
 -- the other way round
-turned : (h g : HeaderValue) → HaveOneTagAndForm h g → HaveOneTagAndForm g h
-turned h g tag = record { class = sym tag.class; constructed = sym tag.constructed; number = sym tag.number }
+one_tag-sym : (h g : HeaderValue) → HaveOneTagAndForm h g → HaveOneTagAndForm g h
+one_tag-sym h g tag = record { class = sym tag.class; constructed = sym tag.constructed; number = sym tag.number }
 
 pub shortest_are_one : ShortestHeadersAreOne
 shortest_are_one h g u v tag size s t =
     let le : (length h.identifier ≤ length g.identifier) × (length h.lengths ≤ length g.lengths) =
     shortest_are_shortest h g u v tag size s in
     let ge : (length g.identifier ≤ length h.identifier) × (length g.lengths ≤ length h.lengths) =
-    shortest_are_shortest g h v u (turned h g tag) (sym size) t in (
+    shortest_are_shortest g h v u (one_tag-sym h g tag) (sym size) t in (
       identifier-same h.class h.constructed h.number h.identifier g.identifier u.identifier
           (moved-identifier h g v tag) (omega (arith, le.0, ge.0)),
       length-same h.size h.lengths g.lengths u.lengths (moved-lengths h g v size) (omega (arith, le.1, ge.1)),

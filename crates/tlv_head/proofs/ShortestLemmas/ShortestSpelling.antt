@@ -22,10 +22,10 @@ record StrippedDigits (b : ℕ) (digits tail : List ℕ) : Type 0 where
   pub value : value_of b (kept ++ tail) ≡ value_of b (digits ++ tail)
   pub first : (kept ≡ []) ⊎ (slice_index (kept ++ tail) 0 ≢ 0)
 
-strip : (b : ℕ) (digits tail : List ℕ) → All (λ d. d < b) digits → StrippedDigits b digits tail
-strip b [] tail each = record { kept = []; each = each; no_more = le_refl _; value = refl; first = inl refl }
-strip b (zero ∷ digits) tail each =
-    let r : StrippedDigits b digits tail = strip b digits tail (All-tail (λ d. d < b) zero digits each) in
+strip_zeros : (b : ℕ) (digits tail : List ℕ) → All (λ d. d < b) digits → StrippedDigits b digits tail
+strip_zeros b [] tail each = record { kept = []; each = each; no_more = le_refl _; value = refl; first = inl refl }
+strip_zeros b (zero ∷ digits) tail each =
+    let r : StrippedDigits b digits tail = strip_zeros b digits tail (All-tail (λ d. d < b) zero digits each) in
     record {
       kept = r.kept;
       each = r.each;
@@ -33,7 +33,7 @@ strip b (zero ∷ digits) tail each =
       value = omega (arith, r.value, zero-mul (b ^ length (digits ++ tail)));
       first = r.first;
     }
-strip b (suc d ∷ digits) tail each = record {
+strip_zeros b (suc d ∷ digits) tail each = record {
   kept = suc d ∷ digits;
   each = each;
   no_more = le_refl _;
@@ -69,7 +69,7 @@ high-form : (class : Class) (constructed : Bool) (n : ℕ) (digits : List ℕ) (
     → All (λ d. d < 128) digits → last < 128 → length digits ≤ 8
     → n ≡ value_of 128 (digits ++ last ∷ []) → ShortIdentifier class constructed n
 high-form class constructed n digits last large each below short e =
-    let r : StrippedDigits 128 digits (last ∷ []) = strip 128 digits (last ∷ []) each in
+    let r : StrippedDigits 128 digits (last ∷ []) = strip_zeros 128 digits (last ∷ []) each in
     let value : n ≡ value_of 128 (r.kept ++ last ∷ []) = e ∙ sym r.value in
     let nonzero : slice_index (r.kept ++ last ∷ []) 0 ≢ 0 = first-kept r.kept last n large value r.first in
     record {
@@ -119,7 +119,7 @@ first-of_length (x ∷ kept) n large e (inr first) = (omega arith, first)
 long-form : (n : ℕ) (digits : List ℕ) → 128 ≤ n → All (λ d. d < 256) digits → length digits ≤ 126 → n < 2 ^ 40
     → n ≡ value_of 256 digits → ShortLength (Definite n)
 long-form n digits large each short limit e =
-    let r : StrippedDigits 256 digits [] = strip 256 digits [] each in
+    let r : StrippedDigits 256 digits [] = strip_zeros 256 digits [] each in
     let value : n ≡ value_of 256 (r.kept ++ []) = e ∙ ap (value_of 256) (sym (append-nil digits)) ∙ sym r.value in
     let first : (1 ≤ length r.kept) × (slice_index r.kept 0 ≢ 0) = first-of_length r.kept n large value r.first in
     record {

@@ -45,7 +45,7 @@ usual_primitive h primitive form = record {
 abbrev without_primitive : CheckState → CheckState
 without_primitive s = record s { open_primitive = None }
 
-pub passed : (s : CheckState) (h : HeaderValue) (c : List ℕ) → announced_length h.size ≡ length c
+pub whole_step-clear : (s : CheckState) (h : HeaderValue) (c : List ℕ) → announced_length h.size ≡ length c
     → s.holders.frame.has_segments ≡ false
     → header_findings s.rules (surroundings_in s.holders.frame) h ≡ [] → all_contents_findings h c ≡ []
     → finder_whole_step s h c ≡ record {
@@ -54,7 +54,7 @@ pub passed : (s : CheckState) (h : HeaderValue) (c : List ℕ) → announced_len
       offset = h.offset;
       findings = [];
     }
-passed s h c size w header contents =
+whole_step-clear s h c size w header contents =
     let made : HolderFrame → ℕ → List Finding
     → FinderState = λ (f : HolderFrame) (n : ℕ) (fs : List Finding). record {
       kept = check_between s.rules f s.holders.outer (saturating_sum n (length fs));
@@ -82,12 +82,12 @@ passed s h c size w header contents =
     })
     (sum-none (saturating_sum s.finding_count 0) ∙ sum-none s.finding_count)
 
-pub passes : (old new : FinderState) (h : HeaderValue) (c : List ℕ) → announced_length h.size ≡ length c
+pub passes_primitive-clear : (old new : FinderState) (h : HeaderValue) (c : List ℕ) → announced_length h.size ≡ length c
     → old.kept.holders.frame.has_segments ≡ false
     → header_findings old.kept.rules (surroundings_in old.kept.holders.frame) h ≡ [] → all_contents_findings h c ≡ []
     → new ≡ with_check_state (without_primitive old.kept) old → PassesPrimitive old new h c
-passes old new h c size w header contents e =
-    let all = passed old.kept h c size w header contents in
+passes_primitive-clear old new h c size w header contents e =
+    let all = whole_step-clear old.kept h c size w header contents in
     record {
       begins = header;
       ends = ap (λ (f : FinderState). f.findings) all;

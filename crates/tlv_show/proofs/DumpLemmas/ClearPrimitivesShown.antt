@@ -57,25 +57,25 @@ octets_are s h o c same size begins ends =
     ap (λ (l : List ℕ). effect_of dump_step s (Begin h ∷ Bytes l ∷ End ∷ [])) (sym same)
     ∙ whole_is s h c size begins ends
 
--- if a finder took the primitive
-took : (old new : FinderState) (h : HeaderValue) (c : List ℕ) (x : Bool) → x ≡ true → PassesOrStays old new h c x
+-- if a finder passes-if_taken the primitive
+passes-if_taken : (old new : FinderState) (h : HeaderValue) (c : List ℕ) (x : Bool) → x ≡ true → PassesOrStays old new h c x
     → PassesPrimitive old new h c
-took old new h c true e p = p
-took old new h c false e p = absurd (true≢false (sym e))
+passes-if_taken old new h c true e p = p
+passes-if_taken old new h c false e p = absurd (true≢false (sym e))
 
 module _ (s u : DumpState) (old new : FinderState) (h : HeaderValue) (o c : List ℕ) (x : Bool) (is : u ≡ s)
     (finder : u.finder ≡ old.kept) (same : c ≡ contents_in h o) (whole : IsWholeElement h o)
     (on : x ≡ true) (passes : PassesOrStays old new h c x) where
   pub made_is : effect_of dump_step s (whole_events h o) ≡ effect_with (after_whole u h c) (lines_of u h c)
   made_is =
-      let p = took old new h c x on passes in
+      let p = passes-if_taken old new h c x on passes in
       ap (λ (v : DumpState). effect_of dump_step v (whole_events h o)) (sym is)
       ∙ octets_are u h o c same (whole.contents ∙ ap length (sym same)) (rw finder p.begins) (rw finder p.ends)
 
   pub stands_after : (l : LinesState) → l ≡ lines_after_primitive u.lines h c
       → dump_state l new.kept ≡ after_whole u h c
   stands_after l e =
-      let p = took old new h c x on passes in
+      let p = passes-if_taken old new h c x on passes in
       ap₂ dump_state e
       (ap (λ (f : FinderState). f.kept) p.kept
       ∙ ap (λ (f : CheckState). (finder_whole_step f h c).kept) (sym finder))

@@ -59,23 +59,23 @@ opens-by l s h false true =
 opens-by l s h false false =
     ap (effect_with _) (append_assoc (texts l.layout (finder_open_step s h)) (lines_step l (Enter h)).put [])
 
-again : (a b : List ℕ) → (a ++ b) ++ [] ≡ (a ++ []) ++ b
-again a b = append-nil (a ++ b) ∙ ap (λ (x : List ℕ). x ++ b) (sym (append-nil a))
+regroup_two : (a b : List ℕ) → (a ++ b) ++ [] ≡ (a ++ []) ++ b
+regroup_two a b = append-nil (a ++ b) ∙ ap (λ (x : List ℕ). x ++ b) (sym (append-nil a))
 
 pub closes-by : (l : LinesState) (s : CheckState) (offset : Option ℕ) (k : Bool)
     → effect_of dump_step (dump_state l s) ((if k then Close offset else Leave) ∷ [])
     ≡ (let d = effect_of lines_step l ((if k then Close offset else Leave) ∷ []) in
     effect_with (dump_state d.state (finder_close_step s).kept) (d.put ++ texts l.layout (finder_close_step s)))
 closes-by l s None true =
-    ap (effect_with _) (again (lines_step l (Close None)).put (texts l.layout (finder_close_step s)))
+    ap (effect_with _) (regroup_two (lines_step l (Close None)).put (texts l.layout (finder_close_step s)))
 closes-by l s (Some offset) true =
-    ap (effect_with _) (again (lines_step l (Close (Some offset))).put (texts l.layout (finder_close_step s)))
-closes-by l s offset false = ap (effect_with _) (again (lines_step l Leave).put (texts l.layout (finder_close_step s)))
+    ap (effect_with _) (regroup_two (lines_step l (Close (Some offset))).put (texts l.layout (finder_close_step s)))
+closes-by l s offset false = ap (effect_with _) (regroup_two (lines_step l Leave).put (texts l.layout (finder_close_step s)))
 
 -- ---- a primitive
 
-around : (a b m e t : List ℕ) → (a ++ b) ++ (m ++ ((e ++ t) ++ [])) ≡ a ++ ((b ++ (m ++ (e ++ []))) ++ t)
-around a b m e t = simp (append_assoc, append-nil)
+regroup_four : (a b m e t : List ℕ) → (a ++ b) ++ (m ++ ((e ++ t) ++ [])) ≡ a ++ ((b ++ (m ++ (e ++ []))) ++ t)
+regroup_four a b m e t = simp (append_assoc, append-nil)
 
 pub primitive-by : (l : LinesState) (s : CheckState) (h : HeaderValue) (c : List ℕ)
     → effect_of dump_step (dump_state l s) (Begin h ∷ Bytes c ∷ End ∷ [])
@@ -109,7 +109,7 @@ primitive-by l s h c =
     (each-shown (dump_state b.state (finder_begin_step s h).kept) c)
     ∙ ap whole is
     ∙ ap (effect_with (dump_state (lines_step o.state End).state f.kept))
-    (around first b.put o.put (lines_step o.state End).put (texts l.layout f))
+    (regroup_four first b.put o.put (lines_step o.state End).put (texts l.layout f))
     ∙ sym (ap parts is)
 
 pub primitives_are_shown : PrimitivesAreShown

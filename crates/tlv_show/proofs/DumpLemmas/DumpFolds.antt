@@ -60,10 +60,10 @@ module _ (options : Options) (names : NamesValue) (octets : List ℕ) (f : Fores
       (finder-run (new_dump options.rules (top_layout options) names) (events f))
       ∙ count-run options.rules options.framing octets f short r
 
-pub dumps : (options : Options) (names : NamesValue)
+pub dump-shows : (options : Options) (names : NamesValue)
     → Shower dump_step (new_dump options.rules (top_layout options) names) options.rules options.framing
     (item_text (finite.get names) (top_layout options)) (λ (s : DumpState). s.finder.finding_count)
-dumps options names = record {
+dump-shows options names = record {
   goes_on = all_on;
   put = λ octets f few r. text-made options names octets f few r;
   counts = λ octets f few r. count-made options names octets f few r;

@@ -53,8 +53,8 @@ module _ (style : Layout) (names : NamesValue) (rules : Rules) where
   lines_of level offset [] = refl
   lines_of level offset (f ∷ fs) = ap (λ (l : List ℕ). item (FindingAt level offset f) ++ l) (lines_of level offset fs)
 
-  pub split : (xs ys : List Item) → item_texts (xs ++ ys) ≡ item_texts xs ++ item_texts ys
-  split xs ys = flat_map-append item xs ys
+  pub item_texts-append : (xs ys : List Item) → item_texts (xs ++ ys) ≡ item_texts xs ++ item_texts ys
+  item_texts-append xs ys = flat_map-append item xs ys
 
   -- findings, and then other lines
   pub found-first : (n level offset : ℕ) (gs fs : List Finding) (more : List ℕ) (rest : List Item) → n ≡ level → gs ≡ fs
@@ -63,7 +63,7 @@ module _ (style : Layout) (names : NamesValue) (rules : Rules) where
   found-first n level offset gs fs more rest e f g =
       ap₂ (λ (k : ℕ) (hs : List Finding). styled_lines (Dump style.pure) k offset hs ++ more) e f
       ∙ ap₂ (λ (a b : List ℕ). a ++ b) (lines_of level offset fs) g
-      ∙ sym (split (finding_items level offset fs) rest)
+      ∙ sym (item_texts-append (finding_items level offset fs) rest)
 
   abbrev pub start : Place → Bool → HolderFrame → List HolderFrame → ℕ → DumpState
   start p padded w outer n =

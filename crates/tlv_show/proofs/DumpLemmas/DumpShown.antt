@@ -48,7 +48,7 @@ use Rattle.tlv_show.proofs.DumpLemmas.DumpEvents.{dump_state, then_shown, part-b
 use Rattle.tlv_show.specs.Conditions.{surroundings_of, segments_of}
 use Rattle.tlv_show.proofs.DumpLemmas.DumpItems.{closed-shown, IsShown, Known, found-first, item_texts, opened-shown}
 use Rattle.tlv_show.proofs.DumpLemmas.DumpItems.{primitive-shown}
-use Rattle.tlv_show.proofs.DumpLemmas.DumpItems.{shown-after, site, split, start}
+use Rattle.tlv_show.proofs.DumpLemmas.DumpItems.{shown-after, site, item_texts-append, start}
 
 -- elements, in this style, with these names and rules
 module _ (style : Layout) (names : NamesValue) (rules : Rules) where
@@ -246,7 +246,7 @@ module _ (style : Layout) (names : NamesValue) (rules : Rules) where
             (end_findings rules (segments_of h (headers inside)))
             (end_findings rules (segments_of h (headers inside))) (item_texts style names rules others) others k.1
             refl refl)
-            ∙ sym (split style names rules (items rules (site_of_children s h) inside) closing)));
+            ∙ sym (item_texts-append style names rules (items rules (site_of_children s h) inside) closing)));
         after = λ n e.
             let r = t.after (element n).0 e in (
               r.0,

@@ -92,9 +92,9 @@ module _ (style : Layout) (names : NamesValue) where
   }
 
   -- a state between two elements, and what was put
-  settled : (l m o n : ℕ) (k j : Bool) (put put' : List ℕ) → l ≡ m → o ≡ n → k ≡ j → put ≡ put'
+  between-equal : (l m o n : ℕ) (k j : Bool) (put put' : List ℕ) → l ≡ m → o ≡ n → k ≡ j → put ≡ put'
       → effect_with (lines_between l o k) put ≡ effect_with (lines_between m n j) put'
-  settled l m o n k j put put' e f g i =
+  between-equal l m o n k j put put' e f g i =
       ap₂ (λ (l : ℕ) (put : List ℕ). effect_with (lines_between l o k) put) e i
       ∙ ap₂ (λ (o : ℕ) (k : Bool). effect_with (lines_between m o k) put') f g
 
@@ -112,7 +112,7 @@ module _ (style : Layout) (names : NamesValue) where
       (whole_lines (finite.get names) h (layout_at style level) c)
   primitive_shown level offset padded h c there size far_enough =
       primitives_shown (lines_between level offset padded) h c size
-      ∙ settled level level (saturating_sum (saturating_sum h.offset (length (octets_of h))) (length c))
+      ∙ between-equal level level (saturating_sum (saturating_sum h.offset (length (octets_of h))) (length c))
       (offset + (length (octets_of h) + length c)) false false
       _ (whole_lines (finite.get names) h (layout_at style level) c)
       refl (omega (arith, there, far_enough)) refl refl
@@ -140,17 +140,17 @@ module _ (style : Layout) (names : NamesValue) where
       ≡ effect_with (lines_between (level + 1) (offset + (length (octets_of h) + length (lead_by k three))) false)
       (opening_line (layout_at style level) h (opening_word k))
   holder_by level offset padded true three h there low far_enough =
-      settled (min (level + 1) 255) (level + 1) (saturating_sum h.offset (length (octets_of h)))
+      between-equal (min (level + 1) 255) (level + 1) (saturating_sum h.offset (length (octets_of h)))
       (offset + (length (octets_of h) + 0)) false false _ (opening_line (layout_at style level) h (opening_word true))
       (omega (arith, low)) (omega (arith, there, far_enough)) refl
       (append-nil (opening_line (layout_at style level) h (opening_word true)))
   holder_by level offset padded false true h there low far_enough =
-      settled (min (level + 1) 255) (level + 1) (saturating_sum (saturating_sum h.offset (length (octets_of h))) 1)
+      between-equal (min (level + 1) 255) (level + 1) (saturating_sum (saturating_sum h.offset (length (octets_of h))) 1)
       (offset + (length (octets_of h) + 1)) false false _ (opening_line (layout_at style level) h (opening_word false))
       (omega (arith, low)) (omega (arith, there, far_enough)) refl
       (append-nil (opening_line (layout_at style level) h (opening_word false)))
   holder_by level offset padded false false h there low far_enough =
-      settled (min (level + 1) 255) (level + 1) (saturating_sum h.offset (length (octets_of h)))
+      between-equal (min (level + 1) 255) (level + 1) (saturating_sum h.offset (length (octets_of h)))
       (offset + (length (octets_of h) + 0)) false false _ (opening_line (layout_at style level) h (opening_word false))
       (omega (arith, low)) (omega (arith, there, far_enough)) refl
       (append-nil (opening_line (layout_at style level) h (opening_word false)))
@@ -163,7 +163,7 @@ module _ (style : Layout) (names : NamesValue) where
   holder_shown level offset padded h there low far_enough =
       holder_by level offset padded h.constructed (h.number == 3) h there low
       (omega (arith, far_enough, length-opening h))
-      ∙ settled (level + 1) (level + 1) (offset + (length (octets_of h) + length (lead h)))
+      ∙ between-equal (level + 1) (level + 1) (offset + (length (octets_of h) + length (lead h)))
       (offset + length (opening h)) false false (dump_opening_line (layout_at style level) h)
       (dump_opening_line (layout_at style level) h)
       refl (omega (arith, length-opening h)) refl refl
@@ -175,17 +175,17 @@ module _ (style : Layout) (names : NamesValue) where
       ≡ effect_with (lines_between level (o + length (end_octets size)) false)
       (closing_line (layout_at style level) (if k then end_offset size o else None))
   closer_by level o true (Definite n) allowed far_enough =
-      settled (level + 1 - 1) level o (o + 0) false false _ (closing_line (layout_at style level) None) (omega arith)
+      between-equal (level + 1 - 1) level o (o + 0) false false _ (closing_line (layout_at style level) None) (omega arith)
       (omega arith) refl
       (append-nil (closing_line (layout_at style (level + 1 - 1)) None)
       ∙ ap (λ (l : ℕ). closing_line (layout_at style l) None) (omega arith))
   closer_by level o true Indefinite allowed far_enough =
-      settled (level + 1 - 1) level (saturating_sum o 2) (o + 2) false false
+      between-equal (level + 1 - 1) level (saturating_sum o 2) (o + 2) false false
       _ (closing_line (layout_at style level) (Some o)) (omega arith) (omega (arith, far_enough)) refl
       (append-nil (closing_line (layout_at style (level + 1 - 1)) (Some o))
       ∙ ap (λ (l : ℕ). closing_line (layout_at style l) (Some o)) (omega arith))
   closer_by level o false (Definite n) allowed far_enough =
-      settled (level + 1 - 1) level o (o + 0) false false _ (closing_line (layout_at style level) None) (omega arith)
+      between-equal (level + 1 - 1) level o (o + 0) false false _ (closing_line (layout_at style level) None) (omega arith)
       (omega arith) refl
       (append-nil (closing_line (layout_at style (level + 1 - 1)) None)
       ∙ ap (λ (l : ℕ). closing_line (layout_at style l) None) (omega arith))
@@ -237,5 +237,5 @@ module _ (style : Layout) (names : NamesValue) where
       (if padded then [] else padding_line (layout_at style level) offset)
   fill_shown level offset padded far_enough =
       let line = if padded then [] else padding_line (layout_at style level) offset in
-      settled level level (saturating_sum offset 1) (offset + 1) true true ((line ++ []) ++ []) line refl
+      between-equal level level (saturating_sum offset 1) (offset + 1) true true ((line ++ []) ++ []) line refl
       (sum-small offset 1 far_enough) refl (append-nil (line ++ []) ∙ append-nil line)

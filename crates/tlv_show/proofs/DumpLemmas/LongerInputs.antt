@@ -15,8 +15,8 @@ use Rattle.tlv_show.specs.ShowJob.{show_job}
 use Rattle.tlv_show.specs.Texts.{check_line, item_text}
 use Rattle.tlv_show.specs.declared.rules.Rules.{Rules}
 use Rattle.tlv_show.specs.Laws.{ChecksGoOn, DumpsGoOn, TextGoesOn}
-use Rattle.tlv_show.proofs.FindingLemmas.CheckFolds.{checks}
-use Rattle.tlv_show.proofs.DumpLemmas.DumpFolds.{dumps}
+use Rattle.tlv_show.proofs.FindingLemmas.CheckFolds.{check-shows}
+use Rattle.tlv_show.proofs.DumpLemmas.DumpFolds.{dump-shows}
 use Rattle.tlv_show.proofs.DumpLemmas.ShowJob.{Shower}
 
 module _ {S : Type 0} (next : S → EventValue → Effect S) (first : S) (rules : Rules) (framing : Framing)
@@ -45,7 +45,7 @@ pub dumps_on : DumpsGoOn
 dumps_on options names b c f g few r s =
     goes_on dump_step (new_dump options.rules (top_layout options) names) options.rules options.framing
     (item_text (finite.get names) (top_layout options)) (λ (t : DumpState). t.finder.finding_count)
-    (dumps options names)
+    (dump-shows options names)
     (followed-alike dump_step (each_octet-joins dump_octet_step) (λ s. refl) (each_octet-goes_on dump_octet_step)
     (each_octet-joins dump_padding_step) (λ s. refl) (each_octet-goes_on dump_padding_step))
     b c f g few r s
@@ -53,7 +53,7 @@ dumps_on options names b c f g few r s =
 pub checks_on : ChecksGoOn
 checks_on rules framing b c f g few r s =
     goes_on check_step (new_check rules) rules framing check_line (λ (t : CheckState). t.finding_count)
-    (checks rules framing)
+    (check-shows rules framing)
     (followed-alike check_step (each_octet-joins check_octet_step) (λ s. refl) (each_octet-goes_on check_octet_step)
     (λ s x y. refl) (λ s. refl) (λ s x. refl))
     b c f g few r s

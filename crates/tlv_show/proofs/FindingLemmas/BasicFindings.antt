@@ -69,17 +69,17 @@ module _ (rules : Rules) where
   same-pads true level offset xs ys e = e
   same-pads false level offset xs ys e = e
 
-  same : (s : Site) (f : Forest) → only (items Ber s f) ≡ basic (items rules s f)
-  same s NoMore = refl
-  same s (PaddingOctet rest) = same-pads (is_padding s.previous) s.level s.offset _ _ (same (site_after_padding s) rest)
-  same s (Primitive h c rest) =
+  basic_items-same : (s : Site) (f : Forest) → only (items Ber s f) ≡ basic (items rules s f)
+  basic_items-same s NoMore = refl
+  basic_items-same s (PaddingOctet rest) = same-pads (is_padding s.previous) s.level s.offset _ _ (basic_items-same (site_after_padding s) rest)
+  basic_items-same s (Primitive h c rest) =
       same-found s.level h.offset (findings_by (header_conditions (surroundings_of s) h))
       (PrimitiveLines s.level h c
       ∷ (contents_items Ber s h c ++ items Ber (site_after_primitive s h c) rest))
       (PrimitiveLines s.level h c
       ∷ (contents_items rules s h c ++ items rules (site_after_primitive s h c) rest))
-      (same-found s.level h.offset (all_contents_findings h c) _ _ (same (site_after_primitive s h c) rest))
-  same s (Holder h inside rest) =
+      (same-found s.level h.offset (all_contents_findings h c) _ _ (basic_items-same (site_after_primitive s h c) rest))
+  basic_items-same s (Holder h inside rest) =
       let last : Rules
       → List Item =
       λ r. ClosingLine s.level (if h.constructed then end_octets_offset h inside else None)
@@ -88,23 +88,23 @@ module _ (rules : Rules) where
       (OpeningLine s.level h ∷ (items Ber (site_of_children s h) inside ++ last Ber))
       (OpeningLine s.level h ∷ (items rules (site_of_children s h) inside ++ last rules))
       (filter-append _ (items Ber (site_of_children s h) inside) (last Ber)
-      ∙ ap₂ (λ (a b : List Item). a ++ b) (same (site_of_children s h) inside)
+      ∙ ap₂ (λ (a b : List Item). a ++ b) (basic_items-same (site_of_children s h) inside)
       (same-found s.level h.offset (findings_by (end_conditions (segments_of h (headers inside))))
-      _ _ (same (site_after_holder s h inside) rest))
+      _ _ (basic_items-same (site_after_holder s h inside) rest))
       ∙ sym (filter-append is_basic (items rules (site_of_children s h) inside) (last rules)))
-  same s (OpenPrimitive h c) =
+  basic_items-same s (OpenPrimitive h c) =
       same-found s.level h.offset (findings_by (header_conditions (surroundings_of s) h))
       (OpenPrimitiveLines s.level h c ∷ []) (OpenPrimitiveLines s.level h c ∷ []) refl
-  same s (OpenHolder h inside) =
+  basic_items-same s (OpenHolder h inside) =
       same-found s.level h.offset (findings_by (header_conditions (surroundings_of s) h))
       (OpeningLine s.level h ∷ items Ber (site_of_children s h) inside)
-      (OpeningLine s.level h ∷ items rules (site_of_children s h) inside) (same (site_of_children s h) inside)
-  same s (OpenBitString h) =
+      (OpeningLine s.level h ∷ items rules (site_of_children s h) inside) (basic_items-same (site_of_children s h) inside)
+  basic_items-same s (OpenBitString h) =
       same-found s.level h.offset (findings_by (header_conditions (surroundings_of s) h)) (OpeningLine s.level h ∷ [])
       (OpeningLine s.level h ∷ []) refl
-  same s (OpenHeader octets) = refl
-  same s OpenEndOctets = refl
+  basic_items-same s (OpenHeader octets) = refl
+  basic_items-same s OpenEndOctets = refl
 
 pub basic_stay : BasicFindingsStay
 basic_stay rules framing f =
-    sym (only-written (items Ber top_site f)) ∙ ap (flat_map check_line) (same rules top_site f)
+    sym (only-written (items Ber top_site f)) ∙ ap (flat_map check_line) (basic_items-same rules top_site f)

@@ -175,17 +175,17 @@ module _ (rules : Rules) where
   few-end h inside = held-few rules (end_conditions (segments_of h (headers inside)))
 
   -- at most 16 findings for each octet
-  pub few : (p : Place) (s : Site) (f : Forest) → KeepsRules p f
+  pub findings-within : (p : Place) (s : Site) (f : Forest) → KeepsRules p f
       → length (only (items rules s f)) ≤ 16 * length (spelling f)
-  few p s NoMore v = omega arith
-  few p s (PaddingOctet rest) v =
+  findings-within p s NoMore v = omega arith
+  findings-within p s (PaddingOctet rest) v =
       omega (
         arith,
         few-pads (is_padding s.previous) s.level s.offset (items rules (site_after_padding s) rest),
-        few (place_after p 1) (site_after_padding s) rest v.1,
+        findings-within (place_after p 1) (site_after_padding s) rest v.1,
       )
-  few p s (Primitive h c rest) v =
-      let r = few (place_after p (length (octets_of h) + length c)) (site_after_primitive s h c) rest v.1 in
+  findings-within p s (Primitive h c rest) v =
+      let r = findings-within (place_after p (length (octets_of h) + length c)) (site_after_primitive s h c) rest v.1 in
       let inner : List Item =
       contents_items rules s h c ++ items rules (site_after_primitive s h c) rest in
       let b =
@@ -195,9 +195,9 @@ module _ (rules : Rules) where
       few-at s.level h.offset (header_findings rules (surroundings_of s) h) (PrimitiveLines s.level h c ∷ inner)
       14 _ (few-header s h) b in
       omega (arith, a, header-two h v.0.0.header.valid, length-primitive h c rest)
-  few p s (Holder h inside rest) v =
-      let i = few (place_of_children p h) (site_of_children s h) inside v.1 in
-      let r = few (place_after p (extent h inside)) (site_after_holder s h inside) rest v.2 in
+  findings-within p s (Holder h inside rest) v =
+      let i = findings-within (place_of_children p h) (site_of_children s h) inside v.1 in
+      let r = findings-within (place_after p (extent h inside)) (site_after_holder s h inside) rest v.2 in
       let last : List Item =
       end_items rules s h inside ++ items rules (site_after_holder s h inside) rest in
       let b =
@@ -218,25 +218,25 @@ module _ (rules : Rules) where
           → length (only (xs ++ ys)) ≤ n + m
       few-both xs ys n m e f =
           omega (arith, e, f, ap length (filter-append is_finding xs ys), length-append (only xs) (only ys))
-  few p s (OpenPrimitive h c) v =
+  findings-within p s (OpenPrimitive h c) v =
       let a =
       few-at s.level h.offset (header_findings rules (surroundings_of s) h) (OpenPrimitiveLines s.level h c ∷ [])
       14 0 (few-header s h) (omega arith) in
       omega (arith, a, header-two h v.0.header.valid, length-append (octets_of h) c)
-  few p s (OpenHolder h inside) v =
-      let i = few (place_of_children p h) (site_of_children s h) inside v.1 in
+  findings-within p s (OpenHolder h inside) v =
+      let i = findings-within (place_of_children p h) (site_of_children s h) inside v.1 in
       let a =
       few-at s.level h.offset (header_findings rules (surroundings_of s) h)
       (OpeningLine s.level h ∷ items rules (site_of_children s h) inside) 14 _ (few-header s h) i in
       omega
       (arith, a, header-two h v.0.0.header.valid, length-append (opening h) (spelling inside), length-opening h)
-  few p s (OpenBitString h) v =
+  findings-within p s (OpenBitString h) v =
       let a =
       few-at s.level h.offset (header_findings rules (surroundings_of s) h) (OpeningLine s.level h ∷ []) 14 0
       (few-header s h) (omega arith) in
       omega (arith, a, header-two h v.0.header.valid)
-  few p s (OpenHeader octets) v = omega arith
-  few p s OpenEndOctets v = omega arith
+  findings-within p s (OpenHeader octets) v = omega arith
+  findings-within p s OpenEndOctets v = omega arith
 
   -- ---- a check
 
@@ -260,7 +260,7 @@ module _ (rules : Rules) where
         ∙ ap (λ (l : List Item). saturating_sum 0 (length l)) put-is
         ∙ omega (
           arith,
-          few (top_place framing) top_site f r.keeps_rules,
+          findings-within (top_place framing) top_site f r.keeps_rules,
           short,
           n,
           ap length r.is_prefix.1,
@@ -274,10 +274,10 @@ module _ (rules : Rules) where
 pub all_on : (s : CheckState) (es : List EventValue) → (effect_of check_step s es).goes ≡ go.On
 all_on s es = ap (λ (t : Effect CheckState). t.goes) (followed-run s es)
 
-pub checks : (rules : Rules) (framing : Framing)
+pub check-shows : (rules : Rules) (framing : Framing)
     → Shower check_step (new_check rules) rules framing check_line (λ (s : CheckState). s.finding_count)
-checks rules framing = record {
+check-shows rules framing = record {
   goes_on = all_on;
-  put = λ octets f few r. text-made rules framing octets f few r;
-  counts = λ octets f few r. count-made rules framing octets f few r;
+  put = λ octets f findings-within r. text-made rules framing octets f findings-within r;
+  counts = λ octets f findings-within r. count-made rules framing octets f findings-within r;
 }

@@ -109,23 +109,23 @@ stays-then a b = record {
   primitive = b.primitive ∙ a.primitive;
 }
 
-stays : (w : HolderFrame) (f : Forest) → Stays w (frame_after_elements w f)
-stays w NoMore = record { offset = refl; announced_length = refl; primitive = refl }
-stays w (PaddingOctet rest) = stays w rest
-stays w (Primitive h c rest) =
+frame-stays : (w : HolderFrame) (f : Forest) → Stays w (frame_after_elements w f)
+frame-stays w NoMore = record { offset = refl; announced_length = refl; primitive = refl }
+frame-stays w (PaddingOctet rest) = frame-stays w rest
+frame-stays w (Primitive h c rest) =
     stays-then
     (stays-after w true (announced_length h.size) (has_unused_bits (value_check_after (new_value_check h) c)))
-    (stays
+    (frame-stays
     (frame_after w true (announced_length h.size) (has_unused_bits (value_check_after (new_value_check h) c)))
     rest)
-stays w (Holder h inside rest) =
+frame-stays w (Holder h inside rest) =
     stays-then (stays-after w (is_primitive h) (announced_length h.size) false)
-    (stays (frame_after w (is_primitive h) (announced_length h.size) false) rest)
-stays w (OpenPrimitive h c) = record { offset = refl; announced_length = refl; primitive = refl }
-stays w (OpenHolder h inside) = record { offset = refl; announced_length = refl; primitive = refl }
-stays w (OpenBitString h) = record { offset = refl; announced_length = refl; primitive = refl }
-stays w (OpenHeader octets) = record { offset = refl; announced_length = refl; primitive = refl }
-stays w OpenEndOctets = record { offset = refl; announced_length = refl; primitive = refl }
+    (frame-stays (frame_after w (is_primitive h) (announced_length h.size) false) rest)
+frame-stays w (OpenPrimitive h c) = record { offset = refl; announced_length = refl; primitive = refl }
+frame-stays w (OpenHolder h inside) = record { offset = refl; announced_length = refl; primitive = refl }
+frame-stays w (OpenBitString h) = record { offset = refl; announced_length = refl; primitive = refl }
+frame-stays w (OpenHeader octets) = record { offset = refl; announced_length = refl; primitive = refl }
+frame-stays w OpenEndOctets = record { offset = refl; announced_length = refl; primitive = refl }
 
 -- a primitive that holds nothing is not constructed
 pub not-constructed : (k wraps : Bool) → (k || wraps) ≡ false → k ≡ false
@@ -218,10 +218,10 @@ no-ends rules w e =
     e
 
 -- what is found with an end, by the frame of what was held
-summed : (rules : Rules) (p : Place) (h : HeaderValue) (inside : Forest) → KeepsRules p inside → is_whole inside ≡ true
+end_findings-by_frame : (rules : Rules) (p : Place) (h : HeaderValue) (inside : Forest) → KeepsRules p inside → is_whole inside ≡ true
     → end_findings rules (segments_in (frame_after_elements (frame_of h) inside))
     ≡ end_findings rules (segments_of h (headers inside))
-summed rules p h inside v e = by-segments (has_segments h) refl
+end_findings-by_frame rules p h inside v e = by-segments (has_segments h) refl
   where
     by-segments : (k : Bool) → has_segments h ≡ k
         → end_findings rules (segments_in (frame_after_elements (frame_of h) inside))
@@ -243,7 +243,7 @@ module _ (rules : Rules) (p : Place) (w : HolderFrame) (h : HeaderValue) (inside
   -- an element that is no string: nothing is found with its end
   nothing-ends : has_segments h ≡ false → end_findings rules (segments_of h (headers inside)) ≡ []
   nothing-ends e =
-      sym (summed rules p h inside v whole)
+      sym (end_findings-by_frame rules p h inside v whole)
       ∙ ap (λ (t : HolderFrame). end_findings rules (segments_in t)) (all-outside (frame_of h) inside e)
       ∙ no-ends rules (frame_of h) e
 
@@ -255,8 +255,8 @@ module _ (rules : Rules) (p : Place) (w : HolderFrame) (h : HeaderValue) (inside
           → end_findings rules
           (segments_in (frame_after_elements (if outside || inside_it then frame_of h else top_frame) inside))
           ≡ end_findings rules (segments_of h (headers inside))
-      by true inside_it e = summed rules p h inside v whole
-      by false true e = summed rules p h inside v whole
+      by true inside_it e = end_findings-by_frame rules p h inside v whole
+      by false true e = end_findings-by_frame rules p h inside v whole
       by false false e =
           ap (λ (t : HolderFrame). end_findings rules (segments_in t)) (all-outside top_frame inside refl)
           ∙ no-ends rules top_frame refl ∙ sym (nothing-ends e)
@@ -271,7 +271,7 @@ module _ (rules : Rules) (p : Place) (w : HolderFrame) (h : HeaderValue) (inside
           ≡ put h.offset (end_findings rules (segments_of h (headers inside)))
       kept =
           ap (λ (offset : ℕ). put offset (end_findings rules (segments_of h (headers inside))))
-          (stays (frame_of h) inside).offset
+          (frame-stays (frame_of h) inside).offset
 
       by : (outside inside_it : Bool) → has_segments h ≡ inside_it
           → put (frame_after_elements (if outside || inside_it then frame_of h else top_frame) inside).offset
@@ -297,7 +297,7 @@ after-under w h inside = by w.has_segments refl
         ≡ frame_after w (is_primitive h) (announced_length h.size) false
     by true e =
         let r =
-        stays (frame_of h) inside in ap₂ (λ (b : Bool) (size : ℕ). frame_after w b size false) r.primitive
+        frame-stays (frame_of h) inside in ap₂ (λ (b : Bool) (size : ℕ). frame_after w b size false) r.primitive
         r.announced_length
     by false e =
         let f : HolderFrame = frame_after_elements (if has_segments h then frame_of h else top_frame) inside in

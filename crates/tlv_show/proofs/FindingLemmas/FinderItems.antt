@@ -32,7 +32,7 @@ use Rattle.tlv_show.proofs.FindingLemmas.HeaderFindings.{Knows, header-same}
 use Rattle.tlv_show.specs.Conditions.{surroundings_of, segments_of}
 use Rattle.tlv_show.proofs.FindingLemmas.FinderSteps.{FinderRun, after_contents, after_end, after_primitive}
 use Rattle.tlv_show.proofs.FindingLemmas.FinderSteps.{check_between}
-use Rattle.tlv_show.proofs.FindingLemmas.FinderSteps.{closed, later_header, opened, primitive, run_finder, run-more}
+use Rattle.tlv_show.proofs.FindingLemmas.FinderSteps.{run-closing, later_header, run-opening, run-primitive, run_finder, run-more}
 use Rattle.tlv_show.proofs.FindingLemmas.FinderSteps.{then_found}
 
 abbrev pub only : List Item → List Item
@@ -104,7 +104,7 @@ module _ (rules : Rules) where
       outer rest v.1 known l d free in
       record {
         put = λ n.
-            ap (λ (t : FinderRun). t.put) (primitive rules w outer n h c (events rest) size)
+            ap (λ (t : FinderRun). t.put) (run-primitive rules w outer n h c (events rest) size)
             ∙ header-items s w outer h
             _ (PrimitiveLines s.level h c
             ∷ (contents_items rules s h c ++ items rules (site_after_primitive s h c) rest))
@@ -114,7 +114,7 @@ module _ (rules : Rules) where
             (r.put (after_contents rules w h c n)));
         after = λ n e.
             let t = r.after (after_contents rules w h c n) e in
-            (t.0, ap (λ (x : FinderRun). x.state) (primitive rules w outer n h c (events rest) size) ∙ t.1);
+            (t.0, ap (λ (x : FinderRun). x.state) (run-primitive rules w outer n h c (events rest) size) ∙ t.1);
       }
   finds_forest p s w outer (Holder h inside rest) v k l d free =
       let i =
@@ -137,12 +137,12 @@ module _ (rules : Rules) where
       let t = i.after a v.0.1 in
       let put : List Item = finding_items (length outer) h.offset (header_findings rules (surroundings_in w) h) in (
         after_end rules h inside t.0,
-        opened rules w outer n h (events inside ++ es) few
+        run-opening rules w outer n h (events inside ++ es) few
             ∙ ap (then_found put)
             (run-more (check_between rules (frame_under w h) (w ∷ outer) a) (events inside) es
             ∙ ap₂ (λ (l : List Item) (x : CheckState). then_found l (run_finder x es)) (i.put a) t.1
             ∙ ap (then_found (only (items rules (site_of_children s h) inside)))
-            (closed rules (place_of_children p h) w outer t.0 h inside (events rest) v.1 v.0.1)),
+            (run-closing rules (place_of_children p h) w outer t.0 h inside (events rest) v.1 v.0.1)),
       ) in
       let last : List Item =
       ClosingLine s.level (if h.constructed then end_octets_offset h inside else None)
@@ -173,7 +173,7 @@ module _ (rules : Rules) where
       let few : length outer < 128 = omega (arith, l, d, v.0.0.shallow refl) in
       record {
         put = λ n.
-            ap (λ (t : FinderRun). t.put) (opened rules w outer n h (events inside) few)
+            ap (λ (t : FinderRun). t.put) (run-opening rules w outer n h (events inside) few)
             ∙ header-items s w outer h _ (OpeningLine s.level h ∷ items rules (site_of_children s h) inside) k l
             (i.put (later_header rules w h n));
         after = λ n e. absurd (cc (e));

@@ -60,31 +60,31 @@ run-more s (x ∷ xs) ys =
 
 -- ---- contents
 
--- all contents octets of a primitive
+-- all contents octets of a run-primitive
 abbrev with_check : CheckState → ℕ → ValueCheckState → CheckState
 with_check s offset t = record s { open_primitive = Some (record { offset = offset; check = t }) }
 
-took : (s : CheckState) (offset : ℕ) (h : HeaderValue) (c : List ℕ) → length c ≤ announced_length h.size
+bytes_step-all : (s : CheckState) (offset : ℕ) (h : HeaderValue) (c : List ℕ) → length c ≤ announced_length h.size
     → finder_bytes_step (with_check s offset (new_value_check h)) c
     ≡ with_check s offset (value_check_after (new_value_check h) c)
-took s offset h [] e = ap (with_check s offset) (sym (checked-none h))
-took s offset h (x ∷ c) e =
+bytes_step-all s offset h [] e = ap (with_check s offset) (sym (checked-none h))
+bytes_step-all s offset h (x ∷ c) e =
     rw (one-or-more x c)
     (ap (λ (l : List ℕ). with_check s offset (value_check_after (new_value_check h) l))
     (take_all (announced_length h.size) (x ∷ c) e))
 
 -- what is found at their end
-ended : (rules : Rules) (h : HeaderValue) (c : List ℕ) → length c ≡ announced_length h.size
+contents_findings-at_end : (rules : Rules) (h : HeaderValue) (c : List ℕ) → length c ≡ announced_length h.size
     → contents_findings_in rules (value_check_after (new_value_check h) c) ≡ contents_findings rules h c
-ended rules h c e =
+contents_findings-at_end rules h c e =
     let none : (announced_length h.size - length c == 0) ≡ true = grind (arith, nat_tests) in
     ap (λ (b : Bool). if b then filter (is_shown rules) (findings_in (value_check_after (new_value_check h) c)) else [])
     none
     ∙ ap (filter (is_shown rules)) (findings-end h c e)
 
--- ---- a primitive at once
+-- ---- a run-primitive at once
 
--- what a finder makes of a primitive
+-- what a finder makes of a run-primitive
 pub primitive-found : (s : CheckState) (h : HeaderValue) (c : List ℕ) → length c ≡ announced_length h.size
     → (u : CheckState) × (u.open_primitive ≡ None)
     × (finder_end_step (finder_bytes_step (finder_begin_step s h).kept c) ≡ record {
@@ -104,10 +104,10 @@ primitive-found s h c e =
     } in (
       state_with (contents_findings s.rules h c),
       refl,
-      ap finder_end_step (took (record s { finding_count = n }) h.offset h c (omega (arith, e)))
+      ap finder_end_step (bytes_step-all (record s { finding_count = n }) h.offset h c (omega (arith, e)))
           ∙ ap (λ (fs : List Finding).
           record { kept = state_with fs; level = depth_in s.holders; offset = h.offset; findings = fs })
-          (ended s.rules h c e),
+          (contents_findings-at_end s.rules h c e),
     )
 
 module _ (rules : Rules) where
@@ -147,12 +147,12 @@ module _ (rules : Rules) where
   opened-by s h false true es = refl
   opened-by s h false false es = refl
 
-  pub opened : (w : HolderFrame) (outer : List HolderFrame) (n : ℕ) (h : HeaderValue) (es : List EventValue)
+  pub run-opening : (w : HolderFrame) (outer : List HolderFrame) (n : ℕ) (h : HeaderValue) (es : List EventValue)
       → length outer < 128
       → run_finder (check_between w outer n) (opening_events h ++ es)
       ≡ then_found (finding_items (length outer) h.offset (header_findings rules (surroundings_in w) h))
       (run_finder (check_between (frame_under w h) (w ∷ outer) (later_header w h n)) es)
-  opened w outer n h es few =
+  run-opening w outer n h es few =
       opened-by (check_between w outer n) h h.constructed (h.number == 3) es
       ∙ ap (λ (f : FinderState). then_found (found_items f) (run_finder f.kept es)) (opened-find w outer n h few)
 
@@ -167,7 +167,7 @@ module _ (rules : Rules) where
   abbrev pub after_end : HeaderValue → Forest → ℕ → ℕ
   after_end h inside n = saturating_sum n (length (end_findings rules (segments_of h (headers inside))))
 
-  pub closed : (p : Place) (w : HolderFrame) (outer : List HolderFrame) (n : ℕ) (h : HeaderValue) (inside : Forest)
+  pub run-closing : (p : Place) (w : HolderFrame) (outer : List HolderFrame) (n : ℕ) (h : HeaderValue) (inside : Forest)
       (es : List EventValue)
       → KeepsRules p inside → is_whole inside ≡ true
       → run_finder (check_between (frame_after_elements (frame_under w h) inside) (w ∷ outer) n)
@@ -177,7 +177,7 @@ module _ (rules : Rules) where
       (check_between (frame_after w (is_primitive h) (announced_length h.size) false) outer
       (after_end h inside n))
       es)
-  closed p w outer n h inside es v whole =
+  run-closing p w outer n h inside es v whole =
       let f : HolderFrame = frame_after_elements (frame_under w h) inside in
       closed-by (check_between f (w ∷ outer) n)
       (end_offset h.size (h.offset + length (opening h) + length (spelling inside))) h.constructed es
@@ -192,7 +192,7 @@ module _ (rules : Rules) where
       (offset-under rules p w h inside v whole (finding_items (length outer)) (λ offset. refl))
       (after-under w h inside)
 
-  -- ---- a primitive
+  -- ---- a run-primitive
 
   abbrev pub after_primitive : HolderFrame → HeaderValue → List ℕ → HolderFrame
   after_primitive w h c =
@@ -201,22 +201,22 @@ module _ (rules : Rules) where
   abbrev pub after_contents : HolderFrame → HeaderValue → List ℕ → ℕ → ℕ
   after_contents w h c n = saturating_sum (later_header w h n) (length (contents_findings rules h c))
 
-  pub primitive : (w : HolderFrame) (outer : List HolderFrame) (n : ℕ) (h : HeaderValue) (c : List ℕ)
+  pub run-primitive : (w : HolderFrame) (outer : List HolderFrame) (n : ℕ) (h : HeaderValue) (c : List ℕ)
       (es : List EventValue)
       → length c ≡ announced_length h.size
       → run_finder (check_between w outer n) (Begin h ∷ Bytes c ∷ End ∷ es)
       ≡ then_found (finding_items (length outer) h.offset (header_findings rules (surroundings_in w) h))
       (then_found (finding_items (length outer) h.offset (contents_findings rules h c))
       (run_finder (check_between (after_primitive w h c) outer (after_contents w h c n)) es))
-  primitive w outer n h c es e =
+  run-primitive w outer n h c es e =
       let put : List Item = finding_items (length outer) h.offset (header_findings rules (surroundings_in w) h) in
       let s : CheckState = check_between w outer (later_header w h n) in
       ap (λ (u : CheckState). then_found put (then_found [] (run_finder u (End ∷ es))))
-      (took s h.offset h c (omega (arith, e)))
+      (bytes_step-all s h.offset h c (omega (arith, e)))
       ∙ ap (λ (fs : List Finding). then_found put
       (then_found (finding_items (length outer) h.offset fs)
       (run_finder (check_between (after_primitive w h c) outer (saturating_sum (later_header w h n) (length fs))) es)))
-      (ended rules h c e)
+      (contents_findings-at_end rules h c e)
 
   -- ---- what a finder makes of each end by itself
 
@@ -264,7 +264,7 @@ module _ (rules : Rules) where
         findings = contents_findings rules h c;
       }
   primitive-find w outer n h c e =
-      ap finder_end_step (took (check_between w outer (later_header w h n)) h.offset h c (omega (arith, e)))
+      ap finder_end_step (bytes_step-all (check_between w outer (later_header w h n)) h.offset h c (omega (arith, e)))
       ∙ ap (λ (fs : List Finding).
       record {
         kept =
@@ -274,4 +274,4 @@ module _ (rules : Rules) where
         offset = h.offset;
         findings = fs;
       })
-      (ended rules h c e)
+      (contents_findings-at_end rules h c e)

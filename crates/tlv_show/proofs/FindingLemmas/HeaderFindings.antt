@@ -73,12 +73,12 @@ header-same rules w s h k = ap (λ (t : Surroundings). header_findings rules t h
 
 -- ---- with an end
 
-capped : (b x : ℕ) → b ≤ 1 → nat_le (b + min x 1001) 1000 ≡ nat_le (b + x) 1000
-capped b x h = grind (arith, nat_tests)
+sum-capped : (b x : ℕ) → b ≤ 1 → nat_le (b + min x 1001) 1000 ≡ nat_le (b + x) 1000
+sum-capped b x h = grind (arith, nat_tests)
 
-small : (b : Bool) → bits_octet_count b ≤ 1
-small true = omega arith
-small false = omega arith
+bits_octet_count-within : (b : Bool) → bits_octet_count b ≤ 1
+bits_octet_count-within true = omega arith
+bits_octet_count-within false = omega arith
 
 -- by what is asked: whether segments are held, whether all are primitive and so few, and whether the last is empty
 abbrev pub ends_by : Rules → Bool → Bool → Bool → Bool → List Finding
@@ -91,4 +91,4 @@ pub end-by : (rules : Rules) (k b all empty : Bool) (sum : ℕ → ℕ)
 end-by rules false b all empty sum = refl
 end-by rules true b all empty sum =
     let n = bits_octet_count b in
-    ap (λ (t : Bool). ends_by rules true all t empty) (capped n (sum n) (small b))
+    ap (λ (t : Bool). ends_by rules true all t empty) (sum-capped n (sum n) (bits_octet_count-within b))

@@ -55,10 +55,10 @@ nest w n outer = record { frame = innermost_frame w n; outer = outer_frames w n 
 abbrev nesting_of : HolderFrame → ℕ → ℕ → List KeptFrame → NestingState
 nesting_of w floor depth outer = nest w (depth - floor) (all_frames floor outer)
 
-split : (w : HolderFrame) (n : ℕ) (outer : List HolderFrame)
+frames_with-split : (w : HolderFrame) (n : ℕ) (outer : List HolderFrame)
     → frames_with w n outer ≡ innermost_frame w n ∷ outer_frames w n outer
-split w zero outer = refl
-split w (suc n) outer = refl
+frames_with-split w zero outer = refl
+frames_with-split w (suc n) outer = refl
 
 -- all frames outside of strings say the same of what is around an element
 pub around-same : (w : HolderFrame) (n : ℕ) → HasFramesInStrings w n
@@ -82,21 +82,21 @@ opened-is w n outer h few =
     let yes : nat_lt (length (outer_frames w n outer)) 128 ≡ true = grind (arith, nat_tests) in
     rw yes refl
 
-neither : (a b : Bool) → (a || b) ≡ false → (a ≡ false) × (b ≡ false)
-neither true b e = absurd (cc (e))
-neither false b e = (refl, e)
+or-false_parts : (a b : Bool) → (a || b) ≡ false → (a ≡ false) × (b ≡ false)
+or-false_parts true b e = absurd (cc (e))
+or-false_parts false b e = (refl, e)
 
 opened-without_frame : (w : HolderFrame) (n : ℕ) (outer : List HolderFrame) (h : HeaderValue)
     → length (outer_frames w n outer) < 128
     → HasFramesInStrings w n → (w.has_segments || has_segments h) ≡ false
     → nest w (suc n) outer ≡ nesting_open_step (nest w n outer) h
 opened-without_frame w n outer h few kept none =
-    let e : w.has_segments ≡ false = (neither w.has_segments (has_segments h) none).0 in
-    let f : has_segments h ≡ false = (neither w.has_segments (has_segments h) none).1 in
+    let e : w.has_segments ≡ false = (or-false_parts w.has_segments (has_segments h) none).0 in
+    let f : has_segments h ≡ false = (or-false_parts w.has_segments (has_segments h) none).1 in
     ap₂ (λ (a b : Bool). record { frame = if a || b then frame_of h else top_frame; outer = frames_with w n outer })
     (sym (kept ∙ e)) (sym f)
     ∙ ap (λ (l : List HolderFrame). record { frame = frame_under (innermost_frame w n) h; outer = l })
-    (split w n outer)
+    (frames_with-split w n outer)
     ∙ sym (opened-is w n outer h few)
 
 opened-frame : (w : HolderFrame) (n : ℕ) (outer : List HolderFrame) (h : HeaderValue)
@@ -105,7 +105,7 @@ opened-frame : (w : HolderFrame) (n : ℕ) (outer : List HolderFrame) (h : Heade
     → nest (frame_of h) 0 (frames_with w n outer) ≡ nesting_open_step (nest w n outer) h
 opened-frame w n outer h few kept one =
     ap₂ (λ (b : Bool) (l : List HolderFrame). record { frame = if b then frame_of h else top_frame; outer = l })
-    (sym (ap (λ (b : Bool). b || has_segments h) kept ∙ one)) (split w n outer)
+    (sym (ap (λ (b : Bool). b || has_segments h) kept ∙ one)) (frames_with-split w n outer)
     ∙ sym (opened-is w n outer h few)
 
 module _
@@ -141,7 +141,7 @@ closed-without_frame : (w : HolderFrame) (n : ℕ) (outer : List HolderFrame) �
 closed-without_frame w n outer kept =
     ap (λ (v : HolderFrame). record { frame = v; outer = outer_frames w n outer })
     (sym (outside (innermost_frame w n) false 0 false (one-less w n kept)))
-    ∙ ap (nesting_around top_frame) (sym (split w n outer))
+    ∙ ap (nesting_around top_frame) (sym (frames_with-split w n outer))
 
 closed-frame : (closed w : HolderFrame) (n : ℕ) (outer : List HolderFrame) → HasFramesInStrings w n
     → nest (frame_after w closed.is_primitive closed.announced_length false) n outer

@@ -24,7 +24,7 @@ use Rattle.tlv_walk.proofs.GrammarLemmas.Alike.{AreRegular, IsRegular}
 use Rattle.tlv_walk.proofs.GrammarLemmas.Endings.{done-sound, sound-done, sound-reading}
 use Rattle.tlv_walk.proofs.GrammarLemmas.Readings.{reading-unique}
 use Rattle.tlv_walk.proofs.GrammarLemmas.PlacedSpelling.{SpelledAt, Spelling}
-use Rattle.tlv_walk.proofs.GrammarLemmas.Respelled.{respelled}
+use Rattle.tlv_walk.proofs.GrammarLemmas.Respelled.{sound-spelling}
 use Rattle.tlv_walk.proofs.EventLemmas.Wrappers.{AreNamed, Rise, wrapper_offsets-named, wrapper_offsets-rise}
 use Rattle.tlv_show.specs.declared.rules.Rules.{Rules}
 use Rattle.tlv_show.specs.declared.rules.Rules.TheVariants.{Ber, Der, Cer}
@@ -174,16 +174,16 @@ among-least least x (n ∷ ns) rising e = elim (eqb_tells n x) [
 ]
 
 -- offsets that rise, each among others that rise, are no more than those
-fewer : (inside xs : List ℕ) (low least end : ℕ) → AreRising low inside → Rise least end xs → AreNamed inside xs
+named-no_more : (inside xs : List ℕ) (low least end : ℕ) → AreRising low inside → Rise least end xs → AreNamed inside xs
     → length xs ≤ length inside
-fewer [] [] low least end rising r named = omega arith
-fewer (n ∷ ns) [] low least end rising r named = omega arith
-fewer [] (x ∷ xs) low least end rising r named = absurd (true≢false (sym named.0))
-fewer (n ∷ ns) (x ∷ xs) low least end rising r named = elim (eqb_tells n x) [
+named-no_more [] [] low least end rising r named = omega arith
+named-no_more (n ∷ ns) [] low least end rising r named = omega arith
+named-no_more [] (x ∷ xs) low least end rising r named = absurd (true≢false (sym named.0))
+named-no_more (n ∷ ns) (x ∷ xs) low least end rising r named = elim (eqb_tells n x) [
   | inl same ↦
       omega (
         arith,
-        fewer ns xs (n + 1) (x + 1) end rising.2 r.1
+        named-no_more ns xs (n + 1) (x + 1) end rising.2 r.1
             (among-later n (x + 1) end ns xs (omega (arith, same.1)) r.1 named.1),
       )
   | inr apart ↦
@@ -191,7 +191,7 @@ fewer (n ∷ ns) (x ∷ xs) low least end rising r named = elim (eqb_tells n x) 
       let above : n + 1 ≤ x = among-least (n + 1) x ns rising.2 here in
       omega (
         arith,
-        fewer ns (x ∷ xs) (n + 1) least end rising.2 r
+        named-no_more ns (x ∷ xs) (n + 1) least end rising.2 r
             (here, among-later n (x + 1) end ns xs (omega (arith, above)) r.1 named.1),
       )
 ]
@@ -227,7 +227,7 @@ can-name framing other f g u v alike few named = let can = can-to framing.inside
     arith,
     can.0,
     as-many f g alike,
-    fewer framing.inside (wrapper_offsets f) 0 0 (0 + length (spelling f)) can.1
+    named-no_more framing.inside (wrapper_offsets f) 0 0 (0 + length (spelling f)) can.1
         (wrapper_offsets-rise (top_place framing) f u) (wrapper_offsets-named (top_place framing) f u),
   ),
   rising-of 0 (0 + length (spelling g)) (wrapper_offsets g) (omega (arith, few))
@@ -254,7 +254,7 @@ some-spelling rules framing b f strict few ending reading low =
     let same : elements.forest ≡ f =
     reading-unique framing b elements.forest f (sound-reading framing b elements) reading in
     let chosen : Spelling (form_by rules) (top_place framing) f =
-    respelled (form_by rules) (by-definite rules) (top_place framing) f (omega (arith, few, ap length it.spelled))
+    sound-spelling (form_by rules) (by-definite rules) (top_place framing) f (omega (arith, few, ap length it.spelled))
     it.sound low in
     let by_names : Framing = record { inside = chosen.names 0; padding = framing.padding } in
     let at_top : SpelledAt (form_by rules) (top_place by_names) f chosen.octets (chosen.names 0) =

@@ -43,9 +43,9 @@ pub items-found : (level offset : ℕ) (fs : List Finding)
 items-found level offset [] = refl
 items-found level offset (f ∷ fs) = ap (λ (b : Bool). is_on_spelling f || b) (items-found level offset fs)
 
-absent : (rules : Rules) (s : Site) (h : HeaderValue) → list_any is_item_on_spelling (header_items rules s h) ≡ false
+none-by_conditions : (rules : Rules) (s : Site) (h : HeaderValue) → list_any is_item_on_spelling (header_items rules s h) ≡ false
     → any_of is_on_spelling rules (header_conditions (surroundings_of s) h) ≡ false
-absent rules s h e =
+none-by_conditions rules s h e =
     sym (found-with_header is_on_spelling rules (surroundings_of s) h)
     ∙ sym (items-found s.level h.offset (header_findings rules (surroundings_of s) h)) ∙ e
 
@@ -104,19 +104,19 @@ by-form true Indefinite a e = refl
 by-form false (Definite n) a e = refl
 by-form false Indefinite a e = absurd (cc (a))
 
-regular : (rules : Rules) (s : Site) (h : HeaderValue) → rules ≢ Ber → IsHeader h
+no_findings-regular : (rules : Rules) (s : Site) (h : HeaderValue) → rules ≢ Ber → IsHeader h
     → list_any is_item_on_spelling (header_items rules s h) ≡ false
     → IsRegular (form_by rules) h
-regular Ber s h strict valid e = absurd (strict refl)
-regular Der s h strict valid e =
+no_findings-regular Ber s h strict valid e = absurd (strict refl)
+no_findings-regular Der s h strict valid e =
     let none = none-of_four (is_high_form_needless h) (begins_with_zero_bits h)
     (is_length_padded h) (is_indefinite h.size)
-    (absent Der s h e) in
+    (none-by_conditions Der s h e) in
     record { shortest = shortest h valid none.0 none.1 none.2; by_form = none.3 }
-regular Cer s h strict valid e =
+no_findings-regular Cer s h strict valid e =
     let none = none-of_four (is_high_form_needless h) (begins_with_zero_bits h)
     (is_length_padded h)
-    (h.constructed && not (is_indefinite h.size)) (absent Cer s h e) in
+    (h.constructed && not (is_indefinite h.size)) (none-by_conditions Cer s h e) in
     record {
       shortest = shortest h valid none.0 none.1 none.2;
       by_form = by-form h.constructed h.size valid.allowed none.3;
@@ -141,7 +141,7 @@ module _ (rules : Rules) (strict : rules ≢ Ber) where
       none-in (header_items rules s h)
       (PrimitiveLines s.level h c ∷ (contents_items rules s h c ++ items rules (site_after_primitive s h c) rest)) e in
       let others = none-in (contents_items rules s h c) (items rules (site_after_primitive s h c) rest) header.1 in (
-        regular rules s h strict u.0.valid header.0,
+        no_findings-regular rules s h strict u.0.valid header.0,
         all-regular (place_after p (length (octets_of h) + length c)) (site_after_primitive s h c) rest u.2 others.1,
       )
   all-regular p s (Holder h inside rest) u e =
@@ -154,7 +154,7 @@ module _ (rules : Rules) (strict : rules ≢ Ber) where
       none-in (items rules (site_of_children s h) inside)
       (ClosingLine s.level (if h.constructed then end_octets_offset h inside else None) ∷ last) header.1 in
       let others = none-in (end_items rules s h inside) (items rules (site_after_holder s h inside) rest) held.1 in (
-        regular rules s h strict u.0.valid header.0,
+        no_findings-regular rules s h strict u.0.valid header.0,
         all-regular (place_of_children p h) (site_of_children s h) inside u.3 held.0,
         all-regular (place_after p (extent h inside)) (site_after_holder s h inside) rest u.4 others.1,
       )

@@ -83,11 +83,11 @@ within-or {f} {g} {h} {k} v w = record {
       (w.leaves test octets) (sym (list_any-append test (f octets) (g octets)) ∙ e);
 }
 
--- three parts may be put together in either order
-together :
+-- three parts may be put then-assoc in either order
+then-assoc :
     (test : List ℕ → Bool) (f g h : Form) (octets : List ℕ)
     → list_any test (((f then g) then h) octets) ≡ list_any test ((f then (g then h)) octets)
-together test f g h octets =
+then-assoc test f g h octets =
     any-flat_map test h (flat_map g (f octets))
     ∙ any-flat_map (λ (x : List ℕ). list_any test (h x)) g (f octets)
     ∙ any-same (λ (x : List ℕ). list_any (λ (y : List ℕ). list_any test (h y)) (g x))
@@ -98,14 +98,14 @@ together test f g h octets =
 -- a first part, and then two parts within one
 within-prefix : {f k : Form} (g h m : Form) → Within f k → Within (g then h) m → Within ((f then g) then h) (k then m)
 within-prefix {f} g h m v w = record {
-  leaves = λ test octets e. (within-then v w).leaves test octets (sym (together test f g h octets) ∙ e);
+  leaves = λ test octets e. (within-then v w).leaves test octets (sym (then-assoc test f g h octets) ∙ e);
 }
 
 -- the same, with a second form of three parts
 within-prefixes : {f k : Form} (g h m n : Form) → Within f k → Within (g then h) (m then n)
     → Within ((f then g) then h) ((k then m) then n)
 within-prefixes {f} {k} g h m n v w = record {
-  leaves = λ test octets e. together test k m n octets ∙ (within-prefix g h (m then n) v w).leaves test octets e;
+  leaves = λ test octets e. then-assoc test k m n octets ∙ (within-prefix g h (m then n) v w).leaves test octets e;
 }
 
 if-within :
@@ -136,7 +136,7 @@ within-two_digits low high more le = record { leaves = leave }
         if-within test (at_least && nat_le n high) (at_least && nat_le n more) (rest ∷ [])
         (and-last at_least (nat_le n high) (nat_le n more) (greater n)) h
 
--- there may be no digits: then all is left
+-- test-passed may be no digits: then all is left
 no-digits : (test : List ℕ → Bool) (octets : List ℕ) → list_any test (octets ∷ []) ≡ true
     → list_any test (digits octets) ≡ true
 no-digits test [] h = h
@@ -145,13 +145,13 @@ no-digits test (x ∷ xs) h =
     (λ e. e) (λ e. absurd cc) h
 
 -- something is left only if the test passes
-there :
+test-passed :
     (p : List (List ℕ) → Bool) (b : Bool) (rests : List (List ℕ))
     → p [] ≡ false
     → p (if b then rests else []) ≡ true
     → (b ≡ true) × (p rests ≡ true)
-there p true rests z h = (refl, h)
-there p false rests z h = absurd cc
+test-passed p true rests z h = (refl, h)
+test-passed p false rests z h = absurd cc
 
 not-zero : (x : ℕ) → (nat_le 49 x && nat_le x 57) ≡ true → is_ascii_digit x ≡ true
 not-zero x h = grind (arith, nat_tests)
@@ -177,11 +177,11 @@ digit-first test x xs more h =
         → (is_ascii_digit x ≡ true) × (list_any test (digits xs) ≡ true)
     go (inl e) =
         let t =
-        there (list_any test) (nat_le 49 x && nat_le x 57) (xs ∷ []) refl e in
+        test-passed (list_any test) (nat_le 49 x && nat_le x 57) (xs ∷ []) refl e in
         (not-zero x t.0, no-digits test xs t.1)
     go (inr e) =
         let t =
-        there (λ (rests : List (List ℕ)). list_any test (flat_map (octet_between 49 57) rests)) (is_ascii_digit x)
+        test-passed (λ (rests : List (List ℕ)). list_any test (flat_map (octet_between 49 57) rests)) (is_ascii_digit x)
         (digits xs) refl e in (t.0, more t.1)
 
 digits-more : (test : List ℕ → Bool) (octets : List ℕ) → IsMore test octets

@@ -52,11 +52,11 @@ joined_at row x xs false last more e u =
     (IsUtf8-from_is_utf8 row (and_left (is_utf8 row) (list_all is_utf8 (rows_filled Utf8 (x ∷ []) xs)) e))
     (more (x ∷ []) (and_right (is_utf8 row) (list_all is_utf8 (rows_filled Utf8 (x ∷ []) xs)) e) u)
 
-joined : (row xs : List ℕ) → list_all is_utf8 (rows_filled Utf8 row xs) ≡ true → IsUtf8 (row_begun Utf8 row xs)
+rows-utf8 : (row xs : List ℕ) → list_all is_utf8 (rows_filled Utf8 row xs) ≡ true → IsUtf8 (row_begun Utf8 row xs)
     → IsUtf8 (row ++ xs)
-joined row [] e u = rw (append-nil row) u
-joined row (x ∷ xs) e u =
-    joined_at row x xs (has_room Utf8 (length row) x) (eqb (length row + 1) 64) (λ r. joined r xs) e u
+rows-utf8 row [] e u = rw (append-nil row) u
+rows-utf8 row (x ∷ xs) e u =
+    joined_at row x xs (has_room Utf8 (length row) x) (eqb (length row + 1) 64) (λ r. rows-utf8 r xs) e u
 
 -- ---- and the other way round, character by character
 
@@ -88,17 +88,17 @@ tail-nil i h = absurd (omega arith)
 tail-quiet : (n : ℕ) → utf8_length (128 + n % 64) ≡ 1
 tail-quiet n = grind (arith, nat_tests)
 
-lead1 : (c : ℕ) → c < 128 → utf8_length c ≡ 1
-lead1 c h = grind (arith, nat_tests)
+lead-of_one : (c : ℕ) → c < 128 → utf8_length c ≡ 1
+lead-of_one c h = grind (arith, nat_tests)
 
-lead2 : (c : ℕ) → 128 ≤ c → c < 2048 → utf8_length (192 + c / 64) ≡ 2
-lead2 c h g = grind (arith, nat_tests)
+lead-of_two : (c : ℕ) → 128 ≤ c → c < 2048 → utf8_length (192 + c / 64) ≡ 2
+lead-of_two c h g = grind (arith, nat_tests)
 
-lead3 : (c : ℕ) → 2048 ≤ c → c < 65536 → utf8_length (224 + c / 4096) ≡ 3
-lead3 c h g = grind (arith, nat_tests)
+lead-of_three : (c : ℕ) → 2048 ≤ c → c < 65536 → utf8_length (224 + c / 4096) ≡ 3
+lead-of_three c h g = grind (arith, nat_tests)
 
-lead4 : (c : ℕ) → 65536 ≤ c → c < 1114112 → utf8_length (240 + c / 262144) ≡ 4
-lead4 c h g = grind (arith, nat_tests)
+lead-of_four : (c : ℕ) → 65536 ≤ c → c < 1114112 → utf8_length (240 + c / 262144) ≡ 4
+lead-of_four c h g = grind (arith, nat_tests)
 
 encode-at : (c : ℕ) (a b d : Bool) → ltb c 128 ≡ a → ltb c 2048 ≡ b → ltb c 65536 ≡ d → c < 1114112
     → IsUnit
@@ -110,7 +110,7 @@ encode-at c true b d e f g h = record {
   first = c;
   tail = [];
   octets = refl;
-  announced_length = lead1 c (ltb-true c 128 e);
+  announced_length = lead-of_one c (ltb-true c 128 e);
   quiet = tail-nil;
   few = omega arith;
 }
@@ -118,7 +118,7 @@ encode-at c false true d e f g h = record {
   first = 192 + c / 64;
   tail = (128 + c % 64) ∷ [];
   octets = refl;
-  announced_length = lead2 c (grind (arith, nat_tests)) (ltb-true c 2048 f);
+  announced_length = lead-of_two c (grind (arith, nat_tests)) (ltb-true c 2048 f);
   quiet = tail-one (128 + c % 64) (tail-quiet c);
   few = omega arith;
 }
@@ -126,7 +126,7 @@ encode-at c false false true e f g h = record {
   first = 224 + c / 4096;
   tail = (128 + c / 64 % 64) ∷ (128 + c % 64) ∷ [];
   octets = refl;
-  announced_length = lead3 c (grind (arith, nat_tests)) (ltb-true c 65536 g);
+  announced_length = lead-of_three c (grind (arith, nat_tests)) (ltb-true c 65536 g);
   quiet =
       tail-more (128 + c / 64 % 64) ((128 + c % 64) ∷ []) (tail-quiet (c / 64))
       (tail-one (128 + c % 64) (tail-quiet c));
@@ -136,7 +136,7 @@ encode-at c false false false e f g h = record {
   first = 240 + c / 262144;
   tail = (128 + c / 4096 % 64) ∷ (128 + c / 64 % 64) ∷ (128 + c % 64) ∷ [];
   octets = refl;
-  announced_length = lead4 c (grind (arith, nat_tests)) h;
+  announced_length = lead-of_four c (grind (arith, nat_tests)) h;
   quiet =
       tail-more (128 + c / 4096 % 64) ((128 + c / 64 % 64) ∷ (128 + c % 64) ∷ []) (tail-quiet (c / 4096))
       (tail-more (128 + c / 64 % 64) ((128 + c % 64) ∷ []) (tail-quiet (c / 64))
@@ -163,15 +163,15 @@ PartExtendsRow row part rest =
     (rows_filled Utf8 row (part ++ rest) ≡ rows_filled Utf8 (row ++ part) rest)
     × (row_begun Utf8 row (part ++ rest) ≡ row_begun Utf8 (row ++ part) rest)
 
-fill : (row part rest : List ℕ) → HaveRoom Utf8 (length row) part (length part) → length row + length part < 64
+part-extends_row : (row part rest : List ℕ) → HaveRoom Utf8 (length row) part (length part) → length row + length part < 64
     → PartExtendsRow row part rest
-fill row [] rest room h = rw (append-nil row) (refl, refl)
-fill row (x ∷ xs) rest room h =
+part-extends_row row [] rest room h = rw (append-nil row) (refl, refl)
+part-extends_row row (x ∷ xs) rest room h =
     let l : length row + 0 ≡ length row = omega arith in
     let r : has_room Utf8 (length row) x ≡ true = rw l at (room 0 (omega arith)) in
     let e : eqb (length row + 1) 64 ≡ false = grind (arith, nat_tests) in
     let t =
-    fill (row ++ x ∷ []) xs rest (shift-room Utf8 row (length xs) x xs room)
+    part-extends_row (row ++ x ∷ []) xs rest (shift-room Utf8 row (length xs) x xs room)
     (omega (arith, length-append row (x ∷ []))) in
     let a = append_assoc row (x ∷ []) xs in
     rw (r, e) (t.0 ∙ ap (λ (w : List ℕ). rows_filled Utf8 w rest) a, t.1 ∙ ap (λ (w : List ℕ). row_begun Utf8 w rest) a)
@@ -216,7 +216,7 @@ module _ (row : List ℕ) (x : ℕ) (tail rest : List ℕ) (announced_length : u
       → AreFormed row ((x ∷ tail) ++ rest)
   unit-within false e l =
       let f =
-      fill row (x ∷ tail) rest (room-unit (length row) x tail announced_length quiet l)
+      part-extends_row row (x ∷ tail) rest (room-unit (length row) x tail announced_length quiet l)
       (grind (arith, nat_tests)) in
       let g =
       more (row ++ x ∷ tail) (IsUtf8-append row (x ∷ tail) u v)
@@ -236,7 +236,7 @@ module _ (row : List ℕ) (x : ℕ) (tail rest : List ℕ) (announced_length : u
   -- a character that begins a row
   unit-after : has_room Utf8 (length row) x ≡ false → AreFormed row ((x ∷ tail) ++ rest)
   unit-after r =
-      let f = fill [] (x ∷ tail) rest (room-unit 0 x tail announced_length quiet (omega arith)) (omega arith) in
+      let f = part-extends_row [] (x ∷ tail) rest (room-unit 0 x tail announced_length quiet (omega arith)) (omega arith) in
       let g = more (x ∷ tail) v (omega arith) in
       let p : rows_filled Utf8 row ((x ∷ tail) ++ rest) ≡ row ∷ rows_filled Utf8 (x ∷ tail) rest =
       rw r (ap (λ (t : List (List ℕ)). row ∷ t) (sym (filled-begins Utf8 x (tail ++ rest)) ∙ f.0)) in
@@ -249,15 +249,15 @@ module _ (row : List ℕ) (x : ℕ) (tail rest : List ℕ) (announced_length : u
       unit-within (eqb (length row + suc (length tail)) 64) refl (leb-true (length row + suc (length tail)) 64 e)
   unit-step false e = unit-after (rw announced_length e)
 
-formed : (row cs : List ℕ) → scalars cs ≡ true → IsUtf8 row → length row < 64 → AreFormed row (encodes cs)
-formed row [] e u h = (refl, u)
-formed row (c ∷ cs) e u h =
+encodes-formed : (row cs : List ℕ) → scalars cs ≡ true → IsUtf8 row → length row < 64 → AreFormed row (encodes cs)
+encodes-formed row [] e u h = (refl, u)
+encodes-formed row (c ∷ cs) e u h =
     let one : scalar c ≡ true = and_left (scalar c) (scalars cs) e in
     let w = encode-unit c one in
     let v : IsUtf8 (w.first ∷ w.tail) = rw (← w.octets) (IsUtf8-encode c one) in
     rw w.octets
     (unit-step row w.first w.tail (encodes cs) w.announced_length w.quiet w.few v u h
-    (λ r v g. formed r cs (and_right (scalar c) (scalars cs) e) v g)
+    (λ r v g. encodes-formed r cs (and_right (scalar c) (scalars cs) e) v g)
     (nat_le (length row + suc (length w.tail)) 64) refl)
 
 same-bool : (a b : Bool) → (a ≡ true → b ≡ true) → (b ≡ true → a ≡ true) → a ≡ b
@@ -267,14 +267,14 @@ same-bool true false f g = sym (f refl)
 same-bool false true f g = g refl
 
 all-formed : (c : List ℕ) → IsUtf8 c → AreFormed [] c
-all-formed c u = rw (← u.1.1) (formed [] u.0 u.1.0 IsUtf8-nil (omega arith))
+all-formed c u = rw (← u.1.1) (encodes-formed [] u.0 u.1.0 IsUtf8-nil (omega arith))
 
 steps-formed : (c : List ℕ)
     → ((true && list_all is_utf8 (rows_filled Utf8 [] c)) && is_utf8 (row_begun Utf8 [] c)) ≡ is_utf8 c
 steps-formed c =
     same-bool (list_all is_utf8 (rows_filled Utf8 [] c) && is_utf8 (row_begun Utf8 [] c)) (is_utf8 c)
     (λ e. is_utf8-from_IsUtf8 c
-    (joined [] c (and_left (list_all is_utf8 (rows_filled Utf8 [] c)) (is_utf8 (row_begun Utf8 [] c)) e)
+    (rows-utf8 [] c (and_left (list_all is_utf8 (rows_filled Utf8 [] c)) (is_utf8 (row_begun Utf8 [] c)) e)
     (IsUtf8-from_is_utf8 (row_begun Utf8 [] c)
     (and_right (list_all is_utf8 (rows_filled Utf8 [] c)) (is_utf8 (row_begun Utf8 [] c)) e))))
     (λ e. let a =

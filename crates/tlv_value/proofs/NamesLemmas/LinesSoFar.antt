@@ -31,7 +31,7 @@ abbrev pub judgement : List NamesLine → List NamesLine → Result NamesValue N
 judgement above below =
     option_map_or Err (first_refusal above below) (Ok (finite.from_entries (entries_of (above ++ below))))
 
--- so many lines are read, none is refused, and these are their entries
+-- so many lines are read, none is line-refusal, and these are their entries
 pub record LinesSoFar (octets rest : List ℕ) (number : ℕ) (es : List Entry) : Type 0 where
   above : List NamesLine
   same : names_of octets ≡ judgement above (map names_line (file_lines rest))
@@ -57,15 +57,15 @@ judgement-refused above below line fault h = rw h refl
 start-at : (octets : List ℕ) (es : List Entry) → es ≡ [] → LinesSoFar octets octets 0 es
 start-at octets es e = record { above = []; same = refl; count = refl; found = λ q. ap (find q) e; size = ap length e }
 
-pub start : {Z : Type 0} (octets : List ℕ) (m : BTreeMap (Vec ℕ Z) (Vec ℕ Z)) → m.entries ≡ []
+pub lines-start : {Z : Type 0} (octets : List ℕ) (m : BTreeMap (Vec ℕ Z) (Vec ℕ Z)) → m.entries ≡ []
     → LinesSoFar octets octets 0 (texts_in m)
-start {Z} octets m e =
+lines-start {Z} octets m e =
     start-at octets (texts_in m)
     (ap (λ (es : List (Vec ℕ Z × Vec ℕ Z)). map {B = Entry} (λ e. (e.0.items, e.1.items)) es) e)
 
-pub done : (octets rest : List ℕ) (number : ℕ) (es : List Entry) → LinesSoFar octets rest number es → length rest ≡ 0
+pub lines-all : (octets rest : List ℕ) (number : ℕ) (es : List Entry) → LinesSoFar octets rest number es → length rest ≡ 0
     → names_of octets ≡ Ok (finite.from_entries es)
-done octets rest number es s h =
+lines-all octets rest number es s h =
     let none : rest ≡ [] = nil_from_length rest h in
     s.same ∙ ap (λ (xs : List ℕ). judgement s.above (map names_line (file_lines xs))) none
     ∙ ap (λ (ls : List NamesLine). Ok (finite.from_entries (entries_of ls))) (append-nil s.above)
@@ -84,13 +84,13 @@ none-from : {A : Type 0} (o : Option A) → is_some o ≡ false → o ≡ None
 none-from None h = refl
 none-from (Some x) h = absurd (cc)
 
-go-on : (octets rest below : List ℕ) (number : ℕ) (es new : List Entry) (line : NamesLine)
+lines-next : (octets rest below : List ℕ) (number : ℕ) (es new : List Entry) (line : NamesLine)
     (s : LinesSoFar octets rest number es)
     → map names_line (file_lines rest) ≡ line ∷ map names_line (file_lines below) → line_refusal s.above line ≡ None
     → ((q : List ℕ) → find q new ≡ find q (entries_of s.above ++ line_entries line))
     → length new ≡ length (entries_of s.above ++ line_entries line)
     → LinesSoFar octets below (number + 1) new
-go-on octets rest below number es new line s e h f l = record {
+lines-next octets rest below number es new line s e h f l = record {
   above = s.above ++ line ∷ [];
   same = s.same ∙ ap (judgement s.above) e ∙ judgement-more s.above (map names_line (file_lines below)) line h;
   count = let n : length s.above ≡ number = s.count in length-append s.above (line ∷ []) ∙ ap (λ n. n + 1) n;
@@ -104,69 +104,69 @@ among-above octets rest number es s q =
     among-find q (entries_of s.above) ∙ ap is_some (sym (s.found q)) ∙ sym (among-find q es)
 
 -- the line is taken
-pub step : {T : Type 0} (octets rest below : List ℕ) (number : ℕ) (es new : List Entry) (u : T) (line : NamesLine)
+pub line-taken : {T : Type 0} (octets rest below : List ℕ) (number : ℕ) (es new : List Entry) (u : T) (line : NamesLine)
     (s : LinesSoFar octets rest number es)
     → map names_line (file_lines rest) ≡ line ∷ map names_line (file_lines below)
     → AddsLine (number + 1) line es new (Ok u) → LinesSoFar octets below (number + 1) new
-step octets rest below number es new u no_entry s e a =
-    go-on octets rest below number es new no_entry s e refl
+line-taken octets rest below number es new u no_entry s e a =
+    lines-next octets rest below number es new no_entry s e refl
     (λ q. ap (find q) a.1 ∙ s.found q ∙ ap (find q) (sym (append-nil (entries_of s.above))))
     (ap length a.1 ∙ s.size ∙ ap length (sym (append-nil (entries_of s.above))))
-step octets rest below number es new u (entry dotted name) s e a =
+line-taken octets rest below number es new u (entry dotted name) s e a =
     let absent : has_entry dotted es ≡ false = a.0 in
     let few : nat_le entry_limit (length (entries_of s.above)) ≡ false =
     lt-leb entry_limit (length (entries_of s.above)) (omega (arith, a.1, s.size)) in
     let none : is_some (find dotted (entries_of s.above)) ≡ false =
     sym (among-find dotted (entries_of s.above)) ∙ among-above octets rest number es s dotted ∙ absent in
-    go-on octets rest below number es new (entry dotted name) s e
+    lines-next octets rest below number es new (entry dotted name) s e
     (rw (among-above octets rest number es s dotted, absent, few) refl)
     (λ q. ap (find q) a.2 ∙ entries.find-put (slice_cmp nat_cmp) nat_list_cmp_total q dotted name es
     ∙ ap (λ (o : Option (List ℕ)). if eq_by_cmp (slice_cmp nat_cmp) q dotted then Some name else o) (s.found q)
     ∙ sym (entries.find-append (slice_cmp nat_cmp) nat_list_cmp_total (entries_of s.above) dotted name q
     (none-from (find dotted (entries_of s.above)) none)))
     (a.3 ∙ ap (λ n. n + 1) s.size ∙ sym (length-append (entries_of s.above) ((dotted, name) ∷ [])))
-step octets rest below number es new u no_object_identifier s e a = absurd (cc)
-step octets rest below number es new u no_name s e a = absurd (cc)
-step octets rest below number es new u long_line s e a = absurd (cc)
+line-taken octets rest below number es new u no_object_identifier s e a = absurd (cc)
+line-taken octets rest below number es new u no_name s e a = absurd (cc)
+line-taken octets rest below number es new u long_line s e a = absurd (cc)
 
-refused : (octets rest below : List ℕ) (number : ℕ) (es : List Entry) (line : NamesLine) (fault : NamesFault)
+line-refusal : (octets rest below : List ℕ) (number : ℕ) (es : List Entry) (line : NamesLine) (fault : NamesFault)
     (s : LinesSoFar octets rest number es)
     → map names_line (file_lines rest) ≡ line ∷ map names_line (file_lines below)
     → line_refusal s.above line ≡ Some fault → names_of octets ≡ Err fault
-refused octets rest below number es line fault s e h =
+line-refusal octets rest below number es line fault s e h =
     s.same ∙ ap (judgement s.above) e ∙ judgement-refused s.above (map names_line (file_lines below)) line fault h
 
 same-fault : {T : Type 0} (a b : NamesFault) → IsErrOf {T = T} (Err a) b → a ≡ b
 same-fault a b e = cc
 
--- the line is refused
-pub stop : (Z T : Type 0) (octets rest below : List ℕ) (number : ℕ) (es new : List Entry) (fault : NamesFault)
+-- the line is line-refusal
+pub line-refused_table : (Z T : Type 0) (octets rest below : List ℕ) (number : ℕ) (es new : List Entry) (fault : NamesFault)
     (line : NamesLine) (s : LinesSoFar octets rest number es)
     → map names_line (file_lines rest) ≡ line ∷ map names_line (file_lines below)
     → AddsLine {T = T} (number + 1) line es new (Err fault) → IsTableOf {Z = Z} octets (Err fault)
-stop Z T octets rest below number es new fault no_entry s e a = absurd (let h : false ≡ true = a.0 in cc)
-stop Z T octets rest below number es new (BadOid n) (entry dotted name) s e a = absurd a
-stop Z T octets rest below number es new (BadName n) (entry dotted name) s e a = absurd a
-stop Z T octets rest below number es new (Repeated n) (entry dotted name) s e a =
+line-refused_table Z T octets rest below number es new fault no_entry s e a = absurd (let h : false ≡ true = a.0 in cc)
+line-refused_table Z T octets rest below number es new (BadOid n) (entry dotted name) s e a = absurd a
+line-refused_table Z T octets rest below number es new (BadName n) (entry dotted name) s e a = absurd a
+line-refused_table Z T octets rest below number es new (Repeated n) (entry dotted name) s e a =
     let known : has_entry dotted es ≡ true = a.0 in
     let line_number : length s.above + 1 ≡ n = ap (λ n. n + 1) s.count ∙ sym a.1 in
-    refused octets rest below number es (entry dotted name) (Repeated n) s e
+    line-refusal octets rest below number es (entry dotted name) (Repeated n) s e
     (rw (among-above octets rest number es s dotted, known, line_number) refl)
-stop Z T octets rest below number es new TooLarge (entry dotted name) s e a =
+line-refused_table Z T octets rest below number es new TooLarge (entry dotted name) s e a =
     let absent : has_entry dotted es ≡ false = a.0 in
     let many : nat_le entry_limit (length (entries_of s.above)) ≡ true =
     le-leb entry_limit (length (entries_of s.above)) (omega (arith, a.1, s.size)) in
-    refused octets rest below number es (entry dotted name) TooLarge s e
+    line-refusal octets rest below number es (entry dotted name) TooLarge s e
     (rw (among-above octets rest number es s dotted, absent, many) refl)
-stop Z T octets rest below number es new ReadFailed (entry dotted name) s e a = absurd a
-stop Z T octets rest below number es new Memory (entry dotted name) s e a = tt
-stop Z T octets rest below number es new fault no_object_identifier s e a =
+line-refused_table Z T octets rest below number es new ReadFailed (entry dotted name) s e a = absurd a
+line-refused_table Z T octets rest below number es new Memory (entry dotted name) s e a = tt
+line-refused_table Z T octets rest below number es new fault no_object_identifier s e a =
     subst (λ f. IsTableOf {Z = Z} octets (Err f)) (sym (same-fault fault (BadOid (number + 1)) a))
-    (refused octets rest below number es no_object_identifier (BadOid (number + 1)) s e
+    (line-refusal octets rest below number es no_object_identifier (BadOid (number + 1)) s e
     (ap (λ n. Some (BadOid (n + 1))) s.count))
-stop Z T octets rest below number es new fault no_name s e a =
+line-refused_table Z T octets rest below number es new fault no_name s e a =
     subst (λ f. IsTableOf {Z = Z} octets (Err f)) (sym (same-fault fault (BadName (number + 1)) a))
-    (refused octets rest below number es no_name (BadName (number + 1)) s e (ap (λ n. Some (BadName (n + 1))) s.count))
-stop Z T octets rest below number es new fault long_line s e a =
+    (line-refusal octets rest below number es no_name (BadName (number + 1)) s e (ap (λ n. Some (BadName (n + 1))) s.count))
+line-refused_table Z T octets rest below number es new fault long_line s e a =
     subst (λ f. IsTableOf {Z = Z} octets (Err f)) (sym (same-fault fault TooLarge a))
-    (refused octets rest below number es long_line TooLarge s e refl)
+    (line-refusal octets rest below number es long_line TooLarge s e refl)

@@ -115,36 +115,36 @@ module _ (old middle new : SourceState) (octets : List ℕ) (x : OctetsSoFar old
 -- ---- what is made of all of them
 
 -- the octets that were read say the result
-said : {Z : Type 0} (new : SourceState) (octets : List ℕ) (v : Vec ℕ Z) (r : Result NamesValue NamesFault)
+result-is_whole_file : {Z : Type 0} (new : SourceState) (octets : List ℕ) (v : Vec ℕ Z) (r : Result NamesValue NamesFault)
     → GivesAll new octets (Ok v) → names_of v.items ≡ r → IsWholeFile new octets r
-said new octets v r x n = record { ends = x.1; result_is = ap names_of x.0 ∙ n }
+result-is_whole_file new octets v r x n = record { ends = x.1; result_is = ap names_of x.0 ∙ n }
 
 pub reads-from_table : {Y Z : Type 0} (old new : SourceState) (v : Vec ℕ Y)
     (result : Result (BTreeMap (Vec ℕ Z) (Vec ℕ Z)) NamesFault)
     → Gives old new (Ok v) → IsTableOf v.items result → ReadsFrom old new (result_in result)
 reads-from_table old new v (Ok m) x n = record {
   pieces = x.pieces;
-  result_is = said new (octets_given x.pieces) v (Ok (table_in m)) x.gives n;
+  result_is = result-is_whole_file new (octets_given x.pieces) v (Ok (table_in m)) x.gives n;
   failures = x.failures;
 }
 reads-from_table old new v (Err (BadOid k)) x n = record {
   pieces = x.pieces;
-  result_is = said new (octets_given x.pieces) v (Err (BadOid k)) x.gives n;
+  result_is = result-is_whole_file new (octets_given x.pieces) v (Err (BadOid k)) x.gives n;
   failures = x.failures;
 }
 reads-from_table old new v (Err (BadName k)) x n = record {
   pieces = x.pieces;
-  result_is = said new (octets_given x.pieces) v (Err (BadName k)) x.gives n;
+  result_is = result-is_whole_file new (octets_given x.pieces) v (Err (BadName k)) x.gives n;
   failures = x.failures;
 }
 reads-from_table old new v (Err (Repeated k)) x n = record {
   pieces = x.pieces;
-  result_is = said new (octets_given x.pieces) v (Err (Repeated k)) x.gives n;
+  result_is = result-is_whole_file new (octets_given x.pieces) v (Err (Repeated k)) x.gives n;
   failures = x.failures;
 }
 reads-from_table old new v (Err TooLarge) x n = record {
   pieces = x.pieces;
-  result_is = inl (said new (octets_given x.pieces) v (Err TooLarge) x.gives n);
+  result_is = inl (result-is_whole_file new (octets_given x.pieces) v (Err TooLarge) x.gives n);
   failures = x.failures;
 }
 reads-from_table old new v (Err ReadFailed) x n = absurd n
@@ -155,11 +155,11 @@ reads-from_table old new v (Err Memory) x n = record {
 }
 
 -- the octets could not be read
-pub unread : {Z : Type 0} (old new : SourceState) (e : NamesFault) → Gives {Z = Z} old new (Err e)
+pub failed-reads_from : {Z : Type 0} (old new : SourceState) (e : NamesFault) → Gives {Z = Z} old new (Err e)
     → ReadsFrom old new (Err e)
-unread old new (BadOid k) x = absurd x.gives
-unread old new (BadName k) x = absurd x.gives
-unread old new (Repeated k) x = absurd x.gives
-unread old new TooLarge x = record { pieces = x.pieces; result_is = inr x.gives; failures = x.failures }
-unread old new ReadFailed x = record { pieces = x.pieces; result_is = x.gives; failures = x.failures }
-unread old new Memory x = record { pieces = x.pieces; result_is = x.gives; failures = x.failures }
+failed-reads_from old new (BadOid k) x = absurd x.gives
+failed-reads_from old new (BadName k) x = absurd x.gives
+failed-reads_from old new (Repeated k) x = absurd x.gives
+failed-reads_from old new TooLarge x = record { pieces = x.pieces; result_is = inr x.gives; failures = x.failures }
+failed-reads_from old new ReadFailed x = record { pieces = x.pieces; result_is = x.gives; failures = x.failures }
+failed-reads_from old new Memory x = record { pieces = x.pieces; result_is = x.gives; failures = x.failures }

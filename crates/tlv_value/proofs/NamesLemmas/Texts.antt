@@ -199,14 +199,14 @@ forty_of_two (d ∷ e ∷ []) a h =
     ∙ ap (λ (n : ℕ). nat_le n 39) (weight-arc (d ∷ e ∷ []) a)
 forty_of_two (d ∷ e ∷ f ∷ ds) a h = absurd (omega arith)
 
-large : (d p : ℕ) → 49 ≤ d → 1 ≤ p → 10 ≤ (d - 48) * (10 * p)
-large d p h q =
+two_digits-ten : (d p : ℕ) → 49 ≤ d → 1 ≤ p → 10 ≤ (d - 48) * (10 * p)
+two_digits-ten d p h q =
     let a : 1 ≤ d - 48 = omega arith in
     let b : 10 ≤ 10 * p = omega arith in
     mul-le-mul a b
 
-larger : (d p : ℕ) → 49 ≤ d → 1 ≤ p → 100 ≤ (d - 48) * (10 * (10 * p))
-larger d p h q =
+three_digits-hundred : (d p : ℕ) → 49 ≤ d → 1 ≤ p → 100 ≤ (d - 48) * (10 * (10 * p))
+three_digits-hundred d p h q =
     let a : 1 ≤ d - 48 = omega arith in
     let b : 100 ≤ 10 * (10 * p) = omega arith in
     mul-le-mul a b
@@ -218,7 +218,7 @@ ten_of_more (d ∷ e ∷ ds) a h =
     let n = length ds in
     let low : 1 ≤ 10 ^ n = one-le-pow n 10 (omega arith) in
     let same : 10 ^ suc n ≡ 10 * 10 ^ n = pow-succ' 10 n in
-    let more : 10 ≤ (d - 48) * 10 ^ suc n = rw same (large d (10 ^ n) (long-arc d e ds a).first_low low) in
+    let more : 10 ≤ (d - 48) * 10 ^ suc n = rw same (two_digits-ten d (10 ^ n) (long-arc d e ds a).first_low low) in
     let all : 10 ≤ weight (d ∷ e ∷ ds) = omega (arith, more) in
     subst (λ (k : ℕ). 10 ≤ k) (weight-arc (d ∷ e ∷ ds) a) all
 
@@ -231,7 +231,7 @@ forty_of_more (d ∷ e ∷ f ∷ ds) a h =
     let low : 1 ≤ 10 ^ n = one-le-pow n 10 (omega arith) in
     let same : 10 ^ suc (suc n) ≡ 10 * (10 * 10 ^ n) = pow-succ' 10 (suc n) ∙ ap (λ m. 10 * m) (pow-succ' 10 n) in
     let more : 100 ≤ (d - 48) * 10 ^ suc (suc n) =
-    rw same (larger d (10 ^ n) (long-arc d e (f ∷ ds) a).first_low low) in
+    rw same (three_digits-hundred d (10 ^ n) (long-arc d e (f ∷ ds) a).first_low low) in
     ap (λ (k : ℕ). nat_le k 39) (sym (weight-arc (d ∷ e ∷ f ∷ ds) a))
     ∙ lt-leb (weight (d ∷ e ∷ f ∷ ds)) 39 (omega (arith, more))
 

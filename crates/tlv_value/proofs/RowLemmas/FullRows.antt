@@ -22,7 +22,7 @@ use Rattle.tlv_value.proofs.RowLemmas.FilledRows.{row_begun, rows-filled, rows_f
 use Rattle.tlv_value.specs.ValueLines.{row_lines}
 use Rattle.tlv_value.specs.Value.{row_text, spaced_pairs}
 use Rattle.tlv_value.proofs.TextLemmas.RowLines.{row_lines-append}
-use Rattle.tlv_value.proofs.RowLemmas.RowSteps.{keep, next_row}
+use Rattle.tlv_value.proofs.RowLemmas.RowSteps.{rest-stays_in_row, next_row}
 
 -- ---- kinds whose rows have 16 octets
 
@@ -86,7 +86,7 @@ module _ (kind : Kind) (short : row_size kind ≡ 16) where
       let more : List ℕ = drop (n * 16) octets in
       let l : length more < 16 = omega (arith, length-drop (n * 16) octets) in
       let t = rows_first n octets (omega arith) in
-      let k = keep kind [] more (room (length more) more (omega (arith, l))) (omega (arith, l, short)) in
+      let k = rest-stays_in_row kind [] more (room (length more) more (omega (arith, l))) (omega (arith, l, short)) in
       rows-filled kind octets
       ∙ ap (λ (r : List (List ℕ)). r ++ last_rows (row_begun kind [] octets))
       (t.0 ∙ ap (λ (r : List (List ℕ)). first_chunks 16 n octets ++ r) k.0 ∙ append-nil (first_chunks 16 n octets))

@@ -18,7 +18,7 @@ use Rattle.tlv_value.specs.OpenRow.{IsOpenRow}
 use Rattle.tlv_value.specs.Private.Room.{HaveRoom}
 use Rattle.tlv_value.proofs.RowLemmas.FilledRows.{row_begun, rows-filled, rows_filled}
 use Rattle.tlv_value.specs.Rows.{cut_of_contents, full_rows, full_rows_in, open_row, open_row_in, rows_of}
-use Rattle.tlv_value.proofs.RowLemmas.RowSteps.{FillsRow, begun-open, keep, none-open, one_fits, open-room, steps-join}
+use Rattle.tlv_value.proofs.RowLemmas.RowSteps.{FillsRow, begun-open, rest-stays_in_row, none-open, one_fits, open-room, steps-join}
 use Rattle.tlv_value.proofs.RowLemmas.RowSteps.{next_row}
 
 last-row : (row : List ℕ) → 1 ≤ length row → last_rows row ≡ row ∷ []
@@ -80,7 +80,7 @@ module _ (kind : Kind) where
       let s = r.short in
       let room : HaveRoom kind 0 row (length row) = rw (append-nil row) at (row-room row [] r) in
       let short : length row < row_size kind = grind (arith, nat_tests) in
-      rw (append-nil row) (keep kind [] row room (omega arith))
+      rw (append-nil row) (rest-stays_in_row kind [] row room (omega arith))
 
   -- the parts of a cut
   parts : (rows : List (List ℕ)) → All Row rows → AreFull (row_size kind) (character_length kind) rows
@@ -134,7 +134,7 @@ pub open-parts : (kind : Kind) (row octets : List ℕ) → IsOpenRow kind row
     → (rows_filled kind row octets ≡ full_rows kind row octets) × (row_begun kind row octets ≡ open_row kind row octets)
 open-parts kind row octets begun =
     let short = begun.short in
-    let k = keep kind [] row (open-room kind row begun) (omega arith) in
+    let k = rest-stays_in_row kind [] row (open-room kind row begun) (omega arith) in
     let j = steps-join kind [] row octets in
     let p = cut-parts kind (row ++ octets) in
     let filled = ap₂ (λ (rows : List (List ℕ)) (r : List ℕ). rows ++ rows_filled kind r octets) k.0 k.1 in

@@ -94,7 +94,7 @@ module _ (kind : Kind) where
       rw (r, e)
       (t.0 ∙ ap (λ (y : List ℕ). y ∷ rows_filled kind [] (drop m xs)) (append_assoc row (x ∷ []) (take m xs)), t.1)
 
-  -- a row is filled: it is put, and the next begins
+  -- a row is part-fills_row: it is put, and the next begins
   pub next_row : (row : List ℕ) (m : ℕ) (rest : List ℕ) → HaveRoom kind (length row) rest m
       → length row + m ≤ row_size kind → m ≤ length rest → length row < row_size kind
       → FillsRow row m rest → CompletesRow row m rest
@@ -107,54 +107,54 @@ module _ (kind : Kind) where
       (omega arith) (omega (arith, length-append row (x ∷ []))) (shift-filled row m x xs f))
 
   -- all of the octets stay in the row that has begun
-  pub keep : (row rest : List ℕ) → HaveRoom kind (length row) rest (length rest)
+  pub rest-stays_in_row : (row rest : List ℕ) → HaveRoom kind (length row) rest (length rest)
       → length row + length rest < row_size kind
       → (rows_filled kind row rest ≡ []) × (row_begun kind row rest ≡ row ++ rest)
-  keep row [] room h = (refl, sym (append-nil row))
-  keep row (x ∷ xs) room h =
+  rest-stays_in_row row [] room h = (refl, sym (append-nil row))
+  rest-stays_in_row row (x ∷ xs) room h =
       let l : length row + 0 ≡ length row = omega arith in
       let r : has_room kind (length row) x ≡ true = rw l at (room 0 (omega arith)) in
       let e : eqb (length row + 1) (row_size kind) ≡ false = grind (arith, nat_tests) in
       let t =
-      keep (row ++ x ∷ []) xs (shift-room row (length xs) x xs room) (omega (arith, length-append row (x ∷ []))) in
+      rest-stays_in_row (row ++ x ∷ []) xs (shift-room row (length xs) x xs room) (omega (arith, length-append row (x ∷ []))) in
       rw (r, e) (t.0, t.1 ∙ append_assoc row (x ∷ []) xs)
 
-  filled : (row : List ℕ) (m : ℕ) (rest : List ℕ) → (length row + m ≡ row_size kind) ⊎ (m < length rest)
+  part-fills_row : (row : List ℕ) (m : ℕ) (rest : List ℕ) → (length row + m ≡ row_size kind) ⊎ (m < length rest)
       → (m < length rest → has_room kind (length row + m) (get_or rest m 0) ≡ false) → FillsRow row m rest
-  filled row m rest (inl e) next = inl e
-  filled row m rest (inr h) next = inr (h, next h)
+  part-fills_row row m rest (inl e) next = inl e
+  part-fills_row row m rest (inr h) next = inr (h, next h)
 
-  -- a row is filled, as the loop has it
-  pub turned : (n : ℕ) (row : List ℕ) (m : ℕ) (rest part more : List ℕ) → n ≡ length row → part ≡ take m rest
+  -- a row is part-fills_row, as the loop has it
+  pub row-filled_in_loop : (n : ℕ) (row : List ℕ) (m : ℕ) (rest part more : List ℕ) → n ≡ length row → part ≡ take m rest
       → more ≡ drop m rest
       → HaveRoom kind n rest m → n + m ≤ row_size kind → m ≤ length rest → n < row_size kind
       → (m < length rest → has_room kind (n + m) (get_or rest m 0) ≡ false)
       → (n + m ≡ row_size kind) ⊎ (m < length rest)
       → (rows_filled kind row rest ≡ (row ++ part) ∷ rows_filled kind [] more)
       × (row_begun kind row rest ≡ row_begun kind [] more)
-  turned n row m rest part more e p q room h w b next f =
+  row-filled_in_loop n row m rest part more e p q room h w b next f =
       rw (p, q)
-      (next_row row m rest (rw e at room) (rw e at h) w (rw e at b) (filled row m rest (rw e at f) (rw e at next)))
+      (next_row row m rest (rw e at room) (rw e at h) w (rw e at b) (part-fills_row row m rest (rw e at f) (rw e at next)))
 
   -- the row that has begun goes on, as the loop has it
-  pub kept : (n : ℕ) (row : List ℕ) (m : ℕ) (rest part : List ℕ) → n ≡ length row → part ≡ take m rest
+  pub row-kept_in_loop : (n : ℕ) (row : List ℕ) (m : ℕ) (rest part : List ℕ) → n ≡ length row → part ≡ take m rest
       → HaveRoom kind n rest m → length rest ≤ m → m ≤ length rest → n + m < row_size kind
       → (rows_filled kind row rest ≡ []) × (row_begun kind row rest ≡ row ++ part)
-  kept n row m rest part e p room h g w =
+  row-kept_in_loop n row m rest part e p room h g w =
       let all : part ≡ rest = p ∙ take_all m rest h in
       let l : m ≡ length rest = omega arith in
       let r : HaveRoom kind (length row) rest (length rest) = rw (e, l) at room in
-      let t = keep row rest r (omega arith) in
+      let t = rest-stays_in_row row rest r (omega arith) in
       (t.0, t.1 ∙ ap (λ (x : List ℕ). row ++ x) (sym all))
 
-  -- a row that is filled has octets
-  pub progress : (n m : ℕ) (rest : List ℕ) → n < row_size kind
+  -- a row that is part-fills_row has octets
+  pub filled_row-some : (n m : ℕ) (rest : List ℕ) → n < row_size kind
       → (m < length rest → has_room kind (n + m) (get_or rest m 0) ≡ false)
       → (n + m ≡ row_size kind) ⊎ (m < length rest) → 1 ≤ n + m
-  progress n m rest b next (inl e) = omega arith
-  progress zero zero rest b next (inr h) = let r = first-room kind (get_or rest 0 0) in let f = next h in cc
-  progress zero (suc m) rest b next (inr h) = omega arith
-  progress (suc n) m rest b next (inr h) = omega arith
+  filled_row-some n m rest b next (inl e) = omega arith
+  filled_row-some zero zero rest b next (inr h) = let r = first-room kind (get_or rest 0 0) in let f = next h in cc
+  filled_row-some zero (suc m) rest b next (inr h) = omega arith
+  filled_row-some (suc n) m rest b next (inr h) = omega arith
 
   -- ---- two pieces
 

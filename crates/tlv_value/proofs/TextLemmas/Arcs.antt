@@ -102,8 +102,8 @@ add_first-zero : (ps : List (List ℕ)) → add_first 0 ps ≡ map subidentifier
 add_first-zero [] = refl
 add_first-zero (p ∷ ps) = ap (λ (v : ℕ). v ∷ map subidentifier ps) (omega arith)
 
-onto : (n d l k s : ℕ) → k ≡ l → (n * 128 + d) * 128 ^ l + s ≡ n * 128 ^ suc l + (d * 128 ^ k + s)
-onto n d l k s e = rw (e, pow-suc 128 l) (grind arith)
+value-onto : (n d l k s : ℕ) → k ≡ l → (n * 128 + d) * 128 ^ l + s ≡ n * 128 ^ suc l + (d * 128 ^ k + s)
+value-onto n d l k s e = rw (e, pow-suc 128 l) (grind arith)
 
 -- octets with bit 8 set belong to the next part
 add_first-onto : (n x : ℕ) (ps : List (List ℕ)) → 1 ≤ length ps
@@ -111,7 +111,7 @@ add_first-onto : (n x : ℕ) (ps : List (List ℕ)) → 1 ≤ length ps
 add_first-onto n x [] some = absurd (omega arith)
 add_first-onto n x (p ∷ ps) some =
     ap (λ (v : ℕ). v ∷ map subidentifier ps)
-    (onto n (x % 128) (length p) (length (map (λ x. x % 128) p)) (subidentifier p) (length-map p (λ x. x % 128)))
+    (value-onto n (x % 128) (length p) (length (map (λ x. x % 128) p)) (subidentifier p) (length-map p (λ x. x % 128)))
 
 onto-some : (x : ℕ) (ps : List (List ℕ)) → 1 ≤ length (onto_first x ps)
 onto-some x [] = omega arith
@@ -229,13 +229,13 @@ one-more n x v i e h = let p : 128 ^ (i + 1) ≡ 128 ^ i * 128 = pow-add 128 i 1
 pub none-yet : (i : ℕ) → 0 < 128 ^ i
 none-yet i = one-le-pow i 128 (omega arith)
 
--- how long the text is at most
+-- how decimal-within the text is at most
 
-long : (v k : ℕ) → v < 2 ^ 128 → v < 10 ^ k → 1 ≤ k → length (decimal v) ≤ k
-long v k h g s = length-decimal-le_wide k v s g (omega arith)
+decimal-within : (v k : ℕ) → v < 2 ^ 128 → v < 10 ^ k → 1 ≤ k → length (decimal v) ≤ k
+decimal-within v k h g s = length-decimal-le_wide k v s g (omega arith)
 
-thousand : (n x k : ℕ) → n < 10 ^ (3 * k) → n * 128 + x % 128 < 10 ^ (3 * suc k)
-thousand n x k h =
+arc-grows : (n x k : ℕ) → n < 10 ^ (3 * k) → n * 128 + x % 128 < 10 ^ (3 * suc k)
+arc-grows n x k h =
     let e : 10 ^ (3 * suc k) ≡ 10 ^ (3 * k) * 1000 =
     ap (λ m. 10 ^ m) (let l : 3 * suc k ≡ 3 * k + 3 = omega arith in l) ∙ pow-add 10 (3 * k) 3 in
     rw e (omega arith)
@@ -249,13 +249,13 @@ first-long-at : (v k : ℕ) (p q : Bool) (vs : List ℕ) → 1 ≤ k → v < 2 ^
     → length (dotted_arcs ((if p then 0 ∷ v ∷ [] else (if q then 1 ∷ (v - 40) ∷ [] else 2 ∷ (v - 80) ∷ [])) ++ vs))
     ≤ 3 * k + 2 + length (after_dots vs)
 first-long-at v k true q vs s h g =
-    two-long 0 v k vs (long 0 1 (omega arith) (omega arith) (omega arith)) (long v (3 * k) h g (omega arith))
+    two-long 0 v k vs (decimal-within 0 1 (omega arith) (omega arith) (omega arith)) (decimal-within v (3 * k) h g (omega arith))
 first-long-at v k false true vs s h g =
-    two-long 1 (v - 40) k vs (long 1 1 (omega arith) (omega arith) (omega arith))
-    (long (v - 40) (3 * k) (omega arith) (omega (arith, g)) (omega arith))
+    two-long 1 (v - 40) k vs (decimal-within 1 1 (omega arith) (omega arith) (omega arith))
+    (decimal-within (v - 40) (3 * k) (omega arith) (omega (arith, g)) (omega arith))
 first-long-at v k false false vs s h g =
-    two-long 2 (v - 80) k vs (long 2 1 (omega arith) (omega arith) (omega arith))
-    (long (v - 80) (3 * k) (omega arith) (omega (arith, g)) (omega arith))
+    two-long 2 (v - 80) k vs (decimal-within 2 1 (omega arith) (omega arith) (omega arith))
+    (decimal-within (v - 80) (3 * k) (omega arith) (omega (arith, g)) (omega arith))
 
 -- at the end of the loop
 pub run-end : (relative : Bool) (c t : List ℕ) (first : Bool) (n i : ℕ) → is_finished c ≡ true → length c ≤ 64
@@ -280,26 +280,26 @@ HasRoom t first n i = (k : ℕ) × (n < 10 ^ (3 * k)) × (length t + 4 * k + (if
 
 part-long : (first relative : Bool) (v k : ℕ) → 1 ≤ k → v < 2 ^ 128 → v < 10 ^ (3 * k)
     → length (arcs_text first relative v) ≤ 3 * k + 1 + (if first then 2 else 0)
-part-long true true v k s h g = omega (arith, long v (3 * k) h g (omega arith))
+part-long true true v k s h g = omega (arith, decimal-within v (3 * k) h g (omega arith))
 part-long true false v k s h g =
     omega (
       arith,
       ap (λ (l : List ℕ). length (dotted_arcs l)) (append-nil (first_arcs v)),
       first-long-at v k (nat_lt v 40) (nat_lt v 80) [] s h g,
     )
-part-long false relative v k s h g = omega (arith, long v (3 * k) h g (omega arith))
+part-long false relative v k s h g = omega (arith, decimal-within v (3 * k) h g (omega arith))
 
 -- an octet that does not end a subidentifier
 pub room-within : (t : List ℕ) (first : Bool) (n x v i : ℕ) → v ≡ n * 128 + x % 128 → HasRoom t first n i
     → HasRoom t first v (i + 1)
-room-within t first n x v i e (k, h, g) = (suc k, rw e (thousand n x k h), omega (arith, g))
+room-within t first n x v i e (k, h, g) = (suc k, rw e (arc-grows n x k h), omega (arith, g))
 
 -- one that does
 pub room-last : (t : List ℕ) (first relative : Bool) (n x v i : ℕ) → v ≡ n * 128 + x % 128 → v < 2 ^ 128
     → HasRoom t first n i
     → HasRoom (t ++ arcs_text first relative v) false 0 (i + 1)
 room-last t first relative n x v i e small (k, h, g) =
-    let l = part-long first relative v (suc k) (omega arith) small (rw e (thousand n x k h)) in
+    let l = part-long first relative v (suc k) (omega arith) small (rw e (arc-grows n x k h)) in
     (0, omega arith, omega (arith, g, l, length-append t (arcs_text first relative v)))
 
 -- the arcs of the first subidentifier

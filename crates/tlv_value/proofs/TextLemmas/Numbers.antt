@@ -57,8 +57,8 @@ bits-append (x ∷ c) d =
     ap (λ (t : List ℕ). last_bits 8 x ++ t) (bits-append c d)
     ∙ sym (append_assoc (last_bits 8 x) (bits_of c) (bits_of d))
 
-spread : (v b x : ℕ) → pos (v * 256 + x) -ℤ pos (b * 256) ≡ (pos v -ℤ pos b) *ℤ pos 256 +ℤ pos x
-spread v b x = omega (arith, ints)
+difference-spread : (v b x : ℕ) → pos (v * 256 + x) -ℤ pos (b * 256) ≡ (pos v -ℤ pos b) *ℤ pos 256 +ℤ pos x
+difference-spread v b x = omega (arith, ints)
 
 -- eight bits more
 signed-octet : (bits : List ℕ) (x : ℕ) → 1 ≤ length bits → x < 256
@@ -70,7 +70,7 @@ signed-octet (bit ∷ bits) x some h =
     ap (λ n. 2 ^ n) (length-append bits (last_bits 8 x) ∙ ap (λ n. length bits + n) (length-last_bits 8 x))
     ∙ pow-add 2 (length bits) 8 in
     let q : bit * (2 ^ length bits * 256) ≡ bit * 2 ^ length bits * 256 = grind arith in
-    rw (e, p, q) (spread (value_of 2 bits) (bit * 2 ^ length bits) x)
+    rw (e, p, q) (difference-spread (value_of 2 bits) (bit * 2 ^ length bits) x)
 
 -- the number of one octet more
 pub twos-more : (c : List ℕ) (x : ℕ) → 1 ≤ length c → x < 256
@@ -79,8 +79,8 @@ twos-more c x some h =
     ap signed_sum (bits-append c (x ∷ []) ∙ ap (λ (t : List ℕ). bits_of c ++ t) (append-nil (last_bits 8 x)))
     ∙ signed-octet (bits_of c) x (omega (arith, length-bits c)) h
 
-widen : (v b : ℕ) → (pos v -ℤ pos b) *ℤ pos 256 ≡ pos (v * 256) -ℤ pos (b * 256)
-widen v b = omega (arith, ints)
+difference-widen : (v b : ℕ) → (pos v -ℤ pos b) *ℤ pos 256 ≡ pos (v * 256) -ℤ pos (b * 256)
+difference-widen v b = omega (arith, ints)
 
 diff-mag-at : (x y p : ℕ) (b : Bool) → nat_le y x ≡ b → x < p → y ≤ p → mag (pos x -ℤ pos y) < p
 diff-mag-at x y p true e h g =
@@ -122,7 +122,7 @@ mag-wider_number n (bit ∷ bits) short all =
     let v : value_of 2 bits < 2 ^ length bits = value_of-lt 2 bits (omega arith) (All-tail (λ b. b < 2) bit bits all) in
     let one : bit * 2 ^ length bits ≤ 2 ^ length bits =
     at_most_one bit (2 ^ length bits) (All-head (λ b. b < 2) bit bits all) in
-    rw (widen (value_of 2 bits) (bit * 2 ^ length bits))
+    rw (difference-widen (value_of 2 bits) (bit * 2 ^ length bits))
     (diff-mag (value_of 2 bits * 256) (bit * 2 ^ length bits * 256) (2 ^ n * 256) (omega (arith, p, v))
     (omega (arith, p, one)))
 

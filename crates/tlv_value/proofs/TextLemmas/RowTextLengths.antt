@@ -30,12 +30,12 @@ use Rattle.tlv_io.proofs.HeldTexts.{pairs-size}
 use Rattle.tlv_value.specs.Value.{octets_value, spaced_pairs, used_digits, value_on_line}
 
 -- what was added is at most so long
-pub grown : (old new text : List ℕ) (n : ℕ) → new ≡ old ++ text → length text ≤ n → length new ≤ length old + n
-grown old new text n e h = omega (arith, ap length e, length-append old text, h)
+pub length-grown : (old new text : List ℕ) (n : ℕ) → new ≡ old ++ text → length text ≤ n → length new ≤ length old + n
+length-grown old new text n e h = omega (arith, ap length e, length-append old text, h)
 
 -- a text of at most n octets was added
 pub adds_short : (old new text : List ℕ) (n : ℕ) → new ≡ old ++ text → length text ≤ n → AddsAtMost n old new text
-adds_short old new text n e h = record { text = e; within = grown old new text n e h }
+adds_short old new text n e h = record { text = e; within = length-grown old new text n e h }
 
 abbrev value_with : List ℕ → List (List ℕ) → Value
 value_with text rows = record { text = text; rows = rows }

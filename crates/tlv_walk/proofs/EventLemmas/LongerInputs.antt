@@ -8,8 +8,8 @@ use Rattle.tlv_walk.specs.Reading.{IsReading}
 use Rattle.tlv_walk.specs.Events.{AreEqualJoined, EventValue, events, single_octets}
 use Rattle.tlv_walk.proofs.GrammarLemmas.Spellings.{front-of}
 use Rattle.tlv_walk.proofs.GrammarLemmas.PushSteps.{Grown}
-use Rattle.tlv_walk.proofs.GrammarLemmas.PopHeaders.{back, is_nil, is_push}
-use Rattle.tlv_walk.proofs.GrammarLemmas.Readings.{PoppedBy, popped-by, unique}
+use Rattle.tlv_walk.proofs.GrammarLemmas.PopHeaders.{list-back, is_nil, is_push}
+use Rattle.tlv_walk.proofs.GrammarLemmas.Readings.{PoppedBy, popped-by, spelling-unique}
 use Rattle.tlv_walk.proofs.EventLemmas.Joined.{apart-before, joined-from_apart}
 use Rattle.tlv_walk.proofs.EventLemmas.NextEvents.{Brings, gain_events, push-brings}
 
@@ -30,13 +30,13 @@ goes-on-after xs ys zs new r e = record {
 forest-goes_on : (p : Place) (n : ℕ) (f g : Forest) (t : List ℕ) → length t ≡ n → KeepsRules p f → KeepsRules p g
     → spelling g ≡ spelling f ++ t → GoesFurther (events f) (events g)
 forest-goes_on p zero f g [] l w v e =
-    let same : g ≡ f = unique p g f v w (e ∙ append-nil (spelling f)) in
+    let same : g ≡ f = spelling-unique p g f v w (e ∙ append-nil (spelling f)) in
     record {
       others = [];
       more = ap (λ (f : Forest). single_octets (events f)) same ∙ sym (ap single_octets (append-nil (events f)));
     }
 forest-goes_on p zero f g (x ∷ t) l w v e = absurd (omega arith)
-forest-goes_on p (suc n) f g t l w v e = elim (back t) [
+forest-goes_on p (suc n) f g t l w v e = elim (list-back t) [
   | is_nil z ↦ absurd (omega (arith, ap length z))
   | is_push ys y z ↦
       let e' : spelling g ≡ (spelling f ++ ys) ++ y ∷ [] = rw (append_assoc (spelling f) ys (y ∷ [])) (rw z at e) in

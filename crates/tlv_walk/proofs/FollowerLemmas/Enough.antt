@@ -28,17 +28,17 @@ module _ {A : Type 0} (job : Job A) (given : List ℕ) (f : Forest) (new : Sourc
   ComesToResult (Err WriteFailed) = ⊤
   ComesToResult (Err InputTooLong) = (job.limit < length given) × WantMore job (take job.limit given)
 
-  ends : (e : Ending) (k : Bool) → job.is_enough f ≡ k → EndsWith job.framing (take job.limit given) k e
+  ends_with-by : (e : Ending) (k : Bool) → job.is_enough f ≡ k → EndsWith job.framing (take job.limit given) k e
       → EndsWith job.framing (take job.limit given) (job.is_enough f) e
-  ends e k is x = subst (λ (k : Bool). EndsWith job.framing (take job.limit given) k e) (sym is) x
+  ends_with-by e k is x = subst (λ (k : Bool). EndsWith job.framing (take job.limit given) k e) (sym is) x
 
-  pub returns : (result : Result A DeviceFault) → ComesTo job given f new result → ComesToResult result
-  returns result (at_enough k) = (Done, refl, ends Done true k refl, inl k)
-  returns result (at_fault e k final) = (e, refl, ends e false k.not_enough k.is_ending, inr (inl final))
-  returns result (at_input_end e k last end) = (e, refl, ends e false k.not_enough k.is_ending, inr (inr (last, end)))
-  returns result (read_failed last) = last
-  returns result write_failed = tt
-  returns result (too_long many wants) = (many, wants)
+  pub comes_to-result : (result : Result A DeviceFault) → ComesTo job given f new result → ComesToResult result
+  comes_to-result result (at_enough k) = (Done, refl, ends_with-by Done true k refl, inl k)
+  comes_to-result result (at_fault e k final) = (e, refl, ends_with-by e false k.not_enough k.is_ending, inr (inl final))
+  comes_to-result result (at_input_end e k last end) = (e, refl, ends_with-by e false k.not_enough k.is_ending, inr (inr (last, end)))
+  comes_to-result result (read_failed last) = last
+  comes_to-result result write_failed = tt
+  comes_to-result result (too_long many wants) = (many, wants)
 
   has_ending : (e : Ending) → job.is_enough f ≡ false → IsEnding job.framing (take job.limit given) e
       → HasEnding job (take job.limit given) f e

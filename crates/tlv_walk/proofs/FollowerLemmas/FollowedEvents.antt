@@ -20,13 +20,13 @@ module _ {S : Type 0} where
       let last = g middle.state in
       ap (λ (l : List ℕ). record last { put = l }) (append_assoc t.put middle.put last.put)
 
-  -- nothing after, and nothing before
+  -- nothing effect-after_one, and nothing before
   pub and_then-stay : (t : Effect S) → t.goes ≡ On → and_then t no_effect ≡ t
   and_then-stay t e =
       ap (λ (g : Go). record { state = t.state; put = t.put ++ []; goes = g }) (sym e)
       ∙ ap (λ (l : List ℕ). record { state = t.state; put = l; goes = t.goes }) (append-nil t.put)
 
-  -- what comes after may be another that makes the same
+  -- what comes effect-after_one may be another that makes the same
   pub and_then-alike : (t : Effect S) (f g : S → Effect S) → f t.state ≡ g t.state → and_then t f ≡ and_then t g
   unfolding put_before
   and_then-alike t f g e = ap (put_before t.put) e
@@ -39,12 +39,12 @@ module _ {S : Type 0} where
   effect_if_more-assoc : (go : Go) (t : Effect S) (f g : S → Effect S) → go ≡ t.goes
       → effect_if_more go t (λ u. effect_if_more (f u).goes (f u) g)
       ≡ effect_if_more (effect_if_more go t f).goes (effect_if_more go t f) g
-  effect_if_more-assoc On t f g e = after (f t.state) (f t.state).goes
+  effect_if_more-assoc On t f g e = effect-after_one (f t.state) (f t.state).goes
     where
-      after : (m : Effect S) (go : Go)
+      effect-after_one : (m : Effect S) (go : Go)
           → and_then t (λ u. effect_if_more go m g) ≡ effect_if_more go (and_then t (λ u. m)) g
-      after m On = sym (and_then-assoc t (λ u. m) g)
-      after m Enough = refl
+      effect-after_one m On = sym (and_then-assoc t (λ u. m) g)
+      effect-after_one m Enough = refl
   effect_if_more-assoc Enough t f g e = ap (λ (go : Go). effect_if_more go t g) e
 
 on_is_not_enough : On ≡ Enough → ⊥
@@ -63,7 +63,7 @@ module _ {S : Type 0} (next : S → EventValue → Effect S) where
       (followed-append t.state xs ys)
       ∙ effect_if_more-assoc t.goes t (λ u. effect_of next u xs) (λ v. effect_of next v ys) refl
 
-  -- if it wanted more, others come after
+  -- if it wanted more, others come effect-after_one
   pub followed-more : (s : S) (xs ys : List EventValue) → (effect_of next s xs).goes ≡ On
       → effect_of next s (xs ++ ys) ≡ and_then (effect_of next s xs) (λ u. effect_of next u ys)
   followed-more s xs ys e =
@@ -98,7 +98,7 @@ module _ {S : Type 0} (next : S → EventValue → Effect S) where
 
   -- ---- the events up to the first at which it has enough
 
-  -- if it wanted more after some events, they are followed, and others after them
+  -- if it wanted more effect-after_one some events, they are followed, and others effect-after_one them
   pub events_more : (s : S) (xs ys : List EventValue) → (effect_of next s xs).goes ≡ On
       → followed_events next s (xs ++ ys) ≡ xs ++ followed_events next (effect_of next s xs).state ys
   events_more s [] ys h = refl
@@ -123,7 +123,7 @@ module _ {S : Type 0} (next : S → EventValue → Effect S) where
       by On = refl
       by Enough = refl
 
-  -- if it had enough, none after them
+  -- if it had enough, none effect-after_one them
   pub events_enough : (s : S) (xs ys : List EventValue) → (effect_of next s xs).goes ≡ Enough
       → followed_events next s (xs ++ ys) ≡ followed_events next s xs
   events_enough s [] ys h = absurd (cc (h))
@@ -139,10 +139,10 @@ module _ {S : Type 0} (next : S → EventValue → Effect S) where
       by step On k h = ap (λ (l : List EventValue). e ∷ l) (step h)
       by step Enough k h = refl
 
-  -- events after one event may be others that are followed alike
-  after : (s : S) (e : EventValue) (es fs : List EventValue) → ((u : S) → effect_of next u es ≡ effect_of next u fs)
+  -- events effect-after_one one event may be others that are followed alike
+  effect-after_one : (s : S) (e : EventValue) (es fs : List EventValue) → ((u : S) → effect_of next u es ≡ effect_of next u fs)
       → effect_of next s (e ∷ es) ≡ effect_of next s (e ∷ fs)
-  after s e es fs h =
+  effect-after_one s e es fs h =
       effect_if_more-alike (next s e).goes (next s e) (λ u. effect_of next u es) (λ u. effect_of next u fs)
       (h (next s e).state)
 
@@ -204,32 +204,32 @@ module _ {S : Type 0} (next : S → EventValue → Effect S)
   followed-joined s [] = refl
   followed-joined s (Bytes b ∷ es) =
       followed-with_bytes s b (joined_events es)
-      ∙ after next s (Bytes b) (joined_events es) es (λ u. followed-joined u es)
+      ∙ effect-after_one next s (Bytes b) (joined_events es) es (λ u. followed-joined u es)
   followed-joined s (Pad b ∷ es) =
-      followed-with_pad s b (joined_events es) ∙ after next s (Pad b) (joined_events es) es (λ u. followed-joined u es)
-  followed-joined s (Open h ∷ es) = after next s (Open h) (joined_events es) es (λ u. followed-joined u es)
-  followed-joined s (Begin h ∷ es) = after next s (Begin h) (joined_events es) es (λ u. followed-joined u es)
-  followed-joined s (End ∷ es) = after next s End (joined_events es) es (λ u. followed-joined u es)
-  followed-joined s (Close o ∷ es) = after next s (Close o) (joined_events es) es (λ u. followed-joined u es)
-  followed-joined s (Enter h ∷ es) = after next s (Enter h) (joined_events es) es (λ u. followed-joined u es)
-  followed-joined s (Unused ∷ es) = after next s Unused (joined_events es) es (λ u. followed-joined u es)
-  followed-joined s (Leave ∷ es) = after next s Leave (joined_events es) es (λ u. followed-joined u es)
+      followed-with_pad s b (joined_events es) ∙ effect-after_one next s (Pad b) (joined_events es) es (λ u. followed-joined u es)
+  followed-joined s (Open h ∷ es) = effect-after_one next s (Open h) (joined_events es) es (λ u. followed-joined u es)
+  followed-joined s (Begin h ∷ es) = effect-after_one next s (Begin h) (joined_events es) es (λ u. followed-joined u es)
+  followed-joined s (End ∷ es) = effect-after_one next s End (joined_events es) es (λ u. followed-joined u es)
+  followed-joined s (Close o ∷ es) = effect-after_one next s (Close o) (joined_events es) es (λ u. followed-joined u es)
+  followed-joined s (Enter h ∷ es) = effect-after_one next s (Enter h) (joined_events es) es (λ u. followed-joined u es)
+  followed-joined s (Unused ∷ es) = effect-after_one next s Unused (joined_events es) es (λ u. followed-joined u es)
+  followed-joined s (Leave ∷ es) = effect-after_one next s Leave (joined_events es) es (λ u. followed-joined u es)
 
   -- events that are equal joined make the same
   pub followed-alike : (s : S) (es fs : List EventValue) → AreEqualJoined es fs
       → effect_of next s es ≡ effect_of next s fs
   followed-alike s es fs e = sym (followed-joined s es) ∙ ap (effect_of next s) e ∙ followed-joined s fs
 
--- ---- of the events that are followed, what is kept of each
+-- ---- of the events that are followed, what is parts-put of each
 
 module _ {S : Type 0} (next : S → EventValue → Effect S) (part : EventValue → List ℕ) where
-  -- a follower that puts what is kept
+  -- a follower that puts what is parts-put
   abbrev part_step : S → EventValue → Effect S
   part_step s e = record { state = (next s e).state; put = part e; goes = (next s e).goes }
 
-  kept : (s : S) (es : List EventValue) → flat_map part (followed_events next s es) ≡ (effect_of part_step s es).put
-  kept s [] = refl
-  kept s (e ∷ es) = by (kept (next s e).state es) (next s e).goes
+  parts-put : (s : S) (es : List EventValue) → flat_map part (followed_events next s es) ≡ (effect_of part_step s es).put
+  parts-put s [] = refl
+  parts-put s (e ∷ es) = by (parts-put (next s e).state es) (next s e).goes
     where
       by : flat_map part (followed_events next (next s e).state es) ≡ (effect_of part_step (next s e).state es).put
           → (g : Go)
@@ -258,7 +258,7 @@ module _ {S : Type 0} (next : S → EventValue → Effect S)
     (bytes : (x y : List ℕ) → part (Bytes (x ++ y)) ≡ part (Bytes x) ++ part (Bytes y))
     (no_bytes : part (Bytes []) ≡ [])
     (pads : (x y : List ℕ) → part (Pad (x ++ y)) ≡ part (Pad x) ++ part (Pad y)) (no_pads : part (Pad []) ≡ []) where
-  -- of events that are equal joined the same is kept
+  -- of events that are equal joined the same is parts-put
   pub kept-alike : (s : S) (es fs : List EventValue) → AreEqualJoined es fs
       → flat_map part (followed_events next s es) ≡ flat_map part (followed_events next s fs)
   kept-alike s es fs e =
@@ -267,7 +267,7 @@ module _ {S : Type 0} (next : S → EventValue → Effect S)
       (part_step_rests next part Bytes bytes no_bytes bytes_empty) bytes_go_on
       (part_step_joins next part Pad pads no_pads pad_join) (part_step_rests next part Pad pads no_pads pad_empty)
       pad_go_on s es fs e in
-      kept next part s es ∙ ap (λ (t : Effect S). t.put) same ∙ sym (kept next part s fs)
+      parts-put next part s es ∙ ap (λ (t : Effect S). t.put) same ∙ sym (parts-put next part s fs)
 
 -- ---- octet by octet
 

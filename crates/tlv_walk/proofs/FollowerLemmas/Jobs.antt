@@ -15,7 +15,7 @@ use Rattle.tlv_walk.specs.Events.{EventValue, events}
 use Rattle.tlv_walk.specs.Follow.{Effect, effect_of, go_of, had_enough}
 use Rattle.tlv_walk.specs.Forest.{Forest}
 use Rattle.tlv_walk.specs.Job.{EndsWith, Job, Runs, WantMore, device_states, read_failed, too_long, write_failed}
-use Rattle.tlv_walk.proofs.FollowerLemmas.Enough.{ComesToResult, Settled, comes_to, returns}
+use Rattle.tlv_walk.proofs.FollowerLemmas.Enough.{ComesToResult, Settled, comes_to, comes_to-result}
 use Rattle.tlv_io.specs.Out.{Sends}
 use Rattle.tlv_walk.specs.Reading.{IsReading}
 
@@ -67,7 +67,7 @@ module _ {S A : Type 0} (next : S → EventValue → Effect S) (job : Job A) (s 
       let given : List ℕ = octets_given w.pieces in
       let same = enough (take job.limit given) w.reading (within_limit given) w.is_reading in
       let k : ComesToResult (drive_job next job.framing job.limit s) given w.reading new (Ok run) =
-      returns (drive_job next job.framing job.limit s) given w.reading new (Ok run) w.comes in record {
+      comes_to-result (drive_job next job.framing job.limit s) given w.reading new (Ok run) w.comes in record {
         pieces = w.pieces;
         failures = w.failures;
         wants_more = wants_as (concat w.pieces.pieces) w.within w.wants_more;
@@ -98,7 +98,7 @@ module _ {S A : Type 0} (next : S → EventValue → Effect S) (job : Job A) (s 
         sends = sent_as (octets_given w.pieces) w.reading (Ok tt) w.is_reading w.sends;
         comes =
             read_failed
-            (returns (drive_job next job.framing job.limit s) (octets_given w.pieces) w.reading new
+            (comes_to-result (drive_job next job.framing job.limit s) (octets_given w.pieces) w.reading new
             (Err ReadFailed) w.comes);
       }
   runs_err WriteFailed x =
@@ -115,7 +115,7 @@ module _ {S A : Type 0} (next : S → EventValue → Effect S) (job : Job A) (s 
   runs_err InputTooLong x =
       let w = x.runs in
       let k =
-      returns (drive_job next job.framing job.limit s) (octets_given w.pieces) w.reading new (Err InputTooLong)
+      comes_to-result (drive_job next job.framing job.limit s) (octets_given w.pieces) w.reading new (Err InputTooLong)
       w.comes in record {
         pieces = w.pieces;
         failures = w.failures;

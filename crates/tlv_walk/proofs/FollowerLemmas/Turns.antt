@@ -38,7 +38,7 @@ use Rattle.tlv_walk.proofs.FollowerLemmas.WalkSoFar.{limit_after}
 use Rattle.tlv_walk.proofs.FollowerLemmas.Pauses.{stands_spelled, walked_refused}
 use Rattle.tlv_walk.proofs.FollowerLemmas.TurnEnds.{enough_ends, fault_ends, used_up_ends, used_up_on}
 
--- of n octets at the front of a piece as many as the limit leaves
+-- of n octets at the front of a piece as given-length as the limit leaves
 taken_within : (limit offset n : ℕ) (p : List ℕ) → take (min (limit - offset) n) p ≡ take (limit - offset) (take n p)
 taken_within limit offset n p = elim (cases_lt (limit - offset) n) [
   | inl less ↦ ap (λ (k : ℕ). take k p) (omega (arith, less))
@@ -60,15 +60,15 @@ module _ {S D : Type 0} (next : S → EventValue → Effect S) (old new : TurnSt
   Sent result more = Sends old.devices.drain new.devices.drain (effect_of next old.follower more).put result
 
   -- the same of a turn
-  sent : (why : Pause) (more : List EventValue) → Sent (Ok why) more
+  sent-of_turn : (why : Pause) (more : List EventValue) → Sent (Ok why) more
       → Sends {T = ⊤} {E = DeviceFault} old.devices.drain new.devices.drain (effect_of next old.follower more).put
       (Ok tt)
-  sent why more q =
+  sent-of_turn why more q =
       sends_ok old.devices.drain new.devices.drain (effect_of next old.follower more).put
       (effect_of next old.follower more).put why tt q refl
 
-  many : length r ≡ n
-  many = ap length is_r ∙ length-take n p ∙ omega (arith, some)
+  given-length : length r ≡ n
+  given-length = ap length is_r ∙ length-take n p ∙ omega (arith, some)
 
   -- the octets that are followed are those up to the limit
   reached : b ++ piece ≡ take limit (b ++ r)
@@ -96,22 +96,22 @@ module _ {S D : Type 0} (next : S → EventValue → Effect S) (old new : TurnSt
         more (Ok paused)
     put : Sent (Ok why) more
 
-  used : (why : Pause) → Followed why pause.UsedUp → StandsAfter next old new (b ++ piece) yielded
-  used why x = used_up_on next old new from to b piece yielded x.more (sent why x.more x.put) st x.pauses
+  used_up-stands : (why : Pause) → Followed why pause.UsedUp → StandsAfter next old new (b ++ piece) yielded
+  used_up-stands why x = used_up_on next old new from to b piece yielded x.more (sent-of_turn why x.more x.put) st x.pauses
 
   turns_again : (why : Pause) → Followed why pause.UsedUp → (m < n → ⊥) → (n ≡ 0 → ⊥)
       → TurnsTo next old new limit b yielded r (Ok Again)
   turns_again why x fits some' = record {
-    some = λ e. some' (sym many ∙ ap length e);
-    within = omega (arith, length-append b r, many, st.private_state.has_zipper.offset, fits, below, is_m);
-    stands = subst (λ (o : List ℕ). StandsAfter next old new (b ++ o) yielded) (all_within fits) (used why x);
+    some = λ e. some' (sym given-length ∙ ap length e);
+    within = omega (arith, length-append b r, given-length, st.private_state.has_zipper.offset, fits, below, is_m);
+    stands = subst (λ (o : List ℕ). StandsAfter next old new (b ++ o) yielded) (all_within fits) (used_up-stands why x);
   }
 
   turns_long : (why : Pause) → Followed why pause.UsedUp → m < n
       → TurnsTo next old new limit b yielded r (Err InputTooLong)
   turns_long why x more = record {
-    beyond = omega (arith, length-append b r, many, st.private_state.has_zipper.offset, more, below, is_m);
-    stands = subst (λ (o : List ℕ). StandsAfter next old new o yielded) reached (used why x);
+    beyond = omega (arith, length-append b r, given-length, st.private_state.has_zipper.offset, more, below, is_m);
+    stands = subst (λ (o : List ℕ). StandsAfter next old new o yielded) reached (used_up-stands why x);
   }
 
   ends_in : (run : Run) → EndsIn next old new (b ++ piece) yielded run
@@ -123,7 +123,7 @@ module _ {S D : Type 0} (next : S → EventValue → Effect S) (old new : TurnSt
       → IfAtEnd new.walker (λ octets. IsEnding new.walker.framing octets e)
       → TurnsTo next old new limit b yielded r (Ok (Ended run))
   turns_end run e why x none is ends =
-      let on = used why x in
+      let on = used_up-stands why x in
       at_input_end
       (ends_in run
       (used_up_ends next old new (b ++ piece) yielded run e on is (ends (b ++ piece) on.all
@@ -138,7 +138,7 @@ module _ {S D : Type 0} (next : S → EventValue → Effect S) (old new : TurnSt
       let r = (walked_refused old.walker new.walker b piece yielded x.more e k).0 in
       at_fault
       (ends_in run
-      (fault_ends next old new from to b piece yielded x.more (sent why x.more x.put) st e x.pauses run is))
+      (fault_ends next old new from to b piece yielded x.more (sent-of_turn why x.more x.put) st e x.pauses run is))
       (subst IsFinalEnding (sym (ap (λ (x : Run). x.ending) is))
       (refused-final old.walker.framing (b ++ k.taken) k.octet [] e r.offset (r.ends [])))
 
@@ -147,7 +147,7 @@ module _ {S D : Type 0} (next : S → EventValue → Effect S) (old new : TurnSt
   turns_enough run why x is =
       at_enough
       (subst (λ (o : List ℕ). HasEnoughIn next old new o yielded run) reached
-      (enough_ends next old new from to b piece yielded x.more (sent why x.more x.put) st x.pauses read.0 read.1
+      (enough_ends next old new from to b piece yielded x.more (sent-of_turn why x.more x.put) st x.pauses read.0 read.1
       run is))
 
   -- by why the piece is not followed any further

@@ -16,7 +16,7 @@ use Rattle.tlv_walk.specs.Ending.{IsEnding, IsRefusedAt, done, empty, fault_endi
 use Rattle.tlv_walk.proofs.GrammarLemmas.PushSteps.{Spells}
 use Rattle.tlv_walk.proofs.GrammarLemmas.Readings.{PushRun, Going, Halted, IsHalt, IsRightRun, halt-longer}
 use Rattle.tlv_walk.proofs.GrammarLemmas.Readings.{halt-longest, is-run}
-use Rattle.tlv_walk.proofs.GrammarLemmas.Readings.{push_all, run-reading, unique}
+use Rattle.tlv_walk.proofs.GrammarLemmas.Readings.{push_all, run-reading, spelling-unique}
 use Rattle.tlv_walk.proofs.GrammarLemmas.Spellings.{front-same}
 use Rattle.tlv_walk.proofs.GrammarLemmas.Sound.{open-sound, sound-open_top, sound-whole}
 use Rattle.tlv_walk.proofs.GrammarLemmas.Faults.{fault-refused, refused-fault}
@@ -184,6 +184,6 @@ refused-reading w p x c f g v there e = elim (fault-place w (p ++ x ∷ c) (Faul
       front-same (spelling r.0) (spelling g) (r.1.is_prefix.0) (x ∷ c)
       (r.1.is_prefix.1 ∙ ap (λ (o : List ℕ). o ++ x ∷ c) (sym v.spelled))
       (sym r.2 ∙ there ∙ ap length (sym v.spelled)) in
-      subst (λ (h : Forest). IsReading w (p ++ x ∷ c) h) (unique
+      subst (λ (h : Forest). IsReading w (p ++ x ∷ c) h) (spelling-unique
       (top_place w) r.0 g r.1.keeps_rules v.keeps_rules same) r.1
 ]

@@ -11,7 +11,7 @@ use Rattle.tlv_head.proofs.GrammarLemmas.Scan.{Origin, Scan, Fresh, High, Named,
 use Rattle.tlv_head.proofs.GrammarLemmas.Scan.{Over, moved_header, step}
 use Rattle.tlv_head.proofs.GrammarLemmas.Scan.{scan, scan-moved_header, more-from_prefix}
 use Rattle.tlv_head.proofs.GrammarLemmas.Meaning.{IsStateAfter, reads-step, reads-scan, prefix-bytes}
-use Rattle.tlv_head.proofs.GrammarLemmas.Headers.{IsHeadRefusal, Explains, explains}
+use Rattle.tlv_head.proofs.GrammarLemmas.Headers.{IsHeadRefusal, Explains, step-explains}
 use Rattle.tlv_head.proofs.GrammarLemmas.Refused.{refused-stuck}
 use Rattle.tlv_walk.specs.declared.framing.Framing.{Framing}
 use Rattle.tlv_walk.specs.Forest.{Forest, NoMore, OpenPrimitive, OpenBitString, OpenHeader, OpenEndOctets}
@@ -86,8 +86,8 @@ octet-blames p o x StrayEnd some room r = absurd (some r.0)
 octet-blames p o x code some room r = refused_octet room r
 
 -- if the test of the depth fails, the element is not too deep
-shallow : (t : Bool) (d : ℕ) → (t && leb 128 d) ≡ false → t ≡ true → d < 128
-shallow t d e k = elim (and_cases t (leb 128 d) e) [
+depth-allows : (t : Bool) (d : ℕ) → (t && leb 128 d) ≡ false → t ≡ true → d < 128
+depth-allows t d e k = elim (and_cases t (leb 128 d) e) [
   | inl z ↦ absurd (true≢false (sym k ∙ z))
   | inr z ↦ leb-false 128 d z
 ]
@@ -108,7 +108,7 @@ complete-blames p o x h room s octets = elim (cases_Bool (holds h && leb 128 p.d
       rw deep (too_deep room h there octets (leb-true _ _ parts.1))
   | inr not_deep ↦ elim (cases_Bool (fits p (length (octets_of h) + announced_length h.size))) [
     | inl f ↦ rw (not_deep, f) tt
-    | inr f ↦ rw (not_deep, f) (overrun room h s octets (shallow (holds h) p.depth not_deep) (too-long p _ f))
+    | inr f ↦ rw (not_deep, f) (overrun room h s octets (depth-allows (holds h) p.depth not_deep) (too-long p _ f))
   ]
 ]
 
@@ -142,18 +142,18 @@ header-blames p o x h w =
     elim (cases_Bool (fits p (length o + 1))) [
       | inl f ↦ rw f
           (begin-blames p o x (step at (scan at o) x) w.0 (within-fits p.bound _ f)
-          (explains at x (scan at o) o (more-from_prefix at o w.1) now) (reads-step at x (scan at o) o h now))
+          (step-explains at x (scan at o) o (more-from_prefix at o w.1) now) (reads-step at x (scan at o) o h now))
       | inr f ↦ rw f (no_room (too-long p (length o + 1) f))
     ]
 
 -- a refusal at an open end has a fault of the list
-pub blames : (p : Place) (f : Forest) (x : ℕ) → x < 256 → IsOpenEndAt p f → Blames p f x (refusal (push p f x))
-blames p NoMore x h t = between-blames p x t.1
-blames p (OpenPrimitive header c) x h t = tt
-blames p (OpenBitString header) x h t = unused-blames p header x
-blames p (OpenHeader o) x h t = header-blames p o x h t
-blames p OpenEndOctets x h t = end-blames p x
-blames p f x h t = absurd t
+pub refusal-has_fault : (p : Place) (f : Forest) (x : ℕ) → x < 256 → IsOpenEndAt p f → Blames p f x (refusal (push p f x))
+refusal-has_fault p NoMore x h t = between-blames p x t.1
+refusal-has_fault p (OpenPrimitive header c) x h t = tt
+refusal-has_fault p (OpenBitString header) x h t = unused-blames p header x
+refusal-has_fault p (OpenHeader o) x h t = header-blames p o x h t
+refusal-has_fault p OpenEndOctets x h t = end-blames p x
+refusal-has_fault p f x h t = absurd t
 
 -- an octet that is refused for the octets of a header alone is refused there
 stuck-refusal : (p : Place) (o : List ℕ) (x : ℕ) (code : FaultCode) → KeepsRules p (OpenHeader o)
@@ -216,7 +216,7 @@ pub refused-fault : (w : Framing) (f : Forest) (x : ℕ) (code : FaultCode) → 
 refused-fault w f x code h v e =
     let same : refusal (push (open_end (top_place w) f).place (open_end (top_place w) f).forest x) ≡ Some code =
     sym (push-open_end (top_place w) f x) ∙ ap refusal e in
-    rw same at (blames (open_end (top_place w) f).place (open_end (top_place w) f).forest x h (open_end-top w f v))
+    rw same at (refusal-has_fault (open_end (top_place w) f).place (open_end (top_place w) f).forest x h (open_end-top w f v))
 
 -- an octet with a fault of the list is refused, with that code
 pub fault-refused : (w : Framing) (f : Forest) (x : ℕ) (code : FaultCode) → KeepsRules (top_place w) f

@@ -62,10 +62,10 @@ pub record JoinsOffsets (constructed : Bool) (inner others : ℕ → List ℕ) (
   pub of_others : (offset i : ℕ) → offset + far ≤ i
       → is_among i (joint_names constructed inner others begins far offset) ≡ is_among i (others (offset + far))
 
-pub joins : (constructed : Bool) (inner others : ℕ → List ℕ) (begins count far rest : ℕ) → 1 ≤ begins
+pub offsets-join : (constructed : Bool) (inner others : ℕ → List ℕ) (begins count far rest : ℕ) → 1 ≤ begins
     → begins + count ≤ far → ComeAfter inner → AreWithin inner count → ComeAfter others → AreWithin others rest
     → JoinsOffsets constructed inner others begins count far rest
-joins constructed inner others begins count far rest some on inner_after inner_within others_after others_within =
+offsets-join constructed inner others begins count far rest some on inner_after inner_within others_after others_within =
     record {
       after = λ offset i less.
           in-third i (wrapper_offset_by constructed offset) (inner (offset + begins)) (others (offset + far))

@@ -17,8 +17,8 @@ use Rattle.tlv_walk.proofs.GrammarLemmas.Spellings.{append_assoc-3, append_assoc
 use Rattle.tlv_walk.proofs.GrammarLemmas.Spellings.{length-primitive}
 use Rattle.tlv_walk.proofs.GrammarLemmas.PushSteps.{IsWholeHolder, IsWholePrimitive, Grown, Ended, holder_so_far}
 use Rattle.tlv_walk.proofs.GrammarLemmas.PushSteps.{push_after, is_filled_by, primitive_so_far, push, settle}
-use Rattle.tlv_walk.proofs.GrammarLemmas.OpenElements.{reaches, size-definite}
-use Rattle.tlv_walk.proofs.GrammarLemmas.PopHeaders.{back, Popped, header-popped, holder_begun-popped, lead-popped}
+use Rattle.tlv_walk.proofs.GrammarLemmas.OpenElements.{open-within, size-definite}
+use Rattle.tlv_walk.proofs.GrammarLemmas.PopHeaders.{list-back, Popped, header-popped, holder_begun-popped, lead-popped}
 use Rattle.tlv_walk.proofs.GrammarLemmas.PopHeaders.{front-popped, is_nil, is_push}
 
 -- a primitive with all its contents octets
@@ -52,7 +52,7 @@ contents-popped p h c x n g header e less f same spelled = record {
 primitive-popped : (p : Place) (h : HeaderValue) (c : List ℕ) (n : ℕ) (g : Forest) → IsHeaderAt p false h
     → h.size ≡ Definite n → length c ≤ n → Fits p (length (octets_of h) + n)
     → primitive_so_far h c ≡ g → spelling g ≡ octets_of h ++ c → Popped p g
-primitive-popped p h c n g header e most f same spelled = elim (back c) [
+primitive-popped p h c n g header e most f same spelled = elim (list-back c) [
   | is_nil z ↦
       let f' : Fits p (length (octets_of h) + announced_length h.size) = rw (ap announced_length e) f in
       let r : Popped p (primitive_so_far h []) = header-popped p h false header refl f' in
@@ -96,7 +96,7 @@ lacks-before p h f g x entry w spelled =
     within-lacks h.size (p.offset + length (octets_of h)) p.bound (contents_length h f)
     (within-le (place_of_children p h).bound
     _ _ (omega (arith, ap length spelled, length-append (spelling f) (x ∷ []), length-opening h))
-    (reaches (place_of_children p h) g (fits-inside p h entry.header.form entry.fits) w))
+    (open-within (place_of_children p h) g (fits-inside p h entry.header.form entry.fits) w))
 
 -- an element that holds octets is popped by the last of them, or by that of what comes before
 holder_so_far-popped : (p : Place) (h : HeaderValue) (inside g : Forest) → IsAnnouncedAt p true h
@@ -239,10 +239,10 @@ padding-popped p w = record {
 }
 
 -- what follows an element is popped: so are both
-followed : (p q : Place) (f : Forest → Forest) (o : List ℕ) (rest : Forest) → (r : Popped q rest)
+popped-after : (p q : Place) (f : Forest → Forest) (o : List ℕ) (rest : Forest) → (r : Popped q rest)
     → KeepsRules p (f r.from) → ((g : Forest) → spelling (f g) ≡ o ++ spelling g)
     → ((x : ℕ) → push p (f r.from) x ≡ push_after f (push q r.from x)) → Popped p (f rest)
-followed p q f o rest r w spelled pushed = record {
+popped-after p q f o rest r w spelled pushed = record {
   from = f r.from;
   last = r.last;
   keeps_rules = w;
@@ -253,36 +253,36 @@ followed p q f o rest r w spelled pushed = record {
 }
 
 -- a forest that keeps the rules has no octet, or is a shorter one and the octet pushed
-pub pop : (p : Place) (g : Forest) → KeepsRules p g → (g ≡ NoMore) ⊎ Popped p g
-pop p NoMore w = inl refl
-pop p (PaddingOctet rest) w = inr (elim (pop (place_after p 1) rest w.1) [
+pub open-popped : (p : Place) (g : Forest) → KeepsRules p g → (g ≡ NoMore) ⊎ Popped p g
+open-popped p NoMore w = inl refl
+open-popped p (PaddingOctet rest) w = inr (elim (open-popped (place_after p 1) rest w.1) [
   | inl e ↦ rw e (padding-popped p (w.0, tt))
-  | inr r ↦ followed p (place_after p 1) PaddingOctet (0 ∷ []) rest r (w.0, r.keeps_rules) (λ g. refl) (λ x. refl)
+  | inr r ↦ popped-after p (place_after p 1) PaddingOctet (0 ∷ []) rest r (w.0, r.keeps_rules) (λ g. refl) (λ x. refl)
 ])
-pop p (Primitive h c rest) w = inr (elim (pop (place_after p (length (octets_of h) + length c)) rest w.1) [
+open-popped p (Primitive h c rest) w = inr (elim (open-popped (place_after p (length (octets_of h) + length c)) rest w.1) [
   | inl e ↦ rw e (whole_primitive-popped p h c w.0)
   | inr r ↦
-      followed p _ (Primitive h c) (octets_of h ++ c) rest r (w.0, r.keeps_rules)
+      popped-after p _ (Primitive h c) (octets_of h ++ c) rest r (w.0, r.keeps_rules)
       (λ g. sym (append_assoc (octets_of h) c (spelling g))) (λ x. refl)
 ])
-pop p (Holder h inside rest) w = inr (elim (pop (place_after p (extent h inside)) rest w.2) [
-  | inl e ↦ rw e (holder-popped p h inside w.0 w.1 (pop (place_of_children p h) inside w.1))
+open-popped p (Holder h inside rest) w = inr (elim (open-popped (place_after p (extent h inside)) rest w.2) [
+  | inl e ↦ rw e (holder-popped p h inside w.0 w.1 (open-popped (place_of_children p h) inside w.1))
   | inr r ↦
-      followed p _ (Holder h inside) (opening h ++ (spelling inside ++ end_octets h.size)) rest r
+      popped-after p _ (Holder h inside) (opening h ++ (spelling inside ++ end_octets h.size)) rest r
       (w.0, w.1, r.keeps_rules)
       (λ g. sym (append_assoc-3 (opening h) (spelling inside) (end_octets h.size) (spelling g))) (λ x. refl)
 ])
-pop p (OpenPrimitive h c) w = inr (open_primitive-popped p h c w)
-pop p (OpenHolder h inside) w =
+open-popped p (OpenPrimitive h c) w = inr (open_primitive-popped p h c w)
+open-popped p (OpenHolder h inside) w =
     inr
-    (holder_so_far-popped p h inside (OpenHolder h inside) w.0.0 w.1 (pop (place_of_children p h) inside w.1)
+    (holder_so_far-popped p h inside (OpenHolder h inside) w.0.0 w.1 (open-popped (place_of_children p h) inside w.1)
     (holder_so_far-open h inside w.0.1) refl)
-pop p (OpenBitString h) w = inr (holder_begun-popped p h (0 ∷ []) w.1 w.0)
-pop p (OpenHeader o) w = inr (elim (back o) [
+open-popped p (OpenBitString h) w = inr (holder_begun-popped p h (0 ∷ []) w.1 w.0)
+open-popped p (OpenHeader o) w = inr (elim (list-back o) [
   | is_nil e ↦ absurd (w.0 e)
   | is_push ys y e ↦ rw e (front-popped p ys y (rw e at w.1) (rw e at w.2))
 ])
-pop p OpenEndOctets w = inr (record {
+open-popped p OpenEndOctets w = inr (record {
   from = NoMore;
   last = 0;
   keeps_rules = tt;

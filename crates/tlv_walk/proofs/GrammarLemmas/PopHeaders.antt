@@ -25,9 +25,9 @@ back-cons x xs (is_nil e) = is_push [] x (ap (λ (t : List ℕ). x ∷ t) e)
 back-cons x xs (is_push front last e) = is_push (x ∷ front) last (ap (λ (t : List ℕ). x ∷ t) e)
 
 -- each list is one or the other
-pub back : (xs : List ℕ) → Back xs
-back [] = is_nil refl
-back (x ∷ xs) = back-cons x xs (back xs)
+pub list-back : (xs : List ℕ) → Back xs
+list-back [] = is_nil refl
+list-back (x ∷ xs) = back-cons x xs (list-back xs)
 
 -- a forest that keeps the rules, and the octet that makes g of it
 pub record Popped (p : Place) (g : Forest) : Type 0 where
@@ -79,7 +79,7 @@ header-origin p k h header = λ i. record { offset = header.offset i; named = he
 -- a header alone is popped by its last octet
 pub header-popped : (p : Place) (h : HeaderValue) (k : Bool) → IsHeaderAt p k h → (k && leb 128 p.depth) ≡ false
     → Fits p (length (octets_of h) + announced_length h.size) → Popped p (element_begun k h)
-header-popped p h k header d f = elim (back (octets_of h)) [
+header-popped p h k header d f = elim (list-back (octets_of h)) [
   | is_nil e ↦ absurd (omega (arith, ap length e, header-two h header.valid))
   | is_push o x e ↦
       let size : length (octets_of h) ≡ length o + 1 = ap length e ∙ length-append o (x ∷ []) in

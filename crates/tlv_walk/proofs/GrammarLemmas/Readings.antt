@@ -14,8 +14,8 @@ use Rattle.tlv_walk.specs.Reading.{IsPrefixOf, IsReading}
 use Rattle.tlv_walk.proofs.GrammarLemmas.Spellings.{front-of, front-same}
 use Rattle.tlv_walk.proofs.GrammarLemmas.PushSteps.{PushStep, Grown, Ended, Refused, IsStep, Spells, push}
 use Rattle.tlv_walk.proofs.GrammarLemmas.Push.{push-steps}
-use Rattle.tlv_walk.proofs.GrammarLemmas.PopHeaders.{Popped, back, is_nil, is_push}
-use Rattle.tlv_walk.proofs.GrammarLemmas.Pop.{pop}
+use Rattle.tlv_walk.proofs.GrammarLemmas.PopHeaders.{Popped, list-back, is_nil, is_push}
+use Rattle.tlv_walk.proofs.GrammarLemmas.Pop.{open-popped}
 
 -- no string is read as encodings, and there is padding
 abbrev pub padding_framing : Framing
@@ -30,7 +30,7 @@ pub record PoppedBy (p : Place) (f : Forest) (o : List ℕ) (x : ℕ) : Type 0 w
 -- it is popped by the last octet of its spelling
 pub popped-by : (p : Place) (f : Forest) (o : List ℕ) (x : ℕ) → KeepsRules p f → spelling f ≡ o ++ x ∷ []
     → PoppedBy p f o x
-popped-by p f o x w e = elim (pop p f w) [
+popped-by p f o x w e = elim (open-popped p f w) [
   | inl stop ↦ let e' : [] ≡ o ++ x ∷ [] =
       rw stop at e in absurd (omega (arith, ap length e', length-append o (x ∷ [])))
   | inr q ↦
@@ -38,12 +38,12 @@ popped-by p f o x w e = elim (pop p f w) [
       record { popped = q; spelled = same.0; octet = same.1 }
 ]
 
--- `prefix`, by the number of octets that are cut off
+-- `prefix-open`, by the number of octets that are cut off
 prefix-within : (p : Place) (n : ℕ) (f : Forest) (s t : List ℕ) → length t ≡ n → KeepsRules p f → spelling f ≡ s ++ t
     → (g : Forest) × Spells p s g
 prefix-within p zero f s [] l w e = (f, record { keeps_rules = w; spelled = e ∙ append-nil s })
 prefix-within p zero f s (x ∷ t) l w e = absurd (omega arith)
-prefix-within p (suc n) f s t l w e = elim (back t) [
+prefix-within p (suc n) f s t l w e = elim (list-back t) [
   | is_nil z ↦ absurd (omega (arith, ap length z))
   | is_push ys y z ↦
       let e' : spelling f ≡ (s ++ ys) ++ y ∷ [] = rw (append_assoc s ys (y ∷ [])) (rw z at e) in
@@ -52,10 +52,10 @@ prefix-within p (suc n) f s t l w e = elim (back t) [
       q.spelled
 ]
 
--- each prefix of the spelling of a forest that keeps the rules is the spelling of one that keeps them
-pub prefix : (p : Place) (f : Forest) (s t : List ℕ) → KeepsRules p f → spelling f ≡ s ++ t
+-- each prefix-open of the spelling of a forest that keeps the rules is the spelling of one that keeps them
+pub prefix-open : (p : Place) (f : Forest) (s t : List ℕ) → KeepsRules p f → spelling f ≡ s ++ t
     → (g : Forest) × Spells p s g
-prefix p f s t w e = prefix-within p (length t) f s t refl w e
+prefix-open p f s t w e = prefix-within p (length t) f s t refl w e
 
 -- forests that are popped alike are the same
 same-pushed : (p : Place) (f g : Forest) (q : Popped p f) (r : Popped p g) → q.from ≡ r.from → q.last ≡ r.last → f ≡ g
@@ -66,17 +66,17 @@ same-pushed p f g q r e l =
 
 -- a forest that keeps the rules and spells nothing is empty
 pub unique-empty : (p : Place) (f : Forest) → KeepsRules p f → spelling f ≡ [] → f ≡ NoMore
-unique-empty p f w e = elim (pop p f w) [
+unique-empty p f w e = elim (open-popped p f w) [
   | inl stop ↦ stop
   | inr q ↦ absurd (omega (arith, ap length e, ap length q.spelled, length-append (spelling q.from) (q.last ∷ [])))
 ]
 
--- `unique`, by the number of octets
+-- `spelling-unique`, by the number of octets
 unique-within : (p : Place) (n : ℕ) (f g : Forest) (o : List ℕ) → length o ≡ n → KeepsRules p f → KeepsRules p g
     → spelling f ≡ o → spelling g ≡ o → f ≡ g
 unique-within p zero f g [] l w v e d = unique-empty p f w e ∙ sym (unique-empty p g v d)
 unique-within p zero f g (x ∷ o) l w v e d = absurd (omega arith)
-unique-within p (suc n) f g o l w v e d = elim (back o) [
+unique-within p (suc n) f g o l w v e d = elim (list-back o) [
   | is_nil z ↦ absurd (omega (arith, ap length z))
   | is_push ys y z ↦
       let q : PoppedBy p f ys y = popped-by p f ys y w (e ∙ z) in
@@ -88,8 +88,8 @@ unique-within p (suc n) f g o l w v e d = elim (back o) [
 ]
 
 -- two forests at one place that keep the rules and have one spelling are the same
-pub unique : (p : Place) (f g : Forest) → KeepsRules p f → KeepsRules p g → spelling f ≡ spelling g → f ≡ g
-unique p f g w v e = unique-within p (length (spelling g)) f g (spelling g) refl w v e refl
+pub spelling-unique : (p : Place) (f g : Forest) → KeepsRules p f → KeepsRules p g → spelling f ≡ spelling g → f ≡ g
+spelling-unique p f g w v e = unique-within p (length (spelling g)) f g (spelling g) refl w v e refl
 
 -- the octet that leads from one forest that keeps the rules to another is pushed
 pub push-complete : (p : Place) (f g : Forest) (x : ℕ) → KeepsRules p f → KeepsRules p g
@@ -97,7 +97,7 @@ pub push-complete : (p : Place) (f g : Forest) (x : ℕ) → KeepsRules p f → 
     → push p f x ≡ Grown g
 push-complete p f g x w v e =
     let q : PoppedBy p g (spelling f) x = popped-by p g (spelling f) x v e in
-    rw (unique p q.popped.from f q.popped.keeps_rules w q.spelled, q.octet) at q.popped.pushed
+    rw (spelling-unique p q.popped.from f q.popped.keeps_rules w q.spelled, q.octet) at q.popped.pushed
 
 -- one octet after another, up to the first that is refused
 pub data PushRun : Type 0 where
@@ -198,7 +198,7 @@ halt-longest w f code b r g v q = elim (cases_lt (length (spelling f)) (length (
       front-of (spelling f ++ r.octet ∷ []) (spelling g) r.rest q.0 end
       (omega (arith, length-append (spelling f) (r.octet ∷ []))) in
       let k : (k : Forest) × Spells (top_place w) (spelling f ++ r.octet ∷ []) k =
-      prefix (top_place w) g (spelling f ++ r.octet ∷ []) u.0 v u.1 in
+      prefix-open (top_place w) g (spelling f ++ r.octet ∷ []) u.0 v u.1 in
       let grown : push (top_place w) f r.octet ≡ Grown k.0 =
       push-complete (top_place w) f k.0 r.octet r.keeps_rules k.1.keeps_rules k.1.spelled in
       let refused : push (top_place w) f r.octet ≡ Refused code = r.refused in
@@ -240,6 +240,6 @@ pub reading-unique : (w : Framing) (b : List ℕ) (f g : Forest) → IsReading w
 reading-unique w b f g r s =
     let most : length (spelling f) ≤ length (spelling g) = s.longest f r.keeps_rules r.is_prefix in
     let most' : length (spelling g) ≤ length (spelling f) = r.longest g s.keeps_rules s.is_prefix in
-    unique (top_place w) f g r.keeps_rules s.keeps_rules
+    spelling-unique (top_place w) f g r.keeps_rules s.keeps_rules
     (front-same (spelling f) (spelling g) (r.is_prefix.0) (s.is_prefix.0) (r.is_prefix.1 ∙ sym s.is_prefix.1)
     (omega arith))

@@ -19,8 +19,8 @@ use Rattle.tlv_walk.proofs.GrammarLemmas.Spellings.{length-holder, length-openin
 use Rattle.tlv_walk.proofs.GrammarLemmas.ShortHeaders.{Octets, header_of, octets-in, header-valid, header-shortest}
 use Rattle.tlv_walk.proofs.GrammarLemmas.ShortHeaders.{octets-for, header-some, size-for, size-below, size-form}
 use Rattle.tlv_walk.proofs.GrammarLemmas.ShortHeaders.{size-length, allows-size, lead-short, not-holding, Holds}
-use Rattle.tlv_walk.proofs.GrammarLemmas.ShortHeaders.{holds-again, moved}
-use Rattle.tlv_walk.proofs.GrammarLemmas.PlacedSpelling.{JoinsOffsets, SpelledAt, Spelling, joins, joint_names}
+use Rattle.tlv_walk.proofs.GrammarLemmas.ShortHeaders.{holds-again, identifier-same_form}
+use Rattle.tlv_walk.proofs.GrammarLemmas.PlacedSpelling.{JoinsOffsets, SpelledAt, Spelling, offsets-join, joint_names}
 
 module _ (form : Bool → Bool) (definite : form false ≡ false) where
   spelling-padding : (p : Place) (rest : Forest) → p.padding ≡ true → Spelling form (place_after p 1) rest
@@ -138,7 +138,7 @@ module _ (form : Bool → Bool) (definite : form false ≡ false) where
       let far : ℕ = length begins + (length held.octets + length ends) in
       let joint : JoinsOffsets constructed held.names r.names (length begins) (length held.octets) far
       (length r.octets) =
-      joins constructed held.names r.names (length begins) (length held.octets) far (length r.octets) some (omega arith)
+      offsets-join constructed held.names r.names (length begins) (length held.octets) far (length r.octets) some (omega arith)
       held.names_after held.names_within r.names_after r.names_within in
       let lead_is : length first ≡ length (lead h) = ap (λ (k : Bool). length (lead_by k (eqb h.number 3))) (sym is) in
       record {
@@ -219,9 +219,9 @@ module _ (form : Bool → Bool) (definite : form false ≡ false) where
             };
       }
 
-  pub respelled : (p : Place) (f : Forest) → length (spelling f) ≤ 2 ^ 38 → IsSound p f → HaveNoUniversalZero f
+  pub sound-spelling : (p : Place) (f : Forest) → length (spelling f) ≤ 2 ^ 38 → IsSound p f → HaveNoUniversalZero f
       → Spelling form p f
-  respelled p NoMore few u low = record {
+  sound-spelling p NoMore few u low = record {
     octets = [];
     names = λ offset. [];
     short = omega arith;
@@ -236,27 +236,27 @@ module _ (form : Bool → Bool) (definite : form false ≡ false) where
       names_are = refl;
     };
   }
-  respelled p (PaddingOctet rest) few u low =
-      spelling-padding p rest u.0 (respelled (place_after p 1) rest (omega (arith, few)) u.1 low)
-  respelled p (Primitive h c rest) few u low =
+  sound-spelling p (PaddingOctet rest) few u low =
+      spelling-padding p rest u.0 (sound-spelling (place_after p 1) rest (omega (arith, few)) u.1 low)
+  sound-spelling p (Primitive h c rest) few u low =
       let count : length (spelling (Primitive h c rest)) ≡ length (octets_of h) + length c + length (spelling rest) =
       length-primitive h c rest in
       let primitive : h.constructed ≡ false =
       not-holding h.constructed (is_wrapper h.named h.class h.constructed h.number h.size) u.0.form in
       let o : Octets h false (Definite (length c)) =
       octets-for h false (Definite (length c))
-      (moved h.class h.constructed false h.number h.identifier primitive u.0.valid.identifier)
+      (identifier-same_form h.class h.constructed false h.number h.identifier primitive u.0.valid.identifier)
       (subst (λ (k : Bool). identifier_octet h.class k h.number ≢ 0) primitive low.0) refl
       (omega (arith, count, few)) in
       spelling-primitive p h c rest primitive u.0.valid o
-      (respelled (place_after p (length (octets_of h) + length c)) rest (omega (arith, count, few)) u.2 low.1)
-  respelled p (Holder h inside rest) few u low =
+      (sound-spelling (place_after p (length (octets_of h) + length c)) rest (omega (arith, count, few)) u.2 low.1)
+  sound-spelling p (Holder h inside rest) few u low =
       let count : length (spelling (Holder h inside rest)) ≡ extent h inside + length (spelling rest) =
       length-holder h inside rest in
       let begins : length (opening h) ≡ length (octets_of h) + length (lead h) = length-opening h in
       let some : 2 ≤ length (octets_of h) = header-two h u.0.valid in
       let held : Spelling form (place_of_children p h) inside =
-      respelled (place_of_children p h) inside (omega (arith, count, few)) u.3 low.0 in
+      sound-spelling (place_of_children p h) inside (omega (arith, count, few)) u.3 low.0 in
       let m : ℕ = length (lead h) + length held.octets in
       let below : m < 2 ^ 40 = omega (arith, held.short, count, begins, some, few, lead-short h.constructed h.number) in
       let primitive : h.constructed ≡ false → form h.constructed ≡ false = λ e. ap form e ∙ definite in
@@ -267,9 +267,9 @@ module _ (form : Bool → Bool) (definite : form false ≡ false) where
       (allows-size h.constructed (form h.constructed) m primitive)
       (size-below (form h.constructed) m below) in
       spelling-holder p h inside rest h.constructed refl u.0.valid u.2 held holding o
-      (respelled (place_after p (extent h inside)) rest (omega (arith, count, few)) u.4 low.1)
-  respelled p (OpenPrimitive h c) few u low = absurd u
-  respelled p (OpenHolder h inside) few u low = absurd u
-  respelled p (OpenBitString h) few u low = absurd u
-  respelled p (OpenHeader octets) few u low = absurd u
-  respelled p OpenEndOctets few u low = absurd u
+      (sound-spelling (place_after p (extent h inside)) rest (omega (arith, count, few)) u.4 low.1)
+  sound-spelling p (OpenPrimitive h c) few u low = absurd u
+  sound-spelling p (OpenHolder h inside) few u low = absurd u
+  sound-spelling p (OpenBitString h) few u low = absurd u
+  sound-spelling p (OpenHeader octets) few u low = absurd u
+  sound-spelling p OpenEndOctets few u low = absurd u

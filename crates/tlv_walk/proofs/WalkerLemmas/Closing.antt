@@ -1,4 +1,4 @@
--- The innermost element of a walker's state ends.
+-- The wraps-innermost element of a walker's state ends.
 use Rattle.std.proofs.Common.{◌≡◌, inl, inr, ℕ, ◌+◌, ◌-◌, ◌≤◌, Bool, true, false, not, if◌then◌else◌, List, [], ◌∷◌}
 use Rattle.std.proofs.Common.{◌++◌, length, drop, Option, Some, None, refl, sym, ap, ◌∙◌, subst, arith, append_assoc}
 use Rattle.std.proofs.Common.{append-nil, length-append}
@@ -24,7 +24,7 @@ use Rattle.tlv_walk.specs.Private.Zipper.{AreWhole, NoTail, HasZipper, EndOctets
 use Rattle.tlv_walk.specs.Private.Zipper.{events_of_layers, events_of_tail, frame_at, frames_of, place_in, place_of}
 use Rattle.tlv_walk.specs.Private.Zipper.{spelling_of_layers, spelling_of_tail}
 use Rattle.tlv_walk.specs.Stands.{filled_end_event}
-use Rattle.tlv_walk.proofs.WalkerLemmas.ZipperGrowth.{began, between_tail, closed_here, continues_both, lone_tail}
+use Rattle.tlv_walk.proofs.WalkerLemmas.ZipperGrowth.{element-began, between_tail, closed_here, continues_both, lone_tail}
 use Rattle.tlv_walk.proofs.WalkerLemmas.ZipperGrowth.{phase_at, tail_state, yielded_more, with_layers, with_tail}
 use Rattle.tlv_walk.proofs.WalkerLemmas.YieldedEvents.{yields_zero}
 use Rattle.tlv_walk.proofs.WalkerLemmas.Places.{definite-size, walker-offset}
@@ -32,9 +32,9 @@ use Rattle.tlv_walk.proofs.GrammarLemmas.Spellings.{length-opening}
 use Rattle.tlv_walk.proofs.WalkerLemmas.Zipper.{open-followed_by, spelling-followed_by, whole-followed_by}
 use Rattle.tlv_walk.proofs.WalkerLemmas.ZipperEvents.{events-followed_by}
 
-regroup : (a b c d e t : List ℕ)
+layers-regroup : (a b c d e t : List ℕ)
     → a ++ ((b ++ (c ++ (d ++ ((e ++ t) ++ [])))) ++ []) ≡ ((a ++ (b ++ c)) ++ (d ++ e)) ++ t
-regroup a b c d e t = simp (append_assoc, append-nil) refl
+layers-regroup a b c d e t = simp (append_assoc, append-nil) refl
 
 spelled_closed : (ls : List Layer) (l : Layer) (here : Forest) (old t b : List ℕ) → is_whole l.before ≡ true
     → old ++ t ≡ end_octets l.header.size
@@ -46,7 +46,7 @@ spelled_closed ls l here old t b whole e f =
     ∙ ap (λ (s : List ℕ). spelling_of_layers ls
     ++ ((spelling l.before ++ (opening l.header ++ (spelling here ++ (s ++ [])))) ++ []))
     (sym e)
-    ∙ regroup (spelling_of_layers ls) (spelling l.before) (opening l.header) (spelling here) old t
+    ∙ layers-regroup (spelling_of_layers ls) (spelling l.before) (opening l.header) (spelling here) old t
     ∙ ap (λ (s : List ℕ). s ++ t) f
 
 regroup_yielded : (a b c d : List EventValue) (e : EventValue)
@@ -81,7 +81,7 @@ closed_whole w l ls here earlier entry inside filled fits = record {
   whole = whole-followed_by l.before (Holder l.header here NoMore) earlier.whole;
 }
 
--- the state of a walker whose innermost element ends with these octets
+-- the state of a walker whose wraps-innermost element ends with these octets
 pub close_state : (w v : WalkerState) (b : List ℕ) (yielded : List EventValue) (l : Layer) (ls : List Layer)
     (here : Forest) (tail : Tail) (t : List ℕ)
     → HasZipper w b yielded (record { layers = l ∷ ls; here = here; tail = tail })
@@ -111,7 +111,7 @@ close_state w v b yielded l ls here tail t has stack quiet ends filled fits is_v
       same_events = yielded_closed yielded ls l here has.layers.1.whole
           (subst (λ (es : List EventValue). AreEqualJoined yielded (events_of_layers (l ∷ ls) ++ (events here ++ es)))
           quiet has.same_events);
-      element = element ∙ sym (began ls l.before (Holder l.header here NoMore) has.layers.1.whole refl);
+      element = element ∙ sym (element-began ls l.before (Holder l.header here NoMore) has.layers.1.whole refl);
     })
 
 constructed_indefinite : (k : Bool) (s : Size) → s ≡ Indefinite → AllowsSize k s → k ≡ true
@@ -239,7 +239,7 @@ ending_enters f = elim (cases_Bool f.wrapper) [
   | inr e ↦ rw e refl
 ]
 
--- the innermost element, which is filled, ends
+-- the wraps-innermost element, which is filled, ends
 pub yields_filled : (w : WalkerState) → w.phase ≡ Between → (f : FrameValue) (fs : List FrameValue)
     → w.stack ≡ f ∷ fs → f.end ≡ Some w.offset
     → Continues w (record w { stack = drop 1 w.stack; events = w.events + 1 }) [] (filled_end_event f ∷ [])
@@ -251,15 +251,15 @@ yields_filled w e f fs is full = record {
       filled_from w b yielded s s.layers (tail_state w b yielded s _ t has) e f fs is full;
 }
 
--- a stack of which the innermost frame says so
+-- a stack of which the wraps-innermost frame says so
 record IsInnermost (stack : List FrameValue) (k : Bool) : Type 0 where
   frame : FrameValue
   stack_is : stack ≡ frame ∷ drop 1 stack
   wraps : frame.wrapper ≡ k
 
-innermost : (stack : List FrameValue) (k : Bool) → innermost_wraps stack ≡ Some k → IsInnermost stack k
-innermost [] k e = absurd (cc)
-innermost (f ∷ fs) k e = record { frame = f; stack_is = refl; wraps = cc }
+wraps-innermost : (stack : List FrameValue) (k : Bool) → innermost_wraps stack ≡ Some k → IsInnermost stack k
+wraps-innermost [] k e = absurd (cc)
+wraps-innermost (f ∷ fs) k e = record { frame = f; stack_is = refl; wraps = cc }
 
 frame_filled : (stack : List FrameValue) (f : FrameValue) (fs : List FrameValue) (offset : ℕ) → stack ≡ f ∷ fs
     → IsFilled stack offset → f.end ≡ Some offset
@@ -271,7 +271,7 @@ pub yields_popped : (w : WalkerState) (k : Bool) → w.phase ≡ Between → IsF
     → Continues w (record w { stack = drop 1 w.stack; events = w.events + 1 }) []
     ((if k then Leave else Close None) ∷ [])
 yields_popped w k e full is =
-    let i : IsInnermost w.stack k = innermost w.stack k is in
+    let i : IsInnermost w.stack k = wraps-innermost w.stack k is in
     subst (λ (x : EventValue). Continues w (record w { stack = drop 1 w.stack; events = w.events + 1 }) [] (x ∷ []))
     (ap (λ (b : Bool). if b then Leave else Close None) i.wraps)
     (yields_filled w e i.frame (drop 1 w.stack) i.stack_is

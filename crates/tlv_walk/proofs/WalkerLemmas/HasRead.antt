@@ -19,11 +19,11 @@ use Rattle.tlv_walk.proofs.GrammarLemmas.Readings.{reading-unique}
 use Rattle.tlv_walk.proofs.GrammarLemmas.Unique.{shows-soundness}
 use Rattle.tlv_walk.proofs.WalkerLemmas.ZipperReading.{state-reading}
 use Rattle.tlv_walk.proofs.EventLemmas.Unused.{stands_unused}
-use Rattle.tlv_walk.proofs.WalkerLemmas.Waiting.{idle}
+use Rattle.tlv_walk.proofs.WalkerLemmas.Waiting.{idle-none_waits}
 
 pub read_depth : (w : WalkerState) (b : List ℕ) (f : Forest) → HasRead w b f → IsIdle w → length w.stack ≡ depth_of f
 read_depth w b f (took yielded st e) none =
-    state-depth w b yielded st.private_state.zipper st.private_state.has_zipper (idle w none)
+    state-depth w b yielded st.private_state.zipper st.private_state.has_zipper (idle-none_waits w none)
     ∙ ap depth_of
     (reading-unique w.framing b _ st.has_events.reading
     (state-reading w b yielded st.private_state.zipper st.private_state.has_zipper) st.has_events.is_reading

@@ -59,8 +59,8 @@ walker_in_element w h f k =
           k;
     }
 
--- the state is that of a walker which pushed the frame
-pushed : (w : WalkerState) (b : List ℕ) (yielded : List EventValue) (s : Zipper) (r : HeadReaderState) (t : List ℕ)
+-- the state is that of a walker which frame-pushed the frame
+frame-pushed : (w : WalkerState) (b : List ℕ) (yielded : List EventValue) (s : Zipper) (r : HeadReaderState) (t : List ℕ)
     (h : HeaderValue) (f : PhaseValue) (k : ℕ) (e : EventValue) (u : Zipper)
     → AtHeader w b yielded s r → Completed w r t h
     → HasZipper
@@ -68,7 +68,7 @@ pushed : (w : WalkerState) (b : List ℕ) (yielded : List EventValue) (s : Zippe
     { stack = frame_at (place_of w.framing s) h ∷ w.stack; wrapper_count = k })
     (b ++ t) (yielded ++ e ∷ []) u
     → HasZipper (walker_in_element w h f k) (b ++ t) (yielded ++ e ∷ []) u
-pushed w b yielded s r t h f k e u at c has =
+frame-pushed w b yielded s r t h f k e u at c has =
     subst
     (λ (x : FrameValue). HasZipper
     (record (after_header w f (h.offset + length (octets_of h))) { stack = x ∷ w.stack; wrapper_count = k })
@@ -97,7 +97,7 @@ takes_constructed w b yielded s r t h at c k =
     let none : lead h ≡ [] = lead_at h true (eqb h.number 3) k refl in
     let has = holding_state w b yielded s r t h w.wrapper_count at c (or-left h.constructed _ k) none in (
       _,
-      pushed w b yielded s r t h Between w.wrapper_count (Open h) _ at c
+      frame-pushed w b yielded s r t h Between w.wrapper_count (Open h) _ at c
           (subst
           (λ (e : EventValue). HasZipper
           (record (after_header w Between (h.offset + length (octets_of h)))
@@ -116,14 +116,14 @@ takes_wrapper : (w : WalkerState) (b : List ℕ) (yielded : List EventValue) (s 
 takes_wrapper w b yielded s r t h n at c k hold true bits =
     let one : lead h ≡ 0 ∷ [] = lead_at h false true k bits in (
       _,
-      pushed w b yielded s r t h InBitString n (Enter h) _ at c
+      frame-pushed w b yielded s r t h InBitString n (Enter h) _ at c
           (lead_state w b yielded s r t h n at c hold one),
     )
 takes_wrapper w b yielded s r t h n at c k hold false bits =
     let none : lead h ≡ [] = lead_at h false false k bits in
     let has = holding_state w b yielded s r t h n at c hold none in (
       _,
-      pushed w b yielded s r t h Between n (Enter h) _ at c
+      frame-pushed w b yielded s r t h Between n (Enter h) _ at c
           (subst
           (λ (e : EventValue). HasZipper
           (record (after_header w Between (h.offset + length (octets_of h)))

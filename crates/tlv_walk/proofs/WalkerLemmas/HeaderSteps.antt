@@ -35,16 +35,16 @@ use Rattle.tlv_walk.proofs.WalkerLemmas.ZipperGrowth.{phase_at, with_tail}
 -- ---- the walker that the reader was taken from
 
 -- it is at the header of that reader
-pub handed : (w u : WalkerState) (r : HeadReaderState) → HandsOver w u r
+pub handed-at_header : (w u : WalkerState) (r : HeadReaderState) → HandsOver w u r
     → (b : List ℕ) (yielded : List EventValue) (s : Zipper) → HasZipper w b yielded s
     → (t : Zipper) × AtHeader w b yielded t r × (u ≡ record w { phase = Between; has_element = true })
-handed w u r (inl h) b yielded s has =
+handed-at_header w u r (inl h) b yielded s has =
     let a = at_front w b yielded s r has h.0 in (
       with_tail s (HeaderTail a.0),
       a.1,
       h.1 ∙ ap (λ (k : Bool). record w { phase = Between; has_element = k }) a.1.has.element,
     )
-handed w u r (inr h) b yielded s has = (
+handed-at_header w u r (inr h) b yielded s has = (
   with_tail s NoTail,
   at_new w b yielded s r has h.0.phase h.0.none h.0.offset h.0.named,
   h.1 ∙ ap (λ (f : PhaseValue). record w { phase = f; has_element = true }) h.0.phase,
@@ -101,7 +101,7 @@ pub taken_state : (w u : WalkerState) (r q : HeadReaderState) (piece rest : List
     → IsWithin (bound_of u.stack) (q.offset + length q.octets) → (b : List ℕ) (yielded : List EventValue) (s : Zipper)
     → HasZipper w b yielded s → TakenState w u q k.taken b yielded
 taken_state w u r q piece rest over k some fits b yielded s has =
-    let h = handed w u r over b yielded s has in
+    let h = handed-at_header w u r over b yielded s has in
     let within : IsWithin (bound_of w.stack) (q.offset + length q.octets) =
     subst (λ (m : WalkerState). IsWithin (bound_of m.stack) (q.offset + length q.octets)) h.2 fits in
     record {
@@ -191,7 +191,7 @@ yields_after u new f o offset k can e does w r t over makes = record {
       (λ (g : Framing) (n : ℕ). wrapper_count_after g.inside n (entered_offsets (event_of k (new_header f o) ∷ [])))
       (handed_framing w u r over) (handed_wrappers w u r over);
   next_zipper = λ b yielded s has.
-      let h = handed w u r over b yielded s has in
+      let h = handed-at_header w u r over b yielded s has in
       state_after_header w new b yielded h.0 r t f o k h.1 (completed_without w u r t (new_header f o) h.2 can makes)
       (subst (λ (n : ℕ). TakesHeader w new f n k) e (takes_without w u new f offset k h.2 does));
 }

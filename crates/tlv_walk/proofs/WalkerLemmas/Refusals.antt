@@ -12,7 +12,7 @@ use Rattle.tlv_walk.specs.Ending.{no_end}
 use Rattle.tlv_walk.specs.Ending.{stray_end}
 use Rattle.tlv_walk.specs.Events.{EventValue}
 use Rattle.tlv_walk.specs.WalkerState.{WalkerState}
-use Rattle.tlv_walk.proofs.WalkerLemmas.Waiting.{EventWaits, EventWaitsIn, quiet}
+use Rattle.tlv_walk.proofs.WalkerLemmas.Waiting.{EventWaits, EventWaitsIn, none_waits-idle}
 use Rattle.tlv_walk.specs.Stack.{IsInIndefinite, bound_of}
 use Rattle.tlv_walk.specs.Place.{IsWithin}
 use Rattle.tlv_walk.specs.Private.Stack.{IsFilled, room_in, room_to}
@@ -66,7 +66,7 @@ refuses_here w x rest code idle faulty = record {
         walker = w;
         zipper = f.0;
         has_zipper = subst (λ (o : List ℕ). HasZipper w o yielded f.0) (sym (append-nil b)) f.1;
-        idle = quiet w idle;
+        idle = none_waits-idle w idle;
         offset = refl;
         ends =
             λ c. subst (λ (o : List ℕ). IsEnding w.framing (o ++ x ∷ c) (ending.Fault (fault_at code w.offset)))

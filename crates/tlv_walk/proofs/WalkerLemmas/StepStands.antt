@@ -31,7 +31,7 @@ use Rattle.tlv_walk.proofs.GrammarLemmas.Finals.{refused-final}
 use Rattle.tlv_walk.proofs.GrammarLemmas.Unique.{never-sound}
 use Rattle.tlv_walk.proofs.WalkerLemmas.Depths.{state-depth}
 use Rattle.tlv_walk.proofs.EventLemmas.Unused.{yielded_unused}
-use Rattle.tlv_walk.proofs.WalkerLemmas.Waiting.{idle}
+use Rattle.tlv_walk.proofs.WalkerLemmas.Waiting.{idle-none_waits}
 use Rattle.tlv_walk.proofs.GrammarLemmas.PushSteps.{Spells}
 use Rattle.tlv_walk.proofs.WalkerLemmas.ZipperReading.{stands, state-events, state-spells}
 use Rattle.tlv_walk.proofs.WalkerLemmas.Zipper.{reading_of}
@@ -119,7 +119,7 @@ refused_walker old new piece rest f k r b yielded st =
           );
       depth =
           ap (λ (fs : List FrameValue). length fs) (k.stack ∙ sym u.stack)
-          ∙ state-depth u.walker (b ++ r.taken) yielded u.zipper u.has_zipper (idle u.walker u.idle);
+          ∙ state-depth u.walker (b ++ r.taken) yielded u.zipper u.has_zipper (idle-none_waits u.walker u.idle);
       unused =
           ap (slice_get new.framing.inside) found
           ∙ yielded_unused new.framing yielded [] there.reading named (there.stays []).keeps_rules refl
@@ -130,9 +130,9 @@ refused_walker old new piece rest f k r b yielded st =
 -- ---- what a step comes to
 
 -- an event
-reports : (old new : WalkerState) (piece rest : List ℕ) (e : Event) → HasNotRefused old → CountsOne old new piece rest
+yields_one-next : (old new : WalkerState) (piece rest : List ℕ) (e : Event) → HasNotRefused old → CountsOne old new piece rest
     → IsNoEmptyPart e → YieldsEvent old new piece rest (event_value_of e) → YieldsNext old new piece rest e
-reports old new piece rest e n k has t =
+yields_one-next old new piece rest e n k has t =
     let walked = stands_all old new piece rest (event_value_of e ∷ []) t in record {
       takes = record {
         not_refused = n;
@@ -208,7 +208,7 @@ fault_now old new piece rest f n k (inr r) = absurd (n f r.refused)
 
 steps_now : (old new : WalkerState) (piece rest : List ℕ) (s : Step) → HasNotRefused old
     → Steps old new piece rest s → StepsTo old new piece rest s
-steps_now old new piece rest (step.Event e) n k = reports old new piece rest e n k.counts.0 k.counts.1 k.yields
+steps_now old new piece rest (step.Event e) n k = yields_one-next old new piece rest e n k.counts.0 k.counts.1 k.yields
 steps_now old new piece rest step.NeedMore n k = uses_up old new piece rest n k.counts k.yields
 steps_now old new piece rest (step.Fault f) n k = fault_now old new piece rest f n k.counts k.yields
 

@@ -1,4 +1,4 @@
--- Whether an event waits, by the code's tests and by the list of those that do.
+-- Whether an event waiting-returned, by the code's tests and by the list of those that do.
 use Rattle.std.proofs.Common.{◌≡◌, ℕ, Bool, true, false, eqb, if◌then◌else◌, List, [], ◌∷◌, Option, Some, None, refl}
 use Rattle.std.proofs.Common.{ap, ◌∙◌, ne_eqb, eq-eqb, IsTrue, ◌↔◌}
 use Rattle.tlv_walk.specs.Phase.{Between, InBitString, InEndOctets, InHeader, InPrimitive, PhaseValue, Refused}
@@ -21,7 +21,7 @@ EventWaitsIn (Refused fault) stack offset = ⊥
 abbrev pub EventWaits : WalkerState → Type 0
 EventWaits w = EventWaitsIn w.phase w.stack w.offset
 
--- if nothing waits no events do
+-- if nothing waiting-returned no events do
 no_endings : (offset : ℕ) (fs : List FrameValue) → (IsFilled fs offset → ⊥) → filled_end_events offset fs ≡ []
 no_endings offset [] n = refl
 no_endings offset (f ∷ fs) n =
@@ -41,10 +41,10 @@ quiet_in InBitString stack offset n = refl
 quiet_in InEndOctets stack offset n = refl
 quiet_in (Refused fault) stack offset n = refl
 
-pub quiet : (w : WalkerState) → (EventWaits w → ⊥) → waiting_events w ≡ []
-quiet w n = quiet_in w.phase w.stack w.offset n
+pub none_waits-idle : (w : WalkerState) → (EventWaits w → ⊥) → waiting_events w ≡ []
+none_waits-idle w n = quiet_in w.phase w.stack w.offset n
 
--- if one waits, there is one in the list
+-- if one waiting-returned, there is one in the list
 no_more : (e : EventValue) (es : List EventValue) (k : Bool) → k ≡ true → (if k then e ∷ es else []) ≡ [] → ⊥
 no_more e es true t n = cc
 no_more e es false t n = absurd (cc)
@@ -62,10 +62,10 @@ loud_in InBitString stack offset i n = i
 loud_in InEndOctets stack offset i n = i
 loud_in (Refused fault) stack offset i n = i
 
-pub idle : (w : WalkerState) → IsIdle w → EventWaits w → ⊥
-idle w n i = loud_in w.phase w.stack w.offset i n
+pub idle-none_waits : (w : WalkerState) → IsIdle w → EventWaits w → ⊥
+idle-none_waits w n i = loud_in w.phase w.stack w.offset i n
 
 -- what `waiting` returns
-pub waits : (w : WalkerState) (k : Bool) → IsTrue k ↔ EventWaits w → (k ≡ false) ↔ IsIdle w
-waits w true h = (λ e. absurd (cc (e)), λ n. absurd (idle w n (h.0 refl)))
-waits w false h = (λ e. quiet w (λ i. cc (h.1 i)), λ n. refl)
+pub waiting-returned : (w : WalkerState) (k : Bool) → IsTrue k ↔ EventWaits w → (k ≡ false) ↔ IsIdle w
+waiting-returned w true h = (λ e. absurd (cc (e)), λ n. absurd (idle-none_waits w n (h.0 refl)))
+waiting-returned w false h = (λ e. none_waits-idle w (λ i. cc (h.1 i)), λ n. refl)

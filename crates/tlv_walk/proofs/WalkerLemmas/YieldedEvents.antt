@@ -16,7 +16,7 @@ use Rattle.tlv_walk.specs.Private.Yields.{Continues}
 use Rattle.tlv_walk.proofs.WalkerLemmas.Places.{indefinite-size, walker-offset}
 use Rattle.tlv_walk.proofs.WalkerLemmas.Zipper.{followed_by}
 use Rattle.tlv_walk.proofs.WalkerLemmas.ZipperGrowth.{continues_both, yielded_after, spelled_after, yielded_whole}
-use Rattle.tlv_walk.proofs.WalkerLemmas.ZipperGrowth.{spelled_whole, are_whole, began, with_tail, tail_state, phase_at}
+use Rattle.tlv_walk.proofs.WalkerLemmas.ZipperGrowth.{spelled_whole, are_whole, element-began, with_tail, tail_state, phase_at}
 use Rattle.tlv_walk.proofs.WalkerLemmas.ZipperGrowth.{contents_tail, between_tail, with_layers}
 
 -- contents of a primitive
@@ -108,7 +108,7 @@ end_state w b yielded s h c has e =
       same_events =
           yielded_whole yielded s.layers s.here (Primitive h c NoMore) (Begin h ∷ Bytes c ∷ []) (End ∷ [])
           has.here.whole has.same_events refl;
-      element = has.element ∙ sym (began s.layers s.here (Primitive h c NoMore) has.here.whole refl);
+      element = has.element ∙ sym (element-began s.layers s.here (Primitive h c NoMore) has.here.whole refl);
     }
 
 pub yields_end : (w : WalkerState) → w.phase ≡ InPrimitive 0

@@ -117,11 +117,11 @@ element-either (OpenBitString h) g e = absurd (cc)
 element-either (OpenHeader octets) g e = absurd (cc)
 element-either OpenEndOctets g e = absurd (cc)
 
-pub began : (ls : List Layer) (here more : Forest) → is_whole here ≡ true → has_element more ≡ true
+pub element-began : (ls : List Layer) (here more : Forest) → is_whole here ≡ true → has_element more ≡ true
     → has_element_before_tail ls (followed_by here more) ≡ true
-began [] here more w e =
+element-began [] here more w e =
     element-either here more w ∙ (ap (λ (k : Bool). has_element here || k) e ∙ or-true (has_element here))
-began (l ∷ ls) here more w e = refl
+element-began (l ∷ ls) here more w e = refl
 
 -- a state with this tail
 abbrev pub with_tail : Zipper → Tail → Zipper

@@ -3,7 +3,7 @@ use Rattle.std.proofs.lemmas.List.{take-append-drop, take_all, take_more}
 use Rattle.tlv_head.specs.Refusal.{BeginsWith}
 use Rattle.tlv_head.specs.HeaderFields.{new_header}
 use Rattle.tlv_head.specs.Private.NextOctet.{MakesHeader}
-use Rattle.tlv_head.proofs.ReaderLemmas.Prefix.{around, begun_none, begun_part, made_begins, made_sized}
+use Rattle.tlv_head.proofs.ReaderLemmas.Prefix.{split-at, begun_none, begun_part, made_begins, made_sized}
 use Rattle.tlv_head.proofs.GrammarLemmas.Refused.{refused-with_none}
 use Rattle.tlv_head.proofs.header_at_once.read_header.Goals as goal
 
@@ -47,7 +47,7 @@ pub returns-in-Refused : goal.returns-in-Refused
 returns-in-Refused c = λ h rest v e.
     refused-with_none _ _ _ (drop (c.loop-i.i + 1) c.args.octets.now)
     (c.in-Refused.ensures (take c.loop-i.i c.args.octets.now) c.loop-i.invariant.carries) h rest v
-    (sym (around c.args.octets.now c.loop-i.i (omega arith)) ∙ e)
+    (sym (split-at c.args.octets.now c.loop-i.i (omega arith)) ∙ e)
 
 pub returns : goal.returns
 returns c = λ h rest v e.

@@ -3,7 +3,7 @@ use Rattle.std.proofs.lemmas.Result.{err_from_is_err_and}
 use Rattle.tlv_show.specs.CheckStep.{check_step}
 use Rattle.tlv_show.specs.FinderState.{CheckState, new_check}
 use Rattle.tlv_show.specs.Texts.{check_line}
-use Rattle.tlv_show.proofs.FindingLemmas.CheckFolds.{checks}
+use Rattle.tlv_show.proofs.FindingLemmas.CheckFolds.{check-shows}
 use Rattle.tlv_show.proofs.DumpLemmas.ShowJob.{shows_err, shows_ok}
 use Rattle.tlv_show.proofs.check_call.check.Goals as goal
 
@@ -13,7 +13,7 @@ returns-in_err-run g c =
     let rules = c.args.rules in
     rw (p.1, p.2)
     (shows_err check_step (new_check rules) rules c.args.framing.now check_line
-    (λ (s : CheckState). s.finding_count) (checks rules c.args.framing.now)
+    (λ (s : CheckState). s.finding_count) (check-shows rules c.args.framing.now)
     _ _ _ _ _ c.in_err-run.field-0.0
     (rw c.new-follower.ensures at c.in_err-run.ensures))
 
@@ -21,6 +21,6 @@ pub returns : goal.returns
 returns g c =
     let rules = c.args.rules in
     shows_ok check_step (new_check rules) rules c.args.framing.now check_line
-    (λ (s : CheckState). s.finding_count) (checks rules c.args.framing.now)
+    (λ (s : CheckState). s.finding_count) (check-shows rules c.args.framing.now)
     _ _ _ _ _ c.in_ok-run.run' _ refl c.findings.ensures refl
     (rw c.new-follower.ensures at c.in_ok-run.ensures)

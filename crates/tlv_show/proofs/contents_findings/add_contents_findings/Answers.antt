@@ -8,12 +8,12 @@ use Rattle.tlv_show.specs.Found.{is_shown}
 use Rattle.tlv_show.proofs.contents_findings.add_contents_findings.Goals as goal
 use Rattle.tlv_show.proofs.contents_findings.add_contents_findings.Goals.{then-is_shown, else-is_shown}
 
--- one finding more is looked at
+-- one finding next-within is filter-next at
 module _ (test : Finding → Bool) (l old : List Finding) (i : ℕ) (x : Finding) (h : i < length l)
     (e : old ≡ filter test (take i l)) where
-  looked : (b : Bool) → test (get_or l i x) ≡ b
+  filter-next : (b : Bool) → test (get_or l i x) ≡ b
       → old ++ (if b then get_or l i x ∷ [] else []) ≡ filter test (take (i + 1) l)
-  looked b t =
+  filter-next b t =
       ap (λ (k : Bool). old ++ (if k then get_or l i x ∷ [] else [])) (sym t)
       ∙ ap (λ (s : List Finding). s ++ filter test (get_or l i x ∷ [])) e
       ∙ sym (filter-append test (take i l) (get_or l i x ∷ []))
@@ -21,16 +21,16 @@ module _ (test : Finding → Bool) (l old : List Finding) (i : ℕ) (x : Finding
 
   kept : (new : List Finding) → test (get_or l i x) ≡ true → new ≡ old ++ get_or l i x ∷ []
       → new ≡ filter test (take (i + 1) l)
-  kept new t is = is ∙ looked true t
+  kept new t is = is ∙ filter-next true t
 
-  passed : test (get_or l i x) ≡ false → old ≡ filter test (take (i + 1) l)
-  passed t = sym (append-nil old) ∙ looked false t
+  filter-hidden : test (get_or l i x) ≡ false → old ≡ filter test (take (i + 1) l)
+  filter-hidden t = sym (append-nil old) ∙ filter-next false t
 
-more : (new old i : ℕ) → old ≤ i → new ≡ old + 1 → new ≤ i + 1
-more new old i h e = omega (arith, h, e)
+next-within : (new old i : ℕ) → old ≤ i → new ≡ old + 1 → new ≤ i + 1
+next-within new old i h e = omega (arith, h, e)
 
-same : (old i : ℕ) → old ≤ i → old ≤ i + 1
-same old i h = omega (arith, h)
+stays-within : (old i : ℕ) → old ≤ i → old ≤ i + 1
+stays-within old i h = omega (arith, h)
 
 pub loop-finding-preserved : goal.loop-finding-preserved
 loop-finding-preserved c =
@@ -43,7 +43,7 @@ loop-finding-preserved c =
             kept =
                 kept (is_shown c.args.rules) l _ c.loop-finding.finding-index _ c.loop-finding-test.true old.kept
                 _ (sym c.is_shown.ensures ∙ w.if-is_shown.true) w.push.ensures.items;
-            short = more _ _ _ old.short w.push.ensures.len;
+            short = next-within _ _ _ old.short w.push.ensures.len;
             all = old.all;
             all_short = old.all_short;
           })
@@ -51,9 +51,9 @@ loop-finding-preserved c =
           rw w.found-is
           (record {
             kept =
-                passed (is_shown c.args.rules) l _ c.loop-finding.finding-index _ c.loop-finding-test.true old.kept
+                filter-hidden (is_shown c.args.rules) l _ c.loop-finding.finding-index _ c.loop-finding-test.true old.kept
                 (sym c.is_shown.ensures ∙ w.if-is_shown.false);
-            short = same _ _ old.short;
+            short = stays-within _ _ old.short;
             all = old.all;
             all_short = old.all_short;
           })

@@ -4,7 +4,7 @@ use Rattle.std.proofs.lemmas.Result.{err_from_is_err_and}
 use Rattle.tlv_show.specs.DumpJob.{top_layout}
 use Rattle.tlv_show.specs.DumpStep.{DumpState, dump_step, new_dump}
 use Rattle.tlv_show.specs.Texts.{item_text}
-use Rattle.tlv_show.proofs.DumpLemmas.DumpFolds.{dumps}
+use Rattle.tlv_show.proofs.DumpLemmas.DumpFolds.{dump-shows}
 use Rattle.tlv_show.proofs.DumpLemmas.ShowJob.{shows_err, shows_ok}
 use Rattle.tlv_show.proofs.dump_call.dump.Goals as goal
 
@@ -15,7 +15,7 @@ returns-in_err-run g c =
     let names = c.args.names.now in
     rw (p.1, p.2)
     (shows_err dump_step (new_dump o.rules (top_layout o) names) o.rules o.framing
-    (item_text (finite.get names) (top_layout o)) (λ (s : DumpState). s.finder.finding_count) (dumps o names)
+    (item_text (finite.get names) (top_layout o)) (λ (s : DumpState). s.finder.finding_count) (dump-shows o names)
     _ _ _ _ _ c.in_err-run.field-0.0
     (rw c.new-follower.ensures at c.in_err-run.ensures))
 
@@ -24,7 +24,7 @@ returns g c =
     let o = c.args.options.now in
     let names = c.args.names.now in
     shows_ok dump_step (new_dump o.rules (top_layout o) names) o.rules o.framing
-    (item_text (finite.get names) (top_layout o)) (λ (s : DumpState). s.finder.finding_count) (dumps o names)
+    (item_text (finite.get names) (top_layout o)) (λ (s : DumpState). s.finder.finding_count) (dump-shows o names)
     _ _ _ _ _ c.in_ok-run.run' _ refl
     c.findings.ensures refl
     (rw c.new-follower.ensures at c.in_ok-run.ensures)

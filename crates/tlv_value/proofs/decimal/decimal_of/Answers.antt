@@ -9,10 +9,10 @@ use Rattle.tlv_value.specs.Number.{twos_complement}
 use Rattle.tlv_value.proofs.TextLemmas.Numbers.{twos-fits, twos-fits_all, twos-more}
 use Rattle.tlv_value.proofs.decimal.decimal_of.Goals as goal
 
-stepped : (n from sum next : ℤ) (x : ℕ) → x < 256 → FitsSigned w128 (n *ℤ pos 256) → FitsSigned w128 next → n ≡ sum
+sum-wraps_not : (n from sum next : ℤ) (x : ℕ) → x < 256 → FitsSigned w128 (n *ℤ pos 256) → FitsSigned w128 next → n ≡ sum
     → from ≡ pos x → next ≡ sum *ℤ pos 256 +ℤ pos x
     → to_z w128 (of_z w128 (to_z w128 (of_z w128 (n *ℤ pos 256)) +ℤ to_z w128 (of_z w128 from))) ≡ next
-stepped n from sum next x small f g e h m =
+sum-wraps_not n from sum next x small f g e h m =
     let a : to_z w128 (of_z w128 (n *ℤ pos 256)) ≡ n *ℤ pos 256 = to_z-of_z w128 (n *ℤ pos 256) f in
     let r : FitsSigned w128 from = rw h (record { sfits = omega arith }) in
     let b : to_z w128 (of_z w128 from) ≡ from = to_z-of_z w128 from r in
@@ -47,7 +47,7 @@ loop-octet-preserved c =
     let g : FitsSigned w128 (twos_complement (take (i + 1 + 1) c.args.contents.now)) =
     twos-fits_all (take (i + 1 + 1) c.args.contents.now) (omega (arith, length-take {A = ℕ})) in
     let from : c.from.result ≡ pos x = c.from.ensures ∙ ap pos same in
-    stepped (to_z w128 c.loop-octet.number-bits) c.from.result (twos_complement (take (i + 1) c.args.contents.now))
+    sum-wraps_not (to_z w128 c.loop-octet.number-bits) c.from.result (twos_complement (take (i + 1) c.args.contents.now))
     (twos_complement (take (i + 1 + 1) c.args.contents.now)) x (c.type_inv.contents (i + 1)).fits f g e from m
 
 pub loop-octet-init : goal.loop-octet-init

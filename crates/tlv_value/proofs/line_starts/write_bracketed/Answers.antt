@@ -1,5 +1,5 @@
 use Rattle.std.proofs.Common.{◌∷◌, [], append_assoc, arith, refl}
-use Rattle.tlv_io.proofs.HeldTexts.{added}
+use Rattle.tlv_io.proofs.HeldTexts.{length-added}
 use Rattle.tlv_value.proofs.TextLemmas.LineLengths.{prefix_short, number_short}
 use Rattle.tlv_value.proofs.line_starts.write_bracketed.Goals as goal
 

@@ -1,14 +1,14 @@
 use Rattle.std.proofs.Common.{◌∷◌, arith, rules}
 use Rattle.tlv_value.specs.Value.{joined_pairs}
 use Rattle.tlv_value.specs.Units.{quoted_text}
-use Rattle.tlv_value.proofs.TextLemmas.RowTextLengths.{grown, joined-short, quoted-short}
+use Rattle.tlv_value.proofs.TextLemmas.RowTextLengths.{length-grown, joined-short, quoted-short}
 use Rattle.tlv_value.proofs.value.write_row.Goals as goal
 
 pub returns-in-Text : goal.returns-in-Text
 returns-in-Text c =
     record {
       text = search rules;
-      within = grown c.args.held.now c.write_quoted.new.held (32 ∷ quoted_text c.args.kind c.args.row.now) 323
+      within = length-grown c.args.held.now c.write_quoted.new.held (32 ∷ quoted_text c.args.kind c.args.row.now) 323
           c.write_quoted.ensures
           (omega (arith, quoted-short c.args.kind c.args.row.now, c.requires.short));
     }
@@ -17,7 +17,7 @@ pub returns-in_default : goal.returns-in_default
 returns-in_default c =
     record {
       text = search rules;
-      within = grown c.args.held.now c.write_joined_pairs.new.held (32 ∷ joined_pairs c.args.row.now) 323
+      within = length-grown c.args.held.now c.write_joined_pairs.new.held (32 ∷ joined_pairs c.args.row.now) 323
           c.write_joined_pairs.ensures
           (omega (arith, joined-short c.args.row.now, c.requires.short));
     }

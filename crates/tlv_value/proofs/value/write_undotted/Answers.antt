@@ -1,7 +1,7 @@
 use Rattle.std.proofs.Common.{rules, ◌≤◌, ◌∷◌, length, List, ℕ}
 use Rattle.tlv_value.specs.Value.{bits_value, boolean_value, integer_value, spaced_pairs}
 use Rattle.tlv_value.specs.Units.{quoted_text}
-use Rattle.tlv_value.proofs.TextLemmas.RowTextLengths.{bits-short, boolean-short, grown, integer-short, pairs-short}
+use Rattle.tlv_value.proofs.TextLemmas.RowTextLengths.{bits-short, boolean-short, length-grown, integer-short, pairs-short}
 use Rattle.tlv_value.proofs.TextLemmas.RowTextLengths.{text-short}
 use Rattle.tlv_value.proofs.value.write_undotted.Goals as goal
 
@@ -10,7 +10,7 @@ returns-in-Boolean c =
     let octets : List ℕ = c.args.contents.now in
     record {
       text = search rules;
-      within = grown c.args.held.now c.write_boolean.new.held (boolean_value octets).text 330 c.write_boolean.ensures
+      within = length-grown c.args.held.now c.write_boolean.new.held (boolean_value octets).text 330 c.write_boolean.ensures
           (boolean-short octets (rw c.in-Boolean.is at c.requires.short));
     }
 
@@ -19,7 +19,7 @@ returns-in-Integer c =
     let octets : List ℕ = c.args.contents.now in
     record {
       text = search rules;
-      within = grown c.args.held.now c.write_integer.new.held (integer_value octets).text 330 c.write_integer.ensures
+      within = length-grown c.args.held.now c.write_integer.new.held (integer_value octets).text 330 c.write_integer.ensures
           (integer-short octets (rw c.in-Integer.is at c.requires.short));
     }
 
@@ -28,7 +28,7 @@ returns-in-Bits c =
     let octets : List ℕ = c.args.contents.now in
     record {
       text = search rules;
-      within = grown c.args.held.now c.write_bits.new.held (bits_value octets).text 330 c.write_bits.ensures
+      within = length-grown c.args.held.now c.write_bits.new.held (bits_value octets).text 330 c.write_bits.ensures
           (bits-short octets (rw c.in-Bits.is at c.requires.short));
     }
 
@@ -39,7 +39,7 @@ returns-in-Text c =
     record {
       text = search rules;
       within =
-          grown c.args.held.now c.write_quoted.new.held (32 ∷ quoted_text c.args.kind octets) 330
+          length-grown c.args.held.now c.write_quoted.new.held (32 ∷ quoted_text c.args.kind octets) 330
           c.write_quoted.ensures (text-short c.args.kind octets short);
     }
 
@@ -49,6 +49,6 @@ returns-in-Octets c =
     let short : length octets ≤ 64 = search rules in
     record {
       text = search rules;
-      within = grown c.args.held.now c.spaced_pairs.new.self (spaced_pairs octets) 330 c.spaced_pairs.ensures
+      within = length-grown c.args.held.now c.spaced_pairs.new.self (spaced_pairs octets) 330 c.spaced_pairs.ensures
           (pairs-short octets short);
     }

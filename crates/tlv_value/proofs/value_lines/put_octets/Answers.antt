@@ -1,7 +1,7 @@
 use Rattle.std.proofs.Common.{◌++◌, ◌∷◌, [], ◌∙◌, ℕ, List, refl, ap, append_assoc, arith}
 use Rattle.tlv_io.proofs.Puts.{puts_held, puts_then_as}
 use Rattle.tlv_value.specs.Value.{spaced_pairs}
-use Rattle.tlv_io.proofs.HeldTexts.{added, pairs-size}
+use Rattle.tlv_io.proofs.HeldTexts.{length-added, pairs-size}
 use Rattle.tlv_value.proofs.TextLemmas.ObjectLines.{octets_long, octets_short}
 use Rattle.tlv_value.proofs.value_lines.put_octets.Goals as goal
 

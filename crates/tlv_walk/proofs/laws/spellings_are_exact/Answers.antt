@@ -1,5 +1,5 @@
-use Rattle.tlv_walk.proofs.GrammarLemmas.Readings.{unique}
+use Rattle.tlv_walk.proofs.GrammarLemmas.Readings.{spelling-unique}
 use Rattle.tlv_walk.proofs.laws.spellings_are_exact.Goals as goal
 
 pub returns : goal.returns
-returns c = unique
+returns c = spelling-unique

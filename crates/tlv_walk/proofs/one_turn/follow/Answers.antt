@@ -23,8 +23,8 @@ use Rattle.tlv_walk.proofs.one_turn.follow.Goals.{
 use Rattle.tlv_walk.proofs.one_turn.follow.Goals as goal
 
 -- nothing was taken
-unmoved : (v w : WalkerState) (xs ys : List ℕ) → v ≡ w → xs ≡ ys → v.offset + length xs ≡ w.offset + length ys
-unmoved v w xs ys e f = ap₂ (λ (m : WalkerState) (o : List ℕ). m.offset + length o) e f
+counts-of_none : (v w : WalkerState) (xs ys : List ℕ) → v ≡ w → xs ≡ ys → v.offset + length xs ≡ w.offset + length ys
+counts-of_none v w xs ys e f = ap₂ (λ (m : WalkerState) (o : List ℕ). m.offset + length o) e f
 
 -- so the next step is the first
 unmoved_event : (v w u : WalkerState) (xs ys rest : List ℕ) (e : EventValue) → v ≡ w → xs ≡ ys
@@ -88,7 +88,7 @@ events-preserved g c =
         walked =
             rw (w.walker-is, w.rest-is)
             (w.in-Some-constructed.ensures.steps.counts.0.counts
-            ∙ unmoved _ _ _ _ (w.in-None.ensures.counts.0) (w.in-None.ensures.counts.1)
+            ∙ counts-of_none _ _ _ _ (w.in-None.ensures.counts.0) (w.in-None.ensures.counts.1)
             ∙ left_walked g.F.Follow.next g.D.Drain.state _ _ _ _ _ c.if-branch.false
             c.in_ok-follow_primitive.ensures
             ∙ c.events.invariant.walked);
@@ -104,7 +104,7 @@ events-preserved g c =
         walked =
             rw (w.walker-is, w.rest-is)
             (w.in-Some-contents_event.ensures.counts.0.counts
-            ∙ unmoved _ _ _ _ (w.in-None-constructed.ensures.steps.counts.0 ∙ w.in-None.ensures.counts.0)
+            ∙ counts-of_none _ _ _ _ (w.in-None-constructed.ensures.steps.counts.0 ∙ w.in-None.ensures.counts.0)
             (w.in-None-constructed.ensures.steps.counts.1 ∙ w.in-None.ensures.counts.1)
             ∙ left_walked g.F.Follow.next g.D.Drain.state _ _ _ _ _ c.if-branch.false
             c.in_ok-follow_primitive.ensures
@@ -124,7 +124,7 @@ events-preserved g c =
         walked =
             rw (w.walker-is, w.rest-is)
             (event_offset _ _ _ _ _ w.in-Event.ensures
-            ∙ unmoved
+            ∙ counts-of_none
             _ _ _ _ (w.in-None-contents_event.ensures.counts.0 ∙ w.in-None-constructed.ensures.steps.counts.0
             ∙ w.in-None.ensures.counts.0)
             (w.in-None-contents_event.ensures.counts.1 ∙ w.in-None-constructed.ensures.steps.counts.1

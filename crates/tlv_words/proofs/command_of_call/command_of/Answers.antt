@@ -2,7 +2,7 @@ use Rattle.std.proofs.Common.{◌≡◌, ◌∙◌, true, is_some, rules, ap, ap
 use Rattle.clap.proofs.CallerLemmas.{subcommand_required}
 use Rattle.clap.specs.Faults.{fault_of, is_simple_and_free}
 use Rattle.clap.specs.Words.{App, is_simple, subcommand_of, subcommand_rows_of, takes}
-use Rattle.tlv_words.proofs.CommandLemmas.{requires_subcommand, result_of_found, simple, simple_and_free}
+use Rattle.tlv_words.proofs.CommandLemmas.{requires_subcommand, result_of_found, tlvdump_app-simple, simple_and_free}
 use Rattle.tlv_words.proofs.CommandLemmas.{usage_fault_of}
 use Rattle.tlv_words.proofs.command_of_call.command_of.Goals as goal
 
@@ -27,7 +27,7 @@ returns-in-Ok-try_get_matches_from c =
     let same_found = ap₂ subcommand_of parser.same_app c.as_slice.ensures in
     let same_faults = ap₂ fault_of parser.same_app c.as_slice.ensures in
     let no_fault = sym same_faults ∙ parse.kinds (ap is_simple_and_free parser.same_app ∙ simple_and_free) in
-    let same = (parse.matches (ap is_simple parser.same_app ∙ simple)).1 ∙ same_found in
+    let same = (parse.matches (ap is_simple parser.same_app ∙ tlvdump_app-simple)).1 ∙ same_found in
     let both = result_of_found words _ c.matched_command.result no_fault same found c.matched_command.ensures in
     record { ok = both.0; err = both.1 }
 

@@ -7,8 +7,8 @@ use Rattle.tlv_cut.specs.declared.extract_follower.Position.TheVariants.{Before,
 use Rattle.tlv_cut.specs.ExtractStep.{ExtractState, extract_begin_step_at, outer_octets, extract_step_to}
 use Rattle.tlv_cut.proofs.extract_follower.Extract.begin.Goals as goal
 
-same : (m n : ℕ) → m ≡ n → (m == n) ≡ true
-same m n e = search rules
+equal-test : (m n : ℕ) → m ≡ n → (m == n) ≡ true
+equal-test m n e = search rules
 
 -- the element that is wanted begins
 extract_begin_step_at-wanted : (s : ExtractState) (offset : ℕ) (octets : List ℕ) → s.position ≡ Before
@@ -19,7 +19,7 @@ extract_begin_step_at-wanted s offset octets b e =
     let first = extract_step_to (at Before) (Within 0) (outer_octets s.contents_only octets) On in
     subst (λ (w : Position). extract_begin_step_at (at w) offset octets
     ≡ extract_step_to (at w) (Within 0) (outer_octets s.contents_only octets) On) (sym b)
-    (ap (λ (k : Bool). if k then first else no_effect (at Before)) (same offset s.offset e))
+    (ap (λ (k : Bool). if k then first else no_effect (at Before)) (equal-test offset s.offset e))
 
 -- an element begins that the one wanted holds
 extract_begin_step_at-inside : (s : ExtractState) (count offset : ℕ) (octets : List ℕ) → s.position ≡ Within count

@@ -3,7 +3,7 @@ use Rattle.tlv_head.specs.Header.{HeaderValue}
 use Rattle.tlv_walk.specs.Follow.{effect_of, whole_events}
 use Rattle.tlv_cut.specs.declared.extract_follower.Position.TheVariants.{Before, Within, After}
 use Rattle.tlv_cut.specs.ExtractStep.{ExtractState, extract_step}
-use Rattle.tlv_cut.proofs.ExtractLemmas.Primitives.{differ, has_failed_whole, has_put_none, has_put_whole}
+use Rattle.tlv_cut.proofs.ExtractLemmas.Primitives.{differ-differ, has_failed_whole, has_put_none, has_put_whole}
 use Rattle.tlv_cut.proofs.ExtractLemmas.Primitives.{whole_before, whole_after, whole_inside}
 use Rattle.tlv_cut.proofs.extract_follower.ExtractFollow.whole.Goals as goal
 use Rattle.tlv_cut.proofs.extract_follower.ExtractFollow.whole.Goals.{in-Before}
@@ -32,7 +32,7 @@ returns g c =
           rw (w.out-is, w.result-is)
           (has_put_none g.D.Drain.state c.args.out.now s m _
           (λ x. whole_before s h octets is
-          (differ h.offset s.offset c.header.inside.offset c.self.inside.offset
+          (differ-differ h.offset s.offset c.header.inside.offset c.self.inside.offset
           (sym (ap (λ (k : HeaderValue). k.offset) c.header.view_is))
           (sym (ap (λ (k : ExtractState). k.offset) c.self.view_is)) x)))
       | in-Within+in_ok-put-in-Within w ↦

@@ -7,7 +7,7 @@ use Rattle.tlv_head.specs.Header.{fields_hold}
 use Rattle.tlv_head.specs.declared.header.HeaderFields.{HeaderFields}
 use Rattle.tlv_head.specs.Refusal.{IsRefusedOctet}
 use Rattle.tlv_head.specs.Push.{Completes, IsRefusedPush, Pushes, more, no_room, refused_octet, whole}
-use Rattle.tlv_head.proofs.ReaderLemmas.Exact.{exact, completes_unique, prefix_not_whole, refuses}
+use Rattle.tlv_head.proofs.ReaderLemmas.Exact.{push-exact, completes_unique, prefix_not_whole, refusal-is}
 use Rattle.tlv_head.proofs.ReaderLemmas.Unfinished.{length-carried, made_overrun, made_too_deep, made_whole}
 use Rattle.tlv_head.proofs.ReaderLemmas.Unfinished.{unfinished_part}
 use Rattle.tlv_head.proofs.head_reader.HeadReader.push.Goals as goal
@@ -27,9 +27,9 @@ push-requires c =
 pub returns-then-eq : goal.returns-then-eq
 returns-then-eq c =
     let a : Pushes c.args.self.now c.args.octet c.args.room c.args.depth c.args.self.now c.refusal.result =
-    refuses _ _ _ _ _ _ _ c.refusal.ensures (no_room (search rules))
+    refusal-is _ _ _ _ _ _ _ c.refusal.ensures (no_room (search rules))
     (rw (← c.self.view_is) (ap (λ n. c.self.inside.offset + n) c.len.ensures.value)) in
-    record { pushes = a; whole = exact _ _ _ _ _ _ a }
+    record { pushes = a; whole = push-exact _ _ _ _ _ _ a }
 
 pub returns-then-fields_hold : goal.returns-then-fields_hold
 returns-then-fields_hold c =
@@ -40,9 +40,9 @@ returns-then-fields_hold c =
     c.if-depth-ge128.true) in
     let a : Pushes c.args.self.now c.args.octet c.args.room c.args.depth c.args.self.now
     c.refusal-then-fields_hold.result =
-    refuses _ _ _ _ _ _ _ c.refusal-then-fields_hold.ensures deep
+    refusal-is _ _ _ _ _ _ _ c.refusal-then-fields_hold.ensures deep
     (rw (← c.self.view_is) (ap (λ n. c.self.inside.offset + n) c.len.ensures.value)) in
-    record { pushes = a; whole = exact _ _ _ _ _ _ a }
+    record { pushes = a; whole = push-exact _ _ _ _ _ _ a }
 
 pub returns-then-not-contents_fit : goal.returns-then-not-contents_fit
 returns-then-not-contents_fit c =
@@ -61,9 +61,9 @@ returns-then-not-contents_fit c =
     (λ f. absurd (false≢true (sym c.if-not-contents_fit.true ∙ c.contents_fit.ensures.1 f)))) in
     let a : Pushes c.args.self.now c.args.octet c.args.room c.args.depth c.args.self.now
     c.refusal-then-not-contents_fit.result =
-    refuses _ _ _ _ _ _ _ c.refusal-then-not-contents_fit.ensures past
+    refusal-is _ _ _ _ _ _ _ c.refusal-then-not-contents_fit.ensures past
     (rw (← c.self.view_is) (ap (λ n. c.self.inside.offset + n) c.len.ensures.value)) in
-    record { pushes = a; whole = exact _ _ _ _ _ _ a }
+    record { pushes = a; whole = push-exact _ _ _ _ _ _ a }
 
 pub returns-in-Unfinished : goal.returns-in-Unfinished
 returns-in-Unfinished c =
@@ -81,13 +81,13 @@ returns-in-Refused c =
     subst (λ (p : HeadReaderState). IsRefusedOctet p.octets c.args.octet c.in-Refused.code) c.self.view_is
     (c.in-Refused.ensures c.self.inside.raw.items c.self.invariant) in
     let a : Pushes c.args.self.now c.args.octet c.args.room c.args.depth c.args.self.now c.refusal-in-Refused.result =
-    refuses _ _ _ _ _ _ _ c.refusal-in-Refused.ensures (refused_octet (search rules) octet)
+    refusal-is _ _ _ _ _ _ _ c.refusal-in-Refused.ensures (refused_octet (search rules) octet)
     (rw (← c.self.view_is) (ap (λ n. c.self.inside.offset + n) c.len.ensures.value)) in
-    record { pushes = a; whole = exact _ _ _ _ _ _ a }
+    record { pushes = a; whole = push-exact _ _ _ _ _ _ a }
 
 -- the header that is returned
-completes : (c : goal.After-with_raw) → Completes c.args.self.now (c.args.octet ∷ []) c.with_raw.result
-completes c =
+returned-completes : (c : goal.After-with_raw) → Completes c.args.self.now (c.args.octet ∷ []) c.with_raw.result
+returned-completes c =
     rw (
       ← c.self.view_is,
       c.with_raw.ensures,
@@ -99,7 +99,7 @@ completes c =
 
 pub returns-else-not-contents_fit-clause-pushes : goal.returns-else-not-contents_fit-clause-pushes
 returns-else-not-contents_fit-clause-pushes c =
-    whole _ (completes c)
+    whole _ (returned-completes c)
     (rw (c.with_raw.ensures, c.header_fields-fields.ensures) (record {
       shallow =
           elim c.else-depth-ge128.branch [
@@ -116,4 +116,4 @@ returns-else-not-contents_fit-clause-pushes c =
     refl
 
 pub returns-else-not-contents_fit-clause-whole : goal.returns-else-not-contents_fit-clause-whole
-returns-else-not-contents_fit-clause-whole c = λ h d n f. ap (λ g. Whole g) (completes_unique _ _ _ _ (completes c) d)
+returns-else-not-contents_fit-clause-whole c = λ h d n f. ap (λ g. Whole g) (completes_unique _ _ _ _ (returned-completes c) d)

@@ -1,13 +1,13 @@
 use Rattle.std.proofs.Common.{◌∷◌, [], decimal, arith}
 use Rattle.tlv_io.specs.LineTexts.{at_right}
-use Rattle.tlv_io.proofs.HeldTexts.{added, columns_added, right-short}
+use Rattle.tlv_io.proofs.HeldTexts.{length-added, columns_added, right-short}
 use Rattle.tlv_io.proofs.held_octets.HeldOctets.wide_columns.Goals as goal
 
 pub add-requires : goal.add-requires
 add-requires c =
     omega (
       arith,
-      added _ _ (at_right 8 (decimal c.args.offset)) c.right_8.ensures,
+      length-added _ _ (at_right 8 (decimal c.args.offset)) c.right_8.ensures,
       right-short 8 c.args.offset (omega arith) c.ranges.offset.fits,
       c.requires,
     )
@@ -16,21 +16,21 @@ pub right_6-requires : goal.right_6-requires
 right_6-requires c =
     omega (
       arith,
-      added _ _ (at_right 8 (decimal c.args.offset)) c.right_8.ensures,
+      length-added _ _ (at_right 8 (decimal c.args.offset)) c.right_8.ensures,
       right-short 8 c.args.offset (omega arith) c.ranges.offset.fits,
-      added _ _ (32 ∷ []) c.add.ensures,
+      length-added _ _ (32 ∷ []) c.add.ensures,
       c.requires,
     )
 
 pub add-requires-2 : goal.add-requires-2
 add-requires-2 c =
-    let first = added _ _ (at_right 8 (decimal c.args.offset)) c.right_8.ensures in
-    let last = added _ _ (at_right 6 (decimal c.args.size)) c.right_6.ensures in
+    let first = length-added _ _ (at_right 8 (decimal c.args.offset)) c.right_8.ensures in
+    let last = length-added _ _ (at_right 6 (decimal c.args.size)) c.right_6.ensures in
     omega (
       arith,
       first,
       right-short 8 c.args.offset (omega arith) c.ranges.offset.fits,
-      added _ _ (32 ∷ []) c.add.ensures,
+      length-added _ _ (32 ∷ []) c.add.ensures,
       last,
       right-short 6 c.args.size (omega arith) c.ranges.size.fits,
       c.requires,

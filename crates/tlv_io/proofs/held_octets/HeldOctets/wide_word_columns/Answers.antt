@@ -1,38 +1,38 @@
 use Rattle.std.proofs.Common.{◌∙◌, ◌++◌, ◌∷◌, [], List, ℕ, decimal, ap, sym, arith}
 use Rattle.tlv_io.specs.LineTexts.{at_right}
-use Rattle.tlv_io.proofs.HeldTexts.{added, columns_added, right-short, right_long}
+use Rattle.tlv_io.proofs.HeldTexts.{length-added, columns_added, right-short, right_long}
 use Rattle.tlv_io.proofs.held_octets.HeldOctets.wide_word_columns.Goals as goal
 
 pub add-requires : goal.add-requires
 add-requires c =
     omega (
       arith,
-      added _ _ (at_right 8 (decimal c.args.offset)) c.right_8.ensures,
+      length-added _ _ (at_right 8 (decimal c.args.offset)) c.right_8.ensures,
       right-short 8 c.args.offset (omega arith) c.ranges.offset.fits,
       c.requires,
     )
 
 pub add-requires-2 : goal.add-requires-2
 add-requires-2 c =
-    let first = added _ _ (at_right 8 (decimal c.args.offset)) c.right_8.ensures in
+    let first = length-added _ _ (at_right 8 (decimal c.args.offset)) c.right_8.ensures in
     omega (
       arith,
       first,
       right-short 8 c.args.offset (omega arith) c.ranges.offset.fits,
-      added _ _ (32 ∷ []) c.add.ensures,
+      length-added _ _ (32 ∷ []) c.add.ensures,
       c.told-word,
       c.requires,
     )
 
 pub add-requires-3 : goal.add-requires-3
 add-requires-3 c =
-    let first = added _ _ (at_right 8 (decimal c.args.offset)) c.right_8.ensures in
+    let first = length-added _ _ (at_right 8 (decimal c.args.offset)) c.right_8.ensures in
     omega (
       arith,
       first,
       right-short 8 c.args.offset (omega arith) c.ranges.offset.fits,
-      added _ _ (32 ∷ []) c.add.ensures,
-      added _ _ c.args.word.now c.add-2.ensures,
+      length-added _ _ (32 ∷ []) c.add.ensures,
+      length-added _ _ c.args.word.now c.add-2.ensures,
       c.told-word,
       c.requires,
     )

@@ -1,5 +1,5 @@
 use Rattle.std.proofs.Common.{◌∙◌, rules, refl, sym, ap}
-use Rattle.tlv_show.proofs.DumpLemmas.ClearPrimitives.{passes, usual_primitive}
+use Rattle.tlv_show.proofs.DumpLemmas.ClearPrimitives.{passes_primitive-clear, usual_primitive}
 use Rattle.tlv_show.specs.Conditions.{Surroundings}
 use Rattle.tlv_show.specs.Found.{header_findings}
 use Rattle.tlv_show.proofs.finder.Finder.passes.Goals as goal
@@ -10,7 +10,7 @@ returns c =
     let usual = usual_primitive h (search rules) (c.is_clear.ensures.form (search rules)) in
     let nothing = c.has_no_header_findings_if_usual.ensures in
     rw (← c.self.view_is)
-    (passes _ _ h c.args.contents.now c.requires
+    (passes_primitive-clear _ _ h c.args.contents.now c.requires
     (sym c.frame-frame.ensures.segments ∙ nothing.no_segments (search rules))
     (ap (λ (t : Surroundings). header_findings c.self.inside.rules t h) (sym c.frame-frame.ensures.around)
     ∙ nothing.no_findings (search rules) usual)

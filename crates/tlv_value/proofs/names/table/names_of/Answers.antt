@@ -4,13 +4,13 @@ use Rattle.std.proofs.lemmas.Grind.{common_steps}
 use Rattle.std.proofs.lemmas.Result.{err_from_is_err_and}
 use Rattle.tlv_value.specs.Names.{names_line}
 use Rattle.tlv_value.specs.NamesFields.{texts_in}
-use Rattle.tlv_value.proofs.NamesLemmas.LinesSoFar.{LinesSoFar, start, step, stop, done, next_line}
+use Rattle.tlv_value.proofs.NamesLemmas.LinesSoFar.{LinesSoFar, lines-start, line-taken, line-refused_table, lines-all, next_line}
 use Rattle.tlv_value.proofs.names.table.names_of.Goals as goal
 
 pub loop-rest-init : goal.loop-rest-init
 loop-rest-init g c = record {
   within = omega arith;
-  standing = start c.args.octets.now c.new-table.result c.new-table.ensures.empty;
+  standing = lines-start c.args.octets.now c.new-table.result c.new-table.ensures.empty;
 }
 
 pub loop-rest-preserved : goal.loop-rest-preserved
@@ -29,7 +29,7 @@ loop-rest-preserved g c =
           subst
           (λ (xs : List ℕ). LinesSoFar c.args.octets.now xs (c.loop-rest.number + 1) (texts_in c.add_line.new.table))
           (sym c.rest_after-rest.ensures)
-          (step c.args.octets.now c.loop-rest.rest.now (drop (c.end_before-end.result + 1) c.loop-rest.rest.now)
+          (line-taken c.args.octets.now c.loop-rest.rest.now (drop (c.end_before-end.result + 1) c.loop-rest.rest.now)
           c.loop-rest.number (texts_in c.loop-rest.table)
           (texts_in c.add_line.new.table) c.in_ok-add_line.field-0
           (names_line (take c.end_before-end.result c.loop-rest.rest.now)) c.loop-rest.invariant.standing line
@@ -43,7 +43,7 @@ returns-in_err-add_line g c =
     let line = next_line c.loop-rest.rest.now c.end_before-end.result (omega arith) c.end_before-end.ensures.value in
     let p = err_from_is_err_and c.from_residual.result c.from_residual.ensures.1 in
     rw (p.1, p.2)
-    (stop g.row.A.Denot (Unit {0}) c.args.octets.now c.loop-rest.rest.now
+    (line-refused_table g.row.A.Denot (Unit {0}) c.args.octets.now c.loop-rest.rest.now
     (drop (c.end_before-end.result + 1) c.loop-rest.rest.now) c.loop-rest.number
     (texts_in c.loop-rest.table) (texts_in c.add_line.new.table) c.in_err-add_line.field-0.0
     (names_line (take c.end_before-end.result c.loop-rest.rest.now))
@@ -51,7 +51,7 @@ returns-in_err-add_line g c =
 
 pub returns : goal.returns
 returns g c =
-    done c.args.octets.now c.loop-rest.rest.now c.loop-rest.number (texts_in c.loop-rest.table)
+    lines-all c.args.octets.now c.loop-rest.rest.now c.loop-rest.number (texts_in c.loop-rest.table)
     c.loop-rest.invariant.standing
     (eqb-true (length c.loop-rest.rest.now) 0 (sym c.is_empty.ensures ∙ c.loop-rest-test.false))
 

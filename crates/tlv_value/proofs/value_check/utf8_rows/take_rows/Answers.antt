@@ -10,7 +10,7 @@ use Rattle.tlv_value.specs.RowSizes.{row_size}
 use Rattle.tlv_value.proofs.RowLemmas.FilledRows.{rows_filled}
 use Rattle.tlv_value.proofs.CheckLemmas.Noting.{and-nothing, and-row}
 use Rattle.tlv_value.proofs.RowLemmas.OneCut.{open-parts}
-use Rattle.tlv_value.proofs.RowLemmas.RowSteps.{kept, kept-open, none-open, turned}
+use Rattle.tlv_value.proofs.RowLemmas.RowSteps.{row-kept_in_loop, kept-open, none-open, row-filled_in_loop}
 use Rattle.tlv_value.proofs.value_check.utf8_rows.take_rows.Goals as goal
 
 pub loop-rest-init : goal.loop-rest-init
@@ -35,7 +35,7 @@ returns-then-is_empty-clause-utf8 c =
     let z : length c.split_at.result.1.now ≡ 0 =
     eqb-true (length c.split_at.result.1.now) 0 (sym c.if-is_empty.ensures) in
     let k =
-    kept Utf8 c.len.result c.loop-rest.row.items c.fitting_length.result c.loop-rest.rest.now
+    row-kept_in_loop Utf8 c.len.result c.loop-rest.row.items c.fitting_length.result c.loop-rest.rest.now
     c.split_at.result.0.now c.len.ensures.value c.split_at.ensures.front c.fitting_length.ensures.fits
     (omega arith) c.fitting_length.ensures.within (omega arith) in
     sym (and-nothing c.loop-rest.are_full_rows_utf8 (rows_filled Utf8 c.loop-rest.row.items c.loop-rest.rest.now) k.0)
@@ -46,7 +46,7 @@ returns-then-is_empty-clause-row c =
     let z : length c.split_at.result.1.now ≡ 0 =
     eqb-true (length c.split_at.result.1.now) 0 (sym c.if-is_empty.ensures) in
     let k =
-    kept Utf8 c.len.result c.loop-rest.row.items c.fitting_length.result c.loop-rest.rest.now
+    row-kept_in_loop Utf8 c.len.result c.loop-rest.row.items c.fitting_length.result c.loop-rest.rest.now
     c.split_at.result.0.now c.len.ensures.value c.split_at.ensures.front c.fitting_length.ensures.fits
     (omega arith) c.fitting_length.ensures.within (omega arith) in
     let t : c.try_extend_from_slice.new.self.items ≡ c.loop-rest.row.items ++ c.split_at.result.0.now =
@@ -66,7 +66,7 @@ loop-rest-preserved c =
       | goal.else-len-part-lt64-via-else-len-part-lt64 w ↦ inl (omega arith)
     ] in
     let t =
-    turned Utf8 c.len.result row m c.loop-rest.rest.now part more c.len.ensures.value c.split_at.ensures.front
+    row-filled_in_loop Utf8 c.len.result row m c.loop-rest.rest.now part more c.len.ensures.value c.split_at.ensures.front
     c.split_at.ensures.back c.fitting_length.ensures.fits c.fitting_length.ensures.short
     c.fitting_length.ensures.within (omega arith) c.fitting_length.ensures.next claim in
     let none : c.is_full_row_utf8.new.row.items ≡ [] = c.is_full_row_utf8.ensures.row in

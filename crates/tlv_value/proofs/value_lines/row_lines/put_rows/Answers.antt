@@ -13,7 +13,7 @@ use Rattle.tlv_value.specs.ValueLines.{row_lines}
 use Rattle.tlv_value.specs.Value.{row_text}
 use Rattle.tlv_value.proofs.RowLemmas.FullRows.{splits-full_rows}
 use Rattle.tlv_value.proofs.RowLemmas.OneCut.{open-parts}
-use Rattle.tlv_value.proofs.RowLemmas.RowSteps.{kept, kept-open, none-open, progress, turned}
+use Rattle.tlv_value.proofs.RowLemmas.RowSteps.{row-kept_in_loop, kept-open, none-open, filled_row-some, row-filled_in_loop}
 use Rattle.tlv_value.proofs.value_lines.row_lines.put_rows.Goals.{else-begun-part-via-then-begun-part+else-is_empty}
 use Rattle.tlv_value.proofs.value_lines.row_lines.put_rows.Goals.{else-begun-part-via-else-begun-part}
 use Rattle.tlv_value.proofs.value_lines.row_lines.put_rows.Goals as goal
@@ -35,7 +35,7 @@ returns-then-is_empty-clause-row g c =
     let z : length c.split_at.result.1.now ≡ 0 =
     eqb-true (length c.split_at.result.1.now) 0 (sym c.if-is_empty.ensures) in
     let k =
-    kept c.args.kind c.len-begun.result c.loop-rest.row.items c.fitting_length.result c.loop-rest.rest.now
+    row-kept_in_loop c.args.kind c.len-begun.result c.loop-rest.row.items c.fitting_length.result c.loop-rest.rest.now
     c.split_at.result.0.now c.len-begun.ensures.value c.split_at.ensures.front c.fitting_length.ensures.fits
     (omega arith) c.fitting_length.ensures.within (omega arith) in
     let t : c.try_extend_from_slice.new.self.items ≡ c.loop-rest.row.items ++ c.split_at.result.0.now =
@@ -47,7 +47,7 @@ returns-then-is_empty-clause-row_count g c =
     let z : length c.split_at.result.1.now ≡ 0 =
     eqb-true (length c.split_at.result.1.now) 0 (sym c.if-is_empty.ensures) in
     let k =
-    kept c.args.kind c.len-begun.result c.loop-rest.row.items c.fitting_length.result c.loop-rest.rest.now
+    row-kept_in_loop c.args.kind c.len-begun.result c.loop-rest.row.items c.fitting_length.result c.loop-rest.rest.now
     c.split_at.result.0.now c.len-begun.ensures.value c.split_at.ensures.front c.fitting_length.ensures.fits
     (omega arith) c.fitting_length.ensures.within (omega arith) in
     let i = c.loop-rest.invariant.rows in
@@ -58,7 +58,7 @@ returns-then-is_empty-clause-puts g c =
     let z : length c.split_at.result.1.now ≡ 0 =
     eqb-true (length c.split_at.result.1.now) 0 (sym c.if-is_empty.ensures) in
     let k =
-    kept c.args.kind c.len-begun.result c.loop-rest.row.items c.fitting_length.result c.loop-rest.rest.now
+    row-kept_in_loop c.args.kind c.len-begun.result c.loop-rest.row.items c.fitting_length.result c.loop-rest.rest.now
     c.split_at.result.0.now c.len-begun.ensures.value c.split_at.ensures.front c.fitting_length.ensures.fits
     (omega arith) c.fitting_length.ensures.within (omega arith) in
     let i = c.loop-rest.invariant.put in
@@ -78,11 +78,11 @@ loop-rest-preserved g c =
       | else-begun-part-via-else-begun-part w ↦ inl (omega arith)
     ] in
     let t =
-    turned kind c.len-begun.result row m c.loop-rest.rest.now part more c.len-begun.ensures.value
+    row-filled_in_loop kind c.len-begun.result row m c.loop-rest.rest.now part more c.len-begun.ensures.value
     c.split_at.ensures.front c.split_at.ensures.back c.fitting_length.ensures.fits
     c.fitting_length.ensures.short
     c.fitting_length.ensures.within (omega arith) c.fitting_length.ensures.next claim in
-    let p = progress kind c.len-begun.result m c.loop-rest.rest.now (omega arith) c.fitting_length.ensures.next claim in
+    let p = filled_row-some kind c.len-begun.result m c.loop-rest.rest.now (omega arith) c.fitting_length.ensures.next claim in
     let none : c.put_full.new.row.items ≡ [] = c.put_full.ensures.row in
     let line : List ℕ = row_line c.args.layout c.loop-rest.row_count (row_text kind (row ++ part)) in
     record {
@@ -116,7 +116,7 @@ returns-in_err-put_full-clause-puts g c =
       | else-begun-part-via-else-begun-part w ↦ inl (omega arith)
     ] in
     let t =
-    turned kind c.len-begun.result row m c.loop-rest.rest.now part more c.len-begun.ensures.value
+    row-filled_in_loop kind c.len-begun.result row m c.loop-rest.rest.now part more c.len-begun.ensures.value
     c.split_at.ensures.front c.split_at.ensures.back c.fitting_length.ensures.fits
     c.fitting_length.ensures.short
     c.fitting_length.ensures.within (omega arith) c.fitting_length.ensures.next claim in

@@ -2,7 +2,7 @@ use Rattle.std.proofs.Common.{◌++◌, ◌∷◌, [], ◌∙◌, ◌+◌, List,
 use Rattle.std.specs.Prelude.{codes}
 use Rattle.std.proofs.lemmas.List.{length-replicate}
 use Rattle.tlv_value.specs.Layout.{margin, blank_columns, spaces}
-use Rattle.tlv_io.proofs.HeldTexts.{added}
+use Rattle.tlv_io.proofs.HeldTexts.{length-added}
 use Rattle.tlv_value.proofs.value_lines.row_lines.write_dots.Goals as goal
 
 pub spaces-requires : goal.spaces-requires

@@ -1,6 +1,6 @@
 use Rattle.std.proofs.Common.{◌-◌, ◌++◌, ◌∷◌, [], ◌∙◌, List, ℕ, ap, arith}
 use Rattle.std.proofs.lemmas.List.{length-replicate}
-use Rattle.tlv_io.proofs.HeldTexts.{added, pairs-size}
+use Rattle.tlv_io.proofs.HeldTexts.{length-added, pairs-size}
 use Rattle.tlv_value.specs.Layout.{spaces}
 use Rattle.tlv_value.specs.Value.{spaced_pairs}
 use Rattle.tlv_value.proofs.RowLemmas.FullRows.{full_line_added}

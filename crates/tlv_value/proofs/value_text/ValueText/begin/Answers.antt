@@ -15,14 +15,14 @@ begun-short s v same l =
     sym (ap (λ (b : Bool). if b then (if s.kept.has_put_line then primitive_line s.primitive [] else []) else []) l)
     ∙ ap begin_lines same
 
-either : (b : Bool) (xs : List ℕ) → xs ≡ (if b then xs else xs)
-either true xs = refl
-either false xs = refl
+same-by_test : (b : Bool) (xs : List ℕ) → xs ≡ (if b then xs else xs)
+same-by_test true xs = refl
+same-by_test false xs = refl
 
 -- nor is one with that of a value whose line comes later
 begun-before_line : (s v : ValueTextState) → s ≡ v → s.kept.has_put_line ≡ false → [] ≡ begin_lines v
 begun-before_line s v same l =
-    either (is_long s.primitive.kind s.primitive.size) []
+    same-by_test (is_long s.primitive.kind s.primitive.size) []
     ∙ ap (λ (b : Bool). if is_long s.primitive.kind s.primitive.size
     then (if b then primitive_line s.primitive [] else []) else [])
     (sym l)

@@ -1,13 +1,13 @@
 use Rattle.std.proofs.Common.{rules}
 use Rattle.tlv_walk.proofs.WalkerLemmas.Finishing.{finish_done, finish_empty, finish_short}
 use Rattle.tlv_walk.proofs.WalkerLemmas.HasRead.{ends_by, never_refused, shows_by}
-use Rattle.tlv_walk.proofs.WalkerLemmas.Waiting.{idle}
+use Rattle.tlv_walk.proofs.WalkerLemmas.Waiting.{idle-none_waits}
 use Rattle.tlv_walk.proofs.walker.Walker.finish.Goals as goal
 
 pub returns-then-not-has_nothing_open-clause-ending : goal.returns-then-not-has_nothing_open-clause-ending
 returns-then-not-has_nothing_open-clause-ending c = λ o yielded. ends_by c.args.self.now o yielded _
     (λ b yielded st. rw c.ended_by.ensures
-    (finish_short c.args.self.now b yielded st (idle c.args.self.now c.requires) (search rules)))
+    (finish_short c.args.self.now b yielded st (idle-none_waits c.args.self.now c.requires) (search rules)))
     (search rules)
 
 pub returns-then-self-clause-ending : goal.returns-then-self-clause-ending
@@ -34,7 +34,7 @@ returns-in-Refused-clause-soundness c = λ o yielded. shows_by c.args.self.now o
 pub returns-then-not-has_nothing_open-clause-soundness : goal.returns-then-not-has_nothing_open-clause-soundness
 returns-then-not-has_nothing_open-clause-soundness c = λ o yielded. shows_by c.args.self.now o yielded _
     (λ b yielded st. rw c.ended_by.ensures
-    (finish_short c.args.self.now b yielded st (idle c.args.self.now c.requires) (search rules)))
+    (finish_short c.args.self.now b yielded st (idle-none_waits c.args.self.now c.requires) (search rules)))
     (search rules)
 
 pub returns-then-self-clause-soundness : goal.returns-then-self-clause-soundness
