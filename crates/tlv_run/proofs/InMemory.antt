@@ -57,7 +57,8 @@ module _ (job : Job ReportValue) (stays : Stays job)
   limited_octets = take job.limit octets
 
   -- octets that have neither a fault nor enough settle nothing
-  want_more-not_settled : (b : List ℕ) (made : CommandResult) → (x : IsJobResult job b made) → WantMore job b → IsSettled x → ⊥
+  want_more-not_settled : (b : List ℕ) (made : CommandResult) → (x : IsJobResult job b made) → WantMore job b
+      → IsSettled x → ⊥
   want_more-not_settled b made x s k =
       let same : x.reading ≡ s.0 = reading-unique job.framing b x.reading s.0 x.is_reading s.1.0 in
       let not_enough : job.is_enough x.reading ≡ false = ap job.is_enough same ∙ s.2 in

@@ -179,7 +179,8 @@ second_indef padding file names b m n x y =
     let z : IsReading (indef_framing padding) (indef_text x.reading) y.reading =
     subst (λ (o : List ℕ). IsReading (indef_framing padding) o y.reading) first y.is_reading in
     let same : y.reading ≡ indef_reading x.reading =
-    reading-unique (indef_framing padding) (indef_text x.reading) y.reading (indef_reading x.reading) z again.is_reading in
+    reading-unique (indef_framing padding) (indef_text x.reading) y.reading (indef_reading x.reading) z again.is_reading
+    in
     let output : n.output ≡ m.output =
     ap (λ (m : CommandResult). m.output) y.made_is ∙ ap indef_text same ∙ again.same_again ∙ sym first in (
       output,
@@ -193,6 +194,7 @@ second_indef padding file names b m n x y =
           let end : n.ending ≡ m.ending =
           ending-unique (indef_framing padding) (indef_text x.reading) n.ending ending.Done d' d ∙ sym done in
           y.made_is ∙ ap (λ (e : Ending). command_result job y.reading e) end
-          ∙ ap (λ (o : List ℕ). result_of_parts o m.ending (indef_report m.ending)) (ap indef_text same ∙ again.same_again)
+          ∙ ap (λ (o : List ℕ). result_of_parts o m.ending (indef_report m.ending))
+          (ap indef_text same ∙ again.same_again)
           ∙ sym x.made_is,
     )

@@ -36,9 +36,11 @@ found_quiet offset false e = absurd (cc (e))
 done_quiet : (command : Command) (names : NamesValue) (f : Forest)
     → ((command_job command names).result f ending.Done).status ≡ 2 → ⊥
 done_quiet (Dump options names_file file) names f e =
-    let outcome : Outcome = (dump_job options names).result f ending.Done in no_fault-not_2 outcome.unused outcome.findings e
+    let outcome : Outcome = (dump_job options names).result f ending.Done in no_fault-not_2 outcome.unused
+    outcome.findings e
 done_quiet (Check rules framing file) names f e =
-    let outcome : Outcome = (check_job rules framing).result f ending.Done in no_fault-not_2 outcome.unused outcome.findings e
+    let outcome : Outcome = (check_job rules framing).result f ending.Done in no_fault-not_2 outcome.unused
+    outcome.findings e
 done_quiet (Extract offset contents framing file) names f e = found_quiet offset (has_element_at offset f) e
 done_quiet (Indef padding file) names f e = absurd (cc (e))
 

@@ -9,7 +9,8 @@ use Rattle.tlv_show.specs.Spellings.{is_misspelled}
 use Rattle.tlv_walk.specs.Framing.{plain_framing}
 use Rattle.tlv_show.proofs.RowWords.{inside_framing}
 
-one_tag : (h k : HeaderValue) → h.class ≡ k.class → h.constructed ≡ k.constructed → h.number ≡ k.number → HaveOneTagAndForm h k
+one_tag : (h k : HeaderValue) → h.class ≡ k.class → h.constructed ≡ k.constructed → h.number ≡ k.number
+    → HaveOneTagAndForm h k
 one_tag h k c f n = record { class = c; constructed = f; number = n }
 
 -- 02 01 05 and 02 81 01 05

@@ -70,9 +70,8 @@ fn write_opening(held: &mut HeldOctets, layout: Layout, header: &Header, word: &
 #[inline(always)]
 fn begin_opening(held: &mut HeldOctets, layout: Layout, offset: u64, size: Size)
     requires { HasRoomFor held.old 592 }
-        ensures { AddsAtMost 553 held.old held.new
+    ensures { AddsAtMost 553 held.old held.new
         (line_margin layout (columns offset (size_text size))) }
-
 {
     match size {
         Size::Definite(length) => begin_sized(held, layout, offset, length),

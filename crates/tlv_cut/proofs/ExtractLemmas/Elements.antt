@@ -215,7 +215,8 @@ module _ (n : ℕ) (only : Bool) where
   -- once there was enough-ends_all, nothing is made of more events
   enough-ends_all : (es fs : List EventValue) (octets : List ℕ) → made_from before es ≡ finish_step octets
       → made_from before (es ++ fs) ≡ finish_step octets
-  enough-ends_all es fs octets e = followed-enough extract_step before es fs (ap (λ (t : Effect ExtractState). t.goes) e) ∙ e
+  enough-ends_all es fs octets e =
+      followed-enough extract_step before es fs (ap (λ (t : Effect ExtractState). t.goes) e) ∙ e
 
   -- an element that holds others and is not the one wanted
   passed_by : (p : Place) (h : HeaderValue) (inside rest : Forest) → KeepsRules p (Holder h inside rest)
@@ -248,7 +249,8 @@ module _ (n : ℕ) (only : Bool) where
   makes_text p (PaddingOctet rest) v deep = makes_text (place_after p 1) rest v.1 deep
   makes_text p (Primitive h c rest) v deep =
       let es = Begin h ∷ Bytes c ∷ End ∷ [] in
-      text-by_test (h.offset == n) (Some (Primitive h c NoMore)) (element_at n rest) (made_from before (es ++ events rest))
+      text-by_test (h.offset == n) (Some (Primitive h c NoMore)) (element_at n rest)
+      (made_from before (es ++ events rest))
       (λ e. whole_text (Primitive h c NoMore) _ _ refl (whole_octets h c)
       (enough-ends_all es (events rest) _ (made_from-primitive h c e)))
       (λ e. subst (IsTextOf (element_at n rest))

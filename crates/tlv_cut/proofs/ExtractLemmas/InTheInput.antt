@@ -144,10 +144,12 @@ module _ (n : ℕ) where
       ∙ ap (λ (l : List ℕ). octets_of h ++ (lead h ++ (octets_so_far inside ++ l))) (append-nil e)
       ∙ ap (λ (l : List ℕ). octets_of h ++ l) (sym (append_assoc (lead h) (octets_so_far inside) e))
 
-  pub found_in_input : (p : Place) (f : Forest) → KeepsRules p f → (e : Forest) → element_at n f ≡ Some e → IsFoundIn p f e
+  pub found_in_input : (p : Place) (f : Forest) → KeepsRules p f → (e : Forest) → element_at n f ≡ Some e
+      → IsFoundIn p f e
   found_in_input p NoMore v d some = found-none p NoMore d some
   found_in_input p (PaddingOctet rest) v d some =
-      in_rest p (place_after p 1) (PaddingOctet rest) rest d (0 ∷ []) refl refl (found_in_input (place_after p 1) rest v.1 d some)
+      in_rest p (place_after p 1) (PaddingOctet rest) rest d (0 ∷ []) refl refl
+      (found_in_input (place_after p 1) rest v.1 d some)
   found_in_input p (Primitive h c rest) v d some =
       let f = Primitive h c rest in
       found-by_test p f (h.offset == n) (Primitive h c NoMore) (element_at n rest) d
@@ -184,7 +186,8 @@ module _ (n : ℕ) where
   found_in_input p (OpenPrimitive h c) v d some =
       found-by_test p (OpenPrimitive h c) (h.offset == n) (OpenPrimitive h c) None d
       (λ is.
-      found-here p false h (OpenPrimitive h c) (OpenPrimitive h c) [] v.0.header is (sym (append-nil (octets_of h ++ c)))
+      found-here p false h (OpenPrimitive h c) (OpenPrimitive h c) [] v.0.header is
+      (sym (append-nil (octets_of h ++ c)))
       (ap (λ (l : List ℕ). octets_of h ++ l) (sym (append-nil c))))
       (λ _ some. found-none p (OpenPrimitive h c) d some)
       some

@@ -68,4 +68,5 @@ module _ (framing : Framing) (n : ℕ) (only : Bool) (t : ExtractState) (old new
       (Err e)
       → Runs (extract_job n only framing) (device_states old from) (device_states new to) (Err e)
   extract_err e x =
-      jobs.runs_err extract_step (extract_job n only framing) (new_extract n only) text enough-if_whole t old new from to e x
+      jobs.runs_err extract_step (extract_job n only framing) (new_extract n only) text enough-if_whole t old new from
+      to e x

@@ -46,7 +46,8 @@ module _ (s : ExtractState) (h : HeaderValue) (o : List ℕ) where
   passed_by : extract_begin_step s h ≡ no_effect s → wanted_octets s.position contents ≡ []
       → extract_end_step s [] ≡ no_effect s → effect ≡ no_effect s
   passed_by b none n =
-      then_more s s [] (Begin h ∷ Bytes contents ∷ []) (End ∷ []) (made_from-begins s s [] h contents b ∙ ap (effect_with s) none)
+      then_more s s [] (Begin h ∷ Bytes contents ∷ []) (End ∷ [])
+      (made_from-begins s s [] h contents b ∙ ap (effect_with s) none)
       ∙ followed-one extract_step s End
       ∙ n
 

@@ -88,7 +88,8 @@ stays_anywhere (Primitive h c rest) offset =
     ap (λ (f : Forest). Primitive (record h { offset = offset }) c f)
     (stays_anywhere rest (offset + (length (octets_of h) + length c)))
 stays_anywhere (Holder h inside rest) offset =
-    holder_stays h.constructed h (with_indefinite_lengths inside) (with_indefinite_lengths rest) refl (stays_anywhere inside)
+    holder_stays h.constructed h (with_indefinite_lengths inside) (with_indefinite_lengths rest) refl
+    (stays_anywhere inside)
     (stays_anywhere rest) offset
 stays_anywhere (OpenPrimitive h c) offset = refl
 stays_anywhere (OpenHolder h inside) offset =
@@ -100,4 +101,5 @@ stays_anywhere OpenEndOctets offset = refl
 -- the same octets are written again
 pub indef_text-again : (offset : ℕ) (f : Forest)
     → indef_text (with_offsets_from offset (with_indefinite_lengths f)) ≡ indef_text f
-indef_text-again offset f = ap spelling (stays_anywhere f offset) ∙ spelling-with_offsets_from offset (with_indefinite_lengths f)
+indef_text-again offset f =
+    ap spelling (stays_anywhere f offset) ∙ spelling-with_offsets_from offset (with_indefinite_lengths f)

@@ -48,7 +48,8 @@ is_whole-with_indefinite_lengths OpenEndOctets e = refl
 
 pub offsets-whole : (offset : ℕ) (f : Forest) → is_whole f ≡ true
     → is_whole (with_offsets_from offset (with_indefinite_lengths f)) ≡ true
-offsets-whole offset f e = is_whole-with_offsets_from offset (with_indefinite_lengths f) ∙ is_whole-with_indefinite_lengths f e
+offsets-whole offset f e =
+    is_whole-with_offsets_from offset (with_indefinite_lengths f) ∙ is_whole-with_indefinite_lengths f e
 
 -- if there is an element, there is one with indefinite lengths too
 holder_some : (constructed : Bool) (offset : ℕ) (h : HeaderValue) (c : List ℕ) (inside rest : Forest)

@@ -40,7 +40,8 @@ sound_again : (padding : Bool) (b : List ℕ) (f : Forest) → IsReading (indef_
     → IsEnding (indef_framing padding) (indef_text f) Done
 sound_again padding b f r w e =
     let o = indef_text_keeps_rules padding f r.keeps_rules in
-    done (indef_reading f) ((indef_text_is_read_back padding b f r).is_reading, o.0) (offsets-has_element 0 f w e) (offsets-whole 0 f w)
+    done (indef_reading f) ((indef_text_is_read_back padding b f r).is_reading, o.0) (offsets-has_element 0 f w e)
+    (offsets-whole 0 f w)
 
 pub indef_text_is_done : (padding : Bool) (b : List ℕ) (f : Forest) → IsReading (indef_framing padding) b f
     → IsEnding (indef_framing padding) b Done

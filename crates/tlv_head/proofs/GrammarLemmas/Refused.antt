@@ -62,10 +62,11 @@ header-not_stuck h z o code v e s =
     (ap (λ (t : Scan). scan_from start t z) (sym (scan-moved_header start h v)) ∙ split)
 
 stuck-begins_with-none : (o : List ℕ) → IsStuckFrom start Fresh o → BeginsWithNoHeader o
-stuck-begins_with-none o r = λ h rest v e. elim (prefixes-nest r.prefix (octets_of h) r.rest rest (sym r.octets_are ∙ e)) [
-  | inl z ↦ prefix-none r.prefix r.code r.stuck h z.0 v z.1
-  | inr z ↦ header-not_stuck h z.0 r.prefix r.code v z.1 r.stuck
-]
+stuck-begins_with-none o r =
+    λ h rest v e. elim (prefixes-nest r.prefix (octets_of h) r.rest rest (sym r.octets_are ∙ e)) [
+      | inl z ↦ prefix-none r.prefix r.code r.stuck h z.0 v z.1
+      | inr z ↦ header-not_stuck h z.0 r.prefix r.code v z.1 r.stuck
+    ]
 
 -- one octet after those that were read
 scan-step : (at : Origin) (o : List ℕ) (x : ℕ) (s : Scan) (code : FaultCode) → scan at o ≡ s

@@ -35,7 +35,8 @@ refused_completes_none code r x h p c =
     refused-none code r.octets x p h [] c.valid (append-nil (r.octets ++ x ∷ []) ∙ sym c.octets_are)
 
 -- what is returned if an octet is refused
-pub refusal-is : (old : HeadReaderState) (x : ℕ) (room : Option ℕ) (depth : ℕ) (code : FaultCode) (offset : ℕ) (r : Head)
+pub refusal-is : (old : HeadReaderState) (x : ℕ) (room : Option ℕ) (depth : ℕ) (code : FaultCode) (offset : ℕ)
+    (r : Head)
     → r ≡ Refused (record {
       code = code;
       offset = offset;

@@ -106,7 +106,8 @@ snoc≢nil [] x e = cc
 snoc≢nil (y ∷ os) x e = cc
 
 -- a high form that has not ended has no identifier as a prefix
-high_form-no_identifier : (id : IdentifierFields) (o : List ℕ) (c : Class) (k : Bool) (n : ℕ) (i z : List ℕ) → CarriesNumber id o
+high_form-no_identifier : (id : IdentifierFields) (o : List ℕ) (c : Class) (k : Bool) (n : ℕ) (i z : List ℕ)
+    → CarriesNumber id o
     → IsIdentifier c k n i → o ≡ i ++ z → ⊥
 high_form-no_identifier id o c k n i z h p e =
     let ended : CarriesIdentifier
@@ -132,14 +133,17 @@ unended-length id o x c k n i l h p some e =
     high_form-no_identifier id o c k n i r.0 h p r.1
 
 -- after the high form so far no octet is refused, if there are at most seven digits
-high_form-no_refusal : (code : FaultCode) (id : IdentifierFields) (o : List ℕ) (x : ℕ) → CarriesNumber id o → length o ≤ 8
+high_form-no_refusal : (code : FaultCode) (id : IdentifierFields) (o : List ℕ) (x : ℕ) → CarriesNumber id o
+    → length o ≤ 8
     → IsRefusedOctet o x code → ⊥
 high_form-no_refusal code id o x h few (tag_too_long c k prefix eight flag) =
     let size : length o ≡ length prefix.digits + 1 =
     rw prefix.octets_are (omega (arith, length-map prefix.digits (λ d. 128 + d))) in
     omega (arith, eight)
-high_form-no_refusal code id o x h few (reserved_length c k n i all) = high_form-no_identifier id o c k n o [] h i (sym (append-nil o))
-high_form-no_refusal code id o x h few (indefinite_primitive c n i mark) = high_form-no_identifier id o c false n o [] h i (sym (append-nil o))
+high_form-no_refusal code id o x h few (reserved_length c k n i all) = high_form-no_identifier id o c k n o [] h i
+    (sym (append-nil o))
+high_form-no_refusal code id o x h few (indefinite_primitive c n i mark) = high_form-no_identifier id o c false n o [] h
+    i (sym (append-nil o))
 high_form-no_refusal code id o x h few (length_too_large c k n left prefix many nonzero) =
     high_form-no_identifier id o c k n prefix.identifier_octets _ h prefix.identifier prefix.octets_are
 
@@ -154,7 +158,8 @@ always-unfinished (Whole d size) id o x h few f not =
 always-unfinished (Refused code) id o x h few f not = high_form-no_refusal code id o x h few f
 
 -- what is returned is what the octets are
-unfinished-carries : (r : Next) (p : Part) (o : List ℕ) (x : ℕ) → MakesNext o x r → r ≡ Unfinished p → Carries p (o ++ x ∷ [])
+unfinished-carries : (r : Next) (p : Part) (o : List ℕ) (x : ℕ) → MakesNext o x r → r ≡ Unfinished p
+    → Carries p (o ++ x ∷ [])
 unfinished-carries r p o x f e = subst (MakesNext o x) e f
 
 -- the high form goes on

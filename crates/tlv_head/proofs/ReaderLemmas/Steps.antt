@@ -196,7 +196,8 @@ pub all_ones : (id : IdentifierFields) (octets : List ℕ) (x : ℕ) → Carries
 all_ones id octets x h e = reserved_length id.class id.constructed id.number h.identifier e
 
 -- a first length octet 80 of a primitive
-pub indefinite-refused : (id : IdentifierFields) (octets : List ℕ) (x : ℕ) → CarriesIdentifier id octets → id.constructed ≡ false
+pub indefinite-refused : (id : IdentifierFields) (octets : List ℕ) (x : ℕ) → CarriesIdentifier id octets
+    → id.constructed ≡ false
     → x ≡ 128 → IsRefusedOctet octets x IndefinitePrimitive
 indefinite-refused id octets x h form e =
     indefinite_primitive id.class id.number

@@ -42,7 +42,8 @@ pub high-first : (lead : ℕ) (ds : List ℕ) (last : ℕ) → All (λ d. d < 12
 high-first lead [] last each below = omega arith
 high-first lead (d ∷ ds) last each below = let small : d < 128 = All-head (λ d. d < 128) d ds each in omega arith
 
-value-fewest_digits : (b : ℕ) (xs ys : List ℕ) → 0 < b → slice_index xs 0 ≢ 0 → All (λ d. d < b) ys → value_of b xs ≡ value_of b ys
+value-fewest_digits : (b : ℕ) (xs ys : List ℕ) → 0 < b → slice_index xs 0 ≢ 0 → All (λ d. d < b) ys → value_of b xs
+    ≡ value_of b ys
     → length xs ≤ length ys
 value-fewest_digits b [] ys some nonzero v e = omega arith
 value-fewest_digits b (x ∷ xs) ys some nonzero v e = fewest-digits b x xs ys some nonzero v e

@@ -58,7 +58,8 @@ octets_are s h o c same size begins ends =
     ∙ whole_is s h c size begins ends
 
 -- if a finder passes-if_taken the primitive
-passes-if_taken : (old new : FinderState) (h : HeaderValue) (c : List ℕ) (x : Bool) → x ≡ true → PassesOrStays old new h c x
+passes-if_taken : (old new : FinderState) (h : HeaderValue) (c : List ℕ) (x : Bool) → x ≡ true
+    → PassesOrStays old new h c x
     → PassesPrimitive old new h c
 passes-if_taken old new h c true e p = p
 passes-if_taken old new h c false e p = absurd (true≢false (sym e))

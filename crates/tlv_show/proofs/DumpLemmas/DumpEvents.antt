@@ -70,7 +70,8 @@ closes-by l s None true =
     ap (effect_with _) (regroup_two (lines_step l (Close None)).put (texts l.layout (finder_close_step s)))
 closes-by l s (Some offset) true =
     ap (effect_with _) (regroup_two (lines_step l (Close (Some offset))).put (texts l.layout (finder_close_step s)))
-closes-by l s offset false = ap (effect_with _) (regroup_two (lines_step l Leave).put (texts l.layout (finder_close_step s)))
+closes-by l s offset false =
+    ap (effect_with _) (regroup_two (lines_step l Leave).put (texts l.layout (finder_close_step s)))
 
 -- ---- a primitive
 

@@ -145,7 +145,8 @@ module _ (style : Layout) (names : NamesValue) where
       (omega (arith, low)) (omega (arith, there, far_enough)) refl
       (append-nil (opening_line (layout_at style level) h (opening_word true)))
   holder_by level offset padded false true h there low far_enough =
-      between-equal (min (level + 1) 255) (level + 1) (saturating_sum (saturating_sum h.offset (length (octets_of h))) 1)
+      between-equal (min (level + 1) 255) (level + 1)
+      (saturating_sum (saturating_sum h.offset (length (octets_of h))) 1)
       (offset + (length (octets_of h) + 1)) false false _ (opening_line (layout_at style level) h (opening_word false))
       (omega (arith, low)) (omega (arith, there, far_enough)) refl
       (append-nil (opening_line (layout_at style level) h (opening_word false)))
@@ -175,7 +176,8 @@ module _ (style : Layout) (names : NamesValue) where
       ≡ effect_with (lines_between level (o + length (end_octets size)) false)
       (closing_line (layout_at style level) (if k then end_offset size o else None))
   closer_by level o true (Definite n) allowed far_enough =
-      between-equal (level + 1 - 1) level o (o + 0) false false _ (closing_line (layout_at style level) None) (omega arith)
+      between-equal (level + 1 - 1) level o (o + 0) false false _ (closing_line (layout_at style level) None)
+      (omega arith)
       (omega arith) refl
       (append-nil (closing_line (layout_at style (level + 1 - 1)) None)
       ∙ ap (λ (l : ℕ). closing_line (layout_at style l) None) (omega arith))
@@ -185,7 +187,8 @@ module _ (style : Layout) (names : NamesValue) where
       (append-nil (closing_line (layout_at style (level + 1 - 1)) (Some o))
       ∙ ap (λ (l : ℕ). closing_line (layout_at style l) (Some o)) (omega arith))
   closer_by level o false (Definite n) allowed far_enough =
-      between-equal (level + 1 - 1) level o (o + 0) false false _ (closing_line (layout_at style level) None) (omega arith)
+      between-equal (level + 1 - 1) level o (o + 0) false false _ (closing_line (layout_at style level) None)
+      (omega arith)
       (omega arith) refl
       (append-nil (closing_line (layout_at style (level + 1 - 1)) None)
       ∙ ap (λ (l : ℕ). closing_line (layout_at style l) None) (omega arith))

@@ -71,7 +71,8 @@ module _ (rules : Rules) where
 
   basic_items-same : (s : Site) (f : Forest) → only (items Ber s f) ≡ basic (items rules s f)
   basic_items-same s NoMore = refl
-  basic_items-same s (PaddingOctet rest) = same-pads (is_padding s.previous) s.level s.offset _ _ (basic_items-same (site_after_padding s) rest)
+  basic_items-same s (PaddingOctet rest) = same-pads (is_padding s.previous) s.level s.offset _ _
+      (basic_items-same (site_after_padding s) rest)
   basic_items-same s (Primitive h c rest) =
       same-found s.level h.offset (findings_by (header_conditions (surroundings_of s) h))
       (PrimitiveLines s.level h c
@@ -98,7 +99,8 @@ module _ (rules : Rules) where
   basic_items-same s (OpenHolder h inside) =
       same-found s.level h.offset (findings_by (header_conditions (surroundings_of s) h))
       (OpeningLine s.level h ∷ items Ber (site_of_children s h) inside)
-      (OpeningLine s.level h ∷ items rules (site_of_children s h) inside) (basic_items-same (site_of_children s h) inside)
+      (OpeningLine s.level h ∷ items rules (site_of_children s h) inside)
+      (basic_items-same (site_of_children s h) inside)
   basic_items-same s (OpenBitString h) =
       same-found s.level h.offset (findings_by (header_conditions (surroundings_of s) h)) (OpeningLine s.level h ∷ [])
       (OpeningLine s.level h ∷ []) refl

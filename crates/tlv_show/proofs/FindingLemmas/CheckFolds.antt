@@ -246,7 +246,8 @@ module _ (rules : Rules) where
   module _ (framing : Framing) (octets : List ℕ) (f : Forest) (short : length octets ≤ 2 ^ 40)
       (r : IsReading framing octets f) where
     put-is : (run_finder start (events f)).put ≡ only (items rules top_site f)
-    put-is = (finds_forest rules (top_place framing) top_site top_frame [] f r.keeps_rules refl refl refl (λ e. refl)).put 0
+    put-is =
+        (finds_forest rules (top_place framing) top_site top_frame [] f r.keeps_rules refl refl refl (λ e. refl)).put 0
 
     pub text-made : (effect_of check_step start (events f)).put ≡ (check_job rules framing).text f
     text-made =

@@ -218,7 +218,8 @@ no-ends rules w e =
     e
 
 -- what is found with an end, by the frame of what was held
-end_findings-by_frame : (rules : Rules) (p : Place) (h : HeaderValue) (inside : Forest) → KeepsRules p inside → is_whole inside ≡ true
+end_findings-by_frame : (rules : Rules) (p : Place) (h : HeaderValue) (inside : Forest) → KeepsRules p inside
+    → is_whole inside ≡ true
     → end_findings rules (segments_in (frame_after_elements (frame_of h) inside))
     ≡ end_findings rules (segments_of h (headers inside))
 end_findings-by_frame rules p h inside v e = by-segments (has_segments h) refl

@@ -32,7 +32,8 @@ use Rattle.tlv_show.proofs.FindingLemmas.HeaderFindings.{Knows, header-same}
 use Rattle.tlv_show.specs.Conditions.{surroundings_of, segments_of}
 use Rattle.tlv_show.proofs.FindingLemmas.FinderSteps.{FinderRun, after_contents, after_end, after_primitive}
 use Rattle.tlv_show.proofs.FindingLemmas.FinderSteps.{check_between}
-use Rattle.tlv_show.proofs.FindingLemmas.FinderSteps.{run-closing, later_header, run-opening, run-primitive, run_finder, run-more}
+use Rattle.tlv_show.proofs.FindingLemmas.FinderSteps.{run-closing, later_header, run-opening, run-primitive, run_finder}
+use Rattle.tlv_show.proofs.FindingLemmas.FinderSteps.{run-more}
 use Rattle.tlv_show.proofs.FindingLemmas.FinderSteps.{then_found}
 
 abbrev pub only : List Item → List Item

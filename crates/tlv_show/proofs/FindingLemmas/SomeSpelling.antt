@@ -268,7 +268,7 @@ some-spelling rules framing b f strict few ending reading low =
       forest = at_top.forest;
       sound = sound;
       some = sym (alike-element f at_top.forest at_top.alike) ∙ ap has_element (sym same) ∙ elements.some;
-            spelled = at_top.spelled;
+      spelled = at_top.spelled;
     } in
     let there : IsReading other chosen.octets at_top.forest = sound-reading other chosen.octets list in
     let small : length (spelling at_top.forest) ≤ 2 ^ 40 =

@@ -43,7 +43,8 @@ pub items-found : (level offset : ℕ) (fs : List Finding)
 items-found level offset [] = refl
 items-found level offset (f ∷ fs) = ap (λ (b : Bool). is_on_spelling f || b) (items-found level offset fs)
 
-none-by_conditions : (rules : Rules) (s : Site) (h : HeaderValue) → list_any is_item_on_spelling (header_items rules s h) ≡ false
+none-by_conditions : (rules : Rules) (s : Site) (h : HeaderValue)
+    → list_any is_item_on_spelling (header_items rules s h) ≡ false
     → any_of is_on_spelling rules (header_conditions (surroundings_of s) h) ≡ false
 none-by_conditions rules s h e =
     sym (found-with_header is_on_spelling rules (surroundings_of s) h)

@@ -163,7 +163,8 @@ PartExtendsRow row part rest =
     (rows_filled Utf8 row (part ++ rest) ≡ rows_filled Utf8 (row ++ part) rest)
     × (row_begun Utf8 row (part ++ rest) ≡ row_begun Utf8 (row ++ part) rest)
 
-part-extends_row : (row part rest : List ℕ) → HaveRoom Utf8 (length row) part (length part) → length row + length part < 64
+part-extends_row : (row part rest : List ℕ) → HaveRoom Utf8 (length row) part (length part)
+    → length row + length part < 64
     → PartExtendsRow row part rest
 part-extends_row row [] rest room h = rw (append-nil row) (refl, refl)
 part-extends_row row (x ∷ xs) rest room h =
@@ -236,7 +237,8 @@ module _ (row : List ℕ) (x : ℕ) (tail rest : List ℕ) (announced_length : u
   -- a character that begins a row
   unit-after : has_room Utf8 (length row) x ≡ false → AreFormed row ((x ∷ tail) ++ rest)
   unit-after r =
-      let f = part-extends_row [] (x ∷ tail) rest (room-unit 0 x tail announced_length quiet (omega arith)) (omega arith) in
+      let f =
+      part-extends_row [] (x ∷ tail) rest (room-unit 0 x tail announced_length quiet (omega arith)) (omega arith) in
       let g = more (x ∷ tail) v (omega arith) in
       let p : rows_filled Utf8 row ((x ∷ tail) ++ rest) ≡ row ∷ rows_filled Utf8 (x ∷ tail) rest =
       rw r (ap (λ (t : List (List ℕ)). row ∷ t) (sym (filled-begins Utf8 x (tail ++ rest)) ∙ f.0)) in

@@ -63,7 +63,8 @@ lines-start {Z} octets m e =
     start-at octets (texts_in m)
     (ap (λ (es : List (Vec ℕ Z × Vec ℕ Z)). map {B = Entry} (λ e. (e.0.items, e.1.items)) es) e)
 
-pub lines-all : (octets rest : List ℕ) (number : ℕ) (es : List Entry) → LinesSoFar octets rest number es → length rest ≡ 0
+pub lines-all : (octets rest : List ℕ) (number : ℕ) (es : List Entry) → LinesSoFar octets rest number es → length rest
+    ≡ 0
     → names_of octets ≡ Ok (finite.from_entries es)
 lines-all octets rest number es s h =
     let none : rest ≡ [] = nil_from_length rest h in
@@ -140,7 +141,8 @@ same-fault : {T : Type 0} (a b : NamesFault) → IsErrOf {T = T} (Err a) b → a
 same-fault a b e = cc
 
 -- the line is line-refusal
-pub line-refused_table : (Z T : Type 0) (octets rest below : List ℕ) (number : ℕ) (es new : List Entry) (fault : NamesFault)
+pub line-refused_table : (Z T : Type 0) (octets rest below : List ℕ) (number : ℕ) (es new : List Entry)
+    (fault : NamesFault)
     (line : NamesLine) (s : LinesSoFar octets rest number es)
     → map names_line (file_lines rest) ≡ line ∷ map names_line (file_lines below)
     → AddsLine {T = T} (number + 1) line es new (Err fault) → IsTableOf {Z = Z} octets (Err fault)
@@ -166,7 +168,8 @@ line-refused_table Z T octets rest below number es new fault no_object_identifie
     (ap (λ n. Some (BadOid (n + 1))) s.count))
 line-refused_table Z T octets rest below number es new fault no_name s e a =
     subst (λ f. IsTableOf {Z = Z} octets (Err f)) (sym (same-fault fault (BadName (number + 1)) a))
-    (line-refusal octets rest below number es no_name (BadName (number + 1)) s e (ap (λ n. Some (BadName (n + 1))) s.count))
+    (line-refusal octets rest below number es no_name (BadName (number + 1)) s e
+    (ap (λ n. Some (BadName (n + 1))) s.count))
 line-refused_table Z T octets rest below number es new fault long_line s e a =
     subst (λ f. IsTableOf {Z = Z} octets (Err f)) (sym (same-fault fault TooLarge a))
     (line-refusal octets rest below number es long_line TooLarge s e refl)

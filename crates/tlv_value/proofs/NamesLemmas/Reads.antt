@@ -115,7 +115,8 @@ module _ (old middle new : SourceState) (octets : List ℕ) (x : OctetsSoFar old
 -- ---- what is made of all of them
 
 -- the octets that were read say the result
-result-is_whole_file : {Z : Type 0} (new : SourceState) (octets : List ℕ) (v : Vec ℕ Z) (r : Result NamesValue NamesFault)
+result-is_whole_file : {Z : Type 0} (new : SourceState) (octets : List ℕ) (v : Vec ℕ Z)
+    (r : Result NamesValue NamesFault)
     → GivesAll new octets (Ok v) → names_of v.items ≡ r → IsWholeFile new octets r
 result-is_whole_file new octets v r x n = record { ends = x.1; result_is = ap names_of x.0 ∙ n }
 

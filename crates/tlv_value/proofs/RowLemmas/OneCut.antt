@@ -18,7 +18,8 @@ use Rattle.tlv_value.specs.OpenRow.{IsOpenRow}
 use Rattle.tlv_value.specs.Private.Room.{HaveRoom}
 use Rattle.tlv_value.proofs.RowLemmas.FilledRows.{row_begun, rows-filled, rows_filled}
 use Rattle.tlv_value.specs.Rows.{cut_of_contents, full_rows, full_rows_in, open_row, open_row_in, rows_of}
-use Rattle.tlv_value.proofs.RowLemmas.RowSteps.{FillsRow, begun-open, rest-stays_in_row, none-open, one_fits, open-room, steps-join}
+use Rattle.tlv_value.proofs.RowLemmas.RowSteps.{FillsRow, begun-open, rest-stays_in_row, none-open, one_fits, open-room}
+use Rattle.tlv_value.proofs.RowLemmas.RowSteps.{steps-join}
 use Rattle.tlv_value.proofs.RowLemmas.RowSteps.{next_row}
 
 last-row : (row : List ℕ) → 1 ≤ length row → last_rows row ≡ row ∷ []

@@ -116,7 +116,8 @@ module _ (kind : Kind) where
       let r : has_room kind (length row) x ≡ true = rw l at (room 0 (omega arith)) in
       let e : eqb (length row + 1) (row_size kind) ≡ false = grind (arith, nat_tests) in
       let t =
-      rest-stays_in_row (row ++ x ∷ []) xs (shift-room row (length xs) x xs room) (omega (arith, length-append row (x ∷ []))) in
+      rest-stays_in_row (row ++ x ∷ []) xs (shift-room row (length xs) x xs room)
+      (omega (arith, length-append row (x ∷ []))) in
       rw (r, e) (t.0, t.1 ∙ append_assoc row (x ∷ []) xs)
 
   part-fills_row : (row : List ℕ) (m : ℕ) (rest : List ℕ) → (length row + m ≡ row_size kind) ⊎ (m < length rest)
@@ -125,7 +126,8 @@ module _ (kind : Kind) where
   part-fills_row row m rest (inr h) next = inr (h, next h)
 
   -- a row is part-fills_row, as the loop has it
-  pub row-filled_in_loop : (n : ℕ) (row : List ℕ) (m : ℕ) (rest part more : List ℕ) → n ≡ length row → part ≡ take m rest
+  pub row-filled_in_loop : (n : ℕ) (row : List ℕ) (m : ℕ) (rest part more : List ℕ) → n ≡ length row → part
+      ≡ take m rest
       → more ≡ drop m rest
       → HaveRoom kind n rest m → n + m ≤ row_size kind → m ≤ length rest → n < row_size kind
       → (m < length rest → has_room kind (n + m) (get_or rest m 0) ≡ false)
@@ -134,7 +136,8 @@ module _ (kind : Kind) where
       × (row_begun kind row rest ≡ row_begun kind [] more)
   row-filled_in_loop n row m rest part more e p q room h w b next f =
       rw (p, q)
-      (next_row row m rest (rw e at room) (rw e at h) w (rw e at b) (part-fills_row row m rest (rw e at f) (rw e at next)))
+      (next_row row m rest (rw e at room) (rw e at h) w (rw e at b)
+      (part-fills_row row m rest (rw e at f) (rw e at next)))
 
   -- the row that has begun goes on, as the loop has it
   pub row-kept_in_loop : (n : ℕ) (row : List ℕ) (m : ℕ) (rest part : List ℕ) → n ≡ length row → part ≡ take m rest

@@ -249,7 +249,8 @@ first-long-at : (v k : ℕ) (p q : Bool) (vs : List ℕ) → 1 ≤ k → v < 2 ^
     → length (dotted_arcs ((if p then 0 ∷ v ∷ [] else (if q then 1 ∷ (v - 40) ∷ [] else 2 ∷ (v - 80) ∷ [])) ++ vs))
     ≤ 3 * k + 2 + length (after_dots vs)
 first-long-at v k true q vs s h g =
-    two-long 0 v k vs (decimal-within 0 1 (omega arith) (omega arith) (omega arith)) (decimal-within v (3 * k) h g (omega arith))
+    two-long 0 v k vs (decimal-within 0 1 (omega arith) (omega arith) (omega arith))
+    (decimal-within v (3 * k) h g (omega arith))
 first-long-at v k false true vs s h g =
     two-long 1 (v - 40) k vs (decimal-within 1 1 (omega arith) (omega arith) (omega arith))
     (decimal-within (v - 40) (3 * k) (omega arith) (omega (arith, g)) (omega arith))

@@ -34,8 +34,10 @@ module _ {A : Type 0} (job : Job A) (given : List ℕ) (f : Forest) (new : Sourc
 
   pub comes_to-result : (result : Result A DeviceFault) → ComesTo job given f new result → ComesToResult result
   comes_to-result result (at_enough k) = (Done, refl, ends_with-by Done true k refl, inl k)
-  comes_to-result result (at_fault e k final) = (e, refl, ends_with-by e false k.not_enough k.is_ending, inr (inl final))
-  comes_to-result result (at_input_end e k last end) = (e, refl, ends_with-by e false k.not_enough k.is_ending, inr (inr (last, end)))
+  comes_to-result result (at_fault e k final) =
+      (e, refl, ends_with-by e false k.not_enough k.is_ending, inr (inl final))
+  comes_to-result result (at_input_end e k last end) =
+      (e, refl, ends_with-by e false k.not_enough k.is_ending, inr (inr (last, end)))
   comes_to-result result (read_failed last) = last
   comes_to-result result write_failed = tt
   comes_to-result result (too_long many wants) = (many, wants)

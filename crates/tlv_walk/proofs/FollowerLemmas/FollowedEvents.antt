@@ -140,7 +140,8 @@ module _ {S : Type 0} (next : S → EventValue → Effect S) where
       by step Enough k h = refl
 
   -- events effect-after_one one event may be others that are followed alike
-  effect-after_one : (s : S) (e : EventValue) (es fs : List EventValue) → ((u : S) → effect_of next u es ≡ effect_of next u fs)
+  effect-after_one : (s : S) (e : EventValue) (es fs : List EventValue) → ((u : S) → effect_of next u es
+      ≡ effect_of next u fs)
       → effect_of next s (e ∷ es) ≡ effect_of next s (e ∷ fs)
   effect-after_one s e es fs h =
       effect_if_more-alike (next s e).goes (next s e) (λ u. effect_of next u es) (λ u. effect_of next u fs)
@@ -206,7 +207,8 @@ module _ {S : Type 0} (next : S → EventValue → Effect S)
       followed-with_bytes s b (joined_events es)
       ∙ effect-after_one next s (Bytes b) (joined_events es) es (λ u. followed-joined u es)
   followed-joined s (Pad b ∷ es) =
-      followed-with_pad s b (joined_events es) ∙ effect-after_one next s (Pad b) (joined_events es) es (λ u. followed-joined u es)
+      followed-with_pad s b (joined_events es)
+      ∙ effect-after_one next s (Pad b) (joined_events es) es (λ u. followed-joined u es)
   followed-joined s (Open h ∷ es) = effect-after_one next s (Open h) (joined_events es) es (λ u. followed-joined u es)
   followed-joined s (Begin h ∷ es) = effect-after_one next s (Begin h) (joined_events es) es (λ u. followed-joined u es)
   followed-joined s (End ∷ es) = effect-after_one next s End (joined_events es) es (λ u. followed-joined u es)
@@ -227,7 +229,8 @@ module _ {S : Type 0} (next : S → EventValue → Effect S) (part : EventValue 
   abbrev part_step : S → EventValue → Effect S
   part_step s e = record { state = (next s e).state; put = part e; goes = (next s e).goes }
 
-  parts-put : (s : S) (es : List EventValue) → flat_map part (followed_events next s es) ≡ (effect_of part_step s es).put
+  parts-put : (s : S) (es : List EventValue) → flat_map part (followed_events next s es)
+      ≡ (effect_of part_step s es).put
   parts-put s [] = refl
   parts-put s (e ∷ es) = by (parts-put (next s e).state es) (next s e).goes
     where

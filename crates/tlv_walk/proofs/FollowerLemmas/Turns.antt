@@ -97,7 +97,8 @@ module _ {S D : Type 0} (next : S → EventValue → Effect S) (old new : TurnSt
     put : Sent (Ok why) more
 
   used_up-stands : (why : Pause) → Followed why pause.UsedUp → StandsAfter next old new (b ++ piece) yielded
-  used_up-stands why x = used_up_on next old new from to b piece yielded x.more (sent-of_turn why x.more x.put) st x.pauses
+  used_up-stands why x =
+      used_up_on next old new from to b piece yielded x.more (sent-of_turn why x.more x.put) st x.pauses
 
   turns_again : (why : Pause) → Followed why pause.UsedUp → (m < n → ⊥) → (n ≡ 0 → ⊥)
       → TurnsTo next old new limit b yielded r (Ok Again)

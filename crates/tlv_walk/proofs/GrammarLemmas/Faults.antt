@@ -147,7 +147,8 @@ header-blames p o x h w =
     ]
 
 -- a refusal at an open end has a fault of the list
-pub refusal-has_fault : (p : Place) (f : Forest) (x : ℕ) → x < 256 → IsOpenEndAt p f → Blames p f x (refusal (push p f x))
+pub refusal-has_fault : (p : Place) (f : Forest) (x : ℕ) → x < 256 → IsOpenEndAt p f
+    → Blames p f x (refusal (push p f x))
 refusal-has_fault p NoMore x h t = between-blames p x t.1
 refusal-has_fault p (OpenPrimitive header c) x h t = tt
 refusal-has_fault p (OpenBitString header) x h t = unused-blames p header x
@@ -216,7 +217,8 @@ pub refused-fault : (w : Framing) (f : Forest) (x : ℕ) (code : FaultCode) → 
 refused-fault w f x code h v e =
     let same : refusal (push (open_end (top_place w) f).place (open_end (top_place w) f).forest x) ≡ Some code =
     sym (push-open_end (top_place w) f x) ∙ ap refusal e in
-    rw same at (refusal-has_fault (open_end (top_place w) f).place (open_end (top_place w) f).forest x h (open_end-top w f v))
+    rw same at (refusal-has_fault (open_end (top_place w) f).place (open_end (top_place w) f).forest x h
+    (open_end-top w f v))
 
 -- an octet with a fault of the list is refused, with that code
 pub fault-refused : (w : Framing) (f : Forest) (x : ℕ) (code : FaultCode) → KeepsRules (top_place w) f

@@ -36,7 +36,8 @@ reaches-open_holder p h inside f g =
 pub open-within : (p : Place) (f : Forest) → Fits p 0 → KeepsRules p f → Fits p (length (spelling f))
 open-within p NoMore z w = z
 open-within p (PaddingOctet rest) z w =
-    within-le p.bound _ _ (omega arith) (open-within (place_after p 1) rest (within-le p.bound _ _ (omega arith) w.0.2) w.1)
+    within-le p.bound _ _ (omega arith)
+    (open-within (place_after p 1) rest (within-le p.bound _ _ (omega arith) w.0.2) w.1)
 open-within p (Primitive h c rest) z w =
     within-le p.bound _ _ (omega (arith, length-primitive h c rest))
     (open-within (place_after p (length (octets_of h) + length c)) rest (within-le p.bound _ _ (omega arith) w.0.0.fits)
@@ -44,7 +45,8 @@ open-within p (Primitive h c rest) z w =
 open-within p (Holder h inside rest) z w =
     within-le p.bound _ _ (omega (arith, length-holder h inside rest))
     (open-within (place_after p (extent h inside)) rest (within-le p.bound _ _ (omega arith) w.0.0.fits) w.2)
-open-within p (OpenPrimitive h c) z w = within-le p.bound _ _ (omega (arith, length-append (octets_of h) c, w.1)) w.0.fits
+open-within p (OpenPrimitive h c) z w = within-le p.bound _ _ (omega (arith, length-append (octets_of h) c, w.1))
+    w.0.fits
 open-within p (OpenHolder h inside) z w =
     reaches-open_holder p h inside w.0.0.fits
     (open-within (place_of_children p h) inside (fits-inside p h w.0.0.header.form w.0.0.fits) w.1)

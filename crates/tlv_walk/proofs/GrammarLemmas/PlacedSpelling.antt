@@ -65,7 +65,8 @@ pub record JoinsOffsets (constructed : Bool) (inner others : ℕ → List ℕ) (
 pub offsets-join : (constructed : Bool) (inner others : ℕ → List ℕ) (begins count far rest : ℕ) → 1 ≤ begins
     → begins + count ≤ far → ComeAfter inner → AreWithin inner count → ComeAfter others → AreWithin others rest
     → JoinsOffsets constructed inner others begins count far rest
-offsets-join constructed inner others begins count far rest some on inner_after inner_within others_after others_within =
+offsets-join constructed inner others begins count far rest some on inner_after inner_within others_after others_within
+    =
     record {
       after = λ offset i less.
           in-third i (wrapper_offset_by constructed offset) (inner (offset + begins)) (others (offset + far))

@@ -259,12 +259,13 @@ open-popped p (PaddingOctet rest) w = inr (elim (open-popped (place_after p 1) r
   | inl e ↦ rw e (padding-popped p (w.0, tt))
   | inr r ↦ popped-after p (place_after p 1) PaddingOctet (0 ∷ []) rest r (w.0, r.keeps_rules) (λ g. refl) (λ x. refl)
 ])
-open-popped p (Primitive h c rest) w = inr (elim (open-popped (place_after p (length (octets_of h) + length c)) rest w.1) [
-  | inl e ↦ rw e (whole_primitive-popped p h c w.0)
-  | inr r ↦
-      popped-after p _ (Primitive h c) (octets_of h ++ c) rest r (w.0, r.keeps_rules)
-      (λ g. sym (append_assoc (octets_of h) c (spelling g))) (λ x. refl)
-])
+open-popped p (Primitive h c rest) w = inr
+    (elim (open-popped (place_after p (length (octets_of h) + length c)) rest w.1) [
+      | inl e ↦ rw e (whole_primitive-popped p h c w.0)
+      | inr r ↦
+          popped-after p _ (Primitive h c) (octets_of h ++ c) rest r (w.0, r.keeps_rules)
+          (λ g. sym (append_assoc (octets_of h) c (spelling g))) (λ x. refl)
+    ])
 open-popped p (Holder h inside rest) w = inr (elim (open-popped (place_after p (extent h inside)) rest w.2) [
   | inl e ↦ rw e (holder-popped p h inside w.0 w.1 (open-popped (place_of_children p h) inside w.1))
   | inr r ↦

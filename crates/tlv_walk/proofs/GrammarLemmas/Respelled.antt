@@ -138,7 +138,8 @@ module _ (form : Bool → Bool) (definite : form false ≡ false) where
       let far : ℕ = length begins + (length held.octets + length ends) in
       let joint : JoinsOffsets constructed held.names r.names (length begins) (length held.octets) far
       (length r.octets) =
-      offsets-join constructed held.names r.names (length begins) (length held.octets) far (length r.octets) some (omega arith)
+      offsets-join constructed held.names r.names (length begins) (length held.octets) far (length r.octets) some
+      (omega arith)
       held.names_after held.names_within r.names_after r.names_within in
       let lead_is : length first ≡ length (lead h) = ap (λ (k : Bool). length (lead_by k (eqb h.number 3))) (sym is) in
       record {

@@ -222,6 +222,7 @@ holds-again h false t n e holding =
     let s : IsString h.class h.number = string-of h.named h.class h.number h.size holding in
     record { nonzero = string-nonzero h.class h.number s; again = string-wraps h.class h.number t n s (e refl) }
 
-pub identifier-same_form : (class : Class) (a b : Bool) (n : ℕ) (octets : List ℕ) → a ≡ b → IsIdentifier class a n octets
+pub identifier-same_form : (class : Class) (a b : Bool) (n : ℕ) (octets : List ℕ) → a ≡ b
+    → IsIdentifier class a n octets
     → IsIdentifier class b n octets
 identifier-same_form class a b n octets e v = subst (λ (k : Bool). IsIdentifier class k n octets) e v

@@ -24,7 +24,8 @@ use Rattle.tlv_walk.specs.Private.Zipper.{AreWhole, NoTail, HasZipper, EndOctets
 use Rattle.tlv_walk.specs.Private.Zipper.{events_of_layers, events_of_tail, frame_at, frames_of, place_in, place_of}
 use Rattle.tlv_walk.specs.Private.Zipper.{spelling_of_layers, spelling_of_tail}
 use Rattle.tlv_walk.specs.Stands.{filled_end_event}
-use Rattle.tlv_walk.proofs.WalkerLemmas.ZipperGrowth.{element-began, between_tail, closed_here, continues_both, lone_tail}
+use Rattle.tlv_walk.proofs.WalkerLemmas.ZipperGrowth.{element-began, between_tail, closed_here, continues_both}
+use Rattle.tlv_walk.proofs.WalkerLemmas.ZipperGrowth.{lone_tail}
 use Rattle.tlv_walk.proofs.WalkerLemmas.ZipperGrowth.{phase_at, tail_state, yielded_more, with_layers, with_tail}
 use Rattle.tlv_walk.proofs.WalkerLemmas.YieldedEvents.{yields_zero}
 use Rattle.tlv_walk.proofs.WalkerLemmas.Places.{definite-size, walker-offset}

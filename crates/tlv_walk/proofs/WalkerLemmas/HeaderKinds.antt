@@ -60,7 +60,8 @@ walker_in_element w h f k =
     }
 
 -- the state is that of a walker which frame-pushed the frame
-frame-pushed : (w : WalkerState) (b : List ℕ) (yielded : List EventValue) (s : Zipper) (r : HeadReaderState) (t : List ℕ)
+frame-pushed : (w : WalkerState) (b : List ℕ) (yielded : List EventValue) (s : Zipper) (r : HeadReaderState)
+    (t : List ℕ)
     (h : HeaderValue) (f : PhaseValue) (k : ℕ) (e : EventValue) (u : Zipper)
     → AtHeader w b yielded s r → Completed w r t h
     → HasZipper

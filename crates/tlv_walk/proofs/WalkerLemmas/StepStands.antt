@@ -130,7 +130,8 @@ refused_walker old new piece rest f k r b yielded st =
 -- ---- what a step comes to
 
 -- an event
-yields_one-next : (old new : WalkerState) (piece rest : List ℕ) (e : Event) → HasNotRefused old → CountsOne old new piece rest
+yields_one-next : (old new : WalkerState) (piece rest : List ℕ) (e : Event) → HasNotRefused old
+    → CountsOne old new piece rest
     → IsNoEmptyPart e → YieldsEvent old new piece rest (event_value_of e) → YieldsNext old new piece rest e
 yields_one-next old new piece rest e n k has t =
     let walked = stands_all old new piece rest (event_value_of e ∷ []) t in record {

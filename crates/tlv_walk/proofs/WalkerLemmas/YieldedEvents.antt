@@ -16,7 +16,8 @@ use Rattle.tlv_walk.specs.Private.Yields.{Continues}
 use Rattle.tlv_walk.proofs.WalkerLemmas.Places.{indefinite-size, walker-offset}
 use Rattle.tlv_walk.proofs.WalkerLemmas.Zipper.{followed_by}
 use Rattle.tlv_walk.proofs.WalkerLemmas.ZipperGrowth.{continues_both, yielded_after, spelled_after, yielded_whole}
-use Rattle.tlv_walk.proofs.WalkerLemmas.ZipperGrowth.{spelled_whole, are_whole, element-began, with_tail, tail_state, phase_at}
+use Rattle.tlv_walk.proofs.WalkerLemmas.ZipperGrowth.{spelled_whole, are_whole, element-began, with_tail, tail_state}
+use Rattle.tlv_walk.proofs.WalkerLemmas.ZipperGrowth.{phase_at}
 use Rattle.tlv_walk.proofs.WalkerLemmas.ZipperGrowth.{contents_tail, between_tail, with_layers}
 
 -- contents of a primitive

@@ -51,7 +51,8 @@ loop-finding-preserved c =
           rw w.found-is
           (record {
             kept =
-                filter-hidden (is_shown c.args.rules) l _ c.loop-finding.finding-index _ c.loop-finding-test.true old.kept
+                filter-hidden (is_shown c.args.rules) l _ c.loop-finding.finding-index _ c.loop-finding-test.true
+                old.kept
                 (sym c.is_shown.ensures ∙ w.if-is_shown.false);
             short = stays-within _ _ old.short;
             all = old.all;

@@ -9,7 +9,8 @@ use Rattle.tlv_value.specs.Number.{twos_complement}
 use Rattle.tlv_value.proofs.TextLemmas.Numbers.{twos-fits, twos-fits_all, twos-more}
 use Rattle.tlv_value.proofs.decimal.decimal_of.Goals as goal
 
-sum-wraps_not : (n from sum next : ℤ) (x : ℕ) → x < 256 → FitsSigned w128 (n *ℤ pos 256) → FitsSigned w128 next → n ≡ sum
+sum-wraps_not : (n from sum next : ℤ) (x : ℕ) → x < 256 → FitsSigned w128 (n *ℤ pos 256) → FitsSigned w128 next → n
+    ≡ sum
     → from ≡ pos x → next ≡ sum *ℤ pos 256 +ℤ pos x
     → to_z w128 (of_z w128 (to_z w128 (of_z w128 (n *ℤ pos 256)) +ℤ to_z w128 (of_z w128 from))) ≡ next
 sum-wraps_not n from sum next x small f g e h m =
@@ -47,7 +48,8 @@ loop-octet-preserved c =
     let g : FitsSigned w128 (twos_complement (take (i + 1 + 1) c.args.contents.now)) =
     twos-fits_all (take (i + 1 + 1) c.args.contents.now) (omega (arith, length-take {A = ℕ})) in
     let from : c.from.result ≡ pos x = c.from.ensures ∙ ap pos same in
-    sum-wraps_not (to_z w128 c.loop-octet.number-bits) c.from.result (twos_complement (take (i + 1) c.args.contents.now))
+    sum-wraps_not (to_z w128 c.loop-octet.number-bits) c.from.result
+    (twos_complement (take (i + 1) c.args.contents.now))
     (twos_complement (take (i + 1 + 1) c.args.contents.now)) x (c.type_inv.contents (i + 1)).fits f g e from m
 
 pub loop-octet-init : goal.loop-octet-init

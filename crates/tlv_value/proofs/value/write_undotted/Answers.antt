@@ -1,7 +1,8 @@
 use Rattle.std.proofs.Common.{rules, ◌≤◌, ◌∷◌, length, List, ℕ}
 use Rattle.tlv_value.specs.Value.{bits_value, boolean_value, integer_value, spaced_pairs}
 use Rattle.tlv_value.specs.Units.{quoted_text}
-use Rattle.tlv_value.proofs.TextLemmas.RowTextLengths.{bits-short, boolean-short, length-grown, integer-short, pairs-short}
+use Rattle.tlv_value.proofs.TextLemmas.RowTextLengths.{bits-short, boolean-short, length-grown, integer-short}
+use Rattle.tlv_value.proofs.TextLemmas.RowTextLengths.{pairs-short}
 use Rattle.tlv_value.proofs.TextLemmas.RowTextLengths.{text-short}
 use Rattle.tlv_value.proofs.value.write_undotted.Goals as goal
 
@@ -10,7 +11,8 @@ returns-in-Boolean c =
     let octets : List ℕ = c.args.contents.now in
     record {
       text = search rules;
-      within = length-grown c.args.held.now c.write_boolean.new.held (boolean_value octets).text 330 c.write_boolean.ensures
+      within =
+          length-grown c.args.held.now c.write_boolean.new.held (boolean_value octets).text 330 c.write_boolean.ensures
           (boolean-short octets (rw c.in-Boolean.is at c.requires.short));
     }
 
@@ -19,7 +21,8 @@ returns-in-Integer c =
     let octets : List ℕ = c.args.contents.now in
     record {
       text = search rules;
-      within = length-grown c.args.held.now c.write_integer.new.held (integer_value octets).text 330 c.write_integer.ensures
+      within =
+          length-grown c.args.held.now c.write_integer.new.held (integer_value octets).text 330 c.write_integer.ensures
           (integer-short octets (rw c.in-Integer.is at c.requires.short));
     }
 

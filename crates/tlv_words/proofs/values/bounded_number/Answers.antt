@@ -4,12 +4,14 @@ use Rattle.tlv_words.proofs.values.bounded_number.Goals as goal
 
 pub overflow_mul-number : goal.overflow_mul-number
 overflow_mul-number c =
-    let small = digits-below_limit c.loop-octet.number c.loop-octet.octet-index c.loop-octet.invariant.small (omega arith) in
+    let small =
+    digits-below_limit c.loop-octet.number c.loop-octet.octet-index c.loop-octet.invariant.small (omega arith) in
     search rules
 
 pub overflow_add-number : goal.overflow_add-number
 overflow_add-number c =
-    let small = digits-below_limit c.loop-octet.number c.loop-octet.octet-index c.loop-octet.invariant.small (omega arith) in
+    let small =
+    digits-below_limit c.loop-octet.number c.loop-octet.octet-index c.loop-octet.invariant.small (omega arith) in
     search rules
 
 pub loop-octet-preserved : goal.loop-octet-preserved

@@ -116,4 +116,5 @@ returns-else-not-contents_fit-clause-pushes c =
     refl
 
 pub returns-else-not-contents_fit-clause-whole : goal.returns-else-not-contents_fit-clause-whole
-returns-else-not-contents_fit-clause-whole c = λ h d n f. ap (λ g. Whole g) (completes_unique _ _ _ _ (returned-completes c) d)
+returns-else-not-contents_fit-clause-whole c =
+    λ h d n f. ap (λ g. Whole g) (completes_unique _ _ _ _ (returned-completes c) d)

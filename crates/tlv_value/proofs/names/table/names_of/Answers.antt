@@ -4,7 +4,8 @@ use Rattle.std.proofs.lemmas.Grind.{common_steps}
 use Rattle.std.proofs.lemmas.Result.{err_from_is_err_and}
 use Rattle.tlv_value.specs.Names.{names_line}
 use Rattle.tlv_value.specs.NamesFields.{texts_in}
-use Rattle.tlv_value.proofs.NamesLemmas.LinesSoFar.{LinesSoFar, lines-start, line-taken, line-refused_table, lines-all, next_line}
+use Rattle.tlv_value.proofs.NamesLemmas.LinesSoFar.{LinesSoFar, lines-start, line-taken, line-refused_table, lines-all}
+use Rattle.tlv_value.proofs.NamesLemmas.LinesSoFar.{next_line}
 use Rattle.tlv_value.proofs.names.table.names_of.Goals as goal
 
 pub loop-rest-init : goal.loop-rest-init

@@ -66,7 +66,8 @@ loop-rest-preserved c =
       | goal.else-len-part-lt64-via-else-len-part-lt64 w ↦ inl (omega arith)
     ] in
     let t =
-    row-filled_in_loop Utf8 c.len.result row m c.loop-rest.rest.now part more c.len.ensures.value c.split_at.ensures.front
+    row-filled_in_loop Utf8 c.len.result row m c.loop-rest.rest.now part more c.len.ensures.value
+    c.split_at.ensures.front
     c.split_at.ensures.back c.fitting_length.ensures.fits c.fitting_length.ensures.short
     c.fitting_length.ensures.within (omega arith) c.fitting_length.ensures.next claim in
     let none : c.is_full_row_utf8.new.row.items ≡ [] = c.is_full_row_utf8.ensures.row in

@@ -13,7 +13,8 @@ use Rattle.tlv_value.specs.ValueLines.{row_lines}
 use Rattle.tlv_value.specs.Value.{row_text}
 use Rattle.tlv_value.proofs.RowLemmas.FullRows.{splits-full_rows}
 use Rattle.tlv_value.proofs.RowLemmas.OneCut.{open-parts}
-use Rattle.tlv_value.proofs.RowLemmas.RowSteps.{row-kept_in_loop, kept-open, none-open, filled_row-some, row-filled_in_loop}
+use Rattle.tlv_value.proofs.RowLemmas.RowSteps.{row-kept_in_loop, kept-open, none-open, filled_row-some}
+use Rattle.tlv_value.proofs.RowLemmas.RowSteps.{row-filled_in_loop}
 use Rattle.tlv_value.proofs.value_lines.row_lines.put_rows.Goals.{else-begun-part-via-then-begun-part+else-is_empty}
 use Rattle.tlv_value.proofs.value_lines.row_lines.put_rows.Goals.{else-begun-part-via-else-begun-part}
 use Rattle.tlv_value.proofs.value_lines.row_lines.put_rows.Goals as goal
@@ -82,7 +83,9 @@ loop-rest-preserved g c =
     c.split_at.ensures.front c.split_at.ensures.back c.fitting_length.ensures.fits
     c.fitting_length.ensures.short
     c.fitting_length.ensures.within (omega arith) c.fitting_length.ensures.next claim in
-    let p = filled_row-some kind c.len-begun.result m c.loop-rest.rest.now (omega arith) c.fitting_length.ensures.next claim in
+    let p =
+    filled_row-some kind c.len-begun.result m c.loop-rest.rest.now (omega arith) c.fitting_length.ensures.next claim
+    in
     let none : c.put_full.new.row.items ≡ [] = c.put_full.ensures.row in
     let line : List ℕ = row_line c.args.layout c.loop-rest.row_count (row_text kind (row ++ part)) in
     record {
