@@ -33,26 +33,26 @@ reaches-open_holder p h inside f g =
     (within-le (place_of_children p h).bound _ _ (omega (arith, length-opening h)) g))
 
 -- a forest that keeps the rules ends within the bound
-pub open-within : (p : Place) (f : Forest) → Fits p 0 → KeepsRules p f → Fits p (length (spelling f))
-open-within p NoMore z w = z
-open-within p (PaddingOctet rest) z w =
+pub spelling-fits : (p : Place) (f : Forest) → Fits p 0 → KeepsRules p f → Fits p (length (spelling f))
+spelling-fits p NoMore z w = z
+spelling-fits p (PaddingOctet rest) z w =
     within-le p.bound _ _ (omega arith)
-    (open-within (place_after p 1) rest (within-le p.bound _ _ (omega arith) w.0.2) w.1)
-open-within p (Primitive h c rest) z w =
+    (spelling-fits (place_after p 1) rest (within-le p.bound _ _ (omega arith) w.0.2) w.1)
+spelling-fits p (Primitive h c rest) z w =
     within-le p.bound _ _ (omega (arith, length-primitive h c rest))
-    (open-within (place_after p (length (octets_of h) + length c)) rest (within-le p.bound _ _ (omega arith) w.0.0.fits)
+    (spelling-fits (place_after p (length (octets_of h) + length c)) rest (within-le p.bound _ _ (omega arith) w.0.0.fits)
     w.1)
-open-within p (Holder h inside rest) z w =
+spelling-fits p (Holder h inside rest) z w =
     within-le p.bound _ _ (omega (arith, length-holder h inside rest))
-    (open-within (place_after p (extent h inside)) rest (within-le p.bound _ _ (omega arith) w.0.0.fits) w.2)
-open-within p (OpenPrimitive h c) z w = within-le p.bound _ _ (omega (arith, length-append (octets_of h) c, w.1))
+    (spelling-fits (place_after p (extent h inside)) rest (within-le p.bound _ _ (omega arith) w.0.0.fits) w.2)
+spelling-fits p (OpenPrimitive h c) z w = within-le p.bound _ _ (omega (arith, length-append (octets_of h) c, w.1))
     w.0.fits
-open-within p (OpenHolder h inside) z w =
+spelling-fits p (OpenHolder h inside) z w =
     reaches-open_holder p h inside w.0.0.fits
-    (open-within (place_of_children p h) inside (fits-inside p h w.0.0.header.form w.0.0.fits) w.1)
-open-within p (OpenBitString h) z w = within-le p.bound _ _ (omega arith) w.0.fits
-open-within p (OpenHeader o) z w = w.2
-open-within p OpenEndOctets z w = w.1
+    (spelling-fits (place_of_children p h) inside (fits-inside p h w.0.0.header.form w.0.0.fits) w.1)
+spelling-fits p (OpenBitString h) z w = within-le p.bound _ _ (omega arith) w.0.fits
+spelling-fits p (OpenHeader o) z w = w.2
+spelling-fits p OpenEndOctets z w = w.1
 
 -- 8.1.3.2 a): the length of a primitive is definite
 definite-primitive : (constructed : Bool) (s : Size) → constructed ≡ false → AllowsSize constructed s
@@ -131,7 +131,7 @@ holder_so_far-spells p h g entry w = elim (cases_Bool (is_filled_by h g)) [
       rw e (holder-spells p h g entry w parts.0 (length-full h.size _ parts.1))
   | inr e ↦
       let there : Fits (place_of_children p h) (length (spelling g)) =
-      open-within (place_of_children p h) g (fits-inside p h entry.header.form entry.fits) w in
+      spelling-fits (place_of_children p h) g (fits-inside p h entry.header.form entry.fits) w in
       rw e (record { keeps_rules = ((entry, λ whole. unfilled-lacks p h g e whole there), w); spelled = refl })
 ]
 

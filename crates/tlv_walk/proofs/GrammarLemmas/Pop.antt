@@ -17,7 +17,7 @@ use Rattle.tlv_walk.proofs.GrammarLemmas.Spellings.{append_assoc-3, append_assoc
 use Rattle.tlv_walk.proofs.GrammarLemmas.Spellings.{length-primitive}
 use Rattle.tlv_walk.proofs.GrammarLemmas.PushSteps.{IsWholeHolder, IsWholePrimitive, Grown, Ended, holder_so_far}
 use Rattle.tlv_walk.proofs.GrammarLemmas.PushSteps.{push_after, is_filled_by, primitive_so_far, push, settle}
-use Rattle.tlv_walk.proofs.GrammarLemmas.OpenElements.{open-within, size-definite}
+use Rattle.tlv_walk.proofs.GrammarLemmas.OpenElements.{spelling-fits, size-definite}
 use Rattle.tlv_walk.proofs.GrammarLemmas.PopHeaders.{list-back, Popped, header-popped, holder_begun-popped, lead-popped}
 use Rattle.tlv_walk.proofs.GrammarLemmas.PopHeaders.{front-popped, is_nil, is_push}
 
@@ -96,7 +96,7 @@ lacks-before p h f g x entry w spelled =
     within-lacks h.size (p.offset + length (octets_of h)) p.bound (contents_length h f)
     (within-le (place_of_children p h).bound
     _ _ (omega (arith, ap length spelled, length-append (spelling f) (x ∷ []), length-opening h))
-    (open-within (place_of_children p h) g (fits-inside p h entry.header.form entry.fits) w))
+    (spelling-fits (place_of_children p h) g (fits-inside p h entry.header.form entry.fits) w))
 
 -- an element that holds octets is popped by the last of them, or by that of what comes before
 holder_so_far-popped : (p : Place) (h : HeaderValue) (inside g : Forest) → IsAnnouncedAt p true h

@@ -14,7 +14,7 @@ use Rattle.tlv_walk.specs.Private.Zipper.{AreLayers, AreWhole, Layer, frames_of,
 use Rattle.tlv_walk.specs.Stands.{is_end_at}
 use Rattle.tlv_walk.proofs.GrammarLemmas.Bounds.{HasAllContents, fits-inside, has_length, length-full}
 use Rattle.tlv_walk.proofs.GrammarLemmas.PushSteps.{Spells, is_filled_by}
-use Rattle.tlv_walk.proofs.GrammarLemmas.OpenElements.{holder-spells, open-within, unfilled-lacks}
+use Rattle.tlv_walk.proofs.GrammarLemmas.OpenElements.{holder-spells, spelling-fits, unfilled-lacks}
 use Rattle.tlv_walk.proofs.GrammarLemmas.Spellings.{length-opening}
 use Rattle.tlv_walk.proofs.WalkerLemmas.Zipper.{followed_by, open-followed_by, open-within, settled_forest}
 use Rattle.tlv_walk.proofs.WalkerLemmas.Zipper.{spelling-followed_by, spelling-within, whole-followed_by}
@@ -70,7 +70,7 @@ pub unfilled-room : (w : Framing) (l : Layer) (ls : List Layer) (f : Forest) →
 unfilled-room w l ls f a i e =
     let p : Place = place_after (place_in w ls) (length (spelling l.before)) in
     let there : Fits (place_of_children p l.header) (length (spelling f)) =
-    open-within (place_of_children p l.header) f (fits-inside p l.header a.2.header.form a.2.fits) i.keeps_rules in
+    spelling-fits (place_of_children p l.header) f (fits-inside p l.header a.2.header.form a.2.fits) i.keeps_rules in
     open-within w (l ∷ ls) f a i.keeps_rules (λ whole. unfilled-lacks p l.header f e whole there)
 
 -- they are open, and spell the octets of the layers and then their own

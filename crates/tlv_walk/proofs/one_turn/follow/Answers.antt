@@ -18,6 +18,7 @@ use Rattle.tlv_walk.proofs.one_turn.follow.Goals.{in-None+in-Some-constructed+in
 use Rattle.tlv_walk.proofs.one_turn.follow.Goals.{
   in-None+in-None-constructed+in-Some-contents_event+in_ok-go-in-Some-contents_event,
 }
+use Rattle.tlv_walk.proofs.one_turn.follow.Goals.{
   in-None+in-None-constructed+in-None-contents_event+in-Event+in_ok-go-in-Event,
 }
 use Rattle.tlv_walk.proofs.one_turn.follow.Goals as goal
