@@ -121,7 +121,7 @@ def messages_that_fail(part):
 
 
 def outputs_that_fill_up(part):
-    """A file that may not grow past some octets: it has the front of the output, and no more."""
+    """A file that may not grow past some octets: it has a prefix of the output, and no more."""
     whole = b"".join(JONES_LINES)
     for room in (0, 1, 7, 17, len(whole) - 1):
 

@@ -352,7 +352,7 @@ def hints(script):
 
 
 def cuts(script):
-    """Each front of an encoding: what is missing in all is reported, and so much is missing."""
+    """Each prefix of an encoding: what is missing in all is reported, and so much is missing."""
     part = script.part
     octets = element(0x30, b"\x02\x01\x05" + element(0x31, string(b"\x05" * 130) + NULL))
     wrong = []
@@ -361,7 +361,7 @@ def cuts(script):
         stated = re.findall(r"Missing in all: (\d+) octets?\.", out)
         if status != 2 or stated != [str(len(octets) - size)]:
             wrong += [f"{size}: {status}, {out}"]
-    part.expect("fronts of an encoding", not wrong, *wrong)
+    part.expect("prefixes of an encoding", not wrong, *wrong)
 
 
 def made(script):

@@ -12,7 +12,7 @@ use Rattle.hex.proofs.HexLemmas.{length-encode_with}
 use Rattle.itoa.proofs.Decimal.{length_one, length_step_wide}
 use Rattle.tlv_io.specs.LineTexts.{at_right, spaced_pairs, spaces}
 
--- ---- texts that were length-added
+-- ---- texts that were added
 
 -- the first columns of a line, one after the other
 pub columns_added : (old one two three new first second : List ℕ) → one ≡ old ++ first → two ≡ one ++ 32 ∷ []

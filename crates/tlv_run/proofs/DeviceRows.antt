@@ -236,7 +236,7 @@ unfinished-2 =
     to-failure plain_dump unfinished unfinished_result refl refl refl unfinished-made 28 refl
     (open-yet plain_dump unfinished unfinished_result never-enough (λ final. final.1 refl))
 
--- contents that end past the bound: the fifth octet is not looked at
+-- contents that end beyond the bound: the fifth octet is not looked at
 abbrev overrun : List ℕ
 overrun = octets "30 03 02 02 01"
 

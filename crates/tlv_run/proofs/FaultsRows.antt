@@ -19,7 +19,7 @@ row-1 : result (dump Ber None false plain_framing) []
 unfolding digits encode_with is_utf8 chars encode
 row-1 = refl
 
--- contents that end past the bound
+-- contents that end beyond the bound
 row-2 : result (dump Ber None false plain_framing) (octets "30 03 02 02 01")
     ≡ fault_result 0 Overrun 3 "fault at 3: F11 element runs past the enclosing length" (lines (
     "       0      3: SEQUENCE {" ∷ []))
@@ -33,7 +33,7 @@ row-3 : result (dump Ber None false plain_framing) (octets "30 01 02")
 unfolding digits encode_with is_utf8 chars encode
 row-3 = refl
 
--- a header that ends past the bound
+-- a header that ends beyond the bound
 row-4 : result (dump Ber None false plain_framing) (octets "30 01 02 00")
     ≡ fault_result 0 Overrun 3 "fault at 3: F11 element runs past the enclosing length" (lines (
     "       0      1: SEQUENCE {" ∷ []))

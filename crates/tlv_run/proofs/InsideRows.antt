@@ -53,7 +53,7 @@ row-5 : result (dump Ber None false (framing_of (0 ∷ []) false)) (octets "04 0
 unfolding digits encode_with is_utf8 chars encode
 row-5 = refl
 
--- an element that runs past a string
+-- an element that ends beyond a string
 row-6 : result (dump Ber None false (framing_of (0 ∷ []) false)) (octets "04 03 02 02 05")
     ≡ fault_result 0 Overrun 3 "fault at 3: F11 element runs past the enclosing length" (lines (
     "       0      3: OCTET STRING wraps {" ∷ []))

@@ -21,7 +21,7 @@ module _ {S D : Type 0} (state_of : D → DrainState) (made : Effect S) (old new
     pub goes : IfOk result (λ go. go ≡ made.goes)
 
   -- a call returns whether it has this effect. If it has, the follower wants more; if not, nothing is put and the state
-  -- stays the same. If a write fails, the call had the effect up to that write
+  -- stays the same. If a write fails, a prefix of the octets of the effect was put; of the state nothing is said
   abbrev pub HasEffectOrNone : S → S → Result Bool WriteFault → Type 0
   HasEffectOrNone before after (Ok true) = HasEffect {T = Bool} after (Ok true) × (made.goes ≡ go.On)
   HasEffectOrNone before after (Ok false) =

@@ -213,7 +213,7 @@ fn follow_primitive<F: Follow, D: Drain>(
     Ok(false)
 }
 
-/// Follows a primitive that the walker found at the front of the piece, if the follower takes it at once. Returns
+/// Follows a primitive with which, as the walker found, the piece begins, if the follower takes it at once. Returns
 /// whether it was followed; otherwise nothing is taken.
 #[inline(always)]
 fn follow_found<F: Follow, D: Drain>(

@@ -70,7 +70,7 @@ impl Stack {
         }
     }
 
-    /// How many elements are open.
+    /// How many elements that hold others are open.
     #[inline(always)]
     pub fn len(&self) -> u8
         ensures count { result ≡ length self.now }

@@ -183,7 +183,7 @@ impl Walker {
         })
     }
 
-    /// Takes octets from the front of `piece`, up to the next event. The octets taken and those of the
+    /// Takes octets with which `piece` begins, up to the next event. The octets taken and those of the
     /// piece are together at most 2^40.
     ///
     /// Returns `NeedMore` only if the whole piece was taken and no event waits. After a fault each step returns
@@ -197,7 +197,7 @@ impl Walker {
         self.next_step(piece)
     }
 
-    /// Takes octets from the front of the piece, up to the next event, by what they belong to.
+    /// Takes octets with which the piece begins, up to the next event, by what they belong to.
     fn next_step<'a>(&mut self, piece: &mut &'a [u8]) -> Step<'a>
         requires { IsWithinInputLimit self.old piece.old.now }
         ensures steps { Steps self.old self.new piece.old.now piece.new.now result }

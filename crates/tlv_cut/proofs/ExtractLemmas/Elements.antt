@@ -212,7 +212,7 @@ module _ (n : ℕ) (only : Bool) where
   there_whole (Some d) e is w = w
   there_whole None e is w = absurd (cc (is))
 
-  -- once there was enough-ends_all, nothing is made of more events
+  -- once there was enough, nothing is made of more events
   enough-ends_all : (es fs : List EventValue) (octets : List ℕ) → made_from before es ≡ finish_step octets
       → made_from before (es ++ fs) ≡ finish_step octets
   enough-ends_all es fs octets e =

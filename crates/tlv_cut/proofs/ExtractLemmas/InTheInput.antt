@@ -77,7 +77,7 @@ module _ (n : ℕ) where
     pub parts : octets_so_far e
         ≡ octets_of header ++ (contents_so_far e ++ (if is_whole e then end_octets header.size else []))
 
-  -- it is the found-here of the forest
+  -- it is the first of the forest
   found-here : (p : Place) (k : Bool) (h : HeaderValue) (f e : Forest) (rest : List ℕ) → IsHeaderAt p k h
       → (h.offset == n) ≡ true → spelling f ≡ octets_so_far e ++ rest
       → octets_so_far e ≡ octets_of h ++ (contents_so_far e ++ (if is_whole e then end_octets h.size else []))
@@ -118,7 +118,7 @@ module _ (n : ℕ) where
   found-by_test p f true d b e x y is = let same : d ≡ e = cc in subst (IsFoundIn p f) same (x refl)
   found-by_test p f false d b e x y is = y refl is
 
-  -- the found-here that is there
+  -- the first that is there
   first_there : (p : Place) (f : Forest) (a b : Option Forest) (e : Forest) → (a ≡ Some e → IsFoundIn p f e)
       → (b ≡ Some e → IsFoundIn p f e)
       → option_or a b ≡ Some e → IsFoundIn p f e

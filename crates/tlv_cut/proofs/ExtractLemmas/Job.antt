@@ -38,7 +38,7 @@ module _ (framing : Framing) (n : ℕ) (only : Bool) (t : ExtractState) (old new
       → (made_from (new_extract n only) (events f)).put ≡ extract_text n only f
   text octets f few r = (made_text octets f r).put
 
-  -- there was enough-if_whole exactly if the element is whole
+  -- there was enough exactly if the element is whole
   enough-if_whole : (octets : List ℕ) (f : Forest) → length octets ≤ 2 ^ 40 → IsReading framing octets f
       → had_enough (made_from (new_extract n only) (events f)).goes ≡ has_whole_element_at n f
   enough-if_whole octets f few r = ap had_enough (made_text octets f r).goes ∙ jobs.had-goes (has_whole_element_at n f)

@@ -13,7 +13,7 @@ use Rattle.tlv_walk.specs.Place.{top_place}
 use Rattle.tlv_walk.specs.Reading.{IsPrefixOf, IsReading}
 use Rattle.tlv_walk.proofs.FollowerLemmas.FollowedEvents.{each_octet-goes_on, each_octet-joins, followed-alike}
 use Rattle.tlv_walk.proofs.FollowerLemmas.FollowedEvents.{followed-append}
-use Rattle.tlv_walk.proofs.FollowerLemmas.FollowedEvents.{followed-enough, followed-front}
+use Rattle.tlv_walk.proofs.FollowerLemmas.FollowedEvents.{followed-enough, followed-prefix}
 use Rattle.tlv_walk.proofs.EventLemmas.LongerInputs.{events-prefix}
 use Rattle.tlv_cut.specs.declared.extract_follower.Position.{Position}
 use Rattle.tlv_cut.specs.declared.extract_follower.Position.TheVariants as position
@@ -96,7 +96,7 @@ module _ (framing : Framing) (b c : List ℕ) (f g : Forest) (r : IsReading fram
   later_events : (es : List EventValue) × AreEqualJoined (events g) (events f ++ es)
   later_events = events-prefix framing b c f g r s
 
-  -- after them the whole-same is made as of the events of the longer input
+  -- after them the same is made as of the events of the longer input
   longer : made_from (new_extract n only) (events g) ≡ made_from (new_extract n only) (events f ++ later_events.0)
   longer =
       followed-alike extract_step (each_octet-joins extract_octet_step) (λ s. refl)
@@ -112,7 +112,7 @@ module _ (framing : Framing) (b c : List ℕ) (f g : Forest) (r : IsReading fram
 
   pub extract_text_goes_on : IsPrefixOf (extract_text n only f) (extract_text n only g)
   extract_text_goes_on =
-      let front = followed-front extract_step (new_extract n only) (events f) later_events.0 in (
+      let front = followed-prefix extract_step (new_extract n only) (events f) later_events.0 in (
         front.0,
         sym (sym longer_text.put ∙ ap (λ (t : Effect ExtractState). t.put) longer ∙ front.1
             ∙ ap (λ (l : List ℕ). l ++ front.0) shorter_text.put),

@@ -137,11 +137,11 @@ constructed_header p q h k v =
       form = ap (λ (c : Bool). c || is_wrapper h.named h.class c h.number Indefinite) constructed;
     }
 
--- the offsets of what an element holds do not move what offsets-rest_open the element
-offsets-rest_open : (q : Place) (h : HeaderValue) (offset : ℕ) (inside rest : Forest)
+-- the offsets of what an element holds do not move what follows the element
+offsets-rest_keeps_rules : (q : Place) (h : HeaderValue) (offset : ℕ) (inside rest : Forest)
     → KeepsRules (place_after q (extent (heading_at q h) inside)) rest
     → KeepsRules (place_after q (extent (heading_at q h) (with_offsets_from offset inside))) rest
-offsets-rest_open q h offset inside rest v =
+offsets-rest_keeps_rules q h offset inside rest v =
     subst (λ (l : List ℕ). KeepsRules (place_after q (length (opening (heading_at q h)) + (length l + 2))) rest)
     (sym (spelling-with_offsets_from offset inside)) v
 
@@ -198,7 +198,7 @@ keeps_rules p q (Holder h inside rest) k v =
         tt,
       ),
       keeps_rules (place_of_children p h) (place_of_children q header) inside (free_inside p q h header refl k) v.1,
-      offsets-rest_open q h offset (with_indefinite_lengths inside)
+      offsets-rest_keeps_rules q h offset (with_indefinite_lengths inside)
           (with_offsets_from (q.offset + n) (with_indefinite_lengths rest))
           (keeps_rules (place_after p (extent h inside)) (place_after q n) rest (free_after p q
           (extent h inside) n k) v.2),

@@ -18,7 +18,7 @@ use Rattle.tlv_head.proofs.GrammarLemmas.Scan.{same-header}
 use Rattle.tlv_head.proofs.GrammarLemmas.Meaning.{IsHighState, IsLongState, IsStateAfter, reads-step, reads-scan}
 use Rattle.tlv_head.proofs.GrammarLemmas.Meaning.{prefix-from_more, prefix-bytes}
 
--- if two lists are prefixes-nest of one list, one of the two is a prefix of the other
+-- if two lists are prefixes of one list, one of the two is a prefix of the other
 pub prefixes-nest : (a b x y : List ℕ) → a ++ x ≡ b ++ y
     → ((z : List ℕ) × (a ++ z ≡ b) × (x ≡ z ++ y)) ⊎ ((z : List ℕ) × (b ++ z ≡ a) × (y ≡ z ++ x))
 prefixes-nest [] b x y e = inl (b, refl, e)

@@ -57,7 +57,7 @@ octets_are s h o c same size begins ends =
     ap (λ (l : List ℕ). effect_of dump_step s (Begin h ∷ Bytes l ∷ End ∷ [])) (sym same)
     ∙ whole_is s h c size begins ends
 
--- if a finder passes-if_taken the primitive
+-- if a finder took the primitive
 passes-if_taken : (old new : FinderState) (h : HeaderValue) (c : List ℕ) (x : Bool) → x ≡ true
     → PassesOrStays old new h c x
     → PassesPrimitive old new h c

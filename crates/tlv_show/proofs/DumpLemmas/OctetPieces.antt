@@ -20,7 +20,7 @@ use Rattle.tlv_show.proofs.SaturatingSums.{sum-more, sum-none}
 take-none : (xs : List ℕ) → take 0 xs ≡ []
 take-none xs = grind (arith, common_steps)
 
--- the front of two pieces, if no more than n octets count
+-- the first n octets of two pieces, one after the other
 pub take-both : (n : ℕ) (x y : List ℕ) → take n (x ++ y) ≡ take n x ++ take (n - length (take n x)) y
 take-both zero x y = take-none (x ++ y) ∙ sym (ap₂ (λ (a b : List ℕ). a ++ b) (take-none x) (take-none y))
 take-both (suc n) [] y = let e : suc n ≡ suc n - 0 = omega arith in ap (λ (k : ℕ). take k y) e

@@ -279,6 +279,6 @@ pub check-shows : (rules : Rules) (framing : Framing)
     → Shower check_step (new_check rules) rules framing check_line (λ (s : CheckState). s.finding_count)
 check-shows rules framing = record {
   goes_on = all_on;
-  put = λ octets f findings-within r. text-made rules framing octets f findings-within r;
-  counts = λ octets f findings-within r. count-made rules framing octets f findings-within r;
+  put = λ octets f few r. text-made rules framing octets f few r;
+  counts = λ octets f few r. count-made rules framing octets f few r;
 }

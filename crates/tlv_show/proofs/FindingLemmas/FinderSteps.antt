@@ -60,7 +60,7 @@ run-more s (x ∷ xs) ys =
 
 -- ---- contents
 
--- all contents octets of a run-primitive
+-- all contents octets of a primitive
 abbrev with_check : CheckState → ℕ → ValueCheckState → CheckState
 with_check s offset t = record s { open_primitive = Some (record { offset = offset; check = t }) }
 
@@ -82,9 +82,9 @@ contents_findings-at_end rules h c e =
     none
     ∙ ap (filter (is_shown rules)) (findings-end h c e)
 
--- ---- a run-primitive at once
+-- ---- a primitive at once
 
--- what a finder makes of a run-primitive
+-- what a finder makes of a primitive
 pub primitive-found : (s : CheckState) (h : HeaderValue) (c : List ℕ) → length c ≡ announced_length h.size
     → (u : CheckState) × (u.open_primitive ≡ None)
     × (finder_end_step (finder_bytes_step (finder_begin_step s h).kept c) ≡ record {
@@ -192,7 +192,7 @@ module _ (rules : Rules) where
       (offset-under rules p w h inside v whole (finding_items (length outer)) (λ offset. refl))
       (after-under w h inside)
 
-  -- ---- a run-primitive
+  -- ---- a primitive
 
   abbrev pub after_primitive : HolderFrame → HeaderValue → List ℕ → HolderFrame
   after_primitive w h c =

@@ -1,6 +1,7 @@
 //! What a walk over memory writes of each row, in whatever pieces its input comes.
-use super::rows::Row;
+use super::rows::{ENCODINGS, Row, WRAPPED};
 use super::{ONES, ROOM, ReadPlan, WHOLE, expect_row, tables, text_of};
+use crate::expect::expect_eq_of;
 use std::alloc::Global;
 use std::process::Abort;
 use std::test::Fail;
@@ -47,4 +48,34 @@ fn rows_have_their_lines_in_whatever_pieces(rt: HostRuntime) -> Result<(), Fail>
         expect_each_in_pieces(&rt, rt.alloc(), rows)?;
     }
     Ok(())
+}
+
+/// Expects the row's lines to be these, which are written by hand.
+fn expect_lines(rt: &impl Abort, alloc: Global, row: &Row<'_>, lines: &str) -> Result<(), Fail> {
+    let text = text_of(rt, alloc, row, row.input.len())?;
+    expect_eq_of(rt, row.name, text.as_slice(), lines.as_bytes());
+    Ok(())
+}
+
+/// Three rows have each kind of line.
+#[test]
+fn lines_are_as_written_by_hand(rt: HostRuntime) -> Result<(), Fail> {
+    expect_lines(
+        &rt,
+        rt.alloc(),
+        &ENCODINGS[2],
+        "open 0000 3a 80\nbegin 0002 04 03\n 4a 6f 6e end\nbegin 0007 04 02\n 65 73 end\nclose 0011\n",
+    )?;
+    expect_lines(
+        &rt,
+        rt.alloc(),
+        &ENCODINGS[5],
+        "pad\npad\nbegin 0002 05 00\n end\npad\npad\nbegin 0006 05 00\n end\npad\n",
+    )?;
+    expect_lines(
+        &rt,
+        rt.alloc(),
+        &WRAPPED[2],
+        "enter 0000 03 04\nunused\nbegin 0003 02 01\n 05 end\nleave\n",
+    )
 }

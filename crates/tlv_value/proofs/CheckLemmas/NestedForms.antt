@@ -83,7 +83,7 @@ within-or {f} {g} {h} {k} v w = record {
       (w.leaves test octets) (sym (list_any-append test (f octets) (g octets)) ∙ e);
 }
 
--- three parts may be put then-assoc in either order
+-- three parts may be put together in either order
 then-assoc :
     (test : List ℕ → Bool) (f g h : Form) (octets : List ℕ)
     → list_any test (((f then g) then h) octets) ≡ list_any test ((f then (g then h)) octets)
@@ -136,7 +136,7 @@ within-two_digits low high more le = record { leaves = leave }
         if-within test (at_least && nat_le n high) (at_least && nat_le n more) (rest ∷ [])
         (and-last at_least (nat_le n high) (nat_le n more) (greater n)) h
 
--- test-passed may be no digits: then all is left
+-- there may be no digits: then all is left
 no-digits : (test : List ℕ → Bool) (octets : List ℕ) → list_any test (octets ∷ []) ≡ true
     → list_any test (digits octets) ≡ true
 no-digits test [] h = h

@@ -31,7 +31,7 @@ abbrev pub judgement : List NamesLine → List NamesLine → Result NamesValue N
 judgement above below =
     option_map_or Err (first_refusal above below) (Ok (finite.from_entries (entries_of (above ++ below))))
 
--- so many lines are read, none is line-refusal, and these are their entries
+-- so many lines are read, none is refused, and these are their entries
 pub record LinesSoFar (octets rest : List ℕ) (number : ℕ) (es : List Entry) : Type 0 where
   above : List NamesLine
   same : names_of octets ≡ judgement above (map names_line (file_lines rest))
@@ -140,7 +140,7 @@ line-refusal octets rest below number es line fault s e h =
 same-fault : {T : Type 0} (a b : NamesFault) → IsErrOf {T = T} (Err a) b → a ≡ b
 same-fault a b e = cc
 
--- the line is line-refusal
+-- the line is refused
 pub line-refused_table : (Z T : Type 0) (octets rest below : List ℕ) (number : ℕ) (es new : List Entry)
     (fault : NamesFault)
     (line : NamesLine) (s : LinesSoFar octets rest number es)

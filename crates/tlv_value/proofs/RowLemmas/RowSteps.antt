@@ -94,7 +94,7 @@ module _ (kind : Kind) where
       rw (r, e)
       (t.0 ∙ ap (λ (y : List ℕ). y ∷ rows_filled kind [] (drop m xs)) (append_assoc row (x ∷ []) (take m xs)), t.1)
 
-  -- a row is part-fills_row: it is put, and the next begins
+  -- a row is filled: it is put, and the next begins
   pub next_row : (row : List ℕ) (m : ℕ) (rest : List ℕ) → HaveRoom kind (length row) rest m
       → length row + m ≤ row_size kind → m ≤ length rest → length row < row_size kind
       → FillsRow row m rest → CompletesRow row m rest
@@ -125,7 +125,7 @@ module _ (kind : Kind) where
   part-fills_row row m rest (inl e) next = inl e
   part-fills_row row m rest (inr h) next = inr (h, next h)
 
-  -- a row is part-fills_row, as the loop has it
+  -- a row is filled, as the loop has it
   pub row-filled_in_loop : (n : ℕ) (row : List ℕ) (m : ℕ) (rest part more : List ℕ) → n ≡ length row → part
       ≡ take m rest
       → more ≡ drop m rest
@@ -150,7 +150,7 @@ module _ (kind : Kind) where
       let t = rest-stays_in_row row rest r (omega arith) in
       (t.0, t.1 ∙ ap (λ (x : List ℕ). row ++ x) (sym all))
 
-  -- a row that is part-fills_row has octets
+  -- a row that is filled has octets
   pub filled_row-some : (n m : ℕ) (rest : List ℕ) → n < row_size kind
       → (m < length rest → has_room kind (n + m) (get_or rest m 0) ≡ false)
       → (n + m ≡ row_size kind) ⊎ (m < length rest) → 1 ≤ n + m

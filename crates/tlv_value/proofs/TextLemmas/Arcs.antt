@@ -229,7 +229,7 @@ one-more n x v i e h = let p : 128 ^ (i + 1) ≡ 128 ^ i * 128 = pow-add 128 i 1
 pub none-yet : (i : ℕ) → 0 < 128 ^ i
 none-yet i = one-le-pow i 128 (omega arith)
 
--- how decimal-within the text is at most
+-- how long the text is at most
 
 decimal-within : (v k : ℕ) → v < 2 ^ 128 → v < 10 ^ k → 1 ≤ k → length (decimal v) ≤ k
 decimal-within v k h g s = length-decimal-le_wide k v s g (omega arith)

@@ -1,4 +1,4 @@
--- How long what is length-added to a line is at most.
+-- How long what is added to a line is at most.
 use Rattle.std.proofs.Common.{◌≡◌, ℕ, ◌+◌, ◌-◌, ◌^◌, ◌<◌, ◌≤◌, List, [], ◌∷◌, ◌++◌, length, take, arith}
 use Rattle.std.proofs.Common.{length-append}
 use Rattle.std.specs.Prelude.{decimal}
@@ -7,11 +7,11 @@ use Rattle.std.proofs.lemmas.List.{length-replicate, length-take}
 use Rattle.tlv_value.specs.Layout.{columns, at_right, spaces}
 use Rattle.tlv_io.proofs.HeldTexts.{length-added, right-short}
 
--- the first octets of a text were length-added
+-- the first octets of a text were added
 pub prefix_short : (old new text : List ℕ) (n : ℕ) → new ≡ old ++ take n text → length new ≤ length old + n
 prefix_short old new text n e = omega (arith, length-added old new (take n text) e, length-take n text)
 
--- a number was length-added
+-- a number was added
 pub number_short : (old new : List ℕ) (n : ℕ) → n < 2 ^ 64 → new ≡ old ++ decimal n → length new ≤ length old + 20
 number_short old new n fits e =
     omega (arith, length-added old new (decimal n) e, length-decimal-le 20 n (omega arith) (omega arith) fits)

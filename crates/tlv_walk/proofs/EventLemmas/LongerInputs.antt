@@ -6,7 +6,7 @@ use Rattle.tlv_walk.specs.Forest.{Forest, spelling}
 use Rattle.tlv_walk.specs.Place.{KeepsRules, Place, top_place}
 use Rattle.tlv_walk.specs.Reading.{IsReading}
 use Rattle.tlv_walk.specs.Events.{AreEqualJoined, EventValue, events, single_octets}
-use Rattle.tlv_walk.proofs.GrammarLemmas.Spellings.{front-of}
+use Rattle.tlv_walk.proofs.GrammarLemmas.Spellings.{prefix-of}
 use Rattle.tlv_walk.proofs.GrammarLemmas.PushSteps.{Grown}
 use Rattle.tlv_walk.proofs.GrammarLemmas.PopHeaders.{list-back, is_nil, is_push}
 use Rattle.tlv_walk.proofs.GrammarLemmas.Readings.{PoppedBy, popped-by, spelling-unique}
@@ -61,7 +61,7 @@ pub reading-goes_on : (w : Framing) (b c : List ℕ) (f g : Forest) → IsReadin
 reading-goes_on w b c f g r s =
     let front : spelling f ++ (r.is_prefix.0 ++ c) ≡ b ++ c =
     sym (append_assoc (spelling f) r.is_prefix.0 c) ∙ ap (λ (t : List ℕ). t ++ c) r.is_prefix.1 in
-    front-of (spelling f) (spelling g) (r.is_prefix.0 ++ c) s.is_prefix.0 (front ∙ sym s.is_prefix.1)
+    prefix-of (spelling f) (spelling g) (r.is_prefix.0 ++ c) s.is_prefix.0 (front ∙ sym s.is_prefix.1)
     (s.longest f r.keeps_rules (r.is_prefix.0 ++ c, front))
 
 -- the events of a longer input begin, joined, with those of the shorter

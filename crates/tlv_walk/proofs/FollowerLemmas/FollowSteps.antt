@@ -81,7 +81,7 @@ refused_there w u v piece rest left f more x o yielded st (inl r) =
 refused_there w u v piece rest left f more x o yielded st (inr r) =
     absurd (never_refused u (o ++ x.taken) (yielded ++ more) f st r.refused)
 
--- what a walker yielded of the front of octets, others follow
+-- after what a walker yielded of a prefix of octets, others follow
 yielded_prefix : (w v : WalkerState) (b piece rest : List ℕ) (yielded more : List EventValue) (f : Forest)
     → WalksOver w v piece rest more → Stands w b yielded → IsReading w.framing (b ++ piece) f
     → (others : List EventValue) × AreEqualJoined (yielded ++ (more ++ others)) (events f)

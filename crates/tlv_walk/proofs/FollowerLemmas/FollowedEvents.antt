@@ -20,13 +20,13 @@ module _ {S : Type 0} where
       let last = g middle.state in
       ap (λ (l : List ℕ). record last { put = l }) (append_assoc t.put middle.put last.put)
 
-  -- nothing effect-after_one, and nothing before
+  -- nothing after, and nothing before
   pub and_then-stay : (t : Effect S) → t.goes ≡ On → and_then t no_effect ≡ t
   and_then-stay t e =
       ap (λ (g : Go). record { state = t.state; put = t.put ++ []; goes = g }) (sym e)
       ∙ ap (λ (l : List ℕ). record { state = t.state; put = l; goes = t.goes }) (append-nil t.put)
 
-  -- what comes effect-after_one may be another that makes the same
+  -- what comes after may be another that makes the same
   pub and_then-alike : (t : Effect S) (f g : S → Effect S) → f t.state ≡ g t.state → and_then t f ≡ and_then t g
   unfolding put_before
   and_then-alike t f g e = ap (put_before t.put) e
@@ -63,7 +63,7 @@ module _ {S : Type 0} (next : S → EventValue → Effect S) where
       (followed-append t.state xs ys)
       ∙ effect_if_more-assoc t.goes t (λ u. effect_of next u xs) (λ v. effect_of next v ys) refl
 
-  -- if it wanted more, others come effect-after_one
+  -- if it wanted more, others come after
   pub followed-more : (s : S) (xs ys : List EventValue) → (effect_of next s xs).goes ≡ On
       → effect_of next s (xs ++ ys) ≡ and_then (effect_of next s xs) (λ u. effect_of next u ys)
   followed-more s xs ys e =
@@ -75,18 +75,18 @@ module _ {S : Type 0} (next : S → EventValue → Effect S) where
   followed-enough s xs ys e =
       followed-append s xs ys ∙ ap (λ (go : Go). effect_if_more go (effect_of next s xs) (λ u. effect_of next u ys)) e
 
-  -- what some events put is the front of what these and others put
-  pub followed-front : (s : S) (xs ys : List EventValue)
+  -- what some events put is a prefix of what these and others put
+  pub followed-prefix : (s : S) (xs ys : List EventValue)
       → (more : List ℕ) × ((effect_of next s (xs ++ ys)).put ≡ (effect_of next s xs).put ++ more)
-  followed-front s xs ys =
+  followed-prefix s xs ys =
       let t = effect_of next s xs in
-      let front = if_front t.goes t (λ u. effect_of next u ys) in
+      let front = if_prefix t.goes t (λ u. effect_of next u ys) in
       (front.0, ap (λ (u : Effect S). u.put) (followed-append s xs ys) ∙ front.1)
     where
-      if_front : (go : Go) (t : Effect S) (f : S → Effect S)
+      if_prefix : (go : Go) (t : Effect S) (f : S → Effect S)
           → (more : List ℕ) × ((effect_if_more go t f).put ≡ t.put ++ more)
-      if_front On t f = ((f t.state).put, refl)
-      if_front Enough t f = ([], sym (append-nil t.put))
+      if_prefix On t f = ((f t.state).put, refl)
+      if_prefix Enough t f = ([], sym (append-nil t.put))
 
   -- one event more
   pub followed-one : (s : S) (e : EventValue) → effect_of next s (e ∷ []) ≡ next s e
@@ -98,7 +98,7 @@ module _ {S : Type 0} (next : S → EventValue → Effect S) where
 
   -- ---- the events up to the first at which it has enough
 
-  -- if it wanted more effect-after_one some events, they are followed, and others effect-after_one them
+  -- if it wanted more after some events, they are followed, and others after them
   pub events_more : (s : S) (xs ys : List EventValue) → (effect_of next s xs).goes ≡ On
       → followed_events next s (xs ++ ys) ≡ xs ++ followed_events next (effect_of next s xs).state ys
   events_more s [] ys h = refl
@@ -123,7 +123,7 @@ module _ {S : Type 0} (next : S → EventValue → Effect S) where
       by On = refl
       by Enough = refl
 
-  -- if it had enough, none effect-after_one them
+  -- if it had enough, none after them
   pub events_enough : (s : S) (xs ys : List EventValue) → (effect_of next s xs).goes ≡ Enough
       → followed_events next s (xs ++ ys) ≡ followed_events next s xs
   events_enough s [] ys h = absurd (cc (h))
@@ -139,7 +139,7 @@ module _ {S : Type 0} (next : S → EventValue → Effect S) where
       by step On k h = ap (λ (l : List EventValue). e ∷ l) (step h)
       by step Enough k h = refl
 
-  -- events effect-after_one one event may be others that are followed alike
+  -- events after one event may be others that are followed alike
   effect-after_one : (s : S) (e : EventValue) (es fs : List EventValue) → ((u : S) → effect_of next u es
       ≡ effect_of next u fs)
       → effect_of next s (e ∷ es) ≡ effect_of next s (e ∷ fs)
@@ -222,10 +222,10 @@ module _ {S : Type 0} (next : S → EventValue → Effect S)
       → effect_of next s es ≡ effect_of next s fs
   followed-alike s es fs e = sym (followed-joined s es) ∙ ap (effect_of next s) e ∙ followed-joined s fs
 
--- ---- of the events that are followed, what is parts-put of each
+-- ---- of the events that are followed, what is kept of each
 
 module _ {S : Type 0} (next : S → EventValue → Effect S) (part : EventValue → List ℕ) where
-  -- a follower that puts what is parts-put
+  -- a follower that puts what is kept
   abbrev part_step : S → EventValue → Effect S
   part_step s e = record { state = (next s e).state; put = part e; goes = (next s e).goes }
 
@@ -261,7 +261,7 @@ module _ {S : Type 0} (next : S → EventValue → Effect S)
     (bytes : (x y : List ℕ) → part (Bytes (x ++ y)) ≡ part (Bytes x) ++ part (Bytes y))
     (no_bytes : part (Bytes []) ≡ [])
     (pads : (x y : List ℕ) → part (Pad (x ++ y)) ≡ part (Pad x) ++ part (Pad y)) (no_pads : part (Pad []) ≡ []) where
-  -- of events that are equal joined the same is parts-put
+  -- of events that are equal joined the same is kept
   pub kept-alike : (s : S) (es fs : List EventValue) → AreEqualJoined es fs
       → flat_map part (followed_events next s es) ≡ flat_map part (followed_events next s fs)
   kept-alike s es fs e =

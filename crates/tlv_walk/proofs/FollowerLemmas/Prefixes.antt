@@ -28,7 +28,7 @@ use Rattle.tlv_walk.proofs.WalkerLemmas.Passing.{walker_after_primitive, yields_
 use Rattle.tlv_io.proofs.Puts.{puts_as, puts_failed_last, puts_then_as}
 use Rattle.tlv_walk.proofs.WalkerLemmas.StepStands.{stands_all}
 
--- a primitive that lies whole at the front of a piece
+-- a primitive, all of it, with which a piece begins
 pub walked_primitive : (w : WalkerState) (piece : List ℕ) (p : WholePrimitive) → CanPass w piece p
     → WalksOver w (walker_after_primitive w p 0) piece (drop p.octet_count piece)
     (whole_events (header_at p piece) (take p.octet_count piece))
@@ -94,7 +94,7 @@ module _ {S : Type 0} (next : S → EventValue → Effect S) where
     effect_none made a b before after false e x = x
     effect_none made a b before after true e x = absurd (true≢false e)
 
-    -- a primitive that lies whole at the front of a piece was followed
+    -- a primitive, all of it, with which a piece begins was followed
     pub prefix_whole : (x y : FollowStates S D) (piece rest : List ℕ) (p : WholePrimitive) (h : HeaderValue) (r : Bool)
         → h ≡ header_at p piece → r ≡ true
         → HasEffectOrNone state_of (whole_effect next x.follower h (take p.octet_count piece))

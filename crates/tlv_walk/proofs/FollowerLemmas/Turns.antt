@@ -31,14 +31,14 @@ use Rattle.tlv_walk.specs.HasRead.{IfAtEnd, took_all}
 use Rattle.tlv_walk.specs.OneTurn.{EndsIn, HasEnoughIn, StandsAfter, TurnStates, TurnsTo, at_enough, at_fault}
 use Rattle.tlv_walk.specs.OneTurn.{at_input_end}
 use Rattle.tlv_walk.proofs.GrammarLemmas.Finals.{refused-final}
-use Rattle.tlv_walk.proofs.FollowerLemmas.FollowedEvents.{followed-front}
+use Rattle.tlv_walk.proofs.FollowerLemmas.FollowedEvents.{followed-prefix}
 use Rattle.tlv_io.proofs.Sends.{sends_err, sends_ok}
 use Rattle.tlv_walk.proofs.GrammarLemmas.Readings.{reading-longer}
 use Rattle.tlv_walk.proofs.FollowerLemmas.WalkSoFar.{limit_after}
 use Rattle.tlv_walk.proofs.FollowerLemmas.Pauses.{stands_spelled, walked_refused}
 use Rattle.tlv_walk.proofs.FollowerLemmas.TurnEnds.{enough_ends, fault_ends, used_up_ends, used_up_on}
 
--- of n octets at the front of a piece as given-length as the limit leaves
+-- of n octets with which a piece begins, as many as the limit leaves
 taken_within : (limit offset n : ℕ) (p : List ℕ) → take (min (limit - offset) n) p ≡ take (limit - offset) (take n p)
 taken_within limit offset n p = elim (cases_lt (limit - offset) n) [
   | inl less ↦ ap (λ (k : ℕ). take k p) (omega (arith, less))
@@ -189,7 +189,7 @@ module _ {S D : Type 0} (next : S → EventValue → Effect S) (old new : TurnSt
     pub turns_failed : (e : WriteFault) → FollowsIn (Err e) → TurnsTo next old new limit b yielded r (Err WriteFailed)
     turns_failed e x =
         let o = x.pauses.yields b yielded st read.0 read.1 in
-        let front = followed-front next old.follower x.more o.0 in record {
+        let front = followed-prefix next old.follower x.more o.0 in record {
           more = x.more ++ o.0;
           put =
               sends_err old.devices.drain new.devices.drain (effect_of next old.follower x.more).put

@@ -17,11 +17,11 @@ use Rattle.tlv_walk.proofs.GrammarLemmas.PushSteps.{Spells}
 use Rattle.tlv_walk.proofs.GrammarLemmas.Readings.{PushRun, Going, Halted, IsHalt, IsRightRun, halt-longer}
 use Rattle.tlv_walk.proofs.GrammarLemmas.Readings.{halt-longest, is-run}
 use Rattle.tlv_walk.proofs.GrammarLemmas.Readings.{push_all, run-reading, spelling-unique}
-use Rattle.tlv_walk.proofs.GrammarLemmas.Spellings.{front-same}
-use Rattle.tlv_walk.proofs.GrammarLemmas.Sound.{open-sound, sound-open_top, sound-whole}
+use Rattle.tlv_walk.proofs.GrammarLemmas.Spellings.{prefix-same}
+use Rattle.tlv_walk.proofs.GrammarLemmas.Sound.{rules-sound, sound-keeps_rules_top, sound-whole}
 use Rattle.tlv_walk.proofs.GrammarLemmas.Faults.{fault-refused, refused-fault}
 
--- the ending of a push_all over n octets
+-- the ending of a run of pushes over n octets
 abbrev pub ending_of : ℕ → PushRun → Ending
 ending_of n (Going f) = cond (has_element f) (cond (is_whole f) Done (fault_ending Short n)) (fault_ending Empty n)
 ending_of n (Halted f code) = fault_ending code (length (spelling f))
@@ -55,7 +55,7 @@ pub halt-ending : (w : Framing) (f : Forest) (code : FaultCode) (b : List ℕ) �
     → IsEnding w b (fault_ending code (length (spelling f)))
 halt-ending w f code b r k = refused f r.octet r.rest code (run-reading w (Halted f code) b r) r.front k
 
--- a right push_all has the ending that it gives
+-- a right run of pushes has the ending that it gives
 run-ending : (w : Framing) (r : PushRun) (b : List ℕ) → All (λ x. x < 256) b → IsRightRun w r b
     → IsEnding w b (ending_of (length b) r)
 run-ending w (Going f) b each r = going-ending w f b r
@@ -78,7 +78,7 @@ pub record IsDone (w : Framing) (b : List ℕ) : Type 0 where
 abbrev pub IsEarly : FaultCode → Type 0
 IsEarly code = (code ≡ Empty) ⊎ (code ≡ Short)
 
--- an octet has a fault of the list
+-- an octet is refused for a cause of the list
 pub record IsRefused (w : Framing) (b : List ℕ) (code : FaultCode) (offset : ℕ) : Type 0 where
   pub forest : Forest
   pub halt : IsHalt w forest code b
@@ -128,7 +128,7 @@ fault-halt w b code offset a d e = elim (ending-says w b (fault_ending code offs
 pub halt-unsound : (w : Framing) (b : List ℕ) (f : Forest) (code : FaultCode) → IsHalt w f code b → IsSoundList w b → ⊥
 halt-unsound w b f code r s =
     let most : length (spelling s.forest) ≤ length (spelling f) =
-    halt-longest w f code b r s.forest (sound-open_top w s.forest s.sound)
+    halt-longest w f code b r s.forest (sound-keeps_rules_top w s.forest s.sound)
     ([], append-nil (spelling s.forest) ∙ s.spelled) in
     omega (arith, ap length s.spelled, ap length r.front, length-append (spelling f) (r.octet ∷ r.rest))
 
@@ -145,7 +145,7 @@ done-sound w b e =
     let d : IsDone w b = ending-says w b Done e in
     record {
       forest = d.forest;
-      sound = open-sound (top_place w) d.forest d.spells.keeps_rules d.whole;
+      sound = rules-sound (top_place w) d.forest d.spells.keeps_rules d.whole;
       some = d.some;
       spelled = d.spells.spelled;
     }
@@ -153,7 +153,7 @@ done-sound w b e =
 -- the reading of a sound input is its elements
 pub sound-reading : (w : Framing) (b : List ℕ) → (s : IsSoundList w b) → IsReading w b s.forest
 sound-reading w b s = run-reading w (Going s.forest) b (record {
-  keeps_rules = sound-open_top w s.forest s.sound;
+  keeps_rules = sound-keeps_rules_top w s.forest s.sound;
   spelled = s.spelled;
 })
 
@@ -181,7 +181,7 @@ refused-reading w p x c f g v there e = elim (fault-place w (p ++ x ∷ c) (Faul
   | inl end ↦ absurd (omega (arith, end, there, length-append p (x ∷ c)))
   | inr r ↦
       let same : spelling r.0 ≡ spelling g =
-      front-same (spelling r.0) (spelling g) (r.1.is_prefix.0) (x ∷ c)
+      prefix-same (spelling r.0) (spelling g) (r.1.is_prefix.0) (x ∷ c)
       (r.1.is_prefix.1 ∙ ap (λ (o : List ℕ). o ++ x ∷ c) (sym v.spelled))
       (sym r.2 ∙ there ∙ ap length (sym v.spelled)) in
       subst (λ (h : Forest). IsReading w (p ++ x ∷ c) h) (spelling-unique

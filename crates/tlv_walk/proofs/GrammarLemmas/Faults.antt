@@ -1,4 +1,4 @@
--- An octet is refused if it has a fault of the list, with that code.
+-- An octet is refused exactly for a cause of the list, with its code.
 use Rattle.std.proofs.Common.{◌≡◌, inl, inr, ℕ, ◌+◌, ◌<◌, Bool, true, false, ◌&&◌, ◌||◌, leb, List, [], ◌∷◌, ◌++◌}
 use Rattle.std.proofs.Common.{length, Option, Some, None, refl, sym, ap, ◌∙◌, eq-eqb, ne_eqb, le-leb, leb-true}
 use Rattle.std.proofs.Common.{leb-false}
@@ -25,11 +25,11 @@ use Rattle.tlv_walk.proofs.GrammarLemmas.PushSteps.{zero_between}
 use Rattle.tlv_walk.proofs.GrammarLemmas.PopHeaders.{push-scan}
 use Rattle.tlv_walk.proofs.GrammarLemmas.OpenEnds.{IsOpenEndAt, push-open_end, refusal, open_end-fact}
 
--- what does not fit passes the bound
+-- what does not fit ends beyond the bound
 too-long : (p : Place) (n : ℕ) → fits p n ≡ false → Fits p n → ⊥
 too-long p n e f = true≢false (sym (fits-within p.bound (p.offset + n) f) ∙ e)
 
--- what passes the bound does not fit
+-- what ends beyond the bound does not fit
 no-fit : (p : Place) (n : ℕ) → (Fits p n → ⊥) → fits p n ≡ false
 no-fit p n beyond = elim (cases_Bool (fits p n)) [
   | inl e ↦ absurd (beyond (within-fits p.bound (p.offset + n) e))
@@ -92,7 +92,7 @@ depth-allows t d e k = elim (and_cases t (leb 128 d) e) [
   | inr z ↦ leb-false 128 d z
 ]
 
--- a header that is complete and refused is too deep, or its contents pass the bound
+-- a header that is complete and refused is too deep, or its contents end beyond the bound
 complete-blames : (p : Place) (o : List ℕ) (x : ℕ) (h : HeaderValue) → Fits p (length o + 1)
     → IsHeaderAt p (holds h) h → octets_of h ≡ o ++ x ∷ []
     → Blames p (OpenHeader o) x (refusal (complete p h))
@@ -146,7 +146,7 @@ header-blames p o x h w =
       | inr f ↦ rw f (no_room (too-long p (length o + 1) f))
     ]
 
--- a refusal at an open end has a fault of the list
+-- a refusal at an open end has a cause of the list
 pub refusal-has_fault : (p : Place) (f : Forest) (x : ℕ) → x < 256 → IsOpenEndAt p f
     → Blames p f x (refusal (push p f x))
 refusal-has_fault p NoMore x h t = between-blames p x t.1
@@ -180,7 +180,7 @@ pub not-deep : (t : Bool) (d : ℕ) → (t ≡ true → d < 128) → (t && leb 1
 not-deep true d f = lt-leb 128 d (f refl)
 not-deep false d f = refl
 
--- a fault of the list is refused at the open end, with that code
+-- for a cause of the list an octet is refused at the open end, with that code
 pub fault-refusal : (e : OpenEnd) (x : ℕ) (code : FaultCode) → IsOpenEndAt e.place e.forest → IsRefusedAt e x code
     → refusal (push e.place e.forest x) ≡ Some code
 fault-refusal e x code t (bad_inside nz) = rw (ne_eqb x 0 nz)
@@ -211,7 +211,7 @@ open_end-top : (w : Framing) (f : Forest) → KeepsRules (top_place w) f
     → IsOpenEndAt (open_end (top_place w) f).place (open_end (top_place w) f).forest
 open_end-top w f v = open_end-fact (top_place w) f tt (λ _ _. tt) v
 
--- an octet that is refused has a fault of the list, with that code
+-- an octet that is refused has a cause of the list, with that code
 pub refused-fault : (w : Framing) (f : Forest) (x : ℕ) (code : FaultCode) → x < 256 → KeepsRules (top_place w) f
     → push (top_place w) f x ≡ Refused code → IsRefusedAt (open_end (top_place w) f) x code
 refused-fault w f x code h v e =
@@ -220,7 +220,7 @@ refused-fault w f x code h v e =
     rw same at (refusal-has_fault (open_end (top_place w) f).place (open_end (top_place w) f).forest x h
     (open_end-top w f v))
 
--- an octet with a fault of the list is refused, with that code
+-- an octet with a cause of the list is refused, with that code
 pub fault-refused : (w : Framing) (f : Forest) (x : ℕ) (code : FaultCode) → KeepsRules (top_place w) f
     → IsRefusedAt (open_end (top_place w) f) x code → push (top_place w) f x ≡ Refused code
 fault-refused w f x code v k =
@@ -228,7 +228,7 @@ fault-refused w f x code v k =
     (push-open_end (top_place w) f x
     ∙ fault-refusal (open_end (top_place w) f) x code (open_end-top w f v) k)
 
--- an octet has one fault
+-- an octet is refused with one code alone
 pub fault-unique : (w : Framing) (f : Forest) (x : ℕ) (c d : FaultCode) → KeepsRules (top_place w) f
     → IsRefusedAt (open_end (top_place w) f) x c
     → IsRefusedAt (open_end (top_place w) f) x d → c ≡ d

@@ -40,7 +40,8 @@ spelling-fits p (PaddingOctet rest) z w =
     (spelling-fits (place_after p 1) rest (within-le p.bound _ _ (omega arith) w.0.2) w.1)
 spelling-fits p (Primitive h c rest) z w =
     within-le p.bound _ _ (omega (arith, length-primitive h c rest))
-    (spelling-fits (place_after p (length (octets_of h) + length c)) rest (within-le p.bound _ _ (omega arith) w.0.0.fits)
+    (spelling-fits (place_after p (length (octets_of h) + length c)) rest
+    (within-le p.bound _ _ (omega arith) w.0.0.fits)
     w.1)
 spelling-fits p (Holder h inside rest) z w =
     within-le p.bound _ _ (omega (arith, length-holder h inside rest))
@@ -122,7 +123,7 @@ unfilled-lacks p h g e whole there =
     length-lacks h.size (p.offset + length (octets_of h)) p.bound
     _ (within-le (place_of_children p h).bound _ _ (omega (arith, length-opening h)) there) short
 
--- what an element holds is open: so is the element
+-- if what an element holds keeps the rules, so does the element
 pub holder_so_far-spells : (p : Place) (h : HeaderValue) (g : Forest) → IsAnnouncedAt p true h
     → KeepsRules (place_of_children p h) g → Spells p (opening h ++ spelling g) (holder_so_far h g)
 holder_so_far-spells p h g entry w = elim (cases_Bool (is_filled_by h g)) [

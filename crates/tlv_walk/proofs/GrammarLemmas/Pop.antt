@@ -19,7 +19,7 @@ use Rattle.tlv_walk.proofs.GrammarLemmas.PushSteps.{IsWholeHolder, IsWholePrimit
 use Rattle.tlv_walk.proofs.GrammarLemmas.PushSteps.{push_after, is_filled_by, primitive_so_far, push, settle}
 use Rattle.tlv_walk.proofs.GrammarLemmas.OpenElements.{spelling-fits, size-definite}
 use Rattle.tlv_walk.proofs.GrammarLemmas.PopHeaders.{list-back, Popped, header-popped, holder_begun-popped, lead-popped}
-use Rattle.tlv_walk.proofs.GrammarLemmas.PopHeaders.{front-popped, is_nil, is_push}
+use Rattle.tlv_walk.proofs.GrammarLemmas.PopHeaders.{prefix-popped, is_nil, is_push}
 
 -- a primitive with all its contents octets
 primitive_so_far-whole : (h : HeaderValue) (c : List ℕ) → h.size ≡ Definite (length c)
@@ -253,37 +253,37 @@ popped-after p q f o rest r w spelled pushed = record {
 }
 
 -- a forest that keeps the rules has no octet, or is a shorter one and the octet pushed
-pub open-popped : (p : Place) (g : Forest) → KeepsRules p g → (g ≡ NoMore) ⊎ Popped p g
-open-popped p NoMore w = inl refl
-open-popped p (PaddingOctet rest) w = inr (elim (open-popped (place_after p 1) rest w.1) [
+pub forest-popped : (p : Place) (g : Forest) → KeepsRules p g → (g ≡ NoMore) ⊎ Popped p g
+forest-popped p NoMore w = inl refl
+forest-popped p (PaddingOctet rest) w = inr (elim (forest-popped (place_after p 1) rest w.1) [
   | inl e ↦ rw e (padding-popped p (w.0, tt))
   | inr r ↦ popped-after p (place_after p 1) PaddingOctet (0 ∷ []) rest r (w.0, r.keeps_rules) (λ g. refl) (λ x. refl)
 ])
-open-popped p (Primitive h c rest) w = inr
-    (elim (open-popped (place_after p (length (octets_of h) + length c)) rest w.1) [
+forest-popped p (Primitive h c rest) w = inr
+    (elim (forest-popped (place_after p (length (octets_of h) + length c)) rest w.1) [
       | inl e ↦ rw e (whole_primitive-popped p h c w.0)
       | inr r ↦
           popped-after p _ (Primitive h c) (octets_of h ++ c) rest r (w.0, r.keeps_rules)
           (λ g. sym (append_assoc (octets_of h) c (spelling g))) (λ x. refl)
     ])
-open-popped p (Holder h inside rest) w = inr (elim (open-popped (place_after p (extent h inside)) rest w.2) [
-  | inl e ↦ rw e (holder-popped p h inside w.0 w.1 (open-popped (place_of_children p h) inside w.1))
+forest-popped p (Holder h inside rest) w = inr (elim (forest-popped (place_after p (extent h inside)) rest w.2) [
+  | inl e ↦ rw e (holder-popped p h inside w.0 w.1 (forest-popped (place_of_children p h) inside w.1))
   | inr r ↦
       popped-after p _ (Holder h inside) (opening h ++ (spelling inside ++ end_octets h.size)) rest r
       (w.0, w.1, r.keeps_rules)
       (λ g. sym (append_assoc-3 (opening h) (spelling inside) (end_octets h.size) (spelling g))) (λ x. refl)
 ])
-open-popped p (OpenPrimitive h c) w = inr (open_primitive-popped p h c w)
-open-popped p (OpenHolder h inside) w =
+forest-popped p (OpenPrimitive h c) w = inr (open_primitive-popped p h c w)
+forest-popped p (OpenHolder h inside) w =
     inr
-    (holder_so_far-popped p h inside (OpenHolder h inside) w.0.0 w.1 (open-popped (place_of_children p h) inside w.1)
+    (holder_so_far-popped p h inside (OpenHolder h inside) w.0.0 w.1 (forest-popped (place_of_children p h) inside w.1)
     (holder_so_far-open h inside w.0.1) refl)
-open-popped p (OpenBitString h) w = inr (holder_begun-popped p h (0 ∷ []) w.1 w.0)
-open-popped p (OpenHeader o) w = inr (elim (list-back o) [
+forest-popped p (OpenBitString h) w = inr (holder_begun-popped p h (0 ∷ []) w.1 w.0)
+forest-popped p (OpenHeader o) w = inr (elim (list-back o) [
   | is_nil e ↦ absurd (w.0 e)
-  | is_push ys y e ↦ rw e (front-popped p ys y (rw e at w.1) (rw e at w.2))
+  | is_push ys y e ↦ rw e (prefix-popped p ys y (rw e at w.1) (rw e at w.2))
 ])
-open-popped p OpenEndOctets w = inr (record {
+forest-popped p OpenEndOctets w = inr (record {
   from = NoMore;
   last = 0;
   keeps_rules = tt;

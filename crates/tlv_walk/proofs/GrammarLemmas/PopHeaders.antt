@@ -37,7 +37,7 @@ pub record Popped (p : Place) (g : Forest) : Type 0 where
   pub spelled : spelling g ≡ spelling from ++ last ∷ []
   pub pushed : push p from last ≡ Grown g
 
--- an octet after the front of a header, by what all of them say
+-- an octet after a prefix of a header, by what all of them say
 pub push-scan : (p : Place) (o : List ℕ) (x : ℕ) (s : Scan) → Fits p (length o + 1)
     → scan (origin p) (o ++ x ∷ []) ≡ s → push p (OpenHeader o) x ≡ begin p (o ++ x ∷ []) s
 push-scan p o x s f e =
@@ -51,7 +51,7 @@ push-header p h o x valid at e f =
     push-scan p o x (Ready h) f
     (ap (scan (origin p)) (sym e) ∙ (ap (λ (a : Origin). scan a (octets_of h)) (sym at) ∙ scan-header h valid))
 
--- octets that make no header yet are the front of one
+-- octets that make no header yet are a prefix of one
 begin-more : (p : Place) (o : List ℕ) (s : Scan) → is_more s ≡ true → begin p o s ≡ Grown (OpenHeader o)
 begin-more p o Fresh e = refl
 begin-more p o (High c k ds) e = refl
@@ -61,10 +61,10 @@ begin-more p o (Ready h) e = absurd (cc)
 begin-more p o (Stuck code) e = absurd (cc)
 begin-more p o Over e = absurd (cc)
 
--- an octet that makes a longer front of a header
-pub push-front : (p : Place) (o : List ℕ) (x : ℕ) → IsHeaderPrefix (o ++ x ∷ []) → Fits p (length o + 1)
+-- an octet that makes a longer prefix of a header
+pub push-prefix : (p : Place) (o : List ℕ) (x : ℕ) → IsHeaderPrefix (o ++ x ∷ []) → Fits p (length o + 1)
     → push p (OpenHeader o) x ≡ Grown (OpenHeader (o ++ x ∷ []))
-push-front p o x front f =
+push-prefix p o x front f =
     push-scan p o x _ f refl ∙ begin-more p (o ++ x ∷ []) _ (more-from_prefix (origin p) (o ++ x ∷ []) front)
 
 -- a header that may be there is a forest
@@ -132,10 +132,10 @@ lead-popped p h (x ∷ xs) e entry =
 more-nonzero : (at : Origin) (x : ℕ) → is_more (scan at (x ∷ [])) ≡ true → x ≢ 0
 more-nonzero at x e z = let e' : is_more (scan at (0 ∷ [])) ≡ true = rw z at e in cc
 
--- the front of a header is popped
-pub front-popped : (p : Place) (o : List ℕ) (x : ℕ) → IsHeaderPrefix (o ++ x ∷ []) → Fits p (length (o ++ x ∷ []))
+-- a prefix of a header is popped
+pub prefix-popped : (p : Place) (o : List ℕ) (x : ℕ) → IsHeaderPrefix (o ++ x ∷ []) → Fits p (length (o ++ x ∷ []))
     → Popped p (OpenHeader (o ++ x ∷ []))
-front-popped p [] x front f =
+prefix-popped p [] x front f =
     let nz : x ≢ 0 = more-nonzero (origin p) x (more-from_prefix (origin p) (x ∷ []) front) in
     record {
       from = NoMore;
@@ -144,7 +144,7 @@ front-popped p [] x front f =
       spelled = refl;
       pushed = rw (fits-within p.bound (p.offset + 1) f, ne_eqb x 0 nz);
     }
-front-popped p (y ∷ o) x front f = record {
+prefix-popped p (y ∷ o) x front f = record {
   from = OpenHeader (y ∷ o);
   last = x;
   keeps_rules = (
@@ -159,5 +159,5 @@ front-popped p (y ∷ o) x front f = record {
     within-le p.bound _ _ (omega (arith, length-append (y ∷ o) (x ∷ []))) f,
   );
   spelled = refl;
-  pushed = push-front p (y ∷ o) x front (within-le p.bound _ _ (omega (arith, length-append (y ∷ o) (x ∷ []))) f);
+  pushed = push-prefix p (y ∷ o) x front (within-le p.bound _ _ (omega (arith, length-append (y ∷ o) (x ∷ []))) f);
 }

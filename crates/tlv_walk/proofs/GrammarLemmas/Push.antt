@@ -40,20 +40,20 @@ complete-sound p h valid at =
       ]
     ]
 
--- the front of a header
-front-sound : (p : Place) (o : List ℕ) → o ≢ [] → IsHeaderPrefix o → Fits p (length o) → Spells p o (OpenHeader o)
-front-sound p o some front f = record { keeps_rules = (some, front, f); spelled = refl }
+-- a prefix of a header
+prefix-sound : (p : Place) (o : List ℕ) → o ≢ [] → IsHeaderPrefix o → Fits p (length o) → Spells p o (OpenHeader o)
+prefix-sound p o some front f = record { keeps_rules = (some, front, f); spelled = refl }
 
 -- octets of a header, by what they say
 begin-sound : (p : Place) (o : List ℕ) (s : Scan) → IsStateAfter (origin p) s o → o ≢ [] → Fits p (length o)
     → IsStep p o (begin p o s)
 begin-sound p o Fresh r some f = absurd (some r)
 begin-sound p o (High c k ds) r some f =
-    front-sound p o some (prefix-from_more (origin p) (High c k ds) o r some refl) f
+    prefix-sound p o some (prefix-from_more (origin p) (High c k ds) o r some refl) f
 begin-sound p o (Named c k n i) r some f =
-    front-sound p o some (prefix-from_more (origin p) (Named c k n i) o r some refl) f
+    prefix-sound p o some (prefix-from_more (origin p) (Named c k n i) o r some refl) f
 begin-sound p o (Long c k n i m ds) r some f =
-    front-sound p o some (prefix-from_more (origin p) (Long c k n i m ds) o r some refl) f
+    prefix-sound p o some (prefix-from_more (origin p) (Long c k n i m ds) o r some refl) f
 begin-sound p o (Ready h) r some f = rw (r.1) (complete-sound p h r.0 r.2)
 begin-sound p o (Stuck code) r some f = tt
 begin-sound p o Over r some f = tt
@@ -62,10 +62,10 @@ begin-sound p o Over r some f = tt
 pub push≢nil : (o : List ℕ) (x : ℕ) → o ++ x ∷ [] ≢ []
 push≢nil o x e = omega (arith, ap length e, length-append o (x ∷ []))
 
--- after the front of a header
-front-step : (p : Place) (o : List ℕ) (x : ℕ) → x < 256 → IsHeaderPrefix o
+-- after a prefix of a header
+prefix-step : (p : Place) (o : List ℕ) (x : ℕ) → x < 256 → IsHeaderPrefix o
     → IsStep p (o ++ x ∷ []) (push p (OpenHeader o) x)
-front-step p o x h front = elim (cases_Bool (fits p (length o + 1))) [
+prefix-step p o x h front = elim (cases_Bool (fits p (length o + 1))) [
   | inl f ↦ rw f
       (begin-sound p (o ++ x ∷ []) (step (origin p) (scan (origin p) o) x)
       (reads-step (origin p) x (scan (origin p) o) o h (reads-scan (origin p) o (prefix-bytes o front)))
@@ -87,7 +87,7 @@ no_more-step p x h = elim (cases_Bool (fits p 1)) [
   | inl f ↦ elim (cases_eq x 0) [
     | inl z ↦ rw (f, eq-eqb x 0 z, z) (zero-sound p p.indefinite p.padding refl refl (within-fits p.bound _ f))
     | inr nz ↦ rw (f, ne_eqb x 0 nz)
-        (front-sound p (x ∷ []) (push≢nil [] x)
+        (prefix-sound p (x ∷ []) (push≢nil [] x)
         (prefix-from_more (origin p) (step (origin p) Fresh x) (x ∷ []) (reads-step (origin p) x Fresh [] h refl)
         (push≢nil [] x) (first-more (origin p) x nz))
         (within-fits p.bound _ f))
@@ -225,5 +225,5 @@ push-steps p (OpenHolder header inside) x h w =
     rw (append_assoc (opening header) (spelling inside) (x ∷ []))
     (open_holder-step p header _ _ w.0.0 (push-steps (place_of_children p header) inside x h w.1))
 push-steps p (OpenBitString header) x h w = open_bit_string-step p header x w
-push-steps p (OpenHeader o) x h w = front-step p o x h w.1
+push-steps p (OpenHeader o) x h w = prefix-step p o x h w.1
 push-steps p OpenEndOctets x h w = end_octets-step p x w.0

@@ -1,4 +1,4 @@
--- Open forests by their spellings, and the reading of an input.
+-- Forests that keep the rules, by their spellings, and the reading of an input.
 use Rattle.std.proofs.Common.{◌≡◌, inl, inr, ℕ, zero, suc, ◌<◌, ◌≤◌, true, List, [], ◌∷◌, ◌++◌, length, All, refl, sym}
 use Rattle.std.proofs.Common.{ap}
 use Rattle.std.proofs.Common.{◌∙◌, arith, append_assoc, append-nil, length-append}
@@ -11,11 +11,11 @@ use Rattle.tlv_walk.specs.declared.framing.Framing.{Framing}
 use Rattle.tlv_walk.specs.Forest.{Forest, NoMore, spelling}
 use Rattle.tlv_walk.specs.Place.{KeepsRules, Place, top_place}
 use Rattle.tlv_walk.specs.Reading.{IsPrefixOf, IsReading}
-use Rattle.tlv_walk.proofs.GrammarLemmas.Spellings.{front-of, front-same}
+use Rattle.tlv_walk.proofs.GrammarLemmas.Spellings.{prefix-of, prefix-same}
 use Rattle.tlv_walk.proofs.GrammarLemmas.PushSteps.{PushStep, Grown, Ended, Refused, IsStep, Spells, push}
 use Rattle.tlv_walk.proofs.GrammarLemmas.Push.{push-steps}
 use Rattle.tlv_walk.proofs.GrammarLemmas.PopHeaders.{Popped, list-back, is_nil, is_push}
-use Rattle.tlv_walk.proofs.GrammarLemmas.Pop.{open-popped}
+use Rattle.tlv_walk.proofs.GrammarLemmas.Pop.{forest-popped}
 
 -- no string is read as encodings, and there is padding
 abbrev pub padding_framing : Framing
@@ -30,7 +30,7 @@ pub record PoppedBy (p : Place) (f : Forest) (o : List ℕ) (x : ℕ) : Type 0 w
 -- it is popped by the last octet of its spelling
 pub popped-by : (p : Place) (f : Forest) (o : List ℕ) (x : ℕ) → KeepsRules p f → spelling f ≡ o ++ x ∷ []
     → PoppedBy p f o x
-popped-by p f o x w e = elim (open-popped p f w) [
+popped-by p f o x w e = elim (forest-popped p f w) [
   | inl stop ↦ let e' : [] ≡ o ++ x ∷ [] =
       rw stop at e in absurd (omega (arith, ap length e', length-append o (x ∷ [])))
   | inr q ↦
@@ -38,7 +38,7 @@ popped-by p f o x w e = elim (open-popped p f w) [
       record { popped = q; spelled = same.0; octet = same.1 }
 ]
 
--- `prefix-open`, by the number of octets that are cut off
+-- `prefix-keeps_rules`, by the number of octets that are cut off
 prefix-within : (p : Place) (n : ℕ) (f : Forest) (s t : List ℕ) → length t ≡ n → KeepsRules p f → spelling f ≡ s ++ t
     → (g : Forest) × Spells p s g
 prefix-within p zero f s [] l w e = (f, record { keeps_rules = w; spelled = e ∙ append-nil s })
@@ -52,10 +52,10 @@ prefix-within p (suc n) f s t l w e = elim (list-back t) [
       q.spelled
 ]
 
--- each prefix-open of the spelling of a forest that keeps the rules is the spelling of one that keeps them
-pub prefix-open : (p : Place) (f : Forest) (s t : List ℕ) → KeepsRules p f → spelling f ≡ s ++ t
+-- each prefix of the spelling of a forest that keeps the rules is the spelling of one that keeps them
+pub prefix-keeps_rules : (p : Place) (f : Forest) (s t : List ℕ) → KeepsRules p f → spelling f ≡ s ++ t
     → (g : Forest) × Spells p s g
-prefix-open p f s t w e = prefix-within p (length t) f s t refl w e
+prefix-keeps_rules p f s t w e = prefix-within p (length t) f s t refl w e
 
 -- forests that are popped alike are the same
 same-pushed : (p : Place) (f g : Forest) (q : Popped p f) (r : Popped p g) → q.from ≡ r.from → q.last ≡ r.last → f ≡ g
@@ -66,7 +66,7 @@ same-pushed p f g q r e l =
 
 -- a forest that keeps the rules and spells nothing is empty
 pub unique-empty : (p : Place) (f : Forest) → KeepsRules p f → spelling f ≡ [] → f ≡ NoMore
-unique-empty p f w e = elim (open-popped p f w) [
+unique-empty p f w e = elim (forest-popped p f w) [
   | inl stop ↦ stop
   | inr q ↦ absurd (omega (arith, ap length e, ap length q.spelled, length-append (spelling q.from) (q.last ∷ [])))
 ]
@@ -110,17 +110,17 @@ took f (Grown g) = Going g
 took f (Ended g) = Halted f StrayEnd
 took f (Refused code) = Halted f code
 
--- a push_all over one more octet
+-- a run of pushes over one more octet
 abbrev pub push_next : Framing → PushRun → ℕ → PushRun
 push_next w (Going f) x = took f (push (top_place w) f x)
 push_next w (Halted f code) x = Halted f code
 
--- a push_all over more octets
+-- a run of pushes over more octets
 abbrev pub push_all_from : Framing → PushRun → List ℕ → PushRun
 push_all_from w r [] = r
 push_all_from w r (x ∷ xs) = push_all_from w (push_next w r x) xs
 
--- the push_all over an input
+-- the run of pushes over an input
 abbrev pub push_all : Framing → List ℕ → PushRun
 push_all w b = push_all_from w (Going NoMore) b
 
@@ -141,12 +141,12 @@ pub record IsHalt (w : Framing) (f : Forest) (code : FaultCode) (b : List ℕ) :
   pub front : spelling f ++ octet ∷ rest ≡ b
   pub refused : push (top_place w) f octet ≡ Refused code
 
--- a push_all is right
+-- a run of pushes is right
 abbrev pub IsRightRun : Framing → PushRun → List ℕ → Type 0
 IsRightRun w (Going f) b = Spells (top_place w) b f
 IsRightRun w (Halted f code) b = IsHalt w f code b
 
--- a step of a push_all is right
+-- a step of a run of pushes is right
 took-run : (w : Framing) (f : Forest) (x : ℕ) (s : PushStep) → KeepsRules (top_place w) f → push (top_place w) f x ≡ s
     → IsStep (top_place w) (spelling f ++ x ∷ []) s → IsRightRun w (took f s) (spelling f ++ x ∷ [])
 took-run w f x (Grown g) v e r = r
@@ -165,7 +165,7 @@ halt-longer w f code b c r =
       refused = r.refused;
     }
 
--- a push_all that is right is so after one more octet
+-- a run of pushes that is right is so after one more octet
 turn-run : (w : Framing) (r : PushRun) (b : List ℕ) (x : ℕ) → x < 256 → IsRightRun w r b
     → IsRightRun w (push_next w r x) (b ++ x ∷ [])
 turn-run w (Going f) b x h r =
@@ -182,7 +182,7 @@ run_from-run w r b (x ∷ xs) each v =
     (run_from-run w (push_next w r x) (b ++ x ∷ []) xs (All-tail (λ x. x < 256) x xs each)
     (turn-run w r b x (All-head (λ x. x < 256) x xs each) v))
 
--- the push_all over an input is right
+-- the run of pushes over an input is right
 pub is-run : (w : Framing) (b : List ℕ) → All (λ x. x < 256) b → IsRightRun w (push_all w b) b
 is-run w b each = run_from-run w (Going NoMore) [] b each (record { keeps_rules = tt; spelled = refl })
 
@@ -195,10 +195,10 @@ halt-longest w f code b r g v q = elim (cases_lt (length (spelling f)) (length (
       let end : (spelling f ++ r.octet ∷ []) ++ r.rest ≡ spelling g ++ q.0 =
       append_assoc (spelling f) (r.octet ∷ []) r.rest ∙ (r.front ∙ sym q.1) in
       let u : (u : List ℕ) × (spelling g ≡ (spelling f ++ r.octet ∷ []) ++ u) =
-      front-of (spelling f ++ r.octet ∷ []) (spelling g) r.rest q.0 end
+      prefix-of (spelling f ++ r.octet ∷ []) (spelling g) r.rest q.0 end
       (omega (arith, length-append (spelling f) (r.octet ∷ []))) in
       let k : (k : Forest) × Spells (top_place w) (spelling f ++ r.octet ∷ []) k =
-      prefix-open (top_place w) g (spelling f ++ r.octet ∷ []) u.0 v u.1 in
+      prefix-keeps_rules (top_place w) g (spelling f ++ r.octet ∷ []) u.0 v u.1 in
       let grown : push (top_place w) f r.octet ≡ Grown k.0 =
       push-complete (top_place w) f k.0 r.octet r.keeps_rules k.1.keeps_rules k.1.spelled in
       let refused : push (top_place w) f r.octet ≡ Refused code = r.refused in
@@ -206,7 +206,7 @@ halt-longest w f code b r g v q = elim (cases_lt (length (spelling f)) (length (
   | inr less ↦ less
 ]
 
--- a right push_all holds the reading
+-- a right run of pushes holds the reading
 pub run-reading : (w : Framing) (r : PushRun) (b : List ℕ) → IsRightRun w r b → IsReading w b (run_forest r)
 run-reading w (Going f) b r = record {
   keeps_rules = r.keeps_rules;
@@ -241,5 +241,5 @@ reading-unique w b f g r s =
     let most : length (spelling f) ≤ length (spelling g) = s.longest f r.keeps_rules r.is_prefix in
     let most' : length (spelling g) ≤ length (spelling f) = r.longest g s.keeps_rules s.is_prefix in
     spelling-unique (top_place w) f g r.keeps_rules s.keeps_rules
-    (front-same (spelling f) (spelling g) (r.is_prefix.0) (s.is_prefix.0) (r.is_prefix.1 ∙ sym s.is_prefix.1)
+    (prefix-same (spelling f) (spelling g) (r.is_prefix.0) (s.is_prefix.0) (r.is_prefix.1 ∙ sym s.is_prefix.1)
     (omega arith))

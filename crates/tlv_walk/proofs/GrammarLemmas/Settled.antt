@@ -16,7 +16,7 @@ use Rattle.tlv_walk.proofs.GrammarLemmas.Bounds.{HasAllContents, fits-inside, ha
 use Rattle.tlv_walk.proofs.GrammarLemmas.PushSteps.{Spells, is_filled_by}
 use Rattle.tlv_walk.proofs.GrammarLemmas.OpenElements.{holder-spells, spelling-fits, unfilled-lacks}
 use Rattle.tlv_walk.proofs.GrammarLemmas.Spellings.{length-opening}
-use Rattle.tlv_walk.proofs.WalkerLemmas.Zipper.{followed_by, open-followed_by, open-within, settled_forest}
+use Rattle.tlv_walk.proofs.WalkerLemmas.Zipper.{followed_by, rules-followed_by, rules-within, settled_forest}
 use Rattle.tlv_walk.proofs.WalkerLemmas.Zipper.{spelling-followed_by, spelling-within, whole-followed_by}
 use Rattle.tlv_walk.proofs.WalkerLemmas.Zipper.{forest_in_layers}
 
@@ -50,7 +50,7 @@ filled-ended w l ls f a i e =
     ∙ ap (λ (t : List ℕ). spelling l.before ++ t) c.spelled in
     record {
       are_whole = record {
-        keeps_rules = open-followed_by (place_in w ls) l.before (Holder l.header f NoMore) a.1 c.keeps_rules;
+        keeps_rules = rules-followed_by (place_in w ls) l.before (Holder l.header f NoMore) a.1 c.keeps_rules;
         whole = whole-followed_by l.before (Holder l.header f NoMore) a.1.whole;
       };
       spelled = s;
@@ -71,9 +71,9 @@ unfilled-room w l ls f a i e =
     let p : Place = place_after (place_in w ls) (length (spelling l.before)) in
     let there : Fits (place_of_children p l.header) (length (spelling f)) =
     spelling-fits (place_of_children p l.header) f (fits-inside p l.header a.2.header.form a.2.fits) i.keeps_rules in
-    open-within w (l ∷ ls) f a i.keeps_rules (λ whole. unfilled-lacks p l.header f e whole there)
+    rules-within w (l ∷ ls) f a i.keeps_rules (λ whole. unfilled-lacks p l.header f e whole there)
 
--- they are open, and spell the octets of the layers and then their own
+-- the forest keeps the rules, and spells the octets of the layers and then its own
 pub settled-spells : (w : Framing) (ls : List Layer) (f : Forest) → AreLayers w ls → AreWhole (place_in w ls) f
     → Spells (top_place w) (spelling_of_layers ls ++ spelling f) (settled_forest ls f)
 settled-spells w [] f a i = record { keeps_rules = i.keeps_rules; spelled = refl }

@@ -31,14 +31,15 @@ fits-contents p h inside same f =
     (within-le p.bound _ _ (omega (arith, length-opening h)) f))
 
 -- sound elements that end within the bound keep the rules
-pub sound-open : (p : Place) (f : Forest) → (p.padding ≡ true → p.indefinite ≡ false) → Fits p (length (spelling f))
+pub sound-keeps_rules : (p : Place) (f : Forest) → (p.padding ≡ true → p.indefinite ≡ false)
+    → Fits p (length (spelling f))
     → IsSound p f → KeepsRules p f
-sound-open p NoMore d z s = tt
-sound-open p (PaddingOctet rest) d z s = (
+sound-keeps_rules p NoMore d z s = tt
+sound-keeps_rules p (PaddingOctet rest) d z s = (
   (s.0, d s.0, within-le p.bound _ _ (omega arith) z),
-  sound-open (place_after p 1) rest d (within-le p.bound _ _ (omega arith) z) s.1,
+  sound-keeps_rules (place_after p 1) rest d (within-le p.bound _ _ (omega arith) z) s.1,
 )
-sound-open p (Primitive h c rest) d z s = (
+sound-keeps_rules p (Primitive h c rest) d z s = (
   (
     record {
       header =
@@ -48,41 +49,41 @@ sound-open p (Primitive h c rest) d z s = (
     },
     s.1,
   ),
-  sound-open (place_after p (length (octets_of h) + length c)) rest d
+  sound-keeps_rules (place_after p (length (octets_of h) + length c)) rest d
       (within-le p.bound _ _ (omega (arith, length-primitive h c rest)) z) s.2,
 )
-sound-open p (Holder h inside rest) d z s =
+sound-keeps_rules p (Holder h inside rest) d z s =
     let f : Fits p (extent h inside) = within-le p.bound _ _ (omega (arith, length-holder h inside rest)) z in (
       (record { header = s.0; shallow = λ _. s.2; fits = f }, sound-whole (place_of_children p h) inside s.3, s.1),
-      sound-open (place_of_children p h) inside (λ e. absurd (cc)) (fits-contents p h inside s.1 f) s.3,
-      sound-open (place_after p (extent h inside)) rest d
+      sound-keeps_rules (place_of_children p h) inside (λ e. absurd (cc)) (fits-contents p h inside s.1 f) s.3,
+      sound-keeps_rules (place_after p (extent h inside)) rest d
           (within-le p.bound _ _ (omega (arith, length-holder h inside rest)) z) s.4,
     )
-sound-open p (OpenPrimitive h c) d z s = absurd s
-sound-open p (OpenHolder h inside) d z s = absurd s
-sound-open p (OpenBitString h) d z s = absurd s
-sound-open p (OpenHeader octets) d z s = absurd s
-sound-open p OpenEndOctets d z s = absurd s
+sound-keeps_rules p (OpenPrimitive h c) d z s = absurd s
+sound-keeps_rules p (OpenHolder h inside) d z s = absurd s
+sound-keeps_rules p (OpenBitString h) d z s = absurd s
+sound-keeps_rules p (OpenHeader octets) d z s = absurd s
+sound-keeps_rules p OpenEndOctets d z s = absurd s
 
 -- a forest that keeps the rules and in which nothing is open is sound
-pub open-sound : (p : Place) (f : Forest) → KeepsRules p f → is_whole f ≡ true → IsSound p f
-open-sound p NoMore w t = tt
-open-sound p (PaddingOctet rest) w t = (w.0.0, open-sound (place_after p 1) rest w.1 t)
-open-sound p (Primitive h c rest) w t =
-    (w.0.0.header, w.0.1, open-sound (place_after p (length (octets_of h) + length c)) rest w.1 t)
-open-sound p (Holder h inside rest) w t = (
+pub rules-sound : (p : Place) (f : Forest) → KeepsRules p f → is_whole f ≡ true → IsSound p f
+rules-sound p NoMore w t = tt
+rules-sound p (PaddingOctet rest) w t = (w.0.0, rules-sound (place_after p 1) rest w.1 t)
+rules-sound p (Primitive h c rest) w t =
+    (w.0.0.header, w.0.1, rules-sound (place_after p (length (octets_of h) + length c)) rest w.1 t)
+rules-sound p (Holder h inside rest) w t = (
   w.0.0.header,
   w.0.2,
   w.0.0.shallow refl,
-  open-sound (place_of_children p h) inside w.1 w.0.1,
-  open-sound (place_after p (extent h inside)) rest w.2 t,
+  rules-sound (place_of_children p h) inside w.1 w.0.1,
+  rules-sound (place_after p (extent h inside)) rest w.2 t,
 )
-open-sound p (OpenPrimitive h c) w t = absurd (cc)
-open-sound p (OpenHolder h inside) w t = absurd (cc)
-open-sound p (OpenBitString h) w t = absurd (cc)
-open-sound p (OpenHeader octets) w t = absurd (cc)
-open-sound p OpenEndOctets w t = absurd (cc)
+rules-sound p (OpenPrimitive h c) w t = absurd (cc)
+rules-sound p (OpenHolder h inside) w t = absurd (cc)
+rules-sound p (OpenBitString h) w t = absurd (cc)
+rules-sound p (OpenHeader octets) w t = absurd (cc)
+rules-sound p OpenEndOctets w t = absurd (cc)
 
 -- at the start of the input
-pub sound-open_top : (w : Framing) (f : Forest) → IsSound (top_place w) f → KeepsRules (top_place w) f
-sound-open_top w f s = sound-open (top_place w) f (λ _. refl) tt s
+pub sound-keeps_rules_top : (w : Framing) (f : Forest) → IsSound (top_place w) f → KeepsRules (top_place w) f
+sound-keeps_rules_top w f s = sound-keeps_rules (top_place w) f (λ _. refl) tt s

@@ -33,21 +33,21 @@ append_assoc-3 a b s t = append_assoc a (b ++ s) t ∙ ap (λ (u : List ℕ). a 
 pub append_assoc-4 : (a b c s t : List ℕ) → (a ++ (b ++ (c ++ s))) ++ t ≡ a ++ (b ++ (c ++ (s ++ t)))
 append_assoc-4 a b c s t = append_assoc a (b ++ (c ++ s)) t ∙ ap (λ (u : List ℕ). a ++ u) (append_assoc-3 b c s t)
 
--- of two fronts of one list the longer begins with the shorter
-pub front-of : (s t u v : List ℕ) → s ++ u ≡ t ++ v → length s ≤ length t → (r : List ℕ) × (t ≡ s ++ r)
-front-of [] t u v e l = (t, refl)
-front-of (x ∷ s) [] u v e l = absurd (omega arith)
-front-of (x ∷ s) (y ∷ t) u v e l =
+-- of two prefixes of one list the longer begins with the shorter
+pub prefix-of : (s t u v : List ℕ) → s ++ u ≡ t ++ v → length s ≤ length t → (r : List ℕ) × (t ≡ s ++ r)
+prefix-of [] t u v e l = (t, refl)
+prefix-of (x ∷ s) [] u v e l = absurd (omega arith)
+prefix-of (x ∷ s) (y ∷ t) u v e l =
     let same : x ≡ y = cc in
-    let r : (r : List ℕ) × (t ≡ s ++ r) = front-of s t u v (cc) (omega arith) in
+    let r : (r : List ℕ) × (t ≡ s ++ r) = prefix-of s t u v (cc) (omega arith) in
     (r.0, ap (λ (u : List ℕ). y ∷ u) r.1 ∙ ap (λ (u : ℕ). u ∷ (s ++ r.0)) (sym same))
 
--- two fronts of one list that are as long are the same
-pub front-same : (s t u v : List ℕ) → s ++ u ≡ t ++ v → length s ≡ length t → s ≡ t
-front-same [] [] u v e l = refl
-front-same [] (y ∷ t) u v e l = absurd (omega arith)
-front-same (x ∷ s) [] u v e l = absurd (omega arith)
-front-same (x ∷ s) (y ∷ t) u v e l =
+-- two prefixes of one list that are as long are the same
+pub prefix-same : (s t u v : List ℕ) → s ++ u ≡ t ++ v → length s ≡ length t → s ≡ t
+prefix-same [] [] u v e l = refl
+prefix-same [] (y ∷ t) u v e l = absurd (omega arith)
+prefix-same (x ∷ s) [] u v e l = absurd (omega arith)
+prefix-same (x ∷ s) (y ∷ t) u v e l =
     let same : x ≡ y = cc in
-    let rest : s ≡ t = front-same s t u v (cc) (omega arith) in
+    let rest : s ≡ t = prefix-same s t u v (cc) (omega arith) in
     rw (same, rest)

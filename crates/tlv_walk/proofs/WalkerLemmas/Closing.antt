@@ -1,4 +1,4 @@
--- The wraps-innermost element of a walker's state ends.
+-- The innermost element of a walker's state ends.
 use Rattle.std.proofs.Common.{◌≡◌, inl, inr, ℕ, ◌+◌, ◌-◌, ◌≤◌, Bool, true, false, not, if◌then◌else◌, List, [], ◌∷◌}
 use Rattle.std.proofs.Common.{◌++◌, length, drop, Option, Some, None, refl, sym, ap, ◌∙◌, subst, arith, append_assoc}
 use Rattle.std.proofs.Common.{append-nil, length-append}
@@ -30,7 +30,7 @@ use Rattle.tlv_walk.proofs.WalkerLemmas.ZipperGrowth.{phase_at, tail_state, yiel
 use Rattle.tlv_walk.proofs.WalkerLemmas.YieldedEvents.{yields_zero}
 use Rattle.tlv_walk.proofs.WalkerLemmas.Places.{definite-size, walker-offset}
 use Rattle.tlv_walk.proofs.GrammarLemmas.Spellings.{length-opening}
-use Rattle.tlv_walk.proofs.WalkerLemmas.Zipper.{open-followed_by, spelling-followed_by, whole-followed_by}
+use Rattle.tlv_walk.proofs.WalkerLemmas.Zipper.{rules-followed_by, spelling-followed_by, whole-followed_by}
 use Rattle.tlv_walk.proofs.WalkerLemmas.ZipperEvents.{events-followed_by}
 
 layers-regroup : (a b c d e t : List ℕ)
@@ -74,7 +74,7 @@ closed_whole : (w : WalkerState) (l : Layer) (ls : List Layer) (here : Forest)
     → Fits (place_after (place_in w.framing ls) (length (spelling l.before))) (extent l.header here)
     → AreWhole (place_in w.framing ls) (closed_here l here)
 closed_whole w l ls here earlier entry inside filled fits = record {
-  keeps_rules = open-followed_by (place_in w.framing ls) l.before (Holder l.header here NoMore) earlier (
+  keeps_rules = rules-followed_by (place_in w.framing ls) l.before (Holder l.header here NoMore) earlier (
     (record { header = entry.header; shallow = entry.shallow; fits = fits }, inside.whole, filled),
     inside.keeps_rules,
     tt,
@@ -82,7 +82,7 @@ closed_whole w l ls here earlier entry inside filled fits = record {
   whole = whole-followed_by l.before (Holder l.header here NoMore) earlier.whole;
 }
 
--- the state of a walker whose wraps-innermost element ends with these octets
+-- the state of a walker whose innermost element ends with these octets
 pub close_state : (w v : WalkerState) (b : List ℕ) (yielded : List EventValue) (l : Layer) (ls : List Layer)
     (here : Forest) (tail : Tail) (t : List ℕ)
     → HasZipper w b yielded (record { layers = l ∷ ls; here = here; tail = tail })
@@ -240,7 +240,7 @@ ending_enters f = elim (cases_Bool f.wrapper) [
   | inr e ↦ rw e refl
 ]
 
--- the wraps-innermost element, which is filled, ends
+-- the innermost element, which is filled, ends
 pub yields_filled : (w : WalkerState) → w.phase ≡ Between → (f : FrameValue) (fs : List FrameValue)
     → w.stack ≡ f ∷ fs → f.end ≡ Some w.offset
     → Continues w (record w { stack = drop 1 w.stack; events = w.events + 1 }) [] (filled_end_event f ∷ [])
@@ -252,7 +252,7 @@ yields_filled w e f fs is full = record {
       filled_from w b yielded s s.layers (tail_state w b yielded s _ t has) e f fs is full;
 }
 
--- a stack of which the wraps-innermost frame says so
+-- a stack of which the innermost frame says so
 record IsInnermost (stack : List FrameValue) (k : Bool) : Type 0 where
   frame : FrameValue
   stack_is : stack ≡ frame ∷ drop 1 stack

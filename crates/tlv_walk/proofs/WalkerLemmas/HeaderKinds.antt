@@ -59,7 +59,7 @@ walker_in_element w h f k =
           k;
     }
 
--- the state is that of a walker which frame-pushed the frame
+-- the state is that of a walker which pushed the frame
 frame-pushed : (w : WalkerState) (b : List ℕ) (yielded : List EventValue) (s : Zipper) (r : HeadReaderState)
     (t : List ℕ)
     (h : HeaderValue) (f : PhaseValue) (k : ℕ) (e : EventValue) (u : Zipper)

@@ -50,16 +50,16 @@ handed-at_header w u r (inr h) b yielded s has = (
   h.1 ∙ ap (λ (f : PhaseValue). record w { phase = f; has_element = true }) h.0.phase,
 )
 
--- the octets that the reader has, if there are any, are the front of a header
-handed_front : (w u : WalkerState) (r : HeadReaderState) → HandsOver w u r
+-- the octets that the reader has, if there are any, are a prefix of a header
+handed_prefix : (w u : WalkerState) (r : HeadReaderState) → HandsOver w u r
     → (b : List ℕ) (yielded : List EventValue) (s : Zipper) → HasZipper w b yielded s → (r.octets ≡ [] → ⊥)
     → IsHeaderPrefix r.octets
-handed_front w u r (inl h) b yielded s has some =
+handed_prefix w u r (inl h) b yielded s has some =
     let a = at_front w b yielded s r has h.0 in
     let at : IsPhaseOf (InHeader r) (HeaderTail a.0) (place_of w.framing s) =
     phase_at w b yielded _ _ h.0 a.1.has in
     subst IsHeaderPrefix (sym at.0) at.3.1
-handed_front w u r (inr h) b yielded s has some = absurd (some h.0.none)
+handed_prefix w u r (inr h) b yielded s has some = absurd (some h.0.none)
 
 -- ---- octets that a reader takes
 
@@ -112,7 +112,7 @@ taken_state w u r q piece rest over k some fits b yielded s has =
   where
     front_taken : (q.octets ≡ r.octets) ⊎ IsHeaderPrefix q.octets → IsHeaderPrefix q.octets
     front_taken (inl e) =
-        subst IsHeaderPrefix (sym e) (handed_front w u r over b yielded s has (λ none. some (e ∙ none)))
+        subst IsHeaderPrefix (sym e) (handed_prefix w u r over b yielded s has (λ none. some (e ∙ none)))
     front_taken (inr f) = f
 
 -- the framing stays

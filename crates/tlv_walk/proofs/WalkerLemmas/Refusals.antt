@@ -40,7 +40,7 @@ pub idle_at : (w : WalkerState) (f : PhaseValue) → w.phase ≡ f → (EventWai
     → ⊥
 idle_at w f e n k = n (subst (λ (g : PhaseValue). EventWaitsIn g w.stack w.offset) e k)
 
--- the octet at the front of a piece
+-- the first octet of a piece
 pub front_octet : (piece : List ℕ) → 1 ≤ length piece → piece ≡ get_or piece 0 0 ∷ drop 1 piece
 front_octet [] h = absurd (omega arith)
 front_octet (x ∷ xs) h = refl
@@ -50,7 +50,7 @@ pub refuses_front : (w : WalkerState) (piece : List ℕ) (f : Fault) → 1 ≤ l
     → RefusesOctet w piece piece f
 refuses_front w piece f h r = subst (λ (o : List ℕ). RefusesOctet w o o f) (sym (front_octet piece h)) r
 
--- an octet that has a fault in each state of a walker is refused
+-- an octet that has a cause of the list in each state of a walker is refused
 pub refuses_here : (w : WalkerState) (x : ℕ) (rest : List ℕ) (code : FaultCode) → (EventWaits w → ⊥)
     → ((b : List ℕ) (yielded : List EventValue) (s : Zipper) → HasZipper w b yielded s
     → (t : Zipper) × HasZipper w b yielded t × IsRefusedAt (zipper_end w.framing t) x code)

@@ -1,4 +1,4 @@
--- Whether an event waiting-returned, by the code's tests and by the list of those that do.
+-- Whether an event waits, by the code's tests and by the list of those that do.
 use Rattle.std.proofs.Common.{◌≡◌, ℕ, Bool, true, false, eqb, if◌then◌else◌, List, [], ◌∷◌, Option, Some, None, refl}
 use Rattle.std.proofs.Common.{ap, ◌∙◌, ne_eqb, eq-eqb, IsTrue, ◌↔◌}
 use Rattle.tlv_walk.specs.Phase.{Between, InBitString, InEndOctets, InHeader, InPrimitive, PhaseValue, Refused}
@@ -21,7 +21,7 @@ EventWaitsIn (Refused fault) stack offset = ⊥
 abbrev pub EventWaits : WalkerState → Type 0
 EventWaits w = EventWaitsIn w.phase w.stack w.offset
 
--- if nothing waiting-returned no events do
+-- if nothing waits no events do
 no_endings : (offset : ℕ) (fs : List FrameValue) → (IsFilled fs offset → ⊥) → filled_end_events offset fs ≡ []
 no_endings offset [] n = refl
 no_endings offset (f ∷ fs) n =
@@ -44,7 +44,7 @@ quiet_in (Refused fault) stack offset n = refl
 pub none_waits-idle : (w : WalkerState) → (EventWaits w → ⊥) → waiting_events w ≡ []
 none_waits-idle w n = quiet_in w.phase w.stack w.offset n
 
--- if one waiting-returned, there is one in the list
+-- if one waits, there is one in the list
 no_more : (e : EventValue) (es : List EventValue) (k : Bool) → k ≡ true → (if k then e ∷ es else []) ≡ [] → ⊥
 no_more e es true t n = cc
 no_more e es false t n = absurd (cc)

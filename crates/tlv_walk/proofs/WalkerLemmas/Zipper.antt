@@ -1,4 +1,4 @@
--- A walker's state is a forest that keeps the rules, seen from its open end.
+-- A walker's state is a forest that keeps the rules, taken apart along its open elements.
 use Rattle.std.proofs.Common.{◌≡◌, ◌↔◌, ℕ, ◌+◌, Bool, true, false, cond, eqb, List, [], ◌∷◌, ◌++◌, length, None, refl}
 use Rattle.std.proofs.Common.{sym, ap, ◌∙◌, subst, arith, append_assoc}
 use Rattle.std.proofs.lemmas.Bool.{true≢false}
@@ -68,10 +68,10 @@ after-after p m n k e =
 pub after-none : (p : Place) → place_after p 0 ≡ p
 after-none p = let same : p.offset + 0 ≡ p.offset = omega arith in ap (λ (i : ℕ). record p { offset = i }) same
 
--- what is open there is so by either way to the place
-open-after : (p : Place) (m n k : ℕ) (g : Forest) → m + n ≡ k → KeepsRules (place_after p k) g
+-- what keeps the rules there does so by either way to the place
+rules-after : (p : Place) (m n k : ℕ) (g : Forest) → m + n ≡ k → KeepsRules (place_after p k) g
     → KeepsRules (place_after (place_after p m) n) g
-open-after p m n k g e w = subst (λ (q : Place). KeepsRules q g) (sym (after-after p m n k e)) w
+rules-after p m n k g e w = subst (λ (q : Place). KeepsRules q g) (sym (after-after p m n k e)) w
 
 -- ---- whole elements, and then others
 
@@ -103,34 +103,35 @@ whole-followed_by (OpenBitString h) g e = absurd (true≢false (sym e))
 whole-followed_by (OpenHeader octets) g e = absurd (true≢false (sym e))
 whole-followed_by OpenEndOctets g e = absurd (true≢false (sym e))
 
--- they are open if the others are, after them
-pub open-followed_by : (p : Place) (f g : Forest) → AreWhole p f → KeepsRules (place_after p (length (spelling f))) g
+-- they keep the rules if the others do, after them
+pub rules-followed_by : (p : Place) (f g : Forest) → AreWhole p f → KeepsRules (place_after p (length (spelling f))) g
     → KeepsRules p (followed_by f g)
-open-followed_by p NoMore g a w = subst (λ (q : Place). KeepsRules q g) (after-none p) w
-open-followed_by p (PaddingOctet rest) g a w = (
+rules-followed_by p NoMore g a w = subst (λ (q : Place). KeepsRules q g) (after-none p) w
+rules-followed_by p (PaddingOctet rest) g a w = (
   a.keeps_rules.0,
-  open-followed_by (place_after p 1) rest g (record { keeps_rules = a.keeps_rules.1; whole = a.whole })
-      (open-after p 1 (length (spelling rest)) _ g (omega arith) w),
+  rules-followed_by (place_after p 1) rest g (record { keeps_rules = a.keeps_rules.1; whole = a.whole })
+      (rules-after p 1 (length (spelling rest)) _ g (omega arith) w),
 )
-open-followed_by p (Primitive h c rest) g a w = (
+rules-followed_by p (Primitive h c rest) g a w = (
   a.keeps_rules.0,
-  open-followed_by (place_after p (length (octets_of h) + length c)) rest g (record {
+  rules-followed_by (place_after p (length (octets_of h) + length c)) rest g (record {
     keeps_rules = a.keeps_rules.1;
     whole = a.whole;
   })
-      (open-after p (length (octets_of h) + length c) (length (spelling rest)) _ g (sym (length-primitive h c rest)) w),
+      (rules-after p (length (octets_of h) + length c) (length (spelling rest)) _ g (sym (length-primitive h c rest))
+      w),
 )
-open-followed_by p (Holder h inside rest) g a w = (
+rules-followed_by p (Holder h inside rest) g a w = (
   a.keeps_rules.0,
   a.keeps_rules.1,
-  open-followed_by (place_after p (extent h inside)) rest g (record { keeps_rules = a.keeps_rules.2; whole = a.whole })
-      (open-after p (extent h inside) (length (spelling rest)) _ g (sym (length-holder h inside rest)) w),
+  rules-followed_by (place_after p (extent h inside)) rest g (record { keeps_rules = a.keeps_rules.2; whole = a.whole })
+      (rules-after p (extent h inside) (length (spelling rest)) _ g (sym (length-holder h inside rest)) w),
 )
-open-followed_by p (OpenPrimitive h c) g a w = absurd (true≢false (sym a.whole))
-open-followed_by p (OpenHolder h inside) g a w = absurd (true≢false (sym a.whole))
-open-followed_by p (OpenBitString h) g a w = absurd (true≢false (sym a.whole))
-open-followed_by p (OpenHeader octets) g a w = absurd (true≢false (sym a.whole))
-open-followed_by p OpenEndOctets g a w = absurd (true≢false (sym a.whole))
+rules-followed_by p (OpenPrimitive h c) g a w = absurd (true≢false (sym a.whole))
+rules-followed_by p (OpenHolder h inside) g a w = absurd (true≢false (sym a.whole))
+rules-followed_by p (OpenBitString h) g a w = absurd (true≢false (sym a.whole))
+rules-followed_by p (OpenHeader octets) g a w = absurd (true≢false (sym a.whole))
+rules-followed_by p OpenEndOctets g a w = absurd (true≢false (sym a.whole))
 
 -- the open end is the same by either way to the place
 open_end-after : (p : Place) (m n k : ℕ) (g : Forest) → m + n ≡ k
@@ -203,13 +204,13 @@ pub room-if_open : (ls : List Layer) (f : Forest) → is_whole f ≡ false → H
 room-if_open [] f e = tt
 room-if_open (l ∷ ls) f e = λ whole. absurd (true≢false (sym whole ∙ e))
 
--- they are open where they are, and so is the whole
-pub open-within : (w : Framing) (ls : List Layer) (f : Forest) → AreLayers w ls → KeepsRules (place_in w ls) f
+-- if they keep the rules where they are, so does the whole
+pub rules-within : (w : Framing) (ls : List Layer) (f : Forest) → AreLayers w ls → KeepsRules (place_in w ls) f
     → HasRoomIn ls f → KeepsRules (top_place w) (forest_in_layers ls f)
-open-within w [] f a v r = v
-open-within w (l ∷ ls) f a v r =
-    open-within w ls (followed_by l.before (OpenHolder l.header f)) a.0
-    (open-followed_by (place_in w ls) l.before (OpenHolder l.header f) a.1 ((a.2, r), v))
+rules-within w [] f a v r = v
+rules-within w (l ∷ ls) f a v r =
+    rules-within w ls (followed_by l.before (OpenHolder l.header f)) a.0
+    (rules-followed_by (place_in w ls) l.before (OpenHolder l.header f) a.1 ((a.2, r), v))
     (room-if_open ls _ (whole-followed_by l.before (OpenHolder l.header f) a.1.whole))
 
 -- the open end is theirs

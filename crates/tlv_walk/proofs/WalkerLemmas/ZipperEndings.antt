@@ -76,7 +76,7 @@ open_end-tail p (BitStringTail h) = refl
 open_end-tail p (HeaderTail octets) = refl
 open_end-tail p EndOctetsTail = refl
 
--- the open end at the place where a zipper cuts the forest
+-- the open end of a zipper: what is open after its whole elements
 abbrev pub zipper_end : Framing → Zipper → OpenEnd
 zipper_end w s = record { place = place_of w s; forest = tail_forest s.tail }
 
@@ -90,7 +90,7 @@ state-open_end w b yielded s h n =
     ∙ open_end-followed_by (place_in w.framing s.layers) s.here (tail_forest s.tail) h.here.whole
     ∙ open_end-tail (place_of w.framing s) s.tail
 
--- an octet with a fault of the list at the open end gives the ending, whatever follows
+-- an octet with a cause of the list at the open end gives the ending, whatever follows
 pub state-fault : (w : WalkerState) (b : List ℕ) (yielded : List EventValue) (s : Zipper) (x : ℕ) (rest : List ℕ)
     (code : FaultCode)
     → HasZipper w b yielded s → (EventWaits w → ⊥)

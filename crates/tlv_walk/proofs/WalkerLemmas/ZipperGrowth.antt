@@ -19,7 +19,7 @@ use Rattle.tlv_walk.specs.Private.Zipper.{events_of_layers, place_of, spelling_o
 use Rattle.tlv_walk.specs.Private.Yields.{Continues}
 use Rattle.tlv_walk.proofs.EventLemmas.Joined.{apart-before, apart-from_joined, apart-more, joined-from_apart}
 use Rattle.tlv_walk.proofs.GrammarLemmas.Spellings.{append_assoc-3}
-use Rattle.tlv_walk.proofs.WalkerLemmas.Zipper.{followed_by, open-followed_by, spelling-followed_by, whole-followed_by}
+use Rattle.tlv_walk.proofs.WalkerLemmas.Zipper.{followed_by, rules-followed_by, spelling-followed_by, whole-followed_by}
 use Rattle.tlv_walk.proofs.WalkerLemmas.ZipperEvents.{events-followed_by}
 
 -- events yielded one after another
@@ -100,7 +100,7 @@ pub are_whole : (p : Place) (here more : Forest) → AreWhole p here
     → KeepsRules (place_after p (length (spelling here))) more → is_whole more ≡ true
     → AreWhole p (followed_by here more)
 are_whole p here more h o w = record {
-  keeps_rules = open-followed_by p here more h o;
+  keeps_rules = rules-followed_by p here more h o;
   whole = whole-followed_by here more h.whole ∙ w;
 }
 

@@ -27,7 +27,7 @@ use Rattle.tlv_walk.proofs.GrammarLemmas.PushSteps.{Spells}
 use Rattle.tlv_walk.proofs.GrammarLemmas.Readings.{Going, run-reading}
 use Rattle.tlv_walk.proofs.GrammarLemmas.Settled.{end_in, settled-spells}
 use Rattle.tlv_walk.proofs.WalkerLemmas.Places.{walker-offset}
-use Rattle.tlv_walk.proofs.WalkerLemmas.Zipper.{followed_by, open-followed_by, open-within, reading_in, reading_of}
+use Rattle.tlv_walk.proofs.WalkerLemmas.Zipper.{followed_by, rules-followed_by, rules-within, reading_in, reading_of}
 use Rattle.tlv_walk.proofs.WalkerLemmas.Zipper.{room-if_open, settled_forest, spelling-followed_by, spelling-within}
 use Rattle.tlv_walk.proofs.WalkerLemmas.Zipper.{whole-followed_by, forest_in_layers}
 use Rattle.tlv_walk.proofs.WalkerLemmas.ZipperEvents.{events-followed_by, events-settled, events-within}
@@ -44,14 +44,14 @@ followed_by-end w ls here g e =
 
 -- ---- whole elements, and then an open end
 
--- they are open, with these octets
-open-spells : (w : Framing) (ls : List Layer) (here g : Forest) → AreLayers w ls → AreWhole (place_in w ls) here
+-- the forest keeps the rules, with these octets
+rules-spell : (w : Framing) (ls : List Layer) (here g : Forest) → AreLayers w ls → AreWhole (place_in w ls) here
     → KeepsRules (later_place w ls here) g → is_whole g ≡ false
     → Spells (top_place w) (spelling_of_layers ls ++ (spelling here ++ spelling g))
     (forest_in_layers ls (followed_by here g))
-open-spells w ls here g a i v e = record {
+rules-spell w ls here g a i v e = record {
   keeps_rules =
-      open-within w ls (followed_by here g) a (open-followed_by (place_in w ls) here g i v)
+      rules-within w ls (followed_by here g) a (rules-followed_by (place_in w ls) here g i v)
       (room-if_open ls (followed_by here g) (whole-followed_by here g i.whole ∙ e));
   spelled =
       spelling-within w ls (followed_by here g) a
@@ -72,11 +72,11 @@ open-events w ls here g a i =
 more-whole : (w : Framing) (ls : List Layer) (here g : Forest) → AreWhole (place_in w ls) here
     → AreWhole (later_place w ls here) g → AreWhole (place_in w ls) (followed_by here g)
 more-whole w ls here g i j = record {
-  keeps_rules = open-followed_by (place_in w ls) here g i j.keeps_rules;
+  keeps_rules = rules-followed_by (place_in w ls) here g i j.keeps_rules;
   whole = whole-followed_by here g i.whole ∙ j.whole;
 }
 
--- they are open, with these octets
+-- the forest keeps the rules, with these octets
 whole-spells : (w : Framing) (ls : List Layer) (here g : Forest) → AreLayers w ls → AreWhole (place_in w ls) here
     → AreWhole (later_place w ls here) g
     → Spells (top_place w) (spelling_of_layers ls ++ (spelling here ++ spelling g))
@@ -166,7 +166,7 @@ phase-tail InBitString (BitStringTail h) p i = i
 phase-tail InEndOctets EndOctetsTail p i = i
 phase-tail f t p i = absurd i
 
--- what a state has been read as is open, with the state's octets
+-- what a state has been read as keeps the rules, with the state's octets
 reading-spells : (w : Framing) (ls : List Layer) (here : Forest) (t : Tail) → AreLayers w ls
     → AreWhole (place_in w ls) here → IsTailAt (later_place w ls here) t
     → Spells (top_place w) (spelling_of_layers ls ++ (spelling here ++ spelling_of_tail t)) (reading_in ls here t)
@@ -191,11 +191,11 @@ reading-spells w ls here (PrimitiveTail h c) a i j = elim (cases_eq j.0 0) [
       })
   | inr n ↦
       rw (contents-less _ h c j.0 j.1 n)
-      (open-spells w ls here (OpenPrimitive h c) a i (contents-open_primitive _ h c j.0 j.1 n) refl)
+      (rules-spell w ls here (OpenPrimitive h c) a i (contents-open_primitive _ h c j.0 j.1 n) refl)
 ]
-reading-spells w ls here (BitStringTail h) a i j = open-spells w ls here (OpenBitString h) a i j refl
-reading-spells w ls here (HeaderTail octets) a i j = open-spells w ls here (OpenHeader octets) a i j refl
-reading-spells w ls here EndOctetsTail a i j = open-spells w ls here OpenEndOctets a i j refl
+reading-spells w ls here (BitStringTail h) a i j = rules-spell w ls here (OpenBitString h) a i j refl
+reading-spells w ls here (HeaderTail octets) a i j = rules-spell w ls here (OpenHeader octets) a i j refl
+reading-spells w ls here EndOctetsTail a i j = rules-spell w ls here OpenEndOctets a i j refl
 
 -- a primitive's end, yielded after what has been yielded of it
 contents-end : (around earlier ends : List EventValue) (h : HeaderValue) (c : List ℕ)
@@ -231,7 +231,7 @@ reading-events w ls here f t offset a i j e = absurd j
 
 -- ---- of a walker
 
--- what its state has been read as is open, with the octets taken
+-- what its state has been read as keeps the rules, with the octets taken
 pub state-spells : (w : WalkerState) (b : List ℕ) (yielded : List EventValue) (s : Zipper) → HasZipper w b yielded s
     → Spells (top_place w.framing) b (reading_of s)
 state-spells w b yielded s h =

@@ -45,7 +45,7 @@ impl Walker {
         Event::End
     }
 
-    /// Takes the padding at the front of the piece.
+    /// Takes the padding with which the piece begins.
     pub(super) fn padding<'a>(&mut self, piece: &mut &'a [u8]) -> Event<'a>
         requires phase { self.old.phase ≡ Between }
         requires zero { slice_get piece.old.now 0 ≡ Some 0 }

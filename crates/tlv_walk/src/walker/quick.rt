@@ -12,7 +12,7 @@ use crate::Event;
 use crate::framing::is_among;
 use tlv_head::{HeaderFields, Size, read_short};
 
-/// A primitive that lies whole at the front of a piece.
+/// A primitive, all of it, with which a piece begins.
 #[derive(Clone, Copy)]
 pub(crate) struct WholePrimitive {
     /// The fields of its header.

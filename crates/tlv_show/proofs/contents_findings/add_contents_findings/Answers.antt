@@ -8,7 +8,7 @@ use Rattle.tlv_show.specs.Found.{is_shown}
 use Rattle.tlv_show.proofs.contents_findings.add_contents_findings.Goals as goal
 use Rattle.tlv_show.proofs.contents_findings.add_contents_findings.Goals.{then-is_shown, else-is_shown}
 
--- one finding next-within is filter-next at
+-- one finding more is looked at
 module _ (test : Finding → Bool) (l old : List Finding) (i : ℕ) (x : Finding) (h : i < length l)
     (e : old ≡ filter test (take i l)) where
   filter-next : (b : Bool) → test (get_or l i x) ≡ b
