@@ -39,10 +39,11 @@ TextGoesOn job =
     → IsReading job.framing b f → IsReading job.framing (b ++ c) g
     → IsPrefixOf (job.text f) (job.text g)
 
--- that of a dump, and of a check
+-- the text of a dump goes on
 abbrev pub DumpsGoOn : Type 0
 DumpsGoOn = (options : Options) (names : NamesValue) → TextGoesOn (dump_job options names)
 
+-- the text of a check goes on
 abbrev pub ChecksGoOn : Type 0
 ChecksGoOn = (rules : Rules) (framing : Framing) → TextGoesOn (check_job rules framing)
 
@@ -76,7 +77,7 @@ DumpsMakeTexts =
     × (made.state.finder.finding_count ≡ finding_count options.rules f)
     × (made.goes ≡ On)
 
--- likewise a `Check`
+-- a `Check` puts the text of the check of such a reading, counts its findings, and never has enough
 abbrev pub ChecksMakeTexts : Type 0
 ChecksMakeTexts =
     (rules : Rules) (framing : Framing) (b : List ℕ) (f : Forest) → length b ≤ input_limit → IsReading framing b f

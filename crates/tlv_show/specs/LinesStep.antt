@@ -55,7 +55,7 @@ lines_open_step s h word =
     effect_with (record (lines_after_header s h) { layout = inner_layout s.layout })
     (opening_line s.layout h word)
 
--- it ends
+-- an element that holds others ends
 abbrev pub lines_close_step : LinesState → Option ℕ → Effect LinesState
 lines_close_step s None =
     effect_with (record s { layout = outer_layout s.layout }) (closing_line (outer_layout s.layout) None)

@@ -45,7 +45,7 @@ abbrev pub RowsAreACut : Type 0
 RowsAreACut =
     (kind : Kind) (octets : List ℕ) → IsCut (row_size kind) (character_length kind) octets (rows_of kind octets)
 
--- and are the only one
+-- a cut of contents is their rows: there is no other
 abbrev pub RowsHaveOneCut : Type 0
 RowsHaveOneCut =
     (kind : Kind) (octets : List ℕ) (rows : List (List ℕ))

@@ -17,7 +17,7 @@ cut_of_contents kind octets = cut_of_octets (is_text kind) octets
 abbrev pub rows_of : Kind → List ℕ → List (List ℕ)
 rows_of kind octets = (cut_of_contents kind octets).rows
 
--- those that are full whatever octets follow: all but a last one that has fewer octets than a row has room for
+-- of rows, those that are full whatever octets follow: all but a last one that has fewer octets than a row has room for
 abbrev pub full_rows_in : Kind → List (List ℕ) → List (List ℕ)
 full_rows_in kind [] = []
 full_rows_in kind (row ∷ []) = if eqb (length row) (row_size kind) then row ∷ [] else []

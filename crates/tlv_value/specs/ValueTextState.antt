@@ -72,8 +72,8 @@ idle_value_text = new_value_text_of (record {
 })
 
 -- what is kept after more octets of a long value whose line was put
-abbrev pub kept_after_line : Kind → KeptContents → List ℕ → KeptContents
-kept_after_line kind k octets = record {
+abbrev pub kept_contents_after_line : Kind → KeptContents → List ℕ → KeptContents
+kept_contents_after_line kind k octets = record {
   has_put_line = true;
   row_count = k.row_count + length (full_rows kind k.row octets);
   row = open_row kind k.row octets;
@@ -84,38 +84,38 @@ abbrev pub full_row_lines : Kind → Layout → KeptContents → List ℕ → Li
 full_row_lines kind layout k octets = row_lines kind layout k.row_count (full_rows kind k.row octets)
 
 -- what is kept of a long value whose line came with this first contents octet
-abbrev pub kept_with_line : Kind → ℕ → KeptContents
-kept_with_line kind x = record { has_put_line = true; row_count = 0; row = row_octets kind (x ∷ []) }
+abbrev pub kept_contents_with_line : Kind → ℕ → KeptContents
+kept_contents_with_line kind x = record { has_put_line = true; row_count = 0; row = row_octets kind (x ∷ []) }
 
 -- what is kept after more octets of a long value whose line was not put: it comes with the first of them
-abbrev pub kept_before_line : Kind → KeptContents → List ℕ → KeptContents
-kept_before_line kind k [] = k
-kept_before_line kind k (x ∷ octets) = kept_after_line kind (kept_with_line kind x) octets
+abbrev pub kept_contents_before_line : Kind → KeptContents → List ℕ → KeptContents
+kept_contents_before_line kind k [] = k
+kept_contents_before_line kind k (x ∷ octets) = kept_contents_after_line kind (kept_contents_with_line kind x) octets
 
 -- that line, and the lines of the rows that are full with these octets
 abbrev pub first_row_lines : ValueTextState → List ℕ → List ℕ
 first_row_lines s [] = []
 first_row_lines s (x ∷ octets) =
     long_value_line s.primitive (x ∷ [])
-    ++ full_row_lines s.primitive.kind s.primitive.layout (kept_with_line s.primitive.kind x) octets
+    ++ full_row_lines s.primitive.kind s.primitive.layout (kept_contents_with_line s.primitive.kind x) octets
 
 -- what is kept after more octets of a long value
-abbrev pub long_kept_after : ValueTextState → List ℕ → KeptContents
-long_kept_after s octets =
+abbrev pub long_kept_contents_after : ValueTextState → List ℕ → KeptContents
+long_kept_contents_after s octets =
     if s.kept.has_put_line
-    then kept_after_line s.primitive.kind s.kept octets
-    else kept_before_line s.primitive.kind s.kept octets
+    then kept_contents_after_line s.primitive.kind s.kept octets
+    else kept_contents_before_line s.primitive.kind s.kept octets
 
 -- what is kept after more octets
-abbrev pub kept_after : ValueTextState → List ℕ → KeptContents
-kept_after s octets =
+abbrev pub kept_contents_after : ValueTextState → List ℕ → KeptContents
+kept_contents_after s octets =
     if is_long_primitive s.primitive
-    then long_kept_after s octets
+    then long_kept_contents_after s octets
     else record s.kept { row = s.kept.row ++ octets }
 
 -- the state after more octets
 abbrev pub value_text_after : ValueTextState → List ℕ → ValueTextState
-value_text_after s octets = record s { left = s.left - length octets; kept = kept_after s octets }
+value_text_after s octets = record s { left = s.left - length octets; kept = kept_contents_after s octets }
 
 -- the state for contents of which these octets have come
 abbrev pub value_text_for : HeaderValue → Layout → List ℕ → ValueTextState

@@ -3,7 +3,7 @@ ghost use Rattle.std.specs.Prelude.{◌≡◌, ◌≢◌, ◌<◌, ◌≤◌, �
 ghost use Rattle.std.specs.Prelude.{drop, true};
 ghost use Rattle.tlv_walk.specs.Stack.{IsInIndefinite, IsInWrapper, bound_of};
 ghost use Rattle.tlv_walk.specs.Place.{IsWithin};
-ghost use Rattle.tlv_walk.specs.Private.FrameFields.{unbounded};
+ghost use Rattle.tlv_walk.specs.Private.FrameFields.{no_bound_mark};
 ghost use Rattle.tlv_walk.specs.Private.Stack.{IsFilled, frame_inside, innermost_wraps, room_in, room_to};
 
 use crate::frames::Frames;
@@ -92,7 +92,7 @@ impl Stack {
     #[inline(always)]
     pub fn push(&mut self, end: Option<u64>, wrapper: bool)
         requires shallow { length self.old < 128 }
-        requires end { IfSome end (λ e. e < unbounded) }
+        requires end { IfSome end (λ e. e < no_bound_mark) }
         requires definite { wrapper ≡ true → end ≢ None }
         ensures { self.new ≡ frame_inside self.old end wrapper ∷ self.old }
     {

@@ -15,10 +15,11 @@ use Rattle.tlv_value.specs.Rows.{full_rows, full_rows_in, open_row, open_row_in,
 use Rattle.tlv_value.specs.Private.PrimitiveLines.{lines_in_steps}
 use Rattle.tlv_value.specs.ValueLines.{has_line, open_lines, row_lines, whole_lines}
 use Rattle.tlv_value.specs.ValueTextState.{KeptContents, ValueTextState, begin_lines, contents_lines, end_lines}
-use Rattle.tlv_value.specs.ValueTextState.{kept_with_line, kept_before_line, full_row_lines, new_value_text_of}
+use Rattle.tlv_value.specs.ValueTextState.{kept_contents_with_line, kept_contents_before_line, full_row_lines}
+use Rattle.tlv_value.specs.ValueTextState.{new_value_text_of}
 use Rattle.tlv_value.specs.ValueTextState.{new_value_text, primitive_line, primitive_lines, new_primitive}
-use Rattle.tlv_value.specs.ValueTextState.{kept_after_line}
-use Rattle.tlv_value.specs.ValueTextState.{kept_after, value_text_for, value_text_after}
+use Rattle.tlv_value.specs.ValueTextState.{kept_contents_after_line}
+use Rattle.tlv_value.specs.ValueTextState.{kept_contents_after, value_text_for, value_text_after}
 use Rattle.tlv_value.specs.Value.{NameOf, is_long, long_text, long_value, row_octets, short_value}
 use Rattle.std.proofs.lemmas.Bool.Decides.{nat_tests}
 use Rattle.tlv_value.proofs.TextLemmas.RowLines.{row_lines-append}
@@ -34,7 +35,7 @@ kept-eq n m r q e f = ap (λ (j : ℕ). kept_with j r) e ∙ ap (kept_with m) f
 module _ (kind : Kind) where
   -- what is kept, and what is written, of two pieces
   kept-join : (k : KeptContents) (x y : List ℕ)
-      → kept_after_line kind (kept_after_line kind k x) y ≡ kept_after_line kind k (x ++ y)
+      → kept_contents_after_line kind (kept_contents_after_line kind k x) y ≡ kept_contents_after_line kind k (x ++ y)
   kept-join k x y =
       let j = rows-join kind k.row x y in
       let n : k.row_count + length (full_rows kind k.row x) + length (full_rows kind (open_row kind k.row x) y)
@@ -46,7 +47,7 @@ module _ (kind : Kind) where
 
   new-join : (layout : Layout) (k : KeptContents) (x y : List ℕ)
       → full_row_lines kind layout k (x ++ y)
-      ≡ full_row_lines kind layout k x ++ full_row_lines kind layout (kept_after_line kind k x) y
+      ≡ full_row_lines kind layout k x ++ full_row_lines kind layout (kept_contents_after_line kind k x) y
   new-join layout k x y =
       ap (row_lines kind layout k.row_count) (rows-join kind k.row x y).0
       ∙ row_lines-append kind layout k.row_count (full_rows kind k.row x) (full_rows kind (open_row kind k.row x) y)
@@ -55,7 +56,8 @@ module _ (kind : Kind) where
 module _ (kind : Kind) (layout : Layout) (line : List ℕ → List ℕ) (size : ℕ) where
   abbrev kept_by : Bool → Bool → KeptContents → List ℕ → KeptContents
   kept_by long has_put_line k x =
-      if long then (if has_put_line then kept_after_line kind k x else kept_before_line kind k x) else record {
+      if long then (if has_put_line then kept_contents_after_line kind k x else kept_contents_before_line kind k x) else
+          record {
         has_put_line = k.has_put_line;
         row_count = k.row_count;
         row = k.row ++ x;
@@ -63,7 +65,8 @@ module _ (kind : Kind) (layout : Layout) (line : List ℕ → List ℕ) (size : 
 
   abbrev first_new : List ℕ → List ℕ
   first_new [] = []
-  first_new (u ∷ x) = line (long_text kind size (u ∷ [])) ++ full_row_lines kind layout (kept_with_line kind u) x
+  first_new (u ∷ x) = line (long_text kind size (u ∷ [])) ++ full_row_lines kind layout (kept_contents_with_line kind u)
+      x
 
   abbrev new_by : Bool → Bool → KeptContents → List ℕ → List ℕ
   new_by long has_put_line k x =
@@ -77,7 +80,7 @@ module _ (kind : Kind) (layout : Layout) (line : List ℕ → List ℕ) (size : 
       (append_assoc k.row x y)
   join-kept true true k x y e = kept-join kind k x y
   join-kept true false k [] y e = rw e refl
-  join-kept true false k (u ∷ x) y e = kept-join kind (kept_with_line kind u) x y
+  join-kept true false k (u ∷ x) y e = kept-join kind (kept_contents_with_line kind u) x y
 
   join-new : (long has_put_line : Bool) (k : KeptContents) (x y : List ℕ) → k.has_put_line ≡ has_put_line
       → new_by long has_put_line k (x ++ y)
@@ -87,9 +90,11 @@ module _ (kind : Kind) (layout : Layout) (line : List ℕ → List ℕ) (size : 
   join-new true true k x y e = new-join kind layout k x y
   join-new true false k [] y e = rw e refl
   join-new true false k (u ∷ x) y e =
-      ap (λ (t : List ℕ). line (long_text kind size (u ∷ [])) ++ t) (new-join kind layout (kept_with_line kind u) x y)
-      ∙ sym (append_assoc (line (long_text kind size (u ∷ []))) (full_row_lines kind layout (kept_with_line kind u) x)
-      (full_row_lines kind layout (kept_after_line kind (kept_with_line kind u) x) y))
+      ap (λ (t : List ℕ). line (long_text kind size (u ∷ [])) ++ t)
+          (new-join kind layout (kept_contents_with_line kind u) x y)
+      ∙ sym (append_assoc (line (long_text kind size (u ∷ [])))
+      (full_row_lines kind layout (kept_contents_with_line kind u) x)
+      (full_row_lines kind layout (kept_contents_after_line kind (kept_contents_with_line kind u) x) y))
 
 abbrev with_kept : ValueTextState → ℕ → KeptContents → ValueTextState
 with_kept s left k = record { primitive = s.primitive; left = left; kept = k }
@@ -110,12 +115,12 @@ pieces-join s x y =
     let t =
     join-new s.primitive.kind s.primitive.layout (primitive_line s.primitive) s.primitive.size
     (is_long s.primitive.kind s.primitive.size) s.kept.has_put_line s.kept x y refl in (
-      ap (λ (n : ℕ). with_kept s n (kept_after (value_text_after s x) y)) l
+      ap (λ (n : ℕ). with_kept s n (kept_contents_after (value_text_after s x) y)) l
           ∙ ap (with_kept s (s.left - length (x ++ y))) k,
       sym (new_by-new s (x ++ y)) ∙ t
           ∙ ap (λ (r : List ℕ). r
           ++ new_by s.primitive.kind s.primitive.layout (primitive_line s.primitive) s.primitive.size
-          (is_long s.primitive.kind s.primitive.size) (kept_after s x).has_put_line (kept_after s x)
+          (is_long s.primitive.kind s.primitive.size) (kept_contents_after s x).has_put_line (kept_contents_after s x)
           y)
           (new_by-new s x)
           ∙ ap (λ (r : List ℕ). contents_lines s x ++ r) (new_by-new (value_text_after s x) y),
@@ -267,7 +272,7 @@ pub after-nothing : (h : HeaderValue) (layout : Layout)
 after-nothing h layout =
     let s : ValueTextState = new_value_text h layout in
     let l : s.left - 0 ≡ s.left = omega arith in
-    ap (λ (n : ℕ). with_kept s n (kept_after s [])) l
+    ap (λ (n : ℕ). with_kept s n (kept_contents_after s [])) l
     ∙ ap (with_kept s s.left)
     (after-nothing_at s.primitive.kind s.primitive.layout (primitive_line s.primitive) s.primitive.size
     (is_long s.primitive.kind s.primitive.size) s.kept.has_put_line refl)

@@ -72,7 +72,7 @@ GivesAll new octets (Err ReadFailed) = FailsWithin new octets
 GivesAll new octets (Err Memory) = length octets ≤ file_limit
 GivesAll new octets (Err fault) = ⊥
 
--- they are read in pieces
+-- the octets of a names file, read in pieces
 pub record Gives {Z : Type 0} (old new : SourceState) (result : Result (Vec ℕ Z) NamesFault) : Type 0 where
   pub pieces : Pieces old new
   pub gives : GivesAll new (octets_given pieces) result

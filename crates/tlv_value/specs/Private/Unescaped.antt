@@ -16,7 +16,7 @@ has_ascii_octets Text = true
 has_ascii_octets Utf8 = true
 has_ascii_octets _ = false
 
--- it is a number of octets that there are, and not 0
+-- the count is that of some of these octets: of one at least
 pub record IsSomeOf (count : ℕ) (octets : List ℕ) : Type 0 where
   pub some : 1 ≤ count
   pub within : count ≤ length octets

@@ -252,7 +252,7 @@ yields_filled w e f fs is full = record {
       filled_from w b yielded s s.layers (tail_state w b yielded s _ t has) e f fs is full;
 }
 
--- a stack of which the innermost frame says so
+-- a stack that has an innermost frame
 record IsInnermost (stack : List FrameValue) (k : Bool) : Type 0 where
   frame : FrameValue
   stack_is : stack ≡ frame ∷ drop 1 stack
@@ -278,7 +278,7 @@ yields_popped w k e full is =
     (yields_filled w e i.frame (drop 1 w.stack) i.stack_is
     (frame_filled w.stack i.frame (drop 1 w.stack) w.offset i.stack_is full))
 
--- an element that is filled wraps nothing, or says so
+-- the innermost element, which is filled and is no wrapper, wraps nothing
 wraps_none : (stack : List FrameValue) (offset : ℕ) → IsFilled stack offset → (IsInWrapper stack → ⊥)
     → innermost_wraps stack ≡ Some false
 wraps_none [] offset full n = absurd full

@@ -7,12 +7,12 @@ use Rattle.tlv_walk.specs.declared.stack.FrameKind.{FrameKind}
 use Rattle.tlv_walk.specs.declared.stack.FrameKind.TheVariants.{Input, Definite, Indefinite, Wrapper}
 
 -- the largest u64, which says that there is no bound
-abbrev pub unbounded : ℕ
-unbounded = 2 ^ 64 - 1
+abbrev pub no_bound_mark : ℕ
+no_bound_mark = 2 ^ 64 - 1
 
 -- the bound, if there is one
 abbrev pub bound_from : ℕ → Option ℕ
-bound_from n = if eqb n unbounded then None else Some n
+bound_from n = if eqb n no_bound_mark then None else Some n
 
 -- where the contents end, if the length is definite: such an element is itself the innermost that is definite
 abbrev pub end_from : FrameKind → ℕ → Option ℕ
@@ -40,14 +40,14 @@ frames_from innermost (f ∷ fs) = frame_from innermost ∷ frames_from f fs
 
 -- the frame of the input, which has no bound
 abbrev pub IsInput : Frame → Type 0
-IsInput f = (f.kind ≡ Input) × (f.bound ≡ unbounded)
+IsInput f = (f.kind ≡ Input) × (f.bound ≡ no_bound_mark)
 
 -- an element, whose end is known if its length is definite
 abbrev pub HasEnd : FrameKind → ℕ → Type 0
 HasEnd Input n = ⊥
-HasEnd Definite n = n ≢ unbounded
+HasEnd Definite n = n ≢ no_bound_mark
 HasEnd Indefinite n = Unit {0}
-HasEnd Wrapper n = n ≢ unbounded
+HasEnd Wrapper n = n ≢ no_bound_mark
 
 -- the input holds all the others, which are elements
 abbrev pub AreHolders : Frame → List Frame → Type 0
