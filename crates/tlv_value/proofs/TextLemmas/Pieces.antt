@@ -57,7 +57,7 @@ module _ (kind : Kind) (layout : Layout) (line : List ℕ → List ℕ) (size : 
   abbrev kept_by : Bool → Bool → KeptContents → List ℕ → KeptContents
   kept_by long has_put_line k x =
       if long then (if has_put_line then kept_contents_after_line kind k x else kept_contents_before_line kind k x) else
-          record {
+      record {
         has_put_line = k.has_put_line;
         row_count = k.row_count;
         row = k.row ++ x;
@@ -91,7 +91,7 @@ module _ (kind : Kind) (layout : Layout) (line : List ℕ → List ℕ) (size : 
   join-new true false k [] y e = rw e refl
   join-new true false k (u ∷ x) y e =
       ap (λ (t : List ℕ). line (long_text kind size (u ∷ [])) ++ t)
-          (new-join kind layout (kept_contents_with_line kind u) x y)
+      (new-join kind layout (kept_contents_with_line kind u) x y)
       ∙ sym (append_assoc (line (long_text kind size (u ∷ [])))
       (full_row_lines kind layout (kept_contents_with_line kind u) x)
       (full_row_lines kind layout (kept_contents_after_line kind (kept_contents_with_line kind u) x) y))
