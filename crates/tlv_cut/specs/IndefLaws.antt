@@ -5,7 +5,7 @@ use Rattle.tlv_walk.specs.Ending.{IsEnding}
 use Rattle.tlv_walk.specs.Events.{events}
 use Rattle.tlv_walk.specs.Follow.{effect_of, effect_with}
 use Rattle.tlv_walk.specs.Forest.{Forest, spelling}
-use Rattle.tlv_walk.specs.Place.{KeepsRules, top_place}
+use Rattle.tlv_walk.specs.Place.{ObeysGrammar, top_place}
 use Rattle.tlv_walk.specs.Reading.{IsPrefixOf, IsReading}
 use Rattle.tlv_walk.specs.LongerInputs.{ForLongerInputs}
 use Rattle.tlv_cut.specs.IndefText.{indef_text}
@@ -21,11 +21,11 @@ IndefMakesItsText = (s : IndefState) (f : Forest) → effect_of indef_step s (ev
 abbrev pub IndefTextGoesOn : Type 0
 IndefTextGoesOn = ForLongerInputs (λ f g. IsPrefixOf (indef_text f) (indef_text g))
 
--- what is written of elements that keep the rules are the octets of elements that keep them too
-abbrev pub IndefTextKeepsRules : Type 0
-IndefTextKeepsRules = (padding : Bool) (f : Forest) → KeepsRules (top_place (indef_framing padding)) f
+-- what is written of elements that obey the grammar are the octets of elements that obey it too
+abbrev pub IndefTextObeysGrammar : Type 0
+IndefTextObeysGrammar = (padding : Bool) (f : Forest) → ObeysGrammar (top_place (indef_framing padding)) f
     → (spelling (indef_reading f) ≡ indef_text f)
-    × KeepsRules (top_place (indef_framing padding)) (indef_reading f)
+    × ObeysGrammar (top_place (indef_framing padding)) (indef_reading f)
 
 -- what is written for an input is read back: as the same elements with indefinite lengths, and for these the same
 -- octets are written again

@@ -13,7 +13,7 @@ ghost use Rattle.tlv_cut.specs.IndefLaws.{
   IndefTextGoesOn,
   IndefTextIsDone,
   IndefTextIsReadBack,
-  IndefTextKeepsRules,
+  IndefTextObeysGrammar,
 };
 
 /// What `extract` writes of an element are octets of the input as they are, from the element's
@@ -62,8 +62,8 @@ pub fn indef_text_goes_on()
 
 /// What `indef` writes are the octets of the same elements with indefinite lengths, and these keep
 /// the rules.
-pub fn indef_text_keeps_rules()
-    ensures { IndefTextKeepsRules }
+pub fn indef_text_obeys_grammar()
+    ensures { IndefTextObeysGrammar }
 {}
 
 /// What `indef` writes is read as the same elements with indefinite lengths, and for these `indef`

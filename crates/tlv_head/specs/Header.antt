@@ -108,6 +108,10 @@ pub record IsHeader (h : HeaderValue) : Type 0 where
 abbrev pub announced_length : Size → ℕ
 announced_length size = unwrap_or (definite_length size) 0
 
+-- 8.1.3.3: the contents octets are as many as the header announces
+abbrev pub HasAllContents : HeaderValue → List ℕ → Type 0
+HasAllContents h contents = announced_length h.size ≡ length contents
+
 -- 8.1.2.2 a): the class is universal
 abbrev pub is_universal : Class → Bool
 is_universal class = eqb (class_bits class) 0

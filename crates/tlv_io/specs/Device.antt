@@ -33,9 +33,13 @@ pub record DrainState : Type 0 where
 abbrev pub new_read_log : ReadLogState
 new_read_log = record { reads = 0; last = never; failures = 0 }
 
+-- a source with these octets left, and this log of its reads
+abbrev pub source_with : Option (List ℕ) → ReadLogState → SourceState
+source_with left log = record { left = left; reads = log.reads; last = log.last; failures = log.failures }
+
 -- a source with these octets, of which nothing was read
 abbrev pub new_source : Option (List ℕ) → SourceState
-new_source left = record { left = left; reads = 0; last = never; failures = 0 }
+new_source left = source_with left new_read_log
 
 -- a count to which so many are added at once; it stops at 2^64 - 1
 abbrev pub count_after : ℕ → ℕ → ℕ

@@ -1,7 +1,7 @@
 pub mod Device
 pub mod MemDrain
 pub mod MemSource
-pub mod HeldLimit
+pub mod OutLimits
 pub mod LineTexts
 pub mod Cuts
 pub mod Out

@@ -1,7 +1,7 @@
 -- What is added to the octets that an `Out` holds, and texts that lines are made of.
 use Rattle.std.specs.Prelude.{◌≡◌, ℕ, ◌+◌, ◌-◌, ◌≤◌, List, [], ◌∷◌, ◌++◌, codes, decimal, flat_map, length, replicate}
 use Rattle.hex.specs.Hex.{encode_lower}
-use Rattle.tlv_io.specs.HeldLimit.{held_limit}
+use Rattle.tlv_io.specs.OutLimits.{held_limit}
 
 -- an `Out` that holds these octets has room for so many more
 abbrev pub HasRoomFor : List ℕ → ℕ → Type 0

@@ -1,7 +1,7 @@
 -- A source over memory, as contracts see it.
 use Rattle.std.specs.Prelude.{ℕ, List, Option, Some, min, max, length, slice_get}
 use Rattle.std.specs.Option.{option_map_or}
-use Rattle.tlv_io.specs.Device.{ReadLogState, SourceState}
+use Rattle.tlv_io.specs.Device.{ReadLogState, SourceState, source_with}
 
 -- what a source over memory has left, where it cuts, the read that is to fail, and what it keeps of its reads
 pub record MemSourceState : Type 0 where
@@ -12,7 +12,7 @@ pub record MemSourceState : Type 0 where
 
 -- what a source over memory shows of itself
 abbrev pub source_state_of : MemSourceState → SourceState
-source_state_of s = record { left = Some s.left; reads = s.log.reads; last = s.log.last; failures = s.log.failures }
+source_state_of s = source_with (Some s.left) s.log
 
 -- of this many octets, as many as the read with index i may give: its cut, at least one, or all of them after the cuts
 abbrev pub cut_count : List ℕ → ℕ → ℕ → ℕ

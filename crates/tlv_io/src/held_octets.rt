@@ -1,6 +1,6 @@
 //! The octets that an `Out` holds, to which texts are added in place.
 ghost use Rattle.std.specs.Prelude.{◌≡◌, ◌+◌, ◌*◌, ◌≤◌, ◌++◌, [], length, take};
-ghost use Rattle.tlv_io.specs.HeldLimit.{held_limit};
+ghost use Rattle.tlv_io.specs.OutLimits.{held_limit};
 ghost use Rattle.tlv_io.specs.LineTexts.{AddsIfRoom, HasRoomFor, spaced_pairs, spaces};
 
 mod numbers;
@@ -23,7 +23,7 @@ pub struct HeldOctets {
 
 impl Model for HeldOctets {
     ghost use Rattle.std.specs.Prelude.{◌≤◌, ℕ, List, take};
-    ghost use Rattle.tlv_io.specs.HeldLimit.{held_limit};
+    ghost use Rattle.tlv_io.specs.OutLimits.{held_limit};
 
     ghost Value = { List ℕ };
 

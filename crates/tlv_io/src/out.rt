@@ -1,7 +1,7 @@
 //! An [`Out`]: it holds octets, and hands them to a drain.
 
 ghost use Rattle.std.specs.Prelude.{◌≡◌, ◌≤◌, [], length, OnOk};
-ghost use Rattle.tlv_io.specs.HeldLimit.{held_limit};
+ghost use Rattle.tlv_io.specs.OutLimits.{held_limit, line_room};
 ghost use Rattle.tlv_io.specs.LineTexts.{HasRoomFor};
 ghost use Rattle.tlv_io.specs.Out.{Puts, Sends, held_octets, drain_of};
 
@@ -44,7 +44,7 @@ impl<'d, D: Drain> Out<'d, D> {
     #[inline(always)]
     pub fn make_room(&mut self) -> Result<(), WriteFault>
         ensures puts { Puts D.state self.old self.new [] result }
-        ensures room { OnOk result (HasRoomFor (held_octets self.new) 1024) }
+        ensures room { OnOk result (HasRoomFor (held_octets self.new) line_room) }
     {
         self.make_room_for(LINE)
     }

@@ -1,7 +1,7 @@
 //! A reader as a source, and a writer as a drain.
 
 ghost use Rattle.std.specs.Prelude.{◌≡◌};
-ghost use Rattle.tlv_io.specs.Device.{new_source};
+ghost use Rattle.tlv_io.specs.Device.{new_source, source_with};
 
 use crate::drain::{Drain, WriteFault};
 use crate::source::{ReadFault, ReadLog, Source};
@@ -27,12 +27,7 @@ impl<R: Read + Drop> ReadSource<R> {
 }
 
 impl<R: Read + Drop> Source for ReadSource<R> {
-    ghost state = { λ source. record {
-      left = R.remaining source.reader;
-      reads = source.log.reads;
-      last = source.log.last;
-      failures = source.log.failures;
-    } };
+    ghost state = { λ source. source_with (R.remaining source.reader) source.log };
 
     fn read(&mut self, to: &mut [u8]) -> Result<usize, ReadFault> {
         // `read` itself: the reader's other methods try again after an interruption.

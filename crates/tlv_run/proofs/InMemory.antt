@@ -26,7 +26,7 @@ use Rattle.tlv_walk.specs.Forest.{Forest, spelling}
 use Rattle.tlv_walk.specs.Job.{EndsWith, Job, Runs, WantMore, device_states}
 use Rattle.tlv_io.specs.Out.{Sends}
 use Rattle.tlv_walk.specs.Reading.{AreOctets, IsPrefixOf, IsReading}
-use Rattle.tlv_run.proofs.Results.{Stays, one_made, settled_stays}
+use Rattle.tlv_run.proofs.Results.{EnoughStays, one_made, settled_stays}
 use Rattle.tlv_run.specs.RunsOctets.{IsReport, RunsOctets, at_source_end, read_failed, at_settled_result, too_long}
 use Rattle.tlv_run.specs.Report.{ReportValue, device_report, result_report}
 use Rattle.tlv_run.specs.Results.{CommandResult, IsJobResult, IsSettled, command_result}
@@ -40,7 +40,7 @@ spelled_on framing b f ending.Done r s x final = absurd final
 spelled_on framing b f (ending.Fault k) r s x final =
     let y : IsRefused framing b k.code k.offset = fault-halt framing b k.code k.offset final.0 final.1 x in
     let most : length (spelling f) ≤ length (spelling y.forest) =
-    halt-longest framing y.forest k.code b y.halt f r.keeps_rules ([], append-nil (spelling f) ∙ s) in
+    halt-longest framing y.forest k.code b y.halt f r.obeys_grammar ([], append-nil (spelling f) ∙ s) in
     omega (
       arith,
       most,
@@ -49,7 +49,7 @@ spelled_on framing b f (ending.Fault k) r s x final =
       length-append (spelling y.forest) (y.halt.octet ∷ y.halt.rest),
     )
 
-module _ (job : Job ReportValue) (stays : Stays job)
+module _ (job : Job ReportValue) (stays : EnoughStays job)
     (goes_on : (b c : List ℕ) (f g : Forest) → length (b ++ c) ≤ job.limit
     → IsReading job.framing b f → IsReading job.framing (b ++ c) g → IsPrefixOf (job.text f) (job.text g))
     (octets : List ℕ) (all : AreOctets octets) (read_fails : Bool) where

@@ -13,7 +13,7 @@ use Rattle.tlv_io.specs.Device.{next_count, octets_given}
 use Rattle.tlv_walk.specs.Job.{DeviceStates, Job, Runs}
 use Rattle.tlv_walk.specs.Reading.{AreOctets}
 use Rattle.tlv_run.proofs.KnownDevices.{at_end, left_of}
-use Rattle.tlv_run.proofs.Results.{Stays, limit_is, settled_stays, stays_for}
+use Rattle.tlv_run.proofs.Results.{EnoughStays, limit_is, settled_stays, stays_for}
 use Rattle.tlv_run.specs.Laws.{RunsAreResults}
 use Rattle.tlv_run.specs.Report.{ReportValue, result_report}
 use Rattle.tlv_run.specs.Results.{CommandResult, IsJobResult, IsSettled, command_job, command_result}
@@ -22,7 +22,7 @@ use Rattle.tlv_run.specs.Results.{CommandResult, IsJobResult, IsSettled, command
 goes_up : (n : ℕ) → n < 2 ^ 64 - 1 → next_count n ≡ n → ⊥
 goes_up n less e = omega (arith, less, e)
 
-module _ (job : Job ReportValue) (stays : Stays job) (octets : List ℕ) (all : AreOctets octets)
+module _ (job : Job ReportValue) (stays : EnoughStays job) (octets : List ℕ) (all : AreOctets octets)
     (few : length octets ≤ job.limit)
     (old new : DeviceStates) (known : old.source.left ≡ Some octets) where
   -- the result of the octets was written, and this is reported

@@ -87,12 +87,12 @@ module _ (job : Job ReportValue) where
       (result_of b, x, λ (other : CommandResult) y. makes_unique b other (result_of b) y x)
 
   -- if nothing more is wanted, the same is made of every longer input
-  abbrev pub Stays : Type 0
-  Stays = (b c : List ℕ) (f g : Forest) → IsReading job.framing b f → IsReading job.framing (b ++ c) g
+  abbrev pub EnoughStays : Type 0
+  EnoughStays = (b c : List ℕ) (f g : Forest) → IsReading job.framing b f → IsReading job.framing (b ++ c) g
       → job.is_enough f ≡ true
       → (job.is_enough g ≡ true) × ((e : Ending) → command_result job g e ≡ command_result job f e)
 
-  pub settled_stays : Stays → (b c : List ℕ) (made : CommandResult) → AreOctets (b ++ c) → (x : IsJobResult job b made)
+  pub settled_stays : EnoughStays → (b c : List ℕ) (made : CommandResult) → AreOctets (b ++ c) → (x : IsJobResult job b made)
       → IsSettled x → (y : IsJobResult job (b ++ c) made) × IsSettled y
   settled_stays stays b c made octets x s = elim s [
     | inl enough ↦
@@ -123,7 +123,7 @@ inputs_have_one_result command names = one_made (command_job command names)
 abbrev result_of_parts : List ℕ → Ending → ReportValue → CommandResult
 result_of_parts t e report = record { output = t; ending = e; report = report }
 
-pub stays_for : (command : Command) (names : NamesValue) → Stays (command_job command names)
+pub stays_for : (command : Command) (names : NamesValue) → EnoughStays (command_job command names)
 stays_for (Dump options names_file file) names b c f g r s e = absurd (true≢false (sym e))
 stays_for (Check rules framing file) names b c f g r s e = absurd (true≢false (sym e))
 stays_for (Extract offset contents framing file) names b c f g r s e =

@@ -12,7 +12,7 @@ use Rattle.tlv_show.specs.FinderState.{new_check}
 use Rattle.tlv_show.specs.Texts.{check_line, finding_count}
 use Rattle.tlv_show.specs.CheckStep.{check_step}
 use Rattle.tlv_show.specs.DumpStep.{new_dump}
-use Rattle.tlv_head.specs.Header.{HeaderValue, announced_length}
+use Rattle.tlv_head.specs.Header.{HasAllContents, HeaderValue, announced_length}
 use Rattle.tlv_value.specs.Names.{NamesValue}
 use Rattle.tlv_value.specs.ValueLines.{whole_lines}
 use Rattle.tlv_walk.specs.Events.{Begin, Bytes, End, events}
@@ -57,7 +57,7 @@ contents_finding_lines s h c =
 -- of what is found with its header and on its contents. Nothing of it is kept
 abbrev pub PrimitivesAreShown : Type 0
 PrimitivesAreShown =
-    (s : DumpState) (h : HeaderValue) (c : List ℕ) → announced_length h.size ≡ length c
+    (s : DumpState) (h : HeaderValue) (c : List ℕ) → HasAllContents h c
     → (shown : DumpState)
     × (shown.lines.open_text ≡ None)
     × (shown.finder.open_primitive ≡ None)

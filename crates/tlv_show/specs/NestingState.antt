@@ -1,6 +1,7 @@
 -- What is kept of the elements that hold others and are open: of each a frame, which says what it held so far.
 use Rattle.std.specs.Prelude.{ℕ, ◌+◌, ◌-◌, Bool, true, false, ◌&&◌, ◌||◌, not, ◌==◌, nat_lt, if◌then◌else◌}
 use Rattle.std.specs.Prelude.{List, [], ◌∷◌, length, min}
+use Rattle.tlv_head.specs.DepthLimit.{depth_limit}
 use Rattle.tlv_head.specs.Header.{HeaderValue, announced_length}
 use Rattle.tlv_head.specs.UniversalTypes as universal
 use Rattle.tlv_value.specs.Types.{has_segments, is_a, is_primitive}
@@ -94,10 +95,10 @@ depth_in n = length n.outer
 abbrev pub new_nesting : NestingState
 new_nesting = record { frame = top_frame; outer = [] }
 
--- an element that holds others begins. Past 128 of them no frame is kept
+-- an element that holds others begins. Past `depth_limit` of them no frame is kept
 abbrev pub nesting_open_step : NestingState → HeaderValue → NestingState
 nesting_open_step n h =
-    if nat_lt (depth_in n) 128
+    if nat_lt (depth_in n) depth_limit
     then record { frame = frame_under n.frame h; outer = n.frame ∷ n.outer }
     else n
 

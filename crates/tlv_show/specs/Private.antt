@@ -1,5 +1,4 @@
 pub mod IfOpen
-pub mod LineRoom
 pub mod LinesStep
 pub mod FinderState
 pub mod Nesting

@@ -1,6 +1,6 @@
 //! What is found in elements, event by event.
 ghost use Rattle.std.specs.Prelude.{◌≡◌, length};
-ghost use Rattle.tlv_head.specs.Header.{announced_length};
+ghost use Rattle.tlv_head.specs.Header.{HasAllContents, announced_length};
 ghost use Rattle.tlv_walk.specs.Events.{event_value_of};
 ghost use Rattle.tlv_show.specs.FinderState.{finder_in_primitive, finder_begin_step, finder_bytes_step};
 ghost use Rattle.tlv_show.specs.FinderState.{finder_close_step, finder_end_step, finder_open_step};
@@ -125,7 +125,7 @@ impl Finder {
     /// findings, it takes nothing.
     #[inline(always)]
     pub fn passes(&mut self, header: &Header, contents: &[u8]) -> bool
-        requires { announced_length header.now.size ≡ length contents.now }
+        requires { HasAllContents header.now contents.now }
         ensures { PassesOrStays self.old self.new header.now contents.now result }
     {
         let frame = self.holders.frame();

@@ -4,7 +4,7 @@ ghost use Rattle.tlv_io.specs.LineTexts.{AddsAtMost, HasRoomFor};
 ghost use Rattle.tlv_io.specs.Out.{Puts};
 ghost use Rattle.tlv_value.specs.Layout.{columns, line_margin};
 ghost use Rattle.tlv_show.specs.HolderLines.{closing_columns, closing_line, opening_line, padding_line, size_text};
-ghost use Rattle.tlv_show.specs.Private.LineRoom.{line_room};
+ghost use Rattle.tlv_io.specs.OutLimits.{line_room};
 
 use tlv_head::{Header, Size};
 use tlv_value::{Layout, begin_blank, begin_sized, begin_word, write_tag};

@@ -1,20 +1,22 @@
 //! The lines of a dump that are no findings.
+ghost use Rattle.std.specs.FinMap as finite;
 ghost use Rattle.std.specs.Prelude.{◌≡◌, ◌≤◌, OnOk, length};
 ghost use Rattle.tlv_walk.specs.Events.{Unused};
 ghost use Rattle.tlv_walk.specs.Follow.{each_octet};
 ghost use Rattle.tlv_walk.specs.HasEffect.{HasEffect};
 ghost use Rattle.tlv_io.specs.Out.{Puts};
+ghost use Rattle.tlv_head.specs.Header.{HasAllContents};
+ghost use Rattle.tlv_value.specs.ValueLines.{whole_lines};
+ghost use Rattle.tlv_show.specs.Private.LinesStep.{lines_after_primitive};
 ghost use Rattle.tlv_show.specs.LinesStep.{lines_begin_step, lines_close_step, lines_end_step};
 ghost use Rattle.tlv_show.specs.LinesStep.{lines_octet_step, lines_open_step, lines_padding_step, lines_step};
 ghost use Rattle.tlv_show.specs.LinesStep.{new_lines, lines_after_header};
-
-mod whole;
 
 use crate::finding_lines::Style;
 use crate::holder_lines::{put_closing, put_opening, put_padding};
 use std::marker::Model;
 use tlv_head::Header;
-use tlv_value::{Layout, Names, ValueText};
+use tlv_value::{Layout, Names, ValueText, put_whole};
 use tlv_walk::{Drain, Out, WriteFault};
 
 /// Writes the lines that each event allows. The line of an element that holds others comes with its header, and that
@@ -165,6 +167,27 @@ impl<'n> Lines<'n> {
         let put = put_end(self.is_open, &mut self.text, self.names, out);
         self.is_open = false;
         put
+    }
+
+    /// A primitive begins, has all of these contents, and ends. Its lines are written at once, and nothing is kept of
+    /// it: no contents are copied, and its type is asked for once, not again with its contents and its end.
+    #[inline(always)]
+    pub fn whole<D: Drain>(
+        &mut self,
+        header: &Header,
+        contents: &[u8],
+        out: &mut Out<'_, D>,
+    ) -> Result<(), WriteFault>
+        requires { HasAllContents header.now contents.now }
+        ensures state { self.new ≡ lines_after_primitive self.old header.now contents.now }
+        ensures puts { Puts D.state out.old out.new
+            (whole_lines (finite.get self.old.names) header.now self.old.layout contents.now)
+            result }
+    {
+        self.set_after_header(header);
+        self.offset = self.offset.saturating_add(contents.len() as u64);
+        self.is_open = false;
+        put_whole(header, self.layout, contents, self.names, out)
     }
 
     /// Padding goes on. A run of it has one line, which comes with its first octet.

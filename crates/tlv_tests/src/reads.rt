@@ -17,15 +17,15 @@ pub(crate) fn expect_again<F: Follow>(
     follower: &mut F,
     source: &mut MemSource<'_>,
     drain: &mut MemDrain<'_>,
-    piece: &mut [u8],
+    room: &mut [u8],
     limit: u64,
     written: &[u8],
 )
-    requires { CanTurn walker.old piece.old limit }
+    requires { CanTurn walker.old room.old limit }
     ensures within { walker.new.offset ≤ limit }
     ensures ready { IsReady walker.new }
 {
-    let Ok(Turn::Again) = turn(walker, follower, source, drain, piece, limit) else {
+    let Ok(Turn::Again) = turn(walker, follower, source, drain, room, limit) else {
         panic!(rt; "more is to be read");
     };
     expect_written(rt, drain, written);
@@ -38,15 +38,15 @@ pub(crate) fn expect_failure<F: Follow>(
     follower: &mut F,
     source: &mut MemSource<'_>,
     drain: &mut MemDrain<'_>,
-    piece: &mut [u8],
+    room: &mut [u8],
     limit: u64,
     written: &[u8],
 )
-    requires { CanTurn walker.old piece.old limit }
+    requires { CanTurn walker.old room.old limit }
     ensures within { walker.new.offset ≤ limit }
     ensures ready { IsReady walker.new }
 {
-    let Err(DeviceFault::ReadFailed) = turn(walker, follower, source, drain, piece, limit) else {
+    let Err(DeviceFault::ReadFailed) = turn(walker, follower, source, drain, room, limit) else {
         panic!(rt; "the read fails");
     };
     expect_written(rt, drain, written);

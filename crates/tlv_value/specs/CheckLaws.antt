@@ -2,7 +2,7 @@
 use Rattle.std.specs.Str.{is_utf8}
 use Rattle.std.specs.List.{list_all}
 use Rattle.std.specs.Prelude.{◌≡◌, ◌↔◌, ℕ, true, List, ◌++◌, length, IsUtf8}
-use Rattle.tlv_head.specs.Header.{HeaderValue, announced_length}
+use Rattle.tlv_head.specs.Header.{HasAllContents, HeaderValue, announced_length}
 use Rattle.tlv_value.specs.declared.kind.Kind.TheVariants.{Utf8}
 use Rattle.tlv_value.specs.Checks.{all_contents_findings}
 use Rattle.tlv_value.specs.ValueCheckState.{ValueCheckState, findings_in, new_value_check}
@@ -17,7 +17,7 @@ ChecksJoin = (s : ValueCheckState) (x y : List ℕ)
 -- at the end of the contents all findings on them are there, and no others
 abbrev pub FindingsEnd : Type 0
 FindingsEnd =
-    (h : HeaderValue) (octets : List ℕ) → length octets ≡ announced_length h.size
+    (h : HeaderValue) (octets : List ℕ) → HasAllContents h octets
     → findings_in (value_check_after (new_value_check h) octets) ≡ all_contents_findings h octets
 
 -- contents are well-formed UTF-8 exactly if each of their rows is

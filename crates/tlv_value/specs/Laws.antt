@@ -1,6 +1,6 @@
 -- Laws of the lines of a primitive, and of rows.
 use Rattle.std.specs.Prelude.{◌≡◌, ℕ, List, [], ◌++◌, length}
-use Rattle.tlv_head.specs.Header.{HeaderValue, announced_length}
+use Rattle.tlv_head.specs.Header.{HasAllContents, HeaderValue, announced_length}
 use Rattle.tlv_io.specs.Cuts.{IsCut}
 use Rattle.tlv_value.specs.declared.kind.Kind.{Kind}
 use Rattle.tlv_value.specs.declared.layout.Layout.{Layout}
@@ -36,7 +36,7 @@ LinesGoOn =
 abbrev pub LinesEnd : Type 0
 LinesEnd =
     (name_of : NameOf) (h : HeaderValue) (layout : Layout) (octets : List ℕ)
-    → length octets ≡ announced_length h.size
+    → HasAllContents h octets
     → whole_lines name_of h layout octets
     ≡ open_lines h layout octets ++ end_lines name_of (value_text_for h layout octets)
 

@@ -2,7 +2,6 @@
 //! whatever pieces its octets come, and what is found on it.
 #![tactic(auto)]
 
-mod clear;
 mod decimal;
 mod dotted;
 mod finding;
@@ -14,15 +13,15 @@ mod name_table;
 mod names;
 mod primitive;
 mod row_sizes;
+mod short_look;
 mod time;
 mod units;
 mod value;
 mod value_check;
 mod value_lines;
 mod value_text;
-mod whole;
+mod whole_lines;
 
-pub use clear::is_clear;
 pub use decimal::decimal_of;
 pub use dotted::dotted_of;
 pub use finding::Finding;
@@ -30,7 +29,8 @@ pub use layout::Layout;
 pub use line_starts::{begin_blank, begin_sized, begin_word, write_tag};
 pub use name_table::NameTable;
 pub use names::{Names, NamesFault};
+pub use short_look::is_clear;
 pub use time::{general_canonical, general_ok, utc_canonical, utc_ok};
 pub use value_check::ValueCheck;
 pub use value_text::ValueText;
-pub use whole::put_whole;
+pub use whole_lines::put_whole;

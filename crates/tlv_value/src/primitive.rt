@@ -1,5 +1,6 @@
 //! A primitive by what its header says.
 ghost use Rattle.std.specs.Prelude.{◌≡◌, ◌<◌, ◌≤◌, ◌++◌, [], IsTrue, None, OnOk, length, true, ◌↔◌};
+ghost use Rattle.tlv_io.specs.OutLimits.{line_room};
 ghost use Rattle.tlv_io.specs.LineTexts.{AddsAtMost, HasRoomFor};
 ghost use Rattle.tlv_io.specs.Out.{Puts, held_octets};
 ghost use Rattle.tlv_value.specs.RowSizes.{row_size};
@@ -86,7 +87,7 @@ impl Primitive {
     /// Adds its line without a value.
     #[inline(always)]
     fn write_bare_line(&self, held: &mut HeldOctets)
-        requires { HasRoomFor held.old 1024 }
+        requires { HasRoomFor held.old line_room }
         ensures { held.new ≡ held.old ++ primitive_line self.now [] }
     {
         self.write_prefix(held);
@@ -95,7 +96,7 @@ impl Primitive {
 
     /// Adds the line of a long BIT STRING, with the number of its bits.
     fn write_bits_line(&self, held: &mut HeldOctets, unused_bits: u8)
-        requires room { HasRoomFor held.old 1024 }
+        requires room { HasRoomFor held.old line_room }
         requires long { 9 < self.now.size }
         ensures { held.new ≡ held.old ++ bits_line self.now unused_bits }
     {
@@ -107,7 +108,7 @@ impl Primitive {
     /// Adds the line of a long value: of a BIT STRING with the number of its bits.
     #[inline(always)]
     fn write_long_line(&self, held: &mut HeldOctets, contents: &[u8])
-        requires room { HasRoomFor held.old 1024 }
+        requires room { HasRoomFor held.old line_room }
         requires long { is_long_primitive self.now ≡ true }
         ensures { held.new ≡ held.old ++ long_value_line self.now contents.now }
     {

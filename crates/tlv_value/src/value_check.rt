@@ -1,6 +1,6 @@
 //! What is found on the contents of a primitive.
 ghost use Rattle.std.specs.Prelude.{◌≡◌, ◌+◌, ◌≤◌, ◌&&◌, ℕ, List, length, slice_index};
-ghost use Rattle.tlv_head.specs.Header.{HeaderValue, announced_length};
+ghost use Rattle.tlv_head.specs.Header.{HasAllContents, HeaderValue, announced_length};
 ghost use Rattle.tlv_value.specs.Types.{type_number};
 ghost use Rattle.tlv_value.specs.ValueCheckState.{value_check_after, findings_in, has_unused_bits};
 ghost use Rattle.tlv_value.specs.ValueCheckState.{is_allowed, new_value_check, new_value_check_of};
@@ -201,9 +201,9 @@ impl ValueCheck {
     pub fn end(&self) -> ArrayVec<Finding, 16>
         requires { self.now.left ≡ 0 }
         ensures found { result.items ≡ findings_in self.now }
-        ensures whole { (h : HeaderValue) (c : List ℕ)
+        ensures all_contents { (h : HeaderValue) (c : List ℕ)
             → self.now ≡ value_check_after (new_value_check h) c
-            → length c ≡ announced_length h.size
+            → HasAllContents h c
             → result.items ≡ all_contents_findings h c }
     {
         self.findings()

@@ -1,6 +1,6 @@
 //! The lines of a primitive, from its contents in pieces.
 ghost use Rattle.std.specs.Prelude.{◌≡◌, ◌≤◌, ◌++◌, ◌∷◌, [], ℕ, List, length, OnOk};
-ghost use Rattle.tlv_head.specs.Header.{HeaderValue, announced_length};
+ghost use Rattle.tlv_head.specs.Header.{HasAllContents, HeaderValue, announced_length};
 ghost use Rattle.tlv_io.specs.Out.{Puts};
 ghost use Rattle.tlv_value.specs.PutsRest.{PutsRest};
 ghost use Rattle.tlv_value.specs.Value.{row_octets};
@@ -120,7 +120,7 @@ impl ValueText {
     #[inline(always)]
     pub fn begin<D: Drain>(&self, out: &mut Out<'_, D>) -> Result<(), WriteFault>
         ensures puts { Puts D.state out.old out.new (begin_lines self.now) result }
-        ensures whole { (h : HeaderValue) (layout : Layout)
+        ensures lines { (h : HeaderValue) (layout : Layout)
             → self.now ≡ new_value_text h layout
             → Puts D.state out.old out.new (open_lines h layout []) result }
     {
@@ -140,7 +140,7 @@ impl ValueText {
         requires { length octets.now ≤ self.old.left }
         ensures state { OnOk result (self.new ≡ value_text_after self.old octets.now) }
         ensures puts { Puts D.state out.old out.new (contents_lines self.old octets.now) result }
-        ensures whole { (h : HeaderValue) (layout : Layout) (c : List ℕ)
+        ensures lines { (h : HeaderValue) (layout : Layout) (c : List ℕ)
             → self.old ≡ value_text_for h layout c
             → PutsRest D.state out.old out.new
             (open_lines h layout c) (open_lines h layout (c ++ octets.now)) result }
@@ -185,9 +185,9 @@ impl ValueText {
         ensures state { self.new ≡ self.old }
         ensures puts { Puts D.state out.old out.new
             (end_lines (N.name_of names.now) self.old) result }
-        ensures whole { (h : HeaderValue) (layout : Layout) (c : List ℕ)
+        ensures lines { (h : HeaderValue) (layout : Layout) (c : List ℕ)
             → self.old ≡ value_text_for h layout c
-            → length c ≡ announced_length h.size
+            → HasAllContents h c
             → PutsRest D.state out.old out.new
             (open_lines h layout c) (whole_lines (N.name_of names.now) h layout c) result }
     {

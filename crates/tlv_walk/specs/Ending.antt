@@ -1,6 +1,7 @@
 -- What an input comes to.
 use Rattle.std.specs.Prelude.{◌≡◌, ◌≢◌, ◌↔◌, ℕ, ◌+◌, ◌<◌, ◌≤◌, true, false, List, [], ◌∷◌, ◌++◌, length}
-use Rattle.tlv_head.specs.declared.fault.Fault.{Fault as FaultOf}
+use Rattle.tlv_head.specs.DepthLimit.{depth_limit}
+use Rattle.tlv_head.specs.declared.fault.Fault.{Fault}
 use Rattle.tlv_head.specs.declared.fault.FaultCode.{FaultCode}
 use Rattle.tlv_head.specs.declared.fault.FaultCode.TheVariants.{Empty, Short, StrayEnd, BadEnd, MissingEnd}
 use Rattle.tlv_head.specs.declared.fault.FaultCode.TheVariants.{TooDeep, Overrun, BadInside}
@@ -8,7 +9,8 @@ use Rattle.tlv_head.specs.Header.{HeaderValue, announced_length, holds, octets_o
 use Rattle.tlv_head.specs.Refusal.{IsRefusedOctet}
 use Rattle.tlv_walk.specs.declared.framing.Framing.{Framing}
 use Rattle.tlv_walk.specs.declared.ending.Ending.{Ending}
-use Rattle.tlv_walk.specs.declared.ending.Ending.TheVariants.{Done, Fault}
+use Rattle.tlv_walk.specs.declared.ending.Ending.TheVariants.{Done}
+use Rattle.tlv_walk.specs.declared.ending.Ending.TheVariants as ending
 use Rattle.tlv_walk.specs.Forest.{Forest, NoMore, PaddingOctet, Primitive, Holder, OpenHolder, OpenBitString}
 use Rattle.tlv_walk.specs.Forest.{OpenHeader, OpenEndOctets, extent, has_element, is_whole}
 use Rattle.tlv_walk.specs.Forest.{primitive_extent, spelling}
@@ -46,12 +48,12 @@ pub data IsRefusedAt : OpenEnd → ℕ → FaultCode → Type 0 where
   -- F06 to F09: no header goes on with that octet
   refused_octet : {x : ℕ} {p : Place} {o : List ℕ} {code : FaultCode} → Fits p (length o + 1) → IsRefusedOctet o x code
       → IsRefusedAt (end_at p (OpenHeader o)) x code
-  -- a limit of our own: the header of an element that holds others, inside 128 of them
+  -- a limit of our own: the header of an element that holds others, inside `depth_limit` of them
   too_deep : {x : ℕ} {p : Place} {o : List ℕ} → Fits p (length o + 1) → (h : HeaderValue) → IsHeaderAt p true h
-      → octets_of h ≡ o ++ x ∷ [] → 128 ≤ p.depth → IsRefusedAt (end_at p (OpenHeader o)) x TooDeep
+      → octets_of h ≡ o ++ x ∷ [] → depth_limit ≤ p.depth → IsRefusedAt (end_at p (OpenHeader o)) x TooDeep
   -- 8.1.3.3: the header of contents that end beyond the bound
   overrun : {x : ℕ} {p : Place} {o : List ℕ} → Fits p (length o + 1) → (h : HeaderValue) → IsHeaderAt p (holds h) h
-      → octets_of h ≡ o ++ x ∷ [] → (holds h ≡ true → p.depth < 128)
+      → octets_of h ≡ o ++ x ∷ [] → (holds h ≡ true → p.depth < depth_limit)
       → (Fits p (length (octets_of h) + announced_length h.size) → ⊥) → IsRefusedAt (end_at p (OpenHeader o)) x Overrun
   -- 8.1.5: no end-of-contents octets before the bound
   no_end : {x : ℕ} {p : Place} → p.indefinite ≡ true → (Fits p 1 → ⊥) → IsRefusedAt (end_at p NoMore) x MissingEnd
@@ -60,12 +62,12 @@ pub data IsRefusedAt : OpenEnd → ℕ → FaultCode → Type 0 where
       → IsRefusedAt (end_at p NoMore) x StrayEnd
 
 -- the fault with this code, at this offset
-abbrev pub fault_at : FaultCode → ℕ → FaultOf
+abbrev pub fault_at : FaultCode → ℕ → Fault
 fault_at code offset = record { code = code; offset = offset }
 
 -- the ending with this fault
 abbrev pub fault_ending : FaultCode → ℕ → Ending
-fault_ending code offset = Fault (fault_at code offset)
+fault_ending code offset = ending.Fault (fault_at code offset)
 
 -- the ending of an input
 pub data IsEnding (framing : Framing) (b : List ℕ) : Ending → Type 0 where
@@ -90,7 +92,7 @@ IsFinalCode code = (code ≢ Empty) × (code ≢ Short)
 -- a fault that stays the ending whatever follows
 abbrev pub IsFinalEnding : Ending → Type 0
 IsFinalEnding Done = ⊥
-IsFinalEnding (Fault f) = IsFinalCode f.code
+IsFinalEnding (ending.Fault f) = IsFinalCode f.code
 
 -- what the ending of octets shows: it is `Done` exactly if they are a sound list, and if it is a fault other than F01
 -- and F02, no input that begins with them is one

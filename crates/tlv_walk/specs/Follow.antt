@@ -1,6 +1,6 @@
 -- What a follower makes of events.
 use Rattle.std.specs.Prelude.{◌≡◌, ℕ, Bool, true, false, List, [], ◌∷◌, ◌++◌, drop, length}
-use Rattle.tlv_head.specs.Header.{HeaderValue, announced_length, octets_of}
+use Rattle.tlv_head.specs.Header.{HasAllContents, HeaderValue, announced_length, octets_of}
 use Rattle.tlv_walk.specs.declared.follow.Go.{Go}
 use Rattle.tlv_walk.specs.declared.follow.Go.TheVariants as go
 use Rattle.tlv_walk.specs.Events.{Begin, Bytes, End, EventValue}
@@ -57,10 +57,10 @@ followed_events next s (e ∷ es) = e ∷ events_if_more (next s e).goes (follow
 abbrev pub contents_in : HeaderValue → List ℕ → List ℕ
 contents_in h octets = drop (length (octets_of h)) octets
 
--- the octets are a header and all contents that it announces (8.1.3.3)
+-- 8.1.3.3: the octets are a header and all contents that it announces
 pub record IsWholeElement (h : HeaderValue) (octets : List ℕ) : Type 0 where
   pub header : octets_of h ++ contents_in h octets ≡ octets
-  pub contents : announced_length h.size ≡ length (contents_in h octets)
+  pub contents : HasAllContents h (contents_in h octets)
 
 -- a primitive of these octets: its header, its contents and its end
 abbrev pub whole_events : HeaderValue → List ℕ → List EventValue

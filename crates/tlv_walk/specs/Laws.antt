@@ -1,4 +1,4 @@
--- Laws of forests that keep the rules, of the readings and endings of inputs, and of their events.
+-- Laws of forests that obey the grammar, of the readings and endings of inputs, and of their events.
 use Rattle.std.specs.Prelude.{◌≡◌, ◌↔◌, ℕ, true, List, ◌++◌}
 use Rattle.tlv_head.specs.declared.fault.FaultCode.{FaultCode}
 use Rattle.tlv_walk.specs.declared.ending.Ending.{Ending}
@@ -6,20 +6,20 @@ use Rattle.tlv_walk.specs.declared.ending.Ending.TheVariants.{Done}
 use Rattle.tlv_walk.specs.declared.framing.Framing.{Framing}
 use Rattle.tlv_walk.specs.Follow.{Effect, effect_of}
 use Rattle.tlv_walk.specs.Forest.{Forest, is_whole, spelling}
-use Rattle.tlv_walk.specs.Place.{KeepsRules, Place, top_place}
+use Rattle.tlv_walk.specs.Place.{ObeysGrammar, Place, top_place}
 use Rattle.tlv_walk.specs.LongerInputs.{ForLongerInputs}
 use Rattle.tlv_walk.specs.Reading.{AreOctets, CannotBecomeSound, IsPrefixOf, IsReading, IsSound, IsSoundList}
 use Rattle.tlv_walk.specs.Events.{AreEqualJoined, EventValue, events, single_octets}
 use Rattle.tlv_walk.specs.Ending.{IsEnding, IsFinalCode, fault_ending}
 
--- each prefix of the spelling of a forest that keeps the rules is the spelling of one that keeps them
-abbrev pub PrefixesKeepRules : Type 0
-PrefixesKeepRules = (p : Place) (f : Forest) (s : List ℕ) → KeepsRules p f → IsPrefixOf s (spelling f)
-    → (g : Forest) × KeepsRules p g × (spelling g ≡ s)
+-- each prefix of the spelling of a forest that obeys the grammar is the spelling of one that obeys it
+abbrev pub PrefixesObeyGrammar : Type 0
+PrefixesObeyGrammar = (p : Place) (f : Forest) (s : List ℕ) → ObeysGrammar p f → IsPrefixOf s (spelling f)
+    → (g : Forest) × ObeysGrammar p g × (spelling g ≡ s)
 
--- forests at one place that keep the rules and have one spelling are one forest, offsets included
+-- forests at one place that obey the grammar and have one spelling are one forest, offsets included
 abbrev pub SpellingsAreExact : Type 0
-SpellingsAreExact = (p : Place) (f g : Forest) → KeepsRules p f → KeepsRules p g → spelling f ≡ spelling g → f ≡ g
+SpellingsAreExact = (p : Place) (f g : Forest) → ObeysGrammar p f → ObeysGrammar p g → spelling f ≡ spelling g → f ≡ g
 
 -- octets have a reading, and no other
 abbrev pub OctetsHaveOneReading : Type 0
@@ -54,10 +54,10 @@ EventsGoOn = ForLongerInputs (λ f g. (others : List EventValue) × AreEqualJoin
 abbrev pub JoinedIsApart : Type 0
 JoinedIsApart = (xs ys : List EventValue) → AreEqualJoined xs ys ↔ (single_octets xs ≡ single_octets ys)
 
--- elements are sound exactly if they keep the rules and nothing is open
+-- elements are sound exactly if they obey the grammar and nothing is open
 abbrev pub SoundIsWhole : Type 0
 SoundIsWhole = (framing : Framing) (f : Forest)
-    → IsSound (top_place framing) f ↔ (KeepsRules (top_place framing) f × (is_whole f ≡ true))
+    → IsSound (top_place framing) f ↔ (ObeysGrammar (top_place framing) f × (is_whole f ≡ true))
 
 -- of events that are equal joined a follower makes the same
 abbrev pub PiecesDoNotShow : {S : Type 0} → (S → EventValue → Effect S) → Type 0

@@ -10,6 +10,7 @@ use Rattle.tlv_walk.specs.declared.run.Run.{Run}
 use Rattle.tlv_walk.specs.declared.run.Turn.{Turn}
 use Rattle.tlv_walk.specs.declared.run.Turn.TheVariants.{Again, Ended}
 use Rattle.tlv_io.specs.Device.{DrainState, LastReadValue, SourceState, failed, failures_after, gave, never, next_count}
+use Rattle.tlv_io.specs.Device.{read_limit}
 use Rattle.tlv_walk.specs.DriveJob.{enough_run, run_over}
 use Rattle.tlv_walk.specs.Ending.{IsEnding, IsFinalEnding}
 use Rattle.tlv_walk.specs.Events.{EventValue, octets_of_events}
@@ -42,12 +43,12 @@ LastReadWas most (Err WriteFailed) last = LastReadGaveUpTo most last
 LastReadWas most (Err InputTooLong) last = LastReadGaveUpTo most last
 
 -- what a turn requires of the walker, the array into which it reads and the number of octets that are read at most
-pub record CanTurn (walker : WalkerState) (room : List ℕ) (most : ℕ) : Type 0 where
-  -- the array has at least one octet, and no more than 4096
+pub record CanTurn (walker : WalkerState) (room : List ℕ) (limit : ℕ) : Type 0 where
+  -- the array has at least one octet, and no more than `read_limit`
   pub some : 0 < length room
-  pub short : length room ≤ 4096
-  pub limit : most ≤ input_limit
-  pub within : walker.offset ≤ most
+  pub short : length room ≤ read_limit
+  pub valid : limit ≤ input_limit
+  pub within : walker.offset ≤ limit
   pub ready : IsReady walker
 
 -- what takes part in a turn, as it is before the turn or after it: the walker, the follower's state and the devices

@@ -2,6 +2,7 @@
 use Rattle.std.specs.Prelude.{◌≡◌, ◌≢◌, ℕ, ◌+◌, ◌<◌, ◌≤◌, Bool, true, false, List, [], ◌∷◌, length, Option}
 use Rattle.std.specs.Prelude.{Some, None, IfSome}
 use Rattle.std.specs.Option.{is_none, option_map_or}
+use Rattle.tlv_head.specs.DepthLimit.{depth_limit}
 use Rattle.tlv_head.specs.declared.header.Size.{Size}
 use Rattle.tlv_head.specs.declared.header.Size.TheVariants.{Definite}
 use Rattle.tlv_head.specs.Header.{HeaderValue, IsHeader, announced_length, definite_length, holds, octets_of}
@@ -76,11 +77,11 @@ pub record IsHeaderAt (p : Place) (holding : Bool) (h : HeaderValue) : Type 0 wh
   pub named : h.named ≡ is_among p.offset p.inside
   pub form : holds h ≡ holding
 
--- 8.1.4: an element is there; by a limit of our own in at most 127 others, if it holds others; and n octets of it end
--- within the bound
+-- 8.1.4: an element is there; by a limit of our own, if it holds others, inside fewer than `depth_limit` of that kind;
+-- and n octets of it end within the bound
 pub record IsElementAt (p : Place) (holding : Bool) (h : HeaderValue) (n : ℕ) : Type 0 where
   pub header : IsHeaderAt p holding h
-  pub shallow : holding ≡ true → p.depth < 128
+  pub shallow : holding ≡ true → p.depth < depth_limit
   pub fits : Fits p n
 
 -- 8.1.3.3: the same of its header and all the contents octets that are announced
@@ -91,32 +92,32 @@ IsAnnouncedAt p holding h = IsElementAt p holding h (length (octets_of h) + anno
 abbrev pub HasItsLength : HeaderValue → Forest → Type 0
 HasItsLength h children = IfSome (definite_length h.size) (λ n. contents_length h children ≡ n)
 
--- a forest that keeps the rules, and may be open at its end: each element in it keeps them, and no octet and no
+-- a forest that obeys the grammar, and may be open at its end: each element in it obeys it, and no octet and no
 -- announced end lies beyond the bound
-abbrev pub KeepsRules : Place → Forest → Type 0
-KeepsRules p NoMore = Unit {0}
+abbrev pub ObeysGrammar : Place → Forest → Type 0
+ObeysGrammar p NoMore = Unit {0}
 -- padding
-KeepsRules p (PaddingOctet rest) =
-    ((p.padding ≡ true) × (p.indefinite ≡ false) × Fits p 1) × KeepsRules (place_after p 1) rest
+ObeysGrammar p (PaddingOctet rest) =
+    ((p.padding ≡ true) × (p.indefinite ≡ false) × Fits p 1) × ObeysGrammar (place_after p 1) rest
 -- 8.1.4: a primitive with all its contents octets
-KeepsRules p (Primitive h c rest) =
+ObeysGrammar p (Primitive h c rest) =
     (IsElementAt p false h (primitive_extent h c) × (h.size ≡ Definite (length c)))
-    × KeepsRules (place_after p (primitive_extent h c)) rest
+    × ObeysGrammar (place_after p (primitive_extent h c)) rest
 -- 8.1.4, 8.1.5: an element that holds others and has ended. 8.1.3.3: a definite length is that of the contents
-KeepsRules p (Holder h children rest) =
+ObeysGrammar p (Holder h children rest) =
     (IsElementAt p true h (extent h children) × (is_whole children ≡ true)
     × HasItsLength h children)
-    × KeepsRules (place_of_children p h) children × KeepsRules (place_after p (extent h children)) rest
+    × ObeysGrammar (place_of_children p h) children × ObeysGrammar (place_after p (extent h children)) rest
 -- 8.1.4: a primitive that lacks contents octets
-KeepsRules p (OpenPrimitive h c) = IsAnnouncedAt p false h × (length c < announced_length h.size)
+ObeysGrammar p (OpenPrimitive h c) = IsAnnouncedAt p false h × (length c < announced_length h.size)
 -- 8.1.4: an element that holds others and has not ended: if what it holds is whole, and the length is
 -- definite, contents octets are lacking
-KeepsRules p (OpenHolder h children) =
+ObeysGrammar p (OpenHolder h children) =
     (IsAnnouncedAt p true h
     × (is_whole children ≡ true → IfSome (definite_length h.size) (λ n. contents_length h children < n)))
-    × KeepsRules (place_of_children p h) children
+    × ObeysGrammar (place_of_children p h) children
 -- 8.6.2.2: a wrapping BIT STRING of which the header alone is there
-KeepsRules p (OpenBitString h) = IsAnnouncedAt p true h × (lead h ≡ 0 ∷ [])
+ObeysGrammar p (OpenBitString h) = IsAnnouncedAt p true h × (lead h ≡ 0 ∷ [])
 -- a prefix of a header, or the first of the end-of-contents octets, inside the bound
-KeepsRules p (OpenHeader octets) = (octets ≢ []) × IsHeaderPrefix octets × Fits p (length octets)
-KeepsRules p OpenEndOctets = (p.indefinite ≡ true) × Fits p 1
+ObeysGrammar p (OpenHeader octets) = (octets ≢ []) × IsHeaderPrefix octets × Fits p (length octets)
+ObeysGrammar p OpenEndOctets = (p.indefinite ≡ true) × Fits p 1

@@ -1,10 +1,11 @@
 -- What an input is read as, and which inputs are sound.
 use Rattle.std.specs.Prelude.{◌≡◌, ℕ, ◌<◌, ◌≤◌, true, false, List, ◌++◌, All, length}
+use Rattle.tlv_head.specs.DepthLimit.{depth_limit}
 use Rattle.tlv_head.specs.declared.header.Size.TheVariants.{Definite}
 use Rattle.tlv_walk.specs.declared.framing.Framing.{Framing}
 use Rattle.tlv_walk.specs.Forest.{Forest, Holder, NoMore, PaddingOctet, Primitive, extent}
 use Rattle.tlv_walk.specs.Forest.{has_element, primitive_extent, spelling}
-use Rattle.tlv_walk.specs.Place.{HasItsLength, IsHeaderAt, KeepsRules, Place, place_after, place_of_children, top_place}
+use Rattle.tlv_walk.specs.Place.{HasItsLength, IsHeaderAt, ObeysGrammar, Place, place_after, place_of_children, top_place}
 
 -- octets, each below 256
 abbrev pub AreOctets : List ℕ → Type 0
@@ -14,20 +15,20 @@ AreOctets b = All (λ x. x < 256) b
 abbrev pub IsPrefixOf : List ℕ → List ℕ → Type 0
 IsPrefixOf p b = (rest : List ℕ) × (p ++ rest ≡ b)
 
--- the reading of an input: a forest that keeps the rules and spells a prefix of it, the longest prefix that any such
+-- the reading of an input: a forest that obeys the grammar and spells a prefix of it, the longest prefix that any such
 -- forest spells
 pub record IsReading (framing : Framing) (b : List ℕ) (f : Forest) : Type 0 where
-  pub keeps_rules : KeepsRules (top_place framing) f
+  pub obeys_grammar : ObeysGrammar (top_place framing) f
   pub is_prefix : IsPrefixOf (spelling f) b
-  pub longest : (g : Forest) → KeepsRules (top_place framing) g → IsPrefixOf (spelling g) b
+  pub longest : (g : Forest) → ObeysGrammar (top_place framing) g → IsPrefixOf (spelling g) b
       → length (spelling g) ≤ length (spelling f)
 
 -- f is the reading of an input, and spells all of it
 abbrev pub ReadsAll : Framing → List ℕ → Forest → Type 0
 ReadsAll framing b f = IsReading framing b f × (spelling f ≡ b)
 
--- 8.1.1 to 8.1.5: nothing is open, each definite length is that of the contents, and no element that holds others is
--- held by more than 127 others; padding is at the top alone
+-- 8.1.1 to 8.1.5: nothing is open, each definite length is that of the contents, and each element that holds others is
+-- inside fewer than `depth_limit` of that kind; padding is at the top alone
 abbrev pub IsSound : Place → Forest → Type 0
 IsSound p NoMore = Unit {0}
 IsSound p (PaddingOctet rest) = (p.padding ≡ true) × IsSound (place_after p 1) rest
@@ -35,7 +36,7 @@ IsSound p (Primitive h c rest) =
     IsHeaderAt p false h × (h.size ≡ Definite (length c))
     × IsSound (place_after p (primitive_extent h c)) rest
 IsSound p (Holder h children rest) =
-    IsHeaderAt p true h × HasItsLength h children × (p.depth < 128)
+    IsHeaderAt p true h × HasItsLength h children × (p.depth < depth_limit)
     × IsSound (place_of_children p h) children × IsSound (place_after p (extent h children)) rest
 IsSound p end = ⊥
 

@@ -1,5 +1,6 @@
 -- What contracts see of a `Walker`, which takes octets and yields events.
 use Rattle.std.specs.Prelude.{◌≡◌, ◌≢◌, ℕ, ◌+◌, ◌≤◌, Bool, false, slice_get, List, [], length, Option}
+use Rattle.tlv_head.specs.DepthLimit.{depth_limit}
 use Rattle.tlv_head.specs.declared.fault.Fault.{Fault}
 use Rattle.tlv_head.specs.HeadReaderState.{HeadReaderState}
 use Rattle.tlv_walk.specs.declared.framing.Framing.{Framing}
@@ -64,7 +65,7 @@ pub record IsWalkerState (w : WalkerState) : Type 0 where
   pub nested : IsNested w.stack
   pub within : IsWithin (bound_of w.stack) w.offset
   pub limit : w.offset ≤ input_limit
-  pub shallow : length w.stack ≤ 128
+  pub shallow : length w.stack ≤ depth_limit
   pub counts : CountsFitPhase w.phase w.stack w.offset w.events
   pub few_named : length w.framing.inside ≤ 16
   pub wrapper_count : w.wrapper_count ≤ length w.framing.inside

@@ -1,4 +1,5 @@
 //! A stack of frames.
+ghost use Rattle.tlv_head.specs.DepthLimit.{depth_limit};
 ghost use Rattle.std.specs.Prelude.{◌≡◌, ◌<◌, ◌≤◌, ◌↔◌, ◌∷◌, IsTrue, MatchOption, [], length};
 
 use arrayvec::ArrayVec;
@@ -34,7 +35,7 @@ impl<T: Copy + Default> Frames<T> {
     #[inline(always)]
     pub fn len(&self) -> usize
         ensures count { result ≡ length self.now }
-        ensures within { result ≤ 128 }
+        ensures within { result ≤ depth_limit }
     {
         self.outermost_first.len()
     }
@@ -50,7 +51,7 @@ impl<T: Copy + Default> Frames<T> {
     /// Adds a frame inside the innermost one.
     #[inline(always)]
     pub fn push(&mut self, frame: T)
-        requires { length self.old < 128 }
+        requires { length self.old < depth_limit }
         ensures { self.new ≡ frame ∷ self.old }
     {
         self.outermost_first.push(frame);

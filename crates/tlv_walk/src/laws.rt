@@ -2,17 +2,17 @@
 
 ghost use Rattle.tlv_walk.specs.Laws.{DoneIsSound, EventsGoOn, FaultsAreFinal, FaultsAreRight};
 ghost use Rattle.tlv_walk.specs.Laws.{JoinedIsApart, OctetsHaveOneEnding, OctetsHaveOneReading};
-ghost use Rattle.tlv_walk.specs.Laws.{PiecesDoNotShow, PrefixesKeepRules, SoundIsWhole};
+ghost use Rattle.tlv_walk.specs.Laws.{PiecesDoNotShow, PrefixesObeyGrammar, SoundIsWhole};
 ghost use Rattle.tlv_walk.specs.Laws.{SpellingsAreExact};
 
 use crate::Follow;
 
-/// Wherever elements that keep the rules are cut off, what is left keeps the rules.
-pub fn prefixes_keep_rules()
-    ensures { PrefixesKeepRules }
+/// Wherever elements that obey the grammar are cut off, what is left obeys the grammar.
+pub fn prefixes_obey_grammar()
+    ensures { PrefixesObeyGrammar }
 {}
 
-/// Octets can be read in one way only: elements at one place that keep the rules and have one
+/// Octets can be read in one way only: elements at one place that obey the grammar and have one
 /// spelling are the same, with their headers' offsets.
 pub fn spellings_are_exact()
     ensures { SpellingsAreExact }
@@ -56,7 +56,7 @@ pub fn joined_is_apart()
     ensures { JoinedIsApart }
 {}
 
-/// Elements are sound exactly if they keep the rules and nothing is left open.
+/// Elements are sound exactly if they obey the grammar and nothing is left open.
 pub fn sound_is_whole()
     ensures { SoundIsWhole }
 {}

@@ -27,9 +27,9 @@ enum Pause {
     Enough,
 }
 
-/// Makes one read into `piece`, lets the follower follow what it gave, and flushes what that put.
+/// Makes one read into `room`, lets the follower follow what it gave, and flushes what that put.
 ///
-/// `piece` is the array into which the read is made: it has 1 to 4096 octets. `limit` is a number of
+/// `room` is the array into which the read is made: it has 1 to 4096 octets. `limit` is a number of
 /// octets, at most 2^40. The walker is within it and has refused no octet, and no event waits.
 ///
 /// Returns `Again` if the octets are within the limit, hold neither a fault nor enough for the
@@ -50,17 +50,17 @@ pub fn turn<F: Follow, S: Source, D: Drain>(
     follower: &mut F,
     source: &mut S,
     drain: &mut D,
-    piece: &mut [u8],
+    room: &mut [u8],
     limit: u64,
 ) -> Result<Turn, DeviceFault>
-    requires { CanTurn walker.old piece.old limit }
+    requires { CanTurn walker.old room.old limit }
     ensures { FollowsOneRead F.next
         (turn_states walker.old follower.old (S.state source.old) (D.state drain.old))
         (turn_states walker.new follower.new (S.state source.new) (D.state drain.new))
-        limit piece.new result }
+        limit room.new result }
 {
     let mut out = Out::new(drain);
-    turn_with(walker, follower, source, &mut out, piece, limit)
+    turn_with(walker, follower, source, &mut out, room, limit)
 }
 
 /// [`turn`], with an `Out` in place of a drain. It holds nothing, and holds nothing again if more is to be

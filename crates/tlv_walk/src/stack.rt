@@ -1,4 +1,5 @@
 //! The open elements that hold others.
+ghost use Rattle.tlv_head.specs.DepthLimit.{depth_limit};
 ghost use Rattle.std.specs.Prelude.{◌≡◌, ◌≢◌, ◌<◌, ◌≤◌, ◌↔◌, ◌∷◌, IfSome, IsTrue, None, [], length};
 ghost use Rattle.std.specs.Prelude.{drop, true};
 ghost use Rattle.tlv_walk.specs.Stack.{IsInIndefinite, IsInWrapper, bound_of};
@@ -74,7 +75,7 @@ impl Stack {
     #[inline(always)]
     pub fn len(&self) -> u8
         ensures count { result ≡ length self.now }
-        ensures within { result ≤ 128 }
+        ensures within { result ≤ depth_limit }
     {
         self.outer.len() as u8
     }
@@ -91,7 +92,7 @@ impl Stack {
     /// says that there is no bound.
     #[inline(always)]
     pub fn push(&mut self, end: Option<u64>, wrapper: bool)
-        requires shallow { length self.old < 128 }
+        requires shallow { length self.old < depth_limit }
         requires end { IfSome end (λ e. e < no_bound_mark) }
         requires definite { wrapper ≡ true → end ≢ None }
         ensures { self.new ≡ frame_inside self.old end wrapper ∷ self.old }

@@ -1,15 +1,16 @@
 //! A machine that takes the octets of an input in pieces, and keeps a frame for each open element
 //! that holds others.
+ghost use Rattle.tlv_head.specs.DepthLimit.{depth_limit};
 ghost use Rattle.std.specs.Prelude.{◌≡◌, ◌≤◌, ◌↔◌, IsTrue, length};
 
 mod contents;
 mod ends;
 mod headers;
-mod quick;
+mod short_way;
 
 use crate::stack::Stack;
 use crate::{Ending, Event, Framing, Step};
-pub(crate) use quick::WholePrimitive;
+pub(crate) use short_way::WholePrimitive;
 use std::marker::Model;
 use tlv_head::{Fault, FaultCode, HeadReader};
 
@@ -96,7 +97,7 @@ impl Walker {
     /// At most 128. An element that is filled counts until its end is yielded.
     pub fn depth(&self) -> u8
         ensures value { result ≡ length self.now.stack }
-        ensures within { result ≤ 128 }
+        ensures within { result ≤ depth_limit }
         ensures open_elements { IsIdle self.now
             → IfRead self.now (λ b f. result ≡ depth_of f) }
     {

@@ -10,7 +10,7 @@ use Rattle.tlv_walk.specs.Follow.{Effect, effect_with, go_of, no_effect}
 use Rattle.tlv_walk.specs.Forest.{Forest, NoMore, PaddingOctet, Primitive, Holder, OpenPrimitive, OpenHolder}
 use Rattle.tlv_walk.specs.Forest.{OpenBitString, OpenHeader, OpenEndOctets}
 use Rattle.tlv_walk.specs.Forest.{end_octets, extent, is_whole, lead, opening}
-use Rattle.tlv_walk.specs.Place.{KeepsRules, Place, place_after, place_of_children}
+use Rattle.tlv_walk.specs.Place.{ObeysGrammar, Place, place_after, place_of_children}
 use Rattle.tlv_walk.proofs.FollowerLemmas.FollowedEvents.{followed-enough, followed-one}
 use Rattle.tlv_cut.specs.declared.extract_follower.Position.TheVariants as position
 use Rattle.tlv_cut.specs.ExtractText.{element_at, element_text, octets_so_far}
@@ -189,7 +189,7 @@ module _ (n : ℕ) (only : Bool) where
   either_there None b v w = w
 
   -- if all elements have ended, the one at the offset has
-  whole_at : (p : Place) (f : Forest) → KeepsRules p f → is_whole f ≡ true → AllWhole (element_at n f)
+  whole_at : (p : Place) (f : Forest) → ObeysGrammar p f → is_whole f ≡ true → AllWhole (element_at n f)
   whole_at p NoMore v w = refl
   whole_at p (PaddingOctet rest) v w = whole_at (place_after p 1) rest v.1 w
   whole_at p (Primitive h c rest) v w =
@@ -219,7 +219,7 @@ module _ (n : ℕ) (only : Bool) where
       followed-enough extract_step before es fs (ap (λ (t : Effect ExtractState). t.goes) e) ∙ e
 
   -- an element that holds others and is not the one wanted
-  passed_by : (p : Place) (h : HeaderValue) (inside rest : Forest) → KeepsRules p (Holder h inside rest)
+  passed_by : (p : Place) (h : HeaderValue) (inside rest : Forest) → ObeysGrammar p (Holder h inside rest)
       → (h.offset == n) ≡ false
       → IsTextOf (element_at n inside) (made_from before (events inside))
       → IsTextOf (element_at n rest) (made_from before (events rest))
@@ -243,7 +243,7 @@ module _ (n : ℕ) (only : Bool) where
       subst (IsTextOf (element_at n rest)) (sym same) r)
 
   -- what is made of the events of elements is the text of the element at the offset
-  pub makes_text : (p : Place) (f : Forest) → KeepsRules p f → p.depth ≤ 128
+  pub makes_text : (p : Place) (f : Forest) → ObeysGrammar p f → p.depth ≤ 128
       → IsTextOf (element_at n f) (made_from before (events f))
   makes_text p NoMore v deep = no_effect-is_text (made_from before []) refl
   makes_text p (PaddingOctet rest) v deep = makes_text (place_after p 1) rest v.1 deep

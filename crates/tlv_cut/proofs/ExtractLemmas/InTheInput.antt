@@ -8,7 +8,7 @@ use Rattle.tlv_head.specs.Header.{HeaderValue, IsHeader, octets_of}
 use Rattle.tlv_walk.specs.Forest.{Forest, NoMore, PaddingOctet, Primitive, Holder, OpenPrimitive, OpenHolder}
 use Rattle.tlv_walk.specs.Forest.{OpenBitString, OpenHeader, OpenEndOctets}
 use Rattle.tlv_walk.specs.Forest.{end_octets, extent, is_whole, lead, opening, spelling}
-use Rattle.tlv_walk.specs.Place.{IsHeaderAt, KeepsRules, Place, place_after, place_of_children}
+use Rattle.tlv_walk.specs.Place.{IsHeaderAt, ObeysGrammar, Place, place_after, place_of_children}
 use Rattle.tlv_walk.proofs.GrammarLemmas.Spellings.{append_assoc-3, append_assoc-4}
 use Rattle.tlv_cut.specs.ExtractText.{contents_so_far, element_at, octets_so_far}
 
@@ -31,7 +31,7 @@ prefix_of_rest f rest o all keeps whole r = record {
   all = λ w. all ∙ ap (λ (l : List ℕ). o ++ l) (r.all (sym whole ∙ w)) ∙ sym keeps;
 }
 
-octets_so_far-prefix : (p : Place) (f : Forest) → p.padding ≡ false → KeepsRules p f → BeginsWithOctetsSoFar f
+octets_so_far-prefix : (p : Place) (f : Forest) → p.padding ≡ false → ObeysGrammar p f → BeginsWithOctetsSoFar f
 octets_so_far-prefix p NoMore plain v = record { rest = []; octets_are = refl; all = λ w. refl }
 octets_so_far-prefix p (PaddingOctet rest) plain v = absurd (true≢false (sym v.0.0 ∙ plain))
 octets_so_far-prefix p (Primitive h c rest) plain v =
@@ -144,7 +144,7 @@ module _ (n : ℕ) where
       ∙ ap (λ (l : List ℕ). octets_of h ++ (lead h ++ (octets_so_far inside ++ l))) (append-nil e)
       ∙ ap (λ (l : List ℕ). octets_of h ++ l) (sym (append_assoc (lead h) (octets_so_far inside) e))
 
-  pub found_in_input : (p : Place) (f : Forest) → KeepsRules p f → (e : Forest) → element_at n f ≡ Some e
+  pub found_in_input : (p : Place) (f : Forest) → ObeysGrammar p f → (e : Forest) → element_at n f ≡ Some e
       → IsFoundIn p f e
   found_in_input p NoMore v d some = found-none p NoMore d some
   found_in_input p (PaddingOctet rest) v d some =

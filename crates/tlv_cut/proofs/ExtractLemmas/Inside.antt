@@ -12,7 +12,7 @@ use Rattle.tlv_walk.specs.Follow.{Effect, and_then, effect_if_more, effect_of, e
 use Rattle.tlv_walk.specs.Forest.{Forest, NoMore, PaddingOctet, Primitive, Holder, OpenPrimitive, OpenHolder}
 use Rattle.tlv_walk.specs.Forest.{OpenBitString, OpenHeader, OpenEndOctets}
 use Rattle.tlv_walk.specs.Forest.{end_octets, extent, is_whole, lead, opening, lead_by}
-use Rattle.tlv_walk.specs.Place.{KeepsRules, Place, place_after, place_of_children}
+use Rattle.tlv_walk.specs.Place.{ObeysGrammar, Place, place_after, place_of_children}
 use Rattle.tlv_walk.proofs.FollowerLemmas.FollowedEvents.{followed-more, followed-one}
 use Rattle.tlv_cut.specs.declared.extract_follower.Position.TheVariants as position
 use Rattle.tlv_cut.specs.ExtractText.{octets_so_far}
@@ -150,7 +150,7 @@ module _ (n : ℕ) (only : Bool) where
       (made_from-closes (state_inside (suc count)) h inside allowed))
 
   -- the octets of all that the element wanted holds are put
-  pub passed_on : (p : Place) (count : ℕ) (f : Forest) → KeepsRules p f → count ≤ p.depth → p.depth ≤ 128
+  pub passed_on : (p : Place) (count : ℕ) (f : Forest) → ObeysGrammar p f → count ≤ p.depth → p.depth ≤ 128
       → IsPassedOn count f
   passed_on p count NoMore v low deep = record { put = refl; goes = refl; found = refl; stays = λ w. refl }
   passed_on p count (PaddingOctet rest) v low deep =

@@ -32,7 +32,7 @@ module _ (framing : Framing) (n : ℕ) (only : Bool) (t : ExtractState) (old new
   -- what is put for a reading is what `extract` writes
   made_text : (octets : List ℕ) (f : Forest) → IsReading framing octets f
       → IsTextOf n only (element_at n f) (made_from (new_extract n only) (events f))
-  made_text octets f r = makes_text n only (top_place framing) f r.keeps_rules (omega arith)
+  made_text octets f r = makes_text n only (top_place framing) f r.obeys_grammar (omega arith)
 
   text : (octets : List ℕ) (f : Forest) → length octets ≤ 2 ^ 40 → IsReading framing octets f
       → (made_from (new_extract n only) (events f)).put ≡ extract_text n only f

@@ -27,7 +27,7 @@ the_some None some = absurd (cc (some))
 pub extract_text_is_in_the_input : ExtractTextIsInTheInput
 extract_text_is_in_the_input framing b f r n some =
     let there = the_some (element_at n f) some in
-    let e = found_in_input n (top_place framing) f r.keeps_rules there.0 there.1 in
+    let e = found_in_input n (top_place framing) f r.obeys_grammar there.0 there.1 in
     let written : extract_text n false f ≡ octets_so_far there.0 =
     ap (λ (o : Option Forest). option_map_or octets_so_far o []) there.1 in
     record {
@@ -49,7 +49,7 @@ extract_text_is_in_the_input framing b f r n some =
 
 pub extract_makes_its_text : ExtractMakesItsText
 extract_makes_its_text framing b f r n only =
-    let c = makes_text n only (top_place framing) f r.keeps_rules (omega arith) in
+    let c = makes_text n only (top_place framing) f r.obeys_grammar (omega arith) in
     record { put = c.put; goes = c.goes; found = c.found }
 
 -- ---- there is enough at the end of an element alone

@@ -105,10 +105,10 @@ module _ (framing : Framing) (b c : List ℕ) (f g : Forest) (r : IsReading fram
       (new_extract n only) (events g) (events f ++ later_events.0) later_events.1
 
   shorter_text : IsTextOf n only (element_at n f) (made_from (new_extract n only) (events f))
-  shorter_text = makes_text n only (top_place framing) f r.keeps_rules (omega arith)
+  shorter_text = makes_text n only (top_place framing) f r.obeys_grammar (omega arith)
 
   longer_text : IsTextOf n only (element_at n g) (made_from (new_extract n only) (events g))
-  longer_text = makes_text n only (top_place framing) g s.keeps_rules (omega arith)
+  longer_text = makes_text n only (top_place framing) g s.obeys_grammar (omega arith)
 
   pub extract_text_goes_on : IsPrefixOf (extract_text n only f) (extract_text n only g)
   extract_text_goes_on =

@@ -3,7 +3,7 @@ use Rattle.std.proofs.Common.{◌≡◌, ℕ, Bool, true, List, refl, ap, ◌∙
 use Rattle.tlv_walk.specs.declared.ending.Ending.TheVariants.{Done}
 use Rattle.tlv_walk.specs.Ending.{IsEnding, done}
 use Rattle.tlv_walk.specs.Forest.{Forest, has_element, is_whole, spelling}
-use Rattle.tlv_walk.specs.Place.{KeepsRules, top_place}
+use Rattle.tlv_walk.specs.Place.{ObeysGrammar, top_place}
 use Rattle.tlv_walk.specs.Reading.{IsReading, IsSoundList}
 use Rattle.tlv_walk.proofs.GrammarLemmas.Endings.{done-sound, sound-reading}
 use Rattle.tlv_walk.proofs.GrammarLemmas.Readings.{Going, reading-unique, run-reading}
@@ -11,26 +11,26 @@ use Rattle.tlv_walk.proofs.GrammarLemmas.Sound.{sound-whole}
 use Rattle.tlv_cut.specs.IndefText.{indef_text, with_indefinite_lengths}
 use Rattle.tlv_cut.specs.IndefJob.{indef_framing}
 use Rattle.tlv_cut.specs.IndefReading.{IsReadBack, indef_reading}
-use Rattle.tlv_cut.proofs.IndefLemmas.Rules.{IsFree, keeps_rules, offsets-has_element, offsets-whole}
+use Rattle.tlv_cut.proofs.IndefLemmas.Grammar.{IsFree, obeys_grammar, offsets-has_element, offsets-whole}
 use Rattle.tlv_cut.proofs.IndefLemmas.Offsets.{indef_text-again, spelling-with_offsets_from}
 
 top_free : (padding : Bool) → IsFree (top_place (indef_framing padding)) (top_place (indef_framing padding))
 top_free padding =
     record { names = refl; same_names = refl; depth = refl; bound = refl; padding = λ e. e; definite = λ e. refl }
 
-pub indef_text_keeps_rules : (padding : Bool) (f : Forest) → KeepsRules (top_place (indef_framing padding)) f
-    → (spelling (indef_reading f) ≡ indef_text f) × KeepsRules (top_place (indef_framing padding)) (indef_reading f)
-indef_text_keeps_rules padding f v =
+pub indef_text_obeys_grammar : (padding : Bool) (f : Forest) → ObeysGrammar (top_place (indef_framing padding)) f
+    → (spelling (indef_reading f) ≡ indef_text f) × ObeysGrammar (top_place (indef_framing padding)) (indef_reading f)
+indef_text_obeys_grammar padding f v =
     let p = top_place (indef_framing padding) in
-    (spelling-with_offsets_from 0 (with_indefinite_lengths f), keeps_rules p p f (top_free padding) v)
+    (spelling-with_offsets_from 0 (with_indefinite_lengths f), obeys_grammar p p f (top_free padding) v)
 
 pub indef_text_is_read_back : (padding : Bool) (b : List ℕ) (f : Forest) → IsReading (indef_framing padding) b f
     → IsReadBack padding f (indef_text f)
 indef_text_is_read_back padding b f r =
-    let o = indef_text_keeps_rules padding f r.keeps_rules in record {
+    let o = indef_text_obeys_grammar padding f r.obeys_grammar in record {
       is_reading =
           run-reading (indef_framing padding) (Going (indef_reading f)) (indef_text f)
-          (record { keeps_rules = o.1; spelled = o.0 });
+          (record { obeys_grammar = o.1; spelled = o.0 });
       same_again = indef_text-again 0 f;
     }
 
@@ -39,7 +39,7 @@ sound_again : (padding : Bool) (b : List ℕ) (f : Forest) → IsReading (indef_
     → has_element f ≡ true
     → IsEnding (indef_framing padding) (indef_text f) Done
 sound_again padding b f r w e =
-    let o = indef_text_keeps_rules padding f r.keeps_rules in
+    let o = indef_text_obeys_grammar padding f r.obeys_grammar in
     done (indef_reading f) ((indef_text_is_read_back padding b f r).is_reading, o.0) (offsets-has_element 0 f w e)
     (offsets-whole 0 f w)
 

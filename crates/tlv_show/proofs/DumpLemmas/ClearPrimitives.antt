@@ -2,7 +2,7 @@
 use Rattle.std.proofs.Common.{subst, rules, ◌≡◌, Bool, false, true, ℕ, List, [], ◌∷◌, length, sym, ap, ◌∙◌}
 use Rattle.std.specs.Prelude.{None, Ok, ◌&&◌, ◌||◌, not}
 use Rattle.std.specs.List.{filter}
-use Rattle.tlv_head.specs.Header.{HeaderValue, announced_length}
+use Rattle.tlv_head.specs.Header.{HasAllContents, HeaderValue, announced_length}
 use Rattle.tlv_value.specs.declared.finding.Finding.{Finding}
 use Rattle.tlv_value.specs.Checks.{all_contents_findings}
 use Rattle.tlv_value.specs.Types.{constructed_types, is_one_of, is_string, is_unassigned, primitive_types}
@@ -45,7 +45,7 @@ usual_primitive h primitive form = record {
 abbrev without_primitive : CheckState → CheckState
 without_primitive s = record s { open_primitive = None }
 
-pub whole_step-clear : (s : CheckState) (h : HeaderValue) (c : List ℕ) → announced_length h.size ≡ length c
+pub whole_step-clear : (s : CheckState) (h : HeaderValue) (c : List ℕ) → HasAllContents h c
     → s.holders.frame.has_segments ≡ false
     → header_findings s.rules (surroundings_in s.holders.frame) h ≡ [] → all_contents_findings h c ≡ []
     → finder_whole_step s h c ≡ record {
@@ -62,7 +62,7 @@ whole_step-clear s h c size w header contents =
       offset = h.offset;
       findings = fs;
     } in
-    primitive-find s.rules s.holders.frame s.holders.outer s.finding_count h c (sym size)
+    primitive-find s.rules s.holders.frame s.holders.outer s.finding_count h c size
     ∙ ap (λ (fs : List Finding). made (after_primitive s.rules s.holders.frame h c)
     (saturating_sum s.finding_count (length (header_findings s.rules (surroundings_in s.holders.frame) h)))
     (filter (is_shown s.rules) fs))
@@ -82,7 +82,7 @@ whole_step-clear s h c size w header contents =
     })
     (sum-none (saturating_sum s.finding_count 0) ∙ sum-none s.finding_count)
 
-pub passes_primitive-clear : (old new : FinderState) (h : HeaderValue) (c : List ℕ) → announced_length h.size ≡ length c
+pub passes_primitive-clear : (old new : FinderState) (h : HeaderValue) (c : List ℕ) → HasAllContents h c
     → old.kept.holders.frame.has_segments ≡ false
     → header_findings old.kept.rules (surroundings_in old.kept.holders.frame) h ≡ [] → all_contents_findings h c ≡ []
     → new ≡ with_check_state (without_primitive old.kept) old → PassesPrimitive old new h c

@@ -3,7 +3,7 @@ use Rattle.std.proofs.Common.{◌≡◌, ℕ, Bool, true, false, List, [], ◌�
 use Rattle.std.specs.FinMap as finite
 use Rattle.std.specs.Prelude.{Ok, Err, Result, IsErr, ⊤}
 use Rattle.std.proofs.lemmas.Bool.{true≢false}
-use Rattle.tlv_head.specs.Header.{HeaderValue, announced_length}
+use Rattle.tlv_head.specs.Header.{HasAllContents, HeaderValue, announced_length}
 use Rattle.tlv_value.specs.declared.finding.Finding.{Finding}
 use Rattle.tlv_value.specs.ValueLines.{whole_lines}
 use Rattle.tlv_io.specs.declared.drain.WriteFault.{WriteFault}
@@ -31,7 +31,7 @@ lines_of s h c = whole_lines (finite.get s.lines.names) h s.lines.layout c
 abbrev pub after_whole : DumpState → HeaderValue → List ℕ → DumpState
 after_whole s h c = dump_state (lines_after_primitive s.lines h c) (finder_whole_step s.finder h c).kept
 
-pub whole_is : (s : DumpState) (h : HeaderValue) (c : List ℕ) → announced_length h.size ≡ length c
+pub whole_is : (s : DumpState) (h : HeaderValue) (c : List ℕ) → HasAllContents h c
     → (finder_begin_step s.finder h).findings ≡ [] → (finder_whole_step s.finder h c).findings ≡ []
     → effect_of dump_step s (Begin h ∷ Bytes c ∷ End ∷ []) ≡ effect_with (after_whole s h c) (lines_of s h c)
 whole_is s h c size begins ends =
@@ -50,7 +50,7 @@ whole_is s h c size begins ends =
 
 -- the events of its octets
 pub octets_are : (s : DumpState) (h : HeaderValue) (o c : List ℕ) → c ≡ contents_in h o
-    → announced_length h.size ≡ length c → (finder_begin_step s.finder h).findings ≡ []
+    → HasAllContents h c → (finder_begin_step s.finder h).findings ≡ []
     → (finder_whole_step s.finder h c).findings ≡ []
     → effect_of dump_step s (whole_events h o) ≡ effect_with (after_whole s h c) (lines_of s h c)
 octets_are s h o c same size begins ends =

@@ -116,7 +116,7 @@ primitive-by l s h c =
 pub primitives_are_shown : PrimitivesAreShown
 primitives_are_shown s h c size =
     let d = primitives_shown s.lines h c size in
-    let f = primitive-found s.finder h c (sym size) in
+    let f = primitive-found s.finder h c size in
     let l : LinesState =
     record (lines_after_header s.lines h)
     { offset = saturating_sum (lines_after_header s.lines h).offset (length c); open_text = None } in (

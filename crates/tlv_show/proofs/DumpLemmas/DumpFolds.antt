@@ -49,7 +49,7 @@ module _ (options : Options) (names : NamesValue) (octets : List ℕ) (f : Fores
       ≡ (dump_job options names).text f
   text-made =
       (shows_forest (top_layout options) names options.rules (top_place options.framing) None Start top_frame [] f
-      r.keeps_rules (omega (arith, short, ap length r.is_prefix.1, length-append (spelling f) r.is_prefix.0))
+      r.obeys_grammar (omega (arith, short, ap length r.is_prefix.1, length-append (spelling f) r.is_prefix.0))
       (refl, refl, λ e. refl)).text 0
 
   pub count-made : (effect_of dump_step (new_dump options.rules (top_layout options) names)

@@ -4,7 +4,7 @@ use Rattle.std.proofs.Common.{◌≡◌, ℕ, ◌+◌, ◌-◌, ◌^◌, ◌<◌
 use Rattle.std.proofs.Common.{refl, sym, ap, ap₂, ◌∙◌, arith, if◌then◌else◌}
 use Rattle.std.proofs.lemmas.Grind.{flat_map-append}
 use Rattle.std.specs.Prelude.{flat_map, Option, None}
-use Rattle.tlv_head.specs.Header.{HeaderValue, announced_length, octets_of, AllowsSize}
+use Rattle.tlv_head.specs.Header.{AllowsSize, HasAllContents, HeaderValue, announced_length, octets_of}
 use Rattle.tlv_value.specs.declared.finding.Finding.{Finding}
 use Rattle.tlv_value.specs.declared.layout.Layout.{Layout}
 use Rattle.tlv_value.specs.Names.{NamesValue}
@@ -13,7 +13,7 @@ use Rattle.tlv_walk.specs.Events.{Begin, Bytes, End, EventValue, events, opening
 use Rattle.tlv_walk.specs.Events.{end_octets_offset}
 use Rattle.tlv_walk.specs.Follow.{Effect, effect_of, effect_with}
 use Rattle.tlv_walk.specs.Forest.{Forest, is_whole, opening, spelling, end_octets, extent}
-use Rattle.tlv_walk.specs.Place.{Place, place_after, place_of_children, KeepsRules}
+use Rattle.tlv_walk.specs.Place.{Place, place_after, place_of_children, ObeysGrammar}
 use Rattle.tlv_show.specs.declared.holder_frame.HolderFrame.{HolderFrame}
 use Rattle.tlv_show.specs.declared.rules.Rules.{Rules}
 use Rattle.tlv_show.specs.declared.finding_lines.Style.TheVariants.{Dump}
@@ -122,7 +122,7 @@ module _ (style : Layout) (names : NamesValue) (rules : Rules) where
   -- a primitive
   pub primitive-shown : (p : Place) (padded : Bool) (w : HolderFrame) (outer : List HolderFrame) (n : ℕ)
       (h : HeaderValue) (c : List ℕ)
-      → h.offset ≡ p.offset → announced_length h.size ≡ length c
+      → h.offset ≡ p.offset → HasAllContents h c
       → p.offset + (length (octets_of h) + length c) ≤ 2 ^ 64 - 1
       → effect_of dump_step (start p padded w outer n) (Begin h ∷ Bytes c ∷ End ∷ [])
       ≡ effect_with
@@ -138,12 +138,12 @@ module _ (style : Layout) (names : NamesValue) (rules : Rules) where
       (styled_lines (Dump style.pure) (length outer) h.offset (header_findings rules (surroundings_in w) h)
       ++ (d.put ++ texts style f)))
       (primitive_shown style names p.depth p.offset padded h c there size far)
-      (primitive-find rules w outer n h c (sym size))
+      (primitive-find rules w outer n h c size)
 
   -- an element that holds others ends
   pub closed-shown : (p : Place) (w : HolderFrame) (outer : List HolderFrame) (n : ℕ) (h : HeaderValue)
       (inside : Forest)
-      → KeepsRules (place_of_children p h) inside → is_whole inside ≡ true → h.offset ≡ p.offset
+      → ObeysGrammar (place_of_children p h) inside → is_whole inside ≡ true → h.offset ≡ p.offset
       → AllowsSize h.constructed h.size → p.offset + extent h inside ≤ 2 ^ 64 - 1
       → effect_of dump_step
       (dump_state

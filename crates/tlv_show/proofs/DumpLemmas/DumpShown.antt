@@ -4,7 +4,7 @@ use Rattle.std.proofs.Common.{◌++◌, length, refl, sym, subst, not, ap, ap₂
 use Rattle.std.proofs.Common.{length-append}
 use Rattle.std.specs.FinMap as finite
 use Rattle.std.specs.Prelude.{Option, Some, None}
-use Rattle.tlv_head.specs.Header.{HeaderValue, announced_length, octets_of, wraps}
+use Rattle.tlv_head.specs.Header.{HasAllContents, HeaderValue, announced_length, octets_of, wraps}
 use Rattle.tlv_value.specs.declared.layout.Layout.{Layout}
 use Rattle.tlv_value.specs.ValueCheckState.{value_check_after, has_unused_bits, new_value_check}
 use Rattle.tlv_value.specs.Names.{NamesValue}
@@ -17,7 +17,7 @@ use Rattle.tlv_walk.specs.Follow.{Effect, effect_of, effect_with}
 use Rattle.tlv_walk.specs.Forest.{Forest, NoMore, PaddingOctet, Primitive, Holder, OpenPrimitive, OpenHolder}
 use Rattle.tlv_walk.specs.Forest.{OpenBitString, OpenHeader, OpenEndOctets, extent, lead, opening}
 use Rattle.tlv_walk.specs.Forest.{spelling}
-use Rattle.tlv_walk.specs.Place.{KeepsRules, Place, place_after, place_of_children}
+use Rattle.tlv_walk.specs.Place.{ObeysGrammar, Place, place_after, place_of_children}
 use Rattle.tlv_walk.proofs.GrammarLemmas.Spellings.{length-holder, length-primitive}
 use Rattle.tlv_show.specs.declared.holder_frame.HolderFrame.{HolderFrame}
 use Rattle.tlv_show.specs.declared.rules.Rules.{Rules}
@@ -54,7 +54,7 @@ use Rattle.tlv_show.proofs.DumpLemmas.DumpItems.{shown-after, site, item_texts-a
 module _ (style : Layout) (names : NamesValue) (rules : Rules) where
   pub shows_forest : (p : Place) (holder : Option HeaderValue) (previous : Previous) (w : HolderFrame)
       (outer : List HolderFrame) (f : Forest)
-      → KeepsRules p f → p.offset + length (spelling f) ≤ 2 ^ 64 - 1 → Known style names rules p holder previous w outer
+      → ObeysGrammar p f → p.offset + length (spelling f) ≤ 2 ^ 64 - 1 → Known style names rules p holder previous w outer
       → IsShown style names rules p holder previous w outer f
   shows_forest p holder previous w outer NoMore v b k = record {
     text = λ n. refl;
@@ -106,7 +106,7 @@ module _ (style : Layout) (names : NamesValue) (rules : Rules) where
   shows_forest p holder previous w outer (Primitive h c rest) v b k =
       let s : Site = site style names rules p holder previous in
       let q : Place = place_after p (length (octets_of h) + length c) in
-      let size : announced_length h.size ≡ length c = ap announced_length v.0.1 in
+      let size : HasAllContents h c = ap announced_length v.0.1 in
       let form : h.constructed ≡ false = not-constructed h.constructed (wraps h) v.0.0.header.form in
       let u : Bool = has_unused_bits (value_check_after (new_value_check h) c) in
       let known : Knows (after_primitive rules w h c) (site_after_primitive s h c) =

@@ -6,7 +6,7 @@ use Rattle.std.specs.FinMap as finite
 use Rattle.std.specs.Prelude.{Some, None}
 use Rattle.tlv_head.specs.declared.header.Size.{Size}
 use Rattle.tlv_head.specs.declared.header.Size.TheVariants.{Definite, Indefinite}
-use Rattle.tlv_head.specs.Header.{AllowsSize, HeaderValue, announced_length, octets_of}
+use Rattle.tlv_head.specs.Header.{AllowsSize, HasAllContents, HeaderValue, announced_length, octets_of}
 use Rattle.tlv_value.specs.declared.layout.Layout.{Layout}
 use Rattle.tlv_value.specs.Names.{NamesValue}
 use Rattle.tlv_value.specs.ValueLines.{open_lines, whole_lines}
@@ -20,7 +20,7 @@ use Rattle.tlv_walk.specs.Follow.{Effect, effect_if_more, effect_of, effect_with
 use Rattle.tlv_walk.specs.Forest.{Forest, NoMore, PaddingOctet, Primitive, Holder, OpenPrimitive, OpenHolder}
 use Rattle.tlv_walk.specs.Forest.{OpenBitString, OpenHeader, OpenEndOctets, end_octets, extent, lead, opening, spelling}
 use Rattle.tlv_walk.specs.Forest.{lead_by}
-use Rattle.tlv_walk.specs.Place.{KeepsRules, Place, place_after}
+use Rattle.tlv_walk.specs.Place.{ObeysGrammar, Place, place_after}
 use Rattle.tlv_walk.proofs.GrammarLemmas.Spellings.{length-opening}
 use Rattle.tlv_show.specs.LinesStep.{LinesState, lines_step, lines_after_header}
 use Rattle.tlv_show.specs.HolderLines.{closing_line, opening_line, padding_line, opening_word}
@@ -34,7 +34,7 @@ use Rattle.tlv_show.proofs.SaturatingSums.{sum-small}
 -- ---- what is reported of a primitive
 
 -- with the header, with the contents octets, and with the end
-whole_shown : (name_of : NameOf) (h : HeaderValue) (layout : Layout) (c : List ℕ) → length c ≡ announced_length h.size
+whole_shown : (name_of : NameOf) (h : HeaderValue) (layout : Layout) (c : List ℕ) → HasAllContents h c
     → begin_lines (new_value_text h layout)
     ++ (contents_lines (new_value_text h layout) c
     ++ (end_lines name_of (value_text_after (new_value_text h layout) c) ++ []))
@@ -48,7 +48,7 @@ whole_shown name_of h layout c e =
     ∙ sym (lines-end name_of h layout c e)
 
 -- whatever went before
-pub primitives_shown : (s : LinesState) (h : HeaderValue) (c : List ℕ) → announced_length h.size ≡ length c
+pub primitives_shown : (s : LinesState) (h : HeaderValue) (c : List ℕ) → HasAllContents h c
     → effect_of lines_step s (Begin h ∷ Bytes c ∷ End ∷ [])
     ≡ effect_with
     (record (lines_after_header s h)
@@ -77,7 +77,7 @@ primitives_shown s h c size =
     ++ (contents_lines t c
     ++ ((if n == 0 then end_lines (finite.get s.names) (value_text_after t c) else []) ++ []))))
     none
-    ∙ ap (effect_with lines_after) (whole_shown (finite.get s.names) h s.layout c (sym size))
+    ∙ ap (effect_with lines_after) (whole_shown (finite.get s.names) h s.layout c size)
 
 -- of elements in this style, with these names
 module _ (style : Layout) (names : NamesValue) where
@@ -106,7 +106,7 @@ module _ (style : Layout) (names : NamesValue) where
       { open_text = Some (new_value_text h (layout_at style level)) }
 
   pub primitive_shown : (level offset : ℕ) (padded : Bool) (h : HeaderValue) (c : List ℕ) → h.offset ≡ offset
-      → announced_length h.size ≡ length c → offset + (length (octets_of h) + length c) ≤ 2 ^ 64 - 1
+      → HasAllContents h c → offset + (length (octets_of h) + length c) ≤ 2 ^ 64 - 1
       → effect_of lines_step (lines_between level offset padded) (Begin h ∷ Bytes c ∷ End ∷ [])
       ≡ effect_with (lines_between level (offset + (length (octets_of h) + length c)) false)
       (whole_lines (finite.get names) h (layout_at style level) c)
@@ -223,7 +223,7 @@ module _ (style : Layout) (names : NamesValue) where
   ends_in_padding padded OpenEndOctets = padded
 
   -- inside an element there is none
-  pub no_padding : (p : Place) (f : Forest) → p.padding ≡ false → KeepsRules p f → ends_in_padding false f ≡ false
+  pub no_padding : (p : Place) (f : Forest) → p.padding ≡ false → ObeysGrammar p f → ends_in_padding false f ≡ false
   no_padding p NoMore e v = refl
   no_padding p (PaddingOctet rest) e v = absurd (true≢false (sym v.0.0 ∙ e))
   no_padding p (Primitive h c rest) e v = no_padding (place_after p (length (octets_of h) + length c)) rest e v.1

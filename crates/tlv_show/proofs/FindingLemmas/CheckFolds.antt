@@ -18,7 +18,7 @@ use Rattle.tlv_walk.specs.Events.{events}
 use Rattle.tlv_walk.specs.Follow.{Effect, effect_if_more, effect_of}
 use Rattle.tlv_walk.specs.Forest.{Forest, NoMore, PaddingOctet, Primitive, Holder, OpenPrimitive, OpenHolder}
 use Rattle.tlv_walk.specs.Forest.{OpenBitString, OpenHeader, OpenEndOctets, extent, opening, spelling}
-use Rattle.tlv_walk.specs.Place.{KeepsRules, Place, place_after, place_of_children, top_place}
+use Rattle.tlv_walk.specs.Place.{ObeysGrammar, Place, place_after, place_of_children, top_place}
 use Rattle.tlv_walk.specs.Reading.{IsReading}
 use Rattle.tlv_head.proofs.ReaderLemmas.Prefix.{header-two}
 use Rattle.tlv_walk.proofs.GrammarLemmas.Spellings.{length-holder, length-opening, length-primitive}
@@ -175,7 +175,7 @@ module _ (rules : Rules) where
   few-end h inside = held-few rules (end_conditions (segments_of h (headers inside)))
 
   -- at most 16 findings for each octet
-  pub findings-within : (p : Place) (s : Site) (f : Forest) → KeepsRules p f
+  pub findings-within : (p : Place) (s : Site) (f : Forest) → ObeysGrammar p f
       → length (only (items rules s f)) ≤ 16 * length (spelling f)
   findings-within p s NoMore v = omega arith
   findings-within p s (PaddingOctet rest) v =
@@ -247,7 +247,7 @@ module _ (rules : Rules) where
       (r : IsReading framing octets f) where
     put-is : (run_finder start (events f)).put ≡ only (items rules top_site f)
     put-is =
-        (finds_forest rules (top_place framing) top_site top_frame [] f r.keeps_rules refl refl refl (λ e. refl)).put 0
+        (finds_forest rules (top_place framing) top_site top_frame [] f r.obeys_grammar refl refl refl (λ e. refl)).put 0
 
     pub text-made : (effect_of check_step start (events f)).put ≡ (check_job rules framing).text f
     text-made =
@@ -261,7 +261,7 @@ module _ (rules : Rules) where
         ∙ ap (λ (l : List Item). saturating_sum 0 (length l)) put-is
         ∙ omega (
           arith,
-          findings-within (top_place framing) top_site f r.keeps_rules,
+          findings-within (top_place framing) top_site f r.obeys_grammar,
           short,
           n,
           ap length r.is_prefix.1,

@@ -11,7 +11,7 @@ use Rattle.tlv_head.specs.UniversalTypes.{bit_string}
 use Rattle.tlv_value.specs.Types.{has_segments, is_a, is_primitive}
 use Rattle.tlv_walk.specs.Forest.{Forest, NoMore, PaddingOctet, Primitive, Holder, OpenPrimitive, OpenHolder}
 use Rattle.tlv_walk.specs.Forest.{OpenBitString, OpenHeader, OpenEndOctets, extent, is_whole}
-use Rattle.tlv_walk.specs.Place.{KeepsRules, Place, place_after}
+use Rattle.tlv_walk.specs.Place.{ObeysGrammar, Place, place_after}
 use Rattle.tlv_show.specs.declared.holder_frame.HolderFrame.{HolderFrame}
 use Rattle.tlv_show.specs.declared.rules.Rules.{Rules}
 use Rattle.tlv_show.specs.Conditions.{bits_octet_count, ends_empty, segments_of}
@@ -89,27 +89,27 @@ all-outside w (OpenHeader octets) e = refl
 all-outside w OpenEndOctets e = refl
 
 -- what a frame says of the holder
-pub record Stays (w t : HolderFrame) : Type 0 where
+pub record SameHolder (w t : HolderFrame) : Type 0 where
   pub offset : t.offset ≡ w.offset
   pub announced_length : t.announced_length ≡ w.announced_length
   pub primitive : t.is_primitive ≡ w.is_primitive
 
 stays-after : (w : HolderFrame) (primitive : Bool) (size : ℕ) (unused_bits : Bool)
-    → Stays w (frame_after w primitive size unused_bits)
+    → SameHolder w (frame_after w primitive size unused_bits)
 stays-after w primitive size unused_bits = by w.has_segments
   where
-    by : (k : Bool) → Stays w (if k then frame_after_segment w primitive size unused_bits else w)
+    by : (k : Bool) → SameHolder w (if k then frame_after_segment w primitive size unused_bits else w)
     by true = record { offset = refl; announced_length = refl; primitive = refl }
     by false = record { offset = refl; announced_length = refl; primitive = refl }
 
-stays-then : {u w t : HolderFrame} → Stays u w → Stays w t → Stays u t
+stays-then : {u w t : HolderFrame} → SameHolder u w → SameHolder w t → SameHolder u t
 stays-then a b = record {
   offset = b.offset ∙ a.offset;
   announced_length = b.announced_length ∙ a.announced_length;
   primitive = b.primitive ∙ a.primitive;
 }
 
-frame-stays : (w : HolderFrame) (f : Forest) → Stays w (frame_after_elements w f)
+frame-stays : (w : HolderFrame) (f : Forest) → SameHolder w (frame_after_elements w f)
 frame-stays w NoMore = record { offset = refl; announced_length = refl; primitive = refl }
 frame-stays w (PaddingOctet rest) = frame-stays w rest
 frame-stays w (Primitive h c rest) =
@@ -150,7 +150,7 @@ and-true false = refl
 more-length : (w n d : ℕ) → w ≡ min n 1001 → min (w + d) 1001 ≡ min (n + d) 1001
 more-length w n d e = omega (arith, e)
 
-sums-up : (p : Place) (w : HolderFrame) (n : ℕ) (f : Forest) → KeepsRules p f → is_whole f ≡ true
+sums-up : (p : Place) (w : HolderFrame) (n : ℕ) (f : Forest) → ObeysGrammar p f → is_whole f ≡ true
     → w.value_length ≡ min n 1001
     → SumsUp w n f
 sums-up p w n NoMore v e o =
@@ -194,7 +194,7 @@ sums-up p w n (OpenBitString h) v e o = absurd (cc (e))
 sums-up p w n (OpenHeader octets) v e o = absurd (cc (e))
 sums-up p w n OpenEndOctets v e o = absurd (cc (e))
 
-segments-summed : (rules : Rules) (p : Place) (h : HeaderValue) (inside : Forest) → KeepsRules p inside
+segments-summed : (rules : Rules) (p : Place) (h : HeaderValue) (inside : Forest) → ObeysGrammar p inside
     → is_whole inside ≡ true
     → end_findings rules (segments_in (frame_after_segments (frame_of h) inside))
     ≡ end_findings rules (segments_of h (headers inside))
@@ -218,7 +218,7 @@ no-ends rules w e =
     e
 
 -- what is found with an end, by the frame of what was held
-end_findings-by_frame : (rules : Rules) (p : Place) (h : HeaderValue) (inside : Forest) → KeepsRules p inside
+end_findings-by_frame : (rules : Rules) (p : Place) (h : HeaderValue) (inside : Forest) → ObeysGrammar p inside
     → is_whole inside ≡ true
     → end_findings rules (segments_in (frame_after_elements (frame_of h) inside))
     ≡ end_findings rules (segments_of h (headers inside))
@@ -239,7 +239,7 @@ end_findings-by_frame rules p h inside v e = by-segments (has_segments h) refl
 
 -- ---- the same if nothing is to be known of what was held
 
-module _ (rules : Rules) (p : Place) (w : HolderFrame) (h : HeaderValue) (inside : Forest) (v : KeepsRules p inside)
+module _ (rules : Rules) (p : Place) (w : HolderFrame) (h : HeaderValue) (inside : Forest) (v : ObeysGrammar p inside)
     (whole : is_whole inside ≡ true) where
   -- an element that is no string: nothing is found with its end
   nothing-ends : has_segments h ≡ false → end_findings rules (segments_of h (headers inside)) ≡ []

@@ -4,7 +4,7 @@ use Rattle.std.proofs.Common.{◌++◌, length, refl, sym, subst, not, ap, ap₂
 use Rattle.std.proofs.lemmas.List.Elements.{filter-append}
 use Rattle.std.specs.List.{filter}
 use Rattle.std.specs.Prelude.{None}
-use Rattle.tlv_head.specs.Header.{HeaderValue, announced_length, octets_of, wraps}
+use Rattle.tlv_head.specs.Header.{HasAllContents, HeaderValue, announced_length, octets_of, wraps}
 use Rattle.tlv_value.specs.declared.finding.Finding.{Finding}
 use Rattle.tlv_value.specs.ValueCheckState.{value_check_after, has_unused_bits}
 use Rattle.tlv_value.specs.ValueCheckState.{new_value_check}
@@ -13,7 +13,7 @@ use Rattle.tlv_walk.specs.Events.{EventValue, closing_event}
 use Rattle.tlv_walk.specs.Events.{end_octets_offset, events}
 use Rattle.tlv_walk.specs.Forest.{Forest, NoMore, PaddingOctet, Primitive, Holder, OpenPrimitive, OpenHolder}
 use Rattle.tlv_walk.specs.Forest.{OpenBitString, OpenHeader, OpenEndOctets, extent, is_whole}
-use Rattle.tlv_walk.specs.Place.{KeepsRules, Place, place_after, place_of_children}
+use Rattle.tlv_walk.specs.Place.{ObeysGrammar, Place, place_after, place_of_children}
 use Rattle.tlv_show.specs.declared.holder_frame.HolderFrame.{HolderFrame}
 use Rattle.tlv_show.specs.declared.rules.Rules.{Rules}
 use Rattle.tlv_show.specs.FinderState.{CheckState}
@@ -77,7 +77,7 @@ module _ (rules : Rules) where
       ap₂ (λ (n : ℕ) (t : List Item). finding_items n offset fs ++ t) l e
       ∙ sym (only-finding_items s.level offset fs rest)
 
-  pub finds_forest : (p : Place) (s : Site) (w : HolderFrame) (outer : List HolderFrame) (f : Forest) → KeepsRules p f
+  pub finds_forest : (p : Place) (s : Site) (w : HolderFrame) (outer : List HolderFrame) (f : Forest) → ObeysGrammar p f
       → Knows w s → length outer ≡ s.level → s.level ≡ p.depth → (p.padding ≡ true → s.holder ≡ None)
       → IsFoundAs s w outer f
   finds_forest p s w outer NoMore v k l d free = record { put = λ n. refl; after = λ n e. (n, refl) }
@@ -92,7 +92,7 @@ module _ (rules : Rules) where
         after = r.after;
       }
   finds_forest p s w outer (Primitive h c rest) v k l d free =
-      let size : length c ≡ announced_length h.size = sym (ap announced_length v.0.1) in
+      let size : HasAllContents h c = ap announced_length v.0.1 in
       let form : h.constructed ≡ false = not-constructed h.constructed (wraps h) v.0.0.header.form in
       let u : Bool = has_unused_bits (value_check_after (new_value_check h) c) in
       let known : Knows (after_primitive rules w h c) (site_after_primitive s h c) =

@@ -4,7 +4,7 @@ use Rattle.std.proofs.Common.{◌++◌, length, map, refl, sym, ap, ap₂, ◌�
 use Rattle.std.proofs.lemmas.Bool.Decides.{nat_tests}
 use Rattle.std.specs.List.{filter}
 use Rattle.std.specs.Prelude.{Option, Some, None}
-use Rattle.tlv_head.specs.Header.{HeaderValue, announced_length}
+use Rattle.tlv_head.specs.Header.{HasAllContents, HeaderValue, announced_length}
 use Rattle.tlv_value.specs.declared.finding.Finding.{Finding}
 use Rattle.tlv_value.specs.ValueCheckState.{ValueCheckState, value_check_after, findings_in, has_unused_bits}
 use Rattle.tlv_value.specs.ValueCheckState.{new_value_check}
@@ -14,7 +14,7 @@ use Rattle.tlv_walk.specs.Events.{Begin, Bytes, Close, End, Enter, EventValue, L
 use Rattle.tlv_walk.specs.Events.{end_offset, opening_events}
 use Rattle.tlv_walk.specs.Forest.{Forest}
 use Rattle.tlv_walk.specs.Forest.{is_whole, opening, spelling}
-use Rattle.tlv_walk.specs.Place.{KeepsRules, Place}
+use Rattle.tlv_walk.specs.Place.{ObeysGrammar, Place}
 use Rattle.tlv_walk.specs.Forest.{lead_by}
 use Rattle.tlv_show.specs.declared.holder_frame.HolderFrame.{HolderFrame}
 use Rattle.tlv_show.specs.declared.rules.Rules.{Rules}
@@ -74,7 +74,7 @@ bytes_step-all s offset h (x ∷ c) e =
     (take_all (announced_length h.size) (x ∷ c) e))
 
 -- what is found at their end
-contents_findings-at_end : (rules : Rules) (h : HeaderValue) (c : List ℕ) → length c ≡ announced_length h.size
+contents_findings-at_end : (rules : Rules) (h : HeaderValue) (c : List ℕ) → HasAllContents h c
     → contents_findings_in rules (value_check_after (new_value_check h) c) ≡ contents_findings rules h c
 contents_findings-at_end rules h c e =
     let none : (announced_length h.size - length c == 0) ≡ true = grind (arith, nat_tests) in
@@ -85,7 +85,7 @@ contents_findings-at_end rules h c e =
 -- ---- a primitive at once
 
 -- what a finder makes of a primitive
-pub primitive-found : (s : CheckState) (h : HeaderValue) (c : List ℕ) → length c ≡ announced_length h.size
+pub primitive-found : (s : CheckState) (h : HeaderValue) (c : List ℕ) → HasAllContents h c
     → (u : CheckState) × (u.open_primitive ≡ None)
     × (finder_end_step (finder_bytes_step (finder_begin_step s h).kept c) ≡ record {
       kept = u;
@@ -169,7 +169,7 @@ module _ (rules : Rules) where
 
   pub run-closing : (p : Place) (w : HolderFrame) (outer : List HolderFrame) (n : ℕ) (h : HeaderValue) (inside : Forest)
       (es : List EventValue)
-      → KeepsRules p inside → is_whole inside ≡ true
+      → ObeysGrammar p inside → is_whole inside ≡ true
       → run_finder (check_between (frame_after_elements (frame_under w h) inside) (w ∷ outer) n)
       (closing_event h inside ∷ es)
       ≡ then_found (finding_items (length outer) h.offset (end_findings rules (segments_of h (headers inside))))
@@ -203,7 +203,7 @@ module _ (rules : Rules) where
 
   pub run-primitive : (w : HolderFrame) (outer : List HolderFrame) (n : ℕ) (h : HeaderValue) (c : List ℕ)
       (es : List EventValue)
-      → length c ≡ announced_length h.size
+      → HasAllContents h c
       → run_finder (check_between w outer n) (Begin h ∷ Bytes c ∷ End ∷ es)
       ≡ then_found (finding_items (length outer) h.offset (header_findings rules (surroundings_in w) h))
       (then_found (finding_items (length outer) h.offset (contents_findings rules h c))
@@ -222,7 +222,7 @@ module _ (rules : Rules) where
 
   pub closed-find : (p : Place) (w : HolderFrame) (outer : List HolderFrame) (n : ℕ) (h : HeaderValue)
       (inside : Forest)
-      → KeepsRules p inside → is_whole inside ≡ true
+      → ObeysGrammar p inside → is_whole inside ≡ true
       → finder_close_step (check_between (frame_after_elements (frame_under w h) inside) (w ∷ outer) n)
       ≡ record {
         kept =
@@ -255,7 +255,7 @@ module _ (rules : Rules) where
       (after-under w h inside)
 
   pub primitive-find : (w : HolderFrame) (outer : List HolderFrame) (n : ℕ) (h : HeaderValue) (c : List ℕ)
-      → length c ≡ announced_length h.size
+      → HasAllContents h c
       → finder_end_step (finder_bytes_step (finder_begin_step (check_between w outer n) h).kept c)
       ≡ record {
         kept = check_between (after_primitive w h c) outer (after_contents w h c n);

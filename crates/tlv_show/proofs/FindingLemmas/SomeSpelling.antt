@@ -17,7 +17,7 @@ use Rattle.tlv_walk.specs.Forest.{Forest, NoMore, PaddingOctet, Primitive, Holde
 use Rattle.tlv_walk.specs.Forest.{OpenBitString, OpenHeader, OpenEndOctets, extent, has_element, spelling}
 use Rattle.tlv_walk.specs.Inside.{can_name, is_among}
 use Rattle.tlv_walk.proofs.EventLemmas.NamedOffsets.{AreRising, can-from, can-to}
-use Rattle.tlv_walk.specs.Place.{KeepsRules, Place, is_indefinite, place_after, place_of_children, top_place}
+use Rattle.tlv_walk.specs.Place.{ObeysGrammar, Place, is_indefinite, place_after, place_of_children, top_place}
 use Rattle.tlv_walk.specs.Reading.{IsReading, IsSound, IsSoundList}
 use Rattle.tlv_walk.specs.Wrappers.{wrapper_offset, wrapper_offsets}
 use Rattle.tlv_walk.proofs.GrammarLemmas.Alike.{AreRegular, IsRegular}
@@ -219,7 +219,7 @@ as-many f g (holders h k inside within a b tag held rest) =
       length-append (wrapper_offsets within) (wrapper_offsets b),
     )
 
-can-name : (framing other : Framing) (f g : Forest) → KeepsRules (top_place framing) f → KeepsRules (top_place other) g
+can-name : (framing other : Framing) (f g : Forest) → ObeysGrammar (top_place framing) f → ObeysGrammar (top_place other) g
     → AreAlike f g
     → length (spelling g) ≤ 2 ^ 40 → can_name framing.inside ≡ true → can_name (wrapper_offsets g) ≡ true
 can-name framing other f g u v alike few named = let can = can-to framing.inside named in can-from (wrapper_offsets g) (
@@ -281,5 +281,5 @@ some-spelling rules framing b f strict few ending reading low =
         none = none-found rules strict (top_place other) top_site at_top.forest sound at_top.regular;
       },
       at_top.alike,
-      can-name framing other f at_top.forest reading.keeps_rules there.keeps_rules at_top.alike small,
+      can-name framing other f at_top.forest reading.obeys_grammar there.obeys_grammar at_top.alike small,
     )

@@ -167,7 +167,7 @@ findings-end h octets e =
     let n = type_number h in
     ap (λ (c : ContentsFacts). findings_by (type_conditions n c))
     (noted-left (notes_first n) (notes_each n) (notes_time n) (new_value_check h) octets
-    ∙ ap (λ (z : ℕ). facts_in (with_octets_noted (new_value_check_of n z) octets)) (sym e))
+    ∙ ap (λ (z : ℕ). facts_in (with_octets_noted (new_value_check_of n z) octets)) e)
     ∙ sym (noted-same n octets)
 
 -- no octets

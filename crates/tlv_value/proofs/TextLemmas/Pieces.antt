@@ -2,7 +2,7 @@
 use Rattle.std.proofs.Common.{◌≡◌, ℕ, ◌+◌, ◌-◌, ◌≤◌, Bool, true, false, List, [], ◌∷◌, ◌++◌, length, refl, sym, ap, ◌∙◌}
 use Rattle.std.proofs.Common.{arith, append_assoc, append-nil, length-append}
 use Rattle.std.specs.Prelude.{◌&&◌, nat_le, if◌then◌else◌}
-use Rattle.tlv_head.specs.Header.{HeaderValue, announced_length as size_of}
+use Rattle.tlv_head.specs.Header.{HasAllContents, HeaderValue, announced_length as size_of}
 use Rattle.tlv_io.specs.Cuts.{last_rows}
 use Rattle.tlv_value.specs.declared.kind.Kind.{Kind}
 use Rattle.tlv_value.specs.declared.kind.Kind.TheVariants.{Octets, Boolean, Integer, Bits, Object, Relative, Text, Utf8}
@@ -306,11 +306,11 @@ lines-end name_of h layout octets e =
     let kind : Kind = kind_of h.class h.number in
     let w =
     whole-ended layout (line_for h layout) (size_of h.size) name_of kind (is_long kind (size_of h.size)) octets
-    (long-some kind (length octets) (size_of h.size) e) in
-    ap (λ (n : ℕ). whole_by layout (line_for h layout) name_of kind n octets) e ∙ w
+    (long-some kind (length octets) (size_of h.size) (sym e)) in
+    ap (λ (n : ℕ). whole_by layout (line_for h layout) name_of kind n octets) (sym e) ∙ w
 
 -- a primitive written with its header, its contents and its end has the lines of the whole
-pub whole-new : (name_of : NameOf) (h : HeaderValue) (layout : Layout) (c : List ℕ) → length c ≡ size_of h.size
+pub whole-new : (name_of : NameOf) (h : HeaderValue) (layout : Layout) (c : List ℕ) → HasAllContents h c
     → begin_lines (new_value_text h layout)
     ++ (contents_lines (new_value_text h layout) c
     ++ end_lines name_of (value_text_after (new_value_text h layout) c))
@@ -340,7 +340,7 @@ new-long name_of p c long e =
 -- one with its value on its line is written with its end
 pub shown-new : (name_of : NameOf) (h : HeaderValue) (layout : Layout) (p : Primitive) (c : List ℕ)
     → p ≡ new_primitive h layout → is_long (kind_of h.class h.number) (size_of h.size) ≡ false
-    → length c ≡ size_of h.size → primitive_lines name_of p c ≡ whole_lines name_of h layout c
+    → HasAllContents h c → primitive_lines name_of p c ≡ whole_lines name_of h layout c
 shown-new name_of h layout p c is short e =
     ap (λ (q : Primitive). primitive_lines name_of q c) is ∙ at-end ∙ whole-new name_of h layout c e
   where

@@ -1,7 +1,7 @@
 -- What the calls of a `ValueText` put is the rest of the lines of its primitive.
 use Rattle.std.proofs.Common.{◌≡◌, ℕ, List, [], ◌++◌, length, sym, ap, ◌∙◌}
 use Rattle.std.specs.Prelude.{Result}
-use Rattle.tlv_head.specs.Header.{HeaderValue, announced_length}
+use Rattle.tlv_head.specs.Header.{HasAllContents, HeaderValue, announced_length}
 use Rattle.tlv_io.specs.declared.out.Out.{Out}
 use Rattle.tlv_io.specs.Device.{DrainState}
 use Rattle.tlv_io.specs.Out.{Puts}
@@ -36,7 +36,7 @@ module _ {D T E : Type 0} (state_of : D → DrainState) (old new : Out D) (resul
   }
 
   -- with the end
-  pub end-puts : (name_of : NameOf) (c : List ℕ) → s ≡ value_text_for h layout c → length c ≡ announced_length h.size
+  pub end-puts : (name_of : NameOf) (c : List ℕ) → s ≡ value_text_for h layout c → HasAllContents h c
       → Puts state_of old new (end_lines name_of s) result
       → PutsRest state_of old new (open_lines h layout c) (whole_lines name_of h layout c) result
   end-puts name_of c e size p = record {

@@ -1,6 +1,7 @@
 //! Rows on their way to an [`Out`].
 ghost use Rattle.std.specs.Prelude.{◌≡◌, ◌+◌, ◌<◌, ◌≤◌, ◌^◌, ◌++◌, [], codes, if◌then◌else◌, length, IsTrue};
 ghost use Rattle.std.specs.Prelude.{None, OnOk, ◌↔◌};
+ghost use Rattle.tlv_io.specs.OutLimits.{line_room};
 ghost use Rattle.tlv_io.specs.Cuts.{last_rows};
 ghost use Rattle.tlv_io.specs.LineTexts.{HasRoomFor};
 ghost use Rattle.tlv_io.specs.Out.{Puts};
@@ -219,7 +220,7 @@ fn put_dots<D: Drain>(
 /// Adds the line of a row.
 #[inline(always)]
 fn write_line(held: &mut HeldOctets, layout: Layout, kind: Kind, row: &[u8])
-    requires room { HasRoomFor held.old 1024 }
+    requires room { HasRoomFor held.old line_room }
     requires short { length row.now ≤ 64 }
     ensures { held.new ≡ held.old ++ inner_line layout (row_text kind row.now) }
 {
@@ -242,7 +243,7 @@ fn write_pair_row_line(held: &mut HeldOctets, layout: Layout, row: &[u8; 16])
 
 /// Adds the line of three dots.
 fn write_dots(held: &mut HeldOctets, layout: Layout)
-    requires { HasRoomFor held.old 1024 }
+    requires { HasRoomFor held.old line_room }
     ensures { held.new ≡ held.old ++ inner_line layout (codes "...") }
 {
     held.spaces(row_indent(layout));

@@ -7,7 +7,7 @@ use Rattle.tlv_head.specs.declared.fault.FaultCode.TheVariants.{BadEnd, BadInsid
 use Rattle.tlv_head.specs.Header.{HeaderValue, announced_length, octets_of}
 use Rattle.tlv_walk.specs.Forest.{Forest, NoMore, PaddingOctet, Primitive, Holder, OpenPrimitive, OpenHolder}
 use Rattle.tlv_walk.specs.Forest.{OpenBitString, OpenHeader, OpenEndOctets, extent, lead}
-use Rattle.tlv_walk.specs.Place.{KeepsRules, Place, place_after, place_of_children}
+use Rattle.tlv_walk.specs.Place.{ObeysGrammar, Place, place_after, place_of_children}
 use Rattle.tlv_walk.specs.Events.{Begin, Bytes, End, Enter, EventValue, Pad, Unused, closing_event, events}
 use Rattle.tlv_walk.specs.Events.{opening_events, single_octets}
 use Rattle.tlv_walk.proofs.GrammarLemmas.Bounds.{fits}
@@ -27,7 +27,7 @@ closing_events h (Grown g) = cond (is_filled_by h g) (closing_event h g ∷ []) 
 closing_events h (Ended g) = closing_event h g ∷ []
 closing_events h (Refused code) = []
 
--- what the octet x after a forest that keeps the rules brings
+-- what the octet x after a forest that obeys the grammar brings
 abbrev pub gain_events : Place → Forest → ℕ → List EventValue
 gain_events p NoMore x = step_events (push p NoMore x)
 gain_events p (PaddingOctet rest) x = gain_events (place_after p 1) rest x
@@ -127,7 +127,7 @@ open_bit_string-brings h x e = elim (cases_Bool (eqb x 0)) [
 ]
 
 -- the events of the forest pushed are those before, and then those that the octet brings
-pub push-brings : (p : Place) (f : Forest) (x : ℕ) → KeepsRules p f
+pub push-brings : (p : Place) (f : Forest) (x : ℕ) → ObeysGrammar p f
     → Brings (events f ++ gain_events p f x) (push p f x)
 push-brings p NoMore x w = step-brings (push p NoMore x)
 push-brings p (PaddingOctet rest) x w =

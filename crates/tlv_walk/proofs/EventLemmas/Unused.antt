@@ -12,7 +12,7 @@ use Rattle.tlv_walk.specs.Forest.{Forest}
 use Rattle.tlv_walk.specs.Inside.{can_name, is_among}
 use Rattle.tlv_walk.specs.WalkerState.{WalkerState, unused_offset}
 use Rattle.tlv_walk.specs.Private.WrapperCount.{next_wrapper_count, wrapper_count_after}
-use Rattle.tlv_walk.specs.Place.{KeepsRules, top_place}
+use Rattle.tlv_walk.specs.Place.{ObeysGrammar, top_place}
 use Rattle.tlv_walk.specs.Stands.{Stands, filled_end_events, is_end_at, waiting_events, waiting_events_in}
 use Rattle.tlv_walk.specs.Wrappers.{first_not_among, first_without_wrapper, entered_offsets, wrapper_offsets}
 use Rattle.tlv_walk.proofs.EventLemmas.Joined.{apart-from_joined}
@@ -126,7 +126,7 @@ enters-joined : (xs ys : List EventValue) → AreEqualJoined xs ys → entered_o
 enters-joined xs ys e = sym (enters-apart xs) ∙ ap entered_offsets (apart-from_joined xs ys e) ∙ enters-apart ys
 
 -- the wrappers of a forest whose events were yielded
-yielded_wrappers : (framing : Framing) (yielded waits : List EventValue) (f : Forest) → KeepsRules (top_place framing) f
+yielded_wrappers : (framing : Framing) (yielded waits : List EventValue) (f : Forest) → ObeysGrammar (top_place framing) f
     → entered_offsets waits ≡ [] → AreEqualJoined (yielded ++ waits) (events f)
     → entered_offsets yielded ≡ wrapper_offsets f
 yielded_wrappers framing yielded waits f v none e =
@@ -136,7 +136,7 @@ yielded_wrappers framing yielded waits f v none e =
 
 -- the count over the events yielded gives the first named offset that is no wrapper's
 pub yielded_unused : (framing : Framing) (yielded waits : List EventValue) (f : Forest)
-    → can_name framing.inside ≡ true → KeepsRules (top_place framing) f → entered_offsets waits ≡ []
+    → can_name framing.inside ≡ true → ObeysGrammar (top_place framing) f → entered_offsets waits ≡ []
     → AreEqualJoined (yielded ++ waits) (events f)
     → slice_get framing.inside (wrapper_count_after framing.inside 0 (entered_offsets yielded))
     ≡ first_without_wrapper framing.inside f
@@ -151,7 +151,7 @@ pub stands_unused : (w : WalkerState) (b : List ℕ) (yielded : List EventValue)
 stands_unused w b yielded st =
     ap (slice_get w.framing.inside) st.private_state.wrapper_count
     ∙ yielded_unused w.framing yielded (waiting_events w) st.has_events.reading st.private_state.can_name
-    st.has_events.is_reading.keeps_rules (waits_enter_none w.phase w.stack w.offset) st.has_events.all_events
+    st.has_events.is_reading.obeys_grammar (waits_enter_none w.phase w.stack w.offset) st.has_events.all_events
 
 -- it is the first that no event yielded entered
 pub stands-entered : (w : WalkerState) (b : List ℕ) (yielded : List EventValue) → Stands w b yielded
@@ -161,5 +161,5 @@ stands-entered w b yielded st =
     ∙ ap (first_not_among w.framing.inside)
     (sym
     (yielded_wrappers w.framing yielded (waiting_events w) st.has_events.reading
-    st.has_events.is_reading.keeps_rules (waits_enter_none w.phase w.stack w.offset)
+    st.has_events.is_reading.obeys_grammar (waits_enter_none w.phase w.stack w.offset)
     st.has_events.all_events))

@@ -6,7 +6,7 @@ use Rattle.tlv_head.specs.Header.{HeaderValue, is_wrapper, octets_of}
 use Rattle.tlv_walk.specs.Forest.{Forest, NoMore, PaddingOctet, Primitive, Holder, OpenPrimitive, OpenHolder}
 use Rattle.tlv_walk.specs.Forest.{OpenBitString, OpenHeader, OpenEndOctets, extent, lead, opening, spelling}
 use Rattle.tlv_walk.specs.Inside.{is_among}
-use Rattle.tlv_walk.specs.Place.{IsHeaderAt, KeepsRules, Place, place_after, place_of_children}
+use Rattle.tlv_walk.specs.Place.{IsHeaderAt, ObeysGrammar, Place, place_after, place_of_children}
 use Rattle.tlv_walk.specs.Events.{Begin, Bytes, Close, End, Enter, EventValue, Leave, Open, Pad, Unused, closing_event}
 use Rattle.tlv_walk.specs.Events.{events, opening_events, single_octets}
 use Rattle.tlv_walk.specs.Wrappers.{entered_offsets, wrapper_offset, wrapper_offset_by, wrapper_offsets}
@@ -85,8 +85,8 @@ waiting-wraps h e = elim (cases_Bool h.constructed) [
   | inr c ↦ rw c
 ]
 
--- the wrappers of a forest that keeps the rules are those that its events enter
-pub wrapper_offsets-entered : (p : Place) (f : Forest) → KeepsRules p f → wrapper_offsets f ≡ entered_offsets (events f)
+-- the wrappers of a forest that obeys the grammar are those that its events enter
+pub wrapper_offsets-entered : (p : Place) (f : Forest) → ObeysGrammar p f → wrapper_offsets f ≡ entered_offsets (events f)
 wrapper_offsets-entered p NoMore w = refl
 wrapper_offsets-entered p (PaddingOctet rest) w = wrapper_offsets-entered (place_after p 1) rest w.1
 wrapper_offsets-entered p (Primitive h c rest) w =
@@ -140,7 +140,7 @@ wrapper-rises a b h e l = elim (cases_Bool h.constructed) [
 ]
 
 -- the offsets of the wrappers rise, and are those of octets of the forest
-pub wrapper_offsets-rise : (p : Place) (f : Forest) → KeepsRules p f
+pub wrapper_offsets-rise : (p : Place) (f : Forest) → ObeysGrammar p f
     → Rise p.offset (p.offset + length (spelling f)) (wrapper_offsets f)
 wrapper_offsets-rise p NoMore w = omega arith
 wrapper_offsets-rise p (PaddingOctet rest) w =
@@ -203,8 +203,8 @@ wrapper-named p h header = elim (cases_Bool h.constructed) [
       rw c (named, tt)
 ]
 
--- the wrappers of a forest that keeps the rules are among the offsets named
-pub wrapper_offsets-named : (p : Place) (f : Forest) → KeepsRules p f → AreNamed p.inside (wrapper_offsets f)
+-- the wrappers of a forest that obeys the grammar are among the offsets named
+pub wrapper_offsets-named : (p : Place) (f : Forest) → ObeysGrammar p f → AreNamed p.inside (wrapper_offsets f)
 wrapper_offsets-named p NoMore w = tt
 wrapper_offsets-named p (PaddingOctet rest) w = wrapper_offsets-named (place_after p 1) rest w.1
 wrapper_offsets-named p (Primitive h c rest) w =

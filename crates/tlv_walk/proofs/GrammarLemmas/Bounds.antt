@@ -42,14 +42,14 @@ abbrev pub has_length : Size → ℕ → Bool
 has_length (Definite n) m = eqb m n
 has_length Indefinite m = false
 
--- an element has all its contents octets, by its definite length
-pub record HasAllContents (s : Size) (m : ℕ) : Type 0 where
+-- the length is definite, and it is m
+pub record IsDefiniteLength (s : Size) (m : ℕ) : Type 0 where
   pub filled : HasLength s m
   pub ends : end_octets s ≡ []
   pub all : announced_length s ≡ m
 
 -- what the test says
-pub length-full : (s : Size) (m : ℕ) → has_length s m ≡ true → HasAllContents s m
+pub length-full : (s : Size) (m : ℕ) → has_length s m ≡ true → IsDefiniteLength s m
 length-full (Definite n) m e = let same : m ≡ n = eqb-true m n e in record {
   filled = same;
   ends = refl;

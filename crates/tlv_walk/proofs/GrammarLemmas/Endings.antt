@@ -3,7 +3,7 @@ use Rattle.std.proofs.Common.{◌≡◌, ◌≢◌, ◌⊎◌, inl, inr, ℕ, �
 use Rattle.std.proofs.Common.{sym, ap, ◌∙◌, subst, arith, append-nil, length-append}
 use Rattle.std.proofs.lemmas.Bool.{cases_Bool}
 use Rattle.std.proofs.lemmas.List.{get_or_at}
-use Rattle.tlv_head.specs.declared.fault.Fault.{Fault as FaultOf}
+use Rattle.tlv_head.specs.declared.fault.Fault as fault
 use Rattle.tlv_head.specs.declared.fault.FaultCode.{FaultCode}
 use Rattle.tlv_head.specs.declared.fault.FaultCode.TheVariants.{Empty, Short}
 use Rattle.tlv_walk.specs.declared.ending.Ending.{Ending}
@@ -18,7 +18,7 @@ use Rattle.tlv_walk.proofs.GrammarLemmas.Readings.{PushRun, Going, Halted, IsHal
 use Rattle.tlv_walk.proofs.GrammarLemmas.Readings.{halt-longest, is-run}
 use Rattle.tlv_walk.proofs.GrammarLemmas.Readings.{push_all, run-reading, spelling-unique}
 use Rattle.tlv_walk.proofs.GrammarLemmas.Spellings.{prefix-same}
-use Rattle.tlv_walk.proofs.GrammarLemmas.Sound.{rules-sound, sound-keeps_rules_top, sound-whole}
+use Rattle.tlv_walk.proofs.GrammarLemmas.Sound.{grammar-sound, sound-obeys_grammar_top, sound-whole}
 use Rattle.tlv_walk.proofs.GrammarLemmas.Faults.{fault-refused, refused-fault}
 
 -- the ending of a run of pushes over n octets
@@ -61,13 +61,13 @@ run-ending : (w : Framing) (r : PushRun) (b : List ℕ) → All (λ x. x < 256) 
 run-ending w (Going f) b each r = going-ending w f b r
 run-ending w (Halted f code) b each r =
     halt-ending w f code b r
-    (refused-fault w f r.octet code (octet-small (spelling f) r.octet r.rest b r.front each) r.keeps_rules r.refused)
+    (refused-fault w f r.octet code (octet-small (spelling f) r.octet r.rest b r.front each) r.obeys_grammar r.refused)
 
 -- an input of octets has an ending
 pub is-ending : (w : Framing) (b : List ℕ) → All (λ x. x < 256) b → IsEnding w b (ending w b)
 is-ending w b each = run-ending w (push_all w b) b each (is-run w b each)
 
--- the input is the spelling of a forest that keeps the rules, with one or more elements, in which nothing is open
+-- the input is the spelling of a forest that obeys the grammar, with one or more elements, in which nothing is open
 pub record IsDone (w : Framing) (b : List ℕ) : Type 0 where
   pub forest : Forest
   pub spells : Spells (top_place w) b forest
@@ -96,18 +96,18 @@ ending-says w b e (empty f r n) = inl (inl refl)
 ending-says w b e (short f r p) = inl (inr refl)
 ending-says w b e (done f r n t) = record {
   forest = f;
-  spells = record { keeps_rules = r.0.keeps_rules; spelled = r.1 };
+  spells = record { obeys_grammar = r.0.obeys_grammar; spelled = r.1 };
   some = n;
   whole = t;
 }
 ending-says w b e (refused f x rest code r s k) = inr (record {
   forest = f;
   halt = record {
-    keeps_rules = r.keeps_rules;
+    obeys_grammar = r.obeys_grammar;
     octet = x;
     rest = rest;
     front = s;
-    refused = fault-refused w f x code r.keeps_rules k;
+    refused = fault-refused w f x code r.obeys_grammar k;
   };
   fault = k;
   there = refl;
@@ -128,7 +128,7 @@ fault-halt w b code offset a d e = elim (ending-says w b (fault_ending code offs
 pub halt-unsound : (w : Framing) (b : List ℕ) (f : Forest) (code : FaultCode) → IsHalt w f code b → IsSoundList w b → ⊥
 halt-unsound w b f code r s =
     let most : length (spelling s.forest) ≤ length (spelling f) =
-    halt-longest w f code b r s.forest (sound-keeps_rules_top w s.forest s.sound)
+    halt-longest w f code b r s.forest (sound-obeys_grammar_top w s.forest s.sound)
     ([], append-nil (spelling s.forest) ∙ s.spelled) in
     omega (arith, ap length s.spelled, ap length r.front, length-append (spelling f) (r.octet ∷ r.rest))
 
@@ -145,7 +145,7 @@ done-sound w b e =
     let d : IsDone w b = ending-says w b Done e in
     record {
       forest = d.forest;
-      sound = rules-sound (top_place w) d.forest d.spells.keeps_rules d.whole;
+      sound = grammar-sound (top_place w) d.forest d.spells.obeys_grammar d.whole;
       some = d.some;
       spelled = d.spells.spelled;
     }
@@ -153,7 +153,7 @@ done-sound w b e =
 -- the reading of a sound input is its elements
 pub sound-reading : (w : Framing) (b : List ℕ) → (s : IsSoundList w b) → IsReading w b s.forest
 sound-reading w b s = run-reading w (Going s.forest) b (record {
-  keeps_rules = sound-keeps_rules_top w s.forest s.sound;
+  obeys_grammar = sound-obeys_grammar_top w s.forest s.sound;
   spelled = s.spelled;
 })
 
@@ -167,15 +167,15 @@ offset_in Done = 0
 offset_in (Fault f) = f.offset
 
 -- an ending that is a fault: the input ends there, or an octet of it is refused
-fault-place : (w : Framing) (b : List ℕ) (e : Ending) (f : FaultOf) → IsEnding w b e → e ≡ Fault f
+fault-place : (w : Framing) (b : List ℕ) (e : Ending) (f : fault.Fault) → IsEnding w b e → e ≡ Fault f
     → (f.offset ≡ length b) ⊎ ((g : Forest) × IsReading w b g × (f.offset ≡ length (spelling g)))
 fault-place w b e f (empty g r n) i = inl (sym (ap offset_in i))
 fault-place w b e f (short g r n) i = inl (sym (ap offset_in i))
 fault-place w b e f (done g r n t) i = absurd (cc (i))
 fault-place w b e f (refused g x rest code r s k) i = inr (g, r, sym (ap offset_in i))
 
--- if the octet after p is refused and p is the spelling of a forest that keeps the rules, that is the reading
-pub refused-reading : (w : Framing) (p : List ℕ) (x : ℕ) (c : List ℕ) (f : FaultOf) (g : Forest)
+-- if the octet after p is refused and p is the spelling of a forest that obeys the grammar, that is the reading
+pub refused-reading : (w : Framing) (p : List ℕ) (x : ℕ) (c : List ℕ) (f : fault.Fault) (g : Forest)
     → Spells (top_place w) p g → f.offset ≡ length p → IsEnding w (p ++ x ∷ c) (Fault f) → IsReading w (p ++ x ∷ c) g
 refused-reading w p x c f g v there e = elim (fault-place w (p ++ x ∷ c) (Fault f) f e refl) [
   | inl end ↦ absurd (omega (arith, end, there, length-append p (x ∷ c)))
@@ -185,5 +185,5 @@ refused-reading w p x c f g v there e = elim (fault-place w (p ++ x ∷ c) (Faul
       (r.1.is_prefix.1 ∙ ap (λ (o : List ℕ). o ++ x ∷ c) (sym v.spelled))
       (sym r.2 ∙ there ∙ ap length (sym v.spelled)) in
       subst (λ (h : Forest). IsReading w (p ++ x ∷ c) h) (spelling-unique
-      (top_place w) r.0 g r.1.keeps_rules v.keeps_rules same) r.1
+      (top_place w) r.0 g r.1.obeys_grammar v.obeys_grammar same) r.1
 ]

@@ -15,7 +15,7 @@ use Rattle.tlv_head.proofs.GrammarLemmas.Headers.{IsHeadRefusal, Explains, step-
 use Rattle.tlv_head.proofs.GrammarLemmas.Refused.{refused-stuck}
 use Rattle.tlv_walk.specs.declared.framing.Framing.{Framing}
 use Rattle.tlv_walk.specs.Forest.{Forest, NoMore, OpenPrimitive, OpenBitString, OpenHeader, OpenEndOctets}
-use Rattle.tlv_walk.specs.Place.{Fits, IsHeaderAt, KeepsRules, Place, top_place}
+use Rattle.tlv_walk.specs.Place.{Fits, IsHeaderAt, ObeysGrammar, Place, top_place}
 use Rattle.tlv_walk.specs.Ending.{IsRefusedAt, bad_inside, missing_end, bad_end, no_room, refused_octet, too_deep}
 use Rattle.tlv_walk.specs.Ending.{overrun}
 use Rattle.tlv_walk.specs.Ending.{no_end, stray_end, OpenEnd, open_end}
@@ -134,7 +134,7 @@ begin-blames p o x (Stuck code) some below w r = octet-blames p o x code some be
 begin-blames p o x Over some below w r = absurd w
 
 -- inside a header
-header-blames : (p : Place) (o : List ℕ) (x : ℕ) → x < 256 → KeepsRules p (OpenHeader o)
+header-blames : (p : Place) (o : List ℕ) (x : ℕ) → x < 256 → ObeysGrammar p (OpenHeader o)
     → Blames p (OpenHeader o) x (refusal (push p (OpenHeader o) x))
 header-blames p o x h w =
     let at : Origin = origin p in
@@ -157,7 +157,7 @@ refusal-has_fault p OpenEndOctets x h t = end-blames p x
 refusal-has_fault p f x h t = absurd t
 
 -- an octet that is refused for the octets of a header alone is refused there
-stuck-refusal : (p : Place) (o : List ℕ) (x : ℕ) (code : FaultCode) → KeepsRules p (OpenHeader o)
+stuck-refusal : (p : Place) (o : List ℕ) (x : ℕ) (code : FaultCode) → ObeysGrammar p (OpenHeader o)
     → Fits p (length o + 1)
     → IsRefusedOctet o x code → refusal (push p (OpenHeader o) x) ≡ Some code
 stuck-refusal p o x code t room r =
@@ -206,13 +206,13 @@ refusal-code (Grown g) code e = absurd (cc)
 refusal-code (Ended g) code e = absurd (cc)
 refusal-code (Refused c) code e = let same : c ≡ code = cc in ap Refused same
 
--- the innermost open end of a forest that keeps the rules and is the whole input so far
-open_end-top : (w : Framing) (f : Forest) → KeepsRules (top_place w) f
+-- the innermost open end of a forest that obeys the grammar and is the whole input so far
+open_end-top : (w : Framing) (f : Forest) → ObeysGrammar (top_place w) f
     → IsOpenEndAt (open_end (top_place w) f).place (open_end (top_place w) f).forest
 open_end-top w f v = open_end-fact (top_place w) f tt (λ _ _. tt) v
 
 -- an octet that is refused has a cause of the list, with that code
-pub refused-fault : (w : Framing) (f : Forest) (x : ℕ) (code : FaultCode) → x < 256 → KeepsRules (top_place w) f
+pub refused-fault : (w : Framing) (f : Forest) (x : ℕ) (code : FaultCode) → x < 256 → ObeysGrammar (top_place w) f
     → push (top_place w) f x ≡ Refused code → IsRefusedAt (open_end (top_place w) f) x code
 refused-fault w f x code h v e =
     let same : refusal (push (open_end (top_place w) f).place (open_end (top_place w) f).forest x) ≡ Some code =
@@ -221,7 +221,7 @@ refused-fault w f x code h v e =
     (open_end-top w f v))
 
 -- an octet with a cause of the list is refused, with that code
-pub fault-refused : (w : Framing) (f : Forest) (x : ℕ) (code : FaultCode) → KeepsRules (top_place w) f
+pub fault-refused : (w : Framing) (f : Forest) (x : ℕ) (code : FaultCode) → ObeysGrammar (top_place w) f
     → IsRefusedAt (open_end (top_place w) f) x code → push (top_place w) f x ≡ Refused code
 fault-refused w f x code v k =
     refusal-code (push (top_place w) f x) code
@@ -229,7 +229,7 @@ fault-refused w f x code v k =
     ∙ fault-refusal (open_end (top_place w) f) x code (open_end-top w f v) k)
 
 -- an octet is refused with one code alone
-pub fault-unique : (w : Framing) (f : Forest) (x : ℕ) (c d : FaultCode) → KeepsRules (top_place w) f
+pub fault-unique : (w : Framing) (f : Forest) (x : ℕ) (c d : FaultCode) → ObeysGrammar (top_place w) f
     → IsRefusedAt (open_end (top_place w) f) x c
     → IsRefusedAt (open_end (top_place w) f) x d → c ≡ d
 fault-unique w f x c d v a b =

@@ -1,6 +1,6 @@
 -- An octet that is refused has a fault that is final.
 use Rattle.std.proofs.Common.{◌≡◌, ◌≢◌, ℕ, List, ◌∷◌, ◌++◌, length, refl, sym, ap, arith, length-append}
-use Rattle.tlv_head.specs.declared.fault.Fault.{Fault as FaultOf}
+use Rattle.tlv_head.specs.declared.fault.Fault as fault
 use Rattle.tlv_head.specs.declared.fault.FaultCode.{FaultCode}
 use Rattle.tlv_head.specs.declared.fault.FaultCode.TheVariants.{Empty}
 use Rattle.tlv_head.specs.Refusal.{IsRefusedOctet, tag_too_long, reserved_length, indefinite_primitive}
@@ -38,7 +38,7 @@ code_in Done = Empty
 code_in (Fault f) = f.code
 
 -- a fault that comes before the end of the input is final
-pub early-final : (w : Framing) (b : List ℕ) (e : Ending) (f : FaultOf) → IsEnding w b e → e ≡ Fault f
+pub early-final : (w : Framing) (b : List ℕ) (e : Ending) (f : fault.Fault) → IsEnding w b e → e ≡ Fault f
     → f.offset ≢ length b → IsFinalCode f.code
 early-final w b e f (empty g r n) i k = absurd (k (sym (ap offset_in i)))
 early-final w b e f (short g r n) i k = absurd (k (sym (ap offset_in i)))
@@ -46,7 +46,7 @@ early-final w b e f (done g r n t) i k = absurd (cc (i))
 early-final w b e f (refused g x rest code r s c) i k = rw (← ap code_in i) (cause-final _ x code c)
 
 -- the octet after p is refused
-pub refused-final : (w : Framing) (p : List ℕ) (x : ℕ) (rest : List ℕ) (f : FaultOf) → f.offset ≡ length p
+pub refused-final : (w : Framing) (p : List ℕ) (x : ℕ) (rest : List ℕ) (f : fault.Fault) → f.offset ≡ length p
     → IsEnding w (p ++ x ∷ rest) (Fault f) → IsFinalCode f.code
 refused-final w p x rest f there e =
     early-final w (p ++ x ∷ rest) (Fault f) f e refl (λ n. omega (arith, n, there, length-append p (x ∷ rest)))

@@ -1,4 +1,4 @@
--- A forest that keeps the rules ends within its bound, and an element keeps the rules from its header on, as its
+-- A forest that obeys the grammar ends within its bound, and an element obeys the grammar from its header on, as its
 -- contents come.
 use Rattle.std.proofs.Common.{◌≡◌, inl, inr, ℕ, ◌+◌, ◌≤◌, Bool, true, false, ◌&&◌, leb, List, [], ◌∷◌, ◌++◌}
 use Rattle.std.proofs.Common.{length, refl, sym, ap, ◌∙◌, arith, append-nil, length-append, eq-eqb, ne_eqb, leb-false}
@@ -9,9 +9,9 @@ use Rattle.tlv_head.specs.Header.{AllowsSize, HeaderValue, IsHeader, announced_l
 use Rattle.tlv_walk.specs.Forest.{Forest, Holder, NoMore, OpenBitString, OpenEndOctets, OpenHeader, OpenHolder}
 use Rattle.tlv_walk.specs.Forest.{OpenPrimitive, PaddingOctet, Primitive, contents_length, end_octets, extent, is_whole}
 use Rattle.tlv_walk.specs.Forest.{lead, opening, spelling}
-use Rattle.tlv_walk.specs.Place.{Fits, IsAnnouncedAt, IsHeaderAt, KeepsRules, Place, place_after, place_of_children}
+use Rattle.tlv_walk.specs.Place.{Fits, IsAnnouncedAt, IsHeaderAt, ObeysGrammar, Place, place_after, place_of_children}
 use Rattle.tlv_walk.proofs.GrammarLemmas.Lengths.{LacksOctets}
-use Rattle.tlv_walk.proofs.GrammarLemmas.Bounds.{HasAllContents, fits-inside, has_length, lead-zero, length-full}
+use Rattle.tlv_walk.proofs.GrammarLemmas.Bounds.{IsDefiniteLength, fits-inside, has_length, lead-zero, length-full}
 use Rattle.tlv_walk.proofs.GrammarLemmas.Bounds.{length-lacks, within-le, within-outside}
 use Rattle.tlv_walk.proofs.GrammarLemmas.Spellings.{length-holder, length-opening, length-primitive}
 use Rattle.tlv_walk.proofs.GrammarLemmas.ShortHeaders.{not-holding}
@@ -32,8 +32,8 @@ reaches-open_holder p h inside f g =
     (within-le p.bound _ _ (omega arith) f)
     (within-le (place_of_children p h).bound _ _ (omega (arith, length-opening h)) g))
 
--- a forest that keeps the rules ends within the bound
-pub spelling-fits : (p : Place) (f : Forest) → Fits p 0 → KeepsRules p f → Fits p (length (spelling f))
+-- a forest that obeys the grammar ends within the bound
+pub spelling-fits : (p : Place) (f : Forest) → Fits p 0 → ObeysGrammar p f → Fits p (length (spelling f))
 spelling-fits p NoMore z w = z
 spelling-fits p (PaddingOctet rest) z w =
     within-le p.bound _ _ (omega arith)
@@ -74,14 +74,14 @@ primitive_so_far-spells p h c n header e most f =
     let all : announced_length h.size ≡ n = ap announced_length e in
     elim (cases_eq (length c) n) [
       | inl full ↦ rw (eq-eqb (length c) (announced_length h.size) (full ∙ sym all)) (record {
-        keeps_rules = (
+        obeys_grammar = (
           (record { header = header; shallow = λ e. absurd (cc (e)); fits = rw full f }, e ∙ ap Definite (sym full)),
           tt,
         );
         spelled = ap (λ (t : List ℕ). octets_of h ++ t) (append-nil c);
       })
       | inr less ↦ rw (ne_eqb (length c) (announced_length h.size) (λ z. less (z ∙ all))) (record {
-        keeps_rules = (
+        obeys_grammar = (
           record { header = header; shallow = λ e. absurd (cc (e)); fits = within-le p.bound _ _ (omega arith) f },
           omega arith,
         );
@@ -91,13 +91,13 @@ primitive_so_far-spells p h c n header e most f =
 
 -- an element that holds others, with all its contents octets by its definite length
 pub holder-spells : (p : Place) (h : HeaderValue) (g : Forest) → IsAnnouncedAt p true h
-    → KeepsRules (place_of_children p h) g
-    → is_whole g ≡ true → HasAllContents h.size (contents_length h g)
+    → ObeysGrammar (place_of_children p h) g
+    → is_whole g ≡ true → IsDefiniteLength h.size (contents_length h g)
     → Spells p (opening h ++ spelling g) (Holder h g NoMore)
 holder-spells p h g entry w whole full =
     let none : length (end_octets h.size) ≡ 0 = ap length full.ends in
     record {
-      keeps_rules = (
+      obeys_grammar = (
         (
           record {
             header = entry.header;
@@ -123,9 +123,9 @@ unfilled-lacks p h g e whole there =
     length-lacks h.size (p.offset + length (octets_of h)) p.bound
     _ (within-le (place_of_children p h).bound _ _ (omega (arith, length-opening h)) there) short
 
--- if what an element holds keeps the rules, so does the element
+-- if what an element holds obeys the grammar, so does the element
 pub holder_so_far-spells : (p : Place) (h : HeaderValue) (g : Forest) → IsAnnouncedAt p true h
-    → KeepsRules (place_of_children p h) g → Spells p (opening h ++ spelling g) (holder_so_far h g)
+    → ObeysGrammar (place_of_children p h) g → Spells p (opening h ++ spelling g) (holder_so_far h g)
 holder_so_far-spells p h g entry w = elim (cases_Bool (is_filled_by h g)) [
   | inl e ↦
       let parts : (is_whole g ≡ true) × (has_length h.size (contents_length h g) ≡ true) = and_parts _ _ e in
@@ -133,7 +133,7 @@ holder_so_far-spells p h g entry w = elim (cases_Bool (is_filled_by h g)) [
   | inr e ↦
       let there : Fits (place_of_children p h) (length (spelling g)) =
       spelling-fits (place_of_children p h) g (fits-inside p h entry.header.form entry.fits) w in
-      rw e (record { keeps_rules = ((entry, λ whole. unfilled-lacks p h g e whole there), w); spelled = refl })
+      rw e (record { obeys_grammar = ((entry, λ whole. unfilled-lacks p h g e whole there), w); spelled = refl })
 ]
 
 -- an element that holds none yet
@@ -143,10 +143,10 @@ holder_begun-spells p h [] e entry =
     let r : Spells p (opening h ++ []) (holder_so_far h NoMore) = holder_so_far-spells p h NoMore entry tt in
     let none : opening h ++ [] ≡ octets_of h =
     append-nil (opening h) ∙ ap (λ (t : List ℕ). octets_of h ++ t) e ∙ append-nil (octets_of h) in
-    record { keeps_rules = r.keeps_rules; spelled = r.spelled ∙ none }
-holder_begun-spells p h (x ∷ xs) e entry = record { keeps_rules = (entry, lead-zero h x xs e); spelled = refl }
+    record { obeys_grammar = r.obeys_grammar; spelled = r.spelled ∙ none }
+holder_begun-spells p h (x ∷ xs) e entry = record { obeys_grammar = (entry, lead-zero h x xs e); spelled = refl }
 
--- a header where one may be keeps the rules
+-- a header where one may be obeys the grammar
 pub element_begun-spells : (p : Place) (h : HeaderValue) (k : Bool) → IsHeaderAt p k h → (k && leb 128 p.depth) ≡ false
     → Fits p (length (octets_of h) + announced_length h.size)
     → Spells p (octets_of h) (element_begun k h)

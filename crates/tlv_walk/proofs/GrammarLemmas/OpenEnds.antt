@@ -4,7 +4,7 @@ use Rattle.tlv_head.specs.declared.fault.FaultCode.{FaultCode}
 use Rattle.tlv_head.specs.Header.{HeaderValue, octets_of}
 use Rattle.tlv_walk.specs.Forest.{Forest, Holder, NoMore, OpenBitString, OpenEndOctets, OpenHeader, OpenHolder}
 use Rattle.tlv_walk.specs.Forest.{OpenPrimitive, PaddingOctet, Primitive, contents_length, extent, is_whole, spelling}
-use Rattle.tlv_walk.specs.Place.{Fits, KeepsRules, Place, place_after, place_of_children}
+use Rattle.tlv_walk.specs.Place.{Fits, ObeysGrammar, Place, place_after, place_of_children}
 use Rattle.tlv_walk.specs.Ending.{open_end}
 use Rattle.tlv_walk.proofs.GrammarLemmas.Bounds.{fits-inside, lacks-within, within-le}
 use Rattle.tlv_walk.proofs.GrammarLemmas.Spellings.{length-holder, length-opening, length-primitive}
@@ -48,32 +48,32 @@ push-open_end p (OpenHeader o) x = refl
 push-open_end p OpenEndOctets x = refl
 
 -- whole elements outside an indefinite length may be followed by another octet
-abbrev pub HasRoom : Place → Forest → Type 0
-HasRoom p f = p.indefinite ≡ false → is_whole f ≡ true → Fits p (length (spelling f) + 1)
+abbrev pub AllowsOneMore : Place → Forest → Type 0
+AllowsOneMore p f = p.indefinite ≡ false → is_whole f ≡ true → Fits p (length (spelling f) + 1)
 
 -- what holds of an open end that begins there
 abbrev pub IsOpenEndAt : Place → Forest → Type 0
 IsOpenEndAt p NoMore = Fits p 0 × (p.indefinite ≡ false → Fits p 1)
 IsOpenEndAt p (OpenPrimitive h c) = Unit {0}
 IsOpenEndAt p (OpenBitString h) = Unit {0}
-IsOpenEndAt p (OpenHeader o) = KeepsRules p (OpenHeader o)
+IsOpenEndAt p (OpenHeader o) = ObeysGrammar p (OpenHeader o)
 IsOpenEndAt p OpenEndOctets = Fits p 1
 IsOpenEndAt p f = ⊥
 
 -- what has room has room at its end
 room-after : (p : Place) (n : ℕ) (f g : Forest) → length (spelling g) ≡ n + length (spelling f)
-    → (is_whole f ≡ true → is_whole g ≡ true) → HasRoom p g → HasRoom (place_after p n) f
+    → (is_whole f ≡ true → is_whole g ≡ true) → AllowsOneMore p g → AllowsOneMore (place_after p n) f
 room-after p n f g size whole r i w = within-le p.bound _ _ (omega arith) (r i (whole w))
 
 -- what an element holds has room, if octets are lacking
-room-inside : (p : Place) (h : HeaderValue) (inside : Forest) → KeepsRules p (OpenHolder h inside)
-    → HasRoom (place_of_children p h) inside
+room-inside : (p : Place) (h : HeaderValue) (inside : Forest) → ObeysGrammar p (OpenHolder h inside)
+    → AllowsOneMore (place_of_children p h) inside
 room-inside p h inside e i w =
     within-le (place_of_children p h).bound _ _ (omega (arith, length-opening h))
     (lacks-within h.size (p.offset + length (octets_of h)) p.bound (contents_length h inside) i (e.0.1 w))
 
--- it holds of the innermost open end of a forest that keeps the rules, with room
-pub open_end-fact : (p : Place) (f : Forest) → Fits p 0 → HasRoom p f → KeepsRules p f
+-- it holds of the innermost open end of a forest that obeys the grammar, with room
+pub open_end-fact : (p : Place) (f : Forest) → Fits p 0 → AllowsOneMore p f → ObeysGrammar p f
     → IsOpenEndAt (open_end p f).place (open_end p f).forest
 open_end-fact p NoMore z r w = (z, λ i. r i refl)
 open_end-fact p (PaddingOctet rest) z r w =

@@ -10,7 +10,7 @@ use Rattle.tlv_walk.specs.Wrappers.{wrapper_offset_by, wrapper_offsets}
 use Rattle.tlv_walk.proofs.GrammarLemmas.Alike.{AreRegular}
 use Rattle.tlv_walk.proofs.GrammarLemmas.ShortHeaders.{own-there, own-apart, in-first, in-second, in-third}
 
--- a place of the same rules, whatever is named
+-- a place where the same may be, whatever is named
 pub record IsLike (p q : Place) : Type 0 where
   pub padding : q.padding ≡ p.padding
   pub depth : q.depth ≡ p.depth

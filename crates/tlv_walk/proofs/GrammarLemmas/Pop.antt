@@ -1,4 +1,4 @@
--- Every forest that keeps the rules and has an octet is a shorter one, and the octet pushed.
+-- Every forest that obeys the grammar and has an octet is a shorter one, and the octet pushed.
 use Rattle.std.proofs.Common.{◌≡◌, ◌⊎◌, inl, inr, ℕ, ◌+◌, ◌<◌, ◌≤◌, true, false, List, [], ◌∷◌, ◌++◌, length, refl, sym}
 use Rattle.std.proofs.Common.{ap, ◌∙◌, arith, append_assoc, append-nil, length-append, eq-eqb, ne_eqb}
 use Rattle.std.proofs.lemmas.Bool.{cases_Bool, and_from, true≢false}
@@ -7,10 +7,10 @@ use Rattle.tlv_head.specs.Header.{HeaderValue, announced_length, octets_of}
 use Rattle.tlv_walk.specs.Forest.{Forest, Holder, NoMore, OpenBitString, OpenEndOctets, OpenHeader, OpenHolder}
 use Rattle.tlv_walk.specs.Forest.{OpenPrimitive, PaddingOctet, Primitive, contents_length, end_octets, extent, is_whole}
 use Rattle.tlv_walk.specs.Forest.{lead, opening, spelling}
-use Rattle.tlv_walk.specs.Place.{Fits, IsAnnouncedAt, IsHeaderAt, KeepsRules, Place, is_indefinite, place_after}
+use Rattle.tlv_walk.specs.Place.{Fits, IsAnnouncedAt, IsHeaderAt, ObeysGrammar, Place, is_indefinite, place_after}
 use Rattle.tlv_walk.specs.Place.{place_of_children}
 use Rattle.tlv_walk.proofs.GrammarLemmas.Lengths.{LacksOctets}
-use Rattle.tlv_walk.proofs.GrammarLemmas.Bounds.{IsEndless, HasAllContents, definite-length, fits-inside, fits-within}
+use Rattle.tlv_walk.proofs.GrammarLemmas.Bounds.{IsEndless, IsDefiniteLength, definite-length, fits-inside, fits-within}
 use Rattle.tlv_walk.proofs.GrammarLemmas.Bounds.{has_length, indefinite-endless, lacks-length, length-full}
 use Rattle.tlv_walk.proofs.GrammarLemmas.Bounds.{within-lacks, within-le}
 use Rattle.tlv_walk.proofs.GrammarLemmas.Spellings.{append_assoc-3, append_assoc-4, length-holder, length-opening}
@@ -40,7 +40,7 @@ contents-popped : (p : Place) (h : HeaderValue) (c : List ℕ) (x n : ℕ) (g : 
 contents-popped p h c x n g header e less f same spelled = record {
   from = OpenPrimitive h c;
   last = x;
-  keeps_rules = (
+  obeys_grammar = (
     record { header = header; shallow = λ e. absurd (cc (e)); fits = rw (ap announced_length e) f },
     omega (arith, less, ap announced_length e),
   );
@@ -72,7 +72,7 @@ whole_primitive-popped p h c w =
     (primitive_so_far-whole h c w.1) (ap (λ (t : List ℕ). octets_of h ++ t) (append-nil c))
 
 -- a primitive that lacks contents octets is popped
-open_primitive-popped : (p : Place) (h : HeaderValue) (c : List ℕ) → KeepsRules p (OpenPrimitive h c)
+open_primitive-popped : (p : Place) (h : HeaderValue) (c : List ℕ) → ObeysGrammar p (OpenPrimitive h c)
     → Popped p (OpenPrimitive h c)
 open_primitive-popped p h c w =
     let n : (n : ℕ) × (h.size ≡ Definite n) = size-definite h w.0.header.valid w.0.header.form in
@@ -90,7 +90,7 @@ holder_so_far-open h f lacks = elim (cases_Bool (is_whole f)) [
 
 -- contents before the last octet lack octets
 lacks-before : (p : Place) (h : HeaderValue) (f g : Forest) (x : ℕ) → IsAnnouncedAt p true h
-    → KeepsRules (place_of_children p h) g → spelling g ≡ spelling f ++ x ∷ []
+    → ObeysGrammar (place_of_children p h) g → spelling g ≡ spelling f ++ x ∷ []
     → LacksOctets h.size (contents_length h f)
 lacks-before p h f g x entry w spelled =
     within-lacks h.size (p.offset + length (octets_of h)) p.bound (contents_length h f)
@@ -100,7 +100,7 @@ lacks-before p h f g x entry w spelled =
 
 -- an element that holds octets is popped by the last of them, or by that of what comes before
 holder_so_far-popped : (p : Place) (h : HeaderValue) (inside g : Forest) → IsAnnouncedAt p true h
-    → KeepsRules (place_of_children p h) inside
+    → ObeysGrammar (place_of_children p h) inside
     → (inside ≡ NoMore) ⊎ Popped (place_of_children p h) inside
     → holder_so_far h inside ≡ g → spelling g ≡ opening h ++ spelling inside → Popped p g
 holder_so_far-popped p h inside g entry w (inl stop) same spelled =
@@ -109,7 +109,7 @@ holder_so_far-popped p h inside g entry w (inl stop) same spelled =
 holder_so_far-popped p h inside g entry w (inr q) same spelled = record {
   from = OpenHolder h q.from;
   last = q.last;
-  keeps_rules = ((entry, λ _. lacks-before p h q.from inside q.last entry w q.spelled), q.keeps_rules);
+  obeys_grammar = ((entry, λ _. lacks-before p h q.from inside q.last entry w q.spelled), q.obeys_grammar);
   spelled =
       spelled ∙ ap (λ (t : List ℕ). opening h ++ t) q.spelled
       ∙ sym (append_assoc (opening h) (spelling q.from) (q.last ∷ []));
@@ -130,16 +130,16 @@ with_first_end_octet OpenEndOctets = OpenEndOctets
 
 -- g is f with the first of the end-of-contents octets, and the second ends f
 record HasFirstEndOctet (p : Place) (f g : Forest) : Type 0 where
-  keeps_rules : KeepsRules p g
+  obeys_grammar : ObeysGrammar p g
   spelled : spelling g ≡ spelling f ++ 0 ∷ []
   pushed : push p g 0 ≡ Ended f
 
 -- whole elements in an element of indefinite length are so
-has-first_end_octet : (p : Place) (f : Forest) → KeepsRules p f → is_whole f ≡ true → p.indefinite ≡ true
+has-first_end_octet : (p : Place) (f : Forest) → ObeysGrammar p f → is_whole f ≡ true → p.indefinite ≡ true
     → Fits p (length (spelling f) + 2) → HasFirstEndOctet p f (with_first_end_octet f)
 has-first_end_octet p NoMore w whole i f =
     record {
-      keeps_rules = (i, within-le p.bound _ _ (omega arith) f);
+      obeys_grammar = (i, within-le p.bound _ _ (omega arith) f);
       spelled = refl;
       pushed = rw (fits-within p.bound (p.offset + 2) f);
     }
@@ -149,7 +149,7 @@ has-first_end_octet p (Primitive h c rest) w whole i f =
     has-first_end_octet (place_after p (length (octets_of h) + length c)) rest w.1 whole i
     (within-le p.bound _ _ (omega (arith, length-primitive h c rest)) f) in
     record {
-      keeps_rules = (w.0, r.keeps_rules);
+      obeys_grammar = (w.0, r.obeys_grammar);
       spelled = rw (r.spelled, append_assoc-3 (octets_of h) c (spelling rest) (0 ∷ []));
       pushed = ap (push_after (Primitive h c)) r.pushed;
     }
@@ -158,7 +158,7 @@ has-first_end_octet p (Holder h inside rest) w whole i f =
     has-first_end_octet (place_after p (extent h inside)) rest w.2 whole i
     (within-le p.bound _ _ (omega (arith, length-holder h inside rest)) f) in
     record {
-      keeps_rules = (w.0, w.1, r.keeps_rules);
+      obeys_grammar = (w.0, w.1, r.obeys_grammar);
       spelled =
           rw (r.spelled, append_assoc-4 (opening h) (spelling inside) (end_octets h.size) (spelling rest) (0 ∷ []));
       pushed = ap (push_after (Holder h inside)) r.pushed;
@@ -171,7 +171,7 @@ has-first_end_octet p OpenEndOctets w whole i f = absurd (cc)
 
 -- an element of indefinite length is popped by the second of its end-of-contents octets
 endless-popped : (p : Place) (h : HeaderValue) (inside : Forest) → is_indefinite h.size ≡ true
-    → IsWholeHolder p h inside → KeepsRules (place_of_children p h) inside → Popped p (Holder h inside NoMore)
+    → IsWholeHolder p h inside → ObeysGrammar (place_of_children p h) inside → Popped p (Holder h inside NoMore)
 endless-popped p h inside i w v =
     let e : IsEndless h.size (p.offset + length (octets_of h)) p.bound (contents_length h inside) =
     indefinite-endless h.size _ p.bound _ i in
@@ -183,7 +183,7 @@ endless-popped p h inside i w v =
     record {
       from = OpenHolder h (with_first_end_octet inside);
       last = 0;
-      keeps_rules = (
+      obeys_grammar = (
         (
           record {
             header =
@@ -194,7 +194,7 @@ endless-popped p h inside i w v =
           },
           λ _. e.lacks _,
         ),
-        r.keeps_rules,
+        r.obeys_grammar,
       );
       spelled = ap (λ (t : List ℕ). opening h ++ (spelling inside ++ (t ++ []))) e.ends
           ∙ rw (r.spelled, append_assoc-3 (opening h) (spelling inside) (0 ∷ []) (0 ∷ []));
@@ -203,11 +203,11 @@ endless-popped p h inside i w v =
 
 -- an element of definite length is popped as its last octet is
 definite-popped : (p : Place) (h : HeaderValue) (inside : Forest) → is_indefinite h.size ≡ false
-    → IsWholeHolder p h inside → KeepsRules (place_of_children p h) inside
+    → IsWholeHolder p h inside → ObeysGrammar (place_of_children p h) inside
     → (inside ≡ NoMore) ⊎ Popped (place_of_children p h) inside → Popped p (Holder h inside NoMore)
 definite-popped p h inside i w v below =
     let test : has_length h.size (contents_length h inside) ≡ true = definite-length h.size _ i w.2 in
-    let full : HasAllContents h.size (contents_length h inside) = length-full h.size _ test in
+    let full : IsDefiniteLength h.size (contents_length h inside) = length-full h.size _ test in
     let none : length (end_octets h.size) ≡ 0 = ap length full.ends in
     let entry : IsAnnouncedAt p true h = record {
       header = w.0.header;
@@ -221,7 +221,7 @@ definite-popped p h inside i w v below =
 
 -- an element that holds others and has ended is popped
 holder-popped : (p : Place) (h : HeaderValue) (inside : Forest) → IsWholeHolder p h inside
-    → KeepsRules (place_of_children p h) inside → (inside ≡ NoMore) ⊎ Popped (place_of_children p h) inside
+    → ObeysGrammar (place_of_children p h) inside → (inside ≡ NoMore) ⊎ Popped (place_of_children p h) inside
     → Popped p (Holder h inside NoMore)
 holder-popped p h inside w v below = elim (cases_Bool (is_indefinite h.size)) [
   | inl i ↦ endless-popped p h inside i w v
@@ -229,48 +229,48 @@ holder-popped p h inside w v below = elim (cases_Bool (is_indefinite h.size)) [
 ]
 
 -- padding is popped
-padding-popped : (p : Place) → KeepsRules p (PaddingOctet NoMore) → Popped p (PaddingOctet NoMore)
+padding-popped : (p : Place) → ObeysGrammar p (PaddingOctet NoMore) → Popped p (PaddingOctet NoMore)
 padding-popped p w = record {
   from = NoMore;
   last = 0;
-  keeps_rules = tt;
+  obeys_grammar = tt;
   spelled = refl;
   pushed = rw (fits-within p.bound (p.offset + 1) w.0.2, w.0.1, w.0.0);
 }
 
 -- what follows an element is popped: so are both
 popped-after : (p q : Place) (f : Forest → Forest) (o : List ℕ) (rest : Forest) → (r : Popped q rest)
-    → KeepsRules p (f r.from) → ((g : Forest) → spelling (f g) ≡ o ++ spelling g)
+    → ObeysGrammar p (f r.from) → ((g : Forest) → spelling (f g) ≡ o ++ spelling g)
     → ((x : ℕ) → push p (f r.from) x ≡ push_after f (push q r.from x)) → Popped p (f rest)
 popped-after p q f o rest r w spelled pushed = record {
   from = f r.from;
   last = r.last;
-  keeps_rules = w;
+  obeys_grammar = w;
   spelled =
       spelled rest ∙ ap (λ (t : List ℕ). o ++ t) r.spelled ∙ sym (append_assoc o (spelling r.from) (r.last ∷ []))
       ∙ ap (λ (t : List ℕ). t ++ r.last ∷ []) (sym (spelled r.from));
   pushed = pushed r.last ∙ ap (push_after f) r.pushed;
 }
 
--- a forest that keeps the rules has no octet, or is a shorter one and the octet pushed
-pub forest-popped : (p : Place) (g : Forest) → KeepsRules p g → (g ≡ NoMore) ⊎ Popped p g
+-- a forest that obeys the grammar has no octet, or is a shorter one and the octet pushed
+pub forest-popped : (p : Place) (g : Forest) → ObeysGrammar p g → (g ≡ NoMore) ⊎ Popped p g
 forest-popped p NoMore w = inl refl
 forest-popped p (PaddingOctet rest) w = inr (elim (forest-popped (place_after p 1) rest w.1) [
   | inl e ↦ rw e (padding-popped p (w.0, tt))
-  | inr r ↦ popped-after p (place_after p 1) PaddingOctet (0 ∷ []) rest r (w.0, r.keeps_rules) (λ g. refl) (λ x. refl)
+  | inr r ↦ popped-after p (place_after p 1) PaddingOctet (0 ∷ []) rest r (w.0, r.obeys_grammar) (λ g. refl) (λ x. refl)
 ])
 forest-popped p (Primitive h c rest) w = inr
     (elim (forest-popped (place_after p (length (octets_of h) + length c)) rest w.1) [
       | inl e ↦ rw e (whole_primitive-popped p h c w.0)
       | inr r ↦
-          popped-after p _ (Primitive h c) (octets_of h ++ c) rest r (w.0, r.keeps_rules)
+          popped-after p _ (Primitive h c) (octets_of h ++ c) rest r (w.0, r.obeys_grammar)
           (λ g. sym (append_assoc (octets_of h) c (spelling g))) (λ x. refl)
     ])
 forest-popped p (Holder h inside rest) w = inr (elim (forest-popped (place_after p (extent h inside)) rest w.2) [
   | inl e ↦ rw e (holder-popped p h inside w.0 w.1 (forest-popped (place_of_children p h) inside w.1))
   | inr r ↦
       popped-after p _ (Holder h inside) (opening h ++ (spelling inside ++ end_octets h.size)) rest r
-      (w.0, w.1, r.keeps_rules)
+      (w.0, w.1, r.obeys_grammar)
       (λ g. sym (append_assoc-3 (opening h) (spelling inside) (end_octets h.size) (spelling g))) (λ x. refl)
 ])
 forest-popped p (OpenPrimitive h c) w = inr (open_primitive-popped p h c w)
@@ -286,7 +286,7 @@ forest-popped p (OpenHeader o) w = inr (elim (list-back o) [
 forest-popped p OpenEndOctets w = inr (record {
   from = NoMore;
   last = 0;
-  keeps_rules = tt;
+  obeys_grammar = tt;
   spelled = refl;
   pushed = rw (fits-within p.bound (p.offset + 1) w.1, w.0);
 })

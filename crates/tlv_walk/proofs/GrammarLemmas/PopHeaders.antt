@@ -1,4 +1,4 @@
--- A forest that keeps the rules and ends in a header, or in a prefix of one, is a shorter one and the octet pushed.
+-- A forest that obeys the grammar and ends in a header, or in a prefix of one, is a shorter one and the octet pushed.
 use Rattle.std.proofs.Common.{◌≡◌, ◌≢◌, ℕ, ◌+◌, ◌≤◌, Bool, true, false, ◌&&◌, leb, List, [], ◌∷◌, ◌++◌}
 use Rattle.std.proofs.Common.{length, refl, sym, ap, ◌∙◌, arith, append_assoc, append-nil, length-append, ne_eqb}
 use Rattle.std.proofs.lemmas.Bool.{lt-leb}
@@ -8,7 +8,7 @@ use Rattle.tlv_head.proofs.GrammarLemmas.Scan.{Origin, Scan, Fresh, High, Named,
 use Rattle.tlv_head.proofs.GrammarLemmas.Scan.{scan, scan_from-append, scan-header, is_more, more-from_prefix}
 use Rattle.tlv_head.proofs.ReaderLemmas.Prefix.{header-two}
 use Rattle.tlv_walk.specs.Forest.{Forest, NoMore, OpenBitString, OpenHeader, lead, opening, spelling}
-use Rattle.tlv_walk.specs.Place.{Fits, IsAnnouncedAt, IsHeaderAt, KeepsRules, Place}
+use Rattle.tlv_walk.specs.Place.{Fits, IsAnnouncedAt, IsHeaderAt, ObeysGrammar, Place}
 use Rattle.tlv_walk.proofs.GrammarLemmas.Bounds.{fits-within, lead-zero, within-le}
 use Rattle.tlv_walk.proofs.GrammarLemmas.PushSteps.{Grown, begin, complete, element_begun, holder_begun, holder_so_far}
 use Rattle.tlv_walk.proofs.GrammarLemmas.PushSteps.{origin, push}
@@ -29,11 +29,11 @@ pub list-back : (xs : List ℕ) → Back xs
 list-back [] = is_nil refl
 list-back (x ∷ xs) = back-cons x xs (list-back xs)
 
--- a forest that keeps the rules, and the octet that makes g of it
+-- a forest that obeys the grammar, and the octet that makes g of it
 pub record Popped (p : Place) (g : Forest) : Type 0 where
   pub from : Forest
   pub last : ℕ
-  pub keeps_rules : KeepsRules p from
+  pub obeys_grammar : ObeysGrammar p from
   pub spelled : spelling g ≡ spelling from ++ last ∷ []
   pub pushed : push p from last ≡ Grown g
 
@@ -87,7 +87,7 @@ header-popped p h k header d f = elim (list-back (octets_of h)) [
       record {
         from = OpenHeader o;
         last = x;
-        keeps_rules = (
+        obeys_grammar = (
           λ z. omega (arith, ap length z),
           record {
             header = h;
@@ -121,7 +121,7 @@ lead-popped p h (x ∷ xs) e entry =
     record {
       from = OpenBitString h;
       last = 0;
-      keeps_rules = (entry, one);
+      obeys_grammar = (entry, one);
       spelled =
           (holder_so_far-spells p h NoMore entry tt).spelled ∙ append-nil (opening h)
           ∙ ap (λ (t : List ℕ). octets_of h ++ t) one;
@@ -140,14 +140,14 @@ prefix-popped p [] x front f =
     record {
       from = NoMore;
       last = x;
-      keeps_rules = tt;
+      obeys_grammar = tt;
       spelled = refl;
       pushed = rw (fits-within p.bound (p.offset + 1) f, ne_eqb x 0 nz);
     }
 prefix-popped p (y ∷ o) x front f = record {
   from = OpenHeader (y ∷ o);
   last = x;
-  keeps_rules = (
+  obeys_grammar = (
     λ z. omega (arith, ap length z),
     record {
       header = front.header;

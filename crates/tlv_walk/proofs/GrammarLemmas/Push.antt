@@ -1,4 +1,4 @@
--- One more octet after a forest that keeps the rules gives what is right.
+-- One more octet after a forest that obeys the grammar gives what is right.
 use Rattle.std.proofs.Common.{◌≡◌, ◌≢◌, inl, inr, ℕ, ◌+◌, ◌<◌, Bool, true, false, ◌&&◌, leb, List, [], ◌∷◌, ◌++◌}
 use Rattle.std.proofs.Common.{length, refl, sym, ap, ◌∙◌, arith, append_assoc, append-nil, length-append, eq-eqb}
 use Rattle.std.proofs.Common.{ne_eqb}
@@ -12,7 +12,7 @@ use Rattle.tlv_head.proofs.GrammarLemmas.Meaning.{IsStateAfter, reads-step, read
 use Rattle.tlv_walk.specs.Forest.{Forest, Holder, NoMore, OpenBitString, OpenEndOctets, OpenHeader, OpenHolder}
 use Rattle.tlv_walk.specs.Forest.{OpenPrimitive, PaddingOctet, Primitive, contents_length, end_octets, extent, opening}
 use Rattle.tlv_walk.specs.Forest.{spelling}
-use Rattle.tlv_walk.specs.Place.{Fits, IsAnnouncedAt, IsHeaderAt, KeepsRules, Place, place_after, place_of_children}
+use Rattle.tlv_walk.specs.Place.{Fits, IsAnnouncedAt, IsHeaderAt, ObeysGrammar, Place, place_after, place_of_children}
 use Rattle.tlv_walk.proofs.GrammarLemmas.Bounds.{IsEndless, fits, indefinite-endless, within-fits, within-le}
 use Rattle.tlv_walk.proofs.GrammarLemmas.Spellings.{append_assoc-3, append_assoc-4, length-holder, length-primitive}
 use Rattle.tlv_walk.proofs.GrammarLemmas.PushSteps.{IsWholePrimitive, IsWholeHolder, PushStep, origin, holder_so_far}
@@ -42,7 +42,7 @@ complete-sound p h valid at =
 
 -- a prefix of a header
 prefix-sound : (p : Place) (o : List ℕ) → o ≢ [] → IsHeaderPrefix o → Fits p (length o) → Spells p o (OpenHeader o)
-prefix-sound p o some front f = record { keeps_rules = (some, front, f); spelled = refl }
+prefix-sound p o some front f = record { obeys_grammar = (some, front, f); spelled = refl }
 
 -- octets of a header, by what they say
 begin-sound : (p : Place) (o : List ℕ) (s : Scan) → IsStateAfter (origin p) s o → o ≢ [] → Fits p (length o)
@@ -77,8 +77,8 @@ prefix-step p o x h front = elim (cases_Bool (fits p (length o + 1))) [
 -- an octet 00 between elements
 zero-sound : (p : Place) (i a : Bool) → p.indefinite ≡ i → p.padding ≡ a → Fits p 1
     → IsStep p (0 ∷ []) (zero_between i a)
-zero-sound p true a e d f = record { keeps_rules = (e, f); spelled = refl }
-zero-sound p false true e d f = record { keeps_rules = ((d, e, f), tt); spelled = refl }
+zero-sound p true a e d f = record { obeys_grammar = (e, f); spelled = refl }
+zero-sound p false true e d f = record { obeys_grammar = ((d, e, f), tt); spelled = refl }
 zero-sound p false false e d f = tt
 
 -- between elements
@@ -100,7 +100,7 @@ end_octets-step : (p : Place) (x : ℕ) → p.indefinite ≡ true → IsStep p (
 end_octets-step p x i = elim (cases_Bool (fits p 2)) [
   | inl f ↦ elim (cases_eq x 0) [
     | inl z ↦ rw (f, eq-eqb x 0 z, z) (record {
-      keeps_rules = tt;
+      obeys_grammar = tt;
       whole = refl;
       indefinite = i;
       spelled = refl;
@@ -112,7 +112,7 @@ end_octets-step p x i = elim (cases_Bool (fits p 2)) [
 ]
 
 -- inside the contents of a primitive
-open_primitive-step : (p : Place) (h : HeaderValue) (c : List ℕ) (x : ℕ) → KeepsRules p (OpenPrimitive h c)
+open_primitive-step : (p : Place) (h : HeaderValue) (c : List ℕ) (x : ℕ) → ObeysGrammar p (OpenPrimitive h c)
     → IsStep p ((octets_of h ++ c) ++ x ∷ []) (push p (OpenPrimitive h c) x)
 open_primitive-step p h c x w =
     let n : (n : ℕ) × (h.size ≡ Definite n) = size-definite h w.0.header.valid w.0.header.form in
@@ -122,13 +122,13 @@ open_primitive-step p h c x w =
     (within-le p.bound _ _ (omega arith) w.0.fits))
 
 -- before the first contents octet of a wrapping BIT STRING
-open_bit_string-step : (p : Place) (h : HeaderValue) (x : ℕ) → KeepsRules p (OpenBitString h)
+open_bit_string-step : (p : Place) (h : HeaderValue) (x : ℕ) → ObeysGrammar p (OpenBitString h)
     → IsStep p (octets_of h ++ x ∷ []) (push p (OpenBitString h) x)
 open_bit_string-step p h x w = elim (cases_eq x 0) [
   | inl z ↦
       let r : Spells p (opening h ++ []) (holder_so_far h NoMore) = holder_so_far-spells p h NoMore w.0 tt in
       rw (eq-eqb x 0 z, z) (record {
-        keeps_rules = r.keeps_rules;
+        obeys_grammar = r.obeys_grammar;
         spelled = r.spelled ∙ append-nil (opening h) ∙ ap (λ (t : List ℕ). octets_of h ++ t) w.1;
       })
   | inr nz ↦ rw (ne_eqb x 0 nz) tt
@@ -138,7 +138,7 @@ open_bit_string-step p h x w = elim (cases_eq x 0) [
 padding-step : (p : Place) (o : List ℕ) (s : PushStep) → (p.padding ≡ true) × (p.indefinite ≡ false) × Fits p 1
     → IsStep (place_after p 1) o s → IsStep p (0 ∷ o) (push_after PaddingOctet s)
 padding-step p o (Grown g) w r =
-    record { keeps_rules = (w, r.keeps_rules); spelled = ap (λ (t : List ℕ). 0 ∷ t) r.spelled }
+    record { obeys_grammar = (w, r.obeys_grammar); spelled = ap (λ (t : List ℕ). 0 ∷ t) r.spelled }
 padding-step p o (Ended g) w r = absurd (true≢false (sym r.indefinite ∙ w.1))
 padding-step p o (Refused code) w r = tt
 
@@ -147,11 +147,11 @@ primitive-step : (p : Place) (h : HeaderValue) (c o : List ℕ) (s : PushStep) �
     → IsStep (place_after p (length (octets_of h) + length c)) o s
     → IsStep p (octets_of h ++ (c ++ o)) (push_after (Primitive h c) s)
 primitive-step p h c o (Grown g) w r = record {
-  keeps_rules = (w, r.keeps_rules);
+  obeys_grammar = (w, r.obeys_grammar);
   spelled = ap (λ (t : List ℕ). octets_of h ++ (c ++ t)) r.spelled;
 }
 primitive-step p h c o (Ended g) w r = record {
-  keeps_rules = (w, r.keeps_rules);
+  obeys_grammar = (w, r.obeys_grammar);
   whole = r.whole;
   indefinite = r.indefinite;
   spelled =
@@ -162,14 +162,14 @@ primitive-step p h c o (Refused code) w r = tt
 
 -- a step of what follows an element that holds others
 holder-step : (p : Place) (h : HeaderValue) (inside : Forest) (o : List ℕ) (s : PushStep) → IsWholeHolder p h inside
-    → KeepsRules (place_of_children p h) inside → IsStep (place_after p (extent h inside)) o s
+    → ObeysGrammar (place_of_children p h) inside → IsStep (place_after p (extent h inside)) o s
     → IsStep p (opening h ++ (spelling inside ++ (end_octets h.size ++ o))) (push_after (Holder h inside) s)
 holder-step p h inside o (Grown g) w v r = record {
-  keeps_rules = (w, v, r.keeps_rules);
+  obeys_grammar = (w, v, r.obeys_grammar);
   spelled = ap (λ (t : List ℕ). opening h ++ (spelling inside ++ (end_octets h.size ++ t))) r.spelled;
 }
 holder-step p h inside o (Ended g) w v r = record {
-  keeps_rules = (w, v, r.keeps_rules);
+  obeys_grammar = (w, v, r.obeys_grammar);
   whole = r.whole;
   indefinite = r.indefinite;
   spelled =
@@ -183,14 +183,14 @@ holder-step p h inside o (Refused code) w v r = tt
 open_holder-step : (p : Place) (h : HeaderValue) (o : List ℕ) (s : PushStep) → IsAnnouncedAt p true h
     → IsStep (place_of_children p h) o s → IsStep p (opening h ++ o) (settle h s)
 open_holder-step p h o (Grown g) entry r =
-    let e : Spells p (opening h ++ spelling g) (holder_so_far h g) = holder_so_far-spells p h g entry r.keeps_rules in
-    record { keeps_rules = e.keeps_rules; spelled = e.spelled ∙ ap (λ (t : List ℕ). opening h ++ t) r.spelled }
+    let e : Spells p (opening h ++ spelling g) (holder_so_far h g) = holder_so_far-spells p h g entry r.obeys_grammar in
+    record { obeys_grammar = e.obeys_grammar; spelled = e.spelled ∙ ap (λ (t : List ℕ). opening h ++ t) r.spelled }
 open_holder-step p h o (Ended g) entry r =
     let e : IsEndless h.size (p.offset + length (octets_of h)) p.bound (contents_length h g) =
     indefinite-endless h.size _ p.bound _ r.indefinite in
     let two : length (end_octets h.size) ≡ 2 = ap length e.ends in
     record {
-      keeps_rules = (
+      obeys_grammar = (
         (
           record {
             header = entry.header;
@@ -200,7 +200,7 @@ open_holder-step p h o (Ended g) entry r =
           r.whole,
           e.filled,
         ),
-        r.keeps_rules,
+        r.obeys_grammar,
         tt,
       );
       spelled =
@@ -209,8 +209,8 @@ open_holder-step p h o (Ended g) entry r =
     }
 open_holder-step p h o (Refused code) entry r = tt
 
--- a step of a forest that keeps the rules is right: the forest that it gives keeps them, and spells the octet too
-pub push-steps : (p : Place) (f : Forest) (x : ℕ) → x < 256 → KeepsRules p f
+-- a step of a forest that obeys the grammar is right: the forest that it gives obeys it, and spells the octet too
+pub push-steps : (p : Place) (f : Forest) (x : ℕ) → x < 256 → ObeysGrammar p f
     → IsStep p (spelling f ++ x ∷ []) (push p f x)
 push-steps p NoMore x h w = no_more-step p x h
 push-steps p (PaddingOctet rest) x h w = padding-step p _ _ w.0 (push-steps (place_after p 1) rest x h w.1)

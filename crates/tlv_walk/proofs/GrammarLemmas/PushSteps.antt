@@ -1,4 +1,4 @@
--- What one more octet makes of a forest that keeps the rules, and when that is right.
+-- What one more octet makes of a forest that obeys the grammar, and when that is right.
 use Rattle.std.proofs.Common.{◌≡◌, ℕ, ◌+◌, Bool, true, false, cond, ◌&&◌, eqb, leb, List, [], ◌∷◌, ◌++◌, length}
 use Rattle.tlv_head.specs.declared.fault.FaultCode.{FaultCode}
 use Rattle.tlv_head.specs.declared.fault.FaultCode.TheVariants.{StrayEnd, BadEnd, MissingEnd, TooDeep, Overrun}
@@ -10,7 +10,7 @@ use Rattle.tlv_walk.specs.Forest.{Forest, Holder, NoMore, OpenBitString, OpenEnd
 use Rattle.tlv_walk.specs.Forest.{OpenPrimitive, PaddingOctet, Primitive, contents_length, extent, is_whole, lead}
 use Rattle.tlv_walk.specs.Forest.{spelling}
 use Rattle.tlv_walk.specs.Inside.{is_among}
-use Rattle.tlv_walk.specs.Place.{Fits, IsElementAt, KeepsRules, Place, place_after, place_of_children}
+use Rattle.tlv_walk.specs.Place.{Fits, IsElementAt, ObeysGrammar, Place, place_after, place_of_children}
 use Rattle.tlv_walk.proofs.GrammarLemmas.Lengths.{HasLength}
 use Rattle.tlv_walk.proofs.GrammarLemmas.Bounds.{fits, has_length}
 
@@ -23,7 +23,7 @@ abbrev pub IsWholeHolder : Place → HeaderValue → Forest → Type 0
 IsWholeHolder p h inside =
     IsElementAt p true h (extent h inside) × (is_whole inside ≡ true) × HasLength h.size (contents_length h inside)
 
--- what an octet makes of a forest that keeps the rules
+-- what an octet makes of a forest that obeys the grammar
 pub data PushStep : Type 0 where
   -- this forest
   Grown : (grown : Forest) → PushStep
@@ -91,7 +91,7 @@ settle h (Grown g) = Grown (holder_so_far h g)
 settle h (Ended g) = Grown (Holder h g NoMore)
 settle h (Refused code) = Refused code
 
--- the octet x after a forest that keeps the rules
+-- the octet x after a forest that obeys the grammar
 abbrev pub push : Place → Forest → ℕ → PushStep
 push p NoMore x =
     cond (fits p 1) (cond (eqb x 0) (zero_between p.indefinite p.padding) (Grown (OpenHeader (x ∷ []))))
@@ -107,14 +107,14 @@ push p (OpenHeader o) x =
     cond (fits p (length o + 1)) (begin p (o ++ x ∷ []) (step (origin p) (scan (origin p) o) x)) (Refused Overrun)
 push p OpenEndOctets x = cond (fits p 2) (cond (eqb x 0) (Ended NoMore) (Refused BadEnd)) (Refused MissingEnd)
 
--- a forest that keeps the rules there spells the octets
+-- a forest that obeys the grammar there spells the octets
 pub record Spells (p : Place) (o : List ℕ) (g : Forest) : Type 0 where
-  pub keeps_rules : KeepsRules p g
+  pub obeys_grammar : ObeysGrammar p g
   pub spelled : spelling g ≡ o
 
 -- the octets are whole elements and the end-of-contents octets
 pub record Ends (p : Place) (o : List ℕ) (g : Forest) : Type 0 where
-  pub keeps_rules : KeepsRules p g
+  pub obeys_grammar : ObeysGrammar p g
   pub whole : is_whole g ≡ true
   pub indefinite : p.indefinite ≡ true
   pub spelled : spelling g ++ 0 ∷ 0 ∷ [] ≡ o

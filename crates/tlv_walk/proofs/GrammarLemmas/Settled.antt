@@ -8,15 +8,15 @@ use Rattle.tlv_head.specs.declared.header.Size.TheVariants.{Definite, Indefinite
 use Rattle.tlv_head.specs.Header.{HeaderValue, octets_of}
 use Rattle.tlv_walk.specs.declared.framing.Framing.{Framing}
 use Rattle.tlv_walk.specs.Forest.{Forest, Holder, NoMore, contents_length, is_whole, opening, spelling}
-use Rattle.tlv_walk.specs.Place.{Fits, KeepsRules, Place, bound_in, place_after, place_of_children, top_place}
+use Rattle.tlv_walk.specs.Place.{Fits, ObeysGrammar, Place, bound_in, place_after, place_of_children, top_place}
 use Rattle.tlv_walk.specs.Private.Stack.{IsFilled}
 use Rattle.tlv_walk.specs.Private.Zipper.{AreLayers, AreWhole, Layer, frames_of, place_in, spelling_of_layers}
 use Rattle.tlv_walk.specs.Stands.{is_end_at}
-use Rattle.tlv_walk.proofs.GrammarLemmas.Bounds.{HasAllContents, fits-inside, has_length, length-full}
+use Rattle.tlv_walk.proofs.GrammarLemmas.Bounds.{IsDefiniteLength, fits-inside, has_length, length-full}
 use Rattle.tlv_walk.proofs.GrammarLemmas.PushSteps.{Spells, is_filled_by}
 use Rattle.tlv_walk.proofs.GrammarLemmas.OpenElements.{holder-spells, spelling-fits, unfilled-lacks}
 use Rattle.tlv_walk.proofs.GrammarLemmas.Spellings.{length-opening}
-use Rattle.tlv_walk.proofs.WalkerLemmas.Zipper.{followed_by, rules-followed_by, rules-within, settled_forest}
+use Rattle.tlv_walk.proofs.WalkerLemmas.Zipper.{followed_by, grammar-followed_by, grammar-within, settled_forest}
 use Rattle.tlv_walk.proofs.WalkerLemmas.Zipper.{spelling-followed_by, spelling-within, whole-followed_by}
 use Rattle.tlv_walk.proofs.WalkerLemmas.Zipper.{forest_in_layers}
 
@@ -32,7 +32,7 @@ pub record IsEnded (w : Framing) (l : Layer) (ls : List Layer) (f : Forest) : Ty
   pub same_end : end_in w ls (followed_by l.before (Holder l.header f NoMore)) ≡ end_in w (l ∷ ls) f
 
 -- what is filled has all its contents octets
-pub filled-full : (h : HeaderValue) (f : Forest) → is_filled_by h f ≡ true → HasAllContents h.size (contents_length h f)
+pub filled-full : (h : HeaderValue) (f : Forest) → is_filled_by h f ≡ true → IsDefiniteLength h.size (contents_length h f)
 filled-full h f e =
     let parts : (is_whole f ≡ true) × (has_length h.size (contents_length h f) ≡ true) = and_parts _ _ e in
     length-full h.size _ parts.1
@@ -43,14 +43,14 @@ pub filled-ended : (w : Framing) (l : Layer) (ls : List Layer) (f : Forest) → 
 filled-ended w l ls f a i e =
     let p : Place = place_after (place_in w ls) (length (spelling l.before)) in
     let c : Spells p (opening l.header ++ spelling f) (Holder l.header f NoMore) =
-    holder-spells p l.header f a.2 i.keeps_rules i.whole (filled-full l.header f e) in
+    holder-spells p l.header f a.2 i.obeys_grammar i.whole (filled-full l.header f e) in
     let s : spelling (followed_by l.before (Holder l.header f NoMore))
     ≡ spelling l.before ++ (opening l.header ++ spelling f) =
     spelling-followed_by l.before (Holder l.header f NoMore) a.1.whole
     ∙ ap (λ (t : List ℕ). spelling l.before ++ t) c.spelled in
     record {
       are_whole = record {
-        keeps_rules = rules-followed_by (place_in w ls) l.before (Holder l.header f NoMore) a.1 c.keeps_rules;
+        obeys_grammar = grammar-followed_by (place_in w ls) l.before (Holder l.header f NoMore) a.1 c.obeys_grammar;
         whole = whole-followed_by l.before (Holder l.header f NoMore) a.1.whole;
       };
       spelled = s;
@@ -66,17 +66,17 @@ filled-ended w l ls f a i e =
 -- an element that is not filled lacks octets
 pub unfilled-room : (w : Framing) (l : Layer) (ls : List Layer) (f : Forest) → AreLayers w (l ∷ ls)
     → AreWhole (place_in w (l ∷ ls)) f → is_filled_by l.header f ≡ false
-    → KeepsRules (top_place w) (forest_in_layers (l ∷ ls) f)
+    → ObeysGrammar (top_place w) (forest_in_layers (l ∷ ls) f)
 unfilled-room w l ls f a i e =
     let p : Place = place_after (place_in w ls) (length (spelling l.before)) in
     let there : Fits (place_of_children p l.header) (length (spelling f)) =
-    spelling-fits (place_of_children p l.header) f (fits-inside p l.header a.2.header.form a.2.fits) i.keeps_rules in
-    rules-within w (l ∷ ls) f a i.keeps_rules (λ whole. unfilled-lacks p l.header f e whole there)
+    spelling-fits (place_of_children p l.header) f (fits-inside p l.header a.2.header.form a.2.fits) i.obeys_grammar in
+    grammar-within w (l ∷ ls) f a i.obeys_grammar (λ whole. unfilled-lacks p l.header f e whole there)
 
--- the forest keeps the rules, and spells the octets of the layers and then its own
+-- the forest obeys the grammar, and spells the octets of the layers and then its own
 pub settled-spells : (w : Framing) (ls : List Layer) (f : Forest) → AreLayers w ls → AreWhole (place_in w ls) f
     → Spells (top_place w) (spelling_of_layers ls ++ spelling f) (settled_forest ls f)
-settled-spells w [] f a i = record { keeps_rules = i.keeps_rules; spelled = refl }
+settled-spells w [] f a i = record { obeys_grammar = i.obeys_grammar; spelled = refl }
 settled-spells w (l ∷ ls) f a i = elim (cases_Bool (is_filled_by l.header f)) [
   | inl e ↦
       let d : IsEnded w l ls f = filled-ended w l ls f a i e in
@@ -90,10 +90,10 @@ settled-spells w (l ∷ ls) f a i = elim (cases_Bool (is_filled_by l.header f)) 
       (sym (append_assoc (spelling l.before) (opening l.header) (spelling f)))
       ∙ sym (append_assoc (spelling_of_layers ls) (spelling l.before ++ opening l.header) (spelling f)) in
       rw e (record {
-        keeps_rules = r.keeps_rules;
+        obeys_grammar = r.obeys_grammar;
         spelled = r.spelled ∙ ap (λ (t : List ℕ). spelling_of_layers ls ++ t) d.spelled ∙ s;
       })
-  | inr e ↦ rw e (record { keeps_rules = unfilled-room w l ls f a i e; spelled = spelling-within w (l ∷ ls) f a })
+  | inr e ↦ rw e (record { obeys_grammar = unfilled-room w l ls f a i e; spelled = spelling-within w (l ∷ ls) f a })
 ]
 
 -- an element ends at an offset by its frame if it has all its contents octets by its length

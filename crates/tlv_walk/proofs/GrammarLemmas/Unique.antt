@@ -56,7 +56,7 @@ refused-same w b f g x y r s c d u v e e' k l =
     let tails : x ∷ r ≡ y ∷ s = append_cancel_left (spelling g) (x ∷ r) (y ∷ s) (rw same at (e ∙ sym e')) in
     let octet : x ≡ y = cc in
     let k' : IsRefusedAt (open_end (top_place w) g) y c = rw (same, octet) at k in
-    let code : c ≡ d = fault-unique w g y c d v.keeps_rules k' l in
+    let code : c ≡ d = fault-unique w g y c d v.obeys_grammar k' l in
     ap (λ (c : FaultCode). fault_ending c (length (spelling f))) code
     ∙ ap (λ (f : Forest). fault_ending d (length (spelling f))) same
 

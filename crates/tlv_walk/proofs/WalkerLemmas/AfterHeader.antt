@@ -12,7 +12,7 @@ use Rattle.tlv_walk.specs.Forest.{Forest, NoMore, OpenBitString, lead, lead_by, 
 use Rattle.tlv_walk.specs.Inside.{is_among}
 use Rattle.tlv_walk.specs.WalkerState.{WalkerState}
 use Rattle.tlv_walk.specs.Private.WalkerCalls.{after_header}
-use Rattle.tlv_walk.specs.Place.{Fits, IsAnnouncedAt, IsHeaderAt, KeepsRules, IsWithin, Place}
+use Rattle.tlv_walk.specs.Place.{Fits, IsAnnouncedAt, IsHeaderAt, ObeysGrammar, IsWithin, Place}
 use Rattle.tlv_walk.specs.Stack.{FrameValue, bound_of}
 use Rattle.tlv_walk.specs.Private.Zipper.{BitStringTail, NoTail, HasZipper, PrimitiveTail, EndOctetsTail, HeaderTail}
 use Rattle.tlv_walk.specs.Private.Zipper.{IsPhaseOf, Layer, Tail, Zipper, events_of_layers, events_of_tail, frame_at}
@@ -210,7 +210,7 @@ holding_state w b yielded s r t h k at c e none = record {
   offset = header_end w b yielded s r t h at c;
   stack = ap (λ (fs : List FrameValue). frame_at (place_of w.framing s) h ∷ fs) at.stack;
   layers = (at.has.layers, at.has.here, entry_at w b yielded s r t h at c e);
-  here = record { keeps_rules = tt; whole = refl };
+  here = record { obeys_grammar = tt; whole = refl };
   phase = tt;
   same_events =
       layer_yielded yielded s.layers s.here h [] (opening_event h ∷ [])
@@ -255,7 +255,7 @@ lead_primitive true n e = absurd (cc)
 lead_primitive false n e = refl
 
 unused_state : (w : WalkerState) (b : List ℕ) (yielded : List EventValue) (s : Zipper) (h : HeaderValue)
-    → HasZipper w b yielded (with_tail s (BitStringTail h)) → KeepsRules (place_of w.framing s) (OpenBitString h)
+    → HasZipper w b yielded (with_tail s (BitStringTail h)) → ObeysGrammar (place_of w.framing s) (OpenBitString h)
     → HasZipper (record w { phase = Between; offset = w.offset + 1; events = w.events + 1 }) (b ++ 0 ∷ [])
     (yielded ++ Unused ∷ [])
     (record { layers = record { before = s.here; header = h } ∷ s.layers; here = NoMore; tail = NoTail })
@@ -268,7 +268,7 @@ unused_state w b yielded s h has a =
       offset = omega (arith, has.offset, length-append b (0 ∷ []));
       stack = has.stack;
       layers = (has.layers, has.here, a.0);
-      here = record { keeps_rules = tt; whole = refl };
+      here = record { obeys_grammar = tt; whole = refl };
       phase = tt;
       same_events = layer_yielded yielded s.layers s.here h (Enter h ∷ []) (Unused ∷ [])
           (ap (λ (c : Bool). (if c then Open h else Enter h) ∷ map (λ z. Unused) (lead h)) k

@@ -15,7 +15,7 @@ use Rattle.tlv_walk.specs.Wrappers.{entered_offsets}
 use Rattle.std.proofs.lemmas.Bool.{cases_Bool}
 use Rattle.tlv_walk.specs.WalkerState.{WalkerState}
 use Rattle.tlv_walk.specs.Private.WrapperCount.{wrapper_count_after}
-use Rattle.tlv_walk.specs.Place.{Fits, IsAnnouncedAt, KeepsRules, IsWithin, Place, bound_in, is_indefinite, place_after}
+use Rattle.tlv_walk.specs.Place.{Fits, IsAnnouncedAt, ObeysGrammar, IsWithin, Place, bound_in, is_indefinite, place_after}
 use Rattle.tlv_walk.proofs.GrammarLemmas.Lengths.{HasLength}
 use Rattle.tlv_walk.specs.Stack.{FrameValue, IsInIndefinite, IsInWrapper, bound_of}
 use Rattle.tlv_walk.specs.Private.Stack.{IsFilled, innermost_wraps}
@@ -30,7 +30,7 @@ use Rattle.tlv_walk.proofs.WalkerLemmas.ZipperGrowth.{phase_at, tail_state, yiel
 use Rattle.tlv_walk.proofs.WalkerLemmas.YieldedEvents.{yields_zero}
 use Rattle.tlv_walk.proofs.WalkerLemmas.Places.{definite-size, walker-offset}
 use Rattle.tlv_walk.proofs.GrammarLemmas.Spellings.{length-opening}
-use Rattle.tlv_walk.proofs.WalkerLemmas.Zipper.{rules-followed_by, spelling-followed_by, whole-followed_by}
+use Rattle.tlv_walk.proofs.WalkerLemmas.Zipper.{grammar-followed_by, spelling-followed_by, whole-followed_by}
 use Rattle.tlv_walk.proofs.WalkerLemmas.ZipperEvents.{events-followed_by}
 
 layers-regroup : (a b c d e t : List ℕ)
@@ -74,9 +74,9 @@ closed_whole : (w : WalkerState) (l : Layer) (ls : List Layer) (here : Forest)
     → Fits (place_after (place_in w.framing ls) (length (spelling l.before))) (extent l.header here)
     → AreWhole (place_in w.framing ls) (closed_here l here)
 closed_whole w l ls here earlier entry inside filled fits = record {
-  keeps_rules = rules-followed_by (place_in w.framing ls) l.before (Holder l.header here NoMore) earlier (
+  obeys_grammar = grammar-followed_by (place_in w.framing ls) l.before (Holder l.header here NoMore) earlier (
     (record { header = entry.header; shallow = entry.shallow; fits = fits }, inside.whole, filled),
-    inside.keeps_rules,
+    inside.obeys_grammar,
     tt,
   );
   whole = whole-followed_by l.before (Holder l.header here NoMore) earlier.whole;
@@ -139,7 +139,7 @@ closes_indefinite h here n k s e =
 
 second_from : (w : WalkerState) (b : List ℕ) (yielded : List EventValue) (s : Zipper) (ls : List Layer)
     → HasZipper w b yielded (with_layers s ls EndOctetsTail)
-    → KeepsRules (place_of w.framing (with_layers s ls EndOctetsTail)) OpenEndOctets
+    → ObeysGrammar (place_of w.framing (with_layers s ls EndOctetsTail)) OpenEndOctets
     → IsWithin (bound_of w.stack) (w.offset + 1)
     → (t : Zipper)
     × HasZipper

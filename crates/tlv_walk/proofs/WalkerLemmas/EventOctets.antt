@@ -15,7 +15,7 @@ use Rattle.tlv_walk.specs.Forest.{Forest, NoMore, PaddingOctet, Primitive, Holde
 use Rattle.tlv_walk.specs.Forest.{OpenBitString, OpenHeader, OpenEndOctets, end_octets, extent, is_whole, lead, opening}
 use Rattle.tlv_walk.specs.Forest.{spelling}
 use Rattle.tlv_walk.specs.WalkerState.{WalkerState}
-use Rattle.tlv_walk.specs.Place.{IsHeaderAt, KeepsRules, Place, place_after, place_of_children}
+use Rattle.tlv_walk.specs.Place.{IsHeaderAt, ObeysGrammar, Place, place_after, place_of_children}
 use Rattle.tlv_walk.specs.Private.Zipper.{AreLayers, BitStringTail, NoTail, HasZipper, PrimitiveTail, EndOctetsTail}
 use Rattle.tlv_walk.specs.Private.Zipper.{HeaderTail, IsPhaseOf, Layer, Tail, Zipper, events_of_layers, events_of_tail}
 use Rattle.tlv_walk.specs.Private.Zipper.{events_of_zipper, place_in, place_of, spelling_of_layers, spelling_of_tail}
@@ -114,7 +114,7 @@ octets_append : (xs ys : List EventValue)
 octets_append xs ys = flat_map-append event_octets xs ys
 
 -- of whole elements
-octets_whole : (p : Place) (f : Forest) → KeepsRules p f → is_whole f ≡ true
+octets_whole : (p : Place) (f : Forest) → ObeysGrammar p f → is_whole f ≡ true
     → flat_map event_octets (events f) ≡ spelling f
 octets_whole p NoMore o e = refl
 octets_whole p (PaddingOctet rest) o e = ap (λ (l : List ℕ). 0 ∷ l) (octets_whole (place_after p 1) rest o.1 e)
@@ -152,7 +152,7 @@ octets_layers w (l ∷ ls) a =
     ∙ ap (λ (t : List ℕ). spelling_of_layers ls ++ t) (
     octets_append (events l.before) (opening_events l.header)
     ∙ ap (λ (t : List ℕ). t ++ flat_map event_octets (opening_events l.header))
-    (octets_whole (place_in w ls) l.before a.1.keeps_rules a.1.whole)
+    (octets_whole (place_in w ls) l.before a.1.obeys_grammar a.1.whole)
     ∙ ap (λ (t : List ℕ). spelling l.before ++ t) (octets_opens l.header)
     )
 
@@ -178,7 +178,7 @@ stands-yielded_octets w b yielded st k =
     ∙ ap (λ (t : List ℕ). spelling_of_layers s.layers ++ t) (
     octets_append (events s.here) (events_of_tail s.tail)
     ∙ ap (λ (t : List ℕ). t ++ flat_map event_octets (events_of_tail s.tail))
-    (octets_whole (place_in w.framing s.layers) s.here h.here.keeps_rules h.here.whole)
+    (octets_whole (place_in w.framing s.layers) s.here h.here.obeys_grammar h.here.whole)
     ∙ ap (λ (t : List ℕ). spelling s.here ++ t) (octets_tail w.phase s.tail (place_of w.framing s) h.phase k)
     )
     ∙ h.spelled

@@ -7,7 +7,7 @@ use Rattle.tlv_walk.specs.Phase.{Between, PhaseValue}
 use Rattle.tlv_walk.specs.Events.{EventValue, Pad, events, single_octets}
 use Rattle.tlv_walk.specs.Forest.{Forest, NoMore, PaddingOctet, has_element, is_whole, spelling}
 use Rattle.tlv_walk.specs.WalkerState.{WalkerState}
-use Rattle.tlv_walk.specs.Place.{KeepsRules, Place, place_after}
+use Rattle.tlv_walk.specs.Place.{ObeysGrammar, Place, place_after}
 use Rattle.tlv_walk.specs.Private.Zipper.{NoTail, HasZipper, IsPhaseOf, Layer, Zipper, place_in, place_of}
 use Rattle.tlv_walk.specs.Private.Yields.{Continues}
 use Rattle.tlv_walk.proofs.WalkerLemmas.ZipperGrowth.{are_whole, element-either, between_tail, phase_at, spelled_whole}
@@ -41,7 +41,7 @@ element-padding_octets [] = refl
 element-padding_octets (x ∷ t) = element-padding_octets t
 
 open-padding_octets : (p : Place) (t : List ℕ) → p.padding ≡ true → p.indefinite ≡ false → p.bound ≡ None
-    → KeepsRules p (padding_octets t)
+    → ObeysGrammar p (padding_octets t)
 open-padding_octets p [] a d n = tt
 open-padding_octets p (x ∷ t) a d n = ((a, d, rw n tt), open-padding_octets (place_after p 1) t a d n)
 

@@ -8,7 +8,7 @@ use Rattle.tlv_head.specs.declared.header.HeaderFields.{HeaderFields}
 use Rattle.tlv_head.specs.HeaderFields.{new_header}
 use Rattle.tlv_head.specs.Header.{announced_length, is_wrapper}
 use Rattle.tlv_walk.specs.declared.walker.headers.HeaderKind.TheVariants as kind
-use Rattle.tlv_walk.specs.declared.walker.quick.WholePrimitive.{WholePrimitive}
+use Rattle.tlv_walk.specs.declared.walker.short_way.WholePrimitive.{WholePrimitive}
 use Rattle.tlv_walk.specs.Events.{Begin, Bytes, End}
 use Rattle.tlv_walk.specs.Follow.{IsWholeElement, contents_in, whole_events}
 use Rattle.tlv_walk.specs.WalkerState.{WalkerState}

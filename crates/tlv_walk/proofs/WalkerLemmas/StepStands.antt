@@ -19,7 +19,7 @@ use Rattle.tlv_walk.proofs.EventLemmas.Wrappers.{enters-append}
 use Rattle.tlv_walk.specs.declared.ending.Ending.TheVariants as ending
 use Rattle.tlv_walk.specs.Ending.{IsEnding}
 use Rattle.tlv_walk.specs.Reading.{CannotBecomeSound, IsReading}
-use Rattle.tlv_walk.specs.Place.{KeepsRules, top_place}
+use Rattle.tlv_walk.specs.Place.{ObeysGrammar, top_place}
 use Rattle.tlv_walk.specs.Stands.{Stands, waiting_events}
 use Rattle.tlv_walk.specs.StepsTo.{RefusesAgain, RefusesNext, StepsTo, UsesUpPiece, YieldsNext}
 use Rattle.tlv_walk.specs.HasRead.{IsRefusedAfter, StandsRefused}
@@ -71,8 +71,8 @@ refused_reading old g piece rest f same r b yielded st =
     let spells : Spells (top_place u.walker.framing) (b ++ r.taken) (reading_of u.zipper) =
     state-spells u.walker (b ++ r.taken) yielded u.zipper u.has_zipper in
     let there : f.offset ≡ length (b ++ r.taken) = u.offset ∙ u.has_zipper.offset in
-    let keeps_rules : KeepsRules (top_place old.framing) (reading_of u.zipper) =
-    subst (λ (w : Framing). KeepsRules (top_place w) (reading_of u.zipper)) u.framing spells.keeps_rules in
+    let obeys_grammar : ObeysGrammar (top_place old.framing) (reading_of u.zipper) =
+    subst (λ (w : Framing). ObeysGrammar (top_place w) (reading_of u.zipper)) u.framing spells.obeys_grammar in
     record {
       reading = reading_of u.zipper;
       spelled = spells.spelled;
@@ -82,7 +82,7 @@ refused_reading old g piece rest f same r b yielded st =
           (ap (λ (es : List EventValue). yielded ++ es) u.idle ∙ append-nil yielded) all;
       stays = λ c. subst (λ (w : Framing). IsReading w ((b ++ r.taken) ++ r.octet ∷ c) (reading_of u.zipper)) (sym same)
           (refused-reading old.framing (b ++ r.taken) r.octet c f (reading_of u.zipper)
-          (record { keeps_rules = keeps_rules; spelled = spells.spelled }) there (u.ends c));
+          (record { obeys_grammar = obeys_grammar; spelled = spells.spelled }) there (u.ends c));
       ends =
           λ c. subst (λ (w : Framing). IsEnding w ((b ++ r.taken) ++ r.octet ∷ c) (ending.Fault f)) (sym same)
           (u.ends c);
@@ -122,7 +122,7 @@ refused_walker old new piece rest f k r b yielded st =
           ∙ state-depth u.walker (b ++ r.taken) yielded u.zipper u.has_zipper (idle-none_waits u.walker u.idle);
       unused =
           ap (slice_get new.framing.inside) found
-          ∙ yielded_unused new.framing yielded [] there.reading named (there.stays []).keeps_rules refl
+          ∙ yielded_unused new.framing yielded [] there.reading named (there.stays []).obeys_grammar refl
           (subst (λ (es : List EventValue). AreEqualJoined es (events there.reading)) (sym (append-nil yielded))
           there.all_events);
     }

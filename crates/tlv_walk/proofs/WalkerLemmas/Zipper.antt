@@ -1,4 +1,4 @@
--- A walker's state is a forest that keeps the rules, taken apart along its open elements.
+-- A walker's state is a forest that obeys the grammar, taken apart along its open elements.
 use Rattle.std.proofs.Common.{◌≡◌, ◌↔◌, ℕ, ◌+◌, Bool, true, false, cond, eqb, List, [], ◌∷◌, ◌++◌, length, None, refl}
 use Rattle.std.proofs.Common.{sym, ap, ◌∙◌, subst, arith, append_assoc}
 use Rattle.std.proofs.lemmas.Bool.{true≢false}
@@ -10,7 +10,7 @@ use Rattle.tlv_walk.specs.Ending.{open_end}
 use Rattle.tlv_walk.specs.Forest.{Forest, Holder, NoMore, OpenBitString, OpenEndOctets, OpenHeader, OpenHolder}
 use Rattle.tlv_walk.specs.Forest.{OpenPrimitive, PaddingOctet, Primitive, contents_length, end_octets, extent, is_whole}
 use Rattle.tlv_walk.specs.Forest.{opening, spelling}
-use Rattle.tlv_walk.specs.Place.{KeepsRules, Place, bound_in, is_indefinite, place_after, top_place}
+use Rattle.tlv_walk.specs.Place.{ObeysGrammar, Place, bound_in, is_indefinite, place_after, top_place}
 use Rattle.tlv_walk.proofs.GrammarLemmas.Lengths.{LacksOctets}
 use Rattle.tlv_walk.specs.Stack.{IsInIndefinite}
 use Rattle.tlv_walk.specs.Private.Zipper.{AreLayers, AreWhole, BitStringTail, NoTail, PrimitiveTail, EndOctetsTail}
@@ -68,10 +68,10 @@ after-after p m n k e =
 pub after-none : (p : Place) → place_after p 0 ≡ p
 after-none p = let same : p.offset + 0 ≡ p.offset = omega arith in ap (λ (i : ℕ). record p { offset = i }) same
 
--- what keeps the rules there does so by either way to the place
-rules-after : (p : Place) (m n k : ℕ) (g : Forest) → m + n ≡ k → KeepsRules (place_after p k) g
-    → KeepsRules (place_after (place_after p m) n) g
-rules-after p m n k g e w = subst (λ (q : Place). KeepsRules q g) (sym (after-after p m n k e)) w
+-- what obeys the grammar there does so by either way to the place
+grammar-after : (p : Place) (m n k : ℕ) (g : Forest) → m + n ≡ k → ObeysGrammar (place_after p k) g
+    → ObeysGrammar (place_after (place_after p m) n) g
+grammar-after p m n k g e w = subst (λ (q : Place). ObeysGrammar q g) (sym (after-after p m n k e)) w
 
 -- ---- whole elements, and then others
 
@@ -103,35 +103,35 @@ whole-followed_by (OpenBitString h) g e = absurd (true≢false (sym e))
 whole-followed_by (OpenHeader octets) g e = absurd (true≢false (sym e))
 whole-followed_by OpenEndOctets g e = absurd (true≢false (sym e))
 
--- they keep the rules if the others do, after them
-pub rules-followed_by : (p : Place) (f g : Forest) → AreWhole p f → KeepsRules (place_after p (length (spelling f))) g
-    → KeepsRules p (followed_by f g)
-rules-followed_by p NoMore g a w = subst (λ (q : Place). KeepsRules q g) (after-none p) w
-rules-followed_by p (PaddingOctet rest) g a w = (
-  a.keeps_rules.0,
-  rules-followed_by (place_after p 1) rest g (record { keeps_rules = a.keeps_rules.1; whole = a.whole })
-      (rules-after p 1 (length (spelling rest)) _ g (omega arith) w),
+-- they obey the grammar if the others do, after them
+pub grammar-followed_by : (p : Place) (f g : Forest) → AreWhole p f → ObeysGrammar (place_after p (length (spelling f))) g
+    → ObeysGrammar p (followed_by f g)
+grammar-followed_by p NoMore g a w = subst (λ (q : Place). ObeysGrammar q g) (after-none p) w
+grammar-followed_by p (PaddingOctet rest) g a w = (
+  a.obeys_grammar.0,
+  grammar-followed_by (place_after p 1) rest g (record { obeys_grammar = a.obeys_grammar.1; whole = a.whole })
+      (grammar-after p 1 (length (spelling rest)) _ g (omega arith) w),
 )
-rules-followed_by p (Primitive h c rest) g a w = (
-  a.keeps_rules.0,
-  rules-followed_by (place_after p (length (octets_of h) + length c)) rest g (record {
-    keeps_rules = a.keeps_rules.1;
+grammar-followed_by p (Primitive h c rest) g a w = (
+  a.obeys_grammar.0,
+  grammar-followed_by (place_after p (length (octets_of h) + length c)) rest g (record {
+    obeys_grammar = a.obeys_grammar.1;
     whole = a.whole;
   })
-      (rules-after p (length (octets_of h) + length c) (length (spelling rest)) _ g (sym (length-primitive h c rest))
+      (grammar-after p (length (octets_of h) + length c) (length (spelling rest)) _ g (sym (length-primitive h c rest))
       w),
 )
-rules-followed_by p (Holder h inside rest) g a w = (
-  a.keeps_rules.0,
-  a.keeps_rules.1,
-  rules-followed_by (place_after p (extent h inside)) rest g (record { keeps_rules = a.keeps_rules.2; whole = a.whole })
-      (rules-after p (extent h inside) (length (spelling rest)) _ g (sym (length-holder h inside rest)) w),
+grammar-followed_by p (Holder h inside rest) g a w = (
+  a.obeys_grammar.0,
+  a.obeys_grammar.1,
+  grammar-followed_by (place_after p (extent h inside)) rest g (record { obeys_grammar = a.obeys_grammar.2; whole = a.whole })
+      (grammar-after p (extent h inside) (length (spelling rest)) _ g (sym (length-holder h inside rest)) w),
 )
-rules-followed_by p (OpenPrimitive h c) g a w = absurd (true≢false (sym a.whole))
-rules-followed_by p (OpenHolder h inside) g a w = absurd (true≢false (sym a.whole))
-rules-followed_by p (OpenBitString h) g a w = absurd (true≢false (sym a.whole))
-rules-followed_by p (OpenHeader octets) g a w = absurd (true≢false (sym a.whole))
-rules-followed_by p OpenEndOctets g a w = absurd (true≢false (sym a.whole))
+grammar-followed_by p (OpenPrimitive h c) g a w = absurd (true≢false (sym a.whole))
+grammar-followed_by p (OpenHolder h inside) g a w = absurd (true≢false (sym a.whole))
+grammar-followed_by p (OpenBitString h) g a w = absurd (true≢false (sym a.whole))
+grammar-followed_by p (OpenHeader octets) g a w = absurd (true≢false (sym a.whole))
+grammar-followed_by p OpenEndOctets g a w = absurd (true≢false (sym a.whole))
 
 -- the open end is the same by either way to the place
 open_end-after : (p : Place) (m n k : ℕ) (g : Forest) → m + n ≡ k
@@ -204,13 +204,13 @@ pub room-if_open : (ls : List Layer) (f : Forest) → is_whole f ≡ false → H
 room-if_open [] f e = tt
 room-if_open (l ∷ ls) f e = λ whole. absurd (true≢false (sym whole ∙ e))
 
--- if they keep the rules where they are, so does the whole
-pub rules-within : (w : Framing) (ls : List Layer) (f : Forest) → AreLayers w ls → KeepsRules (place_in w ls) f
-    → HasRoomIn ls f → KeepsRules (top_place w) (forest_in_layers ls f)
-rules-within w [] f a v r = v
-rules-within w (l ∷ ls) f a v r =
-    rules-within w ls (followed_by l.before (OpenHolder l.header f)) a.0
-    (rules-followed_by (place_in w ls) l.before (OpenHolder l.header f) a.1 ((a.2, r), v))
+-- if they obey the grammar where they are, so does the whole
+pub grammar-within : (w : Framing) (ls : List Layer) (f : Forest) → AreLayers w ls → ObeysGrammar (place_in w ls) f
+    → HasRoomIn ls f → ObeysGrammar (top_place w) (forest_in_layers ls f)
+grammar-within w [] f a v r = v
+grammar-within w (l ∷ ls) f a v r =
+    grammar-within w ls (followed_by l.before (OpenHolder l.header f)) a.0
+    (grammar-followed_by (place_in w ls) l.before (OpenHolder l.header f) a.1 ((a.2, r), v))
     (room-if_open ls _ (whole-followed_by l.before (OpenHolder l.header f) a.1.whole))
 
 -- the open end is theirs

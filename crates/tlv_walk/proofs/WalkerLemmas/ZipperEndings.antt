@@ -102,11 +102,11 @@ state-fault w b yielded s x rest code h n k =
     subst (λ (t : OpenEnd). IsRefusedAt t x code) (sym (state-open_end w b yielded s h n)) k in
     let halt : IsHalt w.framing (reading_of s) code (b ++ x ∷ rest) =
     record {
-      keeps_rules = r.keeps_rules;
+      obeys_grammar = r.obeys_grammar;
       octet = x;
       rest = rest;
       front = ap (λ (o : List ℕ). o ++ x ∷ rest) r.spelled;
-      refused = fault-refused w.framing (reading_of s) x code r.keeps_rules there;
+      refused = fault-refused w.framing (reading_of s) x code r.obeys_grammar there;
     } in
     subst (λ (o : List ℕ). IsEnding w.framing (b ++ x ∷ rest) (fault_ending code (length o))) r.spelled
     (halt-ending w.framing (reading_of s) code (b ++ x ∷ rest) halt there)

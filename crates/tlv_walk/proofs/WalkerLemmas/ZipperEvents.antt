@@ -14,7 +14,7 @@ use Rattle.tlv_walk.specs.Forest.{spelling}
 use Rattle.tlv_walk.specs.Stands.{filled_end_event, filled_end_events}
 use Rattle.tlv_walk.specs.Private.Zipper.{AreLayers, AreWhole, Layer, events_of_layers, frame_at, frames_of, place_in}
 use Rattle.tlv_walk.specs.Place.{Place, place_after}
-use Rattle.tlv_walk.proofs.GrammarLemmas.Bounds.{HasAllContents}
+use Rattle.tlv_walk.proofs.GrammarLemmas.Bounds.{IsDefiniteLength}
 use Rattle.tlv_walk.proofs.GrammarLemmas.PushSteps.{is_filled_by}
 use Rattle.tlv_walk.proofs.GrammarLemmas.Settled.{IsEnded, end_in, end-filled, filled-ended, filled-full}
 use Rattle.tlv_walk.proofs.WalkerLemmas.Zipper.{followed_by, settled_forest, forest_in_layers}
@@ -66,7 +66,7 @@ closes-definite false s offset e = refl
 closes-filled : (p : Place) (h : HeaderValue) (f : Forest) → is_filled_by h f ≡ true
     → closing_event h f ≡ filled_end_event (frame_at p h)
 closes-filled p h f e =
-    let full : HasAllContents h.size (contents_length h f) =
+    let full : IsDefiniteLength h.size (contents_length h f) =
     filled-full h f e in closes-definite h.constructed h.size _ full.ends
 
 -- events of layers, of whole elements in the innermost, and of its end

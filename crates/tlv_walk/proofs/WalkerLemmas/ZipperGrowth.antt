@@ -12,14 +12,14 @@ use Rattle.tlv_walk.specs.WalkerState.{WalkerState}
 use Rattle.tlv_walk.specs.Private.WrapperCount.{next_wrapper_count, wrapper_count_after}
 use Rattle.tlv_walk.specs.Wrappers.{entered_offsets}
 use Rattle.tlv_walk.proofs.EventLemmas.Wrappers.{enters-append}
-use Rattle.tlv_walk.specs.Place.{KeepsRules, Place, place_after}
+use Rattle.tlv_walk.specs.Place.{ObeysGrammar, Place, place_after}
 use Rattle.tlv_walk.specs.Private.Zipper.{AreWhole, BitStringTail, NoTail, HasZipper, PrimitiveTail, EndOctetsTail}
 use Rattle.tlv_walk.specs.Private.Zipper.{HeaderTail, IsPhaseOf, Layer, Tail, Zipper, has_element_before_tail}
 use Rattle.tlv_walk.specs.Private.Zipper.{events_of_layers, place_of, spelling_of_layers}
 use Rattle.tlv_walk.specs.Private.Yields.{Continues}
 use Rattle.tlv_walk.proofs.EventLemmas.Joined.{apart-before, apart-from_joined, apart-more, joined-from_apart}
 use Rattle.tlv_walk.proofs.GrammarLemmas.Spellings.{append_assoc-3}
-use Rattle.tlv_walk.proofs.WalkerLemmas.Zipper.{followed_by, rules-followed_by, spelling-followed_by, whole-followed_by}
+use Rattle.tlv_walk.proofs.WalkerLemmas.Zipper.{followed_by, grammar-followed_by, spelling-followed_by, whole-followed_by}
 use Rattle.tlv_walk.proofs.WalkerLemmas.ZipperEvents.{events-followed_by}
 
 -- events yielded one after another
@@ -97,10 +97,10 @@ spelled_whole ls here more old t b whole e f =
 
 -- whole elements, and then one more
 pub are_whole : (p : Place) (here more : Forest) → AreWhole p here
-    → KeepsRules (place_after p (length (spelling here))) more → is_whole more ≡ true
+    → ObeysGrammar (place_after p (length (spelling here))) more → is_whole more ≡ true
     → AreWhole p (followed_by here more)
 are_whole p here more h o w = record {
-  keeps_rules = rules-followed_by p here more h o;
+  obeys_grammar = grammar-followed_by p here more h o;
   whole = whole-followed_by here more h.whole ∙ w;
 }
 

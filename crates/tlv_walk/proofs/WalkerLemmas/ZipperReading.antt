@@ -12,7 +12,7 @@ use Rattle.tlv_walk.specs.Forest.{Forest, NoMore, Primitive, OpenPrimitive, Open
 use Rattle.tlv_walk.specs.Forest.{is_whole, spelling}
 use Rattle.tlv_walk.specs.WalkerState.{WalkerState, new_walker}
 use Rattle.tlv_walk.specs.Private.WrapperCount.{wrapper_count_after}
-use Rattle.tlv_walk.specs.Place.{KeepsRules, Place, place_after, top_place}
+use Rattle.tlv_walk.specs.Place.{ObeysGrammar, Place, place_after, top_place}
 use Rattle.tlv_walk.specs.Reading.{IsReading}
 use Rattle.tlv_walk.specs.Stands.{Stands, filled_end_events, waiting_events, waiting_events_in}
 use Rattle.tlv_walk.specs.Private.Zipper.{AreLayers, AreWhole, BitStringTail, NoTail, HasZipper, PrimitiveTail}
@@ -27,7 +27,7 @@ use Rattle.tlv_walk.proofs.GrammarLemmas.PushSteps.{Spells}
 use Rattle.tlv_walk.proofs.GrammarLemmas.Readings.{Going, run-reading}
 use Rattle.tlv_walk.proofs.GrammarLemmas.Settled.{end_in, settled-spells}
 use Rattle.tlv_walk.proofs.WalkerLemmas.Places.{walker-offset}
-use Rattle.tlv_walk.proofs.WalkerLemmas.Zipper.{followed_by, rules-followed_by, rules-within, reading_in, reading_of}
+use Rattle.tlv_walk.proofs.WalkerLemmas.Zipper.{followed_by, grammar-followed_by, grammar-within, reading_in, reading_of}
 use Rattle.tlv_walk.proofs.WalkerLemmas.Zipper.{room-if_open, settled_forest, spelling-followed_by, spelling-within}
 use Rattle.tlv_walk.proofs.WalkerLemmas.Zipper.{whole-followed_by, forest_in_layers}
 use Rattle.tlv_walk.proofs.WalkerLemmas.ZipperEvents.{events-followed_by, events-settled, events-within}
@@ -44,14 +44,14 @@ followed_by-end w ls here g e =
 
 -- ---- whole elements, and then an open end
 
--- the forest keeps the rules, with these octets
-rules-spell : (w : Framing) (ls : List Layer) (here g : Forest) → AreLayers w ls → AreWhole (place_in w ls) here
-    → KeepsRules (later_place w ls here) g → is_whole g ≡ false
+-- the forest obeys the grammar, with these octets
+grammar-spell : (w : Framing) (ls : List Layer) (here g : Forest) → AreLayers w ls → AreWhole (place_in w ls) here
+    → ObeysGrammar (later_place w ls here) g → is_whole g ≡ false
     → Spells (top_place w) (spelling_of_layers ls ++ (spelling here ++ spelling g))
     (forest_in_layers ls (followed_by here g))
-rules-spell w ls here g a i v e = record {
-  keeps_rules =
-      rules-within w ls (followed_by here g) a (rules-followed_by (place_in w ls) here g i v)
+grammar-spell w ls here g a i v e = record {
+  obeys_grammar =
+      grammar-within w ls (followed_by here g) a (grammar-followed_by (place_in w ls) here g i v)
       (room-if_open ls (followed_by here g) (whole-followed_by here g i.whole ∙ e));
   spelled =
       spelling-within w ls (followed_by here g) a
@@ -72,11 +72,11 @@ open-events w ls here g a i =
 more-whole : (w : Framing) (ls : List Layer) (here g : Forest) → AreWhole (place_in w ls) here
     → AreWhole (later_place w ls here) g → AreWhole (place_in w ls) (followed_by here g)
 more-whole w ls here g i j = record {
-  keeps_rules = rules-followed_by (place_in w ls) here g i j.keeps_rules;
+  obeys_grammar = grammar-followed_by (place_in w ls) here g i j.obeys_grammar;
   whole = whole-followed_by here g i.whole ∙ j.whole;
 }
 
--- the forest keeps the rules, with these octets
+-- the forest obeys the grammar, with these octets
 whole-spells : (w : Framing) (ls : List Layer) (here g : Forest) → AreLayers w ls → AreWhole (place_in w ls) here
     → AreWhole (later_place w ls here) g
     → Spells (top_place w) (spelling_of_layers ls ++ (spelling here ++ spelling g))
@@ -86,7 +86,7 @@ whole-spells w ls here g a i j =
     (settled_forest ls (followed_by here g)) =
     settled-spells w ls (followed_by here g) a (more-whole w ls here g i j) in
     record {
-      keeps_rules = r.keeps_rules;
+      obeys_grammar = r.obeys_grammar;
       spelled = r.spelled ∙ ap (λ (t : List ℕ). spelling_of_layers ls ++ t) (spelling-followed_by here g i.whole);
     }
 
@@ -112,7 +112,7 @@ contents-whole : (p : Place) (h : HeaderValue) (c : List ℕ) (left : ℕ) → I
 contents-whole p h c left i e =
     let size : length c + left ≡ length c = omega arith in
     record {
-      keeps_rules = (
+      obeys_grammar = (
         (
           record { header = i.header; shallow = λ e. absurd (cc (e)); fits = rw size at i.fits },
           i.size ∙ ap Definite size,
@@ -124,7 +124,7 @@ contents-whole p h c left i e =
 
 -- else it lacks contents octets
 contents-open_primitive : (p : Place) (h : HeaderValue) (c : List ℕ) (left : ℕ) → IsContents p h c left
-    → (left ≡ 0 → ⊥) → KeepsRules p (OpenPrimitive h c)
+    → (left ≡ 0 → ⊥) → ObeysGrammar p (OpenPrimitive h c)
 contents-open_primitive p h c left i n = (
   record {
     header = i.header;
@@ -153,9 +153,9 @@ contents-less p h c left i n =
 abbrev pub IsTailAt : Place → Tail → Type 0
 IsTailAt p NoTail = Unit {0}
 IsTailAt p (PrimitiveTail h c) = (left : ℕ) × IsContents p h c left
-IsTailAt p (BitStringTail h) = KeepsRules p (OpenBitString h)
-IsTailAt p (HeaderTail octets) = KeepsRules p (OpenHeader octets)
-IsTailAt p EndOctetsTail = KeepsRules p OpenEndOctets
+IsTailAt p (BitStringTail h) = ObeysGrammar p (OpenBitString h)
+IsTailAt p (HeaderTail octets) = ObeysGrammar p (OpenHeader octets)
+IsTailAt p EndOctetsTail = ObeysGrammar p OpenEndOctets
 
 -- the phase says so
 pub phase-tail : (f : PhaseValue) (t : Tail) (p : Place) → IsPhaseOf f t p → IsTailAt p t
@@ -166,7 +166,7 @@ phase-tail InBitString (BitStringTail h) p i = i
 phase-tail InEndOctets EndOctetsTail p i = i
 phase-tail f t p i = absurd i
 
--- what a state has been read as keeps the rules, with the state's octets
+-- what a state has been read as obeys the grammar, with the state's octets
 reading-spells : (w : Framing) (ls : List Layer) (here : Forest) (t : Tail) → AreLayers w ls
     → AreWhole (place_in w ls) here → IsTailAt (later_place w ls here) t
     → Spells (top_place w) (spelling_of_layers ls ++ (spelling here ++ spelling_of_tail t)) (reading_in ls here t)
@@ -174,7 +174,7 @@ reading-spells w ls here NoTail a i j =
     let r : Spells (top_place w) (spelling_of_layers ls ++ spelling here) (settled_forest ls here) =
     settled-spells w ls here a i in
     record {
-      keeps_rules = r.keeps_rules;
+      obeys_grammar = r.obeys_grammar;
       spelled = r.spelled ∙ ap (λ (t : List ℕ). spelling_of_layers ls ++ t) (sym (append-nil (spelling here)));
     }
 reading-spells w ls here (PrimitiveTail h c) a i j = elim (cases_eq j.0 0) [
@@ -184,18 +184,18 @@ reading-spells w ls here (PrimitiveTail h c) a i j = elim (cases_eq j.0 0) [
       whole-spells w ls here (Primitive h c NoMore) a i (contents-whole _ h c j.0 j.1 z) in
       rw (contents-all _ h c j.0 j.1 z)
       (record {
-        keeps_rules = r.keeps_rules;
+        obeys_grammar = r.obeys_grammar;
         spelled =
             r.spelled
             ∙ ap (λ (t : List ℕ). spelling_of_layers ls ++ (spelling here ++ (octets_of h ++ t))) (append-nil c);
       })
   | inr n ↦
       rw (contents-less _ h c j.0 j.1 n)
-      (rules-spell w ls here (OpenPrimitive h c) a i (contents-open_primitive _ h c j.0 j.1 n) refl)
+      (grammar-spell w ls here (OpenPrimitive h c) a i (contents-open_primitive _ h c j.0 j.1 n) refl)
 ]
-reading-spells w ls here (BitStringTail h) a i j = rules-spell w ls here (OpenBitString h) a i j refl
-reading-spells w ls here (HeaderTail octets) a i j = rules-spell w ls here (OpenHeader octets) a i j refl
-reading-spells w ls here EndOctetsTail a i j = rules-spell w ls here OpenEndOctets a i j refl
+reading-spells w ls here (BitStringTail h) a i j = grammar-spell w ls here (OpenBitString h) a i j refl
+reading-spells w ls here (HeaderTail octets) a i j = grammar-spell w ls here (OpenHeader octets) a i j refl
+reading-spells w ls here EndOctetsTail a i j = grammar-spell w ls here OpenEndOctets a i j refl
 
 -- a primitive's end, yielded after what has been yielded of it
 contents-end : (around earlier ends : List EventValue) (h : HeaderValue) (c : List ℕ)
@@ -231,14 +231,14 @@ reading-events w ls here f t offset a i j e = absurd j
 
 -- ---- of a walker
 
--- what its state has been read as keeps the rules, with the octets taken
+-- what its state has been read as obeys the grammar, with the octets taken
 pub state-spells : (w : WalkerState) (b : List ℕ) (yielded : List EventValue) (s : Zipper) → HasZipper w b yielded s
     → Spells (top_place w.framing) b (reading_of s)
 state-spells w b yielded s h =
     let r : Spells (top_place w.framing) (spelling_of_zipper s) (reading_of s) =
     reading-spells w.framing s.layers s.here s.tail h.layers h.here
     (phase-tail w.phase s.tail (place_of w.framing s) h.phase) in
-    record { keeps_rules = r.keeps_rules; spelled = r.spelled ∙ h.spelled }
+    record { obeys_grammar = r.obeys_grammar; spelled = r.spelled ∙ h.spelled }
 
 -- it is their reading
 pub state-reading : (w : WalkerState) (b : List ℕ) (yielded : List EventValue) (s : Zipper) → HasZipper w b yielded s
@@ -284,7 +284,7 @@ state-new framing = record {
   offset = refl;
   stack = refl;
   layers = tt;
-  here = record { keeps_rules = tt; whole = refl };
+  here = record { obeys_grammar = tt; whole = refl };
   phase = tt;
   same_events = refl;
   element = refl;

@@ -1,7 +1,8 @@
 -- What the walker's own functions require and return.
 use Rattle.std.specs.Prelude.{◌≡◌, ◌≢◌, ◌⊎◌, ℕ, ◌+◌, ◌<◌, ◌≤◌, true, false, eqb, if◌then◌else◌}
 use Rattle.std.specs.Prelude.{List, [], ◌∷◌, length, take, Option, Some, None}
-use Rattle.tlv_head.specs.declared.fault.Fault.{Fault as FaultOf}
+use Rattle.tlv_head.specs.DepthLimit.{depth_limit}
+use Rattle.tlv_head.specs.declared.fault.Fault.{Fault}
 use Rattle.tlv_head.specs.Header.{HeaderValue, IsHeader, announced_length, holds, octets_of}
 use Rattle.tlv_head.specs.HeadReaderState.{HeadReaderState}
 use Rattle.tlv_head.specs.Header.{fields_hold, fields_wrap}
@@ -17,7 +18,7 @@ use Rattle.tlv_walk.specs.declared.event.Step.TheVariants as step
 use Rattle.tlv_walk.specs.declared.walker.headers.HeaderKind.{HeaderKind}
 use Rattle.tlv_walk.specs.declared.walker.headers.HeaderKind.TheVariants as kind
 use Rattle.tlv_head.specs.declared.header.HeaderFields.{HeaderFields}
-use Rattle.tlv_walk.specs.declared.walker.quick.WholePrimitive.{WholePrimitive}
+use Rattle.tlv_walk.specs.declared.walker.short_way.WholePrimitive.{WholePrimitive}
 use Rattle.tlv_walk.specs.Inside.{is_among}
 use Rattle.tlv_walk.specs.Phase.{Between, InBitString, InEndOctets, InHeader, InPrimitive, PhaseValue, Refused}
 use Rattle.tlv_walk.specs.Stack.{FrameValue, bound_of}
@@ -82,7 +83,7 @@ pub record TakesAll (old new : WalkerState) (piece rest : List ℕ) : Type 0 whe
   pub ready : IsReady new
 
 -- an octet was refused, and what is open stays open
-pub record Refuses (old new : WalkerState) (piece rest : List ℕ) (fault : FaultOf) : Type 0 where
+pub record Refuses (old new : WalkerState) (piece rest : List ℕ) (fault : Fault) : Type 0 where
   pub counts : CountsOctets old new piece rest
   pub events : new.events ≡ old.events
   pub phase : new.phase ≡ Refused fault
@@ -108,7 +109,7 @@ pub record CanTakeHeader (w : WalkerState) (h : HeaderValue) : Type 0 where
   pub valid : IsHeader h
   pub counted : least_octets w.events w.stack ≤ h.offset
   pub limit : h.offset + length (octets_of h) ≤ input_limit
-  pub shallow : holds h ≡ true → length w.stack < 128
+  pub shallow : holds h ≡ true → length w.stack < depth_limit
   pub fits : IsWithin (bound_of w.stack) (h.offset + length (octets_of h) + announced_length h.size)
 
 -- a walker after a whole header

@@ -6,9 +6,9 @@ use Rattle.tlv_walk.specs.declared.event.Event.{Event}
 use Rattle.tlv_walk.specs.declared.event.Step.{Step}
 use Rattle.tlv_walk.specs.declared.event.Step.TheVariants as step
 use Rattle.tlv_walk.specs.Ending.{IsEnding}
-use Rattle.tlv_walk.specs.Events.{EventValue, event_value_of}
+use Rattle.tlv_walk.specs.Events.{EventValue, IsNoEmptyPart, event_value_of}
 use Rattle.tlv_walk.specs.WalkerState.{WalkerState}
-use Rattle.tlv_walk.specs.Private.WalkerCalls.{CountsAtOnce, CountsStep}
+use Rattle.tlv_walk.specs.Private.WalkerCalls.{CountsAt, CountsAtOnce, CountsStep}
 use Rattle.tlv_walk.specs.Private.WrapperCount.{wrapper_count_after}
 use Rattle.tlv_walk.specs.Private.Zipper.{HasZipper, Zipper}
 use Rattle.tlv_walk.specs.Wrappers.{entered_offsets}
@@ -32,6 +32,12 @@ pub record YieldsEvents (old new : WalkerState) (piece rest : List ℕ) (es : Li
 -- a prefix of a piece was taken, and this event was yielded
 abbrev pub YieldsEvent : WalkerState → WalkerState → List ℕ → List ℕ → EventValue → Type 0
 YieldsEvent old new piece rest e = YieldsEvents old new piece rest (e ∷ [])
+
+-- the innermost element ended, without an octet: this event was yielded
+pub record EndsElement (old new : WalkerState) (e : Event) : Type 0 where
+  pub counts : CountsAt old new old.offset
+  pub has_octets : IsNoEmptyPart e
+  pub yields : Continues old new [] (event_value_of e ∷ [])
 
 -- after the octets b, of which these events were yielded, an octet is refused, whatever follows it: a walker has a
 -- zipper of these octets and events, and no event waits

@@ -12,7 +12,7 @@ use Rattle.tlv_walk.specs.Inside.{can_name, is_among}
 use Rattle.tlv_walk.specs.WalkerState.{WalkerState}
 use Rattle.tlv_walk.specs.Private.WrapperCount.{wrapper_count_after}
 use Rattle.tlv_walk.specs.Private.Stack.{frame_with}
-use Rattle.tlv_walk.specs.Place.{Fits, IsAnnouncedAt, IsHeaderAt, KeepsRules, Place, place_after, place_of_children}
+use Rattle.tlv_walk.specs.Place.{Fits, IsAnnouncedAt, IsHeaderAt, ObeysGrammar, Place, place_after, place_of_children}
 use Rattle.tlv_walk.specs.Place.{top_place}
 use Rattle.tlv_walk.specs.Wrappers.{entered_offsets}
 
@@ -55,7 +55,7 @@ place_of framing s = place_past (place_in framing s.layers) s.here
 
 -- whole elements are there, and nothing is open
 pub record AreWhole (p : Place) (f : Forest) : Type 0 where
-  pub keeps_rules : KeepsRules p f
+  pub obeys_grammar : ObeysGrammar p f
   pub whole : is_whole f ≡ true
 
 -- each layer's elements are whole, and its header may be after them
@@ -94,10 +94,10 @@ abbrev pub IsPhaseOf : PhaseValue → Tail → Place → Type 0
 IsPhaseOf Between NoTail p = Unit {0}
 IsPhaseOf (InHeader r) (HeaderTail octets) p =
     (r.octets ≡ octets) × (r.offset ≡ p.offset) × (r.named ≡ is_among p.offset p.inside)
-    × KeepsRules p (OpenHeader octets)
+    × ObeysGrammar p (OpenHeader octets)
 IsPhaseOf (InPrimitive left) (PrimitiveTail h c) p = IsContents p h c left
-IsPhaseOf InBitString (BitStringTail h) p = KeepsRules p (OpenBitString h)
-IsPhaseOf InEndOctets EndOctetsTail p = KeepsRules p OpenEndOctets
+IsPhaseOf InBitString (BitStringTail h) p = ObeysGrammar p (OpenBitString h)
+IsPhaseOf InEndOctets EndOctetsTail p = ObeysGrammar p OpenEndOctets
 IsPhaseOf f t p = ⊥
 
 -- the octets before the elements in the innermost open element

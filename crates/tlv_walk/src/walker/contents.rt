@@ -1,10 +1,9 @@
 //! How a walker takes the contents of primitives, and padding.
 ghost use Rattle.std.specs.Prelude.{◌≡◌, ◌≢◌, ◌<◌, ◌≤◌, ◌∷◌, [], All, Some, length, slice_get, take, true};
+ghost use Rattle.tlv_walk.specs.declared.event.Step.TheVariants as step;
 ghost use Rattle.tlv_walk.specs.Phase.{Between, InBitString, InPrimitive};
-ghost use Rattle.tlv_walk.specs.Events.{IsNoEmptyPart, event_value_of};
 ghost use Rattle.tlv_walk.specs.WalkerState.{IsWithinInputLimit};
-ghost use Rattle.tlv_walk.specs.Private.WalkerCalls.{CountsAt, CountsOne};
-ghost use Rattle.tlv_walk.specs.Private.Yields.{Continues, Steps, YieldsEvent};
+ghost use Rattle.tlv_walk.specs.Private.Yields.{EndsElement, Steps};
 
 use super::{Phase, Walker};
 use crate::{Event, Step};
@@ -17,10 +16,7 @@ impl Walker {
         requires phase { self.old.phase ≡ InPrimitive left }
         requires some { (0 < left) × (piece.old.now ≢ []) }
         requires limit { IsWithinInputLimit self.old piece.old.now }
-        ensures counts { CountsOne self.old self.new piece.old.now piece.new.now }
-        ensures yields { YieldsEvent self.old self.new piece.old.now piece.new.now
-            (event_value_of result) }
-        ensures has_octets { IsNoEmptyPart result }
+        ensures { Steps self.old self.new piece.old.now piece.new.now (step.Event result) }
     {
         let octets: &'a [u8] = *piece;
         let count = left.min(octets.len() as u64);
@@ -36,9 +32,7 @@ impl Walker {
     #[inline(always)]
     pub(super) fn end_primitive<'a>(&mut self) -> Event<'a>
         requires { self.old.phase ≡ InPrimitive 0 }
-        ensures counts { CountsAt self.old self.new self.old.offset }
-        ensures yields { Continues self.old self.new [] (event_value_of result ∷ []) }
-        ensures has_octets { IsNoEmptyPart result }
+        ensures { EndsElement self.old self.new result }
     {
         self.events += 1;
         self.phase = Phase::Between;
@@ -52,10 +46,7 @@ impl Walker {
         requires limit { IsWithinInputLimit self.old piece.old.now }
         requires top { self.old.stack ≡ [] }
         requires padding { self.old.framing.padding ≡ true }
-        ensures counts { CountsOne self.old self.new piece.old.now piece.new.now }
-        ensures yields { YieldsEvent self.old self.new piece.old.now piece.new.now
-            (event_value_of result) }
-        ensures has_octets { IsNoEmptyPart result }
+        ensures { Steps self.old self.new piece.old.now piece.new.now (step.Event result) }
     {
         let octets: &'a [u8] = *piece;
         let count = zeros(octets);

@@ -1,11 +1,10 @@
 //! How a walker takes what is between elements, and the ends of those that hold others.
-ghost use Rattle.std.specs.Prelude.{◌≡◌, ◌∷◌, []};
+ghost use Rattle.std.specs.Prelude.{◌≡◌};
 ghost use Rattle.tlv_walk.specs.Phase.{Between, InEndOctets};
-ghost use Rattle.tlv_walk.specs.Events.{IsNoEmptyPart, event_value_of};
 ghost use Rattle.tlv_walk.specs.Private.Stack.{IsFilled};
 ghost use Rattle.tlv_walk.specs.WalkerState.{IsWithinInputLimit};
-ghost use Rattle.tlv_walk.specs.Private.WalkerCalls.{CountsAt, close_event_if_taken};
-ghost use Rattle.tlv_walk.specs.Private.Yields.{Continues, Steps, StepsAtOnce};
+ghost use Rattle.tlv_walk.specs.Private.WalkerCalls.{close_event_if_taken};
+ghost use Rattle.tlv_walk.specs.Private.Yields.{EndsElement, Steps, StepsAtOnce};
 
 use super::{Phase, Walker};
 use crate::{Event, Step};
@@ -47,9 +46,7 @@ impl Walker {
     pub(super) fn end_filled<'a>(&mut self) -> Event<'a>
         requires phase { self.old.phase ≡ Between }
         requires filled { IsFilled self.old.stack self.old.offset }
-        ensures counts { CountsAt self.old self.new self.old.offset }
-        ensures yields { Continues self.old self.new [] (event_value_of result ∷ []) }
-        ensures has_octets { IsNoEmptyPart result }
+        ensures { EndsElement self.old self.new result }
     {
         self.events += 1;
         let Some(wrapper) = self.stack.pop() else {

@@ -1,5 +1,6 @@
 //! How a walker takes headers.
 ghost use Rattle.std.specs.Prelude.{◌≡◌, ◌≢◌, ◌+◌, ◌^◌, ◌<◌, ◌≤◌, [], IsTrue, Some, length, true};
+ghost use Rattle.tlv_head.specs.DepthLimit.{depth_limit};
 ghost use Rattle.tlv_head.specs.HeaderFields.{IsHeaderSized, new_header};
 ghost use Rattle.tlv_head.specs.Header.{announced_length, holds, octets_of};
 ghost use Rattle.tlv_head.specs.ReadHeader.{BeginsWithFields};
@@ -204,7 +205,7 @@ impl Walker {
         requires limit { fields.now.offset + length octets.now ≤ input_limit }
         requires length { announced_length fields.now.size < 2 ^ 40 }
         ensures shallow { IsTrue result → holds (new_header fields.now octets.now) ≡ true
-            → length self.now.stack < 128 }
+            → length self.now.stack < depth_limit }
         ensures fits { IsTrue result → IsWithin (bound_of self.now.stack)
             (fields.now.offset + length octets.now + announced_length fields.now.size) }
     {

@@ -64,26 +64,26 @@ returns-in_default-clause-puts g c = search rules
 
 -- in other words
 
-pub returns-then-not-is_long-clause-whole : goal.returns-then-not-is_long-clause-whole
-returns-then-not-is_long-clause-whole g c h layout prefix e =
+pub returns-then-not-is_long-clause-lines : goal.returns-then-not-is_long-clause-lines
+returns-then-not-is_long-clause-lines g c h layout prefix e =
     bytes-puts g.D.Drain.state _ _ _ h layout c.args.self.now prefix c.args.octets.now e
     (returns-then-not-is_long-clause-puts g c)
 
-pub returns-then-self-clause-whole : goal.returns-then-self-clause-whole
-returns-then-self-clause-whole g c h layout prefix e =
+pub returns-then-self-clause-lines : goal.returns-then-self-clause-lines
+returns-then-self-clause-lines g c h layout prefix e =
     bytes-puts g.D.Drain.state _ _ _ h layout c.args.self.now prefix c.args.octets.now e
     (returns-then-self-clause-puts g c)
 
-pub returns-in_default-clause-whole : goal.returns-in_default-clause-whole
-returns-in_default-clause-whole g c h layout prefix e =
+pub returns-in_default-clause-lines : goal.returns-in_default-clause-lines
+returns-in_default-clause-lines g c h layout prefix e =
     bytes-puts g.D.Drain.state _ _ _ h layout c.args.self.now prefix c.args.octets.now e
     (returns-in_default-clause-puts g c)
 
-pub returns-in_err-put_bits_line-clause-whole : goal.returns-in_err-put_bits_line-clause-whole
-returns-in_err-put_bits_line-clause-whole g c h layout prefix e =
+pub returns-in_err-put_bits_line-clause-lines : goal.returns-in_err-put_bits_line-clause-lines
+returns-in_err-put_bits_line-clause-lines g c h layout prefix e =
     bytes-puts g.D.Drain.state _ _ _ h layout c.args.self.now prefix c.args.octets.now e
     (returns-in_err-put_bits_line-clause-puts g c)
 
-pub returns-clause-whole : goal.returns-clause-whole
-returns-clause-whole g c h layout prefix e =
+pub returns-clause-lines : goal.returns-clause-lines
+returns-clause-lines g c h layout prefix e =
     bytes-puts g.D.Drain.state _ _ _ h layout c.args.self.now prefix c.args.octets.now e (returns-clause-puts g c)

@@ -1,7 +1,7 @@
 //! The lines of a primitive of which all contents are at hand. Those of a value that is on its line, or in rows of
 //! pairs of digits without a limit, are made at once: no contents are copied, and its type is asked for once.
 ghost use Rattle.std.specs.Prelude.{◌≡◌, ◌++◌, None, length, true};
-ghost use Rattle.tlv_head.specs.Header.{announced_length};
+ghost use Rattle.tlv_head.specs.Header.{HasAllContents, announced_length};
 ghost use Rattle.tlv_io.specs.Out.{Puts};
 ghost use Rattle.tlv_value.specs.RowSizes.{row_size};
 ghost use Rattle.tlv_value.specs.Private.PrimitiveLines.{lines_in_steps};
@@ -31,7 +31,7 @@ pub fn put_whole<N: NameTable, D: Drain>(
     names: &N,
     out: &mut Out<'_, D>,
 ) -> Result<(), WriteFault>
-    requires { announced_length header.now.size ≡ length contents.now }
+    requires { HasAllContents header.now contents.now }
     ensures { Puts D.state out.old out.new
         (whole_lines (N.name_of names.now) header.now layout contents.now) result }
 {
@@ -54,7 +54,7 @@ fn put_long_lines<N: NameTable, D: Drain>(
     out: &mut Out<'_, D>,
 ) -> Result<(), WriteFault>
     requires long { is_long_primitive primitive.now ≡ true }
-    requires whole { length contents.now ≡ primitive.now.size }
+    requires size { length contents.now ≡ primitive.now.size }
     ensures { Puts D.state out.old out.new
         (lines_in_steps (N.name_of names.now) (new_value_text_of primitive.now) contents.now)
         result }

@@ -1,6 +1,6 @@
 use Rattle.std.proofs.Common.{sym, ◌∙◌}
 use Rattle.tlv_value.proofs.CheckLemmas.Clear.{fours-clear, twos-clear, utf8-clear}
-use Rattle.tlv_value.proofs.clear.is_type_clear.Goals as goal
+use Rattle.tlv_value.proofs.short_look.is_type_clear.Goals as goal
 
 pub returns-in-12-clause-contents : goal.returns-in-12-clause-contents
 returns-in-12-clause-contents c =

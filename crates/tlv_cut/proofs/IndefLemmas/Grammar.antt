@@ -1,4 +1,4 @@
--- The same elements with indefinite lengths keep the rules.
+-- The same elements with indefinite lengths obey the grammar.
 use Rattle.std.specs.Option.{option_map_or}
 use Rattle.std.proofs.Common.{refl, sym, ap, ◌∙◌, subst}
 use Rattle.std.specs.Prelude.{◌≡◌, ℕ, ◌+◌, ◌<◌, ◌≤◌, Bool, true, false, ◌||◌, eqb, if◌then◌else◌, List, []}
@@ -9,7 +9,7 @@ use Rattle.tlv_head.specs.Header.{AllowsSize, HeaderValue, announced_length, def
 use Rattle.tlv_walk.specs.Forest.{Forest, NoMore, PaddingOctet, Primitive, Holder, OpenPrimitive, OpenHolder}
 use Rattle.tlv_walk.specs.Forest.{OpenBitString, OpenHeader, OpenEndOctets}
 use Rattle.tlv_walk.specs.Forest.{extent, has_element, is_whole, lead, opening, spelling, lead_by}
-use Rattle.tlv_walk.specs.Place.{Fits, IsHeaderAt, KeepsRules, Place, place_after, place_of_children}
+use Rattle.tlv_walk.specs.Place.{Fits, IsHeaderAt, ObeysGrammar, Place, place_after, place_of_children}
 use Rattle.tlv_cut.specs.IndefText.{with_indefinite_lengths, indefinite_header}
 use Rattle.tlv_cut.specs.IndefReading.{with_offsets_from}
 use Rattle.tlv_cut.proofs.IndefLemmas.Offsets.{constructed_at, is_named, spelling-with_offsets_from}
@@ -138,39 +138,39 @@ constructed_header p q h k v =
     }
 
 -- the offsets of what an element holds do not move what follows the element
-offsets-rest_keeps_rules : (q : Place) (h : HeaderValue) (offset : ℕ) (inside rest : Forest)
-    → KeepsRules (place_after q (extent (heading_at q h) inside)) rest
-    → KeepsRules (place_after q (extent (heading_at q h) (with_offsets_from offset inside))) rest
-offsets-rest_keeps_rules q h offset inside rest v =
-    subst (λ (l : List ℕ). KeepsRules (place_after q (length (opening (heading_at q h)) + (length l + 2))) rest)
+offsets-rest_obeys_grammar : (q : Place) (h : HeaderValue) (offset : ℕ) (inside rest : Forest)
+    → ObeysGrammar (place_after q (extent (heading_at q h) inside)) rest
+    → ObeysGrammar (place_after q (extent (heading_at q h) (with_offsets_from offset inside))) rest
+offsets-rest_obeys_grammar q h offset inside rest v =
+    subst (λ (l : List ℕ). ObeysGrammar (place_after q (length (opening (heading_at q h)) + (length l + 2))) rest)
     (sym (spelling-with_offsets_from offset inside)) v
 
--- what `with_indefinite_lengths` makes of a constructed element keeps the rules that it keeps with an indefinite length
+-- what `with_indefinite_lengths` makes of a constructed element obeys the grammar, if it does with an indefinite length
 made_holder : (q : Place) (h : HeaderValue) (inside rest : Forest) → h.constructed ≡ true
-    → KeepsRules q (with_offsets_from q.offset
+    → ObeysGrammar q (with_offsets_from q.offset
     (Holder (indefinite_header h) (with_indefinite_lengths inside) (with_indefinite_lengths rest)))
-    → KeepsRules q (with_offsets_from q.offset (with_indefinite_lengths (Holder h inside rest)))
+    → ObeysGrammar q (with_offsets_from q.offset (with_indefinite_lengths (Holder h inside rest)))
 made_holder q h inside rest e v =
     let one = Holder (indefinite_header h) (with_indefinite_lengths inside) (with_indefinite_lengths rest) in
     let other = Primitive h (lead h ++ spelling (with_indefinite_lengths inside)) (with_indefinite_lengths rest) in
-    subst (λ (k : Bool). KeepsRules q (with_offsets_from q.offset (if k then one else other))) (sym e) v
+    subst (λ (k : Bool). ObeysGrammar q (with_offsets_from q.offset (if k then one else other))) (sym e) v
 
 made_open_holder : (q : Place) (h : HeaderValue) (inside : Forest) → h.constructed ≡ true
-    → KeepsRules q (with_offsets_from q.offset (OpenHolder (indefinite_header h) (with_indefinite_lengths inside)))
-    → KeepsRules q (with_offsets_from q.offset (with_indefinite_lengths (OpenHolder h inside)))
+    → ObeysGrammar q (with_offsets_from q.offset (OpenHolder (indefinite_header h) (with_indefinite_lengths inside)))
+    → ObeysGrammar q (with_offsets_from q.offset (with_indefinite_lengths (OpenHolder h inside)))
 made_open_holder q h inside e v =
     let one = OpenHolder (indefinite_header h) (with_indefinite_lengths inside) in
     let other = OpenPrimitive h (lead h ++ spelling (with_indefinite_lengths inside)) in
-    subst (λ (k : Bool). KeepsRules q (with_offsets_from q.offset (if k then one else other))) (sym e) v
+    subst (λ (k : Bool). ObeysGrammar q (with_offsets_from q.offset (if k then one else other))) (sym e) v
 
-pub keeps_rules : (p q : Place) (f : Forest) → IsFree p q → KeepsRules p f
-    → KeepsRules q (with_offsets_from q.offset (with_indefinite_lengths f))
-keeps_rules p q NoMore k v = tt
-keeps_rules p q (PaddingOctet rest) k v = (
+pub obeys_grammar : (p q : Place) (f : Forest) → IsFree p q → ObeysGrammar p f
+    → ObeysGrammar q (with_offsets_from q.offset (with_indefinite_lengths f))
+obeys_grammar p q NoMore k v = tt
+obeys_grammar p q (PaddingOctet rest) k v = (
   (k.padding v.0.0, k.definite v.0.0, free_fits p q k 1),
-  keeps_rules (place_after p 1) (place_after q 1) rest (free_after p q 1 1 k) v.1,
+  obeys_grammar (place_after p 1) (place_after q 1) rest (free_after p q 1 1 k) v.1,
 )
-keeps_rules p q (Primitive h c rest) k v =
+obeys_grammar p q (Primitive h c rest) k v =
     let n = length (octets_of h) + length c in (
       (
         record {
@@ -181,9 +181,9 @@ keeps_rules p q (Primitive h c rest) k v =
         },
         v.0.1,
       ),
-      keeps_rules (place_after p n) (place_after q n) rest (free_after p q n n k) v.1,
+      obeys_grammar (place_after p n) (place_after q n) rest (free_after p q n n k) v.1,
     )
-keeps_rules p q (Holder h inside rest) k v =
+obeys_grammar p q (Holder h inside rest) k v =
     let header = heading_at q h in
     let offset = q.offset + length (opening header) in
     let n = extent header (with_indefinite_lengths inside) in
@@ -197,13 +197,13 @@ keeps_rules p q (Holder h inside rest) k v =
         offsets-whole offset inside v.0.1,
         tt,
       ),
-      keeps_rules (place_of_children p h) (place_of_children q header) inside (free_inside p q h header refl k) v.1,
-      offsets-rest_keeps_rules q h offset (with_indefinite_lengths inside)
+      obeys_grammar (place_of_children p h) (place_of_children q header) inside (free_inside p q h header refl k) v.1,
+      offsets-rest_obeys_grammar q h offset (with_indefinite_lengths inside)
           (with_offsets_from (q.offset + n) (with_indefinite_lengths rest))
-          (keeps_rules (place_after p (extent h inside)) (place_after q n) rest (free_after p q
+          (obeys_grammar (place_after p (extent h inside)) (place_after q n) rest (free_after p q
           (extent h inside) n k) v.2),
     )
-keeps_rules p q (OpenPrimitive h c) k v = (
+obeys_grammar p q (OpenPrimitive h c) k v = (
   record {
     header = primitive_at p q h k v.0.header;
     shallow = λ e. absurd (cc (e));
@@ -212,7 +212,7 @@ keeps_rules p q (OpenPrimitive h c) k v = (
   },
   v.1,
 )
-keeps_rules p q (OpenHolder h inside) k v =
+obeys_grammar p q (OpenHolder h inside) k v =
     let header = heading_at q h in
     made_open_holder q h inside (constructed_at p h k.names v.0.0.header) (
       (
@@ -223,11 +223,11 @@ keeps_rules p q (OpenHolder h inside) k v =
         },
         λ w. tt,
       ),
-      keeps_rules (place_of_children p h) (place_of_children q header) inside (free_inside p q h header refl k) v.1,
+      obeys_grammar (place_of_children p h) (place_of_children q header) inside (free_inside p q h header refl k) v.1,
     )
-keeps_rules p q (OpenBitString h) k v = absurd (awaits h (constructed_at p h k.names v.0.header) v.1)
+obeys_grammar p q (OpenBitString h) k v = absurd (awaits h (constructed_at p h k.names v.0.header) v.1)
   where
     awaits : (h : HeaderValue) → h.constructed ≡ true → lead h ≡ 0 ∷ [] → ⊥
     awaits h e l = cc (ap (λ (k : Bool). lead_by k (eqb h.number 3)) e, l)
-keeps_rules p q (OpenHeader octets) k v = tt
-keeps_rules p q OpenEndOctets k v = tt
+obeys_grammar p q (OpenHeader octets) k v = tt
+obeys_grammar p q OpenEndOctets k v = tt

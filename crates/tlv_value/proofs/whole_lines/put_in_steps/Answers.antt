@@ -2,7 +2,7 @@ use Rattle.std.proofs.Common.{◌++◌, List, ℕ, ap, append_assoc, arith, rule
 use Rattle.tlv_io.proofs.Puts.{puts_failed_in, puts_text, puts_then_as}
 use Rattle.tlv_value.specs.ValueTextState.{ValueTextState, begin_lines, contents_lines, end_lines, value_text_after}
 use Rattle.tlv_value.specs.Private.PrimitiveLines.{lines_in_steps}
-use Rattle.tlv_value.proofs.whole.put_in_steps.Goals as goal
+use Rattle.tlv_value.proofs.whole_lines.put_in_steps.Goals as goal
 
 pub bytes-requires : goal.bytes-requires
 bytes-requires g c = omega (arith, ap (λ (t : ValueTextState). t.left) c.of-text.ensures, c.requires)

@@ -4,7 +4,7 @@ use Rattle.tlv_value.specs.ValueTextState.{long_value_line}
 use Rattle.tlv_value.specs.Rows.{rows_of}
 use Rattle.tlv_value.specs.ValueLines.{row_lines}
 use Rattle.tlv_value.proofs.RowLemmas.FullRows.{pair_lines}
-use Rattle.tlv_value.proofs.whole.put_pairs.Goals as goal
+use Rattle.tlv_value.proofs.whole_lines.put_pairs.Goals as goal
 
 pub returns-in_err-put_long_line : goal.returns-in_err-put_long_line
 returns-in_err-put_long_line g c = puts_failed g.D.Drain.state _ _ _ _ _ _ c.in_err-put_long_line.ensures (search rules)
