@@ -5,7 +5,8 @@ use Rattle.tlv_head.specs.declared.header.Size.TheVariants.{Definite}
 use Rattle.tlv_walk.specs.declared.framing.Framing.{Framing}
 use Rattle.tlv_walk.specs.Forest.{Forest, Holder, NoMore, PaddingOctet, Primitive, extent}
 use Rattle.tlv_walk.specs.Forest.{has_element, primitive_extent, spelling}
-use Rattle.tlv_walk.specs.Place.{HasItsLength, IsHeaderAt, ObeysGrammar, Place, place_after, place_of_children, top_place}
+use Rattle.tlv_walk.specs.Place.{HasItsLength, IsHeaderAt, ObeysGrammar, Place, place_after, place_of_children}
+use Rattle.tlv_walk.specs.Place.{top_place}
 
 -- octets, each below 256
 abbrev pub AreOctets : List ℕ → Type 0

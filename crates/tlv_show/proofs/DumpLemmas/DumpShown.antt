@@ -54,7 +54,8 @@ use Rattle.tlv_show.proofs.DumpLemmas.DumpItems.{shown-after, site, item_texts-a
 module _ (style : Layout) (names : NamesValue) (rules : Rules) where
   pub shows_forest : (p : Place) (holder : Option HeaderValue) (previous : Previous) (w : HolderFrame)
       (outer : List HolderFrame) (f : Forest)
-      → ObeysGrammar p f → p.offset + length (spelling f) ≤ 2 ^ 64 - 1 → Known style names rules p holder previous w outer
+      → ObeysGrammar p f → p.offset + length (spelling f) ≤ 2 ^ 64 - 1
+      → Known style names rules p holder previous w outer
       → IsShown style names rules p holder previous w outer f
   shows_forest p holder previous w outer NoMore v b k = record {
     text = λ n. refl;

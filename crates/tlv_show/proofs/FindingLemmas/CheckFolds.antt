@@ -247,7 +247,8 @@ module _ (rules : Rules) where
       (r : IsReading framing octets f) where
     put-is : (run_finder start (events f)).put ≡ only (items rules top_site f)
     put-is =
-        (finds_forest rules (top_place framing) top_site top_frame [] f r.obeys_grammar refl refl refl (λ e. refl)).put 0
+        (finds_forest rules (top_place framing) top_site top_frame [] f r.obeys_grammar refl refl refl
+        (λ e. refl)).put 0
 
     pub text-made : (effect_of check_step start (events f)).put ≡ (check_job rules framing).text f
     text-made =

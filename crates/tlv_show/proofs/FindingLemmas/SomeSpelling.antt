@@ -219,8 +219,8 @@ as-many f g (holders h k inside within a b tag held rest) =
       length-append (wrapper_offsets within) (wrapper_offsets b),
     )
 
-can-name : (framing other : Framing) (f g : Forest) → ObeysGrammar (top_place framing) f → ObeysGrammar (top_place other) g
-    → AreAlike f g
+can-name : (framing other : Framing) (f g : Forest) → ObeysGrammar (top_place framing) f
+    → ObeysGrammar (top_place other) g → AreAlike f g
     → length (spelling g) ≤ 2 ^ 40 → can_name framing.inside ≡ true → can_name (wrapper_offsets g) ≡ true
 can-name framing other f g u v alike few named = let can = can-to framing.inside named in can-from (wrapper_offsets g) (
   omega (

@@ -69,5 +69,6 @@ pub events-prefix : (w : Framing) (b c : List ℕ) (f g : Forest) → IsReading 
     → (es : List EventValue) × AreEqualJoined (events g) (events f ++ es)
 events-prefix w b c f g r s =
     let t : (t : List ℕ) × (spelling g ≡ spelling f ++ t) = reading-goes_on w b c f g r s in
-    let on : GoesFurther (events f) (events g) = events-go_on (top_place w) f g t.0 r.obeys_grammar s.obeys_grammar t.1 in
+    let on : GoesFurther (events f) (events g) =
+    events-go_on (top_place w) f g t.0 r.obeys_grammar s.obeys_grammar t.1 in
     (on.others, joined-from_apart (events g) (events f ++ on.others) on.more)

@@ -126,8 +126,8 @@ enters-joined : (xs ys : List EventValue) → AreEqualJoined xs ys → entered_o
 enters-joined xs ys e = sym (enters-apart xs) ∙ ap entered_offsets (apart-from_joined xs ys e) ∙ enters-apart ys
 
 -- the wrappers of a forest whose events were yielded
-yielded_wrappers : (framing : Framing) (yielded waits : List EventValue) (f : Forest) → ObeysGrammar (top_place framing) f
-    → entered_offsets waits ≡ [] → AreEqualJoined (yielded ++ waits) (events f)
+yielded_wrappers : (framing : Framing) (yielded waits : List EventValue) (f : Forest)
+    → ObeysGrammar (top_place framing) f → entered_offsets waits ≡ [] → AreEqualJoined (yielded ++ waits) (events f)
     → entered_offsets yielded ≡ wrapper_offsets f
 yielded_wrappers framing yielded waits f v none e =
     sym (enters-append yielded waits ∙ ap (λ (l : List ℕ). entered_offsets yielded ++ l) none

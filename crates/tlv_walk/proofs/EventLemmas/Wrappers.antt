@@ -86,7 +86,8 @@ waiting-wraps h e = elim (cases_Bool h.constructed) [
 ]
 
 -- the wrappers of a forest that obeys the grammar are those that its events enter
-pub wrapper_offsets-entered : (p : Place) (f : Forest) → ObeysGrammar p f → wrapper_offsets f ≡ entered_offsets (events f)
+pub wrapper_offsets-entered : (p : Place) (f : Forest) → ObeysGrammar p f
+    → wrapper_offsets f ≡ entered_offsets (events f)
 wrapper_offsets-entered p NoMore w = refl
 wrapper_offsets-entered p (PaddingOctet rest) w = wrapper_offsets-entered (place_after p 1) rest w.1
 wrapper_offsets-entered p (Primitive h c rest) w =

@@ -48,8 +48,8 @@ prefix-within p (suc n) f s t l w e = elim (list-back t) [
   | is_push ys y z ↦
       let e' : spelling f ≡ (s ++ ys) ++ y ∷ [] = rw (append_assoc s ys (y ∷ [])) (rw z at e) in
       let q : PoppedBy p f (s ++ ys) y = popped-by p f (s ++ ys) y w e' in
-      prefix-within p n q.popped.from s ys (omega (arith, ap length z, length-append ys (y ∷ []))) q.popped.obeys_grammar
-      q.spelled
+      prefix-within p n q.popped.from s ys (omega (arith, ap length z, length-append ys (y ∷ [])))
+      q.popped.obeys_grammar q.spelled
 ]
 
 -- each prefix of the spelling of a forest that obeys the grammar is the spelling of one that obeys it

@@ -32,7 +32,8 @@ pub record IsEnded (w : Framing) (l : Layer) (ls : List Layer) (f : Forest) : Ty
   pub same_end : end_in w ls (followed_by l.before (Holder l.header f NoMore)) ≡ end_in w (l ∷ ls) f
 
 -- what is filled has all its contents octets
-pub filled-full : (h : HeaderValue) (f : Forest) → is_filled_by h f ≡ true → IsDefiniteLength h.size (contents_length h f)
+pub filled-full : (h : HeaderValue) (f : Forest) → is_filled_by h f ≡ true
+    → IsDefiniteLength h.size (contents_length h f)
 filled-full h f e =
     let parts : (is_whole f ≡ true) × (has_length h.size (contents_length h f) ≡ true) = and_parts _ _ e in
     length-full h.size _ parts.1

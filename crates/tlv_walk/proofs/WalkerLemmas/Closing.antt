@@ -15,7 +15,8 @@ use Rattle.tlv_walk.specs.Wrappers.{entered_offsets}
 use Rattle.std.proofs.lemmas.Bool.{cases_Bool}
 use Rattle.tlv_walk.specs.WalkerState.{WalkerState}
 use Rattle.tlv_walk.specs.Private.WrapperCount.{wrapper_count_after}
-use Rattle.tlv_walk.specs.Place.{Fits, IsAnnouncedAt, ObeysGrammar, IsWithin, Place, bound_in, is_indefinite, place_after}
+use Rattle.tlv_walk.specs.Place.{Fits, IsAnnouncedAt, ObeysGrammar, IsWithin, Place, bound_in, is_indefinite}
+use Rattle.tlv_walk.specs.Place.{place_after}
 use Rattle.tlv_walk.proofs.GrammarLemmas.Lengths.{HasLength}
 use Rattle.tlv_walk.specs.Stack.{FrameValue, IsInIndefinite, IsInWrapper, bound_of}
 use Rattle.tlv_walk.specs.Private.Stack.{IsFilled, innermost_wraps}

@@ -104,8 +104,8 @@ whole-followed_by (OpenHeader octets) g e = absurd (true≢false (sym e))
 whole-followed_by OpenEndOctets g e = absurd (true≢false (sym e))
 
 -- they obey the grammar if the others do, after them
-pub grammar-followed_by : (p : Place) (f g : Forest) → AreWhole p f → ObeysGrammar (place_after p (length (spelling f))) g
-    → ObeysGrammar p (followed_by f g)
+pub grammar-followed_by : (p : Place) (f g : Forest) → AreWhole p f
+    → ObeysGrammar (place_after p (length (spelling f))) g → ObeysGrammar p (followed_by f g)
 grammar-followed_by p NoMore g a w = subst (λ (q : Place). ObeysGrammar q g) (after-none p) w
 grammar-followed_by p (PaddingOctet rest) g a w = (
   a.obeys_grammar.0,
@@ -124,7 +124,8 @@ grammar-followed_by p (Primitive h c rest) g a w = (
 grammar-followed_by p (Holder h inside rest) g a w = (
   a.obeys_grammar.0,
   a.obeys_grammar.1,
-  grammar-followed_by (place_after p (extent h inside)) rest g (record { obeys_grammar = a.obeys_grammar.2; whole = a.whole })
+  grammar-followed_by (place_after p (extent h inside)) rest g
+      (record { obeys_grammar = a.obeys_grammar.2; whole = a.whole })
       (grammar-after p (extent h inside) (length (spelling rest)) _ g (sym (length-holder h inside rest)) w),
 )
 grammar-followed_by p (OpenPrimitive h c) g a w = absurd (true≢false (sym a.whole))

@@ -19,7 +19,8 @@ use Rattle.tlv_walk.specs.Private.Zipper.{events_of_layers, place_of, spelling_o
 use Rattle.tlv_walk.specs.Private.Yields.{Continues}
 use Rattle.tlv_walk.proofs.EventLemmas.Joined.{apart-before, apart-from_joined, apart-more, joined-from_apart}
 use Rattle.tlv_walk.proofs.GrammarLemmas.Spellings.{append_assoc-3}
-use Rattle.tlv_walk.proofs.WalkerLemmas.Zipper.{followed_by, grammar-followed_by, spelling-followed_by, whole-followed_by}
+use Rattle.tlv_walk.proofs.WalkerLemmas.Zipper.{followed_by, grammar-followed_by, spelling-followed_by}
+use Rattle.tlv_walk.proofs.WalkerLemmas.Zipper.{whole-followed_by}
 use Rattle.tlv_walk.proofs.WalkerLemmas.ZipperEvents.{events-followed_by}
 
 -- events yielded one after another

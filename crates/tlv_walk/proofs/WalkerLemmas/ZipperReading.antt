@@ -27,7 +27,8 @@ use Rattle.tlv_walk.proofs.GrammarLemmas.PushSteps.{Spells}
 use Rattle.tlv_walk.proofs.GrammarLemmas.Readings.{Going, run-reading}
 use Rattle.tlv_walk.proofs.GrammarLemmas.Settled.{end_in, settled-spells}
 use Rattle.tlv_walk.proofs.WalkerLemmas.Places.{walker-offset}
-use Rattle.tlv_walk.proofs.WalkerLemmas.Zipper.{followed_by, grammar-followed_by, grammar-within, reading_in, reading_of}
+use Rattle.tlv_walk.proofs.WalkerLemmas.Zipper.{followed_by, grammar-followed_by, grammar-within, reading_in}
+use Rattle.tlv_walk.proofs.WalkerLemmas.Zipper.{reading_of}
 use Rattle.tlv_walk.proofs.WalkerLemmas.Zipper.{room-if_open, settled_forest, spelling-followed_by, spelling-within}
 use Rattle.tlv_walk.proofs.WalkerLemmas.Zipper.{whole-followed_by, forest_in_layers}
 use Rattle.tlv_walk.proofs.WalkerLemmas.ZipperEvents.{events-followed_by, events-settled, events-within}

@@ -15,9 +15,9 @@ returns c =
           has_yielded = search rules;
         },
         λ e. c.requires.some.1
-          (nil_from_length _
-          (omega
-          (arith, ap length e, c.split_at.ensures.front_len, c.min-count.ensures, c.requires.some.0))),
+            (nil_from_length _
+            (omega
+            (arith, ap length e, c.split_at.ensures.front_len, c.min-count.ensures, c.requires.some.0))),
       );
       yields = record {
         taken = c.split_at.result.0.now;
