@@ -60,8 +60,8 @@ pub fn indef_text_goes_on()
     ensures { IndefTextGoesOn }
 {}
 
-/// What `indef` writes are the octets of the same elements with indefinite lengths, and these keep
-/// the rules.
+/// What `indef` writes are the octets of the same elements with indefinite lengths, and these obey
+/// the grammar.
 pub fn indef_text_obeys_grammar()
     ensures { IndefTextObeysGrammar }
 {}

@@ -1,4 +1,4 @@
 pub mod Scan
 pub mod Meaning
 pub mod Headers
-pub mod Refused
+pub mod RefusedOctets

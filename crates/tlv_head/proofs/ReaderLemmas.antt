@@ -1,7 +1,7 @@
 pub mod Steps
-pub mod Unfinished
+pub mod UnfinishedHeaders
 pub mod Prefix
-pub mod Exact
+pub mod OneResult
 pub mod OneHeader
 pub mod ShortPrefixes
 pub mod FieldsOf

@@ -1,3 +1,3 @@
-pub mod Shortest
+pub mod OneShortest
 pub mod ShortestSpelling
 pub mod LengthOctets

@@ -4,7 +4,7 @@ use Rattle.tlv_head.specs.declared.header.Class.{Class}
 use Rattle.tlv_head.specs.declared.header.Class.TheVariants.{Universal, Context}
 use Rattle.tlv_head.specs.declared.header.Size.TheVariants.{Definite}
 use Rattle.tlv_head.specs.Header.{HeaderValue}
-use Rattle.tlv_head.specs.Shortest.{IsShortest}
+use Rattle.tlv_head.specs.ShortestHeaders.{IsShortest}
 
 -- a primitive
 abbrev header : Class → ℕ → ℕ → List ℕ → List ℕ → HeaderValue

@@ -8,7 +8,7 @@ use Rattle.tlv_head.specs.Push.{Pushes}
 use Rattle.tlv_head.specs.declared.header.HeaderFields.{HeaderFields}
 use Rattle.tlv_head.specs.ReadHeader.{BeginsWithFields}
 use Rattle.tlv_head.specs.Refusal.{CannotBecomeHeader, BeginsWith, BeginsWithNoHeader, IsHeaderPrefix, IsRefusedOctet}
-use Rattle.tlv_head.specs.Shortest.{HaveOneTagAndForm, IsShortest}
+use Rattle.tlv_head.specs.ShortestHeaders.{HaveOneTagAndForm, IsShortest}
 
 -- two headers with which an input begins at one offset are the same, and so is what follows them
 abbrev pub OctetsBeginOneHeader : Type 0

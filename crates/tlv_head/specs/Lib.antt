@@ -12,5 +12,5 @@ pub mod Push
 pub mod HeaderSoFar
 pub mod ReadHeader
 pub mod Laws
-pub mod Shortest
+pub mod ShortestHeaders
 pub mod Private

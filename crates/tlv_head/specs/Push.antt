@@ -30,7 +30,7 @@ pub data IsRefusedPush (r : HeadReaderState) (x : ℕ) (room : Option ℕ) (dept
   -- F06 to F09: no header goes on with that octet
   refused_octet : {code : FaultCode} → room ≢ Some 0 → IsRefusedOctet r.octets x code
       → IsRefusedPush r x room depth code
-  -- F10, 8.1.4: it completes the header of an element that holds others, inside `depth_limit` of them
+  -- F10, a limit of our own: it completes the header of an element that holds others, inside `depth_limit` of them
   too_deep : room ≢ Some 0 → (h : HeaderValue) → Completes r (x ∷ []) h → holds h ≡ true → depth_limit ≤ depth
       → IsRefusedPush r x room depth TooDeep
   -- F11, 8.1.3.3: it completes the header of contents that end beyond the bound

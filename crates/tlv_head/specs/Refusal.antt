@@ -48,7 +48,7 @@ pub record IsLengthPrefix (class : Class) (constructed : Bool) (number left : �
 
 -- why the octet x is refused after a prefix of a header, whatever its place: a line for each cause
 pub data IsRefusedOctet (octets : List ℕ) (x : ℕ) : FaultCode → Type 0 where
-  -- F06, 8.1.2.4.2: a ninth subsequent identifier octet with bit 8 set
+  -- F06, a limit of our own on 8.1.2.4.2: a ninth subsequent identifier octet with bit 8 set
   tag_too_long : (class : Class) (constructed : Bool) (prefix : IsNumberPrefix class constructed octets)
       → length prefix.digits ≡ 8 → 128 ≤ x
       → IsRefusedOctet octets x TagTooLong
@@ -60,7 +60,7 @@ pub data IsRefusedOctet (octets : List ℕ) (x : ℕ) : FaultCode → Type 0 whe
   indefinite_primitive : (class : Class) (number : ℕ)
       → IsIdentifier class false number octets → x ≡ 128
       → IsRefusedOctet octets x IndefinitePrimitive
-  -- F09, 8.1.3.5: a length octet after the first, other than 00, that five or more are to follow
+  -- F09, a limit of our own on 8.1.3.5: a length octet after the first, other than 00, that five or more are to follow
   length_too_large : (class : Class) (constructed : Bool) (number left : ℕ)
       → IsLengthPrefix class constructed number left octets → 6 ≤ left → x ≢ 0
       → IsRefusedOctet octets x LengthTooLarge

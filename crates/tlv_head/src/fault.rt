@@ -13,15 +13,15 @@ pub enum FaultCode {
     BadEnd,
     /// F05: the enclosing length is full before the end-of-contents octets (8.1.5).
     MissingEnd,
-    /// F06: more than nine octets of tag number (8.1.2.4.2).
+    /// F06: more than nine octets of tag number, a limit of our own (8.1.2.4.2 has none).
     TagTooLong,
     /// F07: the first length octet is `ff` (8.1.3.5 c).
     ReservedLength,
     /// F08: the indefinite form at a primitive (8.1.3.2 a).
     IndefinitePrimitive,
-    /// F09: a length of 2^40 or more.
+    /// F09: a length of 2^40 or more, a limit of our own.
     LengthTooLarge,
-    /// F10: more than 128 open elements.
+    /// F10: more than 128 open elements that hold others, a limit of our own.
     TooDeep,
     /// F11: an element runs past the enclosing length (8.1.3.3).
     Overrun,

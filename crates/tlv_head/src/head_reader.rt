@@ -70,8 +70,8 @@ impl HeadReader {
     /// element, this octet included (`None`: there is no such element), and `depth` the number of
     /// open elements.
     ///
-    /// The header is not whole yet ([`HeadReader::done`]), its offset at most 2^40, and `depth` at most 128. A first
-    /// octet is not `00`, and its room not 0.
+    /// The caller sees to it that the header is not whole yet ([`HeadReader::done`]), that its offset is at most 2^40
+    /// and `depth` at most 128, and that a first octet is not `00`, and its room not 0.
     ///
     /// [`Head::Whole`] comes exactly with the octet that completes a header whose element may be
     /// there. [`Head::Refused`] leaves the reader as it was; the refusals are decided in this order:
@@ -84,9 +84,8 @@ impl HeadReader {
         ensures pushes { Pushes self.old octet room depth self.new result }
 
         // Nothing else is returned for the octet that completes a header that may be there.
-        ensures whole { (h : HeaderValue) → Completes self.old (octet ∷ []) h → room ≢ Some 0
-            → FitsThere h room depth
-            → result ≡ Head.Whole h }
+        ensures whole { (h : HeaderValue) → Completes self.old (octet ∷ []) h
+            → FitsThere h room depth → result ≡ Head.Whole h }
     {
         let offset = self.offset + self.raw.len() as u64;
         if room == Some(0) {

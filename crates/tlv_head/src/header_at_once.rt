@@ -12,11 +12,11 @@ use crate::{HeaderFields, Size};
 
 /// The header with which the octets begin, whatever follows it, and how many octets it has. `None`
 /// if they begin with none: a header is unfinished or refused, the first octet is `00`, or there is
-/// no octet. A header that is cut into pieces goes through a [`HeadReader`].
+/// no octet. A header that is cut into pieces goes through a [`HeadReader`](crate::HeadReader).
 #[inline]
 pub fn read_header(offset: u64, named: bool, octets: &[u8]) -> Option<(HeaderFields, usize)>
     ensures { MatchOption result (BeginsWithNoHeader octets.now)
-        (λ found. BeginsWithFields octets.now offset named found.0 found.1) }
+        (λ (fields, count). BeginsWithFields octets.now offset named fields count) }
 {
     let mut part = Part::Start;
     for i in 0..octets.len() {
@@ -37,12 +37,12 @@ pub fn read_header(offset: u64, named: bool, octets: &[u8]) -> Option<(HeaderFie
 
 /// The header with which the octets begin, and how many octets it has, if one to three of them are the identifier and
 /// one to three the length. `None` if the octets begin with no such header; [`read_header`] finds a longer one. It
-/// is apart because most headers are so short, and few instructions read them.
+/// is apart because most headers are so short, and can be read with few instructions.
 #[inline(always)]
 pub fn read_short(offset: u64, named: bool, octets: &[u8]) -> Option<(HeaderFields, usize)>
     ensures begins { MatchOption result (BeginsWithNoShortHeader octets.now)
-        (λ found. BeginsWithFields octets.now offset named found.0 found.1) }
-    ensures short { IfSome result (λ found. IsShortHeader found.0 found.1) }
+        (λ (fields, count). BeginsWithFields octets.now offset named fields count) }
+    ensures short { IfSome result (λ (fields, count). IsShortHeader fields count) }
 {
     let identifier = short_identifier(octets)?;
     let id_len = usize::from(identifier.id_len);
@@ -86,7 +86,7 @@ fn short_identifier(octets: &[u8]) -> Option<IdentifierFields>
 #[inline(always)]
 fn short_length(constructed: bool, octets: &[u8]) -> Option<(Size, usize)>
     ensures { MatchOption result (BeginsWithNoLength octets.now constructed)
-        (λ found. BeginsWithLength octets.now constructed found.0 found.1 × (found.1 ≤ 3)) }
+        (λ (size, count). BeginsWithLength octets.now constructed size count × (count ≤ 3)) }
 {
     if octets.is_empty() {
         return None;

@@ -7,8 +7,8 @@ use crate::{Class, universal};
 use arrayvec::ArrayVec;
 use itoa::Buffer;
 
-/// The name of a universal type (X.680, table 1), in ASCII, as `INTEGER`: at most 17 octets. `None` if the number is
-/// not that of a type.
+/// The name of a universal type (X.680, table 1), in ASCII, such as `INTEGER`: at most 17 octets. `None` if the number
+/// is not that of a type.
 pub fn type_name(number: u64) -> Option<&'static [u8]>
     ensures name { option_copied result ≡ type_name number }
     ensures short { IfSome result (λ name. length name.now ≤ 17) }
@@ -22,8 +22,8 @@ pub fn type_name(number: u64) -> Option<&'static [u8]>
 /// `None` if the number is not that of a type.
 #[inline(always)]
 pub fn type_name_block(number: u64) -> Option<(&'static [u8; 32], usize)>
-    ensures name { option_map (λ block. take block.1 block.0.now) result ≡ type_name number }
-    ensures within { IfSome result (λ block. block.1 ≤ 17) }
+    ensures name { option_map (λ (block, size). take size block.now) result ≡ type_name number }
+    ensures within { IfSome result (λ (block, size). size ≤ 17) }
 {
     Some(match number {
         universal::BOOLEAN => (b"BOOLEAN                         ", 7),

@@ -6,6 +6,14 @@ abbrev pub held_limit : ℕ
 held_limit = 4096
 
 -- for so many octets an `Out` makes room before a line is added. No line has more, apart from the name of an object
--- identifier: it has an indentation of at most 510 spaces, and short texts
+-- identifier: it has an indentation of at most 512 spaces, and short texts
 abbrev pub line_room : ℕ
 line_room = 1024
+
+-- the most octets with which a line begins: 43 in its first columns, and an indentation of 510 spaces
+abbrev pub line_start_limit : ℕ
+line_start_limit = 553
+
+-- the room that they need, since spaces are copied many at a time
+abbrev pub line_start_room : ℕ
+line_start_room = 592

@@ -14,7 +14,8 @@ pub(crate) const CAPACITY: usize = 4096;
 
 /// At most 4096 octets, to which texts are added in place.
 ///
-/// An `ArrayVec` is filled with blanks when it is cleared, which an [`Out`](crate::Out) would pay for at each flush.
+/// It is no `ArrayVec`, since one is filled with blanks when it is cleared, which an [`Out`](crate::Out) would pay for
+/// at each flush.
 #[derive(Drop)]
 pub struct HeldOctets {
     len: usize,
@@ -88,7 +89,8 @@ impl HeldOctets {
         self.len = end;
     }
 
-    /// Adds the first of these octets. There is room for all, so that they can be copied at once.
+    /// Adds the first of these octets. The caller sees to it that there is room for all, so that they can be copied at
+    /// once.
     #[inline(always)]
     pub fn add_prefix<const N: usize>(&mut self, octets: &[u8; N], count: usize)
         requires within { count ≤ N }
@@ -111,7 +113,7 @@ impl HeldOctets {
         }
     }
 
-    /// Adds spaces. There is room for 32 more, so that they can be copied many at a time.
+    /// Adds spaces. The caller sees to it that there is room for 32 more, so that they can be copied many at a time.
     #[inline(always)]
     pub fn spaces(&mut self, count: usize)
         requires { HasRoomFor self.old (count + 32) }

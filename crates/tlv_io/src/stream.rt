@@ -15,7 +15,8 @@ pub struct ReadSource<R> {
 }
 
 impl<R: Read + Drop> ReadSource<R> {
-    /// A source that gives the octets that `reader` has left.
+    /// A source that gives the octets that `reader` has left, of which nothing was read. If the reader knows them, so
+    /// does the source.
     pub fn new(reader: R) -> ReadSource<R>
         ensures { ⟦<ReadSource<R> as Source>⟧.state result ≡ new_source (R.remaining reader) }
     {
@@ -44,7 +45,8 @@ pub struct WriteDrain<W> {
 }
 
 impl<W: Write + Drop> WriteDrain<W> {
-    /// A drain that writes after what `writer` holds.
+    /// A drain that writes after what `writer` holds, and at which no write failed. If the writer knows what it holds,
+    /// so does the drain.
     pub fn new(writer: W) -> WriteDrain<W>
         ensures { ⟦<WriteDrain<W> as Drain>⟧.state result
             ≡ record { octets = W.contents writer; failures = 0 } }

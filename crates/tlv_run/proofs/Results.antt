@@ -13,7 +13,7 @@ use Rattle.tlv_show.proofs.DumpLemmas.LongerInputs.{checks_on, dumps_on}
 use Rattle.tlv_value.specs.Names.{NamesValue}
 use Rattle.tlv_walk.proofs.GrammarLemmas.Endings.{ending, is-ending}
 use Rattle.tlv_walk.proofs.GrammarLemmas.Readings.{is-reading, reading, reading-unique}
-use Rattle.tlv_walk.proofs.GrammarLemmas.Unique.{ending-unique, refused-for-good}
+use Rattle.tlv_walk.proofs.GrammarLemmas.OneEnding.{ending-unique, refused-for-good}
 use Rattle.tlv_walk.specs.declared.ending.Ending.{Ending}
 use Rattle.tlv_walk.specs.declared.ending.Ending.TheVariants as ending
 use Rattle.tlv_walk.specs.declared.framing.Framing.{Framing}

@@ -7,7 +7,7 @@ use Rattle.tlv_show.specs.CheckJob.{check_job}
 use Rattle.tlv_show.specs.DumpJob.{dump_job}
 use Rattle.tlv_value.specs.Names.{NamesValue}
 use Rattle.tlv_walk.proofs.GrammarLemmas.Endings.{done-sound, sound-done}
-use Rattle.tlv_walk.proofs.GrammarLemmas.Unique.{ending-unique}
+use Rattle.tlv_walk.proofs.GrammarLemmas.OneEnding.{ending-unique}
 use Rattle.tlv_walk.specs.declared.ending.Ending.{Ending}
 use Rattle.tlv_walk.specs.declared.ending.Ending.TheVariants as ending
 use Rattle.tlv_walk.specs.Ending.{IsEnding}

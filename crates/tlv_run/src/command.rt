@@ -41,7 +41,7 @@ pub enum Command {
     },
     /// Writes the input with the indefinite form of each constructed length.
     Indef {
-        /// Whether octets `00` may be between the encodings.
+        /// Whether octets `00` may be before, between and after the encodings.
         padding: bool,
         /// The file to read; without one it is standard input.
         file: Option<Text>,

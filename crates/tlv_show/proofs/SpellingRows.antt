@@ -1,8 +1,8 @@
 -- Elements that differ in their spelling alone: short inputs, each shown by computing.
 use Rattle.std.proofs.Common.{◌≡◌, true, false, [], ◌∷◌, refl}
 use Rattle.tlv_head.specs.Header.{HeaderValue}
-use Rattle.tlv_head.specs.Shortest.{HaveOneTagAndForm}
-use Rattle.tlv_walk.specs.Alike.{AreAlike, holders, nothing, padding, primitives}
+use Rattle.tlv_head.specs.ShortestHeaders.{HaveOneTagAndForm}
+use Rattle.tlv_walk.specs.AlikeElements.{AreAlike, holders, nothing, padding, primitives}
 use Rattle.tlv_walk.proofs.GrammarLemmas.Readings.{padding_framing, reading}
 use Rattle.tlv_show.specs.declared.rules.Rules.TheVariants.{Ber, Der, Cer}
 use Rattle.tlv_show.specs.Spellings.{is_misspelled}

@@ -9,7 +9,7 @@ use Rattle.tlv_value.specs.ValueCheckState.{ValueCheckState, value_check_after, 
 use Rattle.tlv_value.specs.ValueCheckState.{new_value_check}
 use Rattle.tlv_show.specs.declared.holder_frame.HolderFrame.{HolderFrame}
 use Rattle.tlv_show.specs.declared.rules.Rules.{Rules}
-use Rattle.tlv_show.specs.Found.{is_shown, end_findings, header_findings}
+use Rattle.tlv_show.specs.ShownFindings.{is_shown, end_findings, header_findings}
 use Rattle.tlv_show.specs.NestingState.{NestingState, depth_in, new_nesting, nesting_open_step}
 use Rattle.tlv_show.specs.NestingState.{nesting_close_step, nesting_primitive_step, segments_in, surroundings_in}
 use Rattle.tlv_show.specs.SaturatingSum.{saturating_sum}

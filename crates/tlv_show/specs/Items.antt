@@ -8,7 +8,7 @@ use Rattle.tlv_walk.specs.Forest.{Forest, PaddingOctet, Primitive, Holder, OpenP
 use Rattle.tlv_walk.specs.Forest.{OpenBitString}
 use Rattle.tlv_show.specs.declared.rules.Rules.{Rules}
 use Rattle.tlv_show.specs.Conditions.{segments_of, surroundings_of}
-use Rattle.tlv_show.specs.Found.{contents_findings, end_findings, header_findings}
+use Rattle.tlv_show.specs.ShownFindings.{contents_findings, end_findings, header_findings}
 use Rattle.tlv_show.specs.Site.{Site, is_padding, site_after_holder, site_after_padding, site_after_primitive}
 use Rattle.tlv_show.specs.Site.{site_of_children}
 

@@ -12,7 +12,7 @@ use Rattle.tlv_show.specs.FinderState.{new_check}
 use Rattle.tlv_show.specs.Texts.{check_line, finding_count}
 use Rattle.tlv_show.specs.CheckStep.{check_step}
 use Rattle.tlv_show.specs.DumpStep.{new_dump}
-use Rattle.tlv_head.specs.Header.{HasAllContents, HeaderValue, announced_length}
+use Rattle.tlv_head.specs.Header.{HasAllContents, HeaderValue}
 use Rattle.tlv_value.specs.Names.{NamesValue}
 use Rattle.tlv_value.specs.ValueLines.{whole_lines}
 use Rattle.tlv_walk.specs.Events.{Begin, Bytes, End, events}
@@ -29,7 +29,7 @@ use Rattle.tlv_show.specs.FindingLines.{styled_lines}
 use Rattle.tlv_show.specs.DumpStep.{DumpState, dump_step, finding_lines}
 use Rattle.tlv_show.specs.FinderState.{finder_begin_step}
 use Rattle.tlv_show.specs.NestingState.{depth_in}
-use Rattle.tlv_show.specs.Found.{contents_findings, is_shown}
+use Rattle.tlv_show.specs.ShownFindings.{contents_findings, is_shown}
 use Rattle.tlv_head.specs.InputLimit.{input_limit}
 
 -- the text of a longer input, of at most 2^40 octets, begins with that of the shorter

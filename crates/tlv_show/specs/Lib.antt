@@ -3,7 +3,7 @@ pub mod LinesStep
 pub mod DumpJob
 pub mod Site
 pub mod Conditions
-pub mod Found
+pub mod ShownFindings
 pub mod Items
 pub mod Texts
 pub mod SaturatingSum

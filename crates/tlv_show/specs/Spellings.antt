@@ -2,12 +2,12 @@
 use Rattle.std.specs.Prelude.{◌≡◌, ◌≢◌, ◌↔◌, ℕ, ◌^◌, ◌≤◌, Bool, true, false, List, length}
 use Rattle.std.specs.List.{list_any}
 use Rattle.tlv_head.specs.Header.{HeaderValue, IsHeader, identifier_octet}
-use Rattle.tlv_head.specs.Shortest.{HasShorter}
+use Rattle.tlv_head.specs.ShortestHeaders.{HasShorter}
 use Rattle.tlv_value.specs.declared.finding.Finding.{Finding}
 use Rattle.tlv_value.specs.declared.finding.Finding.TheVariants.{B01, B02, S01, D01, C01}
 use Rattle.tlv_walk.specs.declared.ending.Ending.TheVariants.{Done}
 use Rattle.tlv_walk.specs.declared.framing.Framing.{Framing}
-use Rattle.tlv_walk.specs.Alike.{AreAlike, HaveNoUniversalZero}
+use Rattle.tlv_walk.specs.AlikeElements.{AreAlike, HaveNoUniversalZero}
 use Rattle.tlv_walk.specs.Ending.{IsEnding}
 use Rattle.tlv_walk.specs.Forest.{Forest}
 use Rattle.tlv_walk.specs.Inside.{can_name}
@@ -16,7 +16,7 @@ use Rattle.tlv_walk.specs.Wrappers.{wrapper_offsets}
 use Rattle.tlv_show.specs.declared.rules.Rules.{Rules}
 use Rattle.tlv_show.specs.declared.rules.Rules.TheVariants.{Ber}
 use Rattle.tlv_show.specs.Conditions.{Surroundings}
-use Rattle.tlv_show.specs.Found.{header_findings}
+use Rattle.tlv_show.specs.ShownFindings.{header_findings}
 use Rattle.tlv_show.specs.Items.{Item, FindingAt, items}
 use Rattle.tlv_show.specs.Site.{top_site}
 

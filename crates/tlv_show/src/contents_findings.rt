@@ -1,7 +1,7 @@
 //! What is found on contents.
 ghost use Rattle.std.specs.Prelude.{◌≡◌, []};
 ghost use Rattle.tlv_show.specs.FinderState.{contents_findings_in};
-ghost use Rattle.tlv_show.specs.Found.{is_shown};
+ghost use Rattle.tlv_show.specs.ShownFindings.{is_shown};
 
 use crate::Rules;
 use arrayvec::ArrayVec;

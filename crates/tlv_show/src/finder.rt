@@ -5,7 +5,7 @@ ghost use Rattle.tlv_walk.specs.Events.{event_value_of};
 ghost use Rattle.tlv_show.specs.FinderState.{finder_in_primitive, finder_begin_step, finder_bytes_step};
 ghost use Rattle.tlv_show.specs.FinderState.{finder_close_step, finder_end_step, finder_open_step};
 ghost use Rattle.tlv_show.specs.FinderState.{with_findings, with_header_findings};
-ghost use Rattle.tlv_show.specs.Found.{end_findings};
+ghost use Rattle.tlv_show.specs.ShownFindings.{end_findings};
 ghost use Rattle.tlv_show.specs.NestingState.{depth_in, segments_in};
 ghost use Rattle.tlv_show.specs.Private.FinderState.{PassesOrStays, ReturnsFindings};
 ghost use Rattle.tlv_show.specs.Private.FinderState.{finder_step, new_finder, with_check_state};

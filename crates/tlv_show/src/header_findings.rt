@@ -5,7 +5,7 @@ ghost use Rattle.tlv_value.specs.Checks.{finding_if, findings_by};
 ghost use Rattle.tlv_show.specs.Conditions.{basic_conditions, begins_with_zero_bits, cer_conditions};
 ghost use Rattle.tlv_show.specs.Conditions.{der_conditions, is_high_form_needless, length_conditions};
 ghost use Rattle.tlv_show.specs.NestingState.{has_frame, segments_in, surroundings_in};
-ghost use Rattle.tlv_show.specs.Found.{end_findings, header_findings};
+ghost use Rattle.tlv_show.specs.ShownFindings.{end_findings, header_findings};
 ghost use Rattle.tlv_show.specs.Private.UsualTypes.{IsUsual};
 
 use crate::Rules;

@@ -4,7 +4,7 @@ ghost use Rattle.tlv_io.specs.LineTexts.{AddsAtMost, HasRoomFor};
 ghost use Rattle.tlv_io.specs.Out.{Puts};
 ghost use Rattle.tlv_value.specs.Layout.{columns, line_margin};
 ghost use Rattle.tlv_show.specs.HolderLines.{closing_columns, closing_line, opening_line, padding_line, size_text};
-ghost use Rattle.tlv_io.specs.OutLimits.{line_room};
+ghost use Rattle.tlv_io.specs.OutLimits.{line_room, line_start_limit, line_start_room};
 
 use tlv_head::{Header, Size};
 use tlv_value::{Layout, begin_blank, begin_sized, begin_word, write_tag};
@@ -69,8 +69,8 @@ fn write_opening(held: &mut HeldOctets, layout: Layout, header: &Header, word: &
 /// Begins a line with an offset and a length, or the word for the indefinite form.
 #[inline(always)]
 fn begin_opening(held: &mut HeldOctets, layout: Layout, offset: u64, size: Size)
-    requires { HasRoomFor held.old 592 }
-    ensures { AddsAtMost 553 held.old held.new
+    requires { HasRoomFor held.old line_start_room }
+    ensures { AddsAtMost line_start_limit held.old held.new
         (line_margin layout (columns offset (size_text size))) }
 {
     match size {
@@ -92,8 +92,9 @@ fn write_closing(held: &mut HeldOctets, layout: Layout, offset: Option<u64>)
 /// Begins a line with an offset and the word for an end, or without an offset.
 #[inline(always)]
 fn begin_closing(held: &mut HeldOctets, layout: Layout, offset: Option<u64>)
-    requires { HasRoomFor held.old 592 }
-    ensures { AddsAtMost 553 held.old held.new (line_margin layout (closing_columns offset)) }
+    requires { HasRoomFor held.old line_start_room }
+    ensures { AddsAtMost line_start_limit held.old held.new
+        (line_margin layout (closing_columns offset)) }
 {
     match offset {
         Some(offset) => begin_word(held, layout, offset, b"   end"),

@@ -27,6 +27,7 @@ pub(crate) struct Nesting {
 
 impl Model for Nesting {
     ghost use Rattle.std.specs.Prelude.{◌≤◌, ◌-◌};
+    ghost use Rattle.tlv_head.specs.DepthLimit.{depth_limit};
     ghost use Rattle.tlv_show.specs.NestingState.{NestingState};
     ghost use Rattle.tlv_show.specs.Private.Nesting.{HasFramesInStrings, HaveRisingFloors, all_frames};
     ghost use Rattle.tlv_show.specs.Private.Nesting.{innermost_frame, outer_frames};
@@ -39,7 +40,7 @@ impl Model for Nesting {
     } };
 
     ghost invariant = { λ n. record {
-      shallow : n.depth ≤ 128;
+      shallow : n.depth ≤ depth_limit;
       within : n.floor ≤ n.depth;
       innermost : HasFramesInStrings n.frame (n.depth - n.floor);
       rising : HaveRisingFloors n.floor n.outer;

@@ -5,6 +5,7 @@ mod refusals;
 mod short_headers;
 mod texts;
 
+ghost use Rattle.tlv_head.specs.DepthLimit.{depth_limit};
 ghost use Rattle.std.specs.Prelude.{◌≤◌};
 
 use self::octets::{OFFSET, Place, REFUSALS, SHAPES, Shape, TOP};
@@ -25,7 +26,7 @@ fn unnamed_header(octets: &[u8]) -> Option<Header> {
 
 /// What the octets of a header, or a prefix of one, come to: the first result that is not More.
 fn read(octets: &[u8], place: Place) -> Head
-    requires { place.depth ≤ 128 }
+    requires { place.depth ≤ depth_limit }
 {
     let mut reader = HeadReader::new(OFFSET, place.named);
     for i in 0..octets.len() {
@@ -46,7 +47,7 @@ fn read(octets: &[u8], place: Place) -> Head
 
 /// The header that the octets make one by one.
 fn whole(octets: &[u8], place: Place) -> Option<Header>
-    requires { place.depth ≤ 128 }
+    requires { place.depth ≤ depth_limit }
 {
     match read(octets, place) {
         Head::Whole(header) => Some(header),

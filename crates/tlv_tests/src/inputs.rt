@@ -1,6 +1,6 @@
 //! Headers, elements and framings, of the octets and the offsets that a test gives.
-ghost use Rattle.std.specs.Prelude.{◌≡◌, IfSome, length};
-ghost use Rattle.tlv_head.specs.Header.{announced_length};
+ghost use Rattle.std.specs.Prelude.{IfSome};
+ghost use Rattle.tlv_head.specs.Header.{HasAllContents};
 
 use std::process::Abort;
 use tlv_head::{Header, Size, read_header};
@@ -22,7 +22,7 @@ pub(crate) fn header(rt: &impl Abort, offset: u64, named: bool, octets: &[u8]) -
 
 /// The header and the contents of the element of definite length that the octets are, at this offset.
 pub(crate) fn element_at<'a>(offset: u64, octets: &'a [u8]) -> Option<(Header, &'a [u8])>
-    ensures { IfSome result (λ e. announced_length e.0.size ≡ length e.1.now) }
+    ensures { IfSome result (λ (header, contents). HasAllContents header contents.now) }
 {
     let (fields, count) = read_header(offset, false, octets)?;
     let header = Header::new(&fields, &octets[..count]);

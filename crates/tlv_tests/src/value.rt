@@ -5,7 +5,7 @@ mod found_rows;
 mod functions;
 mod layouts;
 mod lines;
-mod long;
+mod long_value;
 mod names;
 mod number_rows;
 mod object_rows;

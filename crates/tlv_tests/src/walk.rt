@@ -1,5 +1,5 @@
 //! Walks over memory: their events, what a follower writes of them, and what they come to.
-mod deep;
+mod deep_inputs;
 mod devices;
 mod enough;
 mod event_lines;

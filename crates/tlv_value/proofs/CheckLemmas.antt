@@ -5,4 +5,4 @@ pub mod Utf8ByRow
 pub mod Forms
 pub mod Noting
 pub mod NestedForms
-pub mod Clear
+pub mod ClearStrings

@@ -1,11 +1,11 @@
 -- Laws of what is found on contents.
 use Rattle.std.specs.Str.{is_utf8}
 use Rattle.std.specs.List.{list_all}
-use Rattle.std.specs.Prelude.{◌≡◌, ◌↔◌, ℕ, true, List, ◌++◌, length, IsUtf8}
-use Rattle.tlv_head.specs.Header.{HasAllContents, HeaderValue, announced_length}
+use Rattle.std.specs.Prelude.{◌≡◌, ◌↔◌, ℕ, true, List, ◌++◌, IsUtf8}
+use Rattle.tlv_head.specs.Header.{HasAllContents, HeaderValue}
 use Rattle.tlv_value.specs.declared.kind.Kind.TheVariants.{Utf8}
 use Rattle.tlv_value.specs.Checks.{all_contents_findings}
-use Rattle.tlv_value.specs.ValueCheckState.{ValueCheckState, findings_in, new_value_check}
+use Rattle.tlv_value.specs.ValueCheckState.{ValueCheckState, findings_in, value_check_for}
 use Rattle.tlv_value.specs.ValueCheckState.{value_check_after}
 use Rattle.tlv_value.specs.Rows.{rows_of}
 
@@ -18,7 +18,7 @@ ChecksJoin = (s : ValueCheckState) (x y : List ℕ)
 abbrev pub FindingsEnd : Type 0
 FindingsEnd =
     (h : HeaderValue) (octets : List ℕ) → HasAllContents h octets
-    → findings_in (value_check_after (new_value_check h) octets) ≡ all_contents_findings h octets
+    → findings_in (value_check_for h octets) ≡ all_contents_findings h octets
 
 -- contents are well-formed UTF-8 exactly if each of their rows is
 abbrev pub RowsAreUtf8 : Type 0

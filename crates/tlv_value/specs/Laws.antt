@@ -1,6 +1,6 @@
 -- Laws of the lines of a primitive, and of rows.
-use Rattle.std.specs.Prelude.{◌≡◌, ℕ, List, [], ◌++◌, length}
-use Rattle.tlv_head.specs.Header.{HasAllContents, HeaderValue, announced_length}
+use Rattle.std.specs.Prelude.{◌≡◌, ℕ, List, [], ◌++◌}
+use Rattle.tlv_head.specs.Header.{HasAllContents, HeaderValue}
 use Rattle.tlv_io.specs.Cuts.{IsCut}
 use Rattle.tlv_value.specs.declared.kind.Kind.{Kind}
 use Rattle.tlv_value.specs.declared.layout.Layout.{Layout}

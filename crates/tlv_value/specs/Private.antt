@@ -2,7 +2,7 @@ pub mod Arcs
 pub mod UndottedText
 pub mod NamesSteps
 pub mod ObjectLines
-pub mod Unescaped
+pub mod UnescapedCharacters
 pub mod Room
 pub mod Rows
 pub mod PrimitiveLines

@@ -106,3 +106,7 @@ is_unassigned_number number = number == 0 || number == 15 || nat_le 37 number
 -- the tag is universal, and no type has its number
 abbrev pub is_unassigned : HeaderValue → Bool
 is_unassigned h = is_universal h.class && is_unassigned_number h.number
+
+-- a primitive may have the tag: if it is universal, its type has primitives
+abbrev pub has_primitives : HeaderValue → Bool
+has_primitives h = not (is_unassigned h || is_always_constructed h)

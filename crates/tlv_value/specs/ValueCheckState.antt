@@ -107,6 +107,10 @@ abbrev pub value_check_after : ValueCheckState → List ℕ → ValueCheckState
 value_check_after s octets =
     record (with_octets_noted s octets) { number = s.number; size = s.size; left = s.left - length octets }
 
+-- the state after these contents octets of the primitive with this header
+abbrev pub value_check_for : HeaderValue → List ℕ → ValueCheckState
+value_check_for h octets = value_check_after (new_value_check h) octets
+
 -- there is a first octet, and it is not 0
 abbrev pub begins_nonzero : List ℕ → Bool
 begins_nonzero [] = false

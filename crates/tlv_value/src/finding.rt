@@ -1,6 +1,6 @@
 //! What may be found on an element.
 
-/// What the rules of X.690 find on an element. The letter says whose rule is broken: `B` of all encodings (clause 8,
+/// A rule of X.690 or X.680 that an element breaks. The letter says whose rule it is: `B` of all encodings (clause 8,
 /// and X.680), `S` of both CER and DER (clauses 9 to 11), `D` of DER alone (10), `C` of CER alone (9).
 #[derive(Clone, Copy, Debug, Default, PartialEq, Eq)]
 pub enum Finding {
@@ -15,7 +15,7 @@ pub enum Finding {
     B04,
     /// A primitive element of a type that is constructed (8.9.1 and others).
     B05,
-    /// A BOOLEAN that has not one octet (8.2.1).
+    /// A BOOLEAN whose contents are not one octet (8.2.1).
     B06,
     /// An INTEGER or ENUMERATED without contents (8.3.1).
     B07,
@@ -27,7 +27,7 @@ pub enum Finding {
     B10,
     /// A subidentifier that begins with `80` (8.19.2, 8.20.2).
     B11,
-    /// A last subidentifier of which octets lack (8.19.2, 8.20.2).
+    /// A last subidentifier that lacks octets (8.19.2, 8.20.2).
     B12,
     /// A BIT STRING without its first octet (8.6.2).
     B13,
@@ -61,7 +61,7 @@ pub enum Finding {
     C02,
     /// A segment that is constructed (9.2).
     C03,
-    /// A segment after one that has not 1000 contents octets (9.2).
+    /// A segment after one that is no primitive of 1000 contents octets (9.2).
     C04,
     /// A constructed string that fits in 1000 contents octets (9.2).
     C05,
@@ -93,6 +93,8 @@ impl Finding {
     /// at once, and how many octets they are.
     pub fn wording_block(self) -> (&'static [u8; 48], usize)
         ensures wording { take result.1 result.0.now ≡ finding_wording self }
+
+        // Code and space are 4 octets, and no text has more than 40.
         ensures count { (4 ≤ result.1) × (result.1 ≤ 44) }
     {
         match self {

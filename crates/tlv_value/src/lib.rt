@@ -3,7 +3,7 @@
 #![tactic(auto)]
 
 mod decimal;
-mod dotted;
+mod dotted_texts;
 mod finding;
 mod kind;
 pub mod laws;
@@ -23,7 +23,7 @@ mod value_text;
 mod whole_lines;
 
 pub use decimal::decimal_of;
-pub use dotted::dotted_of;
+pub use dotted_texts::dotted_of;
 pub use finding::Finding;
 pub use layout::Layout;
 pub use line_starts::{begin_blank, begin_sized, begin_word, write_tag};

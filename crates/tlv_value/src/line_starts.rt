@@ -1,6 +1,7 @@
 //! How lines begin.
 ghost use Rattle.std.specs.Prelude.{◌≡◌, ◌+◌, ◌≤◌, ◌++◌, ◌∷◌, [], decimal, if◌then◌else◌, take};
 ghost use Rattle.tlv_io.specs.LineTexts.{AddsAtMost, HasRoomFor};
+ghost use Rattle.tlv_io.specs.OutLimits.{line_start_limit, line_start_room};
 ghost use Rattle.tlv_head.specs.Tag.{tag_text};
 ghost use Rattle.tlv_value.specs.Layout.{columns, line_margin, margin, blank_columns, spaces};
 ghost use Rattle.tlv_value.specs.Private.Rows.{row_indent};
@@ -14,8 +15,8 @@ use tlv_io::HeldOctets;
 /// them out, and its indentation.
 #[inline(always)]
 pub fn begin_sized(held: &mut HeldOctets, layout: Layout, offset: u64, size: u64)
-    requires { HasRoomFor held.old 592 }
-    ensures { AddsAtMost 553 held.old held.new
+    requires { HasRoomFor held.old line_start_room }
+    ensures { AddsAtMost line_start_limit held.old held.new
         (line_margin layout (columns offset (decimal size))) }
 {
     write_sized(held, layout.pure, offset, size);
@@ -37,8 +38,9 @@ fn write_sized(held: &mut HeldOctets, pure: bool, offset: u64, size: u64)
 /// them out, and its indentation.
 #[inline(always)]
 pub fn begin_word(held: &mut HeldOctets, layout: Layout, offset: u64, word: &[u8; 6])
-    requires { HasRoomFor held.old 592 }
-    ensures { AddsAtMost 553 held.old held.new (line_margin layout (columns offset word.now)) }
+    requires { HasRoomFor held.old line_start_room }
+    ensures { AddsAtMost line_start_limit held.old held.new
+        (line_margin layout (columns offset word.now)) }
 {
     write_worded(held, layout.pure, offset, word);
     held.spaces(2 * usize::from(layout.level));
@@ -59,8 +61,8 @@ fn write_worded(held: &mut HeldOctets, pure: bool, offset: u64, word: &[u8; 6])
 /// out, and its indentation.
 #[inline(always)]
 pub fn begin_blank(held: &mut HeldOctets, layout: Layout)
-    requires { HasRoomFor held.old 592 }
-    ensures { AddsAtMost 553 held.old held.new (line_margin layout blank_columns) }
+    requires { HasRoomFor held.old line_start_room }
+    ensures { AddsAtMost line_start_limit held.old held.new (line_margin layout blank_columns) }
 {
     held.spaces(blank_column_count(layout.pure) + 2 * usize::from(layout.level));
 }

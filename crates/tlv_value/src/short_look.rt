@@ -1,10 +1,10 @@
 //! A short look at all of the contents of a primitive.
-ghost use Rattle.std.specs.Prelude.{◌≡◌, ◌||◌, ◌==◌, [], IsTrue, eqb, false, length, nat_le};
+ghost use Rattle.std.specs.Prelude.{◌≡◌, ◌||◌, ◌==◌, [], IsTrue, eqb, false, length, nat_le, true};
 ghost use Rattle.tlv_head.specs.UniversalTypes.{bit_string, boolean};
 ghost use Rattle.tlv_value.specs.Checks.{all_contents_findings, is_padded_after, is_padded_integer, last_octet};
 ghost use Rattle.tlv_value.specs.Checks.{type_findings};
 ghost use Rattle.tlv_value.specs.Private.TimeFindings.{generalized_time_findings, utc_time_findings};
-ghost use Rattle.tlv_value.specs.Types.{constructed_types, is_always_constructed, is_number_of, is_unassigned};
+ghost use Rattle.tlv_value.specs.Types.{constructed_types, has_primitives, is_number_of};
 ghost use Rattle.tlv_value.specs.Types.{is_unassigned_number};
 
 use crate::time::{general_canonical, utc_canonical};
@@ -17,7 +17,7 @@ use tlv_head::{Class, Header, universal};
 pub fn is_clear(header: &Header, contents: &[u8]) -> bool
     ensures contents { IsTrue result → all_contents_findings header.now contents.now ≡ [] }
     ensures form { IsTrue result
-        → (is_unassigned header.now || is_always_constructed header.now) ≡ false }
+        → has_primitives header.now ≡ true }
 {
     !matches!(header.class, Class::Universal) || is_type_clear(header.number, contents)
 }

@@ -2,7 +2,8 @@
 ghost use Rattle.std.specs.List.{list_all};
 ghost use Rattle.std.specs.Prelude.{◌≡◌, ◌<◌, ◌≤◌, ◌++◌, false, flat_map, length, slice_index, take, true};
 ghost use Rattle.tlv_io.specs.LineTexts.{AddsIfRoom, HasRoomFor};
-ghost use Rattle.tlv_value.specs.Private.Unescaped.{AreUnescaped, IsPart, IsSomeOf, has_ascii_octets, is_unescaped};
+ghost use Rattle.tlv_value.specs.Private.UnescapedCharacters.{AreUnescaped, IsPart};
+ghost use Rattle.tlv_value.specs.Private.UnescapedCharacters.{IsSomeOf, has_ascii_octets, is_unescaped};
 ghost use Rattle.tlv_value.specs.Units.{escaped_number, escaped_octet, is_printable, octet_text};
 ghost use Rattle.tlv_value.specs.Units.{printable_text, unit_size, unit_text, units, utf8_number};
 ghost use Rattle.tlv_value.specs.Units.{without_zeros};

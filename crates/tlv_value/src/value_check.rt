@@ -2,7 +2,7 @@
 ghost use Rattle.std.specs.Prelude.{◌≡◌, ◌+◌, ◌≤◌, ◌&&◌, ℕ, List, length, slice_index};
 ghost use Rattle.tlv_head.specs.Header.{HasAllContents, HeaderValue, announced_length};
 ghost use Rattle.tlv_value.specs.Types.{type_number};
-ghost use Rattle.tlv_value.specs.ValueCheckState.{value_check_after, findings_in, has_unused_bits};
+ghost use Rattle.tlv_value.specs.ValueCheckState.{value_check_after, value_check_for, findings_in, has_unused_bits};
 ghost use Rattle.tlv_value.specs.ValueCheckState.{is_allowed, new_value_check, new_value_check_of};
 ghost use Rattle.tlv_value.specs.ValueCheckState.{with_each_noted, with_first_noted};
 ghost use Rattle.tlv_value.specs.Checks.{all_contents_findings, is_padded_integer};
@@ -201,8 +201,10 @@ impl ValueCheck {
     pub fn end(&self) -> ArrayVec<Finding, 16>
         requires { self.now.left ≡ 0 }
         ensures found { result.items ≡ findings_in self.now }
+
+        // In other words: if these are all contents of the primitive with the header h, what is found on them.
         ensures all_contents { (h : HeaderValue) (c : List ℕ)
-            → self.now ≡ value_check_after (new_value_check h) c
+            → self.now ≡ value_check_for h c
             → HasAllContents h c
             → result.items ≡ all_contents_findings h c }
     {

@@ -7,7 +7,7 @@ ghost use Rattle.tlv_value.specs.Value.{no_names};
 
 mod row_lines;
 
-use crate::dotted::write_dotted;
+use crate::dotted_texts::write_dotted;
 use crate::{Layout, NameTable};
 use row_lines::put_all_rows;
 pub(crate) use row_lines::{put_last, put_pair_rows, put_rows};

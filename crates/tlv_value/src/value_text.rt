@@ -120,6 +120,8 @@ impl ValueText {
     #[inline(always)]
     pub fn begin<D: Drain>(&self, out: &mut Out<'_, D>) -> Result<(), WriteFault>
         ensures puts { Puts D.state out.old out.new (begin_lines self.now) result }
+
+        // In other words: the lines of the primitive with the header h, without contents.
         ensures lines { (h : HeaderValue) (layout : Layout)
             → self.now ≡ new_value_text h layout
             → Puts D.state out.old out.new (open_lines h layout []) result }
@@ -140,6 +142,8 @@ impl ValueText {
         requires { length octets.now ≤ self.old.left }
         ensures state { OnOk result (self.new ≡ value_text_after self.old octets.now) }
         ensures puts { Puts D.state out.old out.new (contents_lines self.old octets.now) result }
+
+        // In other words: after the lines with the contents c, the rest of those with these octets too.
         ensures lines { (h : HeaderValue) (layout : Layout) (c : List ℕ)
             → self.old ≡ value_text_for h layout c
             → PutsRest D.state out.old out.new
@@ -185,6 +189,8 @@ impl ValueText {
         ensures state { self.new ≡ self.old }
         ensures puts { Puts D.state out.old out.new
             (end_lines (N.name_of names.now) self.old) result }
+
+        // In other words: after the lines with the contents c, which are all, the rest of those of the whole primitive.
         ensures lines { (h : HeaderValue) (layout : Layout) (c : List ℕ)
             → self.old ≡ value_text_for h layout c
             → HasAllContents h c

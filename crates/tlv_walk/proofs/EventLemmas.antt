@@ -1,6 +1,6 @@
 pub mod NextEvents
-pub mod Joined
+pub mod JoinedEvents
 pub mod LongerInputs
-pub mod Unused
+pub mod UnusedOffset
 pub mod NamedOffsets
 pub mod Wrappers

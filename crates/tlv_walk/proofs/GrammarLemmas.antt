@@ -1,8 +1,8 @@
-pub mod Alike
+pub mod AlikeSpellings
 pub mod Bounds
 pub mod Endings
 pub mod Faults
-pub mod Finals
+pub mod FinalFaults
 pub mod FramedInputRows
 pub mod InputRows
 pub mod Lengths
@@ -11,12 +11,12 @@ pub mod PopHeaders
 pub mod Push
 pub mod PushSteps
 pub mod Readings
-pub mod Respelled
-pub mod Settled
+pub mod RespelledElements
+pub mod ElementEnds
 pub mod ShortHeaders
-pub mod Sound
+pub mod SoundElements
 pub mod Spellings
 pub mod OpenEnds
 pub mod OpenElements
 pub mod PlacedSpelling
-pub mod Unique
+pub mod OneEnding

@@ -1,6 +1,6 @@
 -- What a follower makes of events.
 use Rattle.std.specs.Prelude.{◌≡◌, ℕ, Bool, true, false, List, [], ◌∷◌, ◌++◌, drop, length}
-use Rattle.tlv_head.specs.Header.{HasAllContents, HeaderValue, announced_length, octets_of}
+use Rattle.tlv_head.specs.Header.{HasAllContents, HeaderValue, octets_of}
 use Rattle.tlv_walk.specs.declared.follow.Go.{Go}
 use Rattle.tlv_walk.specs.declared.follow.Go.TheVariants as go
 use Rattle.tlv_walk.specs.Events.{Begin, Bytes, End, EventValue}

@@ -22,5 +22,5 @@ pub mod FollowsEvents
 pub mod OneTurn
 pub mod Job
 pub mod DriveJob
-pub mod Alike
+pub mod AlikeElements
 pub mod Private

@@ -13,12 +13,13 @@ pub struct Frames<T> {
 
 impl<T> Model for Frames<T> {
     ghost use Rattle.std.specs.Prelude.{◌≤◌, List, length, reverse};
+    ghost use Rattle.tlv_head.specs.DepthLimit.{depth_limit};
 
     ghost Value = { List T };
 
     ghost view = { λ s. reverse s.outermost_first.items };
 
-    ghost invariant = { λ s. length s.outermost_first.items ≤ 128 };
+    ghost invariant = { λ s. length s.outermost_first.items ≤ depth_limit };
 }
 
 impl<T: Copy + Default> Frames<T> {

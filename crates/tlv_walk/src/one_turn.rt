@@ -30,7 +30,8 @@ enum Pause {
 /// Makes one read into `room`, lets the follower follow what it gave, and flushes what that put.
 ///
 /// `room` is the array into which the read is made: it has 1 to 4096 octets. `limit` is a number of
-/// octets, at most 2^40. The walker is within it and has refused no octet, and no event waits.
+/// octets, at most 2^40. The caller sees to these, and to it that the walker is within the limit and has
+/// refused no octet, and that no event waits.
 ///
 /// Returns `Again` if the octets are within the limit, hold neither a fault nor enough for the
 /// follower, and the source has not ended; `Ended` if the walk has ended. The octets that the walker

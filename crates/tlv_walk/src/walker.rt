@@ -113,7 +113,7 @@ impl Walker {
         self.offset
     }
 
-    /// How many events were yielded: no more than octets were taken.
+    /// How many events were yielded: at most as many as octets were taken.
     pub fn events(&self) -> u64
         ensures value { result ≡ self.now.events }
         ensures within { result ≤ self.now.offset }
@@ -144,7 +144,8 @@ impl Walker {
 
     /// What the input comes to, if it ends here. After a fault it is that fault. It is `Done` exactly if
     /// the input is a sound list of encodings. If it is a fault other than F01 and F02, no input that
-    /// begins with these octets is a sound list. No event may wait ([`Walker::waiting`]).
+    /// begins with the octets taken and the one refused is a sound list. The caller sees to it that no
+    /// event waits ([`Walker::waiting`]).
     pub fn finish(&self) -> Ending
         requires { IsIdle self.now }
         ensures ending { IfAtEnd self.now (λ octets. IsEnding self.now.framing octets result) }
@@ -184,8 +185,8 @@ impl Walker {
         })
     }
 
-    /// Takes octets with which `piece` begins, up to the next event. The octets taken and those of the
-    /// piece are together at most 2^40.
+    /// Takes octets with which `piece` begins, up to the next event. The caller sees to it that the octets
+    /// taken and those of the piece are together at most 2^40.
     ///
     /// Returns `NeedMore` only if the whole piece was taken and no event waits. After a fault each step returns
     /// the same fault and takes nothing. A fault is no false alarm: no input that begins with the octets

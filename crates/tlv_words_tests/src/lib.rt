@@ -9,7 +9,7 @@ mod failing_reads;
 #[cfg(test)]
 mod framings;
 #[cfg(test)]
-mod long;
+mod long_inputs;
 #[cfg(test)]
 mod messages;
 #[cfg(test)]

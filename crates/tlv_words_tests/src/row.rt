@@ -11,8 +11,8 @@
 //!
 //! Octets are groups with a space between two of them. A group is pairs of hexadecimal digits, and if
 //! they are there more than once `*` and how often. Groups of the output may also be lines of nested
-//! elements, as `long.rt` makes them.
-use crate::long::push_lines;
+//! elements, as `long_inputs.rt` makes them.
+use crate::long_inputs::push_lines;
 use std::alloc::Global;
 use std::test::Fail;
 use tlv_run::Command;

@@ -1,5 +1,5 @@
 //! Each row of tests/rows, and of long inputs, run in each way.
-use crate::long::LONG;
+use crate::long_inputs::LONG;
 use crate::row::{Case, case_of};
 use crate::runs::{
     expect_failed_reads, expect_failed_writes, expect_final_fault, expect_prefixes,

@@ -7,7 +7,7 @@ use Rattle.tlv_walk.specs.Place.{ObeysGrammar, top_place}
 use Rattle.tlv_walk.specs.Reading.{IsReading, IsSoundList}
 use Rattle.tlv_walk.proofs.GrammarLemmas.Endings.{done-sound, sound-reading}
 use Rattle.tlv_walk.proofs.GrammarLemmas.Readings.{Going, reading-unique, run-reading}
-use Rattle.tlv_walk.proofs.GrammarLemmas.Sound.{sound-whole}
+use Rattle.tlv_walk.proofs.GrammarLemmas.SoundElements.{sound-whole}
 use Rattle.tlv_cut.specs.IndefText.{indef_text, with_indefinite_lengths}
 use Rattle.tlv_cut.specs.IndefJob.{indef_framing}
 use Rattle.tlv_cut.specs.IndefReading.{IsReadBack, indef_reading}

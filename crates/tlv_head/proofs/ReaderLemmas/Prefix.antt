@@ -16,8 +16,8 @@ use Rattle.tlv_head.specs.Private.NextOctet.{BeginsWithIdentifier, BeginsWithLen
 use Rattle.tlv_head.specs.ReadHeader.{BeginsWithFields}
 use Rattle.tlv_head.specs.Refusal.{BeginsWith, IsHeaderPrefix}
 use Rattle.tlv_head.proofs.GrammarLemmas.Scan.{origin_of, scan, Fresh, Ready, no-prefix, scan-header}
-use Rattle.tlv_head.proofs.ShortestLemmas.Shortest.{identifier-some, lengths-some}
-use Rattle.tlv_head.proofs.ReaderLemmas.Unfinished.{unfinished_number, unfinished_identifier, unfinished_length}
+use Rattle.tlv_head.proofs.ShortestLemmas.OneShortest.{identifier-some, lengths-some}
+use Rattle.tlv_head.proofs.ReaderLemmas.UnfinishedHeaders.{unfinished_number, unfinished_identifier, unfinished_length}
 
 -- nothing yet, or a prefix of a header
 abbrev pub IsBegun : List ℕ → Type 0

@@ -7,7 +7,7 @@ use Rattle.tlv_head.specs.declared.header.Size.{Size}
 use Rattle.tlv_head.specs.declared.header.Size.TheVariants.{Definite, Indefinite}
 use Rattle.tlv_head.specs.Header.{IsLength, announced_length, value_of}
 use Rattle.tlv_head.proofs.NumberLemmas.Digits.{value_of-snoc}
-use Rattle.tlv_head.proofs.ShortestLemmas.Shortest.{length-le}
+use Rattle.tlv_head.proofs.ShortestLemmas.OneShortest.{length-le}
 use Rattle.tlv_head.proofs.ShortestLemmas.ShortestSpelling.{ShortLength, one-octet, short-length}
 
 -- so many digits of a number

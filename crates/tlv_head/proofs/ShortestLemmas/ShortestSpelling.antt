@@ -10,9 +10,10 @@ use Rattle.tlv_head.specs.declared.header.Size.TheVariants.{Definite, Indefinite
 use Rattle.tlv_head.specs.Header.{HeaderValue, IsHeader, IsIdentifier, IsLength, announced_length, identifier_octet}
 use Rattle.tlv_head.specs.Header.{value_of, with_bit_8}
 use Rattle.tlv_head.specs.Laws.{HeadersHaveAShortest}
-use Rattle.tlv_head.specs.Shortest.{HasShorter, IsShortestIdentifier, IsShortestLength}
-use Rattle.tlv_head.proofs.ShortestLemmas.Shortest.{high-first, identifier-le, identifier-same, length-le, length-same}
-use Rattle.tlv_head.proofs.ShortestLemmas.Shortest.{shortest-identifier, shortest-length}
+use Rattle.tlv_head.specs.ShortestHeaders.{HasShorter, IsShortestIdentifier, IsShortestLength}
+use Rattle.tlv_head.proofs.ShortestLemmas.OneShortest.{high-first, identifier-le, identifier-same, length-le}
+use Rattle.tlv_head.proofs.ShortestLemmas.OneShortest.{length-same}
+use Rattle.tlv_head.proofs.ShortestLemmas.OneShortest.{shortest-identifier, shortest-length}
 
 -- the same digits without leading zeros, before others
 record StrippedDigits (b : ℕ) (digits tail : List ℕ) : Type 0 where

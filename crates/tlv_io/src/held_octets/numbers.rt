@@ -40,7 +40,8 @@ impl HeldOctets {
         self.add(digits.format(number).as_bytes());
     }
 
-    /// Adds the columns that a line begins with: an offset and a number of contents octets, in decimal.
+    /// Adds the columns that a line begins with: an offset and a number of contents octets, in decimal. They are at
+    /// most 43 octets: two numbers of 20 digits, a space, and a colon with a space.
     #[inline(always)]
     pub fn columns(&mut self, offset: u64, size: u64)
         requires { HasRoomFor self.old 43 }
@@ -69,7 +70,8 @@ impl HeldOctets {
         self.add(b": ");
     }
 
-    /// Adds the columns that a line begins with: an offset, in decimal, and a word.
+    /// Adds the columns that a line begins with: an offset, in decimal, and a word. They are at most 29 octets: 20
+    /// digits, a space, the word, and a colon with a space.
     #[inline(always)]
     pub fn word_columns(&mut self, offset: u64, word: &[u8; 6])
         requires { HasRoomFor self.old 29 }

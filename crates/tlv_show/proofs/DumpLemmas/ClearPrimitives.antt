@@ -1,11 +1,13 @@
 -- A primitive with which nothing is found: what a finder and a check make of it at once.
+use Rattle.std.proofs.lemmas.Bool.{not-true}
 use Rattle.std.proofs.Common.{subst, rules, ◌≡◌, Bool, false, true, ℕ, List, [], ◌∷◌, length, sym, ap, ◌∙◌}
 use Rattle.std.specs.Prelude.{None, Ok, ◌&&◌, ◌||◌, not}
 use Rattle.std.specs.List.{filter}
-use Rattle.tlv_head.specs.Header.{HasAllContents, HeaderValue, announced_length}
+use Rattle.tlv_head.specs.Header.{HasAllContents, HeaderValue}
 use Rattle.tlv_value.specs.declared.finding.Finding.{Finding}
 use Rattle.tlv_value.specs.Checks.{all_contents_findings}
-use Rattle.tlv_value.specs.Types.{constructed_types, is_one_of, is_string, is_unassigned, primitive_types}
+use Rattle.tlv_value.specs.Types.{constructed_types, has_primitives, is_one_of, is_string, is_unassigned}
+use Rattle.tlv_value.specs.Types.{primitive_types}
 use Rattle.tlv_walk.specs.declared.follow.Go.TheVariants as go
 use Rattle.tlv_io.specs.declared.out.Out.{Out}
 use Rattle.tlv_io.specs.Device.{DrainState}
@@ -23,7 +25,7 @@ use Rattle.tlv_show.specs.FinderState.{CheckState, FinderState, finder_begin_ste
 use Rattle.tlv_show.specs.NestingState.{depth_in, surroundings_in}
 use Rattle.tlv_show.specs.Private.FinderState.{PassesOrStays, PassesPrimitive, finder_whole_step, with_check_state}
 use Rattle.tlv_show.specs.Private.UsualTypes.{IsUsual}
-use Rattle.tlv_show.specs.Found.{is_shown, header_findings}
+use Rattle.tlv_show.specs.ShownFindings.{is_shown, header_findings}
 use Rattle.tlv_show.proofs.FindingLemmas.CheckLaws.{each-found}
 use Rattle.tlv_show.proofs.FindingLemmas.FinderSteps.{after_primitive, primitive-find, check_between}
 use Rattle.tlv_show.specs.SaturatingSum.{saturating_sum}
@@ -32,14 +34,16 @@ use Rattle.tlv_show.proofs.FindingLemmas.FramesAfter.{outside}
 
 -- ---- a finder
 
-pub usual_primitive : (h : HeaderValue) → h.constructed ≡ false
-    → (is_unassigned h || is_one_of constructed_types h) ≡ false → IsUsual h
-usual_primitive h primitive form = record {
-  assigned = search rules;
-  primitive_if_always = ap (λ (b : Bool). b && is_one_of primitive_types h) primitive;
-  constructed_if_always = ap (λ (b : Bool). not b && is_one_of constructed_types h) primitive ∙ search rules;
-  no_segments = ap (λ (b : Bool). b && is_string h) primitive;
-}
+pub usual_primitive : (h : HeaderValue) → h.constructed ≡ false → has_primitives h ≡ true → IsUsual h
+usual_primitive h primitive primitives =
+    let form : (is_unassigned h || is_one_of constructed_types h) ≡ false = not-true _ primitives in
+    record {
+      assigned = search (rules, form);
+      primitive_if_always = ap (λ (b : Bool). b && is_one_of primitive_types h) primitive;
+      constructed_if_always =
+          ap (λ (b : Bool). not b && is_one_of constructed_types h) primitive ∙ search (rules, form);
+      no_segments = ap (λ (b : Bool). b && is_string h) primitive;
+    }
 
 -- after a primitive with which nothing is found, outside of strings
 abbrev without_primitive : CheckState → CheckState

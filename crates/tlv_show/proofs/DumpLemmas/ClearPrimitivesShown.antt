@@ -3,7 +3,7 @@ use Rattle.std.proofs.Common.{◌≡◌, ℕ, Bool, true, false, List, [], ◌�
 use Rattle.std.specs.FinMap as finite
 use Rattle.std.specs.Prelude.{Ok, Err, Result, IsErr, ⊤}
 use Rattle.std.proofs.lemmas.Bool.{true≢false}
-use Rattle.tlv_head.specs.Header.{HasAllContents, HeaderValue, announced_length}
+use Rattle.tlv_head.specs.Header.{HasAllContents, HeaderValue}
 use Rattle.tlv_value.specs.declared.finding.Finding.{Finding}
 use Rattle.tlv_value.specs.ValueLines.{whole_lines}
 use Rattle.tlv_io.specs.declared.drain.WriteFault.{WriteFault}

@@ -22,7 +22,7 @@ use Rattle.tlv_show.specs.LinesStep.{LinesState}
 use Rattle.tlv_show.specs.DumpStep.{DumpState, dump_step}
 use Rattle.tlv_show.specs.FinderState.{CheckState, FinderState}
 use Rattle.tlv_show.specs.NestingState.{frame_under, surroundings_in, frame_after}
-use Rattle.tlv_show.specs.Found.{contents_findings, header_findings, end_findings}
+use Rattle.tlv_show.specs.ShownFindings.{contents_findings, header_findings, end_findings}
 use Rattle.tlv_show.specs.Items.{Item, FindingAt, items, finding_items, headers}
 use Rattle.tlv_show.specs.HolderLines.{dump_opening_line, closing_line}
 use Rattle.tlv_show.specs.Site.{Previous, Site, is_padding}

@@ -6,7 +6,7 @@ use Rattle.std.specs.FinMap as finite
 use Rattle.std.specs.Prelude.{Option, Some, None}
 use Rattle.tlv_head.specs.Header.{HasAllContents, HeaderValue, announced_length, octets_of, wraps}
 use Rattle.tlv_value.specs.declared.layout.Layout.{Layout}
-use Rattle.tlv_value.specs.ValueCheckState.{value_check_after, has_unused_bits, new_value_check}
+use Rattle.tlv_value.specs.ValueCheckState.{has_unused_bits, value_check_for}
 use Rattle.tlv_value.specs.Names.{NamesValue}
 use Rattle.tlv_value.specs.ValueLines.{open_lines, whole_lines}
 use Rattle.tlv_value.specs.Types.{is_primitive}
@@ -26,7 +26,7 @@ use Rattle.tlv_show.specs.FindingLines.{styled_lines}
 use Rattle.tlv_show.specs.LinesStep.{LinesState}
 use Rattle.tlv_show.specs.DumpStep.{DumpState, dump_step}
 use Rattle.tlv_show.specs.NestingState.{frame_after, frame_under, surroundings_in}
-use Rattle.tlv_show.specs.Found.{contents_findings, header_findings, end_findings}
+use Rattle.tlv_show.specs.ShownFindings.{contents_findings, header_findings, end_findings}
 use Rattle.tlv_show.specs.Items.{Item, OpeningLine, ClosingLine, PrimitiveLines, OpenPrimitiveLines}
 use Rattle.tlv_show.specs.Items.{PaddingLine, headers, items}
 use Rattle.tlv_show.specs.Items.{finding_items}
@@ -109,7 +109,7 @@ module _ (style : Layout) (names : NamesValue) (rules : Rules) where
       let q : Place = place_after p (length (octets_of h) + length c) in
       let size : HasAllContents h c = ap announced_length v.0.1 in
       let form : h.constructed ≡ false = not-constructed h.constructed (wraps h) v.0.0.header.form in
-      let u : Bool = has_unused_bits (value_check_after (new_value_check h) c) in
+      let u : Bool = has_unused_bits (value_check_for h c) in
       let known : Knows (after_primitive rules w h c) (site_after_primitive s h c) =
       subst (λ (x : Bool). Knows (frame_after w x (announced_length h.size) u) (site_after_primitive s h c))
       (ap not form)

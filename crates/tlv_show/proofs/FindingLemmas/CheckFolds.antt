@@ -33,7 +33,7 @@ use Rattle.tlv_show.specs.FinderState.{CheckState, FinderState, OpenPrimitiveSta
 use Rattle.tlv_show.specs.FinderState.{finder_primitive_end_step, new_check, open_primitive_after}
 use Rattle.tlv_show.specs.NestingState.{top_frame}
 use Rattle.tlv_show.specs.Private.FinderState.{finder_step}
-use Rattle.tlv_show.specs.Found.{contents_findings, header_findings, is_shown, end_findings}
+use Rattle.tlv_show.specs.ShownFindings.{contents_findings, header_findings, is_shown, end_findings}
 use Rattle.tlv_show.specs.Items.{Item, FindingAt, OpeningLine, ClosingLine, PrimitiveLines, OpenPrimitiveLines}
 use Rattle.tlv_show.specs.Items.{PaddingLine, headers, items}
 use Rattle.tlv_show.specs.Items.{contents_items, end_items, finding_items}

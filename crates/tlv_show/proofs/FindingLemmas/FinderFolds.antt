@@ -6,7 +6,7 @@ use Rattle.std.proofs.lemmas.Bool.{true≢false}
 use Rattle.std.specs.List.{fold, list_all}
 use Rattle.tlv_head.specs.Header.{HeaderValue, announced_length, octets_of, wraps}
 use Rattle.tlv_value.specs.declared.finding.Finding.{Finding}
-use Rattle.tlv_value.specs.ValueCheckState.{value_check_after, has_unused_bits, new_value_check}
+use Rattle.tlv_value.specs.ValueCheckState.{has_unused_bits, value_check_for}
 use Rattle.tlv_head.specs.UniversalTypes.{bit_string}
 use Rattle.tlv_value.specs.Types.{has_segments, is_a, is_primitive}
 use Rattle.tlv_walk.specs.Forest.{Forest, NoMore, PaddingOctet, Primitive, Holder, OpenPrimitive, OpenHolder}
@@ -18,7 +18,7 @@ use Rattle.tlv_show.specs.Conditions.{bits_octet_count, ends_empty, segments_of}
 use Rattle.tlv_show.specs.NestingState.{frame_after, frame_after_segment, frame_of, frame_under, top_frame, segments_in}
 use Rattle.tlv_show.specs.Items.{headers}
 use Rattle.tlv_show.proofs.FindingLemmas.HeaderFindings.{end-by, ends_by}
-use Rattle.tlv_show.specs.Found.{end_findings}
+use Rattle.tlv_show.specs.ShownFindings.{end_findings}
 use Rattle.tlv_show.proofs.FindingLemmas.FramesAfter.{in-string, outside}
 
 -- a frame after elements of which none is open
@@ -27,7 +27,7 @@ frame_after_elements w NoMore = w
 frame_after_elements w (PaddingOctet rest) = frame_after_elements w rest
 frame_after_elements w (Primitive h c rest) =
     frame_after_elements
-    (frame_after w true (announced_length h.size) (has_unused_bits (value_check_after (new_value_check h) c)))
+    (frame_after w true (announced_length h.size) (has_unused_bits (value_check_for h c)))
     rest
 frame_after_elements w (Holder h inside rest) =
     frame_after_elements (frame_after w (is_primitive h) (announced_length h.size) false) rest
@@ -44,7 +44,7 @@ frame_after_segments w (PaddingOctet rest) = frame_after_segments w rest
 frame_after_segments w (Primitive h c rest) =
     frame_after_segments
     (frame_after_segment w true (announced_length h.size)
-    (has_unused_bits (value_check_after (new_value_check h) c)))
+    (has_unused_bits (value_check_for h c)))
     rest
 frame_after_segments w (Holder h inside rest) =
     frame_after_segments (frame_after_segment w (is_primitive h) (announced_length h.size) false) rest
@@ -59,7 +59,7 @@ all-in-string : (w : HolderFrame) (f : Forest) → w.has_segments ≡ true
 all-in-string w NoMore e = refl
 all-in-string w (PaddingOctet rest) e = all-in-string w rest e
 all-in-string w (Primitive h c rest) e =
-    let u : Bool = has_unused_bits (value_check_after (new_value_check h) c) in
+    let u : Bool = has_unused_bits (value_check_for h c) in
     ap (λ (t : HolderFrame). frame_after_elements t rest) (in-string w true (announced_length h.size) u e)
     ∙ all-in-string (frame_after_segment w true (announced_length h.size) u) rest e
 all-in-string w (Holder h inside rest) e =
@@ -77,7 +77,7 @@ all-outside w NoMore e = refl
 all-outside w (PaddingOctet rest) e = all-outside w rest e
 all-outside w (Primitive h c rest) e =
     ap (λ (t : HolderFrame). frame_after_elements t rest)
-    (outside w true (announced_length h.size) (has_unused_bits (value_check_after (new_value_check h) c)) e)
+    (outside w true (announced_length h.size) (has_unused_bits (value_check_for h c)) e)
     ∙ all-outside w rest e
 all-outside w (Holder h inside rest) e =
     ap (λ (t : HolderFrame). frame_after_elements t rest) (outside w (is_primitive h) (announced_length h.size) false e)
@@ -114,9 +114,9 @@ frame-stays w NoMore = record { offset = refl; announced_length = refl; primitiv
 frame-stays w (PaddingOctet rest) = frame-stays w rest
 frame-stays w (Primitive h c rest) =
     stays-then
-    (stays-after w true (announced_length h.size) (has_unused_bits (value_check_after (new_value_check h) c)))
+    (stays-after w true (announced_length h.size) (has_unused_bits (value_check_for h c)))
     (frame-stays
-    (frame_after w true (announced_length h.size) (has_unused_bits (value_check_after (new_value_check h) c)))
+    (frame_after w true (announced_length h.size) (has_unused_bits (value_check_for h c)))
     rest)
 frame-stays w (Holder h inside rest) =
     stays-then (stays-after w (is_primitive h) (announced_length h.size) false)
@@ -161,7 +161,7 @@ sums-up p w n (PaddingOctet rest) v e o =
 sums-up p w n (Primitive h c rest) v e o =
     let d : ℕ = announced_length h.size - bits_octet_count w.is_bit_string in
     let k : is_primitive h ≡ true = ap not (not-constructed h.constructed (wraps h) v.0.0.header.form) in
-    let u : Bool = has_unused_bits (value_check_after (new_value_check h) c) in
+    let u : Bool = has_unused_bits (value_check_for h c) in
     let r =
     sums-up (place_after p (length (octets_of h) + length c))
     (frame_after_segment w true (announced_length h.size) u) (n + d) rest v.1 e

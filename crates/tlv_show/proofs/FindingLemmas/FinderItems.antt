@@ -6,8 +6,7 @@ use Rattle.std.specs.List.{filter}
 use Rattle.std.specs.Prelude.{None}
 use Rattle.tlv_head.specs.Header.{HasAllContents, HeaderValue, announced_length, octets_of, wraps}
 use Rattle.tlv_value.specs.declared.finding.Finding.{Finding}
-use Rattle.tlv_value.specs.ValueCheckState.{value_check_after, has_unused_bits}
-use Rattle.tlv_value.specs.ValueCheckState.{new_value_check}
+use Rattle.tlv_value.specs.ValueCheckState.{has_unused_bits, value_check_for}
 use Rattle.tlv_value.specs.Types.{is_primitive}
 use Rattle.tlv_walk.specs.Events.{EventValue, closing_event}
 use Rattle.tlv_walk.specs.Events.{end_octets_offset, events}
@@ -18,7 +17,7 @@ use Rattle.tlv_show.specs.declared.holder_frame.HolderFrame.{HolderFrame}
 use Rattle.tlv_show.specs.declared.rules.Rules.{Rules}
 use Rattle.tlv_show.specs.FinderState.{CheckState}
 use Rattle.tlv_show.specs.NestingState.{frame_after, frame_under, surroundings_in}
-use Rattle.tlv_show.specs.Found.{contents_findings, header_findings, end_findings}
+use Rattle.tlv_show.specs.ShownFindings.{contents_findings, header_findings, end_findings}
 use Rattle.tlv_show.specs.Items.{Item, FindingAt, OpeningLine, ClosingLine, PrimitiveLines, OpenPrimitiveLines}
 use Rattle.tlv_show.specs.Items.{PaddingLine, headers, items}
 use Rattle.tlv_show.specs.Items.{contents_items, end_items, finding_items, header_items}
@@ -94,7 +93,7 @@ module _ (rules : Rules) where
   finds_forest p s w outer (Primitive h c rest) v k l d free =
       let size : HasAllContents h c = ap announced_length v.0.1 in
       let form : h.constructed ≡ false = not-constructed h.constructed (wraps h) v.0.0.header.form in
-      let u : Bool = has_unused_bits (value_check_after (new_value_check h) c) in
+      let u : Bool = has_unused_bits (value_check_for h c) in
       let known : Knows (after_primitive rules w h c) (site_after_primitive s h c) =
       subst (λ (b : Bool). Knows (frame_after w b (announced_length h.size) u) (site_after_primitive s h c))
       (ap not form)

@@ -6,7 +6,7 @@ use Rattle.std.specs.List.{filter}
 use Rattle.std.specs.Prelude.{Option, Some, None}
 use Rattle.tlv_head.specs.Header.{HasAllContents, HeaderValue, announced_length}
 use Rattle.tlv_value.specs.declared.finding.Finding.{Finding}
-use Rattle.tlv_value.specs.ValueCheckState.{ValueCheckState, value_check_after, findings_in, has_unused_bits}
+use Rattle.tlv_value.specs.ValueCheckState.{ValueCheckState, findings_in, has_unused_bits, value_check_for}
 use Rattle.tlv_value.specs.ValueCheckState.{new_value_check}
 use Rattle.tlv_value.specs.Types.{is_primitive}
 use Rattle.tlv_value.proofs.CheckLemmas.CheckPieces.{checked-none, findings-end}
@@ -22,7 +22,7 @@ use Rattle.tlv_show.specs.FinderState.{CheckState, FinderState, contents_finding
 use Rattle.tlv_show.specs.FinderState.{finder_bytes_step, finder_close_step, finder_end_step, finder_open_step}
 use Rattle.tlv_show.specs.NestingState.{depth_in, frame_after, frame_under, nesting_primitive_step, surroundings_in}
 use Rattle.tlv_show.specs.Private.FinderState.{finder_step}
-use Rattle.tlv_show.specs.Found.{contents_findings, header_findings, is_shown, end_findings}
+use Rattle.tlv_show.specs.ShownFindings.{contents_findings, header_findings, is_shown, end_findings}
 use Rattle.tlv_show.specs.Items.{Item}
 use Rattle.tlv_show.specs.Items.{headers}
 use Rattle.tlv_show.specs.Items.{finding_items}
@@ -66,19 +66,19 @@ with_check s offset t = record s { open_primitive = Some (record { offset = offs
 
 bytes_step-all : (s : CheckState) (offset : ℕ) (h : HeaderValue) (c : List ℕ) → length c ≤ announced_length h.size
     → finder_bytes_step (with_check s offset (new_value_check h)) c
-    ≡ with_check s offset (value_check_after (new_value_check h) c)
+    ≡ with_check s offset (value_check_for h c)
 bytes_step-all s offset h [] e = ap (with_check s offset) (sym (checked-none h))
 bytes_step-all s offset h (x ∷ c) e =
     rw (one-or-more x c)
-    (ap (λ (l : List ℕ). with_check s offset (value_check_after (new_value_check h) l))
+    (ap (λ (l : List ℕ). with_check s offset (value_check_for h l))
     (take_all (announced_length h.size) (x ∷ c) e))
 
 -- what is found at their end
 contents_findings-at_end : (rules : Rules) (h : HeaderValue) (c : List ℕ) → HasAllContents h c
-    → contents_findings_in rules (value_check_after (new_value_check h) c) ≡ contents_findings rules h c
+    → contents_findings_in rules (value_check_for h c) ≡ contents_findings rules h c
 contents_findings-at_end rules h c e =
     let none : (announced_length h.size - length c == 0) ≡ true = grind (arith, nat_tests) in
-    ap (λ (b : Bool). if b then filter (is_shown rules) (findings_in (value_check_after (new_value_check h) c)) else [])
+    ap (λ (b : Bool). if b then filter (is_shown rules) (findings_in (value_check_for h c)) else [])
     none
     ∙ ap (filter (is_shown rules)) (findings-end h c e)
 
@@ -95,7 +95,7 @@ pub primitive-found : (s : CheckState) (h : HeaderValue) (c : List ℕ) → HasA
     })
 primitive-found s h c e =
     let n = saturating_sum s.finding_count (length (header_findings s.rules (surroundings_in s.holders.frame) h)) in
-    let t : ValueCheckState = value_check_after (new_value_check h) c in
+    let t : ValueCheckState = value_check_for h c in
     let state_with : List Finding → CheckState = λ fs. record {
       rules = s.rules;
       holders = nesting_primitive_step s.holders (announced_length h.size) (has_unused_bits t);
@@ -196,7 +196,7 @@ module _ (rules : Rules) where
 
   abbrev pub after_primitive : HolderFrame → HeaderValue → List ℕ → HolderFrame
   after_primitive w h c =
-      frame_after w true (announced_length h.size) (has_unused_bits (value_check_after (new_value_check h) c))
+      frame_after w true (announced_length h.size) (has_unused_bits (value_check_for h c))
 
   abbrev pub after_contents : HolderFrame → HeaderValue → List ℕ → ℕ → ℕ
   after_contents w h c n = saturating_sum (later_header w h n) (length (contents_findings rules h c))

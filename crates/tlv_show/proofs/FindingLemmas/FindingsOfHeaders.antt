@@ -7,7 +7,7 @@ use Rattle.tlv_value.specs.declared.finding.Finding.{Finding}
 use Rattle.tlv_value.specs.Checks.{findings_by}
 use Rattle.tlv_show.specs.declared.rules.Rules.{Rules}
 use Rattle.tlv_show.specs.Conditions.{header_conditions, Surroundings}
-use Rattle.tlv_show.specs.Found.{header_findings, is_shown}
+use Rattle.tlv_show.specs.ShownFindings.{header_findings, is_shown}
 
 -- one of the conditions holds whose findings are shown and pass the test
 abbrev pub any_of : (Finding → Bool) → Rules → List (Bool × Finding) → Bool

@@ -4,7 +4,7 @@ use Rattle.std.proofs.Common.{subst, ap, ap₂, ◌∙◌}
 use Rattle.std.proofs.lemmas.Bool.{eqb-true}
 use Rattle.std.specs.Prelude.{Option, None, eqb, Some}
 use Rattle.tlv_head.specs.Header.{HeaderValue, announced_length, is_universal}
-use Rattle.tlv_value.specs.ValueCheckState.{value_check_after, has_unused_bits, begins_nonzero, new_value_check}
+use Rattle.tlv_value.specs.ValueCheckState.{begins_nonzero, has_unused_bits, value_check_after, value_check_for}
 use Rattle.tlv_value.specs.ValueCheckState.{new_value_check_of}
 use Rattle.tlv_head.specs.UniversalTypes.{bit_string, octet_string}
 use Rattle.tlv_value.specs.Types.{has_segments, is_a, is_primitive, type_number}
@@ -80,7 +80,7 @@ type-is true n = refl
 type-is false n = refl
 
 pub unused-of : (h : HeaderValue) (c : List ℕ) → h.constructed ≡ false
-    → has_unused_bits (value_check_after (new_value_check h) c)
+    → has_unused_bits (value_check_for h c)
     ≡ leaves_unused_bits (Sibling h (first_contents_octet c))
 unused-of h [] e = ap has_unused_bits (checked-none h) ∙ by-none (eqb (type_number h) bit_string)
   where

@@ -14,7 +14,7 @@ use Rattle.tlv_show.specs.declared.rules.Rules.TheVariants.{Ber, Der, Cer}
 use Rattle.tlv_show.specs.Conditions.{header_conditions, Surroundings, basic_conditions, cer_conditions, der_conditions}
 use Rattle.tlv_show.specs.Conditions.{bits_octet_count, length_conditions, surroundings_of}
 use Rattle.tlv_show.specs.NestingState.{surroundings_in}
-use Rattle.tlv_show.specs.Found.{header_findings, is_shown, shown_findings}
+use Rattle.tlv_show.specs.ShownFindings.{header_findings, is_shown, shown_findings}
 use Rattle.tlv_show.specs.Site.{Site}
 
 -- a frame says to the conditions what the site says

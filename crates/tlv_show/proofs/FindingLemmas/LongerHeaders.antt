@@ -6,8 +6,8 @@ use Rattle.std.proofs.lemmas.Bool.Decides.{nat_tests}
 use Rattle.std.proofs.Math.Bool.{and-false, or-false}
 use Rattle.std.specs.List.{list_any}
 use Rattle.tlv_head.specs.Header.{HeaderValue, IsHeader, announced_length, second_length_octet}
-use Rattle.tlv_head.specs.Shortest.{IsShortestIdentifier, IsShortestLength}
-use Rattle.tlv_head.proofs.ShortestLemmas.Shortest.{identifier-from, lengths-from}
+use Rattle.tlv_head.specs.ShortestHeaders.{IsShortestIdentifier, IsShortestLength}
+use Rattle.tlv_head.proofs.ShortestLemmas.OneShortest.{identifier-from, lengths-from}
 use Rattle.tlv_head.proofs.ShortestLemmas.ShortestSpelling.{no-shorter_identifier, no-shorter_length}
 use Rattle.tlv_head.proofs.ShortestLemmas.ShortestSpelling.{shorter-identifier, shorter-length}
 use Rattle.tlv_show.specs.declared.rules.Rules.{Rules}
@@ -15,7 +15,7 @@ use Rattle.tlv_show.specs.declared.rules.Rules.TheVariants.{Ber, Der, Cer}
 use Rattle.tlv_show.specs.Conditions.{begins_with_zero_bits, is_high_form_needless, is_length_padded}
 use Rattle.tlv_show.specs.Conditions.{has_high_form, has_long_form, header_conditions, number_bits}
 use Rattle.tlv_show.specs.Conditions.{Surroundings}
-use Rattle.tlv_show.specs.Found.{header_findings}
+use Rattle.tlv_show.specs.ShownFindings.{header_findings}
 use Rattle.tlv_show.specs.Spellings.{LongerIdentifiersAreFound, LongerLengthsAreFound, is_on_identifier, is_on_lengths}
 use Rattle.tlv_show.proofs.FindingLemmas.FindingsOfHeaders.{any_of, found-with_header}
 use Rattle.tlv_show.proofs.FindingLemmas.Spellings.{high-form, long-form}

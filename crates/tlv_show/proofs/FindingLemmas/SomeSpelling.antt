@@ -11,7 +11,7 @@ use Rattle.std.specs.Prelude.{None, if◌then◌else◌}
 use Rattle.tlv_head.specs.Header.{HeaderValue, octets_of}
 use Rattle.tlv_value.specs.Checks.{contents_conditions}
 use Rattle.tlv_walk.specs.declared.framing.Framing.{Framing}
-use Rattle.tlv_walk.specs.Alike.{AreAlike, holders, nothing, padding, primitives}
+use Rattle.tlv_walk.specs.AlikeElements.{AreAlike, holders, nothing, padding, primitives}
 use Rattle.tlv_walk.specs.Events.{end_octets_offset}
 use Rattle.tlv_walk.specs.Forest.{Forest, NoMore, PaddingOctet, Primitive, Holder, OpenPrimitive, OpenHolder}
 use Rattle.tlv_walk.specs.Forest.{OpenBitString, OpenHeader, OpenEndOctets, extent, has_element, spelling}
@@ -20,18 +20,18 @@ use Rattle.tlv_walk.proofs.EventLemmas.NamedOffsets.{AreRising, can-from, can-to
 use Rattle.tlv_walk.specs.Place.{ObeysGrammar, Place, is_indefinite, place_after, place_of_children, top_place}
 use Rattle.tlv_walk.specs.Reading.{IsReading, IsSound, IsSoundList}
 use Rattle.tlv_walk.specs.Wrappers.{wrapper_offset, wrapper_offsets}
-use Rattle.tlv_walk.proofs.GrammarLemmas.Alike.{AreRegular, IsRegular}
+use Rattle.tlv_walk.proofs.GrammarLemmas.AlikeSpellings.{AreRegular, IsRegular}
 use Rattle.tlv_walk.proofs.GrammarLemmas.Endings.{done-sound, sound-done, sound-reading}
 use Rattle.tlv_walk.proofs.GrammarLemmas.Readings.{reading-unique}
 use Rattle.tlv_walk.proofs.GrammarLemmas.PlacedSpelling.{SpelledAt, Spelling}
-use Rattle.tlv_walk.proofs.GrammarLemmas.Respelled.{sound-spelling}
+use Rattle.tlv_walk.proofs.GrammarLemmas.RespelledElements.{sound-spelling}
 use Rattle.tlv_walk.proofs.EventLemmas.Wrappers.{AreNamed, Rise, wrapper_offsets-named, wrapper_offsets-rise}
 use Rattle.tlv_show.specs.declared.rules.Rules.{Rules}
 use Rattle.tlv_show.specs.declared.rules.Rules.TheVariants.{Ber, Der, Cer}
 use Rattle.tlv_show.specs.Conditions.{begins_with_zero_bits, is_high_form_needless, is_length_padded}
 use Rattle.tlv_show.specs.Conditions.{Segments, end_conditions, header_conditions}
 use Rattle.tlv_show.specs.Conditions.{segments_of, surroundings_of}
-use Rattle.tlv_show.specs.Found.{contents_findings, header_findings, end_findings}
+use Rattle.tlv_show.specs.ShownFindings.{contents_findings, header_findings, end_findings}
 use Rattle.tlv_show.specs.Items.{Item, OpeningLine, ClosingLine, PrimitiveLines, PaddingLine, headers, items}
 use Rattle.tlv_show.specs.Items.{contents_items, end_items, header_items}
 use Rattle.tlv_show.specs.Site.{Site, is_padding, site_of_children, top_site}

@@ -9,8 +9,8 @@ use Rattle.std.specs.Prelude.{None, if◌then◌else◌, slice_index}
 use Rattle.tlv_head.specs.declared.header.Size.{Size}
 use Rattle.tlv_head.specs.declared.header.Size.TheVariants.{Definite, Indefinite}
 use Rattle.tlv_head.specs.Header.{AllowsSize, HeaderValue, IsHeader, announced_length, octets_of, second_length_octet}
-use Rattle.tlv_head.specs.Shortest.{IsShortest}
-use Rattle.tlv_head.proofs.ShortestLemmas.Shortest.{identifier-from, lengths-from}
+use Rattle.tlv_head.specs.ShortestHeaders.{IsShortest}
+use Rattle.tlv_head.proofs.ShortestLemmas.OneShortest.{identifier-from, lengths-from}
 use Rattle.tlv_value.specs.declared.finding.Finding.{Finding}
 use Rattle.tlv_walk.specs.declared.ending.Ending.TheVariants.{Done}
 use Rattle.tlv_walk.specs.declared.framing.Framing.{Framing}
@@ -20,7 +20,7 @@ use Rattle.tlv_walk.specs.Forest.{Forest, NoMore, PaddingOctet, Primitive, Holde
 use Rattle.tlv_walk.specs.Forest.{OpenBitString, OpenHeader, OpenEndOctets, extent, spelling}
 use Rattle.tlv_walk.specs.Place.{Place, is_indefinite, place_after, place_of_children, top_place}
 use Rattle.tlv_walk.specs.Reading.{IsReading, IsSound, IsSoundList}
-use Rattle.tlv_walk.proofs.GrammarLemmas.Alike.{AreRegular, IsRegular, one_spelling}
+use Rattle.tlv_walk.proofs.GrammarLemmas.AlikeSpellings.{AreRegular, IsRegular, one_spelling}
 use Rattle.tlv_walk.proofs.GrammarLemmas.Endings.{done-sound, sound-reading}
 use Rattle.tlv_walk.proofs.GrammarLemmas.Readings.{reading-unique}
 use Rattle.tlv_show.specs.declared.rules.Rules.{Rules}
@@ -28,7 +28,7 @@ use Rattle.tlv_show.specs.declared.rules.Rules.TheVariants.{Ber, Der, Cer}
 use Rattle.tlv_show.specs.Conditions.{begins_with_zero_bits, is_high_form_needless, is_length_padded}
 use Rattle.tlv_show.specs.Conditions.{header_conditions, number_bits}
 use Rattle.tlv_show.specs.Conditions.{surroundings_of}
-use Rattle.tlv_show.specs.Found.{header_findings}
+use Rattle.tlv_show.specs.ShownFindings.{header_findings}
 use Rattle.tlv_show.specs.Items.{Item, OpeningLine, ClosingLine, PrimitiveLines, PaddingLine, items}
 use Rattle.tlv_show.specs.Items.{finding_items, contents_items, end_items, header_items}
 use Rattle.tlv_show.specs.Site.{Site, is_padding, site_of_children, top_site}

@@ -10,7 +10,7 @@ use Rattle.tlv_show.specs.declared.rules.Rules.TheVariants.{Ber}
 use Rattle.tlv_show.specs.Conditions.{begins_with_zero_bits, is_high_form_needless}
 use Rattle.tlv_show.specs.Conditions.{segment_type}
 use Rattle.tlv_show.specs.NestingState.{surroundings_in}
-use Rattle.tlv_show.specs.Found.{header_findings}
+use Rattle.tlv_show.specs.ShownFindings.{header_findings}
 use Rattle.tlv_show.specs.Private.UsualTypes.{IsUsual}
 use Rattle.tlv_show.proofs.FindingLemmas.HeaderFindings.{basic-found}
 

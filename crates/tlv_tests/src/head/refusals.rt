@@ -1,4 +1,5 @@
 //! Octets that are refused, and others in their place.
+ghost use Rattle.tlv_head.specs.DepthLimit.{depth_limit};
 ghost use Rattle.std.specs.Prelude.{◌≤◌};
 
 use super::octets::{OFFSET, Place, REFUSALS, Refusal, Shape, TOP};
@@ -8,7 +9,7 @@ use tlv_head::{Class, Fault, FaultCode, Head, HeadReader, Header, Size};
 
 /// The fault for which the last of the octets is refused.
 fn refused(octets: &[u8], place: Place) -> Option<Fault>
-    requires { place.depth ≤ 128 }
+    requires { place.depth ≤ depth_limit }
 {
     match read(octets, place) {
         Head::Refused(fault) => Some(fault),

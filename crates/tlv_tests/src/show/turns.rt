@@ -36,7 +36,7 @@ fn expect_reads(rt: &impl Abort, limit: u64)
                  }
 ";
     let mut room = [0; 200];
-    let mut piece = [0; 4];
+    let mut read_room = [0; 4];
     let mut walker = Walker::new(&Framing::plain());
     let names = Names::empty();
     let mut dump = Dump::new(&plain(), &names);
@@ -48,7 +48,7 @@ fn expect_reads(rt: &impl Abort, limit: u64)
         &mut dump,
         &mut source,
         &mut drain,
-        &mut piece,
+        &mut read_room,
         limit,
         &text[..33],
     );
@@ -58,7 +58,7 @@ fn expect_reads(rt: &impl Abort, limit: u64)
         &mut dump,
         &mut source,
         &mut drain,
-        &mut piece,
+        &mut read_room,
         limit,
         &text[..74],
     );
@@ -68,7 +68,7 @@ fn expect_reads(rt: &impl Abort, limit: u64)
         &mut dump,
         &mut source,
         &mut drain,
-        &mut piece,
+        &mut read_room,
         limit,
         text,
     );
@@ -77,7 +77,7 @@ fn expect_reads(rt: &impl Abort, limit: u64)
         &mut dump,
         &mut source,
         &mut drain,
-        &mut piece,
+        &mut read_room,
         limit,
     );
     expect_eq(rt, end, Ok(Turn::Ended(whole(11))));

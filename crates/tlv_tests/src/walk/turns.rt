@@ -14,7 +14,7 @@ const TEXT: &[u8] =
 #[test]
 fn turns_follow_one_read_each(rt: HostRuntime) {
     let mut room = [0; 128];
-    let mut piece = [0; 4];
+    let mut read_room = [0; 4];
     let mut walker = Walker::new(&Framing::plain());
     let mut lines = EventLines::up_to(0);
     let mut source = MemSource::new(INPUT, &[], None);
@@ -25,7 +25,7 @@ fn turns_follow_one_read_each(rt: HostRuntime) {
         &mut lines,
         &mut source,
         &mut drain,
-        &mut piece,
+        &mut read_room,
         LENGTH,
         &TEXT[..33],
     );
@@ -35,7 +35,7 @@ fn turns_follow_one_read_each(rt: HostRuntime) {
         &mut lines,
         &mut source,
         &mut drain,
-        &mut piece,
+        &mut read_room,
         LENGTH,
         &TEXT[..47],
     );
@@ -45,7 +45,7 @@ fn turns_follow_one_read_each(rt: HostRuntime) {
         &mut lines,
         &mut source,
         &mut drain,
-        &mut piece,
+        &mut read_room,
         LENGTH,
         TEXT,
     );
@@ -54,7 +54,7 @@ fn turns_follow_one_read_each(rt: HostRuntime) {
         &mut lines,
         &mut source,
         &mut drain,
-        &mut piece,
+        &mut read_room,
         LENGTH,
     );
     let run = Run {
@@ -71,7 +71,7 @@ fn turns_follow_one_read_each(rt: HostRuntime) {
 #[test]
 fn a_turn_after_a_failed_read_goes_on(rt: HostRuntime) {
     let mut room = [0; 128];
-    let mut piece = [0; 16];
+    let mut read_room = [0; 16];
     let mut walker = Walker::new(&Framing::plain());
     let mut lines = EventLines::up_to(0);
     let mut source = MemSource::new(INPUT, &[5], Some(1));
@@ -82,7 +82,7 @@ fn a_turn_after_a_failed_read_goes_on(rt: HostRuntime) {
         &mut lines,
         &mut source,
         &mut drain,
-        &mut piece,
+        &mut read_room,
         LENGTH,
         &TEXT[..36],
     );
@@ -92,7 +92,7 @@ fn a_turn_after_a_failed_read_goes_on(rt: HostRuntime) {
         &mut lines,
         &mut source,
         &mut drain,
-        &mut piece,
+        &mut read_room,
         LENGTH,
         &TEXT[..36],
     );
@@ -103,7 +103,7 @@ fn a_turn_after_a_failed_read_goes_on(rt: HostRuntime) {
         &mut lines,
         &mut source,
         &mut drain,
-        &mut piece,
+        &mut read_room,
         LENGTH,
         TEXT,
     );

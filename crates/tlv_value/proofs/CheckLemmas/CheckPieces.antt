@@ -8,7 +8,7 @@ use Rattle.std.specs.Str.{is_utf8}
 use Rattle.tlv_head.specs.Header.{HeaderValue, announced_length}
 use Rattle.tlv_value.specs.declared.kind.Kind.TheVariants.{Utf8}
 use Rattle.tlv_value.specs.CheckLaws.{ChecksJoin, FindingsEnd}
-use Rattle.tlv_value.specs.ValueCheckState.{ValueCheckState, value_check_after, new_value_check}
+use Rattle.tlv_value.specs.ValueCheckState.{ValueCheckState, new_value_check, value_check_for}
 use Rattle.tlv_value.specs.ValueCheckState.{new_value_check_of, notes_each, notes_first, facts_in, notes_time}
 use Rattle.tlv_value.specs.ValueCheckState.{with_each_noted, with_first_noted, with_octets_noted, with_time_noted}
 use Rattle.tlv_value.specs.Checks.{ContentsFacts, allows_octet, findings_by, is_padded_after, last_octet}
@@ -186,7 +186,7 @@ none-by false true t n size =
 none-by false false true n size = ap (λ (l : ℕ). record (new_value_check_of n size) { left = l }) (omega arith)
 none-by false false false n size = ap (λ (l : ℕ). record (new_value_check_of n size) { left = l }) (omega arith)
 
-pub checked-none : (h : HeaderValue) → value_check_after (new_value_check h) [] ≡ new_value_check h
+pub checked-none : (h : HeaderValue) → value_check_for h [] ≡ new_value_check h
 checked-none h =
     let n = type_number h in
     none-by (notes_first n) (notes_each n) (notes_time n) n (announced_length h.size)

@@ -10,7 +10,7 @@ use Rattle.std.specs.Str.{is_utf8}
 use Rattle.tlv_value.specs.declared.kind.Kind.{Kind}
 use Rattle.tlv_value.specs.declared.kind.Kind.TheVariants.{Octets, Boolean, Integer, Bits, Object, Relative, Text, Utf8}
 use Rattle.tlv_value.specs.declared.kind.Kind.TheVariants.{Ucs2, Ucs4}
-use Rattle.tlv_value.specs.Private.Unescaped.{has_ascii_octets, is_unescaped}
+use Rattle.tlv_value.specs.Private.UnescapedCharacters.{has_ascii_octets, is_unescaped}
 use Rattle.tlv_io.specs.Cuts.{utf8_length}
 use Rattle.tlv_value.specs.Units.{octet_text, unit_size, unit_text, units}
 use Rattle.tlv_value.proofs.TextLemmas.UnitSteps.{units-step}

@@ -10,7 +10,7 @@ use Rattle.tlv_walk.proofs.GrammarLemmas.Spellings.{prefix-of}
 use Rattle.tlv_walk.proofs.GrammarLemmas.PushSteps.{Grown}
 use Rattle.tlv_walk.proofs.GrammarLemmas.PopHeaders.{list-back, is_nil, is_push}
 use Rattle.tlv_walk.proofs.GrammarLemmas.Readings.{PoppedBy, popped-by, spelling-unique}
-use Rattle.tlv_walk.proofs.EventLemmas.Joined.{apart-before, joined-from_apart}
+use Rattle.tlv_walk.proofs.EventLemmas.JoinedEvents.{apart-before, joined-from_apart}
 use Rattle.tlv_walk.proofs.EventLemmas.NextEvents.{Brings, gain_events, push-brings}
 
 -- the events are those, each octet by itself, and then others

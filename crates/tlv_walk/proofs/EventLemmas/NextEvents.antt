@@ -13,7 +13,7 @@ use Rattle.tlv_walk.specs.Events.{opening_events, single_octets}
 use Rattle.tlv_walk.proofs.GrammarLemmas.Bounds.{fits}
 use Rattle.tlv_walk.proofs.GrammarLemmas.PushSteps.{PushStep, Grown, Ended, Refused, holder_so_far, push_after}
 use Rattle.tlv_walk.proofs.GrammarLemmas.PushSteps.{is_filled_by, primitive_so_far, push, settle}
-use Rattle.tlv_walk.proofs.EventLemmas.Joined.{apart-before, apart-more, bytes_apart}
+use Rattle.tlv_walk.proofs.EventLemmas.JoinedEvents.{apart-before, apart-more, bytes_apart}
 
 -- the events of what a step gives
 abbrev pub step_events : PushStep → List EventValue

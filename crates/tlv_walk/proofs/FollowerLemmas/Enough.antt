@@ -12,7 +12,7 @@ use Rattle.tlv_walk.specs.Forest.{Forest}
 use Rattle.tlv_walk.specs.Job.{ComesTo, EndsWith, HasEnding, Job, WantMore, at_enough, at_fault, at_input_end}
 use Rattle.tlv_walk.specs.Job.{read_failed}
 use Rattle.tlv_walk.specs.Job.{write_failed, too_long}
-use Rattle.tlv_walk.proofs.GrammarLemmas.Unique.{shows-soundness}
+use Rattle.tlv_walk.proofs.GrammarLemmas.OneEnding.{shows-soundness}
 
 module _ {A : Type 0} (job : Job A) (given : List ℕ) (f : Forest) (new : SourceState) where
   -- the ending stays whatever follows, or nothing follows

@@ -27,7 +27,7 @@ use Rattle.tlv_walk.specs.Stands.{Stands, waiting_events}
 use Rattle.tlv_walk.specs.StepsTo.{StepsTo}
 use Rattle.tlv_walk.specs.HasRead.{StandsRefused}
 use Rattle.tlv_walk.proofs.FollowerLemmas.FollowedEvents.{events_more, events_one, followed-more, followed-one}
-use Rattle.tlv_walk.proofs.EventLemmas.Joined.{apart-before, apart-from_joined, joined-from_apart}
+use Rattle.tlv_walk.proofs.EventLemmas.JoinedEvents.{apart-before, apart-from_joined, joined-from_apart}
 use Rattle.tlv_walk.proofs.EventLemmas.LongerInputs.{events-prefix}
 use Rattle.tlv_io.proofs.Puts.{HasPut, puts_as, puts_failed_last, puts_nothing, puts_then_as}
 use Rattle.tlv_walk.proofs.WalkerLemmas.HasRead.{never_refused}

@@ -26,7 +26,7 @@ use Rattle.tlv_walk.specs.OneTurn.{EndsIn, HasEnoughIn, StandsAfter, TurnStates}
 use Rattle.tlv_walk.specs.Wrappers.{first_not_among, first_without_wrapper, entered_offsets}
 use Rattle.tlv_walk.proofs.FollowerLemmas.FollowSteps.{walked_goes_on}
 use Rattle.tlv_walk.proofs.WalkerLemmas.EventOctets.{stands-yielded_octets}
-use Rattle.tlv_walk.proofs.EventLemmas.Unused.{stands-entered, stands_unused}
+use Rattle.tlv_walk.proofs.EventLemmas.UnusedOffset.{stands-entered, stands_unused}
 use Rattle.tlv_walk.proofs.FollowerLemmas.Pauses.{fault_octets, fault_is_reading, stands_spelled, stands_yielded}
 use Rattle.tlv_walk.proofs.FollowerLemmas.Pauses.{walked_refused}
 

@@ -30,7 +30,7 @@ use Rattle.tlv_walk.specs.Stands.{Stands}
 use Rattle.tlv_walk.specs.HasRead.{IfAtEnd, took_all}
 use Rattle.tlv_walk.specs.OneTurn.{EndsIn, HasEnoughIn, StandsAfter, TurnStates, TurnsTo, at_enough, at_fault}
 use Rattle.tlv_walk.specs.OneTurn.{at_input_end}
-use Rattle.tlv_walk.proofs.GrammarLemmas.Finals.{refused-final}
+use Rattle.tlv_walk.proofs.GrammarLemmas.FinalFaults.{refused-final}
 use Rattle.tlv_walk.proofs.FollowerLemmas.FollowedEvents.{followed-prefix}
 use Rattle.tlv_io.proofs.Sends.{sends_err, sends_ok}
 use Rattle.tlv_walk.proofs.GrammarLemmas.Readings.{reading-longer}

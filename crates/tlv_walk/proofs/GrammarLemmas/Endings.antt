@@ -18,7 +18,7 @@ use Rattle.tlv_walk.proofs.GrammarLemmas.Readings.{PushRun, Going, Halted, IsHal
 use Rattle.tlv_walk.proofs.GrammarLemmas.Readings.{halt-longest, is-run}
 use Rattle.tlv_walk.proofs.GrammarLemmas.Readings.{push_all, run-reading, spelling-unique}
 use Rattle.tlv_walk.proofs.GrammarLemmas.Spellings.{prefix-same}
-use Rattle.tlv_walk.proofs.GrammarLemmas.Sound.{grammar-sound, sound-obeys_grammar_top, sound-whole}
+use Rattle.tlv_walk.proofs.GrammarLemmas.SoundElements.{grammar-sound, sound-obeys_grammar_top, sound-whole}
 use Rattle.tlv_walk.proofs.GrammarLemmas.Faults.{fault-refused, refused-fault}
 
 -- the ending of a run of pushes over n octets

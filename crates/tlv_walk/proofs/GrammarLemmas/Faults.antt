@@ -12,7 +12,7 @@ use Rattle.tlv_head.proofs.GrammarLemmas.Scan.{Over, moved_header, step}
 use Rattle.tlv_head.proofs.GrammarLemmas.Scan.{scan, scan-moved_header, more-from_prefix}
 use Rattle.tlv_head.proofs.GrammarLemmas.Meaning.{IsStateAfter, reads-step, reads-scan, prefix-bytes}
 use Rattle.tlv_head.proofs.GrammarLemmas.Headers.{IsHeadRefusal, Explains, step-explains}
-use Rattle.tlv_head.proofs.GrammarLemmas.Refused.{refused-stuck}
+use Rattle.tlv_head.proofs.GrammarLemmas.RefusedOctets.{refused-stuck}
 use Rattle.tlv_walk.specs.declared.framing.Framing.{Framing}
 use Rattle.tlv_walk.specs.Forest.{Forest, NoMore, OpenPrimitive, OpenBitString, OpenHeader, OpenEndOctets}
 use Rattle.tlv_walk.specs.Place.{Fits, IsHeaderAt, ObeysGrammar, Place, top_place}

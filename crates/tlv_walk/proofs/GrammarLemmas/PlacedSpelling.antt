@@ -1,13 +1,13 @@
 -- A spelling that elements can have at any place, and the offsets that are then named: those of an element that holds
 -- others and of what is after it are joined.
 use Rattle.std.proofs.Common.{◌≡◌, not, ℕ, ◌+◌, ◌*◌, ◌<◌, ◌≤◌, Bool, false, List, ◌++◌, length, ◌∙◌, arith}
-use Rattle.tlv_walk.specs.Alike.{AreAlike}
+use Rattle.tlv_walk.specs.AlikeElements.{AreAlike}
 use Rattle.tlv_walk.specs.Forest.{Forest, spelling}
 use Rattle.tlv_walk.specs.Inside.{is_among}
 use Rattle.tlv_walk.specs.Place.{Place}
 use Rattle.tlv_walk.specs.Reading.{IsSound}
 use Rattle.tlv_walk.specs.Wrappers.{wrapper_offset_by, wrapper_offsets}
-use Rattle.tlv_walk.proofs.GrammarLemmas.Alike.{AreRegular}
+use Rattle.tlv_walk.proofs.GrammarLemmas.AlikeSpellings.{AreRegular}
 use Rattle.tlv_walk.proofs.GrammarLemmas.ShortHeaders.{own-there, own-apart, in-first, in-second, in-third}
 
 -- a place where the same may be, whatever is named

@@ -11,9 +11,9 @@ use Rattle.tlv_head.specs.declared.header.Size.{Size}
 use Rattle.tlv_head.specs.declared.header.Size.TheVariants.{Definite, Indefinite}
 use Rattle.tlv_head.specs.Header.{AllowsSize, HeaderValue, IsHeader, IsIdentifier, announced_length, is_universal}
 use Rattle.tlv_head.specs.Header.{is_wrapper, identifier_octet}
-use Rattle.tlv_head.specs.Shortest.{IsShortest}
+use Rattle.tlv_head.specs.ShortestHeaders.{IsShortest}
 use Rattle.tlv_head.proofs.ShortestLemmas.LengthOctets.{FewLengths, few-lengths}
-use Rattle.tlv_head.proofs.ShortestLemmas.Shortest.{identifier-le, identifier-some}
+use Rattle.tlv_head.proofs.ShortestLemmas.OneShortest.{identifier-le, identifier-some}
 use Rattle.tlv_head.proofs.ShortestLemmas.ShortestSpelling.{ShortIdentifier, ShortLength, short-identifier}
 use Rattle.tlv_walk.specs.Forest.{end_octets, lead_by}
 use Rattle.tlv_walk.specs.Inside.{is_among}

@@ -20,7 +20,7 @@ use Rattle.tlv_walk.specs.Private.Zipper.{AreLayers, BitStringTail, NoTail, HasZ
 use Rattle.tlv_walk.specs.Private.Zipper.{HeaderTail, IsPhaseOf, Layer, Tail, Zipper, events_of_layers, events_of_tail}
 use Rattle.tlv_walk.specs.Private.Zipper.{events_of_zipper, place_in, place_of, spelling_of_layers, spelling_of_tail}
 use Rattle.tlv_walk.specs.Stands.{Stands}
-use Rattle.tlv_walk.proofs.EventLemmas.Joined.{apart-from_joined}
+use Rattle.tlv_walk.proofs.EventLemmas.JoinedEvents.{apart-from_joined}
 
 -- ---- however they are cut into pieces
 

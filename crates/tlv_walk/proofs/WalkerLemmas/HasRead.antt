@@ -16,9 +16,9 @@ use Rattle.tlv_walk.specs.HasRead.{HasRead, StandsAtEnd, refused_one, refused, t
 use Rattle.tlv_walk.specs.Wrappers.{first_without_wrapper}
 use Rattle.tlv_walk.proofs.WalkerLemmas.Depths.{state-depth}
 use Rattle.tlv_walk.proofs.GrammarLemmas.Readings.{reading-unique}
-use Rattle.tlv_walk.proofs.GrammarLemmas.Unique.{shows-soundness}
+use Rattle.tlv_walk.proofs.GrammarLemmas.OneEnding.{shows-soundness}
 use Rattle.tlv_walk.proofs.WalkerLemmas.ZipperReading.{state-reading}
-use Rattle.tlv_walk.proofs.EventLemmas.Unused.{stands_unused}
+use Rattle.tlv_walk.proofs.EventLemmas.UnusedOffset.{stands_unused}
 use Rattle.tlv_walk.proofs.WalkerLemmas.Waiting.{idle-none_waits}
 
 pub read_depth : (w : WalkerState) (b : List ℕ) (f : Forest) → HasRead w b f → IsIdle w → length w.stack ≡ depth_of f

@@ -27,10 +27,10 @@ use Rattle.tlv_walk.specs.Private.FollowsPiece.{WalksOver}
 use Rattle.tlv_walk.specs.Private.Yields.{Continues, RefusesOctet, Steps, YieldsEvent, YieldsEvents, YieldsFault}
 use Rattle.std.specs.Prelude.{slice_get}
 use Rattle.tlv_walk.proofs.GrammarLemmas.Endings.{refused-reading}
-use Rattle.tlv_walk.proofs.GrammarLemmas.Finals.{refused-final}
-use Rattle.tlv_walk.proofs.GrammarLemmas.Unique.{never-sound}
+use Rattle.tlv_walk.proofs.GrammarLemmas.FinalFaults.{refused-final}
+use Rattle.tlv_walk.proofs.GrammarLemmas.OneEnding.{never-sound}
 use Rattle.tlv_walk.proofs.WalkerLemmas.Depths.{state-depth}
-use Rattle.tlv_walk.proofs.EventLemmas.Unused.{yielded_unused}
+use Rattle.tlv_walk.proofs.EventLemmas.UnusedOffset.{yielded_unused}
 use Rattle.tlv_walk.proofs.WalkerLemmas.Waiting.{idle-none_waits}
 use Rattle.tlv_walk.proofs.GrammarLemmas.PushSteps.{Spells}
 use Rattle.tlv_walk.proofs.WalkerLemmas.ZipperReading.{stands, state-events, state-spells}

@@ -21,7 +21,7 @@ use Rattle.tlv_walk.proofs.GrammarLemmas.Endings.{halt-ending}
 use Rattle.tlv_walk.proofs.GrammarLemmas.Faults.{fault-refused}
 use Rattle.tlv_walk.proofs.GrammarLemmas.PushSteps.{Spells}
 use Rattle.tlv_walk.proofs.GrammarLemmas.Readings.{IsHalt}
-use Rattle.tlv_walk.proofs.GrammarLemmas.Settled.{end_in, settled-within}
+use Rattle.tlv_walk.proofs.GrammarLemmas.ElementEnds.{end_in, settled-within}
 use Rattle.tlv_walk.proofs.WalkerLemmas.Places.{walker-offset}
 use Rattle.tlv_walk.proofs.WalkerLemmas.ZipperReading.{contents-less, later_place, state-reading, state-spells}
 use Rattle.tlv_walk.proofs.WalkerLemmas.Zipper.{followed_by, followed_by-none, reading_in, reading_of}

@@ -16,7 +16,7 @@ use Rattle.tlv_walk.specs.Private.Zipper.{AreLayers, AreWhole, Layer, events_of_
 use Rattle.tlv_walk.specs.Place.{Place, place_after}
 use Rattle.tlv_walk.proofs.GrammarLemmas.Bounds.{IsDefiniteLength}
 use Rattle.tlv_walk.proofs.GrammarLemmas.PushSteps.{is_filled_by}
-use Rattle.tlv_walk.proofs.GrammarLemmas.Settled.{IsEnded, end_in, end-filled, filled-ended, filled-full}
+use Rattle.tlv_walk.proofs.GrammarLemmas.ElementEnds.{IsEnded, end_in, end-filled, filled-ended, filled-full}
 use Rattle.tlv_walk.proofs.WalkerLemmas.Zipper.{followed_by, settled_forest, forest_in_layers}
 
 -- ---- whole elements, and then others

@@ -17,7 +17,7 @@ use Rattle.tlv_walk.specs.Private.Zipper.{AreWhole, BitStringTail, NoTail, HasZi
 use Rattle.tlv_walk.specs.Private.Zipper.{HeaderTail, IsPhaseOf, Layer, Tail, Zipper, has_element_before_tail}
 use Rattle.tlv_walk.specs.Private.Zipper.{events_of_layers, place_of, spelling_of_layers}
 use Rattle.tlv_walk.specs.Private.Yields.{Continues}
-use Rattle.tlv_walk.proofs.EventLemmas.Joined.{apart-before, apart-from_joined, apart-more, joined-from_apart}
+use Rattle.tlv_walk.proofs.EventLemmas.JoinedEvents.{apart-before, apart-from_joined, apart-more, joined-from_apart}
 use Rattle.tlv_walk.proofs.GrammarLemmas.Spellings.{append_assoc-3}
 use Rattle.tlv_walk.proofs.WalkerLemmas.Zipper.{followed_by, grammar-followed_by, spelling-followed_by}
 use Rattle.tlv_walk.proofs.WalkerLemmas.Zipper.{whole-followed_by}

@@ -21,11 +21,11 @@ use Rattle.tlv_walk.specs.Private.Zipper.{events_of_layers, events_of_tail, even
 use Rattle.tlv_walk.specs.Private.Zipper.{place_of, spelling_of_layers, spelling_of_tail, spelling_of_zipper, stack_of}
 use Rattle.tlv_walk.specs.Inside.{can_name}
 use Rattle.tlv_walk.specs.Wrappers.{entered_offsets}
-use Rattle.tlv_walk.proofs.EventLemmas.Joined.{apart-before, apart-from_joined, joined-from_apart}
+use Rattle.tlv_walk.proofs.EventLemmas.JoinedEvents.{apart-before, apart-from_joined, joined-from_apart}
 use Rattle.tlv_walk.proofs.GrammarLemmas.Bounds.{within-le}
 use Rattle.tlv_walk.proofs.GrammarLemmas.PushSteps.{Spells}
 use Rattle.tlv_walk.proofs.GrammarLemmas.Readings.{Going, run-reading}
-use Rattle.tlv_walk.proofs.GrammarLemmas.Settled.{end_in, settled-spells}
+use Rattle.tlv_walk.proofs.GrammarLemmas.ElementEnds.{end_in, settled-spells}
 use Rattle.tlv_walk.proofs.WalkerLemmas.Places.{walker-offset}
 use Rattle.tlv_walk.proofs.WalkerLemmas.Zipper.{followed_by, grammar-followed_by, grammar-within, reading_in}
 use Rattle.tlv_walk.proofs.WalkerLemmas.Zipper.{reading_of}

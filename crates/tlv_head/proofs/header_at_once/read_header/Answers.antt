@@ -4,7 +4,7 @@ use Rattle.tlv_head.specs.Refusal.{BeginsWith}
 use Rattle.tlv_head.specs.HeaderFields.{new_header}
 use Rattle.tlv_head.specs.Private.NextOctet.{MakesHeader}
 use Rattle.tlv_head.proofs.ReaderLemmas.Prefix.{split-at, begun_none, begun_part, made_begins, made_sized}
-use Rattle.tlv_head.proofs.GrammarLemmas.Refused.{refused-with_none}
+use Rattle.tlv_head.proofs.GrammarLemmas.RefusedOctets.{refused-with_none}
 use Rattle.tlv_head.proofs.header_at_once.read_header.Goals as goal
 
 pub returns-in-Whole : goal.returns-in-Whole

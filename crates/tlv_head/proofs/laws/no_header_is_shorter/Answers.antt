@@ -1,4 +1,4 @@
-use Rattle.tlv_head.proofs.ShortestLemmas.Shortest.{shortest_are_shortest}
+use Rattle.tlv_head.proofs.ShortestLemmas.OneShortest.{shortest_are_shortest}
 use Rattle.tlv_head.proofs.laws.no_header_is_shorter.Goals as goal
 
 pub returns : goal.returns

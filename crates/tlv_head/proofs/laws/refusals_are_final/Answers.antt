@@ -1,4 +1,4 @@
-use Rattle.tlv_head.proofs.GrammarLemmas.Refused.{refused-none}
+use Rattle.tlv_head.proofs.GrammarLemmas.RefusedOctets.{refused-none}
 use Rattle.tlv_head.proofs.laws.refusals_are_final.Goals as goal
 
 pub returns : goal.returns

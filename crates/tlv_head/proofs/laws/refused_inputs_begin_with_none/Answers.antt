@@ -1,4 +1,4 @@
-use Rattle.tlv_head.proofs.GrammarLemmas.Refused.{refused-with_none}
+use Rattle.tlv_head.proofs.GrammarLemmas.RefusedOctets.{refused-with_none}
 use Rattle.tlv_head.proofs.laws.refused_inputs_begin_with_none.Goals as goal
 
 pub returns : goal.returns

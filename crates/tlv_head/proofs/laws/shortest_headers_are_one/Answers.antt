@@ -1,4 +1,4 @@
-use Rattle.tlv_head.proofs.ShortestLemmas.Shortest.{shortest_are_one}
+use Rattle.tlv_head.proofs.ShortestLemmas.OneShortest.{shortest_are_one}
 use Rattle.tlv_head.proofs.laws.shortest_headers_are_one.Goals as goal
 
 pub returns : goal.returns

@@ -4,7 +4,7 @@ use Rattle.std.proofs.lemmas.List.{take_more}
 use Rattle.std.proofs.lemmas.List.Elements.{filter-append}
 use Rattle.std.specs.List.{filter}
 use Rattle.tlv_value.specs.declared.finding.Finding.{Finding}
-use Rattle.tlv_show.specs.Found.{is_shown}
+use Rattle.tlv_show.specs.ShownFindings.{is_shown}
 use Rattle.tlv_show.proofs.contents_findings.add_contents_findings.Goals as goal
 use Rattle.tlv_show.proofs.contents_findings.add_contents_findings.Goals.{then-is_shown, else-is_shown}
 

@@ -1,7 +1,7 @@
 use Rattle.std.proofs.Common.{◌≡◌, ◌≤◌, length, take}
 use Rattle.std.specs.List.{filter}
 use Rattle.tlv_value.specs.ValueCheckState.{findings_in}
-use Rattle.tlv_show.specs.Found.{is_shown}
+use Rattle.tlv_show.specs.ShownFindings.{is_shown}
 use Rattle.tlv_show.proofs.contents_findings.add_contents_findings.Given as goal
 
 abbrev pub invariant-loop-finding : goal.invariant-loop-finding

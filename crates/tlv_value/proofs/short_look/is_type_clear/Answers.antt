@@ -1,5 +1,5 @@
 use Rattle.std.proofs.Common.{sym, ◌∙◌}
-use Rattle.tlv_value.proofs.CheckLemmas.Clear.{fours-clear, twos-clear, utf8-clear}
+use Rattle.tlv_value.proofs.CheckLemmas.ClearStrings.{fours-clear, twos-clear, utf8-clear}
 use Rattle.tlv_value.proofs.short_look.is_type_clear.Goals as goal
 
 pub returns-in-12-clause-contents : goal.returns-in-12-clause-contents

@@ -1,7 +1,7 @@
 use Rattle.std.proofs.Common.{◌≡◌, drop}
 use Rattle.std.specs.Prelude.{◌&&◌}
 use Rattle.std.specs.List.{list_all}
-use Rattle.tlv_value.specs.Private.Unescaped.{is_unescaped}
+use Rattle.tlv_value.specs.Private.UnescapedCharacters.{is_unescaped}
 use Rattle.tlv_value.proofs.units.are_unescaped.Given as goal
 
 abbrev pub invariant-loop-octet : goal.invariant-loop-octet

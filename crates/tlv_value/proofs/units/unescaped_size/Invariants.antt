@@ -1,6 +1,6 @@
 use Rattle.std.proofs.Common.{◌≡◌, ◌<◌, ℕ, true}
 use Rattle.std.specs.Prelude.{slice_index}
-use Rattle.tlv_value.specs.Private.Unescaped.{is_unescaped}
+use Rattle.tlv_value.specs.Private.UnescapedCharacters.{is_unescaped}
 use Rattle.tlv_value.proofs.units.unescaped_size.Given as goal
 
 abbrev pub invariant-loop-i : goal.invariant-loop-i

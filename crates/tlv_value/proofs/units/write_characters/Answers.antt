@@ -1,5 +1,5 @@
 use Rattle.std.proofs.Common.{◌≡◌, true, ◌++◌, List, ℕ, length, sym, ap, ◌∙◌, arith}
-use Rattle.tlv_value.specs.Private.Unescaped.{is_unescaped}
+use Rattle.tlv_value.specs.Private.UnescapedCharacters.{is_unescaped}
 use Rattle.std.specs.List.{list_all}
 use Rattle.tlv_value.proofs.TextLemmas.UnescapedUnits.{unescaped-prefix, unescaped-row}
 use Rattle.tlv_value.proofs.TextLemmas.RowTextLengths.{units-short}

@@ -1,4 +1,4 @@
-use Rattle.tlv_walk.proofs.GrammarLemmas.Unique.{refused-for-good}
+use Rattle.tlv_walk.proofs.GrammarLemmas.OneEnding.{refused-for-good}
 use Rattle.tlv_walk.proofs.laws.faults_are_final.Goals as goal
 
 pub returns : goal.returns

@@ -1,5 +1,5 @@
 use Rattle.tlv_walk.proofs.GrammarLemmas.Endings.{ending, is-ending}
-use Rattle.tlv_walk.proofs.GrammarLemmas.Unique.{ending-unique}
+use Rattle.tlv_walk.proofs.GrammarLemmas.OneEnding.{ending-unique}
 use Rattle.tlv_walk.proofs.laws.octets_have_one_ending.Goals as goal
 
 pub returns : goal.returns

@@ -1,5 +1,5 @@
 use Rattle.tlv_walk.specs.Place.{top_place}
-use Rattle.tlv_walk.proofs.GrammarLemmas.Sound.{grammar-sound, sound-obeys_grammar_top, sound-whole}
+use Rattle.tlv_walk.proofs.GrammarLemmas.SoundElements.{grammar-sound, sound-obeys_grammar_top, sound-whole}
 use Rattle.tlv_walk.proofs.laws.sound_is_whole.Goals as goal
 
 pub returns : goal.returns

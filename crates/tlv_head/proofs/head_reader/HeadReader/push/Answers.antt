@@ -7,9 +7,9 @@ use Rattle.tlv_head.specs.Header.{fields_hold}
 use Rattle.tlv_head.specs.declared.header.HeaderFields.{HeaderFields}
 use Rattle.tlv_head.specs.Refusal.{IsRefusedOctet}
 use Rattle.tlv_head.specs.Push.{Completes, IsRefusedPush, Pushes, more, no_room, refused_octet, whole}
-use Rattle.tlv_head.proofs.ReaderLemmas.Exact.{push-exact, completes_unique, prefix_not_whole, refusal-is}
-use Rattle.tlv_head.proofs.ReaderLemmas.Unfinished.{length-carried, made_overrun, made_too_deep, made_whole}
-use Rattle.tlv_head.proofs.ReaderLemmas.Unfinished.{unfinished_part}
+use Rattle.tlv_head.proofs.ReaderLemmas.OneResult.{push-exact, completes_unique, prefix_not_whole, refusal-is}
+use Rattle.tlv_head.proofs.ReaderLemmas.UnfinishedHeaders.{length-carried, made_overrun, made_too_deep, made_whole}
+use Rattle.tlv_head.proofs.ReaderLemmas.UnfinishedHeaders.{unfinished_part}
 use Rattle.tlv_head.proofs.head_reader.HeadReader.push.Goals as goal
 use Rattle.tlv_head.proofs.head_reader.HeadReader.push.Goals.{else-depth-ge128-via-then-depth-ge128+else-fields_hold}
 use Rattle.tlv_head.proofs.head_reader.HeadReader.push.Goals.{else-depth-ge128-via-else-depth-ge128}
@@ -72,7 +72,7 @@ returns-in-Unfinished c =
     (c.in-Unfinished.ensures c.self.inside.raw.items c.self.invariant) in
     rw (← c.self.view_is) (record {
       pushes = more (search rules) p.0 (rw (p.1, c.push.ensures.items) refl);
-      whole = λ h d n f. absurd (prefix_not_whole _ _ h p.0 d);
+      whole = λ h d f. absurd (prefix_not_whole _ _ h p.0 d);
     })
 
 pub returns-in-Refused : goal.returns-in-Refused
@@ -117,4 +117,4 @@ returns-else-not-contents_fit-clause-pushes c =
 
 pub returns-else-not-contents_fit-clause-whole : goal.returns-else-not-contents_fit-clause-whole
 returns-else-not-contents_fit-clause-whole c =
-    λ h d n f. ap (λ g. Whole g) (completes_unique _ _ _ _ (returned-completes c) d)
+    λ h d f. ap (λ g. Whole g) (completes_unique _ _ _ _ (returned-completes c) d)

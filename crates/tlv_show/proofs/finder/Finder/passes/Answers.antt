@@ -1,7 +1,7 @@
 use Rattle.std.proofs.Common.{◌∙◌, rules, refl, sym, ap}
 use Rattle.tlv_show.proofs.DumpLemmas.ClearPrimitives.{passes_primitive-clear, usual_primitive}
 use Rattle.tlv_show.specs.Conditions.{Surroundings}
-use Rattle.tlv_show.specs.Found.{header_findings}
+use Rattle.tlv_show.specs.ShownFindings.{header_findings}
 use Rattle.tlv_show.proofs.finder.Finder.passes.Goals as goal
 
 pub returns : goal.returns

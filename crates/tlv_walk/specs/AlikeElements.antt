@@ -1,7 +1,7 @@
 -- Elements that differ in their spelling alone: X.690 8.1.
 use Rattle.std.specs.Prelude.{◌≢◌, List, ℕ}
 use Rattle.tlv_head.specs.Header.{HeaderValue, identifier_octet}
-use Rattle.tlv_head.specs.Shortest.{HaveOneTagAndForm}
+use Rattle.tlv_head.specs.ShortestHeaders.{HaveOneTagAndForm}
 use Rattle.tlv_walk.specs.Forest.{Forest, NoMore, PaddingOctet, Primitive, Holder, OpenPrimitive, OpenHolder}
 use Rattle.tlv_walk.specs.Forest.{OpenBitString, OpenHeader, OpenEndOctets}
 

@@ -15,7 +15,7 @@ use Rattle.tlv_walk.specs.Private.WrapperCount.{next_wrapper_count, wrapper_coun
 use Rattle.tlv_walk.specs.Place.{ObeysGrammar, top_place}
 use Rattle.tlv_walk.specs.Stands.{Stands, filled_end_events, is_end_at, waiting_events, waiting_events_in}
 use Rattle.tlv_walk.specs.Wrappers.{first_not_among, first_without_wrapper, entered_offsets, wrapper_offsets}
-use Rattle.tlv_walk.proofs.EventLemmas.Joined.{apart-from_joined}
+use Rattle.tlv_walk.proofs.EventLemmas.JoinedEvents.{apart-from_joined}
 use Rattle.tlv_walk.proofs.EventLemmas.NamedOffsets.{AreRising, can-to}
 use Rattle.tlv_walk.proofs.EventLemmas.Wrappers.{Rise, enters-apart, enters-append, wrapper_offsets-entered}
 use Rattle.tlv_walk.proofs.EventLemmas.Wrappers.{wrapper_offsets-rise}

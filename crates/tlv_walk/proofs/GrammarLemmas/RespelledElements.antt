@@ -5,8 +5,8 @@ use Rattle.std.proofs.Common.{refl, sym, ap, ap₂, ◌∙◌, arith, subst, len
 use Rattle.tlv_head.specs.declared.header.Size.{Size}
 use Rattle.tlv_head.specs.declared.header.Size.TheVariants.{Definite}
 use Rattle.tlv_head.specs.Header.{HeaderValue, IsHeader, is_wrapper, identifier_octet, octets_of}
-use Rattle.tlv_head.proofs.ShortestLemmas.Shortest.{identifier-some, lengths-some}
-use Rattle.tlv_walk.specs.Alike.{HaveNoUniversalZero, holders, nothing, padding, primitives}
+use Rattle.tlv_head.proofs.ShortestLemmas.OneShortest.{identifier-some, lengths-some}
+use Rattle.tlv_walk.specs.AlikeElements.{HaveNoUniversalZero, holders, nothing, padding, primitives}
 use Rattle.tlv_walk.specs.Forest.{Forest, NoMore, PaddingOctet, Primitive, Holder, OpenPrimitive, OpenHolder}
 use Rattle.tlv_walk.specs.Forest.{OpenBitString, OpenHeader, OpenEndOctets, end_octets, extent, lead, lead_by, opening}
 use Rattle.tlv_walk.specs.Forest.{spelling}

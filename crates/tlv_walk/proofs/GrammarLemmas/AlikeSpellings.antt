@@ -3,9 +3,9 @@ use Rattle.std.proofs.Common.{◌≡◌, ℕ, ◌+◌, Bool, List, ◌∷◌, �
 use Rattle.tlv_head.specs.declared.header.Size.{Size}
 use Rattle.tlv_head.specs.declared.header.Size.TheVariants.{Definite, Indefinite}
 use Rattle.tlv_head.specs.Header.{HeaderValue, IsHeader, octets_of}
-use Rattle.tlv_head.specs.Shortest.{HaveOneTagAndForm, IsShortest}
-use Rattle.tlv_head.proofs.ShortestLemmas.Shortest.{shortest_are_one}
-use Rattle.tlv_walk.specs.Alike.{AreAlike, holders, nothing, padding, primitives}
+use Rattle.tlv_head.specs.ShortestHeaders.{HaveOneTagAndForm, IsShortest}
+use Rattle.tlv_head.proofs.ShortestLemmas.OneShortest.{shortest_are_one}
+use Rattle.tlv_walk.specs.AlikeElements.{AreAlike, holders, nothing, padding, primitives}
 use Rattle.tlv_walk.specs.Forest.{Forest, Holder, NoMore, OpenBitString, OpenEndOctets, OpenHeader, OpenHolder}
 use Rattle.tlv_walk.specs.Forest.{OpenPrimitive, PaddingOctet, Primitive, contents_length, end_octets, extent, lead}
 use Rattle.tlv_walk.specs.Forest.{opening, spelling}

@@ -11,7 +11,7 @@ use Rattle.tlv_head.specs.declared.header.Size.TheVariants.{Definite, Indefinite
 use Rattle.tlv_head.specs.Header.{HeaderValue, IsHeader, IsHighForm, IsIdentifier, IsLength, announced_length}
 use Rattle.tlv_head.specs.Header.{identifier_octet, value_of, with_bit_8}
 use Rattle.tlv_head.specs.Laws.{NoHeaderIsShorter, ShortestHeadersAreOne}
-use Rattle.tlv_head.specs.Shortest.{HaveOneTagAndForm, IsShortestIdentifier, IsShortestLength}
+use Rattle.tlv_head.specs.ShortestHeaders.{HaveOneTagAndForm, IsShortestIdentifier, IsShortestLength}
 use Rattle.tlv_head.proofs.NumberLemmas.OneValue.{fewest-digits, same-digits}
 
 -- ---- identifier octets

@@ -12,7 +12,7 @@ use Rattle.tlv_head.specs.Refusal.{IsHeaderPrefix, IsRefusedOctet}
 use Rattle.tlv_head.specs.Push.{Completes, FitsThere, IsRefusedPush, Pushes, more, no_room, overrun, refused}
 use Rattle.tlv_head.specs.Push.{refused_octet, too_deep, whole}
 use Rattle.tlv_head.proofs.GrammarLemmas.Headers.{prefix-no_header}
-use Rattle.tlv_head.proofs.GrammarLemmas.Refused.{one-refusal, refused-none}
+use Rattle.tlv_head.proofs.GrammarLemmas.RefusedOctets.{one-refusal, refused-none}
 use Rattle.tlv_head.proofs.GrammarLemmas.Scan.{same-header}
 
 -- an octet completes at most one header
@@ -45,26 +45,33 @@ pub refusal-is : (old : HeadReaderState) (x : ℕ) (room : Option ℕ) (depth : 
 refusal-is old x room depth code offset r e cause at =
     subst (Pushes old x room depth old) (sym e) (refused _ cause at refl)
 
+-- contents that fit need room
+room_left : (size : Size) (room : Option ℕ) → ContentsFit size room → room ≢ Some 0
+room_left (Definite n) room f e =
+    let none : IfSome (Some 0) (λ r. n < r) = subst (λ (o : Option ℕ). IfSome o (λ r. n < r)) e f in omega (arith, none)
+room_left Indefinite room f e =
+    let none : IfSome (Some 0) (λ r. 0 < r) = subst (λ (o : Option ℕ). IfSome o (λ r. 0 < r)) e f in omega (arith, none)
+
 -- if an octet is refused for the depth or the bound, the header that it completes may not be there
 refused_not_whole : (code : FaultCode) (r : HeadReaderState) (x : ℕ) (room : Option ℕ) (depth : ℕ) (h : HeaderValue)
     → IsRefusedPush r x room depth code
-    → Completes r (x ∷ []) h → room ≢ Some 0 → FitsThere h room depth → ⊥
-refused_not_whole code r x room depth h (no_room z) c n f = n z
-refused_not_whole code r x room depth h (refused_octet m p) c n f = refused_completes_none code r x h p c
-refused_not_whole code r x room depth h (too_deep m g d k deep) c n f =
+    → Completes r (x ∷ []) h → FitsThere h room depth → ⊥
+refused_not_whole code r x room depth h (no_room z) c f = room_left h.size room f.contents_fit z
+refused_not_whole code r x room depth h (refused_octet m p) c f = refused_completes_none code r x h p c
+refused_not_whole code r x room depth h (too_deep m g d k deep) c f =
     let s : holds h ≡ true = subst (λ (g : HeaderValue). holds g ≡ true) (completes_unique r x g h d c) k in
     let l : depth < 128 = f.shallow s in
     omega (arith, deep)
-refused_not_whole code r x room depth h (overrun m g d k past) c n f =
+refused_not_whole code r x room depth h (overrun m g d k past) c f =
     past (subst (λ (g : HeaderValue). ContentsFit g.size room) (completes_unique r x h g c d) f.contents_fit)
 
 pub push-exact : (old new : HeadReaderState) (x : ℕ) (room : Option ℕ) (depth : ℕ) (r : Head)
     → Pushes old x room depth new r → (h : HeaderValue) → Completes old (x ∷ []) h
-    → room ≢ Some 0 → FitsThere h room depth → r ≡ Whole h
-push-exact old new x room depth r (more m prefix e) h c n f = absurd (prefix_not_whole old x h prefix c)
-push-exact old new x room depth r (whole g d there e) h c n f = ap (λ k. Whole k) (completes_unique old x g h d c)
-push-exact old new x room depth r (refused fault cause at e) h c n f =
-    absurd (refused_not_whole fault.code old x room depth h cause c n f)
+    → FitsThere h room depth → r ≡ Whole h
+push-exact old new x room depth r (more m prefix e) h c f = absurd (prefix_not_whole old x h prefix c)
+push-exact old new x room depth r (whole g d there e) h c f = ap (λ k. Whole k) (completes_unique old x g h d c)
+push-exact old new x room depth r (refused fault cause at e) h c f =
+    absurd (refused_not_whole fault.code old x room depth h cause c f)
 
 not_deep_and_past : (r : HeadReaderState) (x depth : ℕ) (g h : HeaderValue) → Completes r (x ∷ []) g → holds g ≡ true
     → 128 ≤ depth → Completes r (x ∷ []) h → (holds h ≡ true → depth < 128) → ⊥
@@ -103,19 +110,13 @@ refused_no_prefix code r x room depth (refused_octet m p) n f =
 refused_no_prefix code r x room depth (too_deep m h c k l) n f = prefix_not_whole r x h f c
 refused_no_prefix code r x room depth (overrun m h c k l) n f = prefix_not_whole r x h f c
 
-room_left : (size : Size) (room : Option ℕ) → ContentsFit size room → room ≢ Some 0
-room_left (Definite n) room f e =
-    let none : IfSome (Some 0) (λ r. n < r) = subst (λ (o : Option ℕ). IfSome o (λ r. n < r)) e f in omega (arith, none)
-room_left Indefinite room f e =
-    let none : IfSome (Some 0) (λ r. 0 < r) = subst (λ (o : Option ℕ). IfSome o (λ r. 0 < r)) e f in omega (arith, none)
-
 -- a push returns one result alone
 pub one-result : (old new other : HeadReaderState) (x : ℕ) (room : Option ℕ) (depth : ℕ) (r s : Head)
     → Pushes old x room depth new r → Pushes old x room depth other s → r ≡ s
 one-result old new other x room depth r s a (whole h c there e) =
-    push-exact old new x room depth r a h c (room_left h.size room there.contents_fit) there
+    push-exact old new x room depth r a h c there
 one-result old new other x room depth r s (whole h c there e) b =
-    sym (push-exact old other x room depth s b h c (room_left h.size room there.contents_fit) there)
+    sym (push-exact old other x room depth s b h c there)
 one-result old new other x room depth r s (more n prefix e) (more m prefix' e') = refl
 one-result old new other x room depth r s (more n prefix e) (refused g cause at e') =
     absurd (refused_no_prefix g.code old x room depth cause n prefix)

@@ -1,7 +1,7 @@
 use Rattle.std.proofs.Common.{arith}
 use Rattle.std.specs.Prelude.{◌-◌}
 use Rattle.tlv_value.proofs.TextLemmas.Arcs.{arcs-0, arcs-1, arcs-2, first-text}
-use Rattle.tlv_value.proofs.dotted.write_first_arcs.Goals as goal
+use Rattle.tlv_value.proofs.dotted_texts.write_first_arcs.Goals as goal
 
 pub returns-then-number-lt40 : goal.returns-then-number-lt40
 returns-then-number-lt40 c =

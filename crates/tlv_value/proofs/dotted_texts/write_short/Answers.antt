@@ -3,8 +3,8 @@ use Rattle.tlv_value.specs.Private.Arcs.{arcs_text}
 use Rattle.tlv_value.proofs.TextLemmas.Arcs.{few-bits, none-yet, one-more, room-last, room-within, run-end, run-last}
 use Rattle.tlv_value.proofs.TextLemmas.Arcs.{run-within}
 use Rattle.tlv_value.proofs.TextLemmas.RowTextLengths.{adds_short}
-use Rattle.tlv_value.proofs.dotted.write_short.Goals.{then-octet-lt128, else-octet-lt128}
-use Rattle.tlv_value.proofs.dotted.write_short.Goals as goal
+use Rattle.tlv_value.proofs.dotted_texts.write_short.Goals.{then-octet-lt128, else-octet-lt128}
+use Rattle.tlv_value.proofs.dotted_texts.write_short.Goals as goal
 
 pub loop-octet-preserved : goal.loop-octet-preserved
 loop-octet-preserved c =

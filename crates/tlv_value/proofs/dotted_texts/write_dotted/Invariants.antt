@@ -1,6 +1,6 @@
 use Rattle.std.proofs.Common.{◌≡◌, List, ℕ, ◌++◌, ◌∷◌, drop, [], true}
 use Rattle.tlv_value.proofs.TextLemmas.Arcs.{HasRoom, arcs_run}
-use Rattle.tlv_value.proofs.dotted.write_dotted.Given as goal
+use Rattle.tlv_value.proofs.dotted_texts.write_dotted.Given as goal
 
 abbrev pub invariant-loop-octet : goal.invariant-loop-octet
 invariant-loop-octet l =

@@ -5,8 +5,8 @@ use Rattle.tlv_value.specs.Arcs.{is_finished}
 use Rattle.tlv_value.specs.Private.Arcs.{arcs_text}
 use Rattle.tlv_value.proofs.TextLemmas.Arcs.{room-last, room-within, run-end, run-last, run-none, run-within}
 use Rattle.tlv_value.proofs.TextLemmas.RowTextLengths.{adds_short}
-use Rattle.tlv_value.proofs.dotted.write_dotted.Goals.{then-octet-lt128, else-octet-lt128}
-use Rattle.tlv_value.proofs.dotted.write_dotted.Goals as goal
+use Rattle.tlv_value.proofs.dotted_texts.write_dotted.Goals.{then-octet-lt128, else-octet-lt128}
+use Rattle.tlv_value.proofs.dotted_texts.write_dotted.Goals as goal
 
 pub returns-then-number-clause-exists : goal.returns-then-number-clause-exists
 returns-then-number-clause-exists c =
