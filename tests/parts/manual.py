@@ -111,12 +111,9 @@ The octet at offset 10 completes the header of the INTEGER at offset 9. The head
 It would end at offset 13, but the SEQUENCE at offset 7 ends at offset 12. Missing there: 1 octet. \
 The header at offset 7, 30 03, says that its contents are 3 octets.
 One of the two lengths is wrong, or octets between them are missing or were put in.
-Try: fetch the input anew, in binary; or go on at the next record, with tail -c +M FILE, where M is its offset and 1.
+Try: fetch the input anew, in binary; or go on where the SEQUENCE at offset 7 ends, with tail -c +13 FILE.
 Whole encodings end at offset 7. Left over: 13 octets.
 Try: head -c 7 FILE, for the whole encodings.
-From offset 12 on it parses, whole or for the most part: what stands in front may be a header of the file or of the record, or \
-damaged. \
-Try: tail -c +13 FILE | tlvdump-show
 """
 
 

@@ -61,6 +61,9 @@ def forms(script):
         ("hexadecimal with colons", SOUND.hex(":").encode() + b"\n", HEX),
         ("a list with 0x", ", ".join(f"0x{it:02x}" for it in SOUND).encode(), HEX),
         ("\\x in front", "".join(f"\\x{it:02X}" for it in SOUND).encode(), HEX),
+        ("an array of C", b"{ " + b",\n".join(b"0x%02X" % it for it in SOUND) + b" };\n", HEX),
+        ("a string of C", b'"' + b"".join(b"\\x%02x" % it for it in SOUND) + b'";\n', HEX),
+        ("hexadecimal with hyphens", SOUND.hex("-").encode(), HEX),
         ("a digit too many", digits.encode() + b"3", HEX, "the number of digits is odd: the last one is left out"),
         ("base64", text, "taken for base64"),
         ("base64 in lines", base64.encodebytes(SOUND), "taken for base64"),
@@ -69,6 +72,10 @@ def forms(script):
         ("PEM with CR", pem(b"X509 CRL", SOUND).replace(b"\n", b"\r\n"), "taken for PEM, blocks: 1", "block 1: X509 CRL"),
         ("PEM after text", b"caf\xe9: 1\n" + pem(b"CMS", SOUND) + b"end\n", "taken for PEM, blocks: 1", "block 1: CMS"),
         ("PEM with a head", pem(b"CMS", SOUND, b"Name: a,\n b\n\n"), "taken for PEM, blocks: 1", "block 1: CMS"),
+        ("PEM in one line", pem(b"CMS", SOUND).replace(b"\n", b""), "taken for PEM, blocks: 1", "block 1: CMS"),
+        ("PEM with spaces for line ends", pem(b"CMS", SOUND).replace(b"\n", b" "), "taken for PEM, blocks: 1", "block 1: CMS"),
+        ("PEM in JSON", b'{"a": "' + pem(b"CMS", SOUND).replace(b"\n", b"\\n") + b'"}',
+         "taken for PEM, blocks: 1", "block 1: CMS"),
         ("PEM without its end", pem(b"CMS", SOUND)[:-18], "taken for PEM, blocks: 1", "block 1: CMS",
          "block 1 has no line END: the text is cut"),
     ]:
@@ -123,6 +130,9 @@ def dumps(script):
     words = subprocess.run(["od", "-Ax", "-tx2"], input=octets, capture_output=True, check=True).stdout
     got = script.run(["--raw"], words)
     part.expect("16-bit words are not taken for octets", said.encode() not in got.err, *got.lines())
+    for tool in (["od"], ["od", "-Ax", "-tx2"]):
+        got = script.run([], subprocess.run(tool, input=octets, capture_output=True, check=True).stdout)
+        part.expect(f"words are reported: {tool}", b"it looks like a dump in words" in got.err, *got.lines())
     missing = b"".join(rows(octets, xxd).splitlines(True)[1:])
     got = script.run(["--raw"], missing)
     part.expect("a dump that does not begin at 0", said.encode() not in got.err, *got.lines())
@@ -183,6 +193,7 @@ def shown(script):
     many = string(NULL) * 20
     got = script.run([], many)
     fine = got.out.count(b" wraps {") == 16 and b"left out: 64,68,72,76\n" in got.err
+    fine = fine and b"at most 16 strings are opened: --inside LIST chooses others\n" in got.err
     part.expect("what is left out is reported", fine, *got.lines())
     part.write(b"caf\xe9".decode("utf-8", "surrogateescape"), NULL)
     script.gives("a name that is not UTF-8", [b"caf\xe9"], b"", 0, b"       0      0: NULL\n", PLAIN)
@@ -251,8 +262,21 @@ FAULTS = [
      ["The input ends between the two octets 00 that end the SEQUENCE at offset 0.",
       "Elements with an indefinite length that are not ended: 1; each needs two octets 00.", CUT]),
     ("F02", "05 00 30 80 00 00 02 02 01", [],
-     ["The input ends inside the INTEGER at offset 6. " + header(6, "02 02", "2 octets"), "Missing there: 1 octet.", CUT,
-      "Whole encodings end at offset 6. Left over: 3 octets.", WHOLE.format(6)]),
+     ["Whole encodings end at offset 6. Left over: 3 octets.", WHOLE.format(6),
+      "The input ends inside the INTEGER at offset 6. " + header(6, "02 02", "2 octets"), "Missing there: 1 octet.", CUT]),
+    ("F02", "05 00 02 02 01 05 30 09 02 01 05 04 02 aa", [],
+     ["The input ends inside the OCTET STRING at offset 11. " + header(11, "04 02", "2 octets"), "Missing there: 1 octet.",
+      "The outermost element that is not whole, the SEQUENCE at offset 6, would end at offset 17. Missing in all: 3 octets.", CUT,
+      "Whole encodings end at offset 6. Left over: 8 octets.", WHOLE.format(6)]),
+    ("F02", "30 04 30 80 05 00", [],
+     ["The input ends inside the SEQUENCE at offset 2. " + header(2, "30 80", INDEFINITE),
+      "The SEQUENCE at offset 0 ends with the input, at offset 6: its length leaves no room for what is missing.",
+      "Elements with an indefinite length that are not ended: 1; each needs two octets 00.",
+      "Try: look for a length that is too small, or fetch the input anew, in binary."]),
+    ("F02", "05 00 ff ff ff", [],
+     ["Whole encodings end at offset 2. The octets after them are ff alone, as filler is: 3.", WHOLE.format(2)]),
+    ("F02", "05 00 0a", [],
+     ["Whole encodings end at offset 2. The octets after them are line ends or spaces: 1.", WHOLE.format(2)]),
     ("F02", "04 04 05 00 04", ["--inside", "0"],
      ["The input ends inside the header at offset 4: 04.",
       "The outermost element that is not whole, the OCTET STRING at offset 0, would end at offset 6. Missing in all: 1 octet.", CUT]),
@@ -289,6 +313,11 @@ FAULTS = [
      ["The octet at offset 3 completes the header of the INTEGER at offset 2. " + header(2, "02 02", "2 octets"),
       "It would end at offset 6, but the SEQUENCE at offset 0 ends at offset 5. Missing there: 1 octet. "
       + header(0, "30 03", "3 octets"), WRONG, ANEW]),
+    ("F11", "30 03 02 02 01 05 00", [],
+     ["The octet at offset 3 completes the header of the INTEGER at offset 2. " + header(2, "02 02", "2 octets"),
+      "It would end at offset 6, but the SEQUENCE at offset 0 ends at offset 5. Missing there: 1 octet. "
+      + header(0, "30 03", "3 octets"), WRONG,
+      "Try: fetch the input anew, in binary; or go on where the SEQUENCE at offset 0 ends, with tail -c +6 FILE."]),
     ("F11", "30 02 30 82 01 01", [],
      ["The header at offset 2 runs past the end of the SEQUENCE at offset 0, which ends at offset 4. "
       + header(0, "30 02", "2 octets"),
@@ -337,6 +366,9 @@ def hints(script):
         status, out = script.why(octets)
         # Each second octet of a text in UTF-16 may be 00, which is a length.
         part.expect(f"hint: {what}", status == (0 if what == "UTF-16" else 2) and wanted in out, str(status), out)
+    for octets in (b"garbage\n", b"\x41\x82\x13\x04\x30"):
+        _, out = script.why(body + octets)
+        part.expect("no other start after whole encodings", f"end at offset {len(body)}." in out and "From offset" not in out, out)
     # What it says to do works.
     out = script.run([], (b"\0\0\0" + body)[3:])
     part.expect("after the wrong start", out.status == 0)

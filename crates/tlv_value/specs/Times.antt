@@ -56,7 +56,7 @@ two_digits low high (x ∷ y ∷ rest) =
     then rest ∷ []
     else []
 
--- month and day
+-- month and day. Ranges are lenient, here and below: each month has 31 days, hour 24 and second 60 are allowed
 abbrev pub month_and_day : Form
 month_and_day = two_digits 1 12 then two_digits 1 31
 

@@ -99,3 +99,8 @@ IsFinalEnding (ending.Fault f) = IsFinalCode f.code
 pub record ShowsSoundness (framing : Framing) (b : List ℕ) (e : Ending) : Type 0 where
   pub done_is_sound : (e ≡ Done) ↔ IsSoundList framing b
   pub faults_are_right : IsFinalEnding e → CannotBecomeSound framing b
+
+-- the octets have this ending, which shows whether they are sound
+pub record HasEnding (framing : Framing) (b : List ℕ) (e : Ending) : Type 0 where
+  pub is_ending : IsEnding framing b e
+  pub soundness : ShowsSoundness framing b e

@@ -8,7 +8,7 @@ use Rattle.tlv_walk.specs.declared.framing.Framing.{Framing}
 use Rattle.tlv_walk.specs.declared.run.DeviceFault.{DeviceFault}
 use Rattle.tlv_walk.specs.declared.run.DeviceFault.TheVariants.{ReadFailed, WriteFailed, InputTooLong}
 use Rattle.tlv_io.specs.Device.{DrainState, Pieces, SourceState, failed, failures_after, gave, octets_given}
-use Rattle.tlv_walk.specs.Ending.{IsEnding, IsFinalEnding, ShowsSoundness}
+use Rattle.tlv_walk.specs.Ending.{HasEnding, IsEnding, IsFinalEnding}
 use Rattle.tlv_walk.specs.Forest.{Forest}
 use Rattle.tlv_io.specs.Out.{Sends}
 use Rattle.tlv_walk.specs.Reading.{IsReading, ReadsAll}
@@ -59,11 +59,10 @@ module _ {A : Type 0} (job : Job A) where
   abbrev pub WantMore : List ℕ → Type 0
   WantMore octets = (f : Forest) × ReadsAll job.framing octets f × (job.is_enough f ≡ false)
 
-  -- there was not enough, and the octets have this ending, which shows whether they are sound
-  pub record HasEnding (octets : List ℕ) (f : Forest) (e : Ending) : Type 0 where
+  -- there was not enough, and the octets have this ending
+  pub record EndsWithoutEnough (octets : List ℕ) (f : Forest) (e : Ending) : Type 0 where
     pub not_enough : job.is_enough f ≡ false
-    pub is_ending : IsEnding job.framing octets e
-    pub soundness : ShowsSoundness job.framing octets e
+    pub ends : HasEnding job.framing octets e
 
   -- for the octets that were given and the reading of those up to the limit: what is returned, a line for each reason
   -- to stop
@@ -71,10 +70,10 @@ module _ {A : Type 0} (job : Job A) where
     -- there was enough
     at_enough : job.is_enough f ≡ true → ComesTo given f new (Ok (job.result f ending.Done))
     -- an octet is refused, whatever follows
-    at_fault : (e : Ending) → HasEnding (octets_read given) f e → IsFinalEnding e
+    at_fault : (e : Ending) → EndsWithoutEnough (octets_read given) f e → IsFinalEnding e
         → ComesTo given f new (Ok (job.result f e))
     -- the source has ended
-    at_input_end : (e : Ending) → HasEnding (octets_read given) f e → new.last ≡ gave 0 → IsAtEnd new.left
+    at_input_end : (e : Ending) → EndsWithoutEnough (octets_read given) f e → new.last ≡ gave 0 → IsAtEnd new.left
         → ComesTo given f new (Ok (job.result f e))
     -- a device failed
     read_failed : new.last ≡ failed → ComesTo given f new (Err ReadFailed)

@@ -66,7 +66,7 @@ impl Walker {
     ghost use Rattle.std.specs.Prelude.{[], false};
     ghost use Rattle.tlv_walk.specs.Phase.{Between, Refused};
     ghost use Rattle.tlv_walk.specs.WalkerState.{IfRefused, IsWithinInputLimit, new_walker, unused_offset};
-    ghost use Rattle.tlv_walk.specs.Ending.{IsEnding, ShowsSoundness, fault_at};
+    ghost use Rattle.tlv_walk.specs.Ending.{HasEnding, fault_at};
     ghost use Rattle.tlv_walk.specs.Depth.{depth_of};
     ghost use Rattle.tlv_walk.specs.Stands.{IsReady, IsIdle, Stands};
     ghost use Rattle.tlv_walk.specs.Wrappers.{first_without_wrapper};
@@ -148,9 +148,7 @@ impl Walker {
     /// event waits ([`Walker::waiting`]).
     pub fn finish(&self) -> Ending
         requires { IsIdle self.now }
-        ensures ending { IfAtEnd self.now (λ octets. IsEnding self.now.framing octets result) }
-        ensures soundness { IfAtEnd self.now
-            (λ octets. ShowsSoundness self.now.framing octets result) }
+        ensures ending { IfAtEnd self.now (λ octets. HasEnding self.now.framing octets result) }
         ensures refused { IfRefused self.now (λ fault. result ≡ Ending.Fault fault) }
     {
         if let Phase::Refused(fault) = &self.phase {

@@ -9,7 +9,7 @@ use Rattle.tlv_walk.specs.declared.run.DeviceFault.{DeviceFault}
 use Rattle.tlv_walk.specs.declared.run.DeviceFault.TheVariants.{ReadFailed, WriteFailed, InputTooLong}
 use Rattle.tlv_walk.specs.Ending.{IsEnding, IsFinalEnding}
 use Rattle.tlv_walk.specs.Forest.{Forest}
-use Rattle.tlv_walk.specs.Job.{ComesTo, EndsWith, HasEnding, Job, WantMore, at_enough, at_fault, at_input_end}
+use Rattle.tlv_walk.specs.Job.{ComesTo, EndsWith, EndsWithoutEnough, Job, WantMore, at_enough, at_fault, at_input_end}
 use Rattle.tlv_walk.specs.Job.{read_failed}
 use Rattle.tlv_walk.specs.Job.{write_failed, too_long}
 use Rattle.tlv_walk.proofs.GrammarLemmas.OneEnding.{shows-soundness}
@@ -35,19 +35,18 @@ module _ {A : Type 0} (job : Job A) (given : List ℕ) (f : Forest) (new : Sourc
   pub comes_to-result : (result : Result A DeviceFault) → ComesTo job given f new result → ComesToResult result
   comes_to-result result (at_enough k) = (Done, refl, ends_with-by Done true k refl, inl k)
   comes_to-result result (at_fault e k final) =
-      (e, refl, ends_with-by e false k.not_enough k.is_ending, inr (inl final))
+      (e, refl, ends_with-by e false k.not_enough k.ends.is_ending, inr (inl final))
   comes_to-result result (at_input_end e k last end) =
-      (e, refl, ends_with-by e false k.not_enough k.is_ending, inr (inr (last, end)))
+      (e, refl, ends_with-by e false k.not_enough k.ends.is_ending, inr (inr (last, end)))
   comes_to-result result (read_failed last) = last
   comes_to-result result write_failed = tt
   comes_to-result result (too_long many wants) = (many, wants)
 
-  has_ending : (e : Ending) → job.is_enough f ≡ false → IsEnding job.framing (take job.limit given) e
-      → HasEnding job (take job.limit given) f e
-  has_ending e k x = record {
+  without_enough : (e : Ending) → job.is_enough f ≡ false → IsEnding job.framing (take job.limit given) e
+      → EndsWithoutEnough job (take job.limit given) f e
+  without_enough e k x = record {
     not_enough = k;
-    is_ending = x;
-    soundness = shows-soundness job.framing (take job.limit given) e x;
+    ends = record { is_ending = x; soundness = shows-soundness job.framing (take job.limit given) e x };
   }
 
   comes_ok : (e : Ending) (k : Bool) → job.is_enough f ≡ k → EndsWith job.framing (take job.limit given) k e
@@ -55,8 +54,8 @@ module _ {A : Type 0} (job : Job A) (given : List ℕ) (f : Forest) (new : Sourc
   comes_ok e true is x why =
       subst (λ (d : Ending). ComesTo job given f new (Ok (job.result f d))) (sym x) (at_enough is)
   comes_ok e false is x (inl k) = absurd (cc)
-  comes_ok e false is x (inr (inl final)) = at_fault e (has_ending e is x) final
-  comes_ok e false is x (inr (inr end)) = at_input_end e (has_ending e is x) end.0 end.1
+  comes_ok e false is x (inr (inl final)) = at_fault e (without_enough e is x) final
+  comes_ok e false is x (inr (inr end)) = at_input_end e (without_enough e is x) end.0 end.1
 
   pub comes_to : (result : Result A DeviceFault) → ComesToResult result → ComesTo job given f new result
   comes_to (Ok a) x = subst (λ (k : A). ComesTo job given f new (Ok k)) (sym x.1)

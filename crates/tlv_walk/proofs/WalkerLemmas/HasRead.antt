@@ -3,7 +3,7 @@ use Rattle.std.proofs.Common.{◌≡◌, ℕ, List, ◌++◌, ◌∷◌, length,
 use Rattle.tlv_head.specs.declared.fault.Fault.{Fault}
 use Rattle.tlv_walk.specs.declared.ending.Ending.{Ending}
 use Rattle.tlv_walk.specs.declared.ending.Ending.TheVariants as ending
-use Rattle.tlv_walk.specs.Ending.{IsEnding, ShowsSoundness}
+use Rattle.tlv_walk.specs.Ending.{HasEnding, IsEnding}
 use Rattle.tlv_walk.specs.Events.{EventValue}
 use Rattle.tlv_walk.specs.Forest.{Forest}
 use Rattle.tlv_walk.specs.WalkerState.{WalkerState, unused_offset}
@@ -52,7 +52,7 @@ never_refused w b yielded f st e =
     no_phase t p h = h
 
 -- at the end of the input, also if an octet was refused
-pub ends_by : (w : WalkerState) (o : List ℕ) (yielded : List EventValue) (result : Ending)
+ends_by : (w : WalkerState) (o : List ℕ) (yielded : List EventValue) (result : Ending)
     → ((b : List ℕ) (yielded : List EventValue) → Stands w b yielded → IsEnding w.framing b result)
     → ((f : Fault) → w.phase ≡ Refused f → result ≡ ending.Fault f) → StandsAtEnd w o yielded
     → IsEnding w.framing o result
@@ -63,9 +63,10 @@ ends_by w o yielded result stands failed (refused_one f at) =
     (at.stands.refused.ends at.others))
 
 -- and it shows whether the input is sound
-pub shows_by : (w : WalkerState) (o : List ℕ) (yielded : List EventValue) (result : Ending)
+pub has_ending : (w : WalkerState) (o : List ℕ) (yielded : List EventValue) (result : Ending)
     → ((b : List ℕ) (yielded : List EventValue) → Stands w b yielded → IsEnding w.framing b result)
     → ((f : Fault) → w.phase ≡ Refused f → result ≡ ending.Fault f) → StandsAtEnd w o yielded
-    → ShowsSoundness w.framing o result
-shows_by w o yielded result stands failed at =
-    shows-soundness w.framing o result (ends_by w o yielded result stands failed at)
+    → HasEnding w.framing o result
+has_ending w o yielded result stands failed at =
+    let e : IsEnding w.framing o result = ends_by w o yielded result stands failed at in
+    record { is_ending = e; soundness = shows-soundness w.framing o result e }

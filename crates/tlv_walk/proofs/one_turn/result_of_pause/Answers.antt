@@ -11,7 +11,7 @@ pub returns-in-UsedUp-2 : goal.returns-in-UsedUp-2
 returns-in-UsedUp-2 c = rw c.in-UsedUp-2.is (
   (search rules),
   (search rules),
-  (_, c.run_of-in-UsedUp-2.ensures, c.finish.ensures.ending),
+  (_, c.run_of-in-UsedUp-2.ensures, λ octets yielded at. (c.finish.ensures.ending octets yielded at).is_ending),
 )
 
 pub returns-in-UsedUp : goal.returns-in-UsedUp

@@ -1,49 +1,27 @@
 use Rattle.std.proofs.Common.{rules}
 use Rattle.tlv_walk.proofs.WalkerLemmas.Finishing.{finish_done, finish_empty, finish_short}
-use Rattle.tlv_walk.proofs.WalkerLemmas.HasRead.{ends_by, never_refused, shows_by}
+use Rattle.tlv_walk.proofs.WalkerLemmas.HasRead.{has_ending, never_refused}
 use Rattle.tlv_walk.proofs.WalkerLemmas.Waiting.{idle-none_waits}
 use Rattle.tlv_walk.proofs.walker.Walker.finish.Goals as goal
 
 pub returns-then-not-has_nothing_open-clause-ending : goal.returns-then-not-has_nothing_open-clause-ending
-returns-then-not-has_nothing_open-clause-ending c = λ o yielded. ends_by c.args.self.now o yielded _
+returns-then-not-has_nothing_open-clause-ending c = λ o yielded. has_ending c.args.self.now o yielded _
     (λ b yielded st. rw c.ended_by.ensures
     (finish_short c.args.self.now b yielded st (idle-none_waits c.args.self.now c.requires) (search rules)))
     (search rules)
 
 pub returns-then-self-clause-ending : goal.returns-then-self-clause-ending
-returns-then-self-clause-ending c = λ o yielded. ends_by c.args.self.now o yielded _
+returns-then-self-clause-ending c = λ o yielded. has_ending c.args.self.now o yielded _
     (λ b yielded st. finish_done c.args.self.now b yielded st (search rules) (search rules) (search rules))
     (search rules)
 
 pub returns-clause-ending : goal.returns-clause-ending
-returns-clause-ending c = λ o yielded. ends_by c.args.self.now o yielded _
+returns-clause-ending c = λ o yielded. has_ending c.args.self.now o yielded _
     (λ b yielded st. rw c.ended_by-2.ensures
     (finish_empty c.args.self.now b yielded st (search rules) (search rules) (search rules)))
     (search rules)
 
 pub returns-in-Refused-clause-ending : goal.returns-in-Refused-clause-ending
-returns-in-Refused-clause-ending c = λ o yielded. ends_by c.args.self.now o yielded _
+returns-in-Refused-clause-ending c = λ o yielded. has_ending c.args.self.now o yielded _
     (λ b yielded st. absurd (never_refused c.args.self.now b yielded c.in-Refused.fault st (search rules)))
-    (search rules)
-
-pub returns-in-Refused-clause-soundness : goal.returns-in-Refused-clause-soundness
-returns-in-Refused-clause-soundness c = λ o yielded. shows_by c.args.self.now o yielded _
-    (λ b yielded st. absurd (never_refused c.args.self.now b yielded c.in-Refused.fault st (search rules)))
-    (search rules)
-
-pub returns-then-not-has_nothing_open-clause-soundness : goal.returns-then-not-has_nothing_open-clause-soundness
-returns-then-not-has_nothing_open-clause-soundness c = λ o yielded. shows_by c.args.self.now o yielded _
-    (λ b yielded st. rw c.ended_by.ensures
-    (finish_short c.args.self.now b yielded st (idle-none_waits c.args.self.now c.requires) (search rules)))
-    (search rules)
-
-pub returns-then-self-clause-soundness : goal.returns-then-self-clause-soundness
-returns-then-self-clause-soundness c = λ o yielded. shows_by c.args.self.now o yielded _
-    (λ b yielded st. finish_done c.args.self.now b yielded st (search rules) (search rules) (search rules))
-    (search rules)
-
-pub returns-clause-soundness : goal.returns-clause-soundness
-returns-clause-soundness c = λ o yielded. shows_by c.args.self.now o yielded _
-    (λ b yielded st. rw c.ended_by-2.ensures
-    (finish_empty c.args.self.now b yielded st (search rules) (search rules) (search rules)))
     (search rules)
