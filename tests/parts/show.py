@@ -83,6 +83,10 @@ def forms(script):
         script.gives(f"{what}, --raw", ["--raw"], given, 0, SOUND, *said)
         part.write("it", given)
         script.gives(f"{what}, a file", ["it"], b"", 0, out, *said)
+    filled = string(b"\xff" * 9)
+    text = b'["' + pem(b"CMS", filled).replace(b"/", b"\\/").replace(b"\n", b"\\r\\n") + b'"]'
+    part.expect("slashes of JSON", b"\\/" in text)
+    script.gives("PEM in JSON, with slashes", ["--raw"], text, 0, filled, "taken for PEM, blocks: 1", "block 1: CMS")
     wanted = base64.urlsafe_b64decode(urls + b"==")
     script.gives("base64 of URLs", ["--raw"], urls, 0, wanted, "taken for base64")
     long = element(4, b"ab" * 100_000)
