@@ -72,6 +72,13 @@ module _ {T U E : Type 0} where
     failures = q.failures ∙ ap (failures_after r) p.failures;
   }
 
+  -- what was sent then
+  pub sends_then-sent : (a b c : DrainState) (xs ys : List ℕ) (x : T) (r : Result U E)
+      (p : Sends {T = T} {E = E} a b xs (Ok x)) (q : Sends b c ys r)
+      → (sends_then a b c xs ys x r p q).sent ≡ p.sent ++ q.sent
+  unfolding sends_then
+  sends_then-sent a b c xs ys x r p q = refl
+
 module _ {T U E F : Type 0} where
   -- the same, with another result of the same kind
   pub sends_ok : (a b : DrainState) (xs ys : List ℕ) (x : T) (y : U) → Sends {T = T} {E = E} a b xs (Ok x) → xs ≡ ys
@@ -117,6 +124,19 @@ module _ {T E : Type 0} where
     all_sent = refl;
     lost = tt;
     failures = refl;
+  }
+
+module _ {T E : Type 0} where
+  -- the same octets, said otherwise: what was sent of them is the same
+  abbrev pub sends_as : (a b : DrainState) (xs ys : List ℕ) (r : Result T E) → Sends a b xs r → xs ≡ ys → Sends a b ys r
+  sends_as a b xs ys r p z = record {
+    sent = p.sent;
+    left = p.left;
+    prefix = p.prefix ∙ z;
+    took = p.took;
+    all_sent = p.all_sent;
+    lost = p.lost;
+    failures = p.failures;
   }
 
 -- ---- to a drain, by way of an `Out`

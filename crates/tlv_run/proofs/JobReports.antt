@@ -1,5 +1,5 @@
 -- A job with what is reported of its result runs as the job itself.
-use Rattle.std.proofs.Common.{◌≡◌, ℕ, List, ap}
+use Rattle.std.proofs.Common.{◌≡◌, ℕ, List, ap, refl}
 use Rattle.std.specs.Prelude.{Result, Ok, Err}
 use Rattle.tlv_walk.specs.declared.run.DeviceFault.{DeviceFault}
 use Rattle.tlv_walk.specs.declared.run.DeviceFault.TheVariants.{ReadFailed, WriteFailed, InputTooLong}
@@ -16,7 +16,7 @@ report_of report (Ok a) = report a
 report_of report (Err fault) = device_report fault
 
 module _ {A : Type 0} (report : A → ReportValue) (job : Job A) where
-  wants_too : (b : List ℕ) → WantMore job b → WantMore (job_with_report report job) b
+  abbrev wants_too : (b : List ℕ) → WantMore job b → WantMore (job_with_report report job) b
   wants_too b x = x
 
   module _ (old new : DeviceStates) where
@@ -33,6 +33,7 @@ module _ {A : Type 0} (report : A → ReportValue) (job : Job A) where
         reading = x.reading;
         is_reading = x.is_reading;
         sends = x.sends;
+        sent_before = λ failed. absurd (cc (failed));
         comes =
             let k = comes_to-result job (octets_given x.pieces) x.reading new.source (Ok a) x.comes in
             comes_to (job_with_report report job) (octets_given x.pieces) x.reading new.source (Ok (report a))
@@ -50,6 +51,7 @@ module _ {A : Type 0} (report : A → ReportValue) (job : Job A) where
         reading = x.reading;
         is_reading = x.is_reading;
         sends = x.sends;
+        sent_before = λ failed. absurd (cc (failed));
         comes = read_failed (comes_to-result job (octets_given x.pieces) x.reading new.source (Err ReadFailed) x.comes);
       };
       report_is = e;
@@ -64,6 +66,7 @@ module _ {A : Type 0} (report : A → ReportValue) (job : Job A) where
         reading = x.reading;
         is_reading = x.is_reading;
         sends = x.sends;
+        sent_before = λ failed. x.sent_before refl;
         comes = write_failed;
       };
       report_is = e;
@@ -78,6 +81,7 @@ module _ {A : Type 0} (report : A → ReportValue) (job : Job A) where
         reading = x.reading;
         is_reading = x.is_reading;
         sends = x.sends;
+        sent_before = λ failed. absurd (cc (failed));
         comes =
             let k = comes_to-result job (octets_given x.pieces) x.reading new.source (Err InputTooLong) x.comes in
             too_long k.0 (wants_too _ k.1);

@@ -11,7 +11,7 @@ use Rattle.tlv_io.specs.Device.{DrainState, Pieces, SourceState, failed, failure
 use Rattle.tlv_walk.specs.Ending.{HasEnding, IsEnding, IsFinalEnding}
 use Rattle.tlv_walk.specs.Forest.{Forest}
 use Rattle.tlv_io.specs.Out.{Sends}
-use Rattle.tlv_walk.specs.Reading.{IsReading, ReadsAll}
+use Rattle.tlv_walk.specs.Reading.{IsPrefixOf, IsReading, ReadsAll}
 
 -- the devices of a run, as they are before it or after it: what the source and the drain show of themselves
 pub record DeviceStates : Type 0 where
@@ -93,4 +93,7 @@ module _ {A : Type 0} (job : Job A) where
     pub reading : Forest
     pub is_reading : IsReading job.framing (octets_read (octets_given pieces)) reading
     pub sends : Sends old.drain new.drain (job.text reading) (drain_result result)
+    -- what is written of the octets before the last read was sent whole before it, also if a write then failed: so a
+    -- read is made only after all that the octets before it come to was written, and none after a failed write
+    pub sent_before : result ≡ Err WriteFailed → IsPrefixOf (job.text wants_more.0) sends.sent
     pub comes : ComesTo (octets_given pieces) reading new.source result

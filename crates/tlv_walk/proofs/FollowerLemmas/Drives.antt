@@ -34,7 +34,7 @@ use Rattle.tlv_walk.specs.Wrappers.{first_not_among}
 use Rattle.tlv_walk.proofs.FollowerLemmas.FollowSteps.{made_both, made_put}
 use Rattle.tlv_walk.proofs.FollowerLemmas.Enough.{comes_to}
 use Rattle.tlv_io.proofs.Pieces.{pieces_so_far_more, pieces_all, together_more}
-use Rattle.tlv_io.proofs.Sends.{sends_ok, sends_then}
+use Rattle.tlv_io.proofs.Sends.{sends_as, sends_ok, sends_then, sends_then-sent}
 use Rattle.tlv_walk.proofs.FollowerLemmas.Pauses.{stands_spelled, stands_yielded}
 use Rattle.tlv_walk.proofs.FollowerLemmas.WalkSoFar.{gave_last, gave_none, given_short, given_octets, Walking}
 use Rattle.tlv_walk.proofs.FollowerLemmas.MadeAll.{MadeAll, PieceLaws, alike, enough_enters, enough_octets, made_all}
@@ -149,7 +149,7 @@ module _ {S : Type 0} (next : S → EventValue → Effect S) (framing : Framing)
           x.stands.has_events.is_reading)
 
       -- the octets so far hold neither a fault nor enough
-      first_wants : WantMore (drive_job next framing limit s) b
+      abbrev first_wants : WantMore (drive_job next framing limit s) b
       first_wants = (x.stands.has_events.reading, (first_reading, first_spelled), ap had_enough first_made.wants)
 
       abbrev Driven : Result Run DeviceFault → Type 0
@@ -163,8 +163,9 @@ module _ {S : Type 0} (next : S → EventValue → Effect S) (framing : Framing)
           → source_result answer ≡ source_result result
           → Sends from new.devices.drain (effect_of next s es).put (drain_result answer)
           → ComesTo (drive_job next framing limit s) (b ++ r) f new.devices.source answer
+          → (answer ≡ Err WriteFailed → ⊥)
           → Runs (drive_job next framing limit s) (device_states old from) new.devices answer
-      runs_by answer f last is_reading es goes k same sends comes = record {
+      runs_by answer f last is_reading es goes k same sends comes written = record {
         pieces =
             pieces_all old now.devices.source new.devices.source x.gathered r read.calls.octets read.calls.reads last
             short;
@@ -177,6 +178,7 @@ module _ {S : Type 0} (next : S → EventValue → Effect S) (framing : Framing)
         reading = f;
         is_reading = is_reading;
         sends = subst (λ (l : List ℕ). Sends from new.devices.drain l (drain_result answer)) k.text_is sends;
+        sent_before = λ failed. absurd (written failed);
         comes = comes;
       }
 
@@ -218,7 +220,8 @@ module _ {S : Type 0} (next : S → EventValue → Effect S) (framing : Framing)
                   answer,
                   ends,
                   inr ended,
-                ));
+                ))
+                (λ failed. absurd (cc (failed)));
             state = k.state;
           }
 
@@ -254,7 +257,8 @@ module _ {S : Type 0} (next : S → EventValue → Effect S) (framing : Framing)
                   answer,
                   subst (λ (k : Bool). EndsWith framing walked_octets k run.ending) (sym enough) ending_is,
                   inl enough,
-                ));
+                ))
+                (λ failed. absurd (cc (failed)));
             state = k.state;
           }
 
@@ -295,9 +299,15 @@ module _ {S : Type 0} (next : S → EventValue → Effect S) (framing : Framing)
             runs =
                 runs_by (Err ReadFailed) f (inr (last, none))
                 (subst (λ (o : List ℕ). IsReading framing o f) all first_reading) x.yielded go.On k
-                (ap source_result (sym is)) put (read_failed last);
+                (ap source_result (sym is)) put (read_failed last) (λ failed. absurd (cc (failed)));
             state = k.state;
           }
+
+      -- what was written before the turn is what the octets before it come to
+      first_sent : (effect_of next s (events x.stands.has_events.reading)).put ≡ x.sends.sent
+      first_sent =
+          sym first_made.text_is ∙ sym x.sends.prefix ∙ ap (λ (l : List ℕ). x.sends.sent ++ l) x.sends.all_sent
+          ∙ append-nil x.sends.sent
 
       drives_write_failed : result ≡ Err WriteFailed → Driven (Err WriteFailed)
       drives_write_failed is =
@@ -317,8 +327,19 @@ module _ {S : Type 0} (next : S → EventValue → Effect S) (framing : Framing)
               reading = f;
               is_reading = subst (λ (k : Framing). IsReading k walked_octets f) x.same y.has_events.is_reading;
               sends =
-                  subst (λ (l : List ℕ). Sends {T = ⊤} {E = DeviceFault} from new.devices.drain l (Err WriteFailed))
-                  (ap (λ (k : Effect S). k.put) same) (sent y.more (Err WriteFailed) y.put);
+                  sends_as {T = ⊤} {E = DeviceFault} from new.devices.drain
+                  ((effect_of next s x.yielded).put ++ (effect_of next now.follower y.more).put)
+                  (effect_of next s (events f)).put (Err WriteFailed)
+                  (sends_then from now.devices.drain new.devices.drain (effect_of next s x.yielded).put
+                  (effect_of next now.follower y.more).put tt (Err WriteFailed) x.sends y.put)
+                  (made_put next s now.follower x.yielded y.more x.made ∙ ap (λ (k : Effect S). k.put) same);
+              sent_before =
+                  λ failed. (
+                    y.put.sent,
+                    ap (λ (l : List ℕ). l ++ y.put.sent) first_sent
+                        ∙ sym (sends_then-sent from now.devices.drain new.devices.drain (effect_of next s x.yielded).put
+                        (effect_of next now.follower y.more).put tt (Err WriteFailed) x.sends y.put),
+                  );
               comes = write_failed;
             };
             state = tt;
@@ -346,7 +367,8 @@ module _ {S : Type 0} (next : S → EventValue → Effect S) (framing : Framing)
           record {
             runs =
                 runs_by (Err InputTooLong) f (gave_last new.devices.source.last piece g) is_reading es go.On k
-                (ap source_result (sym is)) (sent_all es go.On z.follows) (too_long y.beyond wants);
+                (ap source_result (sym is)) (sent_all es go.On z.follows) (too_long y.beyond wants)
+                (λ failed. absurd (cc (failed)));
             state = k.state;
           }
 

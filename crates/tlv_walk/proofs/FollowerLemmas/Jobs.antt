@@ -1,5 +1,6 @@
 -- A job that is a walk with some follower.
-use Rattle.std.proofs.Common.{◌≡◌, ◌⊎◌, ℕ, ◌≤◌, Bool, true, false, List, length, take, refl, sym, ◌∙◌, subst, arith}
+use Rattle.std.proofs.Common.{◌≡◌, ◌⊎◌, ℕ, ◌≤◌, Bool, true, false, List, ◌++◌, length, take, refl, sym, ap, ◌∙◌, subst}
+use Rattle.std.proofs.Common.{arith}
 use Rattle.std.proofs.lemmas.List.{length-take}
 use Rattle.std.specs.Prelude.{if◌then◌else◌, Result, Ok, Err, ⊤}
 use Rattle.tlv_walk.specs.declared.ending.Ending.{Ending}
@@ -17,6 +18,7 @@ use Rattle.tlv_walk.specs.Forest.{Forest}
 use Rattle.tlv_walk.specs.Job.{EndsWith, Job, Runs, WantMore, device_states, read_failed, too_long, write_failed}
 use Rattle.tlv_walk.proofs.FollowerLemmas.Enough.{ComesToResult, Settled, comes_to, comes_to-result}
 use Rattle.tlv_io.specs.Out.{Sends}
+use Rattle.tlv_io.proofs.Sends.{sends_as}
 use Rattle.tlv_walk.specs.Reading.{IsReading}
 
 -- a run has the ending that it came to
@@ -44,16 +46,17 @@ module _ {S A : Type 0} (next : S → EventValue → Effect S) (job : Job A) (s 
   within_limit : (given : List ℕ) → length (take job.limit given) ≤ job.limit
   within_limit given = omega (arith, length-take job.limit given)
 
-  wants_as : (octets : List ℕ) → length octets ≤ job.limit → WantMore (drive_job next job.framing job.limit s) octets
+  abbrev wants_as : (octets : List ℕ) → length octets ≤ job.limit → WantMore (drive_job next job.framing job.limit s) octets
       → WantMore job octets
   wants_as octets few x = (x.0, x.1, sym (enough octets x.0 few x.1.0) ∙ x.2)
 
   -- what the walk sent is the job's text
-  sent_as : {E : Type 0} (given : List ℕ) (f : Forest) (result : Result ⊤ E)
+  abbrev sent_as : {E : Type 0} (given : List ℕ) (f : Forest) (result : Result ⊤ E)
       → IsReading job.framing (take job.limit given) f → Sends from to (effect_of next s (events f)).put result
       → Sends from to (job.text f) result
   sent_as given f result r x =
-      subst (λ (l : List ℕ). Sends from to l result) (text (take job.limit given) f (within_limit given) r) x
+      sends_as from to (effect_of next s (events f)).put (job.text f) result x
+      (text (take job.limit given) f (within_limit given) r)
 
   pub runs_ok : (run : Run) (a : A)
       → Drives next job.framing job.limit (drive_states s old from) (drive_states t new to) (Ok run)
@@ -75,6 +78,7 @@ module _ {S A : Type 0} (next : S → EventValue → Effect S) (job : Job A) (s 
         reading = w.reading;
         is_reading = w.is_reading;
         sends = sent_as given w.reading (Ok tt) w.is_reading w.sends;
+        sent_before = λ failed. absurd (cc (failed));
         comes = comes_to job given w.reading new (Ok a) (
           k.0,
           answer (take job.limit given) w.reading k.0 (within_limit given) w.is_reading
@@ -96,6 +100,7 @@ module _ {S A : Type 0} (next : S → EventValue → Effect S) (job : Job A) (s 
         reading = w.reading;
         is_reading = w.is_reading;
         sends = sent_as (octets_given w.pieces) w.reading (Ok tt) w.is_reading w.sends;
+        sent_before = λ failed. absurd (cc (failed));
         comes =
             read_failed
             (comes_to-result (drive_job next job.framing job.limit s) (octets_given w.pieces) w.reading new
@@ -110,6 +115,11 @@ module _ {S A : Type 0} (next : S → EventValue → Effect S) (job : Job A) (s 
         reading = w.reading;
         is_reading = w.is_reading;
         sends = sent_as (octets_given w.pieces) w.reading (Err WriteFailed) w.is_reading w.sends;
+        sent_before =
+            λ failed.
+            let k = w.sent_before refl in
+            let e = text (concat w.pieces.pieces) w.wants_more.0 w.within w.wants_more.1.0 in
+            (k.0, ap (λ (l : List ℕ). l ++ k.0) (sym e) ∙ k.1);
         comes = write_failed;
       }
   runs_err InputTooLong x =
@@ -124,6 +134,7 @@ module _ {S A : Type 0} (next : S → EventValue → Effect S) (job : Job A) (s 
         reading = w.reading;
         is_reading = w.is_reading;
         sends = sent_as (octets_given w.pieces) w.reading (Ok tt) w.is_reading w.sends;
+        sent_before = λ failed. absurd (cc (failed));
         comes =
             too_long k.0 (wants_as (take job.limit (octets_given w.pieces)) (within_limit (octets_given w.pieces)) k.1);
       }
