@@ -15,6 +15,8 @@ mod messages;
 #[cfg(test)]
 mod octets;
 #[cfg(test)]
+mod program;
+#[cfg(test)]
 mod row;
 #[cfg(test)]
 mod rows;

@@ -1,0 +1,2 @@
+pub mod System
+pub mod RunsProgram

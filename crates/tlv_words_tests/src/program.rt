@@ -1,0 +1,231 @@
+//! The program over files in memory: what it asks for, in which order, and what it writes and reports.
+ghost use Rattle.tlv_program.specs.System.{unknown_system};
+
+use crate::expect::expect_eq_of;
+use arrayvec::ArrayVec;
+use std::alloc::Global;
+use std::process::Abort;
+use std::test::Fail;
+use tlv_program::{NoWords, System, run_program};
+use tlv_walk::{MemDrain, MemSource};
+use tlv_words::{UsageFault, Words};
+
+/// The files: an INTEGER, an OBJECT IDENTIFIER, names, and names that are refused.
+static FILES: [(&str, &[u8]); 4] = [
+    ("integer", b"\x02\x01\x05"),
+    ("object", b"\x06\x02\x2a\x03"),
+    ("names", b"1.2.3 word\n"),
+    ("bad names", b"1.40 word\n"),
+];
+
+/// Standard input: a NULL.
+const INPUT: &[u8] = b"\x05\x00";
+
+/// A system whose files are in memory, and what it was asked for: the first octet of the name of each file, and `!` for
+/// what `clap` has to say.
+struct MemSystem {
+    can_print: bool,
+    asked: ArrayVec<u8, 4>,
+}
+
+impl System for MemSystem {
+    type File = MemSource<'static>;
+
+    ghost allows = { unknown_system };
+
+    fn open(&mut self, name: &str) -> Option<MemSource<'static>> {
+        let first = name.as_bytes().first().copied().unwrap_or(b'?');
+        let _ = self.asked.try_push(first);
+        for (file, octets) in FILES {
+            if file == name {
+                return Some(MemSource::new(octets, &[], None));
+            }
+        }
+        None
+    }
+
+    fn print(&mut self, _error: &clap::Error) -> bool {
+        let _ = self.asked.try_push(b'!');
+        self.can_print
+    }
+}
+
+/// Words after the program's name, and what is to come of them.
+struct ProgramRow<'a> {
+    words: &'a [&'a str],
+    can_print: bool,
+    asked: &'a [u8],
+    written: &'a [u8],
+    status: u8,
+    message: &'a [u8],
+}
+
+const NOTHING: ProgramRow<'static> = ProgramRow {
+    words: &[],
+    can_print: true,
+    asked: b"",
+    written: b"",
+    status: 0,
+    message: b"",
+};
+
+fn words_of(alloc: Global, list: &[&str]) -> Result<Words, UsageFault> {
+    let mut words = Words::new(alloc);
+    words.push("tlvdump")?;
+    for word in list {
+        words.push(word)?;
+    }
+    Ok(words)
+}
+
+fn expect_program(
+    rt: &impl Abort,
+    alloc: Global,
+    words: &Result<Words, NoWords>,
+    row: &ProgramRow<'_>,
+) {
+    let mut room = [0; 128];
+    let mut input = MemSource::new(INPUT, &[], None);
+    let mut output = MemDrain::new(&mut room, 4096);
+    let mut system = MemSystem {
+        can_print: row.can_print,
+        asked: ArrayVec::new(),
+    };
+    let report = run_program(alloc, words, &mut system, &mut input, &mut output);
+    expect_eq_of(rt, row.words, system.asked.as_slice(), row.asked);
+    expect_eq_of(rt, row.words, output.written(), row.written);
+    expect_eq_of(rt, row.words, report.status, row.status);
+    expect_eq_of(rt, row.words, report.message.as_slice(), row.message);
+}
+
+fn expect_rows(rt: &impl Abort, alloc: Global, rows: &[ProgramRow<'_>]) -> Result<(), Fail> {
+    for row in rows {
+        let words = words_of(alloc, row.words)?;
+        expect_program(rt, alloc, &Ok(words), row);
+    }
+    Ok(())
+}
+
+/// The input is the file that is named, or standard input, and names are read before it is opened.
+#[test]
+fn files_are_read(rt: HostRuntime) -> Result<(), Fail> {
+    let rows = [
+        ProgramRow {
+            words: &["dump"],
+            written: b"       0      0: NULL\n",
+            ..NOTHING
+        },
+        ProgramRow {
+            words: &["dump", "integer"],
+            asked: b"i",
+            written: b"       0      1: INTEGER 5\n",
+            ..NOTHING
+        },
+        ProgramRow {
+            words: &["dump", "--names", "names", "object"],
+            asked: b"no",
+            written: b"       0      2: OBJECT IDENTIFIER 1.2.3 (word)\n",
+            ..NOTHING
+        },
+        ProgramRow {
+            words: &["extract", "--offset", "0", "--contents", "integer"],
+            asked: b"i",
+            written: b"\x05",
+            ..NOTHING
+        },
+    ];
+    expect_rows(&rt, rt.alloc(), &rows)
+}
+
+/// The first that is refused is reported, and nothing is asked for after it.
+#[test]
+fn first_refusal_is_reported(rt: HostRuntime) -> Result<(), Fail> {
+    let rows = [
+        ProgramRow {
+            words: &["check", "missing"],
+            asked: b"m",
+            status: 3,
+            message: b"E5 cannot open the file",
+            ..NOTHING
+        },
+        ProgramRow {
+            words: &["dump", "--names", "names", "missing"],
+            asked: b"nm",
+            status: 3,
+            message: b"E5 cannot open the file",
+            ..NOTHING
+        },
+        ProgramRow {
+            words: &["dump", "--names", "missing", "integer"],
+            asked: b"m",
+            status: 4,
+            message: b"N5 names file not read",
+            ..NOTHING
+        },
+        ProgramRow {
+            words: &["dump", "--names", "bad names", "missing"],
+            asked: b"b",
+            status: 4,
+            message: b"N1 line 1: not an object identifier",
+            ..NOTHING
+        },
+        ProgramRow {
+            words: &["dump", "--limit", "x", "--names", "missing", "missing"],
+            status: 4,
+            message: b"U2 value out of range: --limit",
+            ..NOTHING
+        },
+    ];
+    expect_rows(&rt, rt.alloc(), &rows)
+}
+
+/// What `clap` has to say is printed. If that was asked for and fails, it is a failed write.
+#[test]
+fn texts_of_clap_are_printed(rt: HostRuntime) -> Result<(), Fail> {
+    let rows = [
+        ProgramRow {
+            words: &["--help"],
+            asked: b"!",
+            ..NOTHING
+        },
+        ProgramRow {
+            words: &["--help"],
+            can_print: false,
+            asked: b"!",
+            status: 3,
+            message: b"E2 write failed",
+            ..NOTHING
+        },
+        ProgramRow {
+            words: &["nonsense"],
+            asked: b"!",
+            status: 4,
+            ..NOTHING
+        },
+        ProgramRow {
+            words: &["nonsense"],
+            can_print: false,
+            asked: b"!",
+            status: 4,
+            ..NOTHING
+        },
+    ];
+    expect_rows(&rt, rt.alloc(), &rows)
+}
+
+/// Without words nothing is asked for.
+#[test]
+fn missing_words_are_reported(rt: HostRuntime) {
+    let not_utf8 = ProgramRow {
+        status: 4,
+        message: b"U1 an argument is not UTF-8",
+        ..NOTHING
+    };
+    let memory = ProgramRow {
+        status: 5,
+        message: b"U3 out of memory",
+        ..NOTHING
+    };
+    expect_program(&rt, rt.alloc(), &Err(NoWords::NotUtf8), &not_utf8);
+    expect_program(&rt, rt.alloc(), &Err(NoWords::Memory), &memory);
+}
