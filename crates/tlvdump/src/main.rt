@@ -33,14 +33,14 @@ fn report_of_run(rt: &HostRuntime) -> Result<Report, Report> {
     }
 }
 
-fn run_on<R: Read + Drop>(rt: &HostRuntime, command: &Command, names: &Names, reader: R) -> Report {
+fn run_on<R: Read + Drop>(rt: &HostRuntime, command: &Command<'_>, names: &Names, reader: R) -> Report {
     let mut source = ReadSource::new(reader);
     let mut drain = WriteDrain::new(rt.stdout());
     run(command, names, &mut source, &mut drain)
 }
 
 /// The command that the arguments ask for. What `clap` has to say is printed.
-fn command_asked_for(rt: &HostRuntime) -> Result<Command, Report> {
+fn command_asked_for(rt: &HostRuntime) -> Result<Command<'static>, Report> {
     let words = words_of(rt)?;
     match command_of(rt.alloc(), &words) {
         Ok(command) => Ok(command),
@@ -77,7 +77,7 @@ fn words_of(rt: &HostRuntime) -> Result<Words, Report> {
 }
 
 /// The table of the names file that the command asks for.
-fn names_asked_for(rt: &HostRuntime, command: &Command) -> Result<Names, Report> {
+fn names_asked_for(rt: &HostRuntime, command: &Command<'_>) -> Result<Names, Report> {
     let Some(name) = command.names_file() else {
         return Ok(Names::empty());
     };
