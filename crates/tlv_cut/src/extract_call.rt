@@ -36,7 +36,7 @@ pub fn extract<S: Source, D: Drain>(
     drain: &mut D,
     offset: u64,
     contents_only: bool,
-    framing: &Framing,
+    framing: &Framing<'_>,
 ) -> Result<Cut, DeviceFault>
     ensures { Runs (extract_job offset contents_only framing.now)
         (device_states (S.state source.old) (D.state drain.old))

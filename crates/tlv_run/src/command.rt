@@ -9,11 +9,11 @@ use tlv_walk::Framing;
 
 /// A command of the program, with its options.
 #[derive(Debug, Drop)]
-pub enum Command {
+pub enum Command<'a> {
     /// Writes each element on a line of its own.
     Dump {
         /// How the input is to be read, and its dump to be written.
-        options: Options,
+        options: Options<'a>,
         /// The names file, for object identifiers.
         names: Option<Text>,
         /// The file to read; without one it is standard input.
@@ -24,7 +24,7 @@ pub enum Command {
         /// The rules by which findings are reported.
         rules: Rules,
         /// How the input is to be read.
-        framing: Framing,
+        framing: Framing<'a>,
         /// The file to read; without one it is standard input.
         file: Option<Text>,
     },
@@ -35,7 +35,7 @@ pub enum Command {
         /// Whether the contents alone are written.
         contents: bool,
         /// How the input is to be read.
-        framing: Framing,
+        framing: Framing<'a>,
         /// The file to read; without one it is standard input.
         file: Option<Text>,
     },
@@ -48,7 +48,7 @@ pub enum Command {
     },
 }
 
-impl Command {
+impl Command<'_> {
     /// The name of the file to read, if the command names one.
     pub fn file(&self) -> Option<&str>
         ensures { text_in result ≡ file_of self.now }

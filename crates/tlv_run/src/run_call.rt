@@ -15,7 +15,7 @@ use tlv_walk::{Drain, Source};
 /// write, or an input of more than 2^40 octets, by its own message and the status 3, and otherwise what the encodings
 /// came to. The files that the command names are not opened here. This takes no memory.
 pub fn run<S: Source, D: Drain>(
-    command: &Command,
+    command: &Command<'_>,
     names: &Names,
     source: &mut S,
     drain: &mut D,

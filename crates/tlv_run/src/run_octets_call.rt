@@ -25,7 +25,7 @@ pub struct OctetsRun<const N: usize> {
 /// depend on them. After the octets the input ends, or, with `read_fails`, a read fails. If there is room for all of
 /// the output, it is written; else the first `N` octets of it, and the report is that of a failed write.
 pub fn run_octets<const N: usize>(
-    command: &Command,
+    command: &Command<'_>,
     names: &Names,
     octets: &[u8],
     cuts: &[u64],
@@ -42,7 +42,7 @@ pub fn run_octets<const N: usize>(
 }
 
 fn run_until_failure<const N: usize>(
-    command: &Command,
+    command: &Command<'_>,
     names: &Names,
     octets: &[u8],
     cuts: &[u64],
@@ -62,7 +62,7 @@ fn run_until_failure<const N: usize>(
 }
 
 fn run_to_end<const N: usize>(
-    command: &Command,
+    command: &Command<'_>,
     names: &Names,
     octets: &[u8],
     cuts: &[u64],

@@ -10,7 +10,7 @@ use Rattle.tlv_walk.specs.declared.framing.Framing.{Framing}
 use Rattle.tlv_walk.specs.AlikeElements.{AreAlike, HaveNoUniversalZero}
 use Rattle.tlv_walk.specs.Ending.{IsEnding}
 use Rattle.tlv_walk.specs.Forest.{Forest}
-use Rattle.tlv_walk.specs.Inside.{can_name}
+use Rattle.tlv_walk.specs.Inside.{are_rising}
 use Rattle.tlv_walk.specs.Reading.{IsReading}
 use Rattle.tlv_walk.specs.Wrappers.{wrapper_offsets}
 use Rattle.tlv_show.specs.declared.rules.Rules.{Rules}
@@ -51,7 +51,7 @@ OneSpelling =
 
 -- by DER and by CER, the elements of a sound input have such a spelling, if none is the universal primitive 0, and
 -- the input has at most 2^38 octets, so that lengths stay below 2^40. In it the strings that hold encodings are named,
--- and no others; a user may name those offsets if those of the input may be named
+-- and no others. A user may name those offsets, since they rise; and they are no more than those of the input
 abbrev pub SomeSpelling : Type 0
 SomeSpelling =
     (rules : Rules) (framing : Framing) (b : List ℕ) (f : Forest) → rules ≢ Ber → length b ≤ 2 ^ 38
@@ -59,7 +59,8 @@ SomeSpelling =
     → (c : List ℕ) × (g : Forest)
     × IsWellSpelled rules (record { inside = wrapper_offsets g; padding = framing.padding }) c g
     × AreAlike f g
-    × (can_name framing.inside ≡ true → can_name (wrapper_offsets g) ≡ true)
+    × (are_rising 0 (wrapper_offsets g) ≡ true)
+    × (are_rising 0 framing.inside ≡ true → length (wrapper_offsets g) ≤ length framing.inside)
 
 -- a finding on the number of identifier octets, and on that of length octets
 abbrev pub is_on_identifier : Finding → Bool

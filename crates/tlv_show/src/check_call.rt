@@ -19,7 +19,7 @@ pub fn check<S: Source, D: Drain>(
     source: &mut S,
     drain: &mut D,
     rules: Rules,
-    framing: &Framing,
+    framing: &Framing<'_>,
 ) -> Result<Outcome, DeviceFault>
     ensures { Runs (check_job rules framing.now)
         (device_states (S.state source.old) (D.state drain.old))

@@ -18,7 +18,7 @@ use tlv_walk::{DeviceFault, Drain, Source, drive};
 pub fn dump<S: Source, D: Drain>(
     source: &mut S,
     drain: &mut D,
-    options: &Options,
+    options: &Options<'_>,
     names: &Names,
 ) -> Result<Outcome, DeviceFault>
     ensures { Runs (dump_job options.now names.now)

@@ -41,7 +41,7 @@ impl<'n> Model for Dump<'n> {
 
 impl<'n> Dump<'n> {
     /// A dump of which nothing is written.
-    pub fn new(options: &Options, names: &'n Names) -> Dump<'n>
+    pub fn new(options: &Options<'_>, names: &'n Names) -> Dump<'n>
         ensures { result ≡ new_dump options.now.rules (top_layout options.now) names.now }
     {
         let layout = Layout {

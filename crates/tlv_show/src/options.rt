@@ -4,7 +4,7 @@ use tlv_walk::Framing;
 
 /// How a dump is to be written.
 #[derive(Debug, Drop)]
-pub struct Options {
+pub struct Options<'a> {
     /// The rules by which findings are reported.
     pub rules: Rules,
     /// How many rows of one value are written; one more is written as `...`, and the others are left out. Without a
@@ -14,5 +14,5 @@ pub struct Options {
     /// of findings are left out too; they are counted.
     pub pure: bool,
     /// How the input is to be read.
-    pub framing: Framing,
+    pub framing: Framing<'a>,
 }

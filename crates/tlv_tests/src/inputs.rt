@@ -34,7 +34,7 @@ pub(crate) fn element_at<'a>(offset: u64, octets: &'a [u8]) -> Option<(Header, &
 }
 
 /// The framing that names these offsets, which rise.
-pub(crate) fn framing_of(rt: &impl Abort, offsets: &[u64], padding: bool) -> Framing {
+pub(crate) fn framing_of(rt: &impl Abort, offsets: &[u64], padding: bool) -> Framing<'static> {
     let Some(inside) = Inside::new(offsets) else {
         panic!(rt; "the offsets rise");
     };

@@ -13,7 +13,7 @@ pub(crate) const LENGTH: u64 = 11;
 /// Follows one read, after which more is to be read, and these octets are written.
 pub(crate) fn expect_again<F: Follow>(
     rt: &impl Abort,
-    walker: &mut Walker,
+    walker: &mut Walker<'_>,
     follower: &mut F,
     source: &mut MemSource<'_>,
     drain: &mut MemDrain<'_>,
@@ -34,7 +34,7 @@ pub(crate) fn expect_again<F: Follow>(
 /// Makes a read that fails, after which these octets are still what is written.
 pub(crate) fn expect_failure<F: Follow>(
     rt: &impl Abort,
-    walker: &mut Walker,
+    walker: &mut Walker<'_>,
     follower: &mut F,
     source: &mut MemSource<'_>,
     drain: &mut MemDrain<'_>,

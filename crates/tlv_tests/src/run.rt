@@ -10,7 +10,7 @@ use tlv_walk::{Framing, MemDrain, MemSource};
 const INPUT: &[u8] = b"\x30\x03\x02\x01\x05";
 
 /// Runs the command over the input, and expects these octets to be written and this status.
-fn expect_run(rt: &impl Abort, command: &Command, written: &[u8], status: u8) {
+fn expect_run(rt: &impl Abort, command: &Command<'_>, written: &[u8], status: u8) {
     let mut room = [0; 128];
     let mut source = MemSource::new(INPUT, &[], None);
     let mut drain = MemDrain::new(&mut room, 4096);

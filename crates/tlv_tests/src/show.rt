@@ -11,7 +11,7 @@ use tlv_value::Names;
 use tlv_walk::{Drain, Event, Follow, Framing, MemDrain, MemSource, Out, Walker, WriteFault};
 
 /// Options of a dump of everything.
-fn plain() -> Options {
+fn plain() -> Options<'static> {
     Options {
         rules: Rules::Ber,
         limit: None,
@@ -158,7 +158,8 @@ fn expect_turns(rt: &impl Abort, first: u64) {
     let mut room = [0; 200];
     let mut piece = [0; 11];
     let names = Names::empty();
-    let mut walker = Walker::new(&Framing::plain());
+    let framing = Framing::plain();
+    let mut walker = Walker::new(&framing);
     let mut follower = Dump::new(&plain(), &names);
     let cuts = [first];
     let mut source = MemSource::new(b"\x3a\x09\x04\x03Jon\x04\x02es", &cuts, None);

@@ -1,4 +1,5 @@
 pub mod Inside
+pub mod InsideFields
 pub mod Framing
 pub mod Follow
 pub mod Forest

@@ -1,4 +1,5 @@
 pub mod ResultOfPause
+pub mod Cursor
 pub mod FollowsPiece
 pub mod FrameFields
 pub mod WalkerCalls

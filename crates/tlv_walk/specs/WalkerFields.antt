@@ -22,7 +22,7 @@ walker_state_of w = record {
   phase = phase_of w.phase w.reader;
   offset = w.offset;
   events = w.events;
-  framing = w.framing;
+  framing = record { inside = w.inside.now; padding = w.padding };
   has_element = w.has_element;
   wrapper_count = w.wrapper_count;
 }

@@ -1,9 +1,10 @@
 -- What contracts see of a `Walker`, which takes octets and yields events.
-use Rattle.std.specs.Prelude.{◌≡◌, ◌≢◌, ℕ, ◌+◌, ◌≤◌, Bool, false, slice_get, List, [], length, Option}
+use Rattle.std.specs.Prelude.{◌≡◌, ◌≢◌, ℕ, ◌+◌, ◌≤◌, Bool, true, false, slice_get, List, [], length, Option}
 use Rattle.tlv_head.specs.DepthLimit.{depth_limit}
 use Rattle.tlv_head.specs.declared.fault.Fault.{Fault}
 use Rattle.tlv_head.specs.HeadReaderState.{HeadReaderState}
 use Rattle.tlv_walk.specs.declared.framing.Framing.{Framing}
+use Rattle.tlv_walk.specs.Inside.{are_rising}
 use Rattle.tlv_walk.specs.Phase.{Between, InBitString, InEndOctets, InHeader, InPrimitive, IsAfterEvent, PhaseValue}
 use Rattle.tlv_walk.specs.Phase.{Refused}
 use Rattle.tlv_walk.specs.Stack.{FrameValue, IsInIndefinite, IsInWrapper, IsNested, bound_of}
@@ -67,7 +68,7 @@ pub record IsWalkerState (w : WalkerState) : Type 0 where
   pub limit : w.offset ≤ input_limit
   pub shallow : length w.stack ≤ depth_limit
   pub counts : CountsFitPhase w.phase w.stack w.offset w.events
-  pub few_named : length w.framing.inside ≤ 16
+  pub rising : are_rising 0 w.framing.inside ≡ true
   pub wrapper_count : w.wrapper_count ≤ length w.framing.inside
 
 -- the octets of a piece are not too many: with those that were taken, at most 2^40

@@ -18,7 +18,7 @@ pub fn drive<S: Source, F: Follow, D: Drain>(
     source: &mut S,
     follower: &mut F,
     drain: &mut D,
-    framing: &Framing,
+    framing: &Framing<'_>,
 ) -> Result<Run, DeviceFault>
     ensures { Drives F.next framing.now input_limit
         (drive_states follower.old (S.state source.old) (D.state drain.old))
@@ -47,7 +47,7 @@ pub fn drive_up_to<S: Source, F: Follow, D: Drain>(
     follower: &mut F,
     drain: &mut D,
     limit: u64,
-    framing: &Framing,
+    framing: &Framing<'_>,
 ) -> Result<Run, DeviceFault>
     requires { limit ≤ input_limit }
     ensures { Drives F.next framing.now limit

@@ -1,94 +1,132 @@
 //! How an input is to be read.
+ghost use Rattle.std.specs.Prelude.{◌≡◌};
+ghost use Rattle.tlv_walk.specs.Inside.{are_rising};
+
 use crate::INPUT_LIMIT;
 use arrayvec::ArrayVec;
 use std::marker::Model;
 
-/// The offsets that the user names, at most 16, rising, each at most 2^40: a string there holds
-/// encodings. They are in octets from the start of the input.
-#[derive(Clone, PartialEq, Eq, Debug, Drop)]
-pub struct Inside {
-    offsets: ArrayVec<u64, 16>,
+/// The offsets that the user names, rising, each at most 2^40: a string there holds encodings. They
+/// are in octets from the start of the input. At most 16 are kept in an `Inside`; a longer list is
+/// the caller's, and lent.
+#[derive(Clone, Debug, Drop)]
+pub struct Inside<'a> {
+    offsets: Offsets<'a>,
 }
 
-impl Model for Inside {
+/// Where named offsets are kept.
+#[derive(Clone, Debug, Drop)]
+enum Offsets<'a> {
+    /// Here.
+    Kept(ArrayVec<u64, 16>),
+    /// Where their caller has them.
+    Lent(&'a [u64]),
+}
+
+impl<'a> Model for Inside<'a> {
     ghost use Rattle.std.specs.Prelude.{List, ℕ};
 
     ghost Value = { List ℕ };
 
     ghost use Rattle.std.specs.Prelude.{◌≡◌, true};
-    ghost use Rattle.tlv_walk.specs.Inside.{can_name};
+    ghost use Rattle.tlv_walk.specs.Inside.{are_rising};
+    ghost use Rattle.tlv_walk.specs.InsideFields.{offsets_in};
 
-    ghost view = { λ i. i.offsets.items };
+    ghost view = { λ i. offsets_in i.offsets };
 
-    ghost invariant = { λ i. can_name i.offsets.items ≡ true };
+    ghost invariant = { λ i. are_rising 0 (offsets_in i.offsets) ≡ true };
+}
 
-    ghost inverse = { λ offsets. record { offsets = record { items = offsets } } };
+/// Two are equal if they name the same offsets, wherever these are kept.
+impl<'a> PartialEq for Inside<'a> {
+    ghost use Rattle.std.specs.Cmp.{partial_equiv_from_equiv};
+    ghost use Rattle.std.specs.Cmp.Lexicographic.{nat_list_eq_equiv, pointwise};
+    ghost use Rattle.std.specs.Prelude.{nat_eq};
+
+    ghost eq = { λ x y. pointwise nat_eq x y };
+
+    ghost laws = { partial_equiv_from_equiv nat_list_eq_equiv };
+
+    fn eq(&self, other: &Self) -> bool {
+        self.as_slice() == other.as_slice()
+    }
+}
+
+impl<'a> Eq for Inside<'a> {
+    ghost use Rattle.std.specs.Cmp.Lexicographic.{nat_list_eq_equiv};
+
+    ghost laws = { nat_list_eq_equiv };
 }
 
 /// How an input is to be read.
 #[derive(Clone, PartialEq, Eq, Debug, Drop)]
-pub struct Framing {
+pub struct Framing<'a> {
     /// The named offsets.
-    pub inside: Inside,
+    pub inside: Inside<'a>,
     /// Whether padding is allowed: octets `00` at the top, before, between and after encodings.
     pub padding: bool,
 }
 
-impl Inside {
-    ghost use Rattle.std.specs.Prelude.{◌≡◌, MatchOption, [], false, slice_get, true};
+impl<'a> Inside<'a> {
+    ghost use Rattle.std.specs.Prelude.{MatchOption, [], false, true};
     ghost use Rattle.tlv_walk.specs.Inside.{can_name};
 
     /// The offsets, if there are at most 16, each larger than the one before and at most 2^40;
-    /// otherwise nothing. There may be none.
-    pub fn new(offsets: &[u64]) -> Option<Inside>
+    /// otherwise nothing. There may be none. They are copied.
+    pub fn new(offsets: &[u64]) -> Option<Inside<'a>>
         ensures { MatchOption result (can_name offsets.now ≡ false)
             (λ inside. (inside ≡ offsets.now) × (can_name offsets.now ≡ true)) }
     {
-        let mut named = ArrayVec::new();
-        let mut least = 0;
-        for &offset in offsets {
-            if named.is_full() || offset < least || offset > INPUT_LIMIT {
-                return None;
-            }
-            named.push(offset);
-            least = offset + 1;
+        if offsets.len() > 16 || !are_rising(offsets) {
+            return None;
         }
-        Some(Inside { offsets: named })
+        let mut kept = ArrayVec::new();
+        let _ = kept.try_extend_from_slice(offsets);
+        Some(Inside {
+            offsets: Offsets::Kept(kept),
+        })
+    }
+
+    /// The offsets, however many, if each is larger than the one before and at most 2^40; otherwise
+    /// nothing. There may be none. They are not copied, so they stay lent as long as this is used.
+    pub fn lent(offsets: &'a [u64]) -> Option<Inside<'a>>
+        ensures { MatchOption result (are_rising 0 offsets.now ≡ false)
+            (λ inside. (inside ≡ offsets.now) × (are_rising 0 offsets.now ≡ true)) }
+    {
+        if !are_rising(offsets) {
+            return None;
+        }
+        Some(Inside {
+            offsets: Offsets::Lent(offsets),
+        })
     }
 
     /// No offset.
-    pub fn none() -> Inside
+    pub fn none() -> Inside<'a>
         ensures { result ≡ [] }
     {
         Inside {
-            offsets: ArrayVec::new(),
+            offsets: Offsets::Lent(&[]),
         }
     }
 
-    /// The offset at this index, if there is one.
-    pub(crate) fn get(&self, index: usize) -> Option<u64>
-        ensures { result ≡ slice_get self.now index }
+    /// The offsets.
+    pub(crate) fn as_slice(&self) -> &[u64]
+        ensures offsets { result.now ≡ self.now }
+        ensures rising { are_rising 0 result.now ≡ true }
     {
-        self.offsets.get(index).copied()
-    }
-
-    /// A copy. `clone` is not called, since its result is that of a call that takes memory, and may be an error; this
-    /// takes none.
-    pub(crate) fn copied(&self) -> Inside
-        ensures { result ≡ self.now }
-    {
-        let mut offsets = ArrayVec::new();
-        let _ = offsets.try_extend_from_slice(self.offsets.as_slice());
-        Inside { offsets }
+        match &self.offsets {
+            Offsets::Kept(kept) => kept.as_slice(),
+            Offsets::Lent(lent) => lent,
+        }
     }
 }
 
-impl Framing {
-    ghost use Rattle.std.specs.Prelude.{◌≡◌};
+impl<'a> Framing<'a> {
     ghost use Rattle.tlv_walk.specs.Framing.{plain_framing};
 
     /// No string is read as encodings, and there is no padding.
-    pub fn plain() -> Framing
+    pub fn plain() -> Framing<'a>
         ensures { result ≡ plain_framing }
     {
         Framing {
@@ -96,34 +134,18 @@ impl Framing {
             padding: false,
         }
     }
+}
 
-    /// A copy, which takes no memory and cannot fail, as [`Inside::copied`].
-    pub(crate) fn copied(&self) -> Framing
-        ensures { result ≡ self.now }
-    {
-        Framing {
-            inside: self.inside.copied(),
-            padding: self.padding,
+/// Whether each offset is larger than the one before and at most 2^40.
+fn are_rising(offsets: &[u64]) -> bool
+    ensures { result ≡ are_rising 0 offsets.now }
+{
+    let mut least = 0;
+    for &offset in offsets {
+        if offset < least || offset > INPUT_LIMIT {
+            return false;
         }
+        least = offset + 1;
     }
-}
-
-ghost use Rattle.std.specs.Prelude.{◌≡◌};
-ghost use Rattle.tlv_walk.specs.Inside.{is_among};
-
-/// Whether the offset is one of the named ones. Each header asks this, and mostly there are none.
-#[inline(always)]
-pub(crate) fn is_among(offset: u64, inside: &Inside) -> bool
-    ensures { result ≡ is_among offset inside.now }
-{
-    !inside.offsets.is_empty() && is_among_some(offset, inside)
-}
-
-/// Whether the offset is one of the named ones, of which there are some. It is a function of its own, so that the
-/// search is not in the functions that ask for it.
-#[inline(never)]
-fn is_among_some(offset: u64, inside: &Inside) -> bool
-    ensures { result ≡ is_among offset inside.now }
-{
-    inside.offsets.contains(&offset)
+    true
 }

@@ -2,6 +2,7 @@
 //! yielded is what a recursive grammar of identifier, length and contents octets gives.
 #![tactic(auto)]
 
+mod cursor;
 mod drive_call;
 mod ending;
 mod event;

@@ -47,7 +47,7 @@ enum Pause {
 /// `InputTooLong` the walker is at the limit; the octets of this read beyond it are lost, so another
 /// turn would leave them out. After `WriteFailed` nothing is promised of walker and follower.
 pub fn turn<F: Follow, S: Source, D: Drain>(
-    walker: &mut Walker,
+    walker: &mut Walker<'_>,
     follower: &mut F,
     source: &mut S,
     drain: &mut D,
@@ -67,7 +67,7 @@ pub fn turn<F: Follow, S: Source, D: Drain>(
 /// [`turn`], with an `Out` in place of a drain. It holds nothing, and holds nothing again if more is to be
 /// read. So one `Out` serves a whole run, and need not be made for each read.
 pub(crate) fn turn_with<F: Follow, S: Source, D: Drain>(
-    walker: &mut Walker,
+    walker: &mut Walker<'_>,
     follower: &mut F,
     source: &mut S,
     out: &mut Out<'_, D>,
@@ -96,7 +96,7 @@ pub(crate) fn turn_with<F: Follow, S: Source, D: Drain>(
 
 /// What a turn returns after this pause, if it read `read` octets and followed `followed` of them.
 fn result_of_pause(
-    walker: &Walker,
+    walker: &Walker<'_>,
     pause: Pause,
     read: usize,
     followed: usize,
@@ -114,7 +114,7 @@ fn result_of_pause(
 }
 
 /// The run of a walker, with this ending; `enough` says whether the follower had enough.
-fn run_of(walker: &Walker, ending: Ending, enough: bool) -> Run
+fn run_of(walker: &Walker<'_>, ending: Ending, enough: bool) -> Run
     ensures { result ≡ run_of walker.now ending enough }
 {
     Run {
@@ -127,7 +127,7 @@ fn run_of(walker: &Walker, ending: Ending, enough: bool) -> Run
 
 /// Walks over a piece, lets the follower follow each event, and hands all that it put to the drain.
 fn follow_and_flush<F: Follow, D: Drain>(
-    walker: &mut Walker,
+    walker: &mut Walker<'_>,
     follower: &mut F,
     piece: &[u8],
     out: &mut Out<'_, D>,
@@ -146,7 +146,7 @@ fn follow_and_flush<F: Follow, D: Drain>(
 
 /// Walks over a piece, and lets the follower follow each event.
 fn follow<F: Follow, D: Drain>(
-    walker: &mut Walker,
+    walker: &mut Walker<'_>,
     follower: &mut F,
     piece: &[u8],
     out: &mut Out<'_, D>,
@@ -192,7 +192,7 @@ fn follow<F: Follow, D: Drain>(
 /// the follower takes it so. Returns whether it was followed; otherwise nothing is taken.
 #[inline(always)]
 fn follow_primitive<F: Follow, D: Drain>(
-    walker: &mut Walker,
+    walker: &mut Walker<'_>,
     follower: &mut F,
     piece: &mut &[u8],
     out: &mut Out<'_, D>,
@@ -218,7 +218,7 @@ fn follow_primitive<F: Follow, D: Drain>(
 /// whether it was followed; otherwise nothing is taken.
 #[inline(always)]
 fn follow_found<F: Follow, D: Drain>(
-    walker: &mut Walker,
+    walker: &mut Walker<'_>,
     follower: &mut F,
     primitive: &WholePrimitive,
     piece: &mut &[u8],

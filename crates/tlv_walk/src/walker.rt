@@ -8,6 +8,7 @@ mod ends;
 mod headers;
 mod short_way;
 
+use crate::cursor::{Cursor, offset_at};
 use crate::stack::Stack;
 use crate::{Ending, Event, Framing, Step};
 pub(crate) use short_way::WholePrimitive;
@@ -34,13 +35,18 @@ enum Phase {
 /// Takes the octets of an input in whatever pieces they come, and yields event after event. It
 /// holds a frame for each open element that holds others, and no contents.
 #[derive(Drop)]
-pub struct Walker {
+pub struct Walker<'f> {
     stack: Stack,
     phase: Phase,
     /// Of use in an unfinished header alone. It is large, so it is no part of the phase, which changes with each event.
     reader: HeadReader,
     offset: u64,
-    framing: Framing,
+    /// Where the offset is among the named ones.
+    cursor: Cursor,
+    /// The named offsets.
+    inside: &'f [u64],
+    /// Whether padding is allowed.
+    padding: bool,
     /// Not beside the offset: LLVM would join the sums of the two into vector code, which is slower.
     events: u64,
     /// Whether an octet of an element came, and not padding alone.
@@ -49,20 +55,21 @@ pub struct Walker {
     wrapper_count: usize,
 }
 
-impl Model for Walker {
+impl<'f> Model for Walker<'f> {
     ghost use Rattle.tlv_walk.specs.WalkerState.{WalkerState};
 
     ghost Value = { WalkerState };
 
+    ghost use Rattle.tlv_walk.specs.Private.Cursor.{IsCursorAt};
     ghost use Rattle.tlv_walk.specs.WalkerFields.{walker_state_of};
     ghost use Rattle.tlv_walk.specs.WalkerState.{IsWalkerState};
 
     ghost view = { walker_state_of };
 
-    ghost invariant = { λ w. IsWalkerState (walker_state_of w) };
+    ghost invariant = { λ w. IsWalkerState (walker_state_of w) × IsCursorAt w.inside.now w.cursor w.offset };
 }
 
-impl Walker {
+impl<'f> Walker<'f> {
     ghost use Rattle.std.specs.Prelude.{[], false};
     ghost use Rattle.tlv_walk.specs.Phase.{Between, Refused};
     ghost use Rattle.tlv_walk.specs.WalkerState.{IfRefused, IsWithinInputLimit, new_walker, unused_offset};
@@ -75,19 +82,22 @@ impl Walker {
     ghost use Rattle.tlv_walk.specs.Private.Yields.{Steps};
     ghost use Rattle.tlv_head.specs.InputLimit.{input_limit};
 
-    /// A walker that has taken nothing.
-    pub fn new(framing: &Framing) -> Walker
+    /// A walker that has taken nothing. It keeps the framing lent.
+    pub fn new(framing: &'f Framing<'_>) -> Walker<'f>
         ensures state { result ≡ new_walker framing.now }
         ensures stands { Stands result [] [] }
         ensures ready { IsReady result }
     {
+        let inside = framing.inside.as_slice();
         Walker {
             stack: Stack::new(),
             phase: Phase::Between,
             reader: HeadReader::new(0, false),
             offset: 0,
+            cursor: Cursor::new(inside),
+            inside,
+            padding: framing.padding,
             events: 0,
-            framing: framing.copied(),
             has_element: false,
             wrapper_count: 0,
         }
@@ -128,7 +138,7 @@ impl Walker {
         ensures first { IfRead self.now
             (λ b f. result ≡ first_without_wrapper self.now.framing.inside f) }
     {
-        self.framing.inside.get(self.wrapper_count)
+        offset_at(self.inside, self.wrapper_count)
     }
 
     /// Whether an event is still to come that needs no further octet.

@@ -24,7 +24,7 @@ use tlv_walk::Framing;
 /// `Parser` if `clap` does not take the words; if they ask for help or for the version it does not take them either,
 /// and the kind of the error says so. `Value` if `clap` finds no fault, but an option's text is no value: it names the
 /// first such option, in the order rules, limit, offset, inside. `Memory` if memory is refused.
-pub fn command_of(alloc: Global, words: &Words) -> Result<Command, UsageFault>
+pub fn command_of(alloc: Global, words: &Words) -> Result<Command<'static>, UsageFault>
     ensures ok { IfOk result (λ command. AreReadAs words.now (Ok command)) }
     ensures err { IfErr result (IsUsageFaultOf words.now) }
 {
@@ -49,7 +49,7 @@ fn usage_fault(error: clap::Error) -> UsageFault
 }
 
 /// The command of the subcommand that `clap` matches.
-fn matched_command(alloc: Global, matches: &ArgMatches<'_>) -> Result<Command, UsageFault>
+fn matched_command(alloc: Global, matches: &ArgMatches<'_>) -> Result<Command<'static>, UsageFault>
     requires { is_some (subcommand_rows_of matches.now) ≡ true }
     ensures { IfSome (subcommand_rows_of matches.now)
         (λ (name, rows). Returns (matched_command name rows) result) }
@@ -65,7 +65,7 @@ fn matched_command(alloc: Global, matches: &ArgMatches<'_>) -> Result<Command, U
     }
 }
 
-fn dump_command(alloc: Global, matches: &ArgMatches<'_>) -> Result<Command, UsageFault>
+fn dump_command(alloc: Global, matches: &ArgMatches<'_>) -> Result<Command<'static>, UsageFault>
     ensures { Returns (dump_command (matched_rows matches.now)) result }
 {
     let Some(rules) = rules_value(Rules::Ber, first_of(matches, "rules")) else {
@@ -92,7 +92,7 @@ fn dump_command(alloc: Global, matches: &ArgMatches<'_>) -> Result<Command, Usag
     })
 }
 
-fn check_command(alloc: Global, matches: &ArgMatches<'_>) -> Result<Command, UsageFault>
+fn check_command(alloc: Global, matches: &ArgMatches<'_>) -> Result<Command<'static>, UsageFault>
     ensures { Returns (check_command (matched_rows matches.now)) result }
 {
     let Some(rules) = rules_value(Rules::Der, first_of(matches, "rules")) else {
@@ -109,7 +109,7 @@ fn check_command(alloc: Global, matches: &ArgMatches<'_>) -> Result<Command, Usa
     })
 }
 
-fn extract_command(alloc: Global, matches: &ArgMatches<'_>) -> Result<Command, UsageFault>
+fn extract_command(alloc: Global, matches: &ArgMatches<'_>) -> Result<Command<'static>, UsageFault>
     ensures { Returns (extract_command (matched_rows matches.now)) result }
 {
     let Some(offset) = offset_value(first_of(matches, "offset")) else {
@@ -127,7 +127,7 @@ fn extract_command(alloc: Global, matches: &ArgMatches<'_>) -> Result<Command, U
     })
 }
 
-fn indef_command(alloc: Global, matches: &ArgMatches<'_>) -> Result<Command, UsageFault>
+fn indef_command(alloc: Global, matches: &ArgMatches<'_>) -> Result<Command<'static>, UsageFault>
     ensures { Returns (indef_command (matched_rows matches.now)) result }
 {
     let padding = has_flag(matches, "padding");
@@ -136,7 +136,7 @@ fn indef_command(alloc: Global, matches: &ArgMatches<'_>) -> Result<Command, Usa
 }
 
 /// The framing that `--inside` and `--padding` ask for, if the text of `--inside` is a value.
-fn framing_value(matches: &ArgMatches<'_>) -> Option<Framing>
+fn framing_value(matches: &ArgMatches<'_>) -> Option<Framing<'static>>
     ensures { result ≡ framing_value (matched_rows matches.now) }
 {
     let inside = inside_value(first_of(matches, "inside"))?;

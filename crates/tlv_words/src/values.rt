@@ -63,7 +63,7 @@ pub(crate) fn offset_value(text: Option<&str>) -> Option<u64>
 }
 
 /// The offsets that the text lists. Without a text there are none.
-pub(crate) fn inside_value(text: Option<&str>) -> Option<Inside>
+pub(crate) fn inside_value(text: Option<&str>) -> Option<Inside<'static>>
     ensures { result ≡ inside_value (text_in text.entry) }
 {
     match text {
@@ -73,7 +73,7 @@ pub(crate) fn inside_value(text: Option<&str>) -> Option<Inside>
 }
 
 /// The offsets that the text is: 1 to 16 numbers up to 2^40 with commas between them, each larger than the one before.
-fn offset_list(text: &[u8]) -> Option<Inside>
+fn offset_list(text: &[u8]) -> Option<Inside<'static>>
     ensures { result ≡ offset_list text.now }
 {
     let mut offsets: ArrayVec<u64, 16> = ArrayVec::new();

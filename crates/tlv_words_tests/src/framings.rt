@@ -31,7 +31,7 @@ static FRAMINGS: [FramingRow<'static>; 9] = [
 ];
 
 /// The framing that the command has, if it may name strings.
-fn framing_of(command: &Command) -> Option<&Framing> {
+fn framing_of<'c>(command: &'c Command<'static>) -> Option<&'c Framing<'static>> {
     match command {
         Command::Dump { options, .. } => Some(&options.framing),
         Command::Check { framing, .. } => Some(framing),

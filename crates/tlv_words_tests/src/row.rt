@@ -25,7 +25,7 @@ use tlv_words::{Words, command_of};
 pub(crate) struct Case<'a> {
     /// What is reported if a run does something else.
     pub place: &'a str,
-    pub command: Command,
+    pub command: Command<'static>,
     pub names: Names,
     pub input: Vec<u8>,
     pub output: Vec<u8>,
@@ -37,7 +37,7 @@ pub(crate) struct Case<'a> {
 }
 
 /// The command that these words ask for, after the program's name.
-pub(crate) fn command_for(alloc: Global, text: &str) -> Result<Command, Fail> {
+pub(crate) fn command_for(alloc: Global, text: &str) -> Result<Command<'static>, Fail> {
     let mut words = Words::new(alloc);
     words.push("tlvdump")?;
     for word in text.split(' ') {

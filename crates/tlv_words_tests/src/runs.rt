@@ -72,7 +72,7 @@ fn result_in<'a>(report: &'a Report, written: &'a [u8]) -> RunResult<'a> {
 
 /// Whether nothing that follows the octets of a run with this result could change it: an octet was
 /// refused, or the element of `extract` was whole.
-fn is_final(command: &Command, run_result: RunResult<'_>) -> bool {
+fn is_final(command: &Command<'_>, run_result: RunResult<'_>) -> bool {
     if run_result.status == 2 {
         let text = run_result.message;
         return !text.ends_with(b"F01 empty input")
@@ -265,7 +265,7 @@ pub(crate) fn expect_final_fault(
 }
 
 /// Whether the command takes octets `00` between the encodings.
-fn takes_padding(command: &Command) -> bool {
+fn takes_padding(command: &Command<'_>) -> bool {
     match command {
         Command::Dump { options, .. } => options.framing.padding,
         Command::Check { framing, .. } => framing.padding,

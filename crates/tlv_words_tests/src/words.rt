@@ -10,7 +10,7 @@ use std::test::Fail;
 use tlv_run::Command;
 use tlv_words::{UsageFault, Words, command_of};
 
-fn command(alloc: Global, list: &[&str]) -> Result<Command, UsageFault> {
+fn command(alloc: Global, list: &[&str]) -> Result<Command<'static>, UsageFault> {
     let mut words = Words::new(alloc);
     words.push("tlvdump")?;
     for word in list {
@@ -19,7 +19,7 @@ fn command(alloc: Global, list: &[&str]) -> Result<Command, UsageFault> {
     command_of(alloc, &words)
 }
 
-fn meaning_of(asked: &Command) -> Meaning<'static> {
+fn meaning_of(asked: &Command<'_>) -> Meaning<'static> {
     match asked {
         Command::Dump { options, .. } => Meaning::Dump(options.rules, options.limit, options.pure),
         Command::Check { rules, .. } => Meaning::Check(*rules),

@@ -15,8 +15,8 @@ use Rattle.tlv_walk.specs.AlikeElements.{AreAlike, holders, nothing, padding, pr
 use Rattle.tlv_walk.specs.Events.{end_octets_offset}
 use Rattle.tlv_walk.specs.Forest.{Forest, NoMore, PaddingOctet, Primitive, Holder, OpenPrimitive, OpenHolder}
 use Rattle.tlv_walk.specs.Forest.{OpenBitString, OpenHeader, OpenEndOctets, extent, has_element, spelling}
-use Rattle.tlv_walk.specs.Inside.{can_name, is_among}
-use Rattle.tlv_walk.proofs.EventLemmas.NamedOffsets.{AreRising, can-from, can-to}
+use Rattle.tlv_walk.specs.Inside.{are_rising, is_among}
+use Rattle.tlv_walk.proofs.EventLemmas.NamedOffsets.{AreRising, rising-from, rising-to}
 use Rattle.tlv_walk.specs.Place.{ObeysGrammar, Place, is_indefinite, place_after, place_of_children, top_place}
 use Rattle.tlv_walk.specs.Reading.{IsReading, IsSound, IsSoundList}
 use Rattle.tlv_walk.specs.Wrappers.{wrapper_offset, wrapper_offsets}
@@ -219,20 +219,23 @@ as-many f g (holders h k inside within a b tag held rest) =
       length-append (wrapper_offsets within) (wrapper_offsets b),
     )
 
-can-name : (framing other : Framing) (f g : Forest) → ObeysGrammar (top_place framing) f
-    → ObeysGrammar (top_place other) g → AreAlike f g
-    → length (spelling g) ≤ 2 ^ 40 → can_name framing.inside ≡ true → can_name (wrapper_offsets g) ≡ true
-can-name framing other f g u v alike few named = let can = can-to framing.inside named in can-from (wrapper_offsets g) (
-  omega (
-    arith,
-    can.0,
-    as-many f g alike,
-    named-no_more framing.inside (wrapper_offsets f) 0 0 (0 + length (spelling f)) can.1
-        (wrapper_offsets-rise (top_place framing) f u) (wrapper_offsets-named (top_place framing) f u),
-  ),
-  rising-of 0 (0 + length (spelling g)) (wrapper_offsets g) (omega (arith, few))
-      (wrapper_offsets-rise (top_place other) g v),
-)
+wrappers-rise : (framing : Framing) (g : Forest) → ObeysGrammar (top_place framing) g → length (spelling g) ≤ 2 ^ 40
+    → are_rising 0 (wrapper_offsets g) ≡ true
+wrappers-rise framing g v few =
+    rising-from 0 (wrapper_offsets g)
+    (rising-of 0 (0 + length (spelling g)) (wrapper_offsets g) (omega (arith, few))
+    (wrapper_offsets-rise (top_place framing) g v))
+
+no-more : (framing : Framing) (f g : Forest) → ObeysGrammar (top_place framing) f → AreAlike f g
+    → are_rising 0 framing.inside ≡ true → length (wrapper_offsets g) ≤ length framing.inside
+no-more framing f g u alike rise =
+    omega (
+      arith,
+      as-many f g alike,
+      named-no_more framing.inside (wrapper_offsets f) 0 0 (0 + length (spelling f))
+          (rising-to 0 framing.inside rise) (wrapper_offsets-rise (top_place framing) f u)
+          (wrapper_offsets-named (top_place framing) f u),
+    )
 
 -- ---- the law
 
@@ -281,5 +284,6 @@ some-spelling rules framing b f strict few ending reading low =
         none = none-found rules strict (top_place other) top_site at_top.forest sound at_top.regular;
       },
       at_top.alike,
-      can-name framing other f at_top.forest reading.obeys_grammar there.obeys_grammar at_top.alike small,
+      wrappers-rise other at_top.forest there.obeys_grammar small,
+      no-more framing f at_top.forest reading.obeys_grammar at_top.alike,
     )

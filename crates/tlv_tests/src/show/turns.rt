@@ -37,7 +37,8 @@ fn expect_reads(rt: &impl Abort, limit: u64)
 ";
     let mut room = [0; 200];
     let mut read_room = [0; 4];
-    let mut walker = Walker::new(&Framing::plain());
+    let framing = Framing::plain();
+    let mut walker = Walker::new(&framing);
     let names = Names::empty();
     let mut dump = Dump::new(&plain(), &names);
     let mut source = MemSource::new(b"\x3a\x09\x04\x03Jon\x04\x02es", &[], None);

@@ -79,7 +79,7 @@ fn expect_next(
 fn expect_piece(
     rt: &impl Abort,
     row: &Row<'_>,
-    walker: &mut Walker,
+    walker: &mut Walker<'_>,
     piece: &[u8],
     first: usize,
 ) -> usize {
@@ -99,7 +99,7 @@ fn expect_piece(
 }
 
 /// Expects all events of the row to have come, and what it comes to.
-fn expect_end(rt: &impl Abort, row: &Row<'_>, walker: &Walker, index: usize) {
+fn expect_end(rt: &impl Abort, row: &Row<'_>, walker: &Walker<'_>, index: usize) {
     expect_eq_of(rt, row.name, index, row.events.len());
     expect_eq_of(rt, row.name, finish(rt, walker), row.ending);
     expect_eq_of(rt, row.name, walker.unused(), row.unused);
@@ -108,7 +108,8 @@ fn expect_end(rt: &impl Abort, row: &Row<'_>, walker: &Walker, index: usize) {
 
 /// Expects the row's events in two pieces, cut here.
 fn expect_cut(rt: &impl Abort, row: &Row<'_>, cut: usize) {
-    let mut walker = Walker::new(&framing_of(rt, row.inside, row.padding));
+    let framing = framing_of(rt, row.inside, row.padding);
+    let mut walker = Walker::new(&framing);
     let (front, back) = row.input.split_at(cut.min(row.input.len()));
     let index = expect_piece(rt, row, &mut walker, front, 0);
     let index = expect_piece(rt, row, &mut walker, back, index);
@@ -117,7 +118,8 @@ fn expect_cut(rt: &impl Abort, row: &Row<'_>, cut: usize) {
 
 /// Expects them octet by octet.
 fn expect_singly(rt: &impl Abort, row: &Row<'_>) {
-    let mut walker = Walker::new(&framing_of(rt, row.inside, row.padding));
+    let framing = framing_of(rt, row.inside, row.padding);
+    let mut walker = Walker::new(&framing);
     let mut index = 0;
     for i in 0..row.input.len() {
         index = expect_piece(rt, row, &mut walker, &row.input[i..=i], index);

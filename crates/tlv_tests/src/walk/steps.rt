@@ -7,19 +7,19 @@ use tlv_head::{Fault, FaultCode};
 use tlv_walk::{Ending, Event, Framing, Step, Walker};
 
 /// The next step, with a short piece.
-pub(crate) fn step<'a>(rt: &impl Abort, walker: &mut Walker, piece: &mut &'a [u8]) -> Step<'a> {
+pub(crate) fn step<'a>(rt: &impl Abort, walker: &mut Walker<'_>, piece: &mut &'a [u8]) -> Step<'a> {
     assert!(rt; walker.offset() <= 1000 && piece.len() <= 1000);
     walker.step(piece)
 }
 
 /// Expects the next step to come to this.
-fn expect_step(rt: &impl Abort, walker: &mut Walker, piece: &mut &[u8], want: &Step<'_>) {
+fn expect_step(rt: &impl Abort, walker: &mut Walker<'_>, piece: &mut &[u8], want: &Step<'_>) {
     let got = step(rt, walker, piece);
     assert!(rt; got == *want, "{:?} in place of {:?}", got, want);
 }
 
 /// Expects the next step to yield this event.
-fn expect_event(rt: &impl Abort, walker: &mut Walker, piece: &mut &[u8], want: Event<'_>) {
+fn expect_event(rt: &impl Abort, walker: &mut Walker<'_>, piece: &mut &[u8], want: Event<'_>) {
     expect_step(rt, walker, piece, &Step::Event(want));
 }
 
@@ -32,7 +32,7 @@ fn begin<'a>(rt: &impl Abort, offset: u64, octets: &[u8]) -> Event<'a> {
 }
 
 /// What an input comes to whose octets are taken.
-pub(crate) fn finish(rt: &impl Abort, walker: &Walker) -> Ending {
+pub(crate) fn finish(rt: &impl Abort, walker: &Walker<'_>) -> Ending {
     assert!(rt; !walker.waiting());
     walker.finish()
 }
@@ -40,7 +40,7 @@ pub(crate) fn finish(rt: &impl Abort, walker: &Walker) -> Ending {
 /// How many octets are taken, events yielded and elements open, and whether an event is to come.
 fn expect_state(
     rt: &impl Abort,
-    walker: &Walker,
+    walker: &Walker<'_>,
     offset: u64,
     events: u64,
     depth: u8,
@@ -53,7 +53,7 @@ fn expect_state(
 }
 
 /// The octets up to the next event do not lie in the piece.
-fn expect_need(rt: &impl Abort, walker: &mut Walker, octets: &[u8]) {
+fn expect_need(rt: &impl Abort, walker: &mut Walker<'_>, octets: &[u8]) {
     let mut piece = octets;
     expect_step(rt, walker, &mut piece, &Step::NeedMore);
     expect(rt, piece.is_empty(), "the piece is taken whole");
@@ -61,7 +61,8 @@ fn expect_need(rt: &impl Abort, walker: &mut Walker, octets: &[u8]) {
 
 #[test]
 fn a_header_is_cut(rt: HostRuntime) {
-    let mut walker = Walker::new(&Framing::plain());
+    let framing = Framing::plain();
+    let mut walker = Walker::new(&framing);
     expect_state(&rt, &walker, 0, 0, 0, false);
     expect_need(&rt, &mut walker, b"\x30");
     expect_state(&rt, &walker, 1, 0, 0, false);
@@ -86,7 +87,8 @@ fn a_header_is_cut(rt: HostRuntime) {
 /// Contents are yielded in the parts in which they come, and ends without a further octet.
 #[test]
 fn contents_are_cut(rt: HostRuntime) {
-    let mut walker = Walker::new(&Framing::plain());
+    let framing = Framing::plain();
+    let mut walker = Walker::new(&framing);
     let mut piece: &[u8] = b"\x30\x05\x04\x03\xaa";
     expect_event(&rt, &mut walker, &mut piece, open(&rt, 0, b"\x30\x05"));
     expect_event(&rt, &mut walker, &mut piece, begin(&rt, 2, b"\x04\x03"));
@@ -103,7 +105,7 @@ fn contents_are_cut(rt: HostRuntime) {
     expect_state(&rt, &walker, 7, 6, 0, false);
 }
 
-fn expect_fault(rt: &impl Abort, walker: &mut Walker, octets: &[u8], fault: Fault) {
+fn expect_fault(rt: &impl Abort, walker: &mut Walker<'_>, octets: &[u8], fault: Fault) {
     let mut piece = octets;
     expect_step(rt, walker, &mut piece, &Step::Fault(fault));
     expect_eq(rt, piece, octets);
@@ -114,7 +116,8 @@ fn expect_fault(rt: &impl Abort, walker: &mut Walker, octets: &[u8], fault: Faul
 /// header's length.
 #[test]
 fn what_is_open_stays_so_after_a_fault(rt: HostRuntime) {
-    let mut walker = Walker::new(&Framing::plain());
+    let framing = Framing::plain();
+    let mut walker = Walker::new(&framing);
     let mut piece: &[u8] = b"\x30\x80\x30\x80\x04\x80";
     expect_event(&rt, &mut walker, &mut piece, open(&rt, 0, b"\x30\x80"));
     expect_event(&rt, &mut walker, &mut piece, open(&rt, 2, b"\x30\x80"));
@@ -132,7 +135,8 @@ fn what_is_open_stays_so_after_a_fault(rt: HostRuntime) {
 /// After a fault each step returns the same and takes nothing.
 #[test]
 fn a_fault_is_returned_again(rt: HostRuntime) {
-    let mut walker = Walker::new(&Framing::plain());
+    let framing = Framing::plain();
+    let mut walker = Walker::new(&framing);
     let mut piece: &[u8] = b"\x05\x00\x00";
     expect_event(&rt, &mut walker, &mut piece, begin(&rt, 0, b"\x05\x00"));
     expect_event(&rt, &mut walker, &mut piece, Event::End);
@@ -150,7 +154,8 @@ fn a_fault_is_returned_again(rt: HostRuntime) {
 /// The octets up to the one that is refused are taken.
 #[test]
 fn octets_before_a_fault_are_taken(rt: HostRuntime) {
-    let mut walker = Walker::new(&Framing::plain());
+    let framing = Framing::plain();
+    let mut walker = Walker::new(&framing);
     let mut piece: &[u8] = b"\x04\x86\x01";
     let too_large = Fault {
         code: FaultCode::LengthTooLarge,
@@ -164,7 +169,8 @@ fn octets_before_a_fault_are_taken(rt: HostRuntime) {
 
 #[test]
 fn a_string_wraps(rt: HostRuntime) {
-    let mut walker = Walker::new(&framing_of(&rt, &[0, 7], false));
+    let framing = framing_of(&rt, &[0, 7], false);
+    let mut walker = Walker::new(&framing);
     expect_eq(&rt, walker.unused(), Some(0));
     let mut piece: &[u8] = b"\x03\x03\x00\x05\x00";
     let string = header(&rt, 0, true, b"\x03\x03");
@@ -186,7 +192,8 @@ fn a_string_wraps(rt: HostRuntime) {
 
 #[test]
 fn padding_is_yielded_in_parts(rt: HostRuntime) {
-    let mut walker = Walker::new(&framing_of(&rt, &[], true));
+    let framing = framing_of(&rt, &[], true);
+    let mut walker = Walker::new(&framing);
     let mut piece: &[u8] = b"\x00\x00";
     expect_event(&rt, &mut walker, &mut piece, Event::Pad(b"\x00\x00"));
     expect_state(&rt, &walker, 2, 1, 0, false);
@@ -199,7 +206,8 @@ fn padding_is_yielded_in_parts(rt: HostRuntime) {
 
 /// What an input of these octets comes to that ends before the next event.
 fn expect_end(rt: &impl Abort, octets: &[u8], ending: Ending) {
-    let mut walker = Walker::new(&Framing::plain());
+    let framing = Framing::plain();
+    let mut walker = Walker::new(&framing);
     expect_need(rt, &mut walker, octets);
     expect_eq(rt, finish(rt, &walker), ending);
 }
@@ -213,7 +221,8 @@ fn an_input_ends_before_an_event(rt: HostRuntime) {
 
 #[test]
 fn an_input_ends_inside_an_element(rt: HostRuntime) {
-    let mut walker = Walker::new(&Framing::plain());
+    let framing = Framing::plain();
+    let mut walker = Walker::new(&framing);
     let mut piece: &[u8] = b"\x30\x80";
     expect_event(&rt, &mut walker, &mut piece, open(&rt, 0, b"\x30\x80"));
     expect_eq(&rt, finish(&rt, &walker), fault(FaultCode::Short, 2));

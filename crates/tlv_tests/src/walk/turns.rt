@@ -15,7 +15,8 @@ const TEXT: &[u8] =
 fn turns_follow_one_read_each(rt: HostRuntime) {
     let mut room = [0; 128];
     let mut read_room = [0; 4];
-    let mut walker = Walker::new(&Framing::plain());
+    let framing = Framing::plain();
+    let mut walker = Walker::new(&framing);
     let mut lines = EventLines::up_to(0);
     let mut source = MemSource::new(INPUT, &[], None);
     let mut drain = MemDrain::new(&mut room, 4096);
@@ -72,7 +73,8 @@ fn turns_follow_one_read_each(rt: HostRuntime) {
 fn a_turn_after_a_failed_read_goes_on(rt: HostRuntime) {
     let mut room = [0; 128];
     let mut read_room = [0; 16];
-    let mut walker = Walker::new(&Framing::plain());
+    let framing = Framing::plain();
+    let mut walker = Walker::new(&framing);
     let mut lines = EventLines::up_to(0);
     let mut source = MemSource::new(INPUT, &[5], Some(1));
     let mut drain = MemDrain::new(&mut room, 4096);

@@ -9,14 +9,14 @@ use Rattle.tlv_walk.specs.declared.framing.Framing.{Framing}
 use Rattle.tlv_walk.specs.Phase.{Between, InBitString, InEndOctets, InHeader, InPrimitive, PhaseValue, Refused}
 use Rattle.tlv_walk.specs.Events.{AreEqualJoined, EventValue, events}
 use Rattle.tlv_walk.specs.Forest.{Forest}
-use Rattle.tlv_walk.specs.Inside.{can_name, is_among}
+use Rattle.tlv_walk.specs.Inside.{are_rising, is_among}
 use Rattle.tlv_walk.specs.WalkerState.{WalkerState, unused_offset}
 use Rattle.tlv_walk.specs.Private.WrapperCount.{next_wrapper_count, wrapper_count_after}
 use Rattle.tlv_walk.specs.Place.{ObeysGrammar, top_place}
 use Rattle.tlv_walk.specs.Stands.{Stands, filled_end_events, is_end_at, waiting_events, waiting_events_in}
 use Rattle.tlv_walk.specs.Wrappers.{first_not_among, first_without_wrapper, entered_offsets, wrapper_offsets}
 use Rattle.tlv_walk.proofs.EventLemmas.JoinedEvents.{apart-from_joined}
-use Rattle.tlv_walk.proofs.EventLemmas.NamedOffsets.{AreRising, can-to}
+use Rattle.tlv_walk.proofs.EventLemmas.NamedOffsets.{AreRising, rising-to}
 use Rattle.tlv_walk.proofs.EventLemmas.Wrappers.{Rise, enters-apart, enters-append, wrapper_offsets-entered}
 use Rattle.tlv_walk.proofs.EventLemmas.Wrappers.{wrapper_offsets-rise}
 
@@ -136,21 +136,21 @@ yielded_wrappers framing yielded waits f v none e =
 
 -- the count over the events yielded gives the first named offset that is no wrapper's
 pub yielded_unused : (framing : Framing) (yielded waits : List EventValue) (f : Forest)
-    → can_name framing.inside ≡ true → ObeysGrammar (top_place framing) f → entered_offsets waits ≡ []
+    → are_rising 0 framing.inside ≡ true → ObeysGrammar (top_place framing) f → entered_offsets waits ≡ []
     → AreEqualJoined (yielded ++ waits) (events f)
     → slice_get framing.inside (wrapper_count_after framing.inside 0 (entered_offsets yielded))
     ≡ first_without_wrapper framing.inside f
 yielded_unused framing yielded waits f named v none e =
     let same : entered_offsets yielded ≡ wrapper_offsets f = yielded_wrappers framing yielded waits f v none e in
     ap (λ (offsets : List ℕ). slice_get framing.inside (wrapper_count_after framing.inside 0 offsets)) same
-    ∙ first-found framing.inside (wrapper_offsets f) 0 (top_place framing).offset _ (can-to framing.inside named).1
+    ∙ first-found framing.inside (wrapper_offsets f) 0 (top_place framing).offset _ (rising-to 0 framing.inside named)
     (wrapper_offsets-rise (top_place framing) f v)
 
 pub stands_unused : (w : WalkerState) (b : List ℕ) (yielded : List EventValue) → (st : Stands w b yielded)
     → unused_offset w ≡ first_without_wrapper w.framing.inside st.has_events.reading
 stands_unused w b yielded st =
     ap (slice_get w.framing.inside) st.private_state.wrapper_count
-    ∙ yielded_unused w.framing yielded (waiting_events w) st.has_events.reading st.private_state.can_name
+    ∙ yielded_unused w.framing yielded (waiting_events w) st.has_events.reading st.private_state.rising
     st.has_events.is_reading.obeys_grammar (waits_enter_none w.phase w.stack w.offset) st.has_events.all_events
 
 -- it is the first that no event yielded entered

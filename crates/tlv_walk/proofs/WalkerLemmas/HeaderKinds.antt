@@ -232,6 +232,7 @@ can_take_quick_header w piece named f count o begins front counted limit shallow
     let there : h.offset ≡ w.offset = begins'.offset in
     record {
       valid = begins'.valid;
+      end = omega (arith, there);
       counted = omega (arith, there);
       limit = omega (arith, there, ap length whole, ap length front, length-take count piece);
       shallow = shallow;

@@ -236,14 +236,15 @@ within_announced Indefinite (Some m) n h = omega (arith, h)
 
 -- the header that it completes may be there
 pub can_take_whole_header : (u : WalkerState) (q : HeadReaderState) (x depth offset : ℕ) (h : HeaderValue)
-    → u.events + length u.stack ≤ q.offset → q.offset + length q.octets ≡ offset → offset + 1 ≤ 2 ^ 40
-    → depth ≡ length u.stack
+    → u.offset ≤ offset → u.events + length u.stack ≤ q.offset → q.offset + length q.octets ≡ offset
+    → offset + 1 ≤ 2 ^ 40 → depth ≡ length u.stack
     → Completes q (x ∷ []) h → FitsThere h (room_to (bound_of u.stack) offset) depth → CanTakeHeader u h
-can_take_whole_header u q x depth offset h counted place limit deep c f =
+can_take_whole_header u q x depth offset h grown counted place limit deep c f =
     let end : h.offset + length (octets_of h) ≡ offset + 1 =
     omega (arith, c.offset, ap length c.octets_are, length-append q.octets (x ∷ [])) in
     record {
       valid = c.valid;
+      end = omega (arith, grown, end);
       counted = omega (arith, c.offset);
       limit = omega arith;
       shallow = λ e. subst (λ (n : ℕ). n < 128) deep (f.shallow e);

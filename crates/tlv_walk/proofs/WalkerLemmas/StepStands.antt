@@ -8,7 +8,7 @@ use Rattle.tlv_walk.specs.declared.event.Step.{Step}
 use Rattle.tlv_walk.specs.declared.event.Step.TheVariants as step
 use Rattle.tlv_walk.specs.declared.framing.Framing.{Framing}
 use Rattle.tlv_walk.specs.Events.{AreEqualJoined, EventValue, IsNoEmptyPart, event_value_of, events}
-use Rattle.tlv_walk.specs.Inside.{can_name}
+use Rattle.tlv_walk.specs.Inside.{are_rising}
 use Rattle.tlv_walk.specs.WalkerState.{HasNotRefused, WalkerState}
 use Rattle.tlv_walk.specs.Private.WalkerCalls.{Refuses, TakesAll, CountsOne}
 use Rattle.tlv_walk.specs.Private.WrapperCount.{wrapper_count_after}
@@ -56,7 +56,7 @@ stands_all old new piece rest es t = let k = t.continues in record {
   framing = k.framing;
   stands = λ b yielded st. let u = k.next_zipper b yielded st.private_state.zipper st.private_state.has_zipper in
       stands new (b ++ t.taken) (yielded ++ es) u.0 u.1
-      (subst (λ (f : Framing). can_name f.inside ≡ true) (sym k.framing) st.private_state.can_name)
+      (subst (λ (f : Framing). are_rising 0 f.inside ≡ true) (sym k.framing) st.private_state.rising)
       (found_on old new yielded es k.framing st.private_state.wrapper_count k.wrapper_count);
 }
 
@@ -98,8 +98,8 @@ refused_walker : (old new : WalkerState) (piece rest : List ℕ) (f : Fault) →
 refused_walker old new piece rest f k r b yielded st =
     let u = r.refuses b yielded st.private_state.zipper st.private_state.has_zipper in
     let framing : new.framing ≡ old.framing = k.framing in
-    let named : can_name new.framing.inside ≡ true =
-    subst (λ (g : Framing). can_name g.inside ≡ true) (sym framing) st.private_state.can_name in
+    let named : are_rising 0 new.framing.inside ≡ true =
+    subst (λ (g : Framing). are_rising 0 g.inside ≡ true) (sym framing) st.private_state.rising in
     let there : IsRefusedAfter new.framing (b ++ r.taken) r.octet yielded f =
     refused_reading old new.framing piece rest f framing r b yielded st in
     let found : new.wrapper_count ≡ wrapper_count_after new.framing.inside 0 (entered_offsets yielded) =
@@ -166,7 +166,7 @@ uses_up old new piece rest n k t =
           let u = t.next_zipper b yielded st.private_state.zipper st.private_state.has_zipper in
           subst (λ (es : List EventValue). Stands new (b ++ piece) es) (append-nil yielded)
           (stands new (b ++ piece) (yielded ++ []) u.0 u.1
-          (subst (λ (f : Framing). can_name f.inside ≡ true) (sym t.framing) st.private_state.can_name)
+          (subst (λ (f : Framing). are_rising 0 f.inside ≡ true) (sym t.framing) st.private_state.rising)
           (found_on old new yielded [] t.framing st.private_state.wrapper_count t.wrapper_count));
       ready = k.ready;
     }

@@ -19,7 +19,7 @@ use Rattle.tlv_walk.specs.Private.Zipper.{AreLayers, AreWhole, BitStringTail, No
 use Rattle.tlv_walk.specs.Private.Zipper.{EndOctetsTail, HeaderTail, IsContents, IsPhaseOf, Layer, Tail, Zipper}
 use Rattle.tlv_walk.specs.Private.Zipper.{events_of_layers, events_of_tail, events_of_zipper, frames_of, place_in}
 use Rattle.tlv_walk.specs.Private.Zipper.{place_of, spelling_of_layers, spelling_of_tail, spelling_of_zipper, stack_of}
-use Rattle.tlv_walk.specs.Inside.{can_name}
+use Rattle.tlv_walk.specs.Inside.{are_rising}
 use Rattle.tlv_walk.specs.Wrappers.{entered_offsets}
 use Rattle.tlv_walk.proofs.EventLemmas.JoinedEvents.{apart-before, apart-from_joined, joined-from_apart}
 use Rattle.tlv_walk.proofs.GrammarLemmas.Bounds.{within-le}
@@ -261,7 +261,7 @@ state-events w b yielded s h =
 
 -- a walker with a state stands for what was yielded and what was taken
 pub stands : (w : WalkerState) (b : List ℕ) (yielded : List EventValue) (s : Zipper) → HasZipper w b yielded s
-    → can_name w.framing.inside ≡ true
+    → are_rising 0 w.framing.inside ≡ true
     → w.wrapper_count ≡ wrapper_count_after w.framing.inside 0 (entered_offsets yielded)
     → Stands w b yielded
 stands w b yielded s h n k =
@@ -271,7 +271,7 @@ stands w b yielded s h n k =
         is_reading = state-reading w b yielded s h;
         all_events = state-events w b yielded s h;
       };
-      private_state = record { zipper = s; has_zipper = h; can_name = n; wrapper_count = k };
+      private_state = record { zipper = s; has_zipper = h; rising = n; wrapper_count = k };
     }
 
 -- the state of a new walker: nothing is open, and nothing came

@@ -104,9 +104,10 @@ CountsAtOnce old new piece rest (Some e) = CountsOne old new piece rest × IsNoE
 CountsAtOnce old new piece rest None = (new ≡ old) × (rest ≡ piece)
 
 -- a header that may be there: not too deep, within the bound and the limit, and before it as many octets as events and
--- open elements, at least
+-- open elements, at least. It ends no earlier than where the walker is
 pub record CanTakeHeader (w : WalkerState) (h : HeaderValue) : Type 0 where
   pub valid : IsHeader h
+  pub end : w.offset ≤ h.offset + length (octets_of h)
   pub counted : least_octets w.events w.stack ≤ h.offset
   pub limit : h.offset + length (octets_of h) ≤ input_limit
   pub shallow : holds h ≡ true → length w.stack < depth_limit

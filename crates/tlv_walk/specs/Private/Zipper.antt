@@ -8,7 +8,7 @@ use Rattle.tlv_walk.specs.Phase.{Between, InBitString, InEndOctets, InHeader, In
 use Rattle.tlv_walk.specs.Events.{AreEqualJoined, Begin, Bytes, Enter, EventValue, events, opening_events}
 use Rattle.tlv_walk.specs.Forest.{Forest, OpenBitString, OpenHeader, OpenEndOctets, has_element, is_whole}
 use Rattle.tlv_walk.specs.Forest.{opening, spelling}
-use Rattle.tlv_walk.specs.Inside.{can_name, is_among}
+use Rattle.tlv_walk.specs.Inside.{are_rising, is_among}
 use Rattle.tlv_walk.specs.WalkerState.{WalkerState}
 use Rattle.tlv_walk.specs.Private.WrapperCount.{wrapper_count_after}
 use Rattle.tlv_walk.specs.Private.Stack.{frame_with}
@@ -163,5 +163,5 @@ pub record HasZipper (w : WalkerState) (b : List ℕ) (yielded : List EventValue
 pub record HasPrivateState (w : WalkerState) (b : List ℕ) (yielded : List EventValue) : Type 0 where
   pub zipper : Zipper
   pub has_zipper : HasZipper w b yielded zipper
-  pub can_name : can_name w.framing.inside ≡ true
+  pub rising : are_rising 0 w.framing.inside ≡ true
   pub wrapper_count : w.wrapper_count ≡ wrapper_count_after w.framing.inside 0 (entered_offsets yielded)

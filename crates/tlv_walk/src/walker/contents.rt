@@ -9,7 +9,7 @@ use super::{Phase, Walker};
 use crate::{Event, Step};
 use tlv_head::FaultCode;
 
-impl Walker {
+impl Walker<'_> {
     /// Takes contents of a primitive.
     #[inline(always)]
     pub(super) fn contents<'a>(&mut self, left: u64, piece: &mut &'a [u8]) -> Event<'a>

@@ -10,7 +10,7 @@ use super::{Phase, Walker};
 use crate::{Event, Step};
 use tlv_head::FaultCode;
 
-impl Walker {
+impl Walker<'_> {
     /// Takes what is between two elements, or begins one.
     pub(super) fn between<'a>(&mut self, piece: &mut &'a [u8]) -> Step<'a>
         requires phase { self.old.phase ≡ Between }
@@ -35,7 +35,7 @@ impl Walker {
             self.phase = Phase::InEndOctets;
             return self.second_zero(piece);
         }
-        if self.framing.padding && self.stack.is_empty() {
+        if self.padding && self.stack.is_empty() {
             return Step::Event(self.padding(piece));
         }
         self.refuse(FaultCode::StrayEnd)

@@ -18,7 +18,6 @@ ghost use Rattle.tlv_walk.specs.Private.Yields.{Steps, StepsAtOnce};
 ghost use Rattle.tlv_head.specs.InputLimit.{input_limit};
 
 use super::{Phase, Walker};
-use crate::framing::is_among;
 use crate::stack::room_to;
 use crate::{Event, Step};
 use std::mem::replace;
@@ -35,14 +34,14 @@ pub(super) enum HeaderKind {
     Primitive,
 }
 
-impl Walker {
+impl Walker<'_> {
     /// Begins a header: takes it at once, if it lies whole in the piece and may be here, and else octet by octet.
     pub(super) fn header<'a>(&mut self, piece: &mut &'a [u8]) -> Step<'a>
         requires can { CanBegin self.old piece.old.now }
         requires limit { IsWithinInputLimit self.old piece.old.now }
         ensures { Steps self.old self.new piece.old.now piece.new.now result }
     {
-        let named = is_among(self.offset, &self.framing.inside);
+        let named = self.cursor.is_at(self.inside, self.offset);
         if let Some((fields, count)) = read_header(self.offset, named, *piece)
             && let Some(event) = self.quick_header(&fields, count, piece)
         {
@@ -90,7 +89,7 @@ impl Walker {
             self.phase = Phase::Between;
             return self.read_on(reader, piece);
         }
-        let named = is_among(self.offset, &self.framing.inside);
+        let named = self.cursor.is_at(self.inside, self.offset);
         self.has_element = true;
         self.read_on(HeadReader::new(self.offset, named), piece)
     }
@@ -190,11 +189,10 @@ impl Walker {
                   self.old.framing.inside self.old.wrapper_count offset;
             } }
     {
-        if let Some(named) = self.framing.inside.get(self.wrapper_count)
-            && named == offset
-        {
+        if self.unused() == Some(offset) {
             self.wrapper_count += 1;
         }
+        self.cursor.move_to(self.inside, self.offset);
     }
 
     /// If this is `true`, an element with this header may be here: it is not too deep, and its contents

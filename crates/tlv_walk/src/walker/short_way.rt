@@ -9,7 +9,6 @@ ghost use Rattle.tlv_walk.specs.Private.Yields.{StepsAtOnce, YieldsEvents};
 
 use super::{Phase, Walker};
 use crate::Event;
-use crate::framing::is_among;
 use tlv_head::{HeaderFields, Size, read_short};
 
 /// A primitive, all of it, with which a piece begins.
@@ -23,10 +22,11 @@ pub(crate) struct WholePrimitive {
     pub octet_count: usize,
 }
 
-impl Walker {
+impl Walker<'_> {
     /// The primitive with which these octets begin, if all of it is among them, its header has few octets, it is not
     /// named, and it may be here. With `two_octets`, only if its header has two octets.
     #[inline(always)]
+    #[tactic(auto, using(crate::proofs::CursorLemmas::before_next))]
     pub(crate) fn primitive(&self, octets: &[u8], two_octets: bool) -> Option<WholePrimitive>
         requires { IsWithinInputLimit self.now octets.now }
         ensures { IfSome result (λ p. CanPass self.now octets.now p) }
@@ -36,7 +36,7 @@ impl Walker {
         };
         if *first & 0x20 != 0
             || !matches!(self.phase, Phase::Between)
-            || is_among(self.offset, &self.framing.inside)
+            || self.cursor.may_be_at(self.offset)
         {
             return None;
         }
@@ -110,7 +110,7 @@ impl Walker {
         if *first & 0x20 == 0 {
             return None;
         }
-        let named = is_among(self.offset, &self.framing.inside);
+        let named = self.cursor.is_at(self.inside, self.offset);
         let (fields, count) = read_short(self.offset, named, octets)?;
         if !fields.constructed {
             return None;

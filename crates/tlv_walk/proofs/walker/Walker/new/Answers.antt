@@ -4,7 +4,7 @@ use Rattle.tlv_walk.proofs.walker.Walker.new.Goals as goal
 
 pub returns-clause-stands : goal.returns-clause-stands
 returns-clause-stands c =
-    rw (c.new.ensures, c.copied.ensures) (stands _ _ _ new_state (state-new c.args.framing.now) (search rules) refl)
+    rw (c.new.ensures, c.as_slice-inside.ensures.offsets) (stands _ _ _ new_state (state-new c.args.framing.now) (search rules) refl)
 
 pub returns-clause-ready : goal.returns-clause-ready
 returns-clause-ready c = rw c.new.ensures (refl, λ f e. cc)

@@ -26,6 +26,7 @@ loop-piece-preserved c =
         start = ap (λ (r : HeadReaderState). r.offset) same ∙ c.loop-piece.invariant.start;
         end = pushed_end c.loop-piece.reader _ _ _ same c.loop-piece.invariant.end;
         taken = omega (arith, ap length first, c.loop-piece.invariant.taken);
+        grown = omega (arith, c.loop-piece.invariant.grown);
         within =
             within_next c.bound-bound.result c.loop-piece.offset c.loop-piece.invariant.within
             (λ e. some (c.room_to.ensures ∙ e));
@@ -46,6 +47,7 @@ take_whole_header-requires-clause-can c =
       | whole header completes there done ↦
           can_take_whole_header c.loop-piece.self c.loop-piece.reader _ c.len-depth.result c.loop-piece.offset
           c.in-Whole.header
+          (subst (λ (m : WalkerState). m.offset ≤ c.loop-piece.offset) (sym i.same) i.grown)
           (subst (λ (m : WalkerState). m.events + length m.stack ≤ c.loop-piece.reader.offset) (sym i.same)
           (omega (arith, c.requires.can.counted, i.start)))
           i.end

@@ -1,4 +1,4 @@
-use Rattle.std.proofs.Common.{◌≡◌, ◌+◌, false, length}
+use Rattle.std.proofs.Common.{◌≡◌, ◌+◌, ◌≤◌, false, length}
 use Rattle.tlv_walk.specs.Place.{IsWithin}
 use Rattle.tlv_walk.specs.Private.Stack.{room_to}
 use Rattle.tlv_walk.proofs.WalkerLemmas.HeaderSteps.{CanGive, HasTaken}
@@ -10,6 +10,7 @@ invariant-loop-piece l = record {
   unfinished : l.reader.done ≡ false;
   start : l.reader.offset ≡ l.fn.reader.offset;
   end : l.reader.offset + length l.reader.octets ≡ l.offset;
+  grown : l.fn.self.offset ≤ l.offset;
   taken : l.offset + length l.piece.now ≡ l.fn.self.offset + length l.fn.piece.now;
   within : IsWithin l.bound l.offset;
   read : HasTaken l.fn.reader l.reader l.fn.piece.now l.piece.now;

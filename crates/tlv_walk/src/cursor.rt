@@ -1,0 +1,82 @@
+//! Where a walk is among the named offsets.
+ghost use Rattle.std.specs.Prelude.{◌≡◌, ◌≤◌, get_or, nat_le, slice_get, true};
+ghost use Rattle.tlv_head.specs.InputLimit.{input_limit};
+ghost use Rattle.tlv_walk.specs.Inside.{are_rising, is_among};
+ghost use Rattle.tlv_walk.specs.Private.Cursor.{IsCursorAt, no_offset_mark};
+
+/// Where a walk is among the named offsets. They rise, and so do the offsets of headers: over a whole walk a cursor
+/// goes over the list once, and most headers cost one comparison.
+#[derive(Clone, Copy)]
+pub(crate) struct Cursor {
+    /// How many of the named offsets, from the first on, are before where the walk is.
+    passed: usize,
+    /// The named offset after those, or `u64::MAX` if there is none.
+    next: u64,
+}
+
+impl Cursor {
+    /// A cursor before all of these offsets.
+    pub fn new(inside: &[u64]) -> Cursor
+        ensures { IsCursorAt inside.now result 0 }
+    {
+        Cursor {
+            passed: 0,
+            next: next_after(inside, 0),
+        }
+    }
+
+    /// Whether the offset where the walk is now is one of the named ones. Each header asks this, and mostly there are
+    /// none.
+    #[inline(always)]
+    pub fn is_at(&mut self, inside: &[u64], offset: u64) -> bool
+        requires rising { are_rising 0 inside.now ≡ true }
+        requires limit { offset ≤ input_limit }
+        requires cursor { IsCursorAt inside.now self.old offset }
+        ensures value { result ≡ is_among offset inside.now }
+        ensures cursor { IsCursorAt inside.now self.new offset }
+    {
+        if self.next < offset {
+            self.move_to(inside, offset);
+        }
+        self.next == offset
+    }
+
+    /// Whether the offset where the walk is now may be one of the named ones. It is not, if it is before the next one.
+    #[inline(always)]
+    pub fn may_be_at(&self, offset: u64) -> bool
+        ensures { result ≡ nat_le self.now.next offset }
+    {
+        self.next <= offset
+    }
+
+    /// Moves on to the first named offset that is not before this one. It is a function of its own, so that the loop is
+    /// not in the functions that ask where the cursor is.
+    #[inline(never)]
+    pub fn move_to(&mut self, inside: &[u64], offset: u64)
+        requires { IsCursorAt inside.now self.old offset }
+        ensures cursor { IsCursorAt inside.now self.new offset }
+        ensures next { offset ≤ self.new.next }
+    {
+        while self.next < offset {
+            self.passed += 1;
+            self.next = next_after(inside, self.passed);
+        }
+    }
+}
+
+/// The offset at this index, if there is one.
+pub(crate) fn offset_at(inside: &[u64], index: usize) -> Option<u64>
+    ensures { result ≡ slice_get inside.now index }
+{
+    inside.get(index).copied()
+}
+
+/// The offset after so many, or `u64::MAX` if there is none.
+fn next_after(inside: &[u64], passed: usize) -> u64
+    ensures { result ≡ get_or inside.now passed no_offset_mark }
+{
+    match inside.get(passed) {
+        Some(&offset) => offset,
+        None => u64::MAX,
+    }
+}
