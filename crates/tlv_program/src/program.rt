@@ -87,7 +87,7 @@ fn asks_for_text(fault: &UsageFault) -> bool
 /// Gets the names that the command asks for, and runs it over its input.
 fn run_command<S: System, I: Source, O: Drain>(
     alloc: Global,
-    command: &Command,
+    command: &Command<'_>,
     system: &mut S,
     input: &mut I,
     output: &mut O,
@@ -106,7 +106,7 @@ fn run_command<S: System, I: Source, O: Drain>(
 /// The names for object identifiers that the command asks for.
 fn names_for<S: System>(
     alloc: Global,
-    command: &Command,
+    command: &Command<'_>,
     system: &mut S,
 ) -> Result<Names, NamesFault>
     ensures { GetsNames S.allows command.now system.old system.new result }
@@ -122,7 +122,7 @@ fn names_for<S: System>(
 
 /// Runs the command over the file that it names, or over standard input.
 fn run_over_input<S: System, I: Source, O: Drain>(
-    command: &Command,
+    command: &Command<'_>,
     names: &Names,
     system: &mut S,
     input: &mut I,

@@ -23,6 +23,7 @@ const INPUT: &[u8] = b"\x05\x00";
 
 /// A system whose files are in memory, and what it was asked for: the first octet of the name of each file, and `!` for
 /// what `clap` has to say.
+#[derive(Drop)]
 struct MemSystem {
     can_print: bool,
     asked: ArrayVec<u8, 4>,
@@ -51,6 +52,7 @@ impl System for MemSystem {
 }
 
 /// Words after the program's name, and what is to come of them.
+#[derive(Clone, Copy)]
 struct ProgramRow<'a> {
     words: &'a [&'a str],
     can_print: bool,

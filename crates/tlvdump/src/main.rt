@@ -44,6 +44,7 @@ fn words_of(rt: &HostRuntime) -> Result<Words, NoWords> {
 }
 
 /// The system that the program runs on. Nobody knows what it does until it has done it.
+#[derive(Drop)]
 struct Host<'a> {
     rt: &'a HostRuntime,
 }
