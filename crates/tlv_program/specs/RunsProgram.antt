@@ -1,5 +1,5 @@
 -- What the program does, from the words of its command line to the report, and in which order.
-use Rattle.std.specs.Prelude.{◌≡◌, ◌×◌, ◌||◌, ℕ, Bool, true, false, eqb, not, List, Option, Some, None, Result, Ok, Err}
+use Rattle.std.specs.Prelude.{◌≡◌, ◌||◌, ℕ, Bool, true, false, eqb, not, List, Some, None, Result, Ok, Err}
 use Rattle.std.specs.Prelude.{if◌then◌else◌}
 use Rattle.std.specs.FinMap as finite
 use Rattle.clap.specs.Words.{Text, kind_of}

@@ -4,7 +4,7 @@ use Rattle.clap.specs.declared.error.Error.{Error}
 use Rattle.tlv_io.specs.Device.{SourceState, new_source}
 
 -- what a system may do, said of what it is before and after it
-pub record Allows (S : Type 0) : Type 0 where
+pub record Allows (S : Type 0) : Type 1 where
   -- it opens the file of this name as this source, or does not open it
   pub opens : S → S → List ℕ → Option SourceState → Type 0
   -- it prints what `clap` has to say, or does not get it all out
