@@ -8,6 +8,7 @@ mod failures;
 mod fault_rows;
 mod frames;
 mod framings;
+mod lent_lists;
 mod memory;
 mod out;
 mod pieces;

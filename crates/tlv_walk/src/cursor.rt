@@ -1,5 +1,5 @@
 //! Where a walk is among the named offsets.
-ghost use Rattle.std.specs.Prelude.{◌≡◌, ◌≤◌, get_or, nat_le, slice_get, true};
+ghost use Rattle.std.specs.Prelude.{◌≡◌, ◌≤◌, false, get_or, slice_get, true};
 ghost use Rattle.tlv_head.specs.InputLimit.{input_limit};
 ghost use Rattle.tlv_walk.specs.Inside.{are_rising, is_among};
 ghost use Rattle.tlv_walk.specs.Private.Cursor.{IsCursorAt, no_offset_mark};
@@ -41,12 +41,17 @@ impl Cursor {
         self.next == offset
     }
 
-    /// Whether the offset where the walk is now may be one of the named ones. It is not, if it is before the next one.
+    /// Whether the offset where the walk is now may be one of the named ones, if the cursor is not moved: `false` only
+    /// if it is none. For speed it is asked first whether there are any.
     #[inline(always)]
-    pub fn may_be_at(&self, offset: u64) -> bool
-        ensures { result ≡ nat_le self.now.next offset }
+    #[tactic(auto, using(crate::proofs::CursorLemmas::before_next))]
+    pub fn may_be_at(&self, inside: &[u64], offset: u64) -> bool
+        requires rising { are_rising 0 inside.now ≡ true }
+        requires limit { offset ≤ input_limit }
+        requires cursor { IsCursorAt inside.now self.now offset }
+        ensures { result ≡ false → is_among offset inside.now ≡ false }
     {
-        self.next <= offset
+        !inside.is_empty() && self.next <= offset
     }
 
     /// Moves on to the first named offset that is not before this one. It is a function of its own, so that the loop is

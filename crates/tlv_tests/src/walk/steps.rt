@@ -19,7 +19,12 @@ fn expect_step(rt: &impl Abort, walker: &mut Walker<'_>, piece: &mut &[u8], want
 }
 
 /// Expects the next step to yield this event.
-fn expect_event(rt: &impl Abort, walker: &mut Walker<'_>, piece: &mut &[u8], want: Event<'_>) {
+pub(crate) fn expect_event(
+    rt: &impl Abort,
+    walker: &mut Walker<'_>,
+    piece: &mut &[u8],
+    want: Event<'_>,
+) {
     expect_step(rt, walker, piece, &Step::Event(want));
 }
 

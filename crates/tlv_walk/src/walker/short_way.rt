@@ -26,7 +26,6 @@ impl Walker<'_> {
     /// The primitive with which these octets begin, if all of it is among them, its header has few octets, it is not
     /// named, and it may be here. With `two_octets`, only if its header has two octets.
     #[inline(always)]
-    #[tactic(auto, using(crate::proofs::CursorLemmas::before_next))]
     pub(crate) fn primitive(&self, octets: &[u8], two_octets: bool) -> Option<WholePrimitive>
         requires { IsWithinInputLimit self.now octets.now }
         ensures { IfSome result (λ p. CanPass self.now octets.now p) }
@@ -36,7 +35,7 @@ impl Walker<'_> {
         };
         if *first & 0x20 != 0
             || !matches!(self.phase, Phase::Between)
-            || self.cursor.may_be_at(self.offset)
+            || self.cursor.may_be_at(self.inside, self.offset)
         {
             return None;
         }
