@@ -1,4 +1,4 @@
-"""./tlvdump: that it builds the program if that is missing or old, and what it prints meanwhile.
+"""./tlvdump: that it builds the program if that is missing or old, what it prints meanwhile, and what ends a build.
 
 In the place of the kit's rt is a script that writes the lines of a build, slowly, and then puts the program of the tests.
 """
@@ -12,14 +12,40 @@ import time
 
 from parts.install import clone
 
-# Lines as rt writes them: of the sources, of two crates in turn, and of the program's run.
+# Lines as rt writes them: of the sources, of two crates in turn, and of the program's run. As rt, it puts the program in its
+# place whole, and leaves it as it is if nothing has changed. It reads what it is given. RT_HOW is what else it does:
+# `fails`; `waits` for a minute, with what it has started in the file RT_CHILD; is `quick`; finds all the `same`; or
+# `edits` a source while it builds.
 RT = r"""#!/bin/sh
 [ "$1" = run ] || exit 2
-if [ -n "${RT_FAILS-}" ]; then
+cat >/dev/null
+echo begun >>../../builds
+put_program() {
+    cp "$RT_PROGRAM" out/new && mv out/new out/tlvdump
+}
+case ${RT_HOW-} in
+fails)
     printf 'one\ntwo\nfn tlv_low::f: not proved\nrt: the library tlv_low did not build\n' >&2
     exit 1
-fi
-[ -z "${RT_WAITS-}" ] || exec sleep 60
+    ;;
+waits)
+    sleep 60 &
+    echo $! >"$RT_CHILD.new" && mv "$RT_CHILD.new" "$RT_CHILD"
+    wait
+    exit
+    ;;
+quick)
+    put_program
+    exit
+    ;;
+same) exit 0 ;;
+edits)
+    sleep 0.1
+    echo >>../tlv_low/src/lib.rt
+    put_program
+    exit
+    ;;
+esac
 echo 'only=0 proved=0' >&2
 sleep 1.5
 for name in tlv_low tlvdump; do
@@ -34,7 +60,7 @@ for name in tlv_low tlvdump; do
     echo "logic=proved functions=3 sum=00 native=nat,char,string" >&2
 done
 sleep 1.5
-cp "$RT_PROGRAM" out/tlvdump
+put_program
 echo 'rt: running out/tlvdump; to give it other input, run that file yourself' >&2
 """
 
@@ -54,18 +80,77 @@ def make_clone(part, name):
     return script
 
 
-def environment(part, **more):
-    return dict(os.environ, PATH=f"{part.path('kit')}:{os.environ['PATH']}", RT_PROGRAM=part.program, **more)
+def environment(part, how="", **more):
+    more = dict(more, PATH=f"{part.path('kit')}:{os.environ['PATH']}", RT_PROGRAM=part.program, RT_HOW=how)
+    return dict(os.environ, **more)
 
 
-def run(part, script, words, given=b"", **more):
-    how = {"env": environment(part, **more), "capture_output": True, "timeout": 60}
-    got = subprocess.run([script, *words], cwd=part.folder, input=given, **how)
+def run(part, script, words, given=b"", how="", **more):
+    """Runs the script on these octets, and returns its status, its output and its errors."""
+    more = {"cwd": part.folder, "env": environment(part, how), "capture_output": True, "timeout": 60, **more}
+    got = subprocess.run([script, *words], input=given, **more)
     return got.returncode, got.stdout, got.stderr.decode()
 
 
+def start(part, script, words, how="", **more):
+    """Starts the script on no input, with the signals of a program that a shell starts."""
+
+    def usual():
+        for number in (signal.SIGHUP, signal.SIGINT, signal.SIGPIPE, signal.SIGTERM):
+            signal.signal(number, signal.SIG_DFL)
+
+    pipes = {"stdin": subprocess.DEVNULL, "stdout": subprocess.PIPE, "stderr": subprocess.PIPE}
+    return subprocess.Popen([script, *words], env=environment(part, how, **more), preexec_fn=usual, **pipes)
+
+
+def end_of(child):
+    """The status, the output and the errors of a script that was started."""
+    try:
+        out, err = child.communicate(timeout=60)
+    except subprocess.TimeoutExpired:
+        child.kill()
+        out, err = child.communicate()
+        return "none: it did not end", out, err.decode()
+    return child.returncode, out, err.decode()
+
+
+def await_file(path):
+    """Waits until a file is there, and returns what it holds."""
+    for _ in range(600):
+        if os.path.exists(path):
+            with open(path, encoding="ascii") as file:
+                return file.read()
+        time.sleep(0.05)
+    return ""
+
+
+def runs(pid):
+    """Whether a process is there and has not ended."""
+    try:
+        with open(f"/proc/{pid}/stat", encoding="ascii") as file:
+            return file.read().rsplit(") ", 1)[1][0] not in "ZX"
+    except (FileNotFoundError, ProcessLookupError):
+        return False
+
+
+def has_ended(pid):
+    for _ in range(100):
+        if not runs(pid):
+            return True
+        time.sleep(0.05)
+    return False
+
+
+def top_of(script):
+    return os.path.dirname(script)
+
+
+def program_of(script):
+    return os.path.join(top_of(script), "crates", "tlvdump", "out", "tlvdump")
+
+
 def log_of(script):
-    return os.path.join(os.path.dirname(script), "crates", "tlvdump", "out", "build.log")
+    return os.path.join(top_of(script), "crates", "tlvdump", "out", "build.log")
 
 
 def left_of(script):
@@ -73,8 +158,31 @@ def left_of(script):
     return sorted(set(os.listdir(os.path.dirname(log_of(script)))) - {"tlvdump", "build.log", "incremental"})
 
 
+def builds_of(script):
+    """How many builds were begun."""
+    with open(os.path.join(top_of(script), "builds"), encoding="ascii") as file:
+        return file.read().count("begun\n")
+
+
 def begin_of(script):
     return f"tlvdump: building; the first time this takes 10 to 30 minutes, since each crate is proved ({log_of(script)})\n"
+
+
+OLD = b"#!/bin/sh\necho the old program\n"
+
+
+def put_old(script):
+    """Puts a program in its place that is older than a source."""
+    with open(program_of(script), "wb") as file:
+        file.write(OLD)
+    os.chmod(program_of(script), 0o755)
+    os.utime(program_of(script), (1, 1))
+
+
+def has_old(script):
+    """Whether the old program is in its place, as it was."""
+    with open(program_of(script), "rb") as file:
+        return file.read() == OLD and os.access(program_of(script), os.X_OK)
 
 
 def not_on_a_terminal(part):
@@ -93,12 +201,6 @@ def not_on_a_terminal(part):
     part.expect("what a build leaves", left_of(script) == [], *left_of(script))
     got = run(part, script, ["dump"], octets)
     part.expect("a program that is there", got == (wanted.status, wanted.out, wanted.err.decode()), *map(str, got))
-    # A source that is newer than the program.
-    later = time.time() + 60
-    os.utime(os.path.join(os.path.dirname(script), "crates", "tlv_low", "src", "lib.rt"), (later, later))
-    status, out, err = run(part, script, ["dump"], octets, RT_FAILS="yes")
-    part.expect("an old program is not run", (status, out) == (70, b""), str(status), err)
-    part.expect("an old program is removed", not os.path.exists(os.path.join(os.path.dirname(log_of(script)), "tlvdump")))
 
 
 def on_a_terminal(part):
@@ -141,12 +243,75 @@ def on_a_terminal(part):
     part.expect("no state is wider than a line", max(map(len, lines[1].split("\r"))) <= 78)
 
 
+def words_and_links(part):
+    """The words come to the program as they are, after a build too; the script may be called by a link, or by the PATH."""
+    script = make_clone(part, "a clone")
+    octets = b"\x05\x00"
+    part.write("two  blanks", octets)
+    wanted = part.run(["dump", "two  blanks"])
+    for what in ("built", "there"):
+        status, out, err = run(part, script, ["dump", "two  blanks"], how="quick")
+        part.expect(f"a word with blanks, {what}", (status, out) == (0, wanted.out), str(status), err)
+    for words in (["dump", ""], ["dump", "*"], ["dump", "two", "blanks"], ["dump", "--", "-x"], []):
+        wanted = part.run(words, program=program_of(script))
+        got = run(part, script, words)
+        part.expect(f"the words {words}", got == (wanted.status, wanted.out, wanted.err.decode()), *map(str, got))
+    os.makedirs(part.path("links/bin"))
+    os.symlink("../../a clone/tlvdump", part.path("links/bin/tlvdump"))
+    os.symlink(part.path("links/bin/tlvdump"), part.path("links/other"))
+    wanted = part.run(["--version"])
+    env = environment(part, "quick")
+    path = {"env": dict(env, PATH=f"{part.path('links/bin')}:{env['PATH']}")}
+    for called, how in (("links/bin/tlvdump", {}), (part.path("links/other"), {}), ("tlvdump", path)):
+        for program in ("there", "built"):
+            if program == "built":
+                os.remove(program_of(script))
+            status, out, err = run(part, called, ["--version"], how="quick", **how)
+            fine = (status, out) == (0, wanted.out) and err.startswith(begin_of(script)) == (program == "built")
+            part.expect(f"called {called}, {program}", fine, str(status), err)
+            run(part, script, ["--version"], how="quick")
+
+
+def changes(part):
+    """Any change of what the program is made of builds it anew, once; a change during a build does so too."""
+    script = make_clone(part, "changes")
+    run(part, script, ["--version"], how="quick")
+    sources = ["crates.txt", "crates/tlv_low/src/lib.rt"]
+    for name in ("specs/Low.antt", "specs/Private/Low.antt", "proofs/low/Low.antt"):
+        sources.append(f"crates/tlv_low/{name}")
+        os.makedirs(os.path.dirname(part.path(f"changes/{sources[-1]}")), exist_ok=True)
+        part.write(f"changes/{sources[-1]}", b"")
+    wanted = part.run(["--version"])
+    for source in sources:
+        then = time.time() - 100
+        for folder, _, names in os.walk(part.path("changes")):
+            for path in (folder, *(os.path.join(folder, name) for name in names)):
+                os.utime(path, (then, then))
+        os.utime(program_of(script), (then + 10, then + 10))
+        got = run(part, script, ["--version"])
+        part.expect(f"no change of {source}", got == (0, wanted.out, ""), *map(str, got))
+        os.utime(part.path(f"changes/{source}"), (then + 20, then + 20))
+        status, out, err = run(part, script, ["--version"], how="same")
+        part.expect(f"a change of {source}", (status, out) == (0, wanted.out) and err.startswith(begin_of(script)), str(status), err)
+        got = run(part, script, ["--version"])
+        part.expect(f"no build after that of {source}", got == (0, wanted.out, ""), *map(str, got))
+    os.remove(program_of(script))
+    status, _, err = run(part, script, ["--version"], how="edits")
+    part.expect("an edit during a build", status == 0 and err.startswith(begin_of(script)), str(status), err)
+    status, _, err = run(part, script, ["--version"], how="quick")
+    part.expect("a build after that edit", status == 0 and err.startswith(begin_of(script)), str(status), err)
+
+
 def failing(part):
-    """Status 70, with the end of the log, or if there is no rt; an interrupt ends all."""
+    """Status 70, with the end of the log, or if there is no rt. An old program is not run, and stays."""
     script = make_clone(part, "failing")
-    got = run(part, script, ["dump"], RT_FAILS="yes")
     end = "two\nfn tlv_low::f: not proved\nrt: the library tlv_low did not build\ntlvdump: not built\n"
-    part.expect("a build that fails", got == (70, b"", begin_of(script) + end), *map(str, got))
+    for program in ("none", "old"):
+        got = run(part, script, ["dump"], how="fails")
+        part.expect(f"a build that fails, program: {program}", got == (70, b"", begin_of(script) + end), *map(str, got))
+        part.expect("what a failed build leaves", left_of(script) == [], *left_of(script))
+        part.expect(f"the program after a build that fails: {program}", program == "none" or has_old(script))
+        put_old(script)
     # A machine without the kit: a PATH with the script's tools alone.
     tools = part.path("tools")
     os.mkdir(tools)
@@ -155,14 +320,85 @@ def failing(part):
     got = subprocess.run([script], env={"PATH": tools}, capture_output=True, text=True, timeout=60)
     message = "tlvdump: not built: rt, the command of the Rattle kit, is not on the PATH\n"
     part.expect("no kit", (got.returncode, got.stdout, got.stderr) == (70, "", message), str(got))
-    how = {"env": environment(part, RT_WAITS="yes"), "stdout": subprocess.PIPE, "stderr": subprocess.PIPE}
-    usual = lambda: signal.signal(signal.SIGINT, signal.SIG_DFL)
-    child = subprocess.Popen([script], stdin=subprocess.DEVNULL, start_new_session=True, preexec_fn=usual, **how)
-    time.sleep(1.5)
-    os.killpg(child.pid, signal.SIGINT)
-    out, err = child.communicate(timeout=30)
-    fine = (child.returncode, out) == (130, b"") and left_of(script) == []
-    part.expect("an interrupt", fine, str(child.returncode), str(err), *left_of(script))
+    part.expect("the program of a machine without the kit", has_old(script))
+
+
+def not_writable(part):
+    """Status 70 too if the log cannot be written, or there can be no folder for it. A folder or a file in the way stops root too."""
+    script = make_clone(part, "not-writable")
+    put_old(script)
+    os.mkdir(log_of(script))
+    status, out, err = run(part, script, ["--version"], how="quick")
+    part.expect("a log that cannot be written", (status, out) == (70, b"") and err.endswith("\ntlvdump: not built\n"), str(status), err)
+    part.expect("the program then", has_old(script))
+    shutil.rmtree(os.path.dirname(log_of(script)))
+    part.write("not-writable/crates/tlvdump/out", b"")
+    status, out, err = run(part, script, ["--version"], how="quick")
+    part.expect("no folder for the log", (status, out) == (70, b"") and err.endswith("\ntlvdump: not built\n"), str(status), err)
+
+
+def start_waiting(part, script, name):
+    """Starts a build that waits. Returns the script's process, and a process that rt has started in it."""
+    child = start(part, script, ["--version"], how="waits", RT_CHILD=part.path(name))
+    return child, int(await_file(part.path(name)) or 0)
+
+
+def signals(part):
+    """A signal to the script alone ends all that a build has started, and leaves nothing but the old program."""
+    script = make_clone(part, "signals")
+    put_old(script)
+    for name, status in (("INT", 130), ("TERM", 143), ("HUP", 129), ("PIPE", 141)):
+        child, below = start_waiting(part, script, f"child-{name}")
+        part.expect(f"{name}: the old program stays in a build", below and runs(below) and has_old(script))
+        child.send_signal(getattr(signal, f"SIG{name}"))
+        begun = time.time()
+        got = end_of(child)
+        fine = got[:2] == (status, b"") and time.time() - begun < 20
+        part.expect(f"{name} in a build", fine, *map(str, got), f"{time.time() - begun:.1f} s")
+        part.expect(f"{name}: nothing goes on", has_ended(below))
+        part.expect(f"{name}: what is left", left_of(script) == [] and has_old(script), *left_of(script))
+    wanted = part.run(["--version"])
+    status, out, err = run(part, script, ["--version"], how="quick")
+    part.expect("a build after signals", (status, out) == (0, wanted.out), str(status), err)
+
+
+WAITS = "tlvdump: another run builds the program; this one waits for it\n"
+
+
+def two_at_once(part):
+    """The second waits for the first, and builds nothing; it builds if the first is gone without a program."""
+    if not part.has("flock"):
+        return
+    script = make_clone(part, "two")
+    wanted = part.run(["--version"])
+    children = [start(part, script, ["--version"])]
+    await_file(os.path.join(top_of(script), "builds"))
+    children.append(start(part, script, ["--version"]))
+    first, second = map(end_of, children)
+    part.expect("the first of two", first[:2] == (0, wanted.out) and WAITS not in first[2], *map(str, first))
+    part.expect("the second of two", second == (0, wanted.out, WAITS), *map(str, second))
+    part.expect("one build of two", builds_of(script) == 1, str(builds_of(script)))
+    for name, ends in (("TERM", 143), ("KILL", -signal.SIGKILL)):
+        os.remove(program_of(script))
+        child, below = start_waiting(part, script, f"first-{name}")
+        other, third = start(part, script, ["--version"], how="quick"), start(part, script, ["--version"])
+        time.sleep(1.5)
+        part.expect(f"{name}: two wait", other.poll() is None and third.poll() is None and runs(below))
+        third.terminate()
+        got = end_of(third)
+        part.expect(f"{name}: one that waits is ended", got == (143, b"", WAITS) and runs(below), *map(str, got))
+        child.send_signal(getattr(signal, f"SIG{name}"))
+        status, out, err = end_of(other)
+        fine = (status, out) == (0, wanted.out) and err.startswith(WAITS + begin_of(script))
+        part.expect(f"{name}: the second builds", fine, str(status), err)
+        got = end_of(child)
+        part.expect(f"{name}: the first", got[:2] == (ends, b""), *map(str, got))
+        if runs(below):
+            os.killpg(os.getpgid(below), signal.SIGKILL)
+        time.sleep(1.5)
+        part.expect(f"{name}: what is left", left_of(script) == [], *left_of(script))
+        got = run(part, script, ["--version"])
+        part.expect(f"{name}: the next run", got == (0, wanted.out, ""), *map(str, got))
 
 
 def test(part):
@@ -170,4 +406,9 @@ def test(part):
     os.chmod(part.write("kit/rt", RT.encode()), 0o755)
     not_on_a_terminal(part)
     on_a_terminal(part)
+    words_and_links(part)
+    changes(part)
     failing(part)
+    not_writable(part)
+    signals(part)
+    two_at_once(part)
