@@ -1,9 +1,13 @@
 """install: what it puts where, what it takes away; the completions for bash and zsh."""
+import glob
 import os
 import re
+import resource
 import shutil
+import signal
 import stat
 import subprocess
+import time
 
 PLACES = {
     "bin/tlvdump": None,
@@ -18,11 +22,12 @@ PLACES = {
 }
 
 
-def install(part, *words):
-    """Runs the script with the program of the tests, and returns its status, its output and its errors."""
-    env = dict(os.environ, TLVDUMP=part.program)
+def install(part, *words, program=None, **how):
+    """Runs the script with the program of the tests, or another, and returns its status, its output and its errors."""
+    env = dict(os.environ, TLVDUMP=program or part.program)
     script = os.path.join(part.root, "install")
-    got = subprocess.run([script, *words], cwd=part.folder, env=env, capture_output=True, text=True, timeout=60)
+    how = {"cwd": part.folder, "env": env, "capture_output": True, "text": True, "timeout": 60, **how}
+    got = subprocess.run([script, *words], **how)
     return got.returncode, got.stdout, got.stderr
 
 
@@ -33,6 +38,12 @@ def content(path):
 
 def files_below(folder):
     found = [os.path.join(path, name) for path, _, names in os.walk(folder) for name in names]
+    return sorted(os.path.relpath(path, folder) for path in found)
+
+
+def all_below(folder):
+    """The files and the folders."""
+    found = [os.path.join(path, name) for path, folders, names in os.walk(folder) for name in [*folders, *names]]
     return sorted(os.path.relpath(path, folder) for path in found)
 
 
@@ -70,13 +81,134 @@ def check_install(part):
     got = install(part, "--remove", "there")
     printed = "".join(f"removed there/{place}\n" for place in PLACES)
     part.expect("remove", got == (0, printed, ""), *map(str, got))
-    part.expect("what it did not put stays", files_below(part.path("there")) == ["share/tlvdump/mine.txt"])
+    stays = ["share", "share/tlvdump", "share/tlvdump/mine.txt"]
+    part.expect("what it did not put stays", all_below(part.path("there")) == stays, *all_below(part.path("there")))
     got = install(part, "--remove", "there")
     part.expect("remove, again", got == (0, "", ""), *map(str, got))
     part.expect("install, a space", install(part, "a place")[0] == 0)
     places(part, "a place")
     install(part, "--remove", part.path("a place"))
-    part.expect("no folder of its own stays", not os.path.exists(part.path("a place/share/tlvdump")))
+    part.expect("no folder stays but PREFIX", all_below(part.path("a place")) == [], *all_below(part.path("a place")))
+    part.expect("PREFIX stays", os.path.isdir(part.path("a place")))
+
+
+def check_folders(part):
+    """Folders of others stay, and links to folders; those of a system stay, also if they are empty."""
+    for folder in ("shared/bin", "shared/share/zsh/mine", "elsewhere/man1", "shared/lib"):
+        os.makedirs(part.path(folder))
+    part.write("shared/bin/other", b"")
+    os.symlink("../../elsewhere", part.path("shared/share/man"))
+    part.expect("install among others", install(part, "shared")[0] == 0)
+    part.expect("a folder by a link", "elsewhere/man1/tlvdump.1" in files_below(part.folder))
+    got = install(part, "--remove", "shared")
+    part.expect("remove among others", got[0] == 0 and not got[2], *map(str, got))
+    stays = ["bin", "bin/other", "lib", "share", "share/man", "share/zsh", "share/zsh/mine"]
+    part.expect("what others have stays", all_below(part.path("shared")) == stays, *all_below(part.path("shared")))
+    # Standing in for /usr/local: a folder of that name in a system of its own, which root alone can make.
+    script = 'mount -t tmpfs none /usr/local && "$0" && "$0" --remove && cd /usr/local && find . | LC_ALL=C sort'
+    if os.geteuid() or subprocess.run(["unshare", "-m", "true"], capture_output=True).returncode:
+        part.note("no root, or no unshare: /usr/local is not tried")
+        return
+    env = dict(os.environ, TLVDUMP=shutil.copy(part.program, part.path("copy")))
+    how = {"cwd": part.folder, "env": env, "capture_output": True, "text": True, "timeout": 60}
+    got = subprocess.run(["unshare", "-m", "sh", "-c", script, os.path.join(part.root, "install")], **how)
+    left = [line for line in got.stdout.splitlines() if line.startswith(".")]
+    part.expect("/usr/local", got.returncode == 0 and left == [".", "./bin", "./share", "./share/man"], got.stdout, got.stderr)
+
+
+def check_links(part):
+    """A link that lies in the way, at a target or where another script would write first, is not followed."""
+    os.makedirs(part.path("linked/bin"))
+    os.makedirs(part.path("linked/share/tlvdump"))
+    victim = part.write("victim", b"not to be written")
+    for name in ("bin/tlvdump", "bin/tlvdump.new", "bin/tlvdump.tmp", "bin/tlvdump~", "share/tlvdump/names.txt", "share/tlvdump/names.txt.new"):
+        os.symlink(victim, part.path(f"linked/{name}"))
+    os.symlink("nowhere", part.path("linked/bin/tlvdump-show"))
+    got = install(part, "linked")
+    part.expect("install over links", got[0] == 0 and not got[2], *map(str, got))
+    part.expect("what a link leads to", content(victim) == b"not to be written" and not os.path.exists(part.path("linked/bin/nowhere")))
+    for name in ("bin/tlvdump", "bin/tlvdump-show", "share/tlvdump/names.txt"):
+        part.expect(f"a file in place of the link {name}", os.path.isfile(part.path(f"linked/{name}")) and not os.path.islink(part.path(f"linked/{name}")))
+    left = [name for name in os.listdir(part.path("linked/bin")) if name.startswith(".")]
+    part.expect("nothing of its own is left", not left, *left)
+    for name in ("bin/tlvdump", "bin/tlvdump-show"):
+        os.remove(part.path(f"linked/{name}"))
+        os.symlink("victim" if name == "bin/tlvdump" else "nowhere", part.path(f"linked/{name}"))
+    got = install(part, "--remove", "linked")
+    there = [name for name in ("tlvdump", "tlvdump-show") if os.path.lexists(part.path(f"linked/bin/{name}"))]
+    part.expect("remove of links", got[0] == 0 and not there and content(victim) == b"not to be written", *map(str, got), *there)
+
+
+def limit_files():
+    """No file may have more than 64 kilobytes; a write of more fails."""
+    signal.signal(signal.SIGXFSZ, signal.SIG_IGN)
+    resource.setrlimit(resource.RLIMIT_FSIZE, (65536, 65536))
+
+
+def check_failures(part):
+    """Status 1 if a file cannot be put or removed, which holds for root too; the others are put, and nothing else is left."""
+    others = [place for place in PLACES if place != "bin/tlvdump"]
+    printed = "".join(f"in-the-way/{place}\n" for place in others)
+    os.makedirs(part.path("in-the-way/bin/tlvdump"))
+    status, out, err = install(part, "in-the-way")
+    part.expect("a folder in the way", (status, out) == (1, printed) and err, str(status), out, err)
+    part.expect("what is put beside it", files_below(part.path("in-the-way")) == sorted(others) and not os.listdir(part.path("in-the-way/bin/tlvdump")))
+    left = [path for path in all_below(part.path("in-the-way")) if os.path.basename(path).startswith(".")]
+    part.expect("nothing is left beside it", not left, *left)
+    status, out, err = install(part, "--remove", "in-the-way")
+    printed = "".join(f"removed in-the-way/{place}\n" for place in others)
+    part.expect("remove, a folder in the way", (status, out) == (1, printed) and err, str(status), out, err)
+    part.expect("the folder stays", all_below(part.path("in-the-way")) == ["bin", "bin/tlvdump"])
+    os.makedirs(part.path("no-folder/share"))
+    part.write("no-folder/share/man", b"")
+    status, out, err = install(part, "no-folder")
+    part.expect("a file in place of a folder", status == 1 and out.count("\n") == 6 and err, str(status), out, err)
+    # What goes wrong while the program is written: the one that is there stays.
+    part.expect("install before that", install(part, "full")[0] == 0)
+    for what, how in (("no room", {"preexec_fn": limit_files}), ("no program", {"program": part.path("missing")}), ("a folder", {"program": part.folder})):
+        status, out, err = install(part, "full", **how)
+        part.expect(f"{what}: status 1", status == 1 and "full/bin/tlvdump\n" not in out and err, str(status), out, err)
+        places(part, "full")
+        left = [path for path in all_below(part.path("full")) if os.path.basename(path).startswith(".")]
+        part.expect(f"{what}: nothing is left", not left, *left)
+    for words in (["/proc/tlvdump"], ["/dev/null"]):
+        status, out, err = install(part, *words)
+        part.expect(f"PREFIX {words[0]}", (status, out) == (1, "") and err, str(status), out, err)
+
+
+def check_running(part):
+    """The program is put while it runs: it goes on, and the new one is another file."""
+    path = part.path("there/bin/tlvdump")
+    install(part, "there")
+    child = part.start(["dump"], program=path, stdin=subprocess.PIPE, stdout=subprocess.PIPE)
+    child.stdin.write(b"\x05\x00")
+    child.stdin.flush()
+    first = child.stdout.readline()
+    got = install(part, "there")
+    part.expect("install while it runs", got[0] == 0 and not got[2], *map(str, got))
+    out, _ = child.communicate(b"\x05\x00", timeout=60)
+    fine = (child.returncode, first, out) == (0, b"       0      0: NULL\n", b"       2      0: NULL\n")
+    part.expect("the one that ran", fine, str(child.returncode), str(first), str(out))
+    part.expect("the new one", part.run(["--version"], program=path) == part.run(["--version"]))
+
+
+def check_signals(part):
+    """A signal while a file is written: nothing is left of it. The program is read from a pipe that gives nothing."""
+    os.mkfifo(part.path("slow"))
+    env = dict(os.environ, TLVDUMP=part.path("slow"))
+    for name, wanted in (("TERM", 143), ("INT", 130), ("HUP", 129)):
+        usual = lambda: [signal.signal(it, signal.SIG_DFL) for it in (signal.SIGHUP, signal.SIGINT, signal.SIGTERM)]
+        how = {"cwd": part.folder, "env": env, "stdout": subprocess.PIPE, "stderr": subprocess.PIPE, "start_new_session": True}
+        child = subprocess.Popen([os.path.join(part.root, "install"), "stopped"], preexec_fn=usual, **how)
+        for _ in range(200):
+            time.sleep(0.05)
+            if glob.glob(part.path("stopped/bin/.*")):
+                break
+        time.sleep(0.3)
+        os.killpg(child.pid, getattr(signal, f"SIG{name}"))
+        out, err = child.communicate(timeout=60)
+        fine = (child.returncode, out) == (wanted, b"") and all_below(part.path("stopped")) == ["bin"]
+        part.expect(f"{name} while a file is written", fine, str(child.returncode), str(out), str(err), *all_below(part.path("stopped")))
 
 
 def check_umask(part):
@@ -213,6 +345,11 @@ def zsh(part, options):
 def test(part):
     check_install(part)
     check_umask(part)
+    check_folders(part)
+    check_links(part)
+    check_failures(part)
+    check_running(part)
+    check_signals(part)
     builds(part)
     check_refusals(part)
     options = words_of(part)
