@@ -10,7 +10,7 @@ import signal
 import subprocess
 import time
 
-from parts.install import clone
+from parts.install import clone, content
 
 # Lines as rt writes them: of the sources, of two crates in turn, and of the program's run. As rt, it puts the program in its
 # place whole, and leaves it as it is if nothing has changed. It reads what it is given. RT_HOW is what else it does:
@@ -108,9 +108,11 @@ def end_of(child):
     try:
         out, err = child.communicate(timeout=60)
     except subprocess.TimeoutExpired:
+        # What it has started may have its pipes still.
         child.kill()
-        out, err = child.communicate()
-        return "none: it did not end", out, err.decode()
+        child.stdout.close()
+        child.stderr.close()
+        return "none: it did not end", b"", ""
     return child.returncode, out, err.decode()
 
 
@@ -122,6 +124,14 @@ def await_file(path):
                 return file.read()
         time.sleep(0.05)
     return ""
+
+
+def wait_for(child):
+    """Waits until a script has ended, whoever has its pipes."""
+    try:
+        child.wait(timeout=60)
+    except subprocess.TimeoutExpired:
+        child.kill()
 
 
 def runs(pid):
@@ -181,8 +191,8 @@ def put_old(script):
 
 def has_old(script):
     """Whether the old program is in its place, as it was."""
-    with open(program_of(script), "rb") as file:
-        return file.read() == OLD and os.access(program_of(script), os.X_OK)
+    path = program_of(script)
+    return os.access(path, os.X_OK) and content(path) == OLD
 
 
 def not_on_a_terminal(part):
@@ -323,10 +333,34 @@ def failing(part):
     part.expect("the program of a machine without the kit", has_old(script))
 
 
+def read_only(part, script):
+    """Runs the script in a tree that cannot be written, or returns nothing if this machine has no way to make one."""
+    folder = os.path.dirname(log_of(script))
+    if os.geteuid():
+        os.chmod(folder, 0o555)
+        got = run(part, script, ["--version"], how="quick")
+        os.chmod(folder, 0o755)
+        return got
+    if subprocess.run(["unshare", "-m", "true"], capture_output=True).returncode:
+        return None
+    mounts = 'mount --bind "$0" "$0" && mount -o remount,bind,ro "$0" && exec "$@"'
+    words = ["-m", "sh", "-c", mounts, top_of(script), script, "--version"]
+    return run(part, shutil.which("unshare"), words, how="quick")
+
+
 def not_writable(part):
-    """Status 70 too if the log cannot be written, or there can be no folder for it. A folder or a file in the way stops root too."""
+    """Status 70 too if the tree cannot be written. A folder or a file in the way stops root too."""
     script = make_clone(part, "not-writable")
     put_old(script)
+    for log in ("no log", "a log"):
+        got = read_only(part, script)
+        if got is None:
+            part.note("root, and no unshare: a tree that cannot be written is not tried")
+            break
+        fine = got[:2] == (70, b"") and got[2].endswith("\ntlvdump: not built\n") and has_old(script)
+        part.expect(f"a tree that cannot be written, {log}", fine, *map(str, got))
+        part.write("not-writable/crates/tlvdump/out/build.log", b"")
+    os.remove(log_of(script))
     os.mkdir(log_of(script))
     status, out, err = run(part, script, ["--version"], how="quick")
     part.expect("a log that cannot be written", (status, out) == (70, b"") and err.endswith("\ntlvdump: not built\n"), str(status), err)
@@ -352,14 +386,43 @@ def signals(part):
         part.expect(f"{name}: the old program stays in a build", below and runs(below) and has_old(script))
         child.send_signal(getattr(signal, f"SIG{name}"))
         begun = time.time()
+        wait_for(child)
+        left = left_of(script)
         got = end_of(child)
         fine = got[:2] == (status, b"") and time.time() - begun < 20
         part.expect(f"{name} in a build", fine, *map(str, got), f"{time.time() - begun:.1f} s")
         part.expect(f"{name}: nothing goes on", has_ended(below))
-        part.expect(f"{name}: what is left", left_of(script) == [] and has_old(script), *left_of(script))
+        part.expect(f"{name}: what is left", left == [] and has_old(script), *left)
     wanted = part.run(["--version"])
     status, out, err = run(part, script, ["--version"], how="quick")
     part.expect("a build after signals", (status, out) == (0, wanted.out), str(status), err)
+
+
+def killed(part):
+    """A script that is killed leaves no lock, and what else it leaves is gone soon, or with the next build."""
+    script = make_clone(part, "killed")
+    put_old(script)
+    child, below = start_waiting(part, script, "child-KILL")
+    child.kill()
+    # Its parent has not heard of it yet.
+    os.waitid(os.P_PID, child.pid, os.WEXITED | os.WNOWAIT)
+    if part.has("flock"):
+        free = subprocess.run(["flock", "-n", os.path.dirname(log_of(script)), "true"]).returncode == 0
+        part.expect("KILL: no lock", free)
+    for _ in range(100):
+        if not left_of(script):
+            break
+        time.sleep(0.05)
+    part.expect("KILL: what is left", left_of(script) == [] and has_old(script), *left_of(script))
+    got = end_of(child)
+    part.expect("KILL in a build", got[:2] == (-signal.SIGKILL, b""), *map(str, got))
+    if runs(below):
+        os.killpg(os.getpgid(below), signal.SIGKILL)
+    part.write("killed/crates/tlvdump/out/building.1", b"")
+    wanted = part.run(["--version"])
+    status, out, err = run(part, script, ["--version"], how="quick")
+    part.expect("a build after KILL", (status, out) == (0, wanted.out), str(status), err)
+    part.expect("what is left then", left_of(script) == [], *left_of(script))
 
 
 WAITS = "tlvdump: another run builds the program; this one waits for it\n"
@@ -411,4 +474,5 @@ def test(part):
     failing(part)
     not_writable(part)
     signals(part)
+    killed(part)
     two_at_once(part)
