@@ -244,7 +244,11 @@ def builds(part):
     os.chmod(part.path("rt"), 0o755)
     env = {"PATH": f"{part.folder}:{os.environ['PATH']}"}
     how = {"cwd": part.folder, "env": env, "capture_output": True, "text": True, "timeout": 60}
-    got = subprocess.run([clone(part, "built", True), "from-clone"], **how)
+    script = clone(part, "built", True)
+    # Others cannot read the files of this clone, but those that it puts.
+    for path in files_below(part.path("built")):
+        os.chmod(part.path(f"built/{path}"), 0o700 if os.access(part.path(f"built/{path}"), os.X_OK) else 0o600)
+    got = subprocess.run([script, "from-clone"], **how)
     part.expect("the program of a clone", got.returncode == 0 and got.stderr == "", got.stderr)
     places(part, "from-clone")
     got = subprocess.run([clone(part, "unbuilt", False), "nowhere"], **how)
