@@ -417,7 +417,7 @@ def killed(part):
     got = end_of(child)
     part.expect("KILL in a build", got[:2] == (-signal.SIGKILL, b""), *map(str, got))
     if runs(below):
-        os.killpg(os.getpgid(below), signal.SIGKILL)
+        os.kill(below, signal.SIGKILL)
     part.write("killed/crates/tlvdump/out/building.1", b"")
     wanted = part.run(["--version"])
     status, out, err = run(part, script, ["--version"], how="quick")
@@ -457,7 +457,7 @@ def two_at_once(part):
         got = end_of(child)
         part.expect(f"{name}: the first", got[:2] == (ends, b""), *map(str, got))
         if runs(below):
-            os.killpg(os.getpgid(below), signal.SIGKILL)
+            os.kill(below, signal.SIGKILL)
         time.sleep(1.5)
         part.expect(f"{name}: what is left", left_of(script) == [], *left_of(script))
         got = run(part, script, ["--version"])
