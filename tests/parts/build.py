@@ -12,8 +12,8 @@ import time
 
 from parts.install import clone, content
 
-# Lines as rt writes them: of the sources, of two crates in turn, and of the program's run. As rt, it puts the program in its
-# place whole, and leaves it as it is if nothing has changed. It reads what it is given. RT_HOW is what else it does:
+# Lines as rt writes them: of the sources, of two crates in turn, and of the program's run. As rt, it puts the program in
+# its place whole, and leaves it as it is if nothing has changed. It reads what it is given. RT_HOW is what else it does:
 # `fails`; `waits` for a minute, with what it has started in the file RT_CHILD; is `quick`; finds all the `same`; or
 # `edits` a source while it builds.
 RT = r"""#!/bin/sh
@@ -254,7 +254,7 @@ def on_a_terminal(part):
 
 
 def words_and_links(part):
-    """The words come to the program as they are, after a build too; the script may be called by a link, or by the PATH."""
+    """The words come to the program as they are, after a build too. The script may be called by a link or the PATH."""
     script = make_clone(part, "a clone")
     octets = b"\x05\x00"
     part.write("two  blanks", octets)
@@ -302,7 +302,8 @@ def changes(part):
         part.expect(f"no change of {source}", got == (0, wanted.out, ""), *map(str, got))
         os.utime(part.path(f"changes/{source}"), (then + 20, then + 20))
         status, out, err = run(part, script, ["--version"], how="same")
-        part.expect(f"a change of {source}", (status, out) == (0, wanted.out) and err.startswith(begin_of(script)), str(status), err)
+        fine = (status, out) == (0, wanted.out) and err.startswith(begin_of(script))
+        part.expect(f"a change of {source}", fine, str(status), err)
         got = run(part, script, ["--version"])
         part.expect(f"no build after that of {source}", got == (0, wanted.out, ""), *map(str, got))
     os.remove(program_of(script))
@@ -363,12 +364,14 @@ def not_writable(part):
     os.remove(log_of(script))
     os.mkdir(log_of(script))
     status, out, err = run(part, script, ["--version"], how="quick")
-    part.expect("a log that cannot be written", (status, out) == (70, b"") and err.endswith("\ntlvdump: not built\n"), str(status), err)
+    fine = (status, out) == (70, b"") and err.endswith("\ntlvdump: not built\n")
+    part.expect("a log that cannot be written", fine, str(status), err)
     part.expect("the program then", has_old(script))
     shutil.rmtree(os.path.dirname(log_of(script)))
     part.write("not-writable/crates/tlvdump/out", b"")
     status, out, err = run(part, script, ["--version"], how="quick")
-    part.expect("no folder for the log", (status, out) == (70, b"") and err.endswith("\ntlvdump: not built\n"), str(status), err)
+    fine = (status, out) == (70, b"") and err.endswith("\ntlvdump: not built\n")
+    part.expect("no folder for the log", fine, str(status), err)
 
 
 def start_waiting(part, script, name):

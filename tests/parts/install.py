@@ -113,7 +113,8 @@ def check_folders(part):
     how = {"cwd": part.folder, "env": env, "capture_output": True, "text": True, "timeout": 60}
     got = subprocess.run(["unshare", "-m", "sh", "-c", script, os.path.join(part.root, "install")], **how)
     left = [line for line in got.stdout.splitlines() if line.startswith(".")]
-    part.expect("/usr/local", got.returncode == 0 and left == [".", "./bin", "./share", "./share/man"], got.stdout, got.stderr)
+    fine = got.returncode == 0 and left == [".", "./bin", "./share", "./share/man"]
+    part.expect("/usr/local", fine, got.stdout, got.stderr)
 
 
 def check_links(part):
@@ -121,22 +122,25 @@ def check_links(part):
     os.makedirs(part.path("linked/bin"))
     os.makedirs(part.path("linked/share/tlvdump"))
     victim = part.write("victim", b"not to be written")
-    for name in ("bin/tlvdump", "bin/tlvdump.new", "bin/tlvdump.tmp", "bin/tlvdump~", "share/tlvdump/names.txt", "share/tlvdump/names.txt.new"):
-        os.symlink(victim, part.path(f"linked/{name}"))
+    for name in ("bin/tlvdump", "share/tlvdump/names.txt"):
+        for ending in ("", ".new", ".tmp", "~"):
+            os.symlink(victim, part.path(f"linked/{name}{ending}"))
     os.symlink("nowhere", part.path("linked/bin/tlvdump-show"))
     got = install(part, "linked")
     part.expect("install over links", got[0] == 0 and not got[2], *map(str, got))
-    part.expect("what a link leads to", content(victim) == b"not to be written" and not os.path.exists(part.path("linked/bin/nowhere")))
+    fine = content(victim) == b"not to be written" and not os.path.exists(part.path("linked/bin/nowhere"))
+    part.expect("what a link leads to", fine)
     for name in ("bin/tlvdump", "bin/tlvdump-show", "share/tlvdump/names.txt"):
-        part.expect(f"a file in place of the link {name}", os.path.isfile(part.path(f"linked/{name}")) and not os.path.islink(part.path(f"linked/{name}")))
-    left = [name for name in os.listdir(part.path("linked/bin")) if name.startswith(".")]
-    part.expect("nothing of its own is left", not left, *left)
+        mode = os.lstat(part.path(f"linked/{name}")).st_mode
+        part.expect(f"a file in place of the link {name}", stat.S_ISREG(mode), oct(mode))
+    nothing_left(part, "links", "linked")
     for name in ("bin/tlvdump", "bin/tlvdump-show"):
         os.remove(part.path(f"linked/{name}"))
         os.symlink("victim" if name == "bin/tlvdump" else "nowhere", part.path(f"linked/{name}"))
     got = install(part, "--remove", "linked")
     there = [name for name in ("tlvdump", "tlvdump-show") if os.path.lexists(part.path(f"linked/bin/{name}"))]
-    part.expect("remove of links", got[0] == 0 and not there and content(victim) == b"not to be written", *map(str, got), *there)
+    fine = got[0] == 0 and not there and content(victim) == b"not to be written"
+    part.expect("remove of links", fine, *map(str, got), *there)
 
 
 def limit_files():
@@ -145,16 +149,22 @@ def limit_files():
     resource.setrlimit(resource.RLIMIT_FSIZE, (65536, 65536))
 
 
+def nothing_left(part, what, prefix):
+    """Counts one test: that the script left none of its temporary folders below this prefix."""
+    left = [path for path in all_below(part.path(prefix)) if os.path.basename(path).startswith(".")]
+    part.expect(f"{what}: nothing is left", not left, *left)
+
+
 def check_failures(part):
-    """Status 1 if a file cannot be put or removed, which holds for root too; the others are put, and nothing else is left."""
+    """Status 1 if a file cannot be put or removed, also for root; the others are put, and nothing else is left."""
     others = [place for place in PLACES if place != "bin/tlvdump"]
     printed = "".join(f"in-the-way/{place}\n" for place in others)
     os.makedirs(part.path("in-the-way/bin/tlvdump"))
     status, out, err = install(part, "in-the-way")
     part.expect("a folder in the way", (status, out) == (1, printed) and err, str(status), out, err)
-    part.expect("what is put beside it", files_below(part.path("in-the-way")) == sorted(others) and not os.listdir(part.path("in-the-way/bin/tlvdump")))
-    left = [path for path in all_below(part.path("in-the-way")) if os.path.basename(path).startswith(".")]
-    part.expect("nothing is left beside it", not left, *left)
+    found = files_below(part.path("in-the-way"))
+    part.expect("what is put beside it", found == sorted(others), *found)
+    nothing_left(part, "a folder in the way", "in-the-way")
     status, out, err = install(part, "--remove", "in-the-way")
     printed = "".join(f"removed in-the-way/{place}\n" for place in others)
     part.expect("remove, a folder in the way", (status, out) == (1, printed) and err, str(status), out, err)
@@ -165,12 +175,15 @@ def check_failures(part):
     part.expect("a file in place of a folder", status == 1 and out.count("\n") == 6 and err, str(status), out, err)
     # What goes wrong while the program is written: the one that is there stays.
     part.expect("install before that", install(part, "full")[0] == 0)
-    for what, how in (("no room", {"preexec_fn": limit_files}), ("no program", {"program": part.path("missing")}), ("a folder", {"program": part.folder})):
+    for what, how in (
+        ("no room", {"preexec_fn": limit_files}),
+        ("no program", {"program": part.path("missing")}),
+        ("a folder for a program", {"program": part.folder}),
+    ):
         status, out, err = install(part, "full", **how)
         part.expect(f"{what}: status 1", status == 1 and "full/bin/tlvdump\n" not in out and err, str(status), out, err)
         places(part, "full")
-        left = [path for path in all_below(part.path("full")) if os.path.basename(path).startswith(".")]
-        part.expect(f"{what}: nothing is left", not left, *left)
+        nothing_left(part, what, "full")
     for words in (["/proc/tlvdump"], ["/dev/null"]):
         status, out, err = install(part, *words)
         part.expect(f"PREFIX {words[0]}", (status, out) == (1, "") and err, str(status), out, err)
@@ -198,8 +211,9 @@ def check_signals(part):
     env = dict(os.environ, TLVDUMP=part.path("slow"))
     for name, wanted in (("TERM", 143), ("INT", 130), ("HUP", 129)):
         usual = lambda: [signal.signal(it, signal.SIG_DFL) for it in (signal.SIGHUP, signal.SIGINT, signal.SIGTERM)]
-        how = {"cwd": part.folder, "env": env, "stdout": subprocess.PIPE, "stderr": subprocess.PIPE, "start_new_session": True}
-        child = subprocess.Popen([os.path.join(part.root, "install"), "stopped"], preexec_fn=usual, **how)
+        how = {"cwd": part.folder, "env": env, "start_new_session": True, "preexec_fn": usual}
+        pipes = {"stdout": subprocess.PIPE, "stderr": subprocess.PIPE}
+        child = subprocess.Popen([os.path.join(part.root, "install"), "stopped"], **how, **pipes)
         for _ in range(200):
             time.sleep(0.05)
             if glob.glob(part.path("stopped/bin/.*")):
@@ -207,8 +221,9 @@ def check_signals(part):
         time.sleep(0.3)
         os.killpg(child.pid, getattr(signal, f"SIG{name}"))
         out, err = child.communicate(timeout=60)
-        fine = (child.returncode, out) == (wanted, b"") and all_below(part.path("stopped")) == ["bin"]
-        part.expect(f"{name} while a file is written", fine, str(child.returncode), str(out), str(err), *all_below(part.path("stopped")))
+        left = all_below(part.path("stopped"))
+        fine = (child.returncode, out, left) == (wanted, b"", ["bin"])
+        part.expect(f"{name} while a file is written", fine, str(child.returncode), str(out), str(err), *left)
 
 
 def check_umask(part):

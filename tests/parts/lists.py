@@ -201,14 +201,15 @@ def pysnmp(folder):
 
 def go(folder):
     """The object identifiers of zlint, Fulcio, step, cfssl and go-sev-guest, which are written in Go."""
-    where = ("github.com/zmap/z*", "github.com/sigstore/fulcio", "go.step.sm/crypto", "github.com/cloudflare/cfssl", "github.com/google/go-sev-guest")
+    where = ("github.com/zmap/z*", "github.com/sigstore/fulcio", "go.step.sm/crypto")
+    where += ("github.com/cloudflare/cfssl", "github.com/google/go-sev-guest")
     for text in texts(folder, *(f"usr/share/gocode/src/{place}/**/*.go" for place in where)):
         for name, numbers in re.findall(r"(\w+)\s*=\s*asn1\.ObjectIdentifier(?:\(\[\]int)?\{([\d, ]+)\}", text):
             yield dotted_of(numbers), name
 
 
 def authorities(folder):
-    """The policies of authorities in zcrypto: a map for each kind, with the authority in a comment before one or more lines."""
+    """The policies of authorities in zcrypto: a map for each kind, with the authority in a comment before its lines."""
     kinds = {"ExtendedValidation": "EV", "OrganizationValidation": "OV", "DomainValidation": "DV"}
     for text in texts(folder, "usr/share/gocode/src/github.com/zmap/zcrypto/x509/extensions.go"):
         for map_name, lines in re.findall(r"^var (\w+)OIDs = map[^\n]*\{\n(.*?)^\}", text, re.M | re.S):

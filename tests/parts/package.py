@@ -23,8 +23,8 @@ def environment(part, program=None, **more):
 
 def package(part, *words, program=None, **more):
     """Runs the script with the program of the tests, or another, and returns its status, its output and its errors."""
-    how = {"cwd": part.folder, "env": environment(part, program, **more), "capture_output": True, "text": True, "timeout": 120}
-    got = subprocess.run([os.path.join(part.root, "package"), *words], **how)
+    how = {"cwd": part.folder, "env": environment(part, program, **more), "timeout": 120}
+    got = subprocess.run([os.path.join(part.root, "package"), *words], capture_output=True, text=True, **how)
     left = os.listdir(part.path("work"))
     part.expect(f"no temporary file of package {' '.join(words)} is left", not left, *left)
     return got.returncode, got.stdout, got.stderr
@@ -89,7 +89,8 @@ def depends(part, field, program):
     """The field names the highest version of the C library of which the program has a symbol."""
     found = re.findall(r"\bGLIBC_([0-9.]+)\b", said_by("objdump", "-T", program))
     highest = max(found, key=lambda version: [int(number) for number in version.split(".")])
-    part.expect("the C library that it needs", len(set(found)) > 1 and field == f"libc6 (>= {highest})", field, *sorted(set(found)))
+    fine = len(set(found)) > 1 and field == f"libc6 (>= {highest})"
+    part.expect("the C library that it needs", fine, field, *sorted(set(found)))
     return highest
 
 
@@ -109,12 +110,13 @@ def depends_of_another(part, version):
     if not all([part.has(tool) for tool in ("cc", "objdump")]):
         return
     part.write("other.c", OTHER_PROGRAM.encode())
-    said_by("cc", "-O0", "-fstack-protector-all", f'-DVERSION="{version}"', "-o", part.path("other-program"), part.path("other.c"))
+    made = part.path("other-program")
+    said_by("cc", "-O0", "-fstack-protector-all", f'-DVERSION="{version}"', "-o", made, part.path("other.c"))
     os.mkdir(part.path("of another"))
-    got = package(part, "of another", program=part.path("other-program"))
+    got = package(part, "of another", program=made)
     part.expect("package of another program", got[0] == 0, *map(str, got))
     fields = said_by("dpkg-deb", "-f", part.path(f"of another/tlvdump_{version}_amd64.deb"), "Depends")
-    highest = depends(part, fields.strip(), part.path("other-program"))
+    highest = depends(part, fields.strip(), made)
     part.expect("a version that is not the last as a text", highest < "2.4", highest)
 
 
@@ -127,8 +129,8 @@ def check_links(part, name):
     got = package(part, "linked")
     part.expect("package over links", got == (0, f"linked/{name}\n", ""), *map(str, got))
     made = part.path(f"linked/{name}")
-    fine = content(victim) == b"not to be written" and not os.path.islink(made) and content(made) == content(part.path(name))
-    part.expect("what a link leads to", fine)
+    part.expect("what a link leads to", content(victim) == b"not to be written")
+    part.expect("a package in place of a link", not os.path.islink(made) and content(made) == content(part.path(name)))
     part.expect("what is left beside it", len(os.listdir(part.path("linked"))) == 4, *os.listdir(part.path("linked")))
     part.expect("the mode of a package", stat.S_IMODE(os.stat(made).st_mode) == 0o644)
     os.makedirs(part.path(f"taken/{name}"))
@@ -162,8 +164,9 @@ def check_signals(part):
     for name, wanted in (("TERM", 143), ("INT", 130), ("HUP", 129)):
         begun = part.path(f"begun-{name}")
         usual = lambda: [signal.signal(it, signal.SIG_DFL) for it in (signal.SIGHUP, signal.SIGINT, signal.SIGTERM)]
-        how = {"cwd": part.folder, "env": environment(part, slow, SLOW=begun), "stdout": subprocess.PIPE, "stderr": subprocess.PIPE}
-        child = subprocess.Popen([os.path.join(part.root, "package"), "stopped"], preexec_fn=usual, **how)
+        how = {"cwd": part.folder, "env": environment(part, slow, SLOW=begun), "preexec_fn": usual}
+        pipes = {"stdout": subprocess.PIPE, "stderr": subprocess.PIPE}
+        child = subprocess.Popen([os.path.join(part.root, "package"), "stopped"], **how, **pipes)
         for _ in range(400):
             time.sleep(0.05)
             if os.path.exists(begun):
@@ -171,7 +174,8 @@ def check_signals(part):
         child.send_signal(getattr(signal, f"SIG{name}"))
         out, err = child.communicate(timeout=60)
         left = os.listdir(part.path("work")) + os.listdir(part.path("stopped"))
-        part.expect(f"{name} while it works", (child.returncode, out, left) == (wanted, b"", []), str(child.returncode), str(err), *left)
+        fine = (child.returncode, out, left) == (wanted, b"", [])
+        part.expect(f"{name} while it works", fine, str(child.returncode), str(err), *left)
 
 
 def works(part):
