@@ -10,8 +10,9 @@ import signal
 import subprocess
 import time
 
-from parts.fake_kit import RT, await_file, begin_of, builds_of, end_of, environment, has_ended, has_old, left_of
-from parts.fake_kit import log_of, make_clone, program_of, put_old, run, runs, start, start_waiting, top_of, wait_for
+from parts.fake_kit import RT, await_file, await_waiters, begin_of, builds_of, end_of, environment, has_ended
+from parts.fake_kit import has_old, left_of, log_of, make_clone, program_of, put_old, run, runs, start, start_waiting
+from parts.fake_kit import top_of, wait_for
 
 
 def not_on_a_terminal(part):
@@ -261,8 +262,7 @@ def two_at_once(part):
         os.remove(program_of(script))
         child, below = start_waiting(part, script, f"first-{name}")
         other, third = start(part, script, ["--version"], how="quick"), start(part, script, ["--version"])
-        time.sleep(1.5)
-        part.expect(f"{name}: two wait", other.poll() is None and third.poll() is None and runs(below))
+        part.expect(f"{name}: two wait", await_waiters(script, 2) and runs(below))
         third.terminate()
         got = end_of(third)
         part.expect(f"{name}: one that waits is ended", got == (143, b"", WAITS) and runs(below), *map(str, got))

@@ -122,6 +122,17 @@ def await_file(path):
     return ""
 
 
+def await_waiters(script, count):
+    """Waits until so many processes wait for the script's lock, and returns whether they do."""
+    lock = f":{os.stat(os.path.dirname(log_of(script))).st_ino} "
+    for _ in range(600):
+        with open("/proc/locks", encoding="ascii") as file:
+            if sum("-> FLOCK" in line and lock in line for line in file) >= count:
+                return True
+        time.sleep(0.05)
+    return False
+
+
 def wait_for(child):
     """Waits until a script has ended, whoever has its pipes."""
     try:
