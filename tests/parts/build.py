@@ -1,6 +1,6 @@
-"""./tlvdump: that it builds the program if that is missing or old, and what it prints meanwhile.
+"""./tlvdump: that it builds the program if that is missing or old, what it prints meanwhile, and what ends a build.
 
-In the place of the kit's rt is a script that writes the lines of a build, slowly, and then puts the program of the tests.
+In the place of the kit's rt is a script that takes little time: parts/fake_kit.py.
 """
 import os
 import pty
@@ -10,71 +10,9 @@ import signal
 import subprocess
 import time
 
-from parts.install import clone
-
-# Lines as rt writes them: of the sources, of two crates in turn, and of the program's run.
-RT = r"""#!/bin/sh
-[ "$1" = run ] || exit 2
-if [ -n "${RT_FAILS-}" ]; then
-    printf 'one\ntwo\nfn tlv_low::f: not proved\nrt: the library tlv_low did not build\n' >&2
-    exit 1
-fi
-[ -z "${RT_WAITS-}" ] || exec sleep 60
-echo 'only=0 proved=0' >&2
-sleep 1.5
-for name in tlv_low tlvdump; do
-    echo "rt: chose --jobs 4 for $name" >&2
-    kept=../$name/out/incremental/kit
-    mkdir -p "$kept"
-    sleep 1.5
-    : >"$kept/Rattle-$name-proofs.a.Proof.oantt"
-    : >"$kept/Rattle-$name-proofs.b.Proof.oantt"
-    sleep 1.5
-    echo "fn $name::a: proved" >&2
-    echo "logic=proved functions=3 sum=00 native=nat,char,string" >&2
-done
-sleep 1.5
-cp "$RT_PROGRAM" out/tlvdump
-echo 'rt: running out/tlvdump; to give it other input, run that file yourself' >&2
-"""
-
-LOW = """#[derive(Clone, Copy, Debug)]
-pub fn one(f: u8) -> u8 {
-    // no fn here
-}
-"""
-
-
-def make_clone(part, name):
-    """A clone without the program, of two crates: the program uses tlv_low, and another crate is not used."""
-    script = os.path.join(os.path.dirname(clone(part, name, False)), "tlvdump")
-    part.write(f"{name}/crates.txt", b"tlvdump: tlv_low clap\ntlv_low: hex # a comment\ntlv_tests: tlv_low\n")
-    os.makedirs(part.path(f"{name}/crates/tlv_low/src"))
-    part.write(f"{name}/crates/tlv_low/src/lib.rt", LOW.encode())
-    return script
-
-
-def environment(part, **more):
-    return dict(os.environ, PATH=f"{part.path('kit')}:{os.environ['PATH']}", RT_PROGRAM=part.program, **more)
-
-
-def run(part, script, words, given=b"", **more):
-    how = {"env": environment(part, **more), "capture_output": True, "timeout": 60}
-    got = subprocess.run([script, *words], cwd=part.folder, input=given, **how)
-    return got.returncode, got.stdout, got.stderr.decode()
-
-
-def log_of(script):
-    return os.path.join(os.path.dirname(script), "crates", "tlvdump", "out", "build.log")
-
-
-def left_of(script):
-    """The names of what a build left beside the program and its log."""
-    return sorted(set(os.listdir(os.path.dirname(log_of(script)))) - {"tlvdump", "build.log", "incremental"})
-
-
-def begin_of(script):
-    return f"tlvdump: building; the first time this takes 10 to 30 minutes, since each crate is proved ({log_of(script)})\n"
+from parts.fake_kit import RT, await_file, await_waiters, begin_of, builds_of, end_of, environment, has_ended
+from parts.fake_kit import has_old, left_of, log_of, make_clone, program_of, put_old, run, runs, start, start_waiting
+from parts.fake_kit import top_of, wait_for
 
 
 def not_on_a_terminal(part):
@@ -93,12 +31,6 @@ def not_on_a_terminal(part):
     part.expect("what a build leaves", left_of(script) == [], *left_of(script))
     got = run(part, script, ["dump"], octets)
     part.expect("a program that is there", got == (wanted.status, wanted.out, wanted.err.decode()), *map(str, got))
-    # A source that is newer than the program.
-    later = time.time() + 60
-    os.utime(os.path.join(os.path.dirname(script), "crates", "tlv_low", "src", "lib.rt"), (later, later))
-    status, out, err = run(part, script, ["dump"], octets, RT_FAILS="yes")
-    part.expect("an old program is not run", (status, out) == (70, b""), str(status), err)
-    part.expect("an old program is removed", not os.path.exists(os.path.join(os.path.dirname(log_of(script)), "tlvdump")))
 
 
 def on_a_terminal(part):
@@ -141,12 +73,76 @@ def on_a_terminal(part):
     part.expect("no state is wider than a line", max(map(len, lines[1].split("\r"))) <= 78)
 
 
+def words_and_links(part):
+    """The words come to the program as they are, after a build too. The script may be called by a link or the PATH."""
+    script = make_clone(part, "a clone")
+    octets = b"\x05\x00"
+    part.write("two  blanks", octets)
+    wanted = part.run(["dump", "two  blanks"])
+    for what in ("built", "there"):
+        status, out, err = run(part, script, ["dump", "two  blanks"], how="quick")
+        part.expect(f"a word with blanks, {what}", (status, out) == (0, wanted.out), str(status), err)
+    for words in (["dump", ""], ["dump", "*"], ["dump", "two", "blanks"], ["dump", "--", "-x"], []):
+        wanted = part.run(words, program=program_of(script))
+        got = run(part, script, words)
+        part.expect(f"the words {words}", got == (wanted.status, wanted.out, wanted.err.decode()), *map(str, got))
+    os.makedirs(part.path("links/bin"))
+    os.symlink("../../a clone/tlvdump", part.path("links/bin/tlvdump"))
+    os.symlink(part.path("links/bin/tlvdump"), part.path("links/other"))
+    wanted = part.run(["--version"])
+    env = environment(part, "quick")
+    path = {"env": dict(env, PATH=f"{part.path('links/bin')}:{env['PATH']}")}
+    for called, how in (("links/bin/tlvdump", {}), (part.path("links/other"), {}), ("tlvdump", path)):
+        for program in ("there", "built"):
+            if program == "built":
+                os.remove(program_of(script))
+            status, out, err = run(part, called, ["--version"], how="quick", **how)
+            fine = (status, out) == (0, wanted.out) and err.startswith(begin_of(script)) == (program == "built")
+            part.expect(f"called {called}, {program}", fine, str(status), err)
+            run(part, script, ["--version"], how="quick")
+
+
+def changes(part):
+    """Any change of what the program is made of builds it anew, once; a change during a build does so too."""
+    script = make_clone(part, "changes")
+    run(part, script, ["--version"], how="quick")
+    sources = ["crates.txt", "crates/tlv_low/src/lib.rt"]
+    for name in ("specs/Low.antt", "specs/Private/Low.antt", "proofs/low/Low.antt"):
+        sources.append(f"crates/tlv_low/{name}")
+        os.makedirs(os.path.dirname(part.path(f"changes/{sources[-1]}")), exist_ok=True)
+        part.write(f"changes/{sources[-1]}", b"")
+    wanted = part.run(["--version"])
+    for source in sources:
+        then = time.time() - 100
+        for folder, _, names in os.walk(part.path("changes")):
+            for path in (folder, *(os.path.join(folder, name) for name in names)):
+                os.utime(path, (then, then))
+        os.utime(program_of(script), (then + 10, then + 10))
+        got = run(part, script, ["--version"])
+        part.expect(f"no change of {source}", got == (0, wanted.out, ""), *map(str, got))
+        os.utime(part.path(f"changes/{source}"), (then + 20, then + 20))
+        status, out, err = run(part, script, ["--version"], how="same")
+        fine = (status, out) == (0, wanted.out) and err.startswith(begin_of(script))
+        part.expect(f"a change of {source}", fine, str(status), err)
+        got = run(part, script, ["--version"])
+        part.expect(f"no build after that of {source}", got == (0, wanted.out, ""), *map(str, got))
+    os.remove(program_of(script))
+    status, _, err = run(part, script, ["--version"], how="edits")
+    part.expect("an edit during a build", status == 0 and err.startswith(begin_of(script)), str(status), err)
+    status, _, err = run(part, script, ["--version"], how="quick")
+    part.expect("a build after that edit", status == 0 and err.startswith(begin_of(script)), str(status), err)
+
+
 def failing(part):
-    """Status 70, with the end of the log, or if there is no rt; an interrupt ends all."""
+    """Status 70, with the end of the log, or if there is no rt. An old program is not run, and stays."""
     script = make_clone(part, "failing")
-    got = run(part, script, ["dump"], RT_FAILS="yes")
     end = "two\nfn tlv_low::f: not proved\nrt: the library tlv_low did not build\ntlvdump: not built\n"
-    part.expect("a build that fails", got == (70, b"", begin_of(script) + end), *map(str, got))
+    for program in ("none", "old"):
+        got = run(part, script, ["dump"], how="fails")
+        part.expect(f"a build that fails, program: {program}", got == (70, b"", begin_of(script) + end), *map(str, got))
+        part.expect("what a failed build leaves", left_of(script) == [], *left_of(script))
+        part.expect(f"the program after a build that fails: {program}", program == "none" or has_old(script))
+        put_old(script)
     # A machine without the kit: a PATH with the script's tools alone.
     tools = part.path("tools")
     os.mkdir(tools)
@@ -155,14 +151,133 @@ def failing(part):
     got = subprocess.run([script], env={"PATH": tools}, capture_output=True, text=True, timeout=60)
     message = "tlvdump: not built: rt, the command of the Rattle kit, is not on the PATH\n"
     part.expect("no kit", (got.returncode, got.stdout, got.stderr) == (70, "", message), str(got))
-    how = {"env": environment(part, RT_WAITS="yes"), "stdout": subprocess.PIPE, "stderr": subprocess.PIPE}
-    usual = lambda: signal.signal(signal.SIGINT, signal.SIG_DFL)
-    child = subprocess.Popen([script], stdin=subprocess.DEVNULL, start_new_session=True, preexec_fn=usual, **how)
-    time.sleep(1.5)
-    os.killpg(child.pid, signal.SIGINT)
-    out, err = child.communicate(timeout=30)
-    fine = (child.returncode, out) == (130, b"") and left_of(script) == []
-    part.expect("an interrupt", fine, str(child.returncode), str(err), *left_of(script))
+    part.expect("the program of a machine without the kit", has_old(script))
+
+
+def read_only(part, script):
+    """Runs the script in a tree that cannot be written, or returns nothing if this machine has no way to make one."""
+    folder = os.path.dirname(log_of(script))
+    if os.geteuid():
+        os.chmod(folder, 0o555)
+        got = run(part, script, ["--version"], how="quick")
+        os.chmod(folder, 0o755)
+        return got
+    if subprocess.run(["unshare", "-m", "true"], capture_output=True).returncode:
+        return None
+    mounts = 'mount --bind "$0" "$0" && mount -o remount,bind,ro "$0" && exec "$@"'
+    words = ["-m", "sh", "-c", mounts, top_of(script), script, "--version"]
+    return run(part, shutil.which("unshare"), words, how="quick")
+
+
+def not_writable(part):
+    """Status 70 too if the tree cannot be written. A folder or a file in the way stops root too."""
+    script = make_clone(part, "not-writable")
+    put_old(script)
+    for log in ("no log", "a log"):
+        got = read_only(part, script)
+        if got is None:
+            part.note("root, and no unshare: a tree that cannot be written is not tried")
+            break
+        fine = got[:2] == (70, b"") and got[2].endswith("\ntlvdump: not built\n") and has_old(script)
+        part.expect(f"a tree that cannot be written, {log}", fine, *map(str, got))
+        part.write("not-writable/crates/tlvdump/out/build.log", b"")
+    os.remove(log_of(script))
+    os.mkdir(log_of(script))
+    status, out, err = run(part, script, ["--version"], how="quick")
+    fine = (status, out) == (70, b"") and err.endswith("\ntlvdump: not built\n")
+    part.expect("a log that cannot be written", fine, str(status), err)
+    part.expect("the program then", has_old(script))
+    shutil.rmtree(os.path.dirname(log_of(script)))
+    part.write("not-writable/crates/tlvdump/out", b"")
+    status, out, err = run(part, script, ["--version"], how="quick")
+    fine = (status, out) == (70, b"") and err.endswith("\ntlvdump: not built\n")
+    part.expect("no folder for the log", fine, str(status), err)
+
+
+def signals(part):
+    """A signal to the script alone ends all that a build has started, and leaves nothing but the old program."""
+    script = make_clone(part, "signals")
+    put_old(script)
+    for name, status in (("INT", 130), ("TERM", 143), ("HUP", 129), ("PIPE", 141), ("QUIT", 131)):
+        child, below = start_waiting(part, script, f"child-{name}")
+        part.expect(f"{name}: the old program stays in a build", below and runs(below) and has_old(script))
+        child.send_signal(getattr(signal, f"SIG{name}"))
+        begun = time.time()
+        wait_for(child)
+        left = left_of(script)
+        got = end_of(child)
+        fine = got[:2] == (status, b"") and time.time() - begun < 20
+        part.expect(f"{name} in a build", fine, *map(str, got), f"{time.time() - begun:.1f} s")
+        part.expect(f"{name}: nothing goes on", has_ended(below))
+        part.expect(f"{name}: what is left", left == [] and has_old(script), *left)
+    wanted = part.run(["--version"])
+    status, out, err = run(part, script, ["--version"], how="quick")
+    part.expect("a build after signals", (status, out) == (0, wanted.out), str(status), err)
+
+
+def killed(part):
+    """A script that is killed leaves no lock, and what else it leaves is gone soon, or with the next build."""
+    script = make_clone(part, "killed")
+    put_old(script)
+    child, below = start_waiting(part, script, "child-KILL")
+    child.kill()
+    # Its parent has not heard of it yet.
+    os.waitid(os.P_PID, child.pid, os.WEXITED | os.WNOWAIT)
+    if part.has("flock"):
+        free = subprocess.run(["flock", "-n", os.path.dirname(log_of(script)), "true"]).returncode == 0
+        part.expect("KILL: no lock", free)
+    for _ in range(100):
+        if not left_of(script):
+            break
+        time.sleep(0.05)
+    part.expect("KILL: what is left", left_of(script) == [] and has_old(script), *left_of(script))
+    got = end_of(child)
+    part.expect("KILL in a build", got[:2] == (-signal.SIGKILL, b""), *map(str, got))
+    if runs(below):
+        os.kill(below, signal.SIGKILL)
+    part.write("killed/crates/tlvdump/out/building.1", b"")
+    wanted = part.run(["--version"])
+    status, out, err = run(part, script, ["--version"], how="quick")
+    part.expect("a build after KILL", (status, out) == (0, wanted.out), str(status), err)
+    part.expect("what is left then", left_of(script) == [], *left_of(script))
+
+
+WAITS = "tlvdump: another run builds the program; this one waits for it\n"
+
+
+def two_at_once(part):
+    """The second waits for the first, and builds nothing; it builds if the first is gone without a program."""
+    if not part.has("flock"):
+        return
+    script = make_clone(part, "two")
+    wanted = part.run(["--version"])
+    children = [start(part, script, ["--version"])]
+    await_file(os.path.join(top_of(script), "builds"))
+    children.append(start(part, script, ["--version"]))
+    first, second = map(end_of, children)
+    part.expect("the first of two", first[:2] == (0, wanted.out) and WAITS not in first[2], *map(str, first))
+    part.expect("the second of two", second == (0, wanted.out, WAITS), *map(str, second))
+    part.expect("one build of two", builds_of(script) == 1, str(builds_of(script)))
+    for name, ends in (("TERM", 143), ("KILL", -signal.SIGKILL)):
+        os.remove(program_of(script))
+        child, below = start_waiting(part, script, f"first-{name}")
+        other, third = start(part, script, ["--version"], how="quick"), start(part, script, ["--version"])
+        part.expect(f"{name}: two wait", await_waiters(script, 2) and runs(below))
+        third.terminate()
+        got = end_of(third)
+        part.expect(f"{name}: one that waits is ended", got == (143, b"", WAITS) and runs(below), *map(str, got))
+        child.send_signal(getattr(signal, f"SIG{name}"))
+        status, out, err = end_of(other)
+        fine = (status, out) == (0, wanted.out) and err.startswith(WAITS + begin_of(script))
+        part.expect(f"{name}: the second builds", fine, str(status), err)
+        got = end_of(child)
+        part.expect(f"{name}: the first", got[:2] == (ends, b""), *map(str, got))
+        if runs(below):
+            os.kill(below, signal.SIGKILL)
+        time.sleep(1.5)
+        part.expect(f"{name}: what is left", left_of(script) == [], *left_of(script))
+        got = run(part, script, ["--version"])
+        part.expect(f"{name}: the next run", got == (0, wanted.out, ""), *map(str, got))
 
 
 def test(part):
@@ -170,4 +285,10 @@ def test(part):
     os.chmod(part.write("kit/rt", RT.encode()), 0o755)
     not_on_a_terminal(part)
     on_a_terminal(part)
+    words_and_links(part)
+    changes(part)
     failing(part)
+    not_writable(part)
+    signals(part)
+    killed(part)
+    two_at_once(part)

@@ -54,6 +54,61 @@ def check_table(part):
             part.expect(f"{code} under {rules}", there == (rules in sets.split(", ")), got)
 
 
+# What breaks a rule of X.690, 8 to 11, that is not looked for: a word of its line in the table, octets, and the rules by
+# which nothing else is found.
+UNSEEN = [
+    ("default values", "30 03 01 01 00", "ber der"),
+    ("not universal", "81 02 00 7f", "ber der cer"),
+    ("order of a SET", "31 06 04 01 00 02 01 00", "ber der"),
+    ("order of a SET", "31 80 04 01 00 02 01 00 00 00", "ber cer"),
+    ("order of a SET OF", "31 06 02 01 02 02 01 01", "ber der"),
+    ("order of a SET OF", "31 80 02 01 02 02 01 01 00 00", "ber cer"),
+    ("REAL", "09 01 44", "ber der cer"),
+    ("REAL", "09 03 80 00 02", "ber der cer"),
+    ("OID-IRI", "1f 23 01 ff", "ber der cer"),
+    ("OID-IRI", "3f 23 00", "ber der"),
+    ("RELATIVE-OID-IRI", "1f 24 00", "ber der cer"),
+    ("TIME", "0e 01 ff", "ber der cer"),
+    ("DATE", "1f 1f 01 ff", "ber der cer"),
+    ("TIME-OF-DAY", "1f 20 01 ff", "ber der cer"),
+    ("DATE-TIME", "1f 21 01 ff", "ber der cer"),
+    ("DURATION", "1f 22 01 ff", "ber der cer"),
+    ("EXTERNAL", "28 00", "ber der"),
+    ("EMBEDDED PDV", "2b 00", "ber der"),
+    ("CHARACTER STRING", "3d 00", "ber der"),
+    ("RELATIVE-OID without", "0d 00", "ber der cer"),
+    ("escape sequences", "1b 02 1b 1b", "ber der cer"),
+    ("characters of a constructed", "33 03 04 01 2a", "ber"),
+    ("time that is one", "37 03 04 01 2a", "ber"),
+    ("unused bits inside", "23 0a 23 04 03 02 01 00 03 02 00 ff", "ber"),
+]
+# Where a user looks for it, and what has to be named there.
+NAMED = ("default values", "SET and SET OF", "REAL", "EXTERNAL", "EMBEDDED PDV", "CHARACTER STRING")
+NAMED += ("OID-IRI", "RELATIVE-OID-IRI", "TIME")
+PLACES = {"README.md": r"\n\n", "tests/help/check.txt": r"\n\n", "man/tlvdump.1": r"\nThe codes"}
+
+
+def check_unseen(part):
+    """What the pages say is not looked for: nothing is found of it, and each page names it."""
+    with open(os.path.join(part.root, "docs", "FINDINGS.md"), encoding="utf-8") as file:
+        lines = file.read().split("## What is not looked for\n")[-1].splitlines()
+    table = [line.strip("| ").split(" | ") for line in lines if line.startswith("| ")][1:]
+    for what, octets, sets in UNSEEN:
+        part.expect(f"the line of {what}", any(what in row[0] for row in table))
+        for rules in sets.split():
+            part.gives(["check", "--rules", rules], bytes.fromhex(octets), 0)
+    unseen = [row[0] for row in table if not any(what in row[0] for what, *_ in UNSEEN)]
+    part.expect("each line has its octets", table and not unseen, *unseen)
+    fine = all(re.match(r"(8|9|1[01])\.\d", row[1]) and row[2].endswith(".") for row in table)
+    part.expect("each line has a clause of 8 to 11 and a reason", fine)
+    for place, end in PLACES.items():
+        with open(os.path.join(part.root, place), encoding="utf-8") as file:
+            found = re.search(rf"Not looked\s+for\b(.*?){end}", file.read(), re.S)
+        text = " ".join(found[1].split()) if found else ""
+        missing = [name for name in NAMED if not re.search(rf"(?<![\w-]){re.escape(name)}(?![\w-])", text)]
+        part.expect(f"{place} says what is not looked for", not missing, *missing)
+
+
 def devices(part):
     with open("/dev/full", "wb") as full:
         part.gives(["check", "--rules", "cer"], STRING, 3, err="E2 write failed", stdout=full)
@@ -68,4 +123,5 @@ def test(part):
     segments(part)
     levels(part)
     check_table(part)
+    check_unseen(part)
     devices(part)

@@ -1,9 +1,14 @@
-"""install: what it puts where, what it takes away; the completions for bash and zsh."""
+"""install: what it puts where, what it takes away; the completions that it puts."""
+import glob
 import os
-import re
+import resource
 import shutil
+import signal
 import stat
 import subprocess
+import time
+
+from parts.completions import bash, words_of, zsh
 
 PLACES = {
     "bin/tlvdump": None,
@@ -18,11 +23,12 @@ PLACES = {
 }
 
 
-def install(part, *words):
-    """Runs the script with the program of the tests, and returns its status, its output and its errors."""
-    env = dict(os.environ, TLVDUMP=part.program)
+def install(part, *words, program=None, **how):
+    """Runs the script with the program of the tests, or another, and returns its status, its output and its errors."""
+    env = dict(os.environ, TLVDUMP=program or part.program)
     script = os.path.join(part.root, "install")
-    got = subprocess.run([script, *words], cwd=part.folder, env=env, capture_output=True, text=True, timeout=60)
+    how = {"cwd": part.folder, "env": env, "capture_output": True, "text": True, "timeout": 60, **how}
+    got = subprocess.run([script, *words], **how)
     return got.returncode, got.stdout, got.stderr
 
 
@@ -33,6 +39,12 @@ def content(path):
 
 def files_below(folder):
     found = [os.path.join(path, name) for path, _, names in os.walk(folder) for name in names]
+    return sorted(os.path.relpath(path, folder) for path in found)
+
+
+def all_below(folder):
+    """The files and the folders."""
+    found = [os.path.join(path, name) for path, folders, names in os.walk(folder) for name in [*folders, *names]]
     return sorted(os.path.relpath(path, folder) for path in found)
 
 
@@ -70,13 +82,149 @@ def check_install(part):
     got = install(part, "--remove", "there")
     printed = "".join(f"removed there/{place}\n" for place in PLACES)
     part.expect("remove", got == (0, printed, ""), *map(str, got))
-    part.expect("what it did not put stays", files_below(part.path("there")) == ["share/tlvdump/mine.txt"])
+    stays = ["share", "share/tlvdump", "share/tlvdump/mine.txt"]
+    part.expect("what it did not put stays", all_below(part.path("there")) == stays, *all_below(part.path("there")))
     got = install(part, "--remove", "there")
     part.expect("remove, again", got == (0, "", ""), *map(str, got))
     part.expect("install, a space", install(part, "a place")[0] == 0)
     places(part, "a place")
     install(part, "--remove", part.path("a place"))
-    part.expect("no folder of its own stays", not os.path.exists(part.path("a place/share/tlvdump")))
+    part.expect("no folder stays but PREFIX", all_below(part.path("a place")) == [], *all_below(part.path("a place")))
+    part.expect("PREFIX stays", os.path.isdir(part.path("a place")))
+
+
+def check_folders(part):
+    """Folders of others stay, and links to folders; those of a system stay, also if they are empty."""
+    for folder in ("shared/bin", "shared/share/zsh/mine", "elsewhere/man1", "shared/lib"):
+        os.makedirs(part.path(folder))
+    part.write("shared/bin/other", b"")
+    os.symlink("../../elsewhere", part.path("shared/share/man"))
+    part.expect("install among others", install(part, "shared")[0] == 0)
+    part.expect("a folder by a link", "elsewhere/man1/tlvdump.1" in files_below(part.folder))
+    got = install(part, "--remove", "shared")
+    part.expect("remove among others", got[0] == 0 and not got[2], *map(str, got))
+    stays = ["bin", "bin/other", "lib", "share", "share/man", "share/zsh", "share/zsh/mine"]
+    part.expect("what others have stays", all_below(part.path("shared")) == stays, *all_below(part.path("shared")))
+    # Standing in for /usr/local: a folder of that name in a system of its own, which root alone can make.
+    script = 'mount -t tmpfs none /usr/local && "$0" && "$0" --remove && cd /usr/local && find . | LC_ALL=C sort'
+    if os.geteuid() or subprocess.run(["unshare", "-m", "true"], capture_output=True).returncode:
+        part.note("no root, or no unshare: /usr/local is not tried")
+        return
+    env = dict(os.environ, TLVDUMP=shutil.copy(part.program, part.path("copy")))
+    how = {"cwd": part.folder, "env": env, "capture_output": True, "text": True, "timeout": 60}
+    got = subprocess.run(["unshare", "-m", "sh", "-c", script, os.path.join(part.root, "install")], **how)
+    left = [line for line in got.stdout.splitlines() if line.startswith(".")]
+    fine = got.returncode == 0 and left == [".", "./bin", "./share", "./share/man"]
+    part.expect("/usr/local", fine, got.stdout, got.stderr)
+
+
+def check_links(part):
+    """A link that lies in the way, at a target or where another script would write first, is not followed."""
+    os.makedirs(part.path("linked/bin"))
+    os.makedirs(part.path("linked/share/tlvdump"))
+    victim = part.write("victim", b"not to be written")
+    for name in ("bin/tlvdump", "share/tlvdump/names.txt"):
+        for ending in ("", ".new", ".tmp", "~"):
+            os.symlink(victim, part.path(f"linked/{name}{ending}"))
+    os.symlink("nowhere", part.path("linked/bin/tlvdump-show"))
+    got = install(part, "linked")
+    part.expect("install over links", got[0] == 0 and not got[2], *map(str, got))
+    fine = content(victim) == b"not to be written" and not os.path.exists(part.path("linked/bin/nowhere"))
+    part.expect("what a link leads to", fine)
+    for name in ("bin/tlvdump", "bin/tlvdump-show", "share/tlvdump/names.txt"):
+        mode = os.lstat(part.path(f"linked/{name}")).st_mode
+        part.expect(f"a file in place of the link {name}", stat.S_ISREG(mode), oct(mode))
+    nothing_left(part, "links", "linked")
+    for name in ("bin/tlvdump", "bin/tlvdump-show"):
+        os.remove(part.path(f"linked/{name}"))
+        os.symlink("victim" if name == "bin/tlvdump" else "nowhere", part.path(f"linked/{name}"))
+    got = install(part, "--remove", "linked")
+    there = [name for name in ("tlvdump", "tlvdump-show") if os.path.lexists(part.path(f"linked/bin/{name}"))]
+    fine = got[0] == 0 and not there and content(victim) == b"not to be written"
+    part.expect("remove of links", fine, *map(str, got), *there)
+
+
+def limit_files():
+    """No file may have more than 64 kilobytes; a write of more fails."""
+    signal.signal(signal.SIGXFSZ, signal.SIG_IGN)
+    resource.setrlimit(resource.RLIMIT_FSIZE, (65536, 65536))
+
+
+def nothing_left(part, what, prefix):
+    """Counts one test: that the script left none of its temporary folders below this prefix."""
+    left = [path for path in all_below(part.path(prefix)) if os.path.basename(path).startswith(".")]
+    part.expect(f"{what}: nothing is left", not left, *left)
+
+
+def check_failures(part):
+    """Status 1 if a file cannot be put or removed, also for root; the others are put, and nothing else is left."""
+    others = [place for place in PLACES if place != "bin/tlvdump"]
+    printed = "".join(f"in-the-way/{place}\n" for place in others)
+    os.makedirs(part.path("in-the-way/bin/tlvdump"))
+    status, out, err = install(part, "in-the-way")
+    part.expect("a folder in the way", (status, out) == (1, printed) and err, str(status), out, err)
+    found = files_below(part.path("in-the-way"))
+    part.expect("what is put beside it", found == sorted(others), *found)
+    nothing_left(part, "a folder in the way", "in-the-way")
+    status, out, err = install(part, "--remove", "in-the-way")
+    printed = "".join(f"removed in-the-way/{place}\n" for place in others)
+    part.expect("remove, a folder in the way", (status, out) == (1, printed) and err, str(status), out, err)
+    part.expect("the folder stays", all_below(part.path("in-the-way")) == ["bin", "bin/tlvdump"])
+    os.makedirs(part.path("no-folder/share"))
+    part.write("no-folder/share/man", b"")
+    status, out, err = install(part, "no-folder")
+    part.expect("a file in place of a folder", status == 1 and out.count("\n") == 6 and err, str(status), out, err)
+    # What goes wrong while the program is written: the one that is there stays.
+    part.expect("install before that", install(part, "full")[0] == 0)
+    for what, how in (
+        ("no room", {"preexec_fn": limit_files}),
+        ("no program", {"program": part.path("missing")}),
+        ("a folder for a program", {"program": part.folder}),
+    ):
+        status, out, err = install(part, "full", **how)
+        part.expect(f"{what}: status 1", status == 1 and "full/bin/tlvdump\n" not in out and err, str(status), out, err)
+        places(part, "full")
+        nothing_left(part, what, "full")
+    for words in (["/proc/tlvdump"], ["/dev/null"]):
+        status, out, err = install(part, *words)
+        part.expect(f"PREFIX {words[0]}", (status, out) == (1, "") and err, str(status), out, err)
+
+
+def check_running(part):
+    """The program is put while it runs: it goes on, and the new one is another file."""
+    path = part.path("there/bin/tlvdump")
+    install(part, "there")
+    child = part.start(["dump"], program=path, stdin=subprocess.PIPE, stdout=subprocess.PIPE)
+    child.stdin.write(b"\x05\x00")
+    child.stdin.flush()
+    first = child.stdout.readline()
+    got = install(part, "there")
+    part.expect("install while it runs", got[0] == 0 and not got[2], *map(str, got))
+    out, _ = child.communicate(b"\x05\x00", timeout=60)
+    fine = (child.returncode, first, out) == (0, b"       0      0: NULL\n", b"       2      0: NULL\n")
+    part.expect("the one that ran", fine, str(child.returncode), str(first), str(out))
+    part.expect("the new one", part.run(["--version"], program=path) == part.run(["--version"]))
+
+
+def check_signals(part):
+    """A signal while a file is written: nothing is left of it. The program is read from a pipe that gives nothing."""
+    os.mkfifo(part.path("slow"))
+    env = dict(os.environ, TLVDUMP=part.path("slow"))
+    for name, wanted in (("TERM", 143), ("INT", 130), ("HUP", 129)):
+        usual = lambda: [signal.signal(it, signal.SIG_DFL) for it in (signal.SIGHUP, signal.SIGINT, signal.SIGTERM)]
+        how = {"cwd": part.folder, "env": env, "start_new_session": True, "preexec_fn": usual}
+        pipes = {"stdout": subprocess.PIPE, "stderr": subprocess.PIPE}
+        child = subprocess.Popen([os.path.join(part.root, "install"), "stopped"], **how, **pipes)
+        for _ in range(200):
+            time.sleep(0.05)
+            if glob.glob(part.path("stopped/bin/.*")):
+                break
+        time.sleep(0.3)
+        os.killpg(child.pid, getattr(signal, f"SIG{name}"))
+        out, err = child.communicate(timeout=60)
+        left = all_below(part.path("stopped"))
+        fine = (child.returncode, out, left) == (wanted, b"", ["bin"])
+        part.expect(f"{name} while a file is written", fine, str(child.returncode), str(out), str(err), *left)
 
 
 def check_umask(part):
@@ -112,7 +260,11 @@ def builds(part):
     os.chmod(part.path("rt"), 0o755)
     env = {"PATH": f"{part.folder}:{os.environ['PATH']}"}
     how = {"cwd": part.folder, "env": env, "capture_output": True, "text": True, "timeout": 60}
-    got = subprocess.run([clone(part, "built", True), "from-clone"], **how)
+    script = clone(part, "built", True)
+    # Others cannot read the files of this clone, but those that it puts.
+    for path in files_below(part.path("built")):
+        os.chmod(part.path(f"built/{path}"), 0o700 if os.access(part.path(f"built/{path}"), os.X_OK) else 0o600)
+    got = subprocess.run([script, "from-clone"], **how)
     part.expect("the program of a clone", got.returncode == 0 and got.stderr == "", got.stderr)
     places(part, "from-clone")
     got = subprocess.run([clone(part, "unbuilt", False), "nowhere"], **how)
@@ -131,88 +283,14 @@ def check_refusals(part):
     part.expect("a file for PREFIX", (status, out) == (1, "") and err)
 
 
-def words_of(part):
-    """The commands, and the options of each, by the program's own help."""
-    top = part.run(["--help"]).out.decode()
-    commands = re.findall(r"^  (\w+)  ", top.split("Commands:")[1].split("Options:")[0], re.M)
-    options = {}
-    for name in commands:
-        options[name] = set(re.findall(r"^ +(--[a-z]+)", part.run([name, "--help"]).out.decode(), re.M))
-    return options
-
-
-def script_options(part, name):
-    """The options of a script, by its help."""
-    got = subprocess.run([os.path.join(part.root, name), "--help"], capture_output=True, text=True)
-    options = set(re.findall(r"--[a-z]+", got.stdout)) - {"--inside"} | {"--help"}
-    if name == "tlvdump-show":
-        options |= words_of(part)["dump"]
-    return options
-
-
-def bash(part, options):
-    if not part.has("bash"):
-        return
-
-    def completed_by(name, *words):
-        function = "_tlvdump" if name == "tlvdump" else "_tlvdump_script"
-        script = f'source "$1"; shift; COMP_WORDS=("$@"); COMP_CWORD=$(($# - 1)); {function}; printf "%s\\n" "${{COMPREPLY[@]}}"'
-        path = os.path.join(part.root, "completions", "tlvdump.bash")
-        got = subprocess.run(["bash", "-c", script, "bash", path, name, *words], cwd=part.folder, capture_output=True, text=True)
-        return set(got.stdout.split())
-
-    def completions(*words):
-        return completed_by("tlvdump", *words)
-
-    part.expect("bash: commands", completions("") == {*options, "--help", "--version"}, str(completions("")))
-    part.expect("bash: d", completions("d") == {"dump"})
-    for name, wanted in options.items():
-        part.expect(f"bash: options of {name}", completions(name, "--") == wanted, str(completions(name, "--")))
-        part.expect(f"bash: FILE of {name}", completions(name, "str") == {"string"})
-    part.expect("bash: --names", completions("dump", "--names", "str") == {"string"})
-    part.expect("bash: --limit", completions("dump", "--limit", "") == set())
-    rules = {"ber", "der", "cer"}
-    part.expect("bash: --rules", completions("dump", "--rules", "") == rules)
-    # Bash splits words at "=", unless it is set otherwise.
-    part.expect("bash: --rules=", completions("dump", "--rules", "=") == rules)
-    part.expect("bash: --rules=d", completions("dump", "--rules", "=", "d") == {"der"})
-    part.expect("bash: --rules=d, one word", completions("dump", "--rules=d") == {"--rules=der"})
-    part.expect("bash: --rules=, one word", completions("dump", "--rules=") == {f"--rules={it}" for it in rules})
-    part.expect("bash: --names=", completions("dump", "--names", "=", "str") == {"string"})
-    part.expect("bash: --limit=", completions("dump", "--limit", "=") == set())
-    for name in ("tlvdump-inside", "tlvdump-show"):
-        printed = completed_by(name, "--")
-        part.expect(f"bash: options of {name}", printed == script_options(part, name), str(printed))
-        part.expect(f"bash: FILE of {name}", completed_by(name, "str") == {"string"})
-    part.expect("bash: --as", completed_by("tlvdump-show", "--as", "") == {"ber", "pem", "base64", "hex", "dump"})
-
-
-def zsh(part, options):
-    """The function is run with commands in place of zsh's, which write what they are given."""
-    if not part.has("zsh"):
-        return
-    stubs = '_arguments() { print -rl -- "$@" }; _describe() { print -rl -- "${(P@)2}" }; _files() { }\n'
-    path = os.path.join(part.root, "completions", "_tlvdump")
-
-    def completions(service, *words):
-        call = f'service={service}; words=({service} "$@"); CURRENT=$(($# + 1)); main() {{ source "{path}" }}; main'
-        got = subprocess.run(["zsh", "-f", "-c", stubs + call, "zsh", *words], cwd=part.folder, capture_output=True, text=True)
-        return got.stdout if not got.stderr else got.stderr
-
-    commands = re.findall(r"^(\w+):", completions("tlvdump", ""), re.M)
-    part.expect("zsh: commands", set(commands) == set(options) and len(commands) == len(options), completions("tlvdump", ""))
-    for name, wanted in options.items():
-        printed = completions("tlvdump", name, "--")
-        part.expect(f"zsh: options of {name}", set(re.findall(r"--[a-z]+", printed)) == wanted and "1:file:_files" in printed, printed)
-    for name in ("tlvdump-inside", "tlvdump-show"):
-        printed = completions(name, "--")
-        fine = set(re.findall(r"--[a-z]+", printed)) == script_options(part, name) and "1:file:_files" in printed
-        part.expect(f"zsh: options of {name}", fine, printed)
-
-
 def test(part):
     check_install(part)
     check_umask(part)
+    check_folders(part)
+    check_links(part)
+    check_failures(part)
+    check_running(part)
+    check_signals(part)
     builds(part)
     check_refusals(part)
     options = words_of(part)

@@ -200,11 +200,22 @@ def pysnmp(folder):
 
 
 def go(folder):
-    """The object identifiers of zlint, Fulcio and step, which are written in Go."""
-    where = ("github.com/zmap/z*/**/*.go", "github.com/sigstore/fulcio/**/*.go", "go.step.sm/crypto/**/*.go")
-    for text in texts(folder, *(f"usr/share/gocode/src/{pattern}" for pattern in where)):
-        for name, numbers in re.findall(r"(\w+)\s*=\s*asn1\.ObjectIdentifier\{([\d, ]+)\}", text):
+    """The object identifiers of zlint, Fulcio, step, cfssl and go-sev-guest, which are written in Go."""
+    where = ("github.com/zmap/z*", "github.com/sigstore/fulcio", "go.step.sm/crypto")
+    where += ("github.com/cloudflare/cfssl", "github.com/google/go-sev-guest")
+    for text in texts(folder, *(f"usr/share/gocode/src/{place}/**/*.go" for place in where)):
+        for name, numbers in re.findall(r"(\w+)\s*=\s*asn1\.ObjectIdentifier(?:\(\[\]int)?\{([\d, ]+)\}", text):
             yield dotted_of(numbers), name
+
+
+def authorities(folder):
+    """The policies of authorities in zcrypto: a map for each kind, with the authority in a comment before its lines."""
+    kinds = {"ExtendedValidation": "EV", "OrganizationValidation": "OV", "DomainValidation": "DV"}
+    for text in texts(folder, "usr/share/gocode/src/github.com/zmap/zcrypto/x509/extensions.go"):
+        for map_name, lines in re.findall(r"^var (\w+)OIDs = map[^\n]*\{\n(.*?)^\}", text, re.M | re.S):
+            for comment, entries in re.findall(rf'((?:^\t// .*\n)+)((?:^\t"{DOTTED}": +nil,\n)+)', lines, re.M):
+                for arcs in re.findall(DOTTED, entries):
+                    yield arcs, f"{comment.splitlines()[0][4:]} {kinds[map_name]} policy"
 
 
 def capture(wanted):
@@ -234,4 +245,4 @@ def wireshark(folder, wanted=()):
 
 
 READERS = (openssl, dumpasn1, asn1crypto, pyasn1_modules, cryptography, ldap3, schemas, headers)
-READERS += (active_directory, bouncy_castle, heimdal, erlang, erlang_headers, mibs, pysnmp, go, wireshark)
+READERS += (active_directory, bouncy_castle, heimdal, erlang, erlang_headers, mibs, pysnmp, go, authorities, wireshark)

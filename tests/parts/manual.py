@@ -6,7 +6,8 @@ import shutil
 import subprocess
 
 from parts.inside import command, element, expected_list
-from parts.install import install, words_of
+from parts.completions import words_of
+from parts.install import install
 
 NULL = b"\x05\x00"
 SCRIPTS = {"tlvdump-inside": {"--option", "--padding"}, "tlvdump-show": {"--as", "--raw", "--why"}}

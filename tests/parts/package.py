@@ -1,23 +1,32 @@
 """package: what the Debian package holds, that it installs and goes away cleanly, and what lintian says of it."""
 import gzip
 import hashlib
+import math
 import os
 import re
 import shutil
+import signal
 import stat
 import subprocess
+import time
 
-from parts.install import clone, content, files_below, install
+from parts.install import all_below, clone, content, files_below, install
 
 TOOLS = ("dpkg-deb", "dpkg", "gzip", "strip", "readelf")
 DOCUMENTS = ["usr/share/doc/tlvdump/changelog.gz", "usr/share/doc/tlvdump/copyright"]
 
 
-def package(part, *words, program=None):
-    """Runs the script with the program of the tests, and returns its status, its output and its errors."""
-    env = dict(os.environ, TLVDUMP=program or part.program)
-    how = {"cwd": part.folder, "env": env, "capture_output": True, "text": True, "timeout": 120}
-    got = subprocess.run([os.path.join(part.root, "package"), *words], **how)
+def environment(part, program=None, **more):
+    """Temporary files go to a folder of their own."""
+    return dict(os.environ, TLVDUMP=program or part.program, TMPDIR=part.path("work"), **more)
+
+
+def package(part, *words, program=None, **more):
+    """Runs the script with the program of the tests, or another, and returns its status, its output and its errors."""
+    how = {"cwd": part.folder, "env": environment(part, program, **more), "timeout": 120}
+    got = subprocess.run([os.path.join(part.root, "package"), *words], capture_output=True, text=True, **how)
+    left = os.listdir(part.path("work"))
+    part.expect(f"no temporary file of package {' '.join(words)} is left", not left, *left)
     return got.returncode, got.stdout, got.stderr
 
 
@@ -69,7 +78,104 @@ def control(part, made, version):
     fields = dict(line.split(": ", 1) for line in said_by("dpkg-deb", "-f", made).splitlines() if not line.startswith(" "))
     wanted = {"Package": "tlvdump", "Version": version, "Architecture": "amd64"}
     part.expect("fields of the package", {key: fields[key] for key in wanted} == wanted, str(fields))
-    part.expect("the C library that it needs", fields["Depends"].startswith("libc6 (>= 2."), fields["Depends"])
+    depends(part, fields["Depends"], part.path("tree/usr/bin/tlvdump"))
+    # As dpkg-gencontrol has it: kilobytes of each file, rounded up, and one for each folder.
+    tree = [part.path(f"tree/{path}") for path in all_below(part.path("tree")) if path.split("/")[0] == "usr"]
+    size = sum(1 if os.path.isdir(path) else math.ceil(os.path.getsize(path) / 1024) for path in tree)
+    part.expect("Installed-Size", fields["Installed-Size"] == str(size), fields["Installed-Size"], str(size))
+
+
+def depends(part, field, program):
+    """The field names the highest version of the C library of which the program has a symbol."""
+    found = re.findall(r"\bGLIBC_([0-9.]+)\b", said_by("objdump", "-T", program))
+    highest = max(found, key=lambda version: [int(number) for number in version.split(".")])
+    fine = len(set(found)) > 1 and field == f"libc6 (>= {highest})"
+    part.expect("the C library that it needs", fine, field, *sorted(set(found)))
+    return highest
+
+
+# A program that has symbols of versions whose order as texts is another one, as 2.34 and 2.4 are.
+OTHER_PROGRAM = r"""
+#include <stdio.h>
+int main(int count, char **words) {
+    char text[64];
+    snprintf(text, sizeof text, "tlvdump %s", VERSION);
+    puts(text);
+    return 0;
+}
+"""
+
+
+def depends_of_another(part, version):
+    if not all([part.has(tool) for tool in ("cc", "objdump")]):
+        return
+    part.write("other.c", OTHER_PROGRAM.encode())
+    made = part.path("other-program")
+    said_by("cc", "-O0", "-fstack-protector-all", f'-DVERSION="{version}"', "-o", made, part.path("other.c"))
+    os.mkdir(part.path("of another"))
+    got = package(part, "of another", program=made)
+    part.expect("package of another program", got[0] == 0, *map(str, got))
+    fields = said_by("dpkg-deb", "-f", part.path(f"of another/tlvdump_{version}_amd64.deb"), "Depends")
+    highest = depends(part, fields.strip(), made)
+    part.expect("a version that is not the last as a text", highest < "2.4", highest)
+
+
+def check_links(part, name):
+    """A link in the way is not followed; a folder in the way is a failure; nothing is left of either."""
+    os.mkdir(part.path("linked"))
+    victim = part.write("victim", b"not to be written")
+    for ending in ("", ".new", ".tmp", "~"):
+        os.symlink(victim, part.path(f"linked/{name}{ending}"))
+    got = package(part, "linked")
+    part.expect("package over links", got == (0, f"linked/{name}\n", ""), *map(str, got))
+    made = part.path(f"linked/{name}")
+    part.expect("what a link leads to", content(victim) == b"not to be written")
+    part.expect("a package in place of a link", not os.path.islink(made) and content(made) == content(part.path(name)))
+    part.expect("what is left beside it", len(os.listdir(part.path("linked"))) == 4, *os.listdir(part.path("linked")))
+    part.expect("the mode of a package", stat.S_IMODE(os.stat(made).st_mode) == 0o644)
+    os.makedirs(part.path(f"taken/{name}"))
+    status, out, err = package(part, "taken")
+    fine = (status, out) == (1, "") and err and all_below(part.path("taken")) == [name]
+    part.expect("a folder in the way", fine, str(status), out, err, *all_below(part.path("taken")))
+    status, out, err = package(part, "/proc")
+    part.expect("a FOLDER that cannot be written", (status, out) == (1, "") and err, str(status), out, err)
+
+
+def without_tool(part):
+    """A machine without one of the tools: a PATH that has all others."""
+    for name in ("dpkg-deb", "gzip", "readelf", "strip"):
+        folder = part.path(f"without-{name}")
+        os.mkdir(folder)
+        for path in os.get_exec_path():
+            for tool in os.listdir(path) if os.path.isdir(path) else ():
+                if tool != name and not os.path.lexists(os.path.join(folder, tool)):
+                    os.symlink(os.path.join(path, tool), os.path.join(folder, tool))
+        os.mkdir(part.path(f"made-without-{name}"))
+        got = package(part, f"made-without-{name}", PATH=folder)
+        part.expect(f"no {name}", got == (1, "", f"package: there is no {name}\n"), *map(str, got))
+        part.expect(f"nothing without {name}", not os.listdir(part.path(f"made-without-{name}")))
+
+
+def check_signals(part):
+    """A signal while it works leaves nothing. The program takes its time to say its version."""
+    slow = part.write("slow", b'#!/bin/sh\n: >"$SLOW"\nexec sleep 1\n')
+    os.chmod(slow, 0o755)
+    os.mkdir(part.path("stopped"))
+    for name, wanted in (("TERM", 143), ("INT", 130), ("HUP", 129)):
+        begun = part.path(f"begun-{name}")
+        usual = lambda: [signal.signal(it, signal.SIG_DFL) for it in (signal.SIGHUP, signal.SIGINT, signal.SIGTERM)]
+        how = {"cwd": part.folder, "env": environment(part, slow, SLOW=begun), "preexec_fn": usual}
+        pipes = {"stdout": subprocess.PIPE, "stderr": subprocess.PIPE}
+        child = subprocess.Popen([os.path.join(part.root, "package"), "stopped"], **how, **pipes)
+        for _ in range(400):
+            time.sleep(0.05)
+            if os.path.exists(begun):
+                break
+        child.send_signal(getattr(signal, f"SIG{name}"))
+        out, err = child.communicate(timeout=60)
+        left = os.listdir(part.path("work")) + os.listdir(part.path("stopped"))
+        fine = (child.returncode, out, left) == (wanted, b"", [])
+        part.expect(f"{name} while it works", fine, str(child.returncode), str(err), *left)
 
 
 def works(part):
@@ -136,6 +242,7 @@ def test(part):
     if not all([part.has(tool) for tool in TOOLS]):
         return
     version = part.run(["--version"]).out.decode().split()[1]
+    os.mkdir(part.path("work"))
     name = f"tlvdump_{version}_amd64.deb"
     os.mkdir(part.path("a folder"))
     got = package(part, "a folder")
@@ -150,6 +257,10 @@ def test(part):
     os.umask(usual)
     part.expect("package, again", got == (0, f"./{name}\n", ""), *map(str, got))
     part.expect("the same package", content(made) == content(part.path(name)))
+    depends_of_another(part, version)
+    check_links(part, name)
+    without_tool(part)
+    check_signals(part)
     installs(part, made)
     check_with_lintian(part, made)
     check_refusals(part, version)

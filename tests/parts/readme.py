@@ -8,7 +8,8 @@ import re
 import shutil
 import subprocess
 
-from parts.install import clone, words_of
+from parts.completions import words_of
+from parts.install import clone
 
 # What is not run: the gate, of which this is a part; and what puts files into the system, which has tests of its own.
 NOT_RUN = [".ci/run", "./install", "./install", "./package"]

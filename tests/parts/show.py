@@ -7,7 +7,7 @@ import subprocess
 
 from parts.harness import Done
 from parts.inside import command, element, expected_list, string
-from parts.install import words_of
+from parts.completions import words_of
 
 NULL = b"\x05\x00"
 PLAIN = "taken for octets as they stand"

@@ -77,6 +77,12 @@ KNOWN = """
 0.4.0.1862.1.1 id-etsi-qcs-QcCompliance
 0.4.0.0.1.0.1.3 networkLocUpContext-v3
 0.0.17.773.1.1.1 dialogue-as-id
+1.0.18013.5.1.2 mDL document signer
+1.2.643.100.113.1 classSignToolKC1
+1.3.6.1.4.1.3704.1.3.8 ucodeSPL
+1.3.6.1.4.1.11129.2.5.3 Google Trust Services policy
+1.3.6.1.4.1.44363.44 id-ce-delegationUsage
+2.16.840.1.114413.1.7.23.1 Go Daddy DV policy
 """
 
 
@@ -165,6 +171,6 @@ def test(part):
     pairs = form(part, path)
     check_names(part, path, "every entry is named by the program", list(pairs.items()))
     known = pairs_of(KNOWN.split("\n"))
-    part.expect("70 well-known pairs", len(known) == 70)
+    part.expect("76 well-known pairs", len(known) == 76)
     check_names(part, path, "the well-known pairs", known)
     anchors(part, path)

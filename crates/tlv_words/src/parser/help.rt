@@ -102,7 +102,9 @@ pub(super) const CHECK: Help<'static> = Help {
     about: "List what violates the rules of BER, DER or CER",
     more: "\
 Lists what violates the rules, a finding on each line: the offset of the element, the code of
-the finding, and what is wrong. Nothing is written of an input without findings.",
+the finding, and what is wrong. Nothing is written of an input without findings. Not looked
+for: default values, the order of SET and SET OF, the contents of REAL, the parts of EXTERNAL,
+EMBEDDED PDV and CHARACTER STRING, and OID-IRI, RELATIVE-OID-IRI, TIME and the types like it.",
     after: "\
 Examples:
   tlvdump check certificate.der
