@@ -123,7 +123,12 @@ def writes_that_fail(part, calls):
 
 
 def messages_that_fail(part, calls):
-    """A message that is not taken is not written again, and the status stays."""
+    """A message that is not taken is not written again, and the status stays. Help that is not taken is E2."""
+    for words in (["--help"], ["dump", "--help"], ["--version"]):
+        for error in (errno.EAGAIN, errno.EIO, errno.ENOSPC, 0):
+            got, made = calls.run(words, fail=("write", 1, 1, error))
+            fine = got == Done(3, b"", message(WRITE)) and [call[:2] for call in made] == [("write", 1), ("write", 2)]
+            part.expect(f"{' '.join(words)} that fails with {error}", fine, *got.lines(), str(made))
     line = b"       0      3: SEQUENCE {\n"
     for error in [*FEW, 0]:
         got, made = calls.run(["dump"], b"\x30\x03\x02\x02\x01", fail=("write", 2, 1, error))

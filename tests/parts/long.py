@@ -45,7 +45,7 @@ def check_opening(part, path, names):
         (["extract", "--offset", "0", path], OBJECT),
         (["indef", "--padding", path], OBJECT),
     ]:
-        part.same(f"{' '.join(words)[:40]}.., {what}", part.run(words), Done(0, out, b""))
+        part.same(f"{' '.join(words)[:40]!r}.., {what}", part.run(words), Done(0, out, b""))
 
 
 def names_of_files(part):

@@ -1,5 +1,6 @@
 """Runs the program on the cases of seeds, and compares what it did with what the pages say."""
 import os
+import shlex
 import subprocess
 
 from second_opinion.cases import case_of
@@ -67,7 +68,7 @@ def read_whole(file):
 
 def difference(case, it, wanted, got):
     """Returns the text of a difference: the seed, the words, the input, and the first line that differs."""
-    words = " ".join(word if len(word) < 200 else f"{word[:40]}..({len(word)})" for word in it.words)
+    words = shlex.join(word if len(word) < 200 else f"{word[:40]}..({len(word)})" for word in it.words)
     lines = [f"seed {case.seed}: tlvdump {words}", f"input {case.octets.hex()}"]
     if it.options.names:
         lines.append(f"names {case.names[:5000]!r}")
