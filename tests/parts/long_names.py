@@ -10,18 +10,19 @@ FILE_LIMIT, ENTRY_LIMIT, LINE_LIMIT = 1_048_576, 65_536, 400
 TEMPLATE = "1.3.6.1.4.1.311.21.8.15041462.15123212.9520540.10244456.12914242.71.1"
 TEMPLATE_OCTETS = bytes.fromhex("061f2b060104018237150887968736879b860c84c58b1c84f1a26886949c424701")
 US = (b"1.2.840 us\n", b"\x06\x03\x2a\x86\x48", "1.2.840 (us)")
-# The shortest and the longest text that 64 octets of contents can have: more of them have rows.
+# The lengths of the texts that are shown here. A longer text is that of more than 64 octets, which have rows.
 SHORTEST_TEXT, LONGEST_TEXT = 5, 256
 
 
 def arcs_of(octets):
-    """Returns the arcs of an object identifier whose text has so many octets, all but the first below 128."""
-    first, count, rest = ("1.3", octets - 3, []) if octets < LONGEST_TEXT else ("2.47", octets - 4, [])
-    while count:
-        width = next(width for width in (4, 3, 2) if count >= width and count - width != 1)
-        rest.append({4: 120, 3: 50, 2: 7}[width] + len(rest) % 8 % (3 if width == 2 else 8))
-        count -= width
-    return [*map(int, first.split(".")), *rest]
+    """Returns the arcs of an object identifier whose text has so many octets; each subidentifier is below 128."""
+    arcs, left = ([1, 3], octets - 3) if octets < LONGEST_TEXT else ([2, 47], octets - 4)
+    while left:
+        # An arc with the dot before it has two to four octets.
+        width = next(width for width in (4, 3, 2) if left >= width and left - width != 1)
+        arcs.append({4: 127, 3: 50, 2: 7}[width])
+        left -= width
+    return arcs
 
 
 def text_of(arcs):
@@ -36,7 +37,7 @@ def encoding_of(arcs):
 
 def long_text(octets, number):
     """Returns a text of so many octets whose last arc is this number: too long to be shown, if it has more than 256."""
-    end = f".{number:05}".replace(".0", ".1")
+    end = f".{100_000 + number}"
     return "2." + "9" * (octets - 2 - len(end)) + end
 
 
