@@ -40,14 +40,18 @@ class Calls:
     def __init__(self, part, loaded):
         self.part, self.loaded, self.log = part, loaded, part.path("log")
 
-    def run(self, words, given=b"", fail=None, most=None, **how):
-        """Runs it, and returns what it did and its calls: each is "read" or "write", descriptor, size, and result."""
+    def run(self, words, given=b"", fail=None, most=None):
+        """Runs it on a file with these octets as standard input, and returns what it did and its calls.
+
+        A call is "read" or "write", descriptor, size, and result.
+        """
         env = dict(os.environ, LD_PRELOAD=self.loaded, CALLS_LOG=self.log)
         env |= {"CALLS_FAIL": " ".join(map(str, fail))} if fail else {}
         env |= {"CALLS_MOST": str(most)} if most else {}
         if os.path.exists(self.log):
             os.remove(self.log)
-        got = self.part.run(words, given, env=env, **how)
+        with open(self.part.write("given", given), "rb") as file:
+            got = self.part.run(words, stdin=file, env=env)
         with open(self.log, encoding="ascii") as file:
             calls = [line.split() for line in file]
         return got, [(name, *map(int, numbers)) for name, *numbers in calls]
