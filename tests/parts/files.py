@@ -1,6 +1,8 @@
 """Where octets come from and go to: FILE, standard input and output, devices that fail."""
 import os
+import pwd
 import resource
+import shutil
 import signal
 import socket
 import subprocess
@@ -51,12 +53,57 @@ def inputs(part):
         part.gives(words, None, 3, err=READ, stdin=None, preexec_fn=closing(0))
     part.gives(["dump", "null"], None, 0, NULL_LINE, stdin=None, preexec_fn=closing(0))
     part.gives(["dump", part.path("null")], b"", 0, NULL_LINE)
-    part.gives(["dump", "/dev/stdin"], NULL, 0, NULL_LINE)
-    if os.geteuid() == 0:
-        part.note("root may read each file: one that may not be read is not tried")
-    else:
-        os.chmod(part.write("closed", NULL), 0)
-        part.gives(["dump", "closed"], b"", 3, err=OPEN)
+
+
+def standard_input_by_name(part):
+    """/dev/stdin as FILE: a pipe, a file, and nothing."""
+    for words, out in ((["dump"], NULL_LINE), (["check"], b""), (["extract", "--offset=0"], NULL), (["indef"], NULL)):
+        part.gives([*words, "/dev/stdin"], NULL, 0, out)
+        with open(part.path("null"), "rb") as file:
+            part.gives([*words, "/dev/stdin"], None, 0, out, stdin=file)
+        part.gives([*words, "/dev/stdin"], None, 3, err=OPEN, stdin=None, preexec_fn=closing(0))
+    part.gives(["dump", "/dev/stdin"], b"", 2, err="fault at 0: F01 empty input")
+    long = b"\x04\x82\x27\x10" + bytes(10_000)
+    part.gives(["extract", "--offset", "0", "/dev/stdin"], long, 0, long)
+
+
+def as_another_user(part):
+    """Returns how to run the program as a user who may not read each file: nobody, if the tests run as root.
+
+    Nobody may not enter the folder of the tests, so a copy of the program is where the child already is.
+    """
+    if os.geteuid():
+        return {}
+    shutil.copy(part.program, part.path("program"))
+    os.chmod(part.path("program"), 0o755)
+    os.chmod(part.folder, 0o755)
+    nobody = pwd.getpwnam("nobody")
+    return {"program": "./program", "user": nobody.pw_uid, "group": nobody.pw_gid, "extra_groups": []}
+
+
+def files_that_may_not_be_read(part):
+    """A file of mode 0 does not open: E5 for FILE, N5 for a names file."""
+    how = as_another_user(part)
+    object_octets, named = b"\x06\x03\x2a\x86\x48", b"       0      3: OBJECT IDENTIFIER 1.2.840 (us)\n"
+    for name, octets in (("object", object_octets), ("names", b"1.2.840 us\n"), ("wrong", b"1.40 x\n")):
+        os.chmod(part.write(name, octets), 0o644)
+        os.chmod(part.write(f"closed-{name}", octets), 0)
+    os.mkdir(part.path("closed-folder"))
+    part.write("closed-folder/object", object_octets)
+    os.chmod(part.path("closed-folder"), 0)
+    unread = "N5 names file not read"
+    part.gives(["dump", "--names", "names", "object"], b"", 0, named, **how)
+    for file in ("closed-object", "closed-folder", "closed-folder/object"):
+        for words in (*COMMANDS, ["check"], ["dump", "--names", "names"]):
+            part.gives([*words, file], object_octets, 3, err=OPEN, **how)
+        part.gives(["dump", "--names", file, "object"], b"", 4, err=unread, **how)
+    for file in ("object", "closed-object", "missing"):
+        part.gives(["dump", "--names", "closed-names", file], b"", 4, err=unread, **how)
+        part.gives(["dump", "--names", "closed-wrong", file], b"", 4, err=unread, **how)
+        part.gives(["dump", "--names", "wrong", file], b"", 4, err="N1 line 1: not an object identifier", **how)
+        words = ["dump", "--names", "closed-names", "--limit", "x", file]
+        part.gives(words, b"", 4, err="U2 value out of range: --limit", **how)
+    os.chmod(part.path("closed-folder"), 0o700)
 
 
 def inputs_that_break(part):
@@ -146,6 +193,8 @@ def outputs_that_fill_up(part):
 
 def test(part):
     inputs(part)
+    standard_input_by_name(part)
+    files_that_may_not_be_read(part)
     inputs_that_break(part)
     outputs_that_fail(part)
     messages_that_fail(part)

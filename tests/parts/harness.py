@@ -6,6 +6,7 @@ import subprocess
 import sys
 import tempfile
 
+HERE = os.path.dirname(os.path.realpath(__file__))
 # No run of a test takes longer, on a busy machine too.
 SECONDS = 120
 
@@ -103,6 +104,19 @@ class Part:
             child.communicate()
             return Done("none: it did not end", b"", b"")
         return Done(child.returncode, out or b"", err or b"")
+
+    def made_of(self, source):
+        """Compiles a C source of this folder for LD_PRELOAD, and returns the path of the object.
+
+        If it is not made, that is a failure, and there is no path.
+        """
+        if not self.has("cc"):
+            return None
+        path = self.path(source.removesuffix(".c") + ".so")
+        words = ["cc", "-O1", "-U_FORTIFY_SOURCE", "-shared", "-fPIC", "-o", path, os.path.join(HERE, source)]
+        got = subprocess.run(words, capture_output=True, text=True)
+        self.expect(f"{source} compiles", got.returncode == 0, got.stdout, got.stderr)
+        return path if got.returncode == 0 else None
 
     def has(self, tool):
         """Returns whether the machine has this tool. If it has not, that is a failure, or reported in a note."""

@@ -1,4 +1,4 @@
-"""Long words, long names of files, and lines of many words."""
+"""Long words, long names of files, names with unusual characters, and lines of many words."""
 import os
 
 from parts.harness import Done, message
@@ -12,6 +12,11 @@ UNREAD = "N5 names file not read"
 # The most octets of a file's name, of a path, and of a word that the system passes on.
 LONGEST_NAME, LONGEST_PATH, LONGEST_WORD = 255, 4095, 131_071
 LENGTHS = (31, 32, 63, 64, 99, 100, 101, 127, 128, 199, 200, 201, 254, 255)
+# Lengths of words that name no file.
+LONG_WORDS = (5_001, *range(6_007, 60_000, 6_000), 59_999, 65_535, 65_536, 100_003, LONGEST_WORD)
+# Characters that begin and end the ranges of two, three and four octets, and some that have a meaning elsewhere: those
+# that join, that change the direction, that say how octets are ordered, and a face.
+WIDE = "\u0080\u00e9\u07ff\u0800\u20ac\u0301\u200d\u202e\ufeff\ufffd\uffff\U00010000\U0001f600\U0010ffff"
 
 
 def name_of(octets, letter="a"):
@@ -40,7 +45,7 @@ def check_opening(part, path, names):
         (["extract", "--offset", "0", path], OBJECT),
         (["indef", "--padding", path], OBJECT),
     ]:
-        part.same(f"{' '.join(words)[:40]}.., {what}", part.run(words), Done(0, out, b""))
+        part.same(f"{' '.join(words)[:40]!r}.., {what}", part.run(words), Done(0, out, b""))
 
 
 def names_of_files(part):
@@ -60,11 +65,30 @@ def names_of_files(part):
     check_opening(part, folder + name_of(LONGEST_NAME), folder + name_of(LONGEST_NAME, "n"))
 
 
+def characters_in_names(part):
+    """Names with each character that a name may have: all of ASCII in one name and each by itself, and some others."""
+    ascii_characters = [chr(number) for number in range(1, 128) if chr(number) != "/"]
+    names = ["".join(ascii_characters), WIDE, "a:b", "C:\\a", "%s", "a\n", " ", "...", "\U0001f600", "\U0001f600:" * 50]
+    names += [character for character in ascii_characters if character not in ".-"]
+    names += [character for character in WIDE]
+    os.mkdir(part.path("names"))
+    for name in names:
+        part.write(name, OBJECT)
+        part.write(f"names/{name}", NAMES)
+    for name in names[:10]:
+        check_opening(part, name, f"names/{name}")
+    for name in names[10:]:
+        got = part.run(["dump", "--names", f"names/{name}", name])
+        part.same(f"the character {name!r} alone", got, Done(0, NAMED, b""))
+
+
 def names_of_no_file(part):
     """Names as long that no file has, and names that are too long for the system."""
     good = name_of(200, "n")
     missing = [name_of(200, "m"), name_of(LONGEST_NAME, "m"), "m" * 256, "m" * 300, "m" * 1000]
-    missing += [path_of(name_of(200), LONGEST_PATH + 1), "m" * 4096, "m" * 70_000, "m" * LONGEST_WORD]
+    missing += [path_of(name_of(200), LONGEST_PATH + 1), "m" * 4096, "m" * 70_000]
+    missing += ["m" * octets for octets in LONG_WORDS] + [path_of(name_of(200), octets) for octets in LONG_WORDS]
+    missing += [letter * (octets // len(letter.encode())) for letter in (":", "\U0001f600") for octets in LONG_WORDS]
     closed, unread = Done(3, b"", message(OPEN)), Done(4, b"", message(UNREAD))
     for name in missing:
         what = f"a name of {len(name)} characters"
@@ -75,7 +99,8 @@ def names_of_no_file(part):
 
 def values(part):
     """Long values of options are out of range, whatever number they are."""
-    for octets in (14, 64, 100, 128, 200, 254, 255, 256, 257, 300, 5000, LONGEST_WORD - len("--inside=")):
+    longest = LONGEST_WORD - len("--inside=")
+    for octets in (14, 64, 100, 128, 200, 254, 255, 256, 257, 300, 5000, *LONG_WORDS[:-1], longest):
         for words, name in [
             (["dump", "--limit", "1" * octets], "--limit"),
             (["dump", "--limit=" + "0" * (octets - 1) + "1"], "--limit"),
@@ -104,7 +129,7 @@ def unexpected_text(word):
 
 def check_long_words(part):
     """Long words that the parser refuses: each is reported whole."""
-    for octets in (200, 256, 300, 5000):
+    for octets in (200, 256, 300, 5000, 5001, 20_000, 59_999, 100_003):
         word, size = "x" * octets, f"{octets} octets"
         is_refused(part, f"a command of {size}", [word], f"unrecognized subcommand '{word}'")
         is_refused(part, f"a second FILE of {size}", ["dump", "a", word], unexpected_text(word))
@@ -119,7 +144,7 @@ def check_long_words(part):
 def check_many_words(part):
     """Lines of many words."""
     again = "the argument '--pure' cannot be used multiple times"
-    for count in (20, 255, 256, 257, 2000, 20_000):
+    for count in (20, 255, 256, 257, 2000, 20_000, 25_000, 100_000):
         is_refused(part, f"{count} words", ["dump", "a"] + ["b"] * (count - 2), unexpected_text("b"))
         is_refused(part, f"{count} words, --", ["indef", "--", "a"] + ["b"] * (count - 3), unexpected_text("b"))
         is_refused(part, f"--pure {count} times", ["dump"] + ["--pure"] * count, again)
@@ -153,6 +178,7 @@ def longest_lines(part):
 
 def test(part):
     names_of_files(part)
+    characters_in_names(part)
     names_of_no_file(part)
     values(part)
     check_long_words(part)

@@ -6,11 +6,9 @@ those of the words, and which are those of the names file: the words come first,
 read, then FILE is opened, and a run takes no memory.
 """
 import os
-import subprocess
 
 from parts.harness import Done, message
 
-HERE = os.path.dirname(os.path.realpath(__file__))
 # An OCTET STRING with an INTEGER, an empty one at offset 5, and an OBJECT IDENTIFIER at offset 7.
 OCTETS = bytes.fromhex("0403020105 0400 0603550403")
 LINES = (
@@ -61,17 +59,12 @@ ALIKE = ["dump --lim 1", "nonsense", "extrac --offset 0", "check --limit 1"]
 class Program:
     """The program with refuse.c in front of the C library."""
 
-    def __init__(self, part):
-        self.part, self.log, self.runs = part, part.path("log"), 0
-        source = os.path.join(HERE, "refuse.c")
-        made = ["cc", "-O1", "-U_FORTIFY_SOURCE", "-shared", "-fPIC", "-o", "refuse.so", source]
-        got = subprocess.run(made, cwd=part.folder, capture_output=True, text=True)
-        part.expect("refuse.c compiles", got.returncode == 0, got.stdout, got.stderr)
-        self.is_made = got.returncode == 0
+    def __init__(self, part, refusing):
+        self.part, self.refusing, self.log, self.runs = part, refusing, part.path("log"), 0
 
     def run(self, words, first=0, last=0):
         """Runs it with requests `first` to `last` refused. Returns what it did, and what was reported."""
-        env = dict(os.environ, LD_PRELOAD="./refuse.so", REFUSE_LOG=self.log)
+        env = dict(os.environ, LD_PRELOAD=self.refusing, REFUSE_LOG=self.log)
         env |= {"REFUSE_FIRST": str(first), "REFUSE_LAST": str(last)}
         if os.path.exists(self.log):
             os.remove(self.log)
@@ -168,11 +161,10 @@ def check_printed(part, program):
 
 
 def test(part):
-    if not part.has("cc"):
+    refusing = part.made_of("refuse.c")
+    if not refusing:
         return
-    program = Program(part)
-    if not program.is_made:
-        return
+    program = Program(part, refusing)
     part.write("a.der", OCTETS)
     part.write("names", b"# x\n2.5.4.3 commonName\n")
     entries = [b"2.5.4.%d %s\n" % (number, b"n" * 300) for number in range(4, 44)]

@@ -123,6 +123,13 @@ def unread(part):
     part.gives(["dump", "--names", "names", "missing"], b"", 3, err="E5 cannot open the file")
     part.gives(["dump", "--names", "names", "input"], b"", 0, line_for("us"))
     part.gives(["dump", "--names=names", "input"], b"", 0, line_for("us"))
+    # A names file can have the name `-`, which is never standard input.
+    part.write("-", b"1.2.840 a dash\n")
+    part.gives(["dump", "--names", "-"], OBJECT, 0, line_for("a dash"))
+    part.gives(["dump", "--names=-", "input"], b"1.2.840 standard input\n", 0, line_for("a dash"))
+    os.remove(part.path("-"))
+    for words in (["dump", "--names", "-"], ["dump", "--names=-", "input"]):
+        part.gives(words, OBJECT, 4, err=said)
     # The names may come by a pipe, if FILE is named.
     by_pipe = ["dump", "--names", "/dev/stdin", "input"]
     part.gives(by_pipe, b"1.2.840 by a pipe\n", 0, line_for("by a pipe"))

@@ -1,7 +1,8 @@
 """The rows of tests/rows: words, octets, and what is written and reported (parts/row_files.py reads them).
 
 Each row is run four times: on a pipe, octet by octet through a pipe (up to 64 octets), on a file as
-standard input, and on FILE. And what `tests/make-rows` writes of the rows must be what the repository has.
+standard input, and on FILE. And what `tests/make-rows` writes of the rows must be what the repository has. Besides them
+there is a row for each octet that follows an element whose bound is reached.
 """
 import fcntl
 import importlib.machinery
@@ -54,6 +55,25 @@ def run_row(part, row):
         part.same(f"{what}, single octets", in_single_octets(part, row), wanted)
 
 
+# An indefinite element whose bound is reached without its end: no octet may follow.
+UNENDED = bytes.fromhex("30053080020105")
+UNENDED_WRITTEN = {
+    "dump": b"       0      5: SEQUENCE {\n       2  indef:   SEQUENCE {\n       4      1:     INTEGER 5\n",
+    "check": b"2 D01 indefinite length\n",
+    "indef": bytes.fromhex("30803080020105"),
+}
+
+
+def any_octet_after_the_bound(part):
+    """Whatever octet follows there is F05, alone and with more after it."""
+    said = message("fault at 7: F05 no end-of-contents inside the enclosing length")
+    for octet in range(256):
+        for rest in (b"", b"\x00\x00"):
+            given = UNENDED + bytes([octet]) + rest
+            for command, out in UNENDED_WRITTEN.items():
+                part.same(f"{command} of {given.hex(' ')}", part.run([command], given), Done(2, out, said))
+
+
 def stale_files(part):
     """The files that `tests/make-rows` would write otherwise than they are."""
     loader = importlib.machinery.SourceFileLoader("make_rows", os.path.join(part.root, "tests", "make-rows"))
@@ -68,3 +88,4 @@ def test(part):
     for rows in files(part.root).values():
         for row in rows:
             run_row(part, row)
+    any_octet_after_the_bound(part)

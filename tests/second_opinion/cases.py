@@ -2,7 +2,7 @@
 import random
 from dataclasses import dataclass
 
-from second_opinion import contents, drawing
+from second_opinion import contents, drawing, paths
 from second_opinion.commands import Options
 from second_opinion.reading import BIT_STRING, OCTET_STRING, Reading
 
@@ -12,7 +12,7 @@ LIMITS = ("0", "1", "2", "3", "5", "62", "256", "007", "0000000000001", "4294967
 
 @dataclass
 class Run:
-    """The options of a run, its words (its files are "names" and "input"), and whether it reads a pipe."""
+    """The options of a run, its words, and whether it reads a pipe."""
 
     options: Options
     words: list
@@ -21,11 +21,13 @@ class Run:
 
 @dataclass
 class Case:
-    """An input and the runs on it."""
+    """An input and the runs on it, with the names of the file that the input is in and of the names file."""
 
     seed: int
     octets: bytes
     names: bytes
+    file: str
+    names_file: str
     runs: list
 
 
@@ -33,12 +35,13 @@ def case_of(seed):
     """Returns the case of a seed; it is the same at each call."""
     rng = random.Random(f"tlvdump {seed}")
     octets, padding = drawing.input_octets(rng)
+    files = [paths.file_name(rng, "input"), paths.file_name(rng, "names")]
     commands = ["dump", "check", "extract", "indef", rng.choice(["dump", "dump", "check"])]
-    runs = [run_of(rng, command, octets, padding) for command in commands]
-    return Case(seed, octets, names_file(rng), runs)
+    runs = [run_of(rng, command, octets, padding, files) for command in commands]
+    return Case(seed, octets, names_file(rng), *files, runs)
 
 
-def run_of(rng, command, octets, padding):
+def run_of(rng, command, octets, padding, files):
     """Returns a run of this command with drawn options."""
     options = Options(command, padding=padding if rng.random() < 0.95 else not padding)
     if command != "indef" and rng.random() < 0.6:
@@ -54,7 +57,7 @@ def run_of(rng, command, octets, padding):
     if rng.random() < 0.02:
         out_of_range(rng, options)
     by_pipe = rng.random() < 0.2
-    return Run(options, words(rng, options, by_pipe), by_pipe)
+    return Run(options, words(rng, options, by_pipe, *files), by_pipe)
 
 
 def inside(rng, octets, padding):
@@ -101,8 +104,11 @@ def out_of_range(rng, options):
         options.inside = rng.choice(["", "1,", ",1", "2,2", "3,1", "1099511627777", many, "0;1"])
 
 
-def words(rng, options, by_pipe):
-    """Returns the words: the command, the options in any order, and FILE if the input is no pipe."""
+def words(rng, options, by_pipe, file, names):
+    """Returns the words: the command, the options in any order, and FILE if the input is no pipe.
+
+    It notes in the options whether the files open.
+    """
     given = []
     for name in ("rules", "limit", "offset", "inside"):
         value = getattr(options, name)
@@ -112,9 +118,11 @@ def words(rng, options, by_pipe):
         if getattr(options, name):
             given.append([f"--{name}"])
     if options.names:
-        given.append(["--names", "names"])
+        path, options.names_open = paths.path_to(rng, names)
+        given.append([f"--names={path}"] if rng.random() < 0.5 else ["--names", path])
     if not by_pipe:
-        given.append(["input"])
+        path, options.file_opens = paths.path_to(rng, file)
+        given.append([path])
     rng.shuffle(given)
     return [options.command, *(word for group in given for word in group)]
 
@@ -122,6 +130,7 @@ def words(rng, options, by_pipe):
 OTHER_LINES = (
     "# 2.5.4.3 no", "", " \t", "2.47.1 \t deep(name)", "\t1.39 x~", "0.39.1 !", "2.5.4.99 y \t\r",
     "2.340282366920938463463374607431768211455 most", "2.340282366920938463463374607431768211376 z",
+    f"2.{'9' * 396} n", f"1.3{'.70' * 100} m", f"0.39.2 {'l' * 393}",
 )
 REFUSED_LINES = (
     "1.40 x", "3.1 x", "1 x", "2.5.04 x", "2..5 x", "x", "1.2.3.", "2.5.8", "2.5.8 \x7f",
@@ -129,11 +138,23 @@ REFUSED_LINES = (
 )
 
 
+def name_for(rng, arcs):
+    """Returns a name, rarely one as long as the line may be, or nearly."""
+    name = f"name of {arcs}"[:150]
+    return name if rng.random() < 0.8 else name.ljust(rng.randrange(100, 400 - len(arcs)), "-")
+
+
 def names_file(rng):
-    """Returns a names file: comments, known object identifiers and others; rarely a line that is refused."""
-    lines = [f"{arcs} name of {arcs}" for arcs in contents.KNOWN if rng.random() < 0.7]
-    lines += rng.sample(OTHER_LINES, 5)
+    """Returns a names file: comments, known object identifiers and others.
+
+    Rarely it has a line that is refused, or very many lines.
+    """
+    lines = [f"{arcs} {name_for(rng, arcs)}" for arcs in contents.KNOWN if rng.random() < 0.7]
+    lines += rng.sample(OTHER_LINES, 6)
     if rng.random() < 0.05:
         lines.append(rng.choice(REFUSED_LINES))
+    if rng.random() < 0.03:
+        width = rng.choice([1, 20, 200, 380])
+        lines += [f"2.100.{number} {'t' * width}" for number in range(rng.choice([1000, 1100, 2700]))]
     rng.shuffle(lines)
     return "\n".join(lines).encode() + b"\n" * (rng.random() < 0.8)

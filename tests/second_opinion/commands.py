@@ -28,7 +28,10 @@ class Refused(Exception):
 
 @dataclass
 class Options:
-    """The options of a command. A value is the text in the words; None if there is none."""
+    """The options of a command. A value is the text in the words; None if there is none.
+
+    The names file and FILE open, unless their names are those of no file, or are too long for the system.
+    """
 
     command: str
     rules: str | None = None
@@ -39,6 +42,8 @@ class Options:
     contents: bool = False
     inside: str | None = None
     padding: bool = False
+    names_open: bool = True
+    file_opens: bool = True
 
 
 @dataclass
@@ -88,9 +93,11 @@ def run(options, octets, names):
     """Returns the result of a command on an input. `names` is a function that reads the names file."""
     try:
         given = values_of(options)
-        known = names() if options.names else {}
+        known = known_names(options, names)
     except Refused as refused:
         return Result(4, b"", str(refused))
+    if not options.file_opens:
+        return Result(3, b"", "E5 cannot open the file")
     reading = Reading(octets, given.inside, options.padding)
     if options.command == "extract":
         return extract(reading, given.offset, options.contents)
@@ -99,6 +106,15 @@ def run(options, octets, names):
     report = Report(options, given, known)
     report.siblings(reading.items, None, 0)
     return ending(reading, given.inside, report.found, "".join(report.lines).encode())
+
+
+def known_names(options, names):
+    """Returns the names by arcs, if there is a names file; N5 refuses one that does not open."""
+    if not options.names:
+        return {}
+    if not options.names_open:
+        raise Refused("N5 names file not read")
+    return names()
 
 
 def fault_text(fault):

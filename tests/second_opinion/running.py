@@ -1,5 +1,6 @@
 """Runs the program on the cases of seeds, and compares what it did with what the pages say."""
 import os
+import shlex
 import subprocess
 
 from second_opinion.cases import case_of
@@ -14,7 +15,7 @@ class Runner:
 
     def __init__(self, program, folder):
         """Keeps the path of the program, and the folder."""
-        self.program, self.folder = os.path.realpath(program), folder
+        self.program, self.folder, self.written = os.path.realpath(program), folder, []
 
     def path(self, name):
         """Returns the path of a file of the folder."""
@@ -24,6 +25,14 @@ class Runner:
         """Writes a file of the folder."""
         with open(self.path(name), "wb") as file:
             file.write(octets)
+
+    def write_files(self, case):
+        """Writes the input and the names file of a case, and removes those of the case before."""
+        for name in self.written:
+            os.remove(self.path(name))
+        self.written = [case.file, case.names_file]
+        self.write(case.file, case.octets)
+        self.write(case.names_file, case.names)
 
     def run(self, words, octets):
         """Returns the program's status, output and message; `octets` is None if FILE is named."""
@@ -40,8 +49,7 @@ class Runner:
     def differences(self, seed):
         """Runs the case of a seed, and returns a text of each difference."""
         case = case_of(seed)
-        self.write("input", case.octets)
-        self.write("names", case.names)
+        self.write_files(case)
         texts = []
         for it in case.runs:
             wanted = run(it.options, case.octets, lambda: read_names(case.names))
@@ -60,9 +68,10 @@ def read_whole(file):
 
 def difference(case, it, wanted, got):
     """Returns the text of a difference: the seed, the words, the input, and the first line that differs."""
-    lines = [f"seed {case.seed}: tlvdump {' '.join(it.words)}", f"input {case.octets.hex()}"]
+    words = shlex.join(word if len(word) < 200 else f"{word[:40]}..({len(word)})" for word in it.words)
+    lines = [f"seed {case.seed}: tlvdump {words}", f"input {case.octets.hex()}"]
     if it.options.names:
-        lines.append(f"names {case.names!r}")
+        lines.append(f"names {case.names[:5000]!r}")
     if wanted[0] != got[0]:
         lines.append(f"status: wanted {wanted[0]}, got {got[0]}")
     for what, one, other in (("output", wanted[1], got[1]), ("message", wanted[2], got[2])):

@@ -3,26 +3,36 @@ use crate::expect::{expect, expect_eq};
 use std::io::{self, ErrorKind, Read, Write};
 use tlv_walk::{Drain, ReadFault, ReadSource, Source, WriteDrain, WriteFault};
 
-/// Is interrupted at its first read, and then gives `rest`.
+/// Errors after which a caller might try again, and one after which it would not.
+const KINDS: [ErrorKind; 4] = [
+    ErrorKind::Interrupted,
+    ErrorKind::WouldBlock,
+    ErrorKind::TimedOut,
+    ErrorKind::Other,
+];
+
+/// Fails at its first read, and then gives `rest`.
 #[derive(Drop)]
-struct InterruptedFirst {
-    was: bool,
+struct FailingFirst {
+    kind: ErrorKind,
+    failed: bool,
     rest: &'static [u8],
 }
 
-impl Read for InterruptedFirst {
+impl Read for FailingFirst {
     fn read(&mut self, buf: &mut [u8]) -> io::Result<usize> {
-        if self.was {
+        if self.failed {
             return self.rest.read(buf);
         }
-        self.was = true;
-        Err(io::Error::from(ErrorKind::Interrupted))
+        self.failed = true;
+        Err(io::Error::from(self.kind))
     }
 }
 
 /// Takes nothing at its first write, fails at its second, and then takes one octet each time.
 #[derive(Drop)]
 struct OneOctetWriter {
+    kind: ErrorKind,
     writes: u8,
 }
 
@@ -31,7 +41,7 @@ impl Write for OneOctetWriter {
         self.writes = self.writes.saturating_add(1);
         match self.writes {
             1 => Ok(0),
-            2 => Err(io::Error::from(ErrorKind::Interrupted)),
+            2 => Err(io::Error::from(self.kind)),
             _ => Ok(buf.len().min(1)),
         }
     }
@@ -41,23 +51,30 @@ impl Write for OneOctetWriter {
     }
 }
 
+/// A read that fails is not made again, whatever the error: the next one gives what it would have given.
 #[test]
-fn a_read_source_fails_if_interrupted(rt: HostRuntime) {
-    let mut source = ReadSource::new(InterruptedFirst {
-        was: false,
-        rest: b"abc",
-    });
-    let mut to = [0; 4];
-    expect_eq(&rt, source.read(&mut to), Err(ReadFault));
-    expect_eq(&rt, source.read(&mut to), Ok(3));
-    expect(&rt, to.starts_with(b"abc"), "all octets are read");
-    expect_eq(&rt, source.read(&mut to), Ok(0));
+fn a_read_source_reads_once(rt: HostRuntime) {
+    for kind in KINDS {
+        let mut source = ReadSource::new(FailingFirst {
+            kind,
+            failed: false,
+            rest: b"abc",
+        });
+        let mut to = [0; 4];
+        expect_eq(&rt, source.read(&mut to), Err(ReadFault));
+        expect_eq(&rt, source.read(&mut to), Ok(3));
+        expect(&rt, to.starts_with(b"abc"), "all octets are read");
+        expect_eq(&rt, source.read(&mut to), Ok(0));
+    }
 }
 
+/// A write that fails or takes nothing is not made again.
 #[test]
-fn a_write_drain_fails_if_nothing_is_taken(rt: HostRuntime) {
-    let mut drain = WriteDrain::new(OneOctetWriter { writes: 0 });
-    expect_eq(&rt, drain.write(b"ab"), Err(WriteFault));
-    expect_eq(&rt, drain.write(b"ab"), Err(WriteFault));
-    expect_eq(&rt, drain.write(b"ab"), Ok(1));
+fn a_write_drain_writes_once(rt: HostRuntime) {
+    for kind in KINDS {
+        let mut drain = WriteDrain::new(OneOctetWriter { kind, writes: 0 });
+        expect_eq(&rt, drain.write(b"ab"), Err(WriteFault));
+        expect_eq(&rt, drain.write(b"ab"), Err(WriteFault));
+        expect_eq(&rt, drain.write(b"ab"), Ok(1));
+    }
 }
