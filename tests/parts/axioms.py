@@ -1,0 +1,80 @@
+"""What the verdict on a program takes for granted of the C library: the functions that the prover lists are those in tests/axioms.
+docs/TRUST.md names those of tlvdump, and says which of them are in the program.
+
+The prover lists them for a program that is proved. It is asked over the libraries in crates/*/out, as the last run of `rt` left
+them, so that it proves the functions of the program's own crate alone.
+"""
+import os
+import re
+import subprocess
+import time
+
+from parts.allocators import uses
+
+PROGRAMS = ("tlv_without_heap", "tlvdump")
+REACHED = re.compile(r"^  (\w+(?:::\w+)+) +reached$", re.M)
+PROVED = re.compile(r"^logic=proved .* axioms=(\d+) ", re.M)
+
+
+def kit():
+    """Returns the kit's folder, in which is the page that `rt doc` names."""
+    return os.path.dirname(subprocess.run(["rt", "doc"], capture_output=True, text=True).stdout.strip())
+
+
+def below(named, crate):
+    """Returns the libraries of this repository below a crate."""
+    own = [name for name in named[crate] if name in named]
+    return {*own, *[name for one in own for name in below(named, one)]}
+
+
+def words(part, crate):
+    """Returns the words of a check of a program over the built libraries, with the list."""
+    named, home = uses(part.root), kit()
+    out = lambda name: os.path.join(part.root, "crates", name, "out", "rlib")
+    found = [f"{home}/bin/rattle", "check", "--crate-name", crate, "src/main.rt", "--list-axioms", "--jobs", "2"]
+    found += ["--antt-project", f"{home}/rattle/logic/antt-project.json", "--logic-built", f"{home}/logic_built"]
+    found += ["-L", f"dependency={home}/rlibs"]
+    for name in sorted(below(named, crate)):
+        found += ["-L", f"dependency={out(name)}"]
+    for name in sorted({"std", *named[crate]}):
+        found += ["--extern", f"{name}={out(name) if name in named else f'{home}/rlibs'}/{name}.rlib"]
+    return found
+
+
+def is_stamped(part, crate):
+    """Returns whether `rt check` or `rt run` made the libraries below: with these it sees what has changed since."""
+    names = below(uses(part.root), crate)
+    return all(os.path.exists(os.path.join(part.root, "crates", name, "out", "rlib", "stamp")) for name in names)
+
+
+def listed(part, crate):
+    """Returns the functions that the prover lists, or none if the program is not proved, and what it said."""
+    asked = ["rt", "check", "--list-axioms"] if is_stamped(part, crate) else words(part, crate)
+    how = {"cwd": os.path.join(part.root, "crates", crate), "stdin": subprocess.DEVNULL, "stdout": subprocess.PIPE}
+    text = subprocess.run(asked, stderr=subprocess.STDOUT, text=True, errors="replace", **how).stdout
+    proved, found = PROVED.search(text), REACHED.findall(text)
+    return (sorted(found) if proved and int(proved[1]) == len(found) else None), text
+
+
+def committed(part, crate):
+    with open(os.path.join(part.root, "tests", "axioms", f"{crate}.txt"), encoding="utf-8") as file:
+        return file.read().splitlines()
+
+
+def in_program(part):
+    """Returns the symbols of the program: functions that are in it, and those that the C library lends it."""
+    found = [subprocess.run(["nm", *flags, part.program], capture_output=True, text=True).stdout for flags in ([], ["-D"])]
+    return set(re.findall(r" [TU] (\w+)", "".join(found)))
+
+
+def test(part):
+    if not part.has("rt") or not part.has("nm"):
+        return
+    for crate in PROGRAMS:
+        began = time.time()
+        found, text = listed(part, crate)
+        wanted = committed(part, crate)
+        part.expect(f"the axioms of {crate}", found == wanted, *(set(wanted) ^ set(found or [])), *text.splitlines()[-8:])
+        part.note(f"{crate}: {len(wanted)} axioms, listed in {time.time() - began:.0f} s")
+    heap = [name for name in committed(part, "tlv_without_heap") if name.startswith("libc::heap::")]
+    part.expect("tlv_without_heap reaches no heap", not heap, *heap)
