@@ -61,15 +61,28 @@ def committed(part, crate):
         return file.read().splitlines()
 
 
-def in_program(part):
-    """Returns the symbols of the program: functions that are in it, and those that the C library lends it."""
-    found = [subprocess.run(["nm", *flags, part.program], capture_output=True, text=True).stdout for flags in ([], ["-D"])]
-    return set(re.findall(r" [TU] (\w+)", "".join(found)))
+def named(text, heading):
+    """Returns the functions that a section of docs/TRUST.md names."""
+    section = text.partition(f"\n### {heading}\n")[2].partition("\n#")[0]
+    return set(re.findall(r"`((?:libc|os)::[\w:]+)`", section))
+
+
+def page(part):
+    """docs/TRUST.md names each function, and says which of them the program has."""
+    with open(os.path.join(part.root, "docs", "TRUST.md"), encoding="utf-8") as file:
+        text = file.read()
+    called, others = named(text, "Functions that the program calls"), named(text, "Functions that it does not call")
+    wanted = set(committed(part, "tlvdump"))
+    part.expect("docs/TRUST.md names each function", called | others == wanted, *sorted((called | others) ^ wanted))
+    symbols = subprocess.run(["nm", part.program], capture_output=True, text=True).stdout
+    there = {name for name in wanted if re.search(rf" [TU] {name.split('::')[-1]}(?:@.*)?$", symbols, re.M)}
+    part.expect("functions that the program calls", called == there, *sorted(called ^ there))
 
 
 def test(part):
     if not part.has("rt") or not part.has("nm"):
         return
+    page(part)
     for crate in PROGRAMS:
         began = time.time()
         found, text = listed(part, crate)
