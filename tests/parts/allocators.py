@@ -12,11 +12,11 @@ MODULES = re.compile(r"tlv_value/src/names(?:\.rt|/\w+\.rt)|tlv_run/src/text\.rt
 # What these crates use of others: modules of std, and its lemmas; crates of the kit. No allocator can be had of these.
 STD, KIT = {"io", "marker", "mem", "proofs"}, {"arrayvec", "hex", "itoa", "simdutf8", "thiserror"}
 # Allocators, and the runtime that makes one; the types of std that hold one; and what could make a value of a type unseen.
-ALLOCATORS = "Alloc AllocGlobal Allocator Global HostRuntime LibcRuntime LocalHeap alloc"
-HOLDERS = "Arc BTreeMap BTreeSet BinaryHeap Box BufReader BufWriter CString Cow HashMap HashSet LinkedList OsString PathBuf Rc String"
-HOLDERS += " ToString Vec VecDeque"
-UNSEEN = "extern unsafe"
-WORD = re.compile(rf"\b(?:{'|'.join(f'{ALLOCATORS} {HOLDERS} {UNSEEN}'.split())})\b|\b(?:format|vec)!")
+ALLOCATORS = "Alloc AllocGlobal Allocator AnyAllocGlobal Global HostRuntime LibcRuntime LocalHeap alloc"
+HOLDERS = "Arc BTreeMap BTreeSet BinaryHeap Box BufReader BufWriter CString Cow HashMap HashSet LinkedList OsString PathBuf Rc"
+HOLDERS += " String ToString Vec VecDeque"
+UNSEEN = {"extern", "unsafe"}
+WORD = re.compile(rf"\b(?:{'|'.join([*ALLOCATORS.split(), *HOLDERS.split(), *UNSEEN])})\b|\b(?:format|vec)!")
 # Comments, texts, and lines that only the prover reads.
 NO_CODE = re.compile(r'//[^\n]*|b?"(?:\\.|[^"\\])*"|ghost use [^;]*;', re.S)
 
@@ -40,7 +40,8 @@ def uses(root):
 def test(part):
     found = {path.split("/", 1)[1]: reasons(code_of(text)) for path, text in files(part.root, "src")}
     for path, words in sorted(found.items()):
-        if path.split("/")[0] in CRATES and not MODULES.fullmatch(path):
+        if path.split("/")[0] in CRATES:
+            words = words & UNSEEN if MODULES.fullmatch(path) else words
             part.expect(f"{path} names no allocator", not words, *sorted(words))
     for path in ("tlv_value/src/names.rt", "tlv_value/src/names/table.rt", "tlv_run/src/text.rt"):
         part.expect(f"{path} names one", found.get(path))
