@@ -2,6 +2,7 @@
 #![tactic(auto)]
 
 mod command;
+mod command_runs;
 pub mod laws;
 mod memory_devices;
 mod message;
@@ -11,6 +12,7 @@ mod run_octets_call;
 mod text;
 
 pub use command::Command;
+pub use command_runs::{run_check, run_dump, run_extract, run_indef};
 pub use message::write_message;
 pub use report::{Report, device_report, names_report, unopened_report};
 pub use run_call::run;

@@ -5,9 +5,8 @@ ghost use Rattle.tlv_run.specs.Results.{command_job};
 ghost use Rattle.tlv_run.specs.RunsAndReports.{RunsAndReports};
 
 use crate::command::Command;
-use crate::report::{Report, cut_report, device_report, indef_report, outcome_report};
-use tlv_cut::{extract, indef};
-use tlv_show::{check, dump};
+use crate::command_runs::{run_check, run_dump, run_extract, run_indef};
+use crate::report::Report;
 use tlv_value::Names;
 use tlv_walk::{Drain, Source};
 
@@ -25,26 +24,14 @@ pub fn run<S: Source, D: Drain>(
         (device_states (S.state source.new) (D.state drain.new)) (report_value_of result) }
 {
     match command {
-        Command::Dump { options, .. } => match dump(source, drain, options, names) {
-            Ok(outcome) => outcome_report(outcome),
-            Err(fault) => device_report(fault),
-        },
-        Command::Check { rules, framing, .. } => match check(source, drain, *rules, framing) {
-            Ok(outcome) => outcome_report(outcome),
-            Err(fault) => device_report(fault),
-        },
+        Command::Dump { options, .. } => run_dump(options, names, source, drain),
+        Command::Check { rules, framing, .. } => run_check(*rules, framing, source, drain),
         Command::Extract {
             offset,
             contents,
             framing,
             ..
-        } => match extract(source, drain, *offset, *contents, framing) {
-            Ok(cut) => cut_report(*offset, cut),
-            Err(fault) => device_report(fault),
-        },
-        Command::Indef { padding, .. } => match indef(source, drain, *padding) {
-            Ok(ending) => indef_report(ending),
-            Err(fault) => device_report(fault),
-        },
+        } => run_extract(*offset, *contents, framing, source, drain),
+        Command::Indef { padding, .. } => run_indef(*padding, source, drain),
     }
 }

@@ -2,8 +2,7 @@
 ghost use Rattle.tlv_walk.specs.Job.{Runs, device_states};
 ghost use Rattle.tlv_show.specs.DumpJob.{dump_job};
 
-use crate::{Dump, Options, Outcome};
-use tlv_value::Names;
+use crate::{Dump, FiniteNames, Options, Outcome};
 use tlv_walk::{DeviceFault, Drain, Source, drive};
 
 /// Writes the lines of the encodings that the source gives, up to its end or the first octet that is
@@ -15,13 +14,13 @@ use tlv_walk::{DeviceFault, Drain, Source, drive};
 ///
 /// `ReadFailed` exactly if a read failed, and `WriteFailed` exactly if a write failed. `InputTooLong`
 /// if the source gave more than 2^40 octets, and none of the first 2^40 is refused.
-pub fn dump<S: Source, D: Drain>(
+pub fn dump<N: FiniteNames, S: Source, D: Drain>(
     source: &mut S,
     drain: &mut D,
     options: &Options<'_>,
-    names: &Names,
+    names: &N,
 ) -> Result<Outcome, DeviceFault>
-    ensures { Runs (dump_job options.now names.now)
+    ensures { Runs (dump_job options.now (N.table names.now))
         (device_states (S.state source.old) (D.state drain.old))
         (device_states (S.state source.new) (D.state drain.new)) result }
 {

@@ -8,11 +8,11 @@ ghost use Rattle.tlv_show.specs.FinderState.{finder_open_step};
 ghost use Rattle.tlv_show.specs.LinesStep.{lines_open_step};
 ghost use Rattle.tlv_show.specs.DumpJob.{top_layout};
 
-use crate::Options;
 use crate::contents::contents_in;
 use crate::finder::Finder;
 use crate::finding_lines::put_findings;
 use crate::lines::Lines;
+use crate::{FiniteNames, Options};
 use std::marker::Model;
 use tlv_head::Header;
 use tlv_value::{Layout, Names};
@@ -22,12 +22,12 @@ use tlv_walk::{Drain, Event, Follow, Go, Out, WriteFault};
 /// of its end with its end; those of a primitive come as [`ValueText`](tlv_value::ValueText) writes them. A finding has
 /// its line before that of its element if it is known from the header, and else after the last line.
 #[derive(Drop)]
-pub struct Dump<'n> {
-    lines: Lines<'n>,
+pub struct Dump<'n, N: FiniteNames = Names> {
+    lines: Lines<'n, N>,
     finder: Finder,
 }
 
-impl<'n> Model for Dump<'n> {
+impl<'n, N: FiniteNames> Model for Dump<'n, N> {
     ghost use Rattle.std.specs.Coded.{codes};
     ghost use Rattle.tlv_show.specs.DumpStep.{DumpState};
     ghost use Rattle.tlv_value.specs.Names.{table_code};
@@ -39,10 +39,10 @@ impl<'n> Model for Dump<'n> {
     ghost view = { λ d. record { lines = d.lines; finder = d.finder.kept } };
 }
 
-impl<'n> Dump<'n> {
+impl<'n, N: FiniteNames> Dump<'n, N> {
     /// A dump of which nothing is written.
-    pub fn new(options: &Options<'_>, names: &'n Names) -> Dump<'n>
-        ensures { result ≡ new_dump options.now.rules (top_layout options.now) names.now }
+    pub fn new(options: &Options<'_>, names: &'n N) -> Dump<'n, N>
+        ensures { result ≡ new_dump options.now.rules (top_layout options.now) (N.table names.now) }
     {
         let layout = Layout {
             level: 0,
@@ -63,7 +63,7 @@ impl<'n> Dump<'n> {
     }
 }
 
-impl Follow for Dump<'_> {
+impl<N: FiniteNames> Follow for Dump<'_, N> {
     ghost next = { dump_step };
 
     ghost bytes_join = { each_octet-joins dump_octet_step };
@@ -100,7 +100,7 @@ impl Follow for Dump<'_> {
     }
 }
 
-impl Dump<'_> {
+impl<N: FiniteNames> Dump<'_, N> {
     /// Puts the lines that an event allows.
     #[inline(always)]
     fn put_lines<D: Drain>(

@@ -12,20 +12,21 @@ ghost use Rattle.tlv_show.specs.LinesStep.{lines_begin_step, lines_close_step, l
 ghost use Rattle.tlv_show.specs.LinesStep.{lines_octet_step, lines_open_step, lines_padding_step, lines_step};
 ghost use Rattle.tlv_show.specs.LinesStep.{new_lines, lines_after_header};
 
+use crate::FiniteNames;
 use crate::finding_lines::Style;
 use crate::holder_lines::{put_closing, put_opening, put_padding};
 use std::marker::Model;
 use tlv_head::Header;
-use tlv_value::{Layout, Names, ValueText, put_whole};
+use tlv_value::{Layout, ValueText, put_whole};
 use tlv_walk::{Drain, Out, WriteFault};
 
 /// Writes the lines that each event allows. The line of an element that holds others comes with its header, and that
 /// of its end with its end; those of a primitive come as [`ValueText`] writes them.
 #[derive(Drop)]
-pub(crate) struct Lines<'n> {
+pub(crate) struct Lines<'n, N: FiniteNames> {
     /// How lines are laid out: the level is how many elements are open that hold others.
     layout: Layout,
-    names: &'n Names,
+    names: &'n N,
     /// Where the next octet is.
     offset: u64,
     /// Whether the last octets were padding.
@@ -36,7 +37,7 @@ pub(crate) struct Lines<'n> {
     text: ValueText,
 }
 
-impl<'n> Model for Lines<'n> {
+impl<'n, N: FiniteNames> Model for Lines<'n, N> {
     ghost use Rattle.std.specs.Coded.{codes};
     ghost use Rattle.tlv_show.specs.LinesStep.{LinesState};
     ghost use Rattle.tlv_show.specs.Private.IfOpen.{if_open};
@@ -48,17 +49,17 @@ impl<'n> Model for Lines<'n> {
 
     ghost view = { λ d. record {
       layout = d.layout;
-      names = d.names.now;
+      names = N.table d.names.now;
       offset = d.offset;
       in_padding = d.in_padding;
       open_text = if_open d.is_open d.text;
     } };
 }
 
-impl<'n> Lines<'n> {
+impl<'n, N: FiniteNames> Lines<'n, N> {
     /// Lines in this layout, of which none is written.
-    pub fn new(layout: Layout, names: &'n Names) -> Lines<'n>
-        ensures { result ≡ new_lines layout names.now }
+    pub fn new(layout: Layout, names: &'n N) -> Lines<'n, N>
+        ensures { result ≡ new_lines layout (N.table names.now) }
     {
         Lines {
             layout,
@@ -232,14 +233,14 @@ fn put_bytes<D: Drain>(
 }
 
 /// Puts the lines that come with the end of the open primitive, if all its contents octets have come.
-fn put_end<D: Drain>(
+fn put_end<N: FiniteNames, D: Drain>(
     is_open: bool,
     text: &mut ValueText,
-    names: &Names,
+    names: &N,
     out: &mut Out<'_, D>,
 ) -> Result<(), WriteFault>
     ensures { Puts D.state out.old out.new
-        (open_text_end_lines names.now (if_open is_open text.old)) result }
+        (open_text_end_lines (N.table names.now) (if_open is_open text.old)) result }
 {
     if !is_open || text.left() != 0 {
         return Ok(());

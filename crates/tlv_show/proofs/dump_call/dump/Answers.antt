@@ -12,7 +12,7 @@ pub returns-in_err-run : goal.returns-in_err-run
 returns-in_err-run g c =
     let p = err_from_is_err_and c.from_residual.result c.from_residual.ensures.1 in
     let o = c.args.options.now in
-    let names = c.args.names.now in
+    let names = g.N.FiniteNames.table c.args.names.now in
     rw (p.1, p.2)
     (shows_err dump_step (new_dump o.rules (top_layout o) names) o.rules o.framing
     (item_text (finite.get names) (top_layout o)) (λ (s : DumpState). s.finder.finding_count) (dump-shows o names)
@@ -22,7 +22,7 @@ returns-in_err-run g c =
 pub returns : goal.returns
 returns g c =
     let o = c.args.options.now in
-    let names = c.args.names.now in
+    let names = g.N.FiniteNames.table c.args.names.now in
     shows_ok dump_step (new_dump o.rules (top_layout o) names) o.rules o.framing
     (item_text (finite.get names) (top_layout o)) (λ (s : DumpState). s.finder.finding_count) (dump-shows o names)
     _ _ _ _ _ c.in_ok-run.run' _ refl

@@ -1,6 +1,8 @@
-use Rattle.std.proofs.Common.{rules, ◌≡◌, ◌==◌, arith, false}
+use Rattle.std.proofs.Common.{◌≡◌, ◌==◌, ap, arith, false, true}
 use Rattle.std.proofs.lemmas.Bool.Decides.{nat_tests}
-use Rattle.tlv_io.proofs.Puts.{puts_nothing}
+use Rattle.tlv_value.specs.Value.{NameOf}
+use Rattle.tlv_value.specs.ValueTextState.{end_lines}
+use Rattle.tlv_io.proofs.Puts.{puts_nothing, puts_text}
 use Rattle.tlv_show.proofs.lines.put_end.Goals as goal
 use Rattle.tlv_show.proofs.lines.put_end.Goals.{then-not-is_open-via-then-not-is_open}
 use Rattle.tlv_show.proofs.lines.put_end.Goals.{then-not-is_open-via-else-not-is_open+then-left-ne0}
@@ -17,4 +19,10 @@ returns-then-not-is_open g c =
     ]
 
 pub returns : goal.returns
-returns g c = search rules
+returns g c =
+    let all : (c.args.text.now.left == 0) ≡ true =
+    grind (arith, nat_tests, c.left.ensures, c.if-left-ne0.false) in
+    rw (c.if-not-is_open.false, all)
+    (puts_text g.D.Drain.state _ _ _ _ _
+    (ap (λ (n : NameOf). end_lines n c.args.text.now) (g.met.N.FiniteNames.has_table c.args.names.now))
+    c.end.ensures.puts)

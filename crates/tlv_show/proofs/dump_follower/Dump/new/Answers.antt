@@ -2,4 +2,4 @@ use Rattle.std.proofs.Common.{rules}
 use Rattle.tlv_show.proofs.dump_follower.Dump.new.Goals as goal
 
 pub returns : goal.returns
-returns c = search rules
+returns g c = search rules

@@ -25,7 +25,7 @@ returns-then-self g c =
           record {
             layout =
                 s.layout;
-            names = s.names.now;
+            names = g.N.FiniteNames.table s.names.now;
             offset = o;
             in_padding = s.in_padding;
             open_text = if_open s.is_open s.text;
@@ -53,7 +53,7 @@ returns g c =
           record {
             layout =
                 s.layout;
-            names = s.names.now;
+            names = g.N.FiniteNames.table s.names.now;
             offset = o;
             in_padding = true;
             open_text = if_open s.is_open s.text;

@@ -1,0 +1,21 @@
+//! The tables of names that a dump uses.
+ghost use Rattle.std.specs.FinMap as finite;
+ghost use Rattle.std.specs.Prelude.{◌≡◌, refl};
+ghost use Rattle.tlv_value.specs.Names.{NamesValue};
+
+use tlv_value::{NameTable, Names};
+
+/// A table of names of object identifiers, of which finitely many have one.
+pub trait FiniteNames: NameTable {
+    /// The names, by dotted texts.
+    ghost table: { Self → NamesValue };
+
+    /// `get` gives these.
+    ghost has_table: { (names : Self) → Self.name_of names ≡ finite.get (table names) };
+}
+
+impl FiniteNames for Names {
+    ghost table = { λ names. names };
+
+    ghost has_table = { λ names. refl };
+}

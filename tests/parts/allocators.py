@@ -1,0 +1,51 @@
+"""Which sources could take memory: docs/PROVED.md says that of the crates of a run two modules alone name an allocator or a
+type that holds one, `names` of tlv_value and `text` of tlv_run. Without an allocator no memory can be had, and without the
+runtime, which `main` is given, none can be made."""
+import os
+import re
+
+from parts.words import files
+
+CRATES = ("tlv_head", "tlv_io", "tlv_walk", "tlv_value", "tlv_show", "tlv_cut", "tlv_run")
+# The sources that may, below crates/.
+MODULES = re.compile(r"tlv_value/src/names(?:\.rt|/\w+\.rt)|tlv_run/src/text\.rt")
+# What these crates use of others: modules of std, and its lemmas; crates of the kit. No allocator can be had of these.
+STD, KIT = {"io", "marker", "mem", "proofs"}, {"arrayvec", "hex", "itoa", "simdutf8", "thiserror"}
+# Allocators, and the runtime that makes one; the types of std that hold one; and what could make a value of a type unseen.
+ALLOCATORS = "Alloc AllocGlobal Allocator AnyAllocGlobal Global HostRuntime LibcRuntime LocalHeap alloc"
+HOLDERS = "Arc BTreeMap BTreeSet BinaryHeap Box BufReader BufWriter CString Cow HashMap HashSet LinkedList OsString PathBuf Rc"
+HOLDERS += " String ToString Vec VecDeque"
+UNSEEN = {"extern", "unsafe"}
+WORD = re.compile(rf"\b(?:{'|'.join([*ALLOCATORS.split(), *HOLDERS.split(), *UNSEEN])})\b|\b(?:format|vec)!")
+# Comments, texts, and lines that only the prover reads.
+NO_CODE = re.compile(r'//[^\n]*|b?"(?:\\.|[^"\\])*"|ghost use [^;]*;', re.S)
+
+
+def code_of(text):
+    return NO_CODE.sub(" ", text)
+
+
+def reasons(code):
+    """Returns the words by which a source could take memory, and the modules of std that it uses besides those above."""
+    return set(WORD.findall(code)) | {f"std::{name}" for name in re.findall(r"\bstd::(\w+)", code) if name not in STD}
+
+
+def uses(root):
+    """Returns what crates.txt says that each crate uses."""
+    with open(os.path.join(root, "crates.txt"), encoding="utf-8") as file:
+        lines = [line.partition(":") for line in file.read().splitlines() if not line.startswith("#")]
+    return {name.strip(): set(below.split()) for name, _, below in lines}
+
+
+def test(part):
+    found = {path.split("/", 1)[1]: reasons(code_of(text)) for path, text in files(part.root, "src")}
+    for path, words in sorted(found.items()):
+        if path.split("/")[0] in CRATES:
+            words = words & UNSEEN if MODULES.fullmatch(path) else words
+            part.expect(f"{path} names no allocator", not words, *sorted(words))
+    for path in ("tlv_value/src/names.rt", "tlv_value/src/names/table.rt", "tlv_run/src/text.rt"):
+        part.expect(f"{path} names one", found.get(path))
+    named = uses(part.root)
+    for crate in CRATES:
+        others = named.get(crate, {"no such crate"}) - KIT - set(CRATES)
+        part.expect(f"what {crate} uses", not others, *sorted(others))

@@ -1,0 +1,104 @@
+"""The functions of C whose contracts the verdict on a program rests on: those that the prover lists are those in tests/axioms.
+docs/TRUST.md names those of tlvdump, and says which of them the program calls.
+
+The prover lists them for a program that is proved. It is asked over the libraries in crates/*/out, as the last run of `rt` left
+them, so that it proves the functions of the program's own crate alone.
+"""
+import os
+import re
+import subprocess
+import time
+
+from parts.allocators import uses
+
+PROGRAMS = ("tlv_without_heap", "tlvdump")
+REACHED = re.compile(r"^  (\w+(?:::\w+)+) +reached$", re.M)
+PROVED = re.compile(r"^logic=proved .* axioms=(\d+) ", re.M)
+
+
+def kit():
+    """Returns the kit's folder, in which is the page that `rt doc` names."""
+    return os.path.dirname(subprocess.run(["rt", "doc"], capture_output=True, text=True).stdout.strip())
+
+
+def below(named, crate):
+    """Returns the libraries of this repository below a crate."""
+    own = [name for name in named[crate] if name in named]
+    return {*own, *[name for one in own for name in below(named, one)]}
+
+
+def words(part, crate):
+    """Returns the words of a check of a program over the built libraries, with the list."""
+    named, home = uses(part.root), kit()
+    out = lambda name: os.path.join(part.root, "crates", name, "out", "rlib")
+    found = [f"{home}/bin/rattle", "check", "--crate-name", crate, "src/main.rt", "--list-axioms", "--jobs", "2"]
+    found += ["--antt-project", f"{home}/rattle/logic/antt-project.json", "--logic-built", f"{home}/logic_built"]
+    found += ["-L", f"dependency={home}/rlibs"]
+    for name in sorted(below(named, crate)):
+        found += ["-L", f"dependency={out(name)}"]
+    for name in sorted({"std", *named[crate]}):
+        found += ["--extern", f"{name}={out(name) if name in named else f'{home}/rlibs'}/{name}.rlib"]
+    return found
+
+
+def is_stamped(part, crate):
+    """Returns whether `rt check` or `rt run` made the libraries below: with these it sees what has changed since."""
+    names = below(uses(part.root), crate)
+    return all(os.path.exists(os.path.join(part.root, "crates", name, "out", "rlib", "stamp")) for name in names)
+
+
+def listed(part, crate):
+    """Returns the functions that the prover lists, or none if the program is not proved, and what it said."""
+    asked = ["rt", "check", "--list-axioms"] if is_stamped(part, crate) else words(part, crate)
+    how = {"cwd": os.path.join(part.root, "crates", crate), "stdin": subprocess.DEVNULL, "stdout": subprocess.PIPE}
+    text = subprocess.run(asked, stderr=subprocess.STDOUT, text=True, errors="replace", **how).stdout
+    proved, found = PROVED.search(text), REACHED.findall(text)
+    return (sorted(found) if proved and int(proved[1]) == len(found) else None), text
+
+
+def committed(part, crate):
+    with open(os.path.join(part.root, "tests", "axioms", f"{crate}.txt"), encoding="utf-8") as file:
+        return file.read().splitlines()
+
+
+def named(text, heading):
+    """Returns the functions that a section of docs/TRUST.md names."""
+    section = text.partition(f"\n### {heading}\n")[2].partition("\n#")[0]
+    return set(re.findall(r"`((?:libc|os)::[\w:]+)`", section))
+
+
+def page(part):
+    """docs/TRUST.md names each function, and says which of them the program has."""
+    with open(os.path.join(part.root, "docs", "TRUST.md"), encoding="utf-8") as file:
+        text = file.read()
+    called, others = named(text, "Functions that the program calls"), named(text, "Functions that it does not call")
+    wanted = set(committed(part, "tlvdump"))
+    part.expect("docs/TRUST.md names each function", called | others == wanted, *sorted((called | others) ^ wanted))
+    symbols = subprocess.run(["nm", part.program], capture_output=True, text=True).stdout
+    there = {name for name in wanted if re.search(rf" [TU] {name.split('::')[-1]}(?:@.*)?$", symbols, re.M)}
+    part.expect("functions that the program calls", called == there, *sorted(called ^ there))
+
+
+def is_of_readme(part):
+    """Returns whether the kit is the one that README names: another may have another standard library."""
+    version = subprocess.run(["rt", "version"], cwd=part.root, capture_output=True, text=True).stdout.strip()
+    with open(os.path.join(part.root, "README.md"), encoding="utf-8") as file:
+        return f"Proved with `{version}` " in file.read()
+
+
+def test(part):
+    if not part.has("rt") or not part.has("nm"):
+        return
+    page(part)
+    for crate in PROGRAMS:
+        began = time.time()
+        found, text = listed(part, crate)
+        wanted = committed(part, crate)
+        others = sorted(set(wanted) ^ set(found or wanted))
+        part.note(f"{crate}: {len(found or [])} functions, listed in {time.time() - began:.0f} s")
+        if found and others and not is_of_readme(part):
+            part.note(f"another kit than README names; {crate} differs in {', '.join(others)}")
+        else:
+            part.expect(f"the functions of C below {crate}", found == wanted, *others, *text.splitlines()[-8:])
+    heap = [name for name in committed(part, "tlv_without_heap") if name.startswith("libc::heap::")]
+    part.expect("tlv_without_heap reaches no heap", not heap, *heap)
