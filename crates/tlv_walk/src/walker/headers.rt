@@ -192,6 +192,7 @@ impl Walker<'_> {
         if self.unused() == Some(offset) {
             self.wrapper_count += 1;
         }
+        // The short way does not move the cursor, and is the way of most elements, also of those in the string.
         self.cursor.move_to(self.inside, self.offset);
     }
 
