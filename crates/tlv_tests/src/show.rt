@@ -1,5 +1,6 @@
 //! Dumps of events, followed one by one.
 mod calls;
+mod primitives;
 mod turns;
 
 use crate::expect::expect_eq;
