@@ -9,7 +9,7 @@ use std::io::ErrorKind;
 use std::process::ExitCode;
 use tlv_program::{NoWords, System, run_program};
 use tlv_run::write_message;
-use tlv_walk::{ReadSource, WriteDrain};
+use tlv_walk::{ReadFault, ReadSource, Source, WriteDrain};
 use tlv_words::Words;
 
 fn main(rt: HostRuntime) -> ExitCode {
@@ -50,18 +50,35 @@ struct Host<'a> {
 }
 
 impl System for Host<'_> {
-    type File = ReadSource<File>;
+    type File = InputFile;
 
     ghost allows = { unknown_system };
 
-    fn open(&mut self, name: &str) -> Option<ReadSource<File>> {
+    fn open(&mut self, name: &str) -> Option<InputFile> {
         match File::open(self.rt, name) {
-            Ok(file) => Some(ReadSource::new(file)),
+            Ok(file) => Some(InputFile {
+                source: ReadSource::new(file),
+            }),
             Err(_) => None,
         }
     }
 
     fn print(&mut self, error: &clap::Error) -> bool {
         error.print(self.rt).is_ok()
+    }
+}
+
+/// A file as a source. It is a type of its own because the prover does not take `ReadSource<File>` as the associated type of
+/// `System` (docs/DECISIONS.md).
+#[derive(Drop)]
+struct InputFile {
+    source: ReadSource<File>,
+}
+
+impl Source for InputFile {
+    ghost state = { λ file. ⟦<ReadSource<File> as Source>⟧.state file.source };
+
+    fn read(&mut self, to: &mut [u8]) -> Result<usize, ReadFault> {
+        self.source.read(to)
     }
 }
