@@ -1,6 +1,7 @@
-"""Which sources could take memory: docs/PROVED.md says that of the crates of a run two modules alone name an allocator or a
-type that holds one, `names` of tlv_value and `text` of tlv_run. Without an allocator no memory can be had, and without the
-runtime, which `main` is given, none can be made."""
+"""Which sources could take memory: docs/PROVED.md says that of the crates of a run two modules alone name an allocator
+or a type of the kit that holds one, `names` of tlv_value and `text` of tlv_run. Without an allocator no memory can be
+had, and without the runtime, which `main` is given, no allocator can be made.
+"""
 import os
 import re
 

@@ -1,13 +1,15 @@
-"""The functions of C whose contracts the verdict on a program rests on: those that the prover lists are those in tests/axioms.
-docs/TRUST.md names those of tlvdump, and says which of them the program calls.
+"""The functions of C whose contracts the verdict on a program rests on: those that the prover lists are those in
+tests/axioms, and docs/TRUST.md names those of tlvdump, and says which of them the program calls.
 
-The prover lists them for a program that is proved. It is asked over the libraries in crates/*/out, as the last run of `rt` left
-them, so that it proves the functions of the program's own crate alone.
+The prover lists them for a program that is proved. `rt check` asks it, which begins with what earlier runs kept. After
+`rt ci` alone nothing is kept but the built libraries, in crates/*/out: then the prover is asked over these, so that it
+proves the functions of the program's own crate alone.
 """
 import os
 import re
 import subprocess
 import time
+from concurrent.futures import ThreadPoolExecutor
 
 from parts.allocators import uses
 
@@ -31,7 +33,7 @@ def words(part, crate):
     """Returns the words of a check of a program over the built libraries, with the list."""
     named, home = uses(part.root), kit()
     out = lambda name: os.path.join(part.root, "crates", name, "out", "rlib")
-    found = [f"{home}/bin/rattle", "check", "--crate-name", crate, "src/main.rt", "--list-axioms", "--jobs", "2"]
+    found = [f"{home}/bin/rattle", "check", "--crate-name", crate, "src/main.rt", "--list-axioms"]
     found += ["--antt-project", f"{home}/rattle/logic/antt-project.json", "--logic-built", f"{home}/logic_built"]
     found += ["-L", f"dependency={home}/rlibs"]
     for name in sorted(below(named, crate)):
@@ -41,19 +43,20 @@ def words(part, crate):
     return found
 
 
-def is_stamped(part, crate):
-    """Returns whether `rt check` or `rt run` made the libraries below: with these it sees what has changed since."""
-    names = below(uses(part.root), crate)
-    return all(os.path.exists(os.path.join(part.root, "crates", name, "out", "rlib", "stamp")) for name in names)
+def are_of_ci(part, crate):
+    """Returns whether `rt ci` made the libraries below, and no other command, which leaves a stamp."""
+    places = [os.path.join(part.root, "crates", name, "out", "rlib") for name in below(uses(part.root), crate)]
+    return not any(os.path.exists(f"{place}/stamp") for place in places) and all(os.path.isdir(place) for place in places)
 
 
 def listed(part, crate):
-    """Returns the functions that the prover lists, or none if the program is not proved, and what it said."""
-    asked = ["rt", "check", "--list-axioms"] if is_stamped(part, crate) else words(part, crate)
+    """Returns the functions that the prover lists, or none if the program is not proved; what it said; and the seconds."""
+    began = time.time()
+    asked = words(part, crate) if are_of_ci(part, crate) else ["rt", "check", "--list-axioms"]
     how = {"cwd": os.path.join(part.root, "crates", crate), "stdin": subprocess.DEVNULL, "stdout": subprocess.PIPE}
     text = subprocess.run(asked, stderr=subprocess.STDOUT, text=True, errors="replace", **how).stdout
     proved, found = PROVED.search(text), REACHED.findall(text)
-    return (sorted(found) if proved and int(proved[1]) == len(found) else None), text
+    return (sorted(found) if proved and int(proved[1]) == len(found) else None), text, time.time() - began
 
 
 def committed(part, crate):
@@ -90,12 +93,12 @@ def test(part):
     if not part.has("rt") or not part.has("nm"):
         return
     page(part)
-    for crate in PROGRAMS:
-        began = time.time()
-        found, text = listed(part, crate)
+    with ThreadPoolExecutor(len(PROGRAMS)) as pool:
+        results = list(pool.map(lambda crate: listed(part, crate), PROGRAMS))
+    for crate, (found, text, seconds) in zip(PROGRAMS, results):
         wanted = committed(part, crate)
         others = sorted(set(wanted) ^ set(found or wanted))
-        part.note(f"{crate}: {len(found or [])} functions, listed in {time.time() - began:.0f} s")
+        part.note(f"{crate}: {len(found or [])} functions, listed in {seconds:.0f} s")
         if found and others and not is_of_readme(part):
             part.note(f"another kit than README names; {crate} differs in {', '.join(others)}")
         else:
