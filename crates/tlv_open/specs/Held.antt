@@ -1,7 +1,6 @@
 -- What an OCTET STRING or a BIT STRING holds, if it is to be opened: X.690 8.6 and 8.7.
-use Rattle.std.specs.Prelude.{◌≡◌, ℕ, ◌+◌, ◌<◌, Bool, true, false, ◌&&◌, ◌==◌, List, [], ◌∷◌, ◌++◌, Option, Some, None}
+use Rattle.std.specs.Prelude.{◌≡◌, ℕ, ◌+◌, ◌<◌, true, false, eqb, List, [], ◌∷◌, Option, Some, None}
 use Rattle.std.specs.Prelude.{if◌then◌else◌}
-use Rattle.std.specs.List.{is_empty}
 use Rattle.tlv_head.specs.DepthLimit.{depth_limit}
 use Rattle.tlv_head.specs.Header.{HeaderValue, is_universal}
 use Rattle.tlv_head.specs.UniversalTypes as universal
@@ -16,8 +15,8 @@ use Rattle.tlv_walk.specs.Reading.{IsSound}
 
 -- 8.6.2.2: the contents octets of a BIT STRING after the first, if that says that no bit is unused
 abbrev pub after_unused_bits : List ℕ → Option (List ℕ)
-after_unused_bits (0 ∷ octets) = Some octets
-after_unused_bits contents = None
+after_unused_bits [] = None
+after_unused_bits (x ∷ octets) = if eqb x 0 then Some octets else None
 
 -- 8.6.2, 8.7.2: the octets that may be encodings, of a primitive with this header and these contents
 abbrev pub inner_octets : HeaderValue → List ℕ → Option (List ℕ)
@@ -37,16 +36,16 @@ place_by_itself depth = record {
 }
 
 -- a primitive of the universal class in which BER finds nothing: random octets are seldom such
-abbrev pub is_clear_primitive : HeaderValue → List ℕ → Bool
-is_clear_primitive h contents =
-    is_universal h.class && is_empty (header_findings Ber (surroundings_of top_site) h)
-    && is_empty (contents_findings Ber h contents)
+pub record IsClearPrimitive (h : HeaderValue) (contents : List ℕ) : Type 0 where
+  pub in_universal_class : is_universal h.class ≡ true
+  pub no_header_findings : header_findings Ber (surroundings_of top_site) h ≡ []
+  pub no_contents_findings : contents_findings Ber h contents ≡ []
 
 -- each of the outermost elements is constructed, or such a primitive
-abbrev pub are_likely : Forest → Bool
-are_likely (Primitive h contents rest) = is_clear_primitive h contents && are_likely rest
-are_likely (Holder h children rest) = are_likely rest
-are_likely end = true
+abbrev pub AreLikely : Forest → Type 0
+AreLikely (Primitive h contents rest) = IsClearPrimitive h contents × AreLikely rest
+AreLikely (Holder h children rest) = AreLikely rest
+AreLikely end = Unit {0}
 
 -- a primitive that is `depth` elements deep is a string that holds encodings, and no others: by themselves they are
 -- one or more sound elements at the depth at which they are then, of which the outermost are likely to be encodings
@@ -56,4 +55,4 @@ pub record Holds (depth : ℕ) (h : HeaderValue) (contents : List ℕ) (inner : 
   pub shallow : depth < depth_limit
   pub sound : IsSound (place_by_itself (depth + 1)) inner
   pub some : has_element inner ≡ true
-  pub likely : are_likely inner ≡ true
+  pub likely : AreLikely inner

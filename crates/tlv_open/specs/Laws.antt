@@ -1,5 +1,5 @@
 -- Laws of the strings that are opened.
-use Rattle.std.specs.Prelude.{◌≡◌, ◌≤◌, ◌×◌, Bool, List, ℕ, length, true}
+use Rattle.std.specs.Prelude.{◌≡◌, ◌≤◌, Bool, List, ℕ, length, true}
 use Rattle.tlv_head.specs.InputLimit.{input_limit}
 use Rattle.tlv_walk.specs.declared.ending.Ending.{Ending}
 use Rattle.tlv_walk.specs.declared.framing.Framing.{Framing}

@@ -1,3 +1,4 @@
 pub mod Held
 pub mod Opens
 pub mod Laws
+pub mod Private

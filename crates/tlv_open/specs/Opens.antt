@@ -1,5 +1,5 @@
 -- Which strings of an input are opened: those that are read as the encodings that they hold.
-use Rattle.std.specs.Prelude.{◌≡◌, ℕ, ◌+◌, Bool, true, false, ◌&&◌, not, if◌then◌else◌, List, [], ◌∷◌, ◌++◌, length}
+use Rattle.std.specs.Prelude.{◌≡◌, ℕ, ◌+◌, Bool, true, false, ◌||◌, not, List, [], ◌∷◌, ◌++◌, length}
 use Rattle.tlv_head.specs.Header.{HeaderValue}
 use Rattle.tlv_value.specs.Types.{has_segments}
 use Rattle.tlv_walk.specs.declared.framing.Framing.{Framing}
@@ -34,28 +34,28 @@ abbrev pub where_of_held : Where → HeaderValue → Where
 where_of_held w h = record { start = w.start + (h.offset + length (opening h)); depth = w.depth + 1; may_open = true }
 
 -- the offsets of the strings among these elements that are opened, and of those that are opened in these, in order
-pub data Opens (w : Where) : Forest → List ℕ → Type 0 where
-  no_more : Opens w NoMore []
-  padding : {rest : Forest} {xs : List ℕ} → Opens w rest xs → Opens w (PaddingOctet rest) xs
+pub data Opens : Where → Forest → List ℕ → Type 0 where
+  no_more : {w : Where} → Opens w NoMore []
+  padded : {w : Where} {rest : Forest} {xs : List ℕ} → Opens w rest xs → Opens w (PaddingOctet rest) xs
   -- a string that is opened
-  opened : {h : HeaderValue} {contents : List ℕ} {rest : Forest} {xs ys : List ℕ} → w.may_open ≡ true
+  opened : {w : Where} {h : HeaderValue} {contents : List ℕ} {rest : Forest} {xs ys : List ℕ} → w.may_open ≡ true
       → (inner : Forest) → Holds w.depth h contents inner → Opens (where_of_held w h) inner xs → Opens w rest ys
       → Opens w (Primitive h contents rest) ((w.start + h.offset) ∷ (xs ++ ys))
   -- any other primitive
-  closed : {h : HeaderValue} {contents : List ℕ} {rest : Forest} {xs : List ℕ}
+  closed : {w : Where} {h : HeaderValue} {contents : List ℕ} {rest : Forest} {xs : List ℕ}
       → (w.may_open ≡ true → (inner : Forest) → Holds w.depth h contents inner → ⊥) → Opens w rest xs
       → Opens w (Primitive h contents rest) xs
-  holder : {h : HeaderValue} {children rest : Forest} {xs ys : List ℕ}
+  holder : {w : Where} {h : HeaderValue} {children rest : Forest} {xs ys : List ℕ}
       → Opens (where_of_children w h (is_one_primitive children)) children xs → Opens w rest ys
       → Opens w (Holder h children rest) (xs ++ ys)
   -- of an element that has not ended nobody knows how many segments it has
-  open_holder : {h : HeaderValue} {children : Forest} {xs : List ℕ} → Opens (where_of_children w h false) children xs
-      → Opens w (OpenHolder h children) xs
+  open_holder : {w : Where} {h : HeaderValue} {children : Forest} {xs : List ℕ}
+      → Opens (where_of_children w h false) children xs → Opens w (OpenHolder h children) xs
   -- what is unfinished is not opened
-  open_primitive : {h : HeaderValue} {contents : List ℕ} → Opens w (OpenPrimitive h contents) []
-  open_bit_string : {h : HeaderValue} → Opens w (OpenBitString h) []
-  open_header : {octets : List ℕ} → Opens w (OpenHeader octets) []
-  open_end_octets : Opens w OpenEndOctets []
+  open_primitive : {w : Where} {h : HeaderValue} {contents : List ℕ} → Opens w (OpenPrimitive h contents) []
+  open_bit_string : {w : Where} {h : HeaderValue} → Opens w (OpenBitString h) []
+  open_header : {w : Where} {octets : List ℕ} → Opens w (OpenHeader octets) []
+  open_end_octets : {w : Where} → Opens w OpenEndOctets []
 
 -- at the start of an input
 abbrev pub where_at_top : Where

@@ -1,13 +1,8 @@
-// A library with one function.
+//! Which OCTET STRINGs and BIT STRINGs of an input hold encodings, so that they can be opened (ITU-T X.690, 8.6 and
+//! 8.7).
 #![tactic(auto)]
 
-ghost use Rattle.std.specs.Prelude.{◌≡◌};
-ghost use Rattle.tlv_open.specs.Echo.{echo_of};
+mod elements;
+mod held;
 
-// The `ensures` clause is the contract: what `echo` returns is `echo_of` of its argument, a definition
-// in `specs/Echo.antt`, which a caller's clause can cite too.
-pub fn echo(x: usize) -> usize
-    ensures { result ≡ echo_of x }
-{
-    x
-}
+pub use held::holds_encodings;

@@ -2,6 +2,7 @@
 //! and a line for each finding.
 #![tactic(auto)]
 
+mod basic_findings;
 mod check_call;
 mod check_follower;
 mod contents;
@@ -22,6 +23,7 @@ mod options;
 mod outcome;
 mod rules;
 
+pub use basic_findings::has_basic_findings;
 pub use check_call::check;
 pub use check_follower::Check;
 pub use dump_call::dump;

@@ -74,7 +74,7 @@ bytes_step-all s offset h (x ∷ c) e =
     (take_all (announced_length h.size) (x ∷ c) e))
 
 -- what is found at their end
-contents_findings-at_end : (rules : Rules) (h : HeaderValue) (c : List ℕ) → HasAllContents h c
+pub contents_findings-at_end : (rules : Rules) (h : HeaderValue) (c : List ℕ) → HasAllContents h c
     → contents_findings_in rules (value_check_for h c) ≡ contents_findings rules h c
 contents_findings-at_end rules h c e =
     let none : (announced_length h.size - length c == 0) ≡ true = grind (arith, nat_tests) in

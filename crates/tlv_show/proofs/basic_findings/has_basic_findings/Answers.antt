@@ -1,0 +1,42 @@
+use Rattle.std.proofs.Common.{◌≡◌, Bool, not, eqb, true, false, List, [], ◌∷◌, length, ap, sym, refl, ◌∙◌, arith}
+use Rattle.std.proofs.Common.{eqb-true}
+use Rattle.tlv_value.specs.declared.finding.Finding.{Finding}
+use Rattle.tlv_value.specs.ValueCheckState.{ValueCheckState, value_check_after}
+use Rattle.tlv_show.specs.declared.rules.Rules.TheVariants.{Ber}
+use Rattle.tlv_show.specs.declared.holder_frame.HolderFrame.{HolderFrame}
+use Rattle.tlv_show.specs.NestingState.{surroundings_in}
+use Rattle.tlv_show.specs.Conditions.{surroundings_of}
+use Rattle.tlv_show.specs.FinderState.{contents_findings_in}
+use Rattle.tlv_show.specs.ShownFindings.{contents_findings, header_findings}
+use Rattle.tlv_show.specs.Site.{top_site}
+use Rattle.tlv_show.proofs.FindingLemmas.FinderSteps.{contents_findings-at_end}
+use Rattle.tlv_show.proofs.basic_findings.has_basic_findings.Goals as goal
+
+empty-nil : (xs : List Finding) (b : Bool) → b ≡ eqb (length xs) 0 → b ≡ true → xs ≡ []
+empty-nil [] b e t = refl
+empty-nil (x ∷ xs) b e t = absurd (omega (arith, eqb-true (length (x ∷ xs)) 0 (sym e ∙ t)))
+
+nil-empty : (xs : List Finding) (b : Bool) → b ≡ eqb (length xs) 0 → xs ≡ [] → not b ≡ false
+nil-empty [] b e t = ap not e
+nil-empty (x ∷ xs) b e t = absurd (cc)
+
+not-back : (b : Bool) → not b ≡ false → b ≡ true
+not-back true e = refl
+not-back false e = absurd (cc)
+
+both-empty : (b : Bool) (header found contents : List Finding) → header ≡ [] → found ≡ contents
+    → b ≡ eqb (length found) 0
+    → (not b ≡ false → (header ≡ []) × (contents ≡ [])) × ((header ≡ []) × (contents ≡ []) → not b ≡ false)
+both-empty b header found contents none same e =
+    (λ t. (none, sym same ∙ empty-nil found b e (not-back b t)), λ r. nil-empty found b e (same ∙ r.1))
+
+pub returns : goal.returns
+returns c =
+    let header : header_findings Ber (surroundings_of top_site) c.args.header.now ≡ [] =
+    ap (λ (w : HolderFrame). header_findings Ber (surroundings_in w) c.args.header.now) (sym c.top_frame.ensures)
+    ∙ sym c.add_header_findings.ensures ∙ empty-nil c.add_header_findings.new.found.items c.is_empty.result c.is_empty.ensures c.if-not-is_empty.false in
+    let found : c.add_contents_findings.new.found.items ≡ contents_findings Ber c.args.header.now c.args.contents.now =
+    c.add_contents_findings.ensures ∙
+    (ap (contents_findings_in Ber) (c.bytes.ensures.state ∙ ap (λ (s : ValueCheckState). value_check_after s c.args.contents.now) c.new-check.ensures)
+    ∙ contents_findings-at_end Ber c.args.header.now c.args.contents.now c.requires) in
+    both-empty c.is_empty-2.result _ c.add_contents_findings.new.found.items _ header found c.is_empty-2.ensures

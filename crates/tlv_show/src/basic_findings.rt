@@ -1,0 +1,32 @@
+//! What BER finds in a primitive by itself.
+ghost use Rattle.std.specs.Prelude.{◌≡◌, ◌↔◌, [], false};
+ghost use Rattle.tlv_head.specs.Header.{HasAllContents};
+ghost use Rattle.tlv_show.specs.Conditions.{surroundings_of};
+ghost use Rattle.tlv_show.specs.ShownFindings.{contents_findings, header_findings};
+ghost use Rattle.tlv_show.specs.Site.{top_site};
+
+use crate::Rules;
+use crate::contents_findings::add_contents_findings;
+use crate::header_findings::add_header_findings;
+use crate::holder_frame::top_frame;
+use arrayvec::ArrayVec;
+use tlv_head::Header;
+use tlv_value::ValueCheck;
+
+/// Whether BER finds something in a primitive with this header and all these contents, as the first element of an input.
+pub fn has_basic_findings(header: &Header, contents: &[u8]) -> bool
+    requires { HasAllContents header.now contents.now }
+    ensures { (result ≡ false)
+        ↔ ((header_findings Rules.Ber (surroundings_of top_site) header.now ≡ [])
+        × (contents_findings Rules.Ber header.now contents.now ≡ [])) }
+{
+    let mut found = ArrayVec::new();
+    add_header_findings(Rules::Ber, &top_frame(), header, &mut found);
+    if !found.is_empty() {
+        return true;
+    }
+    let mut check = ValueCheck::new(header);
+    check.bytes(contents);
+    add_contents_findings(Rules::Ber, &check, &mut found);
+    !found.is_empty()
+}
