@@ -12,7 +12,7 @@ use tlv_head::{Class, Header, HeaderFields, Size, read_header, read_short};
 use tlv_show::has_basic_findings;
 
 /// The most elements that hold others, inside one another.
-const DEPTH_LIMIT: u8 = 128;
+pub(crate) const DEPTH_LIMIT: u8 = 128;
 
 /// The header with which the octets begin, at this offset, and how many octets it has. `None` if they begin with none.
 #[inline]

@@ -3,6 +3,9 @@
 #![tactic(auto)]
 
 mod elements;
+mod finder;
 mod held;
+mod reading;
 
+pub use finder::opened;
 pub use held::holds_encodings;
