@@ -3,11 +3,12 @@ ghost use Rattle.std.specs.Prelude.{◌≡◌, ◌≢◌, ◌≤◌, ◌+◌, �
 ghost use Rattle.tlv_head.specs.DepthLimit.{depth_limit};
 ghost use Rattle.tlv_head.specs.Header.{HeaderValue, fields_of, octets_of};
 ghost use Rattle.tlv_head.specs.HeaderFields.{new_header};
+ghost use Rattle.tlv_head.specs.ReadHeader.{BeginsWithFields};
 ghost use Rattle.tlv_head.specs.InputLimit.{input_limit};
-ghost use Rattle.tlv_open.specs.Opens.{AreOpened, Where, is_one_primitive};
+ghost use Rattle.tlv_open.specs.Opens.{AreOpened, Where, is_one_primitive, may_open_in};
 ghost use Rattle.tlv_open.specs.Private.Elements.{is_end};
 ghost use Rattle.tlv_open.specs.Private.Finds.{AddsAll, AddsFirst, AddsPrimitive, IsReadAt, where_inside, where_of};
-ghost use Rattle.tlv_value.specs.Types.{is_string};
+ghost use Rattle.tlv_value.specs.Types.{has_segments, is_string};
 ghost use Rattle.tlv_walk.specs.Forest.{Forest};
 ghost use Rattle.tlv_walk.specs.Place.{Place};
 
@@ -66,11 +67,13 @@ fn add_opened(
     ensures within { IfOk result (λ n. n ≤ length octets.now) }
 {
     let mut at = 0;
-    while at < octets.len() && !(octets[at] == 0 && end_octets) {
-        if octets[at] == 0 {
-            at += 1;
-        } else {
+    while at < octets.len() {
+        if octets[at] != 0 {
             at += add_opened_in(&octets[at..], offset + at as u64, spot, list)?;
+        } else if end_octets {
+            return Ok(at);
+        } else {
+            at += 1;
         }
     }
     Ok(at)
@@ -89,39 +92,88 @@ fn add_opened_in(
     requires begun { slice_index octets.now 0 ≢ 0 }
     ensures adds { IfOk result (λ n. (end_octets : Bool) → AddsFirst (where_of spot) offset end_octets octets.now
         list.old.items list.new.items n) }
-    ensures some { IfOk result (λ n. 0 < n) }
+    ensures some { 0 < length octets.now → IfOk result (λ n. 0 < n) }
     ensures within { IfOk result (λ n. n ≤ length octets.now) }
 {
     let Some((fields, count)) = header_at(octets, offset) else {
         return Ok(octets.len());
     };
-    if fields.constructed && spot.depth >= DEPTH_LIMIT {
-        return Ok(octets.len());
+    if fields.constructed {
+        return add_in_holder(octets, &fields, count, spot, list);
     }
     let rest = &octets[count..];
-    let start = offset + count as u64;
-    match fields.size {
-        Size::Definite(length) => {
-            let is_whole = length <= rest.len() as u64;
-            let contents = if is_whole { &rest[..length as usize] } else { rest };
-            if fields.constructed {
-                let is_one = is_whole && is_one_segment(contents, start, false);
-                add_opened(contents, start, inside(spot, &fields, is_one), false, list)?;
-            } else if is_whole && spot.may_open {
-                add_string(&fields, contents, count, spot, list)?;
-            }
-            Ok(count + contents.len())
-        }
-        Size::Indefinite => {
-            let is_one = is_one_segment(rest, start, true);
-            let size = add_opened(rest, start, inside(spot, &fields, is_one), true, list)?;
-            Ok(if starts_with_end(&rest[size..]) {
-                count + size + 2
-            } else {
-                octets.len()
-            })
-        }
+    let length = fields.size.announced_length();
+    if length > rest.len() as u64 {
+        return Ok(octets.len());
     }
+    let contents = &rest[..length as usize];
+    add_string(&fields, contents, count, spot, list)?;
+    Ok(count + contents.len())
+}
+
+/// [`add_opened_in`], of a constructed element whose header has these fields and so many octets.
+#[cycle(find)]
+fn add_in_holder(
+    octets: &[u8],
+    fields: &HeaderFields,
+    count: usize,
+    spot: Spot,
+    list: &mut Vec<u64>,
+) -> Result<usize, AllocError>
+    requires limit { spot.start + (fields.now.offset + length octets.now) ≤ input_limit }
+    requires begins { BeginsWithFields octets.now fields.now.offset false fields.now count }
+    requires constructed { fields.now.constructed ≡ true }
+    ensures adds { IfOk result (λ n. (end_octets : Bool)
+        → AddsFirst (where_of spot) fields.now.offset end_octets octets.now
+        list.old.items list.new.items n) }
+    ensures some { IfOk result (λ n. 0 < n) }
+    ensures within { IfOk result (λ n. n ≤ length octets.now) }
+{
+    if spot.depth >= DEPTH_LIMIT {
+        return Ok(octets.len());
+    }
+    let Size::Definite(length) = fields.size else {
+        return add_in_indefinite(octets, fields, count, spot, list);
+    };
+    let rest = &octets[count..];
+    let start = fields.offset + count as u64;
+    if length > rest.len() as u64 {
+        add_opened(rest, start, inside(spot, fields, false), false, list)?;
+        return Ok(octets.len());
+    }
+    let contents = &rest[..length as usize];
+    let is_one = is_one_segment(contents, start, false);
+    add_opened(contents, start, inside(spot, fields, is_one), false, list)?;
+    Ok(count + contents.len())
+}
+
+/// [`add_in_holder`], if the length is indefinite.
+#[cycle(find)]
+fn add_in_indefinite(
+    octets: &[u8],
+    fields: &HeaderFields,
+    count: usize,
+    spot: Spot,
+    list: &mut Vec<u64>,
+) -> Result<usize, AllocError>
+    requires limit { spot.start + (fields.now.offset + length octets.now) ≤ input_limit }
+    requires begins { BeginsWithFields octets.now fields.now.offset false fields.now count }
+    requires indefinite { fields.now.size ≡ Size.Indefinite }
+    requires shallow { spot.depth < depth_limit }
+    ensures adds { IfOk result (λ n. (end_octets : Bool)
+        → AddsFirst (where_of spot) fields.now.offset end_octets octets.now
+        list.old.items list.new.items n) }
+    ensures some { IfOk result (λ n. 0 < n) }
+    ensures within { IfOk result (λ n. n ≤ length octets.now) }
+{
+    let rest = &octets[count..];
+    let start = fields.offset + count as u64;
+    let is_one = is_one_segment(rest, start, true);
+    let size = add_opened(rest, start, inside(spot, fields, is_one), true, list)?;
+    if starts_with_end(&rest[size..]) {
+        return Ok(count + size + 2);
+    }
+    Ok(octets.len())
 }
 
 /// Adds the primitive with these fields and contents, if it is a string that is opened, and the strings that are opened
@@ -135,12 +187,14 @@ fn add_string(
     list: &mut Vec<u64>,
 ) -> Result<(), AllocError>
     requires limit { spot.start + (fields.now.offset + (count + length contents.now)) ≤ input_limit }
-    requires may_open { spot.may_open ≡ true }
-    ensures { OnOk result ((octets : List ℕ) → length octets ≡ count → fields.now.constructed ≡ false
-        → fields.now.id_len ≤ length octets
+    ensures { OnOk result ((octets : List ℕ) → length (octets_of (new_header fields.now octets)) ≡ count
+        → fields.now.constructed ≡ false
         → AddsPrimitive (where_of spot) (new_header fields.now octets) contents.now
         list.old.items list.new.items) }
 {
+    if !spot.may_open {
+        return Ok(());
+    }
     let Some(octets) = held_octets(fields.class, fields.number, contents) else {
         return Ok(());
     };
@@ -182,7 +236,11 @@ fn is_one_segment(octets: &[u8], offset: u64, end_octets: bool) -> bool
         return false;
     }
     let after = &rest[length as usize..];
-    if end_octets { starts_with_end(after) } else { after.is_empty() }
+    if end_octets {
+        starts_with_end(after)
+    } else {
+        after.is_empty()
+    }
 }
 
 /// Inside an element with these fields.
@@ -195,8 +253,24 @@ fn inside(spot: Spot, fields: &HeaderFields, is_one: bool) -> Spot
     Spot {
         start: spot.start,
         depth: spot.depth + 1,
-        may_open: !(fields.constructed && is_string(fields)) || is_one,
+        may_open: may_open_in(fields, is_one),
     }
+}
+
+/// Whether strings in an element with these fields may be opened: they are no segments, or the only one of a whole
+/// string.
+fn may_open_in(fields: &HeaderFields, is_one: bool) -> bool
+    ensures { (octets : List ℕ)
+        → result ≡ may_open_in (new_header fields.now octets) is_one }
+{
+    !has_segments(fields) || is_one
+}
+
+/// Whether an element with these fields is a constructed string, which holds segments.
+fn has_segments(fields: &HeaderFields) -> bool
+    ensures { (octets : List ℕ) → result ≡ has_segments (new_header fields.now octets) }
+{
+    fields.constructed && is_string(fields)
 }
 
 /// Whether the type is a string (8.6.1, 8.7.1, 8.23, 8.25).
@@ -210,7 +284,6 @@ fn is_string(fields: &HeaderFields) -> bool
                 | universal::OCTET_STRING
                 | universal::OBJECT_DESCRIPTOR
                 | universal::UTF8_STRING
-                | universal::NUMERIC_STRING..=universal::UNIVERSAL_STRING
-                | universal::BMP_STRING
+                | universal::NUMERIC_STRING..=universal::UNIVERSAL_STRING | universal::BMP_STRING
         )
 }

@@ -1,5 +1,5 @@
 //! What a string holds.
-ghost use Rattle.std.specs.Prelude.{◌≡◌, ◌↔◌, ◌<◌, IsTrue, List, MatchOption, ℕ, Some, None};
+ghost use Rattle.std.specs.Prelude.{◌≡◌, ◌↔◌, ◌<◌, ◌≤◌, IfSome, IsTrue, List, MatchOption, ℕ, Some, None, length};
 ghost use Rattle.tlv_head.specs.DepthLimit.{depth_limit};
 ghost use Rattle.tlv_head.specs.Header.{HeaderValue};
 ghost use Rattle.tlv_open.specs.Held.{Holds, inner_octets};
@@ -28,16 +28,18 @@ pub(crate) fn are_held(octets: &[u8], depth: u8) -> bool
         → IsTrue result ↔ ((inner : Forest) × Holds depth h contents inner) }
     ensures shallow { IsTrue result → depth < depth_limit }
 {
-    depth < DEPTH_LIMIT
-        && !octets.is_empty()
-        && elements_size(octets, 0, depth + 1, true, false).is_some()
+    if depth >= DEPTH_LIMIT {
+        return false;
+    }
+    !octets.is_empty() && elements_size(octets, 0, depth + 1, true, false).is_some()
 }
 
 /// The octets that may be encodings (8.6.2, 8.7.2), of a primitive of this class and number: the contents of an OCTET
 /// STRING, those of a BIT STRING after a first octet `00`, and of other types none.
 pub(crate) fn held_octets(class: Class, number: u64, contents: &[u8]) -> Option<&[u8]>
-    ensures { MatchOption result (inner_octets_of class number contents.now ≡ None)
+    ensures inner { MatchOption result (inner_octets_of class number contents.now ≡ None)
         (λ octets. inner_octets_of class number contents.now ≡ Some octets.now) }
+    ensures within { IfSome result (λ octets. length octets.now ≤ length contents.now) }
 {
     match (class, number) {
         (Class::Universal, universal::OCTET_STRING) => Some(contents),

@@ -27,12 +27,10 @@ fn walk_over(octets: &[u8], padding: bool) -> Walker
     requires { length octets.now ≤ input_limit }
     ensures { HasWalkedOver (closed_framing padding) octets.now result }
 {
-    let mut walker = Walker::new(
-        &Framing {
-            inside: Inside::none(),
-            padding,
-        },
-    );
+    let mut walker = Walker::new(&Framing {
+        inside: Inside::none(),
+        padding,
+    });
     let mut rest: &[u8] = octets;
     'steps: loop {
         match walker.step(&mut rest) {

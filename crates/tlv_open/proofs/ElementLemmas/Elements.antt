@@ -1,7 +1,7 @@
 -- An element and what follows it, and a list of elements.
 use Rattle.std.proofs.Common.{◌≡◌, ◌≢◌, ℕ, ◌+◌, ◌≤◌, Bool, true, false, eqb, List, [], ◌∷◌, ◌++◌, length, take, drop}
 use Rattle.std.proofs.Common.{refl, sym, ap, ap₂, ◌∙◌, arith, subst, append_assoc, append-nil, length-append}
-use Rattle.std.proofs.Common.{◌<◌, suc, get_or, drop-cons, eqb-true, ◌&&◌}
+use Rattle.std.proofs.Common.{◌<◌, suc, get_or, drop-cons, eqb-true, ne_eqb}
 use Rattle.std.proofs.lemmas.Bool.{and_parts}
 use Rattle.std.proofs.Math.Seq.{drop-append_seam}
 use Rattle.std.proofs.Common.{◌-◌, length-drop}
@@ -11,11 +11,11 @@ use Rattle.tlv_head.proofs.ReaderLemmas.Prefix.{header-two}
 use Rattle.tlv_walk.specs.Forest.{Forest, Holder, NoMore, OpenBitString, OpenEndOctets, OpenHeader, OpenHolder}
 use Rattle.tlv_walk.specs.Forest.{OpenPrimitive, PaddingOctet, Primitive, end_octets, extent, lead, opening}
 use Rattle.tlv_walk.specs.Forest.{primitive_extent, spelling}
-use Rattle.tlv_walk.specs.Place.{Place, IsHeaderAt, place_after, place_of_children}
+use Rattle.tlv_walk.specs.Place.{Place, place_after, place_of_children}
 use Rattle.tlv_walk.specs.Reading.{IsSound}
 use Rattle.tlv_walk.proofs.GrammarLemmas.Spellings.{length-holder, length-opening, length-primitive}
 use Rattle.tlv_open.specs.Private.Elements.{AreLikelyIf, BeginsWithElement, BeginsWithElements, BeginsWithNoElement}
-use Rattle.tlv_open.specs.Private.Elements.{BeginsWithNoElements, is_end, is_one_element, place_at}
+use Rattle.tlv_open.specs.Private.Elements.{is_end, is_one_element, place_at}
 use Rattle.tlv_open.proofs.ElementLemmas.OneElement.{AreOne, holder-one, inside-alike, not-both, one-list, opening-one}
 use Rattle.tlv_open.proofs.ElementLemmas.OneElement.{zero-no_header}
 use Rattle.tlv_open.proofs.ElementLemmas.OneElement.{primitive-one, regroup-3, regroup-4}
@@ -332,3 +332,16 @@ no_element-at_end p likely octets at h n b =
       element-within p likely (drop at octets) n b,
       length-drop at octets,
     )
+
+-- and what is left of that after some octets more
+pub tail-of_tail : (octets : List ℕ) (at m : ℕ)
+    → take (length (take (length octets - at) (drop at octets)) - m)
+    (drop m (take (length octets - at) (drop at octets)))
+    ≡ drop m (drop at octets)
+tail-of_tail octets at m =
+    tail-all (take (length octets - at) (drop at octets)) m ∙ ap (drop m) (tail-all octets at)
+
+-- elements end where there are no more octets
+pub empty-end : (octets : List ℕ) → eqb (length octets) 0 ≡ is_end false octets
+empty-end [] = refl
+empty-end (x ∷ octets) = ne_eqb (length (x ∷ octets)) 0 (λ e. omega (arith, e))

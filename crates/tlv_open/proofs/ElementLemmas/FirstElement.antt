@@ -1,10 +1,10 @@
 -- The element with which octets begin, by its header.
-use Rattle.std.proofs.Common.{◌≡◌, ◌≢◌, ℕ, ◌+◌, ◌<◌, ◌≤◌, Bool, true, false, ◌||◌, List, [], ◌∷◌, ◌++◌, length, take, drop}
+use Rattle.std.proofs.Common.{◌≡◌, ℕ, ◌+◌, ◌<◌, ◌≤◌, Bool, true, false, ◌||◌, List, [], ◌∷◌, ◌++◌, length, take, drop}
 use Rattle.std.proofs.Common.{IfSome, refl, sym, ap, ap₂, ◌∙◌, arith, subst, append_assoc, append-nil, length-append}
-use Rattle.std.proofs.Common.{length-take, length-drop, eqb, eqb-true}
+use Rattle.std.proofs.Common.{eqb, eqb-true}
 use Rattle.std.proofs.lemmas.Bool.{and_parts}
 use Rattle.std.proofs.lemmas.List.{length-take-le, take-append-drop}
-use Rattle.std.proofs.Math.Seq.{drop-append_seam, take-append_seam}
+use Rattle.std.proofs.Math.Seq.{take-append_seam}
 use Rattle.tlv_head.specs.declared.header.Class.{Class}
 use Rattle.tlv_head.specs.declared.header.HeaderFields.{HeaderFields}
 use Rattle.tlv_head.specs.declared.header.Size.{Size}
@@ -13,27 +13,27 @@ use Rattle.tlv_head.specs.Header.{HeaderValue, IsHeader, definite_length, holds,
 use Rattle.tlv_head.specs.HeaderFields.{new_header}
 use Rattle.tlv_head.specs.ReadHeader.{BeginsWithFields}
 use Rattle.tlv_head.specs.Refusal.{BeginsWithNoHeader}
-use Rattle.tlv_walk.specs.Forest.{Forest, Holder, NoMore, Primitive, end_octets, extent, lead, opening, spelling}
-use Rattle.tlv_walk.specs.Place.{HasItsLength, IsHeaderAt, Place, place_of_children}
+use Rattle.tlv_walk.specs.Forest.{Forest, Holder, NoMore, Primitive, end_octets, lead, opening, spelling}
+use Rattle.tlv_walk.specs.Place.{IsHeaderAt, Place, place_of_children}
 use Rattle.tlv_walk.specs.Reading.{IsSound}
 use Rattle.tlv_walk.proofs.GrammarLemmas.Spellings.{length-holder, length-opening, length-primitive}
 use Rattle.tlv_open.specs.Held.{IsClearPrimitive}
 use Rattle.tlv_open.specs.Private.Elements.{AreLikelyIf, BeginsWithElement, BeginsWithElements, BeginsWithNoElement}
 use Rattle.tlv_open.specs.Private.Elements.{BeginsWithNoElements, is_end, is_one_element, place_at}
-use Rattle.tlv_open.proofs.ElementLemmas.OneElement.{append-split, header-one, regroup-3, regroup-4}
+use Rattle.tlv_open.proofs.ElementLemmas.OneElement.{header-one, regroup-3, regroup-4}
 use Rattle.tlv_open.proofs.ElementLemmas.Places.{AreAlike, alike-back, sound-alike}
 
 -- an element that is not named holds others exactly if it is constructed
-unnamed-holds : (constructed named : Bool) (class : Class) (number : ℕ) (size : Size) → named ≡ false
+pub unnamed-holds : (constructed named : Bool) (class : Class) (number : ℕ) (size : Size) → named ≡ false
     → (constructed || is_wrapper named class constructed number size) ≡ constructed
 unnamed-holds true named class number size e = refl
 unnamed-holds false named class number size e = rw e refl
 
-lead-none : (h : HeaderValue) → h.constructed ≡ true → lead h ≡ []
+pub lead-none : (h : HeaderValue) → h.constructed ≡ true → lead h ≡ []
 lead-none h e = rw e refl
 
 -- a definite length, if nothing is before what is held
-length-led : (s : Size) (l m : ℕ) → l ≡ 0 → IfSome (definite_length s) (λ n. l + m ≡ n)
+pub length-led : (s : Size) (l m : ℕ) → l ≡ 0 → IfSome (definite_length s) (λ n. l + m ≡ n)
     → IfSome (definite_length s) (λ n. m ≡ n)
 length-led (Definite n) l m e same = omega arith
 length-led Indefinite l m e same = tt

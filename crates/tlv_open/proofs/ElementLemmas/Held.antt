@@ -1,15 +1,15 @@
 -- What strings hold.
 use Rattle.std.proofs.Common.{◌≡◌, ◌↔◌, ℕ, ◌+◌, ◌<◌, Bool, true, false, eqb, List, [], ◌∷◌, ◌++◌, length, Option, Some}
-use Rattle.std.proofs.Common.{None, IsTrue, MatchOption, refl, sym, ap, ◌∙◌, arith, append-nil, length-append, eqb-true}
+use Rattle.std.proofs.Common.{None, IsTrue, MatchOption, refl, sym, ap, ◌∙◌, arith, append-nil, eqb-true}
 use Rattle.std.specs.Option.{is_some}
-use Rattle.tlv_head.specs.Header.{HeaderValue, octets_of}
+use Rattle.tlv_head.specs.Header.{HeaderValue}
 use Rattle.tlv_head.proofs.ReaderLemmas.Prefix.{header-two}
 use Rattle.tlv_walk.specs.Forest.{Forest, Holder, NoMore, OpenBitString, OpenEndOctets, OpenHeader, OpenHolder}
 use Rattle.tlv_walk.specs.Forest.{OpenPrimitive, PaddingOctet, Primitive, has_element, spelling}
 use Rattle.tlv_walk.specs.Place.{Place}
 use Rattle.tlv_walk.specs.Reading.{IsSound}
 use Rattle.tlv_walk.proofs.GrammarLemmas.Spellings.{length-holder, length-opening, length-primitive}
-use Rattle.tlv_open.specs.Held.{Holds, inner_octets, place_by_itself}
+use Rattle.tlv_open.specs.Held.{Holds, inner_octets}
 use Rattle.tlv_open.specs.Private.Elements.{BeginsWithElements, BeginsWithNoElements, is_end, place_at}
 
 -- there is something that the string holds

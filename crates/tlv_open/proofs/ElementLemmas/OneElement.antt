@@ -1,21 +1,20 @@
 -- Octets begin with one sound element, and with one list of them.
-use Rattle.std.proofs.Common.{◌≡◌, ◌≢◌, ℕ, ◌+◌, ◌≤◌, Bool, true, false, eqb, List, [], ◌∷◌, ◌++◌, length, IfSome}
+use Rattle.std.proofs.Common.{◌≡◌, ℕ, ◌+◌, Bool, true, false, eqb, List, [], ◌∷◌, ◌++◌, length, IfSome}
 use Rattle.std.proofs.Common.{refl, sym, ap, ap₂, ◌∙◌, arith, subst, append_assoc, eqb-true, length-append}
 use Rattle.std.proofs.lemmas.Bool.{and_parts}
-use Rattle.std.proofs.lemmas.List.{append_cancel_left}
 use Rattle.tlv_head.specs.declared.header.Size.{Size}
 use Rattle.tlv_head.specs.declared.header.Size.TheVariants.{Definite, Indefinite}
 use Rattle.tlv_head.specs.declared.fault.FaultCode.TheVariants.{StrayEnd}
 use Rattle.tlv_head.specs.Header.{HeaderValue, IsHeader, definite_length, holds, octets_of}
 use Rattle.tlv_head.proofs.GrammarLemmas.Headers.{one-header}
-use Rattle.tlv_head.proofs.GrammarLemmas.Scan.{Origin, origin_of, scan, Ready, Stuck, scan-header, scan_from-past}
+use Rattle.tlv_head.proofs.GrammarLemmas.Scan.{origin_of, scan, Ready, Stuck, scan-header, scan_from-past}
 use Rattle.tlv_head.proofs.ReaderLemmas.Prefix.{header-two}
 use Rattle.tlv_walk.specs.Forest.{Forest, Holder, NoMore, OpenBitString, OpenEndOctets, OpenHeader, OpenHolder}
-use Rattle.tlv_walk.specs.Forest.{OpenPrimitive, PaddingOctet, Primitive, contents_length, end_octets, extent, lead}
+use Rattle.tlv_walk.specs.Forest.{OpenPrimitive, PaddingOctet, Primitive, end_octets, extent, lead}
 use Rattle.tlv_walk.specs.Forest.{opening, primitive_extent, spelling}
 use Rattle.tlv_walk.specs.Place.{HasItsLength, IsHeaderAt, Place, place_after, place_of_children}
 use Rattle.tlv_walk.specs.Reading.{IsSound}
-use Rattle.tlv_open.specs.Private.Elements.{is_end, is_one_element}
+use Rattle.tlv_open.specs.Private.Elements.{is_end}
 use Rattle.tlv_open.proofs.ElementLemmas.Places.{AreAlike, alike-back, header-alike}
 
 -- no header begins with 00

@@ -1,6 +1,6 @@
 -- Sound elements are so at each place with the same offset, depth and padding.
-use Rattle.std.proofs.Common.{◌≡◌, ℕ, ◌+◌, ◌<◌, Bool, List, length, refl, sym, ap, ap₂, ◌∙◌, arith}
-use Rattle.tlv_head.specs.Header.{HeaderValue, octets_of}
+use Rattle.std.proofs.Common.{◌≡◌, ℕ, ◌+◌, Bool, length, refl, sym, ap, ap₂, ◌∙◌, arith}
+use Rattle.tlv_head.specs.Header.{HeaderValue}
 use Rattle.tlv_walk.specs.Forest.{Forest, Holder, NoMore, OpenBitString, OpenEndOctets, OpenHeader, OpenHolder}
 use Rattle.tlv_walk.specs.Forest.{OpenPrimitive, PaddingOctet, Primitive, extent, opening, primitive_extent}
 use Rattle.tlv_walk.specs.Inside.{is_among}

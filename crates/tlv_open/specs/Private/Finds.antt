@@ -1,14 +1,10 @@
 -- What is found among elements that are read from octets, and what is left to be read.
-use Rattle.std.specs.Prelude.{◌≡◌, ◌⊎◌, ℕ, ◌+◌, Bool, true, false, not, ◌&&◌, ◌||◌, List, [], ◌++◌, length, drop}
-use Rattle.tlv_head.specs.declared.header.HeaderFields.{HeaderFields}
-use Rattle.tlv_head.specs.Header.{HeaderValue, octets_of}
-use Rattle.tlv_head.specs.HeaderFields.{new_header}
-use Rattle.tlv_head.specs.declared.header.Size.TheVariants.{Definite}
-use Rattle.tlv_value.specs.Types.{has_segments}
+use Rattle.std.specs.Prelude.{◌≡◌, ◌⊎◌, ℕ, ◌+◌, Bool, true, false, List, [], ◌++◌, length, drop}
+use Rattle.tlv_head.specs.Header.{HeaderValue}
 use Rattle.tlv_walk.specs.Forest.{Forest, Primitive, is_whole, spelling}
 use Rattle.tlv_walk.specs.Place.{ObeysGrammar, Place, place_after}
 use Rattle.tlv_open.specs.declared.finder.Spot.{Spot}
-use Rattle.tlv_open.specs.Opens.{Opens, Where, may_open_in, where_of_children}
+use Rattle.tlv_open.specs.Opens.{Opens, Where, where_of_children}
 use Rattle.tlv_open.specs.Private.Elements.{is_end}
 
 -- where the elements are at a spot

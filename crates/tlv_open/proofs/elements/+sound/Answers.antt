@@ -1,10 +1,10 @@
-use Rattle.std.proofs.Common.{rules, ◌≡◌, ◌+◌, ◌<◌, ◌≤◌, ℕ, List, Bool, true, false, length, take, drop, ap, sym, arith, add_assoc, ◌∙◌, refl, subst, length-drop}
+use Rattle.std.proofs.Common.{◌≡◌, ◌+◌, ◌<◌, ℕ, List, true, false, length, drop, ap, sym, arith, add_assoc, ◌∙◌, refl, subst, length-drop}
 use Rattle.tlv_open.specs.Private.Elements.{BeginsWithElement, BeginsWithElements, BeginsWithNoElement}
-use Rattle.tlv_open.specs.Private.Elements.{BeginsWithNoElements, is_end, place_at}
+use Rattle.tlv_open.specs.Private.Elements.{is_end, place_at}
 use Rattle.tlv_open.proofs.ElementLemmas.FirstElement.{first-definite, first-indefinite, first-no_end, first-no_list}
-use Rattle.tlv_open.proofs.ElementLemmas.FirstElement.{first-primitive, first-too_deep, first-too_long, first-unclear}
+use Rattle.tlv_open.proofs.ElementLemmas.FirstElement.{first-primitive, first-too_long, first-unclear}
 use Rattle.tlv_open.proofs.ElementLemmas.FirstElement.{no_header-none}
-use Rattle.tlv_open.proofs.ElementLemmas.Elements.{IsElements, none, some, element-within, elements-nil, elements-next, elements-none, elements-rest, elements-start, elements-started, elements-stop, no_element-at_end, no_element-at_zero, tail-all}
+use Rattle.tlv_open.proofs.ElementLemmas.Elements.{element-within, elements-nil, elements-next, elements-none, elements-rest, elements-start, elements-started, elements-stop, no_element-at_end, no_element-at_zero, tail-all}
 use Rattle.tlv_open.proofs.elements.+sound.Goals.{elements_size-then-loop-at-test+else-octets-at-ne0}
 use Rattle.tlv_open.proofs.elements.+sound.Goals.{elements_size-else-loop-at-test}
 use Rattle.tlv_open.proofs.elements.+sound.Goals.{element_size-then-fields-2+in_ok-elements_size-in-Definite}

@@ -1,6 +1,4 @@
-use Rattle.std.proofs.Common.{sym}
 use Rattle.tlv_open.specs.Opens.{closed_framing}
-use Rattle.tlv_walk.specs.Ending.{IsEnding}
 use Rattle.tlv_open.proofs.FinderLemmas.Walks.{ending-count}
 use Rattle.tlv_open.proofs.reading.count_read.Goals as goal
 
