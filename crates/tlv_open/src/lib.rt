@@ -5,6 +5,7 @@
 mod elements;
 mod finder;
 mod held;
+pub mod laws;
 mod reading;
 
 pub use finder::opened;
