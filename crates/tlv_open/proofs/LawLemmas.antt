@@ -1,0 +1,3 @@
+pub mod OneList
+pub mod Deciding
+pub mod SomeList

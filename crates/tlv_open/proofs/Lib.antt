@@ -1,0 +1,3 @@
+pub mod ElementLemmas
+pub mod FinderLemmas
+pub mod LawLemmas
