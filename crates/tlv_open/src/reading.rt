@@ -15,22 +15,23 @@ pub(crate) fn count_read(octets: &[u8], padding: bool) -> usize
     ensures { (f : Forest) → IsReading (closed_framing padding) octets.now f
         → result ≡ length (spelling f) }
 {
-    let walker = walk_over(octets, padding);
+    let framing = Framing {
+        inside: Inside::none(),
+        padding,
+    };
+    let walker = walk_over(octets, &framing);
     match walker.finish() {
         Ending::Done => octets.len(),
         Ending::Fault(fault) => fault.offset as usize,
     }
 }
 
-/// The walker that has walked over the octets, with no string named.
-fn walk_over(octets: &[u8], padding: bool) -> Walker
+/// The walker that has walked over the octets, read so.
+fn walk_over<'f>(octets: &[u8], framing: &'f Framing<'_>) -> Walker<'f>
     requires { length octets.now ≤ input_limit }
-    ensures { HasWalkedOver (closed_framing padding) octets.now result }
+    ensures { HasWalkedOver framing.now octets.now result }
 {
-    let mut walker = Walker::new(&Framing {
-        inside: Inside::none(),
-        padding,
-    });
+    let mut walker = Walker::new(framing);
     let mut rest: &[u8] = octets;
     'steps: loop {
         match walker.step(&mut rest) {

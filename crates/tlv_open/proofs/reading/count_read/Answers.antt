@@ -7,11 +7,11 @@ returns-in-Done c = λ f r.
     let w = c.walk_over-walker.ensures in
     let ends = c.in-Done.ensures.ending c.args.octets.now w.yielded w.at_end in
     ending-count (closed_framing c.args.padding) c.args.octets.now _ f
-    (rw w.framing_is at ends.is_ending) r
+    (rw (w.framing_is, c.none.ensures) at ends.is_ending) r
 
 pub returns-in-Fault : goal.returns-in-Fault
 returns-in-Fault c = λ f r.
     let w = c.walk_over-walker.ensures in
     let ends = c.in-Fault.ensures.ending c.args.octets.now w.yielded w.at_end in
     ending-count (closed_framing c.args.padding) c.args.octets.now _ f
-    (rw w.framing_is at ends.is_ending) r
+    (rw (w.framing_is, c.none.ensures) at ends.is_ending) r

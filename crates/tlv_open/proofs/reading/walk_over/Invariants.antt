@@ -1,12 +1,11 @@
 use Rattle.std.proofs.Common.{◌≡◌, ◌+◌, ◌-◌, ◌++◌, List, ℕ, length}
-use Rattle.tlv_open.specs.Opens.{closed_framing}
 use Rattle.tlv_walk.specs.Events.{EventValue}
 use Rattle.tlv_walk.specs.Stands.{Stands}
 use Rattle.tlv_open.proofs.reading.walk_over.Given as goal
 
 abbrev pub invariant-steps : goal.invariant-steps
 invariant-steps l = record {
-  framing : l.walker.framing ≡ closed_framing l.padding;
+  framing : l.walker.framing ≡ l.framing;
   taken : List ℕ;
   yielded : List EventValue;
   stands : Stands l.walker taken yielded;
