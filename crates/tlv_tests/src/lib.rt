@@ -11,6 +11,8 @@ mod head;
 #[cfg(test)]
 mod inputs;
 #[cfg(test)]
+mod open;
+#[cfg(test)]
 mod reads;
 #[cfg(test)]
 mod run;
