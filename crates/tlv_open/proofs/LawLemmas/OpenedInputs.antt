@@ -1,0 +1,2 @@
+-- ..
+use Rattle.std.proofs.Common.{◌≡◌}
