@@ -120,6 +120,7 @@ lead-contents class number contents octets e = by_class (is_universal class) e
         go : (b : Bool) → eqb x 0 ≡ b → (if b then Some xs else None) ≡ Some octets → x ∷ xs ≡ 0 ∷ octets
         go true z u = let same : xs ≡ octets = cc (u) in ap₂ (λ (a : ℕ) (o : List ℕ). a ∷ o) (eqb-true x 0 z) same
         go false z u = absurd (cc (u))
+
     by_class : (u : Bool)
         → (if u && eqb number 4 then Some contents
         else (if u && eqb number 3 then after_unused_bits contents else None))

@@ -59,6 +59,7 @@ held-wraps class number contents octets constructed size k s e = by_class (is_un
     some_octets : (contents : List ℕ) → after_unused_bits contents ≡ Some octets → eqb (length contents) 0 ≡ false
     some_octets [] t = absurd (cc (t))
     some_octets (x ∷ xs) t = ne_eqb (length (x ∷ xs)) 0 (λ z. omega (arith, z))
+
     by_class : (u : Bool) → is_universal class ≡ u
         → (if u && eqb number 4 then Some contents
         else (if u && eqb number 3 then after_unused_bits contents else None))
