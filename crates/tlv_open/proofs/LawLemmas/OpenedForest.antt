@@ -1,30 +1,26 @@
 -- The forest in which the strings that are opened are named.
-use Rattle.std.proofs.Common.{◌≡◌, ◌≢◌, ℕ, ◌+◌, ◌<◌, ◌≤◌, Bool, true, false, ◌&&◌, ◌||◌, not, eqb, List, [], ◌∷◌, ◌++◌}
-use Rattle.std.proofs.Common.{length, Option, Some, None, IfSome, refl, sym, ap, ap₂, ◌∙◌, arith, subst, append_assoc}
-use Rattle.std.proofs.Common.{inl, inr, append-nil, length-append, eqb-true, if◌then◌else◌}
-use Rattle.std.proofs.lemmas.Bool.{and_parts, cases_Bool}
+use Rattle.std.proofs.Common.{◌≡◌, ℕ, ◌+◌, ◌≤◌, Bool, true, false, ◌&&◌, eqb, List, [], ◌∷◌, ◌++◌}
+use Rattle.std.proofs.Common.{length, Some, None, refl, sym, ap, ap₂, ◌∙◌, arith, append_assoc}
+use Rattle.std.proofs.Common.{inl, inr, length-append, eqb-true, if◌then◌else◌}
+use Rattle.std.proofs.lemmas.Bool.{cases_Bool}
 use Rattle.tlv_head.specs.declared.header.Class.{Class}
-use Rattle.tlv_head.specs.declared.header.Size.{Size}
 use Rattle.tlv_head.specs.declared.header.Size.TheVariants.{Definite}
-use Rattle.tlv_head.specs.Header.{HeaderValue, IsHeader, holds, is_universal, is_wrapper, octets_of}
-use Rattle.tlv_head.specs.UniversalTypes as universal
+use Rattle.tlv_head.specs.Header.{HeaderValue, IsHeader, is_universal, octets_of}
 use Rattle.tlv_head.proofs.ReaderLemmas.Prefix.{header-two}
 use Rattle.tlv_walk.specs.Forest.{Forest, Holder, NoMore, OpenBitString, OpenEndOctets, OpenHeader, OpenHolder}
 use Rattle.tlv_walk.specs.Forest.{OpenPrimitive, PaddingOctet, Primitive, end_octets, extent, has_element, is_whole}
 use Rattle.tlv_walk.specs.Forest.{lead, lead_by, opening, primitive_extent, spelling}
-use Rattle.tlv_walk.specs.Inside.{is_among}
 use Rattle.tlv_walk.specs.Place.{IsHeaderAt, ObeysGrammar, Place, place_after, place_of_children}
 use Rattle.tlv_walk.specs.Reading.{IsSound}
-use Rattle.tlv_walk.specs.Wrappers.{wrapper_offset, wrapper_offset_by, wrapper_offsets}
+use Rattle.tlv_walk.specs.Wrappers.{wrapper_offset_by, wrapper_offsets}
 use Rattle.tlv_walk.proofs.EventLemmas.Wrappers.{Rise}
 use Rattle.tlv_walk.proofs.GrammarLemmas.Spellings.{length-holder, length-opening, length-primitive}
-use Rattle.tlv_open.specs.Held.{Holds, after_unused_bits, inner_octets, place_by_itself}
+use Rattle.tlv_open.specs.Held.{Holds, after_unused_bits, place_by_itself}
 use Rattle.tlv_open.specs.Opens.{Opens, Where, closed, holder, no_more, open_bit_string, open_end_octets, open_header}
-use Rattle.tlv_open.specs.Opens.{open_holder, open_primitive, opened, padded, where_of_held}
+use Rattle.tlv_open.specs.Opens.{open_holder, open_primitive, opened, padded}
 use Rattle.tlv_open.specs.Private.Held.{inner_octets_of}
-use Rattle.tlv_open.proofs.ElementLemmas.FirstElement.{lead-none, unnamed-holds}
+use Rattle.tlv_open.proofs.ElementLemmas.FirstElement.{lead-none}
 use Rattle.tlv_open.proofs.FinderLemmas.FirstRead.{unnamed-form}
-use Rattle.tlv_open.proofs.FinderLemmas.Strings.{lead-size}
 use Rattle.tlv_open.proofs.LawLemmas.Rising.{rise-append, rise-within}
 
 -- a header of elements that are read by themselves, as it is in the input

@@ -2,24 +2,23 @@
 use Rattle.std.proofs.Common.{◌≡◌, ◌≢◌, ℕ, ◌+◌, ◌<◌, ◌≤◌, Bool, true, false, List, [], ◌∷◌, ◌++◌, length, Option, IfSome}
 use Rattle.std.proofs.Common.{refl, sym, ap, ap₂, ◌∙◌, arith, subst, length-append}
 use Rattle.tlv_head.specs.declared.fault.FaultCode.{FaultCode}
-use Rattle.tlv_head.specs.declared.header.Size.{Size}
 use Rattle.tlv_head.specs.declared.header.Size.TheVariants.{Definite}
 use Rattle.tlv_head.specs.Header.{HeaderValue, announced_length, definite_length, holds, octets_of}
 use Rattle.tlv_head.proofs.ReaderLemmas.Prefix.{header-two}
 use Rattle.tlv_walk.specs.Ending.{IsRefusedAt, OpenEnd, bad_end, bad_inside, end_at, missing_end, no_end, no_room}
 use Rattle.tlv_walk.specs.Ending.{open_end, overrun, refused_octet, stray_end, too_deep}
 use Rattle.tlv_walk.specs.Forest.{Forest, Holder, NoMore, OpenBitString, OpenEndOctets, OpenHeader, OpenHolder}
-use Rattle.tlv_walk.specs.Forest.{OpenPrimitive, PaddingOctet, Primitive, contents_length, end_octets, extent, is_whole}
+use Rattle.tlv_walk.specs.Forest.{OpenPrimitive, Primitive, extent}
 use Rattle.tlv_walk.specs.Forest.{lead, opening, primitive_extent, spelling}
 use Rattle.tlv_walk.specs.Inside.{is_among}
 use Rattle.tlv_walk.specs.Place.{Fits, IsHeaderAt, IsWithin, ObeysGrammar, Place, bound_in, place_after, place_of_children}
 use Rattle.tlv_walk.specs.Reading.{IsSound}
 use Rattle.tlv_walk.proofs.GrammarLemmas.PlacedSpelling.{Agrees}
 use Rattle.tlv_walk.proofs.GrammarLemmas.SoundElements.{sound-obeys_grammar, sound-whole}
-use Rattle.tlv_walk.proofs.GrammarLemmas.Spellings.{length-holder, length-opening, length-primitive}
-use Rattle.tlv_open.specs.Held.{Holds, place_by_itself}
+use Rattle.tlv_walk.proofs.GrammarLemmas.Spellings.{length-opening, length-primitive}
+use Rattle.tlv_open.specs.Held.{place_by_itself}
 use Rattle.tlv_open.specs.Opens.{Opens, Where, closed, holder, no_more, open_bit_string, open_end_octets, open_header}
-use Rattle.tlv_open.specs.Opens.{open_holder, open_primitive, opened, padded, where_of_held}
+use Rattle.tlv_open.specs.Opens.{open_holder, open_primitive, opened, padded}
 use Rattle.tlv_open.proofs.LawLemmas.OpenedForest.{ArePlain, grammar-plain, moved, opened_forest, opened-rise}
 use Rattle.tlv_open.proofs.LawLemmas.OpenedForest.{opened-spelling, opened-whole}
 use Rattle.tlv_open.proofs.LawLemmas.OpenedSound.{IsMovedTo, agrees-children, agrees-inner, agrees-others, agrees-rest}

@@ -1,18 +1,17 @@
 -- What comes of an input if the strings that are opened are named.
-use Rattle.std.proofs.Common.{◌≡◌, ℕ, ◌+◌, ◌≤◌, Bool, true, false, List, [], ◌∷◌, ◌++◌, length, refl, sym, ap, ◌∙◌, arith}
+use Rattle.std.proofs.Common.{◌≡◌, ℕ, ◌≤◌, Bool, true, false, List, ◌∷◌, ◌++◌, length, refl, sym, ap, ◌∙◌, arith}
 use Rattle.std.proofs.Common.{subst}
-use Rattle.tlv_head.specs.declared.fault.FaultCode.{FaultCode}
 use Rattle.tlv_walk.specs.declared.ending.Ending.{Ending}
 use Rattle.tlv_walk.specs.Ending.{IsEnding, IsRefusedAt, done, empty, fault_ending, open_end, refused, short}
 use Rattle.tlv_walk.specs.Forest.{Forest, has_element, is_whole, spelling}
-use Rattle.tlv_walk.specs.Place.{ObeysGrammar, Place, top_place}
+use Rattle.tlv_walk.specs.Place.{Place, top_place}
 use Rattle.tlv_walk.specs.Reading.{AreOctets, IsReading}
 use Rattle.tlv_walk.specs.Wrappers.{wrapper_offsets}
 use Rattle.tlv_walk.proofs.GrammarLemmas.Endings.{ending, halt-ending, is-ending}
 use Rattle.tlv_walk.proofs.GrammarLemmas.Faults.{fault-refused}
 use Rattle.tlv_walk.proofs.GrammarLemmas.Readings.{Going, Halted, IsHalt, reading-unique, run-reading}
 use Rattle.tlv_open.specs.Laws.{OpeningIsSafe, OpensWell, opened_framing}
-use Rattle.tlv_open.specs.Opens.{AreOpened, Opens, closed_framing, where_at_top}
+use Rattle.tlv_open.specs.Opens.{Opens, closed_framing, where_at_top}
 use Rattle.tlv_open.proofs.FinderLemmas.Inputs.{read-within}
 use Rattle.tlv_open.proofs.LawLemmas.OpenedForest.{ArePlain, grammar-plain, opened_forest, opened-element, opened-rise}
 use Rattle.tlv_open.proofs.LawLemmas.OpenedForest.{opened-spelling, opened-whole, opened-wrappers}

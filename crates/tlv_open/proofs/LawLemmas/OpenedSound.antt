@@ -1,23 +1,23 @@
 -- Sound elements are sound if the strings that are opened are named.
-use Rattle.std.proofs.Common.{◌≡◌, ◌≢◌, ℕ, ◌+◌, ◌<◌, ◌≤◌, Bool, true, false, ◌&&◌, ◌||◌, not, eqb, List, [], ◌∷◌, ◌++◌}
-use Rattle.std.proofs.Common.{length, Option, Some, None, IfSome, refl, sym, ap, ap₂, ◌∙◌, arith, subst, inl, inr}
+use Rattle.std.proofs.Common.{◌≡◌, ℕ, ◌+◌, ◌≤◌, Bool, true, false, ◌&&◌, ◌||◌, not, eqb, List, [], ◌∷◌, ◌++◌}
+use Rattle.std.proofs.Common.{length, Some, None, IfSome, refl, sym, ap, ◌∙◌, arith, subst, inl, inr}
 use Rattle.std.proofs.Common.{length-append, ne_eqb, if◌then◌else◌}
 use Rattle.std.proofs.lemmas.Bool.{cases_Bool}
 use Rattle.tlv_head.specs.declared.header.Class.{Class}
 use Rattle.tlv_head.specs.declared.header.Size.{Size}
 use Rattle.tlv_head.specs.declared.header.Size.TheVariants.{Definite}
-use Rattle.tlv_head.specs.Header.{HeaderValue, IsHeader, announced_length, definite_length, holds, is_universal}
+use Rattle.tlv_head.specs.Header.{HeaderValue, IsHeader, announced_length, definite_length, is_universal}
 use Rattle.tlv_head.specs.Header.{is_wrapper, octets_of}
 use Rattle.tlv_head.proofs.ReaderLemmas.Prefix.{header-two}
-use Rattle.tlv_walk.specs.Forest.{Forest, Holder, PaddingOctet, Primitive, end_octets, extent, lead, opening}
-use Rattle.tlv_walk.specs.Forest.{contents_length, primitive_extent, spelling}
+use Rattle.tlv_walk.specs.Forest.{Forest, Holder, Primitive, end_octets, extent, lead, opening}
+use Rattle.tlv_walk.specs.Forest.{primitive_extent, spelling}
 use Rattle.tlv_walk.specs.Inside.{is_among}
 use Rattle.tlv_walk.specs.Place.{HasItsLength, IsHeaderAt, Place, place_after, place_of_children}
 use Rattle.tlv_walk.specs.Reading.{IsSound}
 use Rattle.tlv_walk.proofs.EventLemmas.Wrappers.{Rise}
 use Rattle.tlv_walk.proofs.GrammarLemmas.PlacedSpelling.{Agrees}
 use Rattle.tlv_walk.proofs.GrammarLemmas.Spellings.{length-holder, length-opening, length-primitive}
-use Rattle.tlv_open.specs.Held.{Holds, after_unused_bits, inner_octets, place_by_itself}
+use Rattle.tlv_open.specs.Held.{Holds, after_unused_bits, place_by_itself}
 use Rattle.tlv_open.specs.Opens.{Opens, Where, closed, holder, no_more, open_bit_string, open_end_octets, open_header}
 use Rattle.tlv_open.specs.Opens.{open_holder, open_primitive, opened, padded, where_of_held}
 use Rattle.tlv_open.specs.Private.Held.{inner_octets_of}
