@@ -29,7 +29,7 @@ use Rattle.tlv_open.proofs.ElementLemmas.FirstElement.{lead-none, length-led, un
 use Rattle.tlv_open.proofs.ElementLemmas.OneElement.{end-no_header, header-one, regroup-3, regroup-4, zero-no_header}
 
 -- where no string is named, an element holds others exactly if it is constructed
-unnamed-form : (p : Place) (holding : Bool) (h : HeaderValue) → p.inside ≡ [] → IsHeaderAt p holding h
+pub unnamed-form : (p : Place) (holding : Bool) (h : HeaderValue) → p.inside ≡ [] → IsHeaderAt p holding h
     → h.constructed ≡ holding
 unnamed-form p holding h none k =
     sym (unnamed-holds h.constructed h.named h.class h.number h.size (k.named ∙ ap (is_among p.offset) none)) ∙ k.form

@@ -50,7 +50,7 @@ unused-lead (x ∷ xs) octets e = go (eqb x 0) e
     go true t = let same : xs ≡ octets = cc (t) in omega (arith, ap length same)
     go false t = absurd (cc (t))
 
-lead-size : (class : Class) (number : ℕ) (contents octets : List ℕ)
+pub lead-size : (class : Class) (number : ℕ) (contents octets : List ℕ)
     → inner_octets_of class number contents ≡ Some octets
     → length contents ≡ length (lead_by false (eqb number 3)) + length octets
 lead-size class number contents octets e = by_class (is_universal class) e

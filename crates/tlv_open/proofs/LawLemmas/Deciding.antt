@@ -1,9 +1,9 @@
 -- Whether a string holds encodings can be decided.
-use Rattle.std.proofs.Common.{◌≡◌, ◌⊎◌, inl, inr, ℕ, ◌+◌, ◌<◌, ◌≤◌, Bool, true, false, ◌&&◌, eqb, ltb, List, [], ◌∷◌}
-use Rattle.std.proofs.Common.{◌++◌, length, Option, Some, None, IfSome, refl, sym, ap, ◌∙◌, arith, subst, append-nil}
-use Rattle.std.proofs.Common.{eq-eqb, eqb-true, length-append, lt-ltb, ltb-true, if◌then◌else◌}
-use Rattle.std.proofs.lemmas.Bool.{and_parts, cases_Bool}
-use Rattle.tlv_head.specs.Header.{HeaderValue, octets_of, is_universal}
+use Rattle.std.proofs.Common.{◌≡◌, ℕ, ◌+◌, ◌<◌, ◌≤◌, Bool, true, false, ◌&&◌, eqb, ltb, List, [], ◌∷◌}
+use Rattle.std.proofs.Common.{◌++◌, length, Some, refl, sym, ap, ◌∙◌, arith, subst, append-nil}
+use Rattle.std.proofs.Common.{eq-eqb, eqb-true, length-append, lt-ltb, ltb-true}
+use Rattle.std.proofs.lemmas.Bool.{and_parts}
+use Rattle.tlv_head.specs.Header.{HeaderValue, is_universal}
 use Rattle.tlv_show.specs.Conditions.{surroundings_of}
 use Rattle.tlv_show.specs.ShownFindings.{contents_findings, header_findings}
 use Rattle.tlv_show.specs.Site.{top_site}
@@ -17,7 +17,7 @@ use Rattle.tlv_walk.specs.Place.{IsHeaderAt, Place, place_after, place_of_childr
 use Rattle.tlv_walk.specs.Reading.{AreOctets, IsReading, IsSound}
 use Rattle.tlv_walk.proofs.GrammarLemmas.Readings.{is-reading, reading, reading-unique}
 use Rattle.tlv_walk.proofs.GrammarLemmas.SoundElements.{grammar-sound, sound-obeys_grammar, sound-whole}
-use Rattle.tlv_open.specs.Held.{AreLikely, Holds, IsClearPrimitive, inner_octets, place_by_itself}
+use Rattle.tlv_open.specs.Held.{AreLikely, Holds, inner_octets, place_by_itself}
 
 -- so many elements that hold others are few enough, with those in which they are
 abbrev pub is_shallow : ℕ → Forest → Bool
@@ -93,7 +93,7 @@ shallow-less n m (OpenHeader octets) h e = refl
 shallow-less n m OpenEndOctets h e = refl
 
 -- whether elements are likely to be encodings, as a test
-abbrev is_nil : List Finding → Bool
+abbrev pub is_nil : List Finding → Bool
 is_nil found = eqb (length found) 0
 
 nil-is : (found : List Finding) → is_nil found ≡ true → found ≡ []
@@ -103,12 +103,12 @@ nil-is (x ∷ found) e = absurd (omega (arith, eqb-true (length (x ∷ found)) 0
 is-nil : (found : List Finding) → found ≡ [] → is_nil found ≡ true
 is-nil found e = rw e refl
 
-abbrev is_clear : HeaderValue → List ℕ → Bool
+abbrev pub is_clear : HeaderValue → List ℕ → Bool
 is_clear h c =
     is_universal h.class
     && (is_nil (header_findings Ber (surroundings_of top_site) h) && is_nil (contents_findings Ber h c))
 
-abbrev are_likely : Forest → Bool
+abbrev pub are_likely : Forest → Bool
 are_likely (Primitive h c rest) = is_clear h c && are_likely rest
 are_likely (Holder h inside rest) = are_likely rest
 are_likely f = true
@@ -157,44 +157,47 @@ likely-is OpenEndOctets s = refl
 
 -- ---- What octets hold
 
-abbrev pub HoldsSome : ℕ → HeaderValue → List ℕ → Type 0
-HoldsSome depth h contents = (inner : Forest) × Holds depth h contents inner
+-- what octets are read as, if they are what a string holds
+abbrev pub candidate_of : List ℕ → Forest
+candidate_of octets = reading plain_framing octets
+
+-- whether a string so deep holds them
+abbrev pub holds_test : ℕ → List ℕ → Bool
+holds_test depth octets =
+    ltb depth 128
+    && (eqb (length (spelling (candidate_of octets))) (length octets)
+    && (is_whole (candidate_of octets) && (has_element (candidate_of octets)
+    && (is_shallow (depth + 1) (candidate_of octets) && are_likely (candidate_of octets)))))
 
 module _ (depth : ℕ) (h : HeaderValue) (contents octets : List ℕ) (inner : inner_octets h contents ≡ Some octets)
     (each : AreOctets octets) where
   abbrev candidate : Forest
-  candidate = reading plain_framing octets
+  candidate = candidate_of octets
 
   is-candidate : IsReading plain_framing octets candidate
   is-candidate = is-reading plain_framing octets each
 
   -- what is held is the reading of the octets
-  held-is : (s : HoldsSome depth h contents) → s.0 ≡ candidate
-  held-is s =
-      let e : Some (spelling s.0) ≡ Some octets = sym s.1.octets ∙ inner in
-      let spelled : spelling s.0 ≡ octets = cc (e) in
-      let sound : IsSound (top_place plain_framing) s.0 =
-      sound-at (place_by_itself (depth + 1)) 0 s.0 s.1.sound
-      (shallow-less (depth + 1) 0 s.0 (omega arith) (sound-shallow (place_by_itself (depth + 1)) s.0 s.1.sound)) in
-      reading-unique plain_framing octets s.0 candidate
+  held-is : (f : Forest) → Holds depth h contents f → f ≡ candidate
+  held-is f s =
+      let e : Some (spelling f) ≡ Some octets = sym s.octets ∙ inner in
+      let spelled : spelling f ≡ octets = cc (e) in
+      let sound : IsSound (top_place plain_framing) f =
+      sound-at (place_by_itself (depth + 1)) 0 f s.sound
+      (shallow-less (depth + 1) 0 f (omega arith) (sound-shallow (place_by_itself (depth + 1)) f s.sound)) in
+      reading-unique plain_framing octets f candidate
       (record {
-        obeys_grammar = sound-obeys_grammar (top_place plain_framing) s.0 (λ t. refl) tt sound;
-        is_prefix = ([], append-nil (spelling s.0) ∙ spelled);
+        obeys_grammar = sound-obeys_grammar (top_place plain_framing) f (λ t. refl) tt sound;
+        is_prefix = ([], append-nil (spelling f) ∙ spelled);
         longest = λ g o q. omega (arith, ap length q.1, length-append (spelling g) q.0, ap length spelled);
       })
       is-candidate
-
-  abbrev test : Bool
-  test =
-      ltb depth 128
-      && (eqb (length (spelling candidate)) (length octets)
-      && (is_whole candidate && (has_element candidate && (is_shallow (depth + 1) candidate && are_likely candidate))))
 
   prefix-all : (a b o : List ℕ) → a ++ b ≡ o → length a ≡ length o → a ≡ o
   prefix-all a [] o e l = sym (append-nil a) ∙ e
   prefix-all a (x ∷ b) o e l = absurd (omega (arith, ap length e, length-append a (x ∷ b)))
 
-  passes : test ≡ true → HoldsSome depth h contents
+  pub passes : holds_test depth octets ≡ true → Holds depth h contents candidate
   passes e =
       let a : (ltb depth 128 ≡ true) × _ = and_parts _ _ e in
       let b : (eqb (length (spelling candidate)) (length octets) ≡ true) × _ = and_parts _ _ a.1 in
@@ -202,23 +205,21 @@ module _ (depth : ℕ) (h : HeaderValue) (contents octets : List ℕ) (inner : i
       let d : (has_element candidate ≡ true) × _ = and_parts _ _ c.1 in
       let f : (is_shallow (depth + 1) candidate ≡ true) × (are_likely candidate ≡ true) = and_parts _ _ d.1 in
       let all : spelling candidate ≡ octets =
-      prefix-all (spelling candidate) is-candidate.is_prefix.0 octets is-candidate.is_prefix.1 (eqb-true _ _ b.0) in (
-        candidate,
-        record {
-          octets = inner ∙ ap Some (sym all);
-          shallow = ltb-true depth 128 a.0;
-          sound =
-              sound-at (top_place plain_framing) (depth + 1) candidate
-              (grammar-sound (top_place plain_framing) candidate is-candidate.obeys_grammar c.0) f.0;
-          some = d.0;
-          likely = likely-from candidate f.1;
-        },
-      )
+      prefix-all (spelling candidate) is-candidate.is_prefix.0 octets is-candidate.is_prefix.1 (eqb-true _ _ b.0) in
+      record {
+        octets = inner ∙ ap Some (sym all);
+        shallow = ltb-true depth 128 a.0;
+        sound =
+            sound-at (top_place plain_framing) (depth + 1) candidate
+            (grammar-sound (top_place plain_framing) candidate is-candidate.obeys_grammar c.0) f.0;
+        some = d.0;
+        likely = likely-from candidate f.1;
+      }
 
-  tested : HoldsSome depth h contents → test ≡ true
-  tested s =
+  tested : (f : Forest) → Holds depth h contents f → holds_test depth octets ≡ true
+  tested f s =
       let holds : Holds depth h contents candidate =
-      subst (λ (f : Forest). Holds depth h contents f) (held-is s) s.1 in
+      subst (λ (g : Forest). Holds depth h contents g) (held-is f s) s in
       let e : Some (spelling candidate) ≡ Some octets = sym holds.octets ∙ inner in
       let spelled : spelling candidate ≡ octets = cc (e) in
       and-true _ _ (lt-ltb depth 128 holds.shallow)
@@ -228,8 +229,5 @@ module _ (depth : ℕ) (h : HeaderValue) (contents octets : List ℕ) (inner : i
       (and-true _ _ (sound-shallow (place_by_itself (depth + 1)) candidate holds.sound)
       (likely-is candidate holds.likely)))))
 
-  pub decided : HoldsSome depth h contents ⊎ (HoldsSome depth h contents → ⊥)
-  decided = elim (cases_Bool test) [
-    | inl e ↦ inl (passes e)
-    | inr e ↦ inr (λ s. let t : true ≡ false = sym (tested s) ∙ e in absurd (cc (t)))
-  ]
+  pub fails : holds_test depth octets ≡ false → (f : Forest) → Holds depth h contents f → ⊥
+  fails e f s = let t : true ≡ false = sym (tested f s) ∙ e in absurd (cc (t))

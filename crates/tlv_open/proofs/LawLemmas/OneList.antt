@@ -1,8 +1,8 @@
 -- An input has no second list of strings that are opened.
-use Rattle.std.proofs.Common.{◌≡◌, ℕ, ◌+◌, Bool, List, [], ◌∷◌, ◌++◌, Some, refl, sym, ap, ap₂, ◌∙◌, subst}
+use Rattle.std.proofs.Common.{◌≡◌, ℕ, ◌+◌, Bool, List, ◌∷◌, ◌++◌, Some, refl, sym, ap₂, ◌∙◌, subst}
 use Rattle.tlv_head.specs.Header.{HeaderValue}
-use Rattle.tlv_walk.specs.Forest.{Forest, Holder, NoMore, OpenBitString, OpenEndOctets, OpenHeader, OpenHolder}
-use Rattle.tlv_walk.specs.Forest.{OpenPrimitive, PaddingOctet, Primitive, spelling}
+use Rattle.tlv_walk.specs.Forest.{Forest}
+use Rattle.tlv_walk.specs.Forest.{spelling}
 use Rattle.tlv_walk.proofs.GrammarLemmas.Readings.{reading-unique, spelling-unique}
 use Rattle.tlv_walk.proofs.GrammarLemmas.SoundElements.{sound-obeys_grammar}
 use Rattle.tlv_open.specs.Held.{Holds, place_by_itself}

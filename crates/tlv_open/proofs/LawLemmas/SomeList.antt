@@ -1,8 +1,7 @@
 -- An input has a list of strings that are opened.
-use Rattle.std.proofs.Common.{◌≡◌, ◌⊎◌, inl, inr, ℕ, zero, suc, ◌+◌, ◌<◌, ◌≤◌, Bool, true, false, ◌&&◌, List, [], ◌∷◌}
-use Rattle.std.proofs.Common.{◌++◌, length, take, Option, Some, None, refl, sym, ap, ◌∙◌, arith, subst, append_assoc}
+use Rattle.std.proofs.Common.{◌≡◌, ℕ, zero, suc, ◌+◌, ◌<◌, ◌≤◌, Bool, true, false, List, [], ◌∷◌}
+use Rattle.std.proofs.Common.{◌++◌, length, Option, Some, None, refl, sym, ◌∙◌, arith, subst}
 use Rattle.std.proofs.Common.{if◌then◌else◌, eqb}
-use Rattle.std.proofs.lemmas.Bool.{cases_Bool}
 use Rattle.std.proofs.lemmas.List.Elements.{All-tail, All-take}
 use Rattle.std.proofs.Math.Seq.{take-append_seam}
 use Rattle.tlv_head.specs.Header.{HeaderValue, octets_of}
@@ -17,7 +16,7 @@ use Rattle.tlv_open.specs.Laws.{InputsHaveOneList}
 use Rattle.tlv_open.specs.Opens as opens
 use Rattle.tlv_open.specs.Opens.{AreOpened, Opens, Where, closed_framing, is_one_primitive, where_at_top}
 use Rattle.tlv_open.specs.Opens.{where_of_children, where_of_held}
-use Rattle.tlv_open.proofs.LawLemmas.Deciding.{HoldsSome, decided}
+use Rattle.tlv_open.proofs.LawLemmas.Deciding.{candidate_of, fails, holds_test, passes}
 use Rattle.tlv_open.proofs.LawLemmas.OneList.{opened-one}
 
 -- parts of octets are octets
@@ -49,87 +48,123 @@ inner-are_octets h contents octets e each = by_type (is_a universal.octet_string
     by_type false true t = unused-octets contents octets t each
     by_type false false t = absurd (cc (t))
 
--- there is a list
-abbrev SomeOpens : Where → Forest → Type 0
-SomeOpens w f = (xs : List ℕ) × Opens w f xs
+-- ---- The list
 
--- of a primitive, if there is one of what it may hold
-module _ (w : Where) (h : HeaderValue) (contents : List ℕ) (rest : Forest) (each : AreOctets contents)
-    (held : (inner : Forest) → Holds w.depth h contents inner → AreOctets (spelling inner)
-    → SomeOpens (where_of_held w h) inner)
-    (more : SomeOpens w rest) where
-  unopened : (w.may_open ≡ true → (inner : Forest) → Holds w.depth h contents inner → ⊥)
-      → SomeOpens w (Primitive h contents rest)
-  unopened none = (more.0, opens.closed none more.1)
+-- of a string among elements with these inner octets, if it has any, by what is found in what strings hold
+abbrev pub string_list : (Where → HeaderValue → Forest → List ℕ) → Where → HeaderValue → Option (List ℕ) → List ℕ
+string_list held w h None = []
+string_list held w h (Some octets) =
+    if holds_test w.depth octets then (w.start + h.offset) ∷ held w h (candidate_of octets) else []
+
+-- of elements
+abbrev pub list_in : (Where → HeaderValue → Forest → List ℕ) → Where → Forest → List ℕ
+list_in held w NoMore = []
+list_in held w (PaddingOctet rest) = list_in held w rest
+list_in held w (Primitive h c rest) =
+    string_list held w h (if w.may_open then inner_octets h c else None) ++ list_in held w rest
+list_in held w (Holder h inside rest) =
+    list_in held (where_of_children w h (is_one_primitive inside)) inside ++ list_in held w rest
+list_in held w (OpenPrimitive h c) = []
+list_in held w (OpenHolder h inside) = list_in held (where_of_children w h false) inside
+list_in held w (OpenBitString h) = []
+list_in held w (OpenHeader octets) = []
+list_in held w OpenEndOctets = []
+
+-- of elements, with strings in so many others
+abbrev pub opened_list : ℕ → Where → Forest → List ℕ
+opened_list zero w f = list_in (λ v h g. []) w f
+opened_list (suc k) w f = list_in (λ v h g. opened_list k (where_of_held v h) g) w f
+
+-- ---- It is right
+
+-- of a primitive, if it is so of what it may hold
+module _ (held : Where → HeaderValue → Forest → List ℕ) (w : Where) (h : HeaderValue) (contents : List ℕ)
+    (rest : Forest) (ys : List ℕ) (each : AreOctets contents)
+    (is_held : (inner : Forest) → Holds w.depth h contents inner → AreOctets (spelling inner)
+    → Opens (where_of_held w h) inner (held w h inner))
+    (more : Opens w rest ys) where
+  by_test : w.may_open ≡ true → (octets : List ℕ) → inner_octets h contents ≡ Some octets → (b : Bool)
+      → holds_test w.depth octets ≡ b
+      → Opens w (Primitive h contents rest)
+      ((if b then (w.start + h.offset) ∷ held w h (candidate_of octets) else []) ++ ys)
+  by_test m octets e true t =
+      let each' : AreOctets octets = inner-are_octets h contents octets e each in
+      let s : Holds w.depth h contents (candidate_of octets) = passes w.depth h contents octets e each' t in
+      let u : Some (spelling (candidate_of octets)) ≡ Some octets = sym s.octets ∙ e in
+      let same : spelling (candidate_of octets) ≡ octets = cc (u) in
+      opens.opened m (candidate_of octets) s (is_held (candidate_of octets) s (subst AreOctets (sym same) each')) more
+  by_test m octets e false t =
+      opens.closed
+      (λ _ inner s.
+      fails w.depth h contents octets e (inner-are_octets h contents octets e each) t inner s) more
 
   by_octets : w.may_open ≡ true → (o : Option (List ℕ)) → inner_octets h contents ≡ o
-      → SomeOpens w (Primitive h contents rest)
+      → Opens w (Primitive h contents rest) (string_list held w h o ++ ys)
   by_octets m None e =
-      unopened (λ t inner s. let u : Some (spelling inner) ≡ None = sym s.octets ∙ e in absurd (cc (u)))
-  by_octets m (Some octets) e =
-      let each' : AreOctets octets = inner-are_octets h contents octets e each in
-      elim (decided w.depth h contents octets e each') [
-        | inl s ↦
-            let t : Some (spelling s.0) ≡ Some octets = sym s.1.octets ∙ e in
-            let same : spelling s.0 ≡ octets = cc (t) in
-            let i : SomeOpens (where_of_held w h) s.0 = held s.0 s.1 (subst AreOctets (sym same) each') in
-            ((w.start + h.offset) ∷ (i.0 ++ more.0), opens.opened m s.0 s.1 i.1 more.1)
-        | inr none ↦ unopened (λ t inner s. none (inner, s))
-      ]
+      opens.closed (λ t inner s. let u : Some (spelling inner) ≡ None = sym s.octets ∙ e in absurd (cc (u))) more
+  by_octets m (Some octets) e = by_test m octets e (holds_test w.depth octets) refl
 
-  some-primitive : SomeOpens w (Primitive h contents rest)
-  some-primitive = elim (cases_Bool w.may_open) [
-    | inl m ↦ by_octets m (inner_octets h contents) refl
-    | inr m ↦ unopened (λ t inner s. let u : true ≡ false = sym t ∙ m in absurd (cc (u)))
-  ]
+  by_may : (b : Bool) → w.may_open ≡ b
+      → Opens w (Primitive h contents rest) (string_list held w h (if b then inner_octets h contents else None) ++ ys)
+  by_may true m = by_octets m (inner_octets h contents) refl
+  by_may false m = opens.closed (λ t inner s. let u : true ≡ false = sym t ∙ m in absurd (cc (u))) more
 
--- of elements, if there is one of what strings among them hold
-some-list : (k : ℕ)
+-- of elements, if it is so of what strings among them hold
+in-opens : (k : ℕ) (held : Where → HeaderValue → Forest → List ℕ)
     → ((w : Where) → 128 ≤ w.depth + k → (h : HeaderValue) (c : List ℕ) (inner : Forest) → Holds w.depth h c inner
-    → AreOctets (spelling inner) → SomeOpens (where_of_held w h) inner)
-    → (w : Where) (f : Forest) → 128 ≤ w.depth + k → AreOctets (spelling f) → SomeOpens w f
-some-list k held w NoMore few each = ([], opens.no_more)
-some-list k held w (PaddingOctet rest) few each =
-    let r : SomeOpens w rest = some-list k held w rest few (All-tail (λ k. k < 256) 0 (spelling rest) each) in
-    (r.0, opens.padded r.1)
-some-list k held w (Primitive h c rest) few each =
+    → AreOctets (spelling inner) → Opens (where_of_held w h) inner (held w h inner))
+    → (w : Where) (f : Forest) → 128 ≤ w.depth + k → AreOctets (spelling f) → Opens w f (list_in held w f)
+in-opens k held is w NoMore few each = opens.no_more
+in-opens k held is w (PaddingOctet rest) few each =
+    opens.padded (in-opens k held is w rest few (All-tail (λ k. k < 256) 0 (spelling rest) each))
+in-opens k held is w (Primitive h c rest) few each =
     let inside : AreOctets (c ++ spelling rest) = back-octets (octets_of h) (c ++ spelling rest) each in
-    let r : SomeOpens w rest = some-list k held w rest few (back-octets c (spelling rest) inside) in
-    some-primitive w h c rest (front-octets c (spelling rest) inside) (λ inner s e. held w few h c inner s e) r
-some-list k held w (Holder h inside rest) few each =
+    by_may held w h c rest (list_in held w rest) (front-octets c (spelling rest) inside)
+    (λ inner s e. is w few h c inner s e)
+    (in-opens k held is w rest few (back-octets c (spelling rest) inside)) w.may_open refl
+in-opens k held is w (Holder h inside rest) few each =
     let all : AreOctets (spelling inside ++ (end_octets h.size ++ spelling rest)) =
     back-octets (opening h) (spelling inside ++ (end_octets h.size ++ spelling rest)) each in
-    let i : SomeOpens (where_of_children w h (is_one_primitive inside)) inside =
-    some-list k held (where_of_children w h (is_one_primitive inside)) inside (omega arith)
-    (front-octets (spelling inside) (end_octets h.size ++ spelling rest) all) in
-    let r : SomeOpens w rest =
-    some-list k held w rest few
+    opens.holder
+    (in-opens k held is (where_of_children w h (is_one_primitive inside)) inside (omega arith)
+    (front-octets (spelling inside) (end_octets h.size ++ spelling rest) all))
+    (in-opens k held is w rest few
     (back-octets (end_octets h.size) (spelling rest)
-    (back-octets (spelling inside) (end_octets h.size ++ spelling rest) all)) in
-    (i.0 ++ r.0, opens.holder i.1 r.1)
-some-list k held w (OpenPrimitive h c) few each = ([], opens.open_primitive)
-some-list k held w (OpenHolder h inside) few each =
-    let i : SomeOpens (where_of_children w h false) inside =
-    some-list k held (where_of_children w h false) inside (omega arith) (back-octets (opening h) (spelling inside) each) in
-    (i.0, opens.open_holder i.1)
-some-list k held w (OpenBitString h) few each = ([], opens.open_bit_string)
-some-list k held w (OpenHeader octets) few each = ([], opens.open_header)
-some-list k held w OpenEndOctets few each = ([], opens.open_end_octets)
+    (back-octets (spelling inside) (end_octets h.size ++ spelling rest) all)))
+in-opens k held is w (OpenPrimitive h c) few each = opens.open_primitive
+in-opens k held is w (OpenHolder h inside) few each =
+    opens.open_holder
+    (in-opens k held is (where_of_children w h false) inside (omega arith)
+    (back-octets (opening h) (spelling inside) each))
+in-opens k held is w (OpenBitString h) few each = opens.open_bit_string
+in-opens k held is w (OpenHeader octets) few each = opens.open_header
+in-opens k held is w OpenEndOctets few each = opens.open_end_octets
 
 -- of any elements, since strings are opened inside fewer than 128
-all-lists : (k : ℕ) (w : Where) (f : Forest) → 128 ≤ w.depth + k → AreOctets (spelling f) → SomeOpens w f
-all-lists zero w f few each =
-    some-list zero (λ v b h c inner s e. absurd (omega (arith, s.shallow, b))) w f few each
-all-lists (suc k) w f few each =
-    some-list (suc k)
-    (λ v b h c inner s e. all-lists k (where_of_held v h) inner (omega (arith, b)) e) w f few each
+list-opens : (k : ℕ) (w : Where) (f : Forest) → 128 ≤ w.depth + k → AreOctets (spelling f)
+    → Opens w f (opened_list k w f)
+list-opens zero w f few each =
+    in-opens zero (λ v h g. []) (λ v b h c inner s e. absurd (omega (arith, s.shallow, b))) w f few each
+list-opens (suc k) w f few each =
+    in-opens (suc k) (λ v h g. opened_list k (where_of_held v h) g)
+    (λ v b h c inner s e. list-opens k (where_of_held v h) inner (omega (arith, b)) e) w f few each
 
-pub one-list_opened : InputsHaveOneList
-one-list_opened padding octets each =
+-- of an input
+abbrev pub input_list : Bool → List ℕ → List ℕ
+input_list padding octets = opened_list 128 where_at_top (reading (closed_framing padding) octets)
+
+pub input-opens : (padding : Bool) (octets : List ℕ) → AreOctets octets
+    → AreOpened padding octets (input_list padding octets)
+input-opens padding octets each =
     let f : Forest = reading (closed_framing padding) octets in
     let r : IsReading (closed_framing padding) octets f = is-reading (closed_framing padding) octets each in
     let read : AreOctets (spelling f) =
     front-octets (spelling f) r.is_prefix.0 (subst AreOctets (sym r.is_prefix.1) each) in
-    let s : SomeOpens where_at_top f = all-lists 128 where_at_top f (omega arith) read in
-    let opened : AreOpened padding octets s.0 = record { reading = f; is_reading = r; opens = s.1 } in
-    (s.0, opened, λ ys other. opened-one padding octets s.0 ys opened other)
+    record { reading = f; is_reading = r; opens = list-opens 128 where_at_top f (omega arith) read }
+
+pub one-list_opened : InputsHaveOneList
+one-list_opened padding octets each = (
+  input_list padding octets,
+  input-opens padding octets each,
+  λ ys other. opened-one padding octets (input_list padding octets) ys (input-opens padding octets each) other,
+)

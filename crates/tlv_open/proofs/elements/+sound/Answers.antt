@@ -2,7 +2,7 @@ use Rattle.std.proofs.Common.{◌≡◌, ◌+◌, ◌<◌, ℕ, List, true, fals
 use Rattle.tlv_open.specs.Private.Elements.{BeginsWithElement, BeginsWithElements, BeginsWithNoElement}
 use Rattle.tlv_open.specs.Private.Elements.{is_end, place_at}
 use Rattle.tlv_open.proofs.ElementLemmas.FirstElement.{first-definite, first-indefinite, first-no_end, first-no_list}
-use Rattle.tlv_open.proofs.ElementLemmas.FirstElement.{first-primitive, first-too_long, first-unclear}
+use Rattle.tlv_open.proofs.ElementLemmas.FirstElement.{first-primitive, first-too_deep, first-too_long, first-unclear}
 use Rattle.tlv_open.proofs.ElementLemmas.FirstElement.{no_header-none}
 use Rattle.tlv_open.proofs.ElementLemmas.Elements.{element-within, elements-nil, elements-next, elements-none, elements-rest, elements-start, elements-started, elements-stop, no_element-at_end, no_element-at_zero, tail-all}
 use Rattle.tlv_open.proofs.elements.+sound.Goals.{elements_size-then-loop-at-test+else-octets-at-ne0}
@@ -18,6 +18,11 @@ use Rattle.tlv_open.proofs.elements.+sound.Goals as goal
 pub element_size-returns-in_err-fields : goal.element_size-returns-in_err-fields
 element_size-returns-in_err-fields t c =
     rw c.from_residual.ensures (no_header-none _ _ c.args.octets.now c.in_err-fields.ensures)
+
+pub element_size-returns-then-depth-ge-DEPTH_LIMIT : goal.element_size-returns-then-depth-ge-DEPTH_LIMIT
+element_size-returns-then-depth-ge-DEPTH_LIMIT t c =
+    first-too_deep c.args.octets.now c.args.offset c.args.depth c.args.likely c.in_ok-fields.fields c.in_ok-fields.count
+    c.in_ok-fields.ensures c.if-fields.true c.if-depth-ge-DEPTH_LIMIT.true
 
 pub element_size-returns-then-length-rest : goal.element_size-returns-then-length-rest
 element_size-returns-then-length-rest t c =
