@@ -9,7 +9,7 @@ ghost use Rattle.tlv_run.specs.RunsAndReports.{RunsAndReports};
 ghost use Rattle.tlv_view.specs.Views.{AreOpenedUnless, Views, command_of_view};
 
 use std::alloc::{AllocError, Global};
-use tlv_open::opened;
+use tlv_open::{laws, opened};
 use tlv_run::{Report, run_check, run_dump, run_extract};
 use tlv_show::{FiniteNames, Options, Rules};
 use tlv_walk::{Drain, Framing, Inside, MemSource, Source};
@@ -81,7 +81,7 @@ fn offsets_of_strings(
     ensures opened { IfOk result (λ list. AreOpenedUnless closed padding octets.now list.items) }
     ensures rising { IfOk result (λ list. are_rising 0 list.items ≡ true) }
 {
-    // laws::opening_is_safe();
+    laws::opening_is_safe();
     if closed {
         return Ok(Vec::new(alloc));
     }
