@@ -49,7 +49,7 @@ AreLikely end = Unit {0}
 
 -- a primitive that is `depth` elements deep is a string that holds encodings, and no others: by themselves they are
 -- one or more sound elements at the depth at which they are then, of which the outermost are likely to be encodings
-pub record Holds (depth : ℕ) (h : HeaderValue) (contents : List ℕ) (inner : Forest) : Type 0 where
+pub record HoldsEncodings (depth : ℕ) (h : HeaderValue) (contents : List ℕ) (inner : Forest) : Type 0 where
   pub octets : inner_octets h contents ≡ Some (spelling inner)
   -- the string counts among the elements that hold others
   pub shallow : depth < depth_limit

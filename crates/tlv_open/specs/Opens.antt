@@ -6,7 +6,7 @@ use Rattle.tlv_walk.specs.declared.framing.Framing.{Framing}
 use Rattle.tlv_walk.specs.Forest.{Forest, Holder, NoMore, OpenBitString, OpenEndOctets, OpenHeader, OpenHolder}
 use Rattle.tlv_walk.specs.Forest.{OpenPrimitive, PaddingOctet, Primitive, opening}
 use Rattle.tlv_walk.specs.Reading.{IsReading}
-use Rattle.tlv_open.specs.Held.{Holds}
+use Rattle.tlv_open.specs.Held.{HoldsEncodings}
 
 -- one primitive, and nothing else
 abbrev pub is_one_primitive : Forest → Bool
@@ -39,11 +39,11 @@ pub data Opens : Where → Forest → List ℕ → Type 0 where
   padded : {w : Where} {rest : Forest} {xs : List ℕ} → Opens w rest xs → Opens w (PaddingOctet rest) xs
   -- a string that is opened
   opened : {w : Where} {h : HeaderValue} {contents : List ℕ} {rest : Forest} {xs ys : List ℕ} → w.may_open ≡ true
-      → (inner : Forest) → Holds w.depth h contents inner → Opens (where_of_held w h) inner xs → Opens w rest ys
+      → (inner : Forest) → HoldsEncodings w.depth h contents inner → Opens (where_of_held w h) inner xs → Opens w rest ys
       → Opens w (Primitive h contents rest) ((w.start + h.offset) ∷ (xs ++ ys))
   -- any other primitive
   closed : {w : Where} {h : HeaderValue} {contents : List ℕ} {rest : Forest} {xs : List ℕ}
-      → (w.may_open ≡ true → (inner : Forest) → Holds w.depth h contents inner → ⊥) → Opens w rest xs
+      → (w.may_open ≡ true → (inner : Forest) → HoldsEncodings w.depth h contents inner → ⊥) → Opens w rest xs
       → Opens w (Primitive h contents rest) xs
   holder : {w : Where} {h : HeaderValue} {children rest : Forest} {xs ys : List ℕ}
       → Opens (where_of_children w h (is_one_primitive children)) children xs → Opens w rest ys

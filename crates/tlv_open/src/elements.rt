@@ -6,7 +6,7 @@ ghost use Rattle.tlv_head.specs.ReadHeader.{BeginsWithFields};
 ghost use Rattle.tlv_head.specs.Refusal.{BeginsWithNoHeader};
 ghost use Rattle.tlv_open.specs.Held.{IsClearPrimitive};
 ghost use Rattle.tlv_open.specs.Private.Elements.{BeginsWithElement, BeginsWithElements, BeginsWithNoElement};
-ghost use Rattle.tlv_open.specs.Private.Elements.{BeginsWithNoElements, is_end, place_at};
+ghost use Rattle.tlv_open.specs.Private.Elements.{BeginsWithNoElements, is_elements_end, place_at};
 
 use tlv_head::{Class, Header, HeaderFields, Size, read_header, read_short};
 use tlv_show::has_basic_findings;
@@ -46,7 +46,7 @@ pub(crate) fn elements_size(
     while at < octets.len() && octets[at] != 0 {
         at += element_size(&octets[at..], offset + at as u64, depth, likely)?;
     }
-    if is_end(&octets[at..], end_octets) {
+    if is_elements_end(&octets[at..], end_octets) {
         Some(at)
     } else {
         None
@@ -54,8 +54,8 @@ pub(crate) fn elements_size(
 }
 
 /// Whether elements may end before these octets: before `00 00`, or where there are no more octets.
-fn is_end(octets: &[u8], end_octets: bool) -> bool
-    ensures { result ≡ is_end end_octets octets.now }
+fn is_elements_end(octets: &[u8], end_octets: bool) -> bool
+    ensures { result ≡ is_elements_end end_octets octets.now }
 {
     if end_octets {
         matches!(octets, [0, 0, ..])

@@ -6,7 +6,7 @@ ghost use Rattle.tlv_head.specs.HeaderFields.{new_header};
 ghost use Rattle.tlv_head.specs.ReadHeader.{BeginsWithFields};
 ghost use Rattle.tlv_head.specs.InputLimit.{input_limit};
 ghost use Rattle.tlv_open.specs.Opens.{AreOpened, Where, is_one_primitive, may_open_in};
-ghost use Rattle.tlv_open.specs.Private.Elements.{is_end};
+ghost use Rattle.tlv_open.specs.Private.Elements.{is_elements_end};
 ghost use Rattle.tlv_open.specs.Private.Finds.{AddsAll, AddsFirst, AddsPrimitive, IsReadAt, where_inside, where_of};
 ghost use Rattle.tlv_value.specs.Types.{has_segments, is_string};
 ghost use Rattle.tlv_walk.specs.Forest.{Forest};
@@ -51,7 +51,7 @@ pub fn opened(alloc: Global, octets: &[u8], padding: bool) -> Result<Vec<u64>, A
     Ok(list)
 }
 
-/// Adds the strings that are opened among the elements with which the octets begin, at this offset from where these are
+/// AddsOffsets the strings that are opened among the elements with which the octets begin, at this offset from where these are
 /// counted, and in them. They end with `00 00`, if `end_octets`, or with the octets. Returns how many octets they have.
 #[cycle(find)]
 fn add_opened(
@@ -79,7 +79,7 @@ fn add_opened(
     Ok(at)
 }
 
-/// Adds the element with which the octets begin, if it is a string that is opened, and the strings that are opened in
+/// AddsOffsets the element with which the octets begin, if it is a string that is opened, and the strings that are opened in
 /// it. Returns how many octets it has; if it has not ended, these are all.
 #[cycle(find)]
 fn add_opened_in(
@@ -176,7 +176,7 @@ fn add_in_indefinite(
     Ok(octets.len())
 }
 
-/// Adds the primitive with these fields and contents, if it is a string that is opened, and the strings that are opened
+/// AddsOffsets the primitive with these fields and contents, if it is a string that is opened, and the strings that are opened
 /// in it. `count` is how many octets its header has.
 #[cycle(find)]
 fn add_string(
@@ -214,7 +214,7 @@ fn add_string(
 
 /// Whether the octets begin with `00 00`.
 fn starts_with_end(octets: &[u8]) -> bool
-    ensures { result ≡ is_end true octets.now }
+    ensures { result ≡ is_elements_end true octets.now }
 {
     matches!(octets, [0, 0, ..])
 }
@@ -223,7 +223,7 @@ fn starts_with_end(octets: &[u8]) -> bool
 fn is_one_segment(octets: &[u8], offset: u64, end_octets: bool) -> bool
     ensures { (p : Place) (f : Forest) (depth : ℕ) (rest : List ℕ) → p.padding ≡ false
         → IsReadAt p f depth offset end_octets octets.now rest
-        → result ≡ (is_one_primitive f && is_end end_octets rest) }
+        → result ≡ (is_one_primitive f && is_elements_end end_octets rest) }
 {
     let Some((fields, count)) = header_at(octets, offset) else {
         return false;

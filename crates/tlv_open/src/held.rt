@@ -2,7 +2,7 @@
 ghost use Rattle.std.specs.Prelude.{◌≡◌, ◌↔◌, ◌<◌, ◌≤◌, IfSome, IsTrue, List, MatchOption, ℕ, Some, None, length};
 ghost use Rattle.tlv_head.specs.DepthLimit.{depth_limit};
 ghost use Rattle.tlv_head.specs.Header.{HeaderValue};
-ghost use Rattle.tlv_open.specs.Held.{Holds, inner_octets};
+ghost use Rattle.tlv_open.specs.Held.{HoldsEncodings, inner_octets};
 ghost use Rattle.tlv_open.specs.Private.Held.{inner_octets_of};
 ghost use Rattle.tlv_walk.specs.Forest.{Forest};
 
@@ -14,7 +14,7 @@ use tlv_head::{Class, Header, universal};
 /// more sound elements, of which each of the outermost is constructed or a primitive of the universal class in which
 /// BER finds nothing. The string counts among the 128 elements that may hold others.
 pub fn holds_encodings(header: &Header, contents: &[u8], depth: u8) -> bool
-    ensures { IsTrue result ↔ ((inner : Forest) × Holds depth header.now contents.now inner) }
+    ensures { IsTrue result ↔ ((inner : Forest) × HoldsEncodings depth header.now contents.now inner) }
 {
     match held_octets(header.class, header.number, contents) {
         Some(octets) => are_held(octets, depth),
@@ -25,7 +25,7 @@ pub fn holds_encodings(header: &Header, contents: &[u8], depth: u8) -> bool
 /// Whether these octets, inside so many elements that hold others, are what a string holds.
 pub(crate) fn are_held(octets: &[u8], depth: u8) -> bool
     ensures held { (h : HeaderValue) (contents : List ℕ) → inner_octets h contents ≡ Some octets.now
-        → IsTrue result ↔ ((inner : Forest) × Holds depth h contents inner) }
+        → IsTrue result ↔ ((inner : Forest) × HoldsEncodings depth h contents inner) }
     ensures shallow { IsTrue result → depth < depth_limit }
 {
     if depth >= DEPTH_LIMIT {

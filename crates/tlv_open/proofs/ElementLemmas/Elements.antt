@@ -15,11 +15,11 @@ use Rattle.tlv_walk.specs.Place.{Place, place_after, place_of_children}
 use Rattle.tlv_walk.specs.Reading.{IsSound}
 use Rattle.tlv_walk.proofs.GrammarLemmas.Spellings.{length-holder, length-opening, length-primitive}
 use Rattle.tlv_open.specs.Private.Elements.{AreLikelyIf, BeginsWithElement, BeginsWithElements, BeginsWithNoElement}
-use Rattle.tlv_open.specs.Private.Elements.{is_end, is_one_element, place_at}
+use Rattle.tlv_open.specs.Private.Elements.{is_elements_end, is_one_element, place_at}
 use Rattle.tlv_open.proofs.ElementLemmas.OneElement.{AreOne, holder-one, inside-alike, not-both, one-list, opening-one}
 use Rattle.tlv_open.proofs.ElementLemmas.OneElement.{zero-no_header}
 use Rattle.tlv_open.proofs.ElementLemmas.OneElement.{primitive-one, regroup-3, regroup-4}
-use Rattle.tlv_open.proofs.ElementLemmas.Places.{AreAlike}
+use Rattle.tlv_open.proofs.ElementLemmas.Places.{AreAlikePlaces}
 
 -- an element, and others after it
 abbrev pub then : Forest → Forest → Forest
@@ -101,13 +101,13 @@ elements-cons p likely ends octets n m b r =
 
 -- a list of elements: one, and a list after it, or none
 pub data IsElements (p : Place) (likely ends : Bool) (octets : List ℕ) : Type 0 where
-  none : is_end ends octets ≡ true → IsElements p likely ends octets
+  none : is_elements_end ends octets ≡ true → IsElements p likely ends octets
   some : (n m : ℕ) → BeginsWithElement p likely octets n
       → BeginsWithElements (place_after p n) likely ends (drop n octets) m → IsElements p likely ends octets
 
 elements-cases : (p : Place) (likely ends : Bool) (f : Forest) (rest octets : List ℕ) → p.padding ≡ false → IsSound p f
-    → AreLikelyIf likely f → is_end ends rest ≡ true → spelling f ++ rest ≡ octets → IsElements p likely ends octets
-elements-cases p likely ends NoMore rest octets z s k e g = none (subst (λ (x : List ℕ). is_end ends x ≡ true) g e)
+    → AreLikelyIf likely f → is_elements_end ends rest ≡ true → spelling f ++ rest ≡ octets → IsElements p likely ends octets
+elements-cases p likely ends NoMore rest octets z s k e g = none (subst (λ (x : List ℕ). is_elements_end ends x ≡ true) g e)
 elements-cases p likely ends (Primitive h c f) rest octets z s k e g =
     let size : length (octets_of h ++ (c ++ [])) ≡ primitive_extent h c =
     omega (arith, length-append (octets_of h) (c ++ []), length-append c []) in
@@ -191,7 +191,7 @@ one-size p (Holder h inside NoMore) (Holder k inside2 NoMore) x y z o q s t e =
     sym (regroup-4 (opening h) (spelling inside) (end_octets h.size) [] x)
     ∙ (e ∙ regroup-4 (opening k) (spelling inside2) (end_octets k.size) [] y) in
     let same : h ≡ k = (opening-one p h k _ _ s.0 t.0 e').0 in
-    let alike : AreAlike p p = record { offset = refl; depth = refl; padding = refl; inside = refl } in
+    let alike : AreAlikePlaces p p = record { offset = refl; depth = refl; padding = refl; inside = refl } in
     let r : (h ≡ k) × AreOne (spelling inside) (spelling inside2) x y =
     holder-one p h k inside inside2 x y s.0 t.0 s.1 t.1
     (λ u v m n e''.
@@ -227,16 +227,16 @@ elements-started offset depth likely ends octets n e =
     (n, subst (λ (o : ℕ). BeginsWithElements (place_at o depth) likely ends octets n) same e)
 
 -- elements do not end before an octet other than 00
-goes-on : (ends : Bool) (x : ℕ) (more : List ℕ) → x ≢ 0 → is_end ends (x ∷ more) ≡ true → ⊥
+goes-on : (ends : Bool) (x : ℕ) (more : List ℕ) → x ≢ 0 → is_elements_end ends (x ∷ more) ≡ true → ⊥
 goes-on true x [] n e = absurd (cc (e))
 goes-on true x (y ∷ more) n e = n (eqb-true x 0 (and_parts (eqb x 0) (eqb y 0) e).0)
 goes-on false x more n e = absurd (cc (e))
 
 pub no_end-there : (ends : Bool) (octets : List ℕ) (at : ℕ) → at < length octets → get_or octets at 0 ≢ 0
-    → is_end ends (drop at octets) ≡ true → ⊥
+    → is_elements_end ends (drop at octets) ≡ true → ⊥
 no_end-there ends octets at h n e =
     goes-on ends (get_or octets at 0) (drop (suc at) octets) n
-    (subst (λ (o : List ℕ). is_end ends o ≡ true) (drop-cons octets at 0 h) e)
+    (subst (λ (o : List ℕ). is_elements_end ends o ≡ true) (drop-cons octets at 0 h) e)
 
 -- one element more of a list that begins at the offset
 pub elements-next : (offset depth : ℕ) (likely ends : Bool) (octets : List ℕ) (at n : ℕ) → at ≤ length octets
@@ -279,7 +279,7 @@ elements-none offset depth likely ends octets at h nonzero absent r = elim (elem
 ]
 
 -- no elements
-pub elements-nil : (p : Place) (likely ends : Bool) (octets : List ℕ) → is_end ends octets ≡ true
+pub elements-nil : (p : Place) (likely ends : Bool) (octets : List ℕ) → is_elements_end ends octets ≡ true
     → BeginsWithElements p likely ends octets 0
 elements-nil p likely ends octets e = record {
   elements = NoMore;
@@ -293,7 +293,7 @@ elements-nil p likely ends octets e = record {
 
 -- no list, where no header begins and elements do not end
 pub elements-stop : (p : Place) (likely ends : Bool) (octets : List ℕ) (n : ℕ) → p.padding ≡ false
-    → is_end ends octets ≡ false → ((k : ℕ) → BeginsWithElement p likely octets k → ⊥)
+    → is_elements_end ends octets ≡ false → ((k : ℕ) → BeginsWithElement p likely octets k → ⊥)
     → BeginsWithElements p likely ends octets n → ⊥
 elements-stop p likely ends octets n z e absent r = elim (elements-split p likely ends octets n z r) [
   | none t ↦ absurd (cc (e, t))
@@ -342,6 +342,6 @@ tail-of_tail octets at m =
     tail-all (take (length octets - at) (drop at octets)) m ∙ ap (drop m) (tail-all octets at)
 
 -- elements end where there are no more octets
-pub empty-end : (octets : List ℕ) → eqb (length octets) 0 ≡ is_end false octets
+pub empty-end : (octets : List ℕ) → eqb (length octets) 0 ≡ is_elements_end false octets
 empty-end [] = refl
 empty-end (x ∷ octets) = ne_eqb (length (x ∷ octets)) 0 (λ e. omega (arith, e))

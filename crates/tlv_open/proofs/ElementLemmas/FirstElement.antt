@@ -19,9 +19,9 @@ use Rattle.tlv_walk.specs.Reading.{IsSound}
 use Rattle.tlv_walk.proofs.GrammarLemmas.Spellings.{length-holder, length-opening, length-primitive}
 use Rattle.tlv_open.specs.Held.{IsClearPrimitive}
 use Rattle.tlv_open.specs.Private.Elements.{AreLikelyIf, BeginsWithElement, BeginsWithElements, BeginsWithNoElement}
-use Rattle.tlv_open.specs.Private.Elements.{BeginsWithNoElements, is_end, is_one_element, place_at}
+use Rattle.tlv_open.specs.Private.Elements.{BeginsWithNoElements, is_elements_end, is_one_element, place_at}
 use Rattle.tlv_open.proofs.ElementLemmas.OneElement.{header-one, regroup-3, regroup-4}
-use Rattle.tlv_open.proofs.ElementLemmas.Places.{AreAlike, alike-back, sound-alike}
+use Rattle.tlv_open.proofs.ElementLemmas.Places.{AreAlikePlaces, alike-back, sound-alike}
 
 -- an element that is not named holds others exactly if it is constructed
 pub unnamed-holds : (constructed named : Bool) (class : Class) (number : ℕ) (size : Size) → named ≡ false
@@ -131,7 +131,7 @@ module _ (octets : List ℕ) (offset depth : ℕ) (likely : Bool) (f : HeaderFie
   opening-count e =
       omega (arith, length-opening head, head-count, ap (λ (o : List ℕ). length o) (lead-none head e))
 
-  alike-inside : f.constructed ≡ true → AreAlike (place_of_children here head) inner
+  alike-inside : f.constructed ≡ true → AreAlikePlaces (place_of_children here head) inner
   alike-inside e = record {
     offset = ap (λ (n : ℕ). offset + n) (opening-count e);
     depth = refl;
@@ -261,7 +261,7 @@ module _ (octets : List ℕ) (offset depth : ℕ) (likely : Bool) (f : HeaderFie
             );
       }
     where
-      at_end : (o : List ℕ) → is_end false o ≡ true → o ≡ []
+      at_end : (o : List ℕ) → is_elements_end false o ≡ true → o ≡ []
       at_end [] w = refl
       at_end (x ∷ o) w = absurd (cc (w))
 
@@ -303,7 +303,7 @@ module _ (octets : List ℕ) (offset depth : ℕ) (likely : Bool) (f : HeaderFie
       or-false true w = refl
       or-false false w = absurd (cc (w))
 
-      two_zeros : (o : List ℕ) → is_end true o ≡ true → (more : List ℕ) × (o ≡ 0 ∷ 0 ∷ more)
+      two_zeros : (o : List ℕ) → is_elements_end true o ≡ true → (more : List ℕ) × (o ≡ 0 ∷ 0 ∷ more)
       two_zeros [] w = absurd (cc (w))
       two_zeros (x ∷ []) w = absurd (cc (w))
       two_zeros (x ∷ y ∷ more) w =

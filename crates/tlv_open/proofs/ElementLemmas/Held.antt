@@ -9,14 +9,14 @@ use Rattle.tlv_walk.specs.Forest.{OpenPrimitive, PaddingOctet, Primitive, has_el
 use Rattle.tlv_walk.specs.Place.{Place}
 use Rattle.tlv_walk.specs.Reading.{IsSound}
 use Rattle.tlv_walk.proofs.GrammarLemmas.Spellings.{length-holder, length-opening, length-primitive}
-use Rattle.tlv_open.specs.Held.{Holds, inner_octets}
-use Rattle.tlv_open.specs.Private.Elements.{BeginsWithElements, BeginsWithNoElements, is_end, place_at}
+use Rattle.tlv_open.specs.Held.{HoldsEncodings, inner_octets}
+use Rattle.tlv_open.specs.Private.Elements.{BeginsWithElements, BeginsWithNoElements, is_elements_end, place_at}
 
 -- there is something that the string holds
 abbrev pub HoldsSome : ℕ → HeaderValue → List ℕ → Type 0
-HoldsSome depth h contents = (inner : Forest) × Holds depth h contents inner
+HoldsSome depth h contents = (inner : Forest) × HoldsEncodings depth h contents inner
 
-at_end : (o : List ℕ) → is_end false o ≡ true → o ≡ []
+at_end : (o : List ℕ) → is_elements_end false o ≡ true → o ≡ []
 at_end [] w = refl
 at_end (x ∷ o) w = absurd (cc (w))
 
@@ -51,7 +51,7 @@ module _ (depth : ℕ) (h : HeaderValue) (contents octets : List ℕ) (inner : i
   abbrev within : Place
   within = place_at 0 (depth + 1)
 
-  held-is : (f : Forest) → Holds depth h contents f → spelling f ≡ octets
+  held-is : (f : Forest) → HoldsEncodings depth h contents f → spelling f ≡ octets
   held-is f s = let e : Some (spelling f) ≡ Some octets = sym s.octets ∙ inner in cc (e)
 
   holds-from : (n : ℕ) → depth < 128 → eqb (length octets) 0 ≡ false → BeginsWithElements within true false octets n

@@ -14,8 +14,8 @@ use Rattle.tlv_walk.specs.Forest.{OpenPrimitive, PaddingOctet, Primitive, end_oc
 use Rattle.tlv_walk.specs.Forest.{opening, primitive_extent, spelling}
 use Rattle.tlv_walk.specs.Place.{HasItsLength, IsHeaderAt, Place, place_after, place_of_children}
 use Rattle.tlv_walk.specs.Reading.{IsSound}
-use Rattle.tlv_open.specs.Private.Elements.{is_end}
-use Rattle.tlv_open.proofs.ElementLemmas.Places.{AreAlike, alike-back, header-alike}
+use Rattle.tlv_open.specs.Private.Elements.{is_elements_end}
+use Rattle.tlv_open.proofs.ElementLemmas.Places.{AreAlikePlaces, alike-back, header-alike}
 
 -- no header begins with 00
 pub zero-no_header : (h : HeaderValue) (x : ℕ) (r s : List ℕ) → IsHeader h → octets_of h ++ r ≡ x ∷ s → x ≡ 0 → ⊥
@@ -30,7 +30,7 @@ zero-no_header h x r s v e z = first (octets_of h) refl e
         (λ n. omega (arith, ap length begins, ap length n, header-two h v)) ready
 
 -- where elements may end no header begins
-pub end-no_header : (ends : Bool) (octets r : List ℕ) (h : HeaderValue) → is_end ends octets ≡ true → IsHeader h
+pub end-no_header : (ends : Bool) (octets r : List ℕ) (h : HeaderValue) → is_elements_end ends octets ≡ true → IsHeader h
     → octets_of h ++ r ≡ octets → ⊥
 end-no_header true [] r h e v s = absurd (cc)
 end-no_header true (x ∷ []) r h e v s = absurd (cc)
@@ -97,7 +97,7 @@ AreOne a b x y = (a ≡ b) × (x ≡ y)
 -- what two elements with one header hold, up to the end of the first
 inside-one : (s : Size) (l : ℕ) (a b x y : List ℕ)
     → IfSome (definite_length s) (λ n. l + length a ≡ n) → IfSome (definite_length s) (λ n. l + length b ≡ n)
-    → ((u v : List ℕ) → is_end true u ≡ true → is_end true v ≡ true → a ++ u ≡ b ++ v → AreOne a b u v)
+    → ((u v : List ℕ) → is_elements_end true u ≡ true → is_elements_end true v ≡ true → a ++ u ≡ b ++ v → AreOne a b u v)
     → a ++ (end_octets s ++ x) ≡ b ++ (end_octets s ++ y) → AreOne a b x y
 inside-one (Definite n) l a b x y m k one e = append-split a b x y (omega arith) e
 inside-one Indefinite l a b x y m k one e =
@@ -107,7 +107,7 @@ inside-one Indefinite l a b x y m k one e =
 
 pub holder-one : (p : Place) (h k : HeaderValue) (f g : Forest) (x y : List ℕ) → IsHeaderAt p true h
     → IsHeaderAt p true k → HasItsLength h f → HasItsLength k g
-    → ((u v : List ℕ) → is_end true u ≡ true → is_end true v ≡ true → spelling f ++ u ≡ spelling g ++ v
+    → ((u v : List ℕ) → is_elements_end true u ≡ true → is_elements_end true v ≡ true → spelling f ++ u ≡ spelling g ++ v
     → AreOne (spelling f) (spelling g) u v)
     → opening h ++ (spelling f ++ (end_octets h.size ++ x)) ≡ opening k ++ (spelling g ++ (end_octets k.size ++ y))
     → (h ≡ k) × AreOne (spelling f) (spelling g) x y
@@ -129,7 +129,7 @@ pub regroup-3 : (a b c x : List ℕ) → (a ++ (b ++ c)) ++ x ≡ a ++ (b ++ (c 
 regroup-3 a b c x = append_assoc a (b ++ c) x ∙ ap (λ (o : List ℕ). a ++ o) (append_assoc b c x)
 
 -- further on, and inside, the places of two elements with one header are alike
-after-alike : (p q : Place) (m n : ℕ) → AreAlike p q → m ≡ n → AreAlike (place_after p m) (place_after q n)
+after-alike : (p q : Place) (m n : ℕ) → AreAlikePlaces p q → m ≡ n → AreAlikePlaces (place_after p m) (place_after q n)
 after-alike p q m n a e = record {
   offset = omega (arith, a.offset);
   depth = a.depth;
@@ -137,8 +137,8 @@ after-alike p q m n a e = record {
   inside = a.inside;
 }
 
-pub inside-alike : (p q : Place) (h k : HeaderValue) → AreAlike p q → h ≡ k
-    → AreAlike (place_of_children p h) (place_of_children q k)
+pub inside-alike : (p q : Place) (h k : HeaderValue) → AreAlikePlaces p q → h ≡ k
+    → AreAlikePlaces (place_of_children p h) (place_of_children q k)
 inside-alike p q h k a e = record {
   offset = ap₂ (λ (o : ℕ) (z : HeaderValue). o + length (opening z)) a.offset e;
   depth = ap (λ (o : ℕ). o + 1) a.depth;
@@ -151,8 +151,8 @@ extents h k f g e s =
     ap₂ (λ (z : HeaderValue) (o : List ℕ). length (opening z) + (length o + length (end_octets z.size))) e s
 
 -- two lists of sound elements with which octets begin, each up to where elements may end
-pub one-list : (p q : Place) (ends : Bool) (f g : Forest) (x y : List ℕ) → AreAlike p q → p.padding ≡ false
-    → IsSound p f → IsSound q g → is_end ends x ≡ true → is_end ends y ≡ true → spelling f ++ x ≡ spelling g ++ y
+pub one-list : (p q : Place) (ends : Bool) (f g : Forest) (x y : List ℕ) → AreAlikePlaces p q → p.padding ≡ false
+    → IsSound p f → IsSound q g → is_elements_end ends x ≡ true → is_elements_end ends y ≡ true → spelling f ++ x ≡ spelling g ++ y
     → AreOne (spelling f) (spelling g) x y
 one-list p q ends (PaddingOctet rest) g x y a z s t m n e = let w : true ≡ false = sym s.0 ∙ z in absurd (cc (w))
 one-list p q ends (OpenPrimitive h c) g x y a z s t m n e = absurd s

@@ -7,13 +7,13 @@ use Rattle.tlv_walk.specs.Inside.{is_among}
 use Rattle.tlv_walk.specs.Place.{IsHeaderAt, Place, place_after, place_of_children}
 use Rattle.tlv_walk.specs.Reading.{IsSound}
 
-pub record AreAlike (p q : Place) : Type 0 where
+pub record AreAlikePlaces (p q : Place) : Type 0 where
   pub offset : p.offset ≡ q.offset
   pub depth : p.depth ≡ q.depth
   pub padding : p.padding ≡ q.padding
   pub inside : p.inside ≡ q.inside
 
-pub alike-back : (p q : Place) → AreAlike p q → AreAlike q p
+pub alike-back : (p q : Place) → AreAlikePlaces p q → AreAlikePlaces q p
 alike-back p q a = record {
   offset = sym a.offset;
   depth = sym a.depth;
@@ -21,7 +21,7 @@ alike-back p q a = record {
   inside = sym a.inside;
 }
 
-pub header-alike : (p q : Place) (holding : Bool) (h : HeaderValue) → AreAlike p q → IsHeaderAt p holding h
+pub header-alike : (p q : Place) (holding : Bool) (h : HeaderValue) → AreAlikePlaces p q → IsHeaderAt p holding h
     → IsHeaderAt q holding h
 header-alike p q holding h a k = record {
   valid = k.valid;
@@ -30,7 +30,7 @@ header-alike p q holding h a k = record {
   form = k.form;
 }
 
-pub alike-after : (p q : Place) (n : ℕ) → AreAlike p q → AreAlike (place_after p n) (place_after q n)
+pub alike-after : (p q : Place) (n : ℕ) → AreAlikePlaces p q → AreAlikePlaces (place_after p n) (place_after q n)
 alike-after p q n a = record {
   offset = ap (λ (o : ℕ). o + n) a.offset;
   depth = a.depth;
@@ -38,8 +38,8 @@ alike-after p q n a = record {
   inside = a.inside;
 }
 
-pub alike-children : (p q : Place) (h : HeaderValue) → AreAlike p q
-    → AreAlike (place_of_children p h) (place_of_children q h)
+pub alike-children : (p q : Place) (h : HeaderValue) → AreAlikePlaces p q
+    → AreAlikePlaces (place_of_children p h) (place_of_children q h)
 alike-children p q h a = record {
   offset = ap (λ (o : ℕ). o + length (opening h)) a.offset;
   depth = ap (λ (o : ℕ). o + 1) a.depth;
@@ -47,7 +47,7 @@ alike-children p q h a = record {
   inside = a.inside;
 }
 
-pub sound-alike : (p q : Place) (f : Forest) → AreAlike p q → IsSound p f → IsSound q f
+pub sound-alike : (p q : Place) (f : Forest) → AreAlikePlaces p q → IsSound p f → IsSound q f
 sound-alike p q NoMore a s = tt
 sound-alike p q (PaddingOctet rest) a s =
     (sym a.padding ∙ s.0, sound-alike (place_after p 1) (place_after q 1) rest (alike-after p q 1 a) s.1)

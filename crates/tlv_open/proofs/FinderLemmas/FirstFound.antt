@@ -17,8 +17,8 @@ use Rattle.tlv_walk.specs.Place.{ObeysGrammar, Place, place_after, place_of_chil
 use Rattle.tlv_walk.proofs.GrammarLemmas.Spellings.{length-holder, length-opening, length-primitive}
 use Rattle.tlv_open.specs.Opens as opens
 use Rattle.tlv_open.specs.Opens.{Opens, Where, is_one_primitive, where_of_children}
-use Rattle.tlv_open.specs.Private.Elements.{is_end}
-use Rattle.tlv_open.specs.Private.Finds.{Adds, AddsAll, AddsFirst, AddsPrimitive, AddsUpTo, EndsBefore, FindsUpTo}
+use Rattle.tlv_open.specs.Private.Elements.{is_elements_end}
+use Rattle.tlv_open.specs.Private.Finds.{AddsOffsets, AddsAll, AddsFirst, AddsPrimitive, AddsUpTo, EndsBefore, FindsUpTo}
 use Rattle.tlv_open.specs.Private.Finds.{IsReadAt, goes_on, stops, where_inside}
 use Rattle.tlv_open.proofs.ElementLemmas.FirstElement.{lead-none}
 use Rattle.tlv_open.proofs.FinderLemmas.FirstRead.{IsReadFirst, first_holder, first_open_holder}
@@ -185,7 +185,7 @@ module _ (octets : List ℕ) (offset : ℕ) (f : HeaderFields) (count : ℕ)
           let inner : IsReadAt (place_of_children p h) inside (w.depth + 1) (offset + count) false after [] =
           read-children p ends false (OpenHolder h inside) inside rest after [] r k (rw size refl) obeys
           (append-nil (spelling inside) ∙ spelled) (inl refl) in
-          let s : Adds (where_inside w h false) inside after old new n = a (place_of_children p h) inside [] inner in
+          let s : AddsOffsets (where_inside w h false) inside after old new n = a (place_of_children p h) inside [] inner in
           record { found = s.found; added = s.added; finds = stops (opens.open_holder s.opens) refl refl }
 
   -- an element that holds others, and has all its octets
@@ -193,7 +193,7 @@ module _ (octets : List ℕ) (offset : ℕ) (f : HeaderFields) (count : ℕ)
       → m ≤ length after
       → ((q : Place) (inside : Forest) (depth : ℕ) (end : List ℕ) → q.padding ≡ false
       → IsReadAt q inside depth (offset + count) false (take m after) end
-      → one ≡ (is_one_primitive inside && is_end false end))
+      → one ≡ (is_one_primitive inside && is_elements_end false end))
       → AddsAll (where_inside w h one) (offset + count) false (take m after) old new n
       → (ends : Bool) → AddsFirst w offset ends octets old new (count + length (take m after))
   adds-holder old new m n one k size few is_one a ends p g rest r = all g r (first-of p g ends rest r)
@@ -222,7 +222,7 @@ module _ (octets : List ℕ) (offset : ℕ) (f : HeaderFields) (count : ℕ)
           (append-nil (spelling inside) ∙ sym front) (inl refl) in
           let is : one ≡ is_one_primitive inside =
           is_one (place_of_children p h) inside (w.depth + 1) [] refl inner ∙ and-true (is_one_primitive inside) in
-          let a' : Adds (where_inside w h one) inside (take m after) old new n =
+          let a' : AddsOffsets (where_inside w h one) inside (take m after) old new n =
           a (place_of_children p h) inside [] inner in
           let number : extent h inside ≡ count + length (take m after) =
           omega (
@@ -259,7 +259,7 @@ module _ (octets : List ℕ) (offset : ℕ) (f : HeaderFields) (count : ℕ)
                 absurd (omega (arith, ap length spelled))
             | inr t ↦ t
           ] in
-          let a' : Adds (where_inside w h one) inside (take m after) old new n =
+          let a' : AddsOffsets (where_inside w h one) inside (take m after) old new n =
           a (place_of_children p h) inside [] inner in
           record {
             found = a'.found;
@@ -274,7 +274,7 @@ module _ (octets : List ℕ) (offset : ℕ) (f : HeaderFields) (count : ℕ)
   -- an element of indefinite length
   module _ (old new : List ℕ) (n : ℕ) (one : Bool) (k : f.constructed ≡ true) (size : f.size ≡ Indefinite)
       (is_one : (q : Place) (inside : Forest) (depth : ℕ) (end : List ℕ) → q.padding ≡ false
-      → IsReadAt q inside depth (offset + count) true after end → one ≡ (is_one_primitive inside && is_end true end))
+      → IsReadAt q inside depth (offset + count) true after end → one ≡ (is_one_primitive inside && is_elements_end true end))
       (a : AddsAll (where_inside w h one) (offset + count) true after old new n) where
     and_true : (x : Bool) → (x && true) ≡ x
     and_true true = refl
@@ -306,17 +306,17 @@ module _ (octets : List ℕ) (offset : ℕ) (f : HeaderFields) (count : ℕ)
         (append-nil (spelling inside) ∙ spelled) (inl refl)
 
     -- if it has not ended, no end-of-contents octets follow
-    open-no_end : (inside : Forest) → spelling inside ≡ after → Adds (where_inside w h one) inside after old new n
-        → is_end true (drop n after) ≡ false
+    open-no_end : (inside : Forest) → spelling inside ≡ after → AddsOffsets (where_inside w h one) inside after old new n
+        → is_elements_end true (drop n after) ≡ false
     open-no_end inside spelled s = elim (cases_Bool (is_whole inside)) [
       | inl t ↦
-          ap (is_end true)
+          ap (is_elements_end true)
           (ap₂ drop (sym (s.size t)) (sym spelled ∙ sym (append-nil (spelling inside)))
           ∙ drop-append_seam (spelling inside) [])
       | inr t ↦ s.unfinished t
     ]
 
-    pub adds-ended_holder : is_end true (drop n after) ≡ true → (ends : Bool)
+    pub adds-ended_holder : is_elements_end true (drop n after) ≡ true → (ends : Bool)
         → AddsFirst w offset ends octets old new (count + n + 2)
     adds-ended_holder e ends p g rest r = ended g r (first-of p g ends rest r)
       where
@@ -330,7 +330,7 @@ module _ (octets : List ℕ) (offset : ℕ) (f : HeaderFields) (count : ℕ)
             (0 ∷ 0 ∷ (spelling g ++ rest)) = closed-read p ends inside g rest r closed obeys spelled in
             let is : one ≡ is_one_primitive inside =
             is_one (place_of_children p h) inside (w.depth + 1) _ refl inner ∙ and_true (is_one_primitive inside) in
-            let a' : Adds (where_inside w h one) inside after old new n = a (place_of_children p h) inside _ inner in
+            let a' : AddsOffsets (where_inside w h one) inside after old new n = a (place_of_children p h) inside _ inner in
             let count_is : length (spelling inside) ≡ n = a'.size closed in
             let number : extent h inside ≡ count + n + 2 =
             omega (arith, opening-size k, count_is, ap (λ (o : List ℕ). length o) the_end) in
@@ -351,12 +351,12 @@ module _ (octets : List ℕ) (offset : ℕ) (f : HeaderFields) (count : ℕ)
                   refl (omega (arith, length-holder h inside g, number));
             }
         ended _ r (first_open_holder {inside = inside} c shallow within l obeys spelled none) =
-            let a' : Adds (where_inside w h one) inside after old new n =
+            let a' : AddsOffsets (where_inside w h one) inside after old new n =
             a (place_of_children p h) inside [] (open-read p ends inside rest r obeys spelled) in
             let t : true ≡ false = sym e ∙ open-no_end inside spelled a' in
             absurd (cc (t))
 
-    pub adds-unended_holder : is_end true (drop n after) ≡ false → (ends : Bool)
+    pub adds-unended_holder : is_elements_end true (drop n after) ≡ false → (ends : Bool)
         → AddsFirst w offset ends octets old new (length octets)
     adds-unended_holder e ends p g rest r = unended g r (first-of p g ends rest r)
       where
@@ -367,18 +367,18 @@ module _ (octets : List ℕ) (offset : ℕ) (f : HeaderFields) (count : ℕ)
         unended _ r (first_holder {inside = inside} {g = g} c shallow s closed obeys spelled more) =
             let inner : IsReadAt (place_of_children p h) inside (w.depth + 1) (offset + count) true after
             (0 ∷ 0 ∷ (spelling g ++ rest)) = closed-read p ends inside g rest r closed obeys spelled in
-            let a' : Adds (where_inside w h one) inside after old new n = a (place_of_children p h) inside _ inner in
+            let a' : AddsOffsets (where_inside w h one) inside after old new n = a (place_of_children p h) inside _ inner in
             let end_there : drop n after ≡ 0 ∷ 0 ∷ (spelling g ++ rest) =
             ap₂ drop (sym (a'.size closed)) (sym inner.spelled)
             ∙ drop-append_seam (spelling inside) (0 ∷ 0 ∷ (spelling g ++ rest)) in
-            let t : true ≡ false = sym (ap (is_end true) end_there) ∙ e in
+            let t : true ≡ false = sym (ap (is_elements_end true) end_there) ∙ e in
             absurd (cc (t))
         unended _ r (first_open_holder {inside = inside} c shallow within l obeys spelled none) =
             let inner : IsReadAt (place_of_children p h) inside (w.depth + 1) (offset + count) true after [] =
             open-read p ends inside rest r obeys spelled in
             let is : one ≡ false =
             is_one (place_of_children p h) inside (w.depth + 1) [] refl inner ∙ and_false (is_one_primitive inside) in
-            let a' : Adds (where_inside w h one) inside after old new n = a (place_of_children p h) inside [] inner in
+            let a' : AddsOffsets (where_inside w h one) inside after old new n = a (place_of_children p h) inside [] inner in
             record {
               found = a'.found;
               added = a'.added;

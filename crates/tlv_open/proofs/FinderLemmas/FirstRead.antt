@@ -23,7 +23,7 @@ use Rattle.tlv_walk.proofs.GrammarLemmas.OpenElements.{size-definite, spelling-f
 use Rattle.tlv_walk.proofs.GrammarLemmas.Spellings.{length-opening}
 use Rattle.tlv_open.specs.Opens as opens
 use Rattle.tlv_open.specs.Opens.{Opens, Where, is_one_primitive}
-use Rattle.tlv_open.specs.Private.Elements.{is_end}
+use Rattle.tlv_open.specs.Private.Elements.{is_elements_end}
 use Rattle.tlv_open.specs.Private.Finds.{EndsBefore, FindsUpTo, IsReadAt, stops}
 use Rattle.tlv_open.proofs.ElementLemmas.FirstElement.{lead-none, length-led, unnamed-holds}
 use Rattle.tlv_open.proofs.ElementLemmas.OneElement.{end-no_header, header-one, regroup-3, regroup-4, zero-no_header}
@@ -191,7 +191,7 @@ module _ (octets : List ℕ) (offset : ℕ) (f : HeaderFields) (count : ℕ) (b 
 begins-zero : (octets : List ℕ) (x : ℕ) (more : List ℕ) → get_or octets 0 0 ≢ 0 → x ∷ more ≡ octets → x ≡ 0 → ⊥
 begins-zero octets x more n e z = n (ap (λ (o : List ℕ). get_or o 0 0) (sym e) ∙ z)
 
-ends-zero : (octets : List ℕ) → get_or octets 0 0 ≢ 0 → is_end true octets ≡ true → ⊥
+ends-zero : (octets : List ℕ) → get_or octets 0 0 ≢ 0 → is_elements_end true octets ≡ true → ⊥
 ends-zero [] n e = absurd (cc (e))
 ends-zero (x ∷ []) n e = absurd (cc (e))
 ends-zero (x ∷ y ∷ more) n e = n (eqb-true x 0 (and_parts (eqb x 0) (eqb y 0) e).0)
@@ -201,7 +201,7 @@ pub finds-header : (w : Where) (p : Place) (f : Forest) (depth offset : ℕ) (en
     → FindsUpTo w p f offset ends octets rest [] (length octets)
 finds-header w p NoMore depth offset ends octets rest r n none = elim r.end [
   | inl e ↦ absurd (n (ap (λ (o : List ℕ). get_or o 0 0) (sym r.spelled ∙ e)))
-  | inr e ↦ absurd (ends-zero octets n (ap (is_end true) (sym r.spelled) ∙ e.end))
+  | inr e ↦ absurd (ends-zero octets n (ap (is_elements_end true) (sym r.spelled) ∙ e.end))
 ]
 finds-header w p (PaddingOctet g) depth offset ends octets rest r n none =
     absurd (begins-zero octets 0 (spelling g ++ rest) n r.spelled refl)

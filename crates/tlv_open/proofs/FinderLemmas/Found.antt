@@ -11,8 +11,8 @@ use Rattle.tlv_walk.specs.Place.{ObeysGrammar, Place, place_after}
 use Rattle.tlv_walk.proofs.GrammarLemmas.Readings.{unique-empty}
 use Rattle.tlv_open.specs.Opens as opens
 use Rattle.tlv_open.specs.Opens.{Opens, Where}
-use Rattle.tlv_open.specs.Private.Elements.{is_end}
-use Rattle.tlv_open.specs.Private.Finds.{Adds, AddsAll, AddsFirst, AddsUpTo, FindsUpTo, IsReadAt, goes_on}
+use Rattle.tlv_open.specs.Private.Elements.{is_elements_end}
+use Rattle.tlv_open.specs.Private.Finds.{AddsOffsets, AddsAll, AddsFirst, AddsUpTo, FindsUpTo, IsReadAt, goes_on}
 use Rattle.tlv_open.specs.Private.Finds.{stops}
 use Rattle.tlv_open.proofs.ElementLemmas.OneElement.{regroup-3, regroup-4, zero-no_header}
 
@@ -162,7 +162,7 @@ adds-padding w offset ends octets old mid at less z e a =
 pub record IsLast (w : Where) (g : Forest) (left : List ℕ) : Type 0 where
   pub opens : Opens w g []
   pub size : is_whole g ≡ true → length (spelling g) ≡ 0
-  pub unfinished : is_whole g ≡ false → is_end true left ≡ false
+  pub unfinished : is_whole g ≡ false → is_elements_end true left ≡ false
 
 drop-end : (octets : List ℕ) (at : ℕ) → length octets ≤ at → drop at octets ≡ []
 drop-end octets at h = nil (drop at octets) (omega (arith, length-drop at octets))
@@ -174,7 +174,7 @@ drop-end octets at h = nil (drop at octets) (omega (arith, length-drop at octets
 adds-last : (w : Where) (p : Place) (f : Forest) (offset : ℕ) (ends : Bool) (octets rest old new found : List ℕ) (at : ℕ)
     → ((g : Forest) → IsReadAt (place_after p at) g w.depth (offset + at) ends (drop at octets) rest
     → IsLast w g (drop at octets))
-    → new ≡ old ++ found → FindsUpTo w p f offset ends octets rest found at → Adds w f octets old new at
+    → new ≡ old ++ found → FindsUpTo w p f offset ends octets rest found at → AddsOffsets w f octets old new at
 adds-last w p f offset ends octets rest old new found at last e (goes_on g r opened whole size) =
     let l : IsLast w g (drop at octets) = last g r in
     record {
@@ -189,7 +189,7 @@ adds-last w p f offset ends octets rest old new found at last e (stops o open_ a
   added = e;
   opens = o;
   size = λ t. let u : true ≡ false = sym t ∙ open_ in absurd (cc (u));
-  unfinished = λ t. ap (is_end true) (drop-end octets at (omega (arith, all)));
+  unfinished = λ t. ap (is_elements_end true) (drop-end octets at (omega (arith, all)));
 }
 
 -- no octets are left
@@ -240,7 +240,7 @@ last-zero w q OpenEndOctets offset more left rest z r = elim r.end [
   | inl e ↦ record {
     opens = opens.open_end_octets;
     size = λ t. absurd (cc (t));
-    unfinished = λ t. ap (is_end true) (sym r.spelled ∙ ap (λ (o : List ℕ). 0 ∷ o) e);
+    unfinished = λ t. ap (is_elements_end true) (sym r.spelled ∙ ap (λ (o : List ℕ). 0 ∷ o) e);
   }
   | inr e ↦ let u : false ≡ true = e.whole in absurd (cc (u))
 ]

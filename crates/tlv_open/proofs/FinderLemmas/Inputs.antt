@@ -8,7 +8,7 @@ use Rattle.tlv_walk.specs.Forest.{Forest, spelling}
 use Rattle.tlv_walk.specs.Place.{top_place}
 use Rattle.tlv_walk.specs.Reading.{AreOctets, IsReading}
 use Rattle.tlv_open.specs.Opens.{AreOpened, closed_framing, where_at_top}
-use Rattle.tlv_open.specs.Private.Finds.{Adds, AddsAll}
+use Rattle.tlv_open.specs.Private.Finds.{AddsOffsets, AddsAll}
 
 -- if each number of a slice fits an octet, they are octets
 pub octets-fit : (xs : List ℕ) → ((i : ℕ) → Fits w8 (slice_index_or xs i 0)) → AreOctets xs
@@ -30,7 +30,7 @@ are-opened padding octets new f m n r count a =
     let front : take m octets ≡ spelling f =
     subst (λ (o : List ℕ). take m o ≡ spelling f) r.is_prefix.1
     (ap (λ (k : ℕ). take k (spelling f ++ r.is_prefix.0)) count ∙ take-append_seam (spelling f) r.is_prefix.0) in
-    let s : Adds where_at_top f (take m octets) [] new n =
+    let s : AddsOffsets where_at_top f (take m octets) [] new n =
     a (top_place (closed_framing padding)) f [] (record {
       depth_is = refl;
       offset_is = refl;

@@ -13,7 +13,7 @@ use Rattle.tlv_walk.specs.Forest.{OpenPrimitive, PaddingOctet, Primitive, end_oc
 use Rattle.tlv_walk.specs.Forest.{spelling}
 use Rattle.tlv_walk.specs.Place.{ObeysGrammar, Place, place_after}
 use Rattle.tlv_open.specs.Opens.{is_one_primitive}
-use Rattle.tlv_open.specs.Private.Elements.{is_end}
+use Rattle.tlv_open.specs.Private.Elements.{is_elements_end}
 use Rattle.tlv_open.specs.Private.Finds.{EndsBefore, IsReadAt}
 use Rattle.tlv_open.proofs.ElementLemmas.OneElement.{end-no_header, regroup-3, regroup-4}
 use Rattle.tlv_open.proofs.FinderLemmas.FirstRead.{IsReadFirst, first_holder, first_open_holder, first_open_primitive}
@@ -26,11 +26,11 @@ untrue false n = refl
 
 -- elements do not end before a header
 header-no_end : (ends : Bool) (h : HeaderValue) (r octets : List ℕ) → IsHeader h → octets_of h ++ r ≡ octets
-    → is_end ends octets ≡ false
-header-no_end ends h r octets v e = untrue (is_end ends octets) (λ t. end-no_header ends octets r h t v e)
+    → is_elements_end ends octets ≡ false
+header-no_end ends h r octets v e = untrue (is_elements_end ends octets) (λ t. end-no_header ends octets r h t v e)
 
 prefix-no_end : (ends : Bool) (o rest : List ℕ) → o ≢ [] → ((more : List ℕ) → o ++ rest ≡ 0 ∷ more → ⊥)
-    → is_end ends (o ++ rest) ≡ false
+    → is_elements_end ends (o ++ rest) ≡ false
 prefix-no_end ends [] rest some n = absurd (some refl)
 prefix-no_end false (x ∷ o) rest some n = refl
 prefix-no_end true (x ∷ []) [] some n = refl
@@ -39,7 +39,7 @@ prefix-no_end true (x ∷ []) (y ∷ rest) some n = untrue _ (λ t.
 prefix-no_end true (x ∷ (y ∷ o)) rest some n = untrue _ (λ t.
     n (y ∷ (o ++ rest)) (ap (λ (z : ℕ). z ∷ (y ∷ (o ++ rest))) (eqb-true x 0 (and_parts (eqb x 0) (eqb y 0) t).0)))
 
-zero-no_end : (ends : Bool) (rest : List ℕ) → rest ≡ [] → is_end ends (0 ∷ rest) ≡ false
+zero-no_end : (ends : Bool) (rest : List ℕ) → rest ≡ [] → is_elements_end ends (0 ∷ rest) ≡ false
 zero-no_end true [] e = refl
 zero-no_end true (x ∷ rest) e = absurd (cc (e))
 zero-no_end false rest e = refl
@@ -47,11 +47,11 @@ zero-no_end false rest e = refl
 -- after a primitive elements end exactly if nothing more is read, and they may end there
 after-primitive : (h : HeaderValue) (c : List ℕ) (q : Place) (g : Forest) (ends : Bool) (rest : List ℕ)
     → ObeysGrammar q g → q.indefinite ≡ ends → (rest ≡ []) ⊎ EndsBefore ends g rest
-    → is_end ends (spelling g ++ rest) ≡ (is_one_primitive (Primitive h c g) && is_end ends rest)
+    → is_elements_end ends (spelling g ++ rest) ≡ (is_one_primitive (Primitive h c g) && is_elements_end ends rest)
 after-primitive h c q NoMore ends rest o i e = refl
 after-primitive h c q (PaddingOctet g) ends rest o i e =
     let no : ends ≡ false = sym i ∙ o.0.1 in
-    ap (λ (k : Bool). is_end k (0 ∷ (spelling g ++ rest))) no
+    ap (λ (k : Bool). is_elements_end k (0 ∷ (spelling g ++ rest))) no
 after-primitive h c q (Primitive k d g) ends rest o i e =
     header-no_end ends k (d ++ (spelling g ++ rest)) _ o.0.0.header.valid
     (sym (regroup-3 (octets_of k) d (spelling g) rest))
@@ -99,15 +99,15 @@ module _ (octets : List ℕ) (offset : ℕ) (f : HeaderFields) (count : ℕ)
   -- it is a primitive with all its octets
   pub is-one : (p : Place) (g : Forest) (depth : ℕ) (ends : Bool) (rest : List ℕ) (m : ℕ)
       → IsReadAt p g depth offset ends octets rest → f.constructed ≡ false → m ≡ announced_length f.size
-      → m ≤ length after → is_end ends (drop m after) ≡ (is_one_primitive g && is_end ends rest)
+      → m ≤ length after → is_elements_end ends (drop m after) ≡ (is_one_primitive g && is_elements_end ends rest)
   is-one p g depth ends rest m r k all few =
       first_one g r (first-read octets offset f count b p g depth ends rest r)
     where
       first_one : (g : Forest) → IsReadAt p g depth offset ends octets rest → IsReadFirst p h after rest g
-          → is_end ends (drop m after) ≡ (is_one_primitive g && is_end ends rest)
+          → is_elements_end ends (drop m after) ≡ (is_one_primitive g && is_elements_end ends rest)
       first_one _ r (first_primitive {c = c} {g = g} t size spelled obeys) =
           let same : m ≡ length c = all ∙ ap announced_length size in
-          ap (is_end ends) (ap₂ drop same (sym spelled) ∙ drop-append_seam c (spelling g ++ rest))
+          ap (is_elements_end ends) (ap₂ drop same (sym spelled) ∙ drop-append_seam c (spelling g ++ rest))
           ∙ after-primitive h c (place_after p (primitive_extent h c)) g ends rest obeys r.indefinite (elim r.end [
             | inl e ↦ inl e
             | inr e ↦ inr (record { asked = e.asked; whole = e.whole; end = e.end })

@@ -9,15 +9,15 @@ use Rattle.tlv_walk.specs.Forest.{Forest, lead, lead_by, opening, spelling}
 use Rattle.tlv_walk.specs.Place.{ObeysGrammar}
 use Rattle.tlv_walk.proofs.GrammarLemmas.SoundElements.{sound-obeys_grammar}
 use Rattle.tlv_walk.proofs.GrammarLemmas.Spellings.{length-opening}
-use Rattle.tlv_open.specs.Held.{Holds, after_unused_bits, inner_octets, place_by_itself}
+use Rattle.tlv_open.specs.Held.{HoldsEncodings, after_unused_bits, inner_octets, place_by_itself}
 use Rattle.tlv_open.specs.Opens as opens
 use Rattle.tlv_open.specs.Opens.{Opens, Where, where_of_held}
-use Rattle.tlv_open.specs.Private.Finds.{Adds, AddsAll, AddsPrimitive, IsReadAt}
+use Rattle.tlv_open.specs.Private.Finds.{AddsOffsets, AddsAll, AddsPrimitive, IsReadAt}
 use Rattle.tlv_open.specs.Private.Held.{inner_octets_of}
 
 -- nothing is found
 pub adds-closed : (w : Where) (h : HeaderValue) (contents old : List ℕ)
-    → (w.may_open ≡ true → (inner : Forest) → Holds w.depth h contents inner → ⊥) → AddsPrimitive w h contents old old
+    → (w.may_open ≡ true → (inner : Forest) → HoldsEncodings w.depth h contents inner → ⊥) → AddsPrimitive w h contents old old
 adds-closed w h contents old none = record {
   found = [];
   added = sym (append-nil old);
@@ -36,7 +36,7 @@ adds-no_octets w h contents old e =
     (λ t inner s. let u : Some (spelling inner) ≡ None = sym s.octets ∙ e in absurd (cc (u)))
 
 pub adds-no_encodings : (w : Where) (h : HeaderValue) (contents old : List ℕ) (b : Bool)
-    → IsTrue b ↔ ((inner : Forest) × Holds w.depth h contents inner) → b ≡ false → AddsPrimitive w h contents old old
+    → IsTrue b ↔ ((inner : Forest) × HoldsEncodings w.depth h contents inner) → b ≡ false → AddsPrimitive w h contents old old
 adds-no_encodings w h contents old b held e =
     adds-closed w h contents old (λ t inner s. let u : b ≡ true = held.1 (inner, s) in absurd (cc (u, e)))
 
@@ -80,12 +80,12 @@ lead-size class number contents octets e = by_class (is_universal class) e
 -- the string is opened
 pub adds-opened : (w v : Where) (h : HeaderValue) (contents octets old mid new : List ℕ) (count n : ℕ) (b : Bool)
     → w.may_open ≡ true → h.constructed ≡ false → length (octets_of h) ≡ count
-    → inner_octets h contents ≡ Some octets → IsTrue b ↔ ((inner : Forest) × Holds w.depth h contents inner)
+    → inner_octets h contents ≡ Some octets → IsTrue b ↔ ((inner : Forest) × HoldsEncodings w.depth h contents inner)
     → b ≡ true → mid ≡ old ++ (w.start + h.offset) ∷ []
     → v.start ≡ w.start + h.offset + (count + (length contents - length octets)) → v.depth ≡ w.depth + 1
     → v.may_open ≡ true → AddsAll v 0 false octets mid new n → AddsPrimitive w h contents old new
 adds-opened w v h contents octets old mid new count n b may primitive size inner held e pushed start depth open_ a =
-    let s : (f : Forest) × Holds w.depth h contents f = held.0 e in
+    let s : (f : Forest) × HoldsEncodings w.depth h contents f = held.0 e in
     let spelled : spelling s.0 ≡ octets =
     let t : Some (spelling s.0) ≡ Some octets = sym s.1.octets ∙ inner in cc (t) in
     let obeys : ObeysGrammar (place_by_itself (w.depth + 1)) s.0 =
@@ -99,7 +99,7 @@ adds-opened w v h contents octets old mid new count n b may primitive size inner
       spelled = append-nil (spelling s.0) ∙ spelled;
       end = inl refl;
     } in
-    let r : Adds v s.0 octets mid new n = a (place_by_itself (w.depth + 1)) s.0 [] read in
+    let r : AddsOffsets v s.0 octets mid new n = a (place_by_itself (w.depth + 1)) s.0 [] read in
     let led : length contents ≡ length (lead_by false (eqb h.number 3)) + length octets =
     lead-size h.class h.number contents octets inner in
     let lead_is : length (lead h) ≡ length (lead_by false (eqb h.number 3)) =

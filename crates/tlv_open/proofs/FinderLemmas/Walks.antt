@@ -22,7 +22,7 @@ use Rattle.tlv_walk.proofs.WalkerLemmas.HasRead.{never_refused}
 use Rattle.tlv_open.specs.Private.Walks.{HasWalkedOver}
 
 -- a walker that has walked over some of the octets
-pub record WalksOn (framing : Framing) (octets : List ℕ) (w : WalkerState) (rest : List ℕ) : Type 0 where
+pub record WalksFurther (framing : Framing) (octets : List ℕ) (w : WalkerState) (rest : List ℕ) : Type 0 where
   pub framing_is : w.framing ≡ framing
   pub taken : List ℕ
   pub yielded : List EventValue
@@ -31,7 +31,7 @@ pub record WalksOn (framing : Framing) (octets : List ℕ) (w : WalkerState) (re
   pub walked : w.offset + length rest ≡ length octets
 
 pub walks-on : (framing : Framing) (octets : List ℕ) (old new : WalkerState) (rest left : List ℕ) (e : Event)
-    → WalksOn framing octets old rest → YieldsNext old new rest left e → WalksOn framing octets new left
+    → WalksFurther framing octets old rest → YieldsNext old new rest left e → WalksFurther framing octets new left
 walks-on framing octets old new rest left e w y = record {
   framing_is = y.takes.framing ∙ w.framing_is;
   taken = w.taken ++ y.takes.taken;
@@ -48,7 +48,7 @@ idle-refused : (w : WalkerState) (f : Fault) → w.phase ≡ Refused f → IsIdl
 idle-refused w f e = rw e refl
 
 uses_up : (framing : Framing) (octets : List ℕ) (old new : WalkerState) (rest left : List ℕ)
-    → WalksOn framing octets old rest → UsesUpPiece old new rest left → HasWalkedOver framing octets new
+    → WalksFurther framing octets old rest → UsesUpPiece old new rest left → HasWalkedOver framing octets new
 uses_up framing octets old new rest left w u = record {
   framing_is = u.takes.framing ∙ w.framing_is;
   yielded = w.yielded;
@@ -58,7 +58,7 @@ uses_up framing octets old new rest left w u = record {
 }
 
 refuses : (framing : Framing) (octets : List ℕ) (old new : WalkerState) (rest left : List ℕ) (f : Fault)
-    → WalksOn framing octets old rest → RefusesNext old new rest left f → HasWalkedOver framing octets new
+    → WalksFurther framing octets old rest → RefusesNext old new rest left f → HasWalkedOver framing octets new
 refuses framing octets old new rest left f w r = record {
   framing_is = r.takes.framing ∙ w.framing_is;
   yielded = w.yielded;
@@ -78,7 +78,7 @@ refuses framing octets old new rest left f w r = record {
 
 -- the step after which a walk has ended
 pub walk-ended : (framing : Framing) (octets : List ℕ) (old new : WalkerState) (rest left : List ℕ) (s : Step)
-    → WalksOn framing octets old rest → StepsTo old new rest left s
+    → WalksFurther framing octets old rest → StepsTo old new rest left s
     → (s ≡ step.NeedMore) ⊎ ((f : Fault) × (s ≡ step.Fault f)) → HasWalkedOver framing octets new
 walk-ended framing octets old new rest left step.NeedMore w t e = uses_up framing octets old new rest left w t
 walk-ended framing octets old new rest left (step.Fault f) w (inl r) e = refuses framing octets old new rest left f w r

@@ -17,7 +17,7 @@ use Rattle.tlv_walk.specs.Place.{IsHeaderAt, Place, place_after, place_of_childr
 use Rattle.tlv_walk.specs.Reading.{AreOctets, IsReading, IsSound}
 use Rattle.tlv_walk.proofs.GrammarLemmas.Readings.{is-reading, reading, reading-unique}
 use Rattle.tlv_walk.proofs.GrammarLemmas.SoundElements.{grammar-sound, sound-obeys_grammar, sound-whole}
-use Rattle.tlv_open.specs.Held.{AreLikely, Holds, inner_octets, place_by_itself}
+use Rattle.tlv_open.specs.Held.{AreLikely, HoldsEncodings, inner_octets, place_by_itself}
 
 -- so many elements that hold others are few enough, with those in which they are
 abbrev pub is_shallow : ℕ → Forest → Bool
@@ -178,7 +178,7 @@ module _ (depth : ℕ) (h : HeaderValue) (contents octets : List ℕ) (inner : i
   is-candidate = is-reading plain_framing octets each
 
   -- what is held is the reading of the octets
-  held-is : (f : Forest) → Holds depth h contents f → f ≡ candidate
+  held-is : (f : Forest) → HoldsEncodings depth h contents f → f ≡ candidate
   held-is f s =
       let e : Some (spelling f) ≡ Some octets = sym s.octets ∙ inner in
       let spelled : spelling f ≡ octets = cc (e) in
@@ -197,7 +197,7 @@ module _ (depth : ℕ) (h : HeaderValue) (contents octets : List ℕ) (inner : i
   prefix-all a [] o e l = sym (append-nil a) ∙ e
   prefix-all a (x ∷ b) o e l = absurd (omega (arith, ap length e, length-append a (x ∷ b)))
 
-  pub passes : holds_test depth octets ≡ true → Holds depth h contents candidate
+  pub passes : holds_test depth octets ≡ true → HoldsEncodings depth h contents candidate
   passes e =
       let a : (ltb depth 128 ≡ true) × _ = and_parts _ _ e in
       let b : (eqb (length (spelling candidate)) (length octets) ≡ true) × _ = and_parts _ _ a.1 in
@@ -216,10 +216,10 @@ module _ (depth : ℕ) (h : HeaderValue) (contents octets : List ℕ) (inner : i
         likely = likely-from candidate f.1;
       }
 
-  tested : (f : Forest) → Holds depth h contents f → holds_test depth octets ≡ true
+  tested : (f : Forest) → HoldsEncodings depth h contents f → holds_test depth octets ≡ true
   tested f s =
-      let holds : Holds depth h contents candidate =
-      subst (λ (g : Forest). Holds depth h contents g) (held-is f s) s in
+      let holds : HoldsEncodings depth h contents candidate =
+      subst (λ (g : Forest). HoldsEncodings depth h contents g) (held-is f s) s in
       let e : Some (spelling candidate) ≡ Some octets = sym holds.octets ∙ inner in
       let spelled : spelling candidate ≡ octets = cc (e) in
       and-true _ _ (lt-ltb depth 128 holds.shallow)
@@ -229,5 +229,5 @@ module _ (depth : ℕ) (h : HeaderValue) (contents octets : List ℕ) (inner : i
       (and-true _ _ (sound-shallow (place_by_itself (depth + 1)) candidate holds.sound)
       (likely-is candidate holds.likely)))))
 
-  pub fails : holds_test depth octets ≡ false → (f : Forest) → Holds depth h contents f → ⊥
+  pub fails : holds_test depth octets ≡ false → (f : Forest) → HoldsEncodings depth h contents f → ⊥
   fails e f s = let t : true ≡ false = sym (tested f s) ∙ e in absurd (cc (t))

@@ -5,14 +5,14 @@ use Rattle.tlv_walk.specs.Forest.{Forest}
 use Rattle.tlv_walk.specs.Forest.{spelling}
 use Rattle.tlv_walk.proofs.GrammarLemmas.Readings.{reading-unique, spelling-unique}
 use Rattle.tlv_walk.proofs.GrammarLemmas.SoundElements.{sound-obeys_grammar}
-use Rattle.tlv_open.specs.Held.{Holds, place_by_itself}
+use Rattle.tlv_open.specs.Held.{HoldsEncodings, place_by_itself}
 use Rattle.tlv_open.specs.Opens.{AreOpened, Opens, Where, closed, closed_framing, holder, no_more, open_bit_string}
 use Rattle.tlv_open.specs.Opens.{open_end_octets, open_header, open_holder, open_primitive, opened, padded, where_at_top}
 use Rattle.tlv_open.specs.Opens.{where_of_held}
 
 -- a string holds one list of encodings
-pub holds-one : (depth : ℕ) (h : HeaderValue) (contents : List ℕ) (f g : Forest) → Holds depth h contents f
-    → Holds depth h contents g → f ≡ g
+pub holds-one : (depth : ℕ) (h : HeaderValue) (contents : List ℕ) (f g : Forest) → HoldsEncodings depth h contents f
+    → HoldsEncodings depth h contents g → f ≡ g
 holds-one depth h contents f g a b =
     let spelled : Some (spelling f) ≡ Some (spelling g) = sym a.octets ∙ b.octets in
     let same : spelling f ≡ spelling g = cc (spelled) in

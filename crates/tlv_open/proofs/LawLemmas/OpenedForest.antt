@@ -15,7 +15,7 @@ use Rattle.tlv_walk.specs.Reading.{IsSound}
 use Rattle.tlv_walk.specs.Wrappers.{wrapper_offset_by, wrapper_offsets}
 use Rattle.tlv_walk.proofs.EventLemmas.Wrappers.{Rise}
 use Rattle.tlv_walk.proofs.GrammarLemmas.Spellings.{length-holder, length-opening, length-primitive}
-use Rattle.tlv_open.specs.Held.{Holds, after_unused_bits, place_by_itself}
+use Rattle.tlv_open.specs.Held.{HoldsEncodings, after_unused_bits, place_by_itself}
 use Rattle.tlv_open.specs.Opens.{Opens, Where, closed, holder, no_more, open_bit_string, open_end_octets, open_header}
 use Rattle.tlv_open.specs.Opens.{open_holder, open_primitive, opened, padded}
 use Rattle.tlv_open.specs.Private.Held.{inner_octets_of}
@@ -139,7 +139,7 @@ lead-contents class number contents octets e = by_class (is_universal class) e
     ]
 
 pub held-contents : (depth : ℕ) (h : HeaderValue) (contents : List ℕ) (inner : Forest) → h.constructed ≡ false
-    → Holds depth h contents inner → contents ≡ lead h ++ spelling inner
+    → HoldsEncodings depth h contents inner → contents ≡ lead h ++ spelling inner
 held-contents depth h contents inner k s =
     lead-contents h.class h.number contents (spelling inner) s.octets
     ∙ ap (λ (b : Bool). lead_by b (eqb h.number 3) ++ spelling inner) (sym k)

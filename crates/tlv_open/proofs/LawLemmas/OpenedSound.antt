@@ -17,7 +17,7 @@ use Rattle.tlv_walk.specs.Reading.{IsSound}
 use Rattle.tlv_walk.proofs.EventLemmas.Wrappers.{Rise}
 use Rattle.tlv_walk.proofs.GrammarLemmas.PlacedSpelling.{Agrees}
 use Rattle.tlv_walk.proofs.GrammarLemmas.Spellings.{length-holder, length-opening, length-primitive}
-use Rattle.tlv_open.specs.Held.{Holds, after_unused_bits, place_by_itself}
+use Rattle.tlv_open.specs.Held.{HoldsEncodings, after_unused_bits, place_by_itself}
 use Rattle.tlv_open.specs.Opens.{Opens, Where, closed, holder, no_more, open_bit_string, open_end_octets, open_header}
 use Rattle.tlv_open.specs.Opens.{open_holder, open_primitive, opened, padded, where_of_held}
 use Rattle.tlv_open.specs.Private.Held.{inner_octets_of}
@@ -83,7 +83,7 @@ held-wraps class number contents octets constructed size k s e = by_class (is_un
         ])
 
 pub header-named : (start : ℕ) (q : Place) (o depth : ℕ) (h : HeaderValue) (contents : List ℕ) (inner : Forest)
-    → IsPlainHeader o false h → h.size ≡ Definite (length contents) → Holds depth h contents inner
+    → IsPlainHeader o false h → h.size ≡ Definite (length contents) → HoldsEncodings depth h contents inner
     → q.offset ≡ start + o → is_among q.offset q.inside ≡ true → IsHeaderAt q true (moved start true h)
 header-named start q o depth h contents inner k size s e named = record {
   valid = moved-valid start true h k.valid;
@@ -95,7 +95,7 @@ header-named start q o depth h contents inner k size s e named = record {
 -- ---- What is known where a string is opened
 
 module _ (w : Where) (h : HeaderValue) (contents : List ℕ) (inner rest : Forest) (xs ys : List ℕ) (o : ℕ)
-    (s : Holds w.depth h contents inner) (a : Opens (where_of_held w h) inner xs) (r : Opens w rest ys)
+    (s : HoldsEncodings w.depth h contents inner) (a : Opens (where_of_held w h) inner xs) (r : Opens w rest ys)
     (k : IsPlainHeader o false h) (size : h.size ≡ Definite (length contents))
     (more : ArePlain (o + primitive_extent h contents) rest) (q : Place) (at : q.offset ≡ w.start + o)
     (agrees : Agrees q ((w.start + h.offset) ∷ (xs ++ ys)) (length (spelling (Primitive h contents rest)))) where

@@ -11,7 +11,7 @@ use Rattle.tlv_walk.specs.Forest.{Forest, Holder, NoMore, OpenBitString, OpenEnd
 use Rattle.tlv_walk.specs.Forest.{OpenPrimitive, PaddingOctet, Primitive, end_octets, opening, spelling}
 use Rattle.tlv_walk.specs.Reading.{AreOctets, IsReading}
 use Rattle.tlv_walk.proofs.GrammarLemmas.Readings.{is-reading, reading}
-use Rattle.tlv_open.specs.Held.{Holds, after_unused_bits, inner_octets}
+use Rattle.tlv_open.specs.Held.{HoldsEncodings, after_unused_bits, inner_octets}
 use Rattle.tlv_open.specs.Laws.{InputsHaveOneList}
 use Rattle.tlv_open.specs.Opens as opens
 use Rattle.tlv_open.specs.Opens.{AreOpened, Opens, Where, closed_framing, is_one_primitive, where_at_top}
@@ -80,7 +80,7 @@ opened_list (suc k) w f = list_in (λ v h g. opened_list k (where_of_held v h) g
 -- of a primitive, if it is so of what it may hold
 module _ (held : Where → HeaderValue → Forest → List ℕ) (w : Where) (h : HeaderValue) (contents : List ℕ)
     (rest : Forest) (ys : List ℕ) (each : AreOctets contents)
-    (is_held : (inner : Forest) → Holds w.depth h contents inner → AreOctets (spelling inner)
+    (is_held : (inner : Forest) → HoldsEncodings w.depth h contents inner → AreOctets (spelling inner)
     → Opens (where_of_held w h) inner (held w h inner))
     (more : Opens w rest ys) where
   by_test : w.may_open ≡ true → (octets : List ℕ) → inner_octets h contents ≡ Some octets → (b : Bool)
@@ -89,7 +89,7 @@ module _ (held : Where → HeaderValue → Forest → List ℕ) (w : Where) (h :
       ((if b then (w.start + h.offset) ∷ held w h (candidate_of octets) else []) ++ ys)
   by_test m octets e true t =
       let each' : AreOctets octets = inner-are_octets h contents octets e each in
-      let s : Holds w.depth h contents (candidate_of octets) = passes w.depth h contents octets e each' t in
+      let s : HoldsEncodings w.depth h contents (candidate_of octets) = passes w.depth h contents octets e each' t in
       let u : Some (spelling (candidate_of octets)) ≡ Some octets = sym s.octets ∙ e in
       let same : spelling (candidate_of octets) ≡ octets = cc (u) in
       opens.opened m (candidate_of octets) s (is_held (candidate_of octets) s (subst AreOctets (sym same) each')) more
@@ -111,7 +111,7 @@ module _ (held : Where → HeaderValue → Forest → List ℕ) (w : Where) (h :
 
 -- of elements, if it is so of what strings among them hold
 in-opens : (k : ℕ) (held : Where → HeaderValue → Forest → List ℕ)
-    → ((w : Where) → 128 ≤ w.depth + k → (h : HeaderValue) (c : List ℕ) (inner : Forest) → Holds w.depth h c inner
+    → ((w : Where) → 128 ≤ w.depth + k → (h : HeaderValue) (c : List ℕ) (inner : Forest) → HoldsEncodings w.depth h c inner
     → AreOctets (spelling inner) → Opens (where_of_held w h) inner (held w h inner))
     → (w : Where) (f : Forest) → 128 ≤ w.depth + k → AreOctets (spelling f) → Opens w f (list_in held w f)
 in-opens k held is w NoMore few each = opens.no_more

@@ -34,11 +34,11 @@ abbrev pub BeginsWithNoElement : Place → Bool → List ℕ → Type 0
 BeginsWithNoElement p likely octets = (n : ℕ) → BeginsWithElement p likely octets n → ⊥
 
 -- 8.1.5: elements may end before these octets: before end-of-contents octets, or where there are no more octets
-abbrev pub is_end : Bool → List ℕ → Bool
-is_end true (x ∷ y ∷ more) = eqb x 0 && eqb y 0
-is_end true octets = false
-is_end false [] = true
-is_end false octets = false
+abbrev pub is_elements_end : Bool → List ℕ → Bool
+is_elements_end true (x ∷ y ∷ more) = eqb x 0 && eqb y 0
+is_elements_end true octets = false
+is_elements_end false [] = true
+is_elements_end false octets = false
 
 -- the octets begin with sound elements of n octets in all, which end there
 pub record BeginsWithElements (p : Place) (likely end_octets : Bool) (octets : List ℕ) (n : ℕ) : Type 0 where
@@ -46,7 +46,7 @@ pub record BeginsWithElements (p : Place) (likely end_octets : Bool) (octets : L
   pub sound : IsSound p elements
   pub probable : AreLikelyIf likely elements
   pub rest : List ℕ
-  pub end : is_end end_octets rest ≡ true
+  pub end : is_elements_end end_octets rest ≡ true
   pub spelled : spelling elements ++ rest ≡ octets
   pub size : length (spelling elements) ≡ n
 

@@ -5,7 +5,7 @@ use Rattle.tlv_walk.specs.Forest.{Forest, Primitive, is_whole, spelling}
 use Rattle.tlv_walk.specs.Place.{ObeysGrammar, Place, place_after}
 use Rattle.tlv_open.specs.declared.finder.Spot.{Spot}
 use Rattle.tlv_open.specs.Opens.{Opens, Where, where_of_children}
-use Rattle.tlv_open.specs.Private.Elements.{is_end}
+use Rattle.tlv_open.specs.Private.Elements.{is_elements_end}
 
 -- where the elements are at a spot
 abbrev pub where_of : Spot → Where
@@ -15,7 +15,7 @@ where_of s = record { start = s.start; depth = s.depth; may_open = s.may_open }
 pub record EndsBefore (end_octets : Bool) (f : Forest) (rest : List ℕ) : Type 0 where
   pub asked : end_octets ≡ true
   pub whole : is_whole f ≡ true
-  pub end : is_end true rest ≡ true
+  pub end : is_elements_end true rest ≡ true
 
 -- f is what octets are read as at a place, up to the octets `rest`
 pub record IsReadAt
@@ -55,17 +55,17 @@ AddsFirst w offset end_octets octets old new n = (p : Place) (f : Forest) (rest 
     → IsReadAt p f w.depth offset end_octets octets rest → AddsUpTo w p f offset end_octets octets rest old new n
 
 -- what is found in all elements f is added to a list, and n says where they end if they are whole
-pub record Adds (w : Where) (f : Forest) (octets old new : List ℕ) (n : ℕ) : Type 0 where
+pub record AddsOffsets (w : Where) (f : Forest) (octets old new : List ℕ) (n : ℕ) : Type 0 where
   pub found : List ℕ
   pub added : new ≡ old ++ found
   pub opens : Opens w f found
   pub size : is_whole f ≡ true → length (spelling f) ≡ n
-  pub unfinished : is_whole f ≡ false → is_end true (drop n octets) ≡ false
+  pub unfinished : is_whole f ≡ false → is_elements_end true (drop n octets) ≡ false
 
 -- whatever the octets are read as
 abbrev pub AddsAll : Where → ℕ → Bool → List ℕ → List ℕ → List ℕ → ℕ → Type 0
 AddsAll w offset end_octets octets old new n = (p : Place) (f : Forest) (rest : List ℕ)
-    → IsReadAt p f w.depth offset end_octets octets rest → Adds w f octets old new n
+    → IsReadAt p f w.depth offset end_octets octets rest → AddsOffsets w f octets old new n
 
 -- what is found in a primitive is added to a list
 pub record AddsPrimitive (w : Where) (h : HeaderValue) (contents old new : List ℕ) : Type 0 where

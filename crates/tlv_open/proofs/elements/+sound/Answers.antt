@@ -1,6 +1,6 @@
 use Rattle.std.proofs.Common.{◌≡◌, ◌+◌, ◌<◌, ℕ, List, true, false, length, drop, ap, sym, arith, add_assoc, ◌∙◌, refl, subst, length-drop}
 use Rattle.tlv_open.specs.Private.Elements.{BeginsWithElement, BeginsWithElements, BeginsWithNoElement}
-use Rattle.tlv_open.specs.Private.Elements.{is_end, place_at}
+use Rattle.tlv_open.specs.Private.Elements.{is_elements_end, place_at}
 use Rattle.tlv_open.proofs.ElementLemmas.FirstElement.{first-definite, first-indefinite, first-no_end, first-no_list}
 use Rattle.tlv_open.proofs.ElementLemmas.FirstElement.{first-primitive, first-too_deep, first-too_long, first-unclear}
 use Rattle.tlv_open.proofs.ElementLemmas.FirstElement.{no_header-none}
@@ -125,22 +125,22 @@ elements_size-loop-at-preserved t c =
           c.in_ok-at.field-0 c.loop-at-test.true c.if-octets-at-ne0.true more (c.loop-at.invariant.back n e);
     }
 
-pub elements_size-returns-then-is_end : goal.elements_size-returns-then-is_end
-elements_size-returns-then-is_end t c =
-    let end : is_end c.args.end_octets (drop c.loop-at.at c.args.octets.now) ≡ true =
-    sym (c.is_end.ensures ∙ ap (is_end c.args.end_octets) (tail-all c.args.octets.now c.loop-at.at)) ∙ c.if-is_end.true in
+pub elements_size-returns-then-is_elements_end : goal.elements_size-returns-then-is_elements_end
+elements_size-returns-then-is_elements_end t c =
+    let end : is_elements_end c.args.end_octets (drop c.loop-at.at c.args.octets.now) ≡ true =
+    sym (c.is_elements_end.ensures ∙ ap (is_elements_end c.args.end_octets) (tail-all c.args.octets.now c.loop-at.at)) ∙ c.if-is_elements_end.true in
     let size : c.loop-at.at + 0 ≡ c.loop-at.at = omega arith in
     subst
     (λ (n : ℕ). BeginsWithElements (place_at c.args.offset c.args.depth) c.args.likely c.args.end_octets c.args.octets.now n)
     size
     (c.loop-at.invariant.onward 0 (elements-nil _ c.args.likely c.args.end_octets _ end))
 
-pub elements_size-returns-else-is_end : goal.elements_size-returns-else-is_end
-elements_size-returns-else-is_end t c = λ n e.
+pub elements_size-returns-else-is_elements_end : goal.elements_size-returns-else-is_elements_end
+elements_size-returns-else-is_elements_end t c = λ n e.
     let here = c.loop-at.invariant.back n e in
-    let end : is_end c.args.end_octets (drop c.loop-at.at c.args.octets.now) ≡ false =
-    sym (c.is_end.ensures ∙ ap (is_end c.args.end_octets) (tail-all c.args.octets.now c.loop-at.at))
-    ∙ c.if-is_end.false in
+    let end : is_elements_end c.args.end_octets (drop c.loop-at.at c.args.octets.now) ≡ false =
+    sym (c.is_elements_end.ensures ∙ ap (is_elements_end c.args.end_octets) (tail-all c.args.octets.now c.loop-at.at))
+    ∙ c.if-is_elements_end.false in
     elements-stop _ c.args.likely c.args.end_octets _ here.0 refl end (elim c.loop-at-test.branch [
       | elements_size-then-loop-at-test+else-octets-at-ne0 w ↦
           no_element-at_zero _ c.args.likely c.args.octets.now c.loop-at.at w.loop-at-test.true w.if-octets-at-ne0.false

@@ -2,7 +2,7 @@ use Rattle.std.proofs.Common.{◌≡◌, Bool, not, false, true, [], length, tak
 use Rattle.std.proofs.Common.{◌∙◌, arith, append-nil, length-drop}
 use Rattle.std.proofs.lemmas.Bool.{not-true}
 use Rattle.tlv_head.specs.HeaderFields.{new_header}
-use Rattle.tlv_open.specs.Private.Elements.{is_end}
+use Rattle.tlv_open.specs.Private.Elements.{is_elements_end}
 use Rattle.tlv_open.specs.Private.Finds.{where_of}
 use Rattle.tlv_open.proofs.ElementLemmas.Elements.{tail-all, tail-of_tail}
 use Rattle.tlv_open.proofs.FinderLemmas.FirstFound.{adds-ended_holder, adds-holder, adds-open_holder, adds-primitive}
@@ -121,7 +121,7 @@ add_in_indefinite-returns-then-starts_with_end-clause-adds t c =
     (rw (tail-all c.args.octets.now c.args.count) at c.is_one_segment-is_one.ensures)
     (adds-all-at _ _ _ _ _ _ _ _ _ (c.inside.ensures.inner (take c.args.count c.args.octets.now))
     (tail-all c.args.octets.now c.args.count) c.in_ok-size.ensures.adds)
-    (sym (c.starts_with_end.ensures ∙ ap (is_end true) (tail-of_tail c.args.octets.now c.args.count c.in_ok-size.size))
+    (sym (c.starts_with_end.ensures ∙ ap (is_elements_end true) (tail-of_tail c.args.octets.now c.args.count c.in_ok-size.size))
     ∙ c.if-starts_with_end.true)
 
 pub add_in_indefinite-returns-clause-adds : goal.add_in_indefinite-returns-clause-adds
@@ -135,7 +135,7 @@ add_in_indefinite-returns-clause-adds t c =
     (rw (tail-all c.args.octets.now c.args.count) at c.is_one_segment-is_one.ensures)
     (adds-all-at _ _ _ _ _ _ _ _ _ (c.inside.ensures.inner (take c.args.count c.args.octets.now))
     (tail-all c.args.octets.now c.args.count) c.in_ok-size.ensures.adds)
-    (sym (c.starts_with_end.ensures ∙ ap (is_end true) (tail-of_tail c.args.octets.now c.args.count c.in_ok-size.size))
+    (sym (c.starts_with_end.ensures ∙ ap (is_elements_end true) (tail-of_tail c.args.octets.now c.args.count c.in_ok-size.size))
     ∙ c.if-starts_with_end.false)
 
 pub add_string-returns-then-not-spot : goal.add_string-returns-then-not-spot

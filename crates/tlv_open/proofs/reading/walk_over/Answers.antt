@@ -1,10 +1,10 @@
-use Rattle.tlv_open.proofs.FinderLemmas.Walks.{WalksOn, walk-ended, walks-on}
+use Rattle.tlv_open.proofs.FinderLemmas.Walks.{WalksFurther, walk-ended, walks-on}
 use Rattle.tlv_open.proofs.reading.walk_over.Goals as goal
 
 pub steps-preserved : goal.steps-preserved
 steps-preserved c =
     let i = c.steps.invariant in
-    let old : WalksOn c.args.framing.now c.args.octets.now c.steps.walker c.steps.rest.now = record {
+    let old : WalksFurther c.args.framing.now c.args.octets.now c.steps.walker c.steps.rest.now = record {
       framing_is = i.framing;
       taken = i.taken;
       yielded = i.yielded;
@@ -25,7 +25,7 @@ steps-preserved c =
 pub returns-in-NeedMore : goal.returns-in-NeedMore
 returns-in-NeedMore c =
     let i = c.steps.invariant in
-    let old : WalksOn c.args.framing.now c.args.octets.now c.steps.walker c.steps.rest.now = record {
+    let old : WalksFurther c.args.framing.now c.args.octets.now c.steps.walker c.steps.rest.now = record {
       framing_is = i.framing;
       taken = i.taken;
       yielded = i.yielded;
