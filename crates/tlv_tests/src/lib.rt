@@ -1,5 +1,5 @@
-//! The tests of `tlv_head`, `tlv_io`, `tlv_walk`, `tlv_value`, `tlv_show`, `tlv_cut` and `tlv_run`, by
-//! what these crates make public.
+//! The tests of `tlv_head`, `tlv_io`, `tlv_walk`, `tlv_value`, `tlv_show`, `tlv_open`, `tlv_cut`, `tlv_run` and
+//! `tlv_view`, by what these crates make public.
 #![tactic(auto)]
 
 #[cfg(test)]
@@ -11,6 +11,8 @@ mod head;
 #[cfg(test)]
 mod inputs;
 #[cfg(test)]
+mod open;
+#[cfg(test)]
 mod reads;
 #[cfg(test)]
 mod run;
@@ -18,5 +20,7 @@ mod run;
 mod show;
 #[cfg(test)]
 mod value;
+#[cfg(test)]
+mod view;
 #[cfg(test)]
 mod walk;

@@ -1,0 +1,5 @@
+pub mod Places
+pub mod OneElement
+pub mod Elements
+pub mod FirstElement
+pub mod Held

@@ -1,0 +1,4 @@
+pub mod ElementLemmas
+pub mod FinderLemmas
+pub mod LawLemmas
+mod Rows

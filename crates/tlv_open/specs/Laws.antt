@@ -1,0 +1,37 @@
+-- Laws of the strings that are opened.
+use Rattle.std.specs.Prelude.{◌≡◌, ◌≤◌, Bool, List, ℕ, length, true}
+use Rattle.tlv_head.specs.InputLimit.{input_limit}
+use Rattle.tlv_walk.specs.declared.ending.Ending.{Ending}
+use Rattle.tlv_walk.specs.declared.framing.Framing.{Framing}
+use Rattle.tlv_walk.specs.Ending.{IsEnding}
+use Rattle.tlv_walk.specs.Forest.{Forest, spelling}
+use Rattle.tlv_walk.specs.Inside.{are_rising}
+use Rattle.tlv_walk.specs.Reading.{AreOctets, IsReading}
+use Rattle.tlv_walk.specs.Wrappers.{wrapper_offsets}
+use Rattle.tlv_open.specs.Opens.{AreOpened, closed_framing}
+
+-- an input has one list of strings that are opened
+abbrev pub InputsHaveOneList : Type 0
+InputsHaveOneList = (padding : Bool) (octets : List ℕ) → AreOctets octets
+    → (xs : List ℕ) × AreOpened padding octets xs × ((ys : List ℕ) → AreOpened padding octets ys → ys ≡ xs)
+
+-- the framing in which the strings at these offsets are named
+abbrev pub opened_framing : Bool → List ℕ → Framing
+opened_framing padding offsets = record { inside = offsets; padding = padding }
+
+-- what comes of an input if the strings that are opened are named, by its reading and the one in which none is named
+pub record OpensWell (padding : Bool) (octets offsets : List ℕ) (closed opened : Forest) : Type 0 where
+  -- each of them holds encodings in the reading, and no other does: none is named in vain
+  pub wrappers : wrapper_offsets opened ≡ offsets
+  -- the same octets are spelled
+  pub spelled : spelling opened ≡ spelling closed
+  -- the ending is the one without: opening makes no fault and hides none
+  pub ending : (e : Ending) → IsEnding (closed_framing padding) octets e
+      → IsEnding (opened_framing padding offsets) octets e
+
+-- strings that are opened can be named, and what comes of it
+abbrev pub OpeningIsSafe : Type 0
+OpeningIsSafe = (padding : Bool) (octets offsets : List ℕ) (closed opened : Forest) → AreOctets octets
+    → length octets ≤ input_limit → AreOpened padding octets offsets
+    → IsReading (closed_framing padding) octets closed → IsReading (opened_framing padding offsets) octets opened
+    → (are_rising 0 offsets ≡ true) × OpensWell padding octets offsets closed opened

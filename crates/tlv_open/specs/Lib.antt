@@ -1,0 +1,4 @@
+pub mod Held
+pub mod Opens
+pub mod Laws
+pub mod Private

@@ -1,0 +1,4 @@
+pub mod Elements
+pub mod Held
+pub mod Walks
+pub mod Finds

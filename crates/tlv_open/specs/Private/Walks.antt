@@ -1,0 +1,14 @@
+-- A walk over an input that is at hand.
+use Rattle.std.specs.Prelude.{◌≡◌, ℕ, List}
+use Rattle.tlv_walk.specs.declared.framing.Framing.{Framing}
+use Rattle.tlv_walk.specs.Events.{EventValue}
+use Rattle.tlv_walk.specs.HasRead.{StandsAtEnd}
+use Rattle.tlv_walk.specs.Stands.{IsIdle}
+use Rattle.tlv_walk.specs.WalkerState.{WalkerState}
+
+-- the walker has walked over the octets to their end, or to one that it refused
+pub record HasWalkedOver (framing : Framing) (octets : List ℕ) (w : WalkerState) : Type 0 where
+  pub framing_is : w.framing ≡ framing
+  pub yielded : List EventValue
+  pub at_end : StandsAtEnd w octets yielded
+  pub idle : IsIdle w

@@ -1,0 +1,108 @@
+//! Sound elements in octets that are at hand.
+ghost use Rattle.std.specs.Prelude.{◌≡◌, ◌+◌, ◌<◌, ◌^◌, MatchOption, ◌↔◌, IsTrue, false, length};
+ghost use Rattle.tlv_head.specs.Header.{announced_length};
+ghost use Rattle.tlv_head.specs.HeaderFields.{IsHeaderSized, new_header};
+ghost use Rattle.tlv_head.specs.ReadHeader.{BeginsWithFields};
+ghost use Rattle.tlv_head.specs.Refusal.{BeginsWithNoHeader};
+ghost use Rattle.tlv_open.specs.Held.{IsClearPrimitive};
+ghost use Rattle.tlv_open.specs.Private.Elements.{BeginsWithElement, BeginsWithElements, BeginsWithNoElement};
+ghost use Rattle.tlv_open.specs.Private.Elements.{BeginsWithNoElements, is_elements_end, place_at};
+
+use tlv_head::{Class, Header, HeaderFields, Size, read_header, read_short};
+use tlv_show::has_basic_findings;
+
+/// The most elements that hold others, inside one another.
+pub(crate) const DEPTH_LIMIT: u8 = 128;
+
+/// The header with which the octets begin, at this offset, and how many octets it has. `None` if they begin with none.
+#[inline]
+pub(crate) fn header_at(octets: &[u8], offset: u64) -> Option<(HeaderFields, usize)>
+    ensures { MatchOption result (BeginsWithNoHeader octets.now)
+        (λ (fields, count). BeginsWithFields octets.now offset false fields count) }
+{
+    match read_short(offset, false, octets) {
+        Some(found) => Some(found),
+        None => read_header(offset, false, octets),
+    }
+}
+
+/// How many octets the sound elements have with which the octets begin, at this offset and depth, up to the octets `00
+/// 00` if those end them, and else up to the last octet. If `likely`, each of the outermost has to be constructed, or a
+/// primitive of the universal class in which BER finds nothing.
+#[cycle(sound)]
+pub(crate) fn elements_size(
+    octets: &[u8],
+    offset: u64,
+    depth: u8,
+    likely: bool,
+    end_octets: bool,
+) -> Option<usize>
+    requires { offset + length octets.now < 2 ^ 64 }
+    ensures { MatchOption result
+        (BeginsWithNoElements (place_at offset depth) likely end_octets octets.now)
+        (λ n. BeginsWithElements (place_at offset depth) likely end_octets octets.now n) }
+{
+    let mut at = 0;
+    while at < octets.len() && octets[at] != 0 {
+        at += element_size(&octets[at..], offset + at as u64, depth, likely)?;
+    }
+    if is_elements_end(&octets[at..], end_octets) {
+        Some(at)
+    } else {
+        None
+    }
+}
+
+/// Whether elements may end before these octets: before `00 00`, or where there are no more octets.
+fn is_elements_end(octets: &[u8], end_octets: bool) -> bool
+    ensures { result ≡ is_elements_end end_octets octets.now }
+{
+    if end_octets {
+        matches!(octets, [0, 0, ..])
+    } else {
+        octets.is_empty()
+    }
+}
+
+/// How many octets the sound element has with which the octets begin, at this offset and depth.
+#[cycle(sound)]
+fn element_size(octets: &[u8], offset: u64, depth: u8, likely: bool) -> Option<usize>
+    requires { offset + length octets.now < 2 ^ 64 }
+    ensures { MatchOption result (BeginsWithNoElement (place_at offset depth) likely octets.now)
+        (λ n. BeginsWithElement (place_at offset depth) likely octets.now n) }
+{
+    let (fields, count) = header_at(octets, offset)?;
+    if fields.constructed && depth >= DEPTH_LIMIT {
+        return None;
+    }
+    let (header, rest) = octets.split_at(count);
+    match fields.size {
+        Size::Definite(length) => {
+            if length > rest.len() as u64 {
+                return None;
+            }
+            let contents = &rest[..length as usize];
+            if fields.constructed {
+                elements_size(contents, offset + count as u64, depth + 1, false, false)?;
+            } else if likely && !is_clear_primitive(&fields, header, contents) {
+                return None;
+            }
+            Some(count + contents.len())
+        }
+        Size::Indefinite => {
+            let size = elements_size(rest, offset + count as u64, depth + 1, false, true)?;
+            Some(count + size + 2)
+        }
+    }
+}
+
+/// Whether a primitive with this header and these contents is of the universal class, and BER finds nothing in it.
+#[inline(never)]
+fn is_clear_primitive(fields: &HeaderFields, header: &[u8], contents: &[u8]) -> bool
+    requires sized { IsHeaderSized fields.now header.now }
+    requires all { announced_length fields.now.size ≡ length contents.now }
+    ensures { IsTrue result ↔ IsClearPrimitive (new_header fields.now header.now) contents.now }
+{
+    matches!(fields.class, Class::Universal)
+        && !has_basic_findings(&Header::new(fields, header), contents)
+}

@@ -1,0 +1,42 @@
+//! How much of an input is read.
+ghost use Rattle.std.specs.Prelude.{◌≡◌, ◌≤◌, length};
+ghost use Rattle.tlv_head.specs.InputLimit.{input_limit};
+ghost use Rattle.tlv_open.specs.Opens.{closed_framing};
+ghost use Rattle.tlv_open.specs.Private.Walks.{HasWalkedOver};
+ghost use Rattle.tlv_walk.specs.Forest.{Forest, spelling};
+ghost use Rattle.tlv_walk.specs.Reading.{IsReading};
+ghost use Rattle.tlv_walk.specs.WalkerState.{new_walker};
+
+use tlv_walk::{Ending, Framing, Inside, Step, Walker};
+
+/// How many octets of the input are read with no string named: all, or those before the octet that is refused.
+pub(crate) fn count_read(octets: &[u8], padding: bool) -> usize
+    requires { length octets.now ≤ input_limit }
+    ensures { (f : Forest) → IsReading (closed_framing padding) octets.now f
+        → result ≡ length (spelling f) }
+{
+    let framing = Framing {
+        inside: Inside::none(),
+        padding,
+    };
+    let walker = walk_over(octets, &framing);
+    match walker.finish() {
+        Ending::Done => octets.len(),
+        Ending::Fault(fault) => fault.offset as usize,
+    }
+}
+
+/// The walker that has walked over the octets, read so.
+fn walk_over<'f>(octets: &[u8], framing: &'f Framing<'_>) -> Walker<'f>
+    requires { length octets.now ≤ input_limit }
+    ensures { HasWalkedOver framing.now octets.now result }
+{
+    let mut walker = Walker::new(framing);
+    let mut rest: &[u8] = octets;
+    'steps: loop {
+        match walker.step(&mut rest) {
+            Step::Event(_) => {}
+            Step::NeedMore | Step::Fault(_) => return walker,
+        }
+    }
+}

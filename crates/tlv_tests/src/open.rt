@@ -1,0 +1,79 @@
+//! Which strings of an input are opened.
+use crate::expect::expect_eq_of;
+use std::alloc::Global;
+use std::process::Abort;
+use std::test::Fail;
+use tlv_open::opened;
+
+/// An input, and the offsets of the strings that are opened.
+type Row<'a> = (&'a [u8], &'a [u64]);
+
+/// Strings at the top: what they hold.
+static STRINGS: [Row<'static>; 13] = [
+    (b"\x04\x05\x30\x03\x02\x01\x07", &[0]),
+    (b"\x04\x02\x05\x00", &[0]),
+    (b"\x04\x02\x04\x00", &[0]),
+    (b"\x04\x00", &[]),
+    (b"\x03\x00", &[]),
+    (b"\x03\x03\x00\x05\x00", &[0]),
+    (b"\x03\x03\x01\x05\x00", &[]),
+    (b"\x04\x06\x04\x04\x04\x02\x05\x00", &[0, 2, 4]),
+    (b"\x04\x03\x80\x01\x05", &[]),
+    (b"\x04\x05\xa0\x03\x80\x01\x05", &[0]),
+    (b"\x04\x04\x02\x02\x00\x05", &[]),
+    (b"\x04\x06\x30\x80\x05\x00\x00\x00", &[0]),
+    (b"\x04\x03\x05\x00\x00", &[]),
+];
+
+/// Strings in other elements: findings inside, segments, and inputs that are cut off or padded.
+static ELEMENTS: [Row<'static>; 9] = [
+    (b"\x30\x0b\x04\x09\x30\x07\x13\x05foo@b", &[2]),
+    (b"\x30\x08\x04\x02\x05\x00\x04\x02\x06\x00", &[2]),
+    (b"\x24\x04\x04\x02\x05\x00", &[2]),
+    (b"\x24\x08\x04\x02\x05\x00\x04\x02\x05\x00", &[]),
+    (b"\x24\x80\x04\x02\x05\x00\x00\x00", &[2]),
+    (b"\x24\x80\x04\x02\x05\x00", &[]),
+    (b"\x24\x06\x30\x04\x04\x02\x05\x00", &[4]),
+    (b"\x30\x08\x04\x02\x05\x00\x04\x02\x05", &[2]),
+    (b"\x04\x02\x05\x00\x00\x04\x02\x05\x00", &[0]),
+];
+
+fn expect_opened(rt: &impl Abort, alloc: Global, rows: &[Row<'_>], padding: bool) -> Result<(), Fail> {
+    for row in rows {
+        let (octets, offsets) = *row;
+        let list = opened(alloc, octets, padding)?;
+        expect_eq_of(rt, octets, list.as_slice(), offsets);
+    }
+    Ok(())
+}
+
+#[test]
+fn strings_are_opened(rt: HostRuntime) -> Result<(), Fail> {
+    for rows in [STRINGS.as_slice(), &ELEMENTS] {
+        expect_opened(&rt, rt.alloc(), rows, false)?;
+    }
+    let padded: Row<'static> = (b"\x00\x04\x02\x05\x00\x00\x04\x02\x05\x00", &[1, 6]);
+    expect_opened(&rt, rt.alloc(), &[padded], true)
+}
+
+/// So many indefinite SEQUENCEs, one in the other, that hold a string in the end.
+fn expect_deep(rt: &impl Abort, alloc: Global, depth: usize, offsets: &[u64]) -> Result<(), Fail> {
+    let mut input = Vec::new(alloc);
+    for _ in 0..depth {
+        input.extend_from_slice(b"\x30\x80")?;
+    }
+    input.extend_from_slice(b"\x04\x02\x05\x00")?;
+    for _ in 0..depth {
+        input.extend_from_slice(b"\x00\x00")?;
+    }
+    let list = opened(alloc, input.as_slice(), false)?;
+    expect_eq_of(rt, depth, list.as_slice(), offsets);
+    Ok(())
+}
+
+/// A string that is opened counts among the 128 elements that may hold others.
+#[test]
+fn deep_strings_are_opened(rt: HostRuntime) -> Result<(), Fail> {
+    expect_deep(&rt, rt.alloc(), 127, &[254])?;
+    expect_deep(&rt, rt.alloc(), 128, &[])
+}

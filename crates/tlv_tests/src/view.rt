@@ -1,0 +1,53 @@
+//! Views of octets with the strings opened that hold encodings.
+use crate::expect::expect_eq_of;
+use std::alloc::{AllocError, Global};
+use std::process::Abort;
+use std::test::Fail;
+use tlv_show::Rules;
+use tlv_value::Names;
+use tlv_view::{View, view_octets};
+use tlv_walk::MemDrain;
+
+const DUMP: View = View::Dump {
+    rules: Rules::Ber,
+    limit: None,
+    pure: false,
+};
+
+/// Expects the view of these octets to write this, and to report this status.
+fn expect_view(
+    rt: &impl Abort,
+    alloc: Global,
+    view: &View,
+    closed: bool,
+    octets: &[u8],
+    written: &[u8],
+    status: u8,
+) -> Result<(), AllocError> {
+    let mut room = [0; 256];
+    let mut drain = MemDrain::new(&mut room, 4096);
+    let report = view_octets(alloc, view, &Names::empty(), closed, false, octets, &mut drain)?;
+    expect_eq_of(rt, octets, drain.written(), written);
+    expect_eq_of(rt, octets, report.status, status);
+    Ok(())
+}
+
+#[test]
+fn strings_are_shown_opened(rt: HostRuntime) -> Result<(), Fail> {
+    let opened: &[u8] =
+        b"       0      2: OCTET STRING wraps {\n       2      0:   NULL\n                 }\n";
+    let closed: &[u8] = b"       0      2: OCTET STRING 05 00\n";
+    let found: &[u8] = b"2 D01 indefinite length\n";
+    let octets: &[u8] = b"\x04\x02\x05\x00";
+    let inner = View::Extract {
+        offset: 2,
+        contents: false,
+    };
+    let check = View::Check { rules: Rules::Der };
+    expect_view(&rt, rt.alloc(), &DUMP, false, octets, opened, 0)?;
+    expect_view(&rt, rt.alloc(), &DUMP, true, octets, closed, 0)?;
+    expect_view(&rt, rt.alloc(), &inner, false, octets, b"\x05\x00", 0)?;
+    expect_view(&rt, rt.alloc(), &inner, true, octets, b"", 1)?;
+    expect_view(&rt, rt.alloc(), &check, false, b"\x04\x06\x30\x80\x05\x00\x00\x00", found, 1)?;
+    Ok(())
+}

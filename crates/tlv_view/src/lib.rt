@@ -1,0 +1,6 @@
+//! What a person sees of octets in memory: a dump, a check or one element, with the strings opened that hold encodings.
+#![tactic(auto)]
+
+mod view_call;
+
+pub use view_call::{View, view_octets};
