@@ -1,13 +1,19 @@
 -- What is found in an input.
-use Rattle.std.proofs.Common.{◌≡◌, ℕ, ◌<◌, ◌≤◌, Bool, false, ◌++◌, List, [], Fits, w8, length, take, inl, refl, sym, ap}
-use Rattle.std.proofs.Common.{arith, subst, append-nil, length-append, slice_index_or, ◌∙◌}
+use Rattle.std.proofs.Common.{◌≡◌, ℕ, ◌+◌, ◌<◌, ◌≤◌, Bool, true, false, ◌++◌, List, [], ◌∷◌, Fits, w8, length, take, inl}
+use Rattle.std.proofs.Common.{refl, sym, ap, ap₂, arith, subst, append-nil, length-append, slice_index_or, ◌∙◌}
+use Rattle.std.proofs.Common.{MatchOption, Option, Some, None}
+use Rattle.std.specs.Option.{is_some}
 use Rattle.std.proofs.lemmas.List.{get_or_default}
 use Rattle.std.proofs.Math.Seq.{take-append_seam}
 use Rattle.tlv_walk.specs.declared.framing.Framing.{Framing}
-use Rattle.tlv_walk.specs.Forest.{Forest, spelling}
-use Rattle.tlv_walk.specs.Place.{top_place}
-use Rattle.tlv_walk.specs.Reading.{AreOctets, IsReading}
+use Rattle.tlv_walk.specs.Forest.{Forest, Holder, NoMore, OpenBitString, OpenEndOctets, OpenHeader, OpenHolder}
+use Rattle.tlv_walk.specs.Forest.{OpenPrimitive, PaddingOctet, Primitive, extent, opening, primitive_extent, spelling}
+use Rattle.tlv_walk.specs.Inside.{is_among}
+use Rattle.tlv_walk.specs.Place.{Place, place_after, place_of_children, top_place}
+use Rattle.tlv_walk.specs.Reading.{AreOctets, IsReading, IsSound}
+use Rattle.tlv_walk.proofs.GrammarLemmas.SoundElements.{sound-obeys_grammar_top}
 use Rattle.tlv_open.specs.Opens.{AreOpened, closed_framing, where_at_top}
+use Rattle.tlv_open.specs.Private.Elements.{BeginsWithElements, BeginsWithNoElements, is_elements_end, place_at}
 use Rattle.tlv_open.specs.Private.Finds.{AddsOffsets, AddsAll}
 
 -- if each number of a slice fits an octet, they are octets
@@ -41,3 +47,69 @@ are-opened padding octets new f m n r count a =
       end = inl refl;
     }) in
     record { reading = f; is_reading = r; opens = rw s.added s.opens }
+
+-- sound elements without padding are sound where padding is allowed
+sound-padded : (p q : Place) (f : Forest) → p.padding ≡ false → q.offset ≡ p.offset → q.depth ≡ p.depth
+    → q.inside ≡ p.inside → IsSound p f → IsSound q f
+sound-padded p q NoMore z o d i s = tt
+sound-padded p q (PaddingOctet rest) z o d i s = let w : true ≡ false = sym s.0 ∙ z in absurd (cc (w))
+sound-padded p q (Primitive h c rest) z o d i s = (
+  record {
+    valid = s.0.valid;
+    offset = s.0.offset ∙ sym o;
+    named = s.0.named ∙ ap₂ is_among (sym o) (sym i);
+    form = s.0.form;
+  },
+  s.1,
+  sound-padded (place_after p (primitive_extent h c)) (place_after q (primitive_extent h c)) rest z
+      (ap (λ (n : ℕ). n + primitive_extent h c) o) d i s.2,
+)
+sound-padded p q (Holder h inside rest) z o d i s = (
+  record {
+    valid = s.0.valid;
+    offset = s.0.offset ∙ sym o;
+    named = s.0.named ∙ ap₂ is_among (sym o) (sym i);
+    form = s.0.form;
+  },
+  s.1,
+  omega (arith, s.2, d),
+  sound-padded (place_of_children p h) (place_of_children q h) inside refl
+      (ap (λ (n : ℕ). n + length (opening h)) o) (ap (λ (n : ℕ). n + 1) d) i s.3,
+  sound-padded (place_after p (extent h inside)) (place_after q (extent h inside)) rest z
+      (ap (λ (n : ℕ). n + extent h inside) o) d i s.4,
+)
+sound-padded p q (OpenPrimitive h c) z o d i s = absurd s
+sound-padded p q (OpenHolder h inside) z o d i s = absurd s
+sound-padded p q (OpenBitString h) z o d i s = absurd s
+sound-padded p q (OpenHeader octets) z o d i s = absurd s
+sound-padded p q OpenEndOctets z o d i s = absurd s
+
+at_end : (o : List ℕ) → is_elements_end false o ≡ true → o ≡ []
+at_end [] w = refl
+at_end (x ∷ o) w = absurd (cc (w))
+
+-- of sound elements all is read
+all-read : (padding : Bool) (octets : List ℕ) (n : ℕ) (f : Forest)
+    → BeginsWithElements (place_at 0 0) false false octets n → IsReading (closed_framing padding) octets f
+    → length octets ≡ length (spelling f)
+all-read padding octets n f b r =
+    let spelled : spelling b.elements ++ [] ≡ octets =
+    ap (λ (o : List ℕ). spelling b.elements ++ o) (sym (at_end b.rest b.end)) ∙ b.spelled in
+    let sound : IsSound (top_place (closed_framing padding)) b.elements =
+    sound-padded (place_at 0 0) (top_place (closed_framing padding)) b.elements refl refl refl refl b.sound in
+    let most : length (spelling b.elements) ≤ length (spelling f) =
+    r.longest b.elements (sound-obeys_grammar_top (closed_framing padding) b.elements sound) ([], spelled) in
+    omega (
+      arith,
+      most,
+      read-within (closed_framing padding) octets f r,
+      ap length spelled,
+      length-append (spelling b.elements) [],
+    )
+
+pub some-read : (padding : Bool) (octets : List ℕ) (found : Option ℕ) → is_some found ≡ true
+    → MatchOption found (BeginsWithNoElements (place_at 0 0) false false octets)
+    (λ n. BeginsWithElements (place_at 0 0) false false octets n)
+    → (f : Forest) → IsReading (closed_framing padding) octets f → length octets ≡ length (spelling f)
+some-read padding octets None e m f r = absurd (cc (e))
+some-read padding octets (Some n) e m f r = all-read padding octets n f m r

@@ -1,4 +1,6 @@
 use Rattle.tlv_open.specs.Opens.{closed_framing}
+use Rattle.std.proofs.Common.{sym, ◌∙◌}
+use Rattle.tlv_open.proofs.FinderLemmas.Inputs.{some-read}
 use Rattle.tlv_open.proofs.FinderLemmas.Walks.{ending-count}
 use Rattle.tlv_open.proofs.reading.count_read.Goals as goal
 
@@ -15,3 +17,8 @@ returns-in-Fault c = λ f r.
     let ends = c.in-Fault.ensures.ending c.args.octets.now w.yielded w.at_end in
     ending-count (closed_framing c.args.padding) c.args.octets.now _ f
     (rw (w.framing_is, c.none.ensures) at ends.is_ending) r
+
+pub returns-then-is_some : goal.returns-then-is_some
+returns-then-is_some c = λ f r.
+    some-read c.args.padding c.args.octets.now c.elements_size.result (sym c.is_some.ensures ∙ c.if-is_some.true)
+    c.elements_size.ensures f r
