@@ -38,7 +38,12 @@ static ELEMENTS: [Row<'static>; 9] = [
     (b"\x04\x02\x05\x00\x00\x04\x02\x05\x00", &[0]),
 ];
 
-fn expect_opened(rt: &impl Abort, alloc: Global, rows: &[Row<'_>], padding: bool) -> Result<(), Fail> {
+fn expect_opened(
+    rt: &impl Abort,
+    alloc: Global,
+    rows: &[Row<'_>],
+    padding: bool,
+) -> Result<(), Fail> {
     for row in rows {
         let (octets, offsets) = *row;
         let list = opened(alloc, octets, padding)?;

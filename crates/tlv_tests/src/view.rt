@@ -26,7 +26,15 @@ fn expect_view(
 ) -> Result<(), AllocError> {
     let mut room = [0; 256];
     let mut drain = MemDrain::new(&mut room, 4096);
-    let report = view_octets(alloc, view, &Names::empty(), closed, false, octets, &mut drain)?;
+    let report = view_octets(
+        alloc,
+        view,
+        &Names::empty(),
+        closed,
+        false,
+        octets,
+        &mut drain,
+    )?;
     expect_eq_of(rt, octets, drain.written(), written);
     expect_eq_of(rt, octets, report.status, status);
     Ok(())
@@ -48,6 +56,14 @@ fn strings_are_shown_opened(rt: HostRuntime) -> Result<(), Fail> {
     expect_view(&rt, rt.alloc(), &DUMP, true, octets, closed, 0)?;
     expect_view(&rt, rt.alloc(), &inner, false, octets, b"\x05\x00", 0)?;
     expect_view(&rt, rt.alloc(), &inner, true, octets, b"", 1)?;
-    expect_view(&rt, rt.alloc(), &check, false, b"\x04\x06\x30\x80\x05\x00\x00\x00", found, 1)?;
+    expect_view(
+        &rt,
+        rt.alloc(),
+        &check,
+        false,
+        b"\x04\x06\x30\x80\x05\x00\x00\x00",
+        found,
+        1,
+    )?;
     Ok(())
 }
