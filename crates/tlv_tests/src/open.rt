@@ -1,9 +1,10 @@
 //! Which strings of an input are opened.
 use crate::expect::expect_eq_of;
-use std::alloc::Global;
+use std::alloc::{AllocError, Global};
 use std::process::Abort;
 use std::test::Fail;
 use tlv_open::opened;
+use tlv_walk::INPUT_LIMIT;
 
 /// An input, and the offsets of the strings that are opened.
 type Row<'a> = (&'a [u8], &'a [u64]);
@@ -38,6 +39,17 @@ static ELEMENTS: [Row<'static>; 9] = [
     (b"\x04\x02\x05\x00\x00\x04\x02\x05\x00", &[0]),
 ];
 
+/// The strings that are opened of an input that is not too long.
+fn opened_in(
+    rt: &impl Abort,
+    alloc: Global,
+    octets: &[u8],
+    padding: bool,
+) -> Result<Vec<u64>, AllocError> {
+    assert!(rt; octets.len() as u64 <= INPUT_LIMIT, "too long");
+    opened(alloc, octets, padding)
+}
+
 fn expect_opened(
     rt: &impl Abort,
     alloc: Global,
@@ -46,7 +58,7 @@ fn expect_opened(
 ) -> Result<(), Fail> {
     for row in rows {
         let (octets, offsets) = *row;
-        let list = opened(alloc, octets, padding)?;
+        let list = opened_in(rt, alloc, octets, padding)?;
         expect_eq_of(rt, octets, list.as_slice(), offsets);
     }
     Ok(())
@@ -71,7 +83,7 @@ fn expect_deep(rt: &impl Abort, alloc: Global, depth: usize, offsets: &[u64]) ->
     for _ in 0..depth {
         input.extend_from_slice(b"\x00\x00")?;
     }
-    let list = opened(alloc, input.as_slice(), false)?;
+    let list = opened_in(rt, alloc, input.as_slice(), false)?;
     expect_eq_of(rt, depth, list.as_slice(), offsets);
     Ok(())
 }

@@ -6,7 +6,7 @@ use std::test::Fail;
 use tlv_show::Rules;
 use tlv_value::Names;
 use tlv_view::{View, view_octets};
-use tlv_walk::MemDrain;
+use tlv_walk::{INPUT_LIMIT, MemDrain};
 
 const DUMP: View = View::Dump {
     rules: Rules::Ber,
@@ -24,6 +24,7 @@ fn expect_view(
     written: &[u8],
     status: u8,
 ) -> Result<(), AllocError> {
+    assert!(rt; octets.len() as u64 <= INPUT_LIMIT, "too long");
     let mut room = [0; 256];
     let mut drain = MemDrain::new(&mut room, 4096);
     let report = view_octets(

@@ -2,7 +2,7 @@
 use Rattle.std.specs.Prelude.{◌≡◌, ℕ, Bool, true, false, List, [], Some, None}
 use Rattle.tlv_io.specs.Device.{DrainState, SourceState, new_source}
 use Rattle.tlv_walk.specs.declared.framing.Framing.{Framing}
-use Rattle.tlv_walk.specs.Job.{Job, device_states}
+use Rattle.tlv_walk.specs.Job.{device_states}
 use Rattle.tlv_value.specs.Names.{NamesValue}
 use Rattle.tlv_open.specs.Laws.{opened_framing}
 use Rattle.tlv_open.specs.Opens.{AreOpened}
