@@ -5,7 +5,7 @@ use std::process::Abort;
 use std::test::Fail;
 use tlv_show::Rules;
 use tlv_value::Names;
-use tlv_view::{View, view_octets};
+use tlv_view::{View, view_octets, write_offsets};
 use tlv_walk::{INPUT_LIMIT, MemDrain};
 
 const DUMP: View = View::Dump {
@@ -67,4 +67,19 @@ fn strings_are_shown_opened(rt: HostRuntime) -> Result<(), Fail> {
         1,
     )?;
     Ok(())
+}
+
+/// Offsets are written as `--inside` takes them.
+#[test]
+fn offsets_are_written(rt: HostRuntime) {
+    for (offsets, want) in [
+        ([].as_slice(), b"".as_slice()),
+        (&[0], b"0\n"),
+        (&[0, 2, 1099511627776], b"0,2,1099511627776\n"),
+    ] {
+        let mut room = [0; 64];
+        let mut drain = MemDrain::new(&mut room, 3);
+        expect_eq_of(&rt, offsets, write_offsets(offsets, &mut drain), Ok(()));
+        expect_eq_of(&rt, offsets, drain.written(), want);
+    }
 }
