@@ -1,7 +1,7 @@
 //! A list of offsets, as the option `--inside` takes it.
 ghost use Rattle.std.specs.Prelude.{◌≡◌};
 ghost use Rattle.tlv_io.specs.Out.{Puts, Sends};
-ghost use Rattle.tlv_view.specs.Offsets.{offset_text, offsets_line};
+ghost use Rattle.tlv_view.specs.Offsets.{listed_offset, offsets_line};
 
 use arrayvec::ArrayVec;
 use itoa::Buffer;
@@ -35,7 +35,7 @@ fn put_offsets<D: Drain>(offsets: &[u64], out: &mut Out<'_, D>) -> Result<(), Wr
 
 /// An offset in decimal, and what follows it: a comma, or a line feed after the last.
 fn offset_text(offset: u64, is_last: bool) -> ArrayVec<u8, 41>
-    ensures { result.items ≡ offset_text offset is_last }
+    ensures { result.items ≡ listed_offset offset is_last }
 {
     let mut text = ArrayVec::new();
     let mut digits = Buffer::new();

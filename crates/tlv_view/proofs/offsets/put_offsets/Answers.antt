@@ -4,7 +4,7 @@ use Rattle.std.specs.Prelude.{◌==◌}
 use Rattle.std.proofs.lemmas.List.{length-drop, length-take}
 use Rattle.std.proofs.Math.Seq.{drop-cons}
 use Rattle.tlv_io.proofs.Puts.{puts_as, puts_failed_in, puts_nothing, puts_then}
-use Rattle.tlv_view.specs.Offsets.{offset_text, offsets_line}
+use Rattle.tlv_view.specs.Offsets.{listed_offset, offsets_line}
 use Rattle.tlv_view.proofs.offsets.put_offsets.Goals as goal
 
 -- nothing is left in the slice after so many exactly if there are no more
@@ -15,7 +15,7 @@ last-is xs k b e =
 
 -- the text of one more offset
 next_offset : (text line all : List ℕ) (xs : List ℕ) (i : ℕ) → i < length xs
-    → line ≡ offset_text (get_or xs i 0) (length (drop (i + 1) xs) == 0)
+    → line ≡ listed_offset (get_or xs i 0) (length (drop (i + 1) xs) == 0)
     → text ++ offsets_line (drop i xs) ≡ all → text ++ (line ++ offsets_line (drop (i + 1) xs)) ≡ all
 next_offset text line all xs i h e f =
     let next : drop i xs ≡ get_or xs i 0 ∷ drop (i + 1) xs = rw add-one (drop-cons xs i 0 h) in
@@ -32,7 +32,7 @@ returns-in_err-put g c =
       rest = _;
       is = append_assoc i.put.0 _ _ ∙ next_offset i.put.0 _ _ c.args.offsets.now c.loop-i.i (omega arith)
           (c.as_slice.ensures.value ∙ c.offset_text-text.ensures
-          ∙ ap (offset_text _) (last-is c.args.offsets.now (c.loop-i.i + 1) _ c.is_empty.ensures)) i.put.2;
+          ∙ ap (listed_offset _) (last-is c.args.offsets.now (c.loop-i.i + 1) _ c.is_empty.ensures)) i.put.2;
     })
 
 pub loop-i-preserved : goal.loop-i-preserved
@@ -46,6 +46,6 @@ loop-i-preserved g c =
         append_assoc i.put.0 _ _
             ∙ next_offset i.put.0 _ _ c.args.offsets.now c.loop-i.i (omega arith)
             (c.as_slice.ensures.value ∙ c.offset_text-text.ensures
-            ∙ ap (offset_text _) (last-is c.args.offsets.now (c.loop-i.i + 1) _ c.is_empty.ensures)) i.put.2,
+            ∙ ap (listed_offset _) (last-is c.args.offsets.now (c.loop-i.i + 1) _ c.is_empty.ensures)) i.put.2,
       );
     }
