@@ -1,0 +1,4 @@
+pub mod Streams
+pub mod Lines
+pub mod ShowsBlock
+pub mod ShowsAll

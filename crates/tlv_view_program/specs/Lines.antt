@@ -1,0 +1,31 @@
+-- The lines that are written beside views: what is before a file, and what concerns one.
+use Rattle.std.specs.Prelude.{ℕ, ◌+◌, List, [], ◌∷◌, ◌++◌, Option, Some, None, codes, decimal, map, if◌then◌else◌}
+use Rattle.tlv_value.specs.Units.{is_printable}
+
+-- a name that a terminal can show: each octet that is not printable is a question mark
+abbrev pub printable_name : List ℕ → List ℕ
+printable_name name = map (λ x. if is_printable x then x else 0x3f) name
+
+-- a file that has no name is standard input
+abbrev pub shown_name : Option (List ℕ) → List ℕ
+shown_name None = codes "standard input"
+shown_name (Some name) = printable_name name
+
+-- the line before what is shown of a file, if there are several: its number, how many there are, and its name
+abbrev pub block_line : ℕ → ℕ → Option (List ℕ) → List ℕ
+block_line number count file =
+    codes "# block " ++ decimal number ++ codes " of " ++ decimal count ++ codes ": " ++ shown_name file ++ 10 ∷ []
+
+-- what comes before the text of a line that concerns a file: its name. Standard input has none
+abbrev pub line_prefix_of : Option (List ℕ) → List ℕ
+line_prefix_of None = []
+line_prefix_of (Some name) = printable_name name ++ codes ": "
+
+-- the line of a message that concerns a file; there is none for no message
+abbrev pub file_line : Option (List ℕ) → List ℕ → List ℕ
+file_line file [] = []
+file_line file (x ∷ message) = line_prefix_of file ++ (x ∷ message) ++ 10 ∷ []
+
+-- the note if no file of names is found
+abbrev pub no_names_note : List ℕ
+no_names_note = codes "no names file was found: object identifiers have no names\n"

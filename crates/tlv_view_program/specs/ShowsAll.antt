@@ -1,0 +1,129 @@
+-- What the program does, from its words to its status, and in which order.
+use Rattle.std.specs.Prelude.{◌≡◌, ◌≢◌, ◌+◌, ⊤, ℕ, Bool, true, false, eqb, List, [], ◌∷◌, Option, Some, None, Result, Ok, Err}
+use Rattle.std.specs.Prelude.{codes, if◌then◌else◌, length, map, max}
+use Rattle.std.specs.FinMap as finite
+use Rattle.std.specs.Str.{bytes_eq}
+use Rattle.clap.specs.Words.{Text}
+use Rattle.tlv_io.specs.Device.{SourceState}
+use Rattle.tlv_io.specs.Out.{Sends}
+use Rattle.tlv_walk.specs.declared.run.DeviceFault.TheVariants.{WriteFailed}
+use Rattle.tlv_value.specs.Names.{NamesValue}
+use Rattle.tlv_value.specs.NamesReading.{ReadsFrom}
+use Rattle.tlv_value.specs.declared.names.fault.NamesFault.{NamesFault}
+use Rattle.tlv_value.specs.declared.names.fault.NamesFault.TheVariants as names
+use Rattle.tlv_run.specs.Report.{ReportValue, WritesMessage, device_report, message_line, names_report}
+use Rattle.tlv_words.specs.Usage.{not_utf8_report}
+use Rattle.tlv_view_words.specs.RequestOf.{AsksFor, IsRequestFaultOf, request_fault_report}
+use Rattle.tlv_view_words.specs.declared.request.Request.{Request}
+use Rattle.tlv_view_words.specs.declared.request.Wanted.{Wanted}
+use Rattle.tlv_view_words.specs.declared.request.Wanted.TheVariants.{Dump, Check, Extract, Offsets}
+use Rattle.tlv_program.specs.System.{Allows, IsUnread}
+use Rattle.tlv_program.specs.declared.program.NoWords.{NoWords}
+use Rattle.tlv_program.specs.declared.program.NoWords.TheVariants.{NotUtf8, Memory}
+use Rattle.tlv_view_program.specs.Lines.{no_names_note}
+use Rattle.tlv_view_program.specs.ShowsBlock.{ShowsBlock}
+use Rattle.tlv_view_program.specs.Streams.{StreamsValue}
+
+-- ---- files
+
+-- the file of a word: `-` is standard input, which has no name
+abbrev pub file_of_word : List ℕ → Option (List ℕ)
+file_of_word word = if bytes_eq word (codes "-") then None else Some word
+
+-- the files of these words; without words it is standard input
+abbrev pub files_of_words : List (List ℕ) → List (Option (List ℕ))
+files_of_words [] = None ∷ []
+files_of_words words = map file_of_word words
+
+-- ---- names of object identifiers
+
+-- the file of names that the words name, if object identifiers are shown
+abbrev pub names_of_wanted : Wanted → Option (Option (List ℕ))
+names_of_wanted (Dump rules limit pure text closed names) = Some names
+names_of_wanted wanted = None
+
+module _ {S : Type 0} (allows : Allows S) where
+  -- the first of these files that opens, if one does: each is tried in turn
+  pub data OpensFirst : List (List ℕ) → S → S → Option SourceState → Type 0 where
+    none : {s : S} → OpensFirst [] s s None
+    here : {name : List ℕ} {places : List (List ℕ)} {old new : S} (file : SourceState)
+        → allows.opens old new name (Some file) → IsUnread file → OpensFirst (name ∷ places) old new (Some file)
+    later : {name : List ℕ} {places : List (List ℕ)} {old new : S} {found : Option SourceState} (between : S)
+        → allows.opens old between name None → OpensFirst places between new found
+        → OpensFirst (name ∷ places) old new found
+
+  -- the names for what is wanted, or why there are none; the Bool says whether it is noted that no file of names was
+  -- found: a line for each case
+  pub data GetsTable (wanted : Wanted) (places : List (List ℕ)) (old new : S)
+      : Bool → Result NamesValue NamesFault → Type 0 where
+    -- no object identifiers are shown
+    not_asked : names_of_wanted wanted ≡ None → new ≡ old → GetsTable wanted places old new false (Ok finite.empty)
+    -- the file of names that the words name does not open
+    unopened : (name : List ℕ) → names_of_wanted wanted ≡ Some (Some name) → allows.opens old new name None
+        → GetsTable wanted places old new false (Err names.ReadFailed)
+    -- it is opened and read
+    named : (name : List ℕ) (between : S) (before after : SourceState) (result : Result NamesValue NamesFault)
+        → names_of_wanted wanted ≡ Some (Some name) → allows.opens old between name (Some before) → IsUnread before
+        → ReadsFrom before after result → allows.closes between new after
+        → GetsTable wanted places old new false result
+    -- the words name none, and one is found and read
+    found : (between : S) (before after : SourceState) (result : Result NamesValue NamesFault)
+        → names_of_wanted wanted ≡ Some None → OpensFirst places old between (Some before)
+        → ReadsFrom before after result → allows.closes between new after
+        → GetsTable wanted places old new false result
+    -- the words name none, and none is found
+    none_found : names_of_wanted wanted ≡ Some None → OpensFirst places old new None
+        → GetsTable wanted places old new true (Ok finite.empty)
+
+  -- ---- all files
+
+  -- the files in order, of which the first has this number: the status is the highest. After a failed write to standard
+  -- output no other file is shown
+  pub data ShowsFiles (request : Request) (table : NamesValue) (count : ℕ)
+      : ℕ → List (Option (List ℕ)) → StreamsValue S → StreamsValue S → ℕ → Type 0 where
+    no_more : {number : ℕ} {states : StreamsValue S} → ShowsFiles request table count number [] states states 0
+    goes_on : {number status rest : ℕ} {file : Option (List ℕ)} {files : List (Option (List ℕ))}
+        {old new : StreamsValue S} (between : StreamsValue S)
+        → ShowsBlock allows request table number count file old between false status
+        → ShowsFiles request table count (number + 1) files between new rest
+        → ShowsFiles request table count number (file ∷ files) old new (max status rest)
+    stops : {number status : ℕ} {file : Option (List ℕ)} {files : List (Option (List ℕ))} {old new : StreamsValue S}
+        → ShowsBlock allows request table number count file old new true status
+        → ShowsFiles request table count number (file ∷ files) old new status
+
+  -- ---- the program
+
+  -- a message is written to standard error, or a write failed, and all else is as it was
+  abbrev pub Says : List ℕ → StreamsValue S → StreamsValue S → Type 0
+  Says message old new =
+      WritesMessage (message_line message) old.messages new.messages × (new ≡ record old { messages = new.messages })
+
+  -- the names are got, and the files are shown
+  pub data ShowsRequest (places : List (List ℕ)) (request : Request) (old new : StreamsValue S) : ℕ → Type 0 where
+    -- there are no names: no file is opened, and this is said
+    no_names : (fault : NamesFault) (noted : Bool) (between : S)
+        → GetsTable request.wanted places old.system between noted (Err fault)
+        → Says (names_report fault).message (record old { system = between }) new
+        → ShowsRequest places request old new (names_report fault).status
+    shows : (table : NamesValue) (noted : Bool) (status : ℕ) (between : S) (ready : StreamsValue S)
+        → GetsTable request.wanted places old.system between noted (Ok table)
+        → Says (if noted then no_names_note else []) (record old { system = between }) ready
+        → ShowsFiles request table (length (files_of_words request.files)) 1 (files_of_words request.files) ready new
+        status
+        → ShowsRequest places request old new status
+
+  -- the program runs on these words, or on the reason why there are none, and this is its status: a line for each case
+  pub data RunsShow (places : List (List ℕ)) (old new : StreamsValue S) : Result (List Text) NoWords → ℕ → Type 0 where
+    -- a word is not UTF-8
+    not_utf8 : Says not_utf8_report.message old new
+        → RunsShow places old new (Err NotUtf8) not_utf8_report.status
+    -- memory for the words is refused
+    no_memory : Says (usage_report usage.Memory).message old new
+        → RunsShow places old new (Err Memory) (usage_report usage.Memory).status
+    -- the words ask for nothing that can be shown: no file is opened, and nothing is read
+    refused : (words : List Text) (fault : RequestFault) (printed : Bool) (between : S) → IsRequestFaultOf words fault
+        → PrintsIfParser allows old.system between fault printed
+        → Says (refusal_report fault printed).message (record old { system = between }) new
+        → RunsShow places old new (Ok words) (refusal_report fault printed).status
+    runs : (words : List Text) (request : Request) (status : ℕ) → AsksFor words request
+        → ShowsRequest places request old new status → RunsShow places old new (Ok words) status

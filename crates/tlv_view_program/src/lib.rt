@@ -1,0 +1,15 @@
+//! What `tlvdump-show` does, from the words of its command line to its status, over any system that opens files and
+//! prints.
+#![tactic(auto)]
+
+mod block;
+mod files;
+mod lines;
+mod names;
+mod octets;
+mod show_call;
+mod streams;
+mod wanted;
+
+pub use show_call::run_show;
+pub use streams::Streams;

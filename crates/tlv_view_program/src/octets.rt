@@ -1,0 +1,133 @@
+//! What is shown of octets.
+ghost use Rattle.std.specs.Prelude.{◌≡◌, ◌≤◌, IfOk, OnErr, length};
+ghost use Rattle.tlv_head.specs.InputLimit.{input_limit};
+ghost use Rattle.tlv_run.specs.Report.{report_value_of};
+ghost use Rattle.tlv_view_program.specs.ShowsBlock.{ShowsOctets, view_of};
+use crate::wanted::{reports_broken, stays_closed};
+use std::alloc::{AllocError, Global};
+use tlv_open::{BrokenString, Strings, ending_of, opened, strings_of};
+use tlv_run::{Report, device_report, indef_report};
+use tlv_show::FiniteNames;
+use tlv_view::{InputFault, View, input_report, view_named, write_offsets};
+use tlv_view_words::{Request, Wanted};
+use tlv_walk::{DeviceFault, Drain};
+
+/// What is reported of octets, and which strings in them are reported as broken.
+#[derive(Drop)]
+pub(crate) struct Shown {
+    pub report: Report,
+    pub broken: Vec<BrokenString>,
+}
+
+/// Writes what is wanted of the octets.
+pub(crate) fn show_octets<N: FiniteNames, D: Drain>(
+    alloc: Global,
+    request: &Request,
+    names: &N,
+    octets: &[u8],
+    drain: &mut D,
+) -> Shown
+    requires { length octets.now ≤ input_limit }
+    ensures { ShowsOctets request.now (N.table names.now) octets.now (D.state drain.old) (D.state drain.new)
+        (report_value_of result.report) result.broken.items }
+{
+    let shown = match view_of(&request.wanted) {
+        Some(view) => show_view(alloc, request, &view, names, octets, drain),
+        None => list_offsets(alloc, request.padding, octets, drain),
+    };
+    match shown {
+        Ok(shown) => shown,
+        Err(_) => Shown {
+            report: input_report(InputFault::Memory),
+            broken: Vec::new(alloc),
+        },
+    }
+}
+
+/// The view that is wanted of octets; a list of offsets is none.
+fn view_of(wanted: &Wanted) -> Option<View>
+    ensures { result ≡ view_of wanted.now }
+{
+    match wanted {
+        Wanted::Dump {
+            rules,
+            limit,
+            pure,
+            text,
+            ..
+        } => Some(View::Dump {
+            rules: *rules,
+            limit: *limit,
+            pure: *pure,
+            text: *text,
+        }),
+        Wanted::Check { rules, .. } => Some(View::Check { rules: *rules }),
+        Wanted::Extract { offset, contents } => Some(View::Extract {
+            offset: *offset,
+            contents: *contents,
+        }),
+        Wanted::Offsets => None,
+    }
+}
+
+/// Writes a view of the octets.
+fn show_view<N: FiniteNames, D: Drain>(
+    alloc: Global,
+    request: &Request,
+    view: &View,
+    names: &N,
+    octets: &[u8],
+    drain: &mut D,
+) -> Result<Shown, AllocError>
+{
+    let strings = strings_to_open(alloc, request, octets)?;
+    let report = view_named(
+        view,
+        names,
+        strings.opened.as_slice(),
+        request.padding,
+        octets,
+        drain,
+    );
+    let broken = if reports_broken(&request.wanted) {
+        strings.broken
+    } else {
+        Vec::new(alloc)
+    };
+    Ok(Shown { report, broken })
+}
+
+/// The strings that are opened and those that are broken: none, if all are to stay closed.
+fn strings_to_open(
+    alloc: Global,
+    request: &Request,
+    octets: &[u8],
+) -> Result<Strings, AllocError>
+{
+    if stays_closed(&request.wanted) {
+        return Ok(Strings {
+            opened: Vec::new(alloc),
+            broken: Vec::new(alloc),
+        });
+    }
+    strings_of(alloc, octets, request.padding)
+}
+
+/// Writes the offsets of the strings that are opened.
+fn list_offsets<D: Drain>(
+    alloc: Global,
+    padding: bool,
+    octets: &[u8],
+    drain: &mut D,
+) -> Result<Shown, AllocError>
+{
+    let offsets = opened(alloc, octets, padding)?;
+    let report = match write_offsets(offsets.as_slice(), drain) {
+        Ok(()) => indef_report(ending_of(octets, padding)),
+        Err(_) => device_report(DeviceFault::WriteFailed),
+    };
+    Ok(Shown {
+        report,
+        broken: Vec::new(alloc),
+    })
+}

@@ -1,0 +1,27 @@
+//! What follows from what is wanted.
+use tlv_view_words::Wanted;
+
+/// Whether all strings stay closed.
+pub(crate) fn stays_closed(wanted: &Wanted) -> bool
+    ensures { result ≡ stays_closed wanted.now }
+{
+    match wanted {
+        Wanted::Dump { closed, .. } => *closed,
+        Wanted::Check { closed, .. } => *closed,
+        _ => false,
+    }
+}
+
+/// Whether broken strings are reported: in a dump and a check, unless all strings stay closed.
+pub(crate) fn reports_broken(wanted: &Wanted) -> bool
+    ensures { result ≡ reports_broken wanted.now }
+{
+    has_titles(wanted) && !stays_closed(wanted)
+}
+
+/// Whether each of several files has a line before it: in a dump and a check.
+pub(crate) fn has_titles(wanted: &Wanted) -> bool
+    ensures { result ≡ has_titles wanted.now }
+{
+    matches!(wanted, Wanted::Dump { .. } | Wanted::Check { .. })
+}
