@@ -1,4 +1,8 @@
 //! All files, one after another.
+ghost use Rattle.std.specs.Prelude.{◌≡◌, length};
+ghost use Rattle.tlv_run.specs.BorrowedText.{text_in};
+ghost use Rattle.tlv_view_program.specs.ShowsAll.{ShowsFiles, file_of_word, files_of_words};
+ghost use Rattle.tlv_view_program.specs.Streams.{streams_value};
 use crate::block::Task;
 use crate::streams::Streams;
 use std::alloc::Global;
@@ -15,6 +19,10 @@ pub(crate) fn show_files<S: System, I: Source, O: Drain, M: Drain>(
     names: &Names,
     streams: &mut Streams<S, I, O, M>,
 ) -> u8
+    ensures { ShowsFiles S.allows request.now names.now (length (files_of_words request.now.files)) 1
+        (files_of_words request.now.files)
+        (streams_value I.state O.state M.state streams.old) (streams_value I.state O.state M.state streams.new)
+        result }
 {
     let files = request.files.as_slice();
     let task = Task {
@@ -41,6 +49,7 @@ pub(crate) fn show_files<S: System, I: Source, O: Drain, M: Drain>(
 
 /// The file of a word: `-` is standard input, which has no name.
 fn file_of_word(word: &str) -> Option<&str>
+    ensures { text_in result ≡ file_of_word word.now }
 {
     if word == "-" { None } else { Some(word) }
 }

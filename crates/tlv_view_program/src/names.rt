@@ -1,4 +1,8 @@
 //! The names of object identifiers that are shown.
+ghost use Rattle.std.specs.Prelude.{◌≡◌, IfSome, option_map};
+ghost use Rattle.tlv_program.specs.System.{IsUnread};
+ghost use Rattle.tlv_view_program.specs.Private.Tables.{ReadsTable, is_noted, table_result};
+ghost use Rattle.tlv_view_program.specs.ShowsAll.{GetsTable, OpensFirst};
 use std::alloc::Global;
 use tlv_program::System;
 use tlv_value::{Names, NamesFault};
@@ -20,6 +24,7 @@ pub(crate) fn table_for<S: System>(
     places: &Words,
     system: &mut S,
 ) -> Result<Table, NamesFault>
+    ensures { GetsTable S.allows wanted.now places.now system.old system.new (is_noted result) (table_result result) }
 {
     let Wanted::Dump { names, .. } = wanted else {
         return Ok(no_table(false));
@@ -38,6 +43,8 @@ pub(crate) fn table_for<S: System>(
 
 /// No names.
 fn no_table(is_missing: bool) -> Table
+    ensures names { result.names ≡ finite.empty }
+    ensures noted { result.is_missing ≡ is_missing }
 {
     Table {
         names: Names::empty(),
@@ -51,6 +58,8 @@ fn read_table<S: System>(
     mut file: S::File,
     system: &mut S,
 ) -> Result<Table, NamesFault>
+    ensures { ReadsTable S.allows system.old system.new (S.File.Source.state file.entry) (table_result result) }
+    ensures noted { is_noted result ≡ false }
 {
     let read = Names::read(alloc, &mut file);
     system.close(file);
@@ -62,6 +71,7 @@ fn read_table<S: System>(
 
 /// Opens the first of these files that opens.
 fn open_first<S: System>(places: &Words, system: &mut S) -> Option<S::File>
+    ensures { OpensFirst S.allows places.now system.old system.new (option_map S.File.Source.state result) }
 {
     for place in places.as_slice() {
         if let Some(file) = system.open(place.as_str()) {

@@ -5,10 +5,10 @@ ghost use Rattle.tlv_run.specs.Report.{report_value_of};
 ghost use Rattle.tlv_view_program.specs.ShowsBlock.{ShowsOctets, view_of};
 use crate::wanted::{reports_broken, stays_closed};
 use std::alloc::{AllocError, Global};
-use tlv_open::{BrokenString, Strings, ending_of, opened, strings_of};
+use tlv_open::{BrokenString, ending_of, opened};
 use tlv_run::{Report, device_report, indef_report};
 use tlv_show::FiniteNames;
-use tlv_view::{InputFault, View, input_report, view_named, write_offsets};
+use tlv_view::{InputFault, View, input_report, view_octets, write_offsets};
 use tlv_view_words::{Request, Wanted};
 use tlv_walk::{DeviceFault, Drain};
 
@@ -80,37 +80,17 @@ fn show_view<N: FiniteNames, D: Drain>(
     drain: &mut D,
 ) -> Result<Shown, AllocError>
 {
-    let strings = strings_to_open(alloc, request, octets)?;
-    let report = view_named(
-        view,
-        names,
-        strings.opened.as_slice(),
-        request.padding,
-        octets,
-        drain,
-    );
+    let closed = stays_closed(&request.wanted);
+    let viewed = view_octets(alloc, view, names, closed, request.padding, octets, drain)?;
     let broken = if reports_broken(&request.wanted) {
-        strings.broken
+        viewed.broken
     } else {
         Vec::new(alloc)
     };
-    Ok(Shown { report, broken })
-}
-
-/// The strings that are opened and those that are broken: none, if all are to stay closed.
-fn strings_to_open(
-    alloc: Global,
-    request: &Request,
-    octets: &[u8],
-) -> Result<Strings, AllocError>
-{
-    if stays_closed(&request.wanted) {
-        return Ok(Strings {
-            opened: Vec::new(alloc),
-            broken: Vec::new(alloc),
-        });
-    }
-    strings_of(alloc, octets, request.padding)
+    Ok(Shown {
+        report: viewed.report,
+        broken,
+    })
 }
 
 /// Writes the offsets of the strings that are opened.

@@ -1,13 +1,18 @@
 //! The program: what it does in which order.
+ghost use Rattle.std.specs.Prelude.{◌≡◌, if◌then◌else◌, []};
+ghost use Rattle.tlv_run.specs.Report.{report_value_of, report_with};
+ghost use Rattle.tlv_view_program.specs.Lines.{no_names_note};
+ghost use Rattle.tlv_view_program.specs.ShowsAll.{PrintsIfParser, RunsShow, Says, ShowsRequest, refused_report};
+ghost use Rattle.tlv_view_program.specs.Streams.{streams_value};
 use crate::files::show_files;
 use crate::names::table_for;
 use crate::streams::Streams;
 use std::alloc::Global;
 use tlv_program::{NoWords, System};
 use tlv_run::{Report, names_report, write_message};
-use tlv_view_words::{Request, request_of};
+use tlv_view_words::{Request, RequestFault, request_of, request_report};
 use tlv_walk::{Drain, Source};
-use tlv_words::{UsageFault, Words, not_utf8_report, unprinted_report, usage_report};
+use tlv_words::{Words, not_utf8_report, unprinted_report};
 
 /// Runs the program on the words of its command line, of which the first is the program's name. Names of object
 /// identifiers are in the file that the words name, or else in the first of these places that opens. Returns the status.
@@ -20,11 +25,14 @@ pub fn run_show<S: System, I: Source, O: Drain, M: Drain>(
     places: &Words,
     streams: &mut Streams<S, I, O, M>,
 ) -> u8
+    ensures { RunsShow S.allows places.now
+        (streams_value I.state O.state M.state streams.old) (streams_value I.state O.state M.state streams.new)
+        words.now result }
 {
     let words = match words {
         Ok(words) => words,
         Err(NoWords::NotUtf8) => return say(&not_utf8_report(), streams),
-        Err(NoWords::Memory) => return say(&usage_report(&UsageFault::Memory), streams),
+        Err(NoWords::Memory) => return say(&request_report(&RequestFault::Memory), streams),
     };
     match request_of(alloc, words) {
         Ok(request) => show_request(alloc, &request, places, streams),
@@ -37,6 +45,9 @@ fn say<S: System, I: Source, O: Drain, M: Drain>(
     report: &Report,
     streams: &mut Streams<S, I, O, M>,
 ) -> u8
+    ensures says { Says (report_value_of report.now).message
+        (streams_value I.state O.state M.state streams.old) (streams_value I.state O.state M.state streams.new) }
+    ensures status { result ≡ (report_value_of report.now).status }
 {
     write_message(report, &mut streams.messages)
 }
@@ -46,12 +57,37 @@ fn refuse<S: System, I: Source, O: Drain, M: Drain>(
     fault: &RequestFault,
     streams: &mut Streams<S, I, O, M>,
 ) -> u8
+    ensures { Refuses S.allows
+        (streams_value I.state O.state M.state streams.old) (streams_value I.state O.state M.state streams.new)
+        fault.now result }
 {
     let printed = print_if_parser(fault, &mut streams.system);
     if printed || !asks_for_text(fault) {
-        say(&request_fault_report(fault), streams)
+        say(&request_report(fault), streams)
     } else {
         say(&unprinted_report(), streams)
+    }
+}
+
+/// Prints what `clap` has to say, if it does not take the words. Returns whether nothing is left to print.
+fn print_if_parser<S: System>(fault: &RequestFault, system: &mut S) -> bool
+    ensures { PrintsIfParser S.allows system.old system.new fault.now result }
+{
+    match fault {
+        RequestFault::Parser(error) => system.print(error),
+        RequestFault::Refused(_) => true,
+        RequestFault::Memory => true,
+    }
+}
+
+/// Whether the words ask for help or for the version.
+fn asks_for_text(fault: &RequestFault) -> bool
+    ensures { result ≡ asks_for_text fault.now }
+{
+    match fault {
+        RequestFault::Parser(error) => !error.use_stderr(),
+        RequestFault::Refused(_) => false,
+        RequestFault::Memory => false,
     }
 }
 
@@ -62,6 +98,9 @@ fn show_request<S: System, I: Source, O: Drain, M: Drain>(
     places: &Words,
     streams: &mut Streams<S, I, O, M>,
 ) -> u8
+    ensures { ShowsRequest S.allows places.now request.now
+        (streams_value I.state O.state M.state streams.old) (streams_value I.state O.state M.state streams.new)
+        result }
 {
     match table_for(alloc, &request.wanted, places, &mut streams.system) {
         Ok(table) => {
@@ -74,6 +113,7 @@ fn show_request<S: System, I: Source, O: Drain, M: Drain>(
 
 /// The note that no file of names was found, or nothing.
 fn names_note(is_missing: bool) -> Report
+    ensures { report_value_of result ≡ report_with 0 (if is_missing then no_names_note else []) }
 {
     if is_missing {
         Report::with_message(0, b"no names file was found: object identifiers have no names")
