@@ -2,3 +2,4 @@ pub mod Streams
 pub mod Lines
 pub mod ShowsBlock
 pub mod ShowsAll
+pub mod Private

@@ -28,4 +28,4 @@ file_line file (x ∷ message) = line_prefix_of file ++ (x ∷ message) ++ 10 �
 
 -- the note if no file of names is found
 abbrev pub no_names_note : List ℕ
-no_names_note = codes "no names file was found: object identifiers have no names\n"
+no_names_note = codes "no names file was found: object identifiers have no names"

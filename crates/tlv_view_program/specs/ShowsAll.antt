@@ -1,22 +1,23 @@
 -- What the program does, from its words to its status, and in which order.
-use Rattle.std.specs.Prelude.{◌≡◌, ◌≢◌, ◌+◌, ⊤, ℕ, Bool, true, false, eqb, List, [], ◌∷◌, Option, Some, None, Result, Ok, Err}
-use Rattle.std.specs.Prelude.{codes, if◌then◌else◌, length, map, max}
+use Rattle.std.specs.Prelude.{◌≡◌, ◌+◌, ◌||◌, ◌×◌, ℕ, Bool, true, false, eqb, not, List, [], ◌∷◌, Option, Some, None}
+use Rattle.std.specs.Prelude.{Result, Ok, Err, codes, if◌then◌else◌, length, map, max}
 use Rattle.std.specs.FinMap as finite
 use Rattle.std.specs.Str.{bytes_eq}
-use Rattle.clap.specs.Words.{Text}
+use Rattle.clap.specs.Words.{Text, kind_of}
 use Rattle.tlv_io.specs.Device.{SourceState}
-use Rattle.tlv_io.specs.Out.{Sends}
-use Rattle.tlv_walk.specs.declared.run.DeviceFault.TheVariants.{WriteFailed}
 use Rattle.tlv_value.specs.Names.{NamesValue}
 use Rattle.tlv_value.specs.NamesReading.{ReadsFrom}
 use Rattle.tlv_value.specs.declared.names.fault.NamesFault.{NamesFault}
 use Rattle.tlv_value.specs.declared.names.fault.NamesFault.TheVariants as names
-use Rattle.tlv_run.specs.Report.{ReportValue, WritesMessage, device_report, message_line, names_report}
-use Rattle.tlv_words.specs.Usage.{not_utf8_report}
-use Rattle.tlv_view_words.specs.RequestOf.{AsksFor, IsRequestFaultOf, request_fault_report}
+use Rattle.tlv_run.specs.Report.{ReportValue, WritesMessage, message_line, names_report}
+use Rattle.tlv_words.specs.Usage.{not_utf8_report, status_of_kind, unprinted_report}
+use Rattle.tlv_view_words.specs.RequestOf.{AreAskedAs, IsRequestFaultOf}
+use Rattle.tlv_view_words.specs.RequestReport.{request_report}
+use Rattle.tlv_view_words.specs.declared.refusal.RequestFault.{RequestFault}
+use Rattle.tlv_view_words.specs.declared.refusal.RequestFault.TheVariants as fault
 use Rattle.tlv_view_words.specs.declared.request.Request.{Request}
 use Rattle.tlv_view_words.specs.declared.request.Wanted.{Wanted}
-use Rattle.tlv_view_words.specs.declared.request.Wanted.TheVariants.{Dump, Check, Extract, Offsets}
+use Rattle.tlv_view_words.specs.declared.request.Wanted.TheVariants.{Dump}
 use Rattle.tlv_program.specs.System.{Allows, IsUnread}
 use Rattle.tlv_program.specs.declared.program.NoWords.{NoWords}
 use Rattle.tlv_program.specs.declared.program.NoWords.TheVariants.{NotUtf8, Memory}
@@ -34,6 +35,18 @@ file_of_word word = if bytes_eq word (codes "-") then None else Some word
 abbrev pub files_of_words : List (List ℕ) → List (Option (List ℕ))
 files_of_words [] = None ∷ []
 files_of_words words = map file_of_word words
+
+-- ---- words that ask for nothing
+
+-- they ask for help or for the version, which `clap` prints
+abbrev pub asks_for_help : RequestFault → Bool
+asks_for_help (fault.Parser error) = eqb (status_of_kind (kind_of error)) 0
+asks_for_help other = false
+
+-- the report, by whether what `clap` has to say is printed: E2 if it is not, and the words ask for it
+abbrev pub refused_report : RequestFault → Bool → ReportValue
+refused_report why printed =
+    if printed || not (asks_for_help why) then request_report why else unprinted_report
 
 -- ---- names of object identifiers
 
@@ -93,37 +106,43 @@ module _ {S : Type 0} (allows : Allows S) where
 
   -- ---- the program
 
-  -- a message is written to standard error, or a write failed, and all else is as it was
+  -- a message is written to standard error, or a write of it failed, and all else is as it was
   abbrev pub Says : List ℕ → StreamsValue S → StreamsValue S → Type 0
   Says message old new =
       WritesMessage (message_line message) old.messages new.messages × (new ≡ record old { messages = new.messages })
 
-  -- the names are got, and the files are shown
+  -- the names are got, and the files are shown; the status comes last: a line for each case
   pub data ShowsRequest (places : List (List ℕ)) (request : Request) (old new : StreamsValue S) : ℕ → Type 0 where
-    -- there are no names: no file is opened, and this is said
-    no_names : (fault : NamesFault) (noted : Bool) (between : S)
-        → GetsTable request.wanted places old.system between noted (Err fault)
+    -- there are no names, and no file is opened
+    no_names : (fault : NamesFault) (between : S)
+        → GetsTable request.wanted places old.system between false (Err fault)
         → Says (names_report fault).message (record old { system = between }) new
         → ShowsRequest places request old new (names_report fault).status
-    shows : (table : NamesValue) (noted : Bool) (status : ℕ) (between : S) (ready : StreamsValue S)
+    shows : (table : NamesValue) (noted : Bool) (between : S) (ready : StreamsValue S) (status : ℕ)
         → GetsTable request.wanted places old.system between noted (Ok table)
         → Says (if noted then no_names_note else []) (record old { system = between }) ready
         → ShowsFiles request table (length (files_of_words request.files)) 1 (files_of_words request.files) ready new
         status
         → ShowsRequest places request old new status
 
-  -- the program runs on these words, or on the reason why there are none, and this is its status: a line for each case
-  pub data RunsShow (places : List (List ℕ)) (old new : StreamsValue S) : Result (List Text) NoWords → ℕ → Type 0 where
+  -- what `clap` has to say is printed, or cannot be; of another fault nothing is printed here
+  abbrev pub PrintsRefusal : S → S → RequestFault → Bool → Type 0
+  PrintsRefusal old new (fault.Parser error) printed = allows.prints old new error printed
+  PrintsRefusal old new other printed = (new ≡ old) × (printed ≡ true)
+
+  -- the program runs on these words, or on the reason why there are none; its status comes last: a line for each case
+  pub data RunsShow (places : List (List ℕ)) (old new : StreamsValue S)
+      : Result (List Text) NoWords → ℕ → Type 0 where
     -- a word is not UTF-8
     not_utf8 : Says not_utf8_report.message old new
         → RunsShow places old new (Err NotUtf8) not_utf8_report.status
     -- memory for the words is refused
-    no_memory : Says (usage_report usage.Memory).message old new
-        → RunsShow places old new (Err Memory) (usage_report usage.Memory).status
+    no_memory : Says (request_report fault.Memory).message old new
+        → RunsShow places old new (Err Memory) (request_report fault.Memory).status
     -- the words ask for nothing that can be shown: no file is opened, and nothing is read
-    refused : (words : List Text) (fault : RequestFault) (printed : Bool) (between : S) → IsRequestFaultOf words fault
-        → PrintsIfParser allows old.system between fault printed
-        → Says (refusal_report fault printed).message (record old { system = between }) new
-        → RunsShow places old new (Ok words) (refusal_report fault printed).status
-    runs : (words : List Text) (request : Request) (status : ℕ) → AsksFor words request
+    refused : (words : List Text) (why : RequestFault) (printed : Bool) (between : S) → IsRequestFaultOf words why
+        → PrintsRefusal old.system between why printed
+        → Says (refused_report why printed).message (record old { system = between }) new
+        → RunsShow places old new (Ok words) (refused_report why printed).status
+    runs : (words : List Text) (request : Request) (status : ℕ) → AreAskedAs words (Ok request)
         → ShowsRequest places request old new status → RunsShow places old new (Ok words) status

@@ -20,7 +20,7 @@ use Rattle.tlv_view.specs.Offsets.{offsets_line}
 use Rattle.tlv_view.specs.Views.{Views}
 use Rattle.tlv_view.specs.declared.view_call.View.{View}
 use Rattle.tlv_view.specs.declared.view_call.View.TheVariants as view
-use Rattle.tlv_view_words.specs.Request.{RequestValue}
+use Rattle.tlv_view_words.specs.declared.request.Request.{Request}
 use Rattle.tlv_view_words.specs.declared.request.Wanted.{Wanted}
 use Rattle.tlv_view_words.specs.declared.request.Wanted.TheVariants.{Dump, Check, Extract, Offsets}
 use Rattle.tlv_program.specs.System.{Allows, IsUnread}
@@ -80,7 +80,7 @@ offsets_report ending (Err fault) = device_report WriteFailed
 -- ---- octets
 
 -- what is written of octets and reported, and which strings in them are reported as broken: a line for each case
-pub data ShowsOctets (request : RequestValue) (table : NamesValue) (octets : List ℕ) (old new : DrainState)
+pub data ShowsOctets (request : Request) (table : NamesValue) (octets : List ℕ) (old new : DrainState)
     : ReportValue → List BrokenString → Type 0 where
   -- a view of them
   shown : (v : View) (report : ReportValue) (broken : List BrokenString) → view_of request.wanted ≡ Some v
@@ -117,7 +117,7 @@ module _ {S : Type 0} (allows : Allows S) where
         → ReadsWhole before after result → allows.closes between new.system after
         → new ≡ record old { system = new.system } → GetsOctets file old new (octets_or_report result)
 
-  module _ (request : RequestValue) (table : NamesValue) where
+  module _ (request : Request) (table : NamesValue) where
     -- what is written of a file and reported, and which of its strings are reported as broken: a line for each case
     pub data ShowsFile (file : Option (List ℕ)) (old new : StreamsValue S)
         : ReportValue → List BrokenString → Type 0 where

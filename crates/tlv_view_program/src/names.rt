@@ -58,7 +58,7 @@ fn read_table<S: System>(
     mut file: S::File,
     system: &mut S,
 ) -> Result<Table, NamesFault>
-    ensures { ReadsTable S.allows system.old system.new (S.File.Source.state file.entry) (table_result result) }
+    ensures reads { ReadsTable S.allows system.old system.new (S.File.Source.state file.entry) (table_result result) }
     ensures noted { is_noted result ≡ false }
 {
     let read = Names::read(alloc, &mut file);

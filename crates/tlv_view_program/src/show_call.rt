@@ -2,7 +2,7 @@
 ghost use Rattle.std.specs.Prelude.{◌≡◌, if◌then◌else◌, []};
 ghost use Rattle.tlv_run.specs.Report.{report_value_of, report_with};
 ghost use Rattle.tlv_view_program.specs.Lines.{no_names_note};
-ghost use Rattle.tlv_view_program.specs.ShowsAll.{PrintsIfParser, RunsShow, Says, ShowsRequest, refused_report};
+ghost use Rattle.tlv_view_program.specs.ShowsAll.{PrintsRefusal, RunsShow, ShowsRequest, asks_for_help, refused_report};
 ghost use Rattle.tlv_view_program.specs.Streams.{streams_value};
 use crate::files::show_files;
 use crate::names::table_for;
@@ -31,47 +31,23 @@ pub fn run_show<S: System, I: Source, O: Drain, M: Drain>(
 {
     let words = match words {
         Ok(words) => words,
-        Err(NoWords::NotUtf8) => return say(&not_utf8_report(), streams),
-        Err(NoWords::Memory) => return say(&request_report(&RequestFault::Memory), streams),
+        Err(NoWords::NotUtf8) => return write_message(&not_utf8_report(), &mut streams.messages),
+        Err(NoWords::Memory) => {
+            return write_message(&request_report(&RequestFault::Memory), &mut streams.messages);
+        }
     };
     match request_of(alloc, words) {
         Ok(request) => show_request(alloc, &request, places, streams),
-        Err(fault) => refuse(&fault, streams),
-    }
-}
-
-/// Says the message of a report. Returns its status.
-fn say<S: System, I: Source, O: Drain, M: Drain>(
-    report: &Report,
-    streams: &mut Streams<S, I, O, M>,
-) -> u8
-    ensures says { Says (report_value_of report.now).message
-        (streams_value I.state O.state M.state streams.old) (streams_value I.state O.state M.state streams.new) }
-    ensures status { result ≡ (report_value_of report.now).status }
-{
-    write_message(report, &mut streams.messages)
-}
-
-/// Says why nothing is shown. Returns the status.
-fn refuse<S: System, I: Source, O: Drain, M: Drain>(
-    fault: &RequestFault,
-    streams: &mut Streams<S, I, O, M>,
-) -> u8
-    ensures { Refuses S.allows
-        (streams_value I.state O.state M.state streams.old) (streams_value I.state O.state M.state streams.new)
-        fault.now result }
-{
-    let printed = print_if_parser(fault, &mut streams.system);
-    if printed || !asks_for_text(fault) {
-        say(&request_report(fault), streams)
-    } else {
-        say(&unprinted_report(), streams)
+        Err(fault) => {
+            let printed = print_refusal(&fault, &mut streams.system);
+            write_message(&refused_report(&fault, printed), &mut streams.messages)
+        }
     }
 }
 
 /// Prints what `clap` has to say, if it does not take the words. Returns whether nothing is left to print.
-fn print_if_parser<S: System>(fault: &RequestFault, system: &mut S) -> bool
-    ensures { PrintsIfParser S.allows system.old system.new fault.now result }
+fn print_refusal<S: System>(fault: &RequestFault, system: &mut S) -> bool
+    ensures { PrintsRefusal S.allows system.old system.new fault.now result }
 {
     match fault {
         RequestFault::Parser(error) => system.print(error),
@@ -80,9 +56,20 @@ fn print_if_parser<S: System>(fault: &RequestFault, system: &mut S) -> bool
     }
 }
 
+/// The report if the words ask for nothing, by whether what `clap` has to say is printed.
+fn refused_report(fault: &RequestFault, printed: bool) -> Report
+    ensures { report_value_of result ≡ refused_report fault.now printed }
+{
+    if printed || !asks_for_help(fault) {
+        request_report(fault)
+    } else {
+        unprinted_report()
+    }
+}
+
 /// Whether the words ask for help or for the version.
-fn asks_for_text(fault: &RequestFault) -> bool
-    ensures { result ≡ asks_for_text fault.now }
+fn asks_for_help(fault: &RequestFault) -> bool
+    ensures { result ≡ asks_for_help fault.now }
 {
     match fault {
         RequestFault::Parser(error) => !error.use_stderr(),
@@ -104,10 +91,10 @@ fn show_request<S: System, I: Source, O: Drain, M: Drain>(
 {
     match table_for(alloc, &request.wanted, places, &mut streams.system) {
         Ok(table) => {
-            say(&names_note(table.is_missing), streams);
+            let _ = write_message(&names_note(table.is_missing), &mut streams.messages);
             show_files(alloc, request, &table.names, streams)
         }
-        Err(fault) => say(&names_report(fault), streams),
+        Err(fault) => write_message(&names_report(fault), &mut streams.messages),
     }
 }
 

@@ -1,0 +1,2 @@
+pub mod BlockParts
+pub mod Tables
