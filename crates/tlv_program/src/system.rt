@@ -20,7 +20,7 @@ pub trait System {
 
     /// Takes back a file that it opened, of which nothing more is read.
     fn close(&mut self, file: Self::File)
-        ensures { allows.closes self.old self.new (Self.File.state file.entry) };
+        ensures { allows.closes self.old self.new (Self.File.state file) };
 
     /// Prints what `clap` has to say of words that it does not take: to standard output if they ask for help or for the
     /// version, and else to standard error. Returns whether all of it is printed.
