@@ -1,30 +1,47 @@
 -- What comes of octets in memory if the strings that hold encodings are opened.
-use Rattle.std.specs.Prelude.{◌≡◌, ℕ, Bool, true, false, List, [], Some, None}
+use Rattle.std.specs.Prelude.{◌≡◌, ℕ, Bool, true, false, List, [], Option, Some, None}
 use Rattle.tlv_io.specs.Device.{DrainState, SourceState, new_source}
 use Rattle.tlv_walk.specs.declared.framing.Framing.{Framing}
-use Rattle.tlv_walk.specs.Job.{device_states}
+use Rattle.tlv_walk.specs.Job.{Job, device_states}
 use Rattle.tlv_value.specs.Names.{NamesValue}
 use Rattle.tlv_open.specs.Laws.{opened_framing}
+use Rattle.tlv_open.specs.Breaks.{AreBroken}
 use Rattle.tlv_open.specs.Opens.{AreOpened}
-use Rattle.tlv_run.specs.Report.{ReportValue}
-use Rattle.tlv_run.specs.Results.{command_job}
+use Rattle.tlv_open.specs.declared.strings.BrokenString.{BrokenString}
+use Rattle.tlv_show.specs.DumpJob.{text_dump_job}
+use Rattle.tlv_show.specs.declared.options.Options.{Options}
+use Rattle.tlv_show.specs.declared.rules.Rules.{Rules}
+use Rattle.tlv_run.specs.Report.{ReportValue, outcome_report}
+use Rattle.tlv_run.specs.Results.{command_job, job_with_report}
 use Rattle.tlv_run.specs.RunsAndReports.{RunsAndReports}
-use Rattle.tlv_run.specs.declared.command.Command.{Command}
 use Rattle.tlv_run.specs.declared.command.Command.TheVariants as command
 use Rattle.tlv_view.specs.declared.view_call.View.{View}
 use Rattle.tlv_view.specs.declared.view_call.View.TheVariants.{Dump, Check, Extract}
 
--- the command of a view, in which strings are named as the framing says
-abbrev pub command_of_view : View → Framing → Command
-command_of_view (Dump rules limit pure) framing =
-    command.Dump (record { rules = rules; limit = limit; pure = pure; framing = framing }) None None
-command_of_view (Check rules) framing = command.Check rules framing None
-command_of_view (Extract offset contents) framing = command.Extract offset contents framing None
+-- the options of a dump
+abbrev pub dump_options : Rules → Option ℕ → Bool → Framing → Options
+dump_options rules limit pure framing = record { rules = rules; limit = limit; pure = pure; framing = framing }
+
+-- what a view wants of an input in which strings are named as the framing says: what the command wants, or, of a dump with
+-- text, that dump
+abbrev pub job_of_view : View → Framing → NamesValue → Job ReportValue
+job_of_view (Dump rules limit pure false) framing names =
+    command_job (command.Dump (dump_options rules limit pure framing) None None) names
+job_of_view (Dump rules limit pure true) framing names =
+    job_with_report outcome_report (text_dump_job (dump_options rules limit pure framing) names)
+job_of_view (Check rules) framing names = command_job (command.Check rules framing None) names
+job_of_view (Extract offset contents) framing names =
+    command_job (command.Extract offset contents framing None) names
 
 -- the offsets of the strings that are opened: none, if all are to stay closed
 abbrev pub AreOpenedUnless : Bool → Bool → List ℕ → List ℕ → Type 0
 AreOpenedUnless true padding octets offsets = offsets ≡ []
 AreOpenedUnless false padding octets offsets = AreOpened padding octets offsets
+
+-- the strings that are broken: none, if all are to stay closed
+abbrev pub AreBrokenUnless : Bool → Bool → List ℕ → List BrokenString → Type 0
+AreBrokenUnless true padding octets broken = broken ≡ []
+AreBrokenUnless false padding octets broken = AreBroken padding octets broken
 
 -- the view is what the command writes and reports, with these strings named, of these octets: the source has them, nothing
 -- of it was read before, and no read of it failed
@@ -39,5 +56,5 @@ pub record Views
   -- so it is not reported that a read failed (E1)
   pub no_failures : source.failures ≡ 0
   pub runs :
-      RunsAndReports (command_job (command_of_view view (opened_framing padding offsets)) names)
+      RunsAndReports (job_of_view view (opened_framing padding offsets) names)
       (device_states (new_source (Some octets)) old) (device_states source new) report

@@ -4,13 +4,12 @@ ghost use Rattle.tlv_head.specs.InputLimit.{input_limit};
 ghost use Rattle.tlv_walk.specs.Inside.{are_rising};
 ghost use Rattle.tlv_walk.specs.Job.{device_states};
 ghost use Rattle.tlv_run.specs.Report.{report_value_of};
-ghost use Rattle.tlv_run.specs.Results.{command_job};
 ghost use Rattle.tlv_run.specs.RunsAndReports.{RunsAndReports};
-ghost use Rattle.tlv_view.specs.Views.{AreOpenedUnless, Views, command_of_view};
+ghost use Rattle.tlv_view.specs.Views.{AreBrokenUnless, AreOpenedUnless, Views, job_of_view};
 
 use std::alloc::{AllocError, Global};
-use tlv_open::{laws, opened};
-use tlv_run::{Report, UnfailingSource, run_check, run_dump, run_extract};
+use tlv_open::{BrokenString, Strings, laws, strings_of};
+use tlv_run::{Report, UnfailingSource, run_check, run_dump, run_dump_with_text, run_extract};
 use tlv_show::{FiniteNames, Options, Rules};
 use tlv_walk::{Drain, Framing, Inside, Source};
 
@@ -25,6 +24,8 @@ pub enum View {
         limit: Option<u32>,
         /// Whether the first columns and the lines of findings are left out.
         pure: bool,
+        /// Whether printable octets are shown beside pairs of digits.
+        text: bool,
     },
     /// The findings alone.
     Check {
@@ -40,13 +41,23 @@ pub enum View {
     },
 }
 
+/// What a view came to.
+#[derive(Debug, Drop)]
+pub struct Viewed {
+    /// What is reported.
+    pub report: Report,
+    /// The strings that look like encodings, are not opened, and break when they are read as encodings.
+    pub broken: Vec<BrokenString>,
+}
+
 /// Writes a view of the octets to the drain, and returns the report: what `run` writes and reports for the same command
-/// over these octets, if the strings are named that hold encodings. With `closed` none is named. With `padding`, octets
-/// `00` are allowed before, between and after the encodings.
+/// over these octets, if the strings are named that hold encodings; a dump may have text beside pairs of digits. Returns
+/// the broken strings, too. With `closed` no string is named, and none is looked at. With `padding`, octets `00` are
+/// allowed before, between and after the encodings.
 ///
 /// # Errors
 ///
-/// `AllocError` if memory for the list of offsets is refused. Nothing was written then.
+/// `AllocError` if memory for the lists of strings is refused. Nothing was written then.
 pub fn view_octets<N: FiniteNames, D: Drain>(
     alloc: Global,
     view: &View,
@@ -55,37 +66,46 @@ pub fn view_octets<N: FiniteNames, D: Drain>(
     padding: bool,
     octets: &[u8],
     drain: &mut D,
-) -> Result<Report, AllocError>
+) -> Result<Viewed, AllocError>
     requires { length octets.now ≤ input_limit }
-    ensures views { IfOk result (λ report. Views view.now (N.table names.now) closed padding octets.now
-        (D.state drain.old) (D.state drain.new) (report_value_of report)) }
+    ensures views { IfOk result (λ viewed. Views view.now (N.table names.now) closed padding octets.now
+        (D.state drain.old) (D.state drain.new) (report_value_of viewed.report)) }
+    ensures broken { IfOk result (λ viewed. AreBrokenUnless closed padding octets.now viewed.broken.items) }
     ensures nothing { OnErr result (D.state drain.new ≡ D.state drain.old) }
 {
-    let offsets = offsets_of_strings(alloc, closed, padding, octets)?;
-    let Some(inside) = Inside::lent(offsets.as_slice()) else {
+    let strings = strings_unless(alloc, closed, padding, octets)?;
+    let Some(inside) = Inside::lent(strings.opened.as_slice()) else {
         unreachable!();
     };
     let framing = Framing { inside, padding };
     let mut source = UnfailingSource::new(octets, &[]);
-    Ok(run_view(view, framing, names, &mut source, drain))
+    let report = run_view(view, framing, names, &mut source, drain);
+    Ok(Viewed {
+        report,
+        broken: strings.broken,
+    })
 }
 
-/// The offsets of the strings that are opened: none, if all are to stay closed.
-fn offsets_of_strings(
+/// The strings that are opened and those that are broken: none, if all are to stay closed.
+fn strings_unless(
     alloc: Global,
     closed: bool,
     padding: bool,
     octets: &[u8],
-) -> Result<Vec<u64>, AllocError>
+) -> Result<Strings, AllocError>
     requires { length octets.now ≤ input_limit }
-    ensures opened { IfOk result (λ list. AreOpenedUnless closed padding octets.now list.items) }
-    ensures rising { IfOk result (λ list. are_rising 0 list.items ≡ true) }
+    ensures opened { IfOk result (λ strings. AreOpenedUnless closed padding octets.now strings.opened.items) }
+    ensures broken { IfOk result (λ strings. AreBrokenUnless closed padding octets.now strings.broken.items) }
+    ensures rising { IfOk result (λ strings. are_rising 0 strings.opened.items ≡ true) }
 {
     laws::opening_is_safe();
     if closed {
-        return Ok(Vec::new(alloc));
+        return Ok(Strings {
+            opened: Vec::new(alloc),
+            broken: Vec::new(alloc),
+        });
     }
-    opened(alloc, octets, padding)
+    strings_of(alloc, octets, padding)
 }
 
 /// Runs the command of a view, over any source.
@@ -96,19 +116,28 @@ fn run_view<N: FiniteNames, S: Source, D: Drain>(
     source: &mut S,
     drain: &mut D,
 ) -> Report
-    ensures { RunsAndReports (command_job (command_of_view view.now framing.entry) (N.table names.now))
+    ensures { RunsAndReports (job_of_view view.now framing.entry (N.table names.now))
         (device_states (S.state source.old) (D.state drain.old))
         (device_states (S.state source.new) (D.state drain.new)) (report_value_of result) }
 {
     match *view {
-        View::Dump { rules, limit, pure } => {
+        View::Dump {
+            rules,
+            limit,
+            pure,
+            text,
+        } => {
             let options = Options {
                 rules,
                 limit,
                 pure,
                 framing,
             };
-            run_dump(&options, names, source, drain)
+            if text {
+                run_dump_with_text(&options, names, source, drain)
+            } else {
+                run_dump(&options, names, source, drain)
+            }
         }
         View::Check { rules } => run_check(rules, &framing, source, drain),
         View::Extract { offset, contents } => {

@@ -9,7 +9,7 @@ use Rattle.tlv_walk.specs.Ending.{IsEnding}
 use Rattle.tlv_walk.specs.declared.ending.Ending.{Ending}
 use Rattle.tlv_walk.specs.declared.run.DeviceFault.TheVariants.{WriteFailed}
 use Rattle.tlv_value.specs.Names.{NamesValue}
-use Rattle.tlv_open.specs.Breaks.{AreBroken, broken_line}
+use Rattle.tlv_open.specs.BrokenLine.{broken_line}
 use Rattle.tlv_open.specs.Opens.{AreOpened, closed_framing}
 use Rattle.tlv_open.specs.declared.strings.BrokenString.{BrokenString}
 use Rattle.tlv_run.specs.Report.{ReportValue, device_report, indef_report, unopened_report}
@@ -17,7 +17,7 @@ use Rattle.tlv_view.specs.Input.{ReadsWhole, input_report}
 use Rattle.tlv_view.specs.declared.input.InputFault.{InputFault}
 use Rattle.tlv_view.specs.declared.input.InputFault.TheVariants.{Memory}
 use Rattle.tlv_view.specs.Offsets.{offsets_line}
-use Rattle.tlv_view.specs.Views.{Views}
+use Rattle.tlv_view.specs.Views.{AreBrokenUnless, Views}
 use Rattle.tlv_view.specs.declared.view_call.View.{View}
 use Rattle.tlv_view.specs.declared.view_call.View.TheVariants as view
 use Rattle.tlv_view_words.specs.declared.request.Request.{Request}
@@ -58,11 +58,6 @@ title wanted number count file = if has_titles wanted && nat_lt 1 count then blo
 
 -- ---- what is reported
 
--- the strings that are reported as broken
-abbrev pub AreReportedIf : Bool → Bool → List ℕ → List BrokenString → Type 0
-AreReportedIf true padding octets broken = AreBroken padding octets broken
-AreReportedIf false padding octets broken = broken ≡ []
-
 -- the status: 1 for broken strings, if there is none that is higher
 abbrev pub status_with : ℕ → List BrokenString → ℕ
 status_with status [] = status
@@ -85,10 +80,10 @@ pub data ShowsOctets (request : Request) (table : NamesValue) (octets : List ℕ
   -- a view of them
   shown : (v : View) (report : ReportValue) (broken : List BrokenString) → view_of request.wanted ≡ Some v
       → Views v table (stays_closed request.wanted) request.padding octets old new report
-      → AreReportedIf (reports_broken request.wanted) request.padding octets broken
+      → AreBrokenUnless (not (reports_broken request.wanted)) request.padding octets broken
       → ShowsOctets request table octets old new report broken
   -- the offsets of the strings that are opened; the report has the ending of the octets
-  listed : (offsets : List ℕ) (ending : Ending) (result : Result ⊤ WriteFault) → request.wanted ≡ Offsets
+  listed : (offsets : List ℕ) (ending : Ending) (result : Result ⊤ WriteFault) → view_of request.wanted ≡ None
       → AreOpened request.padding octets offsets → IsEnding (closed_framing request.padding) octets ending
       → Sends old new (offsets_line offsets) result
       → ShowsOctets request table octets old new (offsets_report ending result) []

@@ -4,13 +4,13 @@ ghost use Rattle.std.specs.Result.{result_map};
 ghost use Rattle.tlv_io.specs.Out.{Sends};
 ghost use Rattle.tlv_run.specs.BorrowedText.{text_in};
 ghost use Rattle.tlv_run.specs.Report.{report_value_of};
-ghost use Rattle.tlv_view_program.specs.Private.BlockParts.{AllButMessages, GetsFrom, octets_read};
+ghost use Rattle.tlv_view_program.specs.Private.BlockParts.{octets_had};
 ghost use Rattle.tlv_view_program.specs.ShowsBlock.{GetsOctets, ShowsBlock, ShowsFile, ShowsTitled};
 ghost use Rattle.tlv_view_program.specs.ShowsBlock.{has_failed_write, octets_or_report, status_with, title};
 ghost use Rattle.tlv_view_program.specs.Streams.{streams_value};
 
 use crate::lines::{write_block_line, write_messages};
-use crate::octets::{Shown, show_octets};
+use crate::octets::show_octets;
 use crate::streams::Streams;
 use crate::wanted::has_titles;
 use std::alloc::Global;
@@ -18,7 +18,7 @@ use tlv_open::BrokenString;
 use tlv_program::System;
 use tlv_run::{Report, device_report, unopened_report};
 use tlv_value::Names;
-use tlv_view::{InputFault, input_report, read_whole};
+use tlv_view::{InputFault, Viewed, input_report, read_whole};
 use tlv_view_words::Request;
 use tlv_walk::{DeviceFault, Drain, Source, WriteFault};
 
@@ -71,7 +71,7 @@ impl Task<'_> {
         number: usize,
         file: Option<&str>,
         streams: &mut Streams<S, I, O, M>,
-    ) -> Shown
+    ) -> Viewed
         ensures { ShowsTitled S.allows self.now.request.now self.now.names.now number self.now.count (text_in file)
             (streams_value I.state O.state M.state streams.old) (streams_value I.state O.state M.state streams.new)
             (report_value_of result.report) result.broken.items }
@@ -95,7 +95,7 @@ impl Task<'_> {
         if has_titles(&self.request.wanted) && self.count > 1 {
             write_block_line(number, self.count, file, drain)
         } else {
-            write_nothing(drain)
+            Ok(())
         }
     }
 
@@ -104,7 +104,7 @@ impl Task<'_> {
         &self,
         file: Option<&str>,
         streams: &mut Streams<S, I, O, M>,
-    ) -> Shown
+    ) -> Viewed
         ensures { ShowsFile S.allows self.now.request.now self.now.names.now (text_in file)
             (streams_value I.state O.state M.state streams.old) (streams_value I.state O.state M.state streams.new)
             (report_value_of result.report) result.broken.items }
@@ -145,11 +145,11 @@ impl Task<'_> {
     }
 
     /// Nothing is shown, and this is reported.
-    fn reported(&self, report: Report) -> Shown
+    fn reported(&self, report: Report) -> Viewed
         ensures report { report_value_of result.report ≡ report_value_of report.entry }
         ensures none { result.broken.items ≡ [] }
     {
-        Shown {
+        Viewed {
             report,
             broken: Vec::new(self.alloc),
         }
@@ -158,7 +158,7 @@ impl Task<'_> {
 
 /// The octets, or what is reported if they cannot be had.
 fn octets_or_report(octets: Result<Vec<u8>, InputFault>) -> Result<Vec<u8>, Report>
-    ensures { octets_had result ≡ octets_or_report (octets_read octets.entry) }
+    ensures { octets_had result ≡ octets_or_report (result_items octets.entry) }
 {
     match octets {
         Ok(octets) => Ok(octets),
