@@ -4,7 +4,7 @@ use Rattle.std.proofs.Common.{refl, sym, inl, inr, ap, is_some, option_map}
 use Rattle.std.proofs.lemmas.Bool.{false_from_ne_true, false≢true}
 use Rattle.clap.specs.Faults.{fault_of, is_simple_and_free}
 use Rattle.clap.specs.Kinds.{HasKind}
-use Rattle.clap.specs.Words.{Row, Text, is_simple, kind_of, subcommand_of, takes}
+use Rattle.clap.specs.Words.{App, Row, Text, is_simple, kind_of, subcommand_of, takes}
 use Rattle.clap.specs.declared.error.Error.{Error}
 use Rattle.clap.specs.declared.error.kind.ErrorKind.TheVariants.{OutOfMemory}
 use Rattle.clap.proofs.OnLiterals.{clap_on_literals}
@@ -55,11 +55,11 @@ result_of_found words (Some found) (Err Memory) sound same has gives = (tt, tt)
 -- ---- words that `clap` refuses
 
 -- the error is not lack of memory
-pub refused_by : (words : List Text) (error : Error) → HasKind (fault_of tlvdump_app words) error
-    → (takes tlvdump_app words ≡ true → kind_of error ≡ OutOfMemory) → kind_of error ≢ OutOfMemory
-    → AreRefusedBy words error
-refused_by words error (inl memory) passes not_memory = absurd (not_memory memory)
-refused_by words error (inr among) passes not_memory =
+pub refused_by : (app : App) (words : List Text) (error : Error) → HasKind (fault_of app words) error
+    → (takes app words ≡ true → kind_of error ≡ OutOfMemory) → kind_of error ≢ OutOfMemory
+    → AreRefusedBy app words error
+refused_by app words error (inl memory) passes not_memory = absurd (not_memory memory)
+refused_by app words error (inr among) passes not_memory =
     record {
       not_taken = false_from_ne_true _ (λ taken. not_memory (passes taken));
       cause = among;
@@ -70,6 +70,6 @@ refused_by words error (inr among) passes not_memory =
 pub usage_fault_of : (words : List Text) (error : Error) (fault : UsageFault)
     → HasKind (fault_of tlvdump_app words) error → (takes tlvdump_app words ≡ true → kind_of error ≡ OutOfMemory)
     → IsFaultFor error fault → IsUsageFaultOf words fault
-usage_fault_of words error (Parser same) has passes is = rw is.0 (refused_by words error has passes is.1)
+usage_fault_of words error (Parser same) has passes is = rw is.0 (refused_by tlvdump_app words error has passes is.1)
 usage_fault_of words error (Value option) has passes is = absurd is
 usage_fault_of words error Memory has passes is = tt

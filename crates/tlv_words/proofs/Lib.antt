@@ -1,4 +1,4 @@
-mod CommandLemmas
+pub mod CommandLemmas
 mod NumberLemmas
 mod OffsetLemmas
-mod ParserLemmas
+pub mod ParserLemmas

@@ -1,7 +1,7 @@
 -- What a chain of builders makes, by one step.
 use Rattle.std.proofs.Common.{◌≡◌, ◌∙◌, ◌||◌, Bool, false, ap, ap₂}
 use Rattle.clap.specs.Words.{App, Rule, with_rule, with_subcommand, AddsArg, AddsSubcommand}
-use Rattle.tlv_words.specs.Private.Parsers.{IsArgumentOf, IsParserOf}
+use Rattle.tlv_words.specs.Parsers.{IsArgumentOf, IsParserOf}
 use Rattle.clap.specs.declared.builder.arg.Arg.{Arg}
 use Rattle.clap.specs.declared.builder.command.Command.{Command}
 

@@ -1,11 +1,10 @@
 -- What `command_of` returns: the command that the words ask for, or why there is none.
-use Rattle.std.specs.Prelude.{◌≡◌, ◌≢◌, Bool, false, List, [], Option, Some, None, Result, Ok, Err}
+use Rattle.std.specs.Prelude.{◌≡◌, ◌≢◌, false, List, [], Option, Some, None, Result, Ok, Err}
 use Rattle.std.specs.Prelude.{⊤, codes, if◌then◌else◌, option_map}
-use Rattle.std.specs.Option.{option_map_or}
 use Rattle.std.specs.Str.{bytes_eq}
 use Rattle.clap.specs.Faults.{fault_of}
 use Rattle.clap.specs.Kinds.{IsAmong}
-use Rattle.clap.specs.Words.{Row, Text, first_of, kind_of, subcommand_of, takes}
+use Rattle.clap.specs.Words.{App, Row, Text, first_of, kind_of, subcommand_of, takes}
 use Rattle.clap.specs.declared.error.Error.{Error}
 use Rattle.clap.specs.declared.error.kind.ErrorKind.TheVariants.{OutOfMemory}
 use Rattle.tlv_show.specs.declared.rules.Rules.TheVariants.{Ber, Der}
@@ -13,16 +12,12 @@ use Rattle.tlv_walk.specs.declared.framing.Framing.{Framing}
 use Rattle.tlv_run.specs.declared.command.Command.{Command}
 use Rattle.tlv_run.specs.declared.command.Command.TheVariants.{Check, Dump, Extract, Indef}
 use Rattle.tlv_words.specs.CommandLine.{tlvdump_app}
+use Rattle.tlv_words.specs.Matches.{has_flag}
 use Rattle.tlv_words.specs.Values.{inside_value, limit_value, offset_value, rules_value}
 use Rattle.tlv_words.specs.declared.usage.UsageFault.{UsageFault}
 use Rattle.tlv_words.specs.declared.usage.UsageFault.TheVariants.{Parser, Value, Memory}
 
 -- ---- the command of what `clap` matches: a command's name, and the text of each option given
-
--- the flag is given
-abbrev pub has_flag : Text → List Row → Bool
-has_flag name matches =
-    option_map_or (λ text. bytes_eq text (codes "true")) (first_of name matches) false
 
 -- the framing that `--inside` and `--padding` ask for, if the text of `--inside` is a value
 abbrev pub framing_value : List Row → Option Framing
@@ -31,8 +26,7 @@ framing_value matches = option_map
     (inside_value (first_of (codes "inside") matches))
 
 -- what follows from an option's value; without a value the option is refused
-abbrev pub with_value : {A : Type 0} → Text → Option A → (A → Result Command Text)
-    → Result Command Text
+abbrev pub with_value : {A B E : Type 0} → E → Option A → (A → Result B E) → Result B E
 with_value option None next = Err option
 with_value option (Some value) next = next value
 
@@ -89,18 +83,19 @@ pub record AreReadAs (words : List Text) (result : Result Command Text) : Type 0
       option_map (λ (name, matches). matched_command name matches) (subcommand_of tlvdump_app words)
       ≡ Some result
 
--- `clap` does not take the words; if they ask for help or for the version it does not take them either, and the kind
--- of the error says so. The kind is one that `clap` allows for these words, other than lack of memory
-pub record AreRefusedBy (words : List Text) (error : Error) : Type 0 where
-  pub not_taken : takes tlvdump_app words ≡ false
-  pub cause : IsAmong (kind_of error) (fault_of tlvdump_app words)
+-- `clap` does not take the words, for this command line; if they ask for help or for the version it does not take them
+-- either, and the kind of the error says so. The kind is one that `clap` allows for these words, other than lack of
+-- memory
+pub record AreRefusedBy (app : App) (words : List Text) (error : Error) : Type 0 where
+  pub not_taken : takes app words ≡ false
+  pub cause : IsAmong (kind_of error) (fault_of app words)
   pub not_memory : kind_of error ≢ OutOfMemory
 
 -- why there is no command to run: a line for each cause
 abbrev pub IsUsageFaultOf : List Text → UsageFault → Type 0
 -- `clap` does not take the words; if they ask for help or for the version it does not take them either, and the kind
 -- of the error says so
-IsUsageFaultOf words (Parser error) = AreRefusedBy words error
+IsUsageFaultOf words (Parser error) = AreRefusedBy tlvdump_app words error
 -- U2: the text of this option, the first such, is no value
 IsUsageFaultOf words (Value option) = AreReadAs words (Err option.now)
 -- U3: memory was refused, whatever the words are

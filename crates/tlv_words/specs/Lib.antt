@@ -1,5 +1,7 @@
 pub mod CommandLine
 pub mod CommandOf
+pub mod Matches
+pub mod Parsers
 pub mod Usage
 pub mod Values
 pub mod Private

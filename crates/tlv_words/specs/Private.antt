@@ -1,2 +1,1 @@
 pub mod CommandOf
-pub mod Parsers

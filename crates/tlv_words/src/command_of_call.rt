@@ -1,11 +1,12 @@
 //! The command that the words of a command line ask for.
 ghost use Rattle.std.specs.Prelude.{◌≡◌, IfErr, IfOk, IfSome, Ok, is_some, true};
-ghost use Rattle.clap.specs.Words.{first_of, subcommand_rows_of};
+ghost use Rattle.clap.specs.Words.{subcommand_rows_of};
 ghost use Rattle.tlv_words.specs.CommandOf.{AreReadAs, IsUsageFaultOf, check_command, dump_command, extract_command};
-ghost use Rattle.tlv_words.specs.CommandOf.{framing_value, has_flag, indef_command, matched_command};
-ghost use Rattle.tlv_words.specs.Private.CommandOf.{IsFaultFor, Returns, matched_rows};
-ghost use Rattle.tlv_run.specs.BorrowedText.{text_in};
+ghost use Rattle.tlv_words.specs.CommandOf.{framing_value, indef_command, matched_command};
+ghost use Rattle.tlv_words.specs.Matches.{matched_rows};
+ghost use Rattle.tlv_words.specs.Private.CommandOf.{IsFaultFor, Returns};
 
+use crate::matches::{first_of, has_flag, owned_text};
 use crate::parser::tlvdump_parser;
 use crate::usage::UsageFault;
 use crate::values::{inside_value, limit_value, offset_value, rules_value};
@@ -13,7 +14,7 @@ use crate::words::Words;
 use clap::ArgMatches;
 use clap::error::ErrorKind;
 use std::alloc::Global;
-use tlv_run::{Command, Text};
+use tlv_run::Command;
 use tlv_show::{Options, Rules};
 use tlv_walk::Framing;
 
@@ -144,39 +145,4 @@ fn framing_value(matches: &ArgMatches<'_>) -> Option<Framing<'static>>
         inside,
         padding: has_flag(matches, "padding"),
     })
-}
-
-/// The first text of an option, or the file's name.
-fn first_of<'a>(matches: &ArgMatches<'a>, name: &str) -> Option<&'a str>
-    ensures { text_in result ≡ first_of name.now (matched_rows matches.now) }
-{
-    matches.get_str(name)
-}
-
-/// A copy of the first text of an option, or of the file's name.
-fn owned_text(
-    alloc: Global,
-    matches: &ArgMatches<'_>,
-    name: &str,
-) -> Result<Option<Text>, UsageFault>
-    ensures ok { IfOk result (λ text. text ≡ first_of name.now (matched_rows matches.now)) }
-    ensures memory { IfErr result (λ fault. fault ≡ UsageFault.Memory) }
-{
-    let Some(text) = first_of(matches, name) else {
-        return Ok(None);
-    };
-    match Text::new(alloc, text) {
-        Ok(text) => Ok(Some(text)),
-        Err(_) => Err(UsageFault::Memory),
-    }
-}
-
-/// Whether the flag was given.
-fn has_flag(matches: &ArgMatches<'_>, name: &str) -> bool
-    ensures { result ≡ has_flag name.now (matched_rows matches.now) }
-{
-    match first_of(matches, name) {
-        Some(text) => text == "true",
-        None => false,
-    }
 }

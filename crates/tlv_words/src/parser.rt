@@ -2,16 +2,19 @@
 ghost use Rattle.std.specs.Prelude.{[], IfOk};
 ghost use Rattle.clap.specs.Words.{App, with_subcommand};
 ghost use Rattle.tlv_words.specs.CommandLine.{check_app, command_app, dump_app, extract_app, indef_app};
-ghost use Rattle.tlv_words.specs.CommandLine.{file, flag, help_flag, option, program_app};
-ghost use Rattle.tlv_words.specs.CommandLine.{required_option, tlvdump_app, version_flag};
-ghost use Rattle.tlv_words.specs.Private.Parsers.{IsArgumentOf, IsParserOf};
+ghost use Rattle.tlv_words.specs.CommandLine.{file, program_app, required_option, tlvdump_app};
+ghost use Rattle.tlv_words.specs.Parsers.{IsArgumentOf, IsParserOf};
 
-use clap::{Arg, ArgAction, Command};
+use crate::arguments::{flag, help_flag, option, version_flag};
+use clap::{Arg, Command};
 use std::alloc::{AllocError, Global};
 
 mod help;
 
 use help::Help;
+
+/// The version of the programs, as `--version` prints it after their names.
+pub const VERSION: &str = "0.1.0";
 
 /// The file to read, which has no name before it.
 fn file<'a>(alloc: Global) -> Arg<'a>
@@ -20,51 +23,11 @@ fn file<'a>(alloc: Global) -> Arg<'a>
     Arg::new(alloc, "file").value_name("FILE").help(help::FILE)
 }
 
-/// An option with a value.
-fn option<'a>(alloc: Global, name: &'a str, value: &'a str, text: &'a str) -> Arg<'a>
-    ensures { IsArgumentOf (option name.now) result }
-{
-    Arg::new(alloc, name)
-        .long(name)
-        .action(ArgAction::Set)
-        .value_name(value)
-        .help(text)
-}
-
 /// An option with a value, without which the command is refused.
 fn required_option<'a>(alloc: Global, name: &'a str, value: &'a str, text: &'a str) -> Arg<'a>
     ensures { IsArgumentOf (required_option name.now) result }
 {
     option(alloc, name, value, text).required(true)
-}
-
-/// An option without a value.
-fn flag<'a>(alloc: Global, name: &'a str, text: &'a str) -> Arg<'a>
-    ensures { IsArgumentOf (flag name.now) result }
-{
-    Arg::new(alloc, name)
-        .long(name)
-        .action(ArgAction::SetTrue)
-        .help(text)
-}
-
-/// Help is asked for by this long name alone.
-fn help_flag<'a>(alloc: Global) -> Arg<'a>
-    ensures { IsArgumentOf help_flag result }
-{
-    Arg::new(alloc, "help")
-        .long("help")
-        .action(ArgAction::Help)
-        .help("Print help")
-}
-
-fn version_flag<'a>(alloc: Global) -> Arg<'a>
-    ensures { IsArgumentOf version_flag result }
-{
-    Arg::new(alloc, "version")
-        .long("version")
-        .action(ArgAction::Version)
-        .help("Print version")
 }
 
 /// A command with what each command has: a file to read, and help.
@@ -126,7 +89,7 @@ fn program_parser<'a>(alloc: Global) -> Result<Command<'a>, AllocError>
 {
     Command::new(alloc, "tlvdump")
         .subcommand_required(true)
-        .version(help::VERSION)
+        .version(VERSION)
         .disable_help_flag(true)
         .disable_help_subcommand(true)
         .disable_version_flag(true)

@@ -28,7 +28,7 @@ fn bounded_number(text: &[u8], most: u64) -> Option<u64>
 }
 
 /// The rules that the text names, `ber`, `der` or `cer`. Without a text these are the usual ones.
-pub(crate) fn rules_value(usual: Rules, text: Option<&str>) -> Option<Rules>
+pub fn rules_value(usual: Rules, text: Option<&str>) -> Option<Rules>
     ensures { result ≡ rules_value usual (text_in text.entry) }
 {
     let Some(text) = text else {
@@ -43,7 +43,7 @@ pub(crate) fn rules_value(usual: Rules, text: Option<&str>) -> Option<Rules>
 }
 
 /// The limit that the text is, a number up to 4,294,967,295. Without a text there is no limit.
-pub(crate) fn limit_value(text: Option<&str>) -> Option<Option<u32>>
+pub fn limit_value(text: Option<&str>) -> Option<Option<u32>>
     ensures { result ≡ limit_value (text_in text.entry) }
 {
     let Some(text) = text else {
@@ -56,7 +56,7 @@ pub(crate) fn limit_value(text: Option<&str>) -> Option<Option<u32>>
 }
 
 /// The offset that the text is, a number up to 2^40. Without a text there is none.
-pub(crate) fn offset_value(text: Option<&str>) -> Option<u64>
+pub fn offset_value(text: Option<&str>) -> Option<u64>
     ensures { result ≡ offset_value (text_in text.entry) }
 {
     bounded_number(text?.as_bytes(), INPUT_LIMIT)

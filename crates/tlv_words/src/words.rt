@@ -53,7 +53,7 @@ impl Words {
     }
 
     /// The words, in order.
-    pub(crate) fn as_slice(&self) -> &[String]
+    pub fn as_slice(&self) -> &[String]
         ensures { map string_bytes result.now ≡ self.now }
     {
         self.words.as_slice()

@@ -1,16 +1,11 @@
 -- What the functions below `command_of` return.
-use Rattle.std.specs.Prelude.{◌≡◌, ◌≢◌, List, Result, Ok, Err, ⊤}
-use Rattle.clap.specs.Words.{Row, Text, found_of, kind_of, rows_of}
+use Rattle.std.specs.Prelude.{◌≡◌, ◌≢◌, Result, Ok, Err, ⊤}
+use Rattle.clap.specs.Words.{Text, kind_of}
 use Rattle.clap.specs.declared.error.Error.{Error}
 use Rattle.clap.specs.declared.error.kind.ErrorKind.TheVariants.{OutOfMemory}
-use Rattle.clap.specs.declared.parser.matches.ArgMatches.{ArgMatches}
 use Rattle.tlv_run.specs.declared.command.Command.{Command}
 use Rattle.tlv_words.specs.declared.usage.UsageFault.{UsageFault}
 use Rattle.tlv_words.specs.declared.usage.UsageFault.TheVariants.{Parser, Value, Memory}
-
--- the text of each option given, of what `clap` matches
-abbrev pub matched_rows : ArgMatches → List Row
-matched_rows matches = rows_of (found_of matches)
 
 -- the result is the command or the option that is wanted, unless memory was refused
 abbrev pub Returns : Result Command Text → Result Command UsageFault → Type 0

@@ -11,8 +11,6 @@ pub(super) struct Help<'a> {
     pub after: &'a str,
 }
 
-pub(super) const VERSION: &str = "0.1.0";
-
 pub(super) const FILE: &str =
     "The file to read [default: standard input]; \"-\" is a file of that name";
 

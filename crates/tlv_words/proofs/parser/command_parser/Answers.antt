@@ -1,7 +1,7 @@
 use Rattle.std.proofs.Common.{rules}
 use Rattle.std.proofs.lemmas.Result.{IfOk-weaker}
 use Rattle.clap.specs.Words.{new_app}
-use Rattle.tlv_words.specs.Private.Parsers.{IsParserOf}
+use Rattle.tlv_words.specs.Parsers.{IsParserOf}
 use Rattle.tlv_words.proofs.ParserLemmas.{one_more}
 use Rattle.tlv_words.proofs.parser.command_parser.Goals as goal
 

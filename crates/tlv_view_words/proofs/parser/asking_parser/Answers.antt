@@ -1,0 +1,11 @@
+use Rattle.std.proofs.lemmas.Result.{IfOk-weaker}
+use Rattle.tlv_words.proofs.ParserLemmas.{one_more}
+use Rattle.tlv_view_words.proofs.parser.asking_parser.Goals as goal
+
+pub returns : goal.returns
+returns c =
+    let has_1 = one_more c.bare_parser.ensures c.in_ok-arg.ensures c.any_files.ensures in
+    let has_2 = one_more has_1 c.in_ok-arg-2.ensures c.flag.ensures in
+    let has_3 = one_more has_2 c.in_ok-arg-3.ensures c.option.ensures in
+    let has_4 = one_more has_3 c.in_ok-arg-4.ensures c.flag-2.ensures in
+    IfOk-weaker c.arg-5.result _ _ (λ m h. one_more has_4 h c.flag-3.ensures) c.arg-5.ensures

@@ -1,0 +1,76 @@
+//! The texts of help.
+
+pub(super) const USAGE: &str = "\
+tlvdump-show [OPTIONS] [FILE]...
+       tlvdump-show --check [--rules RULES] [--closed] [--padding] [FILE]...
+       tlvdump-show --offset N [--contents] [--padding] [FILE]
+       tlvdump-show --offsets [--padding] [FILE]";
+
+pub(super) const ABOUT: &str = "Show BER, CER and DER encodings with the strings opened that hold some";
+
+pub(super) const MORE: &str = "\
+Shows BER, CER and DER encodings (ITU-T X.690) without their ASN.1 module, for people: each
+element on a line of its own, as \"tlvdump dump\" shows it, with the OCTET STRINGs and BIT
+STRINGs opened that hold encodings, however deep in one another. Where a value is shown as
+pairs of digits, a text of printable ASCII stands beside them. With --check the findings are
+shown alone, with --offset the octets of one element are written, and with --offsets the
+offsets of the strings that are opened.";
+
+pub(super) const AFTER: &str = "\
+Examples:
+  tlvdump-show cert.der
+  tlvdump-show --check *.der
+  tlvdump-show --offset 703 cert.der | tlvdump dump
+  tlvdump dump --inside \"$(tlvdump-show --offsets cert.der)\" cert.der
+
+Exit status, the highest of several files:
+  0  the input is one or more whole encodings, and nothing else
+  1  findings, or no element at the offset of --offset (E4)
+  2  an octet is refused, or the input ends too early (F01 to F12)
+  3  a read or a write failed (E1, E2), more than 2^40 octets (E3), FILE does not open (E5)
+  4  the command line (U1, U2, U4) or the file of names (N1 to N5) is refused
+  5  memory was refused (U3, N6)
+The message goes to standard error: one line, or several on a refused command line.";
+
+pub(super) const FILE: &str =
+    "The files to read, one after another [default: standard input]; \"-\" is standard input";
+
+pub(super) const CHECK: &str = "\
+List what violates the rules, and nothing else: in each element, and in what the strings
+hold that are opened";
+
+pub(super) const OFFSET: &str = "\
+Write the octets of the element whose first octet stands here, in octets from the start
+of the input: 0 to 1099511627776. It may be in a string that is opened";
+
+pub(super) const CONTENTS: &str = "\
+With --offset: write the element's contents alone, without its header and its
+end-of-contents octets";
+
+pub(super) const OFFSETS: &str = "\
+Write the offsets of the strings that are opened, with commas between them, as --inside
+of tlvdump takes them";
+
+pub(super) const RULES: &str = "\
+Show what violates the rules of BER, DER or CER: ber, der or cer; those of DER and CER
+include those of BER [default: ber, and der with --check]";
+
+pub(super) const LIMIT: &str = "\
+Write at most N rows of each value, and \"...\" for the rest: 0 to 4294967295
+[default: all rows]";
+
+pub(super) const PURE: &str = "\
+Leave out the first columns, those of offsets and lengths, and the lines of findings,
+so that dumps can be compared";
+
+pub(super) const NAMES: &str = "\
+A file of names for object identifiers: lines such as \"2.5.4.3 commonName\", and
+lines of comment that begin with \"#\" [default: that of the installation]";
+
+pub(super) const CLOSED: &str = "Open no string";
+
+pub(super) const NO_TEXT: &str = "Show no text beside pairs of digits";
+
+pub(super) const PADDING: &str = "\
+Allow octets 00 before, between and after the encodings, as files of records have
+them";

@@ -1,0 +1,102 @@
+//! Which options go together.
+ghost use Rattle.std.specs.Prelude.{◌≡◌};
+ghost use Rattle.tlv_words.specs.Matches.{matched_rows};
+ghost use Rattle.tlv_view_words.specs.OptionsTogether.{apart_from, first_given, refused_apart, refused_contents};
+ghost use Rattle.tlv_view_words.specs.OptionsTogether.{refused_files, refused_together};
+
+use crate::matched::{file_texts, is_given};
+use crate::refusal::{Refusal, ShowOption};
+use clap::ArgMatches;
+
+/// Why the options do not go together, if they do not.
+pub(crate) fn refused_together(matches: &ArgMatches<'_>) -> Option<Refusal>
+    ensures { result ≡ refused_together (matched_rows matches.now) }
+{
+    if let Some(refusal) = refused_apart(matches) {
+        return Some(refusal);
+    }
+    if let Some(refusal) = refused_contents(matches) {
+        return Some(refusal);
+    }
+    refused_files(matches)
+}
+
+/// The first of `--check`, `--offset` and `--offsets` that is given, with an option that may not be given with it.
+fn refused_apart(matches: &ArgMatches<'_>) -> Option<Refusal>
+    ensures { result ≡ refused_apart (matched_rows matches.now) }
+{
+    let asked = first_given(
+        matches,
+        &[ShowOption::Check, ShowOption::Offset, ShowOption::Offsets],
+    )?;
+    let option = first_given(matches, apart_from(asked))?;
+    Some(Refusal::NotWith(asked, option))
+}
+
+/// `--contents` without `--offset`.
+fn refused_contents(matches: &ArgMatches<'_>) -> Option<Refusal>
+    ensures { result ≡ refused_contents (matched_rows matches.now) }
+{
+    if is_given(matches, ShowOption::Contents) && !is_given(matches, ShowOption::Offset) {
+        Some(Refusal::ContentsAlone)
+    } else {
+        None
+    }
+}
+
+/// Several files with an option that takes one.
+fn refused_files(matches: &ArgMatches<'_>) -> Option<Refusal>
+    ensures { result ≡ refused_files (matched_rows matches.now) }
+{
+    if file_texts(matches)?.len() <= 1 {
+        return None;
+    }
+    let asked = first_given(matches, &[ShowOption::Offset, ShowOption::Offsets])?;
+    Some(Refusal::SeveralFiles(asked))
+}
+
+/// The first of these options that is given.
+fn first_given(matches: &ArgMatches<'_>, options: &[ShowOption]) -> Option<ShowOption>
+    ensures { result ≡ first_given options.now (matched_rows matches.now) }
+{
+    for option in options {
+        if is_given(matches, *option) {
+            return Some(*option);
+        }
+    }
+    None
+}
+
+/// The options that may not be given with one that asks for something else than a dump.
+fn apart_from(asked: ShowOption) -> &'static [ShowOption]
+    ensures { result.now ≡ apart_from asked }
+{
+    match asked {
+        ShowOption::Check => &[
+            ShowOption::Offset,
+            ShowOption::Offsets,
+            ShowOption::Limit,
+            ShowOption::Pure,
+            ShowOption::Names,
+            ShowOption::NoText,
+        ],
+        ShowOption::Offset => &[
+            ShowOption::Offsets,
+            ShowOption::Rules,
+            ShowOption::Limit,
+            ShowOption::Pure,
+            ShowOption::Names,
+            ShowOption::Closed,
+            ShowOption::NoText,
+        ],
+        ShowOption::Offsets => &[
+            ShowOption::Rules,
+            ShowOption::Limit,
+            ShowOption::Pure,
+            ShowOption::Names,
+            ShowOption::Closed,
+            ShowOption::NoText,
+        ],
+        _ => &[],
+    }
+}
