@@ -8,7 +8,7 @@ use Rattle.tlv_open.specs.Laws.{opened_framing}
 use Rattle.tlv_open.specs.Breaks.{AreBroken}
 use Rattle.tlv_open.specs.Opens.{AreOpened}
 use Rattle.tlv_open.specs.declared.strings.BrokenString.{BrokenString}
-use Rattle.tlv_show.specs.DumpJob.{text_dump_job}
+use Rattle.tlv_show.specs.DumpJob.{dump_job_with}
 use Rattle.tlv_show.specs.declared.options.Options.{Options}
 use Rattle.tlv_show.specs.declared.rules.Rules.{Rules}
 use Rattle.tlv_run.specs.Report.{ReportValue, outcome_report}
@@ -22,13 +22,11 @@ use Rattle.tlv_view.specs.declared.view_call.View.TheVariants.{Dump, Check, Extr
 abbrev pub dump_options : Rules → Option ℕ → Bool → Framing → Options
 dump_options rules limit pure framing = record { rules = rules; limit = limit; pure = pure; framing = framing }
 
--- what a view wants of an input in which strings are named as the framing says: what the command wants, or, of a dump with
--- text, that dump
+-- what a view wants of an input in which strings are named as the framing says: what the command wants; a dump may have
+-- text beside pairs of digits, which that of the command has not
 abbrev pub job_of_view : View → Framing → NamesValue → Job ReportValue
-job_of_view (Dump rules limit pure false) framing names =
-    command_job (command.Dump (dump_options rules limit pure framing) None None) names
-job_of_view (Dump rules limit pure true) framing names =
-    job_with_report outcome_report (text_dump_job (dump_options rules limit pure framing) names)
+job_of_view (Dump rules limit pure text) framing names =
+    job_with_report outcome_report (dump_job_with text (dump_options rules limit pure framing) names)
 job_of_view (Check rules) framing names = command_job (command.Check rules framing None) names
 job_of_view (Extract offset contents) framing names =
     command_job (command.Extract offset contents framing None) names

@@ -9,7 +9,7 @@ ghost use Rattle.tlv_view.specs.Views.{AreBrokenUnless, AreOpenedUnless, Views, 
 
 use std::alloc::{AllocError, Global};
 use tlv_open::{BrokenString, Strings, laws, strings_of};
-use tlv_run::{Report, UnfailingSource, run_check, run_dump, run_dump_with_text, run_extract};
+use tlv_run::{Report, UnfailingSource, run_check, run_dump_with, run_extract};
 use tlv_show::{FiniteNames, Options, Rules};
 use tlv_walk::{Drain, Framing, Inside, Source};
 
@@ -133,11 +133,7 @@ fn run_view<N: FiniteNames, S: Source, D: Drain>(
                 pure,
                 framing,
             };
-            if text {
-                run_dump_with_text(&options, names, source, drain)
-            } else {
-                run_dump(&options, names, source, drain)
-            }
+            run_dump_with(&options, text, names, source, drain)
         }
         View::Check { rules } => run_check(rules, &framing, source, drain),
         View::Extract { offset, contents } => {
