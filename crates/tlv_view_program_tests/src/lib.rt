@@ -1,0 +1,9 @@
+//! The tests of the program `tlvdump-show` over files in memory.
+#![tactic(auto)]
+
+#[cfg(test)]
+mod expect;
+#[cfg(test)]
+mod rows;
+#[cfg(test)]
+mod system;

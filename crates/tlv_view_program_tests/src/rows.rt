@@ -1,0 +1,295 @@
+//! What the program asks for, in which order, and what it writes and says.
+use crate::expect::expect_eq_of;
+use crate::system::MemSystem;
+use arrayvec::ArrayVec;
+use std::alloc::Global;
+use std::process::Abort;
+use std::test::Fail;
+use tlv_program::NoWords;
+use tlv_view_program::{Streams, run_show};
+use tlv_walk::{MemDrain, MemSource};
+use tlv_words::{UsageFault, Words};
+
+/// Standard input: an INTEGER.
+const INPUT: &[u8] = b"\x02\x01\x05";
+
+/// Words after the program's name, the places of names, and what is to come of them. `room` is how many octets standard
+/// output takes.
+#[derive(Clone, Copy)]
+struct ShowRow<'a> {
+    words: &'a [&'a str],
+    places: &'a [&'a str],
+    can_print: bool,
+    room: usize,
+    asked: &'a [u8],
+    written: &'a [u8],
+    said: &'a [u8],
+    status: u8,
+}
+
+const NOTHING: ShowRow<'static> = ShowRow {
+    words: &[],
+    places: &["names"],
+    can_print: true,
+    room: 512,
+    asked: b"",
+    written: b"",
+    said: b"",
+    status: 0,
+};
+
+fn words_of(alloc: Global, first: &[&str], list: &[&str]) -> Result<Words, UsageFault> {
+    let mut words = Words::new(alloc);
+    for word in first {
+        words.push(word)?;
+    }
+    for word in list {
+        words.push(word)?;
+    }
+    Ok(words)
+}
+
+fn expect_run(
+    rt: &impl Abort,
+    alloc: Global,
+    words: &Result<Words, NoWords>,
+    places: &Words,
+    row: &ShowRow<'_>,
+) {
+    let mut output_room = [0; 512];
+    let mut message_room = [0; 512];
+    let mut streams = Streams {
+        system: MemSystem {
+            can_print: row.can_print,
+            asked: ArrayVec::new(),
+        },
+        input: MemSource::new(INPUT, &[], None),
+        output: MemDrain::new(&mut output_room[..row.room.min(512)], 4096),
+        messages: MemDrain::new(&mut message_room, 4096),
+    };
+    let status = run_show(alloc, words, places, &mut streams);
+    expect_eq_of(rt, row.words, streams.system.asked.as_slice(), row.asked);
+    expect_eq_of(rt, row.words, streams.output.written(), row.written);
+    expect_eq_of(rt, row.words, streams.messages.written(), row.said);
+    expect_eq_of(rt, row.words, status, row.status);
+}
+
+fn expect_rows(rt: &impl Abort, alloc: Global, rows: &[ShowRow<'_>]) -> Result<(), Fail> {
+    for row in rows {
+        let words = words_of(alloc, &["tlvdump-show"], row.words)?;
+        let places = words_of(alloc, &[], row.places)?;
+        expect_run(rt, alloc, &Ok(words), &places, row);
+    }
+    Ok(())
+}
+
+/// Each file is read whole and given back; without one, and for `-`, standard input is read. Names come first.
+#[test]
+fn files_are_shown(rt: HostRuntime) -> Result<(), Fail> {
+    let rows = [
+        ShowRow {
+            asked: b"n;",
+            written: b"       0      1: INTEGER 5\n",
+            ..NOTHING
+        },
+        ShowRow {
+            words: &["-"],
+            asked: b"n;",
+            written: b"       0      1: INTEGER 5\n",
+            ..NOTHING
+        },
+        ShowRow {
+            words: &["string"],
+            asked: b"n;s;",
+            written: b"       0      2: OCTET STRING wraps {\n       2      0:   NULL\n                 }\n",
+            ..NOTHING
+        },
+        ShowRow {
+            words: &["--closed", "string"],
+            asked: b"n;s;",
+            written: b"       0      2: OCTET STRING 05 00\n",
+            ..NOTHING
+        },
+        ShowRow {
+            words: &["text"],
+            asked: b"n;t;",
+            written: b"       0      3: [0] 61 62 63  |abc|\n",
+            ..NOTHING
+        },
+        ShowRow {
+            words: &["--no-text", "text"],
+            asked: b"n;t;",
+            written: b"       0      3: [0] 61 62 63\n",
+            ..NOTHING
+        },
+        ShowRow {
+            words: &["--offset", "2", "string"],
+            asked: b"s;",
+            written: b"\x05\x00",
+            ..NOTHING
+        },
+        ShowRow {
+            words: &["--offsets", "string"],
+            asked: b"s;",
+            written: b"0\n",
+            ..NOTHING
+        },
+    ];
+    expect_rows(&rt, rt.alloc(), &rows)
+}
+
+/// Several files have titles, and the status is the highest. What is said of a file has its name before it.
+#[test]
+fn several_files_are_shown(rt: HostRuntime) -> Result<(), Fail> {
+    let rows = [
+        ShowRow {
+            words: &["--check", "null", "missing", "null"],
+            asked: b"n;mn;",
+            written: b"# block 1 of 3: null\n# block 2 of 3: missing\n# block 3 of 3: null\n",
+            said: b"missing: E5 cannot open the file\n",
+            status: 3,
+            ..NOTHING
+        },
+        ShowRow {
+            words: &["--pure", "null", "-"],
+            asked: b"n;n;",
+            written: b"# block 1 of 2: null\nNULL\n# block 2 of 2: standard input\nINTEGER 5\n",
+            ..NOTHING
+        },
+        ShowRow {
+            words: &["--check", "\u{e9}\n"],
+            asked: b"\xc3",
+            said: b"???: E5 cannot open the file\n",
+            status: 3,
+            ..NOTHING
+        },
+    ];
+    expect_rows(&rt, rt.alloc(), &rows)
+}
+
+/// A broken string has a line, and the status is then 1 at least.
+#[test]
+fn broken_strings_are_named(rt: HostRuntime) -> Result<(), Fail> {
+    let line = b"broken: string at 7 is the value of an extension and breaks at 10: F11 element runs past the enclosing length\n";
+    let rows = [
+        ShowRow {
+            words: &["--check", "broken"],
+            asked: b"b;",
+            said: line,
+            status: 1,
+            ..NOTHING
+        },
+        ShowRow {
+            words: &["--check", "--closed", "broken"],
+            asked: b"b;",
+            ..NOTHING
+        },
+        ShowRow {
+            words: &["--offset", "0", "--contents", "broken"],
+            asked: b"b;",
+            written: b"\x06\x03\x55\x1d\x0f\x04\x03\x03\x02\x05",
+            ..NOTHING
+        },
+    ];
+    expect_rows(&rt, rt.alloc(), &rows)
+}
+
+/// The first of words and names that is refused is said, and nothing is asked for after it.
+#[test]
+fn first_refusal_is_said(rt: HostRuntime) -> Result<(), Fail> {
+    let rows = [
+        ShowRow {
+            words: &["--names", "missing", "null"],
+            asked: b"m",
+            said: b"N5 names file not read\n",
+            status: 4,
+            ..NOTHING
+        },
+        ShowRow {
+            words: &["null"],
+            places: &["missing", "bad names"],
+            asked: b"mb;",
+            said: b"N1 line 1: not an object identifier\n",
+            status: 4,
+            ..NOTHING
+        },
+        ShowRow {
+            words: &["null"],
+            places: &["missing"],
+            asked: b"mn;",
+            written: b"       0      0: NULL\n",
+            said: b"no names file was found: object identifiers have no names\n",
+            ..NOTHING
+        },
+        ShowRow {
+            words: &["--limit", "x", "null"],
+            said: b"U2 value out of range: --limit (0 to 4294967295)\n",
+            status: 4,
+            ..NOTHING
+        },
+        ShowRow {
+            words: &["--help"],
+            asked: b"!",
+            ..NOTHING
+        },
+        ShowRow {
+            words: &["--version"],
+            can_print: false,
+            asked: b"!",
+            said: b"E2 write failed\n",
+            status: 3,
+            ..NOTHING
+        },
+        ShowRow {
+            words: &["--nonsense"],
+            asked: b"!",
+            status: 4,
+            ..NOTHING
+        },
+    ];
+    expect_rows(&rt, rt.alloc(), &rows)
+}
+
+/// After a failed write no other file is opened.
+#[test]
+fn failed_writes_end_the_run(rt: HostRuntime) -> Result<(), Fail> {
+    let rows = [
+        ShowRow {
+            words: &["--pure", "null", "null"],
+            room: 23,
+            asked: b"n;n;",
+            written: b"# block 1 of 2: null\nNU",
+            said: b"null: E2 write failed\n",
+            status: 3,
+            ..NOTHING
+        },
+        ShowRow {
+            words: &["--check", "null", "null"],
+            room: 3,
+            written: b"# b",
+            said: b"null: E2 write failed\n",
+            status: 3,
+            ..NOTHING
+        },
+    ];
+    expect_rows(&rt, rt.alloc(), &rows)
+}
+
+/// Without words nothing is asked for.
+#[test]
+fn missing_words_are_said(rt: HostRuntime) -> Result<(), Fail> {
+    let not_utf8 = ShowRow {
+        said: b"U1 an argument is not UTF-8\n",
+        status: 4,
+        ..NOTHING
+    };
+    let memory = ShowRow {
+        said: b"U3 out of memory\n",
+        status: 5,
+        ..NOTHING
+    };
+    let places = words_of(rt.alloc(), &[], NOTHING.places)?;
+    expect_run(&rt, rt.alloc(), &Err(NoWords::NotUtf8), &places, &not_utf8);
+    expect_run(&rt, rt.alloc(), &Err(NoWords::Memory), &places, &memory);
+    Ok(())
+}

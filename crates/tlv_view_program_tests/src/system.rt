@@ -1,0 +1,53 @@
+//! A system whose files are in memory.
+ghost use Rattle.tlv_program.specs.System.{unknown_system};
+
+use arrayvec::ArrayVec;
+use tlv_program::System;
+use tlv_walk::MemSource;
+
+/// The files: a NULL, a string that holds one, a string that is broken, text, names, and names that are refused.
+static FILES: [(&str, &[u8]); 6] = [
+    ("null", b"\x05\x00"),
+    ("string", b"\x04\x02\x05\x00"),
+    (
+        "broken",
+        b"\x30\x0a\x06\x03\x55\x1d\x0f\x04\x03\x03\x02\x05",
+    ),
+    ("text", b"\x80\x03abc"),
+    ("names", b"2.5.29.15 keyUsage\n"),
+    ("bad names", b"1.40 word\n"),
+];
+
+/// A system whose files are in memory, and what it was asked for: the first octet of the name of each file, `;` for a file
+/// that it is given back, and `!` for what `clap` has to say.
+#[derive(Drop)]
+pub(crate) struct MemSystem {
+    pub can_print: bool,
+    pub asked: ArrayVec<u8, 16>,
+}
+
+impl System for MemSystem {
+    type File = MemSource<'static>;
+
+    ghost allows = { unknown_system };
+
+    fn open(&mut self, name: &str) -> Option<MemSource<'static>> {
+        let first = name.as_bytes().first().copied().unwrap_or(b'?');
+        let _ = self.asked.try_push(first);
+        for (file, octets) in FILES {
+            if file == name {
+                return Some(MemSource::new(octets, &[], None));
+            }
+        }
+        None
+    }
+
+    fn close(&mut self, _file: MemSource<'static>) {
+        let _ = self.asked.try_push(b';');
+    }
+
+    fn print(&mut self, _error: &clap::Error) -> bool {
+        let _ = self.asked.try_push(b'!');
+        self.can_print
+    }
+}
