@@ -29,3 +29,7 @@ file_line file (x ∷ message) = line_prefix_of file ++ (x ∷ message) ++ 10 �
 -- the note if no file of names is found
 abbrev pub no_names_note : List ℕ
 no_names_note = codes "no names file was found: object identifiers have no names"
+
+-- the note if standard input is read, and it is a terminal
+abbrev pub input_note : List ℕ
+input_note = codes "standard input is read, up to Ctrl-D"

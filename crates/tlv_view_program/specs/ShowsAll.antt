@@ -21,7 +21,7 @@ use Rattle.tlv_view_words.specs.declared.request.Wanted.TheVariants.{Dump}
 use Rattle.tlv_program.specs.System.{Allows, IsUnread}
 use Rattle.tlv_program.specs.declared.program.NoWords.{NoWords}
 use Rattle.tlv_program.specs.declared.program.NoWords.TheVariants.{NotUtf8, Memory}
-use Rattle.tlv_view_program.specs.Lines.{no_names_note}
+use Rattle.tlv_view_program.specs.Lines.{input_note, no_names_note}
 use Rattle.tlv_view_program.specs.ShowsBlock.{ShowsBlock}
 use Rattle.tlv_view_program.specs.Streams.{StreamsValue}
 
@@ -35,6 +35,11 @@ file_of_word word = if bytes_eq word (codes "-") then None else Some word
 abbrev pub files_of_words : List (List ℕ) → List (Option (List ℕ))
 files_of_words [] = None ∷ []
 files_of_words words = map file_of_word words
+
+-- the note that standard input is read: if no file is named, and it is a terminal
+abbrev pub note_of_input : Bool → List (List ℕ) → List ℕ
+note_of_input typed [] = if typed then input_note else []
+note_of_input typed words = []
 
 -- ---- words that ask for nothing
 
@@ -111,19 +116,22 @@ module _ {S : Type 0} (allows : Allows S) where
   Says message old new =
       WritesMessage (message_line message) old.messages new.messages × (new ≡ record old { messages = new.messages })
 
-  -- the names are got, and the files are shown; the status comes last: a line for each case
-  pub data ShowsRequest (places : List (List ℕ)) (request : Request) (old new : StreamsValue S) : ℕ → Type 0 where
+  -- the names are got, and the files are shown; `typed` says whether standard input is a terminal; the status comes
+  -- last: a line for each case
+  pub data ShowsRequest (places : List (List ℕ)) (typed : Bool) (request : Request) (old new : StreamsValue S)
+      : ℕ → Type 0 where
     -- there are no names, and no file is opened
     no_names : (fault : NamesFault) (between : S)
         → GetsTable request.wanted places old.system between false (Err fault)
         → Says (names_report fault).message (record old { system = between }) new
-        → ShowsRequest places request old new (names_report fault).status
-    shows : (table : NamesValue) (noted : Bool) (between : S) (ready : StreamsValue S) (status : ℕ)
+        → ShowsRequest places typed request old new (names_report fault).status
+    shows : (table : NamesValue) (noted : Bool) (between : S) (warned ready : StreamsValue S) (status : ℕ)
         → GetsTable request.wanted places old.system between noted (Ok table)
-        → Says (if noted then no_names_note else []) (record old { system = between }) ready
+        → Says (if noted then no_names_note else []) (record old { system = between }) warned
+        → Says (note_of_input typed request.files) warned ready
         → ShowsFiles request table (length (files_of_words request.files)) 1 (files_of_words request.files) ready new
         status
-        → ShowsRequest places request old new status
+        → ShowsRequest places typed request old new status
 
   -- what `clap` has to say is printed, or cannot be; of another fault nothing is printed here
   abbrev pub PrintsRefusal : S → S → RequestFault → Bool → Type 0
@@ -131,18 +139,18 @@ module _ {S : Type 0} (allows : Allows S) where
   PrintsRefusal old new other printed = (new ≡ old) × (printed ≡ true)
 
   -- the program runs on these words, or on the reason why there are none; its status comes last: a line for each case
-  pub data RunsShow (places : List (List ℕ)) (old new : StreamsValue S)
+  pub data RunsShow (places : List (List ℕ)) (typed : Bool) (old new : StreamsValue S)
       : Result (List Text) NoWords → ℕ → Type 0 where
     -- a word is not UTF-8
     not_utf8 : Says not_utf8_report.message old new
-        → RunsShow places old new (Err NotUtf8) not_utf8_report.status
+        → RunsShow places typed old new (Err NotUtf8) not_utf8_report.status
     -- memory for the words is refused
     no_memory : Says (request_report fault.Memory).message old new
-        → RunsShow places old new (Err Memory) (request_report fault.Memory).status
+        → RunsShow places typed old new (Err Memory) (request_report fault.Memory).status
     -- the words ask for nothing that can be shown: no file is opened, and nothing is read
     refused : (words : List Text) (why : RequestFault) (printed : Bool) (between : S) → IsRequestFaultOf words why
         → PrintsRefusal old.system between why printed
         → Says (refused_report why printed).message (record old { system = between }) new
-        → RunsShow places old new (Ok words) (refused_report why printed).status
+        → RunsShow places typed old new (Ok words) (refused_report why printed).status
     runs : (words : List Text) (request : Request) (status : ℕ) → AreAskedAs words (Ok request)
-        → ShowsRequest places request old new status → RunsShow places old new (Ok words) status
+        → ShowsRequest places typed request old new status → RunsShow places typed old new (Ok words) status

@@ -2,7 +2,8 @@
 ghost use Rattle.std.specs.Prelude.{◌≡◌, if◌then◌else◌, []};
 ghost use Rattle.tlv_run.specs.Report.{report_value_of, report_with};
 ghost use Rattle.tlv_view_program.specs.Lines.{no_names_note};
-ghost use Rattle.tlv_view_program.specs.ShowsAll.{PrintsRefusal, RunsShow, ShowsRequest, asks_for_help, refused_report};
+ghost use Rattle.tlv_view_program.specs.ShowsAll.{PrintsRefusal, RunsShow, ShowsRequest, asks_for_help, note_of_input};
+ghost use Rattle.tlv_view_program.specs.ShowsAll.{refused_report};
 ghost use Rattle.tlv_view_program.specs.Streams.{streams_value};
 use crate::files::show_files;
 use crate::names::table_for;
@@ -10,7 +11,7 @@ use crate::streams::Streams;
 use std::alloc::Global;
 use tlv_program::{NoWords, System};
 use tlv_run::{Report, names_report, write_message};
-use tlv_view_words::{Request, RequestFault, request_of, request_report};
+use tlv_view_words::{FileNames, Request, RequestFault, request_of, request_report};
 use tlv_walk::{Drain, Source};
 use tlv_words::{Words, not_utf8_report, unprinted_report};
 
@@ -19,13 +20,15 @@ use tlv_words::{Words, not_utf8_report, unprinted_report};
 ///
 /// Reads the words, then the names, and then shows each file, or standard input if there is none, and says on standard
 /// error what there is to say of it. The first of words and names that is refused is said, and nothing is done after it.
+/// `typed` says whether standard input is a terminal: then it is said that it is read, if no file is named.
 pub fn run_show<S: System, I: Source, O: Drain, M: Drain>(
     alloc: Global,
     words: &Result<Words, NoWords>,
     places: &Words,
+    typed: bool,
     streams: &mut Streams<S, I, O, M>,
 ) -> u8
-    ensures { RunsShow S.allows places.now
+    ensures { RunsShow S.allows places.now typed
         (streams_value I.state O.state M.state streams.old) (streams_value I.state O.state M.state streams.new)
         words.now result }
 {
@@ -37,7 +40,7 @@ pub fn run_show<S: System, I: Source, O: Drain, M: Drain>(
         }
     };
     match request_of(alloc, words) {
-        Ok(request) => show_request(alloc, &request, places, streams),
+        Ok(request) => show_request(alloc, &request, places, typed, streams),
         Err(fault) => {
             let printed = print_refusal(&fault, &mut streams.system);
             write_message(&refused_report(&fault, printed), &mut streams.messages)
@@ -83,15 +86,17 @@ fn show_request<S: System, I: Source, O: Drain, M: Drain>(
     alloc: Global,
     request: &Request,
     places: &Words,
+    typed: bool,
     streams: &mut Streams<S, I, O, M>,
 ) -> u8
-    ensures { ShowsRequest S.allows places.now request.now
+    ensures { ShowsRequest S.allows places.now typed request.now
         (streams_value I.state O.state M.state streams.old) (streams_value I.state O.state M.state streams.new)
         result }
 {
     match table_for(alloc, &request.wanted, places, &mut streams.system) {
         Ok(table) => {
             let _ = write_message(&names_note(table.is_missing), &mut streams.messages);
+            let _ = write_message(&note_of_input(typed, &request.files), &mut streams.messages);
             show_files(alloc, request, &table.names, streams)
         }
         Err(fault) => write_message(&names_report(fault), &mut streams.messages),
@@ -104,6 +109,17 @@ fn names_note(is_missing: bool) -> Report
 {
     if is_missing {
         Report::with_message(0, b"no names file was found: object identifiers have no names")
+    } else {
+        Report::without_message(0)
+    }
+}
+
+/// The note that standard input is read, or nothing.
+fn note_of_input(typed: bool, files: &FileNames) -> Report
+    ensures { report_value_of result ≡ report_with 0 (note_of_input typed files.now) }
+{
+    if typed && files.as_slice().is_empty() {
+        Report::with_message(0, b"standard input is read, up to Ctrl-D")
     } else {
         Report::without_message(0)
     }

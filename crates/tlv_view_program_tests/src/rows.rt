@@ -19,6 +19,7 @@ const INPUT: &[u8] = b"\x02\x01\x05";
 struct ShowRow<'a> {
     words: &'a [&'a str],
     places: &'a [&'a str],
+    typed: bool,
     can_print: bool,
     room: usize,
     asked: &'a [u8],
@@ -30,6 +31,7 @@ struct ShowRow<'a> {
 const NOTHING: ShowRow<'static> = ShowRow {
     words: &[],
     places: &["names"],
+    typed: false,
     can_print: true,
     room: 512,
     asked: b"",
@@ -67,7 +69,7 @@ fn expect_run(
         output: MemDrain::new(&mut output_room[..row.room.min(512)], 4096),
         messages: MemDrain::new(&mut message_room, 4096),
     };
-    let status = run_show(alloc, words, places, &mut streams);
+    let status = run_show(alloc, words, places, row.typed, &mut streams);
     expect_eq_of(rt, row.words, streams.system.asked.as_slice(), row.asked);
     expect_eq_of(rt, row.words, streams.output.written(), row.written);
     expect_eq_of(rt, row.words, streams.messages.written(), row.said);
@@ -93,7 +95,15 @@ fn files_are_shown(rt: HostRuntime) -> Result<(), Fail> {
             ..NOTHING
         },
         ShowRow {
+            typed: true,
+            asked: b"n;",
+            written: b"       0      1: INTEGER 5\n",
+            said: b"standard input is read, up to Ctrl-D\n",
+            ..NOTHING
+        },
+        ShowRow {
             words: &["-"],
+            typed: true,
             asked: b"n;",
             written: b"       0      1: INTEGER 5\n",
             ..NOTHING

@@ -3,10 +3,9 @@
 
 ghost use Rattle.tlv_program.specs.System.{unknown_system};
 
-use std::alloc::AllocError;
 use std::env;
 use std::fs::File;
-use std::io::ErrorKind;
+use std::io::{ErrorKind, IsTerminal};
 use std::process::ExitCode;
 use tlv_program::{NoWords, System};
 use tlv_view_program::{Streams, run_show};
@@ -29,7 +28,14 @@ fn main(rt: HostRuntime) -> ExitCode {
         output: WriteDrain::new(rt.stdout()),
         messages: WriteDrain::new(rt.stderr()),
     };
-    ExitCode::from(run_show(rt.alloc(), &words, &places, &mut streams))
+    let typed = rt.stdin().is_terminal();
+    ExitCode::from(run_show(
+        rt.alloc(),
+        &words,
+        &places,
+        typed,
+        &mut streams,
+    ))
 }
 
 /// The arguments, and the places of the file of names.
