@@ -37,10 +37,7 @@ pub(crate) fn file_texts<'m, 'a>(matches: &'m ArgMatches<'a>) -> Option<&'m [&'a
 }
 
 /// Copies of the names of the files.
-pub(crate) fn file_names(
-    alloc: Global,
-    matches: &ArgMatches<'_>,
-) -> Result<FileNames, AllocError>
+pub(crate) fn file_names(alloc: Global, matches: &ArgMatches<'_>) -> Result<FileNames, AllocError>
     ensures { IfOk result (λ files. files ≡ given_files (matched_rows matches.now)) }
 {
     let mut files = FileNames::new(alloc);

@@ -6,7 +6,8 @@ tlvdump-show [OPTIONS] [FILE]...
        tlvdump-show --offset N [--contents] [--padding] [FILE]
        tlvdump-show --offsets [--padding] [FILE]";
 
-pub(super) const ABOUT: &str = "Show BER, CER and DER encodings with the strings opened that hold some";
+pub(super) const ABOUT: &str =
+    "Show BER, CER and DER encodings with the strings opened that hold some";
 
 pub(super) const MORE: &str = "\
 Shows BER, CER and DER encodings (ITU-T X.690) without their ASN.1 module, for people: each
