@@ -1,5 +1,5 @@
 -- What the program does, from its words to its status, and in which order.
-use Rattle.std.specs.Prelude.{◌≡◌, ◌+◌, ◌||◌, ◌×◌, ℕ, Bool, true, false, eqb, not, List, [], ◌∷◌, Option, Some, None}
+use Rattle.std.specs.Prelude.{◌≡◌, ◌+◌, ◌||◌, ℕ, Bool, true, false, eqb, not, List, [], ◌∷◌, Option, Some, None}
 use Rattle.std.specs.Prelude.{Result, Ok, Err, codes, if◌then◌else◌, length, map, max}
 use Rattle.std.specs.FinMap as finite
 use Rattle.std.specs.Str.{bytes_eq}

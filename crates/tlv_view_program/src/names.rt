@@ -1,13 +1,14 @@
 //! The names of object identifiers that are shown.
-ghost use Rattle.std.specs.Prelude.{◌≡◌, IfSome, option_map};
-ghost use Rattle.tlv_program.specs.System.{IsUnread};
-ghost use Rattle.tlv_view_program.specs.Private.Tables.{ReadsTable, is_noted, table_result};
+ghost use Rattle.std.specs.FinMap as finite;
+ghost use Rattle.std.specs.Option.{is_none};
+ghost use Rattle.std.specs.Prelude.{◌≡◌, option_map};
+ghost use Rattle.tlv_view_program.specs.Private.Tables.{OpensNames, is_noted, result_without_file, table_result};
 ghost use Rattle.tlv_view_program.specs.ShowsAll.{GetsTable, OpensFirst};
 use std::alloc::Global;
 use tlv_program::System;
+use tlv_run::Text;
 use tlv_value::{Names, NamesFault};
-use tlv_view_words::Wanted;
-use tlv_words::Words;
+use tlv_view_words::{FileNames, Wanted};
 
 /// The names for what is wanted, and whether it is to be noted that no file of names was found.
 #[derive(Drop)]
@@ -21,23 +22,39 @@ pub(crate) struct Table {
 pub(crate) fn table_for<S: System>(
     alloc: Global,
     wanted: &Wanted,
-    places: &Words,
+    places: &FileNames,
     system: &mut S,
 ) -> Result<Table, NamesFault>
     ensures { GetsTable S.allows wanted.now places.now system.old system.new (is_noted result) (table_result result) }
 {
-    let Wanted::Dump { names, .. } = wanted else {
-        return Ok(no_table(false));
+    let name = match wanted {
+        Wanted::Dump { names, .. } => names,
+        Wanted::Check { .. } => return Ok(no_table(false)),
+        Wanted::Extract { .. } => return Ok(no_table(false)),
+        Wanted::Offsets => return Ok(no_table(false)),
     };
+    let Some(mut file) = open_names(name, places, system) else {
+        return table_without_file(name);
+    };
+    let names = Names::read(alloc, &mut file);
+    system.close(file);
     match names {
-        Some(name) => match system.open(name.as_str()) {
-            Some(file) => read_table(alloc, file, system),
-            None => Err(NamesFault::ReadFailed),
-        },
-        None => match open_first(places, system) {
-            Some(file) => read_table(alloc, file, system),
-            None => Ok(no_table(true)),
-        },
+        Ok(names) => Ok(Table {
+            names,
+            is_missing: false,
+        }),
+        Err(fault) => Err(fault),
+    }
+}
+
+/// The names if no file opens: none, and that is noted, unless a file was named.
+fn table_without_file(name: &Option<Text>) -> Result<Table, NamesFault>
+    ensures result { table_result result ≡ result_without_file name.now }
+    ensures noted { is_noted result ≡ is_none name.now }
+{
+    match name {
+        Some(_) => Err(NamesFault::ReadFailed),
+        None => Ok(no_table(true)),
     }
 }
 
@@ -52,26 +69,23 @@ fn no_table(is_missing: bool) -> Table
     }
 }
 
-/// Reads a file of names.
-fn read_table<S: System>(
-    alloc: Global,
-    mut file: S::File,
+/// Opens the file of this name, or else the first of these that opens.
+fn open_names<S: System>(
+    name: &Option<Text>,
+    places: &FileNames,
     system: &mut S,
-) -> Result<Table, NamesFault>
-    ensures reads { ReadsTable S.allows system.old system.new (S.File.Source.state file.entry) (table_result result) }
-    ensures noted { is_noted result ≡ false }
+) -> Option<S::File>
+    ensures { OpensNames S.allows name.now places.now system.old system.new (option_map S.File.state result) }
 {
-    let read = Names::read(alloc, &mut file);
-    system.close(file);
-    Ok(Table {
-        names: read?,
-        is_missing: false,
-    })
+    match name {
+        Some(name) => system.open(name.as_str()),
+        None => open_first(places, system),
+    }
 }
 
 /// Opens the first of these files that opens.
-fn open_first<S: System>(places: &Words, system: &mut S) -> Option<S::File>
-    ensures { OpensFirst S.allows places.now system.old system.new (option_map S.File.Source.state result) }
+fn open_first<S: System>(places: &FileNames, system: &mut S) -> Option<S::File>
+    ensures { OpensFirst S.allows places.now system.old system.new (option_map S.File.state result) }
 {
     for place in places.as_slice() {
         if let Some(file) = system.open(place.as_str()) {

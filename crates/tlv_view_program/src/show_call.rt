@@ -24,7 +24,7 @@ use tlv_words::{Words, not_utf8_report, unprinted_report};
 pub fn run_show<S: System, I: Source, O: Drain, M: Drain>(
     alloc: Global,
     words: &Result<Words, NoWords>,
-    places: &Words,
+    places: &FileNames,
     typed: bool,
     streams: &mut Streams<S, I, O, M>,
 ) -> u8
@@ -85,7 +85,7 @@ fn asks_for_help(fault: &RequestFault) -> bool
 fn show_request<S: System, I: Source, O: Drain, M: Drain>(
     alloc: Global,
     request: &Request,
-    places: &Words,
+    places: &FileNames,
     typed: bool,
     streams: &mut Streams<S, I, O, M>,
 ) -> u8

@@ -1,4 +1,7 @@
 //! What follows from what is wanted.
+ghost use Rattle.std.specs.Prelude.{◌≡◌};
+ghost use Rattle.tlv_view_program.specs.ShowsBlock.{has_titles, reports_broken, stays_closed};
+
 use tlv_view_words::Wanted;
 
 /// Whether all strings stay closed.

@@ -2,11 +2,12 @@
 use crate::expect::expect_eq_of;
 use crate::system::MemSystem;
 use arrayvec::ArrayVec;
-use std::alloc::Global;
+use std::alloc::{AllocError, Global};
 use std::process::Abort;
 use std::test::Fail;
 use tlv_program::NoWords;
 use tlv_view_program::{Streams, run_show};
+use tlv_view_words::FileNames;
 use tlv_walk::{MemDrain, MemSource};
 use tlv_words::{UsageFault, Words};
 
@@ -40,11 +41,17 @@ const NOTHING: ShowRow<'static> = ShowRow {
     status: 0,
 };
 
-fn words_of(alloc: Global, first: &[&str], list: &[&str]) -> Result<Words, UsageFault> {
-    let mut words = Words::new(alloc);
-    for word in first {
-        words.push(word)?;
+fn places_of(alloc: Global, list: &[&str]) -> Result<FileNames, AllocError> {
+    let mut places = FileNames::new(alloc);
+    for place in list {
+        places.push(alloc, place)?;
     }
+    Ok(places)
+}
+
+fn words_of(alloc: Global, list: &[&str]) -> Result<Words, UsageFault> {
+    let mut words = Words::new(alloc);
+    words.push("tlvdump-show")?;
     for word in list {
         words.push(word)?;
     }
@@ -55,7 +62,7 @@ fn expect_run(
     rt: &impl Abort,
     alloc: Global,
     words: &Result<Words, NoWords>,
-    places: &Words,
+    places: &FileNames,
     row: &ShowRow<'_>,
 ) {
     let mut output_room = [0; 512];
@@ -78,8 +85,8 @@ fn expect_run(
 
 fn expect_rows(rt: &impl Abort, alloc: Global, rows: &[ShowRow<'_>]) -> Result<(), Fail> {
     for row in rows {
-        let words = words_of(alloc, &["tlvdump-show"], row.words)?;
-        let places = words_of(alloc, &[], row.places)?;
+        let words = words_of(alloc, row.words)?;
+        let places = places_of(alloc, row.places)?;
         expect_run(rt, alloc, &Ok(words), &places, row);
     }
     Ok(())
@@ -298,7 +305,7 @@ fn missing_words_are_said(rt: HostRuntime) -> Result<(), Fail> {
         status: 5,
         ..NOTHING
     };
-    let places = words_of(rt.alloc(), &[], NOTHING.places)?;
+    let places = places_of(rt.alloc(), NOTHING.places)?;
     expect_run(&rt, rt.alloc(), &Err(NoWords::NotUtf8), &places, &not_utf8);
     expect_run(&rt, rt.alloc(), &Err(NoWords::Memory), &places, &memory);
     Ok(())

@@ -21,7 +21,7 @@ impl FileNames {
     ghost use Rattle.std.specs.Prelude.{◌≡◌, ◌++◌, ◌∷◌, OnOk, []};
 
     /// No names. This takes no memory.
-    pub(crate) fn new(alloc: Global) -> FileNames
+    pub fn new(alloc: Global) -> FileNames
         ensures { result ≡ [] }
     {
         FileNames {
@@ -30,7 +30,11 @@ impl FileNames {
     }
 
     /// Adds a name after the others.
-    pub(crate) fn push(&mut self, alloc: Global, name: &str) -> Result<(), AllocError>
+    ///
+    /// # Errors
+    ///
+    /// `AllocError` if memory is refused.
+    pub fn push(&mut self, alloc: Global, name: &str) -> Result<(), AllocError>
         ensures { OnOk result (self.new ≡ self.old ++ name.now ∷ []) }
     {
         let text = Text::new(alloc, name)?;

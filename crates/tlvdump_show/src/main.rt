@@ -9,6 +9,7 @@ use std::io::{ErrorKind, IsTerminal};
 use std::process::ExitCode;
 use tlv_program::{NoWords, System};
 use tlv_view_program::{Streams, run_show};
+use tlv_view_words::FileNames;
 use tlv_walk::{ReadFault, ReadSource, Source, WriteDrain};
 use tlv_words::Words;
 
@@ -39,10 +40,10 @@ fn main(rt: HostRuntime) -> ExitCode {
 }
 
 /// The arguments, and the places of the file of names.
-fn words_and_places(rt: &HostRuntime) -> (Result<Words, NoWords>, Words) {
+fn words_and_places(rt: &HostRuntime) -> (Result<Words, NoWords>, FileNames) {
     match places_of(rt) {
         Ok(places) => (words_of(rt), places),
-        Err(_) => (Err(NoWords::Memory), Words::new(rt.alloc())),
+        Err(_) => (Err(NoWords::Memory), FileNames::new(rt.alloc())),
     }
 }
 
@@ -63,8 +64,8 @@ fn words_of(rt: &HostRuntime) -> Result<Words, NoWords> {
 }
 
 /// Where the file of names is looked for. If the program does not know where it is, these are none.
-fn places_of(rt: &HostRuntime) -> Result<Words, NoWords> {
-    let mut places = Words::new(rt.alloc());
+fn places_of(rt: &HostRuntime) -> Result<FileNames, NoWords> {
+    let mut places = FileNames::new(rt.alloc());
     let program = match env::current_exe(rt) {
         Ok(program) => program,
         Err(error) if error.kind() == ErrorKind::OutOfMemory => return Err(NoWords::Memory),
@@ -77,7 +78,7 @@ fn places_of(rt: &HostRuntime) -> Result<Words, NoWords> {
         let Ok(path) = folder.join(rt.alloc(), place) else {
             return Err(NoWords::Memory);
         };
-        if places.push(path.as_str()).is_err() {
+        if places.push(rt.alloc(), path.as_str()).is_err() {
             return Err(NoWords::Memory);
         }
     }

@@ -1,10 +1,12 @@
 -- What the functions below `table_for` return, apart from where it is kept.
-use Rattle.std.specs.Prelude.{Bool, false, Result, Ok, Err}
+use Rattle.std.specs.Prelude.{ℕ, Bool, false, IfSome, List, Option, Some, None, Result, Ok, Err}
+use Rattle.std.specs.FinMap as finite
 use Rattle.tlv_io.specs.Device.{SourceState}
 use Rattle.tlv_value.specs.Names.{NamesValue}
-use Rattle.tlv_value.specs.NamesReading.{ReadsFrom}
 use Rattle.tlv_value.specs.declared.names.fault.NamesFault.{NamesFault}
-use Rattle.tlv_program.specs.System.{Allows}
+use Rattle.tlv_value.specs.declared.names.fault.NamesFault.TheVariants as names
+use Rattle.tlv_program.specs.System.{Allows, IsUnread}
+use Rattle.tlv_view_program.specs.ShowsAll.{OpensFirst}
 use Rattle.tlv_view_program.specs.declared.names.Table.{Table}
 
 -- the names, or why there are none
@@ -17,10 +19,12 @@ abbrev pub is_noted : Result Table NamesFault → Bool
 is_noted (Ok table) = table.is_missing
 is_noted (Err fault) = false
 
--- a file of names in this state is read and given back
-pub record ReadsTable {S : Type 0} (allows : Allows S) (old new : S) (before : SourceState)
-    (result : Result NamesValue NamesFault)
-    : Type 0 where
-  pub after : SourceState
-  pub reads : ReadsFrom before after result
-  pub closes : allows.closes old new after
+-- the file of names that the words name is opened, or does not open; if they name none, the first that opens
+abbrev pub OpensNames : {S : Type 0} → Allows S → Option (List ℕ) → List (List ℕ) → S → S → Option SourceState → Type 0
+OpensNames allows None places old new opened = OpensFirst allows places old new opened
+OpensNames allows (Some name) places old new opened = allows.opens old new name opened × IfSome opened IsUnread
+
+-- the names if no file opens: none, unless one was named
+abbrev pub result_without_file : Option (List ℕ) → Result NamesValue NamesFault
+result_without_file None = Ok finite.empty
+result_without_file (Some name) = Err names.ReadFailed
