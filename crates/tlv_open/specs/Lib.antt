@@ -1,4 +1,5 @@
 pub mod Held
 pub mod Opens
+pub mod Breaks
 pub mod Laws
 pub mod Private

@@ -7,6 +7,8 @@ mod finder;
 mod held;
 pub mod laws;
 mod reading;
+mod strings;
 
 pub use finder::opened;
 pub use held::holds_encodings;
+pub use strings::{BrokenString, Strings, Suspicion};
