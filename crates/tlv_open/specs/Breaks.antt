@@ -60,12 +60,15 @@ abbrev pub names_extension : List ℕ → Bool
 names_extension contents =
     goes_beyond (0x55 ∷ 0x1d ∷ []) contents || goes_beyond (0x2b ∷ 6 ∷ 1 ∷ 5 ∷ 5 ∷ 7 ∷ 1 ∷ []) contents
 
--- an element with this header, which holds these others, is an extension: a SEQUENCE that begins with such an OBJECT
--- IDENTIFIER. Its last element is its value
+-- the first of these elements is a primitive OBJECT IDENTIFIER that has such contents
+abbrev pub begin_extension : Forest → Bool
+begin_extension (Primitive id contents rest) = is_a universal.object_identifier id && names_extension contents
+begin_extension f = false
+
+-- an element with this header, which holds these others, is an extension: a SEQUENCE that begins so. Its last element is
+-- its value
 abbrev pub is_extension : HeaderValue → Forest → Bool
-is_extension h (Primitive id contents rest) =
-    is_a universal.sequence h && (is_a universal.object_identifier id && names_extension contents)
-is_extension h children = false
+is_extension h children = is_a universal.sequence h && begin_extension children
 
 -- no other element follows
 abbrev pub is_no_more : Forest → Bool
