@@ -12,7 +12,7 @@ use crate::breaking::broken_string;
 use crate::elements::{DEPTH_LIMIT, header_at, is_elements_end};
 use crate::held::{are_held, held_octets};
 use crate::reading::count_read;
-use crate::spot::{Spot, inside, inside_lacking};
+use crate::spot::{Spot, inside, inside_lacking, is_value_before};
 use crate::{BrokenString, Strings};
 use std::alloc::{AllocError, Global};
 use tlv_head::{HeaderFields, Size};
@@ -116,7 +116,7 @@ fn add_strings_in(
         return Ok(octets.len());
     }
     let size = count + length as usize;
-    let is_value = spot.in_extension && is_elements_end(&octets[size..], end_octets);
+    let is_value = is_value_before(spot, &octets[size..], end_octets);
     add_string(&fields, &octets[..size], count, is_value, spot, found)?;
     Ok(size)
 }
@@ -213,10 +213,9 @@ fn add_string(
     };
     let offset = spot.start + fields.offset;
     if !are_held(octets, spot.depth) {
-        return add_broken(
-            broken_string(offset, spot.depth, string, octets, is_value),
-            &mut found.broken,
-        );
+        let broken = broken_string(offset, spot.depth, string, octets, is_value);
+        add_broken(broken, &mut found.broken)?;
+        return Ok(());
     }
     found.opened.push(offset)?;
     let held = Spot {

@@ -62,6 +62,13 @@ pub(crate) fn inside_lacking(spot: Spot, fields: &HeaderFields) -> Spot
     }
 }
 
+/// Whether an element at this spot, after which these octets come, is the value of an extension.
+pub(crate) fn is_value_before(spot: Spot, octets: &[u8], end_octets: bool) -> bool
+    ensures { result ≡ (spot.in_extension && is_elements_end end_octets octets.now) }
+{
+    spot.in_extension && is_elements_end(octets, end_octets)
+}
+
 /// Whether strings in an element with these fields and contents may be opened: they are no segments, or the only one of a
 /// whole string.
 fn may_open_in(fields: &HeaderFields, octets: &[u8], offset: u64, end_octets: bool) -> bool

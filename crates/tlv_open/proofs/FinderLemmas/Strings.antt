@@ -1,7 +1,10 @@
 -- What is found in a primitive.
 use Rattle.std.proofs.Common.{◌≡◌, ◌↔◌, ℕ, ◌+◌, ◌-◌, Bool, true, false, ◌&&◌, eqb, List, [], ◌∷◌, ◌++◌, length}
 use Rattle.std.proofs.Common.{Option, MatchOption, Some, None, IsTrue, if◌then◌else◌, inl, inr, refl, sym, ap, ◌∙◌, arith}
-use Rattle.std.proofs.Common.{subst}
+use Rattle.std.proofs.Common.{◌≤◌, drop, subst, take}
+use Rattle.std.proofs.lemmas.List.{drop-take, length-take-le, take-append-drop, take-take}
+use Rattle.tlv_head.specs.declared.header.HeaderFields.{HeaderFields}
+use Rattle.tlv_head.specs.HeaderFields.{new_header}
 use Rattle.std.proofs.Common.{append-nil, eqb-true}
 use Rattle.std.proofs.lemmas.Bool.{cases_Bool}
 use Rattle.tlv_head.specs.declared.header.Class.{Class}
@@ -191,3 +194,28 @@ adds-opened w u v h contents octets old mid new count n b may primitive size inn
             o.breaks;
       };
     }
+
+-- a string by its octets
+pub string-front : (f : HeaderFields) (string : List ℕ) (count : ℕ)
+    → octets_of (new_header f (take count string)) ≡ take count string
+string-front f string count = take-append-drop f.id_len (take count string)
+
+pub string-whole : (f : HeaderFields) (string : List ℕ) (count : ℕ)
+    → octets_of (new_header f (take count string)) ++ drop count string ≡ string
+string-whole f string count =
+    ap (λ (o : List ℕ). o ++ drop count string) (string-front f string count) ∙ take-append-drop count string
+
+pub string-count : (f : HeaderFields) (string : List ℕ) (count : ℕ) → count ≤ length string
+    → length (octets_of (new_header f (take count string))) ≡ count
+string-count f string count h = ap length (string-front f string count) ∙ length-take-le count string h
+
+-- a string among octets
+pub primitive-at : (w : Spot) (v : Bool) (f : HeaderFields) (octets : List ℕ) (count m : ℕ) (old new : FoundStrings)
+    → AddsPrimitive w v (new_header f (take count (take (count + m) octets))) (drop count (take (count + m) octets)) old
+    new → AddsPrimitive w v (new_header f (take count octets)) (take m (drop count octets)) old new
+primitive-at w v f octets count m old new a =
+    subst (λ (x : List ℕ). AddsPrimitive w v (new_header f x) (take m (drop count octets)) old new)
+    (take-take count (count + m) octets (omega arith))
+    (subst
+    (λ (x : List ℕ). AddsPrimitive w v (new_header f (take count (take (count + m) octets))) x old new)
+    (drop-take count m octets) a)
