@@ -13,4 +13,4 @@ mod strings;
 
 pub use finder::{opened, strings_of};
 pub use held::holds_encodings;
-pub use strings::{BrokenString, Strings, Suspicion};
+pub use strings::{BrokenString, Strings, Suspicion, broken_line};
