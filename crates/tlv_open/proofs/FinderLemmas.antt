@@ -1,7 +1,9 @@
 pub mod Walks
+pub mod FoundBoth
 pub mod FirstRead
 pub mod FirstFound
 pub mod Found
 pub mod OneSegment
+pub mod Extensions
 pub mod Strings
 pub mod Inputs

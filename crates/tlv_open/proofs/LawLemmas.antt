@@ -1,6 +1,9 @@
 pub mod OneList
 pub mod Deciding
 pub mod SomeList
+pub mod OneBroken
+pub mod DecidingBroken
+pub mod SomeBroken
 pub mod Rising
 pub mod OpenedForest
 pub mod OpenedSound

@@ -1,4 +1,4 @@
--- Laws of the strings that are opened.
+-- Laws of the strings that are opened, and of those that break.
 use Rattle.std.specs.Prelude.{◌≡◌, ◌≤◌, Bool, List, ℕ, length, true}
 use Rattle.tlv_head.specs.InputLimit.{input_limit}
 use Rattle.tlv_walk.specs.declared.ending.Ending.{Ending}
@@ -8,12 +8,20 @@ use Rattle.tlv_walk.specs.Forest.{Forest, spelling}
 use Rattle.tlv_walk.specs.Inside.{are_rising}
 use Rattle.tlv_walk.specs.Reading.{AreOctets, IsReading}
 use Rattle.tlv_walk.specs.Wrappers.{wrapper_offsets}
+use Rattle.tlv_open.specs.declared.strings.BrokenString.{BrokenString}
+use Rattle.tlv_open.specs.Breaks.{AreBroken}
 use Rattle.tlv_open.specs.Opens.{AreOpened, closed_framing}
 
 -- an input has one list of strings that are opened
 abbrev pub InputsHaveOneList : Type 0
 InputsHaveOneList = (padding : Bool) (octets : List ℕ) → AreOctets octets
     → (xs : List ℕ) × AreOpened padding octets xs × ((ys : List ℕ) → AreOpened padding octets ys → ys ≡ xs)
+
+-- an input has one list of strings that are broken
+abbrev pub InputsHaveOneBrokenList : Type 0
+InputsHaveOneBrokenList = (padding : Bool) (octets : List ℕ) → AreOctets octets
+    → (xs : List BrokenString) × AreBroken padding octets xs
+    × ((ys : List BrokenString) → AreBroken padding octets ys → ys ≡ xs)
 
 -- the framing in which the strings at these offsets are named
 abbrev pub opened_framing : Bool → List ℕ → Framing

@@ -69,7 +69,7 @@ pub(crate) fn elements_size(
 }
 
 /// Whether elements may end before these octets: before `00 00`, or where there are no more octets.
-fn is_elements_end(octets: &[u8], end_octets: bool) -> bool
+pub(crate) fn is_elements_end(octets: &[u8], end_octets: bool) -> bool
     ensures { result ≡ is_elements_end end_octets octets.now }
 {
     if end_octets {

@@ -1,33 +1,21 @@
-//! Finds the strings that are opened.
-ghost use Rattle.std.specs.Prelude.{◌≡◌, ◌≢◌, ◌≤◌, ◌+◌, ◌<◌, ◌&&◌, Bool, IfOk, List, OnOk, false, length, slice_index, true, ℕ};
+//! Finds the strings that are opened, and those that break.
+ghost use Rattle.std.specs.Prelude.{◌≡◌, ◌≢◌, ◌≤◌, ◌+◌, ◌<◌, IfOk, List, OnOk, ◌++◌, drop, false, length, slice_index, take, true, ℕ};
 ghost use Rattle.tlv_head.specs.DepthLimit.{depth_limit};
-ghost use Rattle.tlv_head.specs.Header.{HeaderValue, fields_of, octets_of};
 ghost use Rattle.tlv_head.specs.HeaderFields.{new_header};
-ghost use Rattle.tlv_head.specs.ReadHeader.{BeginsWithFields};
 ghost use Rattle.tlv_head.specs.InputLimit.{input_limit};
-ghost use Rattle.tlv_open.specs.Opens.{AreOpened, Where, is_one_primitive, may_open_in};
-ghost use Rattle.tlv_open.specs.Private.Elements.{is_elements_end};
-ghost use Rattle.tlv_open.specs.Private.Finds.{AddsAll, AddsFirst, AddsPrimitive, IsReadAt, where_inside, where_of};
-ghost use Rattle.tlv_value.specs.Types.{has_segments, is_string};
-ghost use Rattle.tlv_walk.specs.Forest.{Forest};
-ghost use Rattle.tlv_walk.specs.Place.{Place};
+ghost use Rattle.tlv_head.specs.ReadHeader.{BeginsWithFields};
+ghost use Rattle.tlv_open.specs.Breaks.{AreBroken};
+ghost use Rattle.tlv_open.specs.Opens.{AreOpened};
+ghost use Rattle.tlv_open.specs.Private.Finds.{AddsAll, AddsFirst, AddsPrimitive, found_of, list_of};
 
-use crate::elements::{DEPTH_LIMIT, header_at};
+use crate::breaking::broken_string;
+use crate::elements::{DEPTH_LIMIT, header_at, is_elements_end};
 use crate::held::{are_held, held_octets};
 use crate::reading::count_read;
+use crate::spot::{Spot, inside, inside_lacking, is_value_before};
+use crate::{BrokenString, Strings};
 use std::alloc::{AllocError, Global};
-use tlv_head::{Class, HeaderFields, Size, universal};
-
-/// Where elements are that are read by themselves.
-#[derive(Clone, Copy)]
-struct Spot {
-    /// Where the first of them begins, in octets from the start of the input.
-    start: u64,
-    /// How many elements hold them.
-    depth: u8,
-    /// Whether strings among them may be opened.
-    may_open: bool,
-}
+use tlv_head::{HeaderFields, Size};
 
 /// The offsets of the strings of an input that are opened, in order, in octets from its start: those strings that hold
 /// encodings, and are no segments but the only one of a whole string. With `padding`, octets `00` are allowed at the
@@ -40,36 +28,57 @@ pub fn opened(alloc: Global, octets: &[u8], padding: bool) -> Result<Vec<u64>, A
     requires { length octets.now ≤ input_limit }
     ensures { IfOk result (λ list. AreOpened padding octets.now list.items) }
 {
-    let mut list = Vec::new(alloc);
+    let Strings { opened, broken: _ } = strings_of(alloc, octets, padding)?;
+    Ok(opened)
+}
+
+/// The strings of an input that are opened, as [`opened`] has them, and those that are broken: they look like encodings
+/// ([`Suspicion`](crate::Suspicion)), are not opened, and break when they are read as encodings. In a string that is
+/// opened both are looked for, and in one that is broken neither. With `padding`, octets `00` are allowed at the top. The
+/// input may be sound or damaged; of a damaged one it is said of what is read before the fault.
+///
+/// # Errors
+///
+/// `AllocError` if memory is refused, and for no other reason.
+pub fn strings_of(alloc: Global, octets: &[u8], padding: bool) -> Result<Strings, AllocError>
+    requires { length octets.now ≤ input_limit }
+    ensures opened { IfOk result (λ s. AreOpened padding octets.now s.opened.items) }
+    ensures broken { IfOk result (λ s. AreBroken padding octets.now s.broken.items) }
+{
+    let mut found = Strings {
+        opened: Vec::new(alloc),
+        broken: Vec::new(alloc),
+    };
     let read = &octets[..count_read(octets, padding)];
     let spot = Spot {
         start: 0,
         depth: 0,
         may_open: true,
+        in_extension: false,
     };
-    add_opened(read, 0, spot, false, &mut list)?;
-    Ok(list)
+    add_strings(read, 0, spot, false, &mut found)?;
+    Ok(found)
 }
 
-/// AddsOffsets the strings that are opened among the elements with which the octets begin, at this offset from where these are
+/// Adds the strings that are found among the elements with which the octets begin, at this offset from where these are
 /// counted, and in them. They end with `00 00`, if `end_octets`, or with the octets. Returns how many octets they have.
 #[cycle(find)]
-fn add_opened(
+fn add_strings(
     octets: &[u8],
     offset: u64,
     spot: Spot,
     end_octets: bool,
-    list: &mut Vec<u64>,
+    found: &mut Strings,
 ) -> Result<usize, AllocError>
     requires { spot.start + (offset + length octets.now) ≤ input_limit }
-    ensures adds { IfOk result (λ n. AddsAll (where_of spot) offset end_octets octets.now
-        list.old.items list.new.items n) }
+    ensures adds { IfOk result (λ n. AddsAll spot offset end_octets octets.now
+        (found_of found.old) (found_of found.new) n) }
     ensures within { IfOk result (λ n. n ≤ length octets.now) }
 {
     let mut at = 0;
     while at < octets.len() {
         if octets[at] != 0 {
-            at += add_opened_in(&octets[at..], offset + at as u64, spot, list)?;
+            at += add_strings_in(&octets[at..], offset + at as u64, spot, end_octets, found)?;
         } else if end_octets {
             return Ok(at);
         } else {
@@ -79,19 +88,20 @@ fn add_opened(
     Ok(at)
 }
 
-/// AddsOffsets the element with which the octets begin, if it is a string that is opened, and the strings that are opened in
-/// it. Returns how many octets it has; if it has not ended, these are all.
+/// Adds the strings that are found in the element with which the octets begin, which may itself be one. Returns how many
+/// octets it has; if it has not ended, these are all.
 #[cycle(find)]
-fn add_opened_in(
+fn add_strings_in(
     octets: &[u8],
     offset: u64,
     spot: Spot,
-    list: &mut Vec<u64>,
+    end_octets: bool,
+    found: &mut Strings,
 ) -> Result<usize, AllocError>
     requires limit { spot.start + (offset + length octets.now) ≤ input_limit }
     requires begun { slice_index octets.now 0 ≢ 0 }
-    ensures adds { IfOk result (λ n. (end_octets : Bool) → AddsFirst (where_of spot) offset end_octets octets.now
-        list.old.items list.new.items n) }
+    ensures adds { IfOk result (λ n. AddsFirst spot offset end_octets octets.now
+        (found_of found.old) (found_of found.new) n) }
     ensures some { 0 < length octets.now → IfOk result (λ n. 0 < n) }
     ensures within { IfOk result (λ n. n ≤ length octets.now) }
 {
@@ -99,33 +109,33 @@ fn add_opened_in(
         return Ok(octets.len());
     };
     if fields.constructed {
-        return add_in_holder(octets, &fields, count, spot, list);
+        return add_in_holder(octets, &fields, count, spot, end_octets, found);
     }
-    let rest = &octets[count..];
     let length = fields.size.announced_length();
-    if length > rest.len() as u64 {
+    if length > (octets.len() - count) as u64 {
         return Ok(octets.len());
     }
-    let contents = &rest[..length as usize];
-    add_string(&fields, contents, count, spot, list)?;
-    Ok(count + contents.len())
+    let size = count + length as usize;
+    let is_value = is_value_before(spot, &octets[size..], end_octets);
+    add_string(&fields, &octets[..size], count, is_value, spot, found)?;
+    Ok(size)
 }
 
-/// [`add_opened_in`], of a constructed element whose header has these fields and so many octets.
+/// [`add_strings_in`], of a constructed element whose header has these fields and so many octets.
 #[cycle(find)]
 fn add_in_holder(
     octets: &[u8],
     fields: &HeaderFields,
     count: usize,
     spot: Spot,
-    list: &mut Vec<u64>,
+    end_octets: bool,
+    found: &mut Strings,
 ) -> Result<usize, AllocError>
     requires limit { spot.start + (fields.now.offset + length octets.now) ≤ input_limit }
     requires begins { BeginsWithFields octets.now fields.now.offset false fields.now count }
     requires constructed { fields.now.constructed ≡ true }
-    ensures adds { IfOk result (λ n. (end_octets : Bool)
-        → AddsFirst (where_of spot) fields.now.offset end_octets octets.now
-        list.old.items list.new.items n) }
+    ensures adds { IfOk result (λ n. AddsFirst spot fields.now.offset end_octets octets.now
+        (found_of found.old) (found_of found.new) n) }
     ensures some { IfOk result (λ n. 0 < n) }
     ensures within { IfOk result (λ n. n ≤ length octets.now) }
 {
@@ -133,17 +143,17 @@ fn add_in_holder(
         return Ok(octets.len());
     }
     let Size::Definite(length) = fields.size else {
-        return add_in_indefinite(octets, fields, count, spot, list);
+        return add_in_indefinite(octets, fields, count, spot, end_octets, found);
     };
     let rest = &octets[count..];
     let start = fields.offset + count as u64;
     if length > rest.len() as u64 {
-        add_opened(rest, start, inside(spot, fields, false), false, list)?;
+        add_strings(rest, start, inside_lacking(spot, fields), false, found)?;
         return Ok(octets.len());
     }
     let contents = &rest[..length as usize];
-    let is_one = is_one_segment(contents, start, false);
-    add_opened(contents, start, inside(spot, fields, is_one), false, list)?;
+    let inner = inside(spot, fields, contents, start, false);
+    add_strings(contents, start, inner, false, found)?;
     Ok(count + contents.len())
 }
 
@@ -154,136 +164,76 @@ fn add_in_indefinite(
     fields: &HeaderFields,
     count: usize,
     spot: Spot,
-    list: &mut Vec<u64>,
+    end_octets: bool,
+    found: &mut Strings,
 ) -> Result<usize, AllocError>
     requires limit { spot.start + (fields.now.offset + length octets.now) ≤ input_limit }
     requires begins { BeginsWithFields octets.now fields.now.offset false fields.now count }
     requires indefinite { fields.now.size ≡ Size.Indefinite }
     requires shallow { spot.depth < depth_limit }
-    ensures adds { IfOk result (λ n. (end_octets : Bool)
-        → AddsFirst (where_of spot) fields.now.offset end_octets octets.now
-        list.old.items list.new.items n) }
+    ensures adds { IfOk result (λ n. AddsFirst spot fields.now.offset end_octets octets.now
+        (found_of found.old) (found_of found.new) n) }
     ensures some { IfOk result (λ n. 0 < n) }
     ensures within { IfOk result (λ n. n ≤ length octets.now) }
 {
     let rest = &octets[count..];
     let start = fields.offset + count as u64;
-    let is_one = is_one_segment(rest, start, true);
-    let size = add_opened(rest, start, inside(spot, fields, is_one), true, list)?;
-    if starts_with_end(&rest[size..]) {
+    let inner = inside(spot, fields, rest, start, true);
+    let size = add_strings(rest, start, inner, true, found)?;
+    if is_elements_end(&rest[size..], true) {
         return Ok(count + size + 2);
     }
     Ok(octets.len())
 }
 
-/// AddsOffsets the primitive with these fields and contents, if it is a string that is opened, and the strings that are opened
-/// in it. `count` is how many octets its header has.
+/// Adds the primitive with these fields, if it is a string that is opened or that is broken, and the strings that are
+/// found in it. `string` is its header, of so many octets, and its contents.
 #[cycle(find)]
 fn add_string(
     fields: &HeaderFields,
-    contents: &[u8],
+    string: &[u8],
     count: usize,
+    is_value: bool,
     spot: Spot,
-    list: &mut Vec<u64>,
+    found: &mut Strings,
 ) -> Result<(), AllocError>
-    requires limit { spot.start + (fields.now.offset + (count + length contents.now)) ≤ input_limit }
-    ensures { OnOk result ((octets : List ℕ) → length (octets_of (new_header fields.now octets)) ≡ count
-        → fields.now.constructed ≡ false
-        → AddsPrimitive (where_of spot) (new_header fields.now octets) contents.now
-        list.old.items list.new.items) }
+    requires limit { spot.start + (fields.now.offset + length string.now) ≤ input_limit }
+    requires primitive { fields.now.constructed ≡ false }
+    requires some { 0 < count }
+    requires header { count ≤ length string.now }
+    ensures { OnOk result (AddsPrimitive spot is_value
+        (new_header fields.now (take count string.now)) (drop count string.now)
+        (found_of found.old) (found_of found.new)) }
 {
     if !spot.may_open {
         return Ok(());
     }
-    let Some(octets) = held_octets(fields.class, fields.number, contents) else {
+    let Some(octets) = held_octets(fields.class, fields.number, &string[count..]) else {
         return Ok(());
     };
+    let offset = spot.start + fields.offset;
     if !are_held(octets, spot.depth) {
+        let broken = broken_string(offset, spot.depth, string, octets, is_value);
+        add_broken(broken, &mut found.broken)?;
         return Ok(());
     }
-    list.push(spot.start + fields.offset)?;
-    let lead = contents.len() - octets.len();
+    found.opened.push(offset)?;
     let held = Spot {
-        start: spot.start + fields.offset + (count + lead) as u64,
+        start: offset + (string.len() - octets.len()) as u64,
         depth: spot.depth + 1,
         may_open: true,
+        in_extension: false,
     };
-    add_opened(octets, 0, held, false, list)?;
+    add_strings(octets, 0, held, false, found)?;
     Ok(())
 }
 
-/// Whether the octets begin with `00 00`.
-fn starts_with_end(octets: &[u8]) -> bool
-    ensures { result ≡ is_elements_end true octets.now }
+/// Adds a string that is broken, if there is one.
+fn add_broken(broken: Option<BrokenString>, list: &mut Vec<BrokenString>) -> Result<(), AllocError>
+    ensures { OnOk result (list.new.items ≡ list.old.items ++ list_of broken) }
 {
-    matches!(octets, [0, 0, ..])
-}
-
-/// Whether the octets, those that follow the header of an element, are one primitive and its end, and nothing else.
-fn is_one_segment(octets: &[u8], offset: u64, end_octets: bool) -> bool
-    ensures { (p : Place) (f : Forest) (depth : ℕ) (rest : List ℕ) → p.padding ≡ false
-        → IsReadAt p f depth offset end_octets octets.now rest
-        → result ≡ (is_one_primitive f && is_elements_end end_octets rest) }
-{
-    let Some((fields, count)) = header_at(octets, offset) else {
-        return false;
-    };
-    let Size::Definite(length) = fields.size else {
-        return false;
-    };
-    let rest = &octets[count..];
-    if fields.constructed || length > rest.len() as u64 {
-        return false;
+    if let Some(broken) = broken {
+        list.push(broken)?;
     }
-    let after = &rest[length as usize..];
-    if end_octets {
-        starts_with_end(after)
-    } else {
-        after.is_empty()
-    }
-}
-
-/// Inside an element with these fields.
-fn inside(spot: Spot, fields: &HeaderFields, is_one: bool) -> Spot
-    requires { spot.depth < depth_limit }
-    ensures inner { (octets : List ℕ)
-        → where_of result ≡ where_inside (where_of spot) (new_header fields.now octets) is_one }
-    ensures start { result.start ≡ spot.start }
-{
-    Spot {
-        start: spot.start,
-        depth: spot.depth + 1,
-        may_open: may_open_in(fields, is_one),
-    }
-}
-
-/// Whether strings in an element with these fields may be opened: they are no segments, or the only one of a whole
-/// string.
-fn may_open_in(fields: &HeaderFields, is_one: bool) -> bool
-    ensures { (octets : List ℕ)
-        → result ≡ may_open_in (new_header fields.now octets) is_one }
-{
-    !has_segments(fields) || is_one
-}
-
-/// Whether an element with these fields is a constructed string, which holds segments.
-fn has_segments(fields: &HeaderFields) -> bool
-    ensures { (octets : List ℕ) → result ≡ has_segments (new_header fields.now octets) }
-{
-    fields.constructed && is_string(fields)
-}
-
-/// Whether the type is a string (8.6.1, 8.7.1, 8.23, 8.25).
-fn is_string(fields: &HeaderFields) -> bool
-    ensures { (octets : List ℕ) → result ≡ is_string (new_header fields.now octets) }
-{
-    matches!(fields.class, Class::Universal)
-        && matches!(
-            fields.number,
-            universal::BIT_STRING
-                | universal::OCTET_STRING
-                | universal::OBJECT_DESCRIPTOR
-                | universal::UTF8_STRING
-                | universal::NUMERIC_STRING..=universal::UNIVERSAL_STRING | universal::BMP_STRING
-        )
+    Ok(())
 }

@@ -1,12 +1,16 @@
 //! Which OCTET STRINGs and BIT STRINGs of an input hold encodings, so that they can be opened (ITU-T X.690, 8.6 and
-//! 8.7).
+//! 8.7), and which look like it and break.
 #![tactic(auto)]
 
+mod breaking;
 mod elements;
 mod finder;
 mod held;
 pub mod laws;
 mod reading;
+mod spot;
+mod strings;
 
-pub use finder::opened;
+pub use finder::{opened, strings_of};
 pub use held::holds_encodings;
+pub use strings::{BrokenString, Strings, Suspicion, broken_line};

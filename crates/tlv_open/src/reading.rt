@@ -1,11 +1,11 @@
 //! How much of an input is read.
-ghost use Rattle.std.specs.Prelude.{◌≡◌, ◌≤◌, length};
+ghost use Rattle.std.specs.Prelude.{◌≡◌, ◌≤◌, ◌+◌, length};
 ghost use Rattle.tlv_head.specs.InputLimit.{input_limit};
 ghost use Rattle.tlv_open.specs.Opens.{closed_framing};
-ghost use Rattle.tlv_open.specs.Private.Walks.{HasWalkedOver};
+ghost use Rattle.tlv_open.specs.Private.Walks.{HasWalkedOver, WalksOver};
 ghost use Rattle.tlv_walk.specs.Forest.{Forest, spelling};
 ghost use Rattle.tlv_walk.specs.Reading.{IsReading};
-ghost use Rattle.tlv_walk.specs.WalkerState.{new_walker};
+ghost use Rattle.tlv_walk.specs.WalkerState.{IsWithinInputLimit, new_walker};
 
 use crate::elements::elements_size;
 use tlv_walk::{Ending, Framing, Inside, Step, Walker};
@@ -37,11 +37,21 @@ fn walk_over<'f>(octets: &[u8], framing: &'f Framing<'_>) -> Walker<'f>
     ensures { HasWalkedOver framing.now octets.now result }
 {
     let mut walker = Walker::new(framing);
+    walk_on(&mut walker, octets);
+    walker
+}
+
+/// Walks over octets after those that the walker has walked over, up to one that is refused.
+pub(crate) fn walk_on(walker: &mut Walker<'_>, octets: &[u8])
+    requires { IsWithinInputLimit walker.old octets.now }
+    ensures walks { WalksOver walker.old walker.new octets.now }
+    ensures within { walker.new.offset ≤ walker.old.offset + length octets.now }
+{
     let mut rest: &[u8] = octets;
     'steps: loop {
         match walker.step(&mut rest) {
             Step::Event(_) => {}
-            Step::NeedMore | Step::Fault(_) => return walker,
+            Step::NeedMore | Step::Fault(_) => return,
         }
     }
 }

@@ -21,12 +21,13 @@ use Rattle.tlv_walk.specs.Place.{Fits, IsHeaderAt, IsWithin, ObeysGrammar, Place
 use Rattle.tlv_walk.proofs.GrammarLemmas.Bounds.{fits-inside}
 use Rattle.tlv_walk.proofs.GrammarLemmas.OpenElements.{size-definite, spelling-fits}
 use Rattle.tlv_walk.proofs.GrammarLemmas.Spellings.{length-opening}
-use Rattle.tlv_open.specs.Opens as opens
-use Rattle.tlv_open.specs.Opens.{Opens, Where, is_one_primitive}
+use Rattle.tlv_open.specs.declared.spot.Spot.{Spot}
+use Rattle.tlv_open.specs.Opens.{is_one_primitive}
 use Rattle.tlv_open.specs.Private.Elements.{is_elements_end}
-use Rattle.tlv_open.specs.Private.Finds.{EndsBefore, FindsUpTo, IsReadAt, stops}
+use Rattle.tlv_open.specs.Private.Finds.{EndsBefore, FindsUpTo, IsReadAt, nothing_found, stops}
 use Rattle.tlv_open.proofs.ElementLemmas.FirstElement.{lead-none, length-led, unnamed-holds}
 use Rattle.tlv_open.proofs.ElementLemmas.OneElement.{end-no_header, header-one, regroup-3, regroup-4, zero-no_header}
+use Rattle.tlv_open.proofs.FinderLemmas.FoundBoth.{finds-open_header}
 
 -- where no string is named, an element holds others exactly if it is constructed
 pub unnamed-form : (p : Place) (holding : Bool) (h : HeaderValue) → p.inside ≡ [] → IsHeaderAt p holding h
@@ -196,9 +197,9 @@ ends-zero [] n e = absurd (cc (e))
 ends-zero (x ∷ []) n e = absurd (cc (e))
 ends-zero (x ∷ y ∷ more) n e = n (eqb-true x 0 (and_parts (eqb x 0) (eqb y 0) e).0)
 
-pub finds-header : (w : Where) (p : Place) (f : Forest) (depth offset : ℕ) (ends : Bool) (octets rest : List ℕ)
+pub finds-header : (w : Spot) (p : Place) (f : Forest) (depth offset : ℕ) (ends : Bool) (octets rest : List ℕ)
     → IsReadAt p f depth offset ends octets rest → get_or octets 0 0 ≢ 0 → BeginsWithNoHeader octets
-    → FindsUpTo w p f offset ends octets rest [] (length octets)
+    → FindsUpTo w p f offset ends octets rest nothing_found (length octets)
 finds-header w p NoMore depth offset ends octets rest r n none = elim r.end [
   | inl e ↦ absurd (n (ap (λ (o : List ℕ). get_or o 0 0) (sym r.spelled ∙ e)))
   | inr e ↦ absurd (ends-zero octets n (ap (is_elements_end true) (sym r.spelled) ∙ e.end))
@@ -220,7 +221,7 @@ finds-header w p (OpenHolder k inside) depth offset ends octets rest r n none =
     (sym r.spelled ∙ (append_assoc (opening k) (spelling inside) rest ∙ append_assoc (octets_of k) (lead k) _)))
 finds-header w p (OpenBitString k) depth offset ends octets rest r n none =
     absurd (none k rest r.obeys_grammar.0.header.valid (sym r.spelled))
-finds-header w p (OpenHeader o) depth offset ends octets rest r n none = stops opens.open_header refl refl
+finds-header w p (OpenHeader o) depth offset ends octets rest r n none = stops (finds-open_header w o) refl refl
 finds-header w p OpenEndOctets depth offset ends octets rest r n none =
     absurd (begins-zero octets 0 rest n r.spelled refl)
 

@@ -12,9 +12,11 @@ use Rattle.tlv_walk.specs.Inside.{is_among}
 use Rattle.tlv_walk.specs.Place.{Place, place_after, place_of_children, top_place}
 use Rattle.tlv_walk.specs.Reading.{AreOctets, IsReading, IsSound}
 use Rattle.tlv_walk.proofs.GrammarLemmas.SoundElements.{sound-obeys_grammar_top}
-use Rattle.tlv_open.specs.Opens.{AreOpened, closed_framing, where_at_top}
+use Rattle.tlv_open.specs.declared.spot.Spot.{Spot}
+use Rattle.tlv_open.specs.Breaks.{AreBroken}
+use Rattle.tlv_open.specs.Opens.{AreOpened, closed_framing}
 use Rattle.tlv_open.specs.Private.Elements.{BeginsWithElements, BeginsWithNoElements, is_elements_end, place_at}
-use Rattle.tlv_open.specs.Private.Finds.{AddsOffsets, AddsAll}
+use Rattle.tlv_open.specs.Private.Finds.{AddsAll, AddsStrings, FoundStrings, nothing_found, spot_before}
 
 -- if each number of a slice fits an octet, they are octets
 pub octets-fit : (xs : List ℕ) → ((i : ℕ) → Fits w8 (slice_index_or xs i 0)) → AreOctets xs
@@ -28,15 +30,19 @@ pub read-within : (framing : Framing) (octets : List ℕ) (f : Forest) → IsRea
 read-within framing octets f r =
     omega (arith, ap length r.is_prefix.1, length-append (spelling f) r.is_prefix.0)
 
+abbrev pub top_spot : Spot
+top_spot = record { start = 0; depth = 0; may_open = true; in_extension = false }
+
 -- what is found in the octets that are read
-pub are-opened : (padding : Bool) (octets new : List ℕ) (f : Forest) (m n : ℕ)
+pub are-found : (padding : Bool) (octets : List ℕ) (new : FoundStrings) (f : Forest) (m n : ℕ)
     → IsReading (closed_framing padding) octets f → m ≡ length (spelling f)
-    → AddsAll where_at_top 0 false (take m octets) [] new n → AreOpened padding octets new
-are-opened padding octets new f m n r count a =
+    → AddsAll top_spot 0 false (take m octets) nothing_found new n
+    → AreOpened padding octets new.opened × AreBroken padding octets new.broken
+are-found padding octets new f m n r count a =
     let front : take m octets ≡ spelling f =
     subst (λ (o : List ℕ). take m o ≡ spelling f) r.is_prefix.1
     (ap (λ (k : ℕ). take k (spelling f ++ r.is_prefix.0)) count ∙ take-append_seam (spelling f) r.is_prefix.0) in
-    let s : AddsOffsets where_at_top f (take m octets) [] new n =
+    let s : AddsStrings (spot_before top_spot false []) f (take m octets) nothing_found new n =
     a (top_place (closed_framing padding)) f [] (record {
       depth_is = refl;
       offset_is = refl;
@@ -45,8 +51,10 @@ are-opened padding octets new f m n r count a =
       obeys_grammar = r.obeys_grammar;
       spelled = append-nil (spelling f) ∙ sym front;
       end = inl refl;
-    }) in
-    record { reading = f; is_reading = r; opens = rw s.added s.opens }
+    }) in (
+      record { reading = f; is_reading = r; opens = rw s.added s.finds.opens },
+      record { reading = f; is_reading = r; breaks = rw s.added s.finds.breaks },
+    )
 
 -- sound elements without padding are sound where padding is allowed
 sound-padded : (p q : Place) (f : Forest) → p.padding ≡ false → q.offset ≡ p.offset → q.depth ≡ p.depth

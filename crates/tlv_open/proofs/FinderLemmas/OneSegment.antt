@@ -45,7 +45,7 @@ zero-no_end true (x ∷ rest) e = absurd (cc (e))
 zero-no_end false rest e = refl
 
 -- after a primitive elements end exactly if nothing more is read, and they may end there
-after-primitive : (h : HeaderValue) (c : List ℕ) (q : Place) (g : Forest) (ends : Bool) (rest : List ℕ)
+pub after-primitive : (h : HeaderValue) (c : List ℕ) (q : Place) (g : Forest) (ends : Bool) (rest : List ℕ)
     → ObeysGrammar q g → q.indefinite ≡ ends → (rest ≡ []) ⊎ EndsBefore ends g rest
     → is_elements_end ends (spelling g ++ rest) ≡ (is_one_primitive (Primitive h c g) && is_elements_end ends rest)
 after-primitive h c q NoMore ends rest o i e = refl

@@ -11,7 +11,7 @@ use Rattle.tlv_walk.specs.declared.framing.Framing.{Framing}
 use Rattle.tlv_walk.specs.Ending.{IsEnding, empty, short, done, refused}
 use Rattle.tlv_walk.specs.Events.{EventValue, event_value_of}
 use Rattle.tlv_walk.specs.Forest.{Forest, spelling}
-use Rattle.tlv_walk.specs.HasRead.{refused_one, took_all}
+use Rattle.tlv_walk.specs.HasRead.{StandsAtEnd, refused_one, took_all}
 use Rattle.tlv_walk.specs.Phase.{Refused}
 use Rattle.tlv_walk.specs.Reading.{IsReading}
 use Rattle.tlv_walk.specs.Stands.{IsIdle, Stands}
@@ -28,7 +28,6 @@ pub record WalksFurther (framing : Framing) (octets : List ℕ) (w : WalkerState
   pub yielded : List EventValue
   pub stands : Stands w taken yielded
   pub whole : taken ++ rest ≡ octets
-  pub walked : w.offset + length rest ≡ length octets
 
 pub walks-on : (framing : Framing) (octets : List ℕ) (old new : WalkerState) (rest left : List ℕ) (e : Event)
     → WalksFurther framing octets old rest → YieldsNext old new rest left e → WalksFurther framing octets new left
@@ -40,8 +39,6 @@ walks-on framing octets old new rest left e w y = record {
   whole =
       append_assoc w.taken y.takes.taken left
       ∙ (ap (λ (o : List ℕ). w.taken ++ o) (sym y.takes.piece_is) ∙ w.whole);
-  walked =
-      omega (arith, w.walked, y.takes.offset, ap length y.takes.piece_is, length-append y.takes.taken left);
 }
 
 idle-refused : (w : WalkerState) (f : Fault) → w.phase ≡ Refused f → IsIdle w
@@ -86,6 +83,64 @@ walk-ended framing octets old new rest left (step.Fault f) w (inr a) e =
     absurd (never_refused old w.taken w.yielded f w.stands a.refused)
 walk-ended framing octets old new rest left (step.Event x) w t (inl e) = absurd (cc (e))
 walk-ended framing octets old new rest left (step.Event x) w t (inr e) = let f = e.1 in absurd (cc (f))
+
+-- a walker that walks over octets: it has walked over some of them, or it refused an octet before
+abbrev pub IsOnItsWay : Framing → List ℕ → WalkerState → List ℕ → Type 0
+IsOnItsWay framing octets w rest =
+    WalksFurther framing octets w rest ⊎ (((f : Fault) × (w.phase ≡ Refused f)) × HasWalkedOver framing octets w)
+
+pub way-start : (framing : Framing) (octets piece : List ℕ) (w : WalkerState) → HasWalkedOver framing octets w
+    → IsOnItsWay framing (octets ++ piece) w piece
+way-start framing octets piece w h = by_end h.at_end
+  where
+    by_end : StandsAtEnd w octets h.yielded → IsOnItsWay framing (octets ++ piece) w piece
+    by_end (took_all st none) = inl (record {
+      framing_is = h.framing_is;
+      taken = octets;
+      yielded = h.yielded;
+      stands = st;
+      whole = refl;
+    })
+    by_end (refused_one f at) = inr ((f, at.stands.phase), record {
+      framing_is = h.framing_is;
+      yielded = h.yielded;
+      at_end =
+          refused_one f (record {
+            taken = at.taken;
+            octet = at.octet;
+            others = at.others ++ piece;
+            octets_are =
+                sym (append_assoc at.taken (at.octet ∷ at.others) piece)
+                ∙ ap (λ (o : List ℕ). o ++ piece) at.octets_are;
+            stands = at.stands;
+          });
+      idle = h.idle;
+    })
+
+pub way-on : (framing : Framing) (octets : List ℕ) (old new : WalkerState) (rest left : List ℕ) (e : Event)
+    → IsOnItsWay framing octets old rest → YieldsNext old new rest left e → IsOnItsWay framing octets new left
+way-on framing octets old new rest left e (inl w) y = inl (walks-on framing octets old new rest left e w y)
+way-on framing octets old new rest left e (inr r) y = absurd (y.takes.not_refused r.0.0 r.0.1)
+
+pub way-ended : (framing : Framing) (octets : List ℕ) (old new : WalkerState) (rest left : List ℕ) (s : Step)
+    → IsOnItsWay framing octets old rest → StepsTo old new rest left s
+    → (s ≡ step.NeedMore) ⊎ ((f : Fault) × (s ≡ step.Fault f)) → HasWalkedOver framing octets new
+way-ended framing octets old new rest left s (inl w) t e = walk-ended framing octets old new rest left s w t e
+way-ended framing octets old new rest left step.NeedMore (inr r) t e = absurd (t.takes.not_refused r.0.0 r.0.1)
+way-ended framing octets old new rest left (step.Fault f) (inr r) (inl t) e = absurd (t.takes.not_refused r.0.0 r.0.1)
+way-ended framing octets old new rest left (step.Fault f) (inr r) (inr a) e =
+    subst (λ (w : WalkerState). HasWalkedOver framing octets w) (sym a.same) r.1
+way-ended framing octets old new rest left (step.Event x) (inr r) t e = absurd (t.takes.not_refused r.0.0 r.0.1)
+
+-- the first walk
+pub way-first : (framing : Framing) (w : WalkerState) → w.framing ≡ framing → Stands w [] [] → IsIdle w
+    → HasWalkedOver framing [] w
+way-first framing w e st idle = record {
+  framing_is = e;
+  yielded = [];
+  at_end = took_all st idle;
+  idle = idle;
+}
 
 -- how many octets an ending says are read
 abbrev pub count_of : List ℕ → Ending → ℕ

@@ -20,11 +20,11 @@ use Rattle.tlv_open.proofs.LawLemmas.Deciding.{candidate_of, fails, holds_test, 
 use Rattle.tlv_open.proofs.LawLemmas.OneList.{opened-one}
 
 -- parts of octets are octets
-back-octets : (a b : List ℕ) → AreOctets (a ++ b) → AreOctets b
+pub back-octets : (a b : List ℕ) → AreOctets (a ++ b) → AreOctets b
 back-octets [] b each = each
 back-octets (x ∷ a) b each = back-octets a b (All-tail (λ k. k < 256) x (a ++ b) each)
 
-front-octets : (a b : List ℕ) → AreOctets (a ++ b) → AreOctets a
+pub front-octets : (a b : List ℕ) → AreOctets (a ++ b) → AreOctets a
 front-octets a b each =
     subst AreOctets (take-append_seam a b) (All-take (λ k. k < 256) (length a) (a ++ b) each)
 
@@ -37,7 +37,7 @@ unused-octets (x ∷ xs) octets e each = by_test (eqb x 0) e
     by_test true t = let same : xs ≡ octets = cc (t) in subst AreOctets same (All-tail (λ k. k < 256) x xs each)
     by_test false t = absurd (cc (t))
 
-inner-are_octets : (h : HeaderValue) (contents octets : List ℕ) → inner_octets h contents ≡ Some octets
+pub inner-are_octets : (h : HeaderValue) (contents octets : List ℕ) → inner_octets h contents ≡ Some octets
     → AreOctets contents → AreOctets octets
 inner-are_octets h contents octets e each = by_type (is_a universal.octet_string h) (is_a universal.bit_string h) e
   where

@@ -1,15 +1,55 @@
 -- What is found among elements that are read from octets, and what is left to be read.
-use Rattle.std.specs.Prelude.{◌≡◌, ◌⊎◌, ℕ, ◌+◌, Bool, true, false, List, [], ◌++◌, length, drop}
+use Rattle.std.specs.Prelude.{◌≡◌, ◌⊎◌, ℕ, ◌+◌, Bool, true, false, ◌&&◌, List, [], ◌∷◌, ◌++◌, length, drop, Option, Some, None}
 use Rattle.tlv_head.specs.Header.{HeaderValue}
 use Rattle.tlv_walk.specs.Forest.{Forest, Primitive, is_whole, spelling}
 use Rattle.tlv_walk.specs.Place.{ObeysGrammar, Place, place_after}
-use Rattle.tlv_open.specs.declared.finder.Spot.{Spot}
-use Rattle.tlv_open.specs.Opens.{Opens, Where, where_of_children}
+use Rattle.tlv_open.specs.declared.spot.Spot.{Spot}
+use Rattle.tlv_open.specs.declared.strings.BrokenString.{BrokenString}
+use Rattle.tlv_open.specs.declared.strings.Strings.{Strings}
+use Rattle.tlv_open.specs.Breaks.{Breaks, is_extension, is_no_more}
+use Rattle.tlv_open.specs.Opens.{Opens, Where, is_one_primitive, may_open_in}
 use Rattle.tlv_open.specs.Private.Elements.{is_elements_end}
 
 -- where the elements are at a spot
 abbrev pub where_of : Spot → Where
 where_of s = record { start = s.start; depth = s.depth; may_open = s.may_open }
+
+-- strings that are found: those that are opened, and those that break
+pub record FoundStrings : Type 0 where
+  pub opened : List ℕ
+  pub broken : List BrokenString
+
+abbrev pub found_of : Strings → FoundStrings
+found_of s = record { opened = s.opened.items; broken = s.broken.items }
+
+abbrev pub nothing_found : FoundStrings
+nothing_found = record { opened = []; broken = [] }
+
+-- strings that are found, and others after them
+abbrev pub found_both : FoundStrings → FoundStrings → FoundStrings
+found_both a b = record { opened = a.opened ++ b.opened; broken = a.broken ++ b.broken }
+
+-- these strings are found among the elements at a spot
+pub record Finds (s : Spot) (f : Forest) (found : FoundStrings) : Type 0 where
+  pub opens : Opens (where_of s) f found.opened
+  pub breaks : Breaks (where_of s) s.in_extension f found.broken
+
+-- inside an element with this header, which holds these others, and which has its end if `ended`
+abbrev pub spot_inside : Spot → HeaderValue → Forest → Bool → Spot
+spot_inside s h children ended = record {
+  start = s.start;
+  depth = s.depth + 1;
+  may_open = may_open_in h (is_one_primitive children && ended);
+  in_extension = is_extension h children;
+}
+
+-- inside an element with this header that lacks octets
+abbrev pub spot_lacking : Spot → HeaderValue → Spot
+spot_lacking s h = record { start = s.start; depth = s.depth + 1; may_open = may_open_in h false; in_extension = false }
+
+-- elements that are followed by these octets: if they do not end there, what is last among them is no extension's value
+abbrev pub spot_before : Spot → Bool → List ℕ → Spot
+spot_before s end_octets rest = record s { in_extension = s.in_extension && is_elements_end end_octets rest }
 
 -- elements end with the octets, or are whole and end before end-of-contents octets
 pub record EndsBefore (end_octets : Bool) (f : Forest) (rest : List ℕ) : Type 0 where
@@ -32,47 +72,60 @@ pub record IsReadAt
 -- of the elements f that octets are read as, what is found in the first n octets: there others go on, or the last has
 -- not ended
 pub data FindsUpTo
-    (w : Where) (p : Place) (f : Forest) (offset : ℕ) (end_octets : Bool) (octets rest found : List ℕ) (n : ℕ)
+    (s : Spot) (p : Place) (f : Forest) (offset : ℕ) (end_octets : Bool) (octets rest : List ℕ) (found : FoundStrings)
+    (n : ℕ)
     : Type 0 where
-  goes_on : (g : Forest) → IsReadAt (place_after p n) g w.depth (offset + n) end_octets (drop n octets) rest
-      → ((others : List ℕ) → Opens w g others → Opens w f (found ++ others)) → is_whole f ≡ is_whole g
+  goes_on : (g : Forest) → IsReadAt (place_after p n) g s.depth (offset + n) end_octets (drop n octets) rest
+      → ((others : FoundStrings) → Finds s g others → Finds s f (found_both found others)) → is_whole f ≡ is_whole g
       → length (spelling f) ≡ n + length (spelling g)
-      → FindsUpTo w p f offset end_octets octets rest found n
-  stops : Opens w f found → is_whole f ≡ false → n ≡ length octets
-      → FindsUpTo w p f offset end_octets octets rest found n
+      → FindsUpTo s p f offset end_octets octets rest found n
+  stops : Finds s f found → is_whole f ≡ false → n ≡ length octets
+      → FindsUpTo s p f offset end_octets octets rest found n
 
--- it is added to a list
+-- it is added to what was found before
 pub record AddsUpTo
-    (w : Where) (p : Place) (f : Forest) (offset : ℕ) (end_octets : Bool) (octets rest old new : List ℕ) (n : ℕ)
+    (s : Spot) (p : Place) (f : Forest) (offset : ℕ) (end_octets : Bool) (octets rest : List ℕ)
+    (old new : FoundStrings) (n : ℕ)
     : Type 0 where
-  pub found : List ℕ
-  pub added : new ≡ old ++ found
-  pub finds : FindsUpTo w p f offset end_octets octets rest found n
+  pub found : FoundStrings
+  pub added : new ≡ found_both old found
+  pub finds : FindsUpTo s p f offset end_octets octets rest found n
 
 -- whatever the octets are read as
-abbrev pub AddsFirst : Where → ℕ → Bool → List ℕ → List ℕ → List ℕ → ℕ → Type 0
-AddsFirst w offset end_octets octets old new n = (p : Place) (f : Forest) (rest : List ℕ)
-    → IsReadAt p f w.depth offset end_octets octets rest → AddsUpTo w p f offset end_octets octets rest old new n
+abbrev pub AddsFirst : Spot → ℕ → Bool → List ℕ → FoundStrings → FoundStrings → ℕ → Type 0
+AddsFirst s offset end_octets octets old new n = (p : Place) (f : Forest) (rest : List ℕ)
+    → IsReadAt p f s.depth offset end_octets octets rest
+    → AddsUpTo (spot_before s end_octets rest) p f offset end_octets octets rest old new n
 
--- what is found in all elements f is added to a list, and n says where they end if they are whole
-pub record AddsOffsets (w : Where) (f : Forest) (octets old new : List ℕ) (n : ℕ) : Type 0 where
-  pub found : List ℕ
-  pub added : new ≡ old ++ found
-  pub opens : Opens w f found
+-- what is found in all elements f is added to what was found before, and n says where they end if they are whole
+pub record AddsStrings (s : Spot) (f : Forest) (octets : List ℕ) (old new : FoundStrings) (n : ℕ) : Type 0 where
+  pub found : FoundStrings
+  pub added : new ≡ found_both old found
+  pub finds : Finds s f found
   pub size : is_whole f ≡ true → length (spelling f) ≡ n
   pub unfinished : is_whole f ≡ false → is_elements_end true (drop n octets) ≡ false
 
 -- whatever the octets are read as
-abbrev pub AddsAll : Where → ℕ → Bool → List ℕ → List ℕ → List ℕ → ℕ → Type 0
-AddsAll w offset end_octets octets old new n = (p : Place) (f : Forest) (rest : List ℕ)
-    → IsReadAt p f w.depth offset end_octets octets rest → AddsOffsets w f octets old new n
+abbrev pub AddsAll : Spot → ℕ → Bool → List ℕ → FoundStrings → FoundStrings → ℕ → Type 0
+AddsAll s offset end_octets octets old new n = (p : Place) (f : Forest) (rest : List ℕ)
+    → IsReadAt p f s.depth offset end_octets octets rest
+    → AddsStrings (spot_before s end_octets rest) f octets old new n
 
--- what is found in a primitive is added to a list
-pub record AddsPrimitive (w : Where) (h : HeaderValue) (contents old new : List ℕ) : Type 0 where
-  pub found : List ℕ
-  pub added : new ≡ old ++ found
-  pub opens : (g : Forest) (others : List ℕ) → Opens w g others → Opens w (Primitive h contents g) (found ++ others)
+-- the same spot, where the elements are those of an extension, or not
+abbrev pub spot_with : Spot → Bool → Spot
+spot_with s in_extension = record s { in_extension = in_extension }
 
--- inside an element with this header
-abbrev pub where_inside : Where → HeaderValue → Bool → Where
-where_inside w h is_one = where_of_children w h is_one
+-- what is found in a primitive is added to what was found before, by whether it is the value of an extension
+pub record AddsPrimitive
+    (s : Spot) (is_value : Bool) (h : HeaderValue) (contents : List ℕ) (old new : FoundStrings)
+    : Type 0 where
+  pub found : FoundStrings
+  pub added : new ≡ found_both old found
+  pub finds : (e : Bool) (g : Forest) (others : FoundStrings) → (e && is_no_more g) ≡ is_value
+      → Finds (spot_with s e) g others
+      → Finds (spot_with s e) (Primitive h contents g) (found_both found others)
+
+-- what there is, as a list
+abbrev pub list_of : Option BrokenString → List BrokenString
+list_of None = []
+list_of (Some x) = x ∷ []

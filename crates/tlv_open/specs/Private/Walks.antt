@@ -1,5 +1,5 @@
 -- A walk over an input that is at hand.
-use Rattle.std.specs.Prelude.{◌≡◌, ℕ, List}
+use Rattle.std.specs.Prelude.{◌≡◌, ℕ, List, ◌++◌}
 use Rattle.tlv_walk.specs.declared.framing.Framing.{Framing}
 use Rattle.tlv_walk.specs.Events.{EventValue}
 use Rattle.tlv_walk.specs.HasRead.{StandsAtEnd}
@@ -12,3 +12,8 @@ pub record HasWalkedOver (framing : Framing) (octets : List ℕ) (w : WalkerStat
   pub yielded : List EventValue
   pub at_end : StandsAtEnd w octets yielded
   pub idle : IsIdle w
+
+-- whatever it had walked over, it has now walked over these octets too
+abbrev pub WalksOver : WalkerState → WalkerState → List ℕ → Type 0
+WalksOver old new piece = (framing : Framing) (octets : List ℕ) → HasWalkedOver framing octets old
+    → HasWalkedOver framing (octets ++ piece) new

@@ -1,7 +1,7 @@
 use Rattle.std.proofs.Common.{Bool, ◌&&◌, ap, ◌∙◌, sym}
 use Rattle.tlv_head.specs.HeaderFields.{new_header}
 use Rattle.tlv_value.specs.Types.{is_string}
-use Rattle.tlv_open.proofs.finder.has_segments.Goals as goal
+use Rattle.tlv_open.proofs.spot.has_segments.Goals as goal
 
 pub returns-then-fields : goal.returns-then-fields
 returns-then-fields c = λ octets.

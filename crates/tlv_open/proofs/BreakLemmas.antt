@@ -1,0 +1,2 @@
+pub mod Suspects
+pub mod Around

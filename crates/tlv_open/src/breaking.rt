@@ -1,0 +1,136 @@
+//! Strings that look like encodings, and where they break when they are read as encodings.
+ghost use Rattle.std.specs.Prelude.{◌≡◌, ◌≤◌, ◌+◌, ◌↔◌, IsTrue, MatchOption, length, slice_index};
+ghost use Rattle.tlv_head.specs.InputLimit.{input_limit};
+ghost use Rattle.tlv_open.specs.Breaks.{BeginsAs, BreaksAt, HaveAnnouncedSize, IsBrokenString, LooksEncoded};
+ghost use Rattle.tlv_open.specs.Breaks.{octets_around};
+ghost use Rattle.tlv_walk.specs.Ending.{IsEnding};
+
+use crate::elements::header_at;
+use crate::reading::walk_on;
+use crate::{BrokenString, Suspicion};
+use tlv_head::{Fault, Size};
+use tlv_walk::{Ending, Framing, INPUT_LIMIT, Inside, Walker};
+
+/// A string has more inner octets than these if it may break for its size.
+const FEW_OCTETS: usize = 24;
+
+/// So many octets may an element end before or after the string that it begins.
+const MOST_APART: u64 = 8;
+
+/// What is to be said of a string, header and contents, that is at this offset, has these inner octets, and is not
+/// opened, if it breaks. `depth` is how many elements hold it.
+pub(crate) fn broken_string(
+    offset: u64,
+    depth: u8,
+    string: &[u8],
+    octets: &[u8],
+    is_value: bool,
+) -> Option<BrokenString>
+    requires limit { offset + length string.now ≤ input_limit }
+    requires within { length octets.now ≤ length string.now }
+    ensures { MatchOption result
+        ((b : BrokenString) → IsBrokenString offset depth string.now octets.now is_value b → ⊥)
+        (λ b. IsBrokenString offset depth string.now octets.now is_value b) }
+{
+    let reason = suspicion(octets, is_value)?;
+    let fault = fault_in(string, depth)?;
+    let before = 2 * u64::from(depth);
+    Some(BrokenString {
+        offset,
+        reason,
+        fault: Fault {
+            code: fault.code,
+            offset: offset + fault.offset.saturating_sub(before),
+        },
+    })
+}
+
+/// Why a string with these inner octets looks like encodings, if it does.
+fn suspicion(octets: &[u8], is_value: bool) -> Option<Suspicion>
+    requires { length octets.now ≤ input_limit }
+    ensures { MatchOption result ((s : Suspicion) → LooksEncoded octets.now is_value s → ⊥)
+        (λ s. LooksEncoded octets.now is_value s) }
+{
+    if begin_as(0x30, octets) {
+        return Some(Suspicion::Sequence);
+    }
+    if begin_as(0x31, octets) {
+        return Some(Suspicion::Set);
+    }
+    if is_value {
+        Some(Suspicion::Extension)
+    } else {
+        None
+    }
+}
+
+/// Whether the octets begin with this one, and [`have_announced_size`].
+fn begin_as(first: u8, octets: &[u8]) -> bool
+    requires { length octets.now ≤ input_limit }
+    ensures { IsTrue result ↔ BeginsAs first octets.now }
+{
+    first_octet(octets) == first && have_announced_size(octets)
+}
+
+/// The first octet, or 0 if there is none.
+fn first_octet(octets: &[u8]) -> u8
+    ensures { result ≡ slice_index octets.now 0 }
+{
+    if octets.is_empty() { 0 } else { octets[0] }
+}
+
+/// Whether the octets are more than 24, and begin with the header of an element that ends at most 8 octets before or
+/// after them.
+fn have_announced_size(octets: &[u8]) -> bool
+    requires { length octets.now ≤ input_limit }
+    ensures { IsTrue result ↔ HaveAnnouncedSize octets.now }
+{
+    if octets.len() <= FEW_OCTETS {
+        return false;
+    }
+    let Some((fields, count)) = header_at(octets, 0) else {
+        return false;
+    };
+    let Size::Definite(length) = fields.size else {
+        return false;
+    };
+    let rest = (octets.len() - count) as u64;
+    length <= rest + MOST_APART && rest <= length + MOST_APART
+}
+
+/// The fault of a string, header and contents, if it breaks: its offset is counted from the start of the octets around it.
+/// `depth` is how many elements hold it.
+fn fault_in(string: &[u8], depth: u8) -> Option<Fault>
+    requires { length string.now ≤ input_limit }
+    ensures { MatchOption result ((f : Fault) → BreaksAt depth string.now f → ⊥)
+        (λ f. BreaksAt depth string.now f) }
+{
+    let before = 2 * u64::from(depth);
+    let end = before + string.len() as u64;
+    if end + 2 > INPUT_LIMIT {
+        return None;
+    }
+    let offsets = [before];
+    let framing = Framing {
+        inside: Inside::lent(&offsets)?,
+        padding: false,
+    };
+    match ending_around(string, depth, &framing) {
+        Ending::Fault(fault) if fault.offset <= end => Some(fault),
+        _ => None,
+    }
+}
+
+/// The ending of the octets around a string, read so.
+fn ending_around(string: &[u8], depth: u8, framing: &Framing<'_>) -> Ending
+    requires { length (octets_around depth string.now) ≤ input_limit }
+    ensures { IsEnding framing.now (octets_around depth string.now) result }
+{
+    let mut walker = Walker::new(framing);
+    for _ in 0..depth {
+        walk_on(&mut walker, &[0x30, 0x80]);
+    }
+    walk_on(&mut walker, string);
+    walk_on(&mut walker, &[5, 0]);
+    walker.finish()
+}

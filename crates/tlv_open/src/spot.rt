@@ -1,0 +1,162 @@
+//! Where elements are that are read by themselves, and what is looked for among them.
+ghost use Rattle.std.specs.Prelude.{◌≡◌, ◌<◌, ◌&&◌, Bool, List, false, ℕ};
+ghost use Rattle.tlv_head.specs.DepthLimit.{depth_limit};
+ghost use Rattle.tlv_head.specs.HeaderFields.{new_header};
+ghost use Rattle.tlv_open.specs.Breaks.{begin_extension, is_extension, names_extension};
+ghost use Rattle.tlv_open.specs.Opens.{is_one_primitive, may_open_in};
+ghost use Rattle.tlv_open.specs.Private.Elements.{is_elements_end};
+ghost use Rattle.tlv_open.specs.Private.Finds.{IsReadAt, spot_inside, spot_lacking};
+ghost use Rattle.tlv_value.specs.Types.{has_segments, is_a, is_string};
+ghost use Rattle.tlv_walk.specs.Forest.{Forest};
+ghost use Rattle.tlv_walk.specs.Place.{Place};
+
+use crate::elements::{header_at, is_elements_end};
+use tlv_head::{Class, HeaderFields, Size, universal};
+
+/// Where elements are that are read by themselves.
+#[derive(Clone, Copy)]
+pub(crate) struct Spot {
+    /// Where the first of them begins, in octets from the start of the input.
+    pub(crate) start: u64,
+    /// How many elements hold them.
+    pub(crate) depth: u8,
+    /// Whether strings among them may be opened.
+    pub(crate) may_open: bool,
+    /// Whether they are those of an extension: the last of them is its value, if it has ended.
+    pub(crate) in_extension: bool,
+}
+
+/// Inside an element with these fields, whose contents are the first of these octets, at this offset.
+pub(crate) fn inside(
+    spot: Spot,
+    fields: &HeaderFields,
+    octets: &[u8],
+    offset: u64,
+    end_octets: bool,
+) -> Spot
+    requires { spot.depth < depth_limit }
+    ensures inner { (header : List ℕ) (p : Place) (f : Forest) (depth : ℕ) (rest : List ℕ)
+        → p.padding ≡ false → IsReadAt p f depth offset end_octets octets.now rest
+        → result ≡ spot_inside spot (new_header fields.now header) f (is_elements_end end_octets rest) }
+    ensures start { result.start ≡ spot.start }
+{
+    Spot {
+        start: spot.start,
+        depth: spot.depth + 1,
+        may_open: may_open_in(fields, octets, offset, end_octets),
+        in_extension: is_extension(fields, octets, offset),
+    }
+}
+
+/// Inside an element with these fields that lacks octets.
+pub(crate) fn inside_lacking(spot: Spot, fields: &HeaderFields) -> Spot
+    requires { spot.depth < depth_limit }
+    ensures inner { (header : List ℕ) → result ≡ spot_lacking spot (new_header fields.now header) }
+    ensures start { result.start ≡ spot.start }
+{
+    Spot {
+        start: spot.start,
+        depth: spot.depth + 1,
+        may_open: !has_segments(fields),
+        in_extension: false,
+    }
+}
+
+/// Whether an element at this spot, after which these octets come, is the value of an extension.
+pub(crate) fn is_value_before(spot: Spot, octets: &[u8], end_octets: bool) -> bool
+    ensures { result ≡ (spot.in_extension && is_elements_end end_octets octets.now) }
+{
+    spot.in_extension && is_elements_end(octets, end_octets)
+}
+
+/// Whether strings in an element with these fields and contents may be opened: they are no segments, or the only one of a
+/// whole string.
+fn may_open_in(fields: &HeaderFields, octets: &[u8], offset: u64, end_octets: bool) -> bool
+    ensures { (header : List ℕ) (p : Place) (f : Forest) (depth : ℕ) (rest : List ℕ)
+        → p.padding ≡ false → IsReadAt p f depth offset end_octets octets.now rest
+        → result ≡ may_open_in (new_header fields.now header)
+            (is_one_primitive f && is_elements_end end_octets rest) }
+{
+    !has_segments(fields) || is_one_segment(octets, offset, end_octets)
+}
+
+/// Whether an element with these fields is a constructed string, which holds segments.
+fn has_segments(fields: &HeaderFields) -> bool
+    ensures { (header : List ℕ) → result ≡ has_segments (new_header fields.now header) }
+{
+    fields.constructed && is_string(fields)
+}
+
+/// Whether the type is a string (8.6.1, 8.7.1, 8.23, 8.25).
+fn is_string(fields: &HeaderFields) -> bool
+    ensures { (header : List ℕ) → result ≡ is_string (new_header fields.now header) }
+{
+    matches!(fields.class, Class::Universal)
+        && matches!(
+            fields.number,
+            universal::BIT_STRING
+                | universal::OCTET_STRING
+                | universal::OBJECT_DESCRIPTOR
+                | universal::UTF8_STRING
+                | universal::NUMERIC_STRING..=universal::UNIVERSAL_STRING | universal::BMP_STRING
+        )
+}
+
+/// Whether the octets, those that follow the header of an element, are one primitive and its end, and nothing else.
+fn is_one_segment(octets: &[u8], offset: u64, end_octets: bool) -> bool
+    ensures { (p : Place) (f : Forest) (depth : ℕ) (rest : List ℕ) → p.padding ≡ false
+        → IsReadAt p f depth offset end_octets octets.now rest
+        → result ≡ (is_one_primitive f && is_elements_end end_octets rest) }
+{
+    let Some((fields, count)) = header_at(octets, offset) else {
+        return false;
+    };
+    let Size::Definite(length) = fields.size else {
+        return false;
+    };
+    let rest = &octets[count..];
+    if fields.constructed || length > rest.len() as u64 {
+        return false;
+    }
+    is_elements_end(&rest[length as usize..], end_octets)
+}
+
+/// Whether an element with these fields and contents is an extension of a certificate: a SEQUENCE that begins with an
+/// OBJECT IDENTIFIER below 2.5.29 or 1.3.6.1.5.5.7.1.
+fn is_extension(fields: &HeaderFields, octets: &[u8], offset: u64) -> bool
+    ensures { (header : List ℕ) (p : Place) (f : Forest) (depth : ℕ) (end_octets : Bool) (rest : List ℕ)
+        → IsReadAt p f depth offset end_octets octets.now rest
+        → result ≡ is_extension (new_header fields.now header) f }
+{
+    is_a(universal::SEQUENCE, fields) && begin_extension(octets, offset)
+}
+
+/// Whether the type has this number.
+fn is_a(number: u64, fields: &HeaderFields) -> bool
+    ensures { (header : List ℕ) → result ≡ is_a number (new_header fields.now header) }
+{
+    matches!(fields.class, Class::Universal) && fields.number == number
+}
+
+/// Whether the first element is a primitive OBJECT IDENTIFIER of an extension.
+fn begin_extension(octets: &[u8], offset: u64) -> bool
+    ensures { (p : Place) (f : Forest) (depth : ℕ) (end_octets : Bool) (rest : List ℕ)
+        → IsReadAt p f depth offset end_octets octets.now rest → result ≡ begin_extension f }
+{
+    let Some((fields, count)) = header_at(octets, offset) else {
+        return false;
+    };
+    let rest = &octets[count..];
+    let length = fields.size.announced_length();
+    if fields.constructed || length > rest.len() as u64 {
+        return false;
+    }
+    is_a(universal::OBJECT_IDENTIFIER, &fields) && names_extension(&rest[..length as usize])
+}
+
+/// Whether these are the contents of an OBJECT IDENTIFIER below 2.5.29 or 1.3.6.1.5.5.7.1.
+fn names_extension(contents: &[u8]) -> bool
+    ensures { result ≡ names_extension contents.now }
+{
+    matches!(contents, [0x55, 0x1d, _, ..]) || matches!(contents, [0x2b, 6, 1, 5, 5, 7, 1, _, ..])
+}
