@@ -13,4 +13,5 @@ mod strings;
 
 pub use finder::{opened, strings_of};
 pub use held::holds_encodings;
+pub use reading::ending_of;
 pub use strings::{BrokenString, Strings, Suspicion, broken_line};

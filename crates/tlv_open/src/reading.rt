@@ -3,6 +3,7 @@ ghost use Rattle.std.specs.Prelude.{◌≡◌, ◌≤◌, ◌+◌, length};
 ghost use Rattle.tlv_head.specs.InputLimit.{input_limit};
 ghost use Rattle.tlv_open.specs.Opens.{closed_framing};
 ghost use Rattle.tlv_open.specs.Private.Walks.{HasWalkedOver, WalksOver};
+ghost use Rattle.tlv_walk.specs.Ending.{IsEnding};
 ghost use Rattle.tlv_walk.specs.Forest.{Forest, spelling};
 ghost use Rattle.tlv_walk.specs.Reading.{IsReading};
 ghost use Rattle.tlv_walk.specs.WalkerState.{IsWithinInputLimit, new_walker};
@@ -20,15 +21,22 @@ pub(crate) fn count_read(octets: &[u8], padding: bool) -> usize
     if elements_size(octets, 0, 0, false, false).is_some() {
         return octets.len();
     }
+    match ending_of(octets, padding) {
+        Ending::Done => octets.len(),
+        Ending::Fault(fault) => fault.offset as usize,
+    }
+}
+
+/// What an input of these octets comes to with no string named. With `padding`, octets `00` are allowed at the top.
+pub fn ending_of(octets: &[u8], padding: bool) -> Ending
+    requires { length octets.now ≤ input_limit }
+    ensures { IsEnding (closed_framing padding) octets.now result }
+{
     let framing = Framing {
         inside: Inside::none(),
         padding,
     };
-    let walker = walk_over(octets, &framing);
-    match walker.finish() {
-        Ending::Done => octets.len(),
-        Ending::Fault(fault) => fault.offset as usize,
-    }
+    walk_over(octets, &framing).finish()
 }
 
 /// The walker that has walked over the octets, read so.

@@ -1,22 +1,14 @@
-use Rattle.tlv_open.specs.Opens.{closed_framing}
 use Rattle.std.proofs.Common.{sym, ◌∙◌}
+use Rattle.tlv_open.specs.Opens.{closed_framing}
 use Rattle.tlv_open.proofs.FinderLemmas.Inputs.{some-read}
 use Rattle.tlv_open.proofs.FinderLemmas.Walks.{ending-count}
 use Rattle.tlv_open.proofs.reading.count_read.Goals as goal
 
 pub returns-in-Done : goal.returns-in-Done
-returns-in-Done c = λ f r.
-    let w = c.walk_over-walker.ensures in
-    let ends = c.in-Done.ensures.ending c.args.octets.now w.yielded w.at_end in
-    ending-count (closed_framing c.args.padding) c.args.octets.now _ f
-    (rw (w.framing_is, c.none.ensures) at ends.is_ending) r
+returns-in-Done c = λ f r. ending-count (closed_framing c.args.padding) c.args.octets.now _ f (rw c.in-Done.is at c.ending_of.ensures) r
 
 pub returns-in-Fault : goal.returns-in-Fault
-returns-in-Fault c = λ f r.
-    let w = c.walk_over-walker.ensures in
-    let ends = c.in-Fault.ensures.ending c.args.octets.now w.yielded w.at_end in
-    ending-count (closed_framing c.args.padding) c.args.octets.now _ f
-    (rw (w.framing_is, c.none.ensures) at ends.is_ending) r
+returns-in-Fault c = λ f r. ending-count (closed_framing c.args.padding) c.args.octets.now _ f (rw c.in-Fault.is at c.ending_of.ensures) r
 
 pub returns-then-is_some : goal.returns-then-is_some
 returns-then-is_some c = λ f r.
