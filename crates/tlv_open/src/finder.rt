@@ -9,7 +9,7 @@ ghost use Rattle.tlv_open.specs.Opens.{AreOpened};
 ghost use Rattle.tlv_open.specs.Private.Finds.{AddsAll, AddsFirst, AddsPrimitive, found_of, list_of};
 
 use crate::breaking::broken_string;
-use crate::elements::{DEPTH_LIMIT, header_at, is_elements_end};
+use crate::elements::{DEPTH_LIMIT, header_at, two_octet_header, is_elements_end};
 use crate::held::{are_held, held_octets};
 use crate::reading::count_read;
 use crate::spot::{Spot, inside, inside_lacking, is_value_before};
@@ -105,11 +105,60 @@ fn add_strings_in(
     ensures some { 0 < length octets.now → IfOk result (λ n. 0 < n) }
     ensures within { IfOk result (λ n. n ≤ length octets.now) }
 {
-    let Some((fields, count)) = header_at(octets, offset) else {
-        return Ok(octets.len());
-    };
+    match two_octet_header(octets, offset) {
+        Some((fields, count)) => {
+            add_with(octets, offset, &fields, count, spot, end_octets, found)
+        }
+        None => add_after_long(octets, offset, spot, end_octets, found),
+    }
+}
+
+/// [`add_strings_in`], whatever the header.
+#[cycle(find)]
+#[inline(never)]
+fn add_after_long(
+    octets: &[u8],
+    offset: u64,
+    spot: Spot,
+    end_octets: bool,
+    found: &mut Strings,
+) -> Result<usize, AllocError>
+    requires limit { spot.start + (offset + length octets.now) ≤ input_limit }
+    requires begun { slice_index octets.now 0 ≢ 0 }
+    ensures adds { IfOk result (λ n. AddsFirst spot offset end_octets octets.now
+        (found_of found.old) (found_of found.new) n) }
+    ensures some { 0 < length octets.now → IfOk result (λ n. 0 < n) }
+    ensures within { IfOk result (λ n. n ≤ length octets.now) }
+{
+    match header_at(octets, offset) {
+        Some((fields, count)) => {
+            add_with(octets, offset, &fields, count, spot, end_octets, found)
+        }
+        None => Ok(octets.len()),
+    }
+}
+
+/// [`add_strings_in`], of an element whose header has these fields and so many octets.
+#[cycle(find)]
+#[inline(always)]
+fn add_with(
+    octets: &[u8],
+    offset: u64,
+    fields: &HeaderFields,
+    count: usize,
+    spot: Spot,
+    end_octets: bool,
+    found: &mut Strings,
+) -> Result<usize, AllocError>
+    requires limit { spot.start + (offset + length octets.now) ≤ input_limit }
+    requires begins { BeginsWithFields octets.now offset false fields.now count }
+    ensures adds { IfOk result (λ n. AddsFirst spot offset end_octets octets.now
+        (found_of found.old) (found_of found.new) n) }
+    ensures some { IfOk result (λ n. 0 < n) }
+    ensures within { IfOk result (λ n. n ≤ length octets.now) }
+{
     if fields.constructed {
-        return add_in_holder(octets, &fields, count, spot, end_octets, found);
+        return add_in_holder(octets, fields, count, spot, end_octets, found);
     }
     let length = fields.size.announced_length();
     if length > (octets.len() - count) as u64 {
@@ -117,7 +166,7 @@ fn add_strings_in(
     }
     let size = count + length as usize;
     let is_value = is_value_before(spot, &octets[size..], end_octets);
-    add_string(&fields, &octets[..size], count, is_value, spot, found)?;
+    add_string(fields, &octets[..size], count, is_value, spot, found)?;
     Ok(size)
 }
 

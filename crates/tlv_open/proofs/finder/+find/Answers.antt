@@ -58,37 +58,37 @@ add_strings-returns-clause-adds t c =
     adds-done c.args.spot c.args.offset c.args.end_octets c.args.octets.now _ _ c.loop-at.at
     c.loop-at-test.false c.loop-at.invariant.adds
 
-pub add_strings_in-returns-in_default-clause-adds : goal.add_strings_in-returns-in_default-clause-adds
-add_strings_in-returns-in_default-clause-adds t c = λ p f rest r. record {
+pub add_after_long-returns-in-None-clause-adds : goal.add_after_long-returns-in-None-clause-adds
+add_after_long-returns-in-None-clause-adds t c = λ p f rest r. record {
   found = nothing_found;
   added = sym (both-nothing (found_of c.args.found.now));
   finds =
       finds-header _ p f c.args.spot.depth c.args.offset c.args.end_octets c.args.octets.now rest r
-      c.requires.begun c.in_default.ensures;
+      c.requires.begun c.in-None.ensures;
 }
 
-pub add_strings_in-returns-then-length-octets-clause-adds : goal.add_strings_in-returns-then-length-octets-clause-adds
-add_strings_in-returns-then-length-octets-clause-adds t c =
-    adds-unfinished c.args.octets.now c.args.offset c.in-Some.fields c.in-Some.count c.in-Some.ensures c.args.spot
+pub add_with-returns-then-length-octets-clause-adds : goal.add_with-returns-then-length-octets-clause-adds
+add_with-returns-then-length-octets-clause-adds t c =
+    adds-unfinished c.args.octets.now c.args.offset c.args.fields.now c.args.count c.requires.begins c.args.spot
     (found_of c.args.found.now) c.if-fields.false
     (omega (
       arith,
       c.if-length-octets.true,
       c.announced_length-length.ensures,
-      length-drop c.in-Some.count c.args.octets.now,
+      length-drop c.args.count c.args.octets.now,
     ))
     c.args.end_octets
 
-pub add_strings_in-returns-clause-adds : goal.add_strings_in-returns-clause-adds
-add_strings_in-returns-clause-adds t c =
-    adds-primitive c.args.octets.now c.args.offset c.in-Some.fields c.in-Some.count c.in-Some.ensures c.args.spot
+pub add_with-returns-clause-adds : goal.add_with-returns-clause-adds
+add_with-returns-clause-adds t c =
+    adds-primitive c.args.octets.now c.args.offset c.args.fields.now c.args.count c.requires.begins c.args.spot
     (found_of c.args.found.now) (found_of c.add_string.new.found) c.announced_length-length.result
     c.is_value_before-is_value.result c.args.end_octets c.if-fields.false c.announced_length-length.ensures
-    (omega (arith, c.if-length-octets.false, length-drop c.in-Some.count c.args.octets.now))
+    (omega (arith, c.if-length-octets.false, length-drop c.args.count c.args.octets.now))
     (c.is_value_before-is_value.ensures
     ∙ ap (λ (o : List ℕ). c.args.spot.in_extension && is_elements_end c.args.end_octets o)
-    (tail-all c.args.octets.now (c.in-Some.count + c.announced_length-length.result)))
-    (primitive-at c.args.spot c.is_value_before-is_value.result c.in-Some.fields c.args.octets.now c.in-Some.count
+    (tail-all c.args.octets.now (c.args.count + c.announced_length-length.result)))
+    (primitive-at c.args.spot c.is_value_before-is_value.result c.args.fields.now c.args.octets.now c.args.count
     c.announced_length-length.result (found_of c.args.found.now) (found_of c.add_string.new.found)
     c.in_ok-add_string.ensures)
 
