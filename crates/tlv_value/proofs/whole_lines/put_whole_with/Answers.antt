@@ -5,7 +5,7 @@ use Rattle.tlv_value.specs.Private.PrimitiveLines.{lines_in_steps}
 use Rattle.tlv_value.specs.ValueTextState.{new_value_text_of}
 use Rattle.tlv_value.proofs.TextLemmas.Pieces.{shown-new, whole-new}
 use Rattle.tlv_io.proofs.Puts.{puts_text}
-use Rattle.tlv_value.proofs.whole_lines.put_whole.Goals as goal
+use Rattle.tlv_value.proofs.whole_lines.put_whole_with.Goals as goal
 
 pub returns-then-is_long : goal.returns-then-is_long
 returns-then-is_long g c =
@@ -14,7 +14,7 @@ returns-then-is_long g c =
     ap (λ (p : Primitive). lines_in_steps name_of (new_value_text_of p) c.args.contents.now)
     c.new-primitive.ensures in
     puts_text g.D.Drain.state
-    _ _ _ _ _ (steps ∙ whole-new name_of c.args.header.now c.args.layout c.args.contents.now c.requires)
+    _ _ _ _ _ (steps ∙ whole-new c.args.with_text name_of c.args.header.now c.args.layout c.args.contents.now c.requires)
     c.put_long_lines.ensures
 
 pub returns-else-is_long : goal.returns-else-is_long
@@ -22,6 +22,6 @@ returns-else-is_long g c =
     let short =
     sym (ap (λ (p : Primitive). is_long p.kind p.size) c.new-primitive.ensures) ∙ sym c.if-is_long.ensures in
     puts_text g.D.Drain.state
-    _ _ _ _ _ (shown-new _ c.args.header.now c.args.layout c.new-primitive.result c.args.contents.now
+    _ _ _ _ _ (shown-new c.args.with_text _ c.args.header.now c.args.layout c.new-primitive.result c.args.contents.now
     c.new-primitive.ensures short c.requires)
     c.put.ensures
