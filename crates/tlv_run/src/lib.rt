@@ -12,7 +12,7 @@ mod run_octets_call;
 mod text;
 
 pub use command::Command;
-pub use command_runs::{run_check, run_dump, run_extract, run_indef};
+pub use command_runs::{run_check, run_dump, run_dump_with, run_extract, run_indef};
 pub use message::write_message;
 pub use report::{Report, device_report, names_report, unopened_report};
 pub use run_call::run;

@@ -174,7 +174,7 @@ impl ValueText {
             with_text: self.primitive.with_text,
         };
         if self.has_put_line {
-            return put_rows(form, &mut self.row, &mut self.row_count, octets, out);
+            return put_rows(&form, &mut self.row, &mut self.row_count, octets, out);
         }
         let Some((unused_bits, rest)) = octets.split_first() else {
             return Ok(());
@@ -182,7 +182,7 @@ impl ValueText {
         self.has_put_line = true;
         begin_row(*unused_bits, &mut self.row);
         self.primitive.put_bits_line(*unused_bits, out)?;
-        put_rows(form, &mut self.row, &mut self.row_count, rest, out)
+        put_rows(&form, &mut self.row, &mut self.row_count, rest, out)
     }
 
     /// Puts what is known with the last contents octet: after what was put before it, the rest of the lines
@@ -216,7 +216,7 @@ impl ValueText {
                 layout: self.primitive.layout,
                 with_text: self.primitive.with_text,
             };
-            return put_last(form, self.row_count, contents, out);
+            return put_last(&form, self.row_count, contents, out);
         }
         self.primitive.put(contents, names, out)
     }

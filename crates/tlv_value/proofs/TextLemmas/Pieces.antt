@@ -338,14 +338,14 @@ new-long name_of p c long e =
     ∙ append_assoc (begin_lines s) (contents_lines s c) (end_lines name_of (value_text_after s c))
 
 -- one with its value on its line is written with its end
+pub new-short : (name_of : NameOf) (p : Primitive) (c : List ℕ) → is_long p.kind p.size ≡ false
+    → primitive_lines name_of p c ≡ lines_in_steps name_of (new_value_text_of p) c
+new-short name_of p c short = rw short refl
+
 pub shown-new : (with_text : Bool) (name_of : NameOf) (h : HeaderValue) (layout : Layout) (p : Primitive) (c : List ℕ)
     → p ≡ new_primitive with_text h layout → is_long (kind_of h.class h.number) (size_of h.size) ≡ false
     → HasAllContents h c → primitive_lines name_of p c ≡ whole_lines_with with_text name_of h layout c
 shown-new with_text name_of h layout p c is short e =
-    ap (λ (q : Primitive). primitive_lines name_of q c) is ∙ at-end ∙ whole-new with_text name_of h layout c e
-  where
-    at-end : primitive_lines name_of (new_primitive with_text h layout) c
-        ≡ begin_lines (new_value_text_with with_text h layout)
-        ++ (contents_lines (new_value_text_with with_text h layout) c
-        ++ end_lines name_of (value_text_after (new_value_text_with with_text h layout) c))
-    at-end = rw short refl
+    ap (λ (q : Primitive). primitive_lines name_of q c) is
+    ∙ new-short name_of (new_primitive with_text h layout) c short
+    ∙ whole-new with_text name_of h layout c e

@@ -39,30 +39,30 @@ pub(super) fn put_all_rows<D: Drain>(
     };
     let mut row = ArrayVec::new();
     let mut row_count = 0;
-    put_rows(form, &mut row, &mut row_count, contents, out)?;
-    put_last(form, row_count, row.as_slice(), out)
+    put_rows(&form, &mut row, &mut row_count, contents, out)?;
+    put_last(&form, row_count, row.as_slice(), out)
 }
 
 /// Puts the rows that are full, of the octets of the row that has begun and those after them. What is left begins a
 /// row.
 pub(crate) fn put_rows<D: Drain>(
-    form: RowForm,
+    form: &RowForm,
     row: &mut ArrayVec<u8, 64>,
     row_count: &mut u64,
     octets: &[u8],
     out: &mut Out<'_, D>,
 ) -> Result<(), WriteFault>
-    requires is_open { IsOpenRow form.kind row.old.items }
+    requires is_open { IsOpenRow form.now.kind row.old.items }
     requires counted { row_count.old + length row.old.items + length octets.now < 2 ^ 64 }
-    ensures is_open { IsOpenRow form.kind row.new.items }
+    ensures is_open { IsOpenRow form.now.kind row.new.items }
     ensures counted { row_count.new + length row.new.items
         ≤ row_count.old + length row.old.items + length octets.now }
-    ensures row { OnOk result (row.new.items ≡ open_row form.kind row.old.items octets.now) }
+    ensures row { OnOk result (row.new.items ≡ open_row form.now.kind row.old.items octets.now) }
     ensures row_count { OnOk result
-        (row_count.new ≡ row_count.old + length (full_rows form.kind row.old.items octets.now)) }
+        (row_count.new ≡ row_count.old + length (full_rows form.now.kind row.old.items octets.now)) }
     ensures puts { Puts D.state out.old out.new
-        (row_lines form.with_text form.kind form.layout row_count.old
-        (full_rows form.kind row.old.items octets.now)) result }
+        (row_lines form.now.with_text form.now.kind form.now.layout row_count.old
+        (full_rows form.now.kind row.old.items octets.now)) result }
 {
     let size = row_size(form.kind);
     let mut rest = octets;
@@ -91,16 +91,12 @@ pub(crate) fn put_rows<D: Drain>(
 /// Whether the octets begin with full rows of pairs of digits without text, while no row has begun and their number is
 /// not limited.
 #[inline(always)]
-fn has_full_rows(form: RowForm, size: usize, begun: usize, octets: &[u8]) -> bool
+fn has_full_rows(form: &RowForm, size: usize, begun: usize, octets: &[u8]) -> bool
     ensures { IsTrue result
-        ↔ ((begun ≡ 0) × (size ≡ 16) × (form.layout.limit ≡ None) × (form.with_text ≡ false)
+        ↔ ((begun ≡ 0) × (size ≡ 16) × (form.now.layout.limit ≡ None) × (form.now.with_text ≡ false)
         × (16 ≤ length octets.now)) }
 {
-    begun == 0
-        && size == 16
-        && form.layout.limit.is_none()
-        && !form.with_text
-        && octets.len() >= 16
+    begun == 0 && size == 16 && form.layout.limit.is_none() && !form.with_text && octets.len() >= 16
 }
 
 /// Puts full rows of pairs of digits without text, from where their octets are. There is no limit to them.
@@ -142,13 +138,13 @@ pub(crate) fn put_pair_rows<D: Drain>(
         layout,
         with_text: false,
     };
-    write_line(&mut out.held, form, last);
+    write_line(&mut out.held, &form, last);
     Ok(())
 }
 
 /// Puts the row that has begun with the octets that fill it: from where they are, if they are the whole row.
 fn put_full<D: Drain>(
-    form: RowForm,
+    form: &RowForm,
     index: u64,
     row: &mut ArrayVec<u8, 64>,
     part: &[u8],
@@ -157,7 +153,7 @@ fn put_full<D: Drain>(
     requires { length row.old.items + length part.now ≤ 64 }
     ensures row { row.new.items ≡ [] }
     ensures puts { Puts D.state out.old out.new
-        (row_line form.layout index (row_text form.with_text form.kind (row.old.items ++ part.now)))
+        (row_line form.now.layout index (row_text form.now.with_text form.now.kind (row.old.items ++ part.now)))
         result }
 {
     if row.is_empty() {
@@ -171,14 +167,14 @@ fn put_full<D: Drain>(
 
 /// Puts a last row, if there is one.
 pub(crate) fn put_last<D: Drain>(
-    form: RowForm,
+    form: &RowForm,
     index: u64,
     row: &[u8],
     out: &mut Out<'_, D>,
 ) -> Result<(), WriteFault>
     requires { length row.now ≤ 64 }
     ensures { Puts D.state out.old out.new
-        (row_lines form.with_text form.kind form.layout index (last_rows row.now)) result }
+        (row_lines form.now.with_text form.now.kind form.now.layout index (last_rows row.now)) result }
 {
     if row.is_empty() {
         return Ok(());
@@ -189,14 +185,14 @@ pub(crate) fn put_last<D: Drain>(
 /// Puts a row; beyond the limit three dots for the first, and nothing for the others.
 #[inline(always)]
 fn put_row<D: Drain>(
-    form: RowForm,
+    form: &RowForm,
     index: u64,
     row: &[u8],
     out: &mut Out<'_, D>,
 ) -> Result<(), WriteFault>
     requires { length row.now ≤ 64 }
     ensures { Puts D.state out.old out.new
-        (row_line form.layout index (row_text form.with_text form.kind row.now)) result }
+        (row_line form.now.layout index (row_text form.now.with_text form.now.kind row.now)) result }
 {
     if let Some(limit) = form.layout.limit
         && index >= u64::from(limit)
@@ -229,11 +225,11 @@ fn put_dots<D: Drain>(
 
 /// Adds the line of a row.
 #[inline(always)]
-fn write_line(held: &mut HeldOctets, form: RowForm, row: &[u8])
+fn write_line(held: &mut HeldOctets, form: &RowForm, row: &[u8])
     requires room { HasRoomFor held.old line_room }
     requires short { length row.now ≤ 64 }
     ensures { held.new ≡ held.old
-        ++ inner_line form.layout (row_text form.with_text form.kind row.now) }
+        ++ inner_line form.now.layout (row_text form.now.with_text form.now.kind row.now) }
 {
     held.spaces(row_indent(form.layout) - 1);
     write_row(held, form.kind, form.with_text, row);
